@@ -1,0 +1,11 @@
+pub mod Alphabets
+pub mod HexReading
+pub mod IdFacts
+pub mod KindFacts
+pub mod LawLemmas
+pub mod Packing
+pub mod PaddedOrder
+pub mod PaddedReading
+pub mod Places
+pub mod ReadingFacts
+pub mod Spellings

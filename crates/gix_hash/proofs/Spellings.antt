@@ -1,0 +1,107 @@
+-- Letters of digits: the alphabets as tables, and what the crate `hex` writes.
+use Rattle.std.proofs.Common.{◌++◌, ◌≤◌, ◌≡◌, ℕ, ◌*◌, ◌/◌, ◌%◌, ◌<◌, ◌==◌, true, List, [], ◌∷◌, length, slice_index, take, min, refl, sym, ap, ◌∙◌, arith, eqb-true, Result, Ok, Err}
+use Rattle.std.specs.Prelude.{IsAscii, IsUtf8, MatchResult, All, OnOk, IsOk, ◌↔◌}
+use Rattle.hex.specs.declared.error.FromHexError.{FromHexError}
+use Rattle.std.proofs.lemmas.Bool.{agree_below_at}
+use Rattle.std.proofs.lemmas.List.{take_all, length-map, take_min, take-map, take-append-le}
+use Rattle.std.proofs.lemmas.List.Elements.{All-take, All-nil, All-cons, All-head, All-tail}
+use Rattle.std.proofs.lemmas.Str.{IsUtf8-from_ascii}
+use Rattle.std.proofs.lemmas.Str.Ascii.{IsAscii-nil, IsAscii-cons}
+use Rattle.std.proofs.lemmas.Bool.Decides.{nat_tests}
+use Rattle.hex.specs.Hex.{encode_with, encode_lower, lower_digits}
+use Rattle.gix_hash.specs.Digits.{digits_of, spelling, hex_letter}
+use Rattle.gix_hash.specs.Kind.{hex_len_of}
+use Rattle.gix_hash.specs.Oid.{oid_bytes, oid_digits, oid_kind}
+use Rattle.gix_hash.specs.declared.borrowed.oid.{oid}
+use Rattle.gix_hash.proofs.KindFacts.{hex_len_of-kind}
+use Rattle.gix_hash.proofs.Places.{length-digits_of}
+use Rattle.gix_hash.specs.ObjectId.{id_bytes, id_digits}
+use Rattle.gix_hash.specs.PrefixBytes.{IsPacked}
+use Rattle.gix_hash.specs.declared.object_id.ObjectId.{ObjectId}
+
+-- a digit's letter stands at the digit's place in the table of letters
+pub hex_letter-table : (d : ℕ) → d < 16 → slice_index lower_digits d ≡ hex_letter d
+hex_letter-table d h =
+    eqb-true (slice_index lower_digits d) (hex_letter d)
+    (agree_below_at (λ k. slice_index lower_digits k == hex_letter k) (λ k. true) 16 d refl h)
+
+-- what `hex` writes for bytes is the spelling of their digits
+pub encode_lower-spelling : (bytes : List ℕ) → All (λ b. b < 256) bytes → encode_lower bytes ≡ spelling hex_letter (digits_of bytes)
+unfolding encode_with digits_of
+encode_lower-spelling [] h = refl
+encode_lower-spelling (b ∷ bytes) h =
+    let fits : b < 256 = All-head (λ (x : ℕ). x < 256) b bytes h in
+    let high : b / 16 < 16 = omega arith in
+    let low : b % 16 < 16 = omega arith in
+    rw (hex_letter-table (b / 16) high, hex_letter-table (b % 16) low, encode_lower-spelling bytes (All-tail (λ (x : ℕ). x < 256) b bytes h)) refl
+
+-- what `hex` answers and leaves in room for just the text
+pub spelling-written : (bytes room out : List ℕ) (answer : Result (Unit {0}) FromHexError) → length room ≡ 2 * length bytes
+    → (IsOk answer ↔ (length room ≡ 2 * length bytes)) → OnOk answer (out ≡ encode_lower bytes)
+    → All (λ b. b < 256) bytes → out ≡ spelling hex_letter (digits_of bytes)
+spelling-written bytes room out (Ok x) len fits written bound = written ∙ encode_lower-spelling bytes bound
+spelling-written bytes room out (Err e) len fits written bound = cc (fits.1 len)
+
+-- a spelling has a letter a digit
+pub length-spelling : (letter : ℕ → ℕ) (ds : List ℕ) → length (spelling letter ds) ≡ length ds
+length-spelling letter ds = length-map ds letter
+
+-- the digits of bytes are below sixteen
+pub All-digits_of : (bytes : List ℕ) → All (λ b. b < 256) bytes → All (λ d. d < 16) (digits_of bytes)
+unfolding digits_of
+All-digits_of [] h = All-nil (λ (d : ℕ). d < 16)
+All-digits_of (b ∷ bytes) h =
+    let fits : b < 256 = All-head (λ (x : ℕ). x < 256) b bytes h in
+    let more = All-digits_of bytes (All-tail (λ (x : ℕ). x < 256) b bytes h) in
+    All-cons (λ (d : ℕ). d < 16) (b / 16) (b % 16 ∷ digits_of bytes) (omega arith)
+    (All-cons (λ (d : ℕ). d < 16) (b % 16) (digits_of bytes) (omega arith) more)
+
+-- a spelling in letters that are ASCII is ASCII
+pub IsAscii-spelling : (letter : ℕ → ℕ) → ((d : ℕ) → d < 16 → letter d < 128) → (ds : List ℕ) → All (λ d. d < 16) ds → IsAscii (spelling letter ds)
+IsAscii-spelling letter ascii [] h = IsAscii-nil
+IsAscii-spelling letter ascii (d ∷ ds) h =
+    IsAscii-cons (letter d) (spelling letter ds) (ascii d (All-head (λ (x : ℕ). x < 16) d ds h))
+    (IsAscii-spelling letter ascii ds (All-tail (λ (x : ℕ). x < 16) d ds h))
+
+-- the hex spelling of digits is ASCII
+pub IsAscii-hex_digits : (ds : List ℕ) → All (λ d. d < 16) ds → IsAscii (spelling hex_letter ds)
+IsAscii-hex_digits ds h = IsAscii-spelling hex_letter (λ d lt. grind (arith, nat_tests)) ds h
+
+-- and so is that of bytes
+pub IsAscii-hex : (bytes : List ℕ) → All (λ b. b < 256) bytes → IsAscii (spelling hex_letter (digits_of bytes))
+IsAscii-hex bytes h = IsAscii-hex_digits (digits_of bytes) (All-digits_of bytes h)
+
+-- reading ASCII bytes as text succeeds
+pub IsOk-ascii : {T E : Type 0} (P : T → Type 0) (Q : E → Type 0) (bytes : List ℕ) (answer : Result T E) → IsAscii bytes
+    → MatchResult answer P (λ e. (¬ IsUtf8 bytes) × Q e) → IsOk answer
+IsOk-ascii P Q bytes (Ok text) ascii h = refl
+IsOk-ascii P Q bytes (Err e) ascii h = absurd (h.0 (IsUtf8-from_ascii bytes ascii))
+
+-- the digits that a prefix shows are below sixteen
+pub fits-shown : (id : ObjectId) (n : ℕ) → IsPacked id n → All (λ d. d < 16) (take n (id_digits id))
+fits-shown id n h = All-take (λ (d : ℕ). d < 16) n (id_digits id) (All-digits_of (id_bytes id) h.fits)
+
+-- a spelling in front of other bytes, cut at a number of letters or at its end, spells the first digits
+pub take-spelling : (letter : ℕ → ℕ) (n : ℕ) (ds behind : List ℕ)
+    → take (min n (length ds)) (spelling letter ds ++ behind) ≡ spelling letter (take n ds)
+take-spelling letter n ds behind =
+    let len = length-spelling letter ds in
+    let within : min n (length ds) ≤ length (spelling letter ds) = omega arith in
+    take-append-le (min n (length ds)) (spelling letter ds) behind within
+    ∙ take-map letter (min n (length ds)) ds ∙ ap (spelling letter) (take_min n ds)
+
+-- the digits of bytes, spelled in front of a buffer, cut at a number of them or at their end
+pub take-put_digits : (letter : ℕ → ℕ) (n cut : ℕ) (bytes buffer behind : List ℕ)
+    → buffer ≡ spelling letter (digits_of bytes) ++ behind → cut ≡ min n (2 * length bytes)
+    → take cut buffer ≡ spelling letter (take n (digits_of bytes))
+take-put_digits letter n cut bytes buffer behind put is =
+    let len = length-digits_of bytes in
+    let most : cut ≡ min n (length (digits_of bytes)) = is ∙ ap (min n) (sym len) in
+    rw (put, most) (take-spelling letter n (digits_of bytes) behind)
+
+-- all digits of an id are shown where its number of digits was asked for
+pub all_shown : (id : oid) (n : ℕ) → n ≡ hex_len_of (oid_kind id) → take n (oid_digits id) ≡ oid_digits id
+all_shown id n is =
+    let digits = length-digits_of (oid_bytes id) in
+    let two = hex_len_of-kind (length (oid_bytes id)) id.length_known in
+    take_all n (oid_digits id) (omega arith)

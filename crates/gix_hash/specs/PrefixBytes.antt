@@ -1,0 +1,88 @@
+-- How a prefix is kept: the bytes of its digits with zeros behind, and the number of digits.
+use Rattle.std.proofs.Common.{◌<◌, ◌≡◌, ℕ, ◌+◌, ◌-◌, ◌*◌, ◌≤◌, List, [], ◌∷◌, length, take, replicate, refl, sym, ap, ◌∙◌, arith, length-append, eqb-true}
+use Rattle.std.specs.Prelude.{IsTrue, All, nat_eq}
+use Rattle.std.specs.Hash as fed
+use Rattle.std.specs.Ordering.{on, eq_of_both}
+use Rattle.std.specs.Cmp.Lexicographic.{pointwise, bytes_decides}
+use Rattle.std.proofs.lemmas.Bool.{and_parts}
+use Rattle.std.proofs.lemmas.List.{length-replicate, length-take-le}
+use Rattle.gix_hash.specs.Digits.{digits_of}
+use Rattle.gix_hash.specs.Kind.{hex_len_of, number_of}
+use Rattle.gix_hash.specs.ObjectId.{id_kind, id_bytes, id_digits}
+use Rattle.gix_hash.specs.Prefix.{Beginning, padded, prefix_kind_number, prefix_digits}
+use Rattle.gix_hash.specs.declared.kind.Kind.{Kind}
+use Rattle.gix_hash.specs.declared.kind.Kind.TheVariants as kinds
+use Rattle.gix_hash.specs.declared.object_id.ObjectId.{ObjectId}
+use Rattle.gix_hash.specs.declared.object_id.ObjectId.TheVariants.{Sha1, Sha256}
+
+-- the bytes of digits, two a byte; behind an odd number of digits a zero
+unfoldable pub packed : List ℕ → List ℕ
+packed [] = []
+packed (d ∷ []) = (16 * d) ∷ []
+packed (d ∷ (e ∷ digits)) = (16 * d + e) ∷ packed digits
+
+-- the id of a kind with these bytes
+abbrev pub id_of : Kind → List ℕ → ObjectId
+id_of kinds.Sha1 bytes = Sha1 bytes
+id_of kinds.Sha256 bytes = Sha256 bytes
+
+-- the bytes of a prefix, of the kind's length
+abbrev pub padded_id : Kind → List ℕ → ObjectId
+padded_id kind digits = id_of kind (packed (padded (hex_len_of kind) digits))
+
+-- the id holds n digits with zeros behind them
+pub record IsPacked (id : ObjectId) (n : ℕ) : Type 0 where
+  pub within : n ≤ hex_len_of (id_kind id)
+  pub zeros : id_digits id ≡ padded (hex_len_of (id_kind id)) (take n (id_digits id))
+  pub fits : All (λ b. b < 256) (id_bytes id)
+
+-- the digits of bytes give the bytes back
+pub packed-digits_of : (bytes : List ℕ) → packed (digits_of bytes) ≡ bytes
+unfolding packed digits_of
+packed-digits_of [] = refl
+packed-digits_of (b ∷ bytes) = rw (packed-digits_of bytes) (ap (λ (x : ℕ). x ∷ bytes) (omega arith))
+
+-- the kind and the digits of an id give the id back
+pub id_of-parts : (id : ObjectId) → id_of (id_kind id) (packed (id_digits id)) ≡ id
+id_of-parts (Sha1 bytes) = ap Sha1 (packed-digits_of bytes)
+id_of-parts (Sha256 bytes) = ap Sha256 (packed-digits_of bytes)
+
+-- the kind and the digits that a prefix shows give its bytes back
+pub given_back : (id : ObjectId) (n : ℕ) → IsPacked id n → padded_id (id_kind id) (take n (id_digits id)) ≡ id
+given_back id n h = ap (λ (ds : List ℕ). id_of (id_kind id) (packed ds)) (sym h.zeros) ∙ id_of-parts id
+
+-- what a prefix shows, padded and packed, is its bytes
+pub packed-shown : (id : ObjectId) (n : ℕ) → IsPacked id n → packed (padded (hex_len_of (id_kind id)) (take n (id_digits id))) ≡ id_bytes id
+packed-shown id n h = ap packed (sym h.zeros) ∙ packed-digits_of (id_bytes id)
+
+-- padding reaches at least the length asked for
+pub length-padded : (n : ℕ) (digits : List ℕ) → n ≤ length (padded n digits)
+length-padded n digits =
+    omega (arith, length-append digits (replicate (n - length digits) 0), length-replicate {A = ℕ} (n - length digits) 0)
+
+-- the digits that a prefix shows are as many as it says
+pub length-shown : (id : ObjectId) (n : ℕ) → IsPacked id n → length (take n (id_digits id)) ≡ n
+length-shown id n h =
+    length-take-le n (id_digits id)
+    (omega (arith, h.within, length-padded (hex_len_of (id_kind id)) (take n (id_digits id)), ap length h.zeros))
+
+-- a kind is told by its number
+kind_from_number : (a b : Kind) → number_of a ≡ number_of b → a ≡ b
+kind_from_number kinds.Sha1 kinds.Sha1 h = refl
+kind_from_number kinds.Sha1 kinds.Sha256 h = absurd (omega arith)
+kind_from_number kinds.Sha256 kinds.Sha1 h = absurd (omega arith)
+kind_from_number kinds.Sha256 kinds.Sha256 h = refl
+
+-- what a prefix feeds to a hash: its bytes in one write, and then the number of digits
+abbrev pub prefix_hash_input : Beginning → List (List ℕ)
+prefix_hash_input prefix = packed (padded (hex_len_of prefix.kind) prefix.digits) ∷ fed.usize (length prefix.digits)
+
+-- equal prefixes feed the same
+pub same_hash_input : (a b : Beginning)
+    → IsTrue (eq_of_both (on prefix_kind_number nat_eq) (on prefix_digits (pointwise nat_eq)) a b)
+    → prefix_hash_input a ≡ prefix_hash_input b
+same_hash_input a b h =
+    let parts = and_parts (nat_eq (number_of a.kind) (number_of b.kind)) (pointwise nat_eq a.digits b.digits) h in
+    let kind = kind_from_number a.kind b.kind (eqb-true (number_of a.kind) (number_of b.kind) parts.0) in
+    let digits = (bytes_decides a.digits b.digits).0 parts.1 in
+    λ i. packed (padded (hex_len_of (kind i)) (digits i)) ∷ fed.usize (length (digits i))

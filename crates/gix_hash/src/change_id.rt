@@ -1,0 +1,252 @@
+//! Ids in the letters by which Jujutsu spells change ids.
+
+ghost use Rattle.std.specs.Prelude.{◌≡◌, ◌≤◌, ◌<◌, ◌↔◌, ◌++◌, All, IsTrue, MatchResult, length, drop};
+ghost use Rattle.gix_hash.specs.Digits.{reverse_letter, spelling};
+ghost use Rattle.gix_hash.specs.Kind.{hex_len_of, byte_len_of};
+ghost use Rattle.gix_hash.specs.ObjectId.{id_bytes, id_digits, id_kind};
+ghost use Rattle.gix_hash.specs.ReverseHexDisplay.{reverse_display_of, reverse_shown_digits};
+
+use crate::alphabet::Alphabet;
+use crate::borrowed::oid;
+use crate::decode;
+use crate::display::{HexDisplay, cut_text};
+use crate::kind::Kind;
+use crate::object_id::ObjectId;
+use crate::prefix::Prefix;
+use std::fmt;
+use std::marker::Model;
+use std::str::FromStr;
+
+/// An id that prints its first digits in the letters `z` to `k`: as many as were asked for, or all
+/// where it has fewer.
+///
+/// Two of them are equal where both the ids and the numbers asked for are.
+#[derive(PartialEq, Eq, PartialOrd, Ord, Hash, Drop)]
+pub struct ReverseHexDisplay<'a> {
+    inner: oid<'a>,
+    hex_len: usize,
+}
+
+impl<'a> ReverseHexDisplay<'a> {
+    // A display of so many digits of an id.
+    pub(crate) fn new(inner: oid<'a>, hex_len: usize) -> ReverseHexDisplay<'a>
+        ensures { result ≡ reverse_display_of inner.entry hex_len }
+    {
+        ReverseHexDisplay { inner, hex_len }
+    }
+
+    /// Whether `text` is just what is printed.
+    pub fn eq_str(&self, text: &str) -> bool
+        ensures { IsTrue result ↔ (text.now ≡ spelling reverse_letter (reverse_shown_digits self.now)) }
+    {
+        let mut buffer = [0; 64];
+        cut_text(Alphabet::Reverse, self.inner, self.hex_len, &mut buffer) == text
+    }
+}
+
+impl fmt::Display for ReverseHexDisplay<'_> {
+    ghost use Rattle.std.specs.Prelude.{Some};
+    ghost use Rattle.gix_hash.specs.Digits.{reverse_letter, spelling};
+    ghost use Rattle.gix_hash.specs.ReverseHexDisplay.{reverse_shown_digits};
+
+    ghost output = { λ display. Some (spelling reverse_letter (reverse_shown_digits display)) };
+
+    fn fmt<W: fmt::Write>(&self, f: &mut fmt::Formatter<W>) -> fmt::Result {
+        let mut buffer = [0; 64];
+        f.write_str(cut_text(Alphabet::Reverse, self.inner, self.hex_len, &mut buffer))
+    }
+}
+
+/// An id under another spelling: the letters `z` to `k` in place of the hex digits 0 to 15, as
+/// Jujutsu prints change ids. Contracts see the id.
+#[derive(Clone, Copy, PartialEq, Eq, PartialOrd, Ord, Hash, Debug)]
+pub struct ChangeId(ObjectId);
+
+impl Model for ChangeId {
+    ghost use Rattle.gix_hash.specs.declared.object_id.ObjectId.{ObjectId};
+
+    ghost Value = { ObjectId };
+
+    ghost view = { λ change. change.0 };
+
+    ghost inverse = { λ id. record { 0 = id } };
+}
+
+impl ChangeId {
+    ghost use Rattle.std.specs.Result.{result_map_both};
+    ghost use Rattle.gix_hash.specs.HexDisplay.{shown_digits};
+    ghost use Rattle.gix_hash.specs.IdReading.{IsFullReading, IsIdRefusal};
+    ghost use Rattle.gix_hash.specs.Oid.{oid_kind, oid_digits};
+    ghost use Rattle.gix_hash.specs.Reading.{full_read, is_full_hex_len};
+
+    /// Reads 40 or 64 of the letters `z` to `k`, in any letter case, as an id of SHA-1 or SHA-256.
+    ///
+    /// A text of another length is refused as [`decode::Error::InvalidHexEncodingLength`] with its
+    /// length in bytes. A text of such a length with another byte is refused as
+    /// [`decode::Error::Invalid`].
+    pub fn from_reverse_hex(text: &[u8]) -> Result<ChangeId, decode::Error>
+        ensures cases { MatchResult result (IsFullReading reverse_letter text.now) (IsIdRefusal reverse_letter text.now) }
+        ensures read { result_map_both id_digits (λ e. e) result ≡ full_read reverse_letter text.now }
+    {
+        match text.len() {
+            40 | 64 => ChangeId::from_reverse_letters(text),
+            len => Err(decode::Error::InvalidHexEncodingLength(len)),
+        }
+    }
+
+    // Reads as many letters as some id has digits.
+    fn from_reverse_letters(text: &[u8]) -> Result<ChangeId, decode::Error>
+        requires { IsTrue (is_full_hex_len (length text.now)) }
+        ensures cases { MatchResult result (IsFullReading reverse_letter text.now) (IsIdRefusal reverse_letter text.now) }
+        ensures read { result_map_both id_digits (λ e. e) result ≡ full_read reverse_letter text.now }
+    {
+        let mut letters = [0; 64];
+        let letters = &mut letters[..text.len()];
+        Alphabet::Reverse.put_hex_letters(text, letters);
+        match ObjectId::from_hex(letters) {
+            Ok(id) => Ok(ChangeId(id)),
+            Err(error) => Err(error),
+        }
+    }
+
+    /// The kind of the digest.
+    pub fn kind(&self) -> Kind
+        ensures { result ≡ id_kind self.now }
+    {
+        self.0.kind()
+    }
+
+    /// The bytes of the digest, as many as the kind's length in bytes.
+    pub fn as_bytes(&self) -> &[u8]
+        ensures value { result.now ≡ id_bytes self.now }
+        ensures len { length result.now ≡ byte_len_of (id_kind self.now) }
+        ensures fits { All (λ b. b < 256) result.now }
+    {
+        self.0.as_slice()
+    }
+
+    /// The id as a view of its bytes.
+    pub fn as_oid(&self) -> oid<'_>
+        ensures kind { oid_kind result ≡ id_kind self.now }
+        ensures digits { oid_digits result ≡ id_digits self.now }
+    {
+        self.0.as_oid()
+    }
+
+    /// The id for printing in full in hex.
+    pub fn to_hex(&self) -> HexDisplay<'_>
+        ensures id { oid_digits result.inner ≡ id_digits self.now }
+        ensures kind { oid_kind result.inner ≡ id_kind self.now }
+        ensures hex_len { result.hex_len ≡ hex_len_of (id_kind self.now) }
+        ensures shown { shown_digits result ≡ id_digits self.now }
+    {
+        self.0.to_hex()
+    }
+
+    /// The id for printing in full in the letters `z` to `k`.
+    pub fn to_reverse_hex(&self) -> ReverseHexDisplay<'_>
+        ensures id { oid_digits result.inner ≡ id_digits self.now }
+        ensures kind { oid_kind result.inner ≡ id_kind self.now }
+        ensures hex_len { result.hex_len ≡ hex_len_of (id_kind self.now) }
+        ensures shown { reverse_shown_digits result ≡ id_digits self.now }
+    {
+        self.to_reverse_hex_with_len(self.kind().len_in_hex())
+    }
+
+    /// The id for printing its first `hex_len` digits in the letters `z` to `k`, or all where it
+    /// has fewer.
+    pub fn to_reverse_hex_with_len(&self, hex_len: usize) -> ReverseHexDisplay<'_>
+        ensures id { oid_digits result.inner ≡ id_digits self.now }
+        ensures kind { oid_kind result.inner ≡ id_kind self.now }
+        ensures hex_len { result.hex_len ≡ hex_len }
+    {
+        ReverseHexDisplay::new(self.as_oid(), hex_len)
+    }
+
+    /// Writes the digits in the letters `z` to `k` into the front of `buffer`, as many as the kind's
+    /// length in digits; the bytes behind them stay. The buffer needs room for the digits.
+    pub fn put_reverse_hex(&self, buffer: &mut [u8])
+        requires { hex_len_of (id_kind self.now) ≤ length buffer.old }
+        ensures { buffer.new ≡ spelling reverse_letter (id_digits self.now) ++ drop (hex_len_of (id_kind self.now)) buffer.old }
+    {
+        Alphabet::Reverse.put_digits(self.as_bytes(), buffer);
+    }
+
+    /// Whether `text` is just all digits in the letters `z` to `k`, in lowercase.
+    pub fn eq_str(&self, text: &str) -> bool
+        ensures { IsTrue result ↔ (text.now ≡ spelling reverse_letter (id_digits self.now)) }
+    {
+        self.to_reverse_hex().eq_str(text)
+    }
+}
+
+impl fmt::Display for ChangeId {
+    ghost use Rattle.std.specs.Prelude.{Some};
+    ghost use Rattle.gix_hash.specs.Digits.{reverse_letter, spelling};
+    ghost use Rattle.gix_hash.specs.ObjectId.{id_digits};
+
+    ghost output = { λ change. Some (spelling reverse_letter (id_digits change)) };
+
+    fn fmt<W: fmt::Write>(&self, f: &mut fmt::Formatter<W>) -> fmt::Result {
+        self.to_reverse_hex().fmt(f)
+    }
+}
+
+/// As [`ChangeId::from_reverse_hex`].
+impl FromStr for ChangeId {
+    ghost use Rattle.std.specs.Prelude.{MatchResult};
+    ghost use Rattle.gix_hash.specs.Digits.{reverse_letter};
+    ghost use Rattle.gix_hash.specs.IdReading.{IsFullReading, IsIdRefusal};
+
+    type Err = decode::Error;
+
+    ghost from_str_gives = { λ text answer. MatchResult answer (IsFullReading reverse_letter text) (IsIdRefusal reverse_letter text) };
+
+    fn from_str(text: &str) -> Result<ChangeId, decode::Error> {
+        ChangeId::from_reverse_hex(text.as_bytes())
+    }
+}
+
+impl From<ObjectId> for ChangeId {
+    ghost use Rattle.std.specs.Prelude.{◌≡◌};
+
+    ghost from_gives = { λ id change. change ≡ id };
+
+    fn from(id: ObjectId) -> ChangeId {
+        ChangeId(id)
+    }
+}
+
+impl<'a> From<oid<'a>> for ChangeId {
+    ghost use Rattle.std.specs.Prelude.{◌≡◌};
+    ghost use Rattle.gix_hash.specs.ObjectId.{id_kind, id_digits};
+    ghost use Rattle.gix_hash.specs.Oid.{oid_kind, oid_digits};
+
+    ghost from_gives = { λ id change. (id_kind change ≡ oid_kind id) × (id_digits change ≡ oid_digits id) };
+
+    fn from(id: oid<'a>) -> ChangeId {
+        ChangeId(id.to_owned())
+    }
+}
+
+impl From<ChangeId> for ObjectId {
+    ghost use Rattle.std.specs.Prelude.{◌≡◌};
+
+    ghost from_gives = { λ change id. id ≡ change };
+
+    fn from(change: ChangeId) -> ObjectId {
+        change.0
+    }
+}
+
+/// All digits of the id.
+impl From<ChangeId> for Prefix {
+    ghost use Rattle.std.specs.Prelude.{◌≡◌};
+    ghost use Rattle.gix_hash.specs.ObjectId.{id_kind, id_digits};
+
+    ghost from_gives = { λ change prefix. prefix ≡ record { kind = id_kind change; digits = id_digits change } };
+
+    fn from(change: ChangeId) -> Prefix {
+        Prefix::from(change.0)
+    }
+}

@@ -1,0 +1,39 @@
+//! Hex digits to bytes and back, over the crate `hex`.
+
+ghost use Rattle.std.specs.Prelude.{◌≡◌, ◌≤◌, ◌*◌, ◌++◌, Some, None, MatchResult, IsAscii, is_ok, if◌then◌else◌, length, drop};
+ghost use Rattle.gix_hash.specs.Digits.{digits_of, spelling, hex_letter, ReadsAs, IsUnreadable};
+ghost use Rattle.gix_hash.specs.Reading.{digits_read};
+ghost use Rattle.gix_hash.specs.declared.decode.Error.TheVariants.{Invalid};
+
+use crate::decode::Error;
+
+/// Decodes a text of two hex digits a byte, in any letter case. Where some byte of it is no digit,
+/// what `bytes` then holds is not said.
+pub(crate) fn decode_digits(text: &[u8], bytes: &mut [u8]) -> Result<(), Error>
+    requires { length text.now ≡ 2 * length bytes.old }
+    ensures cases { MatchResult result (λ _. ReadsAs hex_letter text.now (digits_of bytes.new))
+        (λ e. (e ≡ Invalid) × IsUnreadable hex_letter text.now) }
+    ensures read { digits_read hex_letter text.now ≡ (if is_ok result then Some (digits_of bytes.new) else None) }
+{
+    match hex::decode_to_slice(text, bytes) {
+        Ok(()) => Ok(()),
+        Err(_) => Err(Error::Invalid),
+    }
+}
+
+/// Writes the lowercase hex digits of some bytes into the front of the buffer.
+pub(crate) fn encode_digits(bytes: &[u8], buffer: &mut [u8])
+    requires { 2 * length bytes.now ≤ length buffer.old }
+    ensures { buffer.new ≡ spelling hex_letter (digits_of bytes.now) ++ drop (2 * length bytes.now) buffer.old }
+{
+    let _ = hex::encode_to_slice(bytes, &mut buffer[..2 * bytes.len()]);
+}
+
+/// Lends ASCII bytes as text.
+pub(crate) fn ascii_text(bytes: &[u8]) -> &str
+    requires { IsAscii bytes.now }
+    ensures value { result.now ≡ bytes.now }
+    ensures ascii { IsAscii result.now }
+{
+    str::from_utf8(bytes).unwrap()
+}

@@ -1,0 +1,35 @@
+//! The types by which Git tools name objects: hash kinds, ids, prefixes of ids.
+//!
+//! An id is a SHA-1 digest of 20 bytes or a SHA-256 digest of 32 bytes, and contracts see it as a
+//! [`Kind`] and a list of 40 or 64 digits. [`ObjectId`] owns its bytes, [`oid`] borrows them, and a
+//! [`Prefix`] is a beginning of an id's digits.
+#![tactic(auto)]
+
+mod alphabet;
+mod borrowed;
+/// Ids in the letters by which Jujutsu spells change ids.
+pub mod change_id;
+/// Reading ids from text.
+pub mod decode;
+mod display;
+mod error;
+mod hex_digits;
+mod kind;
+/// Laws that no single call carries.
+pub mod laws;
+mod object_id;
+/// Beginnings of ids.
+pub mod prefix;
+/// Comparing a computed id with the one that was expected.
+pub mod verify;
+
+pub use borrowed::oid;
+pub use change_id::ChangeId;
+pub use display::HexDisplay;
+pub use error::Error;
+pub use kind::Kind;
+pub use object_id::ObjectId;
+pub use prefix::Prefix;
+
+#[cfg(test)]
+mod tests;

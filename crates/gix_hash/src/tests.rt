@@ -1,0 +1,114 @@
+//! What no clause says: worked examples, printed texts, buffers behind the digits, and each public
+//! call and impl once where it succeeds.
+
+mod change_ids;
+mod hashing_state;
+mod ids;
+mod kinds;
+mod laws;
+mod prefixes;
+
+use crate::{ObjectId, decode};
+use std::alloc::AllocError;
+use std::cmp::Ordering;
+use std::error::Error;
+use std::fmt::{Debug, Display};
+use std::hash::Hash;
+use std::process::Abort;
+use std::str::FromStr;
+
+// The ids of the empty blob and of the empty tree, by SHA-1 and by SHA-256.
+const BLOB: &str = "e69de29bb2d1d6434b8b29ae775ad8c2e48c5391";
+
+const TREE: &str = "4b825dc642cb6eb9a060e54bf8d69288fbee4904";
+
+const BLOB_256: &str = "473a0f4c3be8a93681a267e3b1e9a7dcda1185436fe141f7749120a303721813";
+
+const TREE_256: &str = "6ef19b41225c5369f1c104d45d8d85efa9b057b53b14b4b9b939dd74decc5321";
+
+const BLOB_BYTES: [u8; 20] = [
+    0xe6, 0x9d, 0xe2, 0x9b, 0xb2, 0xd1, 0xd6, 0x43, 0x4b, 0x8b, 0x29, 0xae, 0x77, 0x5a, 0xd8, 0xc2,
+    0xe4, 0x8c, 0x53, 0x91,
+];
+
+const BLOB_256_BYTES: [u8; 32] = [
+    0x47, 0x3a, 0x0f, 0x4c, 0x3b, 0xe8, 0xa9, 0x36, 0x81, 0xa2, 0x67, 0xe3, 0xb1, 0xe9, 0xa7, 0xdc,
+    0xda, 0x11, 0x85, 0x43, 0x6f, 0xe1, 0x41, 0xf7, 0x74, 0x91, 0x20, 0xa3, 0x03, 0x72, 0x18, 0x13,
+];
+
+fn id(text: &str) -> Result<ObjectId, decode::Error> {
+    ObjectId::from_hex(text.as_bytes())
+}
+
+// The value prints so.
+fn expect_text<T: Display + Drop>(
+    rt: &(impl Abort + AllocGlobal),
+    value: T,
+    want: &str,
+) -> Result<(), AllocError> {
+    let text = format!(in rt.alloc(); "{value}")?;
+    assert_eq!(rt; text.as_str(), want);
+    Ok(())
+}
+
+// The value's Debug text.
+fn expect_debug<T: Debug + Drop>(
+    rt: &(impl Abort + AllocGlobal),
+    value: T,
+    want: &str,
+) -> Result<(), AllocError> {
+    let text = format!(in rt.alloc(); "{value:?}")?;
+    assert_eq!(rt; text.as_str(), want);
+    Ok(())
+}
+
+// The error prints so, and has some Debug text.
+fn expect_error<E: Error + Drop>(
+    rt: &(impl Abort + AllocGlobal),
+    error: E,
+    want: &str,
+) -> Result<(), AllocError> {
+    let shown = format!(in rt.alloc(); "{error:?}")?;
+    assert!(rt; !shown.is_empty());
+    expect_text(rt, error, want)
+}
+
+// The value or the error prints so; no error's text is a value's.
+fn expect_answer<T: Display + Drop, E: Display + Drop>(
+    rt: &(impl Abort + AllocGlobal),
+    answer: Result<T, E>,
+    want: &str,
+) -> Result<(), AllocError> {
+    match answer {
+        Ok(value) => expect_text(rt, value, want),
+        Err(error) => expect_text(rt, error, want),
+    }
+}
+
+fn parsed<T: FromStr>(text: &str) -> Result<T, T::Err> {
+    text.parse()
+}
+
+fn tried<S, T: TryFrom<S>>(source: S) -> Result<T, T::Error> {
+    T::try_from(source)
+}
+
+fn converted<S: Into<T>, T>(source: S) -> T {
+    source.into()
+}
+
+// The first is below the second, by each of the comparing traits.
+fn expect_below<T: Ord>(rt: &impl Abort, lower: &T, upper: &T) {
+    assert_eq!(rt; lower.cmp(upper), Ordering::Less);
+    assert_eq!(rt; upper.cmp(lower), Ordering::Greater);
+    assert_eq!(rt; lower.partial_cmp(upper), Some(Ordering::Less));
+    assert!(rt; lower != upper);
+}
+
+// They are the same, by each of the comparing traits, and feed the same to a hash.
+fn expect_same<T: Ord + Hash>(rt: &impl Abort, one: &T, other: &T) {
+    assert_eq!(rt; one.cmp(other), Ordering::Equal);
+    assert_eq!(rt; one.partial_cmp(other), Some(Ordering::Equal));
+    assert!(rt; one == other);
+    assert!(rt; hashing_state::fed(one) == hashing_state::fed(other));
+}

@@ -1,0 +1,34 @@
+//! Laws, at values that meet what they ask of the caller.
+
+use super::{BLOB, BLOB_256, BLOB_BYTES, id};
+use crate::{ChangeId, ObjectId, Prefix, laws, oid};
+use std::test::Fail;
+
+#[test]
+fn read_back_in_any_letter_case(rt: HostRuntime) -> Result<(), Fail> {
+    let blob = id(BLOB)?;
+    let text = "E69De29bb2d1d6434b8b29ae775ad8c2e48C5391";
+    let lowered = text.to_ascii_lowercase(rt.alloc())?;
+    assert!(rt; blob.eq_str(lowered.as_str()));
+    assert!(rt; laws::read_back(&blob, text.as_bytes())? == blob);
+    let change = ChangeId::from(blob);
+    let letters = "LTqmlxqooxmymtvwvoroxqplssupmrnxlvrnuwqY";
+    let lowered = letters.to_ascii_lowercase(rt.alloc())?;
+    assert!(rt; change.eq_str(lowered.as_str()));
+    assert!(rt; laws::read_change_back(&change, letters.as_bytes())? == change);
+    Ok(())
+}
+
+#[test]
+fn hold_without_computing() -> Result<(), Fail> {
+    let (blob, null) = (ObjectId::Sha1(BLOB_BYTES), ObjectId::Sha1([0; 20]));
+    let view = oid::from_bytes_unchecked(&BLOB_BYTES);
+    let (prefix, other) = (Prefix::from_hex("e69d")?, Prefix::from_hex("473a0f")?);
+    laws::letters();
+    laws::spelled_alike(view, id(BLOB_256)?.as_oid());
+    laws::equal_where_it_begins(&prefix, view);
+    laws::nested_or_disjoint(&prefix, &other);
+    laws::orders_agree(&blob, &null);
+    laws::opposite_order(&ChangeId::from(blob), &ChangeId::from(null));
+    Ok(())
+}

@@ -1,0 +1,272 @@
+//! Beginnings of ids.
+
+use super::hashing_state::expect_fed;
+use super::{
+    BLOB, BLOB_256, TREE, converted, expect_answer, expect_below, expect_error, expect_same,
+    expect_text, id, tried,
+};
+use crate::prefix::{self, from_hex};
+use crate::{Kind, ObjectId, Prefix};
+use std::alloc::AllocError;
+use std::cmp::Ordering;
+use std::process::Abort;
+use std::test::Fail;
+
+const ZEROS_41: &str = "00000000000000000000000000000000000000000";
+
+const ZEROS_65: &str = "00000000000000000000000000000000000000000000000000000000000000000";
+
+// Makes a prefix of so many digits of an id.
+fn expect_new(
+    rt: &(impl Abort + AllocGlobal),
+    rows: &[(ObjectId, usize, &str)],
+) -> Result<(), AllocError> {
+    for &(id, hex_len, want) in rows {
+        expect_answer(rt, Prefix::new(id.as_oid(), hex_len), want)?;
+    }
+    Ok(())
+}
+
+// Reads a text of at least 4 digits, by each of the calls that do.
+fn expect_read(rt: &(impl Abort + AllocGlobal), rows: &[(&str, &str)]) -> Result<(), AllocError> {
+    for &(text, want) in rows {
+        expect_answer(rt, Prefix::from_hex(text), want)?;
+        expect_answer(rt, tried::<&str, Prefix>(text), want)?;
+    }
+    Ok(())
+}
+
+fn expect_read_nonempty(
+    rt: &(impl Abort + AllocGlobal),
+    rows: &[(&str, &str)],
+) -> Result<(), AllocError> {
+    for &(text, want) in rows {
+        expect_answer(rt, Prefix::from_hex_nonempty(text), want)?;
+    }
+    Ok(())
+}
+
+// The place of a prefix against an id.
+fn expect_place(rt: &impl Abort, prefix: Prefix, candidate: &ObjectId, place: Ordering) {
+    let candidate = candidate.as_oid();
+    assert!(rt; prefix.hex_len() <= candidate.kind().len_in_hex());
+    assert_eq!(rt; prefix.cmp_oid(candidate), place, "for {prefix}");
+}
+
+#[test]
+fn beginnings_of_ids(rt: HostRuntime) -> Result<(), Fail> {
+    let (blob, wide) = (id(BLOB)?, id(BLOB_256)?);
+    assert_eq!(rt; Prefix::MIN_HEX_LEN, 4);
+    expect_new(
+        &rt,
+        &[
+            (blob, 4, "e69d"),
+            (blob, 7, "e69de29"),
+            (blob, 40, BLOB),
+            (wide, 6, "473a0f"),
+            (wide, 64, BLOB_256),
+            (
+                blob,
+                0,
+                "The minimum hex length of a short object id is 4, got 0",
+            ),
+            (
+                blob,
+                3,
+                "The minimum hex length of a short object id is 4, got 3",
+            ),
+            (
+                blob,
+                41,
+                "An object of kind sha1 cannot be larger than 40 in hex, but 41 was requested",
+            ),
+            (
+                wide,
+                65,
+                "An object of kind sha256 cannot be larger than 64 in hex, but 65 was requested",
+            ),
+        ],
+    )?;
+    expect_text(
+        &rt,
+        Prefix::new(blob.as_oid(), 4)?.as_oid(),
+        "e69d000000000000000000000000000000000000",
+    )?;
+    expect_same(&rt, &Prefix::new(blob.as_oid(), 40)?, &converted(blob));
+    Ok(())
+}
+
+#[test]
+fn beginnings_by_ranges(rt: HostRuntime) -> Result<(), Fail> {
+    let blob = id(BLOB)?;
+    assert!(rt; 3 <= blob.kind().len_in_bytes());
+    let view = blob.as_oid();
+    for (prefix, want) in [
+        (blob.to_prefix(0..0), ""),
+        (view.to_prefix(0..0), ""),
+        (blob.to_prefix(1..3), "9de2"),
+        (view.to_prefix(1..3), "9de2"),
+    ] {
+        assert_eq!(rt; prefix.hex_len(), want.len());
+        assert_eq!(rt; prefix.as_oid().kind(), Kind::Sha1);
+        expect_text(&rt, prefix, want)?;
+    }
+    Ok(())
+}
+
+#[test]
+fn read_from_text(rt: HostRuntime) -> Result<(), Fail> {
+    expect_read(
+        &rt,
+        &[
+            ("e69d", "e69d"),
+            ("E69D0", "e69d0"),
+            ("35e77c16", "35e77c16"),
+            (BLOB_256, BLOB_256),
+            (
+                "",
+                "The minimum hex length of a short object id is 4, got 0",
+            ),
+            (
+                "abc",
+                "The minimum hex length of a short object id is 4, got 3",
+            ),
+            ("abcg", "Invalid hex character"),
+            (
+                ZEROS_65,
+                "An id cannot be larger than 64 chars in hex, but 65 was requested",
+            ),
+        ],
+    )?;
+    expect_read_nonempty(
+        &rt,
+        &[
+            ("e", "e"),
+            ("35e", "35e"),
+            (ZEROS_41, ZEROS_41),
+            (
+                "",
+                "The minimum hex length of a short object id is 4, got 0",
+            ),
+            ("g", "Invalid hex character"),
+            (
+                ZEROS_65,
+                "An id cannot be larger than 64 chars in hex, but 65 was requested",
+            ),
+        ],
+    )?;
+    assert_eq!(rt; Prefix::from_hex("35e77c16")?.hex_len(), 8);
+    assert_eq!(rt; Prefix::from_hex_nonempty("35e")?.hex_len(), 3);
+    assert_eq!(rt;
+        Prefix::from_hex_nonempty(ZEROS_41)?.as_oid().kind(),
+        Kind::Sha256
+    );
+    Ok(())
+}
+
+#[test]
+fn refusals(rt: HostRuntime) -> Result<(), Fail> {
+    assert_eq!(rt;
+        Prefix::from_hex("abc").err(),
+        Some(from_hex::Error::TooShort { hex_len: 3 })
+    );
+    assert_eq!(rt;
+        Prefix::from_hex(ZEROS_65).err(),
+        Some(from_hex::Error::TooLong { hex_len: 65 })
+    );
+    assert_eq!(rt;
+        Prefix::from_hex("abcg").err(),
+        Some(from_hex::Error::Invalid)
+    );
+    expect_error(
+        &rt,
+        from_hex::Error::TooShort { hex_len: 3 },
+        "The minimum hex length of a short object id is 4, got 3",
+    )?;
+    expect_error(
+        &rt,
+        from_hex::Error::TooLong { hex_len: 65 },
+        "An id cannot be larger than 64 chars in hex, but 65 was requested",
+    )?;
+    expect_error(&rt, from_hex::Error::Invalid, "Invalid hex character")?;
+    expect_error(
+        &rt,
+        prefix::Error::TooShort { hex_len: 2 },
+        "The minimum hex length of a short object id is 4, got 2",
+    )?;
+    expect_error(
+        &rt,
+        prefix::Error::TooLong {
+            object_kind: Kind::Sha256,
+            hex_len: 70,
+        },
+        "An object of kind sha256 cannot be larger than 64 in hex, but 70 was requested",
+    )?;
+    Ok(())
+}
+
+#[test]
+fn order(rt: HostRuntime) -> Result<(), Fail> {
+    let wide = Prefix::new(id(BLOB_256)?.as_oid(), 4)?;
+    // By digits, a shorter beginning first, but by kind before all.
+    for (lower, upper) in [("e69d", "e69d0"), ("e69d0", "e69e"), ("e69d", "e69e")] {
+        expect_below(&rt, &Prefix::from_hex(lower)?, &Prefix::from_hex(upper)?);
+    }
+    expect_below(&rt, &Prefix::from_hex("ffff")?, &wide);
+    expect_same(&rt, &Prefix::from_hex("E69D")?, &Prefix::from_hex("e69d")?);
+    Ok(())
+}
+
+#[test]
+fn places_against_ids(rt: HostRuntime) -> Result<(), Fail> {
+    let (blob, tree, wide) = (id(BLOB)?, id(TREE)?, id(BLOB_256)?);
+    for (digits, candidate, place) in [
+        ("e69de2a", &blob, Ordering::Greater),
+        ("e69de29", &blob, Ordering::Equal),
+        ("e69de28", &blob, Ordering::Less),
+        ("4b825d", &tree, Ordering::Equal),
+        ("473a0f", &wide, Ordering::Equal),
+    ] {
+        expect_place(&rt, Prefix::from_hex(digits)?, candidate, place);
+    }
+    // Kinds count in the order of prefixes, not in the place.
+    let begun = Prefix::new(wide.as_oid(), 6)?;
+    expect_place(&rt, begun, &wide, Ordering::Equal);
+    assert_eq!(rt; begun.as_oid().kind(), Kind::Sha256);
+    let read = Prefix::from_hex("473a0f")?;
+    assert_eq!(rt; read.as_oid().kind(), Kind::Sha1);
+    assert!(rt; read != begun);
+    Ok(())
+}
+
+#[test]
+fn fed_to_a_hash(rt: HostRuntime) -> Result<(), Fail> {
+    let prefix = Prefix::new(id(BLOB)?.as_oid(), 7)?;
+    let mut padded = [0; 20];
+    padded[0] = 0xe6;
+    padded[1] = 0x9d;
+    padded[2] = 0xe2;
+    padded[3] = 0x90;
+    expect_fed(&rt, &prefix, &[&padded, &[7, 0, 0, 0, 0, 0, 0, 0]]);
+    Ok(())
+}
+
+#[test]
+fn written(rt: HostRuntime) -> Result<(), Fail> {
+    let prefix = Prefix::from_hex("e69de29")?;
+    let mut out = Vec::with_capacity(rt.alloc(), 64)?;
+    prefix.write_hex_to(&mut out)?;
+    assert_eq!(rt; out.as_slice(), b"e69de29".as_slice());
+    assert!(rt; prefix.eq_str("e69de29"));
+    assert!(rt; !prefix.eq_str("E69DE29") && !prefix.eq_str("e69de2"));
+    assert!(rt; prefix.hex_len() <= 10);
+    let mut buffer = [b'#'; 10];
+    assert_eq!(rt; prefix.hex_to_buf(&mut buffer), "e69de29");
+    assert_eq!(rt; &buffer, b"e69de29###");
+    let mut buffer = [b'#'; 10];
+    prefix.put_hex(&mut buffer);
+    assert_eq!(rt; &buffer, b"e69de29###");
+    let shown = format!(in rt.alloc(); "{prefix:?}")?;
+    assert!(rt; !shown.is_empty());
+    Ok(())
+}

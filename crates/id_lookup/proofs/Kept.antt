@@ -1,0 +1,11 @@
+-- Asking keeps the list and the prefix.
+use Rattle.std.proofs.Common.{◌≡◌, ℕ, sym, ap, ◌∙◌}
+use Rattle.id_lookup.specs.Probing.{Probing}
+
+-- what differs from q in its count alone differs so from all that q does
+pub kept : (p q r : Probing) (n : ℕ) → q ≡ record p { asked = q.asked } → r ≡ record q { asked = n } → r ≡ record p { asked = r.asked }
+kept p q r n first second =
+    let count : r.asked ≡ n = ap (λ (x : Probing). x.asked) second in
+    let further : Probing → Probing = λ x. record x { asked = n } in
+    let counts : ℕ → Probing = λ k. record p { asked = k } in
+    second ∙ ap further first ∙ ap counts (sym count)

@@ -1,0 +1,52 @@
+-- What is said of lowercase hex spellings is said of digits, since distinct digits have distinct letters.
+use Rattle.std.proofs.Common.{◌≡◌, ℕ, ◌↔◌, true, ◌&&◌, List, [], ◌∷◌, ◌++◌, length, take, drop, nat_eq, refl, sym, ap, ◌∙◌, arith}
+use Rattle.std.specs.Ordering.{is_eq}
+use Rattle.std.specs.Cmp.Lexicographic.{pointwise, texts_ties, pointwise_decides}
+use Rattle.std.specs.List.{starts_with}
+use Rattle.std.proofs.lemmas.Bool.Decides.{Decides-eqb, nat_tests}
+use Rattle.std.specs.Bool.{Decides}
+use Rattle.std.proofs.lemmas.List.{take-map, length-map, take-append-drop}
+use Rattle.std.proofs.Math.Seq.{take-append_seam}
+use Rattle.gix_hash.specs.declared.object_id.ObjectId.{ObjectId}
+use Rattle.gix_hash.specs.Digits.{hex_letter, spelling}
+use Rattle.gix_hash.specs.ObjectId.{id_digits}
+use Rattle.gix_hash.specs.Prefix.{Beginning, BeginsWith}
+use Rattle.id_lookup.specs.Runs.{begins_with, place_of}
+
+-- distinct numbers have distinct letters
+same_letter : (x y : ℕ) → nat_eq (hex_letter x) (hex_letter y) ≡ nat_eq x y
+same_letter x y = grind (arith, nat_tests)
+
+-- spellings are equal where the digits are
+pointwise-spelling : (xs ys : List ℕ) → pointwise nat_eq (spelling hex_letter xs) (spelling hex_letter ys) ≡ pointwise nat_eq xs ys
+pointwise-spelling [] [] = refl
+pointwise-spelling [] (y ∷ ys) = refl
+pointwise-spelling (x ∷ xs) [] = refl
+pointwise-spelling (x ∷ xs) (y ∷ ys) = λ i. same_letter x y i && pointwise-spelling xs ys i
+
+-- a spelling begins with another where its digits begin with the other's
+pub starts_with-spelling : (ds ps : List ℕ)
+    → starts_with nat_eq (spelling hex_letter ds) (spelling hex_letter ps) ≡ starts_with nat_eq ds ps
+starts_with-spelling ds ps =
+    ap (λ n. pointwise nat_eq (spelling hex_letter ps) (take n (spelling hex_letter ds))) (length-map ps hex_letter)
+    ∙ ap (pointwise nat_eq (spelling hex_letter ps)) (take-map hex_letter (length ps) ds)
+    ∙ pointwise-spelling ps (take (length ps) ds)
+
+-- an id begins with a prefix exactly where the place is Equal
+pub begins_with-place : (prefix : Beginning) (id : ObjectId) → begins_with prefix id ≡ is_eq (place_of prefix id)
+begins_with-place prefix id =
+    starts_with-spelling (id_digits id) prefix.digits
+    ∙ texts_ties prefix.digits (take (length prefix.digits) (id_digits id))
+
+-- the test of equal lists decides whether they are equal
+same_list : (xs ys : List ℕ) → Decides (pointwise nat_eq xs ys) (xs ≡ ys)
+same_list = pointwise_decides Decides-eqb
+
+-- the test of a beginning finds what follows it, and only there
+pub starts_with-BeginsWith : (whole front : List ℕ) → (starts_with nat_eq whole front ≡ true) ↔ BeginsWith whole front
+starts_with-BeginsWith whole front =
+    let first = take (length front) whole in
+    let more = drop (length front) whole in (
+      λ h. (more, sym (take-append-drop (length front) whole) ∙ ap (λ (xs : List ℕ). xs ++ more) (sym ((same_list front first).0 h))),
+      λ h. (same_list front first).1 (sym (ap (take (length front)) h.1 ∙ take-append_seam front h.0)),
+    )

@@ -1,0 +1,23 @@
+use Rattle.std.proofs.Common.{sym, ap, ◌∙◌}
+use Rattle.std.specs.Ordering.{is_eq}
+use Rattle.gix_hash.specs.ObjectId.{id_digits}
+use Rattle.id_lookup.specs.Runs.{id_spelling, prefix_spelling}
+use Rattle.id_lookup.proofs.Spelled.{begins_with-place, starts_with-spelling, starts_with-BeginsWith}
+use Rattle.id_lookup.proofs.search.begins_with.Goals as goal
+
+pub cmp_oid-requires : goal.cmp_oid-requires
+cmp_oid-requires c = rw c.as_oid.ensures.kind c.requires
+
+pub returns-clause-value : goal.returns-clause-value
+returns-clause-value c =
+    c.is_eq.ensures ∙ ap is_eq c.cmp_oid.ensures
+    ∙ rw c.as_oid.ensures.digits (sym (begins_with-place c.args.prefix.now c.args.id.now))
+
+pub returns-clause-spelling : goal.returns-clause-spelling
+returns-clause-spelling c =
+    rw (returns-clause-value c) (starts_with-BeginsWith (id_spelling c.args.id.now) (prefix_spelling c.args.prefix.now))
+
+pub returns-clause-digits : goal.returns-clause-digits
+returns-clause-digits c =
+    rw (returns-clause-value c ∙ starts_with-spelling (id_digits c.args.id.now) c.args.prefix.now.digits)
+    (starts_with-BeginsWith (id_digits c.args.id.now) c.args.prefix.now.digits)

@@ -1,0 +1,7 @@
+-- Sorted lists of ids, the run of a prefix in one, and the number of binary digits.
+pub mod Sorted
+pub mod Runs
+pub mod FoundRun
+pub mod Bounds
+pub mod Probing
+pub mod Bits

@@ -1,0 +1,92 @@
+//! The counted answers of a sorted list to a prefix.
+
+ghost use Rattle.std.specs.Prelude.{◌≡◌, ◌↔◌, ◌+◌, ◌<◌, ◌≤◌, ◌^◌, IsTrue, length};
+ghost use Rattle.std.specs.List.{HoldsAt};
+ghost use Rattle.id_lookup.specs.Runs.{place_of};
+ghost use Rattle.id_lookup.specs.Sorted.{least_hex_len};
+ghost use Rattle.id_lookup.specs.Probing.{CanProbe};
+
+use crate::sorted::SortedIds;
+use gix_hash::{ObjectId, Prefix};
+use std::cmp::Ordering;
+use std::marker::Model;
+
+/// A sorted list and a prefix, of which only answers are to be had: where the prefix stands against
+/// the member at a place. Each answer is counted.
+///
+/// It lends no id, and there is no copy of it and no way back to an earlier count, so whoever has
+/// nothing else of the list has asked as often as [`Probes::asked`] says.
+#[derive(Drop)]
+pub struct Probes<'a> {
+    ids: &'a [ObjectId],
+    prefix: Prefix,
+    asked: u64,
+}
+
+impl<'a> Model for Probes<'a> {
+    ghost use Rattle.id_lookup.specs.Probing.{Probing, CanProbe};
+
+    ghost Value = { Probing };
+
+    ghost view = { λ p. record { ids = p.ids.now; prefix = p.prefix; asked = p.asked } };
+
+    ghost invariant = { λ p. CanProbe p.prefix p.ids.now };
+}
+
+impl<'a> Probes<'a> {
+    /// Probes of a list by a prefix, of which nothing was asked.
+    ///
+    /// The prefix has at most as many digits as each member: at most `ids.min_hex_len()`.
+    pub fn new(ids: &SortedIds<'a>, prefix: Prefix) -> Self
+        requires { length prefix.digits ≤ least_hex_len ids.now }
+        ensures { result ≡ record { ids = ids.now; prefix = prefix; asked = 0 } }
+    {
+        Probes {
+            ids: ids.members(),
+            prefix,
+            asked: 0,
+        }
+    }
+
+    /// The number of members.
+    pub fn len(&self) -> usize
+        ensures value { result ≡ length self.now.ids }
+        ensures can_probe { CanProbe self.now.prefix self.now.ids }
+    {
+        self.ids.len()
+    }
+
+    /// Whether there is no member.
+    pub fn is_empty(&self) -> bool
+        ensures { IsTrue result ↔ (length self.now.ids ≡ 0) }
+    {
+        self.ids.is_empty()
+    }
+
+    /// The prefix.
+    pub fn prefix(&self) -> Prefix
+        ensures { result ≡ self.now.prefix }
+    {
+        self.prefix
+    }
+
+    /// How many answers were given.
+    pub fn asked(&self) -> u64
+        ensures { result ≡ self.now.asked }
+    {
+        self.asked
+    }
+
+    /// The place of the prefix against the member at a place, counted from 0: the dictionary order
+    /// of its digits against as many first digits of the member. One more was asked then.
+    pub fn ask(&mut self, at: usize) -> Ordering
+        requires in_range { at < length self.old.ids }
+        requires room { self.old.asked + 1 < 2 ^ 64 }
+        ensures answer { HoldsAt (λ id. result ≡ place_of self.old.prefix id) self.old.ids at }
+        ensures counted { self.new ≡ record self.old { asked = self.old.asked + 1 } }
+    {
+        self.asked += 1;
+        let ids = self.ids;
+        self.prefix.cmp_oid(ids[at].as_oid())
+    }
+}

@@ -1,0 +1,131 @@
+//! Lists of ids in order.
+
+ghost use Rattle.std.specs.Prelude.{◌≡◌, ◌↔◌, ◌<◌, ◌≤◌, IfOk, IfErr, IsOk, IsTrue, length, slice_get};
+ghost use Rattle.id_lookup.specs.FoundRun.{IsRun};
+ghost use Rattle.id_lookup.specs.Sorted.{IsSortedIds, IsFirstFall, least_hex_len};
+
+use crate::probes::Probes;
+use crate::search::{Run, lookup};
+use gix_hash::{ObjectId, Prefix};
+use std::error::Error;
+use std::fmt;
+use std::marker::Model;
+
+/// A list of ids of which none is below the one before it, in dictionary order of their digits.
+///
+/// Ids of both kinds may be mixed, and an id may stand there more than once.
+#[derive(Drop)]
+pub struct SortedIds<'a> {
+    ids: &'a [ObjectId],
+    min_hex_len: usize,
+}
+
+impl<'a> Model for SortedIds<'a> {
+    ghost use Rattle.std.specs.Prelude.{◌≡◌, List};
+    ghost use Rattle.gix_hash.specs.declared.object_id.ObjectId.{ObjectId};
+
+    ghost Value = { List ObjectId };
+
+    ghost use Rattle.id_lookup.specs.Sorted.{IsSortedIds, least_hex_len};
+
+    ghost view = { λ list. list.ids.now };
+
+    ghost invariant = { λ list. IsSortedIds list.ids.now × (list.min_hex_len ≡ least_hex_len list.ids.now) };
+}
+
+impl<'a> SortedIds<'a> {
+    /// The list as a sorted one, or the first place whose id is below the one before it.
+    pub fn try_new(ids: &'a [ObjectId]) -> Result<SortedIds<'a>, Unsorted>
+        ensures ok { IfOk result (λ list. list ≡ ids.now) }
+        ensures sorted { IsOk result ↔ IsSortedIds ids.now }
+        ensures err { IfErr result (λ e. IsFirstFall ids.now e.at) }
+    {
+        for at in 1..ids.len() {
+            if ids[at].as_oid() < ids[at - 1].as_oid() {
+                return Err(Unsorted { at });
+            }
+        }
+        Ok(SortedIds {
+            ids,
+            min_hex_len: least_hex_len(ids),
+        })
+    }
+
+    /// The number of ids.
+    pub fn len(&self) -> usize
+        ensures value { result ≡ length self.now }
+        ensures sorted { IsSortedIds self.now }
+    {
+        self.ids.len()
+    }
+
+    /// Whether there is no id.
+    pub fn is_empty(&self) -> bool
+        ensures { IsTrue result ↔ (length self.now ≡ 0) }
+    {
+        self.ids.is_empty()
+    }
+
+    /// The id at a place, counted from 0.
+    pub fn get(&self, at: usize) -> &ObjectId
+        requires { at < length self.now }
+        ensures { slice_get self.now at ≡ Some result.now }
+    {
+        let ids = self.ids;
+        &ids[at]
+    }
+
+    /// The least number of digits of a member, and 64 where there is none.
+    ///
+    /// A prefix can be looked up if it has at most as many.
+    pub fn min_hex_len(&self) -> usize
+        ensures { result ≡ least_hex_len self.now }
+    {
+        self.min_hex_len
+    }
+
+    /// The run of the members that begin with a prefix, and of no other.
+    ///
+    /// The prefix has at most as many digits as each member: at most `min_hex_len()`. Where no member
+    /// begins with it, the run is empty and stands where the prefix would stand.
+    pub fn find(&self, prefix: &Prefix) -> Run
+        requires { length prefix.now.digits ≤ least_hex_len self.now }
+        ensures { IsRun prefix.now self.now result }
+    {
+        lookup(&mut Probes::new(self, *prefix))
+    }
+
+    // The ids, for probes alone.
+    pub(crate) fn members(&self) -> &'a [ObjectId]
+        ensures value { result.now ≡ self.now }
+        ensures sorted { IsSortedIds self.now }
+    {
+        self.ids
+    }
+}
+
+// The least number of digits of an id of the list, and 64 where it has none.
+fn least_hex_len(ids: &[ObjectId]) -> usize
+    ensures { result ≡ least_hex_len ids.now }
+{
+    let mut least = 64;
+    for id in ids {
+        least = id.as_oid().kind().len_in_hex().min(least);
+    }
+    least
+}
+
+/// A list that is not sorted.
+#[derive(Debug, Drop)]
+pub struct Unsorted {
+    /// The first place whose id is below the one before it, counted from 0.
+    pub at: usize,
+}
+
+impl fmt::Display for Unsorted {
+    fn fmt<W: fmt::Write>(&self, f: &mut fmt::Formatter<W>) -> fmt::Result {
+        write!(f, "the id at place {} is below the one before it", self.at)
+    }
+}
+
+impl Error for Unsorted {}

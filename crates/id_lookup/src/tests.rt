@@ -1,0 +1,223 @@
+//! Runs in lists of the well-known ids and in a list of a thousand, by tables.
+
+use super::{Probes, Run, SortedIds, begins_with, bits_of, lookup};
+use gix_hash::{ObjectId, Prefix};
+use std::cmp::Ordering;
+use std::process::Abort;
+use std::test::Fail;
+
+// The ids of the empty blob and of the empty tree, by SHA-1 and by SHA-256.
+const BLOB: &str = "e69de29bb2d1d6434b8b29ae775ad8c2e48c5391";
+
+const TREE: &str = "4b825dc642cb6eb9a060e54bf8d69288fbee4904";
+
+const BLOB_256: &str = "473a0f4c3be8a93681a267e3b1e9a7dcda1185436fe141f7749120a303721813";
+
+const TREE_256: &str = "6ef19b41225c5369f1c104d45d8d85efa9b057b53b14b4b9b939dd74decc5321";
+
+fn id(text: &str) -> Result<ObjectId, Fail> {
+    Ok(ObjectId::from_hex(text.as_bytes())?)
+}
+
+// The four ids in order.
+fn well_known() -> Result<[ObjectId; 4], Fail> {
+    Ok([id(BLOB_256)?, id(TREE)?, id(TREE_256)?, id(BLOB)?])
+}
+
+// The SHA-1 ids whose first four digits are the numbers below a thousand, each followed by zeros.
+fn thousand() -> [ObjectId; 1000] {
+    let mut ids = [ObjectId::Sha1([0; 20]); 1000];
+    for number in 0..1000 {
+        let mut digest = [0; 20];
+        digest[0] = (number / 256) as u8;
+        digest[1] = (number % 256) as u8;
+        ids[number] = ObjectId::Sha1(digest);
+    }
+    ids
+}
+
+// The run that a look-up gives, by at most `most` asks. The list and the prefix stay.
+fn expect_run(
+    rt: &impl Abort,
+    ids: &[ObjectId],
+    prefix: Prefix,
+    start: usize,
+    end: usize,
+    most: u64,
+) -> Result<(), Fail> {
+    let list = SortedIds::try_new(ids)?;
+    assert!(rt; prefix.hex_len() <= list.min_hex_len());
+    let mut probes = Probes::new(&list, prefix);
+    assert_eq!(rt; probes.asked(), 0);
+    let run = lookup(&mut probes);
+    assert_eq!(rt; run, Run { start, end });
+    assert!(rt;
+        probes.asked() <= most,
+        "{} asks for {start}..{end}",
+        probes.asked()
+    );
+    assert_eq!(rt; probes.len(), ids.len());
+    assert!(rt; probes.prefix() == prefix);
+    assert_eq!(rt; list.find(&prefix), run);
+    Ok(())
+}
+
+fn expect_runs(
+    rt: &impl Abort,
+    ids: &[ObjectId],
+    most: u64,
+    rows: &[(&str, usize, usize)],
+) -> Result<(), Fail> {
+    for &(digits, start, end) in rows {
+        expect_run(
+            rt,
+            ids,
+            Prefix::from_hex_nonempty(digits)?,
+            start,
+            end,
+            most,
+        )?;
+    }
+    Ok(())
+}
+
+#[test]
+fn empty_list(rt: HostRuntime) -> Result<(), Fail> {
+    let list = SortedIds::try_new(&[])?;
+    assert_eq!(rt; list.min_hex_len(), 64);
+    assert_eq!(rt; list.len(), 0);
+    assert!(rt; list.is_empty());
+    expect_runs(&rt, &[], 0, &[("e69d", 0, 0)])
+}
+
+#[test]
+fn well_known_ids(rt: HostRuntime) -> Result<(), Fail> {
+    let ids = well_known()?;
+    let list = SortedIds::try_new(&ids)?;
+    assert_eq!(rt; list.min_hex_len(), 40);
+    assert!(rt; !list.is_empty());
+    assert_eq!(rt; list.len(), 4);
+    assert!(rt; list.get(3).as_oid() == id(BLOB)?.as_oid());
+    assert_eq!(rt;
+        SortedIds::try_new(&[id(BLOB_256)?, id(TREE_256)?])?.min_hex_len(),
+        64
+    );
+    expect_runs(
+        &rt,
+        &ids,
+        6,
+        &[
+            ("4b82", 1, 2),
+            ("4", 0, 2),
+            ("5", 2, 2),
+            ("473a0f", 0, 1),
+            ("ffff", 4, 4),
+            (BLOB, 3, 4),
+        ],
+    )
+}
+
+#[test]
+fn five_copies(rt: HostRuntime) -> Result<(), Fail> {
+    let blob = id(BLOB)?;
+    let ids = [blob; 5];
+    expect_runs(&rt, &ids, 6, &[("e69d", 0, 5)])?;
+    let nothing = blob.to_prefix(0..0);
+    assert_eq!(rt; nothing.hex_len(), 0);
+    expect_run(&rt, &ids, nothing, 0, 5, 6)
+}
+
+#[test]
+fn thousand_ids(rt: HostRuntime) -> Result<(), Fail> {
+    expect_runs(
+        &rt,
+        &thousand(),
+        20,
+        &[("0200", 512, 513), ("03", 768, 1000), ("ffff", 1000, 1000)],
+    )
+}
+
+#[test]
+fn not_sorted(rt: HostRuntime) -> Result<(), Fail> {
+    let ids = [id(TREE)?, id(BLOB)?, id(BLOB_256)?, id(TREE_256)?];
+    let refusal = SortedIds::try_new(&ids)
+        .err()
+        .ok_or("it is taken for sorted")?;
+    assert_eq!(rt; refusal.at, 2);
+    let text = format!(in rt.alloc(); "{refusal}")?;
+    assert_eq!(rt;
+        text.as_str(),
+        "the id at place 2 is below the one before it"
+    );
+    Ok(())
+}
+
+#[test]
+fn one_ask_at_a_time(rt: HostRuntime) -> Result<(), Fail> {
+    let ids = well_known()?;
+    let list = SortedIds::try_new(&ids)?;
+    let prefix = Prefix::from_hex("4b82")?;
+    assert!(rt; prefix.hex_len() <= list.min_hex_len());
+    let mut probes = Probes::new(&list, prefix);
+    assert!(rt; !probes.is_empty());
+    for (at, place) in [
+        (0, Ordering::Greater),
+        (1, Ordering::Equal),
+        (2, Ordering::Less),
+        (3, Ordering::Less),
+    ] {
+        assert!(rt; at < probes.len() && probes.asked() < 4);
+        assert_eq!(rt; probes.ask(at), place, "at {at}");
+    }
+    assert_eq!(rt; probes.asked(), 4);
+    Ok(())
+}
+
+#[test]
+fn beginnings(rt: HostRuntime) -> Result<(), Fail> {
+    for (text, digits, want) in [
+        (BLOB, "e69de2", true),
+        (BLOB, "e69de3", false),
+        (BLOB_256, "473A", true),
+    ] {
+        let id = id(text)?;
+        let prefix = Prefix::from_hex(digits)?;
+        assert!(rt; prefix.hex_len() <= id.kind().len_in_hex());
+        assert_eq!(rt; begins_with(&id, &prefix), want, "{digits}");
+    }
+    Ok(())
+}
+
+// With no runtime there is no memory to take.
+#[test]
+fn without_a_runtime() -> Result<(), Fail> {
+    let ids = well_known()?;
+    let list = SortedIds::try_new(&ids)?;
+    let prefix = Prefix::from_hex("6ef1")?;
+    if prefix.hex_len() > list.min_hex_len() {
+        return Err(Fail::new("the prefix is too long"));
+    }
+    let run = lookup(&mut Probes::new(&list, prefix));
+    if run != (Run { start: 2, end: 3 }) || run != list.find(&prefix) {
+        return Err(Fail::new("the run is another"));
+    }
+    Ok(())
+}
+
+#[test]
+fn binary_digits(rt: HostRuntime) {
+    for (n, bits) in [
+        (0, 0),
+        (1, 1),
+        (2, 2),
+        (3, 2),
+        (4, 3),
+        (5, 3),
+        (1000, 10),
+        (1023, 10),
+        (1024, 11),
+        (usize::MAX, 64),
+    ] {
+        assert_eq!(rt; bits_of(n), bits, "of {n}");
+    }
+}
