@@ -2,6 +2,9 @@ pub mod Alphabets
 pub mod HexReading
 pub mod IdFacts
 pub mod KindFacts
+pub mod LaneHalves
+pub mod LaneLetters
+pub mod LanePlaces
 pub mod LawLemmas
 pub mod Packing
 pub mod PaddedOrder

@@ -1,14 +1,13 @@
--- Letters of digits: the alphabets as tables, and what the crate `hex` writes.
+-- Spellings: their lengths, letters and beginnings.
 use Rattle.std.proofs.Common.{◌++◌, ◌≤◌, ◌≡◌, ℕ, ◌*◌, ◌/◌, ◌%◌, ◌<◌, ◌==◌, true, List, [], ◌∷◌, length, slice_index, take, min, refl, sym, ap, ◌∙◌, arith, eqb-true, Result, Ok, Err}
-use Rattle.std.specs.Prelude.{IsAscii, IsUtf8, MatchResult, All, OnOk, IsOk, ◌↔◌}
-use Rattle.hex.specs.declared.error.FromHexError.{FromHexError}
+use Rattle.std.specs.Prelude.{IsAscii, IsUtf8, MatchResult, All, IsOk}
 use Rattle.std.proofs.lemmas.Bool.{agree_below_at}
 use Rattle.std.proofs.lemmas.List.{take_all, length-map, take_min, take-map, take-append-le}
 use Rattle.std.proofs.lemmas.List.Elements.{All-take, All-nil, All-cons, All-head, All-tail}
 use Rattle.std.proofs.lemmas.Str.{IsUtf8-from_ascii}
 use Rattle.std.proofs.lemmas.Str.Ascii.{IsAscii-nil, IsAscii-cons}
 use Rattle.std.proofs.lemmas.Bool.Decides.{nat_tests}
-use Rattle.hex.specs.Hex.{encode_with, encode_lower, lower_digits}
+use Rattle.hex.specs.Hex.{lower_digits}
 use Rattle.gix_hash.specs.Digits.{digits_of, spelling, hex_letter}
 use Rattle.gix_hash.specs.Kind.{hex_len_of}
 use Rattle.gix_hash.specs.Oid.{oid_bytes, oid_digits, oid_kind}
@@ -19,28 +18,11 @@ use Rattle.gix_hash.specs.ObjectId.{id_bytes, id_digits}
 use Rattle.gix_hash.specs.PrefixBytes.{IsPacked}
 use Rattle.gix_hash.specs.declared.object_id.ObjectId.{ObjectId}
 
--- a digit's letter stands at the digit's place in the table of letters
+-- a digit's letter stands at the digit's place among the letters
 pub hex_letter-table : (d : ℕ) → d < 16 → slice_index lower_digits d ≡ hex_letter d
 hex_letter-table d h =
     eqb-true (slice_index lower_digits d) (hex_letter d)
     (agree_below_at (λ k. slice_index lower_digits k == hex_letter k) (λ k. true) 16 d refl h)
-
--- what `hex` writes for bytes is the spelling of their digits
-pub encode_lower-spelling : (bytes : List ℕ) → All (λ b. b < 256) bytes → encode_lower bytes ≡ spelling hex_letter (digits_of bytes)
-unfolding encode_with digits_of
-encode_lower-spelling [] h = refl
-encode_lower-spelling (b ∷ bytes) h =
-    let fits : b < 256 = All-head (λ (x : ℕ). x < 256) b bytes h in
-    let high : b / 16 < 16 = omega arith in
-    let low : b % 16 < 16 = omega arith in
-    rw (hex_letter-table (b / 16) high, hex_letter-table (b % 16) low, encode_lower-spelling bytes (All-tail (λ (x : ℕ). x < 256) b bytes h)) refl
-
--- what `hex` answers and leaves in room for just the text
-pub spelling-written : (bytes room out : List ℕ) (answer : Result (Unit {0}) FromHexError) → length room ≡ 2 * length bytes
-    → (IsOk answer ↔ (length room ≡ 2 * length bytes)) → OnOk answer (out ≡ encode_lower bytes)
-    → All (λ b. b < 256) bytes → out ≡ spelling hex_letter (digits_of bytes)
-spelling-written bytes room out (Ok x) len fits written bound = written ∙ encode_lower-spelling bytes bound
-spelling-written bytes room out (Err e) len fits written bound = cc (fits.1 len)
 
 -- a spelling has a letter a digit
 pub length-spelling : (letter : ℕ → ℕ) (ds : List ℕ) → length (spelling letter ds) ≡ length ds

@@ -1,11 +1,12 @@
 //! The alphabets in which digits are spelled and read.
 
-ghost use Rattle.std.specs.Prelude.{◌≡◌, ◌≤◌, ◌<◌, ◌*◌, ◌++◌, All, length, drop, map};
+ghost use Rattle.std.specs.Prelude.{◌≡◌, ◌≤◌, ◌<◌, ◌*◌, ◌++◌, All, IsTrue, length, drop, map};
 ghost use Rattle.gix_hash.specs.Digits.{digits_of, spelling, hex_letter};
+ghost use Rattle.gix_hash.specs.Kind.{is_digest_len};
 ghost use Rattle.gix_hash.specs.Reading.{digits_read};
 ghost use Rattle.gix_hash.specs.Alphabet.{letter_of, hex_of_reverse, reverse_of_hex};
 
-use crate::hex_digits::encode_digits;
+use crate::lanes::put_letters;
 
 /// An alphabet of sixteen letters.
 #[derive(Clone, Copy)]
@@ -32,12 +33,14 @@ impl Alphabet {
         }
     }
 
-    /// Writes the digits of some bytes in this alphabet into the front of the buffer.
+    /// Writes the digits of a digest of 20 or 32 bytes in this alphabet into the front of the buffer;
+    /// the bytes behind them stay.
     pub(crate) fn put_digits(self, bytes: &[u8], buffer: &mut [u8])
-        requires { 2 * length bytes.now ≤ length buffer.old }
+        requires digest { IsTrue (is_digest_len (length bytes.now)) }
+        requires room { 2 * length bytes.now ≤ length buffer.old }
         ensures { buffer.new ≡ spelling (letter_of self) (digits_of bytes.now) ++ drop (2 * length bytes.now) buffer.old }
     {
-        encode_digits(bytes, buffer);
+        put_letters(bytes, buffer);
         if let Alphabet::Reverse = self {
             to_reverse_letters(&mut buffer[..2 * bytes.len()]);
         }

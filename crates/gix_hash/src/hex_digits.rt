@@ -1,7 +1,7 @@
-//! Hex digits to bytes and back, over the crate `hex`.
+//! Hex digits to bytes, over the crate `hex`.
 
-ghost use Rattle.std.specs.Prelude.{◌≡◌, ◌≤◌, ◌*◌, ◌++◌, Some, None, MatchResult, IsAscii, is_ok, if◌then◌else◌, length, drop};
-ghost use Rattle.gix_hash.specs.Digits.{digits_of, spelling, hex_letter, ReadsAs, IsUnreadable};
+ghost use Rattle.std.specs.Prelude.{◌≡◌, ◌*◌, Some, None, MatchResult, IsAscii, is_ok, if◌then◌else◌, length};
+ghost use Rattle.gix_hash.specs.Digits.{digits_of, hex_letter, ReadsAs, IsUnreadable};
 ghost use Rattle.gix_hash.specs.Reading.{digits_read};
 ghost use Rattle.gix_hash.specs.declared.decode.Error.TheVariants.{Invalid};
 
@@ -19,14 +19,6 @@ pub(crate) fn decode_digits(text: &[u8], bytes: &mut [u8]) -> Result<(), Error>
         Ok(()) => Ok(()),
         Err(_) => Err(Error::Invalid),
     }
-}
-
-/// Writes the lowercase hex digits of some bytes into the front of the buffer.
-pub(crate) fn encode_digits(bytes: &[u8], buffer: &mut [u8])
-    requires { 2 * length bytes.now ≤ length buffer.old }
-    ensures { buffer.new ≡ spelling hex_letter (digits_of bytes.now) ++ drop (2 * length bytes.now) buffer.old }
-{
-    let _ = hex::encode_to_slice(bytes, &mut buffer[..2 * bytes.len()]);
 }
 
 /// Lends ASCII bytes as text.

@@ -15,10 +15,9 @@ use std::fmt;
 use std::hash::{Hash, Hasher};
 
 /// The kind of digest that an id is.
-#[derive(Clone, Copy, Debug, Default)]
+#[derive(Clone, Copy, Debug)]
 pub enum Kind {
     /// SHA-1, a digest of 20 bytes (FIPS 180-4).
-    #[default]
     Sha1 = 1,
     /// SHA-256, a digest of 32 bytes (FIPS 180-4).
     Sha256 = 2,
@@ -172,6 +171,16 @@ const EMPTY_TREE_SHA256: [u8; 32] = [
     0x6e, 0xf1, 0x9b, 0x41, 0x22, 0x5c, 0x53, 0x69, 0xf1, 0xc1, 0x04, 0xd4, 0x5d, 0x8d, 0x85, 0xef,
     0xa9, 0xb0, 0x57, 0xb5, 0x3b, 0x14, 0xb4, 0xb9, 0xb9, 0x39, 0xdd, 0x74, 0xde, 0xcc, 0x53, 0x21,
 ];
+
+impl Default for Kind {
+    ghost use Rattle.gix_hash.specs.declared.kind.Kind.TheVariants.{Sha1};
+
+    ghost is_default = { λ kind. kind ≡ Sha1 };
+
+    fn default() -> Self {
+        Kind::Sha1
+    }
+}
 
 impl PartialEq for Kind {
     ghost eq = { on number_of nat_eq };

@@ -15,6 +15,7 @@ mod display;
 mod error;
 mod hex_digits;
 mod kind;
+mod lanes;
 /// Laws that no single call carries.
 pub mod laws;
 mod object_id;

@@ -1,4 +1,4 @@
-use Rattle.std.proofs.Common.{length, sym, ap, ◌∙◌, arith}
+use Rattle.std.proofs.Common.{sym, ap, ◌∙◌, arith}
 use Rattle.gix_hash.specs.Kind.{hex_len_of}
 use Rattle.id_lookup.proofs.Least.{least_hex_len-most, least-further}
 use Rattle.id_lookup.proofs.sorted.least_hex_len.Goals as goal

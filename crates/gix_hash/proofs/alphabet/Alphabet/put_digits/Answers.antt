@@ -15,7 +15,7 @@ returns-in-Reverse c =
     rw (
       c.in-Reverse.is,
       c.to_reverse_letters.ensures,
-      c.encode_digits.ensures,
+      c.put_letters.ensures,
       take_at _ _ (2 * length bytes) len,
       drop_at _ _ (2 * length bytes) len,
       spelling-reverse_of_hex (digits_of bytes) (All-digits_of bytes fits),

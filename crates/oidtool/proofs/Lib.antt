@@ -1,0 +1,6 @@
+pub mod Deciding
+pub mod LineLemmas
+pub mod PrintLemmas
+pub mod ReadLemmas
+pub mod RunLemmas
+pub mod Taking

@@ -1,0 +1,9 @@
+-- The model of the program: list texts as lines and ids, what finding means, and what devices took.
+pub mod Lines
+pub mod ListText
+pub mod Finding
+pub mod Refusal
+pub mod Writing
+pub mod Command
+pub mod Devices
+pub mod Spelling

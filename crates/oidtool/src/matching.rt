@@ -1,0 +1,61 @@
+//! The look-up of a prefix among ids, said of their digits.
+
+ghost use Rattle.std.specs.Prelude.{◌≡◌, ◌≢◌, ◌≤◌, [], false, true, map, length, All, OnOk, OnErr, IfOk, IfErr};
+ghost use Rattle.std.specs.Io.KnownBytes.{Appends};
+ghost use Rattle.gix_hash.specs.ObjectId.{id_digits};
+ghost use Rattle.oidtool.specs.ListText.{IsWhole, IsSortedList, IsFirstUnsorted, min_hex_len};
+ghost use Rattle.oidtool.specs.Finding.{matches, printed};
+ghost use Rattle.oidtool.specs.Spelling.{letter_of};
+ghost use Rattle.oidtool.specs.Writing.{AppendsPart};
+
+use crate::printing::write_ids;
+use crate::sink::{Sink, WriteFailed};
+use crate::spelling::Spelling;
+use gix_hash::{ObjectId, Prefix};
+use id_lookup::SortedIds;
+
+/// The ids as a sorted list, or the first that is below the one before it, counted from 1.
+pub fn sorted_ids(ids: &[ObjectId]) -> Result<SortedIds<'_>, usize>
+    ensures same { IfOk result (λ list. list ≡ ids.now) }
+    ensures sorted { OnOk result (IsSortedList (map id_digits ids.now)) }
+    ensures unsorted { IfErr result (IsFirstUnsorted (map id_digits ids.now)) }
+{
+    match SortedIds::try_new(ids) {
+        Ok(list) => Ok(list),
+        Err(unsorted) => Err(unsorted.at + 1),
+    }
+}
+
+/// The number of digits of the shortest id, and 64 where there is none.
+pub fn min_hex_len(list: &SortedIds<'_>) -> usize
+    ensures { result ≡ min_hex_len (map id_digits list.now) }
+{
+    list.min_hex_len()
+}
+
+/// Writes a line for each id of the list that begins with the prefix, and answers how many there
+/// are. The ids are those of the list.
+///
+/// It stops at the first write that fails, with a proper beginning of the lines written.
+pub fn write_matches<W: Sink>(
+    spelling: Spelling,
+    list: &SortedIds<'_>,
+    ids: &[ObjectId],
+    prefix: &Prefix,
+    out: &mut W,
+) -> Result<usize, WriteFailed>
+    requires same { list.now ≡ ids.now }
+    requires whole { All IsWhole ids.now }
+    requires reach { length prefix.now.digits ≤ min_hex_len (map id_digits ids.now) }
+    requires stands { W.has_failed out.old ≡ false }
+    ensures count { IfOk result (λ n. n ≡ length (matches prefix.now.digits (map id_digits ids.now))) }
+    ensures written { OnOk result (Appends (W.taken out.old) (W.taken out.new) (printed (letter_of spelling) (matches prefix.now.digits (map id_digits ids.now)))) }
+    ensures stands { OnOk result (W.has_failed out.new ≡ false) }
+    ensures matched { OnErr result (matches prefix.now.digits (map id_digits ids.now) ≢ []) }
+    ensures part { OnErr result (AppendsPart (W.taken out.old) (W.taken out.new) (printed (letter_of spelling) (matches prefix.now.digits (map id_digits ids.now)))) }
+    ensures failed { OnErr result (W.has_failed out.new ≡ true) }
+{
+    let run = list.find(prefix);
+    write_ids(spelling, &ids[run.start..run.end], out)?;
+    Ok(run.end - run.start)
+}

@@ -1,0 +1,66 @@
+//! Writing ids, a line for each.
+
+ghost use Rattle.std.specs.Prelude.{◌≡◌, ◌≢◌, ◌≤◌, [], false, true, map, length, take, All, OnOk, OnErr};
+ghost use Rattle.std.specs.Io.KnownBytes.{Appends};
+ghost use Rattle.gix_hash.specs.ObjectId.{id_digits};
+ghost use Rattle.oidtool.specs.ListText.{IsWhole};
+ghost use Rattle.oidtool.specs.Spelling.{letter_of};
+ghost use Rattle.oidtool.specs.Finding.{line_of, printed};
+ghost use Rattle.oidtool.specs.Writing.{AppendsPart};
+
+use crate::sink::{Sink, WriteFailed, write_all};
+use crate::spelling::Spelling;
+use gix_hash::ObjectId;
+
+// The bytes of the longest line: 64 digits and a line feed.
+const MAX_LINE_LEN: usize = 65;
+
+/// Writes a line for each id: its digits and a line feed.
+///
+/// It stops at the first write that fails, with a proper beginning of the lines written.
+pub fn write_ids<W: Sink>(
+    spelling: Spelling,
+    ids: &[ObjectId],
+    out: &mut W,
+) -> Result<(), WriteFailed>
+    requires whole { All IsWhole ids.now }
+    requires stands { W.has_failed out.old ≡ false }
+    ensures written { OnOk result (Appends (W.taken out.old) (W.taken out.new) (printed (letter_of spelling) (map id_digits ids.now))) }
+    ensures stands { OnOk result (W.has_failed out.new ≡ false) }
+    ensures some { OnErr result (ids.now ≢ []) }
+    ensures part { OnErr result (AppendsPart (W.taken out.old) (W.taken out.new) (printed (letter_of spelling) (map id_digits ids.now))) }
+    ensures failed { OnErr result (W.has_failed out.new ≡ true) }
+{
+    for id in ids {
+        write_id(spelling, id, out)?;
+    }
+    Ok(())
+}
+
+// Writes the id's line in one piece.
+fn write_id<W: Sink>(spelling: Spelling, id: &ObjectId, out: &mut W) -> Result<(), WriteFailed>
+    requires whole { IsWhole id.now }
+    requires stands { W.has_failed out.old ≡ false }
+    ensures written { OnOk result (Appends (W.taken out.old) (W.taken out.new) (line_of (letter_of spelling) (id_digits id.now))) }
+    ensures stands { OnOk result (W.has_failed out.new ≡ false) }
+    ensures part { OnErr result (AppendsPart (W.taken out.old) (W.taken out.new) (line_of (letter_of spelling) (id_digits id.now))) }
+    ensures failed { OnErr result (W.has_failed out.new ≡ true) }
+{
+    let mut line = [0; MAX_LINE_LEN];
+    let len = put_line(spelling, id, &mut line);
+    write_all(out, &line[..len])
+}
+
+// Puts the id's digits and a line feed into the front of the buffer, and answers how many bytes
+// they are.
+fn put_line(spelling: Spelling, id: &ObjectId, line: &mut [u8]) -> usize
+    requires whole { IsWhole id.now }
+    requires room { length line.old ≡ MAX_LINE_LEN }
+    ensures len { result ≤ MAX_LINE_LEN }
+    ensures text { take result line.new ≡ line_of (letter_of spelling) (id_digits id.now) }
+{
+    let digits = id.kind().len_in_hex();
+    spelling.put_id(id, line);
+    line[digits] = b'\n';
+    digits + 1
+}

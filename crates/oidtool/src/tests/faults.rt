@@ -1,0 +1,218 @@
+//! Writers that fail, and memory that is refused.
+
+use super::devices::{Fault, Writer};
+use super::{BLOB, BLOB_256, BLOB_LETTERS, TREE, TREE_256, text_of};
+use crate::finding::{FindError, find, find_change};
+use crate::into_slice::IntoSlice;
+use crate::plain::Plain;
+use crate::sink::Sink;
+use linked_list_allocator::LocalHeap;
+use std::alloc::{AllocError, Allocator, Global};
+use std::process::Abort;
+use std::test::Fail;
+
+// The four ids in their order, the tree twice.
+fn list(alloc: Global) -> Result<String, AllocError> {
+    text_of(alloc, [BLOB_256, TREE, TREE, TREE_256, BLOB].as_slice())
+}
+
+// Finds the prefix with this writer, and compares the answer and what the writer took.
+fn expect_taken(
+    rt: &(impl Abort + AllocGlobal),
+    prefix: &str,
+    piece: usize,
+    fault: Fault,
+    answer: Result<usize, ()>,
+    taken: &[u8],
+) -> Result<(), Fail> {
+    let list = list(rt.alloc())?;
+    let mut out = Plain::new(Writer::new(Vec::new(rt.alloc()), piece, fault));
+    let found = find(rt.alloc(), prefix, list.as_bytes(), &mut out);
+    match answer {
+        Ok(count) => {
+            assert!(rt; matches!(found, Ok(n) if n == count), "{prefix} is found");
+            assert!(rt; !out.failed(), "no write of {prefix} fails");
+        }
+        Err(()) => {
+            assert!(rt;
+                matches!(found, Err(FindError::Output)),
+                "a write of {prefix} fails"
+            );
+            assert!(rt; out.failed(), "the failure is kept");
+        }
+    }
+    assert_eq!(rt;
+        out.into_inner().taken(),
+        taken,
+        "what was taken for {prefix}"
+    );
+    Ok(())
+}
+
+#[test]
+fn tells_a_write_that_fails(rt: HostRuntime) -> Result<(), Fail> {
+    let both = text_of(rt.alloc(), [TREE, TREE].as_slice())?;
+    let both = both.as_bytes();
+    for at in 1..=82 {
+        assert!(&rt; at <= both.len());
+        expect_taken(&rt, "4b82", 1, Fault::AtCall(at), Err(()), &both[..at - 1])?;
+    }
+    expect_taken(&rt, "4b82", 1, Fault::AtCall(83), Ok(2), both)?;
+    for most in 0..82 {
+        assert!(&rt; most <= both.len());
+        expect_taken(
+            &rt,
+            "4b82",
+            7,
+            Fault::AfterBytes(most),
+            Err(()),
+            &both[..most],
+        )?;
+    }
+    expect_taken(&rt, "4b82", 7, Fault::AfterBytes(82), Ok(2), both)?;
+    expect_taken(
+        &rt,
+        "4b82",
+        128,
+        Fault::AfterBytes(10),
+        Err(()),
+        b"4b825dc642",
+    )?;
+    expect_taken(&rt, "4b82", 0, Fault::Never, Err(()), b"")?;
+    expect_taken(&rt, "4b82", 128, Fault::Never, Ok(2), both)?;
+    expect_taken(&rt, "ffff", 0, Fault::AtCall(1), Ok(0), b"")
+}
+
+#[test]
+fn tells_a_write_of_a_change_that_fails(rt: HostRuntime) -> Result<(), Fail> {
+    let list = list(rt.alloc())?;
+    let line = BLOB_LETTERS.as_bytes();
+    for at in 1..=42 {
+        let writer = Writer::new(Vec::new(rt.alloc()), 1, Fault::AtCall(at));
+        let mut out = Plain::new(writer);
+        let found = find_change(rt.alloc(), "ltqm", list.as_bytes(), &mut out);
+        assert!(&rt; at - 1 <= line.len());
+        assert_eq!(&rt; matches!(found, Ok(1)), at == 42, "at write {at}");
+        assert_eq!(&rt;
+            matches!(found, Err(FindError::Output)),
+            at < 42,
+            "at write {at}"
+        );
+        assert_eq!(&rt; out.into_inner().taken(), &line[..at - 1], "at write {at}");
+    }
+    Ok(())
+}
+
+#[test]
+fn keeps_a_failure(rt: HostRuntime) -> Result<(), Fail> {
+    let mut out = Plain::new(Writer::new(Vec::new(rt.alloc()), 4, Fault::AtCall(2)));
+    assert!(&rt; matches!(out.write(b"abcdef"), Ok(4)));
+    assert!(&rt; !out.failed());
+    assert!(&rt; out.write(b"ef").is_err());
+    assert!(&rt; out.failed());
+    assert!(&rt; matches!(out.write(b"gh"), Ok(2)));
+    assert!(&rt; out.failed());
+    let inner = out.into_inner();
+    assert_eq!(&rt; inner.taken(), b"abcdgh".as_slice());
+    assert_eq!(&rt; inner.calls(), 3);
+    Ok(())
+}
+
+#[test]
+fn fills_a_slice(rt: HostRuntime) {
+    let mut buf = [b'#'; 6];
+    let mut out = IntoSlice::new(&mut buf);
+    assert!(&rt; matches!(out.write(b"abcd"), Ok(4)));
+    assert!(&rt; matches!(out.write(b"efgh"), Ok(2)));
+    assert!(&rt; matches!(out.write(b""), Ok(0)));
+    assert!(&rt; !out.failed());
+    assert!(&rt; matches!(out.write(b"gh"), Ok(0)));
+    assert!(&rt; out.failed());
+    assert_eq!(&rt; out.written(), b"abcdef".as_slice());
+}
+
+// Finds within an allocator: whether it gave all that was asked of it.
+fn finds_within<A: Allocator>(rt: &impl Abort, alloc: A, list: &[u8]) -> bool {
+    let mut buf = [0; 128];
+    let mut out = IntoSlice::new(&mut buf);
+    match find(alloc, "6ef1", list, &mut out) {
+        Err(FindError::Memory) => {
+            assert_eq!(rt; out.written(), b"".as_slice(), "nothing is written");
+            false
+        }
+        answer => {
+            assert!(rt; matches!(answer, Ok(1)));
+            assert_eq!(rt; out.written(), TREE_256.as_bytes());
+            true
+        }
+    }
+}
+
+// As `finds_within`, in the letters of change ids.
+fn finds_change_within<A: Allocator>(rt: &impl Abort, alloc: A, list: &[u8]) -> bool {
+    let mut buf = [0; 256];
+    let mut out = IntoSlice::new(&mut buf);
+    match find_change(alloc, "ltqm", list, &mut out) {
+        Err(FindError::Memory) => {
+            assert_eq!(rt; out.written(), b"".as_slice(), "nothing is written");
+            false
+        }
+        answer => {
+            assert!(rt; matches!(answer, Ok(4)));
+            true
+        }
+    }
+}
+
+#[test]
+fn tells_memory_that_is_refused(rt: HostRuntime) -> Result<(), Fail> {
+    let nine = text_of(
+        rt.alloc(),
+        [BLOB_256, TREE, TREE, TREE, TREE_256, BLOB, BLOB, BLOB, BLOB].as_slice(),
+    )?;
+    let mut refused = 0;
+    for units in 0..1000 {
+        let heap = LocalHeap::new(rt.alloc(), 16 * units)?;
+        let found = finds_within(&rt, &heap, nine.as_bytes());
+        assert_eq!(&rt;
+            finds_change_within(&rt, &heap, nine.as_bytes()),
+            found,
+            "both at {units}"
+        );
+        if found {
+            assert!(&rt; refused >= 3, "each growth was refused");
+            return Ok(());
+        }
+        assert_eq!(&rt; heap.used(), 0, "all is given back at {units}");
+        refused = units + 1;
+    }
+    Err(Fail::new("each run met a refusal"))
+}
+
+#[test]
+fn needs_no_memory_without_lines(rt: HostRuntime) -> Result<(), Fail> {
+    let heap = LocalHeap::new(rt.alloc(), 0)?;
+    let mut buf = [0; 8];
+    let mut out = IntoSlice::new(&mut buf);
+    assert!(&rt; matches!(find(&heap, "4b82", b"", &mut out), Ok(0)));
+    assert!(&rt;
+        matches!(
+            find(&heap, "abc", TREE.as_bytes(), &mut out),
+            Err(FindError::Prefix(_))
+        )
+    );
+    assert!(&rt;
+        matches!(
+            find(&heap, "4b82", b"zz", &mut out),
+            Err(FindError::BadLine { line: 1, .. })
+        )
+    );
+    assert!(&rt;
+        matches!(
+            find(&heap, "4b82", TREE.as_bytes(), &mut out),
+            Err(FindError::Memory)
+        )
+    );
+    assert_eq!(&rt; out.written(), b"".as_slice());
+    Ok(())
+}
