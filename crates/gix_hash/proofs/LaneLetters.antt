@@ -1,39 +1,31 @@
 -- The letters of digits, looked up lane by lane, and put in the order of the digits.
-use Rattle.std.proofs.Common.{◌≡◌, ℕ, suc, ◌+◌, ◌*◌, ◌/◌, ◌%◌, ◌<◌, ◌≤◌, ◌==◌, true, List, [], ◌∷◌, ◌++◌, length, get_or, map, w8, refl, ap, subst, ◌∙◌, arith, eqb-true}
+use Rattle.std.proofs.Common.{◌≡◌, ℕ, suc, ◌+◌, ◌*◌, ◌/◌, ◌%◌, ◌<◌, ◌≤◌, List, [], ◌∷◌, ◌++◌, length, get_or, map, w8, refl, ap, subst, ◌∙◌, arith}
 use Rattle.std.specs.Prelude.{All}
 use Rattle.std.specs.List.{range_with_len}
 use Rattle.std.specs.Simd.Lanes.{pick_l}
-use Rattle.std.proofs.lemmas.Bool.{agree_below_at}
 use Rattle.std.proofs.lemmas.List.Elements.{All-head, All-tail}
 use Rattle.std.proofs.lemmas.Simd.{SwzOk, SwzOk-from_below, Each1-from_get_or, swz_l, get_or-swz_l_below, pick_l_whole}
+use Rattle.hex.specs.Hex.{lower_digits}
 use Rattle.gix_hash.specs.Digits.{digits_of, spelling, hex_letter}
+use Rattle.gix_hash.proofs.Spellings.{hex_letter-table}
 
--- the letters in the order of their digits
-abbrev pub table : List ℕ
-table = 48 ∷ 49 ∷ 50 ∷ 51 ∷ 52 ∷ 53 ∷ 54 ∷ 55 ∷ 56 ∷ 57 ∷ 97 ∷ 98 ∷ 99 ∷ 100 ∷ 101 ∷ 102 ∷ []
-
--- a digit's letter stands at the digit's place
-table-letter : (d : ℕ) → d < 16 → get_or table d 0 ≡ hex_letter d
-table-letter d h =
-    eqb-true (get_or table d 0) (hex_letter d) (agree_below_at (λ k. get_or table k 0 == hex_letter k) (λ k. true) 16 d refl h)
-
--- sixteen digits are places in the table
+-- sixteen digits are places among the letters
 pub digits-places : (digits : List ℕ) → length digits ≡ 16 → All (λ d. d < 16) digits → SwzOk w8 16 16 0 digits
 digits-places digits long small =
     SwzOk-from_below w8 16 1 16 0 digits refl (omega arith) (Each1-from_get_or (λ j. j < 16) digits 0 (λ i lt. small i 0 lt))
 
 -- the look-up, lane by lane from a place on
-looked_up_from : (i : ℕ) (digits : List ℕ) → i + length digits ≤ 16 → All (λ d. d < 16) digits → swz_l w8 16 table i digits ≡ spelling hex_letter digits
+looked_up_from : (i : ℕ) (digits : List ℕ) → i + length digits ≤ 16 → All (λ d. d < 16) digits → swz_l w8 16 lower_digits i digits ≡ spelling hex_letter digits
 looked_up_from i [] room small = refl
 looked_up_from i (d ∷ digits) room small =
     let digit : d < 16 = All-head (λ (x : ℕ). x < 16) d digits small in
     let more = looked_up_from (suc i) digits (omega arith) (All-tail (λ (x : ℕ). x < 16) d digits small) in
     let place : 16 * ((i + 0) / 16) + d ≡ d = omega arith in
-    let head = get_or-swz_l_below w8 16 table i (d ∷ digits) 0 (omega arith) digit ∙ ap (λ k. get_or table k 0) place ∙ table-letter d digit in
-    ap (λ c. c ∷ swz_l w8 16 table (suc i) digits) head ∙ ap (λ cs. hex_letter d ∷ cs) more
+    let head = get_or-swz_l_below w8 16 lower_digits i (d ∷ digits) 0 (omega arith) digit ∙ ap (λ k. get_or lower_digits k 0) place ∙ hex_letter-table d digit in
+    ap (λ c. c ∷ swz_l w8 16 lower_digits (suc i) digits) head ∙ ap (λ cs. hex_letter d ∷ cs) more
 
 -- sixteen digits are looked up as their letters
-pub looked_up : (digits : List ℕ) → length digits ≡ 16 → All (λ d. d < 16) digits → swz_l w8 16 table 0 digits ≡ spelling hex_letter digits
+pub looked_up : (digits : List ℕ) → length digits ≡ 16 → All (λ d. d < 16) digits → swz_l w8 16 lower_digits 0 digits ≡ spelling hex_letter digits
 looked_up digits long small = looked_up_from 0 digits (omega arith) small
 
 -- two vectors of sixteen lanes in turn, and the first of the two results before the second

@@ -5,6 +5,11 @@
 //! error.
 #![tactic(auto)]
 
+ghost use Rattle.std.specs.Prelude.{◌≡◌, ◌≢◌};
+ghost use Rattle.std.specs.IoError.{error_kind};
+ghost use Rattle.std.specs.declared.io.ErrorKind.TheVariants.{OutOfMemory};
+ghost use Rattle.oidtool.specs.declared.Failure.TheVariants.{Find, Memory, Input};
+
 pub mod command;
 pub mod finding;
 pub mod into_slice;
@@ -46,18 +51,25 @@ enum Failure<'a> {
 }
 
 impl From<FindError> for Failure<'_> {
+    ghost from_gives = { λ error failure. failure ≡ Find error };
+
     fn from(error: FindError) -> Self {
         Failure::Find(error)
     }
 }
 
 impl From<AllocError> for Failure<'_> {
+    ghost from_gives = { λ _ failure. failure ≡ Memory };
+
     fn from(_error: AllocError) -> Self {
         Failure::Memory
     }
 }
 
 impl From<io::Error> for Failure<'_> {
+    ghost from_gives = { λ error failure. (error_kind error ≡ OutOfMemory → failure ≡ Memory)
+        × (error_kind error ≢ OutOfMemory → failure ≡ Input) };
+
     fn from(error: io::Error) -> Self {
         match error.kind() {
             io::ErrorKind::OutOfMemory => Failure::Memory,

@@ -256,7 +256,7 @@ fn written_into_buffers(rt: HostRuntime) -> Result<(), Fail> {
 }
 
 #[test]
-fn written_to_a_writer(rt: HostRuntime) -> Result<(), Fail> {
+fn hex_is_written(rt: HostRuntime) -> Result<(), Fail> {
     let mut out = Vec::with_capacity(rt.alloc(), 104)?;
     id(BLOB)?.write_hex_to(&mut out)?;
     assert_eq!(rt; out.as_slice(), BLOB.as_bytes());

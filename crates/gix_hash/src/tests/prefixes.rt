@@ -252,11 +252,16 @@ fn fed_to_a_hash(rt: HostRuntime) -> Result<(), Fail> {
 }
 
 #[test]
-fn written(rt: HostRuntime) -> Result<(), Fail> {
-    let prefix = Prefix::from_hex("e69de29")?;
+fn hex_is_written(rt: HostRuntime) -> Result<(), Fail> {
     let mut out = Vec::with_capacity(rt.alloc(), 64)?;
-    prefix.write_hex_to(&mut out)?;
+    Prefix::from_hex("e69de29")?.write_hex_to(&mut out)?;
     assert_eq!(rt; out.as_slice(), b"e69de29".as_slice());
+    Ok(())
+}
+
+#[test]
+fn written_into_buffers(rt: HostRuntime) -> Result<(), Fail> {
+    let prefix = Prefix::from_hex("e69de29")?;
     assert!(rt; prefix.eq_str("e69de29"));
     assert!(rt; !prefix.eq_str("E69DE29") && !prefix.eq_str("e69de2"));
     assert!(rt; prefix.hex_len() <= 10);
