@@ -1,5 +1,5 @@
 -- The reverse alphabet through hex letters: reading and spelling.
-use Rattle.std.proofs.Common.{◌≡◌, ℕ, ◌+◌, ◌<◌, List, [], ◌∷◌, ◌++◌, length, map, take, drop, get_or, slice_set, refl, sym, ◌∙◌, arith, Option, Some, None}
+use Rattle.std.proofs.Common.{◌≡◌, ℕ, ◌+◌, ◌<◌, List, [], ◌∷◌, ◌++◌, length, map, take, drop, get_or, slice_set, refl, sym, arith, Option, Some, None}
 use Rattle.std.specs.Prelude.{All}
 use Rattle.std.specs.Char.{to_ascii_lowercase}
 use Rattle.std.proofs.lemmas.Bool.Decides.{nat_tests}
@@ -9,14 +9,10 @@ use Rattle.std.proofs.lemmas.List.Elements.{All-head, All-tail}
 use Rattle.gix_hash.specs.declared.alphabet.Alphabet.{Alphabet}
 use Rattle.gix_hash.specs.declared.alphabet.Alphabet.TheVariants.{Hex, Reverse}
 use Rattle.gix_hash.specs.Alphabet.{letter_of, hex_of_reverse, reverse_of_hex}
-use Rattle.gix_hash.specs.Digits.{hex_letter, reverse_letter, spelling, ReadsAs, IsUnreadable}
-use Rattle.gix_hash.specs.IdReading.{IsFullReading, IsIdRefusal}
-use Rattle.gix_hash.specs.ObjectId.{id_digits}
-use Rattle.gix_hash.specs.Reading.{digit_in, digits_read, full_read}
-use Rattle.gix_hash.specs.declared.decode.Error.{Error}
-use Rattle.gix_hash.specs.declared.decode.Error.TheVariants.{InvalidHexEncodingLength, Invalid}
-use Rattle.gix_hash.specs.declared.object_id.ObjectId.{ObjectId}
-use Rattle.gix_hash.proofs.ReadingFacts.{IsAlphabet, hex_alphabet, digit_in-is, digit_in-letter, ReadsAs-digits_read, digits_read-ReadsAs}
+use Rattle.gix_hash.specs.Digits.{hex_letter, reverse_letter, spelling}
+use Rattle.gix_hash.specs.IdReading.{full_read}
+use Rattle.gix_hash.specs.Reading.{digit_in, digits_read}
+use Rattle.gix_hash.proofs.ReadingFacts.{IsAlphabet, hex_alphabet, digit_in-is, digit_in-letter}
 
 -- the reverse letters are distinct
 pub reverse_alphabet : IsAlphabet reverse_letter
@@ -68,33 +64,9 @@ spelling-reverse_of_hex [] h = refl
 spelling-reverse_of_hex (d ∷ ds) h =
     rw (letter_for d (All-head (λ (x : ℕ). x < 16) d ds h), spelling-reverse_of_hex ds (All-tail (λ (x : ℕ). x < 16) d ds h)) refl
 
--- both are alphabets
-pub IsAlphabet-letter_of : (alphabet : Alphabet) → IsAlphabet (letter_of alphabet)
-IsAlphabet-letter_of Hex = hex_alphabet
-IsAlphabet-letter_of Reverse = reverse_alphabet
-
--- two texts, in two alphabets, that read alike
-module _ (l m : ℕ → ℕ) (a : IsAlphabet l) (b : IsAlphabet m) (xs ys : List ℕ) (same : digits_read l xs ≡ digits_read m ys) where
-  -- what reads the one reads the other
-  pub ReadsAs-alike : (ds : List ℕ) → ReadsAs l xs ds → ReadsAs m ys ds
-  ReadsAs-alike ds h = ReadsAs-digits_read m ys ds (sym same ∙ digits_read-ReadsAs l a xs ds h)
-
-  -- and where nothing reads the one, nothing reads the other
-  pub IsUnreadable-alike : IsUnreadable l xs → IsUnreadable m ys
-  IsUnreadable-alike h = λ ds reads. h ds (ReadsAs-digits_read l xs ds (same ∙ digits_read-ReadsAs m b ys ds reads))
-
-  -- a full reading of the one is one of the other
-  pub IsFullReading-alike : length xs ≡ length ys → (id : ObjectId) → IsFullReading l xs id → IsFullReading m ys id
-  IsFullReading-alike len id h = record { kind = sym len ∙ h.kind; reads = ReadsAs-alike (id_digits id) h.reads }
-
-  -- and a refusal of the one is one of the other
-  pub IsIdRefusal-alike : length xs ≡ length ys → (e : Error) → IsIdRefusal l xs e → IsIdRefusal m ys e
-  IsIdRefusal-alike len (InvalidHexEncodingLength n) h = (h.0 ∙ len, h.1)
-  IsIdRefusal-alike len Invalid h = (rw len at h.0, IsUnreadable-alike h.1)
-
-  -- the answers are the same
-  pub full_read-alike : length xs ≡ length ys → full_read l xs ≡ full_read m ys
-  full_read-alike len = rw (len, same) refl
+-- texts of one length that read alike are read alike as full ids
+pub full_read-alike : (l m : ℕ → ℕ) (xs ys : List ℕ) → digits_read l xs ≡ digits_read m ys → length xs ≡ length ys → full_read l xs ≡ full_read m ys
+full_read-alike l m xs ys same len = rw (len, same) refl
 
 -- letters are ASCII
 pub letter_of-ascii : (alphabet : Alphabet) (d : ℕ) → d < 16 → letter_of alphabet d < 128

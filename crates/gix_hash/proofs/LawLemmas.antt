@@ -1,28 +1,28 @@
 -- What the laws of digits, prefixes and ids rest on.
-use Rattle.std.proofs.Common.{◌≡◌, ℕ, ◌<◌, ◌≤◌, ◌==◌, ◌⊎◌, inl, inr, Bool, true, false, Some, Result, Ok, Err, List, [], ◌∷◌, ◌++◌, length, take, drop, map, slice_index, refl, sym, ap, ◌∙◌, arith, eqb-true, Ordering, Equal}
-use Rattle.std.specs.Prelude.{All, MatchResult, codes, nat_eq}
+use Rattle.std.proofs.Common.{◌≡◌, ◌↔◌, Option, None, nat_lt, ℕ, ◌<◌, ◌≤◌, ◌==◌, ◌⊎◌, inl, inr, Bool, true, false, Some, Ok, List, [], ◌∷◌, ◌++◌, length, take, drop, map, slice_index, refl, sym, ap, ◌∙◌, arith, eqb-true, Ordering, Equal}
+use Rattle.std.specs.Prelude.{All, codes, nat_eq}
 use Rattle.std.specs.Cmp.{tied_itself}
 use Rattle.std.specs.Cmp.Lexicographic.{slice_cmp, texts_ties, bytes_decides, pointwise}
 use Rattle.std.specs.Ordering.{nat_cmp, ordering_then, ordering_reverse, is_eq}
-use Rattle.std.specs.Result.{result_map_both}
 use Rattle.std.specs.Char.{to_ascii_lowercase}
 use Rattle.std.proofs.lemmas.Bool.{agree_below_at, cases_lt}
 use Rattle.std.proofs.lemmas.Bool.Decides.{nat_tests}
+use borrow.Author.Tests.{ltb-true}
 use Rattle.std.proofs.lemmas.Cmp.{nat_list_cmp_total}
 use Rattle.std.proofs.lemmas.List.{take_at, take-append-drop, take-append-le, length-map}
 use Rattle.std.proofs.lemmas.List.Elements.{All-head, All-tail}
 use Rattle.gix_hash.specs.Digits.{hex_letter, reverse_letter, spelling, ReadsAs}
-use Rattle.gix_hash.specs.IdReading.{IsFullReading, IsIdRefusal}
-use Rattle.gix_hash.specs.Kind.{hex_len_of}
+use Rattle.gix_hash.specs.IdReading.{full_read, whole_of, IsFullReading}
+use Rattle.gix_hash.specs.Kind.{hex_len_of, kind_of_full_len}
 use Rattle.gix_hash.specs.ObjectId.{id_kind, id_digits}
-use Rattle.gix_hash.specs.Prefix.{place, BeginsWith}
+use Rattle.gix_hash.specs.Prefix.{place, BeginsWith, Beginning, beginning_of}
+use Rattle.gix_hash.specs.PrefixReading.{prefix_read, IsPrefixReading}
+use Rattle.gix_hash.specs.Reading.{answer_of}
 use Rattle.gix_hash.specs.PrefixBytes.{packed, id_of, id_of-parts}
-use Rattle.gix_hash.specs.Reading.{digits_read, full_read, is_full_hex_len}
-use Rattle.gix_hash.specs.declared.decode.Error.{Error}
 use Rattle.gix_hash.specs.declared.kind.Kind.{Kind}
 use Rattle.gix_hash.specs.declared.kind.Kind.TheVariants as kinds
 use Rattle.gix_hash.specs.declared.object_id.ObjectId.{ObjectId}
-use Rattle.gix_hash.proofs.ReadingFacts.{IsAlphabet, digits_read-ReadsAs}
+use Rattle.gix_hash.proofs.ReadingFacts.{IsAlphabet, digits_read-ReadsAs, ReadsAs-digits_read}
 
 -- the reverse letters by their table
 pub reverse_letter-table : (d : ℕ) → d < 16 → reverse_letter d ≡ slice_index (codes "zyxwvutsrqponmlk") d
@@ -99,47 +99,58 @@ ReadsAs-lowered letter (c ∷ text) (d ∷ ds) fits h = (
   ReadsAs-lowered letter text ds (All-tail (λ (x : ℕ). x < 16) d ds fits) (cc h),
 )
 
--- kinds of as many digits are the same
-same_kind : (a b : Kind) → hex_len_of a ≡ hex_len_of b → a ≡ b
-same_kind kinds.Sha1 kinds.Sha1 h = refl
-same_kind kinds.Sha1 kinds.Sha256 h = absurd (omega arith)
-same_kind kinds.Sha256 kinds.Sha1 h = absurd (omega arith)
-same_kind kinds.Sha256 kinds.Sha256 h = refl
-
 -- an id is told by its kind and its digits
-same_id : (a b : ObjectId) → id_kind a ≡ id_kind b → id_digits a ≡ id_digits b → a ≡ b
-same_id a b kind digits = sym (id_of-parts a) ∙ (λ i. id_of (kind i) (packed (digits i))) ∙ id_of-parts b
+pub same_id : (a b : ObjectId) → whole_of a ≡ whole_of b → a ≡ b
+same_id a b h = sym (id_of-parts a) ∙ ap (λ p. id_of p.kind (packed p.digits)) h ∙ id_of-parts b
 
--- some kind has as many digits as a kind has
-full : (kind : Kind) → is_full_hex_len (hex_len_of kind) ≡ true
+-- an id's kind by the number of its digits
+full : (kind : Kind) → kind_of_full_len (hex_len_of kind) ≡ Some kind
 full kinds.Sha1 = refl
 full kinds.Sha256 = refl
 
--- reading an id's spelling, in any letter case, answers the id
-pub read_back-is : (letter : ℕ → ℕ) → IsAlphabet letter → (text : List ℕ) (id : ObjectId) (answer : Result ObjectId Error)
-    → map to_ascii_lowercase text ≡ spelling letter (id_digits id)
-    → length (id_digits id) ≡ hex_len_of (id_kind id) → All (λ d. d < 16) (id_digits id)
-    → result_map_both id_digits (λ e. e) answer ≡ full_read letter text → MatchResult answer (IsFullReading letter text) (IsIdRefusal letter text)
-    → answer ≡ Ok id
-read_back-is letter a text id answer lowered len fits read = by_answer answer read
+full_len : (n : ℕ) (kind : Kind) → kind_of_full_len n ≡ Some kind → n ≡ hex_len_of kind
+full_len n kinds.Sha1 h = grind (arith, nat_tests)
+full_len n kinds.Sha256 h = grind (arith, nat_tests)
+
+-- what an answer that is no refusal is made from
+answered : {E : Type 0} (kind : Option Kind) (digits : Option (List ℕ)) (e f : E) (b : Beginning) → answer_of kind digits e f ≡ Ok b
+    → (kind ≡ Some b.kind) × (digits ≡ Some b.digits)
+answered None digits e f b h = cc h
+answered (Some k) None e f b h = cc h
+answered (Some k) (Some ds) e f b h =
+    let is : beginning_of k ds ≡ b = cc h in (ap (λ p. Some p.kind) is, ap (λ p. Some p.digits) is)
+
+-- the texts that read as a full id
+pub full_read-is : (letter : ℕ → ℕ) → IsAlphabet letter → (text : List ℕ) (b : Beginning)
+    → (full_read letter text ≡ Ok b) ↔ IsFullReading letter text b
+full_read-is letter a text b = (
+  λ h. let parts = answered _ _ _ _ b h in
+    record { kind = full_len (length text) b.kind parts.0; reads = ReadsAs-digits_read letter text b.digits parts.1 },
+  λ h. rw (h.kind, full b.kind, digits_read-ReadsAs letter a text b.digits h.reads) refl,
+)
+
+-- the texts that read as a prefix
+pub prefix_read-is : (letter : ℕ → ℕ) → IsAlphabet letter → (least : ℕ) (text : List ℕ) (b : Beginning)
+    → (prefix_read letter least text ≡ Ok b) ↔ IsPrefixReading letter least text b
+prefix_read-is letter a least text b = by_test (nat_lt (length text) least) refl
   where
-    digits : digits_read letter text ≡ Some (id_digits id)
-    digits = digits_read-ReadsAs letter a text (id_digits id) (ReadsAs-lowered letter text (id_digits id) fits lowered)
+    by_test : (test : Bool) → nat_lt (length text) least ≡ test → (prefix_read letter least text ≡ Ok b) ↔ IsPrefixReading letter least text b
+    by_test true e = (λ h. cc (rw e at h), λ h. absurd (omega (arith, h.long_enough, ltb-true)))
+    by_test false e = (
+      λ h. let parts = answered _ _ _ _ b (rw e at h) in
+        record { long_enough = grind (arith, nat_tests); kind = parts.0; reads = ReadsAs-digits_read letter text b.digits parts.1 },
+      λ h. rw (e, h.kind, digits_read-ReadsAs letter a text b.digits h.reads) refl,
+    )
 
-    count : length text ≡ hex_len_of (id_kind id)
-    count = sym (length-map text to_ascii_lowercase) ∙ ap length lowered ∙ length-map (id_digits id) letter ∙ len
-
-    whole : full_read letter text ≡ Ok (id_digits id)
-    whole = rw (count, full (id_kind id), digits) refl
-
-    by_answer : (answer : Result ObjectId Error) → result_map_both id_digits (λ e. e) answer ≡ full_read letter text
-        → MatchResult answer (IsFullReading letter text) (IsIdRefusal letter text) → answer ≡ Ok id
-    by_answer (Ok other) same cases =
-        let theirs = same ∙ whole in
-        let alike : id_digits other ≡ id_digits id = cc theirs in
-        let kind = same_kind (id_kind other) (id_kind id) (sym cases.kind ∙ count) in
-        ap Ok (same_id other id kind alike)
-    by_answer (Err e) same cases = let theirs = same ∙ whole in cc theirs
+-- an id's spelling, in any letter case, reads as the id
+pub full_read-printed : (letter : ℕ → ℕ) → IsAlphabet letter → (text : List ℕ) (id : ObjectId)
+    → map to_ascii_lowercase text ≡ spelling letter (id_digits id)
+    → length (id_digits id) ≡ hex_len_of (id_kind id) → All (λ d. d < 16) (id_digits id) → full_read letter text ≡ Ok (whole_of id)
+full_read-printed letter a text id lowered len fits =
+    let digits = digits_read-ReadsAs letter a text (id_digits id) (ReadsAs-lowered letter text (id_digits id) fits lowered) in
+    let count : length text ≡ hex_len_of (id_kind id) =
+    sym (length-map text to_ascii_lowercase) ∙ ap length lowered ∙ length-map (id_digits id) letter ∙ len
+    in rw (count, full (id_kind id), digits) refl
 
 -- letters fall where digits rise
 opposite_letters : (x y : ℕ) → x < 16 → y < 16 → (o : Ordering)

@@ -81,3 +81,11 @@ digits_read-ReadsAs letter a (c ∷ text) (d ∷ ds) h =
 -- where the function gives no digits, none read
 pub IsUnreadable-digits_read : (letter : ℕ → ℕ) → IsAlphabet letter → (text : List ℕ) → digits_read letter text ≡ None → IsUnreadable letter text
 IsUnreadable-digits_read letter a text h = λ ds reads. let some = digits_read-ReadsAs letter a text ds reads in cc
+
+-- and where none read, it gives none
+pub digits_read-IsUnreadable : (letter : ℕ → ℕ) (text : List ℕ) → IsUnreadable letter text → digits_read letter text ≡ None
+digits_read-IsUnreadable letter text h = by_answer (digits_read letter text) refl
+  where
+    by_answer : (answer : Option (List ℕ)) → digits_read letter text ≡ answer → answer ≡ None
+    by_answer None e = refl
+    by_answer (Some ds) e = absurd (h ds (ReadsAs-digits_read letter text ds e))

@@ -1,19 +1,29 @@
--- What reading a full id means: the id, or the refusal.
-use Rattle.std.specs.Prelude.{◌≡◌, ℕ, false, IsTrue, List, length}
-use Rattle.gix_hash.specs.Digits.{ReadsAs, IsUnreadable}
-use Rattle.gix_hash.specs.Kind.{hex_len_of}
-use Rattle.gix_hash.specs.Reading.{is_full_hex_len}
+-- What reading a full id answers.
+use Rattle.std.specs.Prelude.{◌≡◌, ℕ, List, length, Result}
+use Rattle.std.specs.Result.{result_map_both}
+use Rattle.gix_hash.specs.Digits.{ReadsAs}
+use Rattle.gix_hash.specs.Kind.{kind_of_full_len, hex_len_of}
+use Rattle.gix_hash.specs.Prefix.{Beginning, beginning_of}
+use Rattle.gix_hash.specs.Reading.{digits_read, answer_of}
 use Rattle.gix_hash.specs.ObjectId.{id_digits, id_kind}
 use Rattle.gix_hash.specs.declared.object_id.ObjectId.{ObjectId}
 use Rattle.gix_hash.specs.declared.decode.Error.{Error}
 use Rattle.gix_hash.specs.declared.decode.Error.TheVariants.{InvalidHexEncodingLength, Invalid}
 
--- the text has as many digits as ids of the id's kind, and reads as the id's digits
-pub record IsFullReading (letter : ℕ → ℕ) (text : List ℕ) (id : ObjectId) : Type 0 where
-  pub kind : length text ≡ hex_len_of (id_kind id)
-  pub reads : ReadsAs letter text (id_digits id)
+-- what reading a full id answers in an alphabet: the digits, of the kind that has so many
+abbrev pub full_read : (ℕ → ℕ) → List ℕ → Result Beginning Error
+full_read letter text =
+    answer_of (kind_of_full_len (length text)) (digits_read letter text) (InvalidHexEncodingLength (length text)) Invalid
 
--- a refusal: of the length where no kind has it, else of the digits where none read the text
-abbrev pub IsIdRefusal : (ℕ → ℕ) → List ℕ → Error → Type 0
-IsIdRefusal letter text (InvalidHexEncodingLength n) = (n ≡ length text) × (is_full_hex_len n ≡ false)
-IsIdRefusal letter text Invalid = IsTrue (is_full_hex_len (length text)) × IsUnreadable letter text
+-- an id as the beginning of all its digits
+abbrev pub whole_of : ObjectId → Beginning
+whole_of id = beginning_of (id_kind id) (id_digits id)
+
+-- an answer of an id, seen by its kind and its digits
+abbrev pub id_answered : Result ObjectId Error → Result Beginning Error
+id_answered answer = result_map_both whole_of (λ error. error) answer
+
+-- the text has as many digits as ids of the kind, and reads as these
+pub record IsFullReading (letter : ℕ → ℕ) (text : List ℕ) (id : Beginning) : Type 0 where
+  pub kind : length text ≡ hex_len_of id.kind
+  pub reads : ReadsAs letter text id.digits

@@ -22,6 +22,10 @@ byte_len_of Sha256 = 32
 abbrev pub kind_of_hex_len : ℕ → Option Kind
 kind_of_hex_len n = if nat_le n 40 then Some Sha1 else if nat_le n 64 then Some Sha256 else None
 
+-- the kind whose ids have just so many digits
+abbrev pub kind_of_full_len : ℕ → Option Kind
+kind_of_full_len n = if n == 40 then Some Sha1 else if n == 64 then Some Sha256 else None
+
 -- whether some kind has digests of so many bytes
 abbrev pub is_digest_len : ℕ → Bool
 is_digest_len n = n == 20 || n == 32

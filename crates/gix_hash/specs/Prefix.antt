@@ -11,6 +11,10 @@ pub record Beginning : Type 0 where
   pub kind : Kind
   pub digits : List ℕ
 
+-- the beginning of a kind with these digits
+abbrev pub beginning_of : Kind → List ℕ → Beginning
+beginning_of kind digits = record { kind = kind; digits = digits }
+
 -- the place of a prefix against an id: dictionary order against as many of the id's first digits
 abbrev pub place : List ℕ → List ℕ → Ordering
 place prefix id = slice_cmp nat_cmp prefix (take (length prefix) id)

@@ -1,10 +1,9 @@
 -- Reading as a function: the one list of digits that a text reads as, and what the reading calls answer.
-use Rattle.std.specs.Prelude.{ℕ, zero, suc, Bool, ◌==◌, ◌||◌, if◌then◌else◌, List, [], ◌∷◌, length, Option, Some, None, Result, Err}
-use Rattle.std.specs.Option.{ok_or}
+use Rattle.std.specs.Prelude.{ℕ, zero, suc, ◌==◌, if◌then◌else◌, List, [], ◌∷◌, Option, Some, None, Result, Err}
+use Rattle.std.specs.Option.{ok_or, option_map}
 use Rattle.std.specs.Char.{to_ascii_lowercase}
-use Rattle.gix_hash.specs.Digits.{hex_letter}
-use Rattle.gix_hash.specs.declared.decode.Error.{Error}
-use Rattle.gix_hash.specs.declared.decode.Error.TheVariants.{InvalidHexEncodingLength, Invalid}
+use Rattle.gix_hash.specs.Prefix.{Beginning, beginning_of}
+use Rattle.gix_hash.specs.declared.kind.Kind.{Kind}
 
 -- the digit below n whose letter c is, in either case
 unfoldable pub digit_below : (ℕ → ℕ) → ℕ → ℕ → Option ℕ
@@ -26,16 +25,7 @@ unfoldable pub digits_read : (ℕ → ℕ) → List ℕ → Option (List ℕ)
 digits_read letter [] = Some []
 digits_read letter (c ∷ text) = put_digit (digit_in letter c) (digits_read letter text)
 
--- whether an id of some kind has so many digits
-abbrev pub is_full_hex_len : ℕ → Bool
-is_full_hex_len n = n == 40 || n == 64
-
--- what reading a full id answers in an alphabet: its digits, or the refusal
-abbrev pub full_read : (ℕ → ℕ) → List ℕ → Result (List ℕ) Error
-full_read letter text =
-    if is_full_hex_len (length text) then ok_or (digits_read letter text) Invalid
-    else Err (InvalidHexEncodingLength (length text))
-
--- the same in hex digits
-abbrev pub id_read : List ℕ → Result (List ℕ) Error
-id_read text = full_read hex_letter text
+-- what a reading call answers: the digits that the text reads as, of the kind for its length; or the refusal of its length, or of its letters
+abbrev pub answer_of : {E : Type 0} → Option Kind → Option (List ℕ) → E → E → Result Beginning E
+answer_of None digits wrong_length invalid = Err wrong_length
+answer_of (Some kind) digits wrong_length invalid = ok_or (option_map (beginning_of kind) digits) invalid

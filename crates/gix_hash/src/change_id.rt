@@ -1,6 +1,6 @@
 //! Ids in the letters by which Jujutsu spells change ids.
 
-ghost use Rattle.std.specs.Prelude.{◌≡◌, ◌≤◌, ◌<◌, ◌↔◌, ◌++◌, All, IsTrue, MatchResult, length, drop};
+ghost use Rattle.std.specs.Prelude.{◌≡◌, ◌≤◌, ◌<◌, ◌↔◌, ◌++◌, All, IsTrue, length, drop};
 ghost use Rattle.gix_hash.specs.Digits.{reverse_letter, spelling};
 ghost use Rattle.gix_hash.specs.Kind.{hex_len_of, byte_len_of};
 ghost use Rattle.gix_hash.specs.ObjectId.{id_bytes, id_digits, id_kind};
@@ -73,11 +73,9 @@ impl Model for ChangeId {
 }
 
 impl ChangeId {
-    ghost use Rattle.std.specs.Result.{result_map_both};
     ghost use Rattle.gix_hash.specs.HexDisplay.{shown_digits};
-    ghost use Rattle.gix_hash.specs.IdReading.{IsFullReading, IsIdRefusal};
+    ghost use Rattle.gix_hash.specs.IdReading.{full_read, id_answered};
     ghost use Rattle.gix_hash.specs.Oid.{oid_kind, oid_digits};
-    ghost use Rattle.gix_hash.specs.Reading.{full_read, is_full_hex_len};
 
     /// Reads 40 or 64 of the letters `z` to `k`, in any letter case, as an id of SHA-1 or SHA-256.
     ///
@@ -85,8 +83,7 @@ impl ChangeId {
     /// length in bytes. A text of such a length with another byte is refused as
     /// [`decode::Error::Invalid`].
     pub fn from_reverse_hex(text: &[u8]) -> Result<ChangeId, decode::Error>
-        ensures cases { MatchResult result (IsFullReading reverse_letter text.now) (IsIdRefusal reverse_letter text.now) }
-        ensures read { result_map_both id_digits (λ e. e) result ≡ full_read reverse_letter text.now }
+        ensures { id_answered result ≡ full_read reverse_letter text.now }
     {
         match text.len() {
             40 | 64 => ChangeId::from_reverse_letters(text),
@@ -96,9 +93,8 @@ impl ChangeId {
 
     // Reads as many letters as some id has digits.
     fn from_reverse_letters(text: &[u8]) -> Result<ChangeId, decode::Error>
-        requires { IsTrue (is_full_hex_len (length text.now)) }
-        ensures cases { MatchResult result (IsFullReading reverse_letter text.now) (IsIdRefusal reverse_letter text.now) }
-        ensures read { result_map_both id_digits (λ e. e) result ≡ full_read reverse_letter text.now }
+        requires { length text.now ≤ 64 }
+        ensures { id_answered result ≡ full_read reverse_letter text.now }
     {
         let mut letters = [0; 64];
         let letters = &mut letters[..text.len()];
@@ -129,6 +125,8 @@ impl ChangeId {
     pub fn as_oid(&self) -> oid<'_>
         ensures kind { oid_kind result ≡ id_kind self.now }
         ensures digits { oid_digits result ≡ id_digits self.now }
+        ensures len { length (id_digits self.now) ≡ hex_len_of (id_kind self.now) }
+        ensures fits { All (λ d. d < 16) (id_digits self.now) }
     {
         self.0.as_oid()
     }
@@ -194,13 +192,13 @@ impl fmt::Display for ChangeId {
 
 /// As [`ChangeId::from_reverse_hex`].
 impl FromStr for ChangeId {
-    ghost use Rattle.std.specs.Prelude.{MatchResult};
+    ghost use Rattle.std.specs.Prelude.{◌≡◌};
     ghost use Rattle.gix_hash.specs.Digits.{reverse_letter};
-    ghost use Rattle.gix_hash.specs.IdReading.{IsFullReading, IsIdRefusal};
+    ghost use Rattle.gix_hash.specs.IdReading.{full_read, id_answered};
 
     type Err = decode::Error;
 
-    ghost from_str_gives = { λ text answer. MatchResult answer (IsFullReading reverse_letter text) (IsIdRefusal reverse_letter text) };
+    ghost from_str_gives = { λ text answer. id_answered answer ≡ full_read reverse_letter text };
 
     fn from_str(text: &str) -> Result<ChangeId, decode::Error> {
         ChangeId::from_reverse_hex(text.as_bytes())

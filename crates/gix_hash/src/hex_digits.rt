@@ -1,7 +1,7 @@
 //! Hex digits to bytes, over the crate `hex`.
 
-ghost use Rattle.std.specs.Prelude.{◌≡◌, ◌*◌, Some, None, MatchResult, IsAscii, is_ok, if◌then◌else◌, length};
-ghost use Rattle.gix_hash.specs.Digits.{digits_of, hex_letter, ReadsAs, IsUnreadable};
+ghost use Rattle.std.specs.Prelude.{◌≡◌, ◌*◌, Some, None, MatchResult, IsAscii, length};
+ghost use Rattle.gix_hash.specs.Digits.{digits_of, hex_letter};
 ghost use Rattle.gix_hash.specs.Reading.{digits_read};
 ghost use Rattle.gix_hash.specs.declared.decode.Error.TheVariants.{Invalid};
 
@@ -11,9 +11,8 @@ use crate::decode::Error;
 /// what `bytes` then holds is not said.
 pub(crate) fn decode_digits(text: &[u8], bytes: &mut [u8]) -> Result<(), Error>
     requires { length text.now ≡ 2 * length bytes.old }
-    ensures cases { MatchResult result (λ _. ReadsAs hex_letter text.now (digits_of bytes.new))
-        (λ e. (e ≡ Invalid) × IsUnreadable hex_letter text.now) }
-    ensures read { digits_read hex_letter text.now ≡ (if is_ok result then Some (digits_of bytes.new) else None) }
+    ensures { MatchResult result (λ _. digits_read hex_letter text.now ≡ Some (digits_of bytes.new))
+        (λ e. (e ≡ Invalid) × (digits_read hex_letter text.now ≡ None)) }
 {
     match hex::decode_to_slice(text, bytes) {
         Ok(()) => Ok(()),

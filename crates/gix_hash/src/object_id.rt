@@ -25,8 +25,6 @@ pub enum ObjectId {
 }
 
 impl ObjectId {
-    ghost use Rattle.std.specs.Prelude.{MatchResult};
-    ghost use Rattle.std.specs.Result.{result_map_both};
     ghost use Rattle.std.specs.Prelude.{◌↔◌, ◌++◌, IsTrue, IsOk, IfErr, OnOk, IsAscii, drop};
     ghost use Rattle.std.specs.Borrow.{sem};
     ghost use Rattle.std.specs.Io.KnownBytes.{Appends};
@@ -34,8 +32,7 @@ impl ObjectId {
     ghost use Rattle.gix_hash.specs.HexDisplay.{shown_digits};
     ghost use Rattle.gix_hash.specs.Loan.{LendsDigest};
     ghost use Rattle.gix_hash.specs.WellKnown.{null_digits, empty_blob_digits, empty_tree_digits};
-    ghost use Rattle.gix_hash.specs.Reading.{id_read};
-    ghost use Rattle.gix_hash.specs.IdReading.{IsFullReading, IsIdRefusal};
+    ghost use Rattle.gix_hash.specs.IdReading.{full_read, id_answered};
     ghost use Rattle.gix_hash.specs.Kind.{byte_len_of, hex_len_of, is_digest_len, kind_of_byte_len};
     ghost use Rattle.gix_hash.specs.ObjectId.{id_bytes, id_kind, id_digits};
     ghost use Rattle.gix_hash.specs.Oid.{oid_digits, oid_kind};
@@ -46,8 +43,7 @@ impl ObjectId {
     /// length in bytes. A text of such a length with a byte that is no hex digit is refused as
     /// [`decode::Error::Invalid`].
     pub fn from_hex(text: &[u8]) -> Result<ObjectId, decode::Error>
-        ensures cases { MatchResult result (IsFullReading hex_letter text.now) (IsIdRefusal hex_letter text.now) }
-        ensures read { result_map_both id_digits (λ e. e) result ≡ id_read text.now }
+        ensures { id_answered result ≡ full_read hex_letter text.now }
     {
         match text.len() {
             40 => {
@@ -66,8 +62,12 @@ impl ObjectId {
 
     /// The kind of the digest.
     pub const fn kind(&self) -> Kind
-        ensures { result ≡ id_kind self.now }
+        ensures value { result ≡ id_kind self.now }
+        ensures len { length (id_digits self.now) ≡ hex_len_of (id_kind self.now) }
+        ensures fits { All (λ d. d < 16) (id_digits self.now) }
     {
+        // Where the digest's length and the range of its bytes are told.
+        let _bytes = self.as_slice();
         match self {
             ObjectId::Sha1(_) => Kind::Sha1,
             ObjectId::Sha256(_) => Kind::Sha256,
@@ -108,7 +108,7 @@ impl ObjectId {
     }
 
     /// The bytes of the digest, as many as the kind's length in bytes.
-    pub fn as_slice(&self) -> &[u8]
+    pub const fn as_slice(&self) -> &[u8]
         ensures value { result.now ≡ id_bytes self.now }
         ensures len { length result.now ≡ byte_len_of (id_kind self.now) }
         ensures fits { All (λ b. b < 256) result.now }
@@ -124,6 +124,7 @@ impl ObjectId {
         ensures kind { oid_kind result ≡ id_kind self.now }
         ensures digits { oid_digits result ≡ id_digits self.now }
         ensures len { length (id_digits self.now) ≡ hex_len_of (id_kind self.now) }
+        ensures fits { All (λ d. d < 16) (id_digits self.now) }
     {
         oid::from_bytes_unchecked(self.as_slice())
     }
@@ -268,7 +269,7 @@ impl ObjectId {
 
 // The bytes as they are. A parameter that is a slice is known to hold bytes, an array in a variant
 // is not.
-fn fitting(bytes: &[u8]) -> &[u8]
+const fn fitting(bytes: &[u8]) -> &[u8]
     ensures value { result.now ≡ bytes.now }
     ensures fits { All (λ b. b < 256) result.now }
 {
@@ -373,13 +374,13 @@ impl Hash for ObjectId {
 
 /// As [`ObjectId::from_hex`].
 impl FromStr for ObjectId {
-    ghost use Rattle.std.specs.Prelude.{MatchResult};
+    ghost use Rattle.std.specs.Prelude.{◌≡◌};
     ghost use Rattle.gix_hash.specs.Digits.{hex_letter};
-    ghost use Rattle.gix_hash.specs.IdReading.{IsFullReading, IsIdRefusal};
+    ghost use Rattle.gix_hash.specs.IdReading.{full_read, id_answered};
 
     type Err = decode::Error;
 
-    ghost from_str_gives = { λ text answer. MatchResult answer (IsFullReading hex_letter text) (IsIdRefusal hex_letter text) };
+    ghost from_str_gives = { λ text answer. id_answered answer ≡ full_read hex_letter text };
 
     fn from_str(text: &str) -> Result<ObjectId, decode::Error> {
         ObjectId::from_hex(text.as_bytes())

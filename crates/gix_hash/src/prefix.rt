@@ -1,16 +1,15 @@
 //! Beginnings of ids.
 
-ghost use Rattle.std.specs.Prelude.{◌≡◌, ◌≤◌, ◌<◌, ◌*◌, ◌↔◌, ℕ, length, take, replicate, drop, ◌++◌, MatchResult, IfOk, IsTrue, IsAscii, OnOk, All};
+ghost use Rattle.std.specs.Prelude.{◌≡◌, ◌≤◌, ◌<◌, ◌*◌, ◌↔◌, ℕ, length, take, replicate, drop, ◌++◌, IfOk, IsTrue, IsAscii, OnOk, All};
 ghost use Rattle.std.specs.Io.KnownBytes.{Appends};
-ghost use Rattle.std.specs.Result.{result_map_both};
-ghost use Rattle.std.specs.Option.{ok_or};
+ghost use Rattle.std.specs.Option.{ok_or, option_map};
 ghost use Rattle.std.specs.declared.cmp.Ordering.{Ordering};
 ghost use Rattle.gix_hash.specs.Alphabet.{letter_of};
-ghost use Rattle.gix_hash.specs.Digits.{digits_of, hex_letter, reverse_letter, spelling, ReadsAs};
+ghost use Rattle.gix_hash.specs.Digits.{digits_of, hex_letter, reverse_letter, spelling};
 ghost use Rattle.gix_hash.specs.Kind.{hex_len_of, byte_len_of};
 ghost use Rattle.gix_hash.specs.ObjectId.{id_kind, id_bytes, id_digits};
-ghost use Rattle.gix_hash.specs.Prefix.{place, padded};
-ghost use Rattle.gix_hash.specs.PrefixReading.{prefix_read, nonempty_read, digits_answered, IsReadingOf, IsInvalid};
+ghost use Rattle.gix_hash.specs.Prefix.{beginning_of, place, padded};
+ghost use Rattle.gix_hash.specs.PrefixReading.{prefix_read};
 ghost use Rattle.gix_hash.specs.Reading.{digits_read};
 ghost use Rattle.gix_hash.specs.declared.prefix.from_hex.Error as from_hex;
 
@@ -135,10 +134,7 @@ impl Prefix {
     /// [`from_hex::Error::TooLong`], and else a byte that is no digit as
     /// [`from_hex::Error::Invalid`].
     pub fn from_hex(text: &str) -> Result<Prefix, from_hex::Error>
-        ensures too_short { length text.now < 4 → result ≡ Err (from_hex.Error.TooShort (length text.now)) }
-        ensures too_long { 64 < length text.now → result ≡ Err (from_hex.Error.TooLong (length text.now)) }
-        ensures cases { 4 ≤ length text.now → length text.now ≤ 64 → MatchResult result (IsReadingOf hex_letter text.now) (IsInvalid hex_letter text.now) }
-        ensures read { digits_answered result ≡ prefix_read hex_letter text.now }
+        ensures { result ≡ prefix_read hex_letter 4 text.now }
     {
         Prefix::read(Alphabet::Hex, text)
     }
@@ -150,40 +146,28 @@ impl Prefix {
     /// [`from_hex::Error::TooShort`], and else a byte that is no digit as
     /// [`from_hex::Error::Invalid`].
     pub fn from_hex_nonempty(text: &str) -> Result<Prefix, from_hex::Error>
-        ensures too_short { length text.now ≡ 0 → result ≡ Err (from_hex.Error.TooShort 0) }
-        ensures too_long { 64 < length text.now → result ≡ Err (from_hex.Error.TooLong (length text.now)) }
-        ensures cases { 0 < length text.now → length text.now ≤ 64 → MatchResult result (IsReadingOf hex_letter text.now) (IsInvalid hex_letter text.now) }
-        ensures read { digits_answered result ≡ nonempty_read hex_letter text.now }
+        ensures { result ≡ prefix_read hex_letter 1 text.now }
     {
         Prefix::read_nonempty(Alphabet::Hex, text)
     }
 
     /// As [`Prefix::from_hex`], of the letters `z` to `k` in place of hex digits.
     pub fn from_reverse_hex(text: &str) -> Result<Prefix, from_hex::Error>
-        ensures too_short { length text.now < 4 → result ≡ Err (from_hex.Error.TooShort (length text.now)) }
-        ensures too_long { 64 < length text.now → result ≡ Err (from_hex.Error.TooLong (length text.now)) }
-        ensures cases { 4 ≤ length text.now → length text.now ≤ 64 → MatchResult result (IsReadingOf reverse_letter text.now) (IsInvalid reverse_letter text.now) }
-        ensures read { digits_answered result ≡ prefix_read reverse_letter text.now }
+        ensures { result ≡ prefix_read reverse_letter 4 text.now }
     {
         Prefix::read(Alphabet::Reverse, text)
     }
 
     /// As [`Prefix::from_hex_nonempty`], of the letters `z` to `k` in place of hex digits.
     pub fn from_reverse_hex_nonempty(text: &str) -> Result<Prefix, from_hex::Error>
-        ensures too_short { length text.now ≡ 0 → result ≡ Err (from_hex.Error.TooShort 0) }
-        ensures too_long { 64 < length text.now → result ≡ Err (from_hex.Error.TooLong (length text.now)) }
-        ensures cases { 0 < length text.now → length text.now ≤ 64 → MatchResult result (IsReadingOf reverse_letter text.now) (IsInvalid reverse_letter text.now) }
-        ensures read { digits_answered result ≡ nonempty_read reverse_letter text.now }
+        ensures { result ≡ prefix_read reverse_letter 1 text.now }
     {
         Prefix::read_nonempty(Alphabet::Reverse, text)
     }
 
     // Reads at least 4 digits in an alphabet.
     fn read(alphabet: Alphabet, text: &str) -> Result<Prefix, from_hex::Error>
-        ensures too_short { length text.now < 4 → result ≡ Err (from_hex.Error.TooShort (length text.now)) }
-        ensures too_long { 64 < length text.now → result ≡ Err (from_hex.Error.TooLong (length text.now)) }
-        ensures cases { 4 ≤ length text.now → length text.now ≤ 64 → MatchResult result (IsReadingOf (letter_of alphabet) text.now) (IsInvalid (letter_of alphabet) text.now) }
-        ensures read { digits_answered result ≡ prefix_read (letter_of alphabet) text.now }
+        ensures { result ≡ prefix_read (letter_of alphabet) 4 text.now }
     {
         if text.len() < Prefix::MIN_HEX_LEN {
             return Err(from_hex::Error::TooShort {
@@ -195,10 +179,7 @@ impl Prefix {
 
     // Reads at least 1 digit in an alphabet.
     fn read_nonempty(alphabet: Alphabet, text: &str) -> Result<Prefix, from_hex::Error>
-        ensures too_short { length text.now ≡ 0 → result ≡ Err (from_hex.Error.TooShort 0) }
-        ensures too_long { 64 < length text.now → result ≡ Err (from_hex.Error.TooLong (length text.now)) }
-        ensures cases { 0 < length text.now → length text.now ≤ 64 → MatchResult result (IsReadingOf (letter_of alphabet) text.now) (IsInvalid (letter_of alphabet) text.now) }
-        ensures read { digits_answered result ≡ nonempty_read (letter_of alphabet) text.now }
+        ensures { result ≡ prefix_read (letter_of alphabet) 1 text.now }
     {
         if text.is_empty() {
             return Err(from_hex::Error::TooShort { hex_len: 0 });
@@ -214,8 +195,7 @@ impl Prefix {
     // The prefix of a kind whose digits the text is, in an alphabet.
     fn read_in(alphabet: Alphabet, kind: Kind, text: &[u8]) -> Result<Prefix, from_hex::Error>
         requires { length text.now ≤ hex_len_of kind }
-        ensures cases { MatchResult result (λ prefix. (prefix.kind ≡ kind) × ReadsAs (letter_of alphabet) text.now prefix.digits) (IsInvalid (letter_of alphabet) text.now) }
-        ensures read { digits_answered result ≡ ok_or (digits_read (letter_of alphabet) text.now) from_hex.Error.Invalid }
+        ensures { result ≡ ok_or (option_map (beginning_of kind) (digits_read (letter_of alphabet) text.now)) from_hex.Error.Invalid }
     {
         let mut letters = [b'0'; 64];
         alphabet.put_hex_letters(text, &mut letters[..text.len()]);
@@ -437,11 +417,12 @@ impl From<ObjectId> for Prefix {
 /// Reads as [`Prefix::from_hex`] does.
 impl<'a> TryFrom<&'a str> for Prefix {
     ghost use Rattle.std.specs.Prelude.{◌≡◌};
-    ghost use Rattle.gix_hash.specs.PrefixReading.{IsPrefixAnswer};
+    ghost use Rattle.gix_hash.specs.Digits.{hex_letter};
+    ghost use Rattle.gix_hash.specs.PrefixReading.{prefix_read};
 
     type Error = from_hex::Error;
 
-    ghost try_from_gives = { λ text answer. IsPrefixAnswer text.now answer };
+    ghost try_from_gives = { λ text answer. answer ≡ prefix_read hex_letter 4 text.now };
 
     fn try_from(text: &'a str) -> Result<Prefix, from_hex::Error> {
         Prefix::from_hex(text)

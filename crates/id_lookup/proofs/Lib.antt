@@ -1,6 +1,8 @@
 pub mod Least
 pub mod Binary
 pub mod Counting
+pub mod Filtering
+pub mod Told
 pub mod Spelled
 pub mod Rising
 pub mod Placed

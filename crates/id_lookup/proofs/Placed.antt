@@ -1,19 +1,23 @@
 -- The places of a prefix in a sorted list, told by the two counts of its run.
-use Rattle.std.proofs.Common.{◌≡◌, ℕ, ◌+◌, ◌-◌, ◌≤◌, ◌<◌, ◌↔◌, Bool, true, cond, nat_lt, IsTrue, List, [], ◌∷◌, length, take, drop, get_or, refl, ap, ◌∙◌, arith}
+use Rattle.std.proofs.Common.{◌≡◌, ℕ, ◌+◌, ◌-◌, ◌≤◌, ◌<◌, ◌↔◌, Bool, true, cond, nat_eq, nat_lt, IsTrue, List, [], ◌∷◌, length, take, drop, get_or, refl, ap, ◌∙◌, arith}
 use Rattle.std.specs.Prelude.{slice_range}
 use Rattle.std.specs.declared.cmp.Ordering.{Ordering}
 use Rattle.std.specs.declared.cmp.Ordering.TheVariants.{Less, Equal, Greater}
 use Rattle.std.specs.Ordering.{is_gt, is_ge, is_eq}
-use Rattle.std.specs.List.{All, HoldsAt}
+use Rattle.std.specs.List.{All, HoldsAt, starts_with}
+use Rattle.std.specs.Cmp.Lexicographic.{texts_ties}
+use Rattle.std.proofs.lemmas.List.Sums.{count_by-le-length}
 use Rattle.std.proofs.lemmas.Bool.Decides.{nat_tests}
 use Rattle.std.proofs.lemmas.List.{get_or-take, get_or-drop, length-take, length-drop}
-use Rattle.gix_hash.specs.declared.object_id.ObjectId.{ObjectId}
 use Rattle.gix_hash.specs.Prefix.{Beginning}
 use Rattle.id_lookup.specs.declared.search.Bound.{Bound}
 use Rattle.id_lookup.specs.declared.search.Bound.TheVariants.{Start, End}
-use Rattle.id_lookup.specs.Runs.{begins_with, place_of, run_start, run_len}
+use Rattle.id_lookup.specs.Runs.{begins_with, matches, place_of, run_start, run_len}
 use Rattle.id_lookup.specs.Sorted.{IsSortedIds}
 use Rattle.id_lookup.specs.Bounds.{stands_before, bound_of}
+use Rattle.id_lookup.specs.FoundRun.{IsRun}
+use Rattle.id_lookup.specs.declared.search.Run.{Run}
+use Rattle.id_lookup.proofs.Filtering.{filter_run}
 use Rattle.id_lookup.proofs.Counting.{count_by-split, passes_below}
 use Rattle.id_lookup.proofs.Rising.{before_bound}
 use Rattle.id_lookup.proofs.Spelled.{begins_with-place}
@@ -25,13 +29,13 @@ not_less Equal member e = rw e refl
 not_less Greater member e = rw e refl
 
 -- the end of a run is its start and the number of its members
-pub bound_of-end : (prefix : Beginning) (ids : List ObjectId) → bound_of End prefix ids ≡ run_start prefix ids + run_len prefix ids
+pub bound_of-end : (prefix : Beginning) (ids : List (List ℕ)) → bound_of End prefix ids ≡ run_start prefix ids + run_len prefix ids
 bound_of-end prefix ids =
     count_by-split (λ id. is_ge (place_of prefix id)) (λ id. is_gt (place_of prefix id)) (begins_with prefix)
     (λ id. not_less (place_of prefix id) (begins_with prefix id) (begins_with-place prefix id)) ids
 
 -- what an answer of the member at a place tells of a bound
-pub told : (bound : Bound) (prefix : Beginning) (ids : List ObjectId) → IsSortedIds ids → (k : ℕ) → k < length ids
+pub told : (bound : Bound) (prefix : Beginning) (ids : List (List ℕ)) → IsSortedIds ids → (k : ℕ) → k < length ids
     → (o : Ordering) → HoldsAt (λ id. o ≡ place_of prefix id) ids k → stands_before bound o ≡ nat_lt k (bound_of bound prefix ids)
 told bound prefix [] sorted k h o answer = absurd (omega arith)
 told bound prefix (id ∷ ids) sorted k h o answer =
@@ -44,7 +48,7 @@ pub record IsPlaced (start end k : ℕ) (o : Ordering) : Type 0 where
   pub not_below : is_ge o ≡ nat_lt k end
 
 -- the place of a prefix against each member of a sorted list
-pub placed : (prefix : Beginning) (ids : List ObjectId) → IsSortedIds ids → (k : ℕ) (d : ObjectId) → k < length ids
+pub placed : (prefix : Beginning) (ids : List (List ℕ)) → IsSortedIds ids → (k : ℕ) (d : List ℕ) → k < length ids
     → IsPlaced (run_start prefix ids) (run_start prefix ids + run_len prefix ids) k (place_of prefix (get_or ids k d))
 placed prefix ids sorted k d h = record {
   above = passes_below (λ id. is_gt (place_of prefix id)) ids (before_bound Start prefix ids sorted) k d h;
@@ -74,31 +78,57 @@ is_equal start end k Less h p = (λ e. absurd (let a = p.not_below in cc), λ e.
 is_equal start end k Equal h p = (λ e. (let a = p.above in grind (arith, nat_tests), let a = p.not_below in grind (arith, nat_tests)), λ e. refl)
 is_equal start end k Greater h p = (λ e. absurd (let a = p.above in cc), λ e. absurd (let a = p.above in let b = e.0 in grind (arith, nat_tests)))
 
--- the four statements on a run
-module _ (prefix : Beginning) (ids : List ObjectId) (sorted : IsSortedIds ids) (start end : ℕ)
-    (starts : start ≡ run_start prefix ids) (ends : end ≡ start + run_len prefix ids) where
-  at_place : (k : ℕ) (d : ObjectId) → k < length ids → IsPlaced start end k (place_of prefix (get_or ids k d))
+-- whether an id begins with the digits of a prefix, by the place of the prefix against it
+matches-place : (prefix : Beginning) (id : List ℕ) (o : Ordering) → place_of prefix id ≡ o → starts_with nat_eq id prefix.digits ≡ is_eq o
+matches-place prefix id o is = texts_ties prefix.digits _ ∙ ap is_eq is
+
+-- what is said of a run
+module _ (prefix : Beginning) (ids : List (List ℕ)) (sorted : IsSortedIds ids) (run : Run)
+    (starts : run.start ≡ run_start prefix ids) (ends : run.end ≡ run.start + run_len prefix ids) where
+  at_place : (k : ℕ) (d : List ℕ) → k < length ids → IsPlaced run.start run.end k (place_of prefix (get_or ids k d))
   at_place k d h = rw (ends, starts) (placed prefix ids sorted k d h)
 
-  pub run_members : (k : ℕ) (d : ObjectId) → k < length ids
-      → IsTrue (begins_with prefix (get_or ids k d)) ↔ ((start ≤ k) × (k < end))
+  run_members : (k : ℕ) (d : List ℕ) → k < length ids
+      → IsTrue (begins_with prefix (get_or ids k d)) ↔ ((run.start ≤ k) × (k < run.end))
   run_members k d h =
-      rw (begins_with-place prefix (get_or ids k d)) (is_equal start end k _ (omega arith) (at_place k d h))
+      rw (begins_with-place prefix (get_or ids k d)) (is_equal run.start run.end k _ (omega arith) (at_place k d h))
 
-  pub run_before : All (λ id. place_of prefix id ≡ Greater) (take start ids)
+  run_before : All (λ id. place_of prefix id ≡ Greater) (take run.start ids)
   run_before k d h =
-      let cut = length-take start ids in
-      rw (get_or-take start ids k d (omega arith)) (greater_before start end k _ (at_place k d (omega arith)) (omega arith))
+      let cut = length-take run.start ids in
+      rw (get_or-take run.start ids k d (omega arith)) (greater_before run.start run.end k _ (at_place k d (omega arith)) (omega arith))
 
-  pub run_within : All (λ id. place_of prefix id ≡ Equal) (slice_range ids start end)
+  run_within : All (λ id. place_of prefix id ≡ Equal) (slice_range ids run.start run.end)
   run_within k d h =
-      let cut = length-take (end - start) (drop start ids) in
-      let left = length-drop start ids in
-      rw (get_or-take (end - start) (drop start ids) k d (omega arith), get_or-drop start ids k d)
-      (equal_within start end (start + k) _ (at_place (start + k) d (omega arith)) (omega arith) (omega arith))
+      let cut = length-take (run.end - run.start) (drop run.start ids) in
+      let left = length-drop run.start ids in
+      rw (get_or-take (run.end - run.start) (drop run.start ids) k d (omega arith), get_or-drop run.start ids k d)
+      (equal_within run.start run.end (run.start + k) _ (at_place (run.start + k) d (omega arith)) (omega arith) (omega arith))
 
-  pub run_behind : All (λ id. place_of prefix id ≡ Less) (drop end ids)
+  run_behind : All (λ id. place_of prefix id ≡ Less) (drop run.end ids)
   run_behind k d h =
-      let left = length-drop end ids in
-      rw (get_or-drop end ids k d)
-      (less_behind start end (end + k) _ (at_place (end + k) d (omega arith)) (omega arith) (omega arith))
+      let left = length-drop run.end ids in
+      rw (get_or-drop run.end ids k d)
+      (less_behind run.start run.end (run.end + k) _ (at_place (run.end + k) d (omega arith)) (omega arith) (omega arith))
+
+  run_found : slice_range ids run.start run.end ≡ matches prefix.digits ids
+  run_found = filter_run (λ id. starts_with nat_eq id prefix.digits) ids run.start run.end (omega arith)
+      (λ k d h. matches-place prefix _ Greater (run_before k d h))
+      (λ k d h. matches-place prefix _ Equal (run_within k d h))
+      (λ k d h. matches-place prefix _ Less (run_behind k d h))
+
+-- two bounds are a run
+pub run_is : (prefix : Beginning) (ids : List (List ℕ)) → IsSortedIds ids → (run : Run)
+    → run.start ≡ run_start prefix ids → run.end ≡ bound_of End prefix ids → IsRun prefix ids run
+run_is prefix ids sorted run starts bound =
+    let ends : run.end ≡ run.start + run_len prefix ids = rw (bound, starts) (bound_of-end prefix ids) in
+    record {
+      start = starts;
+      end = ends;
+      in_range = omega (arith, bound, count_by-le-length (λ id. is_ge (place_of prefix id)) ids);
+      members = run_members prefix ids sorted run starts ends;
+      found = run_found prefix ids sorted run starts ends;
+      before = run_before prefix ids sorted run starts ends;
+      within = run_within prefix ids sorted run starts ends;
+      behind = run_behind prefix ids sorted run starts ends;
+    }

@@ -7,8 +7,6 @@ use Rattle.std.specs.Cmp.Lexicographic.{slice_cmp}
 use Rattle.std.specs.List.Sorted.{IsNonDecreasingBy, IsPartitionedBy}
 use Rattle.std.proofs.lemmas.Cmp.{nat_list_cmp_total}
 use Rattle.std.proofs.lemmas.List.Sorted.{searchable_from_sorted}
-use Rattle.gix_hash.specs.declared.object_id.ObjectId.{ObjectId}
-use Rattle.gix_hash.specs.ObjectId.{id_digits}
 use Rattle.gix_hash.specs.Prefix.{Beginning}
 use Rattle.id_lookup.specs.declared.search.Bound.{Bound}
 use Rattle.id_lookup.specs.declared.search.Bound.TheVariants.{Start, End}
@@ -31,10 +29,10 @@ take_falls (suc n) (x ∷ xs) [] h = refl
 take_falls (suc n) (x ∷ xs) (y ∷ ys) h = rest_falls (nat_cmp x y) _ _ (take_falls n xs ys) h
 
 -- the first digits of the members stand ever higher against the prefix
-rising : (prefix : Beginning) (ids : List ObjectId) → IsSortedIds ids
-    → IsNonDecreasingBy (λ id. ordering_index (slice_cmp nat_cmp (take (length prefix.digits) (id_digits id)) prefix.digits)) ids
+rising : (prefix : Beginning) (ids : List (List ℕ)) → IsSortedIds ids
+    → IsNonDecreasingBy (λ id. ordering_index (slice_cmp nat_cmp (take (length prefix.digits) id) prefix.digits)) ids
 rising prefix ids sorted =
-    searchable_from_sorted nat_list_cmp_total (λ id. take (length prefix.digits) (id_digits id)) ids prefix.digits
+    searchable_from_sorted nat_list_cmp_total (λ id. take (length prefix.digits) id) ids prefix.digits
     (λ k d low high. take_falls (length prefix.digits) _ _ (sorted k d low high))
 
 -- what stands before a bound still does where the place is lower
@@ -54,13 +52,13 @@ still_before End Greater Equal h g = absurd (omega arith)
 still_before End Greater Greater h g = g
 
 -- no member that stands before a bound is behind one that does not
-pub before_bound : (bound : Bound) (prefix : Beginning) (ids : List ObjectId) → IsSortedIds ids
+pub before_bound : (bound : Bound) (prefix : Beginning) (ids : List (List ℕ)) → IsSortedIds ids
     → IsPartitionedBy (λ id. stands_before bound (place_of prefix id)) ids
 before_bound bound prefix ids sorted i j d h g passes =
     let lower = get_or ids i d in
     let upper = get_or ids j d in
-    let digits = λ (id : ObjectId). take (length prefix.digits) (id_digits id) in
-    let turned = λ (id : ObjectId). nat_list_cmp_total.antisymm prefix.digits (digits id) in
+    let digits = λ (id : List ℕ). take (length prefix.digits) id in
+    let turned = λ (id : List ℕ). nat_list_cmp_total.antisymm prefix.digits (digits id) in
     ap (stands_before bound) (turned lower)
     ∙ still_before bound _ _ (rising prefix ids sorted i j d h g)
     (ap (stands_before bound) (sym (turned upper)) ∙ passes)

@@ -7,9 +7,7 @@ use Rattle.std.proofs.lemmas.Bool.Decides.{Decides-eqb, nat_tests}
 use Rattle.std.specs.Bool.{Decides}
 use Rattle.std.proofs.lemmas.List.{take-map, length-map, take-append-drop}
 use Rattle.std.proofs.Math.Seq.{take-append_seam}
-use Rattle.gix_hash.specs.declared.object_id.ObjectId.{ObjectId}
 use Rattle.gix_hash.specs.Digits.{hex_letter, spelling}
-use Rattle.gix_hash.specs.ObjectId.{id_digits}
 use Rattle.gix_hash.specs.Prefix.{Beginning, BeginsWith}
 use Rattle.id_lookup.specs.Runs.{begins_with, place_of}
 
@@ -33,10 +31,10 @@ starts_with-spelling ds ps =
     ∙ pointwise-spelling ps (take (length ps) ds)
 
 -- an id begins with a prefix exactly where the place is Equal
-pub begins_with-place : (prefix : Beginning) (id : ObjectId) → begins_with prefix id ≡ is_eq (place_of prefix id)
+pub begins_with-place : (prefix : Beginning) (id : List ℕ) → begins_with prefix id ≡ is_eq (place_of prefix id)
 begins_with-place prefix id =
-    starts_with-spelling (id_digits id) prefix.digits
-    ∙ texts_ties prefix.digits (take (length prefix.digits) (id_digits id))
+    starts_with-spelling id prefix.digits
+    ∙ texts_ties prefix.digits (take (length prefix.digits) id)
 
 -- the test of equal lists decides whether they are equal
 same_list : (xs ys : List ℕ) → Decides (pointwise nat_eq xs ys) (xs ≡ ys)

@@ -3,7 +3,6 @@ use Rattle.std.specs.Prelude.{ℕ, Bool, List}
 use Rattle.std.specs.declared.cmp.Ordering.{Ordering}
 use Rattle.std.specs.Ordering.{is_gt, is_ge}
 use Rattle.std.specs.List.{count_by}
-use Rattle.gix_hash.specs.declared.object_id.ObjectId.{ObjectId}
 use Rattle.gix_hash.specs.Prefix.{Beginning}
 use Rattle.id_lookup.specs.Runs.{place_of}
 use Rattle.id_lookup.specs.declared.search.Bound.{Bound}
@@ -15,5 +14,5 @@ stands_before Start place = is_gt place
 stands_before End place = is_ge place
 
 -- the bound: how many members stand before it
-abbrev pub bound_of : Bound → Beginning → List ObjectId → ℕ
+abbrev pub bound_of : Bound → Beginning → List (List ℕ) → ℕ
 bound_of bound prefix ids = count_by (λ id. stands_before bound (place_of prefix id)) ids

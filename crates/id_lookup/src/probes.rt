@@ -24,13 +24,15 @@ pub struct Probes<'a> {
 }
 
 impl<'a> Model for Probes<'a> {
+    ghost use Rattle.std.specs.Prelude.{map};
+    ghost use Rattle.gix_hash.specs.ObjectId.{id_digits};
     ghost use Rattle.id_lookup.specs.Probing.{Probing, CanProbe};
 
     ghost Value = { Probing };
 
-    ghost view = { λ p. record { ids = p.ids.now; prefix = p.prefix; asked = p.asked } };
+    ghost view = { λ p. record { ids = map id_digits p.ids.now; prefix = p.prefix; asked = p.asked } };
 
-    ghost invariant = { λ p. CanProbe p.prefix p.ids.now };
+    ghost invariant = { λ p. CanProbe p.prefix (map id_digits p.ids.now) };
 }
 
 impl<'a> Probes<'a> {

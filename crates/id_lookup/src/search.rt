@@ -1,13 +1,14 @@
 //! The run of a prefix in a sorted list, by two binary searches.
 
-ghost use Rattle.std.specs.Prelude.{◌≡◌, ◌↔◌, ℕ, ◌+◌, ◌-◌, ◌*◌, ◌^◌, ◌<◌, ◌≤◌, IsTrue, length, take, drop, slice_index_or, slice_range};
-ghost use Rattle.std.specs.List.{All, count_by};
+ghost use Rattle.std.specs.Prelude.{◌≡◌, ◌↔◌, ℕ, ◌+◌, ◌-◌, ◌*◌, ◌^◌, ◌<◌, ◌≤◌, IsTrue, length};
 ghost use Rattle.id_lookup.specs.Bits.{bits};
 ghost use Rattle.id_lookup.specs.Probing.{CanProbe};
+ghost use Rattle.gix_hash.specs.Digits.{hex_letter, spelling};
 ghost use Rattle.gix_hash.specs.Kind.{hex_len_of};
 ghost use Rattle.gix_hash.specs.ObjectId.{id_digits, id_kind};
 ghost use Rattle.gix_hash.specs.Prefix.{BeginsWith};
-ghost use Rattle.id_lookup.specs.Runs.{begins_with, id_spelling, is_before, place_of, prefix_spelling};
+ghost use Rattle.id_lookup.specs.Runs.{begins_with, place_of};
+ghost use Rattle.id_lookup.specs.FoundRun.{IsRun};
 ghost use Rattle.id_lookup.specs.Bounds.{stands_before, bound_of};
 
 use crate::probes::Probes;
@@ -52,18 +53,7 @@ impl Bound {
 /// been asked before; the list and the prefix stay.
 pub fn lookup(probes: &mut Probes<'_>) -> Run
     requires { probes.old.asked ≡ 0 }
-    ensures start { result.start ≡ count_by (is_before probes.old.prefix) probes.old.ids }
-    ensures end { result.end ≡ result.start + count_by (begins_with probes.old.prefix) probes.old.ids }
-    ensures in_range { result.end ≤ length probes.old.ids }
-
-    // The run has each member whose spelling begins with the prefix's, and no other.
-    ensures members { (k : ℕ) (d : ObjectId) → k < length probes.old.ids → IsTrue (begins_with probes.old.prefix (slice_index_or probes.old.ids k d)) ↔ ((result.start ≤ k) × (k < result.end)) }
-
-    // The places rise.
-    ensures before { All (λ id. place_of probes.old.prefix id ≡ Ordering.Greater) (take result.start probes.old.ids) }
-    ensures within { All (λ id. place_of probes.old.prefix id ≡ Ordering.Equal) (slice_range probes.old.ids result.start result.end) }
-    ensures behind { All (λ id. place_of probes.old.prefix id ≡ Ordering.Less) (drop result.end probes.old.ids) }
-
+    ensures run { IsRun probes.old.prefix probes.old.ids result }
     ensures asked { probes.new.asked ≤ 2 * bits (length probes.old.ids) }
     ensures same { probes.new ≡ record probes.old { asked = probes.new.asked } }
 {
@@ -101,10 +91,10 @@ fn find_bound(probes: &mut Probes<'_>, bound: Bound, mut low: usize, mut high: u
 /// of digits, and is the same as that the place of the prefix against the id is `Equal`.
 pub fn begins_with(id: &ObjectId, prefix: &Prefix) -> bool
     requires { length prefix.now.digits ≤ hex_len_of (id_kind id.now) }
-    ensures value { result ≡ begins_with prefix.now id.now }
-    ensures spelling { IsTrue result ↔ BeginsWith (id_spelling id.now) (prefix_spelling prefix.now) }
+    ensures value { result ≡ begins_with prefix.now (id_digits id.now) }
+    ensures spelling { IsTrue result ↔ BeginsWith (spelling hex_letter (id_digits id.now)) (spelling hex_letter prefix.now.digits) }
     ensures digits { IsTrue result ↔ BeginsWith (id_digits id.now) prefix.now.digits }
-    ensures place { IsTrue result ↔ (place_of prefix.now id.now ≡ Ordering.Equal) }
+    ensures place { IsTrue result ↔ (place_of prefix.now (id_digits id.now) ≡ Ordering.Equal) }
 {
     prefix.cmp_oid(id.as_oid()).is_eq()
 }

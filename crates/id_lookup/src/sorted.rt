@@ -1,6 +1,7 @@
 //! Lists of ids in order.
 
-ghost use Rattle.std.specs.Prelude.{◌≡◌, ◌↔◌, ◌<◌, ◌≤◌, IfOk, IfErr, IsOk, IsTrue, length, slice_get};
+ghost use Rattle.std.specs.Prelude.{◌≡◌, ◌↔◌, ◌<◌, ◌≤◌, IfOk, IfErr, IsOk, IsTrue, length, map, slice_get};
+ghost use Rattle.gix_hash.specs.ObjectId.{id_digits};
 ghost use Rattle.id_lookup.specs.FoundRun.{IsRun};
 ghost use Rattle.id_lookup.specs.Sorted.{IsSortedIds, IsFirstFall, least_hex_len};
 
@@ -21,24 +22,25 @@ pub struct SortedIds<'a> {
 }
 
 impl<'a> Model for SortedIds<'a> {
-    ghost use Rattle.std.specs.Prelude.{◌≡◌, List};
-    ghost use Rattle.gix_hash.specs.declared.object_id.ObjectId.{ObjectId};
+    ghost use Rattle.std.specs.Prelude.{◌≡◌, ℕ, List, map};
+    ghost use Rattle.gix_hash.specs.ObjectId.{id_digits};
 
-    ghost Value = { List ObjectId };
+    ghost Value = { List (List ℕ) };
 
     ghost use Rattle.id_lookup.specs.Sorted.{IsSortedIds, least_hex_len};
 
-    ghost view = { λ list. list.ids.now };
+    ghost view = { λ list. map id_digits list.ids.now };
 
-    ghost invariant = { λ list. IsSortedIds list.ids.now × (list.min_hex_len ≡ least_hex_len list.ids.now) };
+    ghost invariant = { λ list. IsSortedIds (map id_digits list.ids.now) × (list.min_hex_len ≡ least_hex_len (map id_digits list.ids.now)) };
 }
 
 impl<'a> SortedIds<'a> {
     /// The list as a sorted one, or the first place whose id is below the one before it.
+    #[tactic(auto, using(crate::proofs::Told::told_at))]
     pub fn try_new(ids: &'a [ObjectId]) -> Result<SortedIds<'a>, Unsorted>
-        ensures ok { IfOk result (λ list. list ≡ ids.now) }
-        ensures sorted { IsOk result ↔ IsSortedIds ids.now }
-        ensures err { IfErr result (λ e. IsFirstFall ids.now e.at) }
+        ensures ok { IfOk result (λ list. list ≡ map id_digits ids.now) }
+        ensures sorted { IsOk result ↔ IsSortedIds (map id_digits ids.now) }
+        ensures err { IfErr result (λ e. IsFirstFall (map id_digits ids.now) e.at) }
     {
         for at in 1..ids.len() {
             if ids[at].as_oid() < ids[at - 1].as_oid() {
@@ -69,7 +71,7 @@ impl<'a> SortedIds<'a> {
     /// The id at a place, counted from 0.
     pub fn get(&self, at: usize) -> &ObjectId
         requires { at < length self.now }
-        ensures { slice_get self.now at ≡ Some result.now }
+        ensures { slice_get self.now at ≡ Some (id_digits result.now) }
     {
         let ids = self.ids;
         &ids[at]
@@ -97,7 +99,7 @@ impl<'a> SortedIds<'a> {
 
     // The ids, for probes alone.
     pub(crate) fn members(&self) -> &'a [ObjectId]
-        ensures value { result.now ≡ self.now }
+        ensures value { map id_digits result.now ≡ self.now }
         ensures sorted { IsSortedIds self.now }
     {
         self.ids
@@ -106,7 +108,7 @@ impl<'a> SortedIds<'a> {
 
 // The least number of digits of an id of the list, and 64 where it has none.
 fn least_hex_len(ids: &[ObjectId]) -> usize
-    ensures { result ≡ least_hex_len ids.now }
+    ensures { result ≡ least_hex_len (map id_digits ids.now) }
 {
     let mut least = 64;
     for id in ids {

@@ -1,4 +1,5 @@
-pub mod Deciding
+pub mod Meaning
+pub mod Orders
 pub mod LineLemmas
 pub mod PrintLemmas
 pub mod ReadLemmas

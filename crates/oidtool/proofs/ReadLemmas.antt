@@ -1,60 +1,65 @@
 -- Reading a list text line by line.
-use Rattle.std.proofs.Common.{◌≡◌, ℕ, zero, suc, ◌+◌, List, [], ◌∷◌, ◌++◌, map, length, refl, sym, ap, ◌∙◌, append-nil, append_assoc, Ok, Err, arith}
-use Rattle.std.proofs.lemmas.List.{map-append, length-map}
-use Rattle.std.specs.Result.{result_map_both}
-use Rattle.std.proofs.lemmas.List.Elements.{length_all_zip, All-append}
-use Rattle.std.specs.Prelude.{All}
-use Rattle.gix_hash.specs.Digits.{hex_letter, IsLetterOf}
-use Rattle.gix_hash.specs.IdReading.{IsFullReading}
-use Rattle.gix_hash.specs.Reading.{id_read}
+use Rattle.std.proofs.Common.{◌≡◌, ℕ, ◌+◌, List, [], ◌∷◌, ◌++◌, map, length, refl, sym, ap, ◌∙◌, append-nil, append_assoc, length-append, Result, Ok, Err}
+use Rattle.std.proofs.lemmas.List.{map-append}
+use Rattle.gix_hash.specs.Digits.{hex_letter}
+use Rattle.gix_hash.specs.IdReading.{full_read, whole_of}
+use Rattle.gix_hash.specs.Prefix.{Beginning}
 use Rattle.gix_hash.specs.ObjectId.{id_digits}
 use Rattle.gix_hash.specs.declared.object_id.ObjectId.{ObjectId}
 use Rattle.gix_hash.specs.declared.decode.Error.{Error}
 use Rattle.oidtool.specs.Lines.{lines_of}
-use Rattle.oidtool.specs.ListText.{readings, all_read, IsListOf, IsFirstBadLine, IsWhole}
+use Rattle.oidtool.specs.declared.list.ListError.{ListError}
+use Rattle.oidtool.specs.declared.list.ListError.TheVariants.{BadLine}
+use Rattle.oidtool.specs.ListText.{put_id, ids_read, list_read}
+
+-- ids before those that some lines read as
+abbrev pub put_front : List (List ℕ) → Result (List (List ℕ)) ListError → Result (List (List ℕ)) ListError
+put_front front (Err error) = Err error
+put_front front (Ok ids) = Ok (front ++ ids)
 
 -- the lines of a text before its rest read as these ids
 pub record IsReadUpTo (text : List ℕ) (ids : List ObjectId) (rest : List ℕ) : Type 0 where
-  pub reads : readings text ≡ all_read (map id_digits ids) ++ readings rest
-  pub whole : All IsWhole ids
+  pub reads : list_read text ≡ put_front (map id_digits ids) (ids_read (length ids + 1) (lines_of rest))
+
+put_front-nil : (more : Result (List (List ℕ)) ListError) → more ≡ put_front [] more
+put_front-nil (Err error) = refl
+put_front-nil (Ok ids) = refl
 
 -- before the first line no id is read
 pub none_read : (text : List ℕ) → IsReadUpTo text [] text
-none_read text = record { reads = refl; whole = λ k d h. absurd (omega arith) }
+none_read text = record { reads = put_front-nil (list_read text) }
 
--- the readings of ids and one more
-all_read-snoc : (ids : List ObjectId) (id : ObjectId) → all_read (map id_digits (ids ++ id ∷ [])) ≡ all_read (map id_digits ids) ++ Ok (id_digits id) ∷ []
-all_read-snoc ids id = rw (map-append id_digits ids (id ∷ [])) (map-append Ok (map id_digits ids) (id_digits id ∷ []))
+-- one id more in front
+put_front-snoc : (front : List (List ℕ)) (n : ℕ) (id : Beginning) (more : Result (List (List ℕ)) ListError)
+    → put_front front (put_id n (Ok id) more) ≡ put_front (front ++ id.digits ∷ []) more
+put_front-snoc front n id (Err error) = refl
+put_front-snoc front n id (Ok ids) = ap Ok (sym (append_assoc front (id.digits ∷ []) ids))
 
--- what holds of an element holds of each element of the list of it alone
-All-one : (P : ObjectId → Type 0) (id : ObjectId) → P id → All P (id ∷ [])
-All-one P id here zero d h = here
-All-one P id here (suc k) d h = absurd (omega arith)
+-- what a text reads as, by its next line
+next_line : (text : List ℕ) (ids : List ObjectId) (rest line after : List ℕ) (read : Result Beginning Error) → IsReadUpTo text ids rest
+    → lines_of rest ≡ line ∷ lines_of after → read ≡ full_read hex_letter line
+    → list_read text ≡ put_front (map id_digits ids) (put_id (length ids + 1) read (ids_read (length ids + 1 + 1) (lines_of after)))
+unfolding ids_read
+next_line text ids rest line after read before first reads =
+    before.reads ∙ ap (λ ls. put_front (map id_digits ids) (ids_read (length ids + 1) ls)) first
+    ∙ ap (λ r. put_front (map id_digits ids) (put_id (length ids + 1) r (ids_read (length ids + 1 + 1) (lines_of after)))) (sym reads)
 
 -- a line that reads adds its id
 pub one_more : (text : List ℕ) (ids : List ObjectId) (rest line after : List ℕ) (id : ObjectId) → IsReadUpTo text ids rest
-    → lines_of rest ≡ line ∷ lines_of after → result_map_both {E = Error} id_digits (λ e. e) (Ok id) ≡ id_read line
-    → IsFullReading hex_letter line id → IsReadUpTo text (ids ++ id ∷ []) after
-one_more text ids rest line after id before first reads full = record {
-  reads = before.reads ∙ ap (λ ls. all_read (map id_digits ids) ++ map id_read ls) first
-      ∙ ap (λ r. all_read (map id_digits ids) ++ r ∷ readings after) (sym reads)
-      ∙ sym (append_assoc (all_read (map id_digits ids)) (Ok (id_digits id) ∷ []) (readings after))
-      ∙ ap (λ rs. rs ++ readings after) (sym (all_read-snoc ids id));
-  whole = All-append IsWhole ids (id ∷ []) before.whole (All-one IsWhole id (sym (length_all_zip (IsLetterOf hex_letter) line (id_digits id) full.reads) ∙ full.kind));
+    → lines_of rest ≡ line ∷ lines_of after → Ok (whole_of id) ≡ full_read hex_letter line → IsReadUpTo text (ids ++ id ∷ []) after
+one_more text ids rest line after id before first reads = record {
+  reads = rw (map-append id_digits ids (id ∷ []), length-append ids (id ∷ []))
+      (next_line text ids rest line after (Ok (whole_of id)) before first reads
+      ∙ put_front-snoc (map id_digits ids) (length ids + 1) (whole_of id) (ids_read (length ids + 1 + 1) (lines_of after)));
 }
 
 -- a line that does not read is the first bad one
 pub bad_line : (text : List ℕ) (ids : List ObjectId) (rest line after : List ℕ) (error : Error) → IsReadUpTo text ids rest
-    → lines_of rest ≡ line ∷ lines_of after → result_map_both {T = ObjectId} id_digits (λ e. e) (Err error) ≡ id_read line
-    → IsFirstBadLine text (length ids + 1) error
-bad_line text ids rest line after error before first reads = record {
-  before = map id_digits ids;
-  after = readings after;
-  reads = before.reads ∙ ap (λ ls. all_read (map id_digits ids) ++ map id_read ls) first ∙ ap (λ r. all_read (map id_digits ids) ++ r ∷ readings after) (sym reads);
-  number = ap (λ (n : ℕ). n + 1) (sym (length-map ids id_digits));
-}
+    → lines_of rest ≡ line ∷ lines_of after → Err error ≡ full_read hex_letter line → list_read text ≡ Err (BadLine (length ids + 1) error)
+bad_line text ids rest line after error before first reads = next_line text ids rest line after (Err error) before first reads
 
--- where no line is left the text is a list text
-pub all_lines_read : (text : List ℕ) (ids : List ObjectId) (rest : List ℕ) → IsReadUpTo text ids rest → lines_of rest ≡ [] → IsListOf text (map id_digits ids)
+-- where no line is left the text is read
+pub all_lines_read : (text : List ℕ) (ids : List ObjectId) (rest : List ℕ) → IsReadUpTo text ids rest → lines_of rest ≡ [] → list_read text ≡ Ok (map id_digits ids)
+unfolding ids_read
 all_lines_read text ids rest before none =
-    before.reads ∙ ap (λ ls. all_read (map id_digits ids) ++ map id_read ls) none ∙ append-nil (all_read (map id_digits ids))
+    before.reads ∙ ap (λ ls. put_front (map id_digits ids) (ids_read (length ids + 1) ls)) none ∙ ap Ok (append-nil (map id_digits ids))

@@ -1,15 +1,16 @@
--- Finding a prefix in a list text: which ids match, and how they are printed.
-use Rattle.std.specs.Prelude.{◌≡◌, ℕ, ◌≤◌, nat_eq, List, [], ◌∷◌, ◌++◌, length, filter, flat_map, Ok, Option}
-use Rattle.std.specs.Io.KnownBytes.{Appends}
-use Rattle.std.specs.List.{starts_with}
+-- Finding a prefix in a list text, and how what is found is printed.
+use Rattle.std.specs.Prelude.{ℕ, nat_lt, if◌then◌else◌, Option, Some, None, List, [], ◌∷◌, ◌++◌, length, flat_map, Result, Ok, Err}
 use Rattle.gix_hash.specs.Digits.{spelling}
+use Rattle.gix_hash.specs.Prefix.{Beginning}
 use Rattle.gix_hash.specs.PrefixReading.{prefix_read}
-use Rattle.oidtool.specs.Writing.{AppendsPart}
-use Rattle.oidtool.specs.ListText.{IsListOf, IsSortedList, min_hex_len}
-
--- the ids that begin with the digits, in the list's order
-abbrev pub matches : List ℕ → List (List ℕ) → List (List ℕ)
-matches digits ids = filter (λ id. starts_with nat_eq id digits) ids
+use Rattle.gix_hash.specs.declared.prefix.from_hex.Error.{Error}
+use Rattle.oidtool.specs.declared.finding.FindError.{FindError}
+use Rattle.oidtool.specs.declared.finding.FindError.TheVariants.{Prefix, BadLine, Unsorted, PrefixTooLong, Memory}
+use Rattle.oidtool.specs.declared.list.ListError.{ListError}
+use Rattle.oidtool.specs.declared.list.ListError.TheVariants as list
+use Rattle.oidtool.specs.ListText.{list_read, first_unsorted}
+use Rattle.id_lookup.specs.Runs.{matches}
+use Rattle.id_lookup.specs.Sorted.{least_hex_len}
 
 -- an id's line: its spelling, and a line feed
 abbrev pub line_of : (ℕ → ℕ) → List ℕ → List ℕ
@@ -19,24 +20,24 @@ line_of letter id = spelling letter id ++ 10 ∷ []
 abbrev pub printed : (ℕ → ℕ) → List (List ℕ) → List ℕ
 printed letter ids = flat_map (line_of letter) ids
 
--- the two texts read as a prefix's digits and as sorted ids that all have as many digits as the prefix
-pub record IsSearch (letter : ℕ → ℕ) (prefix text digits : List ℕ) (ids : List (List ℕ)) : Type 0 where
-  pub prefix_reads : prefix_read letter prefix ≡ Ok digits
-  pub list_reads : IsListOf text ids
-  pub sorted : IsSortedList ids
-  pub long_enough : length digits ≤ min_hex_len ids
+-- a refusal of a list text, as one of a search in it
+abbrev pub refusal_of_list : ListError → FindError
+refusal_of_list (list.BadLine n error) = BadLine n error
+refusal_of_list list.Memory = Memory
 
--- the answer for two texts that are a search: the number of matches, their lines written
-pub record IsFound (letter : ℕ → ℕ) (prefix text : List ℕ) (old new : Option (List ℕ)) (count : ℕ) : Type 0 where
-  pub digits : List ℕ
-  pub ids : List (List ℕ)
-  pub search : IsSearch letter prefix text digits ids
-  pub counted : count ≡ length (matches digits ids)
-  pub written : Appends old new (printed letter (matches digits ids))
+-- the ids that begin with the digits, given the first id out of order, if any; digits are refused that an id has too few for
+abbrev pub found_in : List ℕ → List (List ℕ) → Option ℕ → Result (List (List ℕ)) FindError
+found_in digits ids (Some n) = Err (Unsorted n)
+found_in digits ids None =
+    if nat_lt (least_hex_len ids) (length digits) then Err (PrefixTooLong (length digits) (least_hex_len ids))
+    else Ok (matches digits ids)
 
--- the two texts are a search, and a proper beginning of the matches' lines was written
-pub record IsFoundInPart (letter : ℕ → ℕ) (prefix text : List ℕ) (old new : Option (List ℕ)) : Type 0 where
-  pub digits : List ℕ
-  pub ids : List (List ℕ)
-  pub search : IsSearch letter prefix text digits ids
-  pub written : AppendsPart old new (printed letter (matches digits ids))
+-- what is found, given what the prefix and the list text read as
+abbrev pub found_from : Result Beginning Error → Result (List (List ℕ)) ListError → Result (List (List ℕ)) FindError
+found_from (Err error) ids = Err (Prefix error)
+found_from (Ok prefix) (Err error) = Err (refusal_of_list error)
+found_from (Ok prefix) (Ok ids) = found_in prefix.digits ids (first_unsorted ids)
+
+-- the ids of a list text that begin with a prefix, or the first refusal
+abbrev pub finding : (ℕ → ℕ) → List ℕ → List ℕ → Result (List (List ℕ)) FindError
+finding letter prefix text = found_from (prefix_read letter 4 prefix) (list_read text)

@@ -1,53 +1,60 @@
 -- List texts: a line for each id.
-use Rattle.std.specs.Prelude.{◌≡◌, ℕ, ◌+◌, ◌-◌, ◌<◌, ◌≤◌, min, Bool, true, List, [], ◌∷◌, ◌++◌, map, length, fold, slice_index_or, Result, Ok, Err}
+use Rattle.std.specs.Prelude.{◌≡◌, ℕ, ◌+◌, if◌then◌else◌, Option, Some, None, List, [], ◌∷◌, ◌++◌, All, IsOk, length, Result, Ok, Err}
+use Rattle.std.specs.List.{AllZip}
 use Rattle.std.specs.Ordering.{nat_cmp, is_lt}
 use Rattle.std.specs.Cmp.Lexicographic.{slice_cmp}
-use Rattle.std.specs.List.Sorted.{IsSortedBy, IsSortedWithin}
-use Rattle.gix_hash.specs.Kind.{hex_len_of}
-use Rattle.gix_hash.specs.ObjectId.{id_digits, id_kind}
-use Rattle.gix_hash.specs.Reading.{id_read}
-use Rattle.gix_hash.specs.declared.object_id.ObjectId.{ObjectId}
+use Rattle.gix_hash.specs.Digits.{hex_letter}
+use Rattle.gix_hash.specs.IdReading.{full_read}
+use Rattle.gix_hash.specs.Prefix.{Beginning, beginning_of}
 use Rattle.gix_hash.specs.declared.decode.Error.{Error}
+use Rattle.gix_hash.specs.declared.kind.Kind.{Kind}
+use Rattle.oidtool.specs.declared.list.ListError.{ListError}
+use Rattle.oidtool.specs.declared.list.ListError.TheVariants.{BadLine}
 use Rattle.oidtool.specs.Lines.{lines_of}
 
--- what each line of a text reads as: an id's digits, or the refusal
-abbrev pub readings : List ℕ → List (Result (List ℕ) Error)
-readings text = map id_read (lines_of text)
+-- the digits of what line n reads as, before those of the lines behind it; or the first refusal
+abbrev pub put_id : ℕ → Result Beginning Error → Result (List (List ℕ)) ListError → Result (List (List ℕ)) ListError
+put_id n (Err error) more = Err (BadLine n error)
+put_id n (Ok id) (Err error) = Err error
+put_id n (Ok id) (Ok ids) = Ok (id.digits ∷ ids)
 
--- the readings of lines that all read
-abbrev pub all_read : List (List ℕ) → List (Result (List ℕ) Error)
-all_read ids = map Ok ids
+-- the digits of the ids of some lines, counted from n, or the first refusal
+unfoldable pub ids_read : ℕ → List (List ℕ) → Result (List (List ℕ)) ListError
+ids_read n [] = Ok []
+ids_read n (line ∷ lines) = put_id n (full_read hex_letter line) (ids_read (n + 1) lines)
 
--- the text is a list text of these ids
+-- the digits of the ids of a list text, or the first refusal, with its line, counted from 1
+abbrev pub list_read : List ℕ → Result (List (List ℕ)) ListError
+list_read text = ids_read 1 (lines_of text)
+
+-- the first of some ids, counted from n, that is below the one before it; `last` stands before them
+unfoldable pub unsorted_behind : List ℕ → ℕ → List (List ℕ) → Option ℕ
+unsorted_behind last n [] = None
+unsorted_behind last n (id ∷ ids) = if is_lt (slice_cmp nat_cmp id last) then Some n else unsorted_behind id (n + 1) ids
+
+-- the first id that is below the one before it, counted from 1
+abbrev pub first_unsorted : List (List ℕ) → Option ℕ
+first_unsorted [] = None
+first_unsorted (id ∷ ids) = unsorted_behind id 2 ids
+
+-- the line reads as an id of these digits
+abbrev pub IsLineOf : List ℕ → List ℕ → Type 0
+IsLineOf line digits = (kind : Kind) × (full_read hex_letter line ≡ Ok (beginning_of kind digits))
+
+-- each line of the text reads as the id at its place
 abbrev pub IsListOf : List ℕ → List (List ℕ) → Type 0
-IsListOf text ids = readings text ≡ all_read ids
+IsListOf text ids = AllZip IsLineOf (lines_of text) ids
 
--- line n, counted from 1, is the first that does not read, and is refused for this error
-pub record IsFirstBadLine (text : List ℕ) (n : ℕ) (error : Error) : Type 0 where
+-- of some lines, counted from n, line m is the first that does not read as an id, and is refused for this error
+pub record IsFirstBad (n : ℕ) (lines : List (List ℕ)) (m : ℕ) (error : Error) : Type 0 where
   pub before : List (List ℕ)
-  pub after : List (Result (List ℕ) Error)
-  pub reads : readings text ≡ all_read before ++ Err error ∷ after
-  pub number : n ≡ length before + 1
+  pub line : List ℕ
+  pub after : List (List ℕ)
+  pub is : lines ≡ before ++ line ∷ after
+  pub number : m ≡ n + length before
+  pub read : All (λ l. IsOk (full_read hex_letter l)) before
+  pub refused : full_read hex_letter line ≡ Err error
 
--- the id has as many digits as ids of its kind have
-abbrev pub IsWhole : ObjectId → Type 0
-IsWhole id = length (id_digits id) ≡ hex_len_of (id_kind id)
-
--- whether an id is below another, by the dictionary order of their digits
-abbrev pub is_below : List ℕ → List ℕ → Bool
-is_below a b = is_lt (slice_cmp nat_cmp a b)
-
--- no id is below the one before it
-abbrev pub IsSortedList : List (List ℕ) → Type 0
-IsSortedList ids = IsSortedBy is_below ids
-
--- id n, counted from 1, is the first that is below the one before it
-pub record IsFirstUnsorted (ids : List (List ℕ)) (n : ℕ) : Type 0 where
-  pub not_first : 1 < n
-  pub in_list : n ≤ length ids
-  pub sorted_before : IsSortedWithin is_below ids 0 (n - 1)
-  pub below : is_below (slice_index_or ids (n - 1) []) (slice_index_or ids (n - 2) []) ≡ true
-
--- the number of digits of the shortest id, and 64 where there is none
-abbrev pub min_hex_len : List (List ℕ) → ℕ
-min_hex_len ids = fold min 64 (map length ids)
+-- line m of the text, counted from 1, is the first that does not read as an id, and is refused for this error
+abbrev pub IsFirstBadLine : List ℕ → ℕ → Error → Type 0
+IsFirstBadLine text m error = IsFirstBad 1 (lines_of text) m error

@@ -1,14 +1,17 @@
 //! Finding the ids of a list text that begin with a prefix.
 
-ghost use Rattle.std.specs.Prelude.{◌≡◌, ◌≢◌, ◌↔◌, ◌⊎◌, true, false, ℕ, List, IfOk, IfErr, IsErrOf};
+ghost use Rattle.std.specs.Prelude.{◌≡◌, ◌≢◌, ◌↔◌, ◌⊎◌, true, false, ℕ, List, [], length, Result, IsOk, IfOk, IfErr, IsErrOf};
+ghost use Rattle.std.specs.Io.KnownBytes.{Appends};
 ghost use Rattle.gix_hash.specs.Digits.{hex_letter, reverse_letter};
+ghost use Rattle.gix_hash.specs.PrefixReading.{prefix_read};
 ghost use Rattle.oidtool.specs.declared.finding.FindError.{FindError};
-ghost use Rattle.oidtool.specs.Finding.{IsSearch, IsFound, IsFoundInPart};
-ghost use Rattle.oidtool.specs.Refusal.{Refuses, is_of_texts};
+ghost use Rattle.oidtool.specs.Finding.{finding, printed};
+ghost use Rattle.oidtool.specs.Refusal.{Means};
 ghost use Rattle.oidtool.specs.Spelling.{letter_of};
+ghost use Rattle.oidtool.specs.Writing.{AppendsPart};
 
 use crate::list::{ListError, read_list};
-use crate::matching::{min_hex_len, sorted_ids, write_matches};
+use crate::matching::{sorted_ids, write_matches};
 use crate::sink::{Sink, WriteFailed};
 use crate::spelling::Spelling;
 use gix_hash::{decode, prefix};
@@ -62,7 +65,7 @@ impl From<WriteFailed> for FindError {
 }
 
 impl From<ListError> for FindError {
-    ghost use Rattle.oidtool.specs.Refusal.{refusal_of_list};
+    ghost use Rattle.oidtool.specs.Finding.{refusal_of_list};
 
     ghost from_gives = { λ error e. e ≡ refusal_of_list error };
 
@@ -93,13 +96,14 @@ pub fn find<A: Allocator, W: Sink>(
     out: &mut W,
 ) -> Result<usize, FindError>
     requires { W.has_failed out.old ≡ false }
-    ensures found { IfOk result (IsFound hex_letter prefix.now list.now (W.taken out.old) (W.taken out.new)) }
-    ensures refused { IfErr result (Refuses hex_letter prefix.now list.now) }
-    ensures decided { (e : FindError) → is_of_texts e ≡ true → Refuses hex_letter prefix.now list.now e
-        → (result ≡ Err e) ⊎ (result ≡ Err FindError.Memory) }
+    ensures found { IfOk result (λ n. (ids : List (List ℕ)) × (finding hex_letter prefix.now list.now ≡ Ok ids) × (n ≡ length ids)
+        × Appends (W.taken out.old) (W.taken out.new) (printed hex_letter ids)) }
+    ensures refused { IfErr result (λ e. (finding hex_letter prefix.now list.now ≡ Err e) ⊎ (e ≡ FindError.Memory) ⊎ (e ≡ FindError.Output)) }
+    ensures memory { IsErrOf result FindError.Memory → IsOk (prefix_read hex_letter 4 prefix.now) × (list.now ≢ []) }
     ensures untouched { IfErr result (λ e. e ≢ FindError.Output → out.new ≡ out.old) }
     ensures output { IsErrOf result FindError.Output ↔ (W.has_failed out.new ≡ true) }
-    ensures part { IsErrOf result FindError.Output → IsFoundInPart hex_letter prefix.now list.now (W.taken out.old) (W.taken out.new) }
+    ensures part { IsErrOf result FindError.Output → (ids : List (List ℕ)) × (finding hex_letter prefix.now list.now ≡ Ok ids)
+        × AppendsPart (W.taken out.old) (W.taken out.new) (printed hex_letter ids) }
 {
     search(alloc, Spelling::Hex, prefix, list, out)
 }
@@ -113,19 +117,19 @@ pub fn find_change<A: Allocator, W: Sink>(
     out: &mut W,
 ) -> Result<usize, FindError>
     requires { W.has_failed out.old ≡ false }
-    ensures found { IfOk result (IsFound reverse_letter letters.now list.now (W.taken out.old) (W.taken out.new)) }
-    ensures refused { IfErr result (Refuses reverse_letter letters.now list.now) }
-    ensures decided { (e : FindError) → is_of_texts e ≡ true → Refuses reverse_letter letters.now list.now e
-        → (result ≡ Err e) ⊎ (result ≡ Err FindError.Memory) }
+    ensures found { IfOk result (λ n. (ids : List (List ℕ)) × (finding reverse_letter letters.now list.now ≡ Ok ids) × (n ≡ length ids)
+        × Appends (W.taken out.old) (W.taken out.new) (printed reverse_letter ids)) }
+    ensures refused { IfErr result (λ e. (finding reverse_letter letters.now list.now ≡ Err e) ⊎ (e ≡ FindError.Memory) ⊎ (e ≡ FindError.Output)) }
+    ensures memory { IsErrOf result FindError.Memory → IsOk (prefix_read reverse_letter 4 letters.now) × (list.now ≢ []) }
     ensures untouched { IfErr result (λ e. e ≢ FindError.Output → out.new ≡ out.old) }
     ensures output { IsErrOf result FindError.Output ↔ (W.has_failed out.new ≡ true) }
-    ensures part { IsErrOf result FindError.Output → IsFoundInPart reverse_letter letters.now list.now (W.taken out.old) (W.taken out.new) }
+    ensures part { IsErrOf result FindError.Output → (ids : List (List ℕ)) × (finding reverse_letter letters.now list.now ≡ Ok ids)
+        × AppendsPart (W.taken out.old) (W.taken out.new) (printed reverse_letter ids) }
 {
     search(alloc, Spelling::Reverse, letters, list, out)
 }
 
-// As `find` and `find_change`, but for the clause that the refusals decide, which follows from the
-// others.
+// As `find` and `find_change`.
 fn search<A: Allocator, W: Sink>(
     alloc: A,
     spelling: Spelling,
@@ -134,11 +138,14 @@ fn search<A: Allocator, W: Sink>(
     out: &mut W,
 ) -> Result<usize, FindError>
     requires { W.has_failed out.old ≡ false }
-    ensures found { IfOk result (IsFound (letter_of spelling) prefix.now list.now (W.taken out.old) (W.taken out.new)) }
-    ensures refused { IfErr result (Refuses (letter_of spelling) prefix.now list.now) }
+    ensures found { IfOk result (λ n. (ids : List (List ℕ)) × (finding (letter_of spelling) prefix.now list.now ≡ Ok ids) × (n ≡ length ids)
+        × Appends (W.taken out.old) (W.taken out.new) (printed (letter_of spelling) ids)) }
+    ensures refused { IfErr result (λ e. (finding (letter_of spelling) prefix.now list.now ≡ Err e) ⊎ (e ≡ FindError.Memory) ⊎ (e ≡ FindError.Output)) }
+    ensures memory { IsErrOf result FindError.Memory → IsOk (prefix_read (letter_of spelling) 4 prefix.now) × (list.now ≢ []) }
     ensures untouched { IfErr result (λ e. e ≢ FindError.Output → out.new ≡ out.old) }
     ensures output { IsErrOf result FindError.Output ↔ (W.has_failed out.new ≡ true) }
-    ensures part { IsErrOf result FindError.Output → IsFoundInPart (letter_of spelling) prefix.now list.now (W.taken out.old) (W.taken out.new) }
+    ensures part { IsErrOf result FindError.Output → (ids : List (List ℕ)) × (finding (letter_of spelling) prefix.now list.now ≡ Ok ids)
+        × AppendsPart (W.taken out.old) (W.taken out.new) (printed (letter_of spelling) ids) }
 {
     let prefix = spelling.read_prefix(prefix).map_err(FindError::Prefix)?;
     let ids = read_list(alloc, list)?;
@@ -146,7 +153,7 @@ fn search<A: Allocator, W: Sink>(
         Ok(sorted) => sorted,
         Err(line) => return Err(FindError::Unsorted { line }),
     };
-    let min = min_hex_len(&sorted);
+    let min = sorted.min_hex_len();
     let hex_len = prefix.hex_len();
     if hex_len > min {
         return Err(FindError::PrefixTooLong { hex_len, min });
@@ -154,12 +161,8 @@ fn search<A: Allocator, W: Sink>(
     Ok(write_matches(spelling, &sorted, &ids, &prefix, out)?)
 }
 
-/// A law: the two texts are a search, or one refusal that they decide holds of them, and never two.
-pub fn texts_decide(spelling: Spelling, prefix: &str, list: &[u8])
-    ensures one { ((digits : List ℕ) × (ids : List (List ℕ)) × IsSearch (letter_of spelling) prefix.now list.now digits ids)
-        ⊎ ((e : FindError) × (is_of_texts e ≡ true) × Refuses (letter_of spelling) prefix.now list.now e) }
-    ensures alone { (e f : FindError) → is_of_texts e ≡ true → is_of_texts f ≡ true
-        → Refuses (letter_of spelling) prefix.now list.now e → Refuses (letter_of spelling) prefix.now list.now f → e ≡ f }
-    ensures apart { (digits : List ℕ) (ids : List (List ℕ)) (e : FindError) → is_of_texts e ≡ true
-        → IsSearch (letter_of spelling) prefix.now list.now digits ids → ¬ Refuses (letter_of spelling) prefix.now list.now e }
+/// A law: an answer is what is found just where what it says of the two texts holds.
+pub fn finding_means(spelling: Spelling, prefix: &str, list: &[u8])
+    ensures { (answer : Result (List (List ℕ)) FindError) → (finding (letter_of spelling) prefix.now list.now ≡ answer)
+        ↔ Means (letter_of spelling) prefix.now list.now answer }
 {}

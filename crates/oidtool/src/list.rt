@@ -1,10 +1,10 @@
 //! List texts: a line for each id.
 
-ghost use Rattle.std.specs.Prelude.{◌≡◌, ◌<◌, [], ◌∷◌, length, map, All, IfNone, IfSome, IfOk, IfErr};
+ghost use Rattle.std.specs.Prelude.{◌≡◌, ◌≢◌, ◌<◌, ◌⊎◌, [], ◌∷◌, length, map, IsErrOf, IfNone, IfSome, IfOk, IfErr};
 ghost use Rattle.gix_hash.specs.ObjectId.{id_digits};
 ghost use Rattle.oidtool.specs.Lines.{lines_of};
-ghost use Rattle.oidtool.specs.ListText.{IsListOf, IsWhole};
-ghost use Rattle.oidtool.specs.Refusal.{RefusesList};
+ghost use Rattle.oidtool.specs.ListText.{list_read};
+ghost use Rattle.oidtool.specs.declared.list.ListError.{ListError};
 
 use gix_hash::{ObjectId, decode};
 use memchr::memchr;
@@ -55,9 +55,9 @@ impl<T: Drop> From<AllocFailed<T>> for ListError {
 /// `BadLine` comes for the first line that is no id. `Memory` comes only where a growth was
 /// refused, and never for the empty text.
 pub fn read_list<A: Allocator>(alloc: A, text: &[u8]) -> Result<Vec<ObjectId, A>, ListError>
-    ensures read { IfOk result (λ ids. IsListOf text.now (map id_digits ids.items)) }
-    ensures whole { IfOk result (λ ids. All IsWhole ids.items) }
-    ensures refused { IfErr result (RefusesList text.now) }
+    ensures read { IfOk result (λ ids. list_read text.now ≡ Ok (map id_digits ids.items)) }
+    ensures refused { IfErr result (λ e. (list_read text.now ≡ Err e) ⊎ (e ≡ ListError.Memory)) }
+    ensures memory { IsErrOf result ListError.Memory → text.now ≢ [] }
 {
     let mut ids = Vec::new(alloc);
     let mut rest = text;

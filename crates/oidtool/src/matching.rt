@@ -1,10 +1,12 @@
 //! The look-up of a prefix among ids, said of their digits.
 
-ghost use Rattle.std.specs.Prelude.{◌≡◌, ◌≢◌, ◌≤◌, [], false, true, map, length, All, OnOk, OnErr, IfOk, IfErr};
+ghost use Rattle.std.specs.Prelude.{◌≡◌, ◌≢◌, ◌≤◌, [], false, true, Some, None, map, length, OnOk, OnErr, IfOk, IfErr};
 ghost use Rattle.std.specs.Io.KnownBytes.{Appends};
 ghost use Rattle.gix_hash.specs.ObjectId.{id_digits};
-ghost use Rattle.oidtool.specs.ListText.{IsWhole, IsSortedList, IsFirstUnsorted, min_hex_len};
-ghost use Rattle.oidtool.specs.Finding.{matches, printed};
+ghost use Rattle.id_lookup.specs.Runs.{matches};
+ghost use Rattle.id_lookup.specs.Sorted.{least_hex_len};
+ghost use Rattle.oidtool.specs.ListText.{first_unsorted};
+ghost use Rattle.oidtool.specs.Finding.{printed};
 ghost use Rattle.oidtool.specs.Spelling.{letter_of};
 ghost use Rattle.oidtool.specs.Writing.{AppendsPart};
 
@@ -16,21 +18,14 @@ use id_lookup::SortedIds;
 
 /// The ids as a sorted list, or the first that is below the one before it, counted from 1.
 pub fn sorted_ids(ids: &[ObjectId]) -> Result<SortedIds<'_>, usize>
-    ensures same { IfOk result (λ list. list ≡ ids.now) }
-    ensures sorted { OnOk result (IsSortedList (map id_digits ids.now)) }
-    ensures unsorted { IfErr result (IsFirstUnsorted (map id_digits ids.now)) }
+    ensures same { IfOk result (λ list. list ≡ map id_digits ids.now) }
+    ensures sorted { OnOk result (first_unsorted (map id_digits ids.now) ≡ None) }
+    ensures unsorted { IfErr result (λ n. first_unsorted (map id_digits ids.now) ≡ Some n) }
 {
     match SortedIds::try_new(ids) {
         Ok(list) => Ok(list),
         Err(unsorted) => Err(unsorted.at + 1),
     }
-}
-
-/// The number of digits of the shortest id, and 64 where there is none.
-pub fn min_hex_len(list: &SortedIds<'_>) -> usize
-    ensures { result ≡ min_hex_len (map id_digits list.now) }
-{
-    list.min_hex_len()
 }
 
 /// Writes a line for each id of the list that begins with the prefix, and answers how many there
@@ -44,15 +39,14 @@ pub fn write_matches<W: Sink>(
     prefix: &Prefix,
     out: &mut W,
 ) -> Result<usize, WriteFailed>
-    requires same { list.now ≡ ids.now }
-    requires whole { All IsWhole ids.now }
-    requires reach { length prefix.now.digits ≤ min_hex_len (map id_digits ids.now) }
+    requires same { list.now ≡ map id_digits ids.now }
+    requires reach { length prefix.now.digits ≤ least_hex_len list.now }
     requires stands { W.has_failed out.old ≡ false }
-    ensures count { IfOk result (λ n. n ≡ length (matches prefix.now.digits (map id_digits ids.now))) }
-    ensures written { OnOk result (Appends (W.taken out.old) (W.taken out.new) (printed (letter_of spelling) (matches prefix.now.digits (map id_digits ids.now)))) }
+    ensures count { IfOk result (λ n. n ≡ length (matches prefix.now.digits list.now)) }
+    ensures written { OnOk result (Appends (W.taken out.old) (W.taken out.new) (printed (letter_of spelling) (matches prefix.now.digits list.now))) }
     ensures stands { OnOk result (W.has_failed out.new ≡ false) }
-    ensures matched { OnErr result (matches prefix.now.digits (map id_digits ids.now) ≢ []) }
-    ensures part { OnErr result (AppendsPart (W.taken out.old) (W.taken out.new) (printed (letter_of spelling) (matches prefix.now.digits (map id_digits ids.now)))) }
+    ensures matched { OnErr result (matches prefix.now.digits list.now ≢ []) }
+    ensures part { OnErr result (AppendsPart (W.taken out.old) (W.taken out.new) (printed (letter_of spelling) (matches prefix.now.digits list.now))) }
     ensures failed { OnErr result (W.has_failed out.new ≡ true) }
 {
     let run = list.find(prefix);

@@ -1,9 +1,8 @@
 //! Writing ids, a line for each.
 
-ghost use Rattle.std.specs.Prelude.{◌≡◌, ◌≢◌, ◌≤◌, [], false, true, map, length, take, All, OnOk, OnErr};
+ghost use Rattle.std.specs.Prelude.{◌≡◌, ◌≢◌, ◌≤◌, [], false, true, map, length, take, OnOk, OnErr};
 ghost use Rattle.std.specs.Io.KnownBytes.{Appends};
 ghost use Rattle.gix_hash.specs.ObjectId.{id_digits};
-ghost use Rattle.oidtool.specs.ListText.{IsWhole};
 ghost use Rattle.oidtool.specs.Spelling.{letter_of};
 ghost use Rattle.oidtool.specs.Finding.{line_of, printed};
 ghost use Rattle.oidtool.specs.Writing.{AppendsPart};
@@ -23,8 +22,7 @@ pub fn write_ids<W: Sink>(
     ids: &[ObjectId],
     out: &mut W,
 ) -> Result<(), WriteFailed>
-    requires whole { All IsWhole ids.now }
-    requires stands { W.has_failed out.old ≡ false }
+    requires { W.has_failed out.old ≡ false }
     ensures written { OnOk result (Appends (W.taken out.old) (W.taken out.new) (printed (letter_of spelling) (map id_digits ids.now))) }
     ensures stands { OnOk result (W.has_failed out.new ≡ false) }
     ensures some { OnErr result (ids.now ≢ []) }
@@ -39,8 +37,7 @@ pub fn write_ids<W: Sink>(
 
 // Writes the id's line in one piece.
 fn write_id<W: Sink>(spelling: Spelling, id: &ObjectId, out: &mut W) -> Result<(), WriteFailed>
-    requires whole { IsWhole id.now }
-    requires stands { W.has_failed out.old ≡ false }
+    requires { W.has_failed out.old ≡ false }
     ensures written { OnOk result (Appends (W.taken out.old) (W.taken out.new) (line_of (letter_of spelling) (id_digits id.now))) }
     ensures stands { OnOk result (W.has_failed out.new ≡ false) }
     ensures part { OnErr result (AppendsPart (W.taken out.old) (W.taken out.new) (line_of (letter_of spelling) (id_digits id.now))) }
@@ -54,8 +51,7 @@ fn write_id<W: Sink>(spelling: Spelling, id: &ObjectId, out: &mut W) -> Result<(
 // Puts the id's digits and a line feed into the front of the buffer, and answers how many bytes
 // they are.
 fn put_line(spelling: Spelling, id: &ObjectId, line: &mut [u8]) -> usize
-    requires whole { IsWhole id.now }
-    requires room { length line.old ≡ MAX_LINE_LEN }
+    requires { length line.old ≡ MAX_LINE_LEN }
     ensures len { result ≤ MAX_LINE_LEN }
     ensures text { take result line.new ≡ line_of (letter_of spelling) (id_digits id.now) }
 {

@@ -4,7 +4,7 @@ ghost use Rattle.std.specs.Prelude.{◌≡◌, ◌≤◌, ◌++◌, length, drop
 ghost use Rattle.gix_hash.specs.Digits.{spelling};
 ghost use Rattle.gix_hash.specs.Kind.{hex_len_of};
 ghost use Rattle.gix_hash.specs.ObjectId.{id_digits, id_kind};
-ghost use Rattle.gix_hash.specs.PrefixReading.{digits_answered, prefix_read};
+ghost use Rattle.gix_hash.specs.PrefixReading.{prefix_read};
 ghost use Rattle.oidtool.specs.Spelling.{letter_of};
 
 use gix_hash::prefix::from_hex;
@@ -22,7 +22,7 @@ pub enum Spelling {
 impl Spelling {
     /// Reads a prefix of 4 to 64 digits, in any letter case.
     pub fn read_prefix(self, text: &str) -> Result<Prefix, from_hex::Error>
-        ensures { digits_answered result ≡ prefix_read (letter_of self) text.now }
+        ensures { result ≡ prefix_read (letter_of self) 4 text.now }
     {
         match self {
             Spelling::Hex => Prefix::from_hex(text),

@@ -10,12 +10,14 @@ fn read_back_in_any_letter_case(rt: HostRuntime) -> Result<(), Fail> {
     let text = "E69De29bb2d1d6434b8b29ae775ad8c2e48C5391";
     let lowered = text.to_ascii_lowercase(rt.alloc())?;
     assert!(rt; blob.eq_str(lowered.as_str()));
-    assert!(rt; laws::read_back(&blob, text.as_bytes())? == blob);
+    laws::read_back(&blob, text.as_bytes());
+    assert!(rt; ObjectId::from_hex(text.as_bytes())? == blob);
     let change = ChangeId::from(blob);
     let letters = "LTqmlxqooxmymtvwvoroxqplssupmrnxlvrnuwqY";
     let lowered = letters.to_ascii_lowercase(rt.alloc())?;
     assert!(rt; change.eq_str(lowered.as_str()));
-    assert!(rt; laws::read_change_back(&change, letters.as_bytes())? == change);
+    laws::read_change_back(&change, letters.as_bytes());
+    assert!(rt; ChangeId::from_reverse_hex(letters.as_bytes())? == change);
     Ok(())
 }
 
@@ -28,6 +30,8 @@ fn hold_without_computing() -> Result<(), Fail> {
     laws::spelled_alike(view, id(BLOB_256)?.as_oid());
     laws::equal_where_it_begins(&prefix, view);
     laws::nested_or_disjoint(&prefix, &other);
+    laws::readings(&BLOB_BYTES);
+    laws::same_id(&blob, &null);
     laws::orders_agree(&blob, &null);
     laws::opposite_order(&ChangeId::from(blob), &ChangeId::from(null));
     Ok(())

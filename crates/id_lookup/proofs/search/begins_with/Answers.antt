@@ -1,7 +1,7 @@
 use Rattle.std.proofs.Common.{sym, ap, ◌∙◌}
 use Rattle.std.specs.Ordering.{is_eq}
+use Rattle.gix_hash.specs.Digits.{hex_letter, spelling}
 use Rattle.gix_hash.specs.ObjectId.{id_digits}
-use Rattle.id_lookup.specs.Runs.{id_spelling, prefix_spelling}
 use Rattle.id_lookup.proofs.Spelled.{begins_with-place, starts_with-spelling, starts_with-BeginsWith}
 use Rattle.id_lookup.proofs.search.begins_with.Goals as goal
 
@@ -11,11 +11,11 @@ cmp_oid-requires c = rw c.as_oid.ensures.kind c.requires
 pub returns-clause-value : goal.returns-clause-value
 returns-clause-value c =
     c.is_eq.ensures ∙ ap is_eq c.cmp_oid.ensures
-    ∙ rw c.as_oid.ensures.digits (sym (begins_with-place c.args.prefix.now c.args.id.now))
+    ∙ rw c.as_oid.ensures.digits (sym (begins_with-place c.args.prefix.now (id_digits c.args.id.now)))
 
 pub returns-clause-spelling : goal.returns-clause-spelling
 returns-clause-spelling c =
-    rw (returns-clause-value c) (starts_with-BeginsWith (id_spelling c.args.id.now) (prefix_spelling c.args.prefix.now))
+    rw (returns-clause-value c) (starts_with-BeginsWith (spelling hex_letter (id_digits c.args.id.now)) (spelling hex_letter c.args.prefix.now.digits))
 
 pub returns-clause-digits : goal.returns-clause-digits
 returns-clause-digits c =

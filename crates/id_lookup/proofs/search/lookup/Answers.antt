@@ -1,7 +1,7 @@
 use Rattle.std.proofs.Common.{◌-◌, length, ap, arith}
 use Rattle.id_lookup.specs.Probing.{Probing}
 use Rattle.id_lookup.proofs.Binary.{bits-mono, bits-usize}
-use Rattle.id_lookup.proofs.Placed.{bound_of-end, run_members, run_before, run_within, run_behind}
+use Rattle.id_lookup.proofs.Placed.{bound_of-end, run_is}
 use Rattle.id_lookup.proofs.search.lookup.Goals as goal
 
 pub find_bound-start-requires-clause-room : goal.find_bound-start-requires-clause-room
@@ -22,28 +22,12 @@ find_bound-end-requires-clause-room c =
     let fewer = bits-mono (c.len-len.result - c.find_bound-start.result) (c.len-len.result - 0) (omega arith) in
     omega (arith, c.find_bound-start.ensures.asked)
 
--- the end, by the counts
-pub returns-clause-end : goal.returns-clause-end
-returns-clause-end c =
+pub returns-clause-run : goal.returns-clause-run
+returns-clause-run c =
     let list = ap (λ (p : Probing). p.ids) c.find_bound-start.ensures.same in
     let prefix = ap (λ (p : Probing). p.prefix) c.find_bound-start.ensures.same in
-    rw (c.find_bound-end.ensures.place, list, prefix, c.find_bound-start.ensures.place) (bound_of-end c.args.probes.now.prefix c.args.probes.now.ids)
-
-pub returns-clause-members : goal.returns-clause-members
-returns-clause-members c =
-    run_members c.args.probes.now.prefix c.args.probes.now.ids c.len-len.ensures.can_probe.sorted _ _ c.find_bound-start.ensures.place (returns-clause-end c)
-
-pub returns-clause-before : goal.returns-clause-before
-returns-clause-before c =
-    run_before c.args.probes.now.prefix c.args.probes.now.ids c.len-len.ensures.can_probe.sorted _ _ c.find_bound-start.ensures.place (returns-clause-end c)
-
-pub returns-clause-within : goal.returns-clause-within
-returns-clause-within c =
-    run_within c.args.probes.now.prefix c.args.probes.now.ids c.len-len.ensures.can_probe.sorted _ _ c.find_bound-start.ensures.place (returns-clause-end c)
-
-pub returns-clause-behind : goal.returns-clause-behind
-returns-clause-behind c =
-    run_behind c.args.probes.now.prefix c.args.probes.now.ids c.len-len.ensures.can_probe.sorted _ _ c.find_bound-start.ensures.place (returns-clause-end c)
+    run_is c.args.probes.now.prefix c.args.probes.now.ids c.len-len.ensures.can_probe.sorted _ c.find_bound-start.ensures.place
+    (rw (list, prefix) at c.find_bound-end.ensures.place)
 
 pub returns-clause-asked : goal.returns-clause-asked
 returns-clause-asked c =
