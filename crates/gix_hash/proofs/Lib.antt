@@ -12,3 +12,4 @@ pub mod PaddedReading
 pub mod Places
 pub mod ReadingFacts
 pub mod Spellings
+pub mod BufferEnds

@@ -1,10 +1,12 @@
 //! Beginnings of ids.
 
 ghost use Rattle.std.specs.Prelude.{◌≡◌, ◌≤◌, ◌<◌, ◌*◌, ◌↔◌, ℕ, length, take, replicate, drop, ◌++◌, IfOk, IsTrue, IsAscii, OnOk, All};
+ghost use Rattle.std.specs.Borrow.{sem};
 ghost use Rattle.std.specs.Io.KnownBytes.{Appends};
 ghost use Rattle.std.specs.declared.cmp.Ordering.{Ordering};
 ghost use Rattle.gix_hash.specs.Digits.{digits_of, hex_letter, reverse_letter, spelling};
 ghost use Rattle.gix_hash.specs.Kind.{hex_len_of, byte_len_of};
+ghost use Rattle.gix_hash.specs.LentText.{EndsAs};
 ghost use Rattle.gix_hash.specs.ObjectId.{id_kind, id_bytes, id_digits};
 ghost use Rattle.gix_hash.specs.Prefix.{place, padded};
 ghost use Rattle.gix_hash.specs.PrefixReading.{prefix_read};
@@ -194,13 +196,40 @@ impl Prefix {
 
     /// Writes the lowercase hex digits into the front of `buffer` as [`Prefix::put_hex`] does, and
     /// lends them as text. The buffer needs room for the digits.
+    ///
+    /// The clause `behind` says what the buffer holds once the text is let go. Only a caller that is
+    /// proved by hand learns it: it lends the buffer again for a lifetime of its own, and takes it
+    /// back at what the clause says. [`Prefix::put_hex`] says the same of the buffer to every caller.
     pub fn hex_to_buf<'b>(&self, buffer: &'b mut [u8]) -> &'b str
         requires { length self.now.digits ≤ length buffer.old }
+        ensures* behind { sem 𝓛 (EndsAs buffer.entry (spelling hex_letter self.now.digits ++ drop (length self.now.digits) buffer.old)) }
         ensures text { result.now ≡ spelling hex_letter self.now.digits }
         ensures ascii { IsAscii result.now }
         ensures len { length result.now ≡ length self.now.digits }
     {
+        self.front_text(self.filled(buffer))
+    }
+
+    // The same buffer, with the digits in its front.
+    fn filled<'b>(&self, buffer: &'b mut [u8]) -> &'b mut [u8]
+        requires { length self.now.digits ≤ length buffer.old }
+        ensures same { result.ghost_name ≡ buffer.entry.ghost_name }
+        ensures value { result.now ≡ spelling hex_letter self.now.digits ++ drop (length self.now.digits) buffer.old }
+        ensures room { length self.now.digits ≤ length result.now }
+        ensures front { take (length self.now.digits) result.now ≡ spelling hex_letter self.now.digits }
+    {
         self.put_hex(buffer);
+        buffer
+    }
+
+    // The digits in front of a buffer, as text.
+    fn front_text<'b>(&self, buffer: &'b [u8]) -> &'b str
+        requires room { length self.now.digits ≤ length buffer.now }
+        requires front { take (length self.now.digits) buffer.now ≡ spelling hex_letter self.now.digits }
+        ensures text { result.now ≡ spelling hex_letter self.now.digits }
+        ensures ascii { IsAscii result.now }
+        ensures len { length result.now ≡ length self.now.digits }
+    {
         ascii_text(&buffer[..self.hex_len])
     }
 
