@@ -2,14 +2,13 @@
 use Rattle.std.proofs.Common.{◌<◌, ◌≡◌, ℕ, ◌+◌, ◌-◌, ◌*◌, ◌≤◌, List, [], ◌∷◌, length, take, replicate, refl, sym, ap, ◌∙◌, arith, length-append, eqb-true}
 use Rattle.std.specs.Prelude.{IsTrue, All, nat_eq}
 use Rattle.std.specs.Hash as fed
-use Rattle.std.specs.Ordering.{on, eq_of_both}
 use Rattle.std.specs.Cmp.Lexicographic.{pointwise, bytes_decides}
 use Rattle.std.proofs.lemmas.Bool.{and_parts}
 use Rattle.std.proofs.lemmas.List.{length-replicate, length-take-le}
 use Rattle.gix_hash.specs.Digits.{digits_of}
 use Rattle.gix_hash.specs.Kind.{hex_len_of, number_of}
 use Rattle.gix_hash.specs.ObjectId.{id_kind, id_bytes, id_digits}
-use Rattle.gix_hash.specs.Prefix.{Beginning, padded, prefix_kind_number, prefix_digits}
+use Rattle.gix_hash.specs.Prefix.{Beginning, padded, prefix_eq}
 use Rattle.gix_hash.specs.declared.kind.Kind.{Kind}
 use Rattle.gix_hash.specs.declared.kind.Kind.TheVariants as kinds
 use Rattle.gix_hash.specs.declared.object_id.ObjectId.{ObjectId}
@@ -79,7 +78,7 @@ prefix_hash_input prefix = packed (padded (hex_len_of prefix.kind) prefix.digits
 
 -- equal prefixes feed the same
 pub same_hash_input : (a b : Beginning)
-    → IsTrue (eq_of_both (on prefix_kind_number nat_eq) (on prefix_digits (pointwise nat_eq)) a b)
+    → IsTrue (prefix_eq a b)
     → prefix_hash_input a ≡ prefix_hash_input b
 same_hash_input a b h =
     let parts = and_parts (nat_eq (number_of a.kind) (number_of b.kind)) (pointwise nat_eq a.digits b.digits) h in
