@@ -5,8 +5,8 @@ ghost use Rattle.std.specs.Prelude.{◌≡◌, ◌≤◌, ◌<◌, ◌*◌, All,
 use crate::borrowed::oid;
 use crate::display::HexDisplay;
 use crate::error::Error;
-use crate::hex_digits::decode_digits;
 use crate::kind::Kind;
+use crate::lanes::reading::read_digest;
 use crate::prefix::Prefix;
 use crate::{decode, verify};
 use std::cmp::Ordering;
@@ -48,12 +48,12 @@ impl ObjectId {
         match text.len() {
             40 => {
                 let mut bytes = [0; 20];
-                decode_digits(text, &mut bytes)?;
+                read_digest(text, &mut bytes)?;
                 Ok(ObjectId::Sha1(bytes))
             }
             64 => {
                 let mut bytes = [0; 32];
-                decode_digits(text, &mut bytes)?;
+                read_digest(text, &mut bytes)?;
                 Ok(ObjectId::Sha256(bytes))
             }
             len => Err(decode::Error::InvalidHexEncodingLength(len)),
