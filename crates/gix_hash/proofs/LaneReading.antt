@@ -68,39 +68,52 @@ rest_stored n old lanes many long least most =
     let none : post_of 16 (n - 16) old ≡ [] = no_length _ (omega (arith, length-drop (n - 16) (drop 16 old), length-drop 16 old)) in
     rw (all, none) (ap (λ l. take 16 old ++ l) (append-nil (drop (32 - n) lanes)))
 
--- a text of whose bytes the first sixteen were packed, and the last sixteen
-pub read_whole : (k : ℕ) (text old bytes front back first last : List ℕ) (front_reads back_reads : Bool)
-    → length old ≡ k + 16 → k ≤ 16 → length text ≡ 2 * length old
-    → front ≡ values_of (take 32 text) → back ≡ values_of (take 32 (drop (length text - 32) text)) → first ≡ packed front → last ≡ packed back
-    → front_reads ≡ list_all is_digit front → back_reads ≡ list_all is_digit back
-    → bytes ≡ take 16 (put_chunk 0 old first) ++ drop (32 - length (put_chunk 0 old first)) last
-    → digits_read hex_letter text ≡ (if front_reads && back_reads then Some (digits_of bytes) else None)
-read_whole k text old bytes front back first last front_reads back_reads all few len of_front of_back packs pack reads read stored =
-    let values = values_of text in
-    let many : length values ≡ 2 * (k + 16) = length-map text value_of ∙ omega arith in
-    let from : length text - 32 ≡ 2 * k = omega arith in
-    let first_values : front ≡ take 32 values = of_front ∙ sym (take-map value_of 32 text) in
-    let last_values : back ≡ drop (2 * k) values =
-    of_back ∙ ap values_of (take_all 32 (drop (length text - 32) text) (omega (arith, length-drop (length text - 32) text)))
-    ∙ ap (λ n. values_of (drop n text)) from ∙ sym (drop-map value_of (2 * k) text) in
-    let first_bytes : first ≡ take 16 (packed values) = packs ∙ ap packed first_values ∙ packed-take 16 values in
-    let last_bytes : last ≡ drop k (packed values) =
-    pack ∙ ap packed (last_values ∙ ap (λ n. drop n values) (sym (twice-is k))) ∙ packed-drop k values in
-    let count = length-packed (k + 16) values many in
-    let sixteen : length first ≡ 16 = ap length first_bytes ∙ length-take-le 16 (packed values) (omega arith) in
-    let to_sixteen : k + (16 - k) ≡ 16 = omega arith in
-    let wide : 32 - length (put_chunk 0 old first) ≡ 16 - k = omega (arith, length-put_chunk 0 old first) in
-    let kept : take 16 (put_chunk 0 old first) ≡ take 16 (packed values) =
-    ap (take 16) (stored_at 0 old first sixteen (omega arith)) ∙ take_at first (drop 16 old) 16 sixteen ∙ first_bytes in
-    let rest : drop (32 - length (put_chunk 0 old first)) last ≡ drop 16 (packed values) =
-    ap₂ (λ n l. drop n l) wide last_bytes ∙ drop-drop (16 - k) k (packed values) ∙ ap (λ n. drop n (packed values)) to_sixteen in
-    let whole : bytes ≡ packed values = stored ∙ ap₂ (λ a b. a ++ b) kept rest ∙ take-append-drop 16 (packed values) in
-    let reads : (front_reads && back_reads) ≡ list_all is_digit values =
-    ap₂ (λ a b. a && b) (reads ∙ ap (list_all is_digit) first_values) (read ∙ ap (list_all is_digit) last_values)
-    ∙ all-overlapped is_digit (2 * k) 32 values (omega arith) in
-    digits_read-values text ∙ by_cases (list_all is_digit values) values refl (digits_of-packed (k + 16) values many) whole reads
-  where
-    by_cases : (b : Bool) (values : List ℕ) → list_all is_digit values ≡ b → (list_all is_digit values ≡ true → digits_of (packed values) ≡ values)
-        → bytes ≡ packed values → (front_reads && back_reads) ≡ list_all is_digit values → all_digits values ≡ (if front_reads && back_reads then Some (digits_of bytes) else None)
-    by_cases true values e same whole reads = rw (reads, whole, e) (ap Some (sym (same e)))
-    by_cases false values e same whole reads = rw (reads, e) refl
+-- a text of so many bytes, of which the first sixteen were packed, and the last sixteen
+module _ (k : ℕ) (text old front back : List ℕ) (all : length old ≡ k + 16) (few : k ≤ 16) (two : length text ≡ 2 * length old)
+    (of_front : front ≡ values_of (take 32 text)) (of_back : back ≡ values_of (take 32 (drop (length text - 32) text))) where
+  -- the values of the first letters are the first values
+  first_values : front ≡ take 32 (values_of text)
+  first_values = of_front ∙ sym (take-map value_of 32 text)
+
+  -- and those of the last letters the last
+  last_values : back ≡ drop (2 * k) (values_of text)
+  last_values =
+      let from : length text - 32 ≡ 2 * k = omega arith in
+      let rest = take_all 32 (drop (length text - 32) text) (omega (arith, length-drop (length text - 32) text)) in
+      of_back ∙ ap values_of rest ∙ ap (λ n. values_of (drop n text)) from ∙ sym (drop-map value_of (2 * k) text)
+
+  -- the two together are digits where all values are
+  pub tested : (front_reads back_reads : Bool) → front_reads ≡ list_all is_digit front → back_reads ≡ list_all is_digit back
+      → (front_reads && back_reads) ≡ list_all is_digit (values_of text)
+  tested front_reads back_reads reads read =
+      ap₂ (λ a b. a && b) (reads ∙ ap (list_all is_digit) first_values) (read ∙ ap (list_all is_digit) last_values)
+      ∙ all-overlapped is_digit (2 * k) 32 (values_of text) (omega arith)
+
+  -- and what was stored is packed of all values
+  pub stored : (first last bytes : List ℕ) → first ≡ packed front → last ≡ packed back
+      → bytes ≡ take 16 (put_chunk 0 old first) ++ drop (32 - length (put_chunk 0 old first)) last → bytes ≡ packed (values_of text)
+  stored first last bytes packs pack is =
+      let whole = packed (values_of text) in
+      let count : length whole ≡ k + 16 = length-packed (k + 16) (values_of text) (length-map text value_of ∙ omega arith) in
+      let front_bytes : first ≡ take 16 whole = packs ∙ ap packed first_values ∙ packed-take 16 (values_of text) in
+      let back_bytes : last ≡ drop k whole =
+      pack ∙ ap packed (last_values ∙ ap (λ n. drop n (values_of text)) (sym (twice-is k))) ∙ packed-drop k (values_of text) in
+      let sixteen : length first ≡ 16 = ap length front_bytes ∙ length-take-le 16 whole (omega arith) in
+      let kept : take 16 (put_chunk 0 old first) ≡ take 16 whole =
+      ap (take 16) (stored_at 0 old first sixteen (omega arith)) ∙ take_at first (drop 16 old) 16 sixteen ∙ front_bytes in
+      let shared : 32 - length (put_chunk 0 old first) ≡ 16 - k = omega (arith, length-put_chunk 0 old first) in
+      let to_sixteen : k + (16 - k) ≡ 16 = omega arith in
+      let rest : drop (32 - length (put_chunk 0 old first)) last ≡ drop 16 whole =
+      ap₂ (λ n l. drop n l) shared back_bytes ∙ drop-drop (16 - k) k whole ∙ ap (λ n. drop n whole) to_sixteen in
+      is ∙ ap₂ (λ a b. a ++ b) kept rest ∙ take-append-drop 16 whole
+
+-- a text reads as the digits of the bytes that are packed of its values, where all of these are digits
+pub read_packed : (n : ℕ) (text bytes : List ℕ) → length text ≡ 2 * n → list_all is_digit (values_of text) ≡ true → bytes ≡ packed (values_of text)
+    → digits_read hex_letter text ≡ Some (digits_of bytes)
+read_packed n text bytes two all is =
+    digits_read-values text
+    ∙ rw (all, is) (ap Some (sym (digits_of-packed n (values_of text) (length-map text value_of ∙ two) all)))
+
+-- and as none where one is not
+pub read_none : (text : List ℕ) → list_all is_digit (values_of text) ≡ false → digits_read hex_letter text ≡ None
+read_none text one = digits_read-values text ∙ rw one refl
