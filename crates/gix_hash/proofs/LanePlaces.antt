@@ -10,7 +10,7 @@ use Rattle.gix_hash.proofs.Packing.{drop-digits_of}
 use Rattle.gix_hash.proofs.Spellings.{length-spelling}
 
 -- sixteen bytes stored at a place
-stored_at : (at : ℕ) (buffer lanes : List ℕ) → length lanes ≡ 16 → at + 16 ≤ length buffer
+pub stored_at : (at : ℕ) (buffer lanes : List ℕ) → length lanes ≡ 16 → at + 16 ≤ length buffer
     → put_chunk at buffer lanes ≡ take at buffer ++ lanes ++ drop (at + 16) buffer
 stored_at at buffer lanes long room =
     put_chunk_is at buffer lanes (omega arith)
@@ -37,15 +37,15 @@ stored_letters from buffer front back letters long also room are =
     let far : 2 * (from + 16) ≡ 2 * from + 32 = omega arith in
     stored_twice (2 * from) buffer front back long also (omega arith) ∙ rw (are, far) refl
 
--- all letters of bytes, of which the first are stored, and then the last
-overlapped : (k m : ℕ) (letters old once twice : List ℕ) → m ≡ length letters → m ≡ k + 32 → k ≤ 32
-    → once ≡ take 32 letters ++ drop 32 old → twice ≡ take k once ++ drop k letters ++ drop m once
-    → twice ≡ letters ++ drop m old
-overlapped k m letters old once twice long more few first then =
-    let cut = length-take-le 32 letters (omega arith) in
-    let stay = take-append-le k (take 32 letters) (drop 32 old) (omega arith) ∙ take-take k 32 letters few in
-    let behind = drop-append-drop 32 old (take 32 letters) m (omega arith) cut in
-    then ∙ rw (first, stay, behind, take-append-drop k letters) refl
+-- all of a list, of which the first w are stored, and then the last w
+overlapped : (k w m : ℕ) (whole old once twice : List ℕ) → m ≡ length whole → m ≡ k + w → k ≤ w
+    → once ≡ take w whole ++ drop w old → twice ≡ take k once ++ drop k whole ++ drop m once
+    → twice ≡ whole ++ drop m old
+overlapped k w m whole old once twice long more few first then =
+    let cut = length-take-le w whole (omega arith) in
+    let stay = take-append-le k (take w whole) (drop w old) (omega arith) ∙ take-take k w whole few in
+    let behind = drop-append-drop w old (take w whole) m (omega arith) cut in
+    then ∙ rw (first, stay, behind, take-append-drop k whole) refl
 
 -- the letters of a range of bytes
 letters_of_first : (bytes : List ℕ) → spelling hex_letter (digits_of (take 16 bytes)) ≡ take 32 (spelling hex_letter (digits_of bytes))
@@ -67,4 +67,4 @@ stored_whole k bytes old once twice long few first then =
     let behind : twice ≡ take (2 * k) once ++ drop (2 * k) letters ++ drop (2 * length bytes) once =
     then ∙ rw (more, last, letters_of_last k bytes) refl in
     let before : once ≡ take 32 letters ++ drop 32 old = first ∙ ap (λ (ls : List ℕ). ls ++ drop 32 old) (letters_of_first bytes) in
-    overlapped (2 * k) (2 * length bytes) letters old once twice count (omega arith) (omega arith) before behind
+    overlapped (2 * k) 32 (2 * length bytes) letters old once twice count (omega arith) (omega arith) before behind

@@ -1,10 +1,14 @@
 pub mod Alphabets
+pub mod FirstWords
 pub mod HexReading
 pub mod IdFacts
 pub mod KindFacts
 pub mod LaneHalves
 pub mod LaneLetters
+pub mod LanePacking
 pub mod LanePlaces
+pub mod LaneReading
+pub mod LaneValues
 pub mod LawLemmas
 pub mod Packing
 pub mod PaddedOrder

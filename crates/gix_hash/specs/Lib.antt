@@ -2,6 +2,7 @@
 pub mod Digits
 pub mod DigitOrder
 pub mod Reading
+pub mod LetterValues
 pub mod Kind
 pub mod Oid
 pub mod ObjectId
@@ -11,6 +12,7 @@ pub mod PrefixBytes
 pub mod IdReading
 pub mod HexDisplay
 pub mod WellKnown
+pub mod FirstWord
 pub mod ByteLengths
 pub mod Loan
 pub mod LentText

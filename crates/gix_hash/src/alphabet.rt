@@ -1,9 +1,9 @@
 //! The alphabets in which digits are spelled and read.
 
-ghost use Rattle.std.specs.Prelude.{◌≡◌, ◌≤◌, ◌*◌, ◌++◌, Some, None, MatchResult, length, drop, map};
+ghost use Rattle.std.specs.Prelude.{◌≡◌, ◌≤◌, ◌*◌, ◌++◌, Some, None, MatchResult, IsTrue, length, drop, map};
 ghost use Rattle.std.specs.Option.{ok_or, option_map};
 ghost use Rattle.gix_hash.specs.Digits.{digits_of, spelling};
-ghost use Rattle.gix_hash.specs.Kind.{hex_len_of};
+ghost use Rattle.gix_hash.specs.Kind.{hex_len_of, is_digest_len};
 ghost use Rattle.gix_hash.specs.Prefix.{beginning_of};
 ghost use Rattle.gix_hash.specs.PrefixReading.{prefix_read};
 ghost use Rattle.gix_hash.specs.Reading.{digits_read};
@@ -15,6 +15,7 @@ use crate::borrowed::oid;
 use crate::decode;
 use crate::hex_digits::decode_digits;
 use crate::kind::Kind;
+use crate::lanes::reading::read_digest;
 use crate::lanes::spell_hex;
 use crate::object_id::ObjectId;
 use crate::prefix::{Prefix, from_hex};
@@ -90,12 +91,12 @@ impl Alphabet {
         match text.len() {
             40 => {
                 let mut bytes = [0; 20];
-                self.decode(text, &mut bytes)?;
+                self.decode_digest(text, &mut bytes)?;
                 Ok(ObjectId::Sha1(bytes))
             }
             64 => {
                 let mut bytes = [0; 32];
-                self.decode(text, &mut bytes)?;
+                self.decode_digest(text, &mut bytes)?;
                 Ok(ObjectId::Sha256(bytes))
             }
             len => Err(decode::Error::InvalidHexEncodingLength(len)),
@@ -114,10 +115,23 @@ impl Alphabet {
             Alphabet::Hex => decode_digits(text, bytes),
             Alphabet::Reverse => {
                 let mut letters = [0; 64];
-                let letters = &mut letters[..text.len()];
-                letters.copy_from_slice(text);
-                to_hex_letters(letters);
-                decode_digits(letters, bytes)
+                decode_digits(in_hex(text, &mut letters), bytes)
+            }
+        }
+    }
+
+    // As `decode`, of a digest of 20 or 32 bytes: lists have one a line, so it is read by lanes.
+    fn decode_digest(self, text: &[u8], bytes: &mut [u8]) -> Result<(), decode::Error>
+        requires digest { IsTrue (is_digest_len (length bytes.old)) }
+        requires two_a_byte { length text.now ≡ 2 * length bytes.old }
+        ensures { MatchResult result (λ _. digits_read (letter_of self) text.now ≡ Some (digits_of bytes.new))
+            (λ e. (e ≡ decode.Error.Invalid) × (digits_read (letter_of self) text.now ≡ None)) }
+    {
+        match self {
+            Alphabet::Hex => read_digest(text, bytes),
+            Alphabet::Reverse => {
+                let mut letters = [0; 64];
+                read_digest(in_hex(text, &mut letters), bytes)
             }
         }
     }
@@ -145,6 +159,17 @@ impl Alphabet {
             to_reverse_letters(&mut buffer[..2 * bytes.len()]);
         }
     }
+}
+
+// Puts the hex letters for a text in the reverse alphabet into the front of `letters`, and lends them.
+fn in_hex<'a>(text: &[u8], letters: &'a mut [u8; 64]) -> &'a [u8]
+    requires { length text.now ≤ 64 }
+    ensures { result.now ≡ map hex_of_reverse text.now }
+{
+    let letters = &mut letters[..text.len()];
+    letters.copy_from_slice(text);
+    to_hex_letters(letters);
+    letters
 }
 
 // Replaces each letter of the reverse alphabet by the hex letter of its digit, and any other byte by

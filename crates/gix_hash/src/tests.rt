@@ -2,6 +2,7 @@
 //! call and impl once where it succeeds.
 
 mod change_ids;
+mod each_byte;
 mod hashing_state;
 mod ids;
 mod kinds;

@@ -8,4 +8,4 @@ returns c =
     let bytes = c.args.bytes.now in
     let all : length bytes ≡ length bytes - 16 + 16 = grind (arith, nat_tests, c.requires.digest) in
     let few : length bytes - 16 ≤ 16 = grind (arith, nat_tests, c.requires.digest) in
-    stored_whole (length bytes - 16) bytes c.args.buffer.now c.put_sixteen.new.buffer c.put_sixteen-2.new.buffer all few c.put_sixteen.ensures c.put_sixteen-2.ensures
+    stored_whole (length bytes - 16) bytes c.args.buffer.now c.put_vector.new.buffer c.put_vector-2.new.buffer all few c.put_vector.ensures c.put_vector-2.ensures

@@ -1,7 +1,7 @@
 use Rattle.std.proofs.Common.{◌≡◌, ◌+◌, ◌-◌, take, drop, ap, ◌∙◌, arith}
 use Rattle.gix_hash.specs.Digits.{digits_of, spelling, hex_letter}
 use Rattle.gix_hash.proofs.LanePlaces.{stored_letters}
-use Rattle.gix_hash.proofs.lanes.put_sixteen.Goals as goal
+use Rattle.gix_hash.proofs.lanes.put_vector.Goals as goal
 
 pub returns : goal.returns
 returns c =

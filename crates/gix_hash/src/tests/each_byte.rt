@@ -1,0 +1,59 @@
+//! Full ids are read as the crate `hex` reads them: each byte is tried at each place of a text.
+
+use super::{BLOB, BLOB_256};
+use crate::{ChangeId, ObjectId, decode};
+use std::process::Abort;
+
+const HEX: [u8; 16] = *b"0123456789abcdef";
+
+const REVERSE: [u8; 16] = *b"zyxwvutsrqponmlk";
+
+// Replaces each letter of one alphabet, in either case, by the letter of its digit in another, and
+// any other byte by a dash.
+fn translate(text: &mut [u8], from: [u8; 16], to: [u8; 16]) {
+    for byte in text.iter_mut() {
+        let lower = byte.to_ascii_lowercase();
+        *byte = match from.iter().position(|&letter| letter == lower) {
+            Some(digit) => to[digit],
+            None => b'-',
+        };
+    }
+}
+
+// The answer is that of the crate `hex` to a text in hex.
+fn expect_as_hex(rt: &impl Abort, text: &[u8], answer: Result<ObjectId, decode::Error>) {
+    let mut bytes = [0; 32];
+    let len = text.len() / 2;
+    assert!(rt; len <= bytes.len());
+    match (hex::decode_to_slice(text, &mut bytes[..len]), answer) {
+        (Ok(()), Ok(id)) => assert!(rt; id.as_slice() == &bytes[..len]),
+        (Err(_), Err(decode::Error::Invalid)) => {}
+        _ => assert!(rt; false, "only one of the two reads {text:?}"),
+    }
+}
+
+// Reads the text with each byte in place of each of its letters, in both alphabets.
+fn expect_each_byte(rt: &impl Abort, text: &[u8]) {
+    let mut letters = [0; 64];
+    assert!(rt; text.len() <= letters.len());
+    let letters = &mut letters[..text.len()];
+    for place in 0..text.len() {
+        for byte in 0..=u8::MAX {
+            letters.copy_from_slice(text);
+            letters[place] = byte;
+            expect_as_hex(rt, letters, ObjectId::from_hex(letters));
+            letters.copy_from_slice(text);
+            translate(letters, HEX, REVERSE);
+            letters[place] = byte;
+            let answer = ChangeId::from_reverse_hex(letters);
+            translate(letters, REVERSE, HEX);
+            expect_as_hex(rt, letters, answer.map(ObjectId::from));
+        }
+    }
+}
+
+#[test]
+fn read_as_the_crate_hex_reads(rt: HostRuntime) {
+    expect_each_byte(&rt, BLOB.as_bytes());
+    expect_each_byte(&rt, BLOB_256.as_bytes());
+}
