@@ -1,5 +1,6 @@
 pub mod Alphabets
 pub mod FirstWords
+pub mod Chunks
 pub mod HexReading
 pub mod IdFacts
 pub mod KindFacts
@@ -10,10 +11,12 @@ pub mod LanePlaces
 pub mod LaneReading
 pub mod LaneValues
 pub mod LawLemmas
+pub mod Made
 pub mod Packing
 pub mod PaddedOrder
 pub mod PaddedReading
 pub mod Places
+pub mod Reaching
 pub mod ReadingFacts
 pub mod Spellings
 pub mod BufferEnds

@@ -18,3 +18,6 @@ pub mod Loan
 pub mod LentText
 pub mod Alphabet
 pub mod ReverseHexDisplay
+pub mod Hashing
+pub mod Streams
+pub mod HashingWriter
