@@ -20,7 +20,6 @@ pub mod plain;
 mod printing;
 pub mod running;
 pub mod sink;
-pub mod spelling;
 
 use command::{ArgError, exit_status, read_command};
 use plain::Plain;
