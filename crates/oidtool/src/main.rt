@@ -12,12 +12,14 @@ ghost use Rattle.oidtool.specs.declared.Failure.TheVariants.{Find, Memory, Input
 
 pub mod command;
 pub mod finding;
+pub mod from_slice;
 pub mod into_slice;
 mod list;
 mod matching;
 pub mod plain;
 mod printing;
 pub mod sink;
+pub mod source;
 pub mod spelling;
 
 use command::{ArgError, Command, exit_status, read_command};
