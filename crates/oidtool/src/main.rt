@@ -13,6 +13,7 @@ ghost use Rattle.oidtool.specs.declared.running.CommandError.TheVariants as erro
 
 pub mod command;
 pub mod finding;
+pub mod from_slice;
 pub mod into_slice;
 mod list;
 mod matching;
@@ -20,6 +21,7 @@ pub mod plain;
 mod printing;
 pub mod running;
 pub mod sink;
+pub mod source;
 
 use command::{ArgError, exit_status, read_command};
 use plain::Plain;
@@ -82,14 +84,12 @@ fn run<'a>(
 ) -> Result<usize, Failure<'a>> {
     let words: Vec<&str> = words.iter().map(|word| word.as_str()).collect(rt.alloc())?;
     let command = read_command(&words).map_err(Failure::Words)?;
-    let writer = BufWriter::new(rt.alloc(), io::writer(rt)).map_err(CommandError::from)?;
-    let count = run_command(
-        rt.alloc(),
-        command,
-        &mut rt.reader(),
-        &mut Plain::new(writer),
-    )?;
-    Ok(count)
+    let Ok(writer) = BufWriter::new(rt.alloc(), io::writer(rt)) else {
+        return Err(Failure::Command(CommandError::Memory));
+    };
+    let mut input = Plain::new(rt.reader());
+    let mut out = Plain::new(writer);
+    Ok(run_command(rt.alloc(), command, &mut input, &mut out)?)
 }
 
 /// Tells a refusal on standard error, and gives the status of the answer.

@@ -1,18 +1,19 @@
 //! Running a command over a reader and a writer.
 
-ghost use Rattle.std.specs.Prelude.{◌≡◌, ◌≢◌, ◌↔◌, ◌⊎◌, [], true, false, IfOk, IfErr, IfSome, OnOk, IsErrOf};
-ghost use Rattle.std.specs.Io.KnownBytes.{IsAtEnd};
-ghost use Rattle.std.specs.IoError.{error_kind};
-ghost use Rattle.std.specs.declared.io.ErrorKind.TheVariants.{OutOfMemory};
+ghost use Rattle.std.specs.Prelude.{◌≡◌, ◌≢◌, ◌↔◌, ◌⊎◌, [], true, false, IfOk, IfErr, OnOk, IsErrOf};
+ghost use Rattle.std.specs.Io.KnownBytes.{Consumes, IsAtEnd};
 ghost use Rattle.oidtool.specs.declared.running.CommandError.{CommandError};
 ghost use Rattle.oidtool.specs.Running.{Does, DoesAtMost, Refuses};
 
 use crate::command::Command;
 use crate::finding::{FindError, find, find_change};
 use crate::sink::BufferedSink;
-use std::alloc::Allocator;
-use std::io::{self, Read};
+use crate::source::Source;
+use std::alloc::{AllocError, Allocator};
 use thiserror::Error as ThisError;
+
+// How many bytes are read at once.
+const PIECE_LEN: usize = 65536;
 
 /// Why a command was refused, or did not end.
 #[derive(Debug, Drop, ThisError)]
@@ -23,7 +24,7 @@ pub enum CommandError {
     /// Memory ran out.
     #[error("out of memory")]
     Memory,
-    /// The input could not be read to its end.
+    /// A read of the input answered an error.
     #[error("cannot read")]
     Input,
     /// The writer failed at a write or at the flush.
@@ -45,36 +46,35 @@ impl From<FindError> for CommandError {
     }
 }
 
-impl From<io::Error> for CommandError {
-    ghost use Rattle.oidtool.specs.declared.running.CommandError.TheVariants.{Memory, Input};
+impl From<AllocError> for CommandError {
+    ghost use Rattle.oidtool.specs.declared.running.CommandError.TheVariants.{Memory};
 
-    ghost from_gives = { λ error e. (error_kind error ≡ OutOfMemory → e ≡ Memory) × (error_kind error ≢ OutOfMemory → e ≡ Input) };
+    ghost from_gives = { λ _ e. e ≡ Memory };
 
-    fn from(error: io::Error) -> Self {
-        match error.kind() {
-            io::ErrorKind::OutOfMemory => CommandError::Memory,
-            _ => CommandError::Input,
-        }
+    fn from(_failed: AllocError) -> Self {
+        CommandError::Memory
     }
 }
 
 /// Runs a command over the input, writes what it gives, and flushes the writer. Answers the number
 /// of matches.
 ///
-/// `find` and `find-change` read the input to its end, as a list text. Nothing was written under an
-/// error but `Output`, which comes exactly where the writer failed, at a write or at the flush. The
-/// writer must not have failed before.
-pub fn run_command<A: Allocator + Copy, R: Read, W: BufferedSink>(
+/// `find` and `find-change` read the input to its end, as a list text. `Input` comes exactly where
+/// the input failed, `Output` exactly where the writer did, at a write or at the flush; nothing was
+/// written under another error. Neither must have failed before.
+pub fn run_command<A: Allocator + Copy, R: Source, W: BufferedSink>(
     alloc: A,
     command: Command<'_>,
     input: &mut R,
     out: &mut W,
 ) -> Result<usize, CommandError>
-    requires { W.has_failed out.old ≡ false }
+    requires input { R.has_failed input.old ≡ false }
+    requires output { W.has_failed out.old ≡ false }
     ensures done { IfOk result (Does command.entry (R.remaining input.old) (W.taken out.old) (W.taken out.new)) }
     ensures flushed { OnOk result (W.kept_back out.new ≡ []) }
     ensures refused { IfErr result (Refuses command.entry (R.remaining input.old)) }
     ensures untouched { IfErr result (λ e. e ≢ CommandError.Output → out.new ≡ out.old) }
+    ensures input { IsErrOf result CommandError.Input ↔ (R.has_failed input.new ≡ true) }
     ensures output { IsErrOf result CommandError.Output ↔ (W.has_failed out.new ≡ true) }
     ensures part { IsErrOf result CommandError.Output → DoesAtMost command.entry (R.remaining input.old) (W.taken out.old) (W.taken out.new) }
 {
@@ -86,38 +86,50 @@ pub fn run_command<A: Allocator + Copy, R: Read, W: BufferedSink>(
 }
 
 // As `run_command`, but for the flush.
-fn answer<A: Allocator + Copy, R: Read, W: BufferedSink>(
+fn answer<A: Allocator + Copy, R: Source, W: BufferedSink>(
     alloc: A,
     command: Command<'_>,
     input: &mut R,
     out: &mut W,
 ) -> Result<usize, CommandError>
-    requires { W.has_failed out.old ≡ false }
+    requires input { R.has_failed input.old ≡ false }
+    requires output { W.has_failed out.old ≡ false }
     ensures done { IfOk result (Does command.entry (R.remaining input.old) (W.taken out.old) (W.taken out.new)) }
     ensures refused { IfErr result (Refuses command.entry (R.remaining input.old)) }
     ensures untouched { IfErr result (λ e. e ≢ CommandError.Output → out.new ≡ out.old) }
+    ensures input { IsErrOf result CommandError.Input ↔ (R.has_failed input.new ≡ true) }
     ensures output { IsErrOf result CommandError.Output ↔ (W.has_failed out.new ≡ true) }
     ensures part { IsErrOf result CommandError.Output → DoesAtMost command.entry (R.remaining input.old) (W.taken out.old) (W.taken out.new) }
 {
     match command {
         Command::Find { prefix } => {
-            let list = read_text(alloc, input)?;
+            let list = read_all(alloc, input)?;
             Ok(find(alloc, prefix, &list, out)?)
         }
         Command::FindChange { letters } => {
-            let list = read_text(alloc, input)?;
+            let list = read_all(alloc, input)?;
             Ok(find_change(alloc, letters, &list, out)?)
         }
     }
 }
 
-// All that the reader gives until its end.
-fn read_text<A: Allocator, R: Read>(alloc: A, input: &mut R) -> Result<Vec<u8, A>, CommandError>
-    ensures whole { IfOk result (λ text. IfSome (R.remaining input.old) (λ bytes. text.items ≡ bytes)) }
+// All that the source gives until its end.
+fn read_all<A: Allocator, R: Source>(alloc: A, input: &mut R) -> Result<Vec<u8, A>, CommandError>
+    requires { R.has_failed input.old ≡ false }
+    ensures all { IfOk result (λ text. Consumes (R.remaining input.old) (R.remaining input.new) text.items) }
     ensures end { OnOk result (IsAtEnd (R.remaining input.new)) }
     ensures refused { IfErr result (λ e. (e ≡ CommandError.Memory) ⊎ (e ≡ CommandError.Input)) }
+    ensures input { IsErrOf result CommandError.Input ↔ (R.has_failed input.new ≡ true) }
 {
     let mut text = Vec::new(alloc);
-    input.read_to_end(&mut text)?;
-    Ok(text)
+    let mut piece = [0; PIECE_LEN];
+    'pieces: loop {
+        let Ok(count) = input.read(&mut piece) else {
+            return Err(CommandError::Input);
+        };
+        if count == 0 {
+            return Ok(text);
+        }
+        text.extend_from_slice(&piece[..count])?;
+    }
 }
