@@ -10,14 +10,13 @@ pub mod Prefix
 pub mod PrefixReading
 pub mod PrefixBytes
 pub mod IdReading
-pub mod HexDisplay
+pub mod CutId
 pub mod WellKnown
 pub mod FirstWord
 pub mod ByteLengths
 pub mod Loan
 pub mod LentText
 pub mod Alphabet
-pub mod ReverseHexDisplay
 pub mod Hashing
 pub mod Streams
 pub mod HashingWriter
