@@ -7,3 +7,6 @@ mod Spelled
 mod Rising
 mod Placed
 mod Kept
+mod FirstByteOrder
+mod FirstByteCounts
+mod Indexes

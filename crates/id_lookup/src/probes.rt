@@ -1,7 +1,8 @@
 //! The counted answers of a sorted list to a prefix.
 
-ghost use Rattle.std.specs.Prelude.{◌≡◌, ◌↔◌, ◌+◌, ◌<◌, ◌≤◌, ◌^◌, IsTrue, length};
+ghost use Rattle.std.specs.Prelude.{◌≡◌, ◌↔◌, ◌+◌, ◌<◌, ◌≤◌, ◌^◌, IsTrue, length, map};
 ghost use Rattle.std.specs.List.{HoldsAt};
+ghost use Rattle.gix_hash.specs.ObjectId.{id_digits};
 ghost use Rattle.gix_hash.specs.Prefix.{place};
 ghost use Rattle.id_lookup.specs.Sorted.{least_hex_len};
 ghost use Rattle.id_lookup.specs.Probing.{CanProbe};
@@ -43,8 +44,17 @@ impl<'a> Probes<'a> {
         requires { length prefix.digits ≤ least_hex_len ids.now }
         ensures { result ≡ record { ids = ids.now; prefix = prefix; asked = 0 } }
     {
+        Probes::over(ids.members(), prefix)
+    }
+
+    // Probes of a list that is known to be sorted, and to have no member with fewer digits than the
+    // prefix.
+    pub(crate) fn over(ids: &'a [ObjectId], prefix: Prefix) -> Self
+        requires { CanProbe prefix (map id_digits ids.now) }
+        ensures { result ≡ record { ids = map id_digits ids.now; prefix = prefix; asked = 0 } }
+    {
         Probes {
-            ids: ids.members(),
+            ids,
             prefix,
             asked: 0,
         }
@@ -65,9 +75,10 @@ impl<'a> Probes<'a> {
         self.ids.is_empty()
     }
 
-    /// The prefix.
+    /// The prefix. It has at most as many digits as each member.
     pub fn prefix(&self) -> Prefix
-        ensures { result ≡ self.now.prefix }
+        ensures value { result ≡ self.now.prefix }
+        ensures can_probe { CanProbe self.now.prefix self.now.ids }
     {
         self.prefix
     }

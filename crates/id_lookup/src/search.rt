@@ -1,6 +1,6 @@
 //! The run of a prefix in a sorted list, by two binary searches.
 
-ghost use Rattle.std.specs.Prelude.{◌≡◌, ◌↔◌, ℕ, ◌+◌, ◌-◌, ◌*◌, ◌^◌, ◌<◌, ◌≤◌, IsTrue, length};
+ghost use Rattle.std.specs.Prelude.{◌≡◌, ◌↔◌, ℕ, ◌+◌, ◌-◌, ◌*◌, ◌^◌, ◌<◌, ◌≤◌, IsTrue, count_by, length};
 ghost use Rattle.id_lookup.specs.Bits.{bits};
 ghost use Rattle.id_lookup.specs.Probing.{CanProbe};
 ghost use Rattle.gix_hash.specs.Digits.{hex_letter, spelling};
@@ -10,7 +10,10 @@ ghost use Rattle.gix_hash.specs.Prefix.{BeginsWith, place};
 ghost use Rattle.id_lookup.specs.Runs.{begins_with};
 ghost use Rattle.id_lookup.specs.FoundRun.{IsRun};
 ghost use Rattle.id_lookup.specs.Bounds.{stands_before, bound_of};
+ghost use Rattle.id_lookup.specs.Candidates.{AreCandidates};
+ghost use Rattle.id_lookup.specs.FirstBytes.{IsFanOut, shares_first_byte};
 
+use crate::fan_out::FanOut;
 use crate::probes::Probes;
 use gix_hash::{ObjectId, Prefix};
 use std::cmp::Ordering;
@@ -65,8 +68,73 @@ pub fn lookup(probes: &mut Probes<'_>) -> Run
     ensures same { probes.new ≡ record probes.old { asked = probes.new.asked } }
 {
     let len = probes.len();
-    let start = find_bound(probes, Bound::Start, 0, len);
-    let end = find_bound(probes, Bound::End, start, len);
+    find_run(probes, Run { start: 0, end: len })
+}
+
+/// As [`lookup`], among the members that have the prefix's first byte alone.
+///
+/// It asks at most twice as often as the number of those has binary digits, and never for a prefix
+/// of fewer than two digits. Nothing may have been asked before, and the fan-out is that of the
+/// probes' list, as it is where both come from one [`IdIndex`](crate::IdIndex).
+pub fn lookup_in(fan_out: &FanOut, probes: &mut Probes<'_>) -> Run
+    requires fresh { probes.old.asked ≡ 0 }
+    requires fan_out { IsFanOut fan_out.now probes.old.ids }
+    ensures list { CanProbe probes.old.prefix probes.old.ids }
+    ensures run { IsRun probes.old.prefix probes.old.ids result }
+    ensures asked { probes.new.asked ≤ 2 * bits (count_by (shares_first_byte probes.old.prefix) probes.old.ids) }
+    ensures never { length probes.old.prefix.digits < 2 → probes.new.asked ≡ 0 }
+    ensures same { probes.new ≡ record probes.old { asked = probes.new.asked } }
+{
+    let part = candidates(fan_out, probes);
+    if probes.prefix().hex_len() < 2 {
+        return part;
+    }
+    find_run(probes, part)
+}
+
+// The members that have the digits of the prefix, as far as it has them, in their first byte.
+fn candidates(fan_out: &FanOut, probes: &Probes<'_>) -> Run
+    requires { IsFanOut fan_out.now probes.now.ids }
+    ensures part { AreCandidates probes.now.prefix probes.now.ids result }
+    ensures can_probe { CanProbe probes.now.prefix probes.now.ids }
+{
+    let prefix = probes.prefix();
+    let first = prefix.as_oid().first_byte();
+    let last = last_byte(first, prefix.hex_len());
+    Run {
+        start: fan_out.below(first),
+        end: fan_out.up_to(last),
+    }
+}
+
+// The last byte that begins with so many digits of a byte whose other digits are zero.
+fn last_byte(first: u8, hex_len: usize) -> u8
+    requires none { hex_len ≡ 0 → first ≡ 0 }
+    requires one { hex_len ≡ 1 → first ≤ 240 }
+    ensures none { hex_len ≡ 0 → result ≡ 255 }
+    ensures one { hex_len ≡ 1 → result ≡ first + 15 }
+    ensures more { 2 ≤ hex_len → result ≡ first }
+{
+    match hex_len {
+        0 => 255,
+        1 => first + 15,
+        _ => first,
+    }
+}
+
+// The run of the prefix, by a search for each of its bounds in a part of the list that has both.
+fn find_run(probes: &mut Probes<'_>, part: Run) -> Run
+    requires can_probe { CanProbe probes.old.prefix probes.old.ids }
+    requires fresh { probes.old.asked ≡ 0 }
+    requires above { part.start ≤ bound_of Bound.Start probes.old.prefix probes.old.ids }
+    requires below { bound_of Bound.End probes.old.prefix probes.old.ids ≤ part.end }
+    requires in_range { part.end ≤ length probes.old.ids }
+    ensures run { IsRun probes.old.prefix probes.old.ids result }
+    ensures asked { probes.new.asked ≤ 2 * bits (part.end - part.start) }
+    ensures same { probes.new ≡ record probes.old { asked = probes.new.asked } }
+{
+    let start = find_bound(probes, Bound::Start, part.start, part.end);
+    let end = find_bound(probes, Bound::End, start, part.end);
     Run { start, end }
 }
 

@@ -6,6 +6,8 @@ use std::cmp::Ordering;
 use std::process::Abort;
 use std::test::Fail;
 
+mod index;
+
 // The ids of the empty blob and of the empty tree, by SHA-1 and by SHA-256.
 const BLOB: &str = "e69de29bb2d1d6434b8b29ae775ad8c2e48c5391";
 
