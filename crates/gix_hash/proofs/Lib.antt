@@ -1,14 +1,16 @@
-pub mod Alphabets
-pub mod HexReading
-pub mod IdFacts
-pub mod KindFacts
-pub mod LaneHalves
-pub mod LaneLetters
-pub mod LanePlaces
-pub mod LawLemmas
-pub mod Packing
-pub mod PaddedOrder
-pub mod PaddedReading
-pub mod Places
-pub mod ReadingFacts
-pub mod Spellings
+mod Alphabets
+mod HexReading
+mod IdFacts
+mod KindFacts
+mod LaneHalves
+mod LaneLetters
+mod LanePlaces
+mod Packing
+mod PaddedOrder
+mod PaddedReading
+mod PlaceLaws
+mod Places
+mod ReadingFacts
+mod ReadingLaws
+mod SpellingLaws
+mod Spellings

@@ -10,7 +10,7 @@ use crate::lanes::put_letters;
 
 /// An alphabet of sixteen letters.
 #[derive(Clone, Copy)]
-pub(crate) enum Alphabet {
+pub enum Alphabet {
     /// `0` to `9` and `a` to `f`.
     Hex,
     /// `z` down to `k`, by which Jujutsu tells change ids from other ids.
