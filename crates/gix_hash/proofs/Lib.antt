@@ -1,22 +1,24 @@
-pub mod Alphabets
-pub mod FirstWords
-pub mod Chunks
-pub mod HexReading
-pub mod IdFacts
-pub mod KindFacts
-pub mod LaneHalves
-pub mod LaneLetters
-pub mod LanePacking
-pub mod LanePlaces
-pub mod LaneReading
-pub mod LaneValues
-pub mod LawLemmas
-pub mod Made
-pub mod Packing
-pub mod PaddedOrder
-pub mod PaddedReading
-pub mod Places
-pub mod Reaching
-pub mod ReadingFacts
-pub mod Spellings
-pub mod BufferEnds
+mod Alphabets
+mod BufferEnds
+mod Chunks
+mod FirstWords
+mod HexReading
+mod IdFacts
+mod KindFacts
+mod LaneHalves
+mod LaneLetters
+mod LanePacking
+mod LanePlaces
+mod LaneReading
+mod LaneValues
+mod Made
+mod Packing
+mod PaddedOrder
+mod PaddedReading
+mod PlaceLaws
+mod Places
+mod Reaching
+mod ReadingFacts
+mod ReadingLaws
+mod SpellingLaws
+mod Spellings

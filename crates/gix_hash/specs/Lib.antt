@@ -9,6 +9,7 @@ pub mod ObjectId
 pub mod Prefix
 pub mod PrefixReading
 pub mod PrefixBytes
+pub mod Equalities
 pub mod IdReading
 pub mod CutId
 pub mod WellKnown

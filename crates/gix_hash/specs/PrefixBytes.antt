@@ -6,7 +6,7 @@ use Rattle.std.specs.Cmp.Lexicographic.{pointwise, bytes_decides}
 use Rattle.std.proofs.lemmas.Bool.{and_parts}
 use Rattle.std.proofs.lemmas.List.{length-replicate, length-take-le}
 use Rattle.gix_hash.specs.Digits.{digits_of}
-use Rattle.gix_hash.specs.Kind.{hex_len_of, number_of}
+use Rattle.gix_hash.specs.Kind.{hex_len_of, number_of, kind_by_number}
 use Rattle.gix_hash.specs.ObjectId.{id_kind, id_bytes, id_digits}
 use Rattle.gix_hash.specs.Prefix.{Beginning, padded, prefix_eq}
 use Rattle.gix_hash.specs.declared.kind.Kind.{Kind}
@@ -65,13 +65,6 @@ length-shown id n h =
     length-take-le n (id_digits id)
     (omega (arith, h.within, length-padded (hex_len_of (id_kind id)) (take n (id_digits id)), ap length h.zeros))
 
--- a kind is told by its number
-kind_from_number : (a b : Kind) → number_of a ≡ number_of b → a ≡ b
-kind_from_number kinds.Sha1 kinds.Sha1 h = refl
-kind_from_number kinds.Sha1 kinds.Sha256 h = absurd (omega arith)
-kind_from_number kinds.Sha256 kinds.Sha1 h = absurd (omega arith)
-kind_from_number kinds.Sha256 kinds.Sha256 h = refl
-
 -- what a prefix feeds to a hash: its bytes in one write, and then the number of digits
 abbrev pub prefix_hash_input : Beginning → List (List ℕ)
 prefix_hash_input prefix = packed (padded (hex_len_of prefix.kind) prefix.digits) ∷ fed.usize (length prefix.digits)
@@ -82,6 +75,6 @@ pub same_hash_input : (a b : Beginning)
     → prefix_hash_input a ≡ prefix_hash_input b
 same_hash_input a b h =
     let parts = and_parts (nat_eq (number_of a.kind) (number_of b.kind)) (pointwise nat_eq a.digits b.digits) h in
-    let kind = kind_from_number a.kind b.kind (eqb-true (number_of a.kind) (number_of b.kind) parts.0) in
+    let kind = kind_by_number a.kind b.kind (eqb-true (number_of a.kind) (number_of b.kind) parts.0) in
     let digits = (bytes_decides a.digits b.digits).0 parts.1 in
     λ i. packed (padded (hex_len_of (kind i)) (digits i)) ∷ fed.usize (length (digits i))
