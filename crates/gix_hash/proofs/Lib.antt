@@ -1,3 +1,4 @@
+pub mod Accepted
 pub mod Alphabets
 pub mod Chunks
 pub mod HexReading
@@ -8,6 +9,7 @@ pub mod LaneLetters
 pub mod LanePlaces
 pub mod LawLemmas
 pub mod Made
+pub mod OnlyChunks
 pub mod Packing
 pub mod PaddedOrder
 pub mod PaddedReading
