@@ -22,14 +22,14 @@ pub chunks_end : (n j : ℕ) → n ≤ 65535 * j → length (chunks n) ≤ j
 chunks_end n j none = rw length-chunks (omega arith)
 
 chunk_at : (q r j : ℕ) → j < q + min r 1 → r < 65535
-  → get_or (replicate q 65535 ++ last_chunk r) j 0 ≡ min (65535 * q + r - 65535 * j) 65535
+    → get_or (replicate q 65535 ++ last_chunk r) j 0 ≡ min (65535 * q + r - 65535 * j) 65535
 unfolding last_chunk
 chunk_at q zero j there small = grind (arith, common_steps)
 chunk_at q (suc r) j there small = grind (arith, common_steps)
 
 -- the chunk behind the first j is what is left, or 65535 bytes of it
 pub take-chunks : (n j : ℕ) → 65535 * j < n
-  → take (j + 1) (chunks n) ≡ take j (chunks n) ++ min (n - 65535 * j) 65535 ∷ []
+    → take (j + 1) (chunks n) ≡ take j (chunks n) ++ min (n - 65535 * j) 65535 ∷ []
 unfolding chunks
 take-chunks n j left =
     let whole : 65535 * (n / 65535) + n % 65535 ≡ n = omega arith in

@@ -1,3 +1,4 @@
+mod Accepted
 mod Alphabets
 mod BufferEnds
 mod Chunks
@@ -12,6 +13,7 @@ mod LanePlaces
 mod LaneReading
 mod LaneValues
 mod Made
+mod OnlyChunks
 mod Packing
 mod PaddedOrder
 mod PaddedReading

@@ -9,6 +9,6 @@ ok-kept (Err e) s x same was known = cc
 
 -- what the new error was made from
 pub err-made : {T E D : Type 0} (Q : E → D → Type 0) (r : Result T E) (s : Result T D) (e : D)
-  → MatchResult r (λ x. s ≡ Ok x) (λ cause. IsErrAnd s (Q cause)) → s ≡ Err e → (cause : E) × Q cause e
+    → MatchResult r (λ x. s ≡ Ok x) (λ cause. IsErrAnd s (Q cause)) → s ≡ Err e → (cause : E) × Q cause e
 err-made Q (Ok y) s e made was = cc
 err-made Q (Err cause) s e made was = (cause, rw was at made)

@@ -1,5 +1,6 @@
 -- What reading bytes for their digest tells, asks and takes, and where it stops.
-use Rattle.std.specs.Prelude.{◌≡◌, ◌⊎◌, ℕ, zero, suc, ◌+◌, ◌*◌, ◌/◌, ◌%◌, ◌<◌, Bool, true, false, min, Option, Some, List, [], ◌∷◌, ◌++◌, length, take, map, replicate}
+use Rattle.std.specs.Prelude.{◌≡◌, ◌⊎◌, ℕ, zero, suc, ◌+◌, ◌-◌, ◌*◌, ◌/◌, ◌%◌, ◌<◌, ◌≤◌, Bool, true, false, min, Option, Some, List, [], ◌∷◌, ◌++◌, length, take, map, replicate}
+use Rattle.std.specs.List.{All, FoldsTo, sum}
 use Rattle.std.specs.Io.KnownBytes.{Consumes}
 use Rattle.std.specs.declared.io.Error.{Error as IoError}
 use Rattle.gix_hash.specs.declared.io.error.Error.{Error}
@@ -13,8 +14,7 @@ pub data ProgressCall : Type 0 where
 
 -- the value v reaches w by these calls in turn, each of which relates the value before it to the one after
 unfoldable pub Reaches : {V C : Type 0} → (V → C → V → Type 0) → V → List C → V → Type 0
-Reaches {V} step v [] w = w ≡ v
-Reaches {V} step v (call ∷ calls) w = (u : V) × step v call u × Reaches step u calls w
+Reaches step v calls w = FoldsTo step v calls w
 
 -- the chunk of what full chunks leave, if they leave anything
 unfoldable pub last_chunk : ℕ → List ℕ
@@ -24,6 +24,16 @@ last_chunk (suc r) = suc r ∷ []
 -- the lengths of the chunks in which n bytes are read: full ones, and then what they leave
 unfoldable pub chunks : ℕ → List ℕ
 chunks n = replicate (n / 65535) 65535 ++ last_chunk (n % 65535)
+
+-- the length of a chunk
+abbrev pub IsChunkLen : ℕ → Type 0
+IsChunkLen len = (0 < len) × (len ≤ 65535)
+
+-- the numbers are chunks of n: their sum is n, all but the last are 65535, and each is 1 to 65535
+pub record AreChunks (n : ℕ) (lens : List ℕ) : Type 0 where
+  pub all : sum lens ≡ n
+  pub full : All (λ len. len ≡ 65535) (take (length lens - 1) lens)
+  pub sizes : All IsChunkLen lens
 
 -- what a progress hears until j chunks of n bytes were read
 abbrev pub heard : ℕ → ℕ → List ProgressCall

@@ -15,6 +15,8 @@ mod display;
 mod error;
 /// Computing ids from bytes.
 pub mod hashing;
+/// Laws of hashing that no single call carries.
+pub mod hashing_laws;
 mod hex_digits;
 /// Digests of streams and files.
 pub mod io;

@@ -1,10 +1,10 @@
 //! A writer that hashes what passes through it.
 
-ghost use Rattle.std.specs.Prelude.{◌≡◌, [], take, IfOk, OnErr};
+ghost use Rattle.std.specs.Prelude.{◌≡◌, [], OnErr};
 ghost use Rattle.std.specs.Io.{WritesAtMost};
 ghost use Rattle.std.specs.Io.KnownBytes.{Keeps, WriteAppends};
 ghost use Rattle.gix_hash.specs.Hashing.{hasher_kind, StandsFor};
-ghost use Rattle.gix_hash.specs.HashingWriter.{Takes};
+ghost use Rattle.gix_hash.specs.HashingWriter.{Passes, Wrote, Flushed};
 
 use crate::hashing::start::hasher;
 use crate::hashing::state::Hasher;
@@ -42,7 +42,7 @@ impl<T: io::Write> Write<T> {
     /// answer is `Ok(w)`. An error leaves the hasher as it was.
     pub fn write(&mut self, buf: &[u8]) -> io::Result<usize>
         ensures bound { WritesAtMost result buf.now }
-        ensures takes { IfOk result (λ count. Takes T.contents self.old (take count buf.now) self.new) }
+        ensures passes { Passes T.contents self.old (Wrote buf.now result) self.new }
         ensures err { OnErr result ((self.new.hash ≡ self.old.hash) × Keeps (T.contents self.old.inner) (T.contents self.new.inner)) }
     {
         let written = self.inner.write(buf)?;
@@ -52,6 +52,7 @@ impl<T: io::Write> Write<T> {
 
     /// Flushes the inner writer, and answers what that answers. The hasher stays as it was.
     pub fn flush(&mut self) -> io::Result<()>
+        ensures passes { Passes T.contents self.old Flushed self.new }
         ensures hash { self.new.hash ≡ self.old.hash }
         ensures bytes { Keeps (T.contents self.old.inner) (T.contents self.new.inner) }
     {
@@ -66,7 +67,7 @@ impl<T: io::Write> io::Write for Write<T> {
     fn write(&mut self, buf: &[u8]) -> io::Result<usize>
         ensures bound { WritesAtMost result buf.now }
         ensures bytes { WriteAppends (T.contents self.old.inner) (T.contents self.new.inner) result buf.now }
-        ensures takes { IfOk result (λ count. Takes T.contents self.old (take count buf.now) self.new) }
+        ensures passes { Passes T.contents self.old (Wrote buf.now result) self.new }
         ensures err { OnErr result ((self.new.hash ≡ self.old.hash) × Keeps (T.contents self.old.inner) (T.contents self.new.inner)) }
     {
         self.write(buf)
@@ -74,6 +75,7 @@ impl<T: io::Write> io::Write for Write<T> {
 
     fn flush(&mut self) -> io::Result<()>
         ensures bytes { Keeps (T.contents self.old.inner) (T.contents self.new.inner) }
+        ensures passes { Passes T.contents self.old Flushed self.new }
         ensures hash { self.new.hash ≡ self.old.hash }
     {
         self.flush()

@@ -12,7 +12,7 @@ invariant-loop-left g l = (j : ℕ) × (bytes : List ℕ) × record {
   asked : Reaches g.I.Interrupt.answers l.fn.should_interrupt (refused j) l.should_interrupt;
   read : GivesNext (g.R.Read.remaining l.fn.read) (g.R.Read.remaining l.read) (l.num_bytes_from_start - l.left) bytes;
   kind : hasher_kind l.hasher ≡ hasher_kind l.fn.hasher;
-  fed : (message : List ℕ) → StandsFor l.fn.hasher message → StandsFor l.hasher (message ++ bytes)
+  fed : (message : List ℕ) → StandsFor l.fn.hasher message → StandsFor l.hasher (message ++ bytes);
 }
 
 abbrev pub decreases-loop-left : goal.decreases-loop-left

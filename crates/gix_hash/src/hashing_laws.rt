@@ -1,0 +1,49 @@
+//! Laws of hashing that no single call carries. Each is the contract of a function, and those that
+//! return nothing compute nothing.
+
+ghost use Rattle.std.specs.Prelude.{◌≡◌, ◌↔◌, ℕ, Bool, List, [], map, length};
+ghost use Rattle.std.specs.List.{concat};
+ghost use Rattle.gix_hash.specs.Hashing.{digest, StandsFor};
+ghost use Rattle.gix_hash.specs.HashingWriter.{Takes, WriterCall, Passes, accepted};
+ghost use Rattle.gix_hash.specs.Streams.{Reaches, AreChunks, chunks, refused};
+
+use crate::hashing;
+use crate::hashing::start::hasher;
+use crate::io::{Interrupt, Never, Write};
+use crate::kind::Kind;
+use crate::object_id::ObjectId;
+use std::io;
+
+/// The id of pieces that are fed one after another: it is the id of their concatenation, however
+/// the message is cut.
+pub fn id_of_pieces(kind: Kind, pieces: &[&[u8]]) -> Result<ObjectId, hashing::Error>
+    ensures { result ≡ Ok (digest kind (concat (map (λ piece. piece.now) pieces.now))) }
+{
+    let mut hasher = hasher(kind);
+    for piece in pieces {
+        hasher.update(piece);
+    }
+    hasher.try_finalize()
+}
+
+/// The chunks in which so many bytes are read are the only numbers with that sum of which all but
+/// the last are 65535, and the last is 1 to 65535. At 0 there are none.
+pub fn only_chunks(num_bytes: u64)
+    ensures { (lens : List ℕ) → (lens ≡ chunks num_bytes) ↔ AreChunks num_bytes lens }
+{}
+
+/// Whatever calls take a hashing writer from `before` to `after`, with whatever answers: the hasher
+/// was fed, and the inner writer gained, just what the calls accepted. So a fresh writer whose
+/// fields nobody touches stands for what its inner writer accepted.
+pub fn stands_for_what_was_accepted<T: io::Write>(before: &Write<T>, after: &Write<T>)
+    ensures together { (calls : List WriterCall) → Reaches (Passes T.contents) before.now calls after.now
+        → Takes T.contents before.now (accepted calls) after.now }
+    ensures fresh { (calls : List WriterCall) → Reaches (Passes T.contents) before.now calls after.now
+        → StandsFor before.now.hash [] → StandsFor after.now.hash (accepted calls) }
+{}
+
+/// However often [`Never`] is asked, each answer is false.
+pub fn never_interrupts(before: &Never, after: &Never)
+    ensures { (answers : List Bool) → Reaches ⟦<Never as Interrupt>⟧.answers before.now answers after.now
+        → answers ≡ refused (length answers) }
+{}
