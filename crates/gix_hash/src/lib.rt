@@ -23,6 +23,7 @@ mod object_id;
 pub mod prefix;
 /// Comparing a computed id with the one that was expected.
 pub mod verify;
+mod words;
 
 pub use borrowed::oid;
 pub use change_id::ChangeId;
