@@ -25,6 +25,7 @@ pub mod prefix;
 pub mod verify;
 mod words;
 
+pub use alphabet::Alphabet;
 pub use borrowed::oid;
 pub use change_id::ChangeId;
 pub use display::HexDisplay;
