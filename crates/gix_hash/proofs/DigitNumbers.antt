@@ -96,7 +96,7 @@ word-zeros (suc n) zero = word-nil (suc n)
 word-zeros (suc n) (suc m) = rw (word-cons n 0 (replicate m 0), word-zeros n m) (omega arith)
 
 -- zeros behind the digits do not count
-word-padded : (n m : ℕ) (ds : List ℕ) → word n (ds ++ replicate m 0) ≡ word n ds
+pub word-padded : (n m : ℕ) (ds : List ℕ) → word n (ds ++ replicate m 0) ≡ word n ds
 word-padded n m [] = word-zeros n m ∙ sym (word-nil n)
 word-padded zero m (d ∷ ds) = word-zero (d ∷ (ds ++ replicate m 0)) ∙ sym (word-zero (d ∷ ds))
 word-padded (suc n) m (d ∷ ds) = rw (word-cons n d (ds ++ replicate m 0), word-cons n d ds, word-padded n m ds) refl

@@ -125,7 +125,7 @@ pub full_read-is : (letter : ℕ → ℕ) → IsAlphabet letter → (text : List
     → (full_read letter text ≡ Ok b) ↔ IsFullReading letter text b
 full_read-is letter a text b = (
   λ h. let parts = answered _ _ _ _ b h in
-      record { kind = full_len (length text) b.kind parts.0; reads = ReadsAs-digits_read letter text b.digits parts.1 },
+    record { kind = full_len (length text) b.kind parts.0; reads = ReadsAs-digits_read letter text b.digits parts.1 },
   λ h. rw (h.kind, full b.kind, digits_read-ReadsAs letter a text b.digits h.reads) refl,
 )
 
@@ -138,7 +138,7 @@ prefix_read-is letter a least text b = by_test (nat_lt (length text) least) refl
     by_test true e = (λ h. cc (rw e at h), λ h. absurd (omega (arith, h.long_enough, ltb-true)))
     by_test false e = (
       λ h. let parts = answered _ _ _ _ b (rw e at h) in
-          record { long_enough = grind (arith, nat_tests); kind = parts.0; reads = ReadsAs-digits_read letter text b.digits parts.1 },
+        record { long_enough = grind (arith, nat_tests); kind = parts.0; reads = ReadsAs-digits_read letter text b.digits parts.1 },
       λ h. rw (e, h.kind, digits_read-ReadsAs letter a text b.digits h.reads) refl,
     )
 

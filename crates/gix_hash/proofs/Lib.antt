@@ -2,6 +2,7 @@ pub mod Alphabets
 pub mod DigitNumbers
 pub mod HexReading
 pub mod IdFacts
+pub mod KeptDigits
 pub mod KindFacts
 pub mod LaneHalves
 pub mod LaneLetters
@@ -9,7 +10,6 @@ pub mod LanePlaces
 pub mod LawLemmas
 pub mod Masks
 pub mod Packing
-pub mod PaddedOrder
 pub mod PaddedReading
 pub mod Places
 pub mod ReadingFacts

@@ -5,7 +5,7 @@ ghost use Rattle.std.specs.Io.KnownBytes.{Appends};
 ghost use Rattle.std.specs.declared.cmp.Ordering.{Ordering};
 ghost use Rattle.gix_hash.specs.Digits.{digits_of, hex_letter, reverse_letter, spelling};
 ghost use Rattle.gix_hash.specs.Kind.{hex_len_of, byte_len_of};
-ghost use Rattle.gix_hash.specs.ObjectId.{id_kind, id_bytes, id_digits};
+ghost use Rattle.gix_hash.specs.ObjectId.{id_kind, id_digits};
 ghost use Rattle.gix_hash.specs.Prefix.{place, padded};
 ghost use Rattle.gix_hash.specs.PrefixReading.{prefix_read};
 
@@ -15,6 +15,7 @@ use crate::change_id::ReverseHexDisplay;
 use crate::hex_digits::ascii_text;
 use crate::kind::Kind;
 use crate::object_id::ObjectId;
+use crate::words::Words;
 use std::cmp::Ordering;
 use std::hash::{Hash, Hasher};
 use std::marker::Model;
@@ -67,11 +68,13 @@ impl error::Error for Error {}
 
 /// A beginning of an id: a kind, and 0 to 40 or 0 to 64 digits.
 ///
-/// It keeps the bytes of its digits with zeros behind them, as many as the kind's digest has.
+/// It keeps the bytes of its digits with zeros behind them, as many as the kind's digest has, and
+/// beside them the digits as two numbers, which compare by a few instructions.
 #[derive(Clone, Copy)]
 pub struct Prefix {
     bytes: ObjectId,
     hex_len: usize,
+    words: Words,
 }
 
 impl Model for Prefix {
@@ -79,17 +82,15 @@ impl Model for Prefix {
 
     ghost Value = { Beginning };
 
-    ghost use Rattle.std.specs.Prelude.{take, length};
-    ghost use Rattle.gix_hash.specs.ObjectId.{id_kind, id_digits};
-    ghost use Rattle.gix_hash.specs.PrefixBytes.{IsPacked, padded_id, given_back, length-shown};
+    ghost use Rattle.gix_hash.specs.PrefixBytes.{IsPacked, kept, seen, kept-seen};
 
-    ghost view = { λ p. record { kind = id_kind p.bytes; digits = take p.hex_len (id_digits p.bytes) } };
+    ghost view = { seen };
 
-    ghost invariant = { λ p. IsPacked p.bytes p.hex_len };
+    ghost invariant = { IsPacked };
 
-    ghost inverse = { λ b. record { bytes = padded_id b.kind b.digits; hex_len = length b.digits } };
+    ghost inverse = { kept };
 
-    ghost inverse_ok = { λ p h i. record { bytes = given_back p.bytes p.hex_len h i; hex_len = length-shown p.bytes p.hex_len h i } };
+    ghost inverse_ok = { kept-seen };
 }
 
 impl Prefix {
@@ -167,8 +168,18 @@ impl Prefix {
         requires digits { hex_len ≤ 2 * length front.now }
         ensures { result ≡ record { kind = kind; digits = take hex_len (digits_of front.now) } }
     {
+        Prefix::padded(padded_bytes(kind, front, hex_len), hex_len)
+    }
+
+    // The prefix of the first digits of an id that has zeros behind them.
+    fn padded(bytes: ObjectId, hex_len: usize) -> Prefix
+        requires within { hex_len ≤ hex_len_of (id_kind bytes) }
+        requires zeros { id_digits bytes ≡ padded (hex_len_of (id_kind bytes)) (take hex_len (id_digits bytes)) }
+        ensures { result ≡ record { kind = id_kind bytes; digits = take hex_len (id_digits bytes) } }
+    {
         Prefix {
-            bytes: padded_bytes(kind, front, hex_len),
+            words: Words::of(bytes.as_oid()),
+            bytes,
             hex_len,
         }
     }
@@ -249,15 +260,7 @@ impl Prefix {
         requires { length self.now.digits ≤ hex_len_of (oid_kind candidate) }
         ensures { result ≡ place self.now.digits (oid_digits candidate.entry) }
     {
-        let whole = self.hex_len / 2;
-        let own = self.bytes.as_slice();
-        let theirs = candidate.as_bytes();
-        let order = own[..whole].cmp(&theirs[..whole]);
-        if self.hex_len % 2 == 0 {
-            order
-        } else {
-            order.then((own[whole] >> 4).cmp(&(theirs[whole] >> 4)))
-        }
+        self.words.place(self.hex_len, candidate)
     }
 }
 
@@ -318,7 +321,7 @@ impl Ord for Prefix {
     ghost matches_eq = { Prim.search (comparing, rules) };
 
     fn cmp(&self, other: &Self) -> Ordering {
-        let digits = self.bytes.as_slice().cmp(other.bytes.as_slice());
+        let digits = self.words.cmp(&other.words);
         let kind = self.bytes.kind().cmp(&other.bytes.kind());
         kind.then(digits).then(self.hex_len.cmp(&other.hex_len))
     }
@@ -362,10 +365,7 @@ impl From<ObjectId> for Prefix {
     ghost from_gives = { λ id prefix. prefix ≡ record { kind = id_kind id; digits = id_digits id } };
 
     fn from(id: ObjectId) -> Prefix {
-        Prefix {
-            hex_len: 2 * id.as_slice().len(),
-            bytes: id,
-        }
+        Prefix::padded(id, id.kind().len_in_hex())
     }
 }
 
@@ -390,7 +390,6 @@ fn padded_bytes(kind: Kind, front: &[u8], hex_len: usize) -> ObjectId
     requires digits { hex_len ≤ 2 * length front.now }
     ensures kind { id_kind result ≡ kind }
     ensures digits { id_digits result ≡ padded (hex_len_of kind) (take hex_len (digits_of front.now)) }
-    ensures fits { All (λ b. b < 256) (id_bytes result) }
 {
     match kind {
         Kind::Sha1 => {
@@ -412,8 +411,7 @@ fn copy_digits(front: &[u8], hex_len: usize, zeros: &mut [u8])
     requires zeros { zeros.old ≡ replicate (length zeros.old) 0 }
     requires room { length front.now ≤ length zeros.old }
     requires digits { hex_len ≤ 2 * length front.now }
-    ensures digits { digits_of zeros.new ≡ padded (2 * length zeros.old) (take hex_len (digits_of front.now)) }
-    ensures fits { All (λ b. b < 256) zeros.new }
+    ensures { digits_of zeros.new ≡ padded (2 * length zeros.old) (take hex_len (digits_of front.now)) }
 {
     let whole = hex_len / 2;
     zeros[..whole].copy_from_slice(&front[..whole]);
