@@ -14,7 +14,7 @@ ghost use Rattle.gix_hash.specs.Prefix.{Beginning, place};
 ghost use Rattle.gix_hash.specs.PrefixReading.{prefix_read};
 
 use gix_hash::prefix::from_hex;
-use gix_hash::{ObjectId, Prefix, decode, laws, oid};
+use gix_hash::{Alphabet, ObjectId, Prefix, decode, laws, oid};
 
 /// Whether `text` is a prefix of at least 4 digits that the id begins with.
 pub fn is_named(text: &str, id: oid<'_>) -> bool
@@ -56,7 +56,7 @@ pub fn read_again(id: &ObjectId, text: &[u8]) -> Result<ObjectId, decode::Error>
 pub fn is_id(text: &[u8]) -> bool
     ensures { IsTrue result ↔ ((id : Beginning) × IsFullReading hex_letter text.now id) }
 {
-    laws::full_readings(text);
+    laws::full_readings(Alphabet::Hex, text);
     ObjectId::from_hex(text).is_ok()
 }
 
@@ -65,7 +65,7 @@ pub fn read_id(text: &[u8]) -> Result<ObjectId, decode::Error>
     ensures length { IfOk result (λ id. length text.now ≡ hex_len_of (id_kind id)) }
     ensures reads { IfOk result (λ id. ReadsAs hex_letter text.now (id_digits id)) }
 {
-    laws::full_readings(text);
+    laws::full_readings(Alphabet::Hex, text);
     ObjectId::from_hex(text)
 }
 
@@ -84,7 +84,7 @@ pub fn read_id_by_arms(text: &[u8]) -> Result<ObjectId, decode::Error>
     ensures length { IfOk result (λ id. length text.now ≡ hex_len_of (id_kind id)) }
     ensures reads { IfOk result (λ id. ReadsAs hex_letter text.now (id_digits id)) }
 {
-    laws::full_readings(text);
+    laws::full_readings(Alphabet::Hex, text);
     match ObjectId::from_hex(text) {
         Ok(id) => Ok(id),
         Err(error) => Err(error),
@@ -95,7 +95,7 @@ pub fn read_id_by_arms(text: &[u8]) -> Result<ObjectId, decode::Error>
 pub fn is_id_by_arms(text: &[u8]) -> bool
     ensures { IsTrue result ↔ ((id : Beginning) × IsFullReading hex_letter text.now id) }
 {
-    laws::full_readings(text);
+    laws::full_readings(Alphabet::Hex, text);
     match ObjectId::from_hex(text) {
         Ok(_) => true,
         Err(_) => false,

@@ -1,10 +1,12 @@
 -- What the bytes of an id tell of its digits.
-use Rattle.std.proofs.Common.{◌≡◌, ℕ, ◌<◌, List, length, ap, subst, arith}
+use Rattle.std.proofs.Common.{◌≡◌, ℕ, ◌<◌, List, length, sym, ap, ◌∙◌, subst, arith}
 use Rattle.std.specs.Prelude.{All}
 use Rattle.gix_hash.specs.Kind.{hex_len_of, byte_len_of}
 use Rattle.gix_hash.specs.ObjectId.{id_kind, id_bytes, id_digits}
+use Rattle.gix_hash.specs.Oid.{oid_kind, oid_bytes, oid_digits}
+use Rattle.gix_hash.specs.declared.borrowed.oid.{oid}
 use Rattle.gix_hash.specs.declared.object_id.ObjectId.{ObjectId}
-use Rattle.gix_hash.proofs.KindFacts.{hex_len_of-bytes}
+use Rattle.gix_hash.proofs.KindFacts.{hex_len_of-bytes, hex_len_of-kind}
 use Rattle.gix_hash.proofs.Places.{length-digits_of}
 use Rattle.gix_hash.proofs.Spellings.{All-digits_of}
 
@@ -17,3 +19,17 @@ length-known id bytes are len =
 -- and their range
 pub fits-known : (id : ObjectId) (bytes : List ℕ) → bytes ≡ id_bytes id → All (λ b. b < 256) bytes → All (λ d. d < 16) (id_digits id)
 fits-known id bytes are fits = All-digits_of (id_bytes id) (subst (All (λ b. b < 256)) are fits)
+
+-- what the bytes that an id lends tell of its digits
+pub ruleset digits_of_id = (length-known, fits-known)
+
+-- a view has as many digits as its kind
+pub length-oid : (id : oid) → length (oid_digits id) ≡ hex_len_of (oid_kind id)
+length-oid id = length-digits_of (oid_bytes id) ∙ sym (hex_len_of-kind (length (oid_bytes id)) id.length_known)
+
+-- and each is below sixteen
+pub fits-oid : (id : oid) → All (λ d. d < 16) (oid_digits id)
+fits-oid id = All-digits_of (oid_bytes id) id.fits
+
+-- what a view tells of its digits
+pub ruleset digits_of_view = (length-oid, fits-oid)

@@ -1,17 +1,19 @@
-pub mod Alphabets
-pub mod DigitNumbers
-pub mod HexReading
-pub mod IdFacts
-pub mod KeptDigits
-pub mod KindFacts
-pub mod LaneHalves
-pub mod LaneLetters
-pub mod LanePlaces
-pub mod LawLemmas
-pub mod Masks
-pub mod Packing
-pub mod PaddedReading
-pub mod Places
-pub mod ReadingFacts
-pub mod Spellings
-pub mod WordOrder
+mod Alphabets
+mod DigitNumbers
+mod HexReading
+mod IdFacts
+mod KeptDigits
+mod KindFacts
+mod LaneHalves
+mod LaneLetters
+mod LanePlaces
+mod Masks
+mod Packing
+mod PaddedReading
+mod PlaceLaws
+mod Places
+mod ReadingFacts
+mod ReadingLaws
+mod SpellingLaws
+mod Spellings
+mod WordOrder

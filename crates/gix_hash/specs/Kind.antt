@@ -1,4 +1,5 @@
 -- The kinds of digest, with their numbers and lengths.
+use Rattle.std.proofs.Common.{◌≡◌, refl, arith}
 use Rattle.std.specs.Prelude.{ℕ, Bool, nat_le, ◌==◌, ◌||◌, if◌then◌else◌, Option, Some, None, List, [], ◌∷◌, ◌≢◌, Contains, codes}
 use Rattle.gix_hash.specs.declared.kind.Kind.{Kind}
 use Rattle.gix_hash.specs.declared.kind.Kind.TheVariants.{Sha1, Sha256}
@@ -7,6 +8,13 @@ use Rattle.gix_hash.specs.declared.kind.Kind.TheVariants.{Sha1, Sha256}
 abbrev pub number_of : Kind → ℕ
 number_of Sha1 = 1
 number_of Sha256 = 2
+
+-- a kind is told by its number
+pub kind_by_number : (a b : Kind) → number_of a ≡ number_of b → a ≡ b
+kind_by_number Sha1 Sha1 h = refl
+kind_by_number Sha1 Sha256 h = absurd (omega arith)
+kind_by_number Sha256 Sha1 h = absurd (omega arith)
+kind_by_number Sha256 Sha256 h = refl
 
 -- how many digits an id of the kind has
 abbrev pub hex_len_of : Kind → ℕ
@@ -25,6 +33,10 @@ kind_of_hex_len n = if nat_le n 40 then Some Sha1 else if nat_le n 64 then Some 
 -- the kind whose ids have just so many digits
 abbrev pub kind_of_full_len : ℕ → Option Kind
 kind_of_full_len n = if n == 40 then Some Sha1 else if n == 64 then Some Sha256 else None
+
+-- the ids of some kind have just so many digits
+abbrev pub IsFullLen : ℕ → Type 0
+IsFullLen n = (kind : Kind) × (n ≡ hex_len_of kind)
 
 -- whether some kind has digests of so many bytes
 abbrev pub is_digest_len : ℕ → Bool

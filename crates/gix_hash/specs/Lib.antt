@@ -8,6 +8,7 @@ pub mod ObjectId
 pub mod Prefix
 pub mod PrefixReading
 pub mod PrefixBytes
+pub mod Equalities
 pub mod IdReading
 pub mod HexDisplay
 pub mod WellKnown

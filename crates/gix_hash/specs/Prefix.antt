@@ -1,8 +1,8 @@
 -- What contracts see of a prefix, and its place against an id.
-use Rattle.std.specs.Prelude.{◌≡◌, ◌-◌, ℕ, List, ◌++◌, length, take, replicate}
+use Rattle.std.specs.Prelude.{◌≡◌, ◌-◌, ℕ, Bool, List, ◌++◌, length, nat_eq, take, replicate}
 use Rattle.std.specs.declared.cmp.Ordering.{Ordering}
-use Rattle.std.specs.Ordering.{nat_cmp}
-use Rattle.std.specs.Cmp.Lexicographic.{slice_cmp}
+use Rattle.std.specs.Ordering.{nat_cmp, on, eq_of_both, then_cmp}
+use Rattle.std.specs.Cmp.Lexicographic.{slice_cmp, pointwise}
 use Rattle.gix_hash.specs.Kind.{number_of}
 use Rattle.gix_hash.specs.declared.kind.Kind.{Kind}
 
@@ -30,6 +30,14 @@ prefix_kind_number prefix = number_of prefix.kind
 -- its digits, by which they are ordered then
 abbrev pub prefix_digits : Beginning → List ℕ
 prefix_digits prefix = prefix.digits
+
+-- `==` of prefixes: their kinds and their digits are equal
+abbrev pub prefix_eq : Beginning → Beginning → Bool
+prefix_eq = eq_of_both (on prefix_kind_number nat_eq) (on prefix_digits (pointwise nat_eq))
+
+-- the order of prefixes: by kind, and then dictionary order of the digits
+abbrev pub prefix_cmp : Beginning → Beginning → Ordering
+prefix_cmp = then_cmp (on prefix_kind_number nat_cmp) (on prefix_digits (slice_cmp nat_cmp))
 
 -- the digits of an id are those of a prefix followed by some more
 abbrev pub BeginsWith : List ℕ → List ℕ → Type 0

@@ -2,14 +2,13 @@
 use Rattle.std.proofs.Common.{◌<◌, ◌≡◌, ℕ, ◌+◌, ◌-◌, ◌*◌, ◌≤◌, List, [], ◌∷◌, length, take, replicate, refl, sym, ap, ◌∙◌, arith, length-append, eqb-true}
 use Rattle.std.specs.Prelude.{IsTrue, All, nat_eq}
 use Rattle.std.specs.Hash as fed
-use Rattle.std.specs.Ordering.{on, eq_of_both}
 use Rattle.std.specs.Cmp.Lexicographic.{pointwise, bytes_decides}
 use Rattle.std.proofs.lemmas.Bool.{and_parts}
 use Rattle.std.proofs.lemmas.List.{length-replicate, length-take-le}
 use Rattle.gix_hash.specs.Digits.{digits_of}
-use Rattle.gix_hash.specs.Kind.{hex_len_of, number_of}
+use Rattle.gix_hash.specs.Kind.{hex_len_of, number_of, kind_by_number}
 use Rattle.gix_hash.specs.ObjectId.{id_kind, id_bytes, id_digits}
-use Rattle.gix_hash.specs.Prefix.{Beginning, padded, prefix_kind_number, prefix_digits}
+use Rattle.gix_hash.specs.Prefix.{Beginning, padded, prefix_eq}
 use Rattle.gix_hash.specs.Words.{words_of}
 use Rattle.gix_hash.specs.declared.kind.Kind.{Kind}
 use Rattle.gix_hash.specs.declared.kind.Kind.TheVariants as kinds
@@ -89,23 +88,16 @@ seen p = record { kind = id_kind p.bytes; digits = shown p }
 pub kept-seen : (p : Inside) → IsPacked p → kept (seen p) ≡ p
 kept-seen p h = λ i. record { bytes = given_back p h i; hex_len = length-shown p h i; words = sym h.words i }
 
--- a kind is told by its number
-kind_from_number : (a b : Kind) → number_of a ≡ number_of b → a ≡ b
-kind_from_number kinds.Sha1 kinds.Sha1 h = refl
-kind_from_number kinds.Sha1 kinds.Sha256 h = absurd (omega arith)
-kind_from_number kinds.Sha256 kinds.Sha1 h = absurd (omega arith)
-kind_from_number kinds.Sha256 kinds.Sha256 h = refl
-
 -- what a prefix feeds to a hash: its bytes in one write, and then the number of digits
 abbrev pub prefix_hash_input : Beginning → List (List ℕ)
 prefix_hash_input prefix = packed (padded (hex_len_of prefix.kind) prefix.digits) ∷ fed.usize (length prefix.digits)
 
 -- equal prefixes feed the same
 pub same_hash_input : (a b : Beginning)
-    → IsTrue (eq_of_both (on prefix_kind_number nat_eq) (on prefix_digits (pointwise nat_eq)) a b)
+    → IsTrue (prefix_eq a b)
     → prefix_hash_input a ≡ prefix_hash_input b
 same_hash_input a b h =
     let parts = and_parts (nat_eq (number_of a.kind) (number_of b.kind)) (pointwise nat_eq a.digits b.digits) h in
-    let kind = kind_from_number a.kind b.kind (eqb-true (number_of a.kind) (number_of b.kind) parts.0) in
+    let kind = kind_by_number a.kind b.kind (eqb-true (number_of a.kind) (number_of b.kind) parts.0) in
     let digits = (bytes_decides a.digits b.digits).0 parts.1 in
     λ i. packed (padded (hex_len_of (kind i)) (digits i)) ∷ fed.usize (length (digits i))

@@ -1,11 +1,10 @@
 //! Ids that borrow their bytes.
 
-ghost use Rattle.std.specs.Prelude.{IsOk, IfOk, IfErr, OnOk, ◌≡◌, ◌≤◌, ◌<◌, ◌↔◌, ◌++◌, ◌*◌, IsTrue, IsAscii, All, length, drop, slice_range, nat_eq};
+ghost use Rattle.std.specs.Prelude.{IsOk, IfOk, IfErr, OnOk, ◌≡◌, ◌≤◌, ◌<◌, ◌↔◌, ◌++◌, ◌*◌, IsTrue, IsAscii, All, length, drop, slice_range};
 ghost use Rattle.std.proofs.Common.{rules};
 ghost use Rattle.std.specs.Cmp.{partial_order_from_own_ties};
-ghost use Rattle.std.specs.Cmp.Lexicographic.{slice_cmp, pointwise};
 ghost use Rattle.std.specs.Cmp.Rules.{comparing};
-ghost use Rattle.std.specs.Ordering.{nat_cmp, on, as_partial_cmp};
+ghost use Rattle.std.specs.Ordering.{as_partial_cmp};
 ghost use Rattle.gix_hash.specs.Digits.{first_byte_of, spelling, hex_letter};
 ghost use Rattle.gix_hash.specs.Kind.{is_digest_len, hex_len_of};
 
@@ -61,8 +60,11 @@ impl<'a> oid<'a> {
     }
 
     /// The kind of the id, which its length tells.
+    #[tactic(auto, using(crate::proofs::IdFacts::digits_of_view))]
     pub fn kind(&self) -> Kind
-        ensures { result ≡ oid_kind self.now }
+        ensures value { result ≡ oid_kind self.now }
+        ensures len { length (oid_digits self.now) ≡ hex_len_of (oid_kind self.now) }
+        ensures fits { All (λ d. d < 16) (oid_digits self.now) }
     {
         if self.bytes.len() == 20 {
             Kind::Sha1
@@ -217,14 +219,9 @@ impl<'a> oid<'a> {
 }
 
 impl PartialEq for oid<'_> {
-    ghost use Rattle.std.specs.Prelude.{nat_eq};
-    ghost use Rattle.std.proofs.Common.{rules};
-    ghost use Rattle.std.specs.Cmp.Lexicographic.{pointwise};
-    ghost use Rattle.std.specs.Cmp.Rules.{comparing};
-    ghost use Rattle.std.specs.Ordering.{on};
-    ghost use Rattle.gix_hash.specs.Oid.{oid_digits};
+    ghost use Rattle.gix_hash.specs.Oid.{oid_eq};
 
-    ghost eq = { on oid_digits (pointwise nat_eq) };
+    ghost eq = { oid_eq };
 
     ghost laws = { Prim.search (comparing, rules) };
 
@@ -239,9 +236,9 @@ impl Eq for oid<'_> {
 }
 
 impl PartialOrd for oid<'_> {
-    ghost use Rattle.gix_hash.specs.Oid.{oid_digits};
+    ghost use Rattle.gix_hash.specs.Oid.{oid_cmp};
 
-    ghost partial_cmp = { as_partial_cmp (on oid_digits (slice_cmp nat_cmp)) };
+    ghost partial_cmp = { as_partial_cmp oid_cmp };
 
     ghost laws = { partial_order_from_own_ties (Prim.search (comparing, rules)) (Prim.search (comparing, rules)) };
 
@@ -251,9 +248,9 @@ impl PartialOrd for oid<'_> {
 }
 
 impl Ord for oid<'_> {
-    ghost use Rattle.gix_hash.specs.Oid.{oid_digits};
+    ghost use Rattle.gix_hash.specs.Oid.{oid_cmp};
 
-    ghost cmp = { on oid_digits (slice_cmp nat_cmp) };
+    ghost cmp = { oid_cmp };
 
     ghost total = { Prim.search (comparing, rules) };
 
@@ -291,10 +288,9 @@ impl fmt::Debug for oid<'_> {
 
 /// Feeds the bytes of the digest in one write, without a length.
 impl Hash for oid<'_> {
-    ghost use Rattle.std.specs.Prelude.{◌∷◌, []};
-    ghost use Rattle.gix_hash.specs.Oid.{oid_bytes, same_oid_input};
+    ghost use Rattle.gix_hash.specs.Oid.{oid_hash_input, same_oid_input};
 
-    ghost hash_input = { λ id. oid_bytes id ∷ [] };
+    ghost hash_input = { oid_hash_input };
 
     ghost respects_eq = { same_oid_input };
 

@@ -93,7 +93,9 @@ impl ChangeId {
 
     /// The kind of the digest.
     pub fn kind(&self) -> Kind
-        ensures { result ≡ id_kind self.now }
+        ensures value { result ≡ id_kind self.now }
+        ensures len { length (id_digits self.now) ≡ hex_len_of (id_kind self.now) }
+        ensures fits { All (λ d. d < 16) (id_digits self.now) }
     {
         self.0.kind()
     }

@@ -1,23 +1,30 @@
-//! Laws of digits, prefixes and ids that no single call carries. Each is the contract of a function,
-//! and those that return nothing compute nothing.
+//! Laws of digits, ids and prefixes that no single call carries. Each is the contract of a function
+//! that computes nothing: a call of it brings the law into a caller's proof.
 
-ghost use Rattle.std.specs.Prelude.{◌≡◌, ◌<◌, ◌↔◌, ◌⊎◌, ℕ, List, Some, None, codes, slice_index};
+ghost use Rattle.std.specs.Prelude.{◌≡◌, ◌≤◌, ◌<◌, ◌↔◌, ◌⊎◌, ℕ, List, IsTrue, IsOk, IfOk, Some, None, codes, length, slice_index};
 ghost use Rattle.std.specs.declared.cmp.Ordering.{Ordering};
 ghost use Rattle.std.specs.Cmp.Lexicographic.{slice_cmp};
 ghost use Rattle.std.specs.Ordering.{nat_cmp, ordering_reverse};
 ghost use Rattle.std.specs.Str.{str_to_ascii_lowercase};
+ghost use Rattle.gix_hash.specs.Alphabet.{letter_of};
 ghost use Rattle.gix_hash.specs.Digits.{hex_letter, reverse_letter, spelling, ReadsAs, IsUnreadable};
-ghost use Rattle.gix_hash.specs.IdReading.{full_read, whole_of, IsFullReading};
-ghost use Rattle.gix_hash.specs.ObjectId.{id_digits, id_kind};
-ghost use Rattle.gix_hash.specs.Oid.{oid_digits};
-ghost use Rattle.gix_hash.specs.Prefix.{place, Beginning, BeginsWith};
-ghost use Rattle.gix_hash.specs.PrefixReading.{prefix_read, IsPrefixReading};
+ghost use Rattle.gix_hash.specs.IdReading.{full_read, whole_of, IsFullReading, IsFullRefusal};
+ghost use Rattle.gix_hash.specs.Kind.{kind_of_hex_len};
+ghost use Rattle.gix_hash.specs.ObjectId.{id_digits, id_kind, id_eq, id_cmp, id_hash_input};
+ghost use Rattle.gix_hash.specs.Oid.{oid_digits, oid_kind, oid_eq, oid_cmp};
+ghost use Rattle.gix_hash.specs.Prefix.{place, Beginning, BeginsWith, prefix_eq};
+ghost use Rattle.gix_hash.specs.PrefixReading.{prefix_read, IsPrefixReading, IsPrefixRefusal};
 ghost use Rattle.gix_hash.specs.Reading.{digits_read};
+ghost use Rattle.gix_hash.specs.declared.borrowed.oid as borrowed;
+ghost use Rattle.gix_hash.specs.declared.decode.Error as decode;
+ghost use Rattle.gix_hash.specs.declared.prefix.from_hex.Error as from_hex;
 
+use crate::alphabet::Alphabet;
 use crate::borrowed::oid;
 use crate::change_id::ChangeId;
 use crate::object_id::ObjectId;
 use crate::prefix::Prefix;
+use std::hash::Hash;
 
 /// The letters of the digits 0 to 15 are those of the two alphabets, in order.
 pub fn letters()
@@ -25,11 +32,115 @@ pub fn letters()
     ensures reverse { (d : ℕ) → d < 16 → reverse_letter d ≡ slice_index (codes "zyxwvutsrqponmlk") d }
 {}
 
-/// Two ids have the same digits just where they have the same spelling.
-pub fn spelled_alike(first: oid<'_>, second: oid<'_>)
-    ensures { (oid_digits first.entry ≡ oid_digits second.entry)
-        ↔ (spelling hex_letter (oid_digits first.entry) ≡ spelling hex_letter (oid_digits second.entry)) }
+/// A text reads as the digits that `digits_read` gives, and as no others; and where it gives none,
+/// no list of digits reads the text.
+pub fn readings(alphabet: Alphabet, text: &[u8])
+    ensures some { (digits : List ℕ) → (digits_read (letter_of alphabet) text.now ≡ Some digits) ↔ ReadsAs (letter_of alphabet) text.now digits }
+    ensures none { (digits_read (letter_of alphabet) text.now ≡ None) ↔ IsUnreadable (letter_of alphabet) text.now }
 {}
+
+/// The texts that read as a full id, which are those of as many bytes as its kind has digits that
+/// read as its digits; and why any other is refused.
+pub fn full_readings(alphabet: Alphabet, text: &[u8])
+    ensures ok { (id : Beginning) → (full_read (letter_of alphabet) text.now ≡ Ok id) ↔ IsFullReading (letter_of alphabet) text.now id }
+    ensures err { (error : decode.Error) → (full_read (letter_of alphabet) text.now ≡ Err error) ↔ IsFullRefusal (letter_of alphabet) text.now error }
+{}
+
+/// The texts that read as a prefix of at least so many digits, and why any other is refused.
+pub fn prefix_readings(alphabet: Alphabet, least: usize, text: &str)
+    ensures ok { (prefix : Beginning) → (prefix_read (letter_of alphabet) least text.now ≡ Ok prefix) ↔ IsPrefixReading (letter_of alphabet) least text.now prefix }
+    ensures err { (error : from_hex.Error) → (prefix_read (letter_of alphabet) least text.now ≡ Err error) ↔ IsPrefixRefusal (letter_of alphabet) least text.now error }
+{}
+
+/// An id that is printed in full, and read in any letter case, is the same id.
+pub fn read_back(id: &ObjectId, text: &[u8])
+    requires { str_to_ascii_lowercase text.now ≡ spelling hex_letter (id_digits id.now) }
+    ensures { full_read hex_letter text.now ≡ Ok (whole_of id.now) }
+{
+    // Where the number of the digits and their range are told.
+    let _kind = id.kind();
+}
+
+/// A change id that is printed in full, and read in any letter case, is the same change id.
+pub fn read_change_back(change: &ChangeId, text: &[u8])
+    requires { str_to_ascii_lowercase text.now ≡ spelling reverse_letter (id_digits change.now) }
+    ensures { full_read reverse_letter text.now ≡ Ok (whole_of change.now) }
+{
+    // Where the number of the digits and their range are told.
+    let _kind = change.kind();
+}
+
+/// A prefix of at least one digit that is printed, and read in any letter case, has the same digits;
+/// it is the same prefix just where its kind is the least one with room for them.
+pub fn read_prefix_back(alphabet: Alphabet, prefix: &Prefix, text: &str)
+    requires nonempty { 1 ≤ length prefix.now.digits }
+    requires printed { str_to_ascii_lowercase text.now ≡ spelling (letter_of alphabet) prefix.now.digits }
+    ensures reads { IsOk (prefix_read (letter_of alphabet) 1 text.now) }
+    ensures digits { IfOk (prefix_read (letter_of alphabet) 1 text.now) (λ read. read.digits ≡ prefix.now.digits) }
+    ensures same { (prefix_read (letter_of alphabet) 1 text.now ≡ Ok prefix.now)
+        ↔ (kind_of_hex_len (length prefix.now.digits) ≡ Some prefix.now.kind) }
+{
+    // Where the number of the digits and their range are told.
+    let _len = prefix.hex_len();
+}
+
+/// An id is told by its kind and its digits.
+pub fn same_id(first: &ObjectId, second: &ObjectId)
+    ensures { (first.now ≡ second.now) ↔ (whole_of first.now ≡ whole_of second.now) }
+{}
+
+/// Ids are equal just where they are the same, which is where their kinds and their digits are, or
+/// their full spellings.
+pub fn equal_ids(first: &ObjectId, second: &ObjectId)
+    ensures same { IsTrue (id_eq first.now second.now) ↔ (first.now ≡ second.now) }
+    ensures parts { IsTrue (id_eq first.now second.now) ↔ ((id_kind first.now ≡ id_kind second.now) × (id_digits first.now ≡ id_digits second.now)) }
+    ensures spelling { IsTrue (id_eq first.now second.now)
+        ↔ (spelling hex_letter (id_digits first.now) ≡ spelling hex_letter (id_digits second.now)) }
+{
+    // Where the numbers of the digits are told.
+    let _kinds = (first.kind(), second.kind());
+}
+
+/// Views are equal just where their digits are, or their full spellings, and their kinds are the
+/// same then.
+pub fn equal_views(first: oid<'_>, second: oid<'_>)
+    ensures digits { IsTrue (oid_eq first.entry second.entry) ↔ (oid_digits first.entry ≡ oid_digits second.entry) }
+    ensures spelling { IsTrue (oid_eq first.entry second.entry)
+        ↔ (spelling hex_letter (oid_digits first.entry) ≡ spelling hex_letter (oid_digits second.entry)) }
+    ensures kind { IsTrue (oid_eq first.entry second.entry) → oid_kind first.entry ≡ oid_kind second.entry }
+{}
+
+/// Prefixes are equal just where they are the same, which is where their kinds and their spellings
+/// are.
+pub fn equal_prefixes(first: &Prefix, second: &Prefix)
+    ensures same { IsTrue (prefix_eq first.now second.now) ↔ (first.now ≡ second.now) }
+    ensures spelling { IsTrue (prefix_eq first.now second.now)
+        ↔ ((first.now.kind ≡ second.now.kind) × (spelling hex_letter first.now.digits ≡ spelling hex_letter second.now.digits)) }
+{}
+
+/// Change ids are equal and ordered as their ids are, and feed the same to a hash.
+pub fn compare_as_ids(first: &ChangeId, second: &ChangeId)
+    ensures eq { ⟦<ChangeId as PartialEq>⟧.eq first.now second.now ≡ id_eq first.now second.now }
+    ensures cmp { ⟦<ChangeId as Ord>⟧.cmp first.now second.now ≡ id_cmp first.now second.now }
+    ensures hash_input { ⟦<ChangeId as Hash>⟧.hash_input first.now ≡ id_hash_input first.now }
+{}
+
+/// Within one kind owned ids have the order of their views.
+pub fn orders_agree(first: &ObjectId, second: &ObjectId)
+    requires { id_kind first.now ≡ id_kind second.now }
+    ensures { (a b : borrowed.oid) → oid_digits a ≡ id_digits first.now → oid_digits b ≡ id_digits second.now
+        → id_cmp first.now second.now ≡ oid_cmp a b }
+{}
+
+/// For change ids of one kind the order of the full spellings is opposite to that of the ids.
+pub fn opposite_order(first: &ChangeId, second: &ChangeId)
+    requires { id_kind first.now ≡ id_kind second.now }
+    ensures { slice_cmp nat_cmp (spelling reverse_letter (id_digits first.now)) (spelling reverse_letter (id_digits second.now))
+        ≡ ordering_reverse (id_cmp first.now second.now) }
+{
+    // Where the numbers of the digits and their range are told.
+    let _kinds = (first.kind(), second.kind());
+}
 
 /// A prefix is at its place in an id, so that [`Prefix::cmp_oid`] answers Equal, just where the id's
 /// digits begin with the prefix's.
@@ -45,63 +156,3 @@ pub fn nested_or_disjoint(first: &Prefix, second: &Prefix)
         ⊎ ((id : List ℕ) → BeginsWith id second.now.digits → BeginsWith id first.now.digits)
         ⊎ ((id : List ℕ) → ¬ (BeginsWith id first.now.digits × BeginsWith id second.now.digits)) }
 {}
-
-/// Within one kind owned ids have the order of borrowed ones.
-pub fn orders_agree(first: &ObjectId, second: &ObjectId)
-    requires { id_kind first.now ≡ id_kind second.now }
-    ensures { ⟦<ObjectId as Ord>⟧.cmp first.now second.now ≡ slice_cmp nat_cmp (id_digits first.now) (id_digits second.now) }
-{}
-
-/// A text reads as the digits that the readings give, and as no others; and where they give none,
-/// no list of digits reads the text.
-pub fn readings(text: &[u8])
-    ensures hex { (digits : List ℕ) → (digits_read hex_letter text.now ≡ Some digits) ↔ ReadsAs hex_letter text.now digits }
-    ensures hex_none { (digits_read hex_letter text.now ≡ None) ↔ IsUnreadable hex_letter text.now }
-    ensures reverse { (digits : List ℕ) → (digits_read reverse_letter text.now ≡ Some digits) ↔ ReadsAs reverse_letter text.now digits }
-    ensures reverse_none { (digits_read reverse_letter text.now ≡ None) ↔ IsUnreadable reverse_letter text.now }
-{}
-
-/// The texts that read as a full id: those of as many digits as its kind has that read as its digits.
-pub fn full_readings(text: &[u8])
-    ensures hex { (id : Beginning) → (full_read hex_letter text.now ≡ Ok id) ↔ IsFullReading hex_letter text.now id }
-    ensures reverse { (id : Beginning) → (full_read reverse_letter text.now ≡ Ok id) ↔ IsFullReading reverse_letter text.now id }
-{}
-
-/// The texts that read as a prefix of at least so many digits.
-pub fn prefix_readings(least: usize, text: &str)
-    ensures hex { (prefix : Beginning) → (prefix_read hex_letter least text.now ≡ Ok prefix) ↔ IsPrefixReading hex_letter least text.now prefix }
-    ensures reverse { (prefix : Beginning) → (prefix_read reverse_letter least text.now ≡ Ok prefix) ↔ IsPrefixReading reverse_letter least text.now prefix }
-{}
-
-/// An id is told by its kind and its digits.
-pub fn same_id(first: &ObjectId, second: &ObjectId)
-    ensures { (first.now ≡ second.now) ↔ (whole_of first.now ≡ whole_of second.now) }
-{}
-
-/// An id that is printed in full and read in any letter case is the same id.
-pub fn read_back(id: &ObjectId, text: &[u8])
-    requires { str_to_ascii_lowercase text.now ≡ spelling hex_letter (id_digits id.now) }
-    ensures { full_read hex_letter text.now ≡ Ok (whole_of id.now) }
-{
-    // Where the number of the digits and their range are told.
-    let _id = id.as_oid();
-}
-
-/// A change id that is printed in full and read in any letter case is the same change id.
-pub fn read_change_back(change: &ChangeId, text: &[u8])
-    requires { str_to_ascii_lowercase text.now ≡ spelling reverse_letter (id_digits change.now) }
-    ensures { full_read reverse_letter text.now ≡ Ok (whole_of change.now) }
-{
-    // Where the number of the digits and their range are told.
-    let _id = change.as_oid();
-}
-
-/// For change ids of one kind the order of the full spellings is opposite to that of the ids.
-pub fn opposite_order(first: &ChangeId, second: &ChangeId)
-    requires { id_kind first.now ≡ id_kind second.now }
-    ensures { slice_cmp nat_cmp (spelling reverse_letter (id_digits first.now)) (spelling reverse_letter (id_digits second.now))
-        ≡ ordering_reverse (slice_cmp nat_cmp (id_digits first.now) (id_digits second.now)) }
-{
-    // Where the digests' lengths and the range of their bytes are told.
-    let _lens = (first.as_bytes().len(), second.as_bytes().len());
-}

@@ -49,6 +49,7 @@ impl ObjectId {
     }
 
     /// The kind of the digest.
+    #[tactic(auto, using(crate::proofs::IdFacts::digits_of_id))]
     pub const fn kind(&self) -> Kind
         ensures value { result ≡ id_kind self.now }
         ensures len { length (id_digits self.now) ≡ hex_len_of (id_kind self.now) }
@@ -108,6 +109,7 @@ impl ObjectId {
     }
 
     /// The id as a view of its bytes.
+    #[tactic(auto, using(crate::proofs::IdFacts::digits_of_id))]
     pub fn as_oid(&self) -> oid<'_>
         ensures kind { oid_kind result ≡ id_kind self.now }
         ensures digits { oid_digits result ≡ id_digits self.now }
@@ -283,14 +285,11 @@ impl fmt::Debug for ObjectId {
 }
 
 impl PartialEq for ObjectId {
-    ghost use Rattle.std.specs.Prelude.{nat_eq};
     ghost use Rattle.std.proofs.Common.{rules};
-    ghost use Rattle.std.specs.Cmp.Lexicographic.{pointwise};
     ghost use Rattle.std.specs.Cmp.Rules.{comparing};
-    ghost use Rattle.std.specs.Ordering.{on, eq_of_both};
-    ghost use Rattle.gix_hash.specs.ObjectId.{id_kind_number, id_digits};
+    ghost use Rattle.gix_hash.specs.ObjectId.{id_eq};
 
-    ghost eq = { eq_of_both (on id_kind_number nat_eq) (on id_digits (pointwise nat_eq)) };
+    ghost eq = { id_eq };
 
     ghost laws = { Prim.search (comparing, rules) };
 
@@ -309,12 +308,11 @@ impl Eq for ObjectId {
 impl PartialOrd for ObjectId {
     ghost use Rattle.std.proofs.Common.{rules};
     ghost use Rattle.std.specs.Cmp.{partial_order_from_own_ties};
-    ghost use Rattle.std.specs.Cmp.Lexicographic.{slice_cmp};
     ghost use Rattle.std.specs.Cmp.Rules.{comparing};
-    ghost use Rattle.std.specs.Ordering.{nat_cmp, on, then_cmp, as_partial_cmp};
-    ghost use Rattle.gix_hash.specs.ObjectId.{id_kind_number, id_digits};
+    ghost use Rattle.std.specs.Ordering.{as_partial_cmp};
+    ghost use Rattle.gix_hash.specs.ObjectId.{id_cmp};
 
-    ghost partial_cmp = { as_partial_cmp (then_cmp (on id_kind_number nat_cmp) (on id_digits (slice_cmp nat_cmp))) };
+    ghost partial_cmp = { as_partial_cmp id_cmp };
 
     ghost laws = { partial_order_from_own_ties (Prim.search (comparing, rules)) (Prim.search (comparing, rules)) };
 
@@ -326,12 +324,10 @@ impl PartialOrd for ObjectId {
 /// By kind, and then by digits.
 impl Ord for ObjectId {
     ghost use Rattle.std.proofs.Common.{rules};
-    ghost use Rattle.std.specs.Cmp.Lexicographic.{slice_cmp};
     ghost use Rattle.std.specs.Cmp.Rules.{comparing};
-    ghost use Rattle.std.specs.Ordering.{nat_cmp, on, then_cmp};
-    ghost use Rattle.gix_hash.specs.ObjectId.{id_kind_number, id_digits};
+    ghost use Rattle.gix_hash.specs.ObjectId.{id_cmp};
 
-    ghost cmp = { then_cmp (on id_kind_number nat_cmp) (on id_digits (slice_cmp nat_cmp)) };
+    ghost cmp = { id_cmp };
 
     ghost total = { Prim.search (comparing, rules) };
 
@@ -348,10 +344,9 @@ impl Ord for ObjectId {
 
 /// Feeds the bytes of the digest in one write, without a length.
 impl Hash for ObjectId {
-    ghost use Rattle.std.specs.Prelude.{◌∷◌, []};
-    ghost use Rattle.gix_hash.specs.ObjectId.{id_bytes, same_id_input};
+    ghost use Rattle.gix_hash.specs.ObjectId.{id_hash_input, same_id_input};
 
-    ghost hash_input = { λ id. id_bytes id ∷ [] };
+    ghost hash_input = { id_hash_input };
 
     ghost respects_eq = { same_id_input };
 

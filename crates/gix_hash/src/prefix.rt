@@ -265,14 +265,11 @@ impl Prefix {
 }
 
 impl PartialEq for Prefix {
-    ghost use Rattle.std.specs.Prelude.{nat_eq};
     ghost use Rattle.std.proofs.Common.{rules};
-    ghost use Rattle.std.specs.Cmp.Lexicographic.{pointwise};
     ghost use Rattle.std.specs.Cmp.Rules.{comparing};
-    ghost use Rattle.std.specs.Ordering.{on, eq_of_both};
-    ghost use Rattle.gix_hash.specs.Prefix.{prefix_kind_number, prefix_digits};
+    ghost use Rattle.gix_hash.specs.Prefix.{prefix_eq};
 
-    ghost eq = { eq_of_both (on prefix_kind_number nat_eq) (on prefix_digits (pointwise nat_eq)) };
+    ghost eq = { prefix_eq };
 
     ghost laws = { Prim.search (comparing, rules) };
 
@@ -291,12 +288,11 @@ impl Eq for Prefix {
 impl PartialOrd for Prefix {
     ghost use Rattle.std.proofs.Common.{rules};
     ghost use Rattle.std.specs.Cmp.{partial_order_from_own_ties};
-    ghost use Rattle.std.specs.Cmp.Lexicographic.{slice_cmp};
     ghost use Rattle.std.specs.Cmp.Rules.{comparing};
-    ghost use Rattle.std.specs.Ordering.{nat_cmp, on, then_cmp, as_partial_cmp};
-    ghost use Rattle.gix_hash.specs.Prefix.{prefix_kind_number, prefix_digits};
+    ghost use Rattle.std.specs.Ordering.{as_partial_cmp};
+    ghost use Rattle.gix_hash.specs.Prefix.{prefix_cmp};
 
-    ghost partial_cmp = { as_partial_cmp (then_cmp (on prefix_kind_number nat_cmp) (on prefix_digits (slice_cmp nat_cmp))) };
+    ghost partial_cmp = { as_partial_cmp prefix_cmp };
 
     ghost laws = { partial_order_from_own_ties (Prim.search (comparing, rules)) (Prim.search (comparing, rules)) };
 
@@ -307,12 +303,10 @@ impl PartialOrd for Prefix {
 
 impl Ord for Prefix {
     ghost use Rattle.std.proofs.Common.{rules};
-    ghost use Rattle.std.specs.Cmp.Lexicographic.{slice_cmp};
     ghost use Rattle.std.specs.Cmp.Rules.{comparing};
-    ghost use Rattle.std.specs.Ordering.{nat_cmp, on, then_cmp};
-    ghost use Rattle.gix_hash.specs.Prefix.{prefix_kind_number, prefix_digits};
+    ghost use Rattle.gix_hash.specs.Prefix.{prefix_cmp};
 
-    ghost cmp = { then_cmp (on prefix_kind_number nat_cmp) (on prefix_digits (slice_cmp nat_cmp)) };
+    ghost cmp = { prefix_cmp };
 
     ghost total = { Prim.search (comparing, rules) };
 

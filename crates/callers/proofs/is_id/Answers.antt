@@ -15,4 +15,4 @@ by_answer text (Ok id) e h = (λ t. (whole_of id, (h (whole_of id)).0 (sym e)), 
 by_answer text (Err error) e h = (λ t. cc t, λ x. let both = e ∙ (h x.0).1 x.1 in cc both)
 
 pub returns : goal.returns
-returns c = rw c.is_ok.ensures.value (by_answer c.args.text.now c.from_hex.result c.from_hex.ensures c.full_readings.ensures.hex)
+returns c = rw c.is_ok.ensures.value (by_answer c.args.text.now c.from_hex.result c.from_hex.ensures c.full_readings.ensures.ok)

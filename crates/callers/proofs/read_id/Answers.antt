@@ -16,4 +16,4 @@ by_answer text (Ok id) e h = ((h (whole_of id)).0 (sym e)).reads
 by_answer text (Err error) e h = tt
 
 pub returns-clause-reads : goal.returns-clause-reads
-returns-clause-reads c = by_answer c.args.text.now c.from_hex.result c.from_hex.ensures c.full_readings.ensures.hex
+returns-clause-reads c = by_answer c.args.text.now c.from_hex.result c.from_hex.ensures c.full_readings.ensures.ok

@@ -1,7 +1,7 @@
 //! Laws, at values that meet what they ask of the caller.
 
 use super::{BLOB, BLOB_256, BLOB_BYTES, id};
-use crate::{ChangeId, ObjectId, Prefix, laws, oid};
+use crate::{Alphabet, ChangeId, ObjectId, Prefix, laws, oid};
 use std::test::Fail;
 
 #[test]
@@ -24,15 +24,21 @@ fn read_back_in_any_letter_case(rt: HostRuntime) -> Result<(), Fail> {
 #[test]
 fn hold_without_computing() -> Result<(), Fail> {
     let (blob, null) = (ObjectId::Sha1(BLOB_BYTES), ObjectId::Sha1([0; 20]));
+    let (change, other_change) = (ChangeId::from(blob), ChangeId::from(null));
     let view = oid::from_bytes_unchecked(&BLOB_BYTES);
     let (prefix, other) = (Prefix::from_hex("e69d")?, Prefix::from_hex("473a0f")?);
     laws::letters();
-    laws::spelled_alike(view, id(BLOB_256)?.as_oid());
+    laws::readings(Alphabet::Hex, &BLOB_BYTES);
+    laws::full_readings(Alphabet::Reverse, &BLOB_BYTES);
+    laws::prefix_readings(Alphabet::Hex, 1, "e69d");
+    laws::same_id(&blob, &null);
+    laws::equal_ids(&blob, &null);
+    laws::equal_views(view, id(BLOB_256)?.as_oid());
+    laws::equal_prefixes(&prefix, &other);
+    laws::compare_as_ids(&change, &other_change);
+    laws::orders_agree(&blob, &null);
+    laws::opposite_order(&change, &other_change);
     laws::equal_where_it_begins(&prefix, view);
     laws::nested_or_disjoint(&prefix, &other);
-    laws::readings(&BLOB_BYTES);
-    laws::same_id(&blob, &null);
-    laws::orders_agree(&blob, &null);
-    laws::opposite_order(&ChangeId::from(blob), &ChangeId::from(null));
     Ok(())
 }

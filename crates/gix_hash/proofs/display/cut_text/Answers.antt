@@ -13,7 +13,7 @@ use Rattle.gix_hash.proofs.display.cut_text.Goals as goal
 spelled : (c : goal.After-min) → take c.min.result c.put_id.new.buffer ≡ spelling (letter_of c.args.alphabet) (take c.args.hex_len (oid_digits c.args.id))
 spelled c =
     take-put_id (letter_of c.args.alphabet) c.args.hex_len _ c.args.id _ _ c.put_id.ensures
-    (c.min.ensures ∙ ap (min c.args.hex_len) (c.len_in_hex.ensures ∙ ap hex_len_of c.kind.ensures))
+    (c.min.ensures ∙ ap (min c.args.hex_len) (c.len_in_hex.ensures ∙ ap hex_len_of c.kind.ensures.value))
 
 pub ascii_text-requires : goal.ascii_text-requires
 ascii_text-requires c =

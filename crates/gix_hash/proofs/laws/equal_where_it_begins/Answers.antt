@@ -1,4 +1,4 @@
-use Rattle.gix_hash.proofs.LawLemmas.{begins_from_place, place_from_begins}
+use Rattle.gix_hash.proofs.PlaceLaws.{begins_from_place, place_from_begins}
 use Rattle.gix_hash.proofs.laws.equal_where_it_begins.Goals as goal
 
 pub returns : goal.returns

@@ -1,5 +1,5 @@
 use Rattle.std.proofs.Common.{sym}
-use Rattle.gix_hash.proofs.LawLemmas.{reverse_letter-table}
+use Rattle.gix_hash.proofs.SpellingLaws.{reverse_letter-table}
 use Rattle.gix_hash.proofs.Spellings.{hex_letter-table}
 use Rattle.gix_hash.proofs.laws.letters.Goals as goal
 

@@ -1,4 +1,4 @@
-use Rattle.gix_hash.proofs.LawLemmas.{nested_either}
+use Rattle.gix_hash.proofs.PlaceLaws.{nested_either}
 use Rattle.gix_hash.proofs.laws.nested_or_disjoint.Goals as goal
 
 pub returns : goal.returns

@@ -1,7 +1,7 @@
 use Rattle.gix_hash.specs.Digits.{hex_letter}
 use Rattle.gix_hash.proofs.ReadingFacts.{hex_alphabet}
-use Rattle.gix_hash.proofs.LawLemmas.{full_read-printed}
+use Rattle.gix_hash.proofs.ReadingLaws.{full_read-printed}
 use Rattle.gix_hash.proofs.laws.read_back.Goals as goal
 
 pub returns : goal.returns
-returns c = full_read-printed hex_letter hex_alphabet c.args.text.now c.args.id.now c.requires c.as_oid-id.ensures.len c.as_oid-id.ensures.fits
+returns c = full_read-printed hex_letter hex_alphabet c.args.text.now c.args.id.now c.requires c.kind-kind.ensures.len c.kind-kind.ensures.fits

@@ -1,16 +1,14 @@
-use Rattle.gix_hash.specs.Digits.{hex_letter, reverse_letter}
-use Rattle.gix_hash.proofs.Alphabets.{reverse_alphabet}
-use Rattle.gix_hash.proofs.ReadingFacts.{hex_alphabet, ReadsAs-digits_read, digits_read-ReadsAs, IsUnreadable-digits_read, digits_read-IsUnreadable}
+use Rattle.gix_hash.specs.Alphabet.{letter_of}
+use Rattle.gix_hash.proofs.ReadingFacts.{ReadsAs-digits_read, digits_read-ReadsAs, IsUnreadable-digits_read, digits_read-IsUnreadable}
+use Rattle.gix_hash.proofs.ReadingLaws.{letter_of-alphabet}
 use Rattle.gix_hash.proofs.laws.readings.Goals as goal
 
-pub returns-clause-hex : goal.returns-clause-hex
-returns-clause-hex c = λ ds. (ReadsAs-digits_read hex_letter _ ds, digits_read-ReadsAs hex_letter hex_alphabet _ ds)
+pub returns-clause-some : goal.returns-clause-some
+returns-clause-some c =
+    let letter = letter_of c.args.alphabet in
+    λ ds. (ReadsAs-digits_read letter _ ds, digits_read-ReadsAs letter (letter_of-alphabet c.args.alphabet) _ ds)
 
-pub returns-clause-hex_none : goal.returns-clause-hex_none
-returns-clause-hex_none c = (IsUnreadable-digits_read hex_letter hex_alphabet _, digits_read-IsUnreadable hex_letter _)
-
-pub returns-clause-reverse : goal.returns-clause-reverse
-returns-clause-reverse c = λ ds. (ReadsAs-digits_read reverse_letter _ ds, digits_read-ReadsAs reverse_letter reverse_alphabet _ ds)
-
-pub returns-clause-reverse_none : goal.returns-clause-reverse_none
-returns-clause-reverse_none c = (IsUnreadable-digits_read reverse_letter reverse_alphabet _, digits_read-IsUnreadable reverse_letter _)
+pub returns-clause-none : goal.returns-clause-none
+returns-clause-none c =
+    let letter = letter_of c.args.alphabet in
+    (IsUnreadable-digits_read letter (letter_of-alphabet c.args.alphabet) _, digits_read-IsUnreadable letter _)

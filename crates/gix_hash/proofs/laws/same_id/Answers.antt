@@ -1,7 +1,7 @@
 use Rattle.std.proofs.Common.{ap}
+use Rattle.gix_hash.specs.Equalities.{same_id}
 use Rattle.gix_hash.specs.IdReading.{whole_of}
-use Rattle.gix_hash.proofs.LawLemmas.{same_id}
 use Rattle.gix_hash.proofs.laws.same_id.Goals as goal
 
 pub returns : goal.returns
-returns c = (ap whole_of, same_id _ _)
+returns c = (ap whole_of, λ h. same_id _ _ (ap (λ b. b.kind) h) (ap (λ b. b.digits) h))

@@ -12,7 +12,7 @@ pub loop-id-preserved : goal.loop-id-preserved
 loop-id-preserved c =
     let ids = c.args.ids.now in
     let long =
-    c.len_in_hex.ensures ∙ ap hex_len_of (c.kind.ensures ∙ c.as_oid.ensures.kind) ∙ sym c.as_oid.ensures.len
+    c.len_in_hex.ensures ∙ ap hex_len_of (c.kind.ensures.value ∙ c.as_oid.ensures.kind) ∙ sym c.as_oid.ensures.len
     ∙ ap length (sym (get_or-map id_digits ids c.loop-id.id-index _ [] (omega arith))) in
     let all = length-map ids id_digits in
     rw c.min-least.ensures (least-further (map id_digits ids) c.loop-id.id-index c.loop-id.least c.len_in_hex.result [] (omega arith) long c.loop-id.invariant)

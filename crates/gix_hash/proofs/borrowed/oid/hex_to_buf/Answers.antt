@@ -14,5 +14,5 @@ ascii_text-requires c =
     let bytes = c.args.self.now.bytes.now in
     let len : length (spelling hex_letter (digits_of bytes)) ≡ c.len_in_hex.result =
     length-spelling hex_letter (digits_of bytes) ∙ length-digits_of bytes
-    ∙ sym (hex_len_of-kind (length bytes) c.args.self.now.length_known) ∙ sym (c.len_in_hex.ensures ∙ ap hex_len_of c.kind.ensures)
+    ∙ sym (hex_len_of-kind (length bytes) c.args.self.now.length_known) ∙ sym (c.len_in_hex.ensures ∙ ap hex_len_of c.kind.ensures.value)
     in subst IsAscii (sym (ap (take c.len_in_hex.result) c.put_hex.ensures ∙ take_at _ _ _ len)) (IsAscii-hex bytes c.args.self.now.fits)

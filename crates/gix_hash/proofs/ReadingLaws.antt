@@ -1,0 +1,189 @@
+-- Which texts the reading calls take, and why they refuse any other.
+use Rattle.std.proofs.Common.{◌≡◌, ◌↔◌, Option, None, Some, Err, nat_lt, ℕ, ◌<◌, ◌≤◌, ◌⊎◌, inl, inr, Bool, true, false, Ok, List, length, map, refl, sym, ap, ◌∙◌, arith}
+use Rattle.std.specs.Prelude.{All}
+use Rattle.std.specs.Char.{to_ascii_lowercase}
+use Rattle.std.proofs.lemmas.Bool.Decides.{nat_tests}
+use Rattle.std.proofs.lemmas.List.{length-map}
+use borrow.Author.Tests.{ltb-true}
+use Rattle.gix_hash.specs.Alphabet.{letter_of}
+use Rattle.gix_hash.specs.Digits.{spelling}
+use Rattle.gix_hash.specs.IdReading.{full_read, whole_of, IsFullReading, IsFullRefusal}
+use Rattle.gix_hash.specs.Kind.{hex_len_of, kind_of_full_len, kind_of_hex_len, IsFullLen}
+use Rattle.gix_hash.specs.ObjectId.{id_kind, id_digits}
+use Rattle.gix_hash.specs.Prefix.{Beginning, beginning_of}
+use Rattle.gix_hash.specs.PrefixReading.{prefix_read, IsPrefixReading, IsPrefixRefusal}
+use Rattle.gix_hash.specs.Reading.{answer_of}
+use Rattle.gix_hash.specs.declared.alphabet.Alphabet.{Alphabet}
+use Rattle.gix_hash.specs.declared.alphabet.Alphabet.TheVariants.{Hex, Reverse}
+use Rattle.gix_hash.specs.declared.decode.Error as decode
+use Rattle.gix_hash.specs.declared.decode.Error.TheVariants as full_errors
+use Rattle.gix_hash.specs.declared.kind.Kind.{Kind}
+use Rattle.gix_hash.specs.declared.kind.Kind.TheVariants as kinds
+use Rattle.gix_hash.specs.declared.object_id.ObjectId.{ObjectId}
+use Rattle.gix_hash.specs.declared.prefix.from_hex.Error as from_hex
+use Rattle.gix_hash.specs.declared.prefix.from_hex.Error.TheVariants.{TooShort, TooLong, Invalid}
+use Rattle.gix_hash.proofs.Alphabets.{reverse_alphabet}
+use Rattle.gix_hash.proofs.ReadingFacts.{IsAlphabet, hex_alphabet, digits_read-ReadsAs, ReadsAs-digits_read, IsUnreadable-digits_read, digits_read-IsUnreadable}
+use Rattle.gix_hash.proofs.SpellingLaws.{ReadsAs-lowered}
+
+-- both alphabets are alphabets
+pub letter_of-alphabet : (alphabet : Alphabet) → IsAlphabet (letter_of alphabet)
+letter_of-alphabet Hex = hex_alphabet
+letter_of-alphabet Reverse = reverse_alphabet
+
+-- an id's kind by the number of its digits
+full : (kind : Kind) → kind_of_full_len (hex_len_of kind) ≡ Some kind
+full kinds.Sha1 = refl
+full kinds.Sha256 = refl
+
+full_len : (n : ℕ) (kind : Kind) → kind_of_full_len n ≡ Some kind → n ≡ hex_len_of kind
+full_len n kinds.Sha1 h = grind (arith, nat_tests)
+full_len n kinds.Sha256 h = grind (arith, nat_tests)
+
+-- what an answer that is no refusal is made from
+answered : {E : Type 0} (kind : Option Kind) (digits : Option (List ℕ)) (e f : E) (b : Beginning) → answer_of kind digits e f ≡ Ok b
+    → (kind ≡ Some b.kind) × (digits ≡ Some b.digits)
+answered None digits e f b h = cc h
+answered (Some k) None e f b h = cc h
+answered (Some k) (Some ds) e f b h =
+    let is : beginning_of k ds ≡ b = cc h in (ap (λ p. Some p.kind) is, ap (λ p. Some p.digits) is)
+
+-- the texts that read as a full id
+pub full_read-is : (letter : ℕ → ℕ) → IsAlphabet letter → (text : List ℕ) (b : Beginning)
+    → (full_read letter text ≡ Ok b) ↔ IsFullReading letter text b
+full_read-is letter a text b = (
+  λ h. let parts = answered _ _ _ _ b h in
+      record { kind = full_len (length text) b.kind parts.0; reads = ReadsAs-digits_read letter text b.digits parts.1 },
+  λ h. rw (h.kind, full b.kind, digits_read-ReadsAs letter a text b.digits h.reads) refl,
+)
+
+-- the texts that read as a prefix
+pub prefix_read-is : (letter : ℕ → ℕ) → IsAlphabet letter → (least : ℕ) (text : List ℕ) (b : Beginning)
+    → (prefix_read letter least text ≡ Ok b) ↔ IsPrefixReading letter least text b
+prefix_read-is letter a least text b = by_test (nat_lt (length text) least) refl
+  where
+    by_test : (test : Bool) → nat_lt (length text) least ≡ test → (prefix_read letter least text ≡ Ok b) ↔ IsPrefixReading letter least text b
+    by_test true e = (λ h. cc (rw e at h), λ h. absurd (omega (arith, h.long_enough, ltb-true)))
+    by_test false e = (
+      λ h. let parts = answered _ _ _ _ b (rw e at h) in
+          record { long_enough = grind (arith, nat_tests); kind = parts.0; reads = ReadsAs-digits_read letter text b.digits parts.1 },
+      λ h. rw (e, h.kind, digits_read-ReadsAs letter a text b.digits h.reads) refl,
+    )
+
+-- an id's spelling, in any letter case, reads as the id
+pub full_read-printed : (letter : ℕ → ℕ) → IsAlphabet letter → (text : List ℕ) (id : ObjectId)
+    → map to_ascii_lowercase text ≡ spelling letter (id_digits id)
+    → length (id_digits id) ≡ hex_len_of (id_kind id) → All (λ d. d < 16) (id_digits id) → full_read letter text ≡ Ok (whole_of id)
+full_read-printed letter a text id lowered len fits =
+    let digits = digits_read-ReadsAs letter a text (id_digits id) (ReadsAs-lowered letter text (id_digits id) fits lowered) in
+    let count : length text ≡ hex_len_of (id_kind id) =
+    sym (length-map text to_ascii_lowercase) ∙ ap length lowered ∙ length-map (id_digits id) letter ∙ len
+    in rw (count, full (id_kind id), digits) refl
+
+-- what a refusal is made from
+refused : {E : Type 0} (kind : Option Kind) (digits : Option (List ℕ)) (e f x : E) → answer_of kind digits e f ≡ Err x
+    → ((kind ≡ None) × (x ≡ e)) ⊎ ((k : Kind) × (kind ≡ Some k) × (digits ≡ None) × (x ≡ f))
+refused None digits e f x h = inl (refl, cc h)
+refused (Some k) None e f x h = inr (k, refl, refl, cc h)
+refused (Some k) (Some ds) e f x h = cc h
+
+-- no kind has so many digits
+no_full_len : (n : ℕ) → kind_of_full_len n ≡ None → ¬ IsFullLen n
+no_full_len n none is = let some : kind_of_full_len n ≡ Some is.0 = rw is.1 (full is.0) in cc
+
+none_full_len : (n : ℕ) → ¬ IsFullLen n → kind_of_full_len n ≡ None
+none_full_len n h = by_kind (kind_of_full_len n) refl
+  where
+    by_kind : (kind : Option Kind) → kind_of_full_len n ≡ kind → kind ≡ None
+    by_kind None e = refl
+    by_kind (Some k) e = absurd (h (k, full_len n k e))
+
+-- why a text is refused as a full id
+pub full_read-refused : (letter : ℕ → ℕ) → IsAlphabet letter → (text : List ℕ) (error : decode.Error)
+    → (full_read letter text ≡ Err error) ↔ IsFullRefusal letter text error
+full_read-refused letter a text (full_errors.InvalidHexEncodingLength n) = (
+  λ h. elim (refused _ _ _ _ _ h) [ inl is ↦ (cc is.1, no_full_len (length text) is.0) | inr is ↦ cc is.3 ],
+  λ h. rw (none_full_len (length text) h.1, h.0) refl,
+)
+full_read-refused letter a text full_errors.Invalid = (
+  λ h. elim (refused _ _ _ _ _ h) [
+    | inl is ↦ cc is.1
+    | inr is ↦ ((is.0, full_len (length text) is.0 is.1), IsUnreadable-digits_read letter a text is.2)
+  ],
+  λ h. rw (h.0.1, full h.0.0, digits_read-IsUnreadable letter text h.1) refl,
+)
+
+-- no id has so many digits
+none_hex_len : (n : ℕ) → 64 < n → kind_of_hex_len n ≡ None
+none_hex_len n h = grind (arith, nat_tests)
+
+no_hex_len : (n : ℕ) → kind_of_hex_len n ≡ None → 64 < n
+no_hex_len n h = grind (arith, nat_tests)
+
+-- some kind has room for so many
+some_hex_len : (n : ℕ) → n ≤ 64 → (kind : Kind) × (kind_of_hex_len n ≡ Some kind)
+some_hex_len n h = by_kind (kind_of_hex_len n) refl
+  where
+    by_kind : (kind : Option Kind) → kind_of_hex_len n ≡ kind → (k : Kind) × (kind_of_hex_len n ≡ Some k)
+    by_kind None e = absurd (omega (arith, no_hex_len n e))
+    by_kind (Some k) e = (k, e)
+
+within_hex_len : (n : ℕ) (kind : Kind) → kind_of_hex_len n ≡ Some kind → n ≤ 64
+within_hex_len n kind h = grind (arith, nat_tests)
+
+-- why a text is refused as a prefix
+pub prefix_read-refused : (letter : ℕ → ℕ) → IsAlphabet letter → (least : ℕ) (text : List ℕ) (error : from_hex.Error)
+    → (prefix_read letter least text ≡ Err error) ↔ IsPrefixRefusal letter least text error
+prefix_read-refused letter a least text error = by_test (nat_lt (length text) least) refl
+  where
+    too_short : nat_lt (length text) least ≡ true → (x : from_hex.Error) → (prefix_read letter least text ≡ Err x) ↔ IsPrefixRefusal letter least text x
+    too_short e (TooShort n) = (λ h. (cc (rw e at h), ltb-true (length text) least e), λ h. rw (e, h.0) refl)
+    too_short e (TooLong n) = (λ h. cc (rw e at h), λ h. absurd (omega (arith, h.1, ltb-true)))
+    too_short e Invalid = (λ h. cc (rw e at h), λ h. absurd (omega (arith, h.0, ltb-true)))
+
+    long_enough : nat_lt (length text) least ≡ false → (x : from_hex.Error) → (prefix_read letter least text ≡ Err x) ↔ IsPrefixRefusal letter least text x
+    long_enough e (TooShort n) = (
+      λ h. elim (refused _ _ _ _ _ (rw e at h)) [ inl is ↦ cc is.1 | inr is ↦ cc is.3 ],
+      λ h. let less = h.1 in grind (arith, nat_tests),
+    )
+    long_enough e (TooLong n) = (
+      λ h. elim (refused _ _ _ _ _ (rw e at h)) [
+        | inl is ↦ (cc is.1, grind (arith, nat_tests), no_hex_len (length text) is.0)
+        | inr is ↦ cc is.3
+      ],
+      λ h. rw (e, none_hex_len (length text) h.2, h.0) refl,
+    )
+    long_enough e Invalid = (
+      λ h. elim (refused _ _ _ _ _ (rw e at h)) [
+        | inl is ↦ cc is.1
+        | inr is ↦ (grind (arith, nat_tests), within_hex_len (length text) is.0 is.1, IsUnreadable-digits_read letter a text is.2)
+      ],
+      λ h. let kind = some_hex_len (length text) h.1 in rw (e, kind.1, digits_read-IsUnreadable letter text h.2) refl,
+    )
+
+    by_test : (test : Bool) → nat_lt (length text) least ≡ test → (prefix_read letter least text ≡ Err error) ↔ IsPrefixRefusal letter least text error
+    by_test true e = too_short e error
+    by_test false e = long_enough e error
+
+-- a prefix's spelling, in any letter case, reads as its digits, of the least kind with room for them
+pub prefix_read-printed : (letter : ℕ → ℕ) → IsAlphabet letter → (text : List ℕ) (p : Beginning)
+    → map to_ascii_lowercase text ≡ spelling letter p.digits → 1 ≤ length p.digits → length p.digits ≤ 64 → All (λ d. d < 16) p.digits
+    → (kind : Kind) × (kind_of_hex_len (length p.digits) ≡ Some kind) × (prefix_read letter 1 text ≡ Ok (beginning_of kind p.digits))
+prefix_read-printed letter a text p lowered some within fits =
+    let digits = digits_read-ReadsAs letter a text p.digits (ReadsAs-lowered letter text p.digits fits lowered) in
+    let count : length text ≡ length p.digits =
+    sym (length-map text to_ascii_lowercase) ∙ ap length lowered ∙ length-map p.digits letter in
+    let kind = some_hex_len (length p.digits) within in
+    let enough : nat_lt (length p.digits) 1 ≡ false = grind (arith, nat_tests) in
+    (kind.0, kind.1, rw (count, enough, kind.1, digits) refl)
+
+-- and so it reads as the prefix just where its kind is that one
+pub prefix_read-same : (letter : ℕ → ℕ) (text : List ℕ) (p : Beginning)
+    → ((kind : Kind) × (kind_of_hex_len (length p.digits) ≡ Some kind) × (prefix_read letter 1 text ≡ Ok (beginning_of kind p.digits)))
+    → (prefix_read letter 1 text ≡ Ok p) ↔ (kind_of_hex_len (length p.digits) ≡ Some p.kind)
+prefix_read-same letter text p read = (
+  λ h. (let both = sym read.2 ∙ h in
+      let is : beginning_of read.0 p.digits ≡ p = cc both in read.1 ∙ ap (λ b. Some b.kind) is),
+  λ h. (let some = sym read.1 ∙ h in
+      let is : read.0 ≡ p.kind = cc some in read.2 ∙ ap (λ kind. Ok (beginning_of kind p.digits)) is),
+)
