@@ -1,4 +1,5 @@
 mod Alphabets
+mod BufferEnds
 mod DigitNumbers
 mod HexReading
 mod IdFacts

@@ -136,7 +136,8 @@ impl Alphabet {
     /// the bytes behind them stay. The buffer needs room for the digits.
     pub fn put_id(self, id: oid<'_>, buffer: &mut [u8])
         requires { hex_len_of (oid_kind id) ≤ length buffer.old }
-        ensures { buffer.new ≡ spelling (letter_of self) (oid_digits id.entry) ++ drop (hex_len_of (oid_kind id.entry)) buffer.old }
+        ensures value { buffer.new ≡ spelling (letter_of self) (oid_digits id.entry) ++ drop (hex_len_of (oid_kind id.entry)) buffer.old }
+        ensures len { length (oid_digits id.entry) ≡ hex_len_of (oid_kind id.entry) }
     {
         let bytes = id.as_bytes();
         spell_hex(bytes, buffer);

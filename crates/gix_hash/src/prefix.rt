@@ -1,10 +1,12 @@
 //! Beginnings of ids.
 
 ghost use Rattle.std.specs.Prelude.{◌≡◌, ◌≤◌, ◌<◌, ◌*◌, ◌↔◌, ℕ, length, take, replicate, drop, ◌++◌, IfOk, IsTrue, IsAscii, OnOk, All};
+ghost use Rattle.std.specs.Borrow.{sem};
 ghost use Rattle.std.specs.Io.KnownBytes.{Appends};
 ghost use Rattle.std.specs.declared.cmp.Ordering.{Ordering};
 ghost use Rattle.gix_hash.specs.Digits.{digits_of, hex_letter, reverse_letter, spelling};
 ghost use Rattle.gix_hash.specs.Kind.{hex_len_of, byte_len_of};
+ghost use Rattle.gix_hash.specs.LentText.{EndsAs};
 ghost use Rattle.gix_hash.specs.ObjectId.{id_kind, id_digits};
 ghost use Rattle.gix_hash.specs.Prefix.{place, padded};
 ghost use Rattle.gix_hash.specs.PrefixReading.{prefix_read};
@@ -12,6 +14,7 @@ ghost use Rattle.gix_hash.specs.PrefixReading.{prefix_read};
 use crate::alphabet::Alphabet;
 use crate::borrowed::oid;
 use crate::change_id::ReverseHexDisplay;
+use crate::display::CutId;
 use crate::hex_digits::ascii_text;
 use crate::kind::Kind;
 use crate::object_id::ObjectId;
@@ -95,7 +98,7 @@ impl Model for Prefix {
 
 impl Prefix {
     ghost use Rattle.gix_hash.specs.Oid.{oid_kind, oid_digits};
-    ghost use Rattle.gix_hash.specs.ReverseHexDisplay.{reverse_shown_digits};
+    ghost use Rattle.gix_hash.specs.CutId.{shown_digits};
 
     /// The least number of digits that [`Prefix::new`] and [`Prefix::from_hex`] take.
     pub const MIN_HEX_LEN: usize = 4;
@@ -192,26 +195,61 @@ impl Prefix {
         self.bytes.as_oid()
     }
 
+    // The prefix as a cut id.
+    fn cut(&self) -> CutId<'_>
+        ensures { shown_digits result ≡ self.now.digits }
+    {
+        CutId::new(self.as_oid(), self.hex_len)
+    }
+
     /// Writes the lowercase hex digits into the front of `buffer`; the bytes behind them stay. The
     /// buffer needs room for the digits.
     pub fn put_hex(&self, buffer: &mut [u8])
         requires { length self.now.digits ≤ length buffer.old }
         ensures { buffer.new ≡ spelling hex_letter self.now.digits ++ drop (length self.now.digits) buffer.old }
     {
+        // Ids are spelled whole, for which the buffer may have no room.
         let mut whole = [0; 64];
-        self.bytes.as_oid().put_hex(&mut whole);
-        buffer[..self.hex_len].copy_from_slice(&whole[..self.hex_len]);
+        let text = self.cut().text(Alphabet::Hex, &mut whole);
+        buffer[..text.len()].copy_from_slice(text.as_bytes());
     }
 
     /// Writes the lowercase hex digits into the front of `buffer` as [`Prefix::put_hex`] does, and
     /// lends them as text. The buffer needs room for the digits.
+    ///
+    /// The clause `behind` says what the buffer holds once the text is let go. Only a caller that is
+    /// proved by hand learns it: it lends the buffer again for a lifetime of its own, and takes it
+    /// back at what the clause says. [`Prefix::put_hex`] says the same of the buffer to every caller.
     pub fn hex_to_buf<'b>(&self, buffer: &'b mut [u8]) -> &'b str
         requires { length self.now.digits ≤ length buffer.old }
+        ensures* behind { sem 𝓛 (EndsAs buffer.entry (spelling hex_letter self.now.digits ++ drop (length self.now.digits) buffer.old)) }
         ensures text { result.now ≡ spelling hex_letter self.now.digits }
         ensures ascii { IsAscii result.now }
         ensures len { length result.now ≡ length self.now.digits }
     {
+        self.front_text(self.filled(buffer))
+    }
+
+    // The same buffer, with the digits in its front.
+    fn filled<'b>(&self, buffer: &'b mut [u8]) -> &'b mut [u8]
+        requires { length self.now.digits ≤ length buffer.old }
+        ensures same { result.ghost_name ≡ buffer.entry.ghost_name }
+        ensures value { result.now ≡ spelling hex_letter self.now.digits ++ drop (length self.now.digits) buffer.old }
+        ensures room { length self.now.digits ≤ length result.now }
+        ensures front { take (length self.now.digits) result.now ≡ spelling hex_letter self.now.digits }
+    {
         self.put_hex(buffer);
+        buffer
+    }
+
+    // The digits in front of a buffer, as text.
+    fn front_text<'b>(&self, buffer: &'b [u8]) -> &'b str
+        requires room { length self.now.digits ≤ length buffer.now }
+        requires front { take (length self.now.digits) buffer.now ≡ spelling hex_letter self.now.digits }
+        ensures text { result.now ≡ spelling hex_letter self.now.digits }
+        ensures ascii { IsAscii result.now }
+        ensures len { length result.now ≡ length self.now.digits }
+    {
         ascii_text(&buffer[..self.hex_len])
     }
 
@@ -221,7 +259,7 @@ impl Prefix {
         ensures { OnOk result (Appends (W.contents out.old) (W.contents out.new) (spelling hex_letter self.now.digits)) }
     {
         let mut buffer = [0; 64];
-        out.write_all(self.hex_to_buf(&mut buffer[..self.hex_len()]).as_bytes())
+        out.write_all(self.cut().text(Alphabet::Hex, &mut buffer).as_bytes())
     }
 
     /// The prefix for printing in the letters `z` to `k`.
@@ -229,7 +267,7 @@ impl Prefix {
         ensures id { oid_digits result.inner ≡ padded (hex_len_of self.now.kind) self.now.digits }
         ensures kind { oid_kind result.inner ≡ self.now.kind }
         ensures hex_len { result.hex_len ≡ length self.now.digits }
-        ensures shown { reverse_shown_digits result ≡ self.now.digits }
+        ensures shown { shown_digits result ≡ self.now.digits }
     {
         ReverseHexDisplay::new(self.as_oid(), self.hex_len)
     }
@@ -239,7 +277,7 @@ impl Prefix {
         ensures { IsTrue result ↔ (text.now ≡ spelling hex_letter self.now.digits) }
     {
         let mut buffer = [0; 64];
-        self.hex_to_buf(&mut buffer[..self.hex_len()]) == text
+        self.cut().text(Alphabet::Hex, &mut buffer) == text
     }
 
     /// The number of digits.
@@ -342,7 +380,7 @@ impl fmt::Display for Prefix {
 
     fn fmt<W: fmt::Write>(&self, f: &mut fmt::Formatter<W>) -> fmt::Result {
         let mut buffer = [0; 64];
-        f.write_str(self.hex_to_buf(&mut buffer[..self.hex_len()]))
+        f.write_str(self.cut().text(Alphabet::Hex, &mut buffer))
     }
 }
 
