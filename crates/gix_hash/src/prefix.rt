@@ -25,6 +25,8 @@ use std::marker::Model;
 use std::{error, fmt, io};
 
 pub mod from_hex;
+#[cfg(test)]
+mod tests;
 
 /// Why an id has no prefix of so many digits.
 #[derive(Debug, Drop)]
