@@ -1,5 +1,5 @@
 use Rattle.gix_hash.proofs.KeptDigits.{words_order-behind}
-use Rattle.gix_hash.proofs.prefix.PrefixOrd.cmp.Goals as goal
+use Rattle.gix_hash.proofs.prefix.order.PrefixOrd.cmp.Goals as goal
 
 pub returns : goal.returns
 returns c =

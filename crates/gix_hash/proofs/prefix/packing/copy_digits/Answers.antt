@@ -1,6 +1,6 @@
 use Rattle.std.proofs.Common.{◌≡◌, suc, ◌*◌, ◌/◌, ◌<◌, ◌≤◌, length, arith}
 use Rattle.gix_hash.proofs.Packing.{padded-even, padded-odd}
-use Rattle.gix_hash.proofs.prefix.copy_digits.Goals as goal
+use Rattle.gix_hash.proofs.prefix.packing.copy_digits.Goals as goal
 
 pub returns-then-hex_len-eq1 : goal.returns-then-hex_len-eq1
 returns-then-hex_len-eq1 c =

@@ -1,5 +1,5 @@
 use Rattle.gix_hash.specs.PrefixBytes.{packed-shown, length-shown}
-use Rattle.gix_hash.proofs.prefix.PrefixHash.hash.Goals as goal
+use Rattle.gix_hash.proofs.prefix.order.PrefixHash.hash.Goals as goal
 
 pub returns : goal.returns
 returns g c =
