@@ -158,9 +158,9 @@ pub fn nested_or_disjoint(first: &Prefix, second: &Prefix)
         ⊎ ((id : List ℕ) → ¬ (BeginsWith id first.now.digits × BeginsWith id second.now.digits)) }
 {}
 
-/// The words of a prefix, by which it compares: a digit stands with as many digits before it as in
-/// the prefix, from the highest four bits of the first word on and of the second from the 33rd digit
-/// on, and behind the digits are zeros.
+/// The two words by which a prefix compares hold its digits from the highest four bits on, the first
+/// 32 in the first word and the others in the second. Behind the digits are zeros, as a list gives 0
+/// behind its end.
 pub fn digits_in_words(prefix: &Prefix)
     ensures first { (at : ℕ) → at < 32 → (words_of prefix.now.digits).first / 16 ^ (31 - at) % 16 ≡ slice_index prefix.now.digits at }
     ensures second { (at : ℕ) → at < 32 → (words_of prefix.now.digits).second / 16 ^ (31 - at) % 16 ≡ slice_index prefix.now.digits (32 + at) }

@@ -69,7 +69,7 @@ impl error::Error for Error {}
 /// A beginning of an id: a kind, and 0 to 40 or 0 to 64 digits.
 ///
 /// It keeps the bytes of its digits with zeros behind them, as many as the kind's digest has, and
-/// beside them the digits as two numbers, which compare by a few instructions.
+/// beside them the same digits as two numbers of 128 bits, by which it compares.
 #[derive(Clone, Copy)]
 pub struct Prefix {
     bytes: ObjectId,
