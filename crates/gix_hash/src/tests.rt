@@ -2,6 +2,7 @@
 //! call and impl once where it succeeds.
 
 mod change_ids;
+mod formatting;
 mod hashing_state;
 mod ids;
 mod kinds;
@@ -26,6 +27,11 @@ const BLOB_256: &str = "473a0f4c3be8a93681a267e3b1e9a7dcda1185436fe141f7749120a3
 
 const TREE_256: &str = "6ef19b41225c5369f1c104d45d8d85efa9b057b53b14b4b9b939dd74decc5321";
 
+// The empty blob of SHA-1 in the letters `z` to `k`.
+const BLOB_LETTERS: &str = "ltqmlxqooxmymtvwvoroxqplssupmrnxlvrnuwqy";
+
+const ZEROS_65: &str = "00000000000000000000000000000000000000000000000000000000000000000";
+
 const BLOB_BYTES: [u8; 20] = [
     0xe6, 0x9d, 0xe2, 0x9b, 0xb2, 0xd1, 0xd6, 0x43, 0x4b, 0x8b, 0x29, 0xae, 0x77, 0x5a, 0xd8, 0xc2,
     0xe4, 0x8c, 0x53, 0x91,
@@ -48,6 +54,21 @@ fn expect_text<T: Display + Drop>(
 ) -> Result<(), AllocError> {
     let text = format!(in rt.alloc(); "{value}")?;
     assert_eq!(rt; text.as_str(), want);
+    Ok(())
+}
+
+// The value prints so whatever width, fill and precision are asked for.
+fn expect_whole<T: Display + Drop>(
+    rt: &(impl Abort + AllocGlobal),
+    value: T,
+    want: &str,
+) -> Result<(), AllocError> {
+    let wide = format!(in rt.alloc(); "{value:>70}")?;
+    assert_eq!(rt; wide.as_str(), want);
+    let filled = format!(in rt.alloc(); "{value:*^70}")?;
+    assert_eq!(rt; filled.as_str(), want);
+    let cut = format!(in rt.alloc(); "{value:.3}")?;
+    assert_eq!(rt; cut.as_str(), want);
     Ok(())
 }
 

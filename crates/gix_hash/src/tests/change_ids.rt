@@ -2,19 +2,21 @@
 
 use super::hashing_state::expect_fed;
 use super::{
-    BLOB, BLOB_BYTES, TREE, converted, expect_answer, expect_below, expect_same, expect_text, id,
-    parsed,
+    BLOB, BLOB_256, BLOB_BYTES, BLOB_LETTERS, TREE, converted, expect_answer, expect_below,
+    expect_debug, expect_same, expect_text, id, parsed,
 };
 use crate::prefix::from_hex;
-use crate::{ChangeId, Kind, ObjectId, Prefix};
+use crate::{Alphabet, ChangeId, Kind, ObjectId, Prefix};
 use std::alloc::AllocError;
 use std::process::Abort;
 use std::test::Fail;
 
-// The empty blob and the empty tree of SHA-1.
-const BLOB_LETTERS: &str = "ltqmlxqooxmymtvwvoroxqplssupmrnxlvrnuwqy";
-
+// The empty tree of SHA-1, and the empty blob of SHA-256.
 const TREE_LETTERS: &str = "vorxumntvxnotloqpztzluvokrmtqxrrkollvqzv";
+
+const BLOB_256_LETTERS: &str = "vswpzkvnwolrpqwtrypxtslwoylqpsmnmpyyruvwtklyvykssvqyxzpwzwsxyryw";
+
+const LETTERS_Z_65: &str = "zzzzzzzzzzzzzzzzzzzzzzzzzzzzzzzzzzzzzzzzzzzzzzzzzzzzzzzzzzzzzzzzz";
 
 const LETTERS_Z_41: &str = "zzzzzzzzzzzzzzzzzzzzzzzzzzzzzzzzzzzzzzzzz";
 
@@ -68,8 +70,18 @@ fn read_from_text(rt: HostRuntime) -> Result<(), Fail> {
             (BLOB_LETTERS, BLOB_LETTERS),
             ("LTQMLXQOOXMYMTVWVOROXQPLSSUPMRNXLVRNUWQY", BLOB_LETTERS),
             ("VoRxUmNtVxNoTlOqPzTzLuVoKrMtQxRrKoLlVqZv", TREE_LETTERS),
+            (BLOB_256_LETTERS, BLOB_256_LETTERS),
             ("zzz", "A hash sized 3 hexadecimal characters is invalid"),
+            (
+                LETTERS_Z_41,
+                "A hash sized 41 hexadecimal characters is invalid",
+            ),
+            (
+                LETTERS_Z_65,
+                "A hash sized 65 hexadecimal characters is invalid",
+            ),
             (BLOB, "Invalid character encountered"),
+            (BLOB_256, "Invalid character encountered"),
         ],
     )?;
     expect_text(
@@ -77,6 +89,9 @@ fn read_from_text(rt: HostRuntime) -> Result<(), Fail> {
         ChangeId::from_reverse_hex(TREE_LETTERS.as_bytes())?.as_oid(),
         TREE,
     )?;
+    let wide = ChangeId::from_reverse_hex(BLOB_256_LETTERS.as_bytes())?;
+    assert_eq!(rt; wide.kind(), Kind::Sha256);
+    expect_text(&rt, wide.to_hex(), BLOB_256)?;
     Ok(())
 }
 
@@ -93,8 +108,25 @@ fn prefixes(rt: HostRuntime) -> Result<(), Fail> {
             ),
             ("0000", "Invalid hex character"),
             ("zzzj", "Invalid hex character"),
+            (BLOB_256_LETTERS, BLOB_256),
+            (
+                LETTERS_Z_65,
+                "An id cannot be larger than 64 chars in hex, but 65 was requested",
+            ),
         ],
     )?;
+    assert_eq!(rt;
+        Prefix::from_reverse_hex_nonempty(LETTERS_Z_65).err(),
+        Some(from_hex::Error::TooLong { hex_len: 65 })
+    );
+    assert_eq!(rt;
+        Prefix::from_reverse_hex_nonempty("").err(),
+        Some(from_hex::Error::TooShort { hex_len: 0 })
+    );
+    assert_eq!(rt;
+        Prefix::from_reverse_hex_nonempty("0").err(),
+        Some(from_hex::Error::Invalid)
+    );
     assert_eq!(rt;
         Prefix::from_reverse_hex("zzz").err(),
         Some(from_hex::Error::TooShort { hex_len: 3 })
@@ -114,6 +146,40 @@ fn prefixes(rt: HostRuntime) -> Result<(), Fail> {
     }
     let prefix = Prefix::new(id(BLOB)?.as_oid(), 7)?;
     expect_text(&rt, prefix.to_reverse_hex(), "ltqmlxq")?;
+    Ok(())
+}
+
+#[test]
+fn alphabets(rt: HostRuntime) -> Result<(), Fail> {
+    let blob = id(BLOB)?;
+    for (alphabet, letters, spelled, beginning, first) in [
+        (
+            Alphabet::Hex,
+            BLOB,
+            b"e69de29bb2d1d6434b8b29ae775ad8c2e48c5391#",
+            "E69de29",
+            "e",
+        ),
+        (
+            Alphabet::Reverse,
+            BLOB_LETTERS,
+            b"ltqmlxqooxmymtvwvoroxqplssupmrnxlvrnuwqy#",
+            "LTqmlxq",
+            "l",
+        ),
+    ] {
+        assert!(rt; alphabet.read_id(letters.as_bytes())? == blob);
+        expect_text(&rt, alphabet.read_prefix(beginning)?, "e69de29")?;
+        expect_text(&rt, alphabet.read_prefix_nonempty(first)?, "e")?;
+        assert!(rt; alphabet.read_prefix(first).is_err());
+        let mut buffer = [b'#'; 41];
+        let view = blob.as_oid();
+        assert!(rt; view.kind().len_in_hex() == 40);
+        alphabet.put_id(view, &mut buffer);
+        assert_eq!(rt; &buffer, spelled);
+    }
+    assert!(rt; Alphabet::Hex != Alphabet::Reverse);
+    expect_debug(&rt, Alphabet::Reverse, "Reverse")?;
     Ok(())
 }
 
@@ -146,7 +212,7 @@ fn compared(rt: HostRuntime) -> Result<(), Fail> {
         blob.to_reverse_hex_with_len(100),
     );
     expect_below(&rt, &asked_50, &asked_100);
-    expect_below(&rt, &tree.to_reverse_hex(), &asked_50);
+    expect_below(&rt, &tree.to_reverse_hex_with_len(100), &asked_50);
     expect_same(
         &rt,
         &blob.to_reverse_hex(),

@@ -2,8 +2,8 @@
 
 use super::hashing_state::expect_fed;
 use super::{
-    BLOB, BLOB_256, BLOB_256_BYTES, BLOB_BYTES, TREE, converted, expect_answer, expect_below,
-    expect_debug, expect_error, expect_same, expect_text, id, parsed, tried,
+    BLOB, BLOB_256, BLOB_256_BYTES, BLOB_BYTES, TREE, ZEROS_65, converted, expect_answer,
+    expect_below, expect_debug, expect_error, expect_same, expect_text, id, parsed, tried,
 };
 use crate::{Error, Kind, ObjectId, Prefix, decode, oid, verify};
 use std::alloc::AllocError;
@@ -67,7 +67,15 @@ fn read_from_text(rt: HostRuntime) -> Result<(), Fail> {
                 "A hash sized 41 hexadecimal characters is invalid",
             ),
             (
+                ZEROS_65,
+                "A hash sized 65 hexadecimal characters is invalid",
+            ),
+            (
                 "g69de29bb2d1d6434b8b29ae775ad8c2e48c5391",
+                "Invalid character encountered",
+            ),
+            (
+                "473a0f4c3be8a93681a267e3b1e9a7dcda1185436fe141f7749120a30372181g",
                 "Invalid character encountered",
             ),
             (

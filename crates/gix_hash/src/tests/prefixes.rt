@@ -2,8 +2,8 @@
 
 use super::hashing_state::expect_fed;
 use super::{
-    BLOB, BLOB_256, TREE, converted, expect_answer, expect_below, expect_error, expect_same,
-    expect_text, id, tried,
+    BLOB, BLOB_256, TREE, ZEROS_65, converted, expect_answer, expect_below, expect_error,
+    expect_same, expect_text, id, tried,
 };
 use crate::prefix::{self, from_hex};
 use crate::{Kind, ObjectId, Prefix};
@@ -13,8 +13,6 @@ use std::process::Abort;
 use std::test::Fail;
 
 const ZEROS_41: &str = "00000000000000000000000000000000000000000";
-
-const ZEROS_65: &str = "00000000000000000000000000000000000000000000000000000000000000000";
 
 // Makes a prefix of so many digits of an id.
 fn expect_new(
