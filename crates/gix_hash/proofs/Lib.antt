@@ -2,9 +2,11 @@ mod Accepted
 mod Alphabets
 mod BufferEnds
 mod Chunks
+mod DigitNumbers
 mod FirstWords
 mod HexReading
 mod IdFacts
+mod KeptDigits
 mod KindFacts
 mod LaneHalves
 mod LaneLetters
@@ -13,9 +15,9 @@ mod LanePlaces
 mod LaneReading
 mod LaneValues
 mod Made
+mod Masks
 mod OnlyChunks
 mod Packing
-mod PaddedOrder
 mod PaddedReading
 mod PlaceLaws
 mod Places
@@ -24,3 +26,4 @@ mod ReadingFacts
 mod ReadingLaws
 mod SpellingLaws
 mod Spellings
+mod WordOrder

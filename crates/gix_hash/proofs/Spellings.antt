@@ -1,9 +1,9 @@
 -- Spellings: their lengths, letters and beginnings.
-use Rattle.std.proofs.Common.{◌++◌, ◌≤◌, ◌≡◌, ℕ, ◌*◌, ◌/◌, ◌%◌, ◌<◌, ◌==◌, true, List, [], ◌∷◌, length, slice_index, take, min, refl, sym, ap, ◌∙◌, arith, eqb-true, Result, Ok, Err}
+use Rattle.std.proofs.Common.{◌++◌, ◌≤◌, ◌≡◌, ℕ, ◌/◌, ◌%◌, ◌<◌, ◌==◌, true, List, [], ◌∷◌, length, slice_index, take, min, refl, sym, ap, ◌∙◌, arith, eqb-true, Result, Ok, Err}
 use Rattle.std.specs.Prelude.{IsAscii, IsUtf8, MatchResult, All, IsOk}
 use Rattle.std.proofs.lemmas.Bool.{agree_below_at}
 use Rattle.std.proofs.lemmas.List.{take_all, length-map, take_min, take-map, take-append-le}
-use Rattle.std.proofs.lemmas.List.Elements.{All-take, All-nil, All-cons, All-head, All-tail}
+use Rattle.std.proofs.lemmas.List.Elements.{All-nil, All-cons, All-head, All-tail}
 use Rattle.std.proofs.lemmas.Str.{IsUtf8-from_ascii}
 use Rattle.std.proofs.lemmas.Str.Ascii.{IsAscii-nil, IsAscii-cons}
 use Rattle.std.proofs.lemmas.Bool.Decides.{nat_tests}
@@ -14,9 +14,6 @@ use Rattle.gix_hash.specs.Oid.{oid_bytes, oid_digits, oid_kind}
 use Rattle.gix_hash.specs.declared.borrowed.oid.{oid}
 use Rattle.gix_hash.proofs.KindFacts.{hex_len_of-kind}
 use Rattle.gix_hash.proofs.Places.{length-digits_of}
-use Rattle.gix_hash.specs.ObjectId.{id_bytes, id_digits}
-use Rattle.gix_hash.specs.PrefixBytes.{IsPacked}
-use Rattle.gix_hash.specs.declared.object_id.ObjectId.{ObjectId}
 
 -- a digit's letter stands at the digit's place among the letters
 pub hex_letter-table : (d : ℕ) → d < 16 → slice_index lower_digits d ≡ hex_letter d
@@ -58,10 +55,6 @@ pub IsOk-ascii : {T E : Type 0} (P : T → Type 0) (Q : E → Type 0) (bytes : L
     → MatchResult answer P (λ e. (¬ IsUtf8 bytes) × Q e) → IsOk answer
 IsOk-ascii P Q bytes (Ok text) ascii h = refl
 IsOk-ascii P Q bytes (Err e) ascii h = absurd (h.0 (IsUtf8-from_ascii bytes ascii))
-
--- the digits that a prefix shows are below sixteen
-pub fits-shown : (id : ObjectId) (n : ℕ) → IsPacked id n → All (λ d. d < 16) (take n (id_digits id))
-fits-shown id n h = All-take (λ (d : ℕ). d < 16) n (id_digits id) (All-digits_of (id_bytes id) h.fits)
 
 -- a spelling in front of other bytes, cut at a number of letters or at its end, spells the first digits
 pub take-spelling : (letter : ℕ → ℕ) (n : ℕ) (ds behind : List ℕ)

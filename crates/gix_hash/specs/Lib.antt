@@ -21,3 +21,4 @@ pub mod Alphabet
 pub mod Hashing
 pub mod Streams
 pub mod HashingWriter
+pub mod Words

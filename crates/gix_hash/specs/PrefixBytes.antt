@@ -1,4 +1,4 @@
--- How a prefix is kept: the bytes of its digits with zeros behind, and the number of digits.
+-- How a prefix is kept: the bytes of its digits with zeros behind, the number of digits, and their two words.
 use Rattle.std.proofs.Common.{◌<◌, ◌≡◌, ℕ, ◌+◌, ◌-◌, ◌*◌, ◌≤◌, List, [], ◌∷◌, length, take, replicate, refl, sym, ap, ◌∙◌, arith, length-append, eqb-true}
 use Rattle.std.specs.Prelude.{IsTrue, All, nat_eq}
 use Rattle.std.specs.Hash as fed
@@ -9,10 +9,12 @@ use Rattle.gix_hash.specs.Digits.{digits_of}
 use Rattle.gix_hash.specs.Kind.{hex_len_of, number_of, kind_by_number}
 use Rattle.gix_hash.specs.ObjectId.{id_kind, id_bytes, id_digits}
 use Rattle.gix_hash.specs.Prefix.{Beginning, padded, prefix_eq}
+use Rattle.gix_hash.specs.Words.{words_of}
 use Rattle.gix_hash.specs.declared.kind.Kind.{Kind}
 use Rattle.gix_hash.specs.declared.kind.Kind.TheVariants as kinds
 use Rattle.gix_hash.specs.declared.object_id.ObjectId.{ObjectId}
 use Rattle.gix_hash.specs.declared.object_id.ObjectId.TheVariants.{Sha1, Sha256}
+use Rattle.gix_hash.specs.declared.prefix.Prefix.TheInside.{Inside}
 
 -- the bytes of digits, two a byte; behind an odd number of digits a zero
 unfoldable pub packed : List ℕ → List ℕ
@@ -29,11 +31,16 @@ id_of kinds.Sha256 bytes = Sha256 bytes
 abbrev pub padded_id : Kind → List ℕ → ObjectId
 padded_id kind digits = id_of kind (packed (padded (hex_len_of kind) digits))
 
--- the id holds n digits with zeros behind them
-pub record IsPacked (id : ObjectId) (n : ℕ) : Type 0 where
-  pub within : n ≤ hex_len_of (id_kind id)
-  pub zeros : id_digits id ≡ padded (hex_len_of (id_kind id)) (take n (id_digits id))
-  pub fits : All (λ b. b < 256) (id_bytes id)
+-- the digits that a prefix shows
+abbrev pub shown : Inside → List ℕ
+shown p = take p.hex_len (id_digits p.bytes)
+
+-- bytes and words hold the digits that are shown, with zeros behind them
+pub record IsPacked (p : Inside) : Type 0 where
+  pub within : p.hex_len ≤ hex_len_of (id_kind p.bytes)
+  pub zeros : id_digits p.bytes ≡ padded (hex_len_of (id_kind p.bytes)) (shown p)
+  pub digits_in_range : All (λ d. d < 16) (id_digits p.bytes)
+  pub words : p.words ≡ words_of (shown p)
 
 -- the digits of bytes give the bytes back
 pub packed-digits_of : (bytes : List ℕ) → packed (digits_of bytes) ≡ bytes
@@ -47,23 +54,39 @@ id_of-parts (Sha1 bytes) = ap Sha1 (packed-digits_of bytes)
 id_of-parts (Sha256 bytes) = ap Sha256 (packed-digits_of bytes)
 
 -- the kind and the digits that a prefix shows give its bytes back
-pub given_back : (id : ObjectId) (n : ℕ) → IsPacked id n → padded_id (id_kind id) (take n (id_digits id)) ≡ id
-given_back id n h = ap (λ (ds : List ℕ). id_of (id_kind id) (packed ds)) (sym h.zeros) ∙ id_of-parts id
+given_back : (p : Inside) → IsPacked p → padded_id (id_kind p.bytes) (shown p) ≡ p.bytes
+given_back p h = ap (λ (ds : List ℕ). id_of (id_kind p.bytes) (packed ds)) (sym h.zeros) ∙ id_of-parts p.bytes
 
 -- what a prefix shows, padded and packed, is its bytes
-pub packed-shown : (id : ObjectId) (n : ℕ) → IsPacked id n → packed (padded (hex_len_of (id_kind id)) (take n (id_digits id))) ≡ id_bytes id
-packed-shown id n h = ap packed (sym h.zeros) ∙ packed-digits_of (id_bytes id)
+pub packed-shown : (p : Inside) → IsPacked p → packed (padded (hex_len_of (id_kind p.bytes)) (shown p)) ≡ id_bytes p.bytes
+packed-shown p h = ap packed (sym h.zeros) ∙ packed-digits_of (id_bytes p.bytes)
 
 -- padding reaches at least the length asked for
-pub length-padded : (n : ℕ) (digits : List ℕ) → n ≤ length (padded n digits)
+length-padded : (n : ℕ) (digits : List ℕ) → n ≤ length (padded n digits)
 length-padded n digits =
     omega (arith, length-append digits (replicate (n - length digits) 0), length-replicate {A = ℕ} (n - length digits) 0)
 
 -- the digits that a prefix shows are as many as it says
-pub length-shown : (id : ObjectId) (n : ℕ) → IsPacked id n → length (take n (id_digits id)) ≡ n
-length-shown id n h =
-    length-take-le n (id_digits id)
-    (omega (arith, h.within, length-padded (hex_len_of (id_kind id)) (take n (id_digits id)), ap length h.zeros))
+pub length-shown : (p : Inside) → IsPacked p → length (shown p) ≡ p.hex_len
+length-shown p h =
+    length-take-le p.hex_len (id_digits p.bytes)
+    (omega (arith, h.within, length-padded (hex_len_of (id_kind p.bytes)) (shown p), ap length h.zeros))
+
+-- how a prefix of a kind and digits is kept
+abbrev pub kept : Beginning → Inside
+kept prefix = record {
+  bytes = padded_id prefix.kind prefix.digits;
+  hex_len = length prefix.digits;
+  words = words_of prefix.digits;
+}
+
+-- the prefix that is seen
+abbrev pub seen : Inside → Beginning
+seen p = record { kind = id_kind p.bytes; digits = shown p }
+
+-- what is seen of a prefix tells how it is kept
+pub kept-seen : (p : Inside) → IsPacked p → kept (seen p) ≡ p
+kept-seen p h = λ i. record { bytes = given_back p h i; hex_len = length-shown p h i; words = sym h.words i }
 
 -- what a prefix feeds to a hash: its bytes in one write, and then the number of digits
 abbrev pub prefix_hash_input : Beginning → List (List ℕ)

@@ -1,7 +1,7 @@
 //! Laws of digits, ids and prefixes that no single call carries. Each is the contract of a function
 //! that computes nothing: a call of it brings the law into a caller's proof.
 
-ghost use Rattle.std.specs.Prelude.{◌≡◌, ◌≤◌, ◌<◌, ◌↔◌, ◌⊎◌, ℕ, List, IsTrue, IsOk, IfOk, Some, None, codes, length, slice_index};
+ghost use Rattle.std.specs.Prelude.{◌≡◌, ◌≤◌, ◌<◌, ◌↔◌, ◌⊎◌, ◌+◌, ◌-◌, ◌/◌, ◌%◌, ◌^◌, ℕ, List, IsTrue, IsOk, IfOk, Some, None, codes, length, slice_index};
 ghost use Rattle.std.specs.declared.cmp.Ordering.{Ordering};
 ghost use Rattle.std.specs.Cmp.Lexicographic.{slice_cmp};
 ghost use Rattle.std.specs.Ordering.{nat_cmp, ordering_reverse};
@@ -15,6 +15,7 @@ ghost use Rattle.gix_hash.specs.Oid.{oid_digits, oid_kind, oid_eq, oid_cmp};
 ghost use Rattle.gix_hash.specs.Prefix.{place, Beginning, BeginsWith, prefix_eq};
 ghost use Rattle.gix_hash.specs.PrefixReading.{prefix_read, IsPrefixReading, IsPrefixRefusal};
 ghost use Rattle.gix_hash.specs.Reading.{digits_read};
+ghost use Rattle.gix_hash.specs.Words.{words_of};
 ghost use Rattle.gix_hash.specs.declared.borrowed.oid as borrowed;
 ghost use Rattle.gix_hash.specs.declared.decode.Error as decode;
 ghost use Rattle.gix_hash.specs.declared.prefix.from_hex.Error as from_hex;
@@ -156,3 +157,14 @@ pub fn nested_or_disjoint(first: &Prefix, second: &Prefix)
         ⊎ ((id : List ℕ) → BeginsWith id second.now.digits → BeginsWith id first.now.digits)
         ⊎ ((id : List ℕ) → ¬ (BeginsWith id first.now.digits × BeginsWith id second.now.digits)) }
 {}
+
+/// The two words by which a prefix compares hold its digits from the highest four bits on, the first
+/// 32 in the first word and the others in the second. Behind the digits are zeros, as a list gives 0
+/// behind its end.
+pub fn digits_in_words(prefix: &Prefix)
+    ensures first { (at : ℕ) → at < 32 → (words_of prefix.now.digits).first / 16 ^ (31 - at) % 16 ≡ slice_index prefix.now.digits at }
+    ensures second { (at : ℕ) → at < 32 → (words_of prefix.now.digits).second / 16 ^ (31 - at) % 16 ≡ slice_index prefix.now.digits (32 + at) }
+{
+    // Where the range of the digits is told.
+    let _len = prefix.hex_len();
+}

@@ -29,6 +29,7 @@ mod object_id;
 pub mod prefix;
 /// Comparing a computed id with the one that was expected.
 pub mod verify;
+mod words;
 
 pub use alphabet::Alphabet;
 pub use borrowed::oid;

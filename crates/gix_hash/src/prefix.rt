@@ -1,29 +1,27 @@
 //! Beginnings of ids.
 
-ghost use Rattle.std.specs.Prelude.{◌≡◌, ◌≤◌, ◌<◌, ◌*◌, ◌↔◌, ℕ, length, take, replicate, drop, ◌++◌, IfOk, IsTrue, IsAscii, OnOk, All};
-ghost use Rattle.std.specs.Borrow.{sem};
-ghost use Rattle.std.specs.Io.KnownBytes.{Appends};
+ghost use Rattle.std.specs.Prelude.{◌≡◌, ◌≤◌, ◌<◌, ℕ, length, take, IfOk, All};
 ghost use Rattle.std.specs.declared.cmp.Ordering.{Ordering};
-ghost use Rattle.gix_hash.specs.Digits.{digits_of, hex_letter, reverse_letter, spelling};
-ghost use Rattle.gix_hash.specs.Kind.{hex_len_of, byte_len_of};
-ghost use Rattle.gix_hash.specs.LentText.{EndsAs};
-ghost use Rattle.gix_hash.specs.ObjectId.{id_kind, id_bytes, id_digits};
+ghost use Rattle.gix_hash.specs.Digits.{hex_letter, reverse_letter};
+ghost use Rattle.gix_hash.specs.Kind.{hex_len_of};
 ghost use Rattle.gix_hash.specs.Prefix.{place, padded};
 ghost use Rattle.gix_hash.specs.PrefixReading.{prefix_read};
 
 use crate::alphabet::Alphabet;
 use crate::borrowed::oid;
-use crate::change_id::ReverseHexDisplay;
-use crate::display::CutId;
-use crate::hex_digits::ascii_text;
 use crate::kind::Kind;
 use crate::object_id::ObjectId;
+use crate::words::Words;
 use std::cmp::Ordering;
-use std::hash::{Hash, Hasher};
 use std::marker::Model;
-use std::{error, fmt, io};
+use std::{error, fmt};
 
 pub mod from_hex;
+mod order;
+mod packing;
+mod printing;
+#[cfg(test)]
+mod tests;
 
 /// Why an id has no prefix of so many digits.
 #[derive(Debug, Drop)]
@@ -70,11 +68,13 @@ impl error::Error for Error {}
 
 /// A beginning of an id: a kind, and 0 to 40 or 0 to 64 digits.
 ///
-/// It keeps the bytes of its digits with zeros behind them, as many as the kind's digest has.
+/// It keeps the bytes of its digits with zeros behind them, as many as the kind's digest has, and
+/// beside them the same digits as two numbers of 128 bits, by which it compares.
 #[derive(Clone, Copy)]
 pub struct Prefix {
     bytes: ObjectId,
     hex_len: usize,
+    words: Words,
 }
 
 impl Model for Prefix {
@@ -82,22 +82,19 @@ impl Model for Prefix {
 
     ghost Value = { Beginning };
 
-    ghost use Rattle.std.specs.Prelude.{take, length};
-    ghost use Rattle.gix_hash.specs.ObjectId.{id_kind, id_digits};
-    ghost use Rattle.gix_hash.specs.PrefixBytes.{IsPacked, padded_id, given_back, length-shown};
+    ghost use Rattle.gix_hash.specs.PrefixBytes.{IsPacked, kept, seen, kept-seen};
 
-    ghost view = { λ p. record { kind = id_kind p.bytes; digits = take p.hex_len (id_digits p.bytes) } };
+    ghost view = { seen };
 
-    ghost invariant = { λ p. IsPacked p.bytes p.hex_len };
+    ghost invariant = { IsPacked };
 
-    ghost inverse = { λ b. record { bytes = padded_id b.kind b.digits; hex_len = length b.digits } };
+    ghost inverse = { kept };
 
-    ghost inverse_ok = { λ p h i. record { bytes = given_back p.bytes p.hex_len h i; hex_len = length-shown p.bytes p.hex_len h i } };
+    ghost inverse_ok = { kept-seen };
 }
 
 impl Prefix {
     ghost use Rattle.gix_hash.specs.Oid.{oid_kind, oid_digits};
-    ghost use Rattle.gix_hash.specs.CutId.{shown_digits};
 
     /// The least number of digits that [`Prefix::new`] and [`Prefix::from_hex`] take.
     pub const MIN_HEX_LEN: usize = 4;
@@ -164,109 +161,12 @@ impl Prefix {
         Alphabet::Reverse.read_prefix_nonempty(text)
     }
 
-    // The prefix of the first digits of some bytes.
-    pub(crate) fn packed(kind: Kind, front: &[u8], hex_len: usize) -> Prefix
-        requires room { length front.now ≤ byte_len_of kind }
-        requires digits { hex_len ≤ 2 * length front.now }
-        ensures { result ≡ record { kind = kind; digits = take hex_len (digits_of front.now) } }
-    {
-        Prefix {
-            bytes: padded_bytes(kind, front, hex_len),
-            hex_len,
-        }
-    }
-
     /// The digits with zeros behind them, as an id of the prefix's kind.
     pub fn as_oid(&self) -> oid<'_>
         ensures kind { oid_kind result ≡ self.now.kind }
         ensures digits { oid_digits result ≡ padded (hex_len_of self.now.kind) self.now.digits }
     {
         self.bytes.as_oid()
-    }
-
-    // The prefix as a cut id.
-    fn cut(&self) -> CutId<'_>
-        ensures { shown_digits result ≡ self.now.digits }
-    {
-        CutId::new(self.as_oid(), self.hex_len)
-    }
-
-    /// Writes the lowercase hex digits into the front of `buffer`; the bytes behind them stay. The
-    /// buffer needs room for the digits.
-    pub fn put_hex(&self, buffer: &mut [u8])
-        requires { length self.now.digits ≤ length buffer.old }
-        ensures { buffer.new ≡ spelling hex_letter self.now.digits ++ drop (length self.now.digits) buffer.old }
-    {
-        // Ids are spelled whole, for which the buffer may have no room.
-        let mut whole = [0; 64];
-        let text = self.cut().text(Alphabet::Hex, &mut whole);
-        buffer[..text.len()].copy_from_slice(text.as_bytes());
-    }
-
-    /// Writes the lowercase hex digits into the front of `buffer` as [`Prefix::put_hex`] does, and
-    /// lends them as text. The buffer needs room for the digits.
-    ///
-    /// The clause `behind` says what the buffer holds once the text is let go. Only a caller that is
-    /// proved by hand learns it: it lends the buffer again for a lifetime of its own, and takes it
-    /// back at what the clause says. [`Prefix::put_hex`] says the same of the buffer to every caller.
-    pub fn hex_to_buf<'b>(&self, buffer: &'b mut [u8]) -> &'b str
-        requires { length self.now.digits ≤ length buffer.old }
-        ensures* behind { sem 𝓛 (EndsAs buffer.entry (spelling hex_letter self.now.digits ++ drop (length self.now.digits) buffer.old)) }
-        ensures text { result.now ≡ spelling hex_letter self.now.digits }
-        ensures ascii { IsAscii result.now }
-        ensures len { length result.now ≡ length self.now.digits }
-    {
-        self.front_text(self.filled(buffer))
-    }
-
-    // The same buffer, with the digits in its front.
-    fn filled<'b>(&self, buffer: &'b mut [u8]) -> &'b mut [u8]
-        requires { length self.now.digits ≤ length buffer.old }
-        ensures same { result.ghost_name ≡ buffer.entry.ghost_name }
-        ensures value { result.now ≡ spelling hex_letter self.now.digits ++ drop (length self.now.digits) buffer.old }
-        ensures room { length self.now.digits ≤ length result.now }
-        ensures front { take (length self.now.digits) result.now ≡ spelling hex_letter self.now.digits }
-    {
-        self.put_hex(buffer);
-        buffer
-    }
-
-    // The digits in front of a buffer, as text.
-    fn front_text<'b>(&self, buffer: &'b [u8]) -> &'b str
-        requires room { length self.now.digits ≤ length buffer.now }
-        requires front { take (length self.now.digits) buffer.now ≡ spelling hex_letter self.now.digits }
-        ensures text { result.now ≡ spelling hex_letter self.now.digits }
-        ensures ascii { IsAscii result.now }
-        ensures len { length result.now ≡ length self.now.digits }
-    {
-        ascii_text(&buffer[..self.hex_len])
-    }
-
-    /// Writes the lowercase hex digits to `out`. The error is the writer's; how many digits were
-    /// written then is not said.
-    pub fn write_hex_to<W: io::Write>(&self, out: &mut W) -> io::Result<()>
-        ensures { OnOk result (Appends (W.contents out.old) (W.contents out.new) (spelling hex_letter self.now.digits)) }
-    {
-        let mut buffer = [0; 64];
-        out.write_all(self.cut().text(Alphabet::Hex, &mut buffer).as_bytes())
-    }
-
-    /// The prefix for printing in the letters `z` to `k`.
-    pub fn to_reverse_hex(&self) -> ReverseHexDisplay<'_>
-        ensures id { oid_digits result.inner ≡ padded (hex_len_of self.now.kind) self.now.digits }
-        ensures kind { oid_kind result.inner ≡ self.now.kind }
-        ensures hex_len { result.hex_len ≡ length self.now.digits }
-        ensures shown { shown_digits result ≡ self.now.digits }
-    {
-        ReverseHexDisplay::new(self.as_oid(), self.hex_len)
-    }
-
-    /// Whether `text` is just the lowercase hex digits.
-    pub fn eq_str(&self, text: &str) -> bool
-        ensures { IsTrue result ↔ (text.now ≡ spelling hex_letter self.now.digits) }
-    {
-        let mut buffer = [0; 64];
-        self.cut().text(Alphabet::Hex, &mut buffer) == text
     }
 
     /// The number of digits.
@@ -287,103 +187,7 @@ impl Prefix {
         requires { length self.now.digits ≤ hex_len_of (oid_kind candidate) }
         ensures { result ≡ place self.now.digits (oid_digits candidate.entry) }
     {
-        let whole = self.hex_len / 2;
-        let own = self.bytes.as_slice();
-        let theirs = candidate.as_bytes();
-        let order = own[..whole].cmp(&theirs[..whole]);
-        if self.hex_len % 2 == 0 {
-            order
-        } else {
-            order.then((own[whole] >> 4).cmp(&(theirs[whole] >> 4)))
-        }
-    }
-}
-
-impl PartialEq for Prefix {
-    ghost use Rattle.std.proofs.Common.{rules};
-    ghost use Rattle.std.specs.Cmp.Rules.{comparing};
-    ghost use Rattle.gix_hash.specs.Prefix.{prefix_eq};
-
-    ghost eq = { prefix_eq };
-
-    ghost laws = { Prim.search (comparing, rules) };
-
-    fn eq(&self, other: &Self) -> bool {
-        self.cmp(other).is_eq()
-    }
-}
-
-impl Eq for Prefix {
-    ghost use Rattle.std.proofs.Common.{rules};
-    ghost use Rattle.std.specs.Cmp.Rules.{comparing};
-
-    ghost laws = { Prim.search (comparing, rules) };
-}
-
-impl PartialOrd for Prefix {
-    ghost use Rattle.std.proofs.Common.{rules};
-    ghost use Rattle.std.specs.Cmp.{partial_order_from_own_ties};
-    ghost use Rattle.std.specs.Cmp.Rules.{comparing};
-    ghost use Rattle.std.specs.Ordering.{as_partial_cmp};
-    ghost use Rattle.gix_hash.specs.Prefix.{prefix_cmp};
-
-    ghost partial_cmp = { as_partial_cmp prefix_cmp };
-
-    ghost laws = { partial_order_from_own_ties (Prim.search (comparing, rules)) (Prim.search (comparing, rules)) };
-
-    fn partial_cmp(&self, other: &Self) -> Option<Ordering> {
-        Some(self.cmp(other))
-    }
-}
-
-impl Ord for Prefix {
-    ghost use Rattle.std.proofs.Common.{rules};
-    ghost use Rattle.std.specs.Cmp.Rules.{comparing};
-    ghost use Rattle.gix_hash.specs.Prefix.{prefix_cmp};
-
-    ghost cmp = { prefix_cmp };
-
-    ghost total = { Prim.search (comparing, rules) };
-
-    ghost matches_partial_cmp = { Prim.search (comparing, rules) };
-
-    ghost matches_eq = { Prim.search (comparing, rules) };
-
-    fn cmp(&self, other: &Self) -> Ordering {
-        let digits = self.bytes.as_slice().cmp(other.bytes.as_slice());
-        let kind = self.bytes.kind().cmp(&other.bytes.kind());
-        kind.then(digits).then(self.hex_len.cmp(&other.hex_len))
-    }
-}
-
-impl Hash for Prefix {
-    ghost use Rattle.gix_hash.specs.PrefixBytes.{prefix_hash_input, same_hash_input};
-
-    ghost hash_input = { prefix_hash_input };
-
-    ghost respects_eq = { same_hash_input };
-
-    fn hash<H: Hasher>(&self, state: &mut H) {
-        state.write(self.bytes.as_slice());
-        self.hex_len.hash(state);
-    }
-}
-
-impl fmt::Display for Prefix {
-    ghost use Rattle.std.specs.Prelude.{Some};
-    ghost use Rattle.gix_hash.specs.Digits.{spelling, hex_letter};
-
-    ghost output = { λ prefix. Some (spelling hex_letter prefix.digits) };
-
-    fn fmt<W: fmt::Write>(&self, f: &mut fmt::Formatter<W>) -> fmt::Result {
-        let mut buffer = [0; 64];
-        f.write_str(self.cut().text(Alphabet::Hex, &mut buffer))
-    }
-}
-
-impl fmt::Debug for Prefix {
-    fn fmt<W: fmt::Write>(&self, f: &mut fmt::Formatter<W>) -> fmt::Result {
-        write!(f, "Prefix({self})")
+        self.words.place(self.hex_len, candidate)
     }
 }
 
@@ -394,10 +198,7 @@ impl From<ObjectId> for Prefix {
     ghost from_gives = { λ id prefix. prefix ≡ record { kind = id_kind id; digits = id_digits id } };
 
     fn from(id: ObjectId) -> Prefix {
-        Prefix {
-            hex_len: 2 * id.as_slice().len(),
-            bytes: id,
-        }
+        Prefix::padded(id, id.kind().len_in_hex())
     }
 }
 
@@ -413,43 +214,5 @@ impl<'a> TryFrom<&'a str> for Prefix {
 
     fn try_from(text: &'a str) -> Result<Prefix, from_hex::Error> {
         Prefix::from_hex(text)
-    }
-}
-
-// The id of a kind with the first `hex_len` digits of `front`, and zeros behind them.
-fn padded_bytes(kind: Kind, front: &[u8], hex_len: usize) -> ObjectId
-    requires room { length front.now ≤ byte_len_of kind }
-    requires digits { hex_len ≤ 2 * length front.now }
-    ensures kind { id_kind result ≡ kind }
-    ensures digits { id_digits result ≡ padded (hex_len_of kind) (take hex_len (digits_of front.now)) }
-    ensures fits { All (λ b. b < 256) (id_bytes result) }
-{
-    match kind {
-        Kind::Sha1 => {
-            let mut bytes = [0; 20];
-            copy_digits(front, hex_len, &mut bytes);
-            ObjectId::Sha1(bytes)
-        }
-        Kind::Sha256 => {
-            let mut bytes = [0; 32];
-            copy_digits(front, hex_len, &mut bytes);
-            ObjectId::Sha256(bytes)
-        }
-    }
-}
-
-// Copies the first `hex_len` digits of `front` into zeros: whole bytes, and at an odd number the
-// high half of one more.
-fn copy_digits(front: &[u8], hex_len: usize, zeros: &mut [u8])
-    requires zeros { zeros.old ≡ replicate (length zeros.old) 0 }
-    requires room { length front.now ≤ length zeros.old }
-    requires digits { hex_len ≤ 2 * length front.now }
-    ensures digits { digits_of zeros.new ≡ padded (2 * length zeros.old) (take hex_len (digits_of front.now)) }
-    ensures fits { All (λ b. b < 256) zeros.new }
-{
-    let whole = hex_len / 2;
-    zeros[..whole].copy_from_slice(&front[..whole]);
-    if hex_len % 2 == 1 {
-        zeros[whole] = front[whole] / 16 * 16;
     }
 }

@@ -238,6 +238,39 @@ fn places_against_ids(rt: HostRuntime) -> Result<(), Fail> {
 }
 
 #[test]
+fn places_at_the_ends_of_words(rt: HostRuntime) -> Result<(), Fail> {
+    let (blob, wide) = (id(BLOB)?, id(BLOB_256)?);
+    for (digits, candidate, place) in [
+        ("e69de29bb2d1d6434b8b29ae775ad8c2", &blob, Ordering::Equal),
+        (
+            "e69de29bb2d1d6434b8b29ae775ad8c2f",
+            &blob,
+            Ordering::Greater,
+        ),
+        ("e69de29bb2d1d6434b8b29ae775ad8c2d", &blob, Ordering::Less),
+        (
+            "e69de29bb2d1d6434b8b29ae775ad8c2e48c5390",
+            &blob,
+            Ordering::Less,
+        ),
+        (BLOB_256, &wide, Ordering::Equal),
+        (
+            "473a0f4c3be8a93681a267e3b1e9a7dcda1185436fe141f7749120a303721814",
+            &wide,
+            Ordering::Greater,
+        ),
+        (
+            "473a0f4c3be8a93681a267e3b1e9a7dcda1185436fe141f7749120a303721812",
+            &wide,
+            Ordering::Less,
+        ),
+    ] {
+        expect_place(&rt, Prefix::from_hex(digits)?, candidate, place);
+    }
+    Ok(())
+}
+
+#[test]
 fn fed_to_a_hash(rt: HostRuntime) -> Result<(), Fail> {
     let prefix = Prefix::new(id(BLOB)?.as_oid(), 7)?;
     let mut padded = [0; 20];

@@ -1,0 +1,20 @@
+use Rattle.std.proofs.Common.{◌≡◌, ◌-◌, ℕ, List, length, ap, ◌∙◌}
+use Rattle.gix_hash.specs.Prefix.{padded}
+use Rattle.gix_hash.specs.Words.{words_of}
+use Rattle.gix_hash.proofs.DigitNumbers.{word-padded, word-padded_from}
+use Rattle.gix_hash.proofs.prefix.Prefix.padded.Goals as goal
+
+-- zeros behind the digits leave their words
+words_of-padded : (n : ℕ) (digits : List ℕ) → words_of (padded n digits) ≡ words_of digits
+words_of-padded n digits =
+    let first = word-padded 32 (n - length digits) digits in
+    let second = word-padded_from 32 32 (n - length digits) digits in
+    λ i. record { first = first i; second = second i }
+
+pub invariant_of-result : goal.invariant_of-result
+invariant_of-result c = record {
+  within = c.requires.within;
+  zeros = c.requires.zeros;
+  digits_in_range = c.as_oid.ensures.fits;
+  words = c.of.ensures ∙ ap words_of (c.as_oid.ensures.digits ∙ c.requires.zeros) ∙ words_of-padded _ _;
+}
