@@ -2,11 +2,16 @@
 //! call and impl once where it succeeds.
 
 mod change_ids;
+mod devices;
+mod files;
 mod hashing_state;
+mod hashing_writer;
 mod ids;
 mod kinds;
 mod laws;
+mod listeners;
 mod prefixes;
+mod streams;
 
 use crate::{ObjectId, decode};
 use std::alloc::AllocError;
