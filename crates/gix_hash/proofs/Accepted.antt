@@ -12,20 +12,20 @@ module _ {T : Type 0} (contents : T → Option (List ℕ)) where
   Takes-nil writer = record {
     kind = refl;
     fed = λ message stood. rw append-nil stood;
-    gained = Appends-nil (contents writer.inner)
+    gained = Appends-nil (contents writer.inner);
   }
 
   Takes-append : (first second third : Write T) (bytes more : List ℕ)
-    → Takes contents first bytes second → Takes contents second more third → Takes contents first (bytes ++ more) third
+      → Takes contents first bytes second → Takes contents second more third → Takes contents first (bytes ++ more) third
   Takes-append first second third bytes more took took_more = record {
     kind = took_more.kind ∙ took.kind;
     fed = λ message stood. rw (← append_assoc) (took_more.fed _ (took.fed message stood));
-    gained = Appends-trans _ _ _ bytes more took.gained took_more.gained
+    gained = Appends-trans _ _ _ bytes more took.gained took_more.gained;
   }
 
   -- the calls together accepted what each of them did
   pub Takes-accepted : (before after : Write T) (calls : List WriterCall)
-    → Reaches (Passes contents) before calls after → Takes contents before (accepted calls) after
+      → Reaches (Passes contents) before calls after → Takes contents before (accepted calls) after
   unfolding Reaches
   Takes-accepted before after [] reached = subst (λ writer. Takes contents before [] writer) reached (Takes-nil before)
   Takes-accepted before after (call ∷ calls) reached =

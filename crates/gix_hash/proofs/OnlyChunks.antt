@@ -40,16 +40,16 @@ are-more : (n : ℕ) (lens : List ℕ) → AreChunks n lens → AreChunks (65535
 are-more n [] are = record {
   all = omega (arith, are.all);
   full = All-nil _;
-  sizes = All-cons IsChunkLen 65535 [] (omega arith, omega arith) are.sizes
+  sizes = All-cons IsChunkLen 65535 [] (omega arith, omega arith) are.sizes;
 }
 are-more n (x ∷ lens) are =
     let before : suc (suc (length lens)) - 1 ≡ suc (length lens) = omega arith in
     let after : suc (length lens) - 1 ≡ length lens = omega arith in
     record {
-  all = rw sum_by-cons (ap (λ total. 65535 + total) are.all);
-  full = rw before (All-cons IsFull 65535 (take (length lens) (x ∷ lens)) refl (rw after at are.full));
-  sizes = All-cons IsChunkLen 65535 (x ∷ lens) (omega arith, omega arith) are.sizes
-}
+      all = rw sum_by-cons (ap (λ total. 65535 + total) are.all);
+      full = rw before (All-cons IsFull 65535 (take (length lens) (x ∷ lens)) refl (rw after at are.full));
+      sizes = All-cons IsChunkLen 65535 (x ∷ lens) (omega arith, omega arith) are.sizes;
+    }
 
 chunks_are_from : (q r m : ℕ) → m ≡ 65535 * q + r → r < 65535 → AreChunks m (chunks m)
 chunks_are_from zero zero m is small =
@@ -88,9 +88,9 @@ chunks_alone n (x ∷ y ∷ lens) are =
     let first = All-head IsFull x (take (length lens) (y ∷ lens)) full in
     let total : x + sum (y ∷ lens) ≡ n = rw (← sum_by-cons (λ len. len) x (y ∷ lens)) are.all in
     let rest = chunks_alone (n - 65535) (y ∷ lens) (record {
-        all = omega arith;
-        full = rw after (All-tail IsFull x (take (length lens) (y ∷ lens)) full);
-        sizes = All-tail IsChunkLen x (y ∷ lens) are.sizes
-      }) in
+      all = omega arith;
+      full = rw after (All-tail IsFull x (take (length lens) (y ∷ lens)) full);
+      sizes = All-tail IsChunkLen x (y ∷ lens) are.sizes;
+    }) in
     let whole : n ≡ 65535 + (n - 65535) = omega arith in
     rw (whole, chunks-more, ← rest, first)

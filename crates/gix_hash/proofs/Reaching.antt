@@ -31,8 +31,8 @@ refused-more answers p q r answer j is_false asked last =
 
 -- where each asking is answered by false, all askings are
 pub all_refused : {I : Type 0} (answers : I → Bool → I → Type 0)
-  → ((p q : I) (answer : Bool) → answers p answer q → answer ≡ false)
-  → (p q : I) (given : List Bool) → Reaches answers p given q → given ≡ refused (length given)
+    → ((p q : I) (answer : Bool) → answers p answer q → answer ≡ false)
+    → (p q : I) (given : List Bool) → Reaches answers p given q → given ≡ refused (length given)
 unfolding Reaches
 all_refused answers each p q [] reached = refl
 all_refused answers each p q (answer ∷ given) reached =

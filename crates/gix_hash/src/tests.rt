@@ -2,13 +2,18 @@
 //! call and impl once where it succeeds.
 
 mod change_ids;
+mod devices;
 mod each_byte;
+mod files;
 mod formatting;
 mod hashing_state;
+mod hashing_writer;
 mod ids;
 mod kinds;
 mod laws;
+mod listeners;
 mod prefixes;
+mod streams;
 
 use crate::{ObjectId, decode};
 use std::alloc::AllocError;

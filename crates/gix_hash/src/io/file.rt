@@ -13,8 +13,8 @@ use std::fs;
 use std::path::Path;
 use std::rt::Files;
 
-/// The digest, of the given kind, of the first `num_bytes_from_start` bytes of the file at `path`,
-/// as [`bytes`](crate::bytes).
+/// The digest of the first `num_bytes_from_start` bytes of the file at `path`, which are read as
+/// [`bytes`](crate::bytes) reads them.
 ///
 /// The file is opened first. Where that fails, nothing is heard or asked, and the answer is
 /// [`Error::Io`], as it is where the file has fewer bytes or can't be read. Opening may take memory.

@@ -7,5 +7,5 @@ use Rattle.gix_hash.proofs.hashing_laws.id_of_pieces.Given as goal
 abbrev pub invariant-loop-piece : goal.invariant-loop-piece
 invariant-loop-piece l = record {
   kind : hasher_kind l.hasher ≡ l.fn.kind;
-  fed : StandsFor l.hasher (concat (map (λ piece. piece.now) (take l.piece-index l.pieces)))
+  fed : StandsFor l.hasher (concat (map (λ piece. piece.now) (take l.piece-index l.pieces)));
 }

@@ -1,0 +1,130 @@
+//! A reader and a writer whose faults are chosen. They claim nothing of their bytes.
+
+use std::io;
+
+/// The text of a device's error.
+pub const FAILED: &str = "the device failed";
+
+fn failure() -> io::Error {
+    io::Error::new(io::ErrorKind::Other, FAILED)
+}
+
+/// When a device answers an error.
+#[derive(Clone, Copy)]
+pub enum Fault {
+    /// Never.
+    Never,
+    /// At the call with this number, counted from 1. A writer takes all from then on.
+    AtCall(usize),
+    /// At each call once so many bytes have passed.
+    AfterBytes(usize),
+}
+
+impl Fault {
+    /// Whether a call fails that is the device's `calls`-th, when `len` bytes have passed before.
+    fn strikes(self, calls: usize, len: usize) -> bool {
+        match self {
+            Fault::Never => false,
+            Fault::AtCall(at) => calls == at,
+            Fault::AfterBytes(most) => len >= most,
+        }
+    }
+
+    /// How many more bytes may pass when `len` have passed before.
+    fn room(self, len: usize) -> usize {
+        match self {
+            Fault::AfterBytes(most) => most.saturating_sub(len),
+            _ => usize::MAX,
+        }
+    }
+
+    /// Whether it lies behind a call that is the device's `calls`-th.
+    fn is_over(self, calls: usize) -> bool {
+        matches!(self, Fault::AtCall(at) if at < calls)
+    }
+}
+
+/// A reader that gives at most `piece` bytes a call.
+#[derive(Drop)]
+pub struct Reader<'a> {
+    pub rest: &'a [u8],
+    pub calls: usize,
+    piece: usize,
+    fault: Fault,
+    given: usize,
+}
+
+impl<'a> Reader<'a> {
+    pub fn new(bytes: &'a [u8], piece: usize, fault: Fault) -> Self {
+        Reader {
+            rest: bytes,
+            calls: 0,
+            piece,
+            fault,
+            given: 0,
+        }
+    }
+}
+
+impl io::Read for Reader<'_> {
+    fn read(&mut self, buf: &mut [u8]) -> io::Result<usize> {
+        self.calls = self.calls.saturating_add(1);
+        if self.fault.strikes(self.calls, self.given) {
+            return Err(failure());
+        }
+        let room = self.piece.min(self.fault.room(self.given));
+        let count = buf.len().min(self.rest.len()).min(room);
+        buf[..count].copy_from_slice(&self.rest[..count]);
+        self.rest = &self.rest[count..];
+        self.given = self.given.saturating_add(count);
+        Ok(count)
+    }
+}
+
+/// A writer that takes at most `piece` bytes a call, none at 0, and keeps them.
+#[derive(Drop)]
+pub struct Writer {
+    pub bytes: Vec<u8>,
+    pub calls: usize,
+    pub flushes: usize,
+    pub flush_fails: bool,
+    piece: usize,
+    fault: Fault,
+}
+
+impl Writer {
+    pub fn new(bytes: Vec<u8>, piece: usize, fault: Fault) -> Self {
+        Writer {
+            bytes,
+            calls: 0,
+            flushes: 0,
+            flush_fails: false,
+            piece,
+            fault,
+        }
+    }
+}
+
+impl io::Write for Writer {
+    fn write(&mut self, buf: &[u8]) -> io::Result<usize> {
+        self.calls = self.calls.saturating_add(1);
+        let len = self.bytes.len();
+        if self.fault.strikes(self.calls, len) {
+            return Err(failure());
+        }
+        let mut count = buf.len();
+        if !self.fault.is_over(self.calls) {
+            count = count.min(self.piece).min(self.fault.room(len));
+        }
+        self.bytes.extend_from_slice(&buf[..count])?;
+        Ok(count)
+    }
+
+    fn flush(&mut self) -> io::Result<()> {
+        self.flushes = self.flushes.saturating_add(1);
+        if self.flush_fails {
+            return Err(failure());
+        }
+        Ok(())
+    }
+}

@@ -1,0 +1,100 @@
+//! What is written through a hashing writer.
+
+use super::devices::{FAILED, Fault, Writer};
+use super::streams::{ABC, EMPTY};
+use super::{BLOB, expect_answer, expect_text};
+use crate::io::{Never, NoProgress};
+use crate::{Kind, bytes, io, oid, verify};
+use std::io::Write;
+use std::test::Fail;
+
+fn written<W: Write>(out: &mut W, bytes: &[u8]) -> std::io::Result<usize> {
+    out.write(bytes)
+}
+
+fn flushed<W: Write>(out: &mut W) -> std::io::Result<()> {
+    out.flush()
+}
+
+// The inner writer takes one byte, then fails, then takes all.
+#[test]
+fn hashed_as_far_as_it_was_taken(rt: HostRuntime) -> Result<(), Fail> {
+    let inner = Writer::new(Vec::new(rt.alloc()), 1, Fault::AtCall(2));
+    let mut out = io::Write::new(inner, Kind::Sha1);
+    expect_answer(&rt, out.write(b"blob 0\0"), "1")?;
+    expect_answer(&rt, out.write(b"lob 0\0"), FAILED)?;
+    expect_answer(&rt, out.write(b"lob 0\0"), "6")?;
+    assert_eq!(rt; out.inner.calls, 3);
+    assert_eq!(rt; out.inner.bytes.as_slice(), b"blob 0\0".as_slice());
+    expect_answer(&rt, out.hash.try_finalize(), BLOB)?;
+    Ok(())
+}
+
+// By the method and by the library's trait.
+#[test]
+fn inner_writer_called_once(rt: HostRuntime) -> Result<(), Fail> {
+    for (piece, taken, digest) in [
+        (0, "0", EMPTY),
+        (2, "2", "da23614e02469a0d7c7bd1bdab5c9c474b1904dc"),
+        (3, "3", ABC),
+        (9, "3", ABC),
+    ] {
+        for by_trait in [false, true] {
+            let inner = Writer::new(Vec::new(rt.alloc()), piece, Fault::Never);
+            let mut out = io::Write::new(inner, Kind::Sha1);
+            let answer = if by_trait {
+                written(&mut out, b"abc")
+            } else {
+                out.write(b"abc")
+            };
+            expect_answer(&rt, answer, taken)?;
+            assert_eq!(rt; out.inner.calls, 1);
+            assert_eq!(rt; out.inner.bytes.as_slice(), &b"abc"[..piece.min(3)]);
+            expect_answer(&rt, out.hash.try_finalize(), digest)?;
+        }
+    }
+    Ok(())
+}
+
+#[test]
+fn flushes_leave_the_hasher(rt: HostRuntime) -> Result<(), Fail> {
+    for flush_fails in [false, true] {
+        let inner = Writer::new(Vec::new(rt.alloc()), 9, Fault::Never);
+        let mut out = io::Write::new(inner, Kind::Sha1);
+        out.inner.flush_fails = flush_fails;
+        out.write_all(b"abc")?;
+        for answer in [out.flush(), flushed(&mut out)] {
+            match answer {
+                Ok(()) => assert!(rt; !flush_fails),
+                Err(error) => expect_text(&rt, error, FAILED)?,
+            }
+        }
+        assert_eq!(rt; (out.inner.flushes, out.inner.calls), (2, 1));
+        expect_answer(&rt, out.hash.try_finalize(), ABC)?;
+    }
+    Ok(())
+}
+
+// A stream that ends in the digest of what is before it.
+#[test]
+fn trailing_digest_verified(rt: HostRuntime) -> Result<(), Fail> {
+    let mut out = io::Write::new(Vec::new(rt.alloc()), Kind::Sha1);
+    out.write_all(b"abc")?;
+    let io::Write { hash, mut inner } = out;
+    inner.extend_from_slice(hash.try_finalize()?.as_slice())?;
+    assert_eq!(rt; inner.len(), 23);
+    let last = oid::try_from_bytes(&inner[3..])?;
+    let mut input = inner.as_slice();
+    let id = bytes(&mut input, 3, Kind::Sha1, &mut NoProgress, &mut Never)?;
+    id.verify(last)?;
+    let mut changed: &[u8] = b"bbc";
+    let id = bytes(&mut changed, 3, Kind::Sha1, &mut NoProgress, &mut Never)?;
+    let refusal: verify::Error = id.verify(last).err().ok_or("a changed stream is verified")?;
+    expect_text(
+        &rt,
+        refusal.actual,
+        "0fbe2a58568b4590569588e52ed6a7da4e91b6ab",
+    )?;
+    expect_text(&rt, refusal.expected, ABC)?;
+    Ok(())
+}

@@ -1,0 +1,334 @@
+//! Hashers, and digests of what readers give.
+
+use super::devices::{FAILED, Fault, Reader};
+use super::listeners::{Asked, Call, Heard};
+use super::{BLOB, expect_answer, expect_debug, expect_error, expect_text, id};
+use crate::io::{Never, NoProgress};
+use crate::{
+    Hasher, Kind, ObjectId, Prefix, bytes, bytes_with_hasher, hasher, hashing, hashing_laws, io,
+};
+use std::alloc::AllocError;
+use std::process::Abort;
+use std::test::Fail;
+
+/// The digests of `abc`, as FIPS 180-4's examples have them.
+pub const ABC: &str = "a9993e364706816aba3e25717850c26c9cd0d89d";
+
+pub const ABC_256: &str = "ba7816bf8f01cfea414140de5dae2223b00361a396177a9cb410ff61f20015ad";
+
+/// The digests of nothing.
+pub const EMPTY: &str = "da39a3ee5e6b4b0d3255bfef95601890afd80709";
+
+const EMPTY_256: &str = "e3b0c44298fc1c149afbf4c8996fb92427ae41e4649b934ca495991b7852b855";
+
+// The digests of 65535 and of 131071 zero bytes, by sha1sum.
+const FULL_CHUNK: &str = "391edab7225a1de662ebc3a1a670a20d8e6a226b";
+
+const THREE_CHUNKS: &str = "63cbd9d6dff6a8038e5c813f168ba2324f223cfa";
+
+/// A hasher that was fed the pieces.
+pub fn hasher_fed(kind: Kind, pieces: &[&[u8]]) -> Hasher {
+    let mut hasher = hasher(kind);
+    for piece in pieces {
+        hasher.update(piece);
+    }
+    hasher
+}
+
+// The pieces, fed one after another, have that digest.
+fn expect_digest(
+    rt: &(impl Abort + AllocGlobal),
+    kind: Kind,
+    pieces: &[&[u8]],
+    want: &str,
+) -> Result<(), AllocError> {
+    expect_answer(rt, hasher_fed(kind, pieces).try_finalize(), want)?;
+    expect_answer(rt, hashing_laws::id_of_pieces(kind, pieces), want)
+}
+
+// The examples of FIPS 180-4, and the digest of nothing.
+#[test]
+fn pieces_are_one_message(rt: HostRuntime) -> Result<(), Fail> {
+    let two_blocks: &[u8] = b"abcdbcdecdefdefgefghfghighijhijkijkljklmklmnlmnomnopnopq";
+    expect_digest(&rt, Kind::Sha1, &[], EMPTY)?;
+    expect_digest(&rt, Kind::Sha256, &[], EMPTY_256)?;
+    expect_digest(&rt, Kind::Sha1, &[b"ab", b"", b"c"], ABC)?;
+    expect_digest(&rt, Kind::Sha256, &[b"abc"], ABC_256)?;
+    expect_digest(
+        &rt,
+        Kind::Sha1,
+        &[two_blocks],
+        "84983e441c3bd26ebaae4aa1f95129e5e54670f1",
+    )?;
+    expect_digest(
+        &rt,
+        Kind::Sha256,
+        &[&two_blocks[..3], &two_blocks[3..]],
+        "248d6a61d20638b8e5c026930c3e6039a33ce45964ff2167f6ecedd419db06c1",
+    )?;
+    Ok(())
+}
+
+#[test]
+fn documented_example_whole(rt: HostRuntime) -> Result<(), Fail> {
+    let blob = ObjectId::from_hex(BLOB.as_bytes())?;
+    assert_eq!(rt; blob.kind(), Kind::Sha1);
+    assert!(rt; blob.is_empty_blob());
+    assert!(rt; blob.eq_str(BLOB));
+    expect_text(&rt, Prefix::new(blob.as_oid(), 7)?, "e69de29")?;
+    let computed = hasher_fed(Kind::Sha1, &[blob.as_slice()]).try_finalize()?;
+    assert_eq!(rt; computed.kind(), Kind::Sha1);
+    assert!(rt; computed != blob);
+    Ok(())
+}
+
+// The objects by whose digests Git names the empty blob and the empty tree.
+#[test]
+fn well_known_ids_are_digests() -> Result<(), Fail> {
+    for &kind in Kind::all() {
+        let blob = hasher_fed(kind, &[b"blob 0\0"]).try_finalize()?;
+        let tree = hasher_fed(kind, &[b"tree 0\0"]).try_finalize()?;
+        if blob != kind.empty_blob() || tree != kind.empty_tree() {
+            return Err(Fail::new("a well-known id is another digest"));
+        }
+    }
+    Ok(())
+}
+
+#[test]
+fn just_the_next_bytes_are_read(rt: HostRuntime) -> Result<(), Fail> {
+    for piece in [1, 6] {
+        let mut input = Reader::new(b"abcdef", piece, Fault::Never);
+        let id = bytes(&mut input, 3, Kind::Sha1, &mut NoProgress, &mut Never);
+        expect_answer(&rt, id, ABC)?;
+        assert_eq!(rt; input.rest, b"def".as_slice());
+
+        let mut input = Reader::new(b"bcX", piece, Fault::Never);
+        let fed = hasher_fed(Kind::Sha1, &[b"a"]);
+        let id = bytes_with_hasher(&mut input, 2, fed, &mut NoProgress, &mut Never);
+        expect_answer(&rt, id, ABC)?;
+        assert_eq!(rt; input.rest, b"X".as_slice());
+    }
+    Ok(())
+}
+
+// No allocator is in reach.
+#[test]
+fn hashed_without_memory() -> Result<(), Fail> {
+    let abc = id(ABC)?;
+    let mut input: &[u8] = b"abcdef";
+    let read = bytes(&mut input, 3, Kind::Sha1, &mut NoProgress, &mut Never)?;
+    let mut input: &[u8] = b"bcX";
+    let fed = hasher_fed(Kind::Sha1, &[b"a"]);
+    let read_on = bytes_with_hasher(&mut input, 2, fed, &mut NoProgress, &mut Never)?;
+    let wide = hasher_fed(Kind::Sha256, &[b"abc"]).try_finalize()?;
+    if read != abc || read_on != abc || wide != id(ABC_256)? {
+        return Err(Fail::new("another digest without memory"));
+    }
+    Ok(())
+}
+
+// What a run answers that reads zero bytes, and is interrupted at an asking with that number, or
+// never at 0.
+#[derive(Clone, Copy)]
+struct Run<'a> {
+    given: &'a [u8],
+    num_bytes: u64,
+    stops_at: usize,
+    answer: &'a str,
+    heard: &'a [Call],
+    unread: usize,
+}
+
+// Each chunk that was heard of was asked after.
+fn expect_run(rt: &(impl Abort + AllocGlobal), run: &Run<'_>) -> Result<(), AllocError> {
+    let mut input = run.given;
+    let mut heard = Heard::new();
+    let mut asked = Asked::stopping_at(run.stops_at);
+    let answer = bytes(
+        &mut input,
+        run.num_bytes,
+        Kind::Sha1,
+        &mut heard,
+        &mut asked,
+    );
+    expect_answer(rt, answer, run.answer)?;
+    heard.expect(rt, run.heard);
+    let chunks = run
+        .heard
+        .iter()
+        .filter(|call| matches!(call, Call::IncBy(_)));
+    assert_eq!(rt; asked.times, chunks.count());
+    assert_eq!(rt; input.len(), run.unread);
+    Ok(())
+}
+
+#[test]
+fn chunks_are_heard_and_asked_after(rt: HostRuntime) -> Result<(), Fail> {
+    let zeros = [0; 131071];
+    let all = [
+        Call::Init(Some(131071)),
+        Call::IncBy(65535),
+        Call::IncBy(65535),
+        Call::IncBy(1),
+        Call::ShowThroughput,
+    ];
+    for (num_bytes, stops_at, answer, heard, unread) in [
+        (
+            0,
+            0,
+            EMPTY,
+            [Call::Init(Some(0)), Call::ShowThroughput].as_slice(),
+            131071,
+        ),
+        (
+            65535,
+            0,
+            FULL_CHUNK,
+            &[
+                Call::Init(Some(65535)),
+                Call::IncBy(65535),
+                Call::ShowThroughput,
+            ],
+            65536,
+        ),
+        (131071, 0, THREE_CHUNKS, &all, 0),
+        (131071, 1, "Interrupted", &all[..2], 65536),
+        (131071, 2, "Interrupted", &all[..3], 1),
+        (131071, 3, "Interrupted", &all[..4], 0),
+        (
+            65536,
+            2,
+            "Interrupted",
+            &[Call::Init(Some(65536)), Call::IncBy(65535), Call::IncBy(1)],
+            65535,
+        ),
+    ] {
+        expect_run(
+            &rt,
+            &Run {
+                given: &zeros,
+                num_bytes,
+                stops_at,
+                answer,
+                heard,
+                unread,
+            },
+        )?;
+    }
+    let whole = hasher_fed(Kind::Sha1, &[&zeros]).try_finalize();
+    expect_answer(&rt, whole, THREE_CHUNKS)?;
+    Ok(())
+}
+
+#[test]
+fn a_hasher_goes_on_from_what_it_was_fed(rt: HostRuntime) -> Result<(), Fail> {
+    let mut heard = Heard::new();
+    let fed = hasher_fed(Kind::Sha1, &[b"abc"]);
+    let mut input: &[u8] = b"d";
+    let id = bytes_with_hasher(&mut input, 0, fed, &mut heard, &mut Never);
+    expect_answer(&rt, id, ABC)?;
+    heard.expect(&rt, &[Call::Init(Some(0)), Call::ShowThroughput]);
+    Ok(())
+}
+
+// FIPS 180-4's long example: a million times the letter a.
+#[test]
+fn a_million_bytes(rt: HostRuntime) -> Result<(), Fail> {
+    for (kind, want) in [
+        (Kind::Sha1, "34aa973cd4c4daa4f61eeb2bdbad27316534016f"),
+        (
+            Kind::Sha256,
+            "cdc76e5c9914fb9281a1c7e284d73e67f1809a48a497200e046d39ccc7112cd0",
+        ),
+    ] {
+        let mut input = std::io::repeat(b'a');
+        let id = bytes(&mut input, 1_000_000, kind, &mut NoProgress, &mut Never);
+        expect_answer(&rt, id, want)?;
+    }
+    Ok(())
+}
+
+#[test]
+fn a_reader_that_ends_too_early(rt: HostRuntime) -> Result<(), Fail> {
+    let zeros = [0; 65536];
+    for (given, num_bytes, heard) in [
+        (b"abc".as_slice(), 5, [Call::Init(Some(5))].as_slice()),
+        (
+            &zeros,
+            65537,
+            &[Call::Init(Some(65537)), Call::IncBy(65535)],
+        ),
+    ] {
+        let mut input = given;
+        let mut progress = Heard::new();
+        let answer = bytes(&mut input, num_bytes, Kind::Sha1, &mut progress, &mut Never);
+        assert!(rt; matches!(answer, Err(io::Error::Io(_))));
+        progress.expect(&rt, heard);
+    }
+    Ok(())
+}
+
+// Three reads a chunk, and one for the last byte.
+#[test]
+fn each_read_fails_in_turn(rt: HostRuntime) -> Result<(), Fail> {
+    let zeros = [0; 131071];
+    let all = [
+        Call::Init(Some(131071)),
+        Call::IncBy(65535),
+        Call::IncBy(65535),
+        Call::IncBy(1),
+        Call::ShowThroughput,
+    ];
+    for at in 1..=8 {
+        let mut input = Reader::new(&zeros, 30000, Fault::AtCall(at));
+        let (mut heard, mut asked) = (Heard::new(), Asked::stopping_at(0));
+        let answer = bytes(&mut input, 131071, Kind::Sha1, &mut heard, &mut asked);
+        if at == 8 {
+            expect_answer(&rt, answer, THREE_CHUNKS)?;
+            heard.expect(&rt, &all);
+        } else {
+            assert!(rt; matches!(answer, Err(io::Error::Io(_))), "at read {at}");
+            expect_answer(&rt, answer, FAILED)?;
+            let chunks = (at - 1) / 3;
+            heard.expect(&rt, &all[..1 + chunks]);
+            assert_eq!(rt; asked.times, chunks, "at read {at}");
+            assert_eq!(rt; input.calls, at);
+        }
+    }
+    // The error that a reader answers behind its bytes.
+    let mut input = Reader::new(b"abc", 2, Fault::AfterBytes(3));
+    let answer = bytes(&mut input, 4, Kind::Sha1, &mut NoProgress, &mut Never);
+    expect_answer(&rt, answer, FAILED)?;
+    Ok(())
+}
+
+#[test]
+fn laws_hold_without_computing(rt: HostRuntime) -> Result<(), Fail> {
+    hashing_laws::only_chunks(131071);
+    hashing_laws::never_interrupts(&Never, &Never);
+    let out = io::Write::new(Vec::new(rt.alloc()), Kind::Sha256);
+    hashing_laws::stands_for_what_was_accepted(&out, &out);
+    Ok(())
+}
+
+#[test]
+fn error_texts(rt: HostRuntime) -> Result<(), Fail> {
+    let collision = || hashing::Error::CollisionAttack {
+        digest: ObjectId::null(Kind::Sha1),
+    };
+    expect_error(
+        &rt,
+        collision(),
+        "Detected SHA-1 collision attack with digest 0000000000000000000000000000000000000000",
+    )?;
+    let failed = io::Error::from(std::io::Error::new(std::io::ErrorKind::Other, FAILED));
+    assert!(rt; matches!(failed, io::Error::Io(_)));
+    expect_error(&rt, failed, FAILED)?;
+    let refused = io::Error::from(collision());
+    assert!(rt; matches!(refused, io::Error::Hasher(_)));
+    expect_error(&rt, refused, "Failed to hash data")?;
+    expect_error(&rt, io::Error::Interrupted, "Interrupted")?;
+    expect_debug(&rt, (NoProgress, Never), "(NoProgress, Never)")?;
+    Ok(())
+}
