@@ -1,4 +1,5 @@
 mod Alphabets
+mod BufferEnds
 mod HexReading
 mod IdFacts
 mod KindFacts

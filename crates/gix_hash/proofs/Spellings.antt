@@ -1,5 +1,5 @@
 -- Spellings: their lengths, letters and beginnings.
-use Rattle.std.proofs.Common.{◌++◌, ◌≤◌, ◌≡◌, ℕ, ◌*◌, ◌/◌, ◌%◌, ◌<◌, ◌==◌, true, List, [], ◌∷◌, length, slice_index, take, min, refl, sym, ap, ◌∙◌, arith, eqb-true, Result, Ok, Err}
+use Rattle.std.proofs.Common.{◌++◌, ◌≤◌, ◌≡◌, ℕ, ◌/◌, ◌%◌, ◌<◌, ◌==◌, true, List, [], ◌∷◌, length, slice_index, take, min, refl, sym, ap, ◌∙◌, arith, eqb-true, Result, Ok, Err}
 use Rattle.std.specs.Prelude.{IsAscii, IsUtf8, MatchResult, All, IsOk}
 use Rattle.std.proofs.lemmas.Bool.{agree_below_at}
 use Rattle.std.proofs.lemmas.List.{take_all, length-map, take_min, take-map, take-append-le}
@@ -72,18 +72,18 @@ take-spelling letter n ds behind =
     take-append-le (min n (length ds)) (spelling letter ds) behind within
     ∙ take-map letter (min n (length ds)) ds ∙ ap (spelling letter) (take_min n ds)
 
--- the digits of bytes, spelled in front of a buffer, cut at a number of them or at their end
-pub take-put_digits : (letter : ℕ → ℕ) (n cut : ℕ) (bytes buffer behind : List ℕ)
-    → buffer ≡ spelling letter (digits_of bytes) ++ behind → cut ≡ min n (2 * length bytes)
-    → take cut buffer ≡ spelling letter (take n (digits_of bytes))
-take-put_digits letter n cut bytes buffer behind put is =
-    let len = length-digits_of bytes in
-    let most : cut ≡ min n (length (digits_of bytes)) = is ∙ ap (min n) (sym len) in
-    rw (put, most) (take-spelling letter n (digits_of bytes) behind)
+-- an id has as many digits as its kind says
+pub length-oid_digits : (id : oid) → length (oid_digits id) ≡ hex_len_of (oid_kind id)
+length-oid_digits id = length-digits_of (oid_bytes id) ∙ sym (hex_len_of-kind (length (oid_bytes id)) id.length_known)
+
+-- the digits of an id, spelled in front of a buffer, cut at a number of them or at their end
+pub take-put_id : (letter : ℕ → ℕ) (n cut : ℕ) (id : oid) (buffer behind : List ℕ)
+    → buffer ≡ spelling letter (oid_digits id) ++ behind → cut ≡ min n (hex_len_of (oid_kind id))
+    → take cut buffer ≡ spelling letter (take n (oid_digits id))
+take-put_id letter n cut id buffer behind put is =
+    let most : cut ≡ min n (length (oid_digits id)) = is ∙ ap (min n) (sym (length-oid_digits id)) in
+    rw (put, most) (take-spelling letter n (oid_digits id) behind)
 
 -- all digits of an id are shown where its number of digits was asked for
 pub all_shown : (id : oid) (n : ℕ) → n ≡ hex_len_of (oid_kind id) → take n (oid_digits id) ≡ oid_digits id
-all_shown id n is =
-    let digits = length-digits_of (oid_bytes id) in
-    let two = hex_len_of-kind (length (oid_bytes id)) id.length_known in
-    take_all n (oid_digits id) (omega arith)
+all_shown id n is = let len = length-oid_digits id in take_all n (oid_digits id) (omega arith)

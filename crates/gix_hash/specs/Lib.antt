@@ -14,5 +14,6 @@ pub mod HexDisplay
 pub mod WellKnown
 pub mod ByteLengths
 pub mod Loan
+pub mod LentText
 pub mod Alphabet
 pub mod ReverseHexDisplay

@@ -1,6 +1,6 @@
 //! Ids that borrow their bytes.
 
-ghost use Rattle.std.specs.Prelude.{IsOk, IfOk, IfErr, OnOk, ◌≡◌, ◌≤◌, ◌<◌, ◌↔◌, ◌++◌, ◌*◌, IsTrue, IsAscii, All, length, drop, slice_range};
+ghost use Rattle.std.specs.Prelude.{IsOk, IfOk, IfErr, OnOk, ◌≡◌, ◌≤◌, ◌<◌, ◌↔◌, ◌++◌, ◌*◌, IsTrue, IsAscii, All, length, take, drop, slice_range};
 ghost use Rattle.std.proofs.Common.{rules};
 ghost use Rattle.std.specs.Cmp.{partial_order_from_own_ties};
 ghost use Rattle.std.specs.Cmp.Rules.{comparing};
@@ -8,11 +8,11 @@ ghost use Rattle.std.specs.Ordering.{as_partial_cmp};
 ghost use Rattle.gix_hash.specs.Digits.{first_byte_of, spelling, hex_letter};
 ghost use Rattle.gix_hash.specs.Kind.{is_digest_len, hex_len_of};
 
+use crate::alphabet::Alphabet;
 use crate::display::HexDisplay;
 use crate::error::Error;
 use crate::hex_digits::ascii_text;
 use crate::kind::Kind;
-use crate::lanes::put_letters;
 use crate::object_id::ObjectId;
 use crate::prefix::Prefix;
 use crate::verify;
@@ -37,6 +37,8 @@ impl<'a> oid<'a> {
     ghost use Rattle.gix_hash.specs.Oid.{oid_bytes, oid_digits, oid_kind};
     ghost use Rattle.gix_hash.specs.WellKnown.{null_digits, empty_blob_digits, empty_tree_digits};
     ghost use Rattle.std.specs.Io.KnownBytes.{Appends};
+    ghost use Rattle.std.specs.Borrow.{sem};
+    ghost use Rattle.gix_hash.specs.LentText.{EndsAs};
 
     /// A view of a digest whose length is known to be 20 or 32 bytes.
     pub fn from_bytes_unchecked(bytes: &'a [u8]) -> Self
@@ -187,20 +189,48 @@ impl<'a> oid<'a> {
     /// digits; the bytes behind them stay. The buffer needs room for the digits.
     pub fn put_hex(&self, buffer: &mut [u8])
         requires { hex_len_of (oid_kind self.now) ≤ length buffer.old }
-        ensures { buffer.new ≡ spelling hex_letter (oid_digits self.now) ++ drop (hex_len_of (oid_kind self.now)) buffer.old }
+        ensures value { buffer.new ≡ spelling hex_letter (oid_digits self.now) ++ drop (hex_len_of (oid_kind self.now)) buffer.old }
+        ensures len { length (oid_digits self.now) ≡ hex_len_of (oid_kind self.now) }
     {
-        put_letters(self.bytes, buffer);
+        Alphabet::Hex.put_id(*self, buffer);
     }
 
     /// Writes the lowercase hex digits into the front of `buffer` as [`oid::put_hex`] does, and
     /// lends them as text. The buffer needs room for the digits.
+    ///
+    /// The clause `behind` says what the buffer holds once the text is let go. Only a caller that is
+    /// proved by hand learns it: it lends the buffer again for a lifetime of its own, and takes it
+    /// back at what the clause says. [`oid::put_hex`] says the same of the buffer to every caller.
     pub fn hex_to_buf<'b>(&self, buffer: &'b mut [u8]) -> &'b str
         requires { hex_len_of (oid_kind self.now) ≤ length buffer.old }
+        ensures* behind { sem 𝓛 (EndsAs buffer.entry (spelling hex_letter (oid_digits self.now) ++ drop (hex_len_of (oid_kind self.now)) buffer.old)) }
         ensures text { result.now ≡ spelling hex_letter (oid_digits self.now) }
         ensures ascii { IsAscii result.now }
         ensures len { length result.now ≡ hex_len_of (oid_kind self.now) }
     {
+        self.front_text(self.filled(buffer))
+    }
+
+    // The same buffer, with the digits in its front.
+    pub(crate) fn filled<'b>(&self, buffer: &'b mut [u8]) -> &'b mut [u8]
+        requires { hex_len_of (oid_kind self.now) ≤ length buffer.old }
+        ensures same { result.ghost_name ≡ buffer.entry.ghost_name }
+        ensures value { result.now ≡ spelling hex_letter (oid_digits self.now) ++ drop (hex_len_of (oid_kind self.now)) buffer.old }
+        ensures room { hex_len_of (oid_kind self.now) ≤ length result.now }
+        ensures front { take (hex_len_of (oid_kind self.now)) result.now ≡ spelling hex_letter (oid_digits self.now) }
+    {
         self.put_hex(buffer);
+        buffer
+    }
+
+    // The digits in front of a buffer, as text.
+    pub(crate) fn front_text<'b>(&self, buffer: &'b [u8]) -> &'b str
+        requires room { hex_len_of (oid_kind self.now) ≤ length buffer.now }
+        requires front { take (hex_len_of (oid_kind self.now)) buffer.now ≡ spelling hex_letter (oid_digits self.now) }
+        ensures text { result.now ≡ spelling hex_letter (oid_digits self.now) }
+        ensures ascii { IsAscii result.now }
+        ensures len { length result.now ≡ hex_len_of (oid_kind self.now) }
+    {
         ascii_text(&buffer[..self.kind().len_in_hex()])
     }
 

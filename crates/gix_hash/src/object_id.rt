@@ -2,10 +2,10 @@
 
 ghost use Rattle.std.specs.Prelude.{◌≡◌, ◌≤◌, ◌<◌, ◌*◌, All, length, slice_range};
 
+use crate::alphabet::Alphabet;
 use crate::borrowed::oid;
 use crate::display::HexDisplay;
 use crate::error::Error;
-use crate::hex_digits::decode_digits;
 use crate::kind::Kind;
 use crate::prefix::Prefix;
 use crate::{decode, verify};
@@ -25,8 +25,9 @@ pub enum ObjectId {
 }
 
 impl ObjectId {
-    ghost use Rattle.std.specs.Prelude.{◌↔◌, ◌++◌, IsTrue, IsOk, IfErr, OnOk, IsAscii, drop};
+    ghost use Rattle.std.specs.Prelude.{◌↔◌, ◌++◌, IsTrue, IsOk, IfErr, OnOk, IsAscii, take, drop};
     ghost use Rattle.std.specs.Borrow.{sem};
+    ghost use Rattle.gix_hash.specs.LentText.{EndsAs};
     ghost use Rattle.std.specs.Io.KnownBytes.{Appends};
     ghost use Rattle.gix_hash.specs.Digits.{digits_of, first_byte_of, hex_letter, spelling};
     ghost use Rattle.gix_hash.specs.HexDisplay.{shown_digits};
@@ -45,19 +46,7 @@ impl ObjectId {
     pub fn from_hex(text: &[u8]) -> Result<ObjectId, decode::Error>
         ensures { id_answered result ≡ full_read hex_letter text.now }
     {
-        match text.len() {
-            40 => {
-                let mut bytes = [0; 20];
-                decode_digits(text, &mut bytes)?;
-                Ok(ObjectId::Sha1(bytes))
-            }
-            64 => {
-                let mut bytes = [0; 32];
-                decode_digits(text, &mut bytes)?;
-                Ok(ObjectId::Sha256(bytes))
-            }
-            len => Err(decode::Error::InvalidHexEncodingLength(len)),
-        }
+        Alphabet::Hex.read_id(text)
     }
 
     /// The kind of the digest.
@@ -227,7 +216,8 @@ impl ObjectId {
     /// As [`oid::put_hex`].
     pub fn put_hex(&self, buffer: &mut [u8])
         requires { hex_len_of (id_kind self.now) ≤ length buffer.old }
-        ensures { buffer.new ≡ spelling hex_letter (id_digits self.now) ++ drop (hex_len_of (id_kind self.now)) buffer.old }
+        ensures value { buffer.new ≡ spelling hex_letter (id_digits self.now) ++ drop (hex_len_of (id_kind self.now)) buffer.old }
+        ensures len { length (id_digits self.now) ≡ hex_len_of (id_kind self.now) }
     {
         self.as_oid().put_hex(buffer);
     }
@@ -235,11 +225,34 @@ impl ObjectId {
     /// As [`oid::hex_to_buf`].
     pub fn hex_to_buf<'b>(&self, buffer: &'b mut [u8]) -> &'b str
         requires { hex_len_of (id_kind self.now) ≤ length buffer.old }
+        ensures* behind { sem 𝓛 (EndsAs buffer.entry (spelling hex_letter (id_digits self.now) ++ drop (hex_len_of (id_kind self.now)) buffer.old)) }
         ensures text { result.now ≡ spelling hex_letter (id_digits self.now) }
         ensures ascii { IsAscii result.now }
         ensures len { length result.now ≡ hex_len_of (id_kind self.now) }
     {
-        self.as_oid().hex_to_buf(buffer)
+        self.front_text(self.filled(buffer))
+    }
+
+    // The same buffer, with the digits in its front.
+    fn filled<'b>(&self, buffer: &'b mut [u8]) -> &'b mut [u8]
+        requires { hex_len_of (id_kind self.now) ≤ length buffer.old }
+        ensures same { result.ghost_name ≡ buffer.entry.ghost_name }
+        ensures value { result.now ≡ spelling hex_letter (id_digits self.now) ++ drop (hex_len_of (id_kind self.now)) buffer.old }
+        ensures room { hex_len_of (id_kind self.now) ≤ length result.now }
+        ensures front { take (hex_len_of (id_kind self.now)) result.now ≡ spelling hex_letter (id_digits self.now) }
+    {
+        self.as_oid().filled(buffer)
+    }
+
+    // The digits in front of a buffer, as text.
+    fn front_text<'b>(&self, buffer: &'b [u8]) -> &'b str
+        requires room { hex_len_of (id_kind self.now) ≤ length buffer.now }
+        requires front { take (hex_len_of (id_kind self.now)) buffer.now ≡ spelling hex_letter (id_digits self.now) }
+        ensures text { result.now ≡ spelling hex_letter (id_digits self.now) }
+        ensures ascii { IsAscii result.now }
+        ensures len { length result.now ≡ hex_len_of (id_kind self.now) }
+    {
+        self.as_oid().front_text(buffer)
     }
 
     /// As [`oid::write_hex_to`].

@@ -6,4 +6,3 @@ pub mod Refusal
 pub mod Writing
 pub mod Command
 pub mod Devices
-pub mod Spelling

@@ -18,7 +18,6 @@ mod matching;
 pub mod plain;
 mod printing;
 pub mod sink;
-pub mod spelling;
 
 use command::{ArgError, Command, exit_status, read_command};
 use finding::{FindError, find, find_change};
