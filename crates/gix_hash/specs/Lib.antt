@@ -10,10 +10,9 @@ pub mod PrefixReading
 pub mod PrefixBytes
 pub mod Equalities
 pub mod IdReading
-pub mod HexDisplay
+pub mod CutId
 pub mod WellKnown
 pub mod ByteLengths
 pub mod Loan
 pub mod LentText
 pub mod Alphabet
-pub mod ReverseHexDisplay

@@ -32,7 +32,7 @@ pub struct oid<'a> {
 }
 
 impl<'a> oid<'a> {
-    ghost use Rattle.gix_hash.specs.HexDisplay.{display_of, shown_digits};
+    ghost use Rattle.gix_hash.specs.CutId.{cut_of, shown_digits};
     ghost use Rattle.gix_hash.specs.ObjectId.{id_kind, id_digits};
     ghost use Rattle.gix_hash.specs.Oid.{oid_bytes, oid_digits, oid_kind};
     ghost use Rattle.gix_hash.specs.WellKnown.{null_digits, empty_blob_digits, empty_tree_digits};
@@ -147,7 +147,7 @@ impl<'a> oid<'a> {
 
     /// The id for printing in full.
     pub fn to_hex(&self) -> HexDisplay<'a>
-        ensures value { result ≡ display_of self.now (hex_len_of (oid_kind self.now)) }
+        ensures value { result ≡ cut_of self.now (hex_len_of (oid_kind self.now)) }
         ensures shown { shown_digits result ≡ oid_digits self.now }
     {
         HexDisplay::new(*self, self.kind().len_in_hex())
@@ -155,7 +155,7 @@ impl<'a> oid<'a> {
 
     /// The id for printing its first `hex_len` digits, or all where it has fewer.
     pub fn to_hex_with_len(&self, hex_len: usize) -> HexDisplay<'a>
-        ensures { result ≡ display_of self.now hex_len }
+        ensures { result ≡ cut_of self.now hex_len }
     {
         HexDisplay::new(*self, hex_len)
     }

@@ -1,15 +1,15 @@
 //! Ids in the letters by which Jujutsu spells change ids.
 
 ghost use Rattle.std.specs.Prelude.{◌≡◌, ◌≤◌, ◌<◌, ◌↔◌, ◌++◌, All, IsTrue, length, drop};
+ghost use Rattle.gix_hash.specs.CutId.{cut_of, shown_digits};
 ghost use Rattle.gix_hash.specs.Digits.{reverse_letter, spelling};
 ghost use Rattle.gix_hash.specs.Kind.{hex_len_of, byte_len_of};
 ghost use Rattle.gix_hash.specs.ObjectId.{id_bytes, id_digits, id_kind};
-ghost use Rattle.gix_hash.specs.ReverseHexDisplay.{reverse_display_of, reverse_shown_digits};
 
 use crate::alphabet::Alphabet;
 use crate::borrowed::oid;
 use crate::decode;
-use crate::display::{HexDisplay, cut_text};
+use crate::display::{CutId, HexDisplay};
 use crate::kind::Kind;
 use crate::object_id::ObjectId;
 use crate::prefix::Prefix;
@@ -20,40 +20,48 @@ use std::str::FromStr;
 /// An id that prints its first digits in the letters `z` to `k`: as many as were asked for, or all
 /// where it has fewer.
 ///
-/// Two of them are equal where both the ids and the numbers asked for are.
+/// Two of them are equal where both the ids and the numbers asked for are, and ordered by the ids
+/// first.
 #[derive(PartialEq, Eq, PartialOrd, Ord, Hash, Drop)]
-pub struct ReverseHexDisplay<'a> {
-    inner: oid<'a>,
-    hex_len: usize,
+pub struct ReverseHexDisplay<'a>(CutId<'a>);
+
+impl<'a> Model for ReverseHexDisplay<'a> {
+    ghost use Rattle.gix_hash.specs.declared.display.CutId.{CutId};
+
+    ghost Value = { CutId };
+
+    ghost view = { λ display. display.0 };
+
+    ghost inverse = { λ cut. record { 0 = cut } };
 }
 
 impl<'a> ReverseHexDisplay<'a> {
     // A display of so many digits of an id.
-    pub(crate) fn new(inner: oid<'a>, hex_len: usize) -> ReverseHexDisplay<'a>
-        ensures { result ≡ reverse_display_of inner.entry hex_len }
+    pub(crate) fn new(id: oid<'a>, hex_len: usize) -> ReverseHexDisplay<'a>
+        ensures { result ≡ cut_of id.entry hex_len }
     {
-        ReverseHexDisplay { inner, hex_len }
+        ReverseHexDisplay(CutId::new(id, hex_len))
     }
 
     /// Whether `text` is just what is printed.
     pub fn eq_str(&self, text: &str) -> bool
-        ensures { IsTrue result ↔ (text.now ≡ spelling reverse_letter (reverse_shown_digits self.now)) }
+        ensures { IsTrue result ↔ (text.now ≡ spelling reverse_letter (shown_digits self.now)) }
     {
         let mut buffer = [0; 64];
-        cut_text(Alphabet::Reverse, self.inner, self.hex_len, &mut buffer) == text
+        self.0.text(Alphabet::Reverse, &mut buffer) == text
     }
 }
 
 impl fmt::Display for ReverseHexDisplay<'_> {
     ghost use Rattle.std.specs.Prelude.{Some};
     ghost use Rattle.gix_hash.specs.Digits.{reverse_letter, spelling};
-    ghost use Rattle.gix_hash.specs.ReverseHexDisplay.{reverse_shown_digits};
+    ghost use Rattle.gix_hash.specs.CutId.{shown_digits};
 
-    ghost output = { λ display. Some (spelling reverse_letter (reverse_shown_digits display)) };
+    ghost output = { λ display. Some (spelling reverse_letter (shown_digits display)) };
 
     fn fmt<W: fmt::Write>(&self, f: &mut fmt::Formatter<W>) -> fmt::Result {
         let mut buffer = [0; 64];
-        f.write_str(cut_text(Alphabet::Reverse, self.inner, self.hex_len, &mut buffer))
+        f.write_str(self.0.text(Alphabet::Reverse, &mut buffer))
     }
 }
 
@@ -73,7 +81,6 @@ impl Model for ChangeId {
 }
 
 impl ChangeId {
-    ghost use Rattle.gix_hash.specs.HexDisplay.{shown_digits};
     ghost use Rattle.gix_hash.specs.IdReading.{full_read, id_answered};
     ghost use Rattle.gix_hash.specs.Oid.{oid_kind, oid_digits};
 
@@ -134,7 +141,7 @@ impl ChangeId {
         ensures id { oid_digits result.inner ≡ id_digits self.now }
         ensures kind { oid_kind result.inner ≡ id_kind self.now }
         ensures hex_len { result.hex_len ≡ hex_len_of (id_kind self.now) }
-        ensures shown { reverse_shown_digits result ≡ id_digits self.now }
+        ensures shown { shown_digits result ≡ id_digits self.now }
     {
         self.to_reverse_hex_with_len(self.kind().len_in_hex())
     }

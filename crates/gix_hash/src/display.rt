@@ -1,34 +1,68 @@
 //! Ids cut to a number of digits, for printing.
 
-ghost use Rattle.std.specs.Prelude.{◌≡◌, ◌≤◌, ◌↔◌, IsTrue, length, take};
+ghost use Rattle.std.specs.Prelude.{◌≡◌, ◌≤◌, ◌↔◌, IsTrue, length};
 ghost use Rattle.gix_hash.specs.Digits.{spelling, hex_letter};
 ghost use Rattle.gix_hash.specs.Alphabet.{letter_of};
-ghost use Rattle.gix_hash.specs.HexDisplay.{shown_digits};
-ghost use Rattle.gix_hash.specs.Oid.{oid_digits};
 
 use crate::alphabet::Alphabet;
 use crate::borrowed::oid;
 use crate::hex_digits::ascii_text;
 use std::fmt;
+use std::marker::Model;
 
-/// An id that prints its first digits in lowercase hex: as many as were asked for, or all where it
-/// has fewer.
-///
-/// Two of them are equal where both the ids and the numbers asked for are.
+/// An id, and how many of its digits are to be printed: all where it has fewer.
 #[derive(PartialEq, Eq, PartialOrd, Ord, Hash, Drop)]
-pub struct HexDisplay<'a> {
+pub struct CutId<'a> {
     inner: oid<'a>,
     hex_len: usize,
 }
 
+impl<'a> CutId<'a> {
+    ghost use Rattle.gix_hash.specs.CutId.{cut_of, shown_digits};
+
+    // So many digits of an id.
+    pub(crate) fn new(inner: oid<'a>, hex_len: usize) -> CutId<'a>
+        ensures { result ≡ cut_of inner.entry hex_len }
+    {
+        CutId { inner, hex_len }
+    }
+
+    // What is printed in an alphabet, written into a buffer with room for the digits of any id.
+    pub(crate) fn text<'b>(&self, alphabet: Alphabet, buffer: &'b mut [u8]) -> &'b str
+        requires { 64 ≤ length buffer.old }
+        ensures { result.now ≡ spelling (letter_of alphabet) (shown_digits self.now) }
+    {
+        alphabet.put_id(self.inner, buffer);
+        ascii_text(&buffer[..self.hex_len.min(self.inner.kind().len_in_hex())])
+    }
+}
+
+/// An id that prints its first digits in lowercase hex: as many as were asked for, or all where it
+/// has fewer.
+///
+/// Two of them are equal where both the ids and the numbers asked for are, and ordered by the ids
+/// first.
+#[derive(PartialEq, Eq, PartialOrd, Ord, Hash, Drop)]
+pub struct HexDisplay<'a>(CutId<'a>);
+
+impl<'a> Model for HexDisplay<'a> {
+    ghost use Rattle.gix_hash.specs.declared.display.CutId.{CutId};
+
+    ghost Value = { CutId };
+
+    ghost view = { λ display. display.0 };
+
+    ghost inverse = { λ cut. record { 0 = cut } };
+}
+
 impl<'a> HexDisplay<'a> {
-    ghost use Rattle.gix_hash.specs.HexDisplay.{display_of};
+    ghost use Rattle.gix_hash.specs.CutId.{cut_of, shown_digits};
 
     // A display of so many digits of an id.
-    pub(crate) fn new(inner: oid<'a>, hex_len: usize) -> HexDisplay<'a>
-        ensures { result ≡ display_of inner.entry hex_len }
+    pub(crate) fn new(id: oid<'a>, hex_len: usize) -> HexDisplay<'a>
+        ensures { result ≡ cut_of id.entry hex_len }
     {
-        HexDisplay { inner, hex_len }
+        HexDisplay(CutId::new(id, hex_len))
     }
 
     /// Whether `text` is just what is printed.
@@ -36,34 +70,19 @@ impl<'a> HexDisplay<'a> {
         ensures { IsTrue result ↔ (text.now ≡ spelling hex_letter (shown_digits self.now)) }
     {
         let mut buffer = [0; 64];
-        cut_text(Alphabet::Hex, self.inner, self.hex_len, &mut buffer) == text
+        self.0.text(Alphabet::Hex, &mut buffer) == text
     }
 }
 
 impl fmt::Display for HexDisplay<'_> {
     ghost use Rattle.std.specs.Prelude.{Some};
     ghost use Rattle.gix_hash.specs.Digits.{spelling, hex_letter};
-    ghost use Rattle.gix_hash.specs.HexDisplay.{shown_digits};
+    ghost use Rattle.gix_hash.specs.CutId.{shown_digits};
 
     ghost output = { λ display. Some (spelling hex_letter (shown_digits display)) };
 
     fn fmt<W: fmt::Write>(&self, f: &mut fmt::Formatter<W>) -> fmt::Result {
         let mut buffer = [0; 64];
-        f.write_str(cut_text(Alphabet::Hex, self.inner, self.hex_len, &mut buffer))
+        f.write_str(self.0.text(Alphabet::Hex, &mut buffer))
     }
-}
-
-// The first digits of an id in an alphabet, or all where it has fewer, written into a buffer with
-// room for the digits of any id.
-pub(crate) fn cut_text<'b>(
-    alphabet: Alphabet,
-    id: oid<'_>,
-    hex_len: usize,
-    buffer: &'b mut [u8],
-) -> &'b str
-    requires { 64 ≤ length buffer.old }
-    ensures { result.now ≡ spelling (letter_of alphabet) (take hex_len (oid_digits id.entry)) }
-{
-    alphabet.put_id(id, buffer);
-    ascii_text(&buffer[..hex_len.min(id.kind().len_in_hex())])
 }

@@ -30,7 +30,7 @@ impl ObjectId {
     ghost use Rattle.gix_hash.specs.LentText.{EndsAs};
     ghost use Rattle.std.specs.Io.KnownBytes.{Appends};
     ghost use Rattle.gix_hash.specs.Digits.{digits_of, first_byte_of, hex_letter, spelling};
-    ghost use Rattle.gix_hash.specs.HexDisplay.{shown_digits};
+    ghost use Rattle.gix_hash.specs.CutId.{shown_digits};
     ghost use Rattle.gix_hash.specs.Loan.{LendsDigest};
     ghost use Rattle.gix_hash.specs.WellKnown.{null_digits, empty_blob_digits, empty_tree_digits};
     ghost use Rattle.gix_hash.specs.IdReading.{full_read, id_answered};

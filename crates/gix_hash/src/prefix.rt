@@ -14,6 +14,7 @@ ghost use Rattle.gix_hash.specs.PrefixReading.{prefix_read};
 use crate::alphabet::Alphabet;
 use crate::borrowed::oid;
 use crate::change_id::ReverseHexDisplay;
+use crate::display::CutId;
 use crate::hex_digits::ascii_text;
 use crate::kind::Kind;
 use crate::object_id::ObjectId;
@@ -96,7 +97,7 @@ impl Model for Prefix {
 
 impl Prefix {
     ghost use Rattle.gix_hash.specs.Oid.{oid_kind, oid_digits};
-    ghost use Rattle.gix_hash.specs.ReverseHexDisplay.{reverse_shown_digits};
+    ghost use Rattle.gix_hash.specs.CutId.{shown_digits};
 
     /// The least number of digits that [`Prefix::new`] and [`Prefix::from_hex`] take.
     pub const MIN_HEX_LEN: usize = 4;
@@ -183,15 +184,23 @@ impl Prefix {
         self.bytes.as_oid()
     }
 
+    // The prefix as a cut id.
+    fn cut(&self) -> CutId<'_>
+        ensures { shown_digits result ≡ self.now.digits }
+    {
+        CutId::new(self.as_oid(), self.hex_len)
+    }
+
     /// Writes the lowercase hex digits into the front of `buffer`; the bytes behind them stay. The
     /// buffer needs room for the digits.
     pub fn put_hex(&self, buffer: &mut [u8])
         requires { length self.now.digits ≤ length buffer.old }
         ensures { buffer.new ≡ spelling hex_letter self.now.digits ++ drop (length self.now.digits) buffer.old }
     {
+        // Ids are spelled whole, for which the buffer may have no room.
         let mut whole = [0; 64];
-        self.bytes.as_oid().put_hex(&mut whole);
-        buffer[..self.hex_len].copy_from_slice(&whole[..self.hex_len]);
+        let text = self.cut().text(Alphabet::Hex, &mut whole);
+        buffer[..text.len()].copy_from_slice(text.as_bytes());
     }
 
     /// Writes the lowercase hex digits into the front of `buffer` as [`Prefix::put_hex`] does, and
@@ -239,7 +248,7 @@ impl Prefix {
         ensures { OnOk result (Appends (W.contents out.old) (W.contents out.new) (spelling hex_letter self.now.digits)) }
     {
         let mut buffer = [0; 64];
-        out.write_all(self.hex_to_buf(&mut buffer[..self.hex_len()]).as_bytes())
+        out.write_all(self.cut().text(Alphabet::Hex, &mut buffer).as_bytes())
     }
 
     /// The prefix for printing in the letters `z` to `k`.
@@ -247,7 +256,7 @@ impl Prefix {
         ensures id { oid_digits result.inner ≡ padded (hex_len_of self.now.kind) self.now.digits }
         ensures kind { oid_kind result.inner ≡ self.now.kind }
         ensures hex_len { result.hex_len ≡ length self.now.digits }
-        ensures shown { reverse_shown_digits result ≡ self.now.digits }
+        ensures shown { shown_digits result ≡ self.now.digits }
     {
         ReverseHexDisplay::new(self.as_oid(), self.hex_len)
     }
@@ -257,7 +266,7 @@ impl Prefix {
         ensures { IsTrue result ↔ (text.now ≡ spelling hex_letter self.now.digits) }
     {
         let mut buffer = [0; 64];
-        self.hex_to_buf(&mut buffer[..self.hex_len()]) == text
+        self.cut().text(Alphabet::Hex, &mut buffer) == text
     }
 
     /// The number of digits.
@@ -368,7 +377,7 @@ impl fmt::Display for Prefix {
 
     fn fmt<W: fmt::Write>(&self, f: &mut fmt::Formatter<W>) -> fmt::Result {
         let mut buffer = [0; 64];
-        f.write_str(self.hex_to_buf(&mut buffer[..self.hex_len()]))
+        f.write_str(self.cut().text(Alphabet::Hex, &mut buffer))
     }
 }
 
