@@ -1,11 +1,11 @@
 //! Each caller once on its way, by ids that Git prints.
 
 use crate::{
-    count_matches, id_of_digest, is_named, mark_seen, offset_of, read_again, read_id, run_of,
-    set_offset, short_name, was_seen,
+    count_matches, id_of_digest, is_named, mark_seen, offset_of, only_match, read_again, read_id,
+    run_of, set_offset, short_name, was_seen,
 };
-use gix_hash::{ObjectId, Prefix};
-use id_lookup::SortedIds;
+use gix_hash::{Kind, ObjectId, Prefix};
+use id_lookup::{IdIndex, SortedIds};
 use std::collections::{BTreeMap, HashSet};
 use std::test::Fail;
 
@@ -82,5 +82,11 @@ fn runs(rt: HostRuntime) -> Result<(), Fail> {
     let (matches, asked) = count_matches(&list, prefix);
     assert_eq!(rt; matches, 1);
     assert!(rt; asked <= 4, "{asked} asks");
+    let index = IdIndex::try_new(&ids, Kind::Sha1)?;
+    for (text, want) in [("e69d", Some(1)), ("e69e", None)] {
+        let prefix = Prefix::from_hex(text)?;
+        assert!(rt; prefix.as_oid().kind() == index.kind(), "{text}");
+        assert_eq!(rt; only_match(&index, &prefix), want, "{text}");
+    }
     Ok(())
 }

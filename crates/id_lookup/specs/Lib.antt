@@ -1,7 +1,10 @@
--- Sorted lists of ids, the run of a prefix in one, and the number of binary digits.
+-- Sorted lists of ids, the run of a prefix in one, indexes, and the number of binary digits.
 pub mod Sorted
 pub mod Runs
 pub mod FoundRun
 pub mod Bounds
 pub mod Probing
+pub mod FirstBytes
+pub mod Candidates
+pub mod Index
 pub mod Bits

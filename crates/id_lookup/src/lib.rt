@@ -5,12 +5,17 @@
 //! lend no id, answer one place at a time, and count each answer.
 #![tactic(auto)]
 
+mod fan_out;
+mod index;
+pub mod laws;
 mod probes;
 mod search;
 mod sorted;
 
+pub use fan_out::FanOut;
+pub use index::{Answer, IdIndex, IndexError};
 pub use probes::Probes;
-pub use search::{Run, begins_with, bits_of, lookup};
+pub use search::{Run, begins_with, bits_of, lookup, lookup_in};
 pub use sorted::{SortedIds, Unsorted};
 
 #[cfg(test)]

@@ -1,16 +1,19 @@
 //! The run of a prefix in a sorted list, by two binary searches.
 
-ghost use Rattle.std.specs.Prelude.{◌≡◌, ◌↔◌, ℕ, ◌+◌, ◌-◌, ◌*◌, ◌^◌, ◌<◌, ◌≤◌, IsTrue, length};
+ghost use Rattle.std.specs.Prelude.{◌≡◌, ◌↔◌, ℕ, ◌+◌, ◌-◌, ◌*◌, ◌^◌, ◌<◌, ◌≤◌, IsTrue, count_by, length};
 ghost use Rattle.id_lookup.specs.Bits.{bits};
 ghost use Rattle.id_lookup.specs.Probing.{CanProbe};
 ghost use Rattle.gix_hash.specs.Digits.{hex_letter, spelling};
 ghost use Rattle.gix_hash.specs.Kind.{hex_len_of};
 ghost use Rattle.gix_hash.specs.ObjectId.{id_digits, id_kind};
-ghost use Rattle.gix_hash.specs.Prefix.{BeginsWith};
-ghost use Rattle.id_lookup.specs.Runs.{begins_with, place_of};
+ghost use Rattle.gix_hash.specs.Prefix.{BeginsWith, place};
+ghost use Rattle.id_lookup.specs.Runs.{begins_with};
 ghost use Rattle.id_lookup.specs.FoundRun.{IsRun};
 ghost use Rattle.id_lookup.specs.Bounds.{stands_before, bound_of};
+ghost use Rattle.id_lookup.specs.Candidates.{AreCandidates};
+ghost use Rattle.id_lookup.specs.FirstBytes.{IsFanOut, shares_first_byte};
 
+use crate::fan_out::FanOut;
 use crate::probes::Probes;
 use gix_hash::{ObjectId, Prefix};
 use std::cmp::Ordering;
@@ -46,20 +49,92 @@ impl Bound {
     }
 }
 
-/// The run of the members that begin with the prefix, in at most twice as many answers as the
-/// number of members has binary digits.
+/// Finds the run of a prefix in a sorted list: exactly the members whose lowercase hex spelling
+/// begins with the prefix's.
 ///
-/// Where no member does, the run is empty and stands where the prefix would stand. Nothing may have
-/// been asked before; the list and the prefix stay.
+/// The list is any of which there are probes: it is sorted, with ids of either kind and repeats, and
+/// each member has at least as many digits as the prefix. For each member before the run
+/// [`Prefix::cmp_oid`] answers `Greater`, which says that the prefix stands behind that member; for
+/// each in the run `Equal`; and for each behind the run `Less`. Where no member begins with the
+/// prefix the run is empty, and stands where the prefix would stand.
+///
+/// It asks at most twice as often as the number of members has binary digits. Nothing may have been
+/// asked before. The list and the prefix stay as they were.
 pub fn lookup(probes: &mut Probes<'_>) -> Run
     requires { probes.old.asked ≡ 0 }
+    ensures list { CanProbe probes.old.prefix probes.old.ids }
     ensures run { IsRun probes.old.prefix probes.old.ids result }
     ensures asked { probes.new.asked ≤ 2 * bits (length probes.old.ids) }
     ensures same { probes.new ≡ record probes.old { asked = probes.new.asked } }
 {
     let len = probes.len();
-    let start = find_bound(probes, Bound::Start, 0, len);
-    let end = find_bound(probes, Bound::End, start, len);
+    find_run(probes, Run { start: 0, end: len })
+}
+
+/// As [`lookup`], among the members that have the prefix's first byte alone.
+///
+/// It asks at most twice as often as the number of those has binary digits, and never for a prefix
+/// of fewer than two digits. Nothing may have been asked before, and the fan-out is that of the
+/// probes' list, as it is where both come from one [`IdIndex`](crate::IdIndex).
+pub fn lookup_in(fan_out: &FanOut, probes: &mut Probes<'_>) -> Run
+    requires fresh { probes.old.asked ≡ 0 }
+    requires fan_out { IsFanOut fan_out.now probes.old.ids }
+    ensures list { CanProbe probes.old.prefix probes.old.ids }
+    ensures run { IsRun probes.old.prefix probes.old.ids result }
+    ensures asked { probes.new.asked ≤ 2 * bits (count_by (shares_first_byte probes.old.prefix) probes.old.ids) }
+    ensures never { length probes.old.prefix.digits < 2 → probes.new.asked ≡ 0 }
+    ensures same { probes.new ≡ record probes.old { asked = probes.new.asked } }
+{
+    let part = candidates(fan_out, probes);
+    if probes.prefix().hex_len() < 2 {
+        return part;
+    }
+    find_run(probes, part)
+}
+
+// The members that have the digits of the prefix, as far as it has them, in their first byte.
+fn candidates(fan_out: &FanOut, probes: &Probes<'_>) -> Run
+    requires { IsFanOut fan_out.now probes.now.ids }
+    ensures part { AreCandidates probes.now.prefix probes.now.ids result }
+    ensures can_probe { CanProbe probes.now.prefix probes.now.ids }
+{
+    let prefix = probes.prefix();
+    let first = prefix.as_oid().first_byte();
+    let last = last_byte(first, prefix.hex_len());
+    Run {
+        start: fan_out.below(first),
+        end: fan_out.up_to(last),
+    }
+}
+
+// The last byte that begins with so many digits of a byte whose other digits are zero.
+fn last_byte(first: u8, hex_len: usize) -> u8
+    requires none { hex_len ≡ 0 → first ≡ 0 }
+    requires one { hex_len ≡ 1 → first ≤ 240 }
+    ensures none { hex_len ≡ 0 → result ≡ 255 }
+    ensures one { hex_len ≡ 1 → result ≡ first + 15 }
+    ensures more { 2 ≤ hex_len → result ≡ first }
+{
+    match hex_len {
+        0 => 255,
+        1 => first + 15,
+        _ => first,
+    }
+}
+
+// The run of the prefix, by a search for each of its bounds in a part of the list that has both.
+fn find_run(probes: &mut Probes<'_>, part: Run) -> Run
+    requires can_probe { CanProbe probes.old.prefix probes.old.ids }
+    requires fresh { probes.old.asked ≡ 0 }
+    requires above { part.start ≤ bound_of Bound.Start probes.old.prefix probes.old.ids }
+    requires below { bound_of Bound.End probes.old.prefix probes.old.ids ≤ part.end }
+    requires in_range { part.end ≤ length probes.old.ids }
+    ensures run { IsRun probes.old.prefix probes.old.ids result }
+    ensures asked { probes.new.asked ≤ 2 * bits (part.end - part.start) }
+    ensures same { probes.new ≡ record probes.old { asked = probes.new.asked } }
+{
+    let start = find_bound(probes, Bound::Start, part.start, part.end);
+    let end = find_bound(probes, Bound::End, start, part.end);
     Run { start, end }
 }
 
@@ -94,16 +169,18 @@ pub fn begins_with(id: &ObjectId, prefix: &Prefix) -> bool
     ensures value { result ≡ begins_with prefix.now (id_digits id.now) }
     ensures spelling { IsTrue result ↔ BeginsWith (spelling hex_letter (id_digits id.now)) (spelling hex_letter prefix.now.digits) }
     ensures digits { IsTrue result ↔ BeginsWith (id_digits id.now) prefix.now.digits }
-    ensures place { IsTrue result ↔ (place_of prefix.now (id_digits id.now) ≡ Ordering.Equal) }
+    ensures place { IsTrue result ↔ (place prefix.now.digits (id_digits id.now) ≡ Ordering.Equal) }
 {
     prefix.cmp_oid(id.as_oid()).is_eq()
 }
 
-/// The number of binary digits: the least b such that `n` is below the b-th power of two.
+/// The number of binary digits: the least b such that `n` is below the b-th power of two. Of at most
+/// half of a number that is not 0 it is less.
 pub fn bits_of(n: usize) -> u32
     ensures value { result ≡ bits n }
     ensures above { n < 2 ^ bits n }
     ensures least { (b : ℕ) → n < 2 ^ b → bits n ≤ b }
+    ensures half { (m : ℕ) → 0 < n → 2 * m ≤ n → bits m < bits n }
 {
     usize::BITS - n.leading_zeros()
 }

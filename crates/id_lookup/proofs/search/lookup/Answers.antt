@@ -1,37 +1,9 @@
-use Rattle.std.proofs.Common.{◌-◌, length, ap, arith}
-use Rattle.id_lookup.specs.Probing.{Probing}
-use Rattle.id_lookup.proofs.Binary.{bits-mono, bits-usize}
-use Rattle.id_lookup.proofs.Placed.{bound_of-end, run_is}
+use Rattle.std.proofs.Common.{arith}
+use Rattle.std.specs.Ordering.{is_ge}
+use Rattle.std.proofs.lemmas.List.Sums.{count_by-le-length}
+use Rattle.gix_hash.specs.Prefix.{place}
 use Rattle.id_lookup.proofs.search.lookup.Goals as goal
 
-pub find_bound-start-requires-clause-room : goal.find_bound-start-requires-clause-room
-find_bound-start-requires-clause-room c =
-    let few = bits-usize (c.len-len.result - 0) (omega arith) in
-    omega arith
-
-pub find_bound-end-requires-clause-above : goal.find_bound-end-requires-clause-above
-find_bound-end-requires-clause-above c =
-    let list = ap (λ (p : Probing). p.ids) c.find_bound-start.ensures.same in
-    let prefix = ap (λ (p : Probing). p.prefix) c.find_bound-start.ensures.same in
-    let ends = bound_of-end c.args.probes.now.prefix c.args.probes.now.ids in
-    rw (list, prefix) (omega (arith, c.find_bound-start.ensures.place))
-
-pub find_bound-end-requires-clause-room : goal.find_bound-end-requires-clause-room
-find_bound-end-requires-clause-room c =
-    let few = bits-usize (c.len-len.result - 0) (omega arith) in
-    let fewer = bits-mono (c.len-len.result - c.find_bound-start.result) (c.len-len.result - 0) (omega arith) in
-    omega (arith, c.find_bound-start.ensures.asked)
-
-pub returns-clause-run : goal.returns-clause-run
-returns-clause-run c =
-    let list = ap (λ (p : Probing). p.ids) c.find_bound-start.ensures.same in
-    let prefix = ap (λ (p : Probing). p.prefix) c.find_bound-start.ensures.same in
-    run_is c.args.probes.now.prefix c.args.probes.now.ids c.len-len.ensures.can_probe.sorted _ c.find_bound-start.ensures.place
-    (rw (list, prefix) at c.find_bound-end.ensures.place)
-
-pub returns-clause-asked : goal.returns-clause-asked
-returns-clause-asked c =
-    let len = c.len-len.ensures.value in
-    let all = bits-mono (c.len-len.result - 0) (length c.args.probes.now.ids) (omega arith) in
-    let rest = bits-mono (c.len-len.result - c.find_bound-start.result) (length c.args.probes.now.ids) (omega arith) in
-    omega (arith, c.find_bound-start.ensures.asked, c.find_bound-end.ensures.asked)
+pub find_run-requires-clause-below : goal.find_run-requires-clause-below
+find_run-requires-clause-below c =
+    omega (arith, count_by-le-length (λ id. is_ge (place c.args.probes.now.prefix.digits id)) c.args.probes.now.ids)

@@ -1,0 +1,129 @@
+-- Counts of ids by their first byte, and how they hold the run of a prefix between them.
+use Rattle.std.proofs.Common.{◌≡◌, ◌≢◌, ℕ, ◌+◌, ◌-◌, ◌<◌, ◌≤◌, Bool, true, false, cond, ltb, leb, nat_eq, List, [], ◌∷◌, length, get_or, set, get_or-set_other, get_or-set_same, below_more, take, eqb-true, refl, sym, ap, ◌∙◌, arith}
+use Rattle.std.specs.List.{All, count_by}
+use Rattle.std.proofs.lemmas.Bool.Decides.{nat_tests}
+use Rattle.std.proofs.lemmas.List.Sums.{count_by-le-length, count_by_more_no, count_by_more_yes}
+use Rattle.std.proofs.lemmas.List.Elements.{All-head, All-tail}
+use Rattle.gix_hash.specs.Digits.{first_byte_of}
+use Rattle.gix_hash.specs.Prefix.{Beginning, place}
+use Rattle.id_lookup.specs.Bounds.{bound_of, stands_before}
+use Rattle.id_lookup.specs.Candidates.{AreCandidates}
+use Rattle.id_lookup.specs.FirstBytes.{is_up_to, is_below, has_first_byte}
+use Rattle.id_lookup.specs.Probing.{CanProbe}
+use Rattle.id_lookup.specs.declared.search.Bound.TheVariants.{Start, End}
+use Rattle.id_lookup.specs.declared.search.Run.{Run}
+use Rattle.id_lookup.proofs.Counting.{count_by-cons, count_by-split}
+use Rattle.id_lookup.proofs.FirstByteOrder.{AreDigits, are_digits, behind_lower, not_above_last, lower_behind, last_not_above, last_byte_of, last_byte_of-first}
+
+-- a test that passes wherever another does counts no less
+pub count_by-le : {X : Type 0} (p q : X → Bool) (xs : List X) → All (λ x. p x ≡ true → q x ≡ true) xs → count_by p xs ≤ count_by q xs
+count_by-le p q [] more = omega arith
+count_by-le {X} p q (x ∷ xs) more =
+    let P : X → Type 0 = λ y. p y ≡ true → q y ≡ true in
+    let rest : count_by p xs ≤ count_by q xs = count_by-le p q xs (All-tail P x xs more) in
+    let one : cond (p x) 1 0 ≤ cond (q x) 1 0 = at_most (p x) (q x) (All-head P x xs more) in
+    omega (arith, rest, one, count_by-cons p x xs, count_by-cons q x xs)
+  where
+    at_most : (a b : Bool) → (a ≡ true → b ≡ true) → cond a 1 0 ≤ cond b 1 0
+    at_most true b h = rw (h (λ i. true)) (omega arith)
+    at_most false true h = omega arith
+    at_most false false h = omega arith
+
+tests_lt : (a b : ℕ) → ltb a b ≡ true → a < b
+tests_lt a b h = grind (arith, nat_tests)
+
+lt_tests : (a b : ℕ) → a < b → ltb a b ≡ true
+lt_tests a b h = grind (arith, nat_tests)
+
+tests_le : (a b : ℕ) → leb a b ≡ true → a ≤ b
+tests_le a b h = grind (arith, nat_tests)
+
+le_tests : (a b : ℕ) → a ≤ b → leb a b ≡ true
+le_tests a b h = grind (arith, nat_tests)
+
+-- none is below the first byte of all
+pub count_by-below_0 : (ids : List (List ℕ)) → count_by (is_below 0) ids ≡ 0
+count_by-below_0 [] = λ i. 0
+count_by-below_0 (id ∷ ids) = omega (arith, count_by-cons (is_below 0) id ids, count_by-below_0 ids, none (first_byte_of id))
+  where
+    none : (n : ℕ) → cond {A = ℕ} (ltb n 0) 1 0 ≡ 0
+    none n = grind (arith, nat_tests)
+
+-- those up to a byte are those below it and those that have it
+pub count_by-up_to : (b : ℕ) (ids : List (List ℕ)) → count_by (is_up_to b) ids ≡ count_by (is_below b) ids + count_by (has_first_byte b) ids
+count_by-up_to b = count_by-split (is_up_to b) (is_below b) (has_first_byte b) (λ id. split (first_byte_of id) b)
+  where
+    split : (n m : ℕ) → cond {A = ℕ} (leb n m) 1 0 ≡ cond (ltb n m) 1 0 + cond (nat_eq n m) 1 0
+    split n m = grind (arith, nat_tests)
+
+-- and those below it are those up to the byte before it
+up_to_step : (b : ℕ) (ids : List (List ℕ)) → 0 < b → count_by (is_up_to b) ids ≡ count_by (has_first_byte b) ids + count_by (is_up_to (b - 1)) ids
+up_to_step b ids some = count_by-split (is_up_to b) (has_first_byte b) (is_up_to (b - 1)) (λ id. step (first_byte_of id) b some) ids
+  where
+    step : (n m : ℕ) → 0 < m → cond {A = ℕ} (leb n m) 1 0 ≡ cond (nat_eq n m) 1 0 + cond (leb n (m - 1)) 1 0
+    step n m some = grind (arith, nat_tests)
+
+-- a step of the running sum
+pub running : (counts : List ℕ) (ids : List (List ℕ)) (i : ℕ) → length counts ≡ 256 → 0 < i → i < 256
+    → ((b : ℕ) → b < i → get_or counts b 0 ≡ count_by (is_up_to b) ids) → get_or counts i 0 ≡ count_by (has_first_byte i) ids
+    → (b : ℕ) → b < i + 1 → get_or (set counts i (get_or counts i 0 + get_or counts (i - 1) 0)) b 0 ≡ count_by (is_up_to b) ids
+running counts ids i len some inside done here =
+    let old : (b : ℕ) → b < i → get_or (set counts i (get_or counts i 0 + get_or counts (i - 1) 0)) b 0 ≡ count_by (is_up_to b) ids =
+    λ b l. let ne : b ≢ i = omega arith in rw get_or-set_other (done b l) in
+    let lt : i < length counts = omega arith in
+    below_more _ _ old (rw get_or-set_same (omega (arith, here, done (i - 1) (omega arith), up_to_step i ids some)))
+
+apart : (a b : ℕ) → nat_eq a b ≡ false → b ≢ a
+apart a b h = grind (arith, nat_tests)
+
+-- one id more counts for its own first byte
+pub one_more : (counts : List ℕ) (ids : List (List ℕ)) (i byte : ℕ) → length counts ≡ 256 → i < length ids → byte < 256
+    → byte ≡ first_byte_of (get_or ids i [])
+    → ((b : ℕ) → b < 256 → get_or counts b 0 ≡ count_by (has_first_byte b) (take i ids))
+    → (b : ℕ) → b < 256 → get_or (set counts byte (get_or counts byte 0 + 1)) b 0 ≡ count_by (has_first_byte b) (take (i + 1) ids)
+one_more counts ids i byte len within small is counted b below = by (nat_eq byte b) refl
+  where
+    by : (t : Bool) → nat_eq byte b ≡ t → get_or (set counts byte (get_or counts byte 0 + 1)) b 0 ≡ count_by (has_first_byte b) (take (i + 1) ids)
+    by true e =
+        let same : b ≡ byte = sym (eqb-true byte b e) in
+        let lt : byte < length counts = omega arith in
+        let yes : has_first_byte b (get_or ids i []) ≡ true = ap (λ n. nat_eq n b) (sym is) ∙ e in
+        let here : get_or (set counts byte (get_or counts byte 0 + 1)) b 0 ≡ get_or counts byte 0 + 1 = rw (same, get_or-set_same) refl in
+        omega (arith, here, ap (λ n. get_or counts n 0) same, counted b below, count_by_more_yes (has_first_byte b) ids i [] within yes)
+    by false e =
+        let ne : b ≢ byte = apart byte b e in
+        let no : has_first_byte b (get_or ids i []) ≡ false = ap (λ n. nat_eq n b) (sym is) ∙ e in
+        rw get_or-set_other (counted b below ∙ sym (count_by_more_no (has_first_byte b) ids i [] within no))
+
+module _ (prefix : Beginning) (ids : List (List ℕ)) (can : CanProbe prefix ids) (small : AreDigits prefix.digits) (each : All (λ id. All (λ d. d < 16) id) ids) where
+  -- both bounds of the run lie between those below the prefix's first byte and those up to its last
+  start_above : count_by (is_below (first_byte_of prefix.digits)) ids ≤ bound_of Start prefix ids
+  start_above = count_by-le (is_below (first_byte_of prefix.digits)) (λ id. stands_before Start (place prefix.digits id)) ids
+      (λ k d h lower. behind_lower prefix.digits (get_or ids k d) (can.reach k d h) small (are_digits _ (each k d h)) (tests_lt _ _ lower))
+
+  end_below : bound_of End prefix ids ≤ count_by (is_up_to (last_byte_of prefix.digits)) ids
+  end_below = count_by-le (λ id. stands_before End (place prefix.digits id)) (is_up_to (last_byte_of prefix.digits)) ids
+      (λ k d h stands. le_tests _ _ (not_above_last prefix.digits (get_or ids k d) (can.reach k d h) small (are_digits _ (each k d h)) stands))
+
+  -- and below two digits they are these
+  start_below : length prefix.digits < 2 → bound_of Start prefix ids ≤ count_by (is_below (first_byte_of prefix.digits)) ids
+  start_below short = count_by-le (λ id. stands_before Start (place prefix.digits id)) (is_below (first_byte_of prefix.digits)) ids
+      (λ k d h stands. lt_tests _ _ (lower_behind prefix.digits (get_or ids k d) short (can.reach k d h) (are_digits _ (each k d h)) stands))
+
+  end_above : length prefix.digits < 2 → count_by (is_up_to (last_byte_of prefix.digits)) ids ≤ bound_of End prefix ids
+  end_above short = count_by-le (is_up_to (last_byte_of prefix.digits)) (λ id. stands_before End (place prefix.digits id)) ids
+      (λ k d h lower. last_not_above prefix.digits (get_or ids k d) short (can.reach k d h) (tests_le _ _ lower))
+
+  -- so they are the candidates
+  pub are_candidates : (part : Run) → part.start ≡ count_by (is_below (first_byte_of prefix.digits)) ids
+      → part.end ≡ count_by (is_up_to (last_byte_of prefix.digits)) ids → AreCandidates prefix ids part
+  are_candidates part starts ends = record {
+    above = omega (arith, starts, start_above);
+    below = omega (arith, ends, end_below);
+    in_range = omega (arith, ends, count_by-le-length (is_up_to (last_byte_of prefix.digits)) ids);
+    start = λ short. omega (arith, starts, start_above, start_below short);
+    end = λ short. omega (arith, ends, end_below, end_above short);
+    count = λ long.
+        let same = last_byte_of-first prefix.digits long in
+        omega (arith, starts, ends ∙ ap (λ b. count_by (is_up_to b) ids) same, count_by-up_to (first_byte_of prefix.digits) ids);
+  }

@@ -1,0 +1,84 @@
+-- Indexes: one place further, any two places, and what a prefix of the kind can be asked for.
+use Rattle.std.proofs.Common.{◌≡◌, ℕ, zero, suc, not, nat_eq, ◌+◌, ◌-◌, ◌<◌, ◌≤◌, false, List, [], length, get_or, ◌⊎◌, inl, inr, refl, ap, ◌∙◌, subst, arith}
+use Rattle.std.specs.List.{AllPairs}
+use Rattle.std.specs.Ordering.{nat_cmp, is_lt, ordering_reverse}
+use Rattle.std.specs.Cmp.Lexicographic.{slice_cmp}
+use Rattle.std.specs.declared.cmp.Ordering.TheVariants.{Less}
+use Rattle.std.proofs.lemmas.Bool.{cases_lt}
+use Rattle.std.proofs.lemmas.Cmp.{nat_list_cmp_total}
+use Rattle.std.proofs.lemmas.List.{get_or_default}
+use Rattle.gix_hash.specs.Kind.{hex_len_of, number_of}
+use Rattle.gix_hash.specs.Prefix.{Beginning}
+use Rattle.gix_hash.specs.declared.kind.Kind.{Kind}
+use Rattle.gix_hash.specs.declared.kind.Kind.TheVariants.{Sha1, Sha256}
+use Rattle.id_lookup.specs.FoundRun.{IsRun}
+use Rattle.id_lookup.specs.declared.search.Run.{Run}
+use Rattle.id_lookup.specs.Index.{IsIndex, IsIndexUpTo}
+use Rattle.id_lookup.specs.Probing.{CanProbe}
+use Rattle.id_lookup.specs.Sorted.{IsSortedIds}
+
+-- an index up to a place, where the id there is of the kind and above the one before it, is one up to the next
+pub index_further : (kind : Kind) (ids : List (List ℕ)) (at : ℕ) → at < length ids → IsIndexUpTo at kind ids
+    → length (get_or ids at []) ≡ hex_len_of kind → (0 < at → slice_cmp nat_cmp (get_or ids (at - 1) []) (get_or ids at []) ≡ Less)
+    → IsIndexUpTo (at + 1) kind ids
+index_further kind ids at within index right above = record {
+  kinds = λ k d low high. by_kind k d (cases_lt k at) high;
+  rises = λ k d high. by_order k d (cases_lt (k + 1) at) high;
+}
+  where
+    by_kind : (k : ℕ) (d : List ℕ) → ((k < at) ⊎ (at ≤ k)) → k < at + 1 → length (get_or ids k d) ≡ hex_len_of kind
+    by_kind k d (inl less) high = index.kinds k d (omega arith) less
+    by_kind k d (inr more) high =
+        let here : k ≡ at = omega arith in
+        rw (here, get_or_default ids at d [] within) right
+
+    by_order : (k : ℕ) (d : List ℕ) → ((k + 1 < at) ⊎ (at ≤ k + 1)) → k + 1 < at + 1 → slice_cmp nat_cmp (get_or ids k d) (get_or ids (k + 1) d) ≡ Less
+    by_order k d (inl less) high = index.rises k d less
+    by_order k d (inr more) high =
+        let here : k + 1 ≡ at = omega arith in
+        let before : k ≡ at - 1 = omega arith in
+        rw (here, before, get_or_default ids at d [] within, get_or_default ids (at - 1) d [] (omega arith)) (above (omega arith))
+
+-- an index is sorted
+pub index-sorted : (kind : Kind) (ids : List (List ℕ)) → IsIndex kind ids → IsSortedIds ids
+index-sorted kind ids index k d low high =
+    ap is_lt (nat_list_cmp_total.antisymm (get_or ids (k + 1) d) (get_or ids k d) ∙ ap ordering_reverse (index.rises k d high))
+
+-- and each id is above all before it
+pub index-pairs : (kind : Kind) (ids : List (List ℕ)) → IsIndex kind ids → AllPairs (λ a b. slice_cmp nat_cmp a b ≡ Less) ids
+index-pairs kind ids index i zero d low high = absurd (omega arith)
+index-pairs kind ids index i (suc j) d low high = by (cases_lt i j) (λ less. index-pairs kind ids index i j d less (omega arith))
+  where
+    last : slice_cmp nat_cmp (get_or ids j d) (get_or ids (suc j) d) ≡ Less
+    last = let next : suc j ≡ j + 1 = omega arith in rw next (index.rises j d (omega arith))
+
+    by : ((i < j) ⊎ (j ≤ i)) → (i < j → slice_cmp nat_cmp (get_or ids i d) (get_or ids j d) ≡ Less) → slice_cmp nat_cmp (get_or ids i d) (get_or ids (suc j) d) ≡ Less
+    by (inl less) earlier = nat_list_cmp_total.trans (get_or ids i d) (get_or ids j d) (get_or ids (suc j) d) (earlier less) last
+    by (inr more) earlier = let here : i ≡ j = omega arith in rw here last
+
+-- a prefix of the index's kind can be asked for
+pub index-can_probe : (kind : Kind) (ids : List (List ℕ)) (prefix : Beginning) → IsIndex kind ids → length prefix.digits ≤ hex_len_of kind → CanProbe prefix ids
+index-can_probe kind ids prefix index fits = record {
+  sorted = index-sorted kind ids index;
+  reach = λ k d inside. omega (arith, fits, index.kinds k d (omega arith) inside);
+}
+
+-- kinds with as many digits are one
+pub same_kind : (a b : Kind) → hex_len_of a ≡ hex_len_of b → a ≡ b
+same_kind Sha1 Sha1 h = refl
+same_kind Sha1 Sha256 h = absurd (omega arith)
+same_kind Sha256 Sha1 h = absurd (omega arith)
+same_kind Sha256 Sha256 h = refl
+
+-- and the test for others tells them from no other
+pub not_other : (a b : Kind) → a ≡ b → not (nat_eq (number_of a) (number_of b)) ≡ false
+not_other a b same = ap (λ (kind : Kind). not (nat_eq (number_of kind) (number_of b))) same ∙ itself b
+  where
+    itself : (b : Kind) → not (nat_eq (number_of b) (number_of b)) ≡ false
+    itself Sha1 = refl
+    itself Sha256 = refl
+
+-- a run of one place
+pub run_of_one : (prefix : Beginning) (ids : List (List ℕ)) (run : Run) → IsRun prefix ids run → run.end ≡ run.start + 1
+    → IsRun prefix ids (record { start = run.start; end = run.start + 1 })
+run_of_one prefix ids run is one = subst (λ (n : ℕ). IsRun prefix ids (record { start = run.start; end = n })) one is

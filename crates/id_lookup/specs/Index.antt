@@ -1,0 +1,54 @@
+-- Lists of ids of one kind, each above the one before it. An id is told by its digits, whose number tells its kind.
+use Rattle.std.specs.Prelude.{◌≡◌, ◌≢◌, ℕ, ◌+◌, ◌-◌, ◌<◌, List, [], length, slice_index_or}
+use Rattle.std.specs.List.{AllAdjacentBelow, AllWithin, count_by}
+use Rattle.std.specs.Ordering.{nat_cmp}
+use Rattle.std.specs.Cmp.Lexicographic.{slice_cmp}
+use Rattle.std.specs.declared.cmp.Ordering.TheVariants.{Less}
+use Rattle.gix_hash.specs.declared.kind.Kind.{Kind}
+use Rattle.gix_hash.specs.Kind.{hex_len_of}
+use Rattle.gix_hash.specs.Prefix.{Beginning}
+use Rattle.id_lookup.specs.FoundRun.{IsRun}
+use Rattle.id_lookup.specs.Runs.{begins_with}
+use Rattle.id_lookup.specs.declared.index.Answer.{Answer}
+use Rattle.id_lookup.specs.declared.index.Answer.TheVariants as answers
+use Rattle.id_lookup.specs.declared.index.IndexError.{IndexError}
+use Rattle.id_lookup.specs.declared.index.IndexError.TheVariants.{WrongKind, NotRising}
+
+-- what contracts see of an index: a kind, and a list of ids by their digits
+pub record Index : Type 0 where
+  pub kind : Kind
+  pub ids : List (List ℕ)
+
+-- each of the first n ids has as many digits as the kind, and is above the one before it
+pub record IsIndexUpTo (n : ℕ) (kind : Kind) (ids : List (List ℕ)) : Type 0 where
+  pub kinds : AllWithin (λ id. length id ≡ hex_len_of kind) ids 0 n
+  pub rises : AllAdjacentBelow (λ a b. slice_cmp nat_cmp a b ≡ Less) ids n
+
+-- the ids are an index of the kind
+abbrev pub IsIndex : Kind → List (List ℕ) → Type 0
+IsIndex kind ids = IsIndexUpTo (length ids) kind ids
+
+-- the ids before the place are an index, and the one there is of another kind
+pub record IsWrongKind (kind : Kind) (ids : List (List ℕ)) (at : ℕ) : Type 0 where
+  pub in_range : at < length ids
+  pub before : IsIndexUpTo at kind ids
+  pub wrong : length (slice_index_or ids at []) ≢ hex_len_of kind
+
+-- the ids before the place are an index, and the one there is of the kind and not above the one before it
+pub record IsNotRising (kind : Kind) (ids : List (List ℕ)) (at : ℕ) : Type 0 where
+  pub has_predecessor : 0 < at
+  pub in_range : at < length ids
+  pub before : IsIndexUpTo at kind ids
+  pub right : length (slice_index_or ids at []) ≡ hex_len_of kind
+  pub not_above : slice_cmp nat_cmp (slice_index_or ids (at - 1) []) (slice_index_or ids at []) ≢ Less
+
+-- the first place at which the list is no index of the kind, and why
+abbrev pub IsBadPlace : Kind → List (List ℕ) → IndexError → Type 0
+IsBadPlace kind ids (WrongKind at) = IsWrongKind kind ids at
+IsBadPlace kind ids (NotRising at) = IsNotRising kind ids at
+
+-- the answer on a prefix, by how many ids begin with it
+abbrev pub IsAnswer : Beginning → List (List ℕ) → Answer → Type 0
+IsAnswer prefix ids answers.None = count_by (begins_with prefix) ids ≡ 0
+IsAnswer prefix ids (answers.One at) = IsRun prefix ids (record { start = at; end = at + 1 })
+IsAnswer prefix ids (answers.Many run) = IsRun prefix ids run × (run.start + 1 < run.end)

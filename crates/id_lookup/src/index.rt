@@ -1,0 +1,172 @@
+//! Lists of ids of one kind, each above the one before it.
+
+ghost use Rattle.std.specs.Prelude.{◌≡◌, ◌↔◌, ◌-◌, ◌<◌, [], AllPairs, IfOk, IfErr, IsOk, IsTrue, length, map, slice_index_or};
+ghost use Rattle.std.specs.Cmp.Lexicographic.{slice_cmp};
+ghost use Rattle.std.specs.Ordering.{nat_cmp};
+ghost use Rattle.std.specs.declared.cmp.Ordering.{Ordering};
+ghost use Rattle.gix_hash.specs.ObjectId.{id_digits};
+ghost use Rattle.id_lookup.specs.FirstBytes.{IsFanOut};
+ghost use Rattle.id_lookup.specs.Index.{IsAnswer, IsBadPlace, IsIndex};
+
+use crate::fan_out::FanOut;
+use crate::probes::Probes;
+use crate::search::{Run, lookup_in};
+use gix_hash::{Kind, ObjectId, Prefix};
+use std::error::Error;
+use std::fmt;
+use std::marker::Model;
+
+/// A list of ids of one kind, each above the one before it, with the counts of its first bytes.
+///
+/// It takes no memory: the counts are a table of fixed size in it.
+#[derive(Drop)]
+pub struct IdIndex<'a> {
+    ids: &'a [ObjectId],
+    kind: Kind,
+    fan_out: FanOut,
+}
+
+impl<'a> Model for IdIndex<'a> {
+    ghost use Rattle.std.specs.Prelude.{map};
+    ghost use Rattle.gix_hash.specs.ObjectId.{id_digits};
+    ghost use Rattle.id_lookup.specs.FirstBytes.{IsFanOut};
+    ghost use Rattle.id_lookup.specs.Index.{Index, IsIndex};
+
+    ghost Value = { Index };
+
+    ghost view = { λ index. record { kind = index.kind; ids = map id_digits index.ids.now } };
+
+    ghost invariant = { λ index. IsIndex index.kind (map id_digits index.ids.now) × IsFanOut index.fan_out (map id_digits index.ids.now) };
+}
+
+impl<'a> IdIndex<'a> {
+    /// The list as an index of a kind, or its first bad place: there [`IndexError::WrongKind`] where
+    /// the id is of the other kind, and else [`IndexError::NotRising`] where it is not above the one
+    /// before it.
+    pub fn try_new(ids: &'a [ObjectId], kind: Kind) -> Result<IdIndex<'a>, IndexError>
+        ensures ok { IfOk result (λ index. index ≡ record { kind = kind; ids = map id_digits ids.now }) }
+        ensures index { IsOk result ↔ IsIndex kind (map id_digits ids.now) }
+        ensures err { IfErr result (IsBadPlace kind (map id_digits ids.now)) }
+    {
+        for at in 0..ids.len() {
+            if ids[at].kind() != kind {
+                return Err(IndexError::WrongKind { at });
+            }
+            if !rises_at(ids, at) {
+                return Err(IndexError::NotRising { at });
+            }
+        }
+        Ok(IdIndex {
+            ids,
+            kind,
+            fan_out: FanOut::of(ids),
+        })
+    }
+
+    /// The kind of each id.
+    pub fn kind(&self) -> Kind
+        ensures { result ≡ self.now.kind }
+    {
+        self.kind
+    }
+
+    /// The number of ids. Each of them is above all that stand before it.
+    pub fn len(&self) -> usize
+        ensures value { result ≡ length self.now.ids }
+        ensures index { IsIndex self.now.kind self.now.ids }
+        ensures in_order { AllPairs (λ a b. slice_cmp nat_cmp a b ≡ Ordering.Less) self.now.ids }
+    {
+        self.ids.len()
+    }
+
+    /// Whether there is no id.
+    pub fn is_empty(&self) -> bool
+        ensures { IsTrue result ↔ (length self.now.ids ≡ 0) }
+    {
+        self.ids.is_empty()
+    }
+
+    /// The counts of the ids' first bytes.
+    pub fn fan_out(&self) -> &FanOut
+        ensures { IsFanOut result.now self.now.ids }
+    {
+        &self.fan_out
+    }
+
+    /// Probes of the list by a prefix, of which nothing was asked.
+    ///
+    /// The prefix has the index's kind.
+    pub fn probes(&self, prefix: &Prefix) -> Probes<'a>
+        requires { prefix.now.kind ≡ self.now.kind }
+        ensures { result ≡ record { ids = self.now.ids; prefix = prefix.now; asked = 0 } }
+    {
+        // Where it is told that the prefix has at most as many digits as its kind.
+        let _hex_len = prefix.hex_len();
+        Probes::over(self.ids, *prefix)
+    }
+
+    /// Which members begin with a prefix: none, one, or a run of more.
+    ///
+    /// The prefix has the index's kind.
+    pub fn find(&self, prefix: &Prefix) -> Answer
+        requires { prefix.now.kind ≡ self.now.kind }
+        ensures { IsAnswer prefix.now self.now.ids result }
+    {
+        let run = lookup_in(&self.fan_out, &mut self.probes(prefix));
+        match run.end - run.start {
+            0 => Answer::None,
+            1 => Answer::One(run.start),
+            _ => Answer::Many(run),
+        }
+    }
+}
+
+// Whether the id at a place is above the one before it, if there is one.
+fn rises_at(ids: &[ObjectId], at: usize) -> bool
+    requires { at < length ids.now }
+    ensures { let digits = map id_digits ids.now in
+        IsTrue result ↔ (0 < at → slice_cmp nat_cmp (slice_index_or digits (at - 1) []) (slice_index_or digits at []) ≡ Ordering.Less) }
+{
+    at == 0 || ids[at - 1].as_oid() < ids[at].as_oid()
+}
+
+/// Why a list is no index of a kind.
+#[derive(Clone, Copy, PartialEq, Eq, Debug)]
+pub enum IndexError {
+    /// An id is of the other kind.
+    WrongKind {
+        /// The first bad place, counted from 0.
+        at: usize,
+    },
+    /// An id is not above the one before it.
+    NotRising {
+        /// The first bad place, counted from 0.
+        at: usize,
+    },
+}
+
+impl fmt::Display for IndexError {
+    fn fmt<W: fmt::Write>(&self, f: &mut fmt::Formatter<W>) -> fmt::Result {
+        match *self {
+            IndexError::WrongKind { at } => {
+                write!(f, "the id at place {at} is of the other kind")
+            }
+            IndexError::NotRising { at } => {
+                write!(f, "the id at place {at} is not above the one before it")
+            }
+        }
+    }
+}
+
+impl Error for IndexError {}
+
+/// Which members of an index begin with a prefix.
+#[derive(Clone, Copy, PartialEq, Eq, Debug)]
+pub enum Answer {
+    /// No member.
+    None,
+    /// The member at this place alone, counted from 0.
+    One(usize),
+    /// The members of a run of two or more.
+    Many(Run),
+}

@@ -1,0 +1,169 @@
+//! Indexes of the well-known ids and of a thousand, by tables.
+
+use super::{BLOB, BLOB_256, TREE, TREE_256, id, thousand};
+use crate::{Answer, IdIndex, IndexError, Run, lookup_in};
+use gix_hash::{Kind, ObjectId, Prefix};
+use std::process::Abort;
+use std::test::Fail;
+
+fn refusal(ids: &[ObjectId], kind: Kind) -> Result<IndexError, Fail> {
+    Ok(
+        IdIndex::try_new(ids, kind)
+            .err()
+            .ok_or("it is taken for an index")?,
+    )
+}
+
+// What an index answers on a prefix, by the look-up and by probes with at most `most` asks.
+fn expect_found(
+    rt: &impl Abort,
+    index: &IdIndex<'_>,
+    digits: &str,
+    run: Run,
+    most: u64,
+) -> Result<(), Fail> {
+    let prefix = Prefix::from_hex_nonempty(digits)?;
+    assert!(rt; prefix.as_oid().kind() == index.kind());
+    let mut probes = index.probes(&prefix);
+    assert_eq!(rt; probes.asked(), 0);
+    assert_eq!(rt; lookup_in(index.fan_out(), &mut probes), run, "{digits}");
+    assert!(rt;
+        probes.asked() <= most,
+        "{} asks for {digits}",
+        probes.asked()
+    );
+    assert_eq!(rt; probes.len(), index.len());
+    assert!(rt; probes.prefix() == prefix);
+    let want = match run.end - run.start {
+        0 => Answer::None,
+        1 => Answer::One(run.start),
+        _ => Answer::Many(run),
+    };
+    assert_eq!(rt; index.find(&prefix), want, "{digits}");
+    Ok(())
+}
+
+#[test]
+fn no_index(rt: HostRuntime) -> Result<(), Fail> {
+    let tree = id(TREE)?;
+    let blob = id(BLOB)?;
+    let tree_256 = id(TREE_256)?;
+    let blob_256 = id(BLOB_256)?;
+    let rows: [(&[ObjectId], Kind, IndexError); 6] = [
+        (
+            &[blob_256, tree, tree_256, blob],
+            Kind::Sha1,
+            IndexError::WrongKind { at: 0 },
+        ),
+        (&[tree, tree], Kind::Sha1, IndexError::NotRising { at: 1 }),
+        (&[blob, tree], Kind::Sha1, IndexError::NotRising { at: 1 }),
+        (
+            &[tree, blob_256],
+            Kind::Sha1,
+            IndexError::WrongKind { at: 1 },
+        ),
+        (&[tree], Kind::Sha256, IndexError::WrongKind { at: 0 }),
+        (
+            &[blob_256, tree_256, tree_256, tree],
+            Kind::Sha256,
+            IndexError::NotRising { at: 2 },
+        ),
+    ];
+    for (ids, kind, want) in rows {
+        assert_eq!(rt; refusal(ids, kind)?, want);
+    }
+    Ok(())
+}
+
+#[test]
+fn index_errors(rt: HostRuntime) -> Result<(), Fail> {
+    for (error, want) in [
+        (
+            IndexError::WrongKind { at: 3 },
+            "the id at place 3 is of the other kind",
+        ),
+        (
+            IndexError::NotRising { at: 1 },
+            "the id at place 1 is not above the one before it",
+        ),
+    ] {
+        assert_eq!(rt; format!(in rt.alloc(); "{error}")?.as_str(), want);
+    }
+    Ok(())
+}
+
+#[test]
+fn empty_index(rt: HostRuntime) -> Result<(), Fail> {
+    let index = IdIndex::try_new(&[], Kind::Sha1)?;
+    assert_eq!(rt; index.len(), 0);
+    assert!(rt; index.is_empty());
+    expect_found(&rt, &index, "4b82", Run { start: 0, end: 0 }, 0)
+}
+
+#[test]
+fn first_bytes_of_two(rt: HostRuntime) -> Result<(), Fail> {
+    let ids = [id(TREE)?, id(BLOB)?];
+    let index = IdIndex::try_new(&ids, Kind::Sha1)?;
+    assert!(rt; index.kind() == Kind::Sha1);
+    assert!(rt; !index.is_empty());
+    for (byte, want) in [(0x4a, 0), (0x4b, 1), (0xe5, 1), (0xe6, 2), (0xff, 2)] {
+        assert_eq!(rt; index.fan_out().up_to(byte), want, "up to {byte}");
+    }
+    expect_found(&rt, &index, "4b82", Run { start: 0, end: 1 }, 2)
+}
+
+#[test]
+fn index_of_a_thousand(rt: HostRuntime) -> Result<(), Fail> {
+    let ids = thousand();
+    let index = IdIndex::try_new(&ids, Kind::Sha1)?;
+    assert_eq!(rt; index.len(), 1000);
+    for (digits, start, end, most) in [
+        ("0200", 512, 513, 18),
+        ("03", 768, 1000, 16),
+        ("0", 0, 1000, 0),
+        ("1", 1000, 1000, 0),
+        ("04", 1000, 1000, 0),
+    ] {
+        expect_found(&rt, &index, digits, Run { start, end }, most)?;
+    }
+    Ok(())
+}
+
+#[test]
+fn index_of_sha256(rt: HostRuntime) -> Result<(), Fail> {
+    let ids = [id(BLOB_256)?, id(TREE_256)?];
+    let index = IdIndex::try_new(&ids, Kind::Sha256)?;
+    let beginning = TREE_256.get(..41).ok_or("the id has fewer digits")?;
+    expect_found(&rt, &index, beginning, Run { start: 1, end: 2 }, 2)?;
+    expect_found(&rt, &index, BLOB_256, Run { start: 0, end: 1 }, 2)
+}
+
+// Two ids that share four digits, and a third.
+#[test]
+fn none_one_and_many(rt: HostRuntime) -> Result<(), Fail> {
+    let ids = [
+        id("abcd000000000000000000000000000000000000")?,
+        id("abcd100000000000000000000000000000000000")?,
+        id("ffff000000000000000000000000000000000000")?,
+    ];
+    let index = IdIndex::try_new(&ids, Kind::Sha1)?;
+    for (digits, start, end) in [("abcd", 0, 2), ("abcd1", 1, 2), ("abce", 2, 2)] {
+        expect_found(&rt, &index, digits, Run { start, end }, 4)?;
+    }
+    Ok(())
+}
+
+// With no runtime there is no memory to take.
+#[test]
+fn index_without_a_runtime() -> Result<(), Fail> {
+    let ids = [id(TREE)?, id(BLOB)?];
+    let index = IdIndex::try_new(&ids, Kind::Sha1)?;
+    let prefix = Prefix::from(ids[1]);
+    if prefix.as_oid().kind() != index.kind() {
+        return Err(Fail::new("the prefix is of the other kind"));
+    }
+    if index.find(&prefix) != Answer::One(1) {
+        return Err(Fail::new("the answer is another"));
+    }
+    Ok(())
+}
