@@ -12,7 +12,7 @@ use id_lookup::{Answer, IdIndex, Probes, Run, SortedIds, lookup};
 /// The run of a prefix, or `None` where it has more digits than some id of the list.
 pub fn run_of(list: &SortedIds<'_>, prefix: &Prefix) -> Option<Run>
     ensures found { IfSome result (IsRun prefix.now list.now) }
-    ensures fits { IsSome result ↔ (length prefix.now.digits ≤ least_hex_len list.now) }
+    ensures within { IsSome result ↔ (length prefix.now.digits ≤ least_hex_len list.now) }
 {
     if prefix.hex_len() > list.min_hex_len() {
         return None;
