@@ -1,6 +1,6 @@
 -- Which texts the reading calls take, and why they refuse any other.
 use Rattle.std.proofs.Common.{◌≡◌, ◌↔◌, Option, None, Some, Err, nat_lt, ℕ, ◌<◌, ◌≤◌, ◌⊎◌, inl, inr, Bool, true, false, Ok, List, length, map, refl, sym, ap, ◌∙◌, arith}
-use Rattle.std.specs.Prelude.{All}
+use Rattle.std.specs.Prelude.{All, MatchResult, Result}
 use Rattle.std.specs.Char.{to_ascii_lowercase}
 use Rattle.std.proofs.lemmas.Bool.Decides.{nat_tests}
 use Rattle.std.proofs.lemmas.List.{length-map}
@@ -113,6 +113,16 @@ full_read-refused letter a text full_errors.Invalid = (
   λ h. rw (h.0.1, full h.0.0, digits_read-IsUnreadable letter text h.1) refl,
 )
 
+-- either way
+pub full_read-cases : (letter : ℕ → ℕ) → IsAlphabet letter → (text : List ℕ)
+    → MatchResult (full_read letter text) (IsFullReading letter text) (IsFullRefusal letter text)
+full_read-cases letter a text = by_answer (full_read letter text) refl
+  where
+    by_answer : (answer : Result Beginning decode.Error) → full_read letter text ≡ answer
+        → MatchResult answer (IsFullReading letter text) (IsFullRefusal letter text)
+    by_answer (Ok id) e = (full_read-is letter a text id).0 e
+    by_answer (Err error) e = (full_read-refused letter a text error).0 e
+
 -- no id has so many digits
 none_hex_len : (n : ℕ) → 64 < n → kind_of_hex_len n ≡ None
 none_hex_len n h = grind (arith, nat_tests)
@@ -164,6 +174,16 @@ prefix_read-refused letter a least text error = by_test (nat_lt (length text) le
     by_test : (test : Bool) → nat_lt (length text) least ≡ test → (prefix_read letter least text ≡ Err error) ↔ IsPrefixRefusal letter least text error
     by_test true e = too_short e error
     by_test false e = long_enough e error
+
+-- either way
+pub prefix_read-cases : (letter : ℕ → ℕ) → IsAlphabet letter → (least : ℕ) (text : List ℕ)
+    → MatchResult (prefix_read letter least text) (IsPrefixReading letter least text) (IsPrefixRefusal letter least text)
+prefix_read-cases letter a least text = by_answer (prefix_read letter least text) refl
+  where
+    by_answer : (answer : Result Beginning from_hex.Error) → prefix_read letter least text ≡ answer
+        → MatchResult answer (IsPrefixReading letter least text) (IsPrefixRefusal letter least text)
+    by_answer (Ok prefix) e = (prefix_read-is letter a least text prefix).0 e
+    by_answer (Err error) e = (prefix_read-refused letter a least text error).0 e
 
 -- a prefix's spelling, in any letter case, reads as its digits, of the least kind with room for them
 pub prefix_read-printed : (letter : ℕ → ℕ) → IsAlphabet letter → (text : List ℕ) (p : Beginning)

@@ -1,6 +1,9 @@
 -- Equality of ids and of prefixes is that of their parts, and an id is told by its kind and its digits.
-use Rattle.std.proofs.Common.{◌≡◌, ◌↔◌, ℕ, ◌&&◌, List, sym, ap, ◌∙◌, eqb-true}
-use Rattle.std.specs.Prelude.{IsTrue, nat_eq}
+use Rattle.std.proofs.Common.{◌≡◌, ◌↔◌, ℕ, ◌&&◌, List, refl, sym, ap, ◌∙◌, eqb-true}
+use Rattle.std.specs.Prelude.{IsTrue, Contains, nat_eq}
+use Rattle.std.specs.List.{list_any}
+use Rattle.std.proofs.lemmas.List.Folds.{list_any-from_Any}
+use Rattle.std.proofs.lemmas.Map.Views.{Contains-from_any}
 use Rattle.std.specs.Cmp.Lexicographic.{pointwise, bytes_decides}
 use Rattle.std.proofs.lemmas.Bool.{and_parts, eq-eqb}
 use Rattle.gix_hash.specs.Kind.{number_of, kind_by_number}
@@ -44,6 +47,13 @@ pub id_eq-same : (a b : ObjectId) → IsTrue (id_eq a b) ↔ (a ≡ b)
 id_eq-same a b = (
   λ h. (let parts = (id_eq-parts a b).0 h in same_id a b parts.0 parts.1),
   λ h. (id_eq-parts a b).1 (ap id_kind h, ap id_digits h),
+)
+
+-- a list of ids has an equal one just where it has the id itself
+pub Contains-id_eq : (ids : List ObjectId) (id : ObjectId) → IsTrue (list_any (id_eq id) ids) ↔ Contains ids id
+Contains-id_eq ids id = (
+  Contains-from_any (λ a b. (id_eq-same a b).0) id ids,
+  λ h. list_any-from_Any (id_eq id) ids (h.0, id, h.1, h.2, (id_eq-same id id).1 refl),
 )
 
 -- a prefix is told by its kind and its digits

@@ -1,9 +1,10 @@
 //! Laws of digits, ids and prefixes that no single call carries. Each is the contract of a function
 //! that computes nothing: a call of it brings the law into a caller's proof.
 
-ghost use Rattle.std.specs.Prelude.{◌≡◌, ◌≤◌, ◌<◌, ◌↔◌, ◌⊎◌, ◌+◌, ◌-◌, ◌/◌, ◌%◌, ◌^◌, ℕ, List, IsTrue, IsOk, IfOk, Some, None, codes, length, slice_index};
+ghost use Rattle.std.specs.Prelude.{◌≡◌, ◌≤◌, ◌<◌, ◌↔◌, ◌⊎◌, ◌+◌, ◌-◌, ◌/◌, ◌%◌, ◌^◌, ℕ, List, IsTrue, IsOk, IfOk, Some, None, codes, length, slice_index, MatchResult, Contains};
 ghost use Rattle.std.specs.declared.cmp.Ordering.{Ordering};
 ghost use Rattle.std.specs.Cmp.Lexicographic.{slice_cmp};
+ghost use Rattle.std.specs.List.{list_any};
 ghost use Rattle.std.specs.Ordering.{nat_cmp, ordering_reverse};
 ghost use Rattle.std.specs.Str.{str_to_ascii_lowercase};
 ghost use Rattle.gix_hash.specs.Alphabet.{letter_of};
@@ -18,6 +19,7 @@ ghost use Rattle.gix_hash.specs.Reading.{digits_read};
 ghost use Rattle.gix_hash.specs.Words.{words_of};
 ghost use Rattle.gix_hash.specs.declared.borrowed.oid as borrowed;
 ghost use Rattle.gix_hash.specs.declared.decode.Error as decode;
+ghost use Rattle.gix_hash.specs.declared.object_id.ObjectId as ids;
 ghost use Rattle.gix_hash.specs.declared.prefix.from_hex.Error as from_hex;
 
 use crate::alphabet::Alphabet;
@@ -45,12 +47,16 @@ pub fn readings(alphabet: Alphabet, text: &[u8])
 pub fn full_readings(alphabet: Alphabet, text: &[u8])
     ensures ok { (id : Beginning) → (full_read (letter_of alphabet) text.now ≡ Ok id) ↔ IsFullReading (letter_of alphabet) text.now id }
     ensures err { (error : decode.Error) → (full_read (letter_of alphabet) text.now ≡ Err error) ↔ IsFullRefusal (letter_of alphabet) text.now error }
+    ensures cases { MatchResult (full_read (letter_of alphabet) text.now)
+        (IsFullReading (letter_of alphabet) text.now) (IsFullRefusal (letter_of alphabet) text.now) }
 {}
 
 /// The texts that read as a prefix of at least so many digits, and why any other is refused.
 pub fn prefix_readings(alphabet: Alphabet, least: usize, text: &str)
     ensures ok { (prefix : Beginning) → (prefix_read (letter_of alphabet) least text.now ≡ Ok prefix) ↔ IsPrefixReading (letter_of alphabet) least text.now prefix }
     ensures err { (error : from_hex.Error) → (prefix_read (letter_of alphabet) least text.now ≡ Err error) ↔ IsPrefixRefusal (letter_of alphabet) least text.now error }
+    ensures cases { MatchResult (prefix_read (letter_of alphabet) least text.now)
+        (IsPrefixReading (letter_of alphabet) least text.now) (IsPrefixRefusal (letter_of alphabet) least text.now) }
 {}
 
 /// An id that is printed in full, and read in any letter case, is the same id.
@@ -101,6 +107,12 @@ pub fn equal_ids(first: &ObjectId, second: &ObjectId)
     // Where the numbers of the digits are told.
     let _kinds = (first.kind(), second.kind());
 }
+
+/// A list of ids has one that is equal to an id just where it has the id itself. So a set has the ids
+/// that are its keys.
+pub fn contains_equal(id: &ObjectId)
+    ensures { (ids : List ids.ObjectId) → IsTrue (list_any (id_eq id.now) ids) ↔ Contains ids id.now }
+{}
 
 /// Views are equal just where their digits are, or their full spellings, and their kinds are the
 /// same then.

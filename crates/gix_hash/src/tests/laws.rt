@@ -22,6 +22,23 @@ fn read_back_in_any_letter_case(rt: HostRuntime) -> Result<(), Fail> {
 }
 
 #[test]
+fn a_printed_prefix_read_back(rt: HostRuntime) -> Result<(), Fail> {
+    // From 41 digits on a prefix reads as of its own kind, and below that as of SHA-1.
+    let long = "473A0f4c3be8a93681a267e3b1e9a7dcda1185436";
+    for (text, hex_len, same) in [("473A0", 5, false), (long, 41, true)] {
+        let prefix = Prefix::new(id(BLOB_256)?.as_oid(), hex_len)?;
+        let lowered = text.to_ascii_lowercase(rt.alloc())?;
+        let is_printed = prefix.hex_len() >= 1 && prefix.eq_str(lowered.as_str());
+        assert!(rt; is_printed, "{hex_len} digits");
+        laws::read_prefix_back(Alphabet::Hex, &prefix, text);
+        let read = Prefix::from_hex_nonempty(text)?;
+        assert!(rt; read.eq_str(lowered.as_str()), "{hex_len} digits");
+        assert_eq!(rt; read == prefix, same, "{hex_len} digits");
+    }
+    Ok(())
+}
+
+#[test]
 fn hold_without_computing() -> Result<(), Fail> {
     let (blob, null) = (ObjectId::Sha1(BLOB_BYTES), ObjectId::Sha1([0; 20]));
     let (change, other_change) = (ChangeId::from(blob), ChangeId::from(null));
@@ -33,6 +50,7 @@ fn hold_without_computing() -> Result<(), Fail> {
     laws::prefix_readings(Alphabet::Hex, 1, "e69d");
     laws::same_id(&blob, &null);
     laws::equal_ids(&blob, &null);
+    laws::contains_equal(&blob);
     laws::equal_views(view, id(BLOB_256)?.as_oid());
     laws::equal_prefixes(&prefix, &other);
     laws::compare_as_ids(&change, &other_change);

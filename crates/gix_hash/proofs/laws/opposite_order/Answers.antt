@@ -8,7 +8,6 @@ pub returns : goal.returns
 returns c =
     let first = c.args.first.now in
     let second = c.args.second.now in
-    let a = c.kind.ensures in
-    let b = c.kind-2.ensures in
-    opposite_spellings _ _ (a.len ∙ ap hex_len_of c.requires ∙ sym b.len) a.fits b.fits
+    let len = c.kind.ensures.len ∙ ap hex_len_of c.requires ∙ sym c.kind-2.ensures.len in
+    opposite_spellings _ _ len c.kind.ensures.fits c.kind-2.ensures.fits
     ∙ ap ordering_reverse (sym (id_cmp-digits first second c.requires))
