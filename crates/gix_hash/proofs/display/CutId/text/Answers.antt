@@ -15,7 +15,7 @@ spelled : (c : goal.After-min) → take c.min.result c.put_id.new.buffer ≡ spe
 spelled c =
     let cut = c.args.self.now in
     take-put_id (letter_of c.args.alphabet) cut.hex_len _ cut.inner _ _ c.put_id.ensures.value
-    (c.min.ensures ∙ ap (min cut.hex_len) (c.len_in_hex.ensures ∙ ap hex_len_of c.kind.ensures))
+    (c.min.ensures ∙ ap (min cut.hex_len) (c.len_in_hex.ensures ∙ ap hex_len_of c.kind.ensures.value))
 
 pub ascii_text-requires : goal.ascii_text-requires
 ascii_text-requires c =
