@@ -1,5 +1,5 @@
 -- Which texts the reading calls take, and why they refuse any other.
-use Rattle.std.proofs.Common.{◌≡◌, ◌↔◌, Option, None, Some, Err, nat_lt, ℕ, ◌<◌, ◌≤◌, ◌⊎◌, inl, inr, Bool, true, false, Ok, List, length, map, refl, sym, ap, ◌∙◌, arith}
+use Rattle.std.proofs.Common.{◌≡◌, ◌==◌, ◌↔◌, Option, None, Some, Err, nat_lt, ℕ, ◌<◌, ◌≤◌, ◌⊎◌, inl, inr, Bool, true, false, Ok, List, length, map, refl, sym, ap, ◌∙◌, arith}
 use Rattle.std.specs.Prelude.{All, MatchResult, Result}
 use Rattle.std.specs.Char.{to_ascii_lowercase}
 use Rattle.std.proofs.lemmas.Bool.Decides.{nat_tests}
@@ -11,8 +11,8 @@ use Rattle.gix_hash.specs.IdReading.{full_read, whole_of, IsFullReading, IsFullR
 use Rattle.gix_hash.specs.Kind.{hex_len_of, kind_of_full_len, kind_of_hex_len, IsFullLen}
 use Rattle.gix_hash.specs.ObjectId.{id_kind, id_digits}
 use Rattle.gix_hash.specs.Prefix.{Beginning, beginning_of}
-use Rattle.gix_hash.specs.PrefixReading.{prefix_read, IsPrefixReading, IsPrefixRefusal}
-use Rattle.gix_hash.specs.Reading.{answer_of}
+use Rattle.gix_hash.specs.PrefixReading.{prefix_read, prefix_read_in, IsPrefixReading, IsPrefixRefusal, IsReadingIn, IsRefusalIn}
+use Rattle.gix_hash.specs.Reading.{answer_of, digits_read}
 use Rattle.gix_hash.specs.declared.alphabet.Alphabet.{Alphabet}
 use Rattle.gix_hash.specs.declared.alphabet.Alphabet.TheVariants.{Hex, Reverse}
 use Rattle.gix_hash.specs.declared.decode.Error as decode
@@ -207,3 +207,65 @@ prefix_read-same letter text p read = (
   λ h. (let some = sym read.1 ∙ h in
       let is : read.0 ≡ p.kind = cc some in read.2 ∙ ap (λ kind. Ok (beginning_of kind p.digits)) is),
 )
+
+-- the texts that read as a prefix in a kind
+pub prefix_read_in-is : (kind : Kind) (letter : ℕ → ℕ) → IsAlphabet letter → (text : List ℕ) (b : Beginning)
+    → (prefix_read_in kind letter text ≡ Ok b) ↔ IsReadingIn kind letter text b
+prefix_read_in-is kind letter a text b = by_tests (nat_lt (hex_len_of kind) (length text)) refl (length text == 0) refl
+  where
+    by_tests : (long : Bool) → nat_lt (hex_len_of kind) (length text) ≡ long → (empty : Bool) → (length text == 0) ≡ empty
+        → (prefix_read_in kind letter text ≡ Ok b) ↔ IsReadingIn kind letter text b
+    by_tests true e empty f = (λ h. cc (rw e at h), λ h. absurd (omega (arith, h.room, ltb-true)))
+    by_tests false e true f = (λ h. cc (rw (e, f) at h), λ h. let some = h.nonempty in grind (arith, nat_tests))
+    by_tests false e false f = (
+      λ h. let parts = answered (Some kind) (digits_read letter text) Invalid Invalid b (rw (e, f) at h) in
+          record {
+            nonempty = grind (arith, nat_tests);
+            room = grind (arith, nat_tests);
+            same_kind = cc parts.0;
+            reads = ReadsAs-digits_read letter text b.digits parts.1;
+          },
+      λ h. let is : beginning_of kind b.digits ≡ b = ap (λ k. beginning_of k b.digits) (sym h.same_kind) in
+          rw (e, f, digits_read-ReadsAs letter a text b.digits h.reads) (ap Ok is),
+    )
+
+-- why a text is refused as a prefix in a kind
+pub prefix_read_in-refused : (kind : Kind) (letter : ℕ → ℕ) → IsAlphabet letter → (text : List ℕ) (error : from_hex.Error)
+    → (prefix_read_in kind letter text ≡ Err error) ↔ IsRefusalIn kind letter text error
+prefix_read_in-refused kind letter a text error = by_tests (nat_lt (hex_len_of kind) (length text)) refl (length text == 0) refl error
+  where
+    by_tests : (long : Bool) → nat_lt (hex_len_of kind) (length text) ≡ long → (empty : Bool) → (length text == 0) ≡ empty
+        → (x : from_hex.Error) → (prefix_read_in kind letter text ≡ Err x) ↔ IsRefusalIn kind letter text x
+    by_tests true e empty f (TooLong n) = (λ h. (cc (rw e at h), ltb-true (hex_len_of kind) (length text) e), λ h. rw (e, h.0) refl)
+    by_tests true e empty f (TooShort n) = (λ h. cc (rw e at h), λ h. let none = h.1 in grind (arith, nat_tests))
+    by_tests true e empty f Invalid = (λ h. cc (rw e at h), λ h. let room = h.1 in grind (arith, nat_tests))
+    by_tests false e true f (TooLong n) = (λ h. cc (rw (e, f) at h), λ h. let long = h.1 in grind (arith, nat_tests))
+    by_tests false e true f (TooShort n) = (λ h. (cc (rw (e, f) at h), grind (arith, nat_tests)), λ h. rw (e, f, h.0) refl)
+    by_tests false e true f Invalid = (λ h. cc (rw (e, f) at h), λ h. let some = h.0 in grind (arith, nat_tests))
+    by_tests false e false f (TooLong n) = (
+      λ h. elim (refused (Some kind) (digits_read letter text) Invalid Invalid (TooLong n) (rw (e, f) at h)) [ inl is ↦ cc | inr is ↦ cc is.3 ],
+      λ h. let long = h.1 in grind (arith, nat_tests),
+    )
+    by_tests false e false f (TooShort n) = (
+      λ h. elim (refused (Some kind) (digits_read letter text) Invalid Invalid (TooShort n) (rw (e, f) at h)) [ inl is ↦ cc | inr is ↦ cc is.3 ],
+      λ h. let none = h.1 in grind (arith, nat_tests),
+    )
+    by_tests false e false f Invalid = (
+      λ h. elim (refused (Some kind) (digits_read letter text) Invalid Invalid Invalid (rw (e, f) at h)) [
+        | inl is ↦ cc is.0
+        | inr is ↦ (grind (arith, nat_tests), grind (arith, nat_tests), IsUnreadable-digits_read letter a text is.2)
+      ],
+      λ h. rw (e, f, digits_read-IsUnreadable letter text h.2) refl,
+    )
+
+-- a prefix's spelling, in any letter case, reads in its kind as the prefix
+pub prefix_read_in-printed : (letter : ℕ → ℕ) → IsAlphabet letter → (text : List ℕ) (p : Beginning)
+    → map to_ascii_lowercase text ≡ spelling letter p.digits → 1 ≤ length p.digits → length p.digits ≤ hex_len_of p.kind → All (λ d. d < 16) p.digits
+    → prefix_read_in p.kind letter text ≡ Ok p
+prefix_read_in-printed letter a text p lowered some within fits =
+    let digits = digits_read-ReadsAs letter a text p.digits (ReadsAs-lowered letter text p.digits fits lowered) in
+    let count : length text ≡ length p.digits =
+    sym (length-map text to_ascii_lowercase) ∙ ap length lowered ∙ length-map p.digits letter in
+    let short : nat_lt (hex_len_of p.kind) (length p.digits) ≡ false = grind (arith, nat_tests) in
+    let nonempty : (length p.digits == 0) ≡ false = grind (arith, nat_tests) in
+    rw (count, short, nonempty, digits) refl

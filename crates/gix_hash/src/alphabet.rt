@@ -67,7 +67,7 @@ impl Alphabet {
     }
 
     // Reads the beginning of an id of the kind.
-    fn read_beginning(self, kind: Kind, text: &[u8]) -> Result<Prefix, from_hex::Error>
+    pub(crate) fn read_beginning(self, kind: Kind, text: &[u8]) -> Result<Prefix, from_hex::Error>
         requires { length text.now ≤ hex_len_of kind }
         ensures { result ≡ ok_or (option_map (beginning_of kind) (digits_read (letter_of self) text.now)) from_hex.Error.Invalid }
     {

@@ -14,7 +14,7 @@ ghost use Rattle.gix_hash.specs.Kind.{kind_of_hex_len};
 ghost use Rattle.gix_hash.specs.ObjectId.{id_digits, id_kind, id_eq, id_cmp, id_hash_input};
 ghost use Rattle.gix_hash.specs.Oid.{oid_digits, oid_kind, oid_eq, oid_cmp};
 ghost use Rattle.gix_hash.specs.Prefix.{place, Beginning, BeginsWith, prefix_eq};
-ghost use Rattle.gix_hash.specs.PrefixReading.{prefix_read, IsPrefixReading, IsPrefixRefusal};
+ghost use Rattle.gix_hash.specs.PrefixReading.{prefix_read, prefix_read_in, IsPrefixReading, IsPrefixRefusal, IsReadingIn, IsRefusalIn};
 ghost use Rattle.gix_hash.specs.Reading.{digits_read};
 ghost use Rattle.gix_hash.specs.Words.{words_of};
 ghost use Rattle.gix_hash.specs.declared.borrowed.oid as borrowed;
@@ -25,6 +25,7 @@ ghost use Rattle.gix_hash.specs.declared.prefix.from_hex.Error as from_hex;
 use crate::alphabet::Alphabet;
 use crate::borrowed::oid;
 use crate::change_id::ChangeId;
+use crate::kind::Kind;
 use crate::object_id::ObjectId;
 use crate::prefix::Prefix;
 use std::hash::Hash;
@@ -59,6 +60,12 @@ pub fn prefix_readings(alphabet: Alphabet, least: usize, text: &str)
         (IsPrefixReading (letter_of alphabet) least text.now) (IsPrefixRefusal (letter_of alphabet) least text.now) }
 {}
 
+/// The texts that read as a prefix in a given kind, and why any other is refused.
+pub fn prefix_readings_in(kind: Kind, alphabet: Alphabet, text: &str)
+    ensures ok { (prefix : Beginning) → (prefix_read_in kind (letter_of alphabet) text.now ≡ Ok prefix) ↔ IsReadingIn kind (letter_of alphabet) text.now prefix }
+    ensures err { (error : from_hex.Error) → (prefix_read_in kind (letter_of alphabet) text.now ≡ Err error) ↔ IsRefusalIn kind (letter_of alphabet) text.now error }
+{}
+
 /// An id that is printed in full, and read in any letter case, is the same id.
 pub fn read_back(id: &ObjectId, text: &[u8])
     requires { str_to_ascii_lowercase text.now ≡ spelling hex_letter (id_digits id.now) }
@@ -86,6 +93,17 @@ pub fn read_prefix_back(alphabet: Alphabet, prefix: &Prefix, text: &str)
     ensures digits { IfOk (prefix_read (letter_of alphabet) 1 text.now) (λ read. read.digits ≡ prefix.now.digits) }
     ensures same { (prefix_read (letter_of alphabet) 1 text.now ≡ Ok prefix.now)
         ↔ (kind_of_hex_len (length prefix.now.digits) ≡ Some prefix.now.kind) }
+{
+    // Where the number of the digits and their range are told.
+    let _len = prefix.hex_len();
+}
+
+/// A prefix of at least one digit that is printed, and read in its kind and in any letter case, is
+/// the same prefix.
+pub fn read_prefix_back_in_kind(alphabet: Alphabet, prefix: &Prefix, text: &str)
+    requires nonempty { 1 ≤ length prefix.now.digits }
+    requires printed { str_to_ascii_lowercase text.now ≡ spelling (letter_of alphabet) prefix.now.digits }
+    ensures { prefix_read_in prefix.now.kind (letter_of alphabet) text.now ≡ Ok prefix.now }
 {
     // Where the number of the digits and their range are told.
     let _len = prefix.hex_len();

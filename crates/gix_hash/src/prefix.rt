@@ -5,7 +5,7 @@ ghost use Rattle.std.specs.declared.cmp.Ordering.{Ordering};
 ghost use Rattle.gix_hash.specs.Digits.{hex_letter, reverse_letter};
 ghost use Rattle.gix_hash.specs.Kind.{hex_len_of};
 ghost use Rattle.gix_hash.specs.Prefix.{place, padded};
-ghost use Rattle.gix_hash.specs.PrefixReading.{prefix_read};
+ghost use Rattle.gix_hash.specs.PrefixReading.{prefix_read, prefix_read_in};
 
 use crate::alphabet::Alphabet;
 use crate::borrowed::oid;
@@ -161,6 +161,26 @@ impl Prefix {
         Alphabet::Reverse.read_prefix_nonempty(text)
     }
 
+    /// Reads 1 hex digit up to as many as ids of the given kind have, in any letter case, as a
+    /// prefix of that kind.
+    ///
+    /// More bytes are refused as [`from_hex::Error::TooLong`], none as
+    /// [`from_hex::Error::TooShort`], and else a byte that is no digit as
+    /// [`from_hex::Error::Invalid`].
+    pub fn from_hex_in(kind: Kind, text: &str) -> Result<Prefix, from_hex::Error>
+        ensures { result ≡ prefix_read_in kind hex_letter text.now }
+    {
+        if text.len() > kind.len_in_hex() {
+            return Err(from_hex::Error::TooLong {
+                hex_len: text.len(),
+            });
+        }
+        if text.is_empty() {
+            return Err(from_hex::Error::TooShort { hex_len: 0 });
+        }
+        Alphabet::Hex.read_beginning(kind, text.as_bytes())
+    }
+
     /// The digits with zeros behind them, as an id of the prefix's kind.
     pub fn as_oid(&self) -> oid<'_>
         ensures kind { oid_kind result ≡ self.now.kind }
@@ -206,7 +226,7 @@ impl From<ObjectId> for Prefix {
 impl<'a> TryFrom<&'a str> for Prefix {
     ghost use Rattle.std.specs.Prelude.{◌≡◌};
     ghost use Rattle.gix_hash.specs.Digits.{hex_letter};
-    ghost use Rattle.gix_hash.specs.PrefixReading.{prefix_read};
+    ghost use Rattle.gix_hash.specs.PrefixReading.{prefix_read, prefix_read_in};
 
     type Error = from_hex::Error;
 

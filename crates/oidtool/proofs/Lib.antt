@@ -1,5 +1,7 @@
 pub mod Meaning
+pub mod MeaningIn
 pub mod Orders
+pub mod IndexPlaces
 pub mod LineLemmas
 pub mod PrintLemmas
 pub mod ReadLemmas

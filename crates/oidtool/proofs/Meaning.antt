@@ -22,12 +22,12 @@ use Rattle.oidtool.specs.Refusal.{IsSearch, Means}
 use Rattle.oidtool.proofs.Orders.{MeansOrder, first_unsorted-means, first_unsorted-none, first_unsorted-some}
 
 -- what the answer for some lines means
-abbrev MeansLines : ℕ → List (List ℕ) → Result (List (List ℕ)) ListError → Type 0
+abbrev pub MeansLines : ℕ → List (List ℕ) → Result (List (List ℕ)) ListError → Type 0
 MeansLines n lines (Ok ids) = AllZip IsLineOf lines ids
 MeansLines n lines (Err (list.BadLine m error)) = IsFirstBad n lines m error
 MeansLines n lines (Err list.Memory) = ⊥
 
-ids_read-means : (n : ℕ) (lines : List (List ℕ)) → MeansLines n lines (ids_read n lines)
+pub ids_read-means : (n : ℕ) (lines : List (List ℕ)) → MeansLines n lines (ids_read n lines)
 unfolding ids_read
 ids_read-means n [] = tt
 ids_read-means n (line ∷ lines) = by_line (full_read hex_letter line) refl (ids_read (n + 1) lines) (ids_read-means (n + 1) lines)
@@ -78,7 +78,7 @@ means letter prefix text = by_texts (prefix_read letter 4 prefix) refl (list_rea
         by_order (record { start = p; ids = ids; prefix_reads = is; list_reads = h }) (first_unsorted ids) (first_unsorted-means ids)
 
 -- lines that read as ids
-ids_read-of : (n : ℕ) (lines ids : List (List ℕ)) → AllZip IsLineOf lines ids → ids_read n lines ≡ Ok ids
+pub ids_read-of : (n : ℕ) (lines ids : List (List ℕ)) → AllZip IsLineOf lines ids → ids_read n lines ≡ Ok ids
 unfolding ids_read
 ids_read-of n [] [] h = refl
 ids_read-of n [] (id ∷ ids) h = absurd h
@@ -103,7 +103,7 @@ ids_read-bad n (l ∷ before) line after error reads refused =
     rw (more, next) (put_id-err n (full_read hex_letter l) (list.BadLine (n + length (l ∷ before)) error) (All-head (λ l. IsOk (full_read hex_letter l)) l before reads))
 
 -- a text with a first bad line
-list_read-bad : (text : List ℕ) (m : ℕ) (error : Error) → IsFirstBad 1 (lines_of text) m error → list_read text ≡ Err (list.BadLine m error)
+pub list_read-bad : (text : List ℕ) (m : ℕ) (error : Error) → IsFirstBad 1 (lines_of text) m error → list_read text ≡ Err (list.BadLine m error)
 list_read-bad text m error h =
     rw (h.is, h.number) (ids_read-bad 1 h.before h.line h.after error h.read h.refused)
 

@@ -3,6 +3,7 @@ pub mod Lines
 pub mod ListText
 pub mod Finding
 pub mod Refusal
+pub mod FindingIn
 pub mod Writing
 pub mod Command
 pub mod Devices

@@ -13,6 +13,7 @@ ghost use Rattle.oidtool.specs.declared.running.CommandError.TheVariants as erro
 
 pub mod command;
 pub mod finding;
+pub mod finding_in;
 pub mod from_slice;
 pub mod into_slice;
 mod list;

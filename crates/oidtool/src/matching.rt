@@ -3,6 +3,7 @@
 ghost use Rattle.std.specs.Prelude.{◌≡◌, ◌≢◌, ◌≤◌, [], false, true, Some, None, map, length, OnOk, OnErr, IfOk, IfErr};
 ghost use Rattle.std.specs.Io.KnownBytes.{Appends};
 ghost use Rattle.gix_hash.specs.ObjectId.{id_digits};
+ghost use Rattle.id_lookup.specs.FoundRun.{IsRun};
 ghost use Rattle.id_lookup.specs.Runs.{matches};
 ghost use Rattle.id_lookup.specs.Sorted.{least_hex_len};
 ghost use Rattle.oidtool.specs.ListText.{first_unsorted};
@@ -13,7 +14,7 @@ ghost use Rattle.oidtool.specs.Writing.{AppendsPart};
 use crate::printing::write_ids;
 use crate::sink::{Sink, WriteFailed};
 use gix_hash::{Alphabet, ObjectId, Prefix};
-use id_lookup::SortedIds;
+use id_lookup::{Run, SortedIds};
 
 /// The ids as a sorted list, or the first that is below the one before it, counted from 1.
 pub fn sorted_ids(ids: &[ObjectId]) -> Result<SortedIds<'_>, usize>
@@ -27,8 +28,8 @@ pub fn sorted_ids(ids: &[ObjectId]) -> Result<SortedIds<'_>, usize>
     }
 }
 
-/// Writes a line for each id of the list that begins with the prefix, and answers how many there
-/// are. The ids are those of the list.
+/// Writes a line for each id of a sorted list that begins with the prefix, and answers how many
+/// there are. The ids are those of the list.
 ///
 /// It stops at the first write that fails, with a proper beginning of the lines written.
 pub fn write_matches<W: Sink>(
@@ -48,7 +49,28 @@ pub fn write_matches<W: Sink>(
     ensures part { OnErr result (AppendsPart (W.taken out.old) (W.taken out.new) (printed (letter_of alphabet) (matches prefix.now.digits list.now))) }
     ensures failed { OnErr result (W.has_failed out.new ≡ true) }
 {
-    let run = list.find(prefix);
+    write_run(alphabet, ids, list.find(prefix), prefix, out)
+}
+
+/// Writes a line for each id of the run of a prefix, and answers how many there are.
+///
+/// It stops at the first write that fails, with a proper beginning of the lines written.
+pub fn write_run<W: Sink>(
+    alphabet: Alphabet,
+    ids: &[ObjectId],
+    run: Run,
+    prefix: &Prefix,
+    out: &mut W,
+) -> Result<usize, WriteFailed>
+    requires run { IsRun prefix.now (map id_digits ids.now) run }
+    requires stands { W.has_failed out.old ≡ false }
+    ensures count { IfOk result (λ n. n ≡ length (matches prefix.now.digits (map id_digits ids.now))) }
+    ensures written { OnOk result (Appends (W.taken out.old) (W.taken out.new) (printed (letter_of alphabet) (matches prefix.now.digits (map id_digits ids.now)))) }
+    ensures stands { OnOk result (W.has_failed out.new ≡ false) }
+    ensures matched { OnErr result (matches prefix.now.digits (map id_digits ids.now) ≢ []) }
+    ensures part { OnErr result (AppendsPart (W.taken out.old) (W.taken out.new) (printed (letter_of alphabet) (matches prefix.now.digits (map id_digits ids.now)))) }
+    ensures failed { OnErr result (W.has_failed out.new ≡ true) }
+{
     write_ids(alphabet, &ids[run.start..run.end], out)?;
     Ok(run.end - run.start)
 }

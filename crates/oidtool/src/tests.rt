@@ -2,6 +2,7 @@
 
 mod devices;
 mod faults;
+mod finding_in;
 mod running;
 
 use crate::command::{ArgError, exit_status, read_command};
