@@ -17,19 +17,19 @@ length-known id bytes are len =
     omega (arith, length-digits_of (id_bytes id), ap length are, hex_len_of-bytes (id_kind id))
 
 -- and their range
-pub fits-known : (id : ObjectId) (bytes : List ℕ) → bytes ≡ id_bytes id → All (λ b. b < 256) bytes → All (λ d. d < 16) (id_digits id)
-fits-known id bytes are fits = All-digits_of (id_bytes id) (subst (All (λ b. b < 256)) are fits)
+pub digits_in_range-known : (id : ObjectId) (bytes : List ℕ) → bytes ≡ id_bytes id → All (λ b. b < 256) bytes → All (λ d. d < 16) (id_digits id)
+digits_in_range-known id bytes are fits = All-digits_of (id_bytes id) (subst (All (λ b. b < 256)) are fits)
 
 -- what the bytes that an id lends tell of its digits
-pub ruleset digits_of_id = (length-known, fits-known)
+pub ruleset digits_of_id = (length-known, digits_in_range-known)
 
 -- a view has as many digits as its kind
 pub length-oid : (id : oid) → length (oid_digits id) ≡ hex_len_of (oid_kind id)
 length-oid id = length-digits_of (oid_bytes id) ∙ sym (hex_len_of-kind (length (oid_bytes id)) id.length_known)
 
 -- and each is below sixteen
-pub fits-oid : (id : oid) → All (λ d. d < 16) (oid_digits id)
-fits-oid id = All-digits_of (oid_bytes id) id.fits
+pub digits_in_range-oid : (id : oid) → All (λ d. d < 16) (oid_digits id)
+digits_in_range-oid id = All-digits_of (oid_bytes id) id.bytes_in_range
 
 -- what a view tells of its digits
-pub ruleset digits_of_view = (length-oid, fits-oid)
+pub ruleset digits_of_view = (length-oid, digits_in_range-oid)

@@ -32,7 +32,7 @@ const WORD: usize = 8;
 pub struct oid<'a> {
     bytes: &'a [u8],
     pub ghost length_known: { IsTrue (is_digest_len (length bytes.now)) },
-    pub ghost fits: { All (λ b. b < 256) bytes.now },
+    pub ghost bytes_in_range: { All (λ b. b < 256) bytes.now },
 }
 
 impl<'a> oid<'a> {
@@ -56,7 +56,7 @@ impl<'a> oid<'a> {
     /// [`Error::InvalidByteSliceLength`] with their number.
     pub fn try_from_bytes(bytes: &'a [u8]) -> Result<Self, Error>
         ensures ok { IfOk result (λ id. oid_bytes id ≡ bytes.now) }
-        ensures fits { IsOk result ↔ IsTrue (is_digest_len (length bytes.now)) }
+        ensures accepted { IsOk result ↔ IsTrue (is_digest_len (length bytes.now)) }
         ensures err { IfErr result (λ e. e ≡ Error.InvalidByteSliceLength (length bytes.now)) }
     {
         match bytes.len() {
@@ -70,7 +70,7 @@ impl<'a> oid<'a> {
     pub fn kind(&self) -> Kind
         ensures value { result ≡ oid_kind self.now }
         ensures len { length (oid_digits self.now) ≡ hex_len_of (oid_kind self.now) }
-        ensures fits { All (λ d. d < 16) (oid_digits self.now) }
+        ensures digits_in_range { All (λ d. d < 16) (oid_digits self.now) }
     {
         if self.bytes.len() == 20 {
             Kind::Sha1
@@ -82,7 +82,7 @@ impl<'a> oid<'a> {
     /// The bytes of the digest, 20 or 32 of them.
     pub fn as_bytes(&self) -> &'a [u8]
         ensures value { result.now ≡ oid_bytes self.now }
-        ensures fits { All (λ b. b < 256) result.now }
+        ensures bytes_in_range { All (λ b. b < 256) result.now }
     {
         self.bytes
     }

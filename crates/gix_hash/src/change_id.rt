@@ -102,7 +102,7 @@ impl ChangeId {
     pub fn kind(&self) -> Kind
         ensures value { result ≡ id_kind self.now }
         ensures len { length (id_digits self.now) ≡ hex_len_of (id_kind self.now) }
-        ensures fits { All (λ d. d < 16) (id_digits self.now) }
+        ensures digits_in_range { All (λ d. d < 16) (id_digits self.now) }
     {
         self.0.kind()
     }
@@ -111,7 +111,7 @@ impl ChangeId {
     pub fn as_bytes(&self) -> &[u8]
         ensures value { result.now ≡ id_bytes self.now }
         ensures len { length result.now ≡ byte_len_of (id_kind self.now) }
-        ensures fits { All (λ b. b < 256) result.now }
+        ensures bytes_in_range { All (λ b. b < 256) result.now }
     {
         self.0.as_slice()
     }
@@ -121,7 +121,7 @@ impl ChangeId {
         ensures kind { oid_kind result ≡ id_kind self.now }
         ensures digits { oid_digits result ≡ id_digits self.now }
         ensures len { length (id_digits self.now) ≡ hex_len_of (id_kind self.now) }
-        ensures fits { All (λ d. d < 16) (id_digits self.now) }
+        ensures digits_in_range { All (λ d. d < 16) (id_digits self.now) }
     {
         self.0.as_oid()
     }

@@ -54,7 +54,7 @@ impl ObjectId {
     pub const fn kind(&self) -> Kind
         ensures value { result ≡ id_kind self.now }
         ensures len { length (id_digits self.now) ≡ hex_len_of (id_kind self.now) }
-        ensures fits { All (λ d. d < 16) (id_digits self.now) }
+        ensures digits_in_range { All (λ d. d < 16) (id_digits self.now) }
     {
         // Where the digest's length and the range of its bytes are told.
         let _bytes = self.as_slice();
@@ -101,11 +101,11 @@ impl ObjectId {
     pub const fn as_slice(&self) -> &[u8]
         ensures value { result.now ≡ id_bytes self.now }
         ensures len { length result.now ≡ byte_len_of (id_kind self.now) }
-        ensures fits { All (λ b. b < 256) result.now }
+        ensures bytes_in_range { All (λ b. b < 256) result.now }
     {
         match self {
-            ObjectId::Sha1(bytes) => fitting(bytes),
-            ObjectId::Sha256(bytes) => fitting(bytes),
+            ObjectId::Sha1(bytes) => with_range(bytes),
+            ObjectId::Sha256(bytes) => with_range(bytes),
         }
     }
 
@@ -115,7 +115,7 @@ impl ObjectId {
         ensures kind { oid_kind result ≡ id_kind self.now }
         ensures digits { oid_digits result ≡ id_digits self.now }
         ensures len { length (id_digits self.now) ≡ hex_len_of (id_kind self.now) }
-        ensures fits { All (λ d. d < 16) (id_digits self.now) }
+        ensures digits_in_range { All (λ d. d < 16) (id_digits self.now) }
     {
         oid::from_bytes_unchecked(self.as_slice())
     }
@@ -124,7 +124,7 @@ impl ObjectId {
     pub fn as_bytes(&self) -> &[u8]
         ensures value { result.now ≡ id_bytes self.now }
         ensures len { length result.now ≡ byte_len_of (id_kind self.now) }
-        ensures fits { All (λ b. b < 256) result.now }
+        ensures bytes_in_range { All (λ b. b < 256) result.now }
     {
         self.as_slice()
     }
@@ -284,9 +284,9 @@ impl ObjectId {
 
 // The bytes as they are. A parameter that is a slice is known to hold bytes, an array in a variant
 // is not.
-const fn fitting(bytes: &[u8]) -> &[u8]
+const fn with_range(bytes: &[u8]) -> &[u8]
     ensures value { result.now ≡ bytes.now }
-    ensures fits { All (λ b. b < 256) result.now }
+    ensures bytes_in_range { All (λ b. b < 256) result.now }
 {
     bytes
 }

@@ -192,9 +192,9 @@ impl Prefix {
     /// The number of digits.
     pub fn hex_len(&self) -> usize
         ensures value { result ≡ length self.now.digits }
-        ensures fits { result ≤ hex_len_of self.now.kind }
+        ensures at_most_kind { result ≤ hex_len_of self.now.kind }
         ensures most { result ≤ 64 }
-        ensures digits { All (λ d. d < 16) self.now.digits }
+        ensures digits_in_range { All (λ d. d < 16) self.now.digits }
     {
         self.hex_len
     }

@@ -54,7 +54,7 @@ impl Sink for IntoSlice<'_> {
         ensures bound { WritesAtMost result piece.now }
         ensures bytes { WriteAppends (Some (slice_taken self.old)) (Some (slice_taken self.new)) result piece.now }
         ensures failed { slice_failed self.new ≡ (slice_failed self.old || write_fails result piece.now) }
-        ensures fits { result ≡ Ok (min (length piece.now) (room_in self.old)) }
+        ensures takes { result ≡ Ok (min (length piece.now) (room_in self.old)) }
         ensures left { room_in self.new ≡ room_in self.old - length piece.now }
     {
         let count = piece.len().min(self.buf.len() - self.len);

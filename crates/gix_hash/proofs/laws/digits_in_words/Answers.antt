@@ -12,9 +12,9 @@ in_word ds h at lt =
     rw all at (word-digit at (31 - at) ds h)
 
 pub returns-clause-first : goal.returns-clause-first
-returns-clause-first c = in_word c.args.prefix.now.digits c.hex_len-len.ensures.digits
+returns-clause-first c = in_word c.args.prefix.now.digits c.hex_len-len.ensures.digits_in_range
 
 pub returns-clause-second : goal.returns-clause-second
 returns-clause-second c = λ at lt.
     let ds = c.args.prefix.now.digits in
-    in_word (drop 32 ds) (All-drop (λ (d : ℕ). d < 16) 32 ds c.hex_len-len.ensures.digits) at lt ∙ get_or-drop 32 ds at 0
+    in_word (drop 32 ds) (All-drop (λ (d : ℕ). d < 16) 32 ds c.hex_len-len.ensures.digits_in_range) at lt ∙ get_or-drop 32 ds at 0

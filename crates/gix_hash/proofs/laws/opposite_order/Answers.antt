@@ -9,5 +9,5 @@ returns c =
     let first = c.args.first.now in
     let second = c.args.second.now in
     let len = c.kind.ensures.len ∙ ap hex_len_of c.requires ∙ sym c.kind-2.ensures.len in
-    opposite_spellings _ _ len c.kind.ensures.fits c.kind-2.ensures.fits
+    opposite_spellings _ _ len c.kind.ensures.digits_in_range c.kind-2.ensures.digits_in_range
     ∙ ap ordering_reverse (sym (id_cmp-digits first second c.requires))

@@ -9,5 +9,5 @@ returns c =
     let letter = letter_of c.args.alphabet in
     let within = c.hex_len-len.ensures.most in
     let read = prefix_read-printed letter (letter_of-alphabet c.args.alphabet) c.args.text.now p
-    c.requires.printed c.requires.nonempty (rw c.hex_len-len.ensures.value at within) c.hex_len-len.ensures.digits in
+    c.requires.printed c.requires.nonempty (rw c.hex_len-len.ensures.value at within) c.hex_len-len.ensures.digits_in_range in
     record { reads = rw read.2 refl; digits = rw read.2 refl; same = prefix_read-same letter c.args.text.now p read }

@@ -20,7 +20,7 @@ loop-id-preserved c =
     record {
       len = rw length-set so_far.len;
       counted = one_more c.loop-id.counts (map id_digits ids) at c.from.result so_far.len within (omega arith) byte so_far.counted;
-      digits = below_more _ _ so_far.digits (subst (λ id. All (λ d. d < 16) id) here c.as_oid.ensures.fits);
+      digits = below_more _ _ so_far.digits (subst (λ id. All (λ d. d < 16) id) here c.as_oid.ensures.digits_in_range);
     }
 
 pub returns-clause-digits : goal.returns-clause-digits

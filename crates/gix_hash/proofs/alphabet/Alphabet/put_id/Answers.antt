@@ -21,7 +21,7 @@ returns-in-Reverse-clause-value c =
       c.spell_hex.ensures,
       take_at _ _ (2 * length bytes) len,
       drop_at _ _ (2 * length bytes) len,
-      spelling-reverse_of_hex (digits_of bytes) (All-digits_of bytes c.as_bytes-bytes.ensures.fits),
+      spelling-reverse_of_hex (digits_of bytes) (All-digits_of bytes c.as_bytes-bytes.ensures.bytes_in_range),
     ) refl
 
 pub returns-in_default-clause-value : goal.returns-in_default-clause-value

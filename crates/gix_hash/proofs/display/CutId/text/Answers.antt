@@ -20,7 +20,7 @@ spelled c =
 pub ascii_text-requires : goal.ascii_text-requires
 ascii_text-requires c =
     let cut = c.args.self.now in
-    let digits = All-take (λ (d : ℕ). d < 16) cut.hex_len (oid_digits cut.inner) (All-digits_of (oid_bytes cut.inner) cut.inner.fits) in
+    let digits = All-take (λ (d : ℕ). d < 16) cut.hex_len (oid_digits cut.inner) (All-digits_of (oid_bytes cut.inner) cut.inner.bytes_in_range) in
     subst IsAscii (sym (spelled c)) (IsAscii-spelling (letter_of c.args.alphabet) (letter_of-ascii c.args.alphabet) (shown_digits cut) digits)
 
 pub returns : goal.returns

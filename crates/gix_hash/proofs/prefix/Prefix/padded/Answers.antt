@@ -15,6 +15,6 @@ pub invariant_of-result : goal.invariant_of-result
 invariant_of-result c = record {
   within = c.requires.within;
   zeros = c.requires.zeros;
-  digits_in_range = c.as_oid.ensures.fits;
+  digits_in_range = c.as_oid.ensures.digits_in_range;
   words = c.of.ensures ∙ ap words_of (c.as_oid.ensures.digits ∙ c.requires.zeros) ∙ words_of-padded _ _;
 }

@@ -19,7 +19,7 @@ len : (id : oid) → length (oid_digits id) ≡ hex_len_of (oid_kind id)
 len id = length-digits_of id.bytes.now ∙ sym (hex_len_of-kind (length id.bytes.now) id.length_known)
 
 theirs : (id : oid) → AreDigits (oid_digits id)
-theirs id = All-digits_of id.bytes.now id.fits
+theirs id = All-digits_of id.bytes.now id.bytes_in_range
 
 -- of two comparisons the second does not count where the first decides
 decided : (a b : Ordering) → (a ≡ Equal → ⊥) → ordering_then a b ≡ a
