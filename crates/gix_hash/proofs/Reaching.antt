@@ -2,7 +2,7 @@
 use Rattle.std.proofs.Common.{◌≡◌, ℕ, ◌+◌, ◌-◌, ◌*◌, ◌<◌, Bool, false, min, List, [], ◌∷◌, ◌++◌, length, refl}
 use Rattle.std.proofs.lemmas.Fn.{FoldsTo-push}
 use Rattle.std.proofs.lemmas.List.{replicate-append-replicate, map-append}
-use Rattle.gix_hash.specs.Streams.{Reaches, ProgressCall, IncBy, heard, refused}
+use Rattle.gix_hash.specs.Streams.{Reaches, ProgressCall, IncBy, heard, all_false}
 use Rattle.gix_hash.proofs.Chunks.{take-chunks}
 
 -- no call was made
@@ -24,16 +24,16 @@ heard-more hears p q r n j count left size told last =
     rw (take-chunks n j left, map-append, ← size) (Reaches-more hears p q r (heard n j) (IncBy count) told last)
 
 -- one asking more is answered by false
-pub refused-more : {I : Type 0} (answers : I → Bool → I → Type 0) (p q r : I) (answer : Bool) (j : ℕ)
-    → answer ≡ false → Reaches answers p (refused j) q → answers q answer r → Reaches answers p (refused (j + 1)) r
-refused-more answers p q r answer j is_false asked last =
-    rw (← replicate-append-replicate j 1 false) (Reaches-more answers p q r (refused j) false asked (rw is_false at last))
+pub all_false-more : {I : Type 0} (answers : I → Bool → I → Type 0) (p q r : I) (answer : Bool) (j : ℕ)
+    → answer ≡ false → Reaches answers p (all_false j) q → answers q answer r → Reaches answers p (all_false (j + 1)) r
+all_false-more answers p q r answer j is_false asked last =
+    rw (← replicate-append-replicate j 1 false) (Reaches-more answers p q r (all_false j) false asked (rw is_false at last))
 
 -- where each asking is answered by false, all askings are
-pub all_refused : {I : Type 0} (answers : I → Bool → I → Type 0)
+pub always_false : {I : Type 0} (answers : I → Bool → I → Type 0)
     → ((p q : I) (answer : Bool) → answers p answer q → answer ≡ false)
-    → (p q : I) (given : List Bool) → Reaches answers p given q → given ≡ refused (length given)
+    → (p q : I) (given : List Bool) → Reaches answers p given q → given ≡ all_false (length given)
 unfolding Reaches
-all_refused answers each p q [] reached = refl
-all_refused answers each p q (answer ∷ given) reached =
-    rw (each p reached.0 answer reached.1, ← all_refused answers each reached.0 q given reached.2)
+always_false answers each p q [] reached = refl
+always_false answers each p q (answer ∷ given) reached =
+    rw (each p reached.0 answer reached.1, ← always_false answers each reached.0 q given reached.2)

@@ -43,23 +43,24 @@ heard n j = Init (Some n) ∷ map IncBy (take j (chunks n))
 abbrev pub heard_all : ℕ → List ProgressCall
 heard_all n = heard n (length (chunks n)) ++ ShowThroughput ∷ []
 
--- the answers of j askings that were all refused
-abbrev pub refused : ℕ → List Bool
-refused j = replicate j false
+-- the answers of j askings that were all false
+abbrev pub all_false : ℕ → List Bool
+all_false j = replicate j false
 
 -- a reader gave just these bytes, which are count
 abbrev pub GivesNext : Option (List ℕ) → Option (List ℕ) → ℕ → List ℕ → Type 0
 GivesNext old new count bytes = (length bytes ≡ count) × Consumes old new bytes
 
--- why reading n bytes stopped with an error, what was heard and asked by then, and what the reader gave: after j
--- whole chunks it failed, or an asking after the chunk behind them was answered by true
+-- why reading n bytes stopped with an error, and what was heard and answered by then. Either the reader failed when it
+-- had given j full chunks and more were to come; or the asking after the chunk behind j was answered by true, and the
+-- reader gave just the bytes until then
 abbrev pub Stops : Error → ℕ → (List ProgressCall → Type 0) → (List Bool → Type 0) → Option (List ℕ) → Option (List ℕ) → Type 0
 Stops (errors.Io _) n hears answers old new =
-    (j : ℕ) × (j < length (chunks n)) × hears (heard n j) × answers (refused j)
+    (j : ℕ) × (j < length (chunks n)) × hears (heard n j) × answers (all_false j)
     × ((between : Option (List ℕ)) × (bytes : List ℕ) × GivesNext old between (65535 * j) bytes)
 Stops (errors.Hasher _) n hears answers old new = ⊥
 Stops errors.Interrupted n hears answers old new =
-    (j : ℕ) × (j < length (chunks n)) × hears (heard n (j + 1)) × answers (refused j ++ true ∷ [])
+    (j : ℕ) × (j < length (chunks n)) × hears (heard n (j + 1)) × answers (all_false j ++ true ∷ [])
     × ((bytes : List ℕ) × GivesNext old new (min n (65535 * (j + 1))) bytes)
 
 -- why a file gave no digest: it could not be opened, and nothing was heard or asked, or reading its n bytes stopped

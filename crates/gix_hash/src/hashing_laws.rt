@@ -5,7 +5,7 @@ ghost use Rattle.std.specs.Prelude.{◌≡◌, ◌↔◌, ℕ, Bool, List, [], m
 ghost use Rattle.std.specs.List.{concat};
 ghost use Rattle.gix_hash.specs.Hashing.{digest, StandsFor};
 ghost use Rattle.gix_hash.specs.HashingWriter.{Takes, WriterCall, Passes, accepted};
-ghost use Rattle.gix_hash.specs.Streams.{Reaches, AreChunks, chunks, refused};
+ghost use Rattle.gix_hash.specs.Streams.{Reaches, AreChunks, chunks, all_false};
 
 use crate::hashing;
 use crate::hashing::start::hasher;
@@ -45,5 +45,5 @@ pub fn stands_for_what_was_accepted<T: io::Write>(before: &Write<T>, after: &Wri
 /// However often [`Never`] is asked, each answer is false.
 pub fn never_interrupts(before: &Never, after: &Never)
     ensures { (answers : List Bool) → Reaches ⟦<Never as Interrupt>⟧.answers before.now answers after.now
-        → answers ≡ refused (length answers) }
+        → answers ≡ all_false (length answers) }
 {}

@@ -2,7 +2,8 @@
 //!
 //! An id is a SHA-1 digest of 20 bytes or a SHA-256 digest of 32 bytes, and contracts see it as a
 //! [`Kind`] and a list of 40 or 64 digits. [`ObjectId`] owns its bytes, [`oid`] borrows them, and a
-//! [`Prefix`] is a beginning of an id's digits.
+//! [`Prefix`] is a beginning of an id's digits. A [`Hasher`] computes ids from bytes in pieces, and
+//! [`bytes`], [`bytes_of_file`] and [`io::Write`] from what is read and written.
 #![tactic(auto)]
 
 mod alphabet;

@@ -3,7 +3,7 @@
 ghost use Rattle.std.specs.Prelude.{◌≡◌, ℕ, List, length, IfOk, OnOk, IfErr};
 ghost use Rattle.gix_hash.specs.Hashing.{digest};
 ghost use Rattle.gix_hash.specs.ObjectId.{id_kind};
-ghost use Rattle.gix_hash.specs.Streams.{Reaches, StopsInFile, chunks, heard_all, refused};
+ghost use Rattle.gix_hash.specs.Streams.{Reaches, StopsInFile, chunks, heard_all, all_false};
 
 use super::stream::bytes;
 use super::{Error, Interrupt, Progress};
@@ -30,7 +30,7 @@ pub fn bytes_of_file<F: Files, P: Progress, I: Interrupt>(
     ensures kind { IfOk result (λ id. id_kind id ≡ kind) }
     ensures heard { OnOk result (Reaches P.hears progress.old (heard_all num_bytes_from_start) progress.new) }
     ensures asked { OnOk result (Reaches I.answers should_interrupt.old
-        (refused (length (chunks num_bytes_from_start))) should_interrupt.new) }
+        (all_false (length (chunks num_bytes_from_start))) should_interrupt.new) }
     ensures err { IfErr result (λ e. StopsInFile e num_bytes_from_start
         (λ calls. Reaches P.hears progress.old calls progress.new)
         (λ answers. Reaches I.answers should_interrupt.old answers should_interrupt.new)) }

@@ -2,7 +2,7 @@
 
 ghost use Rattle.std.specs.Prelude.{◌≡◌, ◌++◌, ℕ, List, length, IfOk, OnOk, IfErr};
 ghost use Rattle.gix_hash.specs.Hashing.{digest, hasher_kind, StandsFor};
-ghost use Rattle.gix_hash.specs.Streams.{Reaches, GivesNext, Stops, chunks, heard_all, refused};
+ghost use Rattle.gix_hash.specs.Streams.{Reaches, GivesNext, Stops, chunks, heard_all, all_false};
 
 use super::{Error, Interrupt, Progress};
 use crate::hashing::start::hasher;
@@ -38,7 +38,7 @@ pub fn bytes_with_hasher<R: Read, P: Progress, I: Interrupt>(
         × ((message : List ℕ) → StandsFor hasher message → id ≡ digest (hasher_kind hasher) (message ++ bytes))) }
     ensures heard { OnOk result (Reaches P.hears progress.old (heard_all num_bytes_from_start) progress.new) }
     ensures asked { OnOk result (Reaches I.answers should_interrupt.old
-        (refused (length (chunks num_bytes_from_start))) should_interrupt.new) }
+        (all_false (length (chunks num_bytes_from_start))) should_interrupt.new) }
     ensures err { IfErr result (λ e. Stops e num_bytes_from_start
         (λ calls. Reaches P.hears progress.old calls progress.new)
         (λ answers. Reaches I.answers should_interrupt.old answers should_interrupt.new)
@@ -77,7 +77,7 @@ pub fn bytes<R: Read, P: Progress, I: Interrupt>(
         × (id ≡ digest kind bytes)) }
     ensures heard { OnOk result (Reaches P.hears progress.old (heard_all num_bytes_from_start) progress.new) }
     ensures asked { OnOk result (Reaches I.answers should_interrupt.old
-        (refused (length (chunks num_bytes_from_start))) should_interrupt.new) }
+        (all_false (length (chunks num_bytes_from_start))) should_interrupt.new) }
     ensures err { IfErr result (λ e. Stops e num_bytes_from_start
         (λ calls. Reaches P.hears progress.old calls progress.new)
         (λ answers. Reaches I.answers should_interrupt.old answers should_interrupt.new)

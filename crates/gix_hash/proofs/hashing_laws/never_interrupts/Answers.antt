@@ -1,5 +1,5 @@
-use Rattle.gix_hash.proofs.Reaching.{all_refused}
+use Rattle.gix_hash.proofs.Reaching.{always_false}
 use Rattle.gix_hash.proofs.hashing_laws.never_interrupts.Goals as goal
 
 pub returns : goal.returns
-returns c answers reached = all_refused _ (λ p q answer asked. asked.0) _ _ answers reached
+returns c answers reached = always_false _ (λ p q answer asked. asked.0) _ _ answers reached

@@ -6,7 +6,7 @@ use Rattle.gix_hash.specs.declared.io.error.Error.TheVariants as errors
 use Rattle.gix_hash.specs.Streams.{chunks}
 use Rattle.gix_hash.proofs.Chunks.{chunk_is_there, chunks_end}
 use Rattle.gix_hash.proofs.Made.{ok-kept, err-made}
-use Rattle.gix_hash.proofs.Reaching.{Reaches-none, Reaches-more, heard-more, refused-more}
+use Rattle.gix_hash.proofs.Reaching.{Reaches-none, Reaches-more, heard-more, all_false-more}
 use Rattle.gix_hash.proofs.io.stream.bytes_with_hasher.Goals as goal
 
 pub loop-left-init : goal.loop-left-init
@@ -36,7 +36,7 @@ loop-left-preserved g c =
         counted = omega arith;
         rest = omega arith;
         told = heard-more _ _ _ _ _ _ _ left (omega arith) known.told c.inc_by.ensures;
-        asked = refused-more _ _ _ _ _ _ c.if-should_interrupt.false known.asked c.should_interrupt.ensures;
+        asked = all_false-more _ _ _ _ _ _ c.if-should_interrupt.false known.asked c.should_interrupt.ensures;
         read = (
           rw length-append (omega (arith, known.read.0, c.read_exact.auto.buf, length-take c.min-count.result c.loop-left.buf)),
           Consumes-trans _ _ _ _ _ known.read.1 taken,
