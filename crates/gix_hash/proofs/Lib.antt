@@ -1,4 +1,5 @@
 pub mod Alphabets
+mod CommonBytes
 pub mod HexReading
 pub mod IdFacts
 pub mod KindFacts
