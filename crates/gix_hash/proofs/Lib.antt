@@ -2,6 +2,7 @@ mod Accepted
 mod Alphabets
 mod BufferEnds
 mod Chunks
+mod CommonBytes
 mod DigitNumbers
 mod FirstWords
 mod HexReading

@@ -22,3 +22,4 @@ pub mod Hashing
 pub mod Streams
 pub mod HashingWriter
 pub mod Words
+pub mod CommonDigits

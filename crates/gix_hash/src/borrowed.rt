@@ -43,6 +43,8 @@ impl<'a> oid<'a> {
     ghost use Rattle.std.specs.Io.KnownBytes.{Appends};
     ghost use Rattle.std.specs.Borrow.{sem};
     ghost use Rattle.gix_hash.specs.LentText.{EndsAs};
+    ghost use Rattle.std.specs.List.{common_prefix_len};
+    ghost use Rattle.gix_hash.specs.CommonDigits.{IsCommonLen};
 
     /// A view of a digest whose length is known to be 20 or 32 bytes.
     pub fn from_bytes_unchecked(bytes: &'a [u8]) -> Self
@@ -147,6 +149,22 @@ impl<'a> oid<'a> {
     {
         let mut buffer = [0; 64];
         self.hex_to_buf(&mut buffer) == text
+    }
+
+    /// The number of digits that two ids share: those before the first that differs, or all of the
+    /// shorter id's where none does. Kinds are ignored.
+    pub fn common_hex_len(&self, other: oid<'_>) -> usize
+        ensures value { result ≡ common_prefix_len nat_eq (oid_digits self.now) (oid_digits other.entry) }
+        ensures longest { IsCommonLen (oid_digits self.now) (oid_digits other.entry) result }
+    {
+        let len = self.bytes.len().min(other.bytes.len());
+        for at in 0..len {
+            if self.bytes[at] != other.bytes[at] {
+                let same_high_half = self.bytes[at] / 16 == other.bytes[at] / 16;
+                return if same_high_half { 2 * at + 1 } else { 2 * at };
+            }
+        }
+        2 * len
     }
 
     /// The id for printing in full.

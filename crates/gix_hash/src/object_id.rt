@@ -29,6 +29,9 @@ impl ObjectId {
     ghost use Rattle.std.specs.Borrow.{sem};
     ghost use Rattle.gix_hash.specs.LentText.{EndsAs};
     ghost use Rattle.std.specs.Io.KnownBytes.{Appends};
+    ghost use Rattle.std.specs.List.{common_prefix_len};
+    ghost use Rattle.std.specs.Prelude.{nat_eq};
+    ghost use Rattle.gix_hash.specs.CommonDigits.{IsCommonLen};
     ghost use Rattle.gix_hash.specs.Digits.{digits_of, first_byte_of, hex_letter, spelling};
     ghost use Rattle.gix_hash.specs.CutId.{shown_digits};
     ghost use Rattle.gix_hash.specs.Loan.{LendsDigest};
@@ -177,6 +180,14 @@ impl ObjectId {
         ensures { IsTrue result ↔ (id_digits self.now ≡ oid_digits other.entry) }
     {
         self.as_oid() == other
+    }
+
+    /// As [`oid::common_hex_len`].
+    pub fn common_hex_len(&self, other: oid<'_>) -> usize
+        ensures value { result ≡ common_prefix_len nat_eq (id_digits self.now) (oid_digits other.entry) }
+        ensures longest { IsCommonLen (id_digits self.now) (oid_digits other.entry) result }
+    {
+        self.as_oid().common_hex_len(other)
     }
 
     /// Whether `text` is just the lowercase hex digits.

@@ -2,6 +2,7 @@
 //! call and impl once where it succeeds.
 
 mod change_ids;
+mod common_digits;
 mod devices;
 mod each_byte;
 mod files;

@@ -10,3 +10,6 @@ mod Kept
 mod FirstByteOrder
 mod FirstByteCounts
 mod Indexes
+mod CommonDigits
+mod Neighbours
+mod UniqueRun

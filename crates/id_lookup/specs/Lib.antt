@@ -7,4 +7,5 @@ pub mod Probing
 pub mod FirstBytes
 pub mod Candidates
 pub mod Index
+pub mod ShortNames
 pub mod Bits

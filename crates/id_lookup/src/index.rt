@@ -1,11 +1,14 @@
 //! Lists of ids of one kind, each above the one before it.
 
-ghost use Rattle.std.specs.Prelude.{◌≡◌, ◌↔◌, ◌-◌, ◌<◌, [], AllPairs, IfOk, IfErr, IsOk, IsTrue, length, map, slice_index_or};
+ghost use Rattle.std.specs.Prelude.{◌≡◌, ◌↔◌, ◌+◌, ◌-◌, ◌<◌, ◌≤◌, [], AllPairs, IfOk, IfErr, IsOk, IsTrue, length, map, slice_index_or};
 ghost use Rattle.std.specs.Cmp.Lexicographic.{slice_cmp};
 ghost use Rattle.std.specs.Ordering.{nat_cmp};
 ghost use Rattle.std.specs.declared.cmp.Ordering.{Ordering};
 ghost use Rattle.gix_hash.specs.ObjectId.{id_digits};
+ghost use Rattle.gix_hash.specs.Kind.{hex_len_of};
 ghost use Rattle.id_lookup.specs.FirstBytes.{IsFanOut};
+ghost use Rattle.id_lookup.specs.FoundRun.{IsRun};
+ghost use Rattle.id_lookup.specs.ShortNames.{IsShortestName, Parts};
 ghost use Rattle.id_lookup.specs.Index.{IsAnswer, IsBadPlace, IsIndex};
 
 use crate::fan_out::FanOut;
@@ -118,6 +121,46 @@ impl<'a> IdIndex<'a> {
             1 => Answer::One(run.start),
             _ => Answer::Many(run),
         }
+    }
+
+    /// The shortest name of the member at a place, counted from 0: its first digits, at least 4 and
+    /// as few as may be, with which no other member begins. Only its two neighbours are looked at.
+    pub fn abbreviate(&self, at: usize) -> Prefix
+        requires { at < length self.now.ids }
+        ensures kind { result.kind ≡ self.now.kind }
+        ensures name { IsShortestName self.now.ids at result.digits }
+        ensures run { IsRun result self.now.ids (record { start = at; end = at + 1 }) }
+    {
+        let neighbours = self.digits_before(at).max(self.digits_behind(at));
+        let ids = self.ids;
+        Prefix::new(ids[at].as_oid(), neighbours.max(Prefix::MIN_HEX_LEN)).unwrap()
+    }
+
+    // How many first digits tell the member at a place from all before it.
+    fn digits_before(&self, at: usize) -> usize
+        requires { at < length self.now.ids }
+        ensures parts { Parts self.now.ids at 0 at result }
+        ensures at_most { result ≤ hex_len_of self.now.kind }
+    {
+        if at == 0 {
+            return 0;
+        }
+        let ids = self.ids;
+        ids[at].common_hex_len(ids[at - 1].as_oid()) + 1
+    }
+
+    // How many first digits tell the member at a place from all behind it.
+    fn digits_behind(&self, at: usize) -> usize
+        requires { at < length self.now.ids }
+        ensures parts { Parts self.now.ids at (at + 1) (length self.now.ids) result }
+        ensures at_most { result ≤ hex_len_of self.now.kind }
+    {
+        let ids = self.ids;
+        let len = ids.len();
+        if at + 1 == len {
+            return 0;
+        }
+        ids[at].common_hex_len(ids[at + 1].as_oid()) + 1
     }
 }
 

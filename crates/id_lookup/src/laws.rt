@@ -1,10 +1,11 @@
 //! Laws of look-ups that no single call carries. Each is the contract of a function.
 
-ghost use Rattle.std.specs.Prelude.{◌≡◌, ◌↔◌, ℕ, List, IsTrue};
+ghost use Rattle.std.specs.Prelude.{◌≡◌, ◌↔◌, ◌<◌, ℕ, List, IsTrue, length};
 ghost use Rattle.std.specs.declared.cmp.Ordering.{Ordering};
 ghost use Rattle.gix_hash.specs.Prefix.{BeginsWith, place};
 ghost use Rattle.id_lookup.specs.Runs.{begins_with};
 
+use crate::index::{Answer, IdIndex};
 use gix_hash::Prefix;
 
 /// The lowercase hex spelling of some digits begins with that of a prefix just where the digits
@@ -13,3 +14,11 @@ pub fn beginnings(prefix: &Prefix)
     ensures digits { (id : List ℕ) → IsTrue (begins_with prefix.now id) ↔ BeginsWith id prefix.now.digits }
     ensures place { (id : List ℕ) → IsTrue (begins_with prefix.now id) ↔ (place prefix.now.digits id ≡ Ordering.Equal) }
 {}
+
+/// What an index finds by the shortest name of a member, by its place, is that member alone.
+pub fn find_own_name(index: &IdIndex<'_>, at: usize) -> Answer
+    requires { at < length index.now.ids }
+    ensures { result ≡ Answer.One at }
+{
+    index.find(&index.abbreviate(at))
+}

@@ -18,6 +18,8 @@ use crate::probes::Probes;
 use gix_hash::{ObjectId, Prefix};
 use std::cmp::Ordering;
 
+const DIGITS_OF_A_BYTE: usize = 2;
+
 /// A run of places of a list, from `start` up to `end`, both counted from 0. It is empty where the
 /// two are equal.
 #[derive(Clone, Copy, PartialEq, Eq, Debug)]
@@ -86,7 +88,7 @@ pub fn lookup_in(fan_out: &FanOut, probes: &mut Probes<'_>) -> Run
     ensures same { probes.new ≡ record probes.old { asked = probes.new.asked } }
 {
     let part = candidates(fan_out, probes);
-    if probes.prefix().hex_len() < 2 {
+    if probes.prefix().hex_len() < DIGITS_OF_A_BYTE {
         return part;
     }
     find_run(probes, part)

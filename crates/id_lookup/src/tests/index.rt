@@ -1,6 +1,7 @@
 //! Indexes of the well-known ids and of a thousand, by tables.
 
 use super::{BLOB, BLOB_256, TREE, TREE_256, id, thousand};
+use crate::laws::find_own_name;
 use crate::{Answer, IdIndex, IndexError, Run, lookup_in};
 use gix_hash::{Kind, ObjectId, Prefix};
 use std::process::Abort;
@@ -139,18 +140,56 @@ fn index_of_sha256(rt: HostRuntime) -> Result<(), Fail> {
 }
 
 // Two ids that share four digits, and a third.
-#[test]
-fn none_one_and_many(rt: HostRuntime) -> Result<(), Fail> {
-    let ids = [
+fn two_alike() -> Result<[ObjectId; 3], Fail> {
+    Ok([
         id("abcd000000000000000000000000000000000000")?,
         id("abcd100000000000000000000000000000000000")?,
         id("ffff000000000000000000000000000000000000")?,
-    ];
+    ])
+}
+
+#[test]
+fn none_one_and_many(rt: HostRuntime) -> Result<(), Fail> {
+    let ids = two_alike()?;
     let index = IdIndex::try_new(&ids, Kind::Sha1)?;
     for (digits, start, end) in [("abcd", 0, 2), ("abcd1", 1, 2), ("abce", 2, 2)] {
         expect_found(&rt, &index, digits, Run { start, end }, 4)?;
     }
     Ok(())
+}
+
+// Each member has its name, and by that it is found alone.
+fn expect_names(rt: &impl Abort, ids: &[ObjectId], names: &[&str]) -> Result<(), Fail> {
+    let index = IdIndex::try_new(ids, Kind::Sha1)?;
+    assert_eq!(rt; names.len(), index.len());
+    for at in 0..index.len() {
+        let name = index.abbreviate(at);
+        assert!(rt; name.eq_str(names[at]), "at {at}");
+        assert!(rt; name.as_oid().kind() == Kind::Sha1);
+        assert_eq!(rt; index.find(&name), Answer::One(at), "at {at}");
+        assert_eq!(rt; find_own_name(&index, at), Answer::One(at), "at {at}");
+    }
+    Ok(())
+}
+
+#[test]
+fn shortest_names(rt: HostRuntime) -> Result<(), Fail> {
+    let zeros = "0000000000000000000000000000000000000000";
+    let last_one = "0000000000000000000000000000000000000001";
+    expect_names(&rt, &[id(TREE)?], &["4b82"])?;
+    expect_names(&rt, &[id(zeros)?, id(last_one)?], &[zeros, last_one])?;
+    expect_names(&rt, &two_alike()?, &["abcd0", "abcd1", "ffff"])?;
+    expect_names(&rt, &[id(TREE)?, id(BLOB)?], &["4b82", "e69d"])?;
+    expect_names(
+        &rt,
+        &[
+            id("12340000000000000000000000000000000000ff")?,
+            id("1234567800000000000000000000000000000000")?,
+            id("1234567900000000000000000000000000000000")?,
+            id("1235000000000000000000000000000000000000")?,
+        ],
+        &["12340", "12345678", "12345679", "1235"],
+    )
 }
 
 // With no runtime there is no memory to take.

@@ -1,0 +1,100 @@
+-- How many digits ids of a sorted list share.
+use Rattle.std.proofs.Common.{◌≡◌, ℕ, zero, suc, ◌+◌, ◌<◌, ◌≤◌, true, false, Less, List, [], ◌∷◌, length, take, cond, nat_eq, ◌&&◌, refl, sym, ◌∙◌, arith, true≢false}
+use Rattle.std.specs.List.{common_prefix_len, starts_with}
+use Rattle.std.specs.Ordering.{nat_cmp, is_lt, ordering_then}
+use Rattle.std.specs.Cmp.Lexicographic.{slice_cmp}
+use Rattle.std.proofs.lemmas.Bool.Decides.{nat_tests}
+use Rattle.id_lookup.proofs.FirstByteOrder.{by_cmp}
+
+abbrev common : List ℕ → List ℕ → ℕ
+common = common_prefix_len nat_eq
+
+cond_yes : (a b n : ℕ) → a ≡ b → cond (nat_eq a b) n 0 ≡ n
+cond_yes a b n h = grind (arith, nat_tests)
+
+cond_no : (a b n : ℕ) → b < a → cond (nat_eq a b) n 0 ≡ 0
+cond_no a b n h = grind (arith, nat_tests)
+
+cond_no' : (a b n : ℕ) → a < b → cond (nat_eq a b) n 0 ≡ 0
+cond_no' a b n h = grind (arith, nat_tests)
+
+-- x up to y up to z: z has no more in common with x than with y
+pub common-below : (x y z : List ℕ) → is_lt (slice_cmp nat_cmp y x) ≡ false → is_lt (slice_cmp nat_cmp z y) ≡ false → common z x ≤ common z y
+common-below x y [] h g = omega arith
+common-below [] y (c ∷ zs) h g = omega arith
+common-below (a ∷ xs) [] (c ∷ zs) h g = absurd (true≢false h)
+common-below (a ∷ xs) (b ∷ ys) (c ∷ zs) h g =
+    let rest : is_lt (slice_cmp nat_cmp ys xs) ≡ false → is_lt (slice_cmp nat_cmp zs ys) ≡ false → common zs xs ≤ common zs ys = common-below xs ys zs in
+    by_cmp b a (λ o. is_lt (ordering_then o (slice_cmp nat_cmp ys xs)) ≡ false → cond (nat_eq c a) (1 + common zs xs) 0 ≤ cond (nat_eq c b) (1 + common zs ys) 0)
+    (λ l h. absurd (true≢false h))
+    (λ l h. by_cmp c b (λ o. is_lt (ordering_then o (slice_cmp nat_cmp zs ys)) ≡ false → cond (nat_eq c a) (1 + common zs xs) 0 ≤ cond (nat_eq c b) (1 + common zs ys) 0)
+    (λ m g. absurd (true≢false g))
+    (λ m g. rw (cond_yes c b (1 + common zs ys) m) (rw (cond_yes c a (1 + common zs xs) (m ∙ l)) (omega (arith, rest h g))))
+    (λ m g. rw (cond_no c a (1 + common zs xs) (omega arith)) (omega arith)) g)
+    (λ l h. by_cmp c b (λ o. is_lt (ordering_then o (slice_cmp nat_cmp zs ys)) ≡ false → cond (nat_eq c a) (1 + common zs xs) 0 ≤ cond (nat_eq c b) (1 + common zs ys) 0)
+    (λ m g. absurd (true≢false g))
+    (λ m g. rw (cond_no c a (1 + common zs xs) (omega arith)) (omega arith))
+    (λ m g. rw (cond_no c a (1 + common zs xs) (omega arith)) (omega arith)) g) h
+
+-- and x no more with z than with y
+pub common-above : (x y z : List ℕ) → is_lt (slice_cmp nat_cmp y x) ≡ false → is_lt (slice_cmp nat_cmp z y) ≡ false → common x z ≤ common x y
+common-above [] y z h g = omega arith
+common-above (a ∷ xs) [] z h g = absurd (true≢false h)
+common-above (a ∷ xs) (b ∷ ys) [] h g = omega arith
+common-above (a ∷ xs) (b ∷ ys) (c ∷ zs) h g =
+    let rest : is_lt (slice_cmp nat_cmp ys xs) ≡ false → is_lt (slice_cmp nat_cmp zs ys) ≡ false → common xs zs ≤ common xs ys = common-above xs ys zs in
+    by_cmp b a (λ o. is_lt (ordering_then o (slice_cmp nat_cmp ys xs)) ≡ false → cond (nat_eq a c) (1 + common xs zs) 0 ≤ cond (nat_eq a b) (1 + common xs ys) 0)
+    (λ l h. absurd (true≢false h))
+    (λ l h. by_cmp c b (λ o. is_lt (ordering_then o (slice_cmp nat_cmp zs ys)) ≡ false → cond (nat_eq a c) (1 + common xs zs) 0 ≤ cond (nat_eq a b) (1 + common xs ys) 0)
+    (λ m g. absurd (true≢false g))
+    (λ m g. rw (cond_yes a b (1 + common xs ys) (sym l)) (rw (cond_yes a c (1 + common xs zs) (sym (m ∙ l))) (omega (arith, rest h g))))
+    (λ m g. rw (cond_no' a c (1 + common xs zs) (omega arith)) (omega arith)) g)
+    (λ l h. by_cmp c b (λ o. is_lt (ordering_then o (slice_cmp nat_cmp zs ys)) ≡ false → cond (nat_eq a c) (1 + common xs zs) 0 ≤ cond (nat_eq a b) (1 + common xs ys) 0)
+    (λ m g. absurd (true≢false g))
+    (λ m g. rw (cond_no' a c (1 + common xs zs) (omega arith)) (omega arith))
+    (λ m g. rw (cond_no' a c (1 + common xs zs) (omega arith)) (omega arith)) g) h
+
+-- a list begins with another's first n digits exactly where n are common
+pub begins-common : (n : ℕ) (x y : List ℕ) → n ≤ length x → n ≤ common x y → starts_with nat_eq y (take n x) ≡ true
+begins-common zero x y within few = refl
+begins-common (suc n) [] y within few = absurd (omega arith)
+begins-common (suc n) (a ∷ xs) [] within few = absurd (omega arith)
+begins-common (suc n) (a ∷ xs) (b ∷ ys) within few =
+    let rest : n ≤ common xs ys → starts_with nat_eq ys (take n xs) ≡ true = begins-common n xs ys (omega arith) in
+    elim (nat_eq a b) as (λ t. suc n ≤ cond t (1 + common xs ys) 0 → (t && starts_with nat_eq ys (take n xs)) ≡ true) [
+      | true ↦ λ f. rest (omega arith)
+      | false ↦ λ f. absurd (omega arith)
+    ] few
+
+pub begins-apart : (n : ℕ) (x y : List ℕ) → n ≤ length x → common x y < n → starts_with nat_eq y (take n x) ≡ false
+begins-apart zero x y within many = absurd (omega arith)
+begins-apart (suc n) [] y within many = absurd (omega arith)
+begins-apart (suc n) (a ∷ xs) [] within many = refl
+begins-apart (suc n) (a ∷ xs) (b ∷ ys) within many =
+    let rest : common xs ys < n → starts_with nat_eq ys (take n xs) ≡ false = begins-apart n xs ys (omega arith) in
+    elim (nat_eq a b) as (λ t. cond t (1 + common xs ys) 0 < suc n → (t && starts_with nat_eq ys (take n xs)) ≡ false) [
+      | true ↦ λ f. rest (omega arith)
+      | false ↦ λ f. refl
+    ] many
+
+-- two lists of one length, of which one is below the other, differ somewhere
+pub common-differ : (x y : List ℕ) → length x ≡ length y → slice_cmp nat_cmp x y ≡ Less → common x y < length x
+common-differ [] [] same less = cc
+common-differ [] (b ∷ ys) same less = absurd (omega arith)
+common-differ (a ∷ xs) [] same less = cc
+common-differ (a ∷ xs) (b ∷ ys) same less =
+    let rest : slice_cmp nat_cmp xs ys ≡ Less → common xs ys < length xs = common-differ xs ys (omega arith) in
+    by_cmp a b (λ o. ordering_then o (slice_cmp nat_cmp xs ys) ≡ Less → cond (nat_eq a b) (1 + common xs ys) 0 < length (a ∷ xs))
+    (λ l h. rw (cond_no' a b (1 + common xs ys) l) (omega arith))
+    (λ l h. rw (cond_yes a b (1 + common xs ys) l) (omega (arith, rest h)))
+    (λ l h. rw (cond_no a b (1 + common xs ys) l) (omega arith)) less
+
+pub common-symm : (x y : List ℕ) → common x y ≡ common y x
+common-symm [] [] = refl
+common-symm [] (b ∷ ys) = refl
+common-symm (a ∷ xs) [] = refl
+common-symm (a ∷ xs) (b ∷ ys) =
+    by_cmp a b (λ _. cond (nat_eq a b) (1 + common xs ys) 0 ≡ cond (nat_eq b a) (1 + common ys xs) 0)
+    (λ l. rw (cond_no' a b (1 + common xs ys) l) (rw (cond_no b a (1 + common ys xs) l) refl))
+    (λ l. rw (cond_yes a b (1 + common xs ys) l) (rw (cond_yes b a (1 + common ys xs) (sym l)) (omega (arith, common-symm xs ys))))
+    (λ l. rw (cond_no a b (1 + common xs ys) l) (rw (cond_no' b a (1 + common ys xs) l) refl))

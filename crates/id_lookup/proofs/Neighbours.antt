@@ -1,0 +1,102 @@
+-- The two neighbours of an id in an index decide how many digits tell it from all others.
+use Rattle.std.proofs.Common.{◌≡◌, ℕ, ◌+◌, ◌-◌, ◌<◌, ◌≤◌, true, false, max, List, [], length, get_or, map, take, nat_eq, inl, inr, refl, sym, ap, ◌∙◌, arith}
+use Rattle.std.specs.List.{starts_with, common_prefix_len}
+use Rattle.std.specs.Ordering.{nat_cmp, is_lt}
+use Rattle.std.specs.Cmp.Lexicographic.{slice_cmp}
+use Rattle.std.proofs.lemmas.Bool.{cases_lt}
+use Rattle.std.proofs.lemmas.Cmp.{nat_list_cmp_total}
+use Rattle.std.proofs.lemmas.List.{get_or-map, length-take-le, take-take}
+use Rattle.std.proofs.lemmas.List.Sorted.{sorted_far, ranks_by}
+use Rattle.gix_hash.specs.Kind.{hex_len_of}
+use Rattle.gix_hash.specs.ObjectId.{id_digits}
+use Rattle.gix_hash.specs.declared.kind.Kind.{Kind}
+use Rattle.gix_hash.specs.declared.kind.Kind.TheVariants.{Sha1, Sha256}
+use Rattle.gix_hash.specs.declared.object_id.ObjectId.{ObjectId}
+use Rattle.id_lookup.specs.Index.{IsIndex}
+use Rattle.id_lookup.specs.ShortNames.{IsShortestName, Parts, common_at}
+use Rattle.id_lookup.proofs.CommonDigits.{common-below, common-above, common-differ, common-symm, begins-common, begins-apart}
+use Rattle.id_lookup.proofs.Indexes.{index-pairs, index-sorted}
+
+-- a kind has the digits of a least name
+pub four_fits : (kind : Kind) → 4 ≤ hex_len_of kind
+four_fits Sha1 = omega arith
+four_fits Sha256 = omega arith
+
+-- how many digits two ids share, told of a list of ids
+pub common_at-told : (ids : List ObjectId) (i j : ℕ) (d : ObjectId) → i < length ids → j < length ids
+    → common_prefix_len nat_eq (id_digits (get_or ids i d)) (id_digits (get_or ids j d)) ≡ common_at (map id_digits ids) i j
+common_at-told ids i j d h g =
+    let first = get_or-map id_digits ids i d [] h in
+    let second = get_or-map id_digits ids j d [] g in
+    rw (first, second) refl
+
+module _ (kind : Kind) (ids : List (List ℕ)) (index : IsIndex kind ids) where
+  -- no id is below one before it
+  in_order : (i j : ℕ) → i ≤ j → j < length ids → is_lt (slice_cmp nat_cmp (get_or ids j []) (get_or ids i [])) ≡ false
+  in_order i j =
+      sorted_far (λ a b. is_lt (slice_cmp nat_cmp a b)) (ranks_by nat_list_cmp_total (λ (id : List ℕ). id)) ids (index-sorted kind ids index) i j []
+
+  -- two ids differ within the digits of their kind
+  differ : (i j : ℕ) → i < j → j < length ids → common_at ids i j < hex_len_of kind
+  differ i j low high =
+      let here = index.kinds i [] (omega arith) (omega arith) in
+      let there = index.kinds j [] (omega arith) high in
+      omega (arith, here, common-differ (get_or ids i []) (get_or ids j []) (here ∙ sym there) (index-pairs kind ids index i j [] low high))
+
+  -- the one before tells how many digits part an id from all before it
+  pub parts_before : (at n : ℕ) → 0 < at → at < length ids → n ≡ common_at ids at (at - 1) + 1 → Parts ids at 0 at n
+  parts_before at n some inside is = record {
+    apart = λ k low high.
+        let less = common-below (get_or ids k []) (get_or ids (at - 1) []) (get_or ids at [])
+        (in_order k (at - 1) (omega arith) (omega arith)) (in_order (at - 1) at (omega arith) inside) in
+        omega (arith, less, is);
+    reached = λ _. (at - 1, omega arith, omega arith, sym is);
+  }
+
+  pub before_fits : (at : ℕ) → 0 < at → at < length ids → common_at ids at (at - 1) < hex_len_of kind
+  before_fits at some inside =
+      omega (arith, common-symm (get_or ids at []) (get_or ids (at - 1) []), differ (at - 1) at (omega arith) inside)
+
+  -- and the one behind, from all behind it
+  pub parts_behind : (at n : ℕ) → at + 1 < length ids → n ≡ common_at ids at (at + 1) + 1 → Parts ids at (at + 1) (length ids) n
+  parts_behind at n inside is = record {
+    apart = λ k low high.
+        let less = common-above (get_or ids at []) (get_or ids (at + 1) []) (get_or ids k [])
+        (in_order at (at + 1) (omega arith) inside) (in_order (at + 1) k low high) in
+        omega (arith, less, is);
+    reached = λ _. (at + 1, omega arith, inside, sym is);
+  }
+
+  pub behind_fits : (at : ℕ) → at + 1 < length ids → common_at ids at (at + 1) < hex_len_of kind
+  behind_fits at inside = differ at (at + 1) (omega arith) inside
+
+  -- so the more of both, and four at least, make the shortest name
+  pub shortest : (at before behind len : ℕ) (name : List ℕ) → at < length ids → Parts ids at 0 at before → Parts ids at (at + 1) (length ids) behind
+      → len ≡ max (max before behind) 4 → len ≤ hex_len_of kind → name ≡ take len (get_or ids at []) → IsShortestName ids at name
+  shortest at before behind len name inside front back is fits name_is =
+      let id = get_or ids at [] in
+      let enough : len ≤ length id = omega (arith, fits, index.kinds at [] (omega arith) inside) in
+      let len_of : length name ≡ len = ap length name_is ∙ length-take-le len id enough in
+      let shared : (n : ℕ) → n < len → (k : ℕ) → common_at ids at k + 1 ≡ len → starts_with nat_eq (get_or ids k []) (take n name) ≡ true =
+      λ n low k one.
+      let few : n ≤ common_at ids at k = omega arith in
+      let below : n ≤ len = omega arith in
+      rw (name_is, take-take) (begins-common n id (get_or ids k []) (omega arith) few) in
+      record {
+        first = name_is ∙ ap (λ n. take n id) (sym len_of);
+        long = omega (arith, len_of);
+        alone = λ k within other.
+            let apart : common_at ids at k < len = elim (cases_lt k at) [
+              | inl low ↦ omega (arith, front.apart k (omega arith) low)
+              | inr high ↦ omega (arith, back.apart k (omega (arith, other)) within)
+            ] in
+            rw name_is (begins-apart len id (get_or ids k []) enough apart);
+        least = λ n four low. elim (cases_lt before behind) [
+          | inl lower ↦
+              let r = back.reached (omega arith) in
+              (r.0, r.2, omega (arith, r.1), shared n (omega (arith, len_of)) r.0 (omega (arith, r.3, len_of)))
+          | inr higher ↦
+              let r = front.reached (omega (arith, len_of)) in
+              (r.0, omega (arith, r.2), omega (arith, r.2), shared n (omega (arith, len_of)) r.0 (omega (arith, r.3, len_of)))
+        ];
+      }

@@ -1,0 +1,74 @@
+-- The run of a shortest name is its id alone, and so is the answer on it.
+use Rattle.std.proofs.Common.{◌≡◌, ◌≢◌, ℕ, ◌+◌, ◌<◌, ◌≤◌, true, false, List, [], ◌++◌, length, take, drop, get_or, nat_eq, ◌⊎◌, inl, inr, refl, sym, ap, ◌∙◌, arith, take-append-drop}
+use Rattle.std.specs.List.{starts_with}
+use Rattle.std.proofs.lemmas.Bool.{cases_lt, false≢true}
+use Rattle.gix_hash.specs.Prefix.{Beginning}
+use Rattle.gix_hash.specs.declared.kind.Kind.{Kind}
+use Rattle.id_lookup.specs.Bounds.{bound_of}
+use Rattle.id_lookup.specs.FoundRun.{IsRun}
+use Rattle.id_lookup.specs.Index.{IsAnswer, IsIndex}
+use Rattle.id_lookup.specs.Runs.{begins_with}
+use Rattle.id_lookup.specs.ShortNames.{IsShortestName}
+use Rattle.id_lookup.specs.Sorted.{IsSortedIds}
+use Rattle.id_lookup.specs.declared.index.Answer.{Answer}
+use Rattle.id_lookup.specs.declared.index.Answer.TheVariants.{None, One, Many}
+use Rattle.id_lookup.specs.declared.search.Bound.TheVariants.{Start, End}
+use Rattle.id_lookup.proofs.Indexes.{index-sorted}
+use Rattle.id_lookup.proofs.Placed.{run_is}
+use Rattle.id_lookup.proofs.Spelled.{starts_with-BeginsWith, starts_with-spelling}
+
+-- where one id alone begins with the prefix, the run is that id
+unique_run : (prefix : Beginning) (ids : List (List ℕ)) (at : ℕ) → IsSortedIds ids → at < length ids → begins_with prefix (get_or ids at []) ≡ true
+    → ((k : ℕ) → k < length ids → k ≢ at → begins_with prefix (get_or ids k []) ≡ false) → IsRun prefix ids (record { start = at; end = at + 1 })
+unique_run prefix ids at sorted inside begins alone = run_is prefix ids sorted (record { start = at; end = at + 1 }) (starts (cases_lt start at)) (ends (cases_lt (at + 1) end))
+  where
+    start : ℕ
+    start = bound_of Start prefix ids
+
+    end : ℕ
+    end = bound_of End prefix ids
+
+    whole : IsRun prefix ids (record { start = bound_of Start prefix ids; end = bound_of End prefix ids })
+    whole = run_is prefix ids sorted (record { start = bound_of Start prefix ids; end = bound_of End prefix ids }) refl refl
+
+    none : (k : ℕ) → bound_of Start prefix ids ≤ k → k < bound_of End prefix ids → k ≢ at → at ≡ at + 1
+    none k low high other =
+        let within : k < length ids = omega (arith, whole.in_range) in
+        absurd (false≢true (sym (alone k within other) ∙ (whole.members k within).1 (low, high)))
+
+    starts : ((bound_of Start prefix ids < at) ⊎ (at ≤ bound_of Start prefix ids)) → at ≡ bound_of Start prefix ids
+    starts (inl below) = let here = (whole.members at inside).0 begins in absurd (omega (arith, none (bound_of Start prefix ids) (omega arith) (omega arith) (omega arith)))
+    starts (inr above) = let here = (whole.members at inside).0 begins in omega arith
+
+    ends : ((at + 1 < bound_of End prefix ids) ⊎ (bound_of End prefix ids ≤ at + 1)) → at + 1 ≡ bound_of End prefix ids
+    ends (inl below) = let here = (whole.members at inside).0 begins in absurd (omega (arith, none (at + 1) (omega arith) (omega arith) (omega arith)))
+    ends (inr above) = let here = (whole.members at inside).0 begins in omega arith
+
+-- the id of a shortest name begins with it
+begins_first : (id name : List ℕ) → name ≡ take (length name) id → starts_with nat_eq id name ≡ true
+begins_first id name first =
+    let rest = drop (length name) id in
+    (starts_with-BeginsWith id name).1 (rest, sym (ap (λ (front : List ℕ). front ++ rest) first ∙ take-append-drop (length name) id))
+
+-- the run of a shortest name is its id
+pub name_run : (kind : Kind) (ids : List (List ℕ)) (at : ℕ) (prefix : Beginning) → IsIndex kind ids → at < length ids
+    → IsShortestName ids at prefix.digits → IsRun prefix ids (record { start = at; end = at + 1 })
+name_run kind ids at prefix index inside name =
+    unique_run prefix ids at (index-sorted kind ids index) inside
+    (starts_with-spelling (get_or ids at []) prefix.digits ∙ begins_first (get_or ids at []) prefix.digits name.first)
+    (λ k within other. starts_with-spelling (get_or ids k []) prefix.digits ∙ name.alone k within other)
+
+-- a run of one id is answered as that id
+pub one_answer : (prefix : Beginning) (ids : List (List ℕ)) (at : ℕ) (answer : Answer) → IsRun prefix ids (record { start = at; end = at + 1 })
+    → IsAnswer prefix ids answer → answer ≡ One at
+one_answer prefix ids at None run is = let end = run.end in absurd (omega (arith, end, is))
+one_answer prefix ids at (One k) run is =
+    let here = run.start in
+    let there = is.start in
+    let same : k ≡ at = omega (arith, here, there) in ap One same
+one_answer prefix ids at (Many other) run is =
+    let here = run.start in
+    let end = run.end in
+    let there = is.0.start in
+    let stop = is.0.end in
+    absurd (omega (arith, here, end, there, stop, is.1))
