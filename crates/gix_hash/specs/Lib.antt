@@ -15,3 +15,4 @@ pub mod ByteLengths
 pub mod Loan
 pub mod Alphabet
 pub mod ReverseHexDisplay
+pub mod Hashing

@@ -13,6 +13,8 @@ pub mod change_id;
 pub mod decode;
 mod display;
 mod error;
+/// Computing ids from bytes.
+pub mod hashing;
 mod hex_digits;
 mod kind;
 mod lanes;
@@ -28,6 +30,8 @@ pub use borrowed::oid;
 pub use change_id::ChangeId;
 pub use display::HexDisplay;
 pub use error::Error;
+pub use hashing::start::hasher;
+pub use hashing::state::Hasher;
 pub use kind::Kind;
 pub use object_id::ObjectId;
 pub use prefix::Prefix;

@@ -1,0 +1,19 @@
+//! Computing ids: why a hasher may give none.
+
+pub(crate) mod start;
+pub(crate) mod state;
+
+use crate::object_id::ObjectId;
+use thiserror::Error as ThisError;
+
+/// Why a hasher gives no digest. No hasher of this crate answers it, since none looks for
+/// collisions.
+#[derive(Debug, Drop, ThisError)]
+pub enum Error {
+    /// The message looks as if it were made to have the SHA-1 digest of another one.
+    #[error("Detected SHA-1 collision attack with digest {digest}")]
+    CollisionAttack {
+        /// The digest of the message.
+        digest: ObjectId,
+    },
+}

@@ -1,0 +1,77 @@
+//! The hash functions, at work on a message.
+
+ghost use Rattle.std.specs.Prelude.{◌≡◌, ◌++◌, ℕ, List, [], Ok, IsOk};
+ghost use Rattle.gix_hash.specs.Hashing.{digest, hasher_kind, StandsFor};
+
+use super::Error;
+use crate::kind::Kind;
+use crate::object_id::ObjectId;
+use sha2::Digest;
+
+/// How far SHA-1 has come.
+#[derive(Drop)]
+pub struct Sha1State {
+    state: sha1::Sha1,
+}
+
+/// How far SHA-256 has come.
+#[derive(Drop)]
+pub struct Sha256State {
+    state: sha2::Sha256,
+}
+
+/// A hash function at work on a message that it is fed in pieces, of any lengths. What it was fed
+/// so far, one piece behind the other, is the message that it stands for.
+///
+/// [`hasher`](crate::hasher) makes one.
+#[derive(Drop)]
+pub enum Hasher {
+    /// SHA-1 (FIPS 180-4).
+    Sha1(Sha1State),
+    /// SHA-256 (FIPS 180-4).
+    Sha256(Sha256State),
+}
+
+impl Hasher {
+    // A hasher of that kind which was fed nothing.
+    pub(crate) fn of_kind(kind: Kind) -> Hasher
+        ensures kind { hasher_kind result ≡ kind }
+        ensures empty { StandsFor result [] }
+    {
+        match kind {
+            Kind::Sha1 => Hasher::Sha1(Sha1State {
+                state: sha1::Sha1::new(),
+            }),
+            Kind::Sha256 => Hasher::Sha256(Sha256State {
+                state: sha2::Sha256::new(),
+            }),
+        }
+    }
+
+    /// Feeds `bytes`, which stand behind all that was fed before. No bytes change nothing of the
+    /// message.
+    pub fn update(&mut self, bytes: &[u8])
+        ensures kind { hasher_kind self.new ≡ hasher_kind self.old }
+        ensures fed { (message : List ℕ) → StandsFor self.old message → StandsFor self.new (message ++ bytes.now) }
+    {
+        match self {
+            Hasher::Sha1(hasher) => hasher.state.update(bytes),
+            Hasher::Sha256(hasher) => hasher.state.update(bytes),
+        }
+    }
+
+    /// The digest of all that was fed, of 20 or 32 bytes by the hasher's kind. No error is
+    /// answered.
+    ///
+    /// FIPS 180-4 defines the digests of messages below 2^61 bytes. Beyond that every call still
+    /// returns.
+    pub fn try_finalize(self) -> Result<ObjectId, Error>
+        ensures ok { IsOk result }
+        ensures digest { (message : List ℕ) → StandsFor self message → result ≡ Ok (digest (hasher_kind self) message) }
+    {
+        match self {
+            Hasher::Sha1(hasher) => Ok(ObjectId::Sha1(hasher.state.finalize())),
+            Hasher::Sha256(hasher) => Ok(ObjectId::Sha256(hasher.state.finalize())),
+        }
+    }
+}
