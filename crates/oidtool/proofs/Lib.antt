@@ -1,5 +1,6 @@
 pub mod Meaning
 pub mod Orders
+pub mod PipeLemmas
 pub mod LineLemmas
 pub mod PrintLemmas
 pub mod ReadLemmas

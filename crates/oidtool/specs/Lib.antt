@@ -7,3 +7,4 @@ pub mod Writing
 pub mod Command
 pub mod Devices
 pub mod Spelling
+pub mod Pipe

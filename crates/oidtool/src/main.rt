@@ -16,6 +16,7 @@ pub mod from_slice;
 pub mod into_slice;
 mod list;
 mod matching;
+pub mod pipe;
 pub mod plain;
 mod printing;
 pub mod sink;
