@@ -1,4 +1,4 @@
-//! A writer whose faults are chosen. It claims nothing of its bytes.
+//! A reader and a writer whose faults are chosen. They claim nothing of their bytes.
 
 use std::io;
 
@@ -9,6 +9,8 @@ pub enum Fault {
     Never,
     /// At the call with this number, counted from 1, and at no other.
     AtCall(usize),
+    /// As `AtCall`, with the error that the library's own loops try again after.
+    InterruptedAt(usize),
     /// At each call once so many bytes have passed.
     AfterBytes(usize),
 }
@@ -18,8 +20,16 @@ impl Fault {
     fn strikes(self, calls: usize, len: usize) -> bool {
         match self {
             Fault::Never => false,
-            Fault::AtCall(at) => calls == at,
+            Fault::AtCall(at) | Fault::InterruptedAt(at) => calls == at,
             Fault::AfterBytes(most) => len >= most,
+        }
+    }
+
+    /// The error that it answers.
+    fn error(self) -> io::Error {
+        match self {
+            Fault::InterruptedAt(_) => io::Error::from(io::ErrorKind::Interrupted),
+            _ => io::Error::from(io::ErrorKind::Other),
         }
     }
 
@@ -68,7 +78,7 @@ impl io::Write for Writer {
         self.calls = self.calls.saturating_add(1);
         let len = self.bytes.len();
         if self.fault.strikes(self.calls, len) {
-            return Err(io::Error::from(io::ErrorKind::Other));
+            return Err(self.fault.error());
         }
         let count = buf.len().min(self.piece).min(self.fault.room(len));
         self.bytes.extend_from_slice(&buf[..count])?;
@@ -77,5 +87,48 @@ impl io::Write for Writer {
 
     fn flush(&mut self) -> io::Result<()> {
         Ok(())
+    }
+}
+
+/// A reader of a slice.
+#[derive(Drop)]
+pub struct Reader<'a> {
+    rest: &'a [u8],
+    piece: usize,
+    fault: Fault,
+    given: usize,
+    calls: usize,
+}
+
+impl<'a> Reader<'a> {
+    /// A reader that gives at most `piece` bytes a call.
+    pub fn new(bytes: &'a [u8], piece: usize, fault: Fault) -> Self {
+        Reader {
+            rest: bytes,
+            piece,
+            fault,
+            given: 0,
+            calls: 0,
+        }
+    }
+
+    /// How often it was called.
+    pub fn calls(&self) -> usize {
+        self.calls
+    }
+}
+
+impl io::Read for Reader<'_> {
+    fn read(&mut self, buf: &mut [u8]) -> io::Result<usize> {
+        self.calls = self.calls.saturating_add(1);
+        if self.fault.strikes(self.calls, self.given) {
+            return Err(self.fault.error());
+        }
+        let room = buf.len().min(self.piece).min(self.fault.room(self.given));
+        let count = self.rest.len().min(room);
+        buf[..count].copy_from_slice(&self.rest[..count]);
+        self.rest = &self.rest[count..];
+        self.given = self.given.saturating_add(count);
+        Ok(count)
     }
 }
