@@ -1,4 +1,5 @@
 pub mod Alphabets
+pub mod Chunks
 pub mod HexReading
 pub mod IdFacts
 pub mod KindFacts
@@ -6,9 +7,11 @@ pub mod LaneHalves
 pub mod LaneLetters
 pub mod LanePlaces
 pub mod LawLemmas
+pub mod Made
 pub mod Packing
 pub mod PaddedOrder
 pub mod PaddedReading
 pub mod Places
+pub mod Reaching
 pub mod ReadingFacts
 pub mod Spellings

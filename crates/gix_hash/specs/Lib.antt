@@ -16,3 +16,5 @@ pub mod Loan
 pub mod Alphabet
 pub mod ReverseHexDisplay
 pub mod Hashing
+pub mod Streams
+pub mod HashingWriter

@@ -16,6 +16,8 @@ mod error;
 /// Computing ids from bytes.
 pub mod hashing;
 mod hex_digits;
+/// Digests of streams and files.
+pub mod io;
 mod kind;
 mod lanes;
 /// Laws that no single call carries.
@@ -32,6 +34,8 @@ pub use display::HexDisplay;
 pub use error::Error;
 pub use hashing::start::hasher;
 pub use hashing::state::Hasher;
+pub use io::file::bytes_of_file;
+pub use io::stream::{bytes, bytes_with_hasher};
 pub use kind::Kind;
 pub use object_id::ObjectId;
 pub use prefix::Prefix;

@@ -1,0 +1,18 @@
+//! Why a stream or a file gave no digest.
+
+use crate::hashing;
+use thiserror::Error as ThisError;
+
+/// Reading that stopped before all bytes were read and hashed.
+#[derive(Debug, Drop, ThisError)]
+pub enum Error {
+    /// A file could not be opened, or a reader failed or ended too early.
+    #[error(transparent)]
+    Io(#[from] std::io::Error),
+    /// The hasher gave no digest. No call of this crate answers it, as no hasher refuses.
+    #[error("Failed to hash data")]
+    Hasher(#[from] hashing::Error),
+    /// The interruption that was asked answered that it is time to stop.
+    #[error("Interrupted")]
+    Interrupted,
+}

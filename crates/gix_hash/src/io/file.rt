@@ -1,0 +1,46 @@
+//! The digest of the first bytes of a file.
+
+ghost use Rattle.std.specs.Prelude.{◌≡◌, ℕ, List, length, IfOk, OnOk, IfErr};
+ghost use Rattle.gix_hash.specs.Hashing.{digest};
+ghost use Rattle.gix_hash.specs.ObjectId.{id_kind};
+ghost use Rattle.gix_hash.specs.Streams.{Reaches, StopsInFile, chunks, heard_all, refused};
+
+use super::stream::bytes;
+use super::{Error, Interrupt, Progress};
+use crate::kind::Kind;
+use crate::object_id::ObjectId;
+use std::fs;
+use std::path::Path;
+use std::rt::Files;
+
+/// The digest, of the given kind, of the first `num_bytes_from_start` bytes of the file at `path`,
+/// as [`bytes`](crate::bytes).
+///
+/// The file is opened first. Where that fails, nothing is heard or asked, and the answer is
+/// [`Error::Io`], as it is where the file has fewer bytes or can't be read. Opening may take memory.
+pub fn bytes_of_file<F: Files, P: Progress, I: Interrupt>(
+    rt: &F,
+    path: Path<'_>,
+    num_bytes_from_start: u64,
+    kind: Kind,
+    progress: &mut P,
+    should_interrupt: &mut I,
+) -> Result<ObjectId, Error>
+    ensures digest { IfOk result (λ id. (bytes : List ℕ) × (length bytes ≡ num_bytes_from_start) × (id ≡ digest kind bytes)) }
+    ensures kind { IfOk result (λ id. id_kind id ≡ kind) }
+    ensures heard { OnOk result (Reaches P.hears progress.old (heard_all num_bytes_from_start) progress.new) }
+    ensures asked { OnOk result (Reaches I.answers should_interrupt.old
+        (refused (length (chunks num_bytes_from_start))) should_interrupt.new) }
+    ensures err { IfErr result (λ e. StopsInFile e num_bytes_from_start
+        (λ calls. Reaches P.hears progress.old calls progress.new)
+        (λ answers. Reaches I.answers should_interrupt.old answers should_interrupt.new)) }
+{
+    let mut file = fs::open(rt, path).map_err(Error::Io)?;
+    bytes(
+        &mut file,
+        num_bytes_from_start,
+        kind,
+        progress,
+        should_interrupt,
+    )
+}

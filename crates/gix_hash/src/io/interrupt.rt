@@ -1,0 +1,27 @@
+//! Asking whether the reading of a stream should stop.
+
+ghost use Rattle.std.specs.Prelude.{◌≡◌, Bool, false};
+
+/// What is asked, after each chunk of a stream, whether to stop there.
+///
+/// An implementation says what an asking makes of it by `answers`: a relation of its value before
+/// the asking, the answer, and its value after it.
+pub trait Interrupt {
+    ghost answers: { Self → Bool → Self → Type 0 };
+
+    /// Whether to stop here.
+    fn should_interrupt(&mut self) -> bool
+        ensures { answers self.old result self.new };
+}
+
+/// An interruption that never comes: it answers false at every asking, and stays as it is.
+#[derive(Clone, Copy, Debug)]
+pub struct Never;
+
+impl Interrupt for Never {
+    ghost answers = { λ before answer after. (answer ≡ false) × (after ≡ before) };
+
+    fn should_interrupt(&mut self) -> bool {
+        false
+    }
+}

@@ -1,0 +1,38 @@
+//! Telling how far the reading of a stream has come.
+
+ghost use Rattle.std.specs.Prelude.{◌≡◌};
+ghost use Rattle.gix_hash.specs.Streams.{ProgressCall, Init, IncBy, ShowThroughput};
+
+/// What hears how far the reading of a stream has come, in bytes.
+///
+/// An implementation says what each call makes of it by `hears`: a relation of its value before the
+/// call, the call, and its value after it.
+pub trait Progress {
+    ghost hears: { Self → ProgressCall → Self → Type 0 };
+
+    /// The reading begins, of `max` bytes in all where that is known.
+    fn init(&mut self, max: Option<u64>)
+        ensures { hears self.old (Init max) self.new };
+
+    /// `step` bytes more were read.
+    fn inc_by(&mut self, step: u64)
+        ensures { hears self.old (IncBy step) self.new };
+
+    /// All bytes were read.
+    fn show_throughput(&mut self)
+        ensures { hears self.old ShowThroughput self.new };
+}
+
+/// A progress that does nothing, and stays as it is.
+#[derive(Clone, Copy, Debug)]
+pub struct NoProgress;
+
+impl Progress for NoProgress {
+    ghost hears = { λ before call after. after ≡ before };
+
+    fn init(&mut self, _max: Option<u64>) {}
+
+    fn inc_by(&mut self, _step: u64) {}
+
+    fn show_throughput(&mut self) {}
+}

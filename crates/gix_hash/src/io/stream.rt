@@ -1,0 +1,93 @@
+//! The digest of the next bytes of a reader.
+
+ghost use Rattle.std.specs.Prelude.{◌≡◌, ◌++◌, ℕ, List, length, IfOk, OnOk, IfErr};
+ghost use Rattle.gix_hash.specs.Hashing.{digest, hasher_kind, StandsFor};
+ghost use Rattle.gix_hash.specs.Streams.{Reaches, GivesNext, Stops, chunks, heard_all, refused};
+
+use super::{Error, Interrupt, Progress};
+use crate::hashing::start::hasher;
+use crate::hashing::state::Hasher;
+use crate::kind::Kind;
+use crate::object_id::ObjectId;
+use std::io::Read;
+
+// The most bytes that are read at once.
+const CHUNK_LEN: usize = 65535;
+
+/// The digest of all that `hasher` was fed and then of the next `num_bytes_from_start` bytes of
+/// `read`, whose further bytes stay unread.
+///
+/// The bytes are read in chunks of 65535 bytes, the last of 1 to 65535; where there are none,
+/// nothing is read. `progress` hears of all bytes by [`Progress::init`], of each chunk that was read
+/// by [`Progress::inc_by`], and by [`Progress::show_throughput`] that there are no more.
+/// `should_interrupt` is asked once after each chunk.
+///
+/// [`Error::Io`] comes where a chunk can't be read, because the reader fails or ends. The chunks
+/// before it were heard of, and how much of it the reader gave is not said. [`Error::Interrupted`]
+/// comes where `should_interrupt` answers true: just the chunks until then were read, and all of
+/// them were heard of. Under an error `show_throughput` is not called.
+pub fn bytes_with_hasher<R: Read, P: Progress, I: Interrupt>(
+    read: &mut R,
+    num_bytes_from_start: u64,
+    mut hasher: Hasher,
+    progress: &mut P,
+    should_interrupt: &mut I,
+) -> Result<ObjectId, Error>
+    ensures digest { IfOk result (λ id. (bytes : List ℕ)
+        × GivesNext (R.remaining read.old) (R.remaining read.new) num_bytes_from_start bytes
+        × ((message : List ℕ) → StandsFor hasher message → id ≡ digest (hasher_kind hasher) (message ++ bytes))) }
+    ensures heard { OnOk result (Reaches P.hears progress.old (heard_all num_bytes_from_start) progress.new) }
+    ensures asked { OnOk result (Reaches I.answers should_interrupt.old
+        (refused (length (chunks num_bytes_from_start))) should_interrupt.new) }
+    ensures err { IfErr result (λ e. Stops e num_bytes_from_start
+        (λ calls. Reaches P.hears progress.old calls progress.new)
+        (λ answers. Reaches I.answers should_interrupt.old answers should_interrupt.new)
+        (R.remaining read.old) (R.remaining read.new)) }
+{
+    progress.init(Some(num_bytes_from_start));
+    let mut buf = [0; CHUNK_LEN];
+    let mut left = num_bytes_from_start;
+    while left > 0 {
+        let count = left.min(CHUNK_LEN as u64);
+        let chunk = &mut buf[..count as usize];
+        read.read_exact(chunk).map_err(Error::Io)?;
+        left -= count;
+        progress.inc_by(count);
+        hasher.update(chunk);
+        if should_interrupt.should_interrupt() {
+            return Err(Error::Interrupted);
+        }
+    }
+    let id = hasher.try_finalize()?;
+    progress.show_throughput();
+    Ok(id)
+}
+
+/// The digest, of the given kind, of the next `num_bytes_from_start` bytes of `read`, as
+/// [`bytes_with_hasher`] with a hasher that was fed nothing.
+pub fn bytes<R: Read, P: Progress, I: Interrupt>(
+    read: &mut R,
+    num_bytes_from_start: u64,
+    kind: Kind,
+    progress: &mut P,
+    should_interrupt: &mut I,
+) -> Result<ObjectId, Error>
+    ensures digest { IfOk result (λ id. (bytes : List ℕ)
+        × GivesNext (R.remaining read.old) (R.remaining read.new) num_bytes_from_start bytes
+        × (id ≡ digest kind bytes)) }
+    ensures heard { OnOk result (Reaches P.hears progress.old (heard_all num_bytes_from_start) progress.new) }
+    ensures asked { OnOk result (Reaches I.answers should_interrupt.old
+        (refused (length (chunks num_bytes_from_start))) should_interrupt.new) }
+    ensures err { IfErr result (λ e. Stops e num_bytes_from_start
+        (λ calls. Reaches P.hears progress.old calls progress.new)
+        (λ answers. Reaches I.answers should_interrupt.old answers should_interrupt.new)
+        (R.remaining read.old) (R.remaining read.new)) }
+{
+    bytes_with_hasher(
+        read,
+        num_bytes_from_start,
+        hasher(kind),
+        progress,
+        should_interrupt,
+    )
+}

@@ -1,0 +1,81 @@
+//! A writer that hashes what passes through it.
+
+ghost use Rattle.std.specs.Prelude.{◌≡◌, [], take, IfOk, OnErr};
+ghost use Rattle.std.specs.Io.{WritesAtMost};
+ghost use Rattle.std.specs.Io.KnownBytes.{Keeps, WriteAppends};
+ghost use Rattle.gix_hash.specs.Hashing.{hasher_kind, StandsFor};
+ghost use Rattle.gix_hash.specs.HashingWriter.{Takes};
+
+use crate::hashing::start::hasher;
+use crate::hashing::state::Hasher;
+use crate::kind::Kind;
+use std::io;
+
+/// A writer that hands what is written to an inner writer, and hashes what that takes of it.
+///
+/// One that is fresh, and whose fields are only read, stands for all that its inner writer took
+/// since.
+#[derive(Drop)]
+pub struct Write<T> {
+    /// The hasher, which was fed all that the inner writer took.
+    pub hash: Hasher,
+    /// The inner writer.
+    pub inner: T,
+}
+
+impl<T: io::Write> Write<T> {
+    /// A writer to `inner` whose hasher computes digests of the kind `object_hash`, and was fed
+    /// nothing.
+    pub fn new(inner: T, object_hash: Kind) -> Self
+        ensures kind { hasher_kind result.hash ≡ object_hash }
+        ensures empty { StandsFor result.hash [] }
+        ensures inner { result.inner ≡ inner }
+    {
+        Write {
+            hash: hasher(object_hash),
+            inner,
+        }
+    }
+
+    /// Hands `buf` to the inner writer in one call of its `write`, and answers what that answers.
+    /// Of the bytes handed over the hasher is fed those that were taken, the first `w` where the
+    /// answer is `Ok(w)`. An error leaves the hasher as it was.
+    pub fn write(&mut self, buf: &[u8]) -> io::Result<usize>
+        ensures bound { WritesAtMost result buf.now }
+        ensures takes { IfOk result (λ count. Takes T.contents self.old (take count buf.now) self.new) }
+        ensures err { OnErr result ((self.new.hash ≡ self.old.hash) × Keeps (T.contents self.old.inner) (T.contents self.new.inner)) }
+    {
+        let written = self.inner.write(buf)?;
+        self.hash.update(&buf[..written]);
+        Ok(written)
+    }
+
+    /// Flushes the inner writer, and answers what that answers. The hasher stays as it was.
+    pub fn flush(&mut self) -> io::Result<()>
+        ensures hash { self.new.hash ≡ self.old.hash }
+        ensures bytes { Keeps (T.contents self.old.inner) (T.contents self.new.inner) }
+    {
+        self.inner.flush()
+    }
+}
+
+/// As [`Write::write`] and [`Write::flush`].
+impl<T: io::Write> io::Write for Write<T> {
+    ghost contents = { λ writer. T.contents writer.inner };
+
+    fn write(&mut self, buf: &[u8]) -> io::Result<usize>
+        ensures bound { WritesAtMost result buf.now }
+        ensures bytes { WriteAppends (T.contents self.old.inner) (T.contents self.new.inner) result buf.now }
+        ensures takes { IfOk result (λ count. Takes T.contents self.old (take count buf.now) self.new) }
+        ensures err { OnErr result ((self.new.hash ≡ self.old.hash) × Keeps (T.contents self.old.inner) (T.contents self.new.inner)) }
+    {
+        self.write(buf)
+    }
+
+    fn flush(&mut self) -> io::Result<()>
+        ensures bytes { Keeps (T.contents self.old.inner) (T.contents self.new.inner) }
+        ensures hash { self.new.hash ≡ self.old.hash }
+    {
+        self.flush()
+    }
+}
