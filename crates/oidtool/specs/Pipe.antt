@@ -33,6 +33,12 @@ pub record ReadsTooMuch (old new : Option (List ℕ)) (message : List ℕ) : Typ
   pub too_long : 2 ^ 61 ≤ length message
   pub gives : Consumes old new message
 
+-- where hashing stops: what the source gave before, and what the sink took of the line
+abbrev pub HashingStops : PipeError → Kind → Option (List ℕ) → Option (List ℕ) → Option (List ℕ) → Option (List ℕ) → Type 0
+HashingStops Input kind source source' sink sink' = (message : List ℕ) × Reads source source' message
+HashingStops Output kind source source' sink sink' = (message : List ℕ) × ReadsAll source source' message × AppendsPart sink sink' (digest_line kind message)
+HashingStops TooMuch kind source source' sink sink' = (message : List ℕ) × ReadsTooMuch source source' message
+
 -- where sealing stops: what the source gave before, and what the sink took of the sealed message
 abbrev pub SealingStops : PipeError → Kind → Option (List ℕ) → Option (List ℕ) → Option (List ℕ) → Option (List ℕ) → Type 0
 SealingStops Input kind source source' sink sink' = (message : List ℕ) × Reads source source' message × Appends sink sink' message

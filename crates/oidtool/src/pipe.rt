@@ -1,11 +1,9 @@
 //! Hashing and sealing a stream of bytes, from a source to a sink.
 
-ghost use Rattle.std.specs.Prelude.{◌≡◌, ◌≢◌, ◌↔◌, ◌||◌, ℕ, List, false, true, length, OnOk, IfOk, IfErr, IsErrOf, Ok};
-ghost use Rattle.std.specs.Io.{WritesAtMost};
-ghost use Rattle.std.specs.Io.KnownBytes.{Appends, WriteAppends};
+ghost use Rattle.std.specs.Prelude.{◌≡◌, ◌≢◌, ◌↔◌, ℕ, List, false, true, OnOk, IfOk, IfErr, IsErrOf};
+ghost use Rattle.std.specs.Io.KnownBytes.{Appends};
 ghost use Rattle.gix_hash.specs.Hashing.{digest};
-ghost use Rattle.oidtool.specs.Pipe.{digest_line, sealed, ReadsAll, ReadsTooMuch, SealingStops};
-ghost use Rattle.oidtool.specs.Writing.{write_fails, AppendsPart};
+ghost use Rattle.oidtool.specs.Pipe.{digest_line, sealed, ReadsAll, HashingStops, SealingStops};
 
 use crate::printing::write_id;
 use crate::sink::{Sink, WriteFailed, write_all};
@@ -60,10 +58,8 @@ pub fn hash_all<R: Source, W: Sink>(input: &mut R, out: &mut W, kind: Kind) -> R
         × Appends (W.taken out.old) (W.taken out.new) (digest_line kind message)) }
     ensures input { IsErrOf result PipeError.Input ↔ (R.has_failed input.new ≡ true) }
     ensures output { IsErrOf result PipeError.Output ↔ (W.has_failed out.new ≡ true) }
-    ensures too_much { IsErrOf result PipeError.TooMuch → (message : List ℕ) × ReadsTooMuch (R.remaining input.old) (R.remaining input.new) message }
+    ensures stopped { IfErr result (λ e. HashingStops e kind (R.remaining input.old) (R.remaining input.new) (W.taken out.old) (W.taken out.new)) }
     ensures untouched { IfErr result (λ e. e ≢ PipeError.Output → out.new ≡ out.old) }
-    ensures part { IsErrOf result PipeError.Output → (message : List ℕ) × ReadsAll (R.remaining input.old) (R.remaining input.new) message
-        × AppendsPart (W.taken out.old) (W.taken out.new) (digest_line kind message) }
 {
     let id = copy_all(input, &mut Discard, kind)?;
     Ok(write_id(Spelling::Hex, &id, out)?)

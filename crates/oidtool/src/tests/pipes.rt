@@ -10,7 +10,8 @@ use crate::pipe::{PipeError, hash_all, seal};
 use crate::plain::Plain;
 use crate::sink::Sink;
 use crate::source::Source;
-use gix_hash::{Kind, ObjectId};
+use gix_hash::io::{Never, NoProgress};
+use gix_hash::{Kind, ObjectId, bytes, oid, verify};
 use std::alloc::Global;
 use std::process::Abort;
 use std::test::Fail;
@@ -28,6 +29,11 @@ const EMPTY_256: &str = "e3b0c44298fc1c149afbf4c8996fb92427ae41e4649b934ca495991
 const MILLION: &str = "34aa973cd4c4daa4f61eeb2bdbad27316534016f\n";
 
 const MILLION_256: &str = "cdc76e5c9914fb9281a1c7e284d73e67f1809a48a497200e046d39ccc7112cd0\n";
+
+// Those of `bbc`, by the program `sha1sum` and its like.
+const BBC: &str = "0fbe2a58568b4590569588e52ed6a7da4e91b6ab\n";
+
+const BBC_256: &str = "77e6f78af45f649c5f3b8ebe484a91a144eb203a34a89c8dc5b1c4ca87bc6f71\n";
 
 /// What stands between a source and a sink.
 #[derive(Clone, Copy, Debug, PartialEq, Eq)]
@@ -97,6 +103,39 @@ fn hashes_and_seals(rt: HostRuntime) -> Result<(), Fail> {
     ];
     for (kind, message, line) in rows {
         expect_digest(&rt, kind, message, line)?;
+    }
+    Ok(())
+}
+
+// Compares the digest at the end of a sealed message with that of all before it, as who reads a pack
+// does.
+fn verified(sealed: &[u8], kind: Kind) -> Result<Result<(), verify::Error>, Fail> {
+    let Some(len) = sealed.len().checked_sub(kind.len_in_bytes()) else {
+        return Err(Fail::new("a sealed message is too short"));
+    };
+    let mut message = &sealed[..len];
+    let id = bytes(&mut message, len as u64, kind, &mut NoProgress, &mut Never)?;
+    Ok(id.verify(oid::try_from_bytes(&sealed[len..])?))
+}
+
+#[test]
+fn seals_verifiably(rt: HostRuntime) -> Result<(), Fail> {
+    for (kind, abc, bbc) in [(Kind::Sha1, ABC, BBC), (Kind::Sha256, ABC_256, BBC_256)] {
+        let mut buf = [0; 80];
+        let mut out = IntoSlice::new(&mut buf);
+        seal(&mut FromSlice::new(b"abc"), &mut out, kind)?;
+        let mut sealed = Vec::new(rt.alloc());
+        sealed.extend_from_slice(out.written())?;
+        assert!(&rt; verified(&sealed, kind)?.is_ok());
+        assert!(&rt; !sealed.is_empty());
+        sealed[0] = b'b';
+        match verified(&sealed, kind)? {
+            Ok(()) => return Err(Fail::new("another message is verified")),
+            Err(verify::Error { actual, expected }) => {
+                assert!(&rt; actual.eq_str(bbc.trim_end()));
+                assert!(&rt; expected.eq_str(abc.trim_end()));
+            }
+        }
     }
     Ok(())
 }
