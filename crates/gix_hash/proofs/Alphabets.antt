@@ -10,8 +10,7 @@ use Rattle.gix_hash.specs.declared.alphabet.Alphabet.{Alphabet}
 use Rattle.gix_hash.specs.declared.alphabet.Alphabet.TheVariants.{Hex, Reverse}
 use Rattle.gix_hash.specs.Alphabet.{letter_of, hex_of_reverse, reverse_of_hex}
 use Rattle.gix_hash.specs.Digits.{hex_letter, reverse_letter, spelling}
-use Rattle.gix_hash.specs.IdReading.{full_read}
-use Rattle.gix_hash.specs.Reading.{digit_in, digits_read}
+use Rattle.gix_hash.specs.Reading.{digit_below, digit_in, digits_read}
 use Rattle.gix_hash.proofs.ReadingFacts.{IsAlphabet, hex_alphabet, digit_in-is, digit_in-letter}
 
 -- the reverse letters are distinct
@@ -64,11 +63,13 @@ spelling-reverse_of_hex [] h = refl
 spelling-reverse_of_hex (d ∷ ds) h =
     rw (letter_for d (All-head (λ (x : ℕ). x < 16) d ds h), spelling-reverse_of_hex ds (All-tail (λ (x : ℕ). x < 16) d ds h)) refl
 
--- texts of one length that read alike are read alike as full ids
-pub full_read-alike : (l m : ℕ → ℕ) (xs ys : List ℕ) → digits_read l xs ≡ digits_read m ys → length xs ≡ length ys → full_read l xs ≡ full_read m ys
-full_read-alike l m xs ys same len = rw (len, same) refl
-
 -- letters are ASCII
 pub letter_of-ascii : (alphabet : Alphabet) (d : ℕ) → d < 16 → letter_of alphabet d < 128
 letter_of-ascii Hex d lt = grind (arith, nat_tests)
 letter_of-ascii Reverse d lt = omega arith
+
+-- the letter of the digit 0 reads as it
+pub digit_in-zero : (alphabet : Alphabet) (z : ℕ) → z ≡ letter_of alphabet 0 → digit_in (letter_of alphabet) z ≡ Some 0
+unfolding digit_below
+digit_in-zero Hex z is = rw is refl
+digit_in-zero Reverse z is = rw is refl

@@ -1,10 +1,10 @@
--- Reading a text with letters `0` behind it.
+-- Reading a text with letters of the digit 0 behind it.
 use Rattle.std.proofs.Common.{◌≡◌, ℕ, zero, suc, ◌*◌, ◌≤◌, List, [], ◌∷◌, ◌++◌, length, take, replicate, refl, sym, ap, ◌∙◌, Option, Some, None}
 use Rattle.std.specs.Option.{option_map}
 use Rattle.std.proofs.lemmas.List.{take_at, take-take}
 use Rattle.std.proofs.lemmas.List.Elements.{length_all_zip}
-use Rattle.gix_hash.specs.Digits.{digits_of, hex_letter, IsLetterOf}
-use Rattle.gix_hash.specs.Reading.{digit_below, digit_in, digits_read, put_digit}
+use Rattle.gix_hash.specs.Digits.{digits_of, IsLetterOf}
+use Rattle.gix_hash.specs.Reading.{digit_in, digits_read, put_digit}
 use Rattle.gix_hash.proofs.ReadingFacts.{ReadsAs-digits_read}
 use Rattle.gix_hash.proofs.Places.{take-digits_of}
 
@@ -12,11 +12,11 @@ use Rattle.gix_hash.proofs.Places.{take-digits_of}
 abbrev zeros_behind : ℕ → Option (List ℕ) → Option (List ℕ)
 zeros_behind n digits = option_map (λ ds. ds ++ replicate n 0) digits
 
--- letters `0` read as zeros
-zeros_read : (n : ℕ) → digits_read hex_letter (replicate n 48) ≡ Some (replicate n 0)
-unfolding digits_read digit_below
-zeros_read zero = refl
-zeros_read (suc n) = rw (zeros_read n) refl
+-- letters of the digit 0 read as zeros
+zeros_read : (letter : ℕ → ℕ) (c n : ℕ) → digit_in letter c ≡ Some 0 → digits_read letter (replicate n c) ≡ Some (replicate n 0)
+unfolding digits_read
+zeros_read letter c zero is = refl
+zeros_read letter c (suc n) is = rw (is, zeros_read letter c n is) refl
 
 -- a digit in front, before or after zeros are put behind
 put_digit-zeros : (n : ℕ) (first : Option ℕ) (more : Option (List ℕ)) → put_digit first (zeros_behind n more) ≡ zeros_behind n (put_digit first more)
@@ -24,11 +24,13 @@ put_digit-zeros n None more = refl
 put_digit-zeros n (Some d) None = refl
 put_digit-zeros n (Some d) (Some digits) = refl
 
--- a text with letters `0` behind it reads as its digits with zeros behind them
-digits_read-zeros : (n : ℕ) (text : List ℕ) → digits_read hex_letter (text ++ replicate n 48) ≡ zeros_behind n (digits_read hex_letter text)
+-- a text with such letters behind it reads as its digits with zeros behind them
+digits_read-zeros : (letter : ℕ → ℕ) (z n : ℕ) (text : List ℕ) → digit_in letter z ≡ Some 0
+    → digits_read letter (text ++ replicate n z) ≡ zeros_behind n (digits_read letter text)
 unfolding digits_read
-digits_read-zeros n [] = zeros_read n
-digits_read-zeros n (c ∷ text) = rw (digits_read-zeros n text) (put_digit-zeros n (digit_in hex_letter c) (digits_read hex_letter text))
+digits_read-zeros letter z n [] is = zeros_read letter z n is
+digits_read-zeros letter z n (c ∷ text) is =
+    rw (digits_read-zeros letter z n text is) (put_digit-zeros n (digit_in letter c) (digits_read letter text))
 
 -- a text has a byte for each digit that it reads as
 pub length-digits_read : (letter : ℕ → ℕ) (text ds : List ℕ) → digits_read letter text ≡ Some ds → length ds ≡ length text
@@ -46,13 +48,13 @@ zeros_behind-none : (n : ℕ) (digits : Option (List ℕ)) → zeros_behind n di
 zeros_behind-none n None h = refl
 zeros_behind-none n (Some ds) h = cc h
 
--- the digits of a text, from the bytes that it decodes to with letters `0` behind it
-pub read_front : (n m : ℕ) (text bytes : List ℕ) → length text ≤ 2 * m
-    → digits_read hex_letter (text ++ replicate n 48) ≡ Some (digits_of bytes)
-    → digits_read hex_letter text ≡ Some (take (length text) (digits_of (take m bytes)))
-read_front n m text bytes room h =
-    let parts = zeros_behind-parts n (digits_read hex_letter text) (digits_of bytes) (sym (digits_read-zeros n text) ∙ h) in
-    let len = length-digits_read hex_letter text parts.0 parts.1 in
+-- the digits of a text, from the bytes that it decodes to with such letters behind it
+pub read_front : (letter : ℕ → ℕ) (z n m : ℕ) (text bytes : List ℕ) → digit_in letter z ≡ Some 0 → length text ≤ 2 * m
+    → digits_read letter (text ++ replicate n z) ≡ Some (digits_of bytes)
+    → digits_read letter text ≡ Some (take (length text) (digits_of (take m bytes)))
+read_front letter z n m text bytes is room h =
+    let parts = zeros_behind-parts n (digits_read letter text) (digits_of bytes) (sym (digits_read-zeros letter z n text is) ∙ h) in
+    let len = length-digits_read letter text parts.0 parts.1 in
     let cut = take_at parts.0 (replicate n 0) (length text) len in
     let front : take (length text) (digits_of (take m bytes)) ≡ parts.0 =
     ap (take (length text)) (sym (take-digits_of m bytes)) ∙ take-take (length text) (2 * m) (digits_of bytes) room
@@ -60,5 +62,6 @@ read_front n m text bytes room h =
     in parts.1 ∙ ap Some (sym front)
 
 -- where the whole does not read, the text does not
-pub read_front-none : (n : ℕ) (text : List ℕ) → digits_read hex_letter (text ++ replicate n 48) ≡ None → digits_read hex_letter text ≡ None
-read_front-none n text h = zeros_behind-none n (digits_read hex_letter text) (sym (digits_read-zeros n text) ∙ h)
+pub read_front-none : (letter : ℕ → ℕ) (z n : ℕ) (text : List ℕ) → digit_in letter z ≡ Some 0
+    → digits_read letter (text ++ replicate n z) ≡ None → digits_read letter text ≡ None
+read_front-none letter z n text is h = zeros_behind-none n (digits_read letter text) (sym (digits_read-zeros letter z n text is) ∙ h)

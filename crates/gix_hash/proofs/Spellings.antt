@@ -72,14 +72,14 @@ take-spelling letter n ds behind =
     take-append-le (min n (length ds)) (spelling letter ds) behind within
     ∙ take-map letter (min n (length ds)) ds ∙ ap (spelling letter) (take_min n ds)
 
--- the digits of bytes, spelled in front of a buffer, cut at a number of them or at their end
-pub take-put_digits : (letter : ℕ → ℕ) (n cut : ℕ) (bytes buffer behind : List ℕ)
-    → buffer ≡ spelling letter (digits_of bytes) ++ behind → cut ≡ min n (2 * length bytes)
-    → take cut buffer ≡ spelling letter (take n (digits_of bytes))
-take-put_digits letter n cut bytes buffer behind put is =
-    let len = length-digits_of bytes in
-    let most : cut ≡ min n (length (digits_of bytes)) = is ∙ ap (min n) (sym len) in
-    rw (put, most) (take-spelling letter n (digits_of bytes) behind)
+-- the digits of an id, spelled in front of a buffer, cut at a number of them or at their end
+pub take-put_id : (letter : ℕ → ℕ) (n cut : ℕ) (id : oid) (buffer behind : List ℕ)
+    → buffer ≡ spelling letter (oid_digits id) ++ behind → cut ≡ min n (hex_len_of (oid_kind id))
+    → take cut buffer ≡ spelling letter (take n (oid_digits id))
+take-put_id letter n cut id buffer behind put is =
+    let len = length-digits_of (oid_bytes id) ∙ sym (hex_len_of-kind (length (oid_bytes id)) id.length_known) in
+    let most : cut ≡ min n (length (oid_digits id)) = is ∙ ap (min n) (sym len) in
+    rw (put, most) (take-spelling letter n (oid_digits id) behind)
 
 -- all digits of an id are shown where its number of digits was asked for
 pub all_shown : (id : oid) (n : ℕ) → n ≡ hex_len_of (oid_kind id) → take n (oid_digits id) ≡ oid_digits id

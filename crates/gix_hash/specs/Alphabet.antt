@@ -7,8 +7,8 @@ use Rattle.gix_hash.specs.declared.alphabet.Alphabet.TheVariants.{Hex, Reverse}
 
 -- the letters of an alphabet
 abbrev pub letter_of : Alphabet → ℕ → ℕ
-letter_of Hex digit = hex_letter digit
-letter_of Reverse digit = reverse_letter digit
+letter_of Hex = hex_letter
+letter_of Reverse = reverse_letter
 
 -- the hex letter of a reverse letter's digit, in any case; a dash, which is no hex letter, for another byte
 abbrev pub hex_of_reverse : ℕ → ℕ

@@ -1,46 +1,145 @@
 //! The alphabets in which digits are spelled and read.
 
-ghost use Rattle.std.specs.Prelude.{◌≡◌, ◌≤◌, ◌<◌, ◌*◌, ◌++◌, All, IsTrue, length, drop, map};
-ghost use Rattle.gix_hash.specs.Digits.{digits_of, spelling, hex_letter};
-ghost use Rattle.gix_hash.specs.Kind.{is_digest_len};
+ghost use Rattle.std.specs.Prelude.{◌≡◌, ◌≤◌, ◌*◌, ◌++◌, Some, None, MatchResult, length, drop, map};
+ghost use Rattle.std.specs.Option.{ok_or, option_map};
+ghost use Rattle.gix_hash.specs.Digits.{digits_of, spelling};
+ghost use Rattle.gix_hash.specs.Kind.{hex_len_of};
+ghost use Rattle.gix_hash.specs.Prefix.{beginning_of};
+ghost use Rattle.gix_hash.specs.PrefixReading.{prefix_read};
 ghost use Rattle.gix_hash.specs.Reading.{digits_read};
 ghost use Rattle.gix_hash.specs.Alphabet.{letter_of, hex_of_reverse, reverse_of_hex};
+ghost use Rattle.gix_hash.specs.declared.decode.Error as decode;
+ghost use Rattle.gix_hash.specs.declared.prefix.from_hex.Error as from_hex;
 
-use crate::lanes::put_letters;
+use crate::borrowed::oid;
+use crate::decode;
+use crate::hex_digits::decode_digits;
+use crate::kind::Kind;
+use crate::lanes::spell_hex;
+use crate::object_id::ObjectId;
+use crate::prefix::{Prefix, from_hex};
 
-/// An alphabet of sixteen letters.
-#[derive(Clone, Copy)]
-pub(crate) enum Alphabet {
+/// An alphabet of sixteen letters for the digits 0 to 15. Texts are read in any letter case, and
+/// spelled in lowercase.
+#[derive(Clone, Copy, Debug, PartialEq, Eq)]
+pub enum Alphabet {
     /// `0` to `9` and `a` to `f`.
     Hex,
-    /// `z` down to `k`, by which Jujutsu tells change ids from other ids.
+    /// `z` down to `k`, in which Jujutsu spells change ids, so that they differ from other ids.
     Reverse,
 }
 
 impl Alphabet {
-    /// Writes hex letters that read as the text does in this alphabet, a letter a byte.
-    pub(crate) fn put_hex_letters(self, text: &[u8], letters: &mut [u8])
-        requires { length text.now ≡ length letters.old }
-        ensures len { length letters.new ≡ length text.now }
-        ensures read { digits_read hex_letter letters.new ≡ digits_read (letter_of self) text.now }
+    ghost use Rattle.gix_hash.specs.IdReading.{full_read, id_answered};
+    ghost use Rattle.gix_hash.specs.Oid.{oid_digits, oid_kind};
+
+    /// Reads a prefix of 4 to 64 digits. Its kind is the least one whose ids have so many digits.
+    ///
+    /// Fewer bytes are refused as [`from_hex::Error::TooShort`], more as
+    /// [`from_hex::Error::TooLong`], both with their number, and else a byte that is no letter as
+    /// [`from_hex::Error::Invalid`].
+    pub fn read_prefix(self, text: &str) -> Result<Prefix, from_hex::Error>
+        ensures { result ≡ prefix_read (letter_of self) 4 text.now }
+    {
+        if text.len() < Prefix::MIN_HEX_LEN {
+            return Err(from_hex::Error::TooShort {
+                hex_len: text.len(),
+            });
+        }
+        self.read_prefix_nonempty(text)
+    }
+
+    /// As [`Alphabet::read_prefix`], from 1 digit on: no byte is refused as
+    /// [`from_hex::Error::TooShort`].
+    pub fn read_prefix_nonempty(self, text: &str) -> Result<Prefix, from_hex::Error>
+        ensures { result ≡ prefix_read (letter_of self) 1 text.now }
+    {
+        if text.is_empty() {
+            return Err(from_hex::Error::TooShort { hex_len: 0 });
+        }
+        match Kind::from_hex_len(text.len()) {
+            Some(kind) => self.read_beginning(kind, text.as_bytes()),
+            None => Err(from_hex::Error::TooLong {
+                hex_len: text.len(),
+            }),
+        }
+    }
+
+    // Reads the beginning of an id of the kind.
+    fn read_beginning(self, kind: Kind, text: &[u8]) -> Result<Prefix, from_hex::Error>
+        requires { length text.now ≤ hex_len_of kind }
+        ensures { result ≡ ok_or (option_map (beginning_of kind) (digits_read (letter_of self) text.now)) from_hex.Error.Invalid }
+    {
+        let mut letters = [self.zero_letter(); 64];
+        letters[..text.len()].copy_from_slice(text);
+        let mut bytes = [0; 32];
+        match self.decode(&letters, &mut bytes) {
+            Ok(()) => Ok(Prefix::packed(kind, &bytes[..kind.len_in_bytes()], text.len())),
+            Err(_) => Err(from_hex::Error::Invalid),
+        }
+    }
+
+    /// Reads 40 or 64 digits as an id of SHA-1 or SHA-256.
+    ///
+    /// A text of another length is refused as [`decode::Error::InvalidHexEncodingLength`] with its
+    /// length in bytes. A text of such a length with a byte that is no letter is refused as
+    /// [`decode::Error::Invalid`].
+    pub fn read_id(self, text: &[u8]) -> Result<ObjectId, decode::Error>
+        ensures { id_answered result ≡ full_read (letter_of self) text.now }
+    {
+        match text.len() {
+            40 => {
+                let mut bytes = [0; 20];
+                self.decode(text, &mut bytes)?;
+                Ok(ObjectId::Sha1(bytes))
+            }
+            64 => {
+                let mut bytes = [0; 32];
+                self.decode(text, &mut bytes)?;
+                Ok(ObjectId::Sha256(bytes))
+            }
+            len => Err(decode::Error::InvalidHexEncodingLength(len)),
+        }
+    }
+
+    // Decodes a text of two letters a byte, for at most 32 bytes. Where some byte of it is no letter,
+    // what `bytes` then holds is not said.
+    fn decode(self, text: &[u8], bytes: &mut [u8]) -> Result<(), decode::Error>
+        requires two_a_byte { length text.now ≡ 2 * length bytes.old }
+        requires most { length text.now ≤ 64 }
+        ensures { MatchResult result (λ _. digits_read (letter_of self) text.now ≡ Some (digits_of bytes.new))
+            (λ e. (e ≡ decode.Error.Invalid) × (digits_read (letter_of self) text.now ≡ None)) }
     {
         match self {
-            Alphabet::Hex => letters.copy_from_slice(text),
+            Alphabet::Hex => decode_digits(text, bytes),
             Alphabet::Reverse => {
+                let mut letters = [0; 64];
+                let letters = &mut letters[..text.len()];
                 letters.copy_from_slice(text);
                 to_hex_letters(letters);
+                decode_digits(letters, bytes)
             }
         }
     }
 
-    /// Writes the digits of a digest of 20 or 32 bytes in this alphabet into the front of the buffer;
-    /// the bytes behind them stay.
-    pub(crate) fn put_digits(self, bytes: &[u8], buffer: &mut [u8])
-        requires digest { IsTrue (is_digest_len (length bytes.now)) }
-        requires room { 2 * length bytes.now ≤ length buffer.old }
-        ensures { buffer.new ≡ spelling (letter_of self) (digits_of bytes.now) ++ drop (2 * length bytes.now) buffer.old }
+    // The letter of the digit 0.
+    fn zero_letter(self) -> u8
+        ensures { result ≡ letter_of self 0 }
     {
-        put_letters(bytes, buffer);
+        match self {
+            Alphabet::Hex => b'0',
+            Alphabet::Reverse => b'z',
+        }
+    }
+
+    /// Spells all digits of an id into the front of `buffer`, as many as its kind's length in digits;
+    /// the bytes behind them stay. The buffer needs room for the digits.
+    pub fn put_id(self, id: oid<'_>, buffer: &mut [u8])
+        requires { hex_len_of (oid_kind id) ≤ length buffer.old }
+        ensures { buffer.new ≡ spelling (letter_of self) (oid_digits id.entry) ++ drop (hex_len_of (oid_kind id.entry)) buffer.old }
+    {
+        let bytes = id.as_bytes();
+        spell_hex(bytes, buffer);
         if let Alphabet::Reverse = self {
             to_reverse_letters(&mut buffer[..2 * bytes.len()]);
         }

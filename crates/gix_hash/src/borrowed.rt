@@ -9,11 +9,11 @@ ghost use Rattle.std.specs.Ordering.{nat_cmp, on, as_partial_cmp};
 ghost use Rattle.gix_hash.specs.Digits.{first_byte_of, spelling, hex_letter};
 ghost use Rattle.gix_hash.specs.Kind.{is_digest_len, hex_len_of};
 
+use crate::alphabet::Alphabet;
 use crate::display::HexDisplay;
 use crate::error::Error;
 use crate::hex_digits::ascii_text;
 use crate::kind::Kind;
-use crate::lanes::put_letters;
 use crate::object_id::ObjectId;
 use crate::prefix::Prefix;
 use crate::verify;
@@ -187,7 +187,7 @@ impl<'a> oid<'a> {
         requires { hex_len_of (oid_kind self.now) ≤ length buffer.old }
         ensures { buffer.new ≡ spelling hex_letter (oid_digits self.now) ++ drop (hex_len_of (oid_kind self.now)) buffer.old }
     {
-        put_letters(self.bytes, buffer);
+        Alphabet::Hex.put_id(*self, buffer);
     }
 
     /// Writes the lowercase hex digits into the front of `buffer` as [`oid::put_hex`] does, and

@@ -85,21 +85,7 @@ impl ChangeId {
     pub fn from_reverse_hex(text: &[u8]) -> Result<ChangeId, decode::Error>
         ensures { id_answered result ≡ full_read reverse_letter text.now }
     {
-        match text.len() {
-            40 | 64 => ChangeId::from_reverse_letters(text),
-            len => Err(decode::Error::InvalidHexEncodingLength(len)),
-        }
-    }
-
-    // Reads as many letters as some id has digits.
-    fn from_reverse_letters(text: &[u8]) -> Result<ChangeId, decode::Error>
-        requires { length text.now ≤ 64 }
-        ensures { id_answered result ≡ full_read reverse_letter text.now }
-    {
-        let mut letters = [0; 64];
-        let letters = &mut letters[..text.len()];
-        Alphabet::Reverse.put_hex_letters(text, letters);
-        match ObjectId::from_hex(letters) {
+        match Alphabet::Reverse.read_id(text) {
             Ok(id) => Ok(ChangeId(id)),
             Err(error) => Err(error),
         }
@@ -167,7 +153,7 @@ impl ChangeId {
         requires { hex_len_of (id_kind self.now) ≤ length buffer.old }
         ensures { buffer.new ≡ spelling reverse_letter (id_digits self.now) ++ drop (hex_len_of (id_kind self.now)) buffer.old }
     {
-        Alphabet::Reverse.put_digits(self.as_bytes(), buffer);
+        Alphabet::Reverse.put_id(self.as_oid(), buffer);
     }
 
     /// Whether `text` is just all digits in the letters `z` to `k`, in lowercase.

@@ -64,7 +64,6 @@ pub(crate) fn cut_text<'b>(
     requires { 64 ≤ length buffer.old }
     ensures { result.now ≡ spelling (letter_of alphabet) (take hex_len (oid_digits id.entry)) }
 {
-    let bytes = id.as_bytes();
-    alphabet.put_digits(bytes, buffer);
-    ascii_text(&buffer[..hex_len.min(2 * bytes.len())])
+    alphabet.put_id(id, buffer);
+    ascii_text(&buffer[..hex_len.min(id.kind().len_in_hex())])
 }

@@ -10,7 +10,7 @@ use std::simd::u8x16;
 const HEX_LETTERS: [u8; 16] = *b"0123456789abcdef";
 
 /// Writes the lowercase hex digits of a digest of 20 or 32 bytes into the front of the buffer; the bytes behind stay.
-pub(crate) fn put_letters(bytes: &[u8], buffer: &mut [u8])
+pub(crate) fn spell_hex(bytes: &[u8], buffer: &mut [u8])
     requires digest { IsTrue (is_digest_len (length bytes.now)) }
     requires room { 2 * length bytes.now ≤ length buffer.old }
     ensures { buffer.new ≡ spelling hex_letter (digits_of bytes.now) ++ drop (2 * length bytes.now) buffer.old }

@@ -28,6 +28,7 @@ pub mod prefix;
 /// Comparing a computed id with the one that was expected.
 pub mod verify;
 
+pub use alphabet::Alphabet;
 pub use borrowed::oid;
 pub use change_id::ChangeId;
 pub use display::HexDisplay;

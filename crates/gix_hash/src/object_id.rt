@@ -2,10 +2,10 @@
 
 ghost use Rattle.std.specs.Prelude.{◌≡◌, ◌≤◌, ◌<◌, ◌*◌, All, length, slice_range};
 
+use crate::alphabet::Alphabet;
 use crate::borrowed::oid;
 use crate::display::HexDisplay;
 use crate::error::Error;
-use crate::hex_digits::decode_digits;
 use crate::kind::Kind;
 use crate::prefix::Prefix;
 use crate::{decode, verify};
@@ -45,19 +45,7 @@ impl ObjectId {
     pub fn from_hex(text: &[u8]) -> Result<ObjectId, decode::Error>
         ensures { id_answered result ≡ full_read hex_letter text.now }
     {
-        match text.len() {
-            40 => {
-                let mut bytes = [0; 20];
-                decode_digits(text, &mut bytes)?;
-                Ok(ObjectId::Sha1(bytes))
-            }
-            64 => {
-                let mut bytes = [0; 32];
-                decode_digits(text, &mut bytes)?;
-                Ok(ObjectId::Sha256(bytes))
-            }
-            len => Err(decode::Error::InvalidHexEncodingLength(len)),
-        }
+        Alphabet::Hex.read_id(text)
     }
 
     /// The kind of the digest.

@@ -2,21 +2,17 @@
 
 ghost use Rattle.std.specs.Prelude.{◌≡◌, ◌≤◌, ◌<◌, ◌*◌, ◌↔◌, ℕ, length, take, replicate, drop, ◌++◌, IfOk, IsTrue, IsAscii, OnOk, All};
 ghost use Rattle.std.specs.Io.KnownBytes.{Appends};
-ghost use Rattle.std.specs.Option.{ok_or, option_map};
 ghost use Rattle.std.specs.declared.cmp.Ordering.{Ordering};
-ghost use Rattle.gix_hash.specs.Alphabet.{letter_of};
 ghost use Rattle.gix_hash.specs.Digits.{digits_of, hex_letter, reverse_letter, spelling};
 ghost use Rattle.gix_hash.specs.Kind.{hex_len_of, byte_len_of};
 ghost use Rattle.gix_hash.specs.ObjectId.{id_kind, id_bytes, id_digits};
-ghost use Rattle.gix_hash.specs.Prefix.{beginning_of, place, padded};
+ghost use Rattle.gix_hash.specs.Prefix.{place, padded};
 ghost use Rattle.gix_hash.specs.PrefixReading.{prefix_read};
-ghost use Rattle.gix_hash.specs.Reading.{digits_read};
-ghost use Rattle.gix_hash.specs.declared.prefix.from_hex.Error as from_hex;
 
 use crate::alphabet::Alphabet;
 use crate::borrowed::oid;
 use crate::change_id::ReverseHexDisplay;
-use crate::hex_digits::{ascii_text, decode_digits};
+use crate::hex_digits::ascii_text;
 use crate::kind::Kind;
 use crate::object_id::ObjectId;
 use std::cmp::Ordering;
@@ -136,7 +132,7 @@ impl Prefix {
     pub fn from_hex(text: &str) -> Result<Prefix, from_hex::Error>
         ensures { result ≡ prefix_read hex_letter 4 text.now }
     {
-        Prefix::read(Alphabet::Hex, text)
+        Alphabet::Hex.read_prefix(text)
     }
 
     /// Reads 1 to 64 hex digits, in any letter case. The kind is the least one whose ids have so
@@ -148,62 +144,21 @@ impl Prefix {
     pub fn from_hex_nonempty(text: &str) -> Result<Prefix, from_hex::Error>
         ensures { result ≡ prefix_read hex_letter 1 text.now }
     {
-        Prefix::read_nonempty(Alphabet::Hex, text)
+        Alphabet::Hex.read_prefix_nonempty(text)
     }
 
     /// As [`Prefix::from_hex`], of the letters `z` to `k` in place of hex digits.
     pub fn from_reverse_hex(text: &str) -> Result<Prefix, from_hex::Error>
         ensures { result ≡ prefix_read reverse_letter 4 text.now }
     {
-        Prefix::read(Alphabet::Reverse, text)
+        Alphabet::Reverse.read_prefix(text)
     }
 
     /// As [`Prefix::from_hex_nonempty`], of the letters `z` to `k` in place of hex digits.
     pub fn from_reverse_hex_nonempty(text: &str) -> Result<Prefix, from_hex::Error>
         ensures { result ≡ prefix_read reverse_letter 1 text.now }
     {
-        Prefix::read_nonempty(Alphabet::Reverse, text)
-    }
-
-    // Reads at least 4 digits in an alphabet.
-    fn read(alphabet: Alphabet, text: &str) -> Result<Prefix, from_hex::Error>
-        ensures { result ≡ prefix_read (letter_of alphabet) 4 text.now }
-    {
-        if text.len() < Prefix::MIN_HEX_LEN {
-            return Err(from_hex::Error::TooShort {
-                hex_len: text.len(),
-            });
-        }
-        Prefix::read_nonempty(alphabet, text)
-    }
-
-    // Reads at least 1 digit in an alphabet.
-    fn read_nonempty(alphabet: Alphabet, text: &str) -> Result<Prefix, from_hex::Error>
-        ensures { result ≡ prefix_read (letter_of alphabet) 1 text.now }
-    {
-        if text.is_empty() {
-            return Err(from_hex::Error::TooShort { hex_len: 0 });
-        }
-        match Kind::from_hex_len(text.len()) {
-            Some(kind) => Prefix::read_in(alphabet, kind, text.as_bytes()),
-            None => Err(from_hex::Error::TooLong {
-                hex_len: text.len(),
-            }),
-        }
-    }
-
-    // The prefix of a kind whose digits the text is, in an alphabet.
-    fn read_in(alphabet: Alphabet, kind: Kind, text: &[u8]) -> Result<Prefix, from_hex::Error>
-        requires { length text.now ≤ hex_len_of kind }
-        ensures { result ≡ ok_or (option_map (beginning_of kind) (digits_read (letter_of alphabet) text.now)) from_hex.Error.Invalid }
-    {
-        let mut letters = [b'0'; 64];
-        alphabet.put_hex_letters(text, &mut letters[..text.len()]);
-        let mut bytes = [0; 32];
-        match decode_digits(&letters, &mut bytes) {
-            Ok(()) => Ok(Prefix::packed(kind, &bytes[..kind.len_in_bytes()], text.len())),
-            Err(_) => Err(from_hex::Error::Invalid),
-        }
+        Alphabet::Reverse.read_prefix_nonempty(text)
     }
 
     // The prefix of the first digits of some bytes.

@@ -6,5 +6,5 @@ pub mod Refusal
 pub mod Writing
 pub mod Command
 pub mod Devices
-pub mod Spelling
 pub mod Pipe
+pub mod Running

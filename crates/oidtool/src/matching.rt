@@ -7,13 +7,12 @@ ghost use Rattle.id_lookup.specs.Runs.{matches};
 ghost use Rattle.id_lookup.specs.Sorted.{least_hex_len};
 ghost use Rattle.oidtool.specs.ListText.{first_unsorted};
 ghost use Rattle.oidtool.specs.Finding.{printed};
-ghost use Rattle.oidtool.specs.Spelling.{letter_of};
+ghost use Rattle.gix_hash.specs.Alphabet.{letter_of};
 ghost use Rattle.oidtool.specs.Writing.{AppendsPart};
 
 use crate::printing::write_ids;
 use crate::sink::{Sink, WriteFailed};
-use crate::spelling::Spelling;
-use gix_hash::{ObjectId, Prefix};
+use gix_hash::{Alphabet, ObjectId, Prefix};
 use id_lookup::SortedIds;
 
 /// The ids as a sorted list, or the first that is below the one before it, counted from 1.
@@ -33,7 +32,7 @@ pub fn sorted_ids(ids: &[ObjectId]) -> Result<SortedIds<'_>, usize>
 ///
 /// It stops at the first write that fails, with a proper beginning of the lines written.
 pub fn write_matches<W: Sink>(
-    spelling: Spelling,
+    alphabet: Alphabet,
     list: &SortedIds<'_>,
     ids: &[ObjectId],
     prefix: &Prefix,
@@ -43,13 +42,13 @@ pub fn write_matches<W: Sink>(
     requires reach { length prefix.now.digits ≤ least_hex_len list.now }
     requires stands { W.has_failed out.old ≡ false }
     ensures count { IfOk result (λ n. n ≡ length (matches prefix.now.digits list.now)) }
-    ensures written { OnOk result (Appends (W.taken out.old) (W.taken out.new) (printed (letter_of spelling) (matches prefix.now.digits list.now))) }
+    ensures written { OnOk result (Appends (W.taken out.old) (W.taken out.new) (printed (letter_of alphabet) (matches prefix.now.digits list.now))) }
     ensures stands { OnOk result (W.has_failed out.new ≡ false) }
     ensures matched { OnErr result (matches prefix.now.digits list.now ≢ []) }
-    ensures part { OnErr result (AppendsPart (W.taken out.old) (W.taken out.new) (printed (letter_of spelling) (matches prefix.now.digits list.now))) }
+    ensures part { OnErr result (AppendsPart (W.taken out.old) (W.taken out.new) (printed (letter_of alphabet) (matches prefix.now.digits list.now))) }
     ensures failed { OnErr result (W.has_failed out.new ≡ true) }
 {
     let run = list.find(prefix);
-    write_ids(spelling, &ids[run.start..run.end], out)?;
+    write_ids(alphabet, &ids[run.start..run.end], out)?;
     Ok(run.end - run.start)
 }

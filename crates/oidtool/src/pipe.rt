@@ -8,8 +8,7 @@ ghost use Rattle.oidtool.specs.Pipe.{digest_line, sealed, ReadsAll, HashingStops
 use crate::printing::write_id;
 use crate::sink::{Sink, WriteFailed, write_all};
 use crate::source::Source;
-use crate::spelling::Spelling;
-use gix_hash::{Kind, ObjectId, hasher};
+use gix_hash::{Alphabet, Kind, ObjectId, hasher};
 use std::io;
 use thiserror::Error as ThisError;
 
@@ -62,7 +61,7 @@ pub fn hash_all<R: Source, W: Sink>(input: &mut R, out: &mut W, kind: Kind) -> R
     ensures untouched { IfErr result (λ e. e ≢ PipeError.Output → out.new ≡ out.old) }
 {
     let id = copy_all(input, &mut Discard, kind)?;
-    Ok(write_id(Spelling::Hex, &id, out)?)
+    Ok(write_id(Alphabet::Hex, &id, out)?)
 }
 
 /// Copies the source to its end, and writes the bytes of the digest of all that it gave behind it:

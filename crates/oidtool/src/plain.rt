@@ -5,12 +5,13 @@ ghost use Rattle.std.specs.Io.{ReadsAtMost, WritesAtMost};
 ghost use Rattle.std.specs.Io.KnownBytes.{ReadConsumes, WriteAppends};
 ghost use Rattle.oidtool.specs.Writing.{write_fails};
 
-use crate::sink::Sink;
+use crate::sink::{BufferedSink, Sink};
 use crate::source::Source;
-use std::io;
+use std::alloc::Allocator;
+use std::io::{self, BufWriter, Write};
 
-/// A source over a reader of the library, or a sink over a writer of it. It claims nothing of the
-/// bytes.
+/// A source over a reader of the library, or a sink over a writer of it. What is left, and what was
+/// taken, is what the reader or the writer tells of that.
 #[derive(Drop)]
 pub struct Plain<T> {
     inner: T,
@@ -50,19 +51,17 @@ impl<T> Plain<T> {
 }
 
 impl<T: io::Read> Source for Plain<T> {
-    ghost use Rattle.std.specs.Prelude.{None};
     ghost use Rattle.oidtool.specs.Devices.{plain_failed, plain_inner};
 
-    ghost remaining = { λ _. None };
+    ghost remaining = { λ s. T.remaining (plain_inner s) };
 
     ghost has_failed = { plain_failed };
 
     /// Reads from the reader that it stands over, once.
     fn read(&mut self, buf: &mut [u8]) -> io::Result<usize>
         ensures bound { ReadsAtMost result buf.new }
-        ensures bytes { ReadConsumes None None result buf.new }
+        ensures bytes { ReadConsumes (T.remaining (plain_inner self.old)) (T.remaining (plain_inner self.new)) result buf.new }
         ensures failed { plain_failed self.new ≡ (plain_failed self.old || is_err result) }
-        ensures inner { ReadConsumes (T.remaining (plain_inner self.old)) (T.remaining (plain_inner self.new)) result buf.new }
     {
         let answer = self.inner.read(buf);
         self.failed = self.failed || answer.is_err();
@@ -75,19 +74,17 @@ impl<T: io::Read> Source for Plain<T> {
 }
 
 impl<T: io::Write> Sink for Plain<T> {
-    ghost use Rattle.std.specs.Prelude.{None};
     ghost use Rattle.oidtool.specs.Devices.{plain_failed, plain_inner};
 
-    ghost taken = { λ _. None };
+    ghost taken = { λ s. T.contents (plain_inner s) };
 
     ghost has_failed = { plain_failed };
 
     /// Writes to the writer that it stands over, once.
     fn write(&mut self, piece: &[u8]) -> io::Result<usize>
         ensures bound { WritesAtMost result piece.now }
-        ensures bytes { WriteAppends None None result piece.now }
+        ensures bytes { WriteAppends (T.contents (plain_inner self.old)) (T.contents (plain_inner self.new)) result piece.now }
         ensures failed { plain_failed self.new ≡ (plain_failed self.old || write_fails result piece.now) }
-        ensures inner { WriteAppends (T.contents (plain_inner self.old)) (T.contents (plain_inner self.new)) result piece.now }
     {
         let answer = self.inner.write(piece);
         let fails = match &answer {
@@ -100,5 +97,19 @@ impl<T: io::Write> Sink for Plain<T> {
 
     fn failed(&self) -> bool {
         Plain::failed(self)
+    }
+}
+
+impl<W: io::Write + Drop, A: Allocator> BufferedSink for Plain<BufWriter<W, A>> {
+    ghost use Rattle.std.specs.Io.Buffered.{writer_buffer};
+    ghost use Rattle.oidtool.specs.Devices.{plain_inner};
+
+    ghost kept_back = { λ s. writer_buffer (plain_inner s) };
+
+    /// Flushes the writer that it stands over.
+    fn flush(&mut self) -> io::Result<()> {
+        let flushed = self.inner.flush();
+        self.failed = self.failed || flushed.is_err();
+        flushed
     }
 }

@@ -3,13 +3,12 @@
 ghost use Rattle.std.specs.Prelude.{◌≡◌, ◌≢◌, ◌≤◌, [], false, true, map, length, take, OnOk, OnErr};
 ghost use Rattle.std.specs.Io.KnownBytes.{Appends};
 ghost use Rattle.gix_hash.specs.ObjectId.{id_digits};
-ghost use Rattle.oidtool.specs.Spelling.{letter_of};
+ghost use Rattle.gix_hash.specs.Alphabet.{letter_of};
 ghost use Rattle.oidtool.specs.Finding.{line_of, printed};
 ghost use Rattle.oidtool.specs.Writing.{AppendsPart};
 
 use crate::sink::{Sink, WriteFailed, write_all};
-use crate::spelling::Spelling;
-use gix_hash::ObjectId;
+use gix_hash::{Alphabet, ObjectId};
 
 // The bytes of the longest line: 64 digits and a line feed.
 const MAX_LINE_LEN: usize = 65;
@@ -18,45 +17,45 @@ const MAX_LINE_LEN: usize = 65;
 ///
 /// It stops at the first write that fails, with a proper beginning of the lines written.
 pub fn write_ids<W: Sink>(
-    spelling: Spelling,
+    alphabet: Alphabet,
     ids: &[ObjectId],
     out: &mut W,
 ) -> Result<(), WriteFailed>
     requires { W.has_failed out.old ≡ false }
-    ensures written { OnOk result (Appends (W.taken out.old) (W.taken out.new) (printed (letter_of spelling) (map id_digits ids.now))) }
+    ensures written { OnOk result (Appends (W.taken out.old) (W.taken out.new) (printed (letter_of alphabet) (map id_digits ids.now))) }
     ensures stands { OnOk result (W.has_failed out.new ≡ false) }
     ensures some { OnErr result (ids.now ≢ []) }
-    ensures part { OnErr result (AppendsPart (W.taken out.old) (W.taken out.new) (printed (letter_of spelling) (map id_digits ids.now))) }
+    ensures part { OnErr result (AppendsPart (W.taken out.old) (W.taken out.new) (printed (letter_of alphabet) (map id_digits ids.now))) }
     ensures failed { OnErr result (W.has_failed out.new ≡ true) }
 {
     for id in ids {
-        write_id(spelling, id, out)?;
+        write_id(alphabet, id, out)?;
     }
     Ok(())
 }
 
 /// Writes the line of an id in one piece: its digits and a line feed.
-pub fn write_id<W: Sink>(spelling: Spelling, id: &ObjectId, out: &mut W) -> Result<(), WriteFailed>
+pub fn write_id<W: Sink>(alphabet: Alphabet, id: &ObjectId, out: &mut W) -> Result<(), WriteFailed>
     requires { W.has_failed out.old ≡ false }
-    ensures written { OnOk result (Appends (W.taken out.old) (W.taken out.new) (line_of (letter_of spelling) (id_digits id.now))) }
+    ensures written { OnOk result (Appends (W.taken out.old) (W.taken out.new) (line_of (letter_of alphabet) (id_digits id.now))) }
     ensures stands { OnOk result (W.has_failed out.new ≡ false) }
-    ensures part { OnErr result (AppendsPart (W.taken out.old) (W.taken out.new) (line_of (letter_of spelling) (id_digits id.now))) }
+    ensures part { OnErr result (AppendsPart (W.taken out.old) (W.taken out.new) (line_of (letter_of alphabet) (id_digits id.now))) }
     ensures failed { OnErr result (W.has_failed out.new ≡ true) }
 {
     let mut line = [0; MAX_LINE_LEN];
-    let len = put_line(spelling, id, &mut line);
+    let len = put_line(alphabet, id, &mut line);
     write_all(out, &line[..len])
 }
 
 // Puts the id's digits and a line feed into the front of the buffer, and answers how many bytes
 // they are.
-fn put_line(spelling: Spelling, id: &ObjectId, line: &mut [u8]) -> usize
+fn put_line(alphabet: Alphabet, id: &ObjectId, line: &mut [u8]) -> usize
     requires { length line.old ≡ MAX_LINE_LEN }
     ensures len { result ≤ MAX_LINE_LEN }
-    ensures text { take result line.new ≡ line_of (letter_of spelling) (id_digits id.now) }
+    ensures text { take result line.new ≡ line_of (letter_of alphabet) (id_digits id.now) }
 {
     let digits = id.kind().len_in_hex();
-    spelling.put_id(id, line);
+    alphabet.put_id(id.as_oid(), line);
     line[digits] = b'\n';
     digits + 1
 }

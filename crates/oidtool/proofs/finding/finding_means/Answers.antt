@@ -1,10 +1,10 @@
 use Rattle.std.proofs.Common.{subst}
 use Rattle.oidtool.specs.Refusal.{Means}
-use Rattle.oidtool.specs.Spelling.{letter_of}
+use Rattle.gix_hash.specs.Alphabet.{letter_of}
 use Rattle.oidtool.proofs.Meaning.{means, is_answer}
 use Rattle.oidtool.proofs.finding.finding_means.Goals as goal
 
 pub returns : goal.returns
 returns c =
-    let letter = letter_of c.args.spelling in
+    let letter = letter_of c.args.alphabet in
     λ answer. (λ is. subst (Means letter c.args.prefix.now c.args.list.now) is (means letter c.args.prefix.now c.args.list.now), is_answer letter c.args.prefix.now c.args.list.now answer)

@@ -1,7 +1,7 @@
 use Rattle.std.proofs.Common.{◌≡◌, ◌+◌, ◌-◌, ◌≤◌, length, arith}
 use Rattle.std.proofs.lemmas.Bool.Decides.{nat_tests}
 use Rattle.gix_hash.proofs.LanePlaces.{stored_whole}
-use Rattle.gix_hash.proofs.lanes.put_letters.Goals as goal
+use Rattle.gix_hash.proofs.lanes.spell_hex.Goals as goal
 
 pub returns : goal.returns
 returns c =
