@@ -48,7 +48,10 @@ pub struct Writer {
     bytes: Vec<u8>,
     piece: usize,
     fault: Fault,
+    fails_at_flush: bool,
+    failed_at: Option<usize>,
     calls: usize,
+    flushes: usize,
 }
 
 impl Writer {
@@ -58,8 +61,18 @@ impl Writer {
             bytes,
             piece,
             fault,
+            fails_at_flush: false,
+            failed_at: None,
             calls: 0,
+            flushes: 0,
         }
+    }
+
+    /// A writer that takes all, and fails at each flush.
+    pub fn failing_at_flush(bytes: Vec<u8>) -> Self {
+        let mut writer = Writer::new(bytes, usize::MAX, Fault::Never);
+        writer.fails_at_flush = true;
+        writer
     }
 
     /// What it took.
@@ -67,9 +80,29 @@ impl Writer {
         &self.bytes
     }
 
-    /// How often it was called.
+    /// How often it was asked to write.
     pub fn calls(&self) -> usize {
         self.calls
+    }
+
+    /// How often it was asked to flush.
+    pub fn flushes(&self) -> usize {
+        self.flushes
+    }
+
+    /// Whether it was asked to write behind a write that answered an error, or took none of a piece
+    /// that is not empty.
+    pub fn was_asked_again(&self) -> bool {
+        match self.failed_at {
+            Some(at) => self.calls > at,
+            None => false,
+        }
+    }
+
+    fn note_failure(&mut self) {
+        if self.failed_at.is_none() {
+            self.failed_at = Some(self.calls);
+        }
     }
 }
 
@@ -78,14 +111,22 @@ impl io::Write for Writer {
         self.calls = self.calls.saturating_add(1);
         let len = self.bytes.len();
         if self.fault.strikes(self.calls, len) {
+            self.note_failure();
             return Err(self.fault.error());
         }
         let count = buf.len().min(self.piece).min(self.fault.room(len));
+        if count == 0 && !buf.is_empty() {
+            self.note_failure();
+        }
         self.bytes.extend_from_slice(&buf[..count])?;
         Ok(count)
     }
 
     fn flush(&mut self) -> io::Result<()> {
+        self.flushes = self.flushes.saturating_add(1);
+        if self.fails_at_flush {
+            return Err(io::Error::from(io::ErrorKind::Other));
+        }
         Ok(())
     }
 }
