@@ -1,4 +1,5 @@
 pub mod Meaning
+pub mod CommandLemmas
 pub mod Orders
 pub mod PipeLemmas
 pub mod LineLemmas

@@ -17,7 +17,7 @@ use std::process::Abort;
 use std::test::Fail;
 
 // The digests of `abc` and of nothing, in FIPS 180-4's own examples.
-const ABC: &str = "a9993e364706816aba3e25717850c26c9cd0d89d\n";
+pub const ABC: &str = "a9993e364706816aba3e25717850c26c9cd0d89d\n";
 
 const ABC_256: &str = "ba7816bf8f01cfea414140de5dae2223b00361a396177a9cb410ff61f20015ad\n";
 
@@ -60,7 +60,7 @@ impl Pipe {
 }
 
 // A message and the bytes of its digest, which is written in hex digits and a line feed.
-fn sealed(alloc: Global, message: &[u8], line: &str) -> Result<Vec<u8>, Fail> {
+pub fn sealed(alloc: Global, message: &[u8], line: &str) -> Result<Vec<u8>, Fail> {
     let mut bytes = Vec::new(alloc);
     bytes.extend_from_slice(message)?;
     match ObjectId::from_hex(line.trim_end().as_bytes()) {
