@@ -1,6 +1,6 @@
 //! Running a command over a reader and a writer.
 
-ghost use Rattle.std.specs.Prelude.{◌≡◌, ◌≢◌, ◌↔◌, ◌⊎◌, ℕ, List, [], length, true, false, IfOk, IfErr, OnOk, IsErrOf};
+ghost use Rattle.std.specs.Prelude.{◌≡◌, ◌≢◌, ◌↔◌, ◌⊎◌, ℕ, List, [], length, true, false, IfOk, IfErr, IfSome, OnOk, IsErrOf};
 ghost use Rattle.std.specs.Io.KnownBytes.{Appends, Consumes, IsAtEnd};
 ghost use Rattle.oidtool.specs.declared.running.CommandError.{CommandError};
 ghost use Rattle.oidtool.specs.Pipe.{digest_line};
@@ -98,7 +98,8 @@ impl From<AllocError> for CommandError {
 /// its end in pieces; `hash-file` reads the file, and leaves the input as it is. `Input` comes exactly
 /// where the input failed, or for `hash-file` where the file was not read; `Output` exactly where the
 /// writer did, at a write or at the flush. Under another error `seal` has written what it read, and
-/// another command nothing. Input and writer must not have failed before.
+/// another command nothing. `Memory` comes for `find` and `find-change` alone, and never where the
+/// input is empty. Input and writer must not have failed before.
 pub fn run_command<F: Files, A: Allocator + Copy, R: Source, W: BufferedSink>(
     files: &F,
     alloc: A,
@@ -111,9 +112,10 @@ pub fn run_command<F: Files, A: Allocator + Copy, R: Source, W: BufferedSink>(
     ensures done { IfOk result (Does command.entry (R.remaining input.old) (W.taken out.old) (W.taken out.new)) }
     ensures flushed { OnOk result (W.kept_back out.new ≡ []) }
     ensures refused { IfErr result (Refuses command.entry (R.remaining input.old)) }
+    ensures memory { IsErrOf result CommandError.Memory → IfSome (R.remaining input.old) (λ bytes. bytes ≢ []) }
     ensures untouched { IfErr result (λ e. e ≢ CommandError.Output → copies command.entry ≡ false → out.new ≡ out.old) }
     ensures copied { IfErr result (λ e. e ≢ CommandError.Output → HasCopied command.entry e (R.remaining input.old) (R.remaining input.new) (W.taken out.old) (W.taken out.new)) }
-    ensures input { reads_source command.entry ≡ true → IsErrOf result CommandError.Input ↔ (R.has_failed input.new ≡ true) }
+    ensures input { reads_source command.entry ≡ true → (IsErrOf result CommandError.Input ↔ (R.has_failed input.new ≡ true)) }
     ensures unread { reads_source command.entry ≡ false → input.new ≡ input.old }
     ensures output { IsErrOf result CommandError.Output ↔ (W.has_failed out.new ≡ true) }
     ensures part { IsErrOf result CommandError.Output → DoesAtMost command.entry (R.remaining input.old) (W.taken out.old) (W.taken out.new) }
@@ -137,9 +139,10 @@ fn answer<F: Files, A: Allocator + Copy, R: Source, W: Sink>(
     requires output { W.has_failed out.old ≡ false }
     ensures done { IfOk result (Does command.entry (R.remaining input.old) (W.taken out.old) (W.taken out.new)) }
     ensures refused { IfErr result (Refuses command.entry (R.remaining input.old)) }
+    ensures memory { IsErrOf result CommandError.Memory → IfSome (R.remaining input.old) (λ bytes. bytes ≢ []) }
     ensures untouched { IfErr result (λ e. e ≢ CommandError.Output → copies command.entry ≡ false → out.new ≡ out.old) }
     ensures copied { IfErr result (λ e. e ≢ CommandError.Output → HasCopied command.entry e (R.remaining input.old) (R.remaining input.new) (W.taken out.old) (W.taken out.new)) }
-    ensures input { reads_source command.entry ≡ true → IsErrOf result CommandError.Input ↔ (R.has_failed input.new ≡ true) }
+    ensures input { reads_source command.entry ≡ true → (IsErrOf result CommandError.Input ↔ (R.has_failed input.new ≡ true)) }
     ensures unread { reads_source command.entry ≡ false → input.new ≡ input.old }
     ensures output { IsErrOf result CommandError.Output ↔ (W.has_failed out.new ≡ true) }
     ensures part { IsErrOf result CommandError.Output → DoesAtMost command.entry (R.remaining input.old) (W.taken out.old) (W.taken out.new) }
@@ -195,6 +198,7 @@ fn read_all<A: Allocator, R: Source>(alloc: A, input: &mut R) -> Result<Vec<u8, 
     ensures all { IfOk result (λ text. Consumes (R.remaining input.old) (R.remaining input.new) text.items) }
     ensures end { OnOk result (IsAtEnd (R.remaining input.new)) }
     ensures refused { IfErr result (λ e. (e ≡ CommandError.Memory) ⊎ (e ≡ CommandError.Input)) }
+    ensures memory { IsErrOf result CommandError.Memory → IfSome (R.remaining input.old) (λ bytes. bytes ≢ []) }
     ensures input { IsErrOf result CommandError.Input ↔ (R.has_failed input.new ≡ true) }
 {
     let mut text = Vec::new(alloc);
