@@ -1,6 +1,6 @@
 //! Ids that borrow their bytes.
 
-ghost use Rattle.std.specs.Prelude.{IsOk, IfOk, IfErr, OnOk, ◌≡◌, ◌≤◌, ◌<◌, ◌↔◌, ◌++◌, ◌*◌, IsTrue, IsAscii, All, length, take, drop, slice_range};
+ghost use Rattle.std.specs.Prelude.{IsOk, IfOk, IfErr, OnOk, ◌≡◌, ◌≤◌, ◌<◌, ◌↔◌, ◌++◌, ◌*◌, IsTrue, IsAscii, All, length, take, drop, slice_range, nat_eq};
 ghost use Rattle.std.proofs.Common.{rules};
 ghost use Rattle.std.specs.Cmp.{partial_order_from_own_ties};
 ghost use Rattle.std.specs.Cmp.Rules.{comparing};

@@ -1,10 +1,12 @@
-pub mod Meaning
-pub mod MeaningIn
-pub mod Orders
-pub mod IndexPlaces
-pub mod LineLemmas
-pub mod PrintLemmas
-pub mod ReadLemmas
-pub mod RunLemmas
-pub mod RunningLemmas
-pub mod Taking
+mod CommandLemmas
+mod IndexPlaces
+mod LineLemmas
+mod Meaning
+mod MeaningIn
+mod Orders
+mod PipeLemmas
+mod PrintLemmas
+mod ReadLemmas
+mod RunLemmas
+mod RunningLemmas
+mod Taking

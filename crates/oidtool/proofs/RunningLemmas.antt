@@ -2,9 +2,9 @@
 use Rattle.std.proofs.Common.{◌≡◌, ◌≢◌, ℕ, ◌≤◌, Option, Some, None, List, [], take, length, length-append, refl, sym, ap, ◌∙◌, arith, append-nil, IfSome, IsErrOf, IsErrAnd, Ok, Err}
 use Rattle.std.proofs.lemmas.List.{length-take}
 use Rattle.std.specs.Prelude.{Result}
-use Rattle.std.specs.Io.KnownBytes.{Keeps, Consumes}
+use Rattle.std.specs.Io.KnownBytes.{Appends, Consumes, Keeps}
 use Rattle.oidtool.specs.declared.command.Command.{Command}
-use Rattle.oidtool.specs.declared.command.Command.TheVariants.{Find, FindChange}
+use Rattle.oidtool.specs.declared.command.Command.TheVariants.{Find, FindChange, Hash, HashFile, Seal}
 use Rattle.oidtool.specs.declared.finding.FindError.{FindError}
 use Rattle.oidtool.specs.Finding.{printed, IsFound}
 use Rattle.oidtool.specs.Lines.{lines_of}
@@ -12,7 +12,8 @@ use Rattle.oidtool.specs.ListText.{IsFirstRead}
 use Rattle.oidtool.specs.declared.finding.FindError.TheVariants as find
 use Rattle.oidtool.specs.declared.running.CommandError.{CommandError}
 use Rattle.oidtool.specs.declared.running.CommandError.TheVariants as command
-use Rattle.oidtool.specs.Running.{refusal_of_search, IsFoundAtMost, Does, DoesAtMost}
+use Rattle.oidtool.specs.Pipe.{digest_line, sealed}
+use Rattle.oidtool.specs.Running.{refusal_of_search, IsFoundAtMost, WritesAtMost, Does, DoesAtMost}
 use Rattle.oidtool.proofs.LineLemmas.{lines_of-nil, no_length}
 use Rattle.oidtool.proofs.Taking.{Appends-kept}
 
@@ -70,9 +71,29 @@ all_lines letter answer a b c count found kept = record {
   written = Appends-kept a b c (printed letter found.ids) found.written kept;
 }
 
+-- all bytes are a beginning of them
+all_bytes : (make : List ℕ → List ℕ) (message : List ℕ) (a b c : Option (List ℕ)) → Appends a b (make message) → Keeps b c
+    → WritesAtMost make message a c
+all_bytes make message a b c written kept = record {
+  part = make message;
+  rest = [];
+  is_beginning = sym (append-nil (make message));
+  written = Appends-kept a b c (make message) written kept;
+}
+
 -- what was done is done at most, where the flush kept what was written
 pub done_at_most : (asked : Command) (input a b c : Option (List ℕ)) (count : ℕ) → Does asked input a b count → Keeps b c → DoesAtMost asked input a c
 done_at_most (Find prefix) None a b c count done kept = tt
 done_at_most (Find prefix) (Some text) a b c count done kept = all_lines _ _ a b c count done kept
 done_at_most (FindChange letters) None a b c count done kept = tt
 done_at_most (FindChange letters) (Some text) a b c count done kept = all_lines _ _ a b c count done kept
+done_at_most (Hash kind) None a b c count done kept = tt
+done_at_most (Hash kind) (Some text) a b c count done kept = all_bytes (digest_line kind) text a b c done.0.written kept
+done_at_most (HashFile kind n path) input a b c count done kept = (done.0.0, done.0.1, all_bytes (digest_line kind) done.0.0 a b c done.0.2 kept)
+done_at_most (Seal kind) None a b c count done kept = tt
+done_at_most (Seal kind) (Some text) a b c count done kept = record {
+  message = text;
+  unread = [];
+  text_is = sym (append-nil text);
+  copied = all_bytes (sealed kind) text a b c done.0.written kept;
+}

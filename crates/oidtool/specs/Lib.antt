@@ -7,4 +7,5 @@ pub mod FindingIn
 pub mod Writing
 pub mod Command
 pub mod Devices
+pub mod Pipe
 pub mod Running

@@ -1,8 +1,10 @@
 //! The command line, and the status with which the program ends.
 
-ghost use Rattle.std.specs.Prelude.{◌≡◌, IfOk, IfErr, map};
-ghost use Rattle.oidtool.specs.Command.{AsksFor, RefusesWords, status_of, texts_of};
+ghost use Rattle.std.specs.Prelude.{◌≡◌, [], ◌∷◌, IfOk, IfErr, map};
+ghost use Rattle.gix_hash.specs.Kind.{IsNameOf};
+ghost use Rattle.oidtool.specs.Command.{AsksFor, IsNumberOf, RefusesKind, RefusesNumber, RefusesWords, status_of, texts_of};
 
+use gix_hash::Kind;
 use std::fmt;
 
 /// What the program is asked to do.
@@ -18,6 +20,25 @@ pub enum Command<'a> {
     FindChange {
         /// The prefix in the letters `z` to `k`, not read yet.
         letters: &'a str,
+    },
+    /// Hash all of standard input.
+    Hash {
+        /// The kind of the digest.
+        kind: Kind,
+    },
+    /// Hash the first bytes of a file.
+    HashFile {
+        /// The kind of the digest.
+        kind: Kind,
+        /// How many bytes.
+        count: u64,
+        /// The file's path.
+        path: &'a str,
+    },
+    /// Copy all of standard input, and write its digest behind it.
+    Seal {
+        /// The kind of the digest.
+        kind: Kind,
     },
 }
 
@@ -51,9 +72,69 @@ pub fn read_command<'a>(words: &[&'a str]) -> Result<Command<'a>, ArgError<'a>>
     ensures refused { IfErr result (RefusesWords (texts_of words.now)) }
 {
     match words {
-        ["find", prefix] => Ok(Command::Find { prefix }),
-        ["find-change", letters] => Ok(Command::FindChange { letters }),
+        [name, word] => read_one_word(name, word),
+        [name, kind, count, path] => read_three_words(name, kind, count, path),
         _ => Err(ArgError::Usage),
+    }
+}
+
+// Reads a command that takes one word.
+fn read_one_word<'a>(name: &str, word: &'a str) -> Result<Command<'a>, ArgError<'a>>
+    ensures asked { IfOk result (AsksFor (name.now ∷ word.now ∷ [])) }
+    ensures refused { IfErr result (RefusesWords (name.now ∷ word.now ∷ [])) }
+{
+    match name {
+        "find" => Ok(Command::Find { prefix: word }),
+        "find-change" => Ok(Command::FindChange { letters: word }),
+        "hash" => Ok(Command::Hash {
+            kind: read_kind(word)?,
+        }),
+        "seal" => Ok(Command::Seal {
+            kind: read_kind(word)?,
+        }),
+        _ => Err(ArgError::Usage),
+    }
+}
+
+// Reads a command that takes three words.
+fn read_three_words<'a>(
+    name: &str,
+    kind: &'a str,
+    count: &'a str,
+    path: &'a str,
+) -> Result<Command<'a>, ArgError<'a>>
+    ensures asked { IfOk result (AsksFor (name.now ∷ kind.now ∷ count.now ∷ path.now ∷ [])) }
+    ensures refused { IfErr result (RefusesWords (name.now ∷ kind.now ∷ count.now ∷ path.now ∷ [])) }
+{
+    match name {
+        "hash-file" => Ok(Command::HashFile {
+            kind: read_kind(kind)?,
+            count: read_count(count)?,
+            path,
+        }),
+        _ => Err(ArgError::Usage),
+    }
+}
+
+// Reads a word as the name of a kind.
+fn read_kind<'a>(word: &'a str) -> Result<Kind, ArgError<'a>>
+    ensures named { IfOk result (IsNameOf word.now) }
+    ensures refused { IfErr result (RefusesKind word.now) }
+{
+    match Kind::from_str(word) {
+        Ok(kind) => Ok(kind),
+        Err(word) => Err(ArgError::BadKind(word)),
+    }
+}
+
+// Reads a word as a number: decimal digits, behind a `+` or none.
+fn read_count<'a>(word: &'a str) -> Result<u64, ArgError<'a>>
+    ensures number { IfOk result (IsNumberOf word.now) }
+    ensures refused { IfErr result (RefusesNumber word.now) }
+{
+    match word.parse() {
+        Ok(count) => Ok(count),
+        Err(_) => Err(ArgError::BadNumber(word)),
     }
 }
 

@@ -8,7 +8,7 @@ use crate::source::Source;
 use std::io;
 
 /// A source that gives the bytes of a slice, from the front, and never fails.
-#[derive(Clone, Copy)]
+#[derive(Drop)]
 pub struct FromSlice<'a> {
     rest: &'a [u8],
 }

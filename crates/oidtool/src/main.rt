@@ -18,6 +18,7 @@ pub mod from_slice;
 pub mod into_slice;
 mod list;
 mod matching;
+pub mod pipe;
 pub mod plain;
 mod printing;
 pub mod running;
@@ -30,7 +31,7 @@ use running::{CommandError, run_command};
 use std::alloc::AllocError;
 use std::io::BufWriter;
 use std::process::ExitCode;
-use std::rt::Env;
+use std::rt::{Env, Files};
 use std::{env, io};
 use thiserror::Error as ThisError;
 
@@ -80,7 +81,7 @@ fn own_words(rt: &(impl Env + AllocGlobal)) -> Result<Vec<String>, Failure<'stat
 /// Runs the command that the words ask for over standard input and standard output. Nothing is read
 /// where the words are refused.
 fn run<'a>(
-    rt: &(impl Input + Print + AllocGlobal),
+    rt: &(impl Input + Print + Files + AllocGlobal),
     words: &'a [String],
 ) -> Result<usize, Failure<'a>> {
     let words: Vec<&str> = words.iter().map(|word| word.as_str()).collect(rt.alloc())?;
@@ -90,7 +91,7 @@ fn run<'a>(
     };
     let mut input = Plain::new(rt.reader());
     let mut out = Plain::new(writer);
-    Ok(run_command(rt.alloc(), command, &mut input, &mut out)?)
+    Ok(run_command(rt, rt.alloc(), command, &mut input, &mut out)?)
 }
 
 /// Tells a refusal on standard error, and gives the status of the answer.

@@ -34,8 +34,8 @@ pub fn write_ids<W: Sink>(
     Ok(())
 }
 
-// Writes the id's line in one piece.
-fn write_id<W: Sink>(alphabet: Alphabet, id: &ObjectId, out: &mut W) -> Result<(), WriteFailed>
+/// Writes the line of an id in one piece: its digits and a line feed.
+pub fn write_id<W: Sink>(alphabet: Alphabet, id: &ObjectId, out: &mut W) -> Result<(), WriteFailed>
     requires { W.has_failed out.old ≡ false }
     ensures written { OnOk result (Appends (W.taken out.old) (W.taken out.new) (line_of (letter_of alphabet) (id_digits id.now))) }
     ensures stands { OnOk result (W.has_failed out.new ≡ false) }

@@ -1,15 +1,23 @@
 //! Running a command over a reader and a writer.
 
-ghost use Rattle.std.specs.Prelude.{◌≡◌, ◌≢◌, ◌↔◌, ◌⊎◌, [], true, false, IfOk, IfErr, IfSome, OnOk, IsErrOf};
-ghost use Rattle.std.specs.Io.KnownBytes.{Consumes, IsAtEnd};
+ghost use Rattle.std.specs.Prelude.{◌≡◌, ◌≢◌, ◌↔◌, ◌⊎◌, ℕ, List, [], length, true, false, IfOk, IfErr, IfSome, OnOk, IsErrOf};
+ghost use Rattle.std.specs.Io.KnownBytes.{Appends, Consumes, IsAtEnd};
 ghost use Rattle.oidtool.specs.declared.running.CommandError.{CommandError};
-ghost use Rattle.oidtool.specs.Running.{Does, DoesAtMost, Refuses};
+ghost use Rattle.oidtool.specs.Pipe.{digest_line};
+ghost use Rattle.oidtool.specs.Running.{Does, DoesAtMost, HasCopied, Refuses, copies, reads_source};
+ghost use Rattle.oidtool.specs.Writing.{AppendsPart};
 
 use crate::command::Command;
 use crate::finding::{FindError, find, find_change};
-use crate::sink::BufferedSink;
+use crate::pipe::{PipeError, hash_all, seal};
+use crate::printing::write_id;
+use crate::sink::{BufferedSink, Sink, WriteFailed};
 use crate::source::Source;
+use gix_hash::io::{Never, NoProgress};
+use gix_hash::{Alphabet, Kind, bytes_of_file};
 use std::alloc::{AllocError, Allocator};
+use std::path::Path;
+use std::rt::Files;
 use thiserror::Error as ThisError;
 
 // How many bytes are read at once.
@@ -24,12 +32,15 @@ pub enum CommandError {
     /// Memory ran out.
     #[error("out of memory")]
     Memory,
-    /// A read of the input answered an error.
+    /// A read of the input answered an error, or a file could not be opened or read.
     #[error("cannot read")]
     Input,
     /// The writer failed at a write or at the flush.
     #[error("cannot write")]
     Output,
+    /// The input has more than 2^61 - 1 bytes, and FIPS 180-4 has no digest of so many.
+    #[error("too much input")]
+    TooMuch,
 }
 
 impl From<FindError> for CommandError {
@@ -46,6 +57,30 @@ impl From<FindError> for CommandError {
     }
 }
 
+impl From<PipeError> for CommandError {
+    ghost use Rattle.oidtool.specs.Running.{refusal_of_pipe};
+
+    ghost from_gives = { λ error e. e ≡ refusal_of_pipe error };
+
+    fn from(error: PipeError) -> Self {
+        match error {
+            PipeError::Input => CommandError::Input,
+            PipeError::Output => CommandError::Output,
+            PipeError::TooMuch => CommandError::TooMuch,
+        }
+    }
+}
+
+impl From<WriteFailed> for CommandError {
+    ghost use Rattle.oidtool.specs.declared.running.CommandError.TheVariants.{Output};
+
+    ghost from_gives = { λ _ e. e ≡ Output };
+
+    fn from(_failed: WriteFailed) -> Self {
+        CommandError::Output
+    }
+}
+
 impl From<AllocError> for CommandError {
     ghost use Rattle.oidtool.specs.declared.running.CommandError.TheVariants.{Memory};
 
@@ -56,14 +91,17 @@ impl From<AllocError> for CommandError {
     }
 }
 
-/// Runs a command over the input, writes what it gives, and flushes the writer. Answers the number
-/// of matches.
+/// Runs a command over the input, writes what it gives, and flushes the writer. Answers how many ids
+/// it wrote: the matches of `find` and `find-change`, and the one digest of another command.
 ///
-/// `find` and `find-change` read the input to its end, as a list text. `Input` comes exactly where
-/// the input failed, `Output` exactly where the writer did, at a write or at the flush; nothing was
-/// written under another error. `Memory` never comes where the input is empty. Neither must have
-/// failed before.
-pub fn run_command<A: Allocator + Copy, R: Source, W: BufferedSink>(
+/// `find` and `find-change` read the input to its end, as a list text; `hash` and `seal` read it to
+/// its end in pieces; `hash-file` reads the file, and leaves the input as it is. `Input` comes exactly
+/// where the input failed, or for `hash-file` where the file was not read; `Output` exactly where the
+/// writer did, at a write or at the flush. Under another error `seal` has written what it read, and
+/// another command nothing. `Memory` comes for `find` and `find-change` alone, and never where the
+/// input is empty. Input and writer must not have failed before.
+pub fn run_command<F: Files, A: Allocator + Copy, R: Source, W: BufferedSink>(
+    files: &F,
     alloc: A,
     command: Command<'_>,
     input: &mut R,
@@ -75,12 +113,14 @@ pub fn run_command<A: Allocator + Copy, R: Source, W: BufferedSink>(
     ensures flushed { OnOk result (W.kept_back out.new ≡ []) }
     ensures refused { IfErr result (Refuses command.entry (R.remaining input.old)) }
     ensures memory { IsErrOf result CommandError.Memory → IfSome (R.remaining input.old) (λ bytes. bytes ≢ []) }
-    ensures untouched { IfErr result (λ e. e ≢ CommandError.Output → out.new ≡ out.old) }
-    ensures input { IsErrOf result CommandError.Input ↔ (R.has_failed input.new ≡ true) }
+    ensures untouched { IfErr result (λ e. e ≢ CommandError.Output → copies command.entry ≡ false → out.new ≡ out.old) }
+    ensures copied { IfErr result (λ e. e ≢ CommandError.Output → HasCopied command.entry e (R.remaining input.old) (R.remaining input.new) (W.taken out.old) (W.taken out.new)) }
+    ensures input { reads_source command.entry ≡ true → (IsErrOf result CommandError.Input ↔ (R.has_failed input.new ≡ true)) }
+    ensures unread { reads_source command.entry ≡ false → input.new ≡ input.old }
     ensures output { IsErrOf result CommandError.Output ↔ (W.has_failed out.new ≡ true) }
     ensures part { IsErrOf result CommandError.Output → DoesAtMost command.entry (R.remaining input.old) (W.taken out.old) (W.taken out.new) }
 {
-    let count = answer(alloc, command, input, out)?;
+    let count = answer(files, alloc, command, input, out)?;
     match out.flush() {
         Ok(()) => Ok(count),
         Err(_) => Err(CommandError::Output),
@@ -88,7 +128,8 @@ pub fn run_command<A: Allocator + Copy, R: Source, W: BufferedSink>(
 }
 
 // As `run_command`, but for the flush.
-fn answer<A: Allocator + Copy, R: Source, W: BufferedSink>(
+fn answer<F: Files, A: Allocator + Copy, R: Source, W: Sink>(
+    files: &F,
     alloc: A,
     command: Command<'_>,
     input: &mut R,
@@ -99,8 +140,10 @@ fn answer<A: Allocator + Copy, R: Source, W: BufferedSink>(
     ensures done { IfOk result (Does command.entry (R.remaining input.old) (W.taken out.old) (W.taken out.new)) }
     ensures refused { IfErr result (Refuses command.entry (R.remaining input.old)) }
     ensures memory { IsErrOf result CommandError.Memory → IfSome (R.remaining input.old) (λ bytes. bytes ≢ []) }
-    ensures untouched { IfErr result (λ e. e ≢ CommandError.Output → out.new ≡ out.old) }
-    ensures input { IsErrOf result CommandError.Input ↔ (R.has_failed input.new ≡ true) }
+    ensures untouched { IfErr result (λ e. e ≢ CommandError.Output → copies command.entry ≡ false → out.new ≡ out.old) }
+    ensures copied { IfErr result (λ e. e ≢ CommandError.Output → HasCopied command.entry e (R.remaining input.old) (R.remaining input.new) (W.taken out.old) (W.taken out.new)) }
+    ensures input { reads_source command.entry ≡ true → (IsErrOf result CommandError.Input ↔ (R.has_failed input.new ≡ true)) }
+    ensures unread { reads_source command.entry ≡ false → input.new ≡ input.old }
     ensures output { IsErrOf result CommandError.Output ↔ (W.has_failed out.new ≡ true) }
     ensures part { IsErrOf result CommandError.Output → DoesAtMost command.entry (R.remaining input.old) (W.taken out.old) (W.taken out.new) }
 {
@@ -113,7 +156,40 @@ fn answer<A: Allocator + Copy, R: Source, W: BufferedSink>(
             let list = read_all(alloc, input)?;
             Ok(find_change(alloc, letters, &list, out)?)
         }
+        Command::Hash { kind } => {
+            hash_all(input, out, kind)?;
+            Ok(1)
+        }
+        Command::HashFile { kind, count, path } => {
+            hash_file(files, path, count, kind, out)?;
+            Ok(1)
+        }
+        Command::Seal { kind } => {
+            seal(input, out, kind)?;
+            Ok(1)
+        }
     }
+}
+
+// Writes the digest of the first `count` bytes of a file: the lowercase hex digits and a line feed.
+fn hash_file<F: Files, W: Sink>(
+    files: &F,
+    path: &str,
+    count: u64,
+    kind: Kind,
+    out: &mut W,
+) -> Result<(), CommandError>
+    requires { W.has_failed out.old ≡ false }
+    ensures hashed { OnOk result ((message : List ℕ) × (length message ≡ count) × Appends (W.taken out.old) (W.taken out.new) (digest_line kind message)) }
+    ensures stands { OnOk result (W.has_failed out.new ≡ false) }
+    ensures refused { IfErr result (λ e. ((e ≡ CommandError.Input) × (out.new ≡ out.old)) ⊎ ((e ≡ CommandError.Output) × (W.has_failed out.new ≡ true)
+        × ((message : List ℕ) × (length message ≡ count) × AppendsPart (W.taken out.old) (W.taken out.new) (digest_line kind message)))) }
+{
+    let path = Path::new(path);
+    let Ok(id) = bytes_of_file(files, path, count, kind, &mut NoProgress, &mut Never) else {
+        return Err(CommandError::Input);
+    };
+    Ok(write_id(Alphabet::Hex, &id, out)?)
 }
 
 // All that the source gives until its end.

@@ -1,8 +1,10 @@
 //! What no clause says: worked examples, texts, and devices and memory that fail.
 
 mod devices;
+mod digests;
 mod faults;
 mod finding_in;
+mod pipes;
 mod running;
 
 use crate::command::{ArgError, exit_status, read_command};
@@ -289,7 +291,7 @@ fn reads_commands(rt: HostRuntime) -> Result<(), Fail> {
         ),
         (["find-change"].as_slice(), "Err(Usage)"),
         (["find-change", "zzzz", "zzzz"].as_slice(), "Err(Usage)"),
-        (["hash", "md5"].as_slice(), "Err(Usage)"),
+        (["hash", "4b82"].as_slice(), "Err(BadKind(\"4b82\"))"),
     ];
     for (words, answer) in rows {
         assert_eq!(&rt; shown(rt.alloc(), read_command(words))?.as_str(), answer);

@@ -13,6 +13,7 @@ use linked_list_allocator::LocalHeap;
 use std::alloc::{AllocError, Allocator, Global};
 use std::io::BufWriter;
 use std::process::Abort;
+use std::rt::Files;
 use std::test::Fail;
 
 // The four ids in their order.
@@ -23,7 +24,7 @@ fn list(alloc: Global) -> Result<String, AllocError> {
 // Runs the command over a list text in pieces of so many bytes, and compares the answer's Debug text
 // and what was written.
 fn expect_run(
-    rt: &(impl Abort + AllocGlobal),
+    rt: &(impl Abort + Files + AllocGlobal),
     command: Command<'_>,
     list: &str,
     reader: (usize, Fault),
@@ -34,7 +35,7 @@ fn expect_run(
     let mut input = Plain::new(Reader::new(list.as_bytes(), piece, fault));
     let mut buf = [0; 256];
     let mut out = IntoSlice::new(&mut buf);
-    let answered = run_command(rt.alloc(), command, &mut input, &mut out);
+    let answered = run_command(rt, rt.alloc(), command, &mut input, &mut out);
     assert_eq!(rt;
         shown(rt.alloc(), answered)?.as_str(),
         answer,
@@ -97,7 +98,7 @@ fn tells_a_read_that_fails(rt: HostRuntime) -> Result<(), Fail> {
     )?);
     assert!(&rt;
         matches!(
-            run_command(rt.alloc(), find, &mut input, &mut out),
+            run_command(&rt, rt.alloc(), find, &mut input, &mut out),
             Err(CommandError::Input)
         )
     );
@@ -113,7 +114,7 @@ fn tells_a_read_that_fails(rt: HostRuntime) -> Result<(), Fail> {
 // Runs `find 4b82` with a buffered writer, and compares the answer's Debug text, and what the writer
 // took and how often it was flushed.
 fn expect_flushed(
-    rt: &(impl Abort + AllocGlobal),
+    rt: &(impl Abort + Files + AllocGlobal),
     writer: Writer,
     answer: &str,
     taken: &str,
@@ -123,6 +124,7 @@ fn expect_flushed(
     let mut input = FromSlice::new(list.as_bytes());
     let mut out = Plain::new(BufWriter::new(rt.alloc(), writer)?);
     let answered = run_command(
+        rt,
         rt.alloc(),
         Command::Find { prefix: "4b82" },
         &mut input,
@@ -158,11 +160,12 @@ fn flushes_at_the_end(rt: HostRuntime) -> Result<(), Fail> {
 }
 
 // Runs `find 4b82` within an allocator: whether it gave all that was asked of it.
-fn runs_within<A: Allocator + Copy>(rt: &impl Abort, alloc: A, list: &[u8]) -> bool {
+fn runs_within<A: Allocator + Copy>(rt: &(impl Abort + Files), alloc: A, list: &[u8]) -> bool {
     let mut input = FromSlice::new(list);
     let mut buf = [0; 64];
     let mut out = IntoSlice::new(&mut buf);
     match run_command(
+        rt,
         alloc,
         Command::Find { prefix: "4b82" },
         &mut input,
@@ -202,6 +205,7 @@ fn prints_refusals(rt: HostRuntime) -> Result<(), Fail> {
         (CommandError::Memory, "out of memory"),
         (CommandError::Input, "cannot read"),
         (CommandError::Output, "cannot write"),
+        (CommandError::TooMuch, "too much input"),
     ];
     for (error, text) in rows {
         assert_eq!(&rt; printed(rt.alloc(), error)?.as_str(), text);
