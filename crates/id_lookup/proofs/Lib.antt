@@ -1,9 +1,9 @@
-pub mod Least
-pub mod Binary
-pub mod Counting
-pub mod Filtering
-pub mod Told
-pub mod Spelled
-pub mod Rising
-pub mod Placed
-pub mod Kept
+mod Least
+mod Ordered
+mod Binary
+mod Counting
+mod Filtering
+mod Spelled
+mod Rising
+mod Placed
+mod Kept

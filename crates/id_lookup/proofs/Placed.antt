@@ -4,15 +4,15 @@ use Rattle.std.specs.Prelude.{slice_range}
 use Rattle.std.specs.declared.cmp.Ordering.{Ordering}
 use Rattle.std.specs.declared.cmp.Ordering.TheVariants.{Less, Equal, Greater}
 use Rattle.std.specs.Ordering.{is_gt, is_ge, is_eq}
-use Rattle.std.specs.List.{All, HoldsAt, starts_with}
+use Rattle.std.specs.List.{All, HoldsAt, count_by, starts_with}
 use Rattle.std.specs.Cmp.Lexicographic.{texts_ties}
 use Rattle.std.proofs.lemmas.List.Sums.{count_by-le-length}
 use Rattle.std.proofs.lemmas.Bool.Decides.{nat_tests}
 use Rattle.std.proofs.lemmas.List.{get_or-take, get_or-drop, length-take, length-drop}
-use Rattle.gix_hash.specs.Prefix.{Beginning}
+use Rattle.gix_hash.specs.Prefix.{Beginning, place}
 use Rattle.id_lookup.specs.declared.search.Bound.{Bound}
 use Rattle.id_lookup.specs.declared.search.Bound.TheVariants.{Start, End}
-use Rattle.id_lookup.specs.Runs.{begins_with, matches, place_of, run_start, run_len}
+use Rattle.id_lookup.specs.Runs.{begins_with, matches}
 use Rattle.id_lookup.specs.Sorted.{IsSortedIds}
 use Rattle.id_lookup.specs.Bounds.{stands_before, bound_of}
 use Rattle.id_lookup.specs.FoundRun.{IsRun}
@@ -29,18 +29,18 @@ not_less Equal member e = rw e refl
 not_less Greater member e = rw e refl
 
 -- the end of a run is its start and the number of its members
-pub bound_of-end : (prefix : Beginning) (ids : List (List ℕ)) → bound_of End prefix ids ≡ run_start prefix ids + run_len prefix ids
+pub bound_of-end : (prefix : Beginning) (ids : List (List ℕ)) → bound_of End prefix ids ≡ bound_of Start prefix ids + count_by (begins_with prefix) ids
 bound_of-end prefix ids =
-    count_by-split (λ id. is_ge (place_of prefix id)) (λ id. is_gt (place_of prefix id)) (begins_with prefix)
-    (λ id. not_less (place_of prefix id) (begins_with prefix id) (begins_with-place prefix id)) ids
+    count_by-split (λ id. is_ge (place prefix.digits id)) (λ id. is_gt (place prefix.digits id)) (begins_with prefix)
+    (λ id. not_less (place prefix.digits id) (begins_with prefix id) (begins_with-place prefix id)) ids
 
 -- what an answer of the member at a place tells of a bound
 pub told : (bound : Bound) (prefix : Beginning) (ids : List (List ℕ)) → IsSortedIds ids → (k : ℕ) → k < length ids
-    → (o : Ordering) → HoldsAt (λ id. o ≡ place_of prefix id) ids k → stands_before bound o ≡ nat_lt k (bound_of bound prefix ids)
+    → (o : Ordering) → HoldsAt (λ id. o ≡ place prefix.digits id) ids k → stands_before bound o ≡ nat_lt k (bound_of bound prefix ids)
 told bound prefix [] sorted k h o answer = absurd (omega arith)
 told bound prefix (id ∷ ids) sorted k h o answer =
     ap (stands_before bound) (answer id)
-    ∙ passes_below (λ x. stands_before bound (place_of prefix x)) (id ∷ ids) (before_bound bound prefix (id ∷ ids) sorted) k id h
+    ∙ passes_below (λ x. stands_before bound (place prefix.digits x)) (id ∷ ids) (before_bound bound prefix (id ∷ ids) sorted) k id h
 
 -- Greater exactly below the start of the run, and Less exactly from its end on
 pub record IsPlaced (start end k : ℕ) (o : Ordering) : Type 0 where
@@ -49,11 +49,11 @@ pub record IsPlaced (start end k : ℕ) (o : Ordering) : Type 0 where
 
 -- the place of a prefix against each member of a sorted list
 pub placed : (prefix : Beginning) (ids : List (List ℕ)) → IsSortedIds ids → (k : ℕ) (d : List ℕ) → k < length ids
-    → IsPlaced (run_start prefix ids) (run_start prefix ids + run_len prefix ids) k (place_of prefix (get_or ids k d))
+    → IsPlaced (bound_of Start prefix ids) (bound_of Start prefix ids + count_by (begins_with prefix) ids) k (place prefix.digits (get_or ids k d))
 placed prefix ids sorted k d h = record {
-  above = passes_below (λ id. is_gt (place_of prefix id)) ids (before_bound Start prefix ids sorted) k d h;
+  above = passes_below (λ id. is_gt (place prefix.digits id)) ids (before_bound Start prefix ids sorted) k d h;
   not_below =
-      passes_below (λ id. is_ge (place_of prefix id)) ids (before_bound End prefix ids sorted) k d h
+      passes_below (λ id. is_ge (place prefix.digits id)) ids (before_bound End prefix ids sorted) k d h
       ∙ ap (nat_lt k) (bound_of-end prefix ids);
 }
 
@@ -79,33 +79,33 @@ is_equal start end k Equal h p = (λ e. (let a = p.above in grind (arith, nat_te
 is_equal start end k Greater h p = (λ e. absurd (let a = p.above in cc), λ e. absurd (let a = p.above in let b = e.0 in grind (arith, nat_tests)))
 
 -- whether an id begins with the digits of a prefix, by the place of the prefix against it
-matches-place : (prefix : Beginning) (id : List ℕ) (o : Ordering) → place_of prefix id ≡ o → starts_with nat_eq id prefix.digits ≡ is_eq o
+matches-place : (prefix : Beginning) (id : List ℕ) (o : Ordering) → place prefix.digits id ≡ o → starts_with nat_eq id prefix.digits ≡ is_eq o
 matches-place prefix id o is = texts_ties prefix.digits _ ∙ ap is_eq is
 
 -- what is said of a run
 module _ (prefix : Beginning) (ids : List (List ℕ)) (sorted : IsSortedIds ids) (run : Run)
-    (starts : run.start ≡ run_start prefix ids) (ends : run.end ≡ run.start + run_len prefix ids) where
-  at_place : (k : ℕ) (d : List ℕ) → k < length ids → IsPlaced run.start run.end k (place_of prefix (get_or ids k d))
+    (starts : run.start ≡ bound_of Start prefix ids) (ends : run.end ≡ run.start + count_by (begins_with prefix) ids) where
+  at_place : (k : ℕ) (d : List ℕ) → k < length ids → IsPlaced run.start run.end k (place prefix.digits (get_or ids k d))
   at_place k d h = rw (ends, starts) (placed prefix ids sorted k d h)
 
-  run_members : (k : ℕ) (d : List ℕ) → k < length ids
-      → IsTrue (begins_with prefix (get_or ids k d)) ↔ ((run.start ≤ k) × (k < run.end))
-  run_members k d h =
-      rw (begins_with-place prefix (get_or ids k d)) (is_equal run.start run.end k _ (omega arith) (at_place k d h))
+  run_members : (k : ℕ) → k < length ids
+      → IsTrue (begins_with prefix (get_or ids k [])) ↔ ((run.start ≤ k) × (k < run.end))
+  run_members k h =
+      rw (begins_with-place prefix (get_or ids k [])) (is_equal run.start run.end k _ (omega arith) (at_place k [] h))
 
-  run_before : All (λ id. place_of prefix id ≡ Greater) (take run.start ids)
+  run_before : All (λ id. place prefix.digits id ≡ Greater) (take run.start ids)
   run_before k d h =
       let cut = length-take run.start ids in
       rw (get_or-take run.start ids k d (omega arith)) (greater_before run.start run.end k _ (at_place k d (omega arith)) (omega arith))
 
-  run_within : All (λ id. place_of prefix id ≡ Equal) (slice_range ids run.start run.end)
+  run_within : All (λ id. place prefix.digits id ≡ Equal) (slice_range ids run.start run.end)
   run_within k d h =
       let cut = length-take (run.end - run.start) (drop run.start ids) in
       let left = length-drop run.start ids in
       rw (get_or-take (run.end - run.start) (drop run.start ids) k d (omega arith), get_or-drop run.start ids k d)
       (equal_within run.start run.end (run.start + k) _ (at_place (run.start + k) d (omega arith)) (omega arith) (omega arith))
 
-  run_behind : All (λ id. place_of prefix id ≡ Less) (drop run.end ids)
+  run_behind : All (λ id. place prefix.digits id ≡ Less) (drop run.end ids)
   run_behind k d h =
       let left = length-drop run.end ids in
       rw (get_or-drop run.end ids k d)
@@ -119,13 +119,13 @@ module _ (prefix : Beginning) (ids : List (List ℕ)) (sorted : IsSortedIds ids)
 
 -- two bounds are a run
 pub run_is : (prefix : Beginning) (ids : List (List ℕ)) → IsSortedIds ids → (run : Run)
-    → run.start ≡ run_start prefix ids → run.end ≡ bound_of End prefix ids → IsRun prefix ids run
+    → run.start ≡ bound_of Start prefix ids → run.end ≡ bound_of End prefix ids → IsRun prefix ids run
 run_is prefix ids sorted run starts bound =
-    let ends : run.end ≡ run.start + run_len prefix ids = rw (bound, starts) (bound_of-end prefix ids) in
+    let ends : run.end ≡ run.start + count_by (begins_with prefix) ids = rw (bound, starts) (bound_of-end prefix ids) in
     record {
       start = starts;
       end = ends;
-      in_range = omega (arith, bound, count_by-le-length (λ id. is_ge (place_of prefix id)) ids);
+      in_range = omega (arith, bound, count_by-le-length (λ id. is_ge (place prefix.digits id)) ids);
       members = run_members prefix ids sorted run starts ends;
       found = run_found prefix ids sorted run starts ends;
       before = run_before prefix ids sorted run starts ends;

@@ -7,11 +7,10 @@ use Rattle.std.specs.Cmp.Lexicographic.{slice_cmp}
 use Rattle.std.specs.List.Sorted.{IsNonDecreasingBy, IsPartitionedBy}
 use Rattle.std.proofs.lemmas.Cmp.{nat_list_cmp_total}
 use Rattle.std.proofs.lemmas.List.Sorted.{searchable_from_sorted}
-use Rattle.gix_hash.specs.Prefix.{Beginning}
+use Rattle.gix_hash.specs.Prefix.{Beginning, place}
 use Rattle.id_lookup.specs.declared.search.Bound.{Bound}
 use Rattle.id_lookup.specs.declared.search.Bound.TheVariants.{Start, End}
 use Rattle.id_lookup.specs.Bounds.{stands_before}
-use Rattle.id_lookup.specs.Runs.{place_of}
 use Rattle.id_lookup.specs.Sorted.{IsSortedIds}
 
 -- what follows does not fall where the whole does not
@@ -53,7 +52,7 @@ still_before End Greater Greater h g = g
 
 -- no member that stands before a bound is behind one that does not
 pub before_bound : (bound : Bound) (prefix : Beginning) (ids : List (List ℕ)) → IsSortedIds ids
-    → IsPartitionedBy (λ id. stands_before bound (place_of prefix id)) ids
+    → IsPartitionedBy (λ id. stands_before bound (place prefix.digits id)) ids
 before_bound bound prefix ids sorted i j d h g passes =
     let lower = get_or ids i d in
     let upper = get_or ids j d in

@@ -1,6 +1,8 @@
 -- What is said of lowercase hex spellings is said of digits, since distinct digits have distinct letters.
 use Rattle.std.proofs.Common.{◌≡◌, ℕ, ◌↔◌, true, ◌&&◌, List, [], ◌∷◌, ◌++◌, length, take, drop, nat_eq, refl, sym, ap, ◌∙◌, arith}
 use Rattle.std.specs.Ordering.{is_eq}
+use Rattle.std.specs.declared.cmp.Ordering.{Ordering}
+use Rattle.std.specs.declared.cmp.Ordering.TheVariants.{Less, Equal, Greater}
 use Rattle.std.specs.Cmp.Lexicographic.{pointwise, texts_ties, pointwise_decides}
 use Rattle.std.specs.List.{starts_with}
 use Rattle.std.proofs.lemmas.Bool.Decides.{Decides-eqb, nat_tests}
@@ -8,8 +10,8 @@ use Rattle.std.specs.Bool.{Decides}
 use Rattle.std.proofs.lemmas.List.{take-map, length-map, take-append-drop}
 use Rattle.std.proofs.Math.Seq.{take-append_seam}
 use Rattle.gix_hash.specs.Digits.{hex_letter, spelling}
-use Rattle.gix_hash.specs.Prefix.{Beginning, BeginsWith}
-use Rattle.id_lookup.specs.Runs.{begins_with, place_of}
+use Rattle.gix_hash.specs.Prefix.{Beginning, BeginsWith, place}
+use Rattle.id_lookup.specs.Runs.{begins_with}
 
 -- distinct numbers have distinct letters
 same_letter : (x y : ℕ) → nat_eq (hex_letter x) (hex_letter y) ≡ nat_eq x y
@@ -31,10 +33,16 @@ starts_with-spelling ds ps =
     ∙ pointwise-spelling ps (take (length ps) ds)
 
 -- an id begins with a prefix exactly where the place is Equal
-pub begins_with-place : (prefix : Beginning) (id : List ℕ) → begins_with prefix id ≡ is_eq (place_of prefix id)
+pub begins_with-place : (prefix : Beginning) (id : List ℕ) → begins_with prefix id ≡ is_eq (place prefix.digits id)
 begins_with-place prefix id =
     starts_with-spelling id prefix.digits
     ∙ texts_ties prefix.digits (take (length prefix.digits) id)
+
+-- and the test of Equal tells Equal
+pub is_eq-Equal : (o : Ordering) → (is_eq o ≡ true) ↔ (o ≡ Equal)
+is_eq-Equal Less = (λ h. cc, λ h. cc)
+is_eq-Equal Equal = (λ h. refl, λ h. refl)
+is_eq-Equal Greater = (λ h. cc, λ h. cc)
 
 -- the test of equal lists decides whether they are equal
 same_list : (xs ys : List ℕ) → Decides (pointwise nat_eq xs ys) (xs ≡ ys)

@@ -3,8 +3,7 @@ use Rattle.std.specs.Prelude.{ℕ, Bool, List}
 use Rattle.std.specs.declared.cmp.Ordering.{Ordering}
 use Rattle.std.specs.Ordering.{is_gt, is_ge}
 use Rattle.std.specs.List.{count_by}
-use Rattle.gix_hash.specs.Prefix.{Beginning}
-use Rattle.id_lookup.specs.Runs.{place_of}
+use Rattle.gix_hash.specs.Prefix.{Beginning, place}
 use Rattle.id_lookup.specs.declared.search.Bound.{Bound}
 use Rattle.id_lookup.specs.declared.search.Bound.TheVariants.{Start, End}
 
@@ -15,4 +14,4 @@ stands_before End place = is_ge place
 
 -- the bound: how many members stand before it
 abbrev pub bound_of : Bound → Beginning → List (List ℕ) → ℕ
-bound_of bound prefix ids = count_by (λ id. stands_before bound (place_of prefix id)) ids
+bound_of bound prefix ids = count_by (λ id. stands_before bound (place prefix.digits id)) ids

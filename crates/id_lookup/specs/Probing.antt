@@ -1,7 +1,8 @@
 -- What contracts see of probes.
 use Rattle.std.specs.Prelude.{ℕ, ◌≤◌, List, length}
+use Rattle.std.specs.List.{All}
 use Rattle.gix_hash.specs.Prefix.{Beginning}
-use Rattle.id_lookup.specs.Sorted.{IsSortedIds, least_hex_len}
+use Rattle.id_lookup.specs.Sorted.{IsSortedIds}
 
 -- a list of ids by their digits, a prefix, and how many answers were given
 pub record Probing : Type 0 where
@@ -9,7 +10,7 @@ pub record Probing : Type 0 where
   pub prefix : Beginning
   pub asked : ℕ
 
--- the list is sorted, and the prefix has at most as many digits as each member
+-- the list is sorted, and each member has at least as many digits as the prefix
 pub record CanProbe (prefix : Beginning) (ids : List (List ℕ)) : Type 0 where
   pub sorted : IsSortedIds ids
-  pub reach : length prefix.digits ≤ least_hex_len ids
+  pub reach : All (λ id. length prefix.digits ≤ length id) ids

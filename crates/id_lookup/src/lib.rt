@@ -5,6 +5,7 @@
 //! lend no id, answer one place at a time, and count each answer.
 #![tactic(auto)]
 
+pub mod laws;
 mod probes;
 mod search;
 mod sorted;

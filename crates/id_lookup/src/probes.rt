@@ -2,7 +2,7 @@
 
 ghost use Rattle.std.specs.Prelude.{◌≡◌, ◌↔◌, ◌+◌, ◌<◌, ◌≤◌, ◌^◌, IsTrue, length};
 ghost use Rattle.std.specs.List.{HoldsAt};
-ghost use Rattle.id_lookup.specs.Runs.{place_of};
+ghost use Rattle.gix_hash.specs.Prefix.{place};
 ghost use Rattle.id_lookup.specs.Sorted.{least_hex_len};
 ghost use Rattle.id_lookup.specs.Probing.{CanProbe};
 
@@ -50,7 +50,7 @@ impl<'a> Probes<'a> {
         }
     }
 
-    /// The number of members.
+    /// The number of members. They are sorted, and each has at least as many digits as the prefix.
     pub fn len(&self) -> usize
         ensures value { result ≡ length self.now.ids }
         ensures can_probe { CanProbe self.now.prefix self.now.ids }
@@ -79,12 +79,15 @@ impl<'a> Probes<'a> {
         self.asked
     }
 
-    /// The place of the prefix against the member at a place, counted from 0: the dictionary order
-    /// of its digits against as many first digits of the member. One more was asked then.
+    /// How the prefix compares with the member at a place, counted from 0: the answer of
+    /// [`Prefix::cmp_oid`], which is the dictionary order of the prefix's digits against as many
+    /// first digits of the member. `Greater` says that the prefix stands behind the member.
+    ///
+    /// One more was asked then. The list and the prefix stay as they were.
     pub fn ask(&mut self, at: usize) -> Ordering
         requires in_range { at < length self.old.ids }
         requires room { self.old.asked + 1 < 2 ^ 64 }
-        ensures answer { HoldsAt (λ id. result ≡ place_of self.old.prefix id) self.old.ids at }
+        ensures answer { HoldsAt (λ id. result ≡ place self.old.prefix.digits id) self.old.ids at }
         ensures counted { self.new ≡ record self.old { asked = self.old.asked + 1 } }
     {
         self.asked += 1;

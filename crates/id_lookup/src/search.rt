@@ -6,8 +6,8 @@ ghost use Rattle.id_lookup.specs.Probing.{CanProbe};
 ghost use Rattle.gix_hash.specs.Digits.{hex_letter, spelling};
 ghost use Rattle.gix_hash.specs.Kind.{hex_len_of};
 ghost use Rattle.gix_hash.specs.ObjectId.{id_digits, id_kind};
-ghost use Rattle.gix_hash.specs.Prefix.{BeginsWith};
-ghost use Rattle.id_lookup.specs.Runs.{begins_with, place_of};
+ghost use Rattle.gix_hash.specs.Prefix.{BeginsWith, place};
+ghost use Rattle.id_lookup.specs.Runs.{begins_with};
 ghost use Rattle.id_lookup.specs.FoundRun.{IsRun};
 ghost use Rattle.id_lookup.specs.Bounds.{stands_before, bound_of};
 
@@ -46,13 +46,20 @@ impl Bound {
     }
 }
 
-/// The run of the members that begin with the prefix, in at most twice as many answers as the
-/// number of members has binary digits.
+/// Finds the run of a prefix in a sorted list: exactly the members whose lowercase hex spelling
+/// begins with the prefix's.
 ///
-/// Where no member does, the run is empty and stands where the prefix would stand. Nothing may have
-/// been asked before; the list and the prefix stay.
+/// The list is any of which there are probes: it is sorted, with ids of either kind and repeats, and
+/// each member has at least as many digits as the prefix. For each member before the run
+/// [`Prefix::cmp_oid`] answers `Greater`, which says that the prefix stands behind that member; for
+/// each in the run `Equal`; and for each behind the run `Less`. Where no member begins with the
+/// prefix the run is empty, and stands where the prefix would stand.
+///
+/// It asks at most twice as often as the number of members has binary digits. Nothing may have been
+/// asked before. The list and the prefix stay as they were.
 pub fn lookup(probes: &mut Probes<'_>) -> Run
     requires { probes.old.asked ≡ 0 }
+    ensures list { CanProbe probes.old.prefix probes.old.ids }
     ensures run { IsRun probes.old.prefix probes.old.ids result }
     ensures asked { probes.new.asked ≤ 2 * bits (length probes.old.ids) }
     ensures same { probes.new ≡ record probes.old { asked = probes.new.asked } }
@@ -94,16 +101,18 @@ pub fn begins_with(id: &ObjectId, prefix: &Prefix) -> bool
     ensures value { result ≡ begins_with prefix.now (id_digits id.now) }
     ensures spelling { IsTrue result ↔ BeginsWith (spelling hex_letter (id_digits id.now)) (spelling hex_letter prefix.now.digits) }
     ensures digits { IsTrue result ↔ BeginsWith (id_digits id.now) prefix.now.digits }
-    ensures place { IsTrue result ↔ (place_of prefix.now (id_digits id.now) ≡ Ordering.Equal) }
+    ensures place { IsTrue result ↔ (place prefix.now.digits (id_digits id.now) ≡ Ordering.Equal) }
 {
     prefix.cmp_oid(id.as_oid()).is_eq()
 }
 
-/// The number of binary digits: the least b such that `n` is below the b-th power of two.
+/// The number of binary digits: the least b such that `n` is below the b-th power of two. Of at most
+/// half of a number that is not 0 it is less.
 pub fn bits_of(n: usize) -> u32
     ensures value { result ≡ bits n }
     ensures above { n < 2 ^ bits n }
     ensures least { (b : ℕ) → n < 2 ^ b → bits n ≤ b }
+    ensures half { (m : ℕ) → 0 < n → 2 * m ≤ n → bits m < bits n }
 {
     usize::BITS - n.leading_zeros()
 }

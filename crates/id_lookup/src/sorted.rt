@@ -1,6 +1,9 @@
 //! Lists of ids in order.
 
-ghost use Rattle.std.specs.Prelude.{◌≡◌, ◌↔◌, ◌<◌, ◌≤◌, IfOk, IfErr, IsOk, IsTrue, length, map, slice_get};
+ghost use Rattle.std.specs.Prelude.{◌≡◌, ◌≢◌, ◌↔◌, ◌-◌, ◌<◌, ◌≤◌, [], All, AllPairs, IfOk, IfErr, IsOk, IsTrue, length, map, slice_get, slice_index_or};
+ghost use Rattle.std.specs.Cmp.Lexicographic.{slice_cmp};
+ghost use Rattle.std.specs.Ordering.{nat_cmp};
+ghost use Rattle.std.specs.declared.cmp.Ordering.{Ordering};
 ghost use Rattle.gix_hash.specs.ObjectId.{id_digits};
 ghost use Rattle.id_lookup.specs.FoundRun.{IsRun};
 ghost use Rattle.id_lookup.specs.Sorted.{IsSortedIds, IsFirstFall, least_hex_len};
@@ -36,27 +39,27 @@ impl<'a> Model for SortedIds<'a> {
 
 impl<'a> SortedIds<'a> {
     /// The list as a sorted one, or the first place whose id is below the one before it.
-    #[tactic(auto, using(crate::proofs::Told::told_at))]
     pub fn try_new(ids: &'a [ObjectId]) -> Result<SortedIds<'a>, Unsorted>
         ensures ok { IfOk result (λ list. list ≡ map id_digits ids.now) }
         ensures sorted { IsOk result ↔ IsSortedIds (map id_digits ids.now) }
         ensures err { IfErr result (λ e. IsFirstFall (map id_digits ids.now) e.at) }
     {
-        for at in 1..ids.len() {
-            if ids[at].as_oid() < ids[at - 1].as_oid() {
+        let mut min_hex_len = 64;
+        for at in 0..ids.len() {
+            if falls_at(ids, at) {
                 return Err(Unsorted { at });
             }
+            min_hex_len = ids[at].kind().len_in_hex().min(min_hex_len);
         }
-        Ok(SortedIds {
-            ids,
-            min_hex_len: least_hex_len(ids),
-        })
+        Ok(SortedIds { ids, min_hex_len })
     }
 
-    /// The number of ids.
+    /// The number of ids. None of them is below one that stands before it, next to it or further
+    /// off.
     pub fn len(&self) -> usize
         ensures value { result ≡ length self.now }
         ensures sorted { IsSortedIds self.now }
+        ensures in_order { AllPairs (λ a b. slice_cmp nat_cmp b a ≢ Ordering.Less) self.now }
     {
         self.ids.len()
     }
@@ -81,7 +84,8 @@ impl<'a> SortedIds<'a> {
     ///
     /// A prefix can be looked up if it has at most as many.
     pub fn min_hex_len(&self) -> usize
-        ensures { result ≡ least_hex_len self.now }
+        ensures value { result ≡ least_hex_len self.now }
+        ensures members { All (λ id. least_hex_len self.now ≤ length id) self.now }
     {
         self.min_hex_len
     }
@@ -106,15 +110,13 @@ impl<'a> SortedIds<'a> {
     }
 }
 
-// The least number of digits of an id of the list, and 64 where it has none.
-fn least_hex_len(ids: &[ObjectId]) -> usize
-    ensures { result ≡ least_hex_len (map id_digits ids.now) }
+// Whether the id at a place is below the one before it.
+fn falls_at(ids: &[ObjectId], at: usize) -> bool
+    requires { at < length ids.now }
+    ensures { let digits = map id_digits ids.now in
+        IsTrue result ↔ ((0 < at) × (slice_cmp nat_cmp (slice_index_or digits at []) (slice_index_or digits (at - 1) []) ≡ Ordering.Less)) }
 {
-    let mut least = 64;
-    for id in ids {
-        least = id.as_oid().kind().len_in_hex().min(least);
-    }
-    least
+    at > 0 && ids[at].as_oid() < ids[at - 1].as_oid()
 }
 
 /// A list that is not sorted.

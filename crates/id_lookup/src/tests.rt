@@ -117,6 +117,18 @@ fn well_known_ids(rt: HostRuntime) -> Result<(), Fail> {
     )
 }
 
+// The beginnings of one id of four, of each number of digits.
+#[test]
+fn each_number_of_digits(rt: HostRuntime) -> Result<(), Fail> {
+    let ids = well_known()?;
+    expect_run(&rt, &ids, id(BLOB)?.to_prefix(0..0), 0, 4, 6)?;
+    for hex_len in 1..=40 {
+        let digits = BLOB.get(..hex_len).ok_or("the id has fewer digits")?;
+        expect_run(&rt, &ids, Prefix::from_hex_nonempty(digits)?, 3, 4, 6)?;
+    }
+    Ok(())
+}
+
 #[test]
 fn five_copies(rt: HostRuntime) -> Result<(), Fail> {
     let blob = id(BLOB)?;

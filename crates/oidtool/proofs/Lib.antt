@@ -4,4 +4,5 @@ pub mod LineLemmas
 pub mod PrintLemmas
 pub mod ReadLemmas
 pub mod RunLemmas
+pub mod RunningLemmas
 pub mod Taking

@@ -59,25 +59,23 @@ ids_read-means n (line ∷ lines) = by_line (full_read hex_letter line) refl (id
 pub means : (letter : ℕ → ℕ) (prefix text : List ℕ) → Means letter prefix text (finding letter prefix text)
 means letter prefix text = by_texts (prefix_read letter 4 prefix) refl (list_read text) (ids_read-means 1 (lines_of text))
   where
-    searched : (p : Beginning) (ids : List (List ℕ)) → prefix_read letter 4 prefix ≡ Ok p → AllZip IsLineOf (lines_of text) ids → IsSearch letter prefix text p ids
-    searched p ids is h = record { prefix_reads = is; list_reads = h }
-
-    by_order : (p : Beginning) (ids : List (List ℕ)) → IsSearch letter prefix text p ids → (order : Option ℕ) → MeansOrder ids order
-        → Means letter prefix text (found_in p.digits ids order)
-    by_order p ids search (Some n) h = (p, ids, search, h)
-    by_order p ids search None h = by_test (nat_lt (least_hex_len ids) (length p.digits)) refl
+    by_order : (search : IsSearch letter prefix text) (order : Option ℕ) → MeansOrder search.ids order
+        → Means letter prefix text (found_in search.start.digits search.ids order)
+    by_order search (Some n) h = (search, h)
+    by_order search None h = by_test (nat_lt (least_hex_len search.ids) (length search.start.digits)) refl
       where
-        by_test : (b : Bool) → nat_lt (least_hex_len ids) (length p.digits) ≡ b
-            → Means letter prefix text (found_in p.digits ids None)
-        by_test true e = rw e (p, ids, search, h, refl, refl, grind (arith, nat_tests))
-        by_test false e = rw e (p, ids, search, h, grind (arith, nat_tests), refl)
+        by_test : (b : Bool) → nat_lt (least_hex_len search.ids) (length search.start.digits) ≡ b
+            → Means letter prefix text (found_in search.start.digits search.ids None)
+        by_test true e = rw e (search, h, refl, refl, grind (arith, nat_tests))
+        by_test false e = rw e (search, h, grind (arith, nat_tests), refl)
 
     by_texts : (read : Result Beginning PrefixError) → prefix_read letter 4 prefix ≡ read → (ids : Result (List (List ℕ)) ListError)
         → MeansLines 1 (lines_of text) ids → Means letter prefix text (found_from read ids)
     by_texts (Err error) is ids h = is
     by_texts (Ok p) is (Err (list.BadLine n error)) h = (ap is_ok is, h)
     by_texts (Ok p) is (Err list.Memory) h = h
-    by_texts (Ok p) is (Ok ids) h = by_order p ids (searched p ids is h) (first_unsorted ids) (first_unsorted-means ids)
+    by_texts (Ok p) is (Ok ids) h =
+        by_order (record { start = p; ids = ids; prefix_reads = is; list_reads = h }) (first_unsorted ids) (first_unsorted-means ids)
 
 -- lines that read as ids
 ids_read-of : (n : ℕ) (lines ids : List (List ℕ)) → AllZip IsLineOf lines ids → ids_read n lines ≡ Ok ids
@@ -118,17 +116,17 @@ found_from-list (Err e) error h = cc h
 pub is_answer : (letter : ℕ → ℕ) (prefix text : List ℕ) (answer : Result (List (List ℕ)) FindError) → Means letter prefix text answer
     → finding letter prefix text ≡ answer
 is_answer letter prefix text (Ok found) m =
-    let long_enough : length m.0.digits ≤ least_hex_len m.1 = m.4 in
-    let reaches : nat_lt (least_hex_len m.1) (length m.0.digits) ≡ false = grind (arith, nat_tests) in
-    rw (m.2.prefix_reads, ids_read-of 1 (lines_of text) m.1 m.2.list_reads, first_unsorted-none m.1 m.3, reaches, m.5) refl
+    let long_enough : length m.0.start.digits ≤ least_hex_len m.0.ids = m.2 in
+    let reaches : nat_lt (least_hex_len m.0.ids) (length m.0.start.digits) ≡ false = grind (arith, nat_tests) in
+    rw (m.0.prefix_reads, ids_read-of 1 (lines_of text) m.0.ids m.0.list_reads, first_unsorted-none m.0.ids m.1, reaches, m.3) refl
 is_answer letter prefix text (Err (Prefix error)) m = rw m refl
 is_answer letter prefix text (Err (BadLine n error)) m =
     rw (list_read-bad text n error m.1) (found_from-list (prefix_read letter 4 prefix) (list.BadLine n error) m.0)
 is_answer letter prefix text (Err (Unsorted n)) m =
-    rw (m.2.prefix_reads, ids_read-of 1 (lines_of text) m.1 m.2.list_reads, first_unsorted-some m.1 n m.3) refl
+    rw (m.0.prefix_reads, ids_read-of 1 (lines_of text) m.0.ids m.0.list_reads, first_unsorted-some m.0.ids n m.1) refl
 is_answer letter prefix text (Err (PrefixTooLong hex_len least)) m =
-    let too_long : least_hex_len m.1 < length m.0.digits = omega (arith, m.4, m.5, m.6) in
-    let reaches : nat_lt (least_hex_len m.1) (length m.0.digits) ≡ true = grind (arith, nat_tests) in
-    rw (m.2.prefix_reads, ids_read-of 1 (lines_of text) m.1 m.2.list_reads, first_unsorted-none m.1 m.3, reaches, m.4, m.5) refl
+    let too_long : least_hex_len m.0.ids < length m.0.start.digits = omega (arith, m.2, m.3, m.4) in
+    let reaches : nat_lt (least_hex_len m.0.ids) (length m.0.start.digits) ≡ true = grind (arith, nat_tests) in
+    rw (m.0.prefix_reads, ids_read-of 1 (lines_of text) m.0.ids m.0.list_reads, first_unsorted-none m.0.ids m.1, reaches, m.2, m.3) refl
 is_answer letter prefix text (Err Memory) m = absurd m
 is_answer letter prefix text (Err Output) m = absurd m

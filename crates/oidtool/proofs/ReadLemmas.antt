@@ -1,5 +1,5 @@
 -- Reading a list text line by line.
-use Rattle.std.proofs.Common.{◌≡◌, ℕ, ◌+◌, List, [], ◌∷◌, ◌++◌, map, length, refl, sym, ap, ◌∙◌, append-nil, append_assoc, length-append, Result, Ok, Err}
+use Rattle.std.proofs.Common.{◌≡◌, ℕ, ◌+◌, List, [], ◌∷◌, ◌++◌, map, length, refl, sym, ap, ◌∙◌, append-nil, append_assoc, length-append, Result, Ok, Err, is_ok, inl, inr, ◌⊎◌, subst}
 use Rattle.std.proofs.lemmas.List.{map-append}
 use Rattle.gix_hash.specs.Digits.{hex_letter}
 use Rattle.gix_hash.specs.IdReading.{full_read, whole_of}
@@ -10,7 +10,7 @@ use Rattle.gix_hash.specs.declared.decode.Error.{Error}
 use Rattle.oidtool.specs.Lines.{lines_of}
 use Rattle.oidtool.specs.declared.list.ListError.{ListError}
 use Rattle.oidtool.specs.declared.list.ListError.TheVariants.{BadLine}
-use Rattle.oidtool.specs.ListText.{put_id, ids_read, list_read}
+use Rattle.oidtool.specs.ListText.{put_id, ids_read, list_read, IsFirstRead}
 
 -- ids before those that some lines read as
 abbrev pub put_front : List (List ℕ) → Result (List (List ℕ)) ListError → Result (List (List ℕ)) ListError
@@ -20,6 +20,17 @@ put_front front (Ok ids) = Ok (front ++ ids)
 -- the lines of a text before its rest read as these ids
 pub record IsReadUpTo (text : List ℕ) (ids : List ObjectId) (rest : List ℕ) : Type 0 where
   pub reads : list_read text ≡ put_front (map id_digits ids) (ids_read (length ids + 1) (lines_of rest))
+
+-- the first line of a text has been read, or nothing has
+abbrev pub IsBegun : List ℕ → List ℕ → Type 0
+IsBegun text rest = (rest ≡ text) ⊎ IsFirstRead (lines_of text)
+
+-- a line that reads is the first, or the first has been read
+pub begun_by : (text rest line after : List ℕ) (id : Beginning) → IsBegun text rest → lines_of rest ≡ line ∷ lines_of after
+    → Ok id ≡ full_read hex_letter line → IsFirstRead (lines_of text)
+begun_by text rest line after id (inl whole) first reads =
+    subst IsFirstRead (sym (ap lines_of (sym whole) ∙ first)) (ap is_ok (sym reads))
+begun_by text rest line after id (inr read) first reads = read
 
 put_front-nil : (more : Result (List (List ℕ)) ListError) → more ≡ put_front [] more
 put_front-nil (Err error) = refl

@@ -1,7 +1,12 @@
--- What contracts see of the devices over slices and over the library's writers.
+-- What contracts see of the devices over slices and over the library's readers and writers.
 use Rattle.std.specs.Prelude.{◌-◌, ℕ, Bool, List, take, length}
+use Rattle.oidtool.specs.declared.from_slice.FromSlice.{FromSlice}
 use Rattle.oidtool.specs.declared.into_slice.IntoSlice.{IntoSlice}
 use Rattle.oidtool.specs.declared.plain.Plain.{Plain}
+
+-- the bytes that a source over a slice has left
+abbrev pub slice_rest : FromSlice → List ℕ
+slice_rest source = source.rest.now
 
 -- the bytes that a sink over a slice took
 abbrev pub slice_taken : IntoSlice → List ℕ
@@ -15,7 +20,7 @@ slice_failed sink = sink.failed
 abbrev pub room_in : IntoSlice → ℕ
 room_in sink = length sink.buf.now - sink.len
 
--- what a sink over a writer stands over
+-- what a device over the library's stands over
 abbrev pub plain_inner : {T : Type 0} → Plain T → T
 plain_inner sink = sink.inner
 

@@ -1,5 +1,6 @@
 -- Finding a prefix in a list text, and how what is found is printed.
-use Rattle.std.specs.Prelude.{ℕ, nat_lt, if◌then◌else◌, Option, Some, None, List, [], ◌∷◌, ◌++◌, length, flat_map, Result, Ok, Err}
+use Rattle.std.specs.Prelude.{◌≡◌, ℕ, nat_lt, if◌then◌else◌, Option, Some, None, List, [], ◌∷◌, ◌++◌, length, flat_map, Result, Ok, Err}
+use Rattle.std.specs.Io.KnownBytes.{Appends}
 use Rattle.gix_hash.specs.Digits.{spelling}
 use Rattle.gix_hash.specs.Prefix.{Beginning}
 use Rattle.gix_hash.specs.PrefixReading.{prefix_read}
@@ -9,6 +10,7 @@ use Rattle.oidtool.specs.declared.finding.FindError.TheVariants.{Prefix, BadLine
 use Rattle.oidtool.specs.declared.list.ListError.{ListError}
 use Rattle.oidtool.specs.declared.list.ListError.TheVariants as list
 use Rattle.oidtool.specs.ListText.{list_read, first_unsorted}
+use Rattle.oidtool.specs.Writing.{AppendsPart}
 use Rattle.id_lookup.specs.Runs.{matches}
 use Rattle.id_lookup.specs.Sorted.{least_hex_len}
 
@@ -41,3 +43,16 @@ found_from (Ok prefix) (Ok ids) = found_in prefix.digits ids (first_unsorted ids
 -- the ids of a list text that begin with a prefix, or the first refusal
 abbrev pub finding : (ℕ → ℕ) → List ℕ → List ℕ → Result (List (List ℕ)) FindError
 finding letter prefix text = found_from (prefix_read letter 4 prefix) (list_read text)
+
+-- the answer is ids, of which so many are told and the lines were written
+pub record IsFound {E : Type 0} (letter : ℕ → ℕ) (answer : Result (List (List ℕ)) E) (old new : Option (List ℕ)) (count : ℕ) : Type 0 where
+  pub ids : List (List ℕ)
+  pub found : answer ≡ Ok ids
+  pub counted : count ≡ length ids
+  pub written : Appends old new (printed letter ids)
+
+-- the answer is ids, of whose lines a proper beginning was written
+pub record IsFoundInPart {E : Type 0} (letter : ℕ → ℕ) (answer : Result (List (List ℕ)) E) (old new : Option (List ℕ)) : Type 0 where
+  pub ids : List (List ℕ)
+  pub found : answer ≡ Ok ids
+  pub written : AppendsPart old new (printed letter ids)

@@ -6,3 +6,4 @@ pub mod Refusal
 pub mod Writing
 pub mod Command
 pub mod Devices
+pub mod Running

@@ -27,6 +27,11 @@ ids_read n (line ∷ lines) = put_id n (full_read hex_letter line) (ids_read (n 
 abbrev pub list_read : List ℕ → Result (List (List ℕ)) ListError
 list_read text = ids_read 1 (lines_of text)
 
+-- the first of the lines reads as an id
+abbrev pub IsFirstRead : List (List ℕ) → Type 0
+IsFirstRead [] = ⊥
+IsFirstRead (line ∷ lines) = IsOk (full_read hex_letter line)
+
 -- the first of some ids, counted from n, that is below the one before it; `last` stands before them
 unfoldable pub unsorted_behind : List ℕ → ℕ → List (List ℕ) → Option ℕ
 unsorted_behind last n [] = None

@@ -1,14 +1,14 @@
 //! Finding the ids of a list text that begin with a prefix.
 
-ghost use Rattle.std.specs.Prelude.{◌≡◌, ◌≢◌, ◌↔◌, ◌⊎◌, true, false, ℕ, List, [], length, Result, IsOk, IfOk, IfErr, IsErrOf};
-ghost use Rattle.std.specs.Io.KnownBytes.{Appends};
+ghost use Rattle.std.specs.Prelude.{◌≡◌, ◌≢◌, ◌↔◌, ◌⊎◌, true, false, ℕ, List, Result, IsOk, IfOk, IfErr, IsErrOf};
+ghost use Rattle.gix_hash.specs.Alphabet.{letter_of};
 ghost use Rattle.gix_hash.specs.Digits.{hex_letter, reverse_letter};
 ghost use Rattle.gix_hash.specs.PrefixReading.{prefix_read};
 ghost use Rattle.oidtool.specs.declared.finding.FindError.{FindError};
-ghost use Rattle.oidtool.specs.Finding.{finding, printed};
+ghost use Rattle.oidtool.specs.Finding.{finding, IsFound, IsFoundInPart};
+ghost use Rattle.oidtool.specs.Lines.{lines_of};
+ghost use Rattle.oidtool.specs.ListText.{IsFirstRead};
 ghost use Rattle.oidtool.specs.Refusal.{Means};
-ghost use Rattle.gix_hash.specs.Alphabet.{letter_of};
-ghost use Rattle.oidtool.specs.Writing.{AppendsPart};
 
 use crate::list::{ListError, read_list};
 use crate::matching::{sorted_ids, write_matches};
@@ -85,7 +85,7 @@ impl From<ListError> for FindError {
 ///
 /// The refusals come in the order of [`FindError`], each where its cause holds and none before it
 /// does; [`FindError::Memory`] at whatever place a growth was refused, but never where the prefix
-/// is refused or the list text is empty. The writer is as it was under each of them but
+/// or the first line is refused, or there is no line. The writer is as it was under each of them but
 /// [`FindError::Output`], under which a proper beginning of the lines was written. The writer must
 /// not have failed before.
 pub fn find<A: Allocator, W: Sink>(
@@ -95,14 +95,12 @@ pub fn find<A: Allocator, W: Sink>(
     out: &mut W,
 ) -> Result<usize, FindError>
     requires { W.has_failed out.old ≡ false }
-    ensures found { IfOk result (λ n. (ids : List (List ℕ)) × (finding hex_letter prefix.now list.now ≡ Ok ids) × (n ≡ length ids)
-        × Appends (W.taken out.old) (W.taken out.new) (printed hex_letter ids)) }
+    ensures found { IfOk result (IsFound hex_letter (finding hex_letter prefix.now list.now) (W.taken out.old) (W.taken out.new)) }
     ensures refused { IfErr result (λ e. (finding hex_letter prefix.now list.now ≡ Err e) ⊎ (e ≡ FindError.Memory) ⊎ (e ≡ FindError.Output)) }
-    ensures memory { IsErrOf result FindError.Memory → IsOk (prefix_read hex_letter 4 prefix.now) × (list.now ≢ []) }
+    ensures memory { IsErrOf result FindError.Memory → IsOk (prefix_read hex_letter 4 prefix.now) × IsFirstRead (lines_of list.now) }
     ensures untouched { IfErr result (λ e. e ≢ FindError.Output → out.new ≡ out.old) }
     ensures output { IsErrOf result FindError.Output ↔ (W.has_failed out.new ≡ true) }
-    ensures part { IsErrOf result FindError.Output → (ids : List (List ℕ)) × (finding hex_letter prefix.now list.now ≡ Ok ids)
-        × AppendsPart (W.taken out.old) (W.taken out.new) (printed hex_letter ids) }
+    ensures part { IsErrOf result FindError.Output → IsFoundInPart hex_letter (finding hex_letter prefix.now list.now) (W.taken out.old) (W.taken out.new) }
 {
     search(alloc, Alphabet::Hex, prefix, list, out)
 }
@@ -116,14 +114,12 @@ pub fn find_change<A: Allocator, W: Sink>(
     out: &mut W,
 ) -> Result<usize, FindError>
     requires { W.has_failed out.old ≡ false }
-    ensures found { IfOk result (λ n. (ids : List (List ℕ)) × (finding reverse_letter letters.now list.now ≡ Ok ids) × (n ≡ length ids)
-        × Appends (W.taken out.old) (W.taken out.new) (printed reverse_letter ids)) }
+    ensures found { IfOk result (IsFound reverse_letter (finding reverse_letter letters.now list.now) (W.taken out.old) (W.taken out.new)) }
     ensures refused { IfErr result (λ e. (finding reverse_letter letters.now list.now ≡ Err e) ⊎ (e ≡ FindError.Memory) ⊎ (e ≡ FindError.Output)) }
-    ensures memory { IsErrOf result FindError.Memory → IsOk (prefix_read reverse_letter 4 letters.now) × (list.now ≢ []) }
+    ensures memory { IsErrOf result FindError.Memory → IsOk (prefix_read reverse_letter 4 letters.now) × IsFirstRead (lines_of list.now) }
     ensures untouched { IfErr result (λ e. e ≢ FindError.Output → out.new ≡ out.old) }
     ensures output { IsErrOf result FindError.Output ↔ (W.has_failed out.new ≡ true) }
-    ensures part { IsErrOf result FindError.Output → (ids : List (List ℕ)) × (finding reverse_letter letters.now list.now ≡ Ok ids)
-        × AppendsPart (W.taken out.old) (W.taken out.new) (printed reverse_letter ids) }
+    ensures part { IsErrOf result FindError.Output → IsFoundInPart reverse_letter (finding reverse_letter letters.now list.now) (W.taken out.old) (W.taken out.new) }
 {
     search(alloc, Alphabet::Reverse, letters, list, out)
 }
@@ -137,14 +133,12 @@ fn search<A: Allocator, W: Sink>(
     out: &mut W,
 ) -> Result<usize, FindError>
     requires { W.has_failed out.old ≡ false }
-    ensures found { IfOk result (λ n. (ids : List (List ℕ)) × (finding (letter_of alphabet) prefix.now list.now ≡ Ok ids) × (n ≡ length ids)
-        × Appends (W.taken out.old) (W.taken out.new) (printed (letter_of alphabet) ids)) }
+    ensures found { IfOk result (IsFound (letter_of alphabet) (finding (letter_of alphabet) prefix.now list.now) (W.taken out.old) (W.taken out.new)) }
     ensures refused { IfErr result (λ e. (finding (letter_of alphabet) prefix.now list.now ≡ Err e) ⊎ (e ≡ FindError.Memory) ⊎ (e ≡ FindError.Output)) }
-    ensures memory { IsErrOf result FindError.Memory → IsOk (prefix_read (letter_of alphabet) 4 prefix.now) × (list.now ≢ []) }
+    ensures memory { IsErrOf result FindError.Memory → IsOk (prefix_read (letter_of alphabet) 4 prefix.now) × IsFirstRead (lines_of list.now) }
     ensures untouched { IfErr result (λ e. e ≢ FindError.Output → out.new ≡ out.old) }
     ensures output { IsErrOf result FindError.Output ↔ (W.has_failed out.new ≡ true) }
-    ensures part { IsErrOf result FindError.Output → (ids : List (List ℕ)) × (finding (letter_of alphabet) prefix.now list.now ≡ Ok ids)
-        × AppendsPart (W.taken out.old) (W.taken out.new) (printed (letter_of alphabet) ids) }
+    ensures part { IsErrOf result FindError.Output → IsFoundInPart (letter_of alphabet) (finding (letter_of alphabet) prefix.now list.now) (W.taken out.old) (W.taken out.new) }
 {
     let prefix = alphabet.read_prefix(prefix).map_err(FindError::Prefix)?;
     let ids = read_list(alloc, list)?;

@@ -5,7 +5,7 @@ ghost use Rattle.std.specs.Io.{WritesAtMost};
 ghost use Rattle.std.specs.Io.KnownBytes.{WriteAppends};
 ghost use Rattle.oidtool.specs.Writing.{write_fails};
 
-use crate::sink::Sink;
+use crate::sink::{BufferedSink, Sink};
 use std::io;
 
 /// A sink that fills a slice from the front, and takes what fits.
@@ -67,5 +67,16 @@ impl Sink for IntoSlice<'_> {
 
     fn failed(&self) -> bool {
         self.failed
+    }
+}
+
+impl BufferedSink for IntoSlice<'_> {
+    ghost use Rattle.std.specs.Prelude.{[]};
+
+    ghost kept_back = { λ _. [] };
+
+    /// Does nothing, since what a slice took stands there.
+    fn flush(&mut self) -> io::Result<()> {
+        Ok(())
     }
 }

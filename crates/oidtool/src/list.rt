@@ -1,9 +1,9 @@
 //! List texts: a line for each id.
 
-ghost use Rattle.std.specs.Prelude.{◌≡◌, ◌≢◌, ◌<◌, ◌⊎◌, [], ◌∷◌, length, map, IsErrOf, IfNone, IfSome, IfOk, IfErr};
+ghost use Rattle.std.specs.Prelude.{◌≡◌, ◌<◌, ◌⊎◌, [], ◌∷◌, length, map, IsErrOf, IfNone, IfSome, IfOk, IfErr};
 ghost use Rattle.gix_hash.specs.ObjectId.{id_digits};
 ghost use Rattle.oidtool.specs.Lines.{lines_of};
-ghost use Rattle.oidtool.specs.ListText.{list_read};
+ghost use Rattle.oidtool.specs.ListText.{list_read, IsFirstRead};
 ghost use Rattle.oidtool.specs.declared.list.ListError.{ListError};
 
 use gix_hash::{ObjectId, decode};
@@ -53,11 +53,11 @@ impl<T: Drop> From<AllocFailed<T>> for ListError {
 /// The ids of a list text, one a line, in the text's order.
 ///
 /// `BadLine` comes for the first line that is no id. `Memory` comes only where a growth was
-/// refused, and never for the empty text.
+/// refused, and never before the first line was read.
 pub fn read_list<A: Allocator>(alloc: A, text: &[u8]) -> Result<Vec<ObjectId, A>, ListError>
     ensures read { IfOk result (λ ids. list_read text.now ≡ Ok (map id_digits ids.items)) }
     ensures refused { IfErr result (λ e. (list_read text.now ≡ Err e) ⊎ (e ≡ ListError.Memory)) }
-    ensures memory { IsErrOf result ListError.Memory → text.now ≢ [] }
+    ensures memory { IsErrOf result ListError.Memory → IsFirstRead (lines_of text.now) }
 {
     let mut ids = Vec::new(alloc);
     let mut rest = text;

@@ -5,25 +5,29 @@
 //! error.
 #![tactic(auto)]
 
-ghost use Rattle.std.specs.Prelude.{◌≡◌, ◌≢◌};
-ghost use Rattle.std.specs.IoError.{error_kind};
-ghost use Rattle.std.specs.declared.io.ErrorKind.TheVariants.{OutOfMemory};
-ghost use Rattle.oidtool.specs.declared.Failure.TheVariants.{Find, Memory, Input};
+ghost use Rattle.std.specs.Prelude.{◌≡◌};
+ghost use Rattle.std.specs.Process.{exit_status as ended_with};
+ghost use Rattle.oidtool.specs.Command.{status_of};
+ghost use Rattle.oidtool.specs.declared.Failure.TheVariants as failure;
+ghost use Rattle.oidtool.specs.declared.running.CommandError.TheVariants as error;
 
 pub mod command;
 pub mod finding;
+pub mod from_slice;
 pub mod into_slice;
 mod list;
 mod matching;
 pub mod plain;
 mod printing;
+pub mod running;
 pub mod sink;
+pub mod source;
 
-use command::{ArgError, Command, exit_status, read_command};
-use finding::{FindError, find, find_change};
+use command::{ArgError, exit_status, read_command};
 use plain::Plain;
+use running::{CommandError, run_command};
 use std::alloc::AllocError;
-use std::io::{BufWriter, Read, Write};
+use std::io::BufWriter;
 use std::process::ExitCode;
 use std::rt::Env;
 use std::{env, io};
@@ -42,38 +46,22 @@ enum Failure<'a> {
     #[error("{0}")]
     Words(ArgError<'a>),
     #[error("{0}")]
-    Find(FindError),
-    #[error("out of memory")]
-    Memory,
-    #[error("cannot read")]
-    Input,
+    Command(CommandError),
 }
 
-impl From<FindError> for Failure<'_> {
-    ghost from_gives = { λ error failure. failure ≡ Find error };
+impl From<CommandError> for Failure<'_> {
+    ghost from_gives = { λ why made. made ≡ failure.Command why };
 
-    fn from(error: FindError) -> Self {
-        Failure::Find(error)
+    fn from(error: CommandError) -> Self {
+        Failure::Command(error)
     }
 }
 
 impl From<AllocError> for Failure<'_> {
-    ghost from_gives = { λ _ failure. failure ≡ Memory };
+    ghost from_gives = { λ _ made. made ≡ failure.Command error.Memory };
 
     fn from(_error: AllocError) -> Self {
-        Failure::Memory
-    }
-}
-
-impl From<io::Error> for Failure<'_> {
-    ghost from_gives = { λ error failure. (error_kind error ≡ OutOfMemory → failure ≡ Memory)
-        × (error_kind error ≢ OutOfMemory → failure ≡ Input) };
-
-    fn from(error: io::Error) -> Self {
-        match error.kind() {
-            io::ErrorKind::OutOfMemory => Failure::Memory,
-            _ => Failure::Input,
-        }
+        Failure::Command(CommandError::Memory)
     }
 }
 
@@ -82,35 +70,32 @@ fn own_words(rt: &(impl Env + AllocGlobal)) -> Result<Vec<String>, Failure<'stat
     match env::args(rt) {
         Ok(args) => Ok(args.skip(1).collect(rt.alloc())?),
         Err(error) => match error.kind() {
-            io::ErrorKind::OutOfMemory => Err(Failure::Memory),
+            io::ErrorKind::OutOfMemory => Err(Failure::Command(CommandError::Memory)),
             _ => Err(Failure::Words(ArgError::Usage)),
         },
     }
 }
 
-/// Runs the command that the words ask for over the list text on standard input, with the matches
-/// on standard output, and answers their number.
+/// Runs the command that the words ask for over standard input and standard output. Nothing is read
+/// where the words are refused.
 fn run<'a>(
     rt: &(impl Input + Print + AllocGlobal),
     words: &'a [String],
 ) -> Result<usize, Failure<'a>> {
     let words: Vec<&str> = words.iter().map(|word| word.as_str()).collect(rt.alloc())?;
     let command = read_command(&words).map_err(Failure::Words)?;
-    let mut list = Vec::new(rt.alloc());
-    rt.reader().read_to_end(&mut list)?;
-    let mut out = Plain::new(BufWriter::new(rt.alloc(), io::writer(rt))?);
-    let count = match command {
-        Command::Find { prefix } => find(rt.alloc(), prefix, &list, &mut out)?,
-        Command::FindChange { letters } => find_change(rt.alloc(), letters, &list, &mut out)?,
+    let Ok(writer) = BufWriter::new(rt.alloc(), io::writer(rt)) else {
+        return Err(Failure::Command(CommandError::Memory));
     };
-    match out.into_inner().flush() {
-        Ok(()) => Ok(count),
-        Err(_) => Err(Failure::Find(FindError::Output)),
-    }
+    let mut input = Plain::new(rt.reader());
+    let mut out = Plain::new(writer);
+    Ok(run_command(rt.alloc(), command, &mut input, &mut out)?)
 }
 
 /// Tells a refusal on standard error, and gives the status of the answer.
-fn told(rt: &impl Eprint, answer: Result<usize, Failure<'_>>) -> ExitCode {
+fn told(rt: &impl Eprint, answer: Result<usize, Failure<'_>>) -> ExitCode
+    ensures { ended_with result ≡ status_of answer.entry }
+{
     if let Err(why) = &answer {
         let _ = rt.eprintln(why);
     }

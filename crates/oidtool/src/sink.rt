@@ -1,6 +1,6 @@
 //! Writers whose failures a contract can name.
 
-ghost use Rattle.std.specs.Prelude.{◌≡◌, ◌||◌, false, true, OnOk, OnErr};
+ghost use Rattle.std.specs.Prelude.{◌≡◌, ◌||◌, [], false, true, is_err, OnOk, OnErr};
 ghost use Rattle.std.specs.Io.{WritesAtMost};
 ghost use Rattle.std.specs.Io.KnownBytes.{Appends, WriteAppends};
 ghost use Rattle.oidtool.specs.Writing.{write_fails, AppendsPart};
@@ -14,7 +14,8 @@ pub trait Sink {
     /// The bytes that it took, or `None`, which claims nothing.
     ghost taken: { Self → Option (List ℕ) };
 
-    /// Whether some write failed: it answered an error, or took none of a piece that is not empty.
+    /// Whether some call failed: a write or a flush that answered an error, or a write that took none
+    /// of a piece that is not empty.
     ghost has_failed: { Self → Bool };
 
     /// Takes a beginning of the piece, and answers how many bytes of it.
@@ -23,9 +24,24 @@ pub trait Sink {
         ensures bytes { WriteAppends (taken self.old) (taken self.new) result piece.now }
         ensures failed { has_failed self.new ≡ (has_failed self.old || write_fails result piece.now) };
 
-    /// Whether some write failed. Nothing clears it.
+    /// Whether some call failed. Nothing clears it.
     fn failed(&self) -> bool
         ensures { result ≡ has_failed self.now };
+}
+
+/// A sink that may keep back what it took until it is flushed.
+pub trait BufferedSink: Sink {
+    ghost use Rattle.std.specs.Prelude.{ℕ, List};
+    ghost use Rattle.std.specs.Io.KnownBytes.{Keeps};
+
+    /// The bytes that it took and has not handed on.
+    ghost kept_back: { Self → List ℕ };
+
+    /// Hands on all that it took. A flush that answers an error is a failure, as a write is.
+    fn flush(&mut self) -> io::Result<()>
+        ensures bytes { Keeps (Self.taken self.old) (Self.taken self.new) }
+        ensures failed { Self.has_failed self.new ≡ (Self.has_failed self.old || is_err result) }
+        ensures flushed { OnOk result (kept_back self.new ≡ []) };
 }
 
 /// A writer failed.

@@ -1,0 +1,10 @@
+use Rattle.std.proofs.Common.{arith}
+use Rattle.id_lookup.proofs.Least.{least_hex_len-le}
+use Rattle.id_lookup.proofs.probes.Probes.new.Goals as goal
+
+pub invariant_of-result : goal.invariant_of-result
+invariant_of-result c =
+    rw c.members.ensures.value record {
+      sorted = c.members.ensures.sorted;
+      reach = λ k d inside. omega (arith, c.requires, least_hex_len-le c.args.ids.now k d inside);
+    }

@@ -1,0 +1,29 @@
+//! Readers whose failures a contract can name.
+
+ghost use Rattle.std.specs.Prelude.{◌≡◌, ◌||◌, is_err};
+ghost use Rattle.std.specs.Io.{ReadsAtMost};
+ghost use Rattle.std.specs.Io.KnownBytes.{ReadConsumes};
+
+use std::io;
+
+/// A reader that knows whether it failed.
+pub trait Source {
+    ghost use Rattle.std.specs.Prelude.{ℕ, Bool, List, Option};
+
+    /// The bytes that are left, or `None`, which claims nothing.
+    ghost remaining: { Self → Option (List ℕ) };
+
+    /// Whether some read answered an error.
+    ghost has_failed: { Self → Bool };
+
+    /// Gives the next bytes into the front of the buffer, and answers how many they are. It answers
+    /// 0 for a buffer that is not empty only where none is left.
+    fn read(&mut self, buf: &mut [u8]) -> io::Result<usize>
+        ensures bound { ReadsAtMost result buf.new }
+        ensures bytes { ReadConsumes (remaining self.old) (remaining self.new) result buf.new }
+        ensures failed { has_failed self.new ≡ (has_failed self.old || is_err result) };
+
+    /// Whether some read answered an error. Nothing clears it.
+    fn failed(&self) -> bool
+        ensures { result ≡ has_failed self.now };
+}
