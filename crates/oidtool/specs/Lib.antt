@@ -1,6 +1,7 @@
 -- The model of the program: list texts as lines and ids, what finding means, and what devices took.
 pub mod Lines
 pub mod ListText
+pub mod ListPieces
 pub mod Finding
 pub mod Refusal
 pub mod Writing

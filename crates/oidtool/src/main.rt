@@ -17,6 +17,7 @@ pub mod from_slice;
 pub mod into_slice;
 mod list;
 mod matching;
+mod pieces;
 pub mod plain;
 mod printing;
 pub mod running;
