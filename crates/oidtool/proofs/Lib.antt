@@ -3,6 +3,8 @@ pub mod Orders
 pub mod LineLemmas
 pub mod PieceLemmas
 pub mod PrintLemmas
+pub mod ReadingLemmas
 pub mod RunLemmas
+pub mod StopLemmas
 pub mod RunningLemmas
 pub mod Taking

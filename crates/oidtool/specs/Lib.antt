@@ -3,6 +3,7 @@ pub mod Lines
 pub mod ListText
 pub mod ListPieces
 pub mod Finding
+pub mod FindingFrom
 pub mod Refusal
 pub mod Writing
 pub mod Command

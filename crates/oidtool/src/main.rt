@@ -13,6 +13,7 @@ ghost use Rattle.oidtool.specs.declared.running.CommandError.TheVariants as erro
 
 pub mod command;
 pub mod finding;
+pub mod finding_from;
 pub mod from_slice;
 pub mod into_slice;
 mod list;
@@ -20,6 +21,7 @@ mod matching;
 mod pieces;
 pub mod plain;
 mod printing;
+mod reading;
 pub mod running;
 pub mod sink;
 pub mod source;
