@@ -1,6 +1,6 @@
 //! Running a command over a reader and a writer.
 
-ghost use Rattle.std.specs.Prelude.{◌≡◌, ◌≢◌, ◌↔◌, ◌⊎◌, [], true, false, IfOk, IfErr, OnOk, IsErrOf};
+ghost use Rattle.std.specs.Prelude.{◌≡◌, ◌≢◌, ◌↔◌, ◌⊎◌, [], true, false, IfOk, IfErr, IfSome, OnOk, IsErrOf};
 ghost use Rattle.std.specs.Io.KnownBytes.{Consumes, IsAtEnd};
 ghost use Rattle.oidtool.specs.declared.running.CommandError.{CommandError};
 ghost use Rattle.oidtool.specs.Running.{Does, DoesAtMost, Refuses};
@@ -61,7 +61,8 @@ impl From<AllocError> for CommandError {
 ///
 /// `find` and `find-change` read the input to its end, as a list text. `Input` comes exactly where
 /// the input failed, `Output` exactly where the writer did, at a write or at the flush; nothing was
-/// written under another error. Neither must have failed before.
+/// written under another error. `Memory` never comes where the input is empty. Neither must have
+/// failed before.
 pub fn run_command<A: Allocator + Copy, R: Source, W: BufferedSink>(
     alloc: A,
     command: Command<'_>,
@@ -73,6 +74,7 @@ pub fn run_command<A: Allocator + Copy, R: Source, W: BufferedSink>(
     ensures done { IfOk result (Does command.entry (R.remaining input.old) (W.taken out.old) (W.taken out.new)) }
     ensures flushed { OnOk result (W.kept_back out.new ≡ []) }
     ensures refused { IfErr result (Refuses command.entry (R.remaining input.old)) }
+    ensures memory { IsErrOf result CommandError.Memory → IfSome (R.remaining input.old) (λ bytes. bytes ≢ []) }
     ensures untouched { IfErr result (λ e. e ≢ CommandError.Output → out.new ≡ out.old) }
     ensures input { IsErrOf result CommandError.Input ↔ (R.has_failed input.new ≡ true) }
     ensures output { IsErrOf result CommandError.Output ↔ (W.has_failed out.new ≡ true) }
@@ -96,6 +98,7 @@ fn answer<A: Allocator + Copy, R: Source, W: BufferedSink>(
     requires output { W.has_failed out.old ≡ false }
     ensures done { IfOk result (Does command.entry (R.remaining input.old) (W.taken out.old) (W.taken out.new)) }
     ensures refused { IfErr result (Refuses command.entry (R.remaining input.old)) }
+    ensures memory { IsErrOf result CommandError.Memory → IfSome (R.remaining input.old) (λ bytes. bytes ≢ []) }
     ensures untouched { IfErr result (λ e. e ≢ CommandError.Output → out.new ≡ out.old) }
     ensures input { IsErrOf result CommandError.Input ↔ (R.has_failed input.new ≡ true) }
     ensures output { IsErrOf result CommandError.Output ↔ (W.has_failed out.new ≡ true) }
@@ -119,6 +122,7 @@ fn read_all<A: Allocator, R: Source>(alloc: A, input: &mut R) -> Result<Vec<u8, 
     ensures all { IfOk result (λ text. Consumes (R.remaining input.old) (R.remaining input.new) text.items) }
     ensures end { OnOk result (IsAtEnd (R.remaining input.new)) }
     ensures refused { IfErr result (λ e. (e ≡ CommandError.Memory) ⊎ (e ≡ CommandError.Input)) }
+    ensures memory { IsErrOf result CommandError.Memory → IfSome (R.remaining input.old) (λ bytes. bytes ≢ []) }
     ensures input { IsErrOf result CommandError.Input ↔ (R.has_failed input.new ≡ true) }
 {
     let mut text = Vec::new(alloc);

@@ -2,6 +2,7 @@
 
 mod devices;
 mod faults;
+mod running;
 
 use crate::command::{ArgError, exit_status, read_command};
 use crate::finding::{FindError, find, find_change};

@@ -1,4 +1,4 @@
-//! A writer whose faults are chosen. It claims nothing of its bytes.
+//! A reader and a writer whose faults are chosen. They claim nothing of their bytes.
 
 use std::io;
 
@@ -9,6 +9,8 @@ pub enum Fault {
     Never,
     /// At the call with this number, counted from 1, and at no other.
     AtCall(usize),
+    /// As `AtCall`, with the error that the library's own loops try again after.
+    InterruptedAt(usize),
     /// At each call once so many bytes have passed.
     AfterBytes(usize),
 }
@@ -18,8 +20,16 @@ impl Fault {
     fn strikes(self, calls: usize, len: usize) -> bool {
         match self {
             Fault::Never => false,
-            Fault::AtCall(at) => calls == at,
+            Fault::AtCall(at) | Fault::InterruptedAt(at) => calls == at,
             Fault::AfterBytes(most) => len >= most,
+        }
+    }
+
+    /// The error that it answers.
+    fn error(self) -> io::Error {
+        match self {
+            Fault::InterruptedAt(_) => io::Error::from(io::ErrorKind::Interrupted),
+            _ => io::Error::from(io::ErrorKind::Other),
         }
     }
 
@@ -38,7 +48,10 @@ pub struct Writer {
     bytes: Vec<u8>,
     piece: usize,
     fault: Fault,
+    fails_at_flush: bool,
+    failed_at: Option<usize>,
     calls: usize,
+    flushes: usize,
 }
 
 impl Writer {
@@ -48,8 +61,18 @@ impl Writer {
             bytes,
             piece,
             fault,
+            fails_at_flush: false,
+            failed_at: None,
             calls: 0,
+            flushes: 0,
         }
+    }
+
+    /// A writer that takes all, and fails at each flush.
+    pub fn failing_at_flush(bytes: Vec<u8>) -> Self {
+        let mut writer = Writer::new(bytes, usize::MAX, Fault::Never);
+        writer.fails_at_flush = true;
+        writer
     }
 
     /// What it took.
@@ -57,9 +80,29 @@ impl Writer {
         &self.bytes
     }
 
-    /// How often it was called.
+    /// How often it was asked to write.
     pub fn calls(&self) -> usize {
         self.calls
+    }
+
+    /// How often it was asked to flush.
+    pub fn flushes(&self) -> usize {
+        self.flushes
+    }
+
+    /// Whether it was asked to write behind a write that answered an error, or took none of a piece
+    /// that is not empty.
+    pub fn was_asked_again(&self) -> bool {
+        match self.failed_at {
+            Some(at) => self.calls > at,
+            None => false,
+        }
+    }
+
+    fn note_failure(&mut self) {
+        if self.failed_at.is_none() {
+            self.failed_at = Some(self.calls);
+        }
     }
 }
 
@@ -68,14 +111,65 @@ impl io::Write for Writer {
         self.calls = self.calls.saturating_add(1);
         let len = self.bytes.len();
         if self.fault.strikes(self.calls, len) {
-            return Err(io::Error::from(io::ErrorKind::Other));
+            self.note_failure();
+            return Err(self.fault.error());
         }
         let count = buf.len().min(self.piece).min(self.fault.room(len));
+        if count == 0 && !buf.is_empty() {
+            self.note_failure();
+        }
         self.bytes.extend_from_slice(&buf[..count])?;
         Ok(count)
     }
 
     fn flush(&mut self) -> io::Result<()> {
+        self.flushes = self.flushes.saturating_add(1);
+        if self.fails_at_flush {
+            return Err(io::Error::from(io::ErrorKind::Other));
+        }
         Ok(())
+    }
+}
+
+/// A reader of a slice.
+#[derive(Drop)]
+pub struct Reader<'a> {
+    rest: &'a [u8],
+    piece: usize,
+    fault: Fault,
+    given: usize,
+    calls: usize,
+}
+
+impl<'a> Reader<'a> {
+    /// A reader that gives at most `piece` bytes a call.
+    pub fn new(bytes: &'a [u8], piece: usize, fault: Fault) -> Self {
+        Reader {
+            rest: bytes,
+            piece,
+            fault,
+            given: 0,
+            calls: 0,
+        }
+    }
+
+    /// How often it was called.
+    pub fn calls(&self) -> usize {
+        self.calls
+    }
+}
+
+impl io::Read for Reader<'_> {
+    fn read(&mut self, buf: &mut [u8]) -> io::Result<usize> {
+        self.calls = self.calls.saturating_add(1);
+        if self.fault.strikes(self.calls, self.given) {
+            return Err(self.fault.error());
+        }
+        let room = buf.len().min(self.piece).min(self.fault.room(self.given));
+        let count = self.rest.len().min(room);
+        buf[..count].copy_from_slice(&self.rest[..count]);
+        self.rest = &self.rest[count..];
+        self.given = self.given.saturating_add(count);
+        Ok(count)
     }
 }

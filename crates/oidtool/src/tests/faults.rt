@@ -41,11 +41,13 @@ fn expect_taken(
             assert!(rt; out.failed(), "the failure is kept");
         }
     }
-    assert_eq!(rt;
-        out.into_inner().taken(),
-        taken,
-        "what was taken for {prefix}"
+    let writer = out.into_inner();
+    assert_eq!(rt; writer.taken(), taken, "what was taken for {prefix}");
+    assert!(rt;
+        !writer.was_asked_again(),
+        "nothing is written for {prefix} behind a failure"
     );
+    assert_eq!(rt; writer.flushes(), 0, "{prefix} is not flushed");
     Ok(())
 }
 
@@ -98,7 +100,9 @@ fn tells_a_write_of_a_change_that_fails(rt: HostRuntime) -> Result<(), Fail> {
             at < 42,
             "at write {at}"
         );
-        assert_eq!(&rt; out.into_inner().taken(), &line[..at - 1], "at write {at}");
+        let writer = out.into_inner();
+        assert_eq!(&rt; writer.taken(), &line[..at - 1], "at write {at}");
+        assert_eq!(&rt; writer.calls(), at.min(41), "at write {at}");
     }
     Ok(())
 }
@@ -150,7 +154,7 @@ fn finds_within<A: Allocator>(rt: &impl Abort, alloc: A, list: &[u8]) -> bool {
 
 // As `finds_within`, in the letters of change ids.
 fn finds_change_within<A: Allocator>(rt: &impl Abort, alloc: A, list: &[u8]) -> bool {
-    let mut buf = [0; 256];
+    let mut buf = [0; 128];
     let mut out = IntoSlice::new(&mut buf);
     match find_change(alloc, "ltqm", list, &mut out) {
         Err(FindError::Memory) => {
@@ -158,35 +162,81 @@ fn finds_change_within<A: Allocator>(rt: &impl Abort, alloc: A, list: &[u8]) -> 
             false
         }
         answer => {
-            assert!(rt; matches!(answer, Ok(4)));
+            assert!(rt; matches!(answer, Ok(1)));
+            assert_eq!(rt; out.written(), BLOB_LETTERS.as_bytes());
             true
         }
     }
 }
 
+// A list of so many lines, the trees of SHA-1 but for the tree of SHA-256 and the blob behind them.
+fn list_of(alloc: Global, lines: usize) -> Result<String, AllocError> {
+    let mut text = String::new(alloc);
+    for _ in 2..lines {
+        text.push_str(TREE)?;
+    }
+    text.push_str(TREE_256)?;
+    text.push_str(BLOB)?;
+    Ok(text)
+}
+
+// For how many of the lists memory is found in a heap of so many units of 16 bytes, for both
+// commands alike.
+fn granted_within(
+    rt: &(impl Abort + AllocGlobal),
+    lists: &[String],
+    units: usize,
+) -> Result<usize, Fail> {
+    let heap = LocalHeap::new(rt.alloc(), units.saturating_mul(16))?;
+    let mut granted = 0;
+    for (n, list) in lists.iter().enumerate() {
+        let found = finds_within(rt, &heap, list.as_bytes());
+        let found_change = finds_change_within(rt, &heap, list.as_bytes());
+        assert_eq!(rt; found, found_change, "both at {units}");
+        assert_eq!(rt; heap.used(), 0, "all is given back at {units}");
+        if found {
+            assert_eq!(rt; granted, n, "a shorter list is granted too at {units}");
+            granted = n + 1;
+        }
+    }
+    Ok(granted)
+}
+
+// Lists of 4, 8 and 9 lines make one growth, two and three. As the heap grows, each growth is in
+// turn the first that is refused.
 #[test]
 fn tells_memory_that_is_refused(rt: HostRuntime) -> Result<(), Fail> {
-    let nine = text_of(
-        rt.alloc(),
-        [BLOB_256, TREE, TREE, TREE, TREE_256, BLOB, BLOB, BLOB, BLOB].as_slice(),
-    )?;
-    let mut refused = 0;
+    let mut lists = Vec::new(rt.alloc());
+    for lines in [4, 8, 9] {
+        lists.push(list_of(rt.alloc(), lines)?)?;
+    }
+    let mut before = 0;
     for units in 0..1000 {
-        let heap = LocalHeap::new(rt.alloc(), 16 * units)?;
-        let found = finds_within(&rt, &heap, nine.as_bytes());
-        assert_eq!(&rt;
-            finds_change_within(&rt, &heap, nine.as_bytes()),
-            found,
-            "both at {units}"
+        let granted = granted_within(&rt, &lists, units)?;
+        assert!(&rt;
+            granted.abs_diff(before) <= 1,
+            "no growth is passed over at {units}"
         );
-        if found {
-            assert!(&rt; refused >= 3, "each growth was refused");
+        if granted == 3 {
             return Ok(());
         }
-        assert_eq!(&rt; heap.used(), 0, "all is given back at {units}");
-        refused = units + 1;
+        before = granted;
     }
-    Err(Fail::new("each run met a refusal"))
+    Err(Fail::new("some growth was refused each time"))
+}
+
+#[test]
+fn finds_in_long_lists(rt: HostRuntime) -> Result<(), Fail> {
+    let list = list_of(rt.alloc(), 3000)?;
+    let mut out = Plain::new(Vec::new(rt.alloc()));
+    let found = find(rt.alloc(), "e69d", list.as_bytes(), &mut out);
+    assert!(&rt; matches!(found, Ok(1)));
+    assert_eq!(&rt; out.into_inner().as_slice(), BLOB.as_bytes());
+    let mut out = Plain::new(Vec::new(rt.alloc()));
+    let found = find_change(rt.alloc(), "vorx", list.as_bytes(), &mut out);
+    assert!(&rt; matches!(found, Ok(2998)));
+    assert_eq!(&rt; out.into_inner().len(), 2998 * 41);
+    Ok(())
 }
 
 #[test]
