@@ -5,6 +5,7 @@ pub mod PieceLemmas
 pub mod PrintLemmas
 pub mod ReadingLemmas
 pub mod RunLemmas
+pub mod SourceSearches
 pub mod StopLemmas
 pub mod RunningLemmas
 pub mod Taking

@@ -6,7 +6,8 @@ ghost use Rattle.oidtool.specs.declared.running.CommandError.{CommandError};
 ghost use Rattle.oidtool.specs.Running.{Does, DoesAtMost, Refuses};
 
 use crate::command::Command;
-use crate::finding::{FindError, find, find_change};
+use crate::finding::{FindError, find_change};
+use crate::finding_from::{FindFromError, find_from};
 use crate::sink::BufferedSink;
 use crate::source::Source;
 use std::alloc::{AllocError, Allocator};
@@ -30,6 +31,9 @@ pub enum CommandError {
     /// The writer failed at a write or at the flush.
     #[error("cannot write")]
     Output,
+    /// The input gave more than 2^61 - 1 bytes.
+    #[error("too much input")]
+    TooMuch,
 }
 
 impl From<FindError> for CommandError {
@@ -42,6 +46,29 @@ impl From<FindError> for CommandError {
             FindError::Memory => CommandError::Memory,
             FindError::Output => CommandError::Output,
             error => CommandError::Find(error),
+        }
+    }
+}
+
+impl From<FindFromError> for CommandError {
+    ghost use Rattle.oidtool.specs.Running.{refusal_from_source};
+
+    ghost from_gives = { λ error e. e ≡ refusal_from_source error };
+
+    fn from(error: FindFromError) -> Self {
+        match error {
+            FindFromError::Prefix(error) => CommandError::Find(FindError::Prefix(error)),
+            FindFromError::BadLine { line, error } => {
+                CommandError::Find(FindError::BadLine { line, error })
+            }
+            FindFromError::Unsorted { line } => CommandError::Find(FindError::Unsorted { line }),
+            FindFromError::PrefixTooLong { hex_len, min } => {
+                CommandError::Find(FindError::PrefixTooLong { hex_len, min })
+            }
+            FindFromError::Memory => CommandError::Memory,
+            FindFromError::Output => CommandError::Output,
+            FindFromError::Input => CommandError::Input,
+            FindFromError::TooMuch => CommandError::TooMuch,
         }
     }
 }
@@ -59,7 +86,8 @@ impl From<AllocError> for CommandError {
 /// Runs a command over the input, writes what it gives, and flushes the writer. Answers the number
 /// of matches.
 ///
-/// `find` and `find-change` read the input to its end, as a list text. `Input` comes exactly where
+/// `find` reads the input in pieces, as a list text, and no further than the end of its first bad
+/// line; `find-change` reads it to its end, and whole. `Input` comes exactly where
 /// the input failed, `Output` exactly where the writer did, at a write or at the flush; nothing was
 /// written under another error. `Memory` never comes where the input is empty. Neither must have
 /// failed before.
@@ -105,10 +133,7 @@ fn answer<A: Allocator + Copy, R: Source, W: BufferedSink>(
     ensures part { IsErrOf result CommandError.Output → DoesAtMost command.entry (R.remaining input.old) (W.taken out.old) (W.taken out.new) }
 {
     match command {
-        Command::Find { prefix } => {
-            let list = read_all(alloc, input)?;
-            Ok(find(alloc, prefix, &list, out)?)
-        }
+        Command::Find { prefix } => Ok(find_from(alloc, prefix, input, out)?),
         Command::FindChange { letters } => {
             let list = read_all(alloc, input)?;
             Ok(find_change(alloc, letters, &list, out)?)
