@@ -4,9 +4,12 @@ mod LineLemmas
 mod Meaning
 mod MeaningIn
 mod Orders
+mod PieceLemmas
 mod PipeLemmas
 mod PrintLemmas
-mod ReadLemmas
+mod ReadingLemmas
 mod RunLemmas
 mod RunningLemmas
+mod SourceSearches
+mod StopLemmas
 mod Taking

@@ -34,11 +34,15 @@ found_in digits ids None =
     if nat_lt (least_hex_len ids) (length digits) then Err (PrefixTooLong (length digits) (least_hex_len ids))
     else Ok (matches digits ids)
 
+-- the ids that begin with the digits, or the first refusal of the order or of the digits
+abbrev pub found_among : List ℕ → List (List ℕ) → Result (List (List ℕ)) FindError
+found_among digits ids = found_in digits ids (first_unsorted ids)
+
 -- what is found, given what the prefix and the list text read as
 abbrev pub found_from : Result Beginning Error → Result (List (List ℕ)) ListError → Result (List (List ℕ)) FindError
 found_from (Err error) ids = Err (Prefix error)
 found_from (Ok prefix) (Err error) = Err (refusal_of_list error)
-found_from (Ok prefix) (Ok ids) = found_in prefix.digits ids (first_unsorted ids)
+found_from (Ok prefix) (Ok ids) = found_among prefix.digits ids
 
 -- the ids of a list text that begin with a prefix, or the first refusal
 abbrev pub finding : (ℕ → ℕ) → List ℕ → List ℕ → Result (List (List ℕ)) FindError

@@ -9,7 +9,7 @@ use Rattle.gix_hash.specs.Prefix.{Beginning, beginning_of}
 use Rattle.gix_hash.specs.declared.decode.Error.{Error}
 use Rattle.gix_hash.specs.declared.kind.Kind.{Kind}
 use Rattle.oidtool.specs.declared.list.ListError.{ListError}
-use Rattle.oidtool.specs.declared.list.ListError.TheVariants.{BadLine}
+use Rattle.oidtool.specs.declared.list.ListError.TheVariants.{BadLine, Memory}
 use Rattle.oidtool.specs.Lines.{lines_of}
 
 -- the digits of what line n reads as, before those of the lines behind it; or the first refusal
@@ -31,6 +31,11 @@ list_read text = ids_read 1 (lines_of text)
 abbrev pub IsFirstRead : List (List ℕ) → Type 0
 IsFirstRead [] = ⊥
 IsFirstRead (line ∷ lines) = IsOk (full_read hex_letter line)
+
+-- the text is refused as a list: for its first bad line, or, behind a first line that reads, for want of memory
+abbrev pub RefusesList : List ℕ → ListError → Type 0
+RefusesList text (BadLine n error) = list_read text ≡ Err (BadLine n error)
+RefusesList text Memory = IsFirstRead (lines_of text)
 
 -- the first of some ids, counted from n, that is below the one before it; `last` stands before them
 unfoldable pub unsorted_behind : List ℕ → ℕ → List (List ℕ) → Option ℕ

@@ -6,6 +6,8 @@ use Rattle.oidtool.specs.declared.command.Command.{Command}
 use Rattle.oidtool.specs.declared.command.Command.TheVariants.{Find, FindChange, Hash, HashFile, Seal}
 use Rattle.oidtool.specs.declared.finding.FindError.{FindError}
 use Rattle.oidtool.specs.declared.finding.FindError.TheVariants as found
+use Rattle.oidtool.specs.declared.finding_from.FindFromError.{FindFromError}
+use Rattle.oidtool.specs.declared.finding_from.FindFromError.TheVariants as from
 use Rattle.oidtool.specs.declared.running.CommandError.{CommandError}
 use Rattle.oidtool.specs.declared.running.CommandError.TheVariants as command
 use Rattle.oidtool.specs.declared.pipe.PipeError.{PipeError}
@@ -24,6 +26,17 @@ abbrev pub refusal_of_pipe : PipeError → CommandError
 refusal_of_pipe pipe.Input = command.Input
 refusal_of_pipe pipe.Output = command.Output
 refusal_of_pipe pipe.TooMuch = command.TooMuch
+
+-- likewise of a search in what a source gives
+abbrev pub refusal_from_source : FindFromError → CommandError
+refusal_from_source (from.Prefix error) = command.Find (found.Prefix error)
+refusal_from_source (from.BadLine n error) = command.Find (found.BadLine n error)
+refusal_from_source (from.Unsorted n) = command.Find (found.Unsorted n)
+refusal_from_source (from.PrefixTooLong hex_len least) = command.Find (found.PrefixTooLong hex_len least)
+refusal_from_source from.Memory = command.Memory
+refusal_from_source from.Output = command.Output
+refusal_from_source from.Input = command.Input
+refusal_from_source from.TooMuch = command.TooMuch
 
 -- the answer is ids, of whose lines a beginning was written, or all
 pub record IsFoundAtMost (letter : ℕ → ℕ) (answer : Result (List (List ℕ)) FindError) (old new : Option (List ℕ)) : Type 0 where
@@ -113,13 +126,13 @@ TakesMemory (Hash kind) = ⊥
 TakesMemory (HashFile kind n path) = ⊥
 TakesMemory (Seal kind) = ⊥
 
--- the command computes a digest of its input, which is too long for one
-abbrev pub HasNoDigest : Command → Option (List ℕ) → Type 0
-HasNoDigest (Find prefix) input = ⊥
-HasNoDigest (FindChange letters) input = ⊥
-HasNoDigest (Hash kind) input = IfSome input (λ text. 2 ^ 61 ≤ length text)
-HasNoDigest (HashFile kind n path) input = ⊥
-HasNoDigest (Seal kind) input = IfSome input (λ text. 2 ^ 61 ≤ length text)
+-- the command reads its input in pieces, and it has more than 2^61 - 1 bytes
+abbrev pub GivesTooMuch : Command → Option (List ℕ) → Type 0
+GivesTooMuch (Find prefix) input = IfSome input (λ text. 2 ^ 61 ≤ length text)
+GivesTooMuch (FindChange letters) input = ⊥
+GivesTooMuch (Hash kind) input = IfSome input (λ text. 2 ^ 61 ≤ length text)
+GivesTooMuch (HashFile kind n path) input = ⊥
+GivesTooMuch (Seal kind) input = IfSome input (λ text. 2 ^ 61 ≤ length text)
 
 -- the cause of an error of a command, where its input decides it
 abbrev pub Refuses : Command → Option (List ℕ) → CommandError → Type 0
@@ -127,4 +140,4 @@ Refuses asked input (command.Find error) = RefusesInput asked input error
 Refuses asked input command.Memory = TakesMemory asked
 Refuses asked input command.Input = Unit {0}
 Refuses asked input command.Output = Unit {0}
-Refuses asked input command.TooMuch = HasNoDigest asked input
+Refuses asked input command.TooMuch = GivesTooMuch asked input

@@ -13,14 +13,17 @@ ghost use Rattle.oidtool.specs.declared.running.CommandError.TheVariants as erro
 
 pub mod command;
 pub mod finding;
+pub mod finding_from;
 pub mod finding_in;
 pub mod from_slice;
 pub mod into_slice;
 mod list;
 mod matching;
+mod pieces;
 pub mod pipe;
 pub mod plain;
 mod printing;
+mod reading;
 pub mod running;
 pub mod sink;
 pub mod source;

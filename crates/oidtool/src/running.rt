@@ -8,7 +8,8 @@ ghost use Rattle.oidtool.specs.Running.{Does, DoesAtMost, HasCopied, Refuses, co
 ghost use Rattle.oidtool.specs.Writing.{AppendsPart};
 
 use crate::command::Command;
-use crate::finding::{FindError, find, find_change};
+use crate::finding::{FindError, find_change};
+use crate::finding_from::{FindFromError, find_from};
 use crate::pipe::{PipeError, hash_all, seal};
 use crate::printing::write_id;
 use crate::sink::{BufferedSink, Sink, WriteFailed};
@@ -38,7 +39,7 @@ pub enum CommandError {
     /// The writer failed at a write or at the flush.
     #[error("cannot write")]
     Output,
-    /// The input has more than 2^61 - 1 bytes, and FIPS 180-4 has no digest of so many.
+    /// The input has more than 2^61 - 1 bytes.
     #[error("too much input")]
     TooMuch,
 }
@@ -71,6 +72,29 @@ impl From<PipeError> for CommandError {
     }
 }
 
+impl From<FindFromError> for CommandError {
+    ghost use Rattle.oidtool.specs.Running.{refusal_from_source};
+
+    ghost from_gives = { λ error e. e ≡ refusal_from_source error };
+
+    fn from(error: FindFromError) -> Self {
+        match error {
+            FindFromError::Prefix(error) => CommandError::Find(FindError::Prefix(error)),
+            FindFromError::BadLine { line, error } => {
+                CommandError::Find(FindError::BadLine { line, error })
+            }
+            FindFromError::Unsorted { line } => CommandError::Find(FindError::Unsorted { line }),
+            FindFromError::PrefixTooLong { hex_len, min } => {
+                CommandError::Find(FindError::PrefixTooLong { hex_len, min })
+            }
+            FindFromError::Memory => CommandError::Memory,
+            FindFromError::Output => CommandError::Output,
+            FindFromError::Input => CommandError::Input,
+            FindFromError::TooMuch => CommandError::TooMuch,
+        }
+    }
+}
+
 impl From<WriteFailed> for CommandError {
     ghost use Rattle.oidtool.specs.declared.running.CommandError.TheVariants.{Output};
 
@@ -94,12 +118,13 @@ impl From<AllocError> for CommandError {
 /// Runs a command over the input, writes what it gives, and flushes the writer. Answers how many ids
 /// it wrote: the matches of `find` and `find-change`, and the one digest of another command.
 ///
-/// `find` and `find-change` read the input to its end, as a list text; `hash` and `seal` read it to
-/// its end in pieces; `hash-file` reads the file, and leaves the input as it is. `Input` comes exactly
-/// where the input failed, or for `hash-file` where the file was not read; `Output` exactly where the
-/// writer did, at a write or at the flush. Under another error `seal` has written what it read, and
-/// another command nothing. `Memory` comes for `find` and `find-change` alone, and never where the
-/// input is empty. Input and writer must not have failed before.
+/// `find` reads the input in pieces, as a list text, and no further than the end of its first bad
+/// line; `find-change` reads it to its end, and whole; `hash` and `seal` read it to its end in pieces;
+/// `hash-file` reads the file, and leaves the input as it is. `Input` comes exactly where the input
+/// failed, or for `hash-file` where the file was not read; `Output` exactly where the writer did, at
+/// a write or at the flush. Under another error `seal` has written what it read, and another command
+/// nothing. `Memory` comes for `find` and `find-change` alone, and never where the input is empty.
+/// Input and writer must not have failed before.
 pub fn run_command<F: Files, A: Allocator + Copy, R: Source, W: BufferedSink>(
     files: &F,
     alloc: A,
@@ -148,10 +173,7 @@ fn answer<F: Files, A: Allocator + Copy, R: Source, W: Sink>(
     ensures part { IsErrOf result CommandError.Output → DoesAtMost command.entry (R.remaining input.old) (W.taken out.old) (W.taken out.new) }
 {
     match command {
-        Command::Find { prefix } => {
-            let list = read_all(alloc, input)?;
-            Ok(find(alloc, prefix, &list, out)?)
-        }
+        Command::Find { prefix } => Ok(find_from(alloc, prefix, input, out)?),
         Command::FindChange { letters } => {
             let list = read_all(alloc, input)?;
             Ok(find_change(alloc, letters, &list, out)?)

@@ -1,0 +1,13 @@
+use Rattle.std.proofs.Common.{◌≡◌, Ok, arith, rules}
+use Rattle.std.proofs.lemmas.Result.{err_from_is_err_and}
+use Rattle.gix_hash.specs.Digits.{hex_letter}
+use Rattle.gix_hash.specs.PrefixReading.{prefix_read}
+use Rattle.oidtool.proofs.StopLemmas.{search_stops}
+use Rattle.oidtool.proofs.finding_from.find_from.Goals as goal
+
+pub returns-in_err-ids-clause-stopped : goal.returns-in_err-ids-clause-stopped
+returns-in_err-ids-clause-stopped g c =
+    let p = err_from_is_err_and c.from_residual-in_err-ids.result c.from_residual-in_err-ids.ensures.1 in
+    let prefix = c.args.prefix.now in
+    let reads : prefix_read hex_letter 4 prefix ≡ Ok c.in_ok-prefix.prefix = first_of (search rules, grind (arith, c.read_prefix.ensures, c.in_ok-prefix.ensures.cases, c.in_ok-prefix.ensures.variant)) in
+    rw (p.1, p.2) (search_stops hex_letter prefix c.in_ok-prefix.prefix c.in_err-ids.field-0.0 _ _ _ _ reads c.in_err-ids.ensures.stopped)
