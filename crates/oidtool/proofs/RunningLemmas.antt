@@ -4,16 +4,18 @@ use Rattle.std.proofs.lemmas.List.{length-take}
 use Rattle.std.specs.Prelude.{Result}
 use Rattle.std.specs.Io.KnownBytes.{Appends, Consumes, Keeps}
 use Rattle.oidtool.specs.declared.command.Command.{Command}
-use Rattle.oidtool.specs.declared.command.Command.TheVariants.{Find, FindChange, Hash, HashFile, Seal}
+use Rattle.oidtool.specs.declared.command.Command.TheVariants.{Find, FindChange, FindIn, Hash, HashFile, Seal}
 use Rattle.oidtool.specs.declared.finding.FindError.{FindError}
 use Rattle.oidtool.specs.Finding.{printed, IsFound}
 use Rattle.oidtool.specs.Lines.{lines_of}
 use Rattle.oidtool.specs.ListText.{IsFirstRead}
 use Rattle.oidtool.specs.declared.finding.FindError.TheVariants as find
+use Rattle.oidtool.specs.declared.finding_in.FindInError.{FindInError}
+use Rattle.oidtool.specs.declared.finding_in.FindInError.TheVariants as in_kind
 use Rattle.oidtool.specs.declared.running.CommandError.{CommandError}
 use Rattle.oidtool.specs.declared.running.CommandError.TheVariants as command
 use Rattle.oidtool.specs.Pipe.{digest_line, sealed}
-use Rattle.oidtool.specs.Running.{refusal_of_search, IsFoundAtMost, WritesAtMost, Does, DoesAtMost}
+use Rattle.oidtool.specs.Running.{refusal_of_search, refusal_of_search_in, IsFoundAtMost, WritesAtMost, Does, DoesAtMost}
 use Rattle.oidtool.proofs.LineLemmas.{lines_of-nil, no_length}
 use Rattle.oidtool.proofs.Taking.{Appends-kept}
 
@@ -45,22 +47,43 @@ memory_of (find.BadLine line error) e = cc e
 memory_of (find.Unsorted line) e = cc e
 memory_of (find.PrefixTooLong hex_len least) e = cc e
 
--- a search that ran out of memory had some input
-pub searched_some : {P : Type 0} (error : FindError) (answer : Result ℕ CommandError) (a b : Option (List ℕ)) (items text : List ℕ)
-    → IsErrAnd answer (λ e. e ≡ refusal_of_search error)
-    → (IsErrOf {T = ℕ} {E = FindError} (Err error) find.Memory → P × IsFirstRead (lines_of text))
+memory_of_in : (error : FindInError) → refusal_of_search_in error ≡ command.Memory → error ≡ in_kind.Memory
+memory_of_in in_kind.Memory e = refl
+memory_of_in in_kind.Output e = cc e
+memory_of_in (in_kind.Prefix error) e = cc e
+memory_of_in (in_kind.OtherKind other) e = cc e
+memory_of_in (in_kind.BadLine line error) e = cc e
+memory_of_in (in_kind.WrongKind line) e = cc e
+memory_of_in (in_kind.NotRising line) e = cc e
+
+-- a search that ran out of memory had some input, where its first line was read then
+ran_out : {P : Type 0} (refusal : CommandError) (answer : Result ℕ CommandError) (a b : Option (List ℕ)) (items text : List ℕ)
+    → IsErrAnd answer (λ e. e ≡ refusal) → (refusal ≡ command.Memory → P × IsFirstRead (lines_of text))
     → Consumes a b items → text ≡ items → IsErrOf answer command.Memory → IfSome a (λ bytes. bytes ≢ [])
-searched_some error (Ok count) a b items text is memory read same ran_out = absurd is
-searched_some error (Err e) a b items text is memory read same ran_out =
-    let refused : refusal_of_search error ≡ command.Memory = cc in
-    let was : IsErrOf {T = ℕ} {E = FindError} (Err error) find.Memory = ap Err (memory_of error refused) in
-    some_left a b items read (λ none. no_first_line text (memory was).1 (same ∙ none))
+ran_out refusal (Ok count) a b items text is memory read same out = absurd is
+ran_out refusal (Err e) a b items text is memory read same out =
+    let refused : refusal ≡ command.Memory = cc in
+    some_left a b items read (λ none. no_first_line text (memory refused).1 (same ∙ none))
   where
     no_first_line : (t : List ℕ) → IsFirstRead (lines_of t) → t ≢ []
     no_first_line t first none = rw (none, lines_of-nil) at first
 
+pub searched_some : {P : Type 0} (error : FindError) (answer : Result ℕ CommandError) (a b : Option (List ℕ)) (items text : List ℕ)
+    → IsErrAnd answer (λ e. e ≡ refusal_of_search error)
+    → (IsErrOf {T = ℕ} {E = FindError} (Err error) find.Memory → P × IsFirstRead (lines_of text))
+    → Consumes a b items → text ≡ items → IsErrOf answer command.Memory → IfSome a (λ bytes. bytes ≢ [])
+searched_some error answer a b items text is memory read same out =
+    ran_out (refusal_of_search error) answer a b items text is (λ refused. memory (ap Err (memory_of error refused))) read same out
+
+pub searched_some_in : {P : Type 0} (error : FindInError) (answer : Result ℕ CommandError) (a b : Option (List ℕ)) (items text : List ℕ)
+    → IsErrAnd answer (λ e. e ≡ refusal_of_search_in error)
+    → (IsErrOf {T = ℕ} {E = FindInError} (Err error) in_kind.Memory → P × IsFirstRead (lines_of text))
+    → Consumes a b items → text ≡ items → IsErrOf answer command.Memory → IfSome a (λ bytes. bytes ≢ [])
+searched_some_in error answer a b items text is memory read same out =
+    ran_out (refusal_of_search_in error) answer a b items text is (λ refused. memory (ap Err (memory_of_in error refused))) read same out
+
 -- all lines are a beginning of them
-all_lines : (letter : ℕ → ℕ) (answer : Result (List (List ℕ)) FindError) (a b c : Option (List ℕ)) (count : ℕ) → IsFound letter answer a b count
+all_lines : {E : Type 0} (letter : ℕ → ℕ) (answer : Result (List (List ℕ)) E) (a b c : Option (List ℕ)) (count : ℕ) → IsFound letter answer a b count
     → Keeps b c → IsFoundAtMost letter answer a c
 all_lines letter answer a b c count found kept = record {
   ids = found.ids;
@@ -87,6 +110,8 @@ done_at_most (Find prefix) None a b c count done kept = tt
 done_at_most (Find prefix) (Some text) a b c count done kept = all_lines _ _ a b c count done kept
 done_at_most (FindChange letters) None a b c count done kept = tt
 done_at_most (FindChange letters) (Some text) a b c count done kept = all_lines _ _ a b c count done kept
+done_at_most (FindIn kind prefix) None a b c count done kept = tt
+done_at_most (FindIn kind prefix) (Some text) a b c count done kept = all_lines _ _ a b c count done kept
 done_at_most (Hash kind) None a b c count done kept = tt
 done_at_most (Hash kind) (Some text) a b c count done kept = all_bytes (digest_line kind) text a b c done.0.written kept
 done_at_most (HashFile kind n path) input a b c count done kept = (done.0.0, done.0.1, all_bytes (digest_line kind) done.0.0 a b c done.0.2 kept)

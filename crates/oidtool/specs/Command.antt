@@ -5,7 +5,7 @@ use denote.Ref.{Bor}
 use Rattle.gix_hash.specs.Kind.{IsNameOf, IsNoName}
 use Rattle.gix_hash.specs.declared.kind.Kind.{Kind}
 use Rattle.oidtool.specs.declared.command.Command.{Command}
-use Rattle.oidtool.specs.declared.command.Command.TheVariants.{Find, FindChange, Hash, HashFile, Seal}
+use Rattle.oidtool.specs.declared.command.Command.TheVariants.{Find, FindChange, FindIn, Hash, HashFile, Seal}
 use Rattle.oidtool.specs.declared.command.ArgError.{ArgError}
 use Rattle.oidtool.specs.declared.command.ArgError.TheVariants.{Usage, BadKind, BadNumber}
 
@@ -19,6 +19,7 @@ pub record IsNumberOf (word : List ℕ) (n : ℕ) : Type 0 where
 abbrev pub AsksFor : List (List ℕ) → Command → Type 0
 AsksFor words (Find prefix) = words ≡ codes "find" ∷ prefix.now ∷ []
 AsksFor words (FindChange letters) = words ≡ codes "find-change" ∷ letters.now ∷ []
+AsksFor words (FindIn kind prefix) = (name : List ℕ) × (words ≡ codes "find-in" ∷ name ∷ prefix.now ∷ []) × IsNameOf name kind
 AsksFor words (Hash kind) = (name : List ℕ) × (words ≡ codes "hash" ∷ name ∷ []) × IsNameOf name kind
 AsksFor words (HashFile kind count path) = (name : List ℕ) × (number : List ℕ) × (words ≡ codes "hash-file" ∷ name ∷ number ∷ path.now ∷ [])
     × IsNameOf name kind × IsNumberOf number count
@@ -28,6 +29,7 @@ AsksFor words (Seal kind) = (name : List ℕ) × (words ≡ codes "seal" ∷ nam
 pub record IsNoCommand (words : List (List ℕ)) : Type 0 where
   pub no_find : (prefix : List ℕ) → words ≢ codes "find" ∷ prefix ∷ []
   pub no_find_change : (letters : List ℕ) → words ≢ codes "find-change" ∷ letters ∷ []
+  pub no_find_in : (kind prefix : List ℕ) → words ≢ codes "find-in" ∷ kind ∷ prefix ∷ []
   pub no_hash : (kind : List ℕ) → words ≢ codes "hash" ∷ kind ∷ []
   pub no_hash_file : (kind count path : List ℕ) → words ≢ codes "hash-file" ∷ kind ∷ count ∷ path ∷ []
   pub no_seal : (kind : List ℕ) → words ≢ codes "seal" ∷ kind ∷ []
@@ -35,6 +37,7 @@ pub record IsNoCommand (words : List (List ℕ)) : Type 0 where
 -- the words are a command that takes this word as a kind
 abbrev pub TakesKind : List (List ℕ) → List ℕ → Type 0
 TakesKind words word = (words ≡ codes "hash" ∷ word ∷ []) ⊎ (words ≡ codes "seal" ∷ word ∷ [])
+    ⊎ ((prefix : List ℕ) × (words ≡ codes "find-in" ∷ word ∷ prefix ∷ []))
     ⊎ ((count : List ℕ) × (path : List ℕ) × (words ≡ codes "hash-file" ∷ word ∷ count ∷ path ∷ []))
 
 -- the word is refused as a kind

@@ -3,16 +3,19 @@ use Rattle.std.specs.Prelude.{◌≡◌, ℕ, ◌^◌, ◌<◌, ◌≤◌, Bool,
 use Rattle.std.specs.Io.KnownBytes.{Appends}
 use Rattle.gix_hash.specs.Digits.{hex_letter, reverse_letter}
 use Rattle.oidtool.specs.declared.command.Command.{Command}
-use Rattle.oidtool.specs.declared.command.Command.TheVariants.{Find, FindChange, Hash, HashFile, Seal}
+use Rattle.oidtool.specs.declared.command.Command.TheVariants.{Find, FindChange, FindIn, Hash, HashFile, Seal}
 use Rattle.oidtool.specs.declared.finding.FindError.{FindError}
 use Rattle.oidtool.specs.declared.finding.FindError.TheVariants as found
 use Rattle.oidtool.specs.declared.finding_from.FindFromError.{FindFromError}
 use Rattle.oidtool.specs.declared.finding_from.FindFromError.TheVariants as from
+use Rattle.oidtool.specs.declared.finding_in.FindInError.{FindInError}
+use Rattle.oidtool.specs.declared.finding_in.FindInError.TheVariants as in_kind
 use Rattle.oidtool.specs.declared.running.CommandError.{CommandError}
 use Rattle.oidtool.specs.declared.running.CommandError.TheVariants as command
 use Rattle.oidtool.specs.declared.pipe.PipeError.{PipeError}
 use Rattle.oidtool.specs.declared.pipe.PipeError.TheVariants as pipe
 use Rattle.oidtool.specs.Finding.{finding, printed, IsFound}
+use Rattle.oidtool.specs.FindingIn.{finding_in}
 use Rattle.oidtool.specs.Pipe.{digest_line, sealed, SealingStops}
 
 -- a refusal of a search, as one of a command: memory and the writer fail alike whatever the command
@@ -20,6 +23,12 @@ abbrev pub refusal_of_search : FindError → CommandError
 refusal_of_search found.Memory = command.Memory
 refusal_of_search found.Output = command.Output
 refusal_of_search error = command.Find error
+
+-- likewise of a search in ids of one kind
+abbrev pub refusal_of_search_in : FindInError → CommandError
+refusal_of_search_in in_kind.Memory = command.Memory
+refusal_of_search_in in_kind.Output = command.Output
+refusal_of_search_in error = command.FindIn error
 
 -- a refusal of a pipe, as one of a command
 abbrev pub refusal_of_pipe : PipeError → CommandError
@@ -39,7 +48,7 @@ refusal_from_source from.Input = command.Input
 refusal_from_source from.TooMuch = command.TooMuch
 
 -- the answer is ids, of whose lines a beginning was written, or all
-pub record IsFoundAtMost (letter : ℕ → ℕ) (answer : Result (List (List ℕ)) FindError) (old new : Option (List ℕ)) : Type 0 where
+pub record IsFoundAtMost {E : Type 0} (letter : ℕ → ℕ) (answer : Result (List (List ℕ)) E) (old new : Option (List ℕ)) : Type 0 where
   pub ids : List (List ℕ)
   pub found : answer ≡ Ok ids
   pub part : List ℕ
@@ -51,6 +60,7 @@ pub record IsFoundAtMost (letter : ℕ → ℕ) (answer : Result (List (List ℕ
 abbrev pub reads_source : Command → Bool
 reads_source (Find prefix) = true
 reads_source (FindChange letters) = true
+reads_source (FindIn kind prefix) = true
 reads_source (Hash kind) = true
 reads_source (HashFile kind n path) = false
 reads_source (Seal kind) = true
@@ -59,6 +69,7 @@ reads_source (Seal kind) = true
 abbrev pub copies : Command → Bool
 copies (Find prefix) = false
 copies (FindChange letters) = false
+copies (FindIn kind prefix) = false
 copies (Hash kind) = false
 copies (HashFile kind n path) = false
 copies (Seal kind) = true
@@ -86,6 +97,7 @@ pub record CopiesAtMost (make : List ℕ → List ℕ) (text : List ℕ) (old ne
 abbrev pub Does : Command → Option (List ℕ) → Option (List ℕ) → Option (List ℕ) → ℕ → Type 0
 Does (Find prefix) input old new count = IfSome input (λ text. IsFound hex_letter (finding hex_letter prefix.now text) old new count)
 Does (FindChange letters) input old new count = IfSome input (λ text. IsFound reverse_letter (finding reverse_letter letters.now text) old new count)
+Does (FindIn kind prefix) input old new count = IfSome input (λ text. IsFound hex_letter (finding_in kind prefix.now text) old new count)
 Does (Hash kind) input old new count = IfSome input (λ text. Writes (digest_line kind) text old new) × (count ≡ 1)
 Does (HashFile kind n path) input old new count = ((message : List ℕ) × (length message ≡ n) × Appends old new (digest_line kind message)) × (count ≡ 1)
 Does (Seal kind) input old new count = IfSome input (λ text. Writes (sealed kind) text old new) × (count ≡ 1)
@@ -94,6 +106,7 @@ Does (Seal kind) input old new count = IfSome input (λ text. Writes (sealed kin
 abbrev pub DoesAtMost : Command → Option (List ℕ) → Option (List ℕ) → Option (List ℕ) → Type 0
 DoesAtMost (Find prefix) input old new = IfSome input (λ text. IsFoundAtMost hex_letter (finding hex_letter prefix.now text) old new)
 DoesAtMost (FindChange letters) input old new = IfSome input (λ text. IsFoundAtMost reverse_letter (finding reverse_letter letters.now text) old new)
+DoesAtMost (FindIn kind prefix) input old new = IfSome input (λ text. IsFoundAtMost hex_letter (finding_in kind prefix.now text) old new)
 DoesAtMost (Hash kind) input old new = IfSome input (λ text. WritesAtMost (digest_line kind) text old new)
 DoesAtMost (HashFile kind n path) input old new = (message : List ℕ) × (length message ≡ n) × WritesAtMost (digest_line kind) message old new
 DoesAtMost (Seal kind) input old new = IfSome input (λ text. CopiesAtMost (sealed kind) text old new)
@@ -102,9 +115,11 @@ DoesAtMost (Seal kind) input old new = IfSome input (λ text. CopiesAtMost (seal
 abbrev pub HasCopied : Command → CommandError → Option (List ℕ) → Option (List ℕ) → Option (List ℕ) → Option (List ℕ) → Type 0
 HasCopied (Find prefix) error source source' sink sink' = Unit {0}
 HasCopied (FindChange letters) error source source' sink sink' = Unit {0}
+HasCopied (FindIn kind prefix) error source source' sink sink' = Unit {0}
 HasCopied (Hash kind) error source source' sink sink' = Unit {0}
 HasCopied (HashFile kind n path) error source source' sink sink' = Unit {0}
 HasCopied (Seal kind) (command.Find error) source source' sink sink' = ⊥
+HasCopied (Seal kind) (command.FindIn error) source source' sink sink' = ⊥
 HasCopied (Seal kind) command.Memory source source' sink sink' = ⊥
 HasCopied (Seal kind) command.Input source source' sink sink' = SealingStops pipe.Input kind source source' sink sink'
 HasCopied (Seal kind) command.Output source source' sink sink' = Unit {0}
@@ -114,14 +129,25 @@ HasCopied (Seal kind) command.TooMuch source source' sink sink' = SealingStops p
 abbrev pub RefusesInput : Command → Option (List ℕ) → FindError → Type 0
 RefusesInput (Find prefix) input error = IfSome input (λ text. finding hex_letter prefix.now text ≡ Err error)
 RefusesInput (FindChange letters) input error = IfSome input (λ text. finding reverse_letter letters.now text ≡ Err error)
+RefusesInput (FindIn kind prefix) input error = ⊥
 RefusesInput (Hash kind) input error = ⊥
 RefusesInput (HashFile kind n path) input error = ⊥
 RefusesInput (Seal kind) input error = ⊥
+
+-- likewise of a search in ids of one kind
+abbrev pub RefusesInputIn : Command → Option (List ℕ) → FindInError → Type 0
+RefusesInputIn (Find prefix) input error = ⊥
+RefusesInputIn (FindChange letters) input error = ⊥
+RefusesInputIn (FindIn kind prefix) input error = IfSome input (λ text. finding_in kind prefix.now text ≡ Err error)
+RefusesInputIn (Hash kind) input error = ⊥
+RefusesInputIn (HashFile kind n path) input error = ⊥
+RefusesInputIn (Seal kind) input error = ⊥
 
 -- the command may want more memory than there is
 abbrev pub TakesMemory : Command → Type 0
 TakesMemory (Find prefix) = Unit {0}
 TakesMemory (FindChange letters) = Unit {0}
+TakesMemory (FindIn kind prefix) = Unit {0}
 TakesMemory (Hash kind) = ⊥
 TakesMemory (HashFile kind n path) = ⊥
 TakesMemory (Seal kind) = ⊥
@@ -130,6 +156,7 @@ TakesMemory (Seal kind) = ⊥
 abbrev pub GivesTooMuch : Command → Option (List ℕ) → Type 0
 GivesTooMuch (Find prefix) input = IfSome input (λ text. 2 ^ 61 ≤ length text)
 GivesTooMuch (FindChange letters) input = ⊥
+GivesTooMuch (FindIn kind prefix) input = ⊥
 GivesTooMuch (Hash kind) input = IfSome input (λ text. 2 ^ 61 ≤ length text)
 GivesTooMuch (HashFile kind n path) input = ⊥
 GivesTooMuch (Seal kind) input = IfSome input (λ text. 2 ^ 61 ≤ length text)
@@ -137,6 +164,7 @@ GivesTooMuch (Seal kind) input = IfSome input (λ text. 2 ^ 61 ≤ length text)
 -- the cause of an error of a command, where its input decides it
 abbrev pub Refuses : Command → Option (List ℕ) → CommandError → Type 0
 Refuses asked input (command.Find error) = RefusesInput asked input error
+Refuses asked input (command.FindIn error) = RefusesInputIn asked input error
 Refuses asked input command.Memory = TakesMemory asked
 Refuses asked input command.Input = Unit {0}
 Refuses asked input command.Output = Unit {0}

@@ -21,6 +21,14 @@ pub enum Command<'a> {
         /// The prefix in the letters `z` to `k`, not read yet.
         letters: &'a str,
     },
+    /// Find the ids of the list text on standard input, which are of one kind and each above the one
+    /// before it, that begin with this prefix.
+    FindIn {
+        /// The kind of the ids and of the prefix.
+        kind: Kind,
+        /// The prefix in hex digits, not read yet.
+        prefix: &'a str,
+    },
     /// Hash all of standard input.
     Hash {
         /// The kind of the digest.
@@ -57,7 +65,7 @@ impl fmt::Display for ArgError<'_> {
     fn fmt<W: fmt::Write>(&self, f: &mut fmt::Formatter<W>) -> fmt::Result {
         match self {
             ArgError::Usage => f.write_str(
-                "usage: oidtool find PREFIX | find-change LETTERS | hash KIND | hash-file KIND N PATH | seal KIND",
+                "usage: oidtool find PREFIX | find-change LETTERS | find-in KIND PREFIX | hash KIND | hash-file KIND N PATH | seal KIND",
             ),
             ArgError::BadKind(text) => write!(f, "unknown hash kind: {text}"),
             ArgError::BadNumber(text) => write!(f, "bad number: {text}"),
@@ -73,6 +81,7 @@ pub fn read_command<'a>(words: &[&'a str]) -> Result<Command<'a>, ArgError<'a>>
 {
     match words {
         [name, word] => read_one_word(name, word),
+        [name, kind, prefix] => read_two_words(name, kind, prefix),
         [name, kind, count, path] => read_three_words(name, kind, count, path),
         _ => Err(ArgError::Usage),
     }
@@ -91,6 +100,24 @@ fn read_one_word<'a>(name: &str, word: &'a str) -> Result<Command<'a>, ArgError<
         }),
         "seal" => Ok(Command::Seal {
             kind: read_kind(word)?,
+        }),
+        _ => Err(ArgError::Usage),
+    }
+}
+
+// Reads a command that takes two words.
+fn read_two_words<'a>(
+    name: &str,
+    kind: &'a str,
+    prefix: &'a str,
+) -> Result<Command<'a>, ArgError<'a>>
+    ensures asked { IfOk result (AsksFor (name.now ∷ kind.now ∷ prefix.now ∷ [])) }
+    ensures refused { IfErr result (RefusesWords (name.now ∷ kind.now ∷ prefix.now ∷ [])) }
+{
+    match name {
+        "find-in" => Ok(Command::FindIn {
+            kind: read_kind(kind)?,
+            prefix,
         }),
         _ => Err(ArgError::Usage),
     }

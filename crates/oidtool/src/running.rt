@@ -10,6 +10,7 @@ ghost use Rattle.oidtool.specs.Writing.{AppendsPart};
 use crate::command::Command;
 use crate::finding::{FindError, find_change};
 use crate::finding_from::{FindFromError, find_from};
+use crate::finding_in::{FindInError, find_in};
 use crate::pipe::{PipeError, hash_all, seal};
 use crate::printing::write_id;
 use crate::sink::{BufferedSink, Sink, WriteFailed};
@@ -30,6 +31,9 @@ pub enum CommandError {
     /// The prefix or the list text is refused.
     #[error("{0}")]
     Find(FindError),
+    /// The prefix or the list text is refused, for ids of one kind.
+    #[error("{0}")]
+    FindIn(FindInError),
     /// Memory ran out.
     #[error("out of memory")]
     Memory,
@@ -54,6 +58,20 @@ impl From<FindError> for CommandError {
             FindError::Memory => CommandError::Memory,
             FindError::Output => CommandError::Output,
             error => CommandError::Find(error),
+        }
+    }
+}
+
+impl From<FindInError> for CommandError {
+    ghost use Rattle.oidtool.specs.Running.{refusal_of_search_in};
+
+    ghost from_gives = { λ error e. e ≡ refusal_of_search_in error };
+
+    fn from(error: FindInError) -> Self {
+        match error {
+            FindInError::Memory => CommandError::Memory,
+            FindInError::Output => CommandError::Output,
+            error => CommandError::FindIn(error),
         }
     }
 }
@@ -116,15 +134,15 @@ impl From<AllocError> for CommandError {
 }
 
 /// Runs a command over the input, writes what it gives, and flushes the writer. Answers how many ids
-/// it wrote: the matches of `find` and `find-change`, and the one digest of another command.
+/// it wrote: the matches of the commands that find, and the one digest of another command.
 ///
 /// `find` reads the input in pieces, as a list text, and no further than the end of its first bad
-/// line; `find-change` reads it to its end, and whole; `hash` and `seal` read it to its end in pieces;
-/// `hash-file` reads the file, and leaves the input as it is. `Input` comes exactly where the input
-/// failed, or for `hash-file` where the file was not read; `Output` exactly where the writer did, at
-/// a write or at the flush. Under another error `seal` has written what it read, and another command
-/// nothing. `Memory` comes for `find` and `find-change` alone, and never where the input is empty.
-/// Input and writer must not have failed before.
+/// line; `find-change` and `find-in` read it to its end, and whole; `hash` and `seal` read it to its
+/// end in pieces; `hash-file` reads the file, and leaves the input as it is. `Input` comes exactly
+/// where the input failed, or for `hash-file` where the file was not read; `Output` exactly where the
+/// writer did, at a write or at the flush. Under another error `seal` has written what it read, and
+/// another command nothing. `Memory` comes for the commands that find alone, and never where the
+/// input is empty. Input and writer must not have failed before.
 pub fn run_command<F: Files, A: Allocator + Copy, R: Source, W: BufferedSink>(
     files: &F,
     alloc: A,
@@ -177,6 +195,10 @@ fn answer<F: Files, A: Allocator + Copy, R: Source, W: Sink>(
         Command::FindChange { letters } => {
             let list = read_all(alloc, input)?;
             Ok(find_change(alloc, letters, &list, out)?)
+        }
+        Command::FindIn { kind, prefix } => {
+            let list = read_all(alloc, input)?;
+            Ok(find_in(alloc, kind, prefix, &list, out)?)
         }
         Command::Hash { kind } => {
             hash_all(input, out, kind)?;

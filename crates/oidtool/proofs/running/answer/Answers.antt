@@ -1,5 +1,5 @@
 use Rattle.gix_hash.specs.Digits.{hex_letter}
-use Rattle.oidtool.proofs.RunningLemmas.{searched_some}
+use Rattle.oidtool.proofs.RunningLemmas.{searched_some, searched_some_in}
 use Rattle.oidtool.proofs.SourceSearches.{source_some}
 use Rattle.oidtool.proofs.running.answer.Goals as goal
 
@@ -12,3 +12,8 @@ pub returns-in_err-find_change-in-FindChange-clause-memory : goal.returns-in_err
 returns-in_err-find_change-in-FindChange-clause-memory g c =
     searched_some c.in_err-find_change-in-FindChange.field-0.0 _ _ _ _ _ c.from_residual-in_err-find_change-in-FindChange.ensures.1
     c.in_err-find_change-in-FindChange.ensures.memory c.in_ok-list-in-FindChange.ensures.all c.deref.ensures.value
+
+pub returns-in_err-find_in-in-FindIn-clause-memory : goal.returns-in_err-find_in-in-FindIn-clause-memory
+returns-in_err-find_in-in-FindIn-clause-memory g c =
+    searched_some_in c.in_err-find_in-in-FindIn.field-0.0 _ _ _ _ _ c.from_residual-in_err-find_in-in-FindIn.ensures.1
+    c.in_err-find_in-in-FindIn.ensures.memory c.in_ok-list-in-FindIn.ensures.all c.deref-in-FindIn.ensures.value

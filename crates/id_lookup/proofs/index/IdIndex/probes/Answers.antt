@@ -8,4 +8,4 @@ pub over-requires : goal.over-requires
 over-requires c =
     let same = rw (← c.self.view_is) at c.requires in
     index-can_probe c.self.inside.kind (map id_digits c.self.inside.ids.now) c.args.prefix.now c.self.invariant.0
-    (subst (λ kind. length c.args.prefix.now.digits ≤ hex_len_of kind) same (rw c.hex_len-hex_len.ensures.value at c.hex_len-hex_len.ensures.fits))
+    (subst (λ kind. length c.args.prefix.now.digits ≤ hex_len_of kind) same (rw c.hex_len-hex_len.ensures.value at c.hex_len-hex_len.ensures.at_most_kind))
