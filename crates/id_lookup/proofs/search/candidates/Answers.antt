@@ -11,7 +11,7 @@ pub returns-clause-part : goal.returns-clause-part
 returns-clause-part c =
     let prefix = c.args.probes.now.prefix in
     let ids = c.args.probes.now.ids in
-    let small = rw c.prefix-prefix.ensures.value at c.hex_len.ensures.digits in
+    let small = rw c.prefix-prefix.ensures.value at c.hex_len.ensures.digits_in_range in
     let len = rw c.prefix-prefix.ensures.value at c.hex_len.ensures.value in
     let padding = rw c.prefix-prefix.ensures.value at c.as_oid.ensures.digits in
     let first : c.first_byte-first.result ≡ first_byte_of prefix.digits =
