@@ -16,7 +16,7 @@ use Rattle.id_lookup.proofs.Counting.{count_by-cons, count_by-split}
 use Rattle.id_lookup.proofs.FirstByteOrder.{AreDigits, are_digits, behind_lower, not_above_last, lower_behind, last_not_above, last_byte_of, last_byte_of-first}
 
 -- a test that passes wherever another does counts no less
-pub count_by-le : {X : Type 0} (p q : X → Bool) (xs : List X) → All (λ x. p x ≡ true → q x ≡ true) xs → count_by p xs ≤ count_by q xs
+count_by-le : {X : Type 0} (p q : X → Bool) (xs : List X) → All (λ x. p x ≡ true → q x ≡ true) xs → count_by p xs ≤ count_by q xs
 count_by-le p q [] more = omega arith
 count_by-le {X} p q (x ∷ xs) more =
     let P : X → Type 0 = λ y. p y ≡ true → q y ≡ true in
@@ -50,13 +50,13 @@ count_by-below_0 (id ∷ ids) = omega (arith, count_by-cons (is_below 0) id ids,
     none n = grind (arith, nat_tests)
 
 -- those up to a byte are those below it and those that have it
-pub count_by-up_to : (b : ℕ) (ids : List (List ℕ)) → count_by (is_up_to b) ids ≡ count_by (is_below b) ids + count_by (has_first_byte b) ids
+count_by-up_to : (b : ℕ) (ids : List (List ℕ)) → count_by (is_up_to b) ids ≡ count_by (is_below b) ids + count_by (has_first_byte b) ids
 count_by-up_to b = count_by-split (is_up_to b) (is_below b) (has_first_byte b) (λ id. split (first_byte_of id) b)
   where
     split : (n m : ℕ) → cond {A = ℕ} (leb n m) 1 0 ≡ cond (ltb n m) 1 0 + cond (nat_eq n m) 1 0
     split n m = grind (arith, nat_tests)
 
--- and those below it are those up to the byte before it
+-- or those that have it and those up to the byte before it
 up_to_step : (b : ℕ) (ids : List (List ℕ)) → 0 < b → count_by (is_up_to b) ids ≡ count_by (has_first_byte b) ids + count_by (is_up_to (b - 1)) ids
 up_to_step b ids some = count_by-split (is_up_to b) (has_first_byte b) (is_up_to (b - 1)) (λ id. step (first_byte_of id) b some) ids
   where

@@ -1,43 +1,20 @@
--- Indexes: one place further, any two places, and what a prefix of the kind can be asked for.
-use Rattle.std.proofs.Common.{◌≡◌, ℕ, zero, suc, not, nat_eq, ◌+◌, ◌-◌, ◌<◌, ◌≤◌, false, List, [], length, get_or, ◌⊎◌, inl, inr, refl, ap, ◌∙◌, subst, arith}
+-- Indexes are sorted, so that a prefix of their kind can be asked for, and a run of one id is its place.
+use Rattle.std.proofs.Common.{◌≡◌, ℕ, zero, suc, not, nat_eq, ◌+◌, ◌<◌, ◌≤◌, false, List, length, get_or, ◌⊎◌, inl, inr, refl, ap, ◌∙◌, subst, arith}
 use Rattle.std.specs.List.{AllPairs}
 use Rattle.std.specs.Ordering.{nat_cmp, is_lt, ordering_reverse}
 use Rattle.std.specs.Cmp.Lexicographic.{slice_cmp}
 use Rattle.std.specs.declared.cmp.Ordering.TheVariants.{Less}
 use Rattle.std.proofs.lemmas.Bool.{cases_lt}
 use Rattle.std.proofs.lemmas.Cmp.{nat_list_cmp_total}
-use Rattle.std.proofs.lemmas.List.{get_or_default}
 use Rattle.gix_hash.specs.Kind.{hex_len_of, number_of}
 use Rattle.gix_hash.specs.Prefix.{Beginning}
 use Rattle.gix_hash.specs.declared.kind.Kind.{Kind}
 use Rattle.gix_hash.specs.declared.kind.Kind.TheVariants.{Sha1, Sha256}
 use Rattle.id_lookup.specs.FoundRun.{IsRun}
 use Rattle.id_lookup.specs.declared.search.Run.{Run}
-use Rattle.id_lookup.specs.Index.{IsIndex, IsIndexUpTo}
+use Rattle.id_lookup.specs.Index.{IsIndex}
 use Rattle.id_lookup.specs.Probing.{CanProbe}
 use Rattle.id_lookup.specs.Sorted.{IsSortedIds}
-
--- an index up to a place, where the id there is of the kind and above the one before it, is one up to the next
-pub index_further : (kind : Kind) (ids : List (List ℕ)) (at : ℕ) → at < length ids → IsIndexUpTo at kind ids
-    → length (get_or ids at []) ≡ hex_len_of kind → (0 < at → slice_cmp nat_cmp (get_or ids (at - 1) []) (get_or ids at []) ≡ Less)
-    → IsIndexUpTo (at + 1) kind ids
-index_further kind ids at within index right above = record {
-  kinds = λ k d low high. by_kind k d (cases_lt k at) high;
-  rises = λ k d high. by_order k d (cases_lt (k + 1) at) high;
-}
-  where
-    by_kind : (k : ℕ) (d : List ℕ) → ((k < at) ⊎ (at ≤ k)) → k < at + 1 → length (get_or ids k d) ≡ hex_len_of kind
-    by_kind k d (inl less) high = index.kinds k d (omega arith) less
-    by_kind k d (inr more) high =
-        let here : k ≡ at = omega arith in
-        rw (here, get_or_default ids at d [] within) right
-
-    by_order : (k : ℕ) (d : List ℕ) → ((k + 1 < at) ⊎ (at ≤ k + 1)) → k + 1 < at + 1 → slice_cmp nat_cmp (get_or ids k d) (get_or ids (k + 1) d) ≡ Less
-    by_order k d (inl less) high = index.rises k d less
-    by_order k d (inr more) high =
-        let here : k + 1 ≡ at = omega arith in
-        let before : k ≡ at - 1 = omega arith in
-        rw (here, before, get_or_default ids at d [] within, get_or_default ids (at - 1) d [] (omega arith)) (above (omega arith))
 
 -- an index is sorted
 pub index-sorted : (kind : Kind) (ids : List (List ℕ)) → IsIndex kind ids → IsSortedIds ids

@@ -12,13 +12,13 @@ use Rattle.std.proofs.lemmas.List.{get_or_default}
 use Rattle.std.proofs.lemmas.List.Sorted.{sorted_far, ranks_by}
 use Rattle.id_lookup.specs.Sorted.{IsSortedIds}
 
--- what is not Less is no order below
-pub not_less : (o : Ordering) → o ≢ Less → is_lt o ≡ false
+-- an order is no Less where the test for Less fails, and the other way round
+not_less : (o : Ordering) → o ≢ Less → is_lt o ≡ false
 not_less Less h = absurd (h (λ i. Less))
 not_less Equal h = λ i. false
 not_less Greater h = λ i. false
 
-pub not_below : (o : Ordering) → is_lt o ≡ false → o ≢ Less
+not_below : (o : Ordering) → is_lt o ≡ false → o ≢ Less
 not_below o h e = false≢true (sym h ∙ ap is_lt e)
 
 -- what is sorted up to a place, and does not fall there, is sorted up to the next

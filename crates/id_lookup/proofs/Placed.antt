@@ -43,12 +43,12 @@ told bound prefix (id ∷ ids) sorted k h o answer =
     ∙ passes_below (λ x. stands_before bound (place prefix.digits x)) (id ∷ ids) (before_bound bound prefix (id ∷ ids) sorted) k id h
 
 -- Greater exactly below the start of the run, and Less exactly from its end on
-pub record IsPlaced (start end k : ℕ) (o : Ordering) : Type 0 where
+record IsPlaced (start end k : ℕ) (o : Ordering) : Type 0 where
   pub above : is_gt o ≡ nat_lt k start
   pub not_below : is_ge o ≡ nat_lt k end
 
 -- the place of a prefix against each member of a sorted list
-pub placed : (prefix : Beginning) (ids : List (List ℕ)) → IsSortedIds ids → (k : ℕ) (d : List ℕ) → k < length ids
+placed : (prefix : Beginning) (ids : List (List ℕ)) → IsSortedIds ids → (k : ℕ) (d : List ℕ) → k < length ids
     → IsPlaced (bound_of Start prefix ids) (bound_of Start prefix ids + count_by (begins_with prefix) ids) k (place prefix.digits (get_or ids k d))
 placed prefix ids sorted k d h = record {
   above = passes_below (λ id. is_gt (place prefix.digits id)) ids (before_bound Start prefix ids sorted) k d h;
@@ -58,17 +58,17 @@ placed prefix ids sorted k d h = record {
 }
 
 -- what that says in each of the three parts
-pub greater_before : (start end k : ℕ) (o : Ordering) → IsPlaced start end k o → k < start → o ≡ Greater
+greater_before : (start end k : ℕ) (o : Ordering) → IsPlaced start end k o → k < start → o ≡ Greater
 greater_before start end k Less p h = absurd (let a = p.above in grind (arith, nat_tests))
 greater_before start end k Equal p h = absurd (let a = p.above in grind (arith, nat_tests))
 greater_before start end k Greater p h = refl
 
-pub equal_within : (start end k : ℕ) (o : Ordering) → IsPlaced start end k o → start ≤ k → k < end → o ≡ Equal
+equal_within : (start end k : ℕ) (o : Ordering) → IsPlaced start end k o → start ≤ k → k < end → o ≡ Equal
 equal_within start end k Less p h g = absurd (let a = p.not_below in grind (arith, nat_tests))
 equal_within start end k Equal p h g = refl
 equal_within start end k Greater p h g = absurd (let a = p.above in grind (arith, nat_tests))
 
-pub less_behind : (start end k : ℕ) (o : Ordering) → IsPlaced start end k o → start ≤ end → end ≤ k → o ≡ Less
+less_behind : (start end k : ℕ) (o : Ordering) → IsPlaced start end k o → start ≤ end → end ≤ k → o ≡ Less
 less_behind start end k Less p h g = refl
 less_behind start end k Equal p h g = absurd (let a = p.not_below in grind (arith, nat_tests))
 less_behind start end k Greater p h g = absurd (let a = p.above in grind (arith, nat_tests))

@@ -3,6 +3,10 @@
 //! A [`SortedIds`] is a list in the order of ids, which is that of their digits. [`lookup`] finds the
 //! [`Run`] of all members that begin with a prefix by two binary searches over [`Probes`], which
 //! lend no id, answer one place at a time, and count each answer.
+//!
+//! An [`IdIndex`] is such a list of one kind and without repeats, with a [`FanOut`] of its first
+//! bytes. [`lookup_in`] finds the same run among the ids that have the prefix's first byte, and
+//! [`IdIndex::abbreviate`] names each id as briefly as can be.
 #![tactic(auto)]
 
 mod fan_out;
