@@ -1,5 +1,5 @@
 -- A search in what a source gives, as one in all that it has, where that is known.
-use Rattle.std.proofs.Common.{◌≡◌, ◌≢◌, ℕ, inl, inr, Option, Some, None, List, [], ◌++◌, refl, sym, ap, ◌∙◌, subst, append_assoc, append-nil, IfSome, IsErrOf, IsErrAnd, Ok, Err}
+use Rattle.std.proofs.Common.{◌≡◌, ◌≢◌, ℕ, inl, inr, Option, Some, None, List, [], ◌++◌, sym, ap, ◌∙◌, subst, append_assoc, append-nil, IfSome, IsErrOf, IsErrAnd, Ok, Err}
 use Rattle.std.specs.Prelude.{Result}
 use Rattle.oidtool.specs.FindingFrom.{IsSettled, SearchStops}
 use Rattle.oidtool.specs.Lines.{lines_of}
