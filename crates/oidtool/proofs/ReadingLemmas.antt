@@ -1,5 +1,5 @@
 -- What a source has given to a reader of pieces, read by read.
-use Rattle.std.proofs.Common.{◌≡◌, ◌≢◌, ℕ, ◌+◌, ◌-◌, ◌^◌, ◌<◌, ◌≤◌, inl, inr, Option, List, [], ◌++◌, length, take, drop, refl, sym, ap, ◌∙◌, subst, arith, append_assoc, append-nil, length-append, length-take, length-drop, take-append-drop}
+use Rattle.std.proofs.Common.{◌≡◌, ◌≢◌, ℕ, ◌+◌, ◌^◌, ◌<◌, ◌≤◌, inl, inr, Option, List, [], ◌++◌, length, take, drop, refl, sym, ap, ◌∙◌, subst, arith, append_assoc, length-append, length-take, length-drop, take-append-drop}
 use Rattle.std.proofs.lemmas.List.{take-take}
 use Rattle.std.proofs.KnownBytes.{Consumes-trans, Consumes-kept}
 use Rattle.std.specs.Io.KnownBytes.{Consumes, Keeps, IsAtEnd}

@@ -1,5 +1,5 @@
 -- A search in what a source gives, as one in all that it has, where that is known.
-use Rattle.std.proofs.Common.{◌≡◌, ◌≢◌, ℕ, inl, inr, Option, Some, None, List, [], ◌++◌, refl, sym, ap, ◌∙◌, subst, append_assoc, append-nil, IfSome, IsErrOf, IsErrAnd, Ok, Err}
+use Rattle.std.proofs.Common.{◌≡◌, ◌≢◌, ℕ, inl, inr, Option, Some, None, List, [], ◌++◌, sym, ap, ◌∙◌, subst, append_assoc, append-nil, IfSome, IsErrOf, IsErrAnd, Ok, Err}
 use Rattle.std.specs.Prelude.{Result}
 use Rattle.oidtool.specs.FindingFrom.{IsSettled, SearchStops}
 use Rattle.oidtool.specs.Lines.{lines_of}
@@ -18,10 +18,10 @@ settled_whole P (Some xs) None settled = absurd settled.gives
 settled_whole P (Some xs) (Some ys) settled = elim settled.holds [
   | inl whatever ↦ subst P (sym (append_assoc settled.text settled.behind ys) ∙ sym settled.gives) (whatever (settled.behind ++ ys))
   | inr at_end ↦
-    let alone : xs ≡ settled.text =
-    settled.gives ∙ ap (λ l. (settled.text ++ settled.behind) ++ l) at_end.1
-    ∙ append-nil (settled.text ++ settled.behind) ∙ ap (λ l. settled.text ++ l) at_end.2 ∙ append-nil settled.text in
-    subst P (sym alone) at_end.0
+      let alone : xs ≡ settled.text =
+      settled.gives ∙ ap (λ l. (settled.text ++ settled.behind) ++ l) at_end.1
+      ∙ append-nil (settled.text ++ settled.behind) ∙ ap (λ l. settled.text ++ l) at_end.2 ∙ append-nil settled.text in
+      subst P (sym alone) at_end.0
 ]
 
 -- a text whose first line reads is not empty

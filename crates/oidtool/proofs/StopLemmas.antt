@@ -1,6 +1,5 @@
 -- Where the reading of a list text stops, there stops the search in it.
-use Rattle.std.proofs.Common.{◌≡◌, ℕ, ◌⊎◌, inl, inr, Option, List, ◌++◌, refl, Result, Ok, Err}
-use Rattle.std.specs.Prelude.{IsOk}
+use Rattle.std.proofs.Common.{◌≡◌, ℕ, inl, inr, Option, List, ◌++◌, refl, Ok, Err}
 use Rattle.gix_hash.specs.Prefix.{Beginning}
 use Rattle.gix_hash.specs.PrefixReading.{prefix_read}
 use Rattle.oidtool.specs.Finding.{finding}

@@ -1,5 +1,5 @@
 -- Finding a prefix in what a source gives, and where the reading stops.
-use Rattle.std.specs.Prelude.{◌≡◌, ◌≢◌, ◌⊎◌, ℕ, ◌+◌, ◌^◌, ◌<◌, Option, List, [], ◌++◌, length, IsOk, Result, Ok, Err}
+use Rattle.std.specs.Prelude.{◌≡◌, ◌≢◌, ◌⊎◌, ℕ, ◌+◌, ◌^◌, ◌<◌, Option, List, [], ◌++◌, length, IsOk, Err}
 use Rattle.std.specs.Io.KnownBytes.{Consumes, IsAtEnd}
 use Rattle.gix_hash.specs.PrefixReading.{prefix_read}
 use Rattle.oidtool.specs.Finding.{finding, refusal_of_list, IsFoundInPart}

@@ -116,7 +116,9 @@ pub fn find_from<A: Allocator, R: Source, W: Sink>(
     ensures input { IsErrOf result FindFromError.Input ↔ (R.has_failed list.new ≡ true) }
     ensures output { IsErrOf result FindFromError.Output ↔ (W.has_failed out.new ≡ true) }
 {
-    let prefix = Alphabet::Hex.read_prefix(prefix).map_err(FindFromError::Prefix)?;
+    let prefix = Alphabet::Hex
+        .read_prefix(prefix)
+        .map_err(FindFromError::Prefix)?;
     let ids = read_source(alloc, list)?;
     Ok(search_ids(Alphabet::Hex, &ids, &prefix, out)?)
 }

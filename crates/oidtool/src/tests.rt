@@ -6,6 +6,7 @@ mod faults;
 mod finding_in;
 mod pipes;
 mod running;
+mod sources;
 
 use crate::command::{ArgError, exit_status, read_command};
 use crate::finding::{FindError, find, find_change};
@@ -48,7 +49,8 @@ fn printed<T: Display + Drop>(alloc: Global, value: T) -> Result<String, AllocEr
     format!(in alloc; "{value}")
 }
 
-// Finds the prefix in the lines, and compares the answer's Debug text and what was written.
+// Finds the prefix in the lines, as one text and as what a source gives, and compares the answer's
+// Debug text and what was written.
 fn expect_find(
     rt: &(impl Abort + AllocGlobal),
     prefix: &str,
@@ -70,7 +72,7 @@ fn expect_find(
         written.as_bytes(),
         "the output for {prefix}"
     );
-    Ok(())
+    sources::expect_however_cut(rt, prefix, list.as_bytes(), answer, written)
 }
 
 // As `expect_find`, in the letters of change ids.

@@ -3,6 +3,8 @@
 use super::devices::{Fault, Writer};
 use super::{BLOB, BLOB_256, BLOB_LETTERS, TREE, TREE_256, text_of};
 use crate::finding::{FindError, find, find_change};
+use crate::finding_from::{FindFromError, find_from};
+use crate::from_slice::FromSlice;
 use crate::into_slice::IntoSlice;
 use crate::plain::Plain;
 use crate::sink::Sink;
@@ -152,6 +154,23 @@ fn finds_within<A: Allocator>(rt: &impl Abort, alloc: A, list: &[u8]) -> bool {
     }
 }
 
+// As `finds_within`, in what a source gives.
+fn finds_from_within<A: Allocator>(rt: &impl Abort, alloc: A, list: &[u8]) -> bool {
+    let mut buf = [0; 128];
+    let mut out = IntoSlice::new(&mut buf);
+    match find_from(alloc, "6ef1", &mut FromSlice::new(list), &mut out) {
+        Err(FindFromError::Memory) => {
+            assert_eq!(rt; out.written(), b"".as_slice(), "nothing is written");
+            false
+        }
+        answer => {
+            assert!(rt; matches!(answer, Ok(1)));
+            assert_eq!(rt; out.written(), TREE_256.as_bytes());
+            true
+        }
+    }
+}
+
 // As `finds_within`, in the letters of change ids.
 fn finds_change_within<A: Allocator>(rt: &impl Abort, alloc: A, list: &[u8]) -> bool {
     let mut buf = [0; 128];
@@ -180,8 +199,8 @@ fn list_of(alloc: Global, lines: usize) -> Result<String, AllocError> {
     Ok(text)
 }
 
-// For how many of the lists memory is found in a heap of so many units of 16 bytes, for both
-// commands alike.
+// For how many of the lists memory is found in a heap of so many units of 16 bytes, for each of the
+// three searches alike.
 fn granted_within(
     rt: &(impl Abort + AllocGlobal),
     lists: &[String],
@@ -192,7 +211,9 @@ fn granted_within(
     for (n, list) in lists.iter().enumerate() {
         let found = finds_within(rt, &heap, list.as_bytes());
         let found_change = finds_change_within(rt, &heap, list.as_bytes());
+        let found_from = finds_from_within(rt, &heap, list.as_bytes());
         assert_eq!(rt; found, found_change, "both at {units}");
+        assert_eq!(rt; found, found_from, "both at {units}");
         assert_eq!(rt; heap.used(), 0, "all is given back at {units}");
         if found {
             assert_eq!(rt; granted, n, "a shorter list is granted too at {units}");
@@ -234,6 +255,11 @@ fn finds_in_long_lists(rt: HostRuntime) -> Result<(), Fail> {
     assert_eq!(&rt; out.into_inner().as_slice(), BLOB.as_bytes());
     let mut out = Plain::new(Vec::new(rt.alloc()));
     let found = find_change(rt.alloc(), "vorx", list.as_bytes(), &mut out);
+    assert!(&rt; matches!(found, Ok(2998)));
+    assert_eq!(&rt; out.into_inner().len(), 2998 * 41);
+    let mut input = FromSlice::new(list.as_bytes());
+    let mut out = Plain::new(Vec::new(rt.alloc()));
+    let found = find_from(rt.alloc(), "4b82", &mut input, &mut out);
     assert!(&rt; matches!(found, Ok(2998)));
     assert_eq!(&rt; out.into_inner().len(), 2998 * 41);
     Ok(())

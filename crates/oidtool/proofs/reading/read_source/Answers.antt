@@ -1,4 +1,4 @@
-use Rattle.std.proofs.Common.{◌≡◌, ◌+◌, ◌<◌, ◌≤◌, ◌||◌, false, List, [], sym, append-nil, take, drop, length, ap, ◌∙◌, subst, arith, length-take}
+use Rattle.std.proofs.Common.{◌≡◌, ◌<◌, ◌≤◌, ◌||◌, false, [], sym, append-nil, take, drop, length, ap, ◌∙◌, subst, arith, length-take}
 use Rattle.std.proofs.lemmas.Result.{err_from_is_err_and}
 use Rattle.std.specs.Io.KnownBytes.{Consumes}
 use Rattle.oidtool.specs.ListText.{RefusesList}
@@ -26,7 +26,7 @@ returns-in_err-finish-clause-stopped g c =
     let buf = c.read.new.buf in
     let some : 0 < length buf = omega (arith, c.read.auto.buf) in
     rw (p.1, p.2) (settled_at_end _ _ _ _ _ _ _ t (λ text. RefusesList text c.in_err-finish.field-0.0) c.in-Ok.count buf c.if-count-eq0.true
-      c.in-Ok.ensures.bytes.0 (c.in-Ok.ensures.bytes.1 c.if-count-eq0.true some) (c.in_err-finish.ensures.err t.text t.taken))
+    c.in-Ok.ensures.bytes.0 (c.in-Ok.ensures.bytes.1 c.if-count-eq0.true some) (c.in_err-finish.ensures.err t.text t.taken))
 
 pub returns-in_err-take_piece-clause-stopped : goal.returns-in_err-take_piece-clause-stopped
 returns-in_err-take_piece-clause-stopped g c =
@@ -36,7 +36,7 @@ returns-in_err-take_piece-clause-stopped g c =
     let buf = c.read.new.buf in
     let fits : length (take room buf) ≤ room = omega (arith, length-take room buf) in
     rw (p.1, p.2) (settled _ _ _ _ _ _ _ t (take room buf) (drop room (take c.in-Ok.count buf)) (parted _ _ room c.in-Ok.count buf (omega arith) c.in-Ok.ensures.bytes.0) fits
-      (λ text. RefusesList text c.in_err-take_piece.field-0.0) (λ more. c.in_err-take_piece.ensures.err t.text more t.taken))
+    (λ text. RefusesList text c.in_err-take_piece.field-0.0) (λ more. c.in_err-take_piece.ensures.err t.text more t.taken))
 
 pub returns-then-count-room-clause-stopped : goal.returns-then-count-room-clause-stopped
 returns-then-count-room-clause-stopped g c =
@@ -57,4 +57,4 @@ returns-in_err-take_piece-2-clause-stopped g c =
     let buf = c.read.new.buf in
     let fits : length (take count buf) ≤ c.pieces.room = omega (arith, length-take count buf) in
     rw (p.1, p.2) (settled _ _ _ _ _ _ _ t (take count buf) [] (subst (Consumes _ _) (sym (append-nil (take count buf))) c.in-Ok.ensures.bytes.0) fits
-      (λ text. RefusesList text c.in_err-take_piece-2.field-0.0) (λ more. c.in_err-take_piece-2.ensures.err t.text more t.taken))
+    (λ text. RefusesList text c.in_err-take_piece-2.field-0.0) (λ more. c.in_err-take_piece-2.ensures.err t.text more t.taken))

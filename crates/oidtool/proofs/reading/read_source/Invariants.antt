@@ -1,6 +1,4 @@
-use Rattle.std.proofs.Common.{◌≡◌, ◌+◌, ◌<◌, ◌^◌, false, length}
-use Rattle.std.specs.Io.KnownBytes.{Consumes}
-use Rattle.oidtool.specs.ListPieces.{HasTaken}
+use Rattle.std.proofs.Common.{◌≡◌, ◌+◌, ◌<◌, ◌^◌, false}
 use Rattle.oidtool.proofs.ReadingLemmas.{IsTaken}
 use Rattle.oidtool.proofs.reading.read_source.Given as goal
 

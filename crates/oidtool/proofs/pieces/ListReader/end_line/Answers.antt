@@ -14,7 +14,7 @@ returns-in_err-push-in-Ok-clause-err g c =
     let p = err_from_is_err_and c.from_residual.result c.from_residual.ensures.1 in
     let self = c.args.self.now in
     rw (p.1, p.2) (λ text more h. first_read-taken self.ids.items self.line self.len text h more
-      (rw (sym (c.in-Ok.ensures h.last h.last_len h.last_kept)) refl))
+    (rw (sym (c.in-Ok.ensures h.last h.last_len h.last_kept)) refl))
 
 pub returns-in-Err-clause-err : goal.returns-in-Err-clause-err
 returns-in-Err-clause-err g c text more h =

@@ -13,7 +13,8 @@ returns-in_err-end_line-clause-err g c =
 pub returns-clause-ok : goal.returns-clause-ok
 returns-clause-ok g c text h =
     elim c.if-self-gt0.branch [
-      then-self-gt0+in_ok-end_line w ↦
-        rw w.self-is (ap (ids_read 1) (sym (lines_of-unended _ _ _ text h w.if-self-gt0.true))
+      | then-self-gt0+in_ok-end_line w ↦
+          rw w.self-is (ap (ids_read 1) (sym (lines_of-unended _ _ _ text h w.if-self-gt0.true))
           ∙ list_taken _ _ _ _ (w.in_ok-end_line.ensures.ok text h) w.in_ok-end_line.ensures.short)
-    | else-self-gt0 w ↦ rw w.self-is (list_taken _ _ _ text h (omega arith)) ]
+      | else-self-gt0 w ↦ rw w.self-is (list_taken _ _ _ text h (omega arith))
+    ]
