@@ -38,7 +38,7 @@ pub enum Command<'a> {
     HashFile {
         /// The kind of the digest.
         kind: Kind,
-        /// How many bytes.
+        /// How many bytes, from the file's beginning.
         count: u64,
         /// The file's path.
         path: &'a str,

@@ -1,8 +1,9 @@
-//! `oidtool` finds object ids by their beginnings in sorted lists.
+//! `oidtool` finds object ids by their beginnings in sorted lists, and computes the digests of
+//! streams and files.
 //!
-//! It reads a list text on standard input, a line of hex digits for each id, and writes to standard
-//! output. Its status is 0 for a match, 1 for none, and 2 for a refusal, which is told on standard
-//! error.
+//! It reads a list text on standard input, a line of hex digits for each id, or the bytes to hash or
+//! to seal, and writes to standard output. Its status is 0 where it wrote an id, 1 where none of a
+//! list matches, and 2 for a refusal, which is told on standard error.
 #![tactic(auto)]
 
 ghost use Rattle.std.specs.Prelude.{◌≡◌};

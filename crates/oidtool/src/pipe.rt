@@ -7,7 +7,7 @@ ghost use Rattle.oidtool.specs.Pipe.{digest_line, sealed, ReadsAll, HashingStops
 
 use crate::printing::write_id;
 use crate::sink::{Sink, WriteFailed, write_all};
-use crate::source::Source;
+use crate::source::{PIECE_LEN, Source};
 use gix_hash::{Alphabet, Kind, ObjectId, hasher};
 use std::io;
 use thiserror::Error as ThisError;
@@ -38,9 +38,6 @@ impl From<WriteFailed> for PipeError {
 
 // The most bytes that FIPS 180-4 has a digest of: 2^61 - 1, that is 2^64 - 8 bits.
 const MAX_LEN: u64 = 2305843009213693951;
-
-// The most bytes that are read at once.
-const PIECE_LEN: usize = 65536;
 
 /// Reads the source to its end, and writes the digest of all that it gave: the lowercase hex digits
 /// and a line feed.

@@ -14,16 +14,13 @@ use crate::finding_in::{FindInError, find_in};
 use crate::pipe::{PipeError, hash_all, seal};
 use crate::printing::write_id;
 use crate::sink::{BufferedSink, Sink, WriteFailed};
-use crate::source::Source;
+use crate::source::{PIECE_LEN, Source};
 use gix_hash::io::{Never, NoProgress};
 use gix_hash::{Alphabet, Kind, bytes_of_file};
 use std::alloc::{AllocError, Allocator};
 use std::path::Path;
 use std::rt::Files;
 use thiserror::Error as ThisError;
-
-// How many bytes are read at once.
-const PIECE_LEN: usize = 65536;
 
 /// Why a command was refused, or did not end.
 #[derive(Debug, Drop, ThisError)]

@@ -6,6 +6,9 @@ ghost use Rattle.std.specs.Io.KnownBytes.{ReadConsumes};
 
 use std::io;
 
+/// How many bytes are asked of a source at once: 64 KiB, as many as a pipe holds.
+pub const PIECE_LEN: usize = 65536;
+
 /// A reader that knows whether it failed.
 pub trait Source {
     ghost use Rattle.std.specs.Prelude.{ℕ, Bool, List, Option};
