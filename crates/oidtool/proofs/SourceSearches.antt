@@ -1,10 +1,14 @@
 -- A search in what a source gives, as one in all that it has, where that is known.
-use Rattle.std.proofs.Common.{◌≡◌, ◌≢◌, ℕ, inl, inr, Option, Some, None, List, [], ◌++◌, sym, ap, ◌∙◌, subst, append_assoc, append-nil, IfSome, IsErrOf, IsErrAnd, Ok, Err}
+use Rattle.std.proofs.Common.{◌≡◌, ◌≢◌, ◌<◌, ◌≤◌, ◌^◌, ℕ, inl, inr, Option, Some, None, List, [], ◌∷◌, ◌++◌, length, length-append, refl, sym, ap, ◌∙◌, subst, append_assoc, append-nil, arith, IfErr, IfSome, IsErrOf, IsErrAnd, Ok, Err}
+use denote.Ref.{Bor}
 use Rattle.std.specs.Prelude.{Result}
-use Rattle.oidtool.specs.FindingFrom.{IsSettled, SearchStops}
+use Rattle.gix_hash.specs.Digits.{hex_letter}
+use Rattle.oidtool.specs.FindingFrom.{GivesAll, GivesTooMuch, IsSettled, SearchStops}
 use Rattle.oidtool.specs.Lines.{lines_of}
 use Rattle.oidtool.specs.ListText.{IsFirstRead}
-use Rattle.oidtool.specs.Running.{refusal_from_source}
+use Rattle.oidtool.specs.Running.{Refuses, refusal_from_source}
+use Rattle.oidtool.specs.declared.command.Command.{Command}
+use Rattle.oidtool.specs.declared.command.Command.TheVariants.{Find}
 use Rattle.oidtool.specs.declared.finding_from.FindFromError.{FindFromError}
 use Rattle.oidtool.specs.declared.finding_from.FindFromError.TheVariants as from
 use Rattle.oidtool.specs.declared.running.CommandError.{CommandError}
@@ -49,3 +53,47 @@ source_some letter prefix error (Err e) a b c d is stops ran_out = by_error erro
     by_error from.Output is stops = cc is
     by_error from.Input is stops = cc is
     by_error from.TooMuch is stops = cc is
+
+-- what holds of all that was given holds of all that there was
+given_whole : (P : List ℕ → Type 0) (a b : Option (List ℕ)) (text : List ℕ) → GivesAll a b text → P text → IfSome a P
+given_whole P None b text given h = tt
+given_whole P (Some xs) None text given h = absurd given.gives
+given_whole P (Some xs) (Some ys) text given h =
+    let alone : xs ≡ text = given.gives ∙ ap (λ l. text ++ l) given.at_end ∙ append-nil text in subst P (sym alone) h
+
+-- a source that gave too much has it
+too_much : (a b : Option (List ℕ)) → GivesTooMuch a b → IfSome a (λ bytes. 2 ^ 61 ≤ length bytes)
+too_much None b given = tt
+too_much (Some xs) None given = absurd given.gives
+too_much (Some xs) (Some ys) given =
+    let whole = length-append (given.text ++ given.behind) ys in
+    let front = length-append given.text given.behind in
+    let some : 0 < length given.behind = some_length given.behind given.some_more in
+    omega (arith, ap length given.gives, given.full)
+  where
+    some_length : (bytes : List ℕ) → bytes ≢ [] → 0 < length bytes
+    some_length [] some = absurd (some refl)
+    some_length (x ∷ bytes) some = omega arith
+
+-- where a search in what a source gives stops, the command refuses its input
+source_refused : (prefix : Bor (List ℕ)) (error : FindFromError) (a b c d : Option (List ℕ)) → SearchStops hex_letter prefix.now error a b c d
+    → Refuses (Find prefix) a (refusal_from_source error)
+source_refused prefix (from.Prefix error) a b c d stops = whatever a (λ text. rw stops refl)
+  where
+    whatever : {P : List ℕ → Type 0} (input : Option (List ℕ)) → ((text : List ℕ) → P text) → IfSome input P
+    whatever None all = tt
+    whatever (Some text) all = all text
+source_refused prefix (from.BadLine n error) a b c d stops = settled_whole _ a b stops
+source_refused prefix (from.Unsorted n) a b c d stops = given_whole _ a b stops.0 stops.1 stops.2
+source_refused prefix (from.PrefixTooLong hex_len least) a b c d stops = given_whole _ a b stops.0 stops.1 stops.2
+source_refused prefix from.Memory a b c d stops = tt
+source_refused prefix from.Output a b c d stops = tt
+source_refused prefix from.Input a b c d stops = tt
+source_refused prefix from.TooMuch a b c d stops = too_much a b stops.1
+
+-- and answers so
+pub source_refuses : (asked : Command) (prefix : Bor (List ℕ)) (error : FindFromError) (answer : Result ℕ CommandError) (a b c d : Option (List ℕ))
+    → asked ≡ Find prefix → IsErrAnd answer (λ e. e ≡ refusal_from_source error) → SearchStops hex_letter prefix.now error a b c d
+    → IfErr answer (Refuses asked a)
+source_refuses asked prefix error (Ok count) a b c d find is stops = absurd is
+source_refuses asked prefix error (Err e) a b c d find is stops = rw (find, is) (source_refused prefix error a b c d stops)
