@@ -1,13 +1,17 @@
 //! Runs of a prefix in sorted lists.
 
-ghost use Rattle.std.specs.Prelude.{◌≡◌, ◌≢◌, ◌↔◌, ◌+◌, ◌*◌, ◌≤◌, count_by, length, IfSome, IsSome, MatchOption};
+ghost use Rattle.std.specs.Prelude.{◌≡◌, ◌≢◌, ◌↔◌, ◌+◌, ◌*◌, ◌<◌, ◌≤◌, ◌∷◌, ◌++◌, [], ℕ, List, OnOk, count_by, length, IfSome, IsSome, MatchOption};
+ghost use Rattle.std.specs.Io.KnownBytes.{Appends};
+ghost use Rattle.gix_hash.specs.Digits.{hex_letter, spelling};
 ghost use Rattle.id_lookup.specs.Bits.{bits};
 ghost use Rattle.id_lookup.specs.FoundRun.{IsRun};
 ghost use Rattle.id_lookup.specs.Runs.{begins_with};
+ghost use Rattle.id_lookup.specs.ShortNames.{IsShortestName};
 ghost use Rattle.id_lookup.specs.Sorted.{least_hex_len};
 
 use gix_hash::Prefix;
 use id_lookup::{Answer, IdIndex, Probes, Run, SortedIds, lookup};
+use std::io;
 
 /// The run of a prefix, or `None` where it has more digits than some id of the list.
 pub fn run_of(list: &SortedIds<'_>, prefix: &Prefix) -> Option<Run>
@@ -42,4 +46,14 @@ pub fn only_match(index: &IdIndex<'_>, prefix: &Prefix) -> Option<usize>
         Answer::One(at) => Some(at),
         Answer::None | Answer::Many(_) => None,
     }
+}
+
+/// Writes the shortest name of an id of an index, and a line feed.
+pub fn write_name<W: io::Write>(index: &IdIndex<'_>, at: usize, out: &mut W) -> io::Result<()>
+    requires { at < length index.now.ids }
+    ensures { OnOk result ((name : List ℕ) × IsShortestName index.now.ids at name
+        × Appends (W.contents out.old) (W.contents out.new) (spelling hex_letter name ++ 10 ∷ [])) }
+{
+    index.abbreviate(at).write_hex_to(out)?;
+    out.write_all(b"\n")
 }
