@@ -55,5 +55,6 @@ pub fn write_name<W: io::Write>(index: &IdIndex<'_>, at: usize, out: &mut W) -> 
         × Appends (W.contents out.old) (W.contents out.new) (spelling hex_letter name ++ 10 ∷ [])) }
 {
     index.abbreviate(at).write_hex_to(out)?;
-    out.write_all(b"\n")
+    out.write_all(b"\n")?;
+    Ok(())
 }
