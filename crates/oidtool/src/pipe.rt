@@ -7,7 +7,7 @@ ghost use Rattle.oidtool.specs.Pipe.{digest_line, sealed, ReadsAll, HashingStops
 
 use crate::printing::write_id;
 use crate::sink::{Sink, WriteFailed, write_all};
-use crate::source::{PIECE_LEN, Source};
+use crate::source::{MAX_LEN, PIECE_LEN, Source};
 use gix_hash::{Alphabet, Kind, ObjectId, hasher};
 use std::io;
 use thiserror::Error as ThisError;
@@ -35,9 +35,6 @@ impl From<WriteFailed> for PipeError {
         PipeError::Output
     }
 }
-
-// The most bytes that FIPS 180-4 has a digest of: 2^61 - 1, that is 2^64 - 8 bits.
-const MAX_LEN: u64 = 2305843009213693951;
 
 /// Reads the source to its end, and writes the digest of all that it gave: the lowercase hex digits
 /// and a line feed.

@@ -8,7 +8,7 @@ ghost use Rattle.oidtool.specs.declared.reading.ReadError.{ReadError};
 
 use crate::list::ListError;
 use crate::pieces::ListReader;
-use crate::source::Source;
+use crate::source::{MAX_LEN, PIECE_LEN, Source};
 use gix_hash::ObjectId;
 use std::alloc::Allocator;
 
@@ -32,12 +32,6 @@ impl From<ListError> for ReadError {
         ReadError::Refused(error)
     }
 }
-
-// The most bytes of a list text: 2^61 - 1.
-const MAX_LEN: u64 = 2305843009213693951;
-
-// The most bytes that are read at once.
-const PIECE_LEN: usize = 65536;
 
 /// The ids of the list text that the source gives to its end, a line each, in the text's order.
 ///

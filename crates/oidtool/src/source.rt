@@ -9,6 +9,10 @@ use std::io;
 /// How many bytes are asked of a source at once: 64 KiB, as many as a pipe holds.
 pub const PIECE_LEN: usize = 65536;
 
+/// The most bytes that a source may give to a command that reads it in pieces: 2^61 - 1, that is
+/// 2^64 - 8 bits, beyond which FIPS 180-4 has no digest.
+pub const MAX_LEN: u64 = 2305843009213693951;
+
 /// A reader that knows whether it failed.
 pub trait Source {
     ghost use Rattle.std.specs.Prelude.{ℕ, Bool, List, Option};
