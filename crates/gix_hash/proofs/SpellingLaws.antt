@@ -41,10 +41,6 @@ spelling-injective (d ∷ ds) (e ∷ es) h =
     let digits = spelling-injective ds es rest in
     λ i. digit i ∷ digits i
 
--- equal digits are equal spellings
-pub spelled_alike : (ds es : List ℕ) → (ds ≡ es) ↔ (spelling hex_letter ds ≡ spelling hex_letter es)
-spelled_alike ds es = (ap (spelling hex_letter), spelling-injective ds es)
-
 -- `==` of owned ids by their spellings, which tell the kinds by their lengths
 pub id_eq-spelling : (a b : ObjectId) → length (id_digits a) ≡ hex_len_of (id_kind a) → length (id_digits b) ≡ hex_len_of (id_kind b)
     → IsTrue (id_eq a b) ↔ (spelling hex_letter (id_digits a) ≡ spelling hex_letter (id_digits b))

@@ -1,5 +1,5 @@
 -- What is found in ids of one kind means what it says of the two texts.
-use Rattle.std.proofs.Common.{◌≡◌, ℕ, ◌+◌, Option, Some, None, List, refl, ap, Result, Ok, Err, IsOk, is_ok}
+use Rattle.std.proofs.Common.{◌≡◌, ℕ, Option, Some, None, List, refl, ap, Result, Ok, Err, IsOk, is_ok}
 use Rattle.gix_hash.specs.Digits.{hex_letter}
 use Rattle.gix_hash.specs.Prefix.{Beginning}
 use Rattle.gix_hash.specs.PrefixReading.{prefix_read_in}

@@ -1,6 +1,5 @@
 -- Reading to the end, and a command that was done, and its flush.
-use Rattle.std.proofs.Common.{◌≡◌, ◌≢◌, ℕ, ◌≤◌, Option, Some, None, List, [], take, length, length-append, refl, sym, ap, ◌∙◌, arith, append-nil, IfSome, IsErrOf, IsErrAnd, Ok, Err}
-use Rattle.std.proofs.lemmas.List.{length-take}
+use Rattle.std.proofs.Common.{◌≡◌, ◌≢◌, ℕ, Option, Some, None, List, [], length, length-append, refl, sym, ap, ◌∙◌, arith, append-nil, IfSome, IsErrOf, IsErrAnd, Ok, Err}
 use Rattle.std.specs.Prelude.{Result}
 use Rattle.std.specs.Io.KnownBytes.{Appends, Consumes, Keeps}
 use Rattle.oidtool.specs.declared.command.Command.{Command}
@@ -18,18 +17,6 @@ use Rattle.oidtool.specs.Pipe.{digest_line, sealed}
 use Rattle.oidtool.specs.Running.{refusal_of_search, refusal_of_search_in, IsFoundAtMost, WritesAtMost, Does, DoesAtMost}
 use Rattle.oidtool.proofs.LineLemmas.{lines_of-nil, no_length}
 use Rattle.oidtool.proofs.Taking.{Appends-kept}
-
--- where some bytes were read, there were some
-pub some_read : (a b c : Option (List ℕ)) (front piece : List ℕ) (n : ℕ) → Consumes a b front → Consumes b c (take n piece) → n ≢ 0
-    → n ≤ length piece → IfSome a (λ bytes. bytes ≢ [])
-some_read None b c front piece n p q some within = tt
-some_read (Some xs) None c front piece n p q some within = absurd p
-some_read (Some xs) (Some ys) None front piece n p q some within = absurd q
-some_read (Some xs) (Some ys) (Some zs) front piece n p q some within = λ e.
-    let behind = length-append front ys in
-    let read = length-append (take n piece) zs in
-    let cut = length-take n piece in
-    absurd (omega (arith, ap length e, ap length p, ap length q, behind, read, cut))
 
 -- what bytes were read of was not empty, where they are not
 some_left : (a b : Option (List ℕ)) (items : List ℕ) → Consumes a b items → items ≢ [] → IfSome a (λ bytes. bytes ≢ [])
