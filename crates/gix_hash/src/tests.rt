@@ -1,6 +1,7 @@
 //! What no clause says: worked examples, printed texts, buffers behind the digits, and each public
 //! call and impl once where it succeeds.
 
+mod bad_texts;
 mod change_ids;
 mod common_digits;
 mod devices;

@@ -207,13 +207,16 @@ fn beginnings(rt: HostRuntime) -> Result<(), Fail> {
 fn without_a_runtime() -> Result<(), Fail> {
     let ids = well_known()?;
     let list = SortedIds::try_new(&ids)?;
-    let prefix = Prefix::from_hex("6ef1")?;
-    if prefix.hex_len() > list.min_hex_len() {
-        return Err(Fail::new("the prefix is too long"));
-    }
-    let run = lookup(&mut Probes::new(&list, prefix));
-    if run != (Run { start: 2, end: 3 }) || run != list.find(&prefix) {
-        return Err(Fail::new("the run is another"));
+    for (digits, start, end) in [("4b82", 1, 2), ("4", 0, 2), ("5", 2, 2), ("6ef1", 2, 3)] {
+        let prefix = Prefix::from_hex_nonempty(digits)?;
+        if prefix.hex_len() > list.min_hex_len() {
+            return Err(Fail::new("the prefix is too long"));
+        }
+        let mut probes = Probes::new(&list, prefix);
+        let run = lookup(&mut probes);
+        if run != (Run { start, end }) || run != list.find(&prefix) || probes.asked() > 6 {
+            return Err(Fail::new("the run is another"));
+        }
     }
     Ok(())
 }

@@ -1,11 +1,13 @@
 //! What no clause says: worked examples, texts, and devices and memory that fail.
 
+mod bad_lists;
 mod devices;
 mod digests;
 mod faults;
 mod finding_in;
 mod pipes;
 mod running;
+mod searches;
 mod sources;
 
 use crate::command::{ArgError, exit_status, read_command};
@@ -174,9 +176,6 @@ fn finds_in_list_texts(rt: HostRuntime) -> Result<(), Fail> {
 #[test]
 fn refuses_bad_lines(rt: HostRuntime) -> Result<(), Fail> {
     let first_of_three = "Err(BadLine { line: 3, error: InvalidHexEncodingLength(2) })";
-    let empty_line = "Err(BadLine { line: 2, error: InvalidHexEncodingLength(0) })";
-    let with_return = "4b825dc642cb6eb9a060e54bf8d69288fbee4904\r\n";
-    let with_nul = "\04825dc642cb6eb9a060e54bf8d69288fbee4904\n";
     expect_find(
         &rt,
         "4b82",
@@ -196,27 +195,6 @@ fn refuses_bad_lines(rt: HostRuntime) -> Result<(), Fail> {
         "4b82",
         ["\n"].as_slice(),
         "Err(BadLine { line: 1, error: InvalidHexEncodingLength(0) })",
-        NO_MATCH,
-    )?;
-    expect_find(
-        &rt,
-        "4b82",
-        [TREE, "\n", BLOB].as_slice(),
-        empty_line,
-        NO_MATCH,
-    )?;
-    expect_find(
-        &rt,
-        "4b82",
-        [with_return].as_slice(),
-        "Err(BadLine { line: 1, error: InvalidHexEncodingLength(41) })",
-        NO_MATCH,
-    )?;
-    expect_find(
-        &rt,
-        "4b82",
-        [with_nul].as_slice(),
-        "Err(BadLine { line: 1, error: Invalid })",
         NO_MATCH,
     )
 }
@@ -279,7 +257,7 @@ fn prints_refusals(rt: HostRuntime) -> Result<(), Fail> {
 #[test]
 fn reads_commands(rt: HostRuntime) -> Result<(), Fail> {
     let usage =
-        "usage: oidtool find PREFIX | find-change LETTERS | hash KIND | hash-file KIND N PATH | seal KIND";
+        "usage: oidtool find PREFIX | find-change LETTERS | find-in KIND PREFIX | hash KIND | hash-file KIND N PATH | seal KIND";
     let rows = [
         ([].as_slice(), "Err(Usage)"),
         (["find"].as_slice(), "Err(Usage)"),
@@ -293,6 +271,14 @@ fn reads_commands(rt: HostRuntime) -> Result<(), Fail> {
         ),
         (["find-change"].as_slice(), "Err(Usage)"),
         (["find-change", "zzzz", "zzzz"].as_slice(), "Err(Usage)"),
+        (
+            ["find-in", "sha1", "4"].as_slice(),
+            "Ok(FindIn { kind: Sha1, prefix: \"4\" })",
+        ),
+        (["find-in"].as_slice(), "Err(Usage)"),
+        (["find-in", "sha1"].as_slice(), "Err(Usage)"),
+        (["find-in", "md5", "4", "4"].as_slice(), "Err(Usage)"),
+        (["find-in", "md5", "4"].as_slice(), "Err(BadKind(\"md5\"))"),
         (["hash", "4b82"].as_slice(), "Err(BadKind(\"4b82\"))"),
     ];
     for (words, answer) in rows {

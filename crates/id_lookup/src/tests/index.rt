@@ -172,6 +172,29 @@ fn expect_names(rt: &impl Abort, ids: &[ObjectId], names: &[&str]) -> Result<(),
     Ok(())
 }
 
+// Each member's name is printed, read in the kind of the index, and found: the member alone.
+fn expect_read_names(
+    rt: &(impl Abort + AllocGlobal),
+    ids: &[ObjectId],
+    names: &[&str],
+) -> Result<(), Fail> {
+    let index = IdIndex::try_new(ids, Kind::Sha1)?;
+    assert_eq!(rt; names.len(), index.len());
+    for at in 0..index.len() {
+        let printed = format!(in rt.alloc(); "{}", index.abbreviate(at))?;
+        assert_eq!(rt; printed.as_str(), names[at], "at {at}");
+        let read = Prefix::from_hex_in(Kind::Sha1, printed.as_str())?;
+        assert!(rt; read.as_oid().kind() == index.kind());
+        assert_eq!(rt; index.find(&read), Answer::One(at), "at {at}");
+    }
+    Ok(())
+}
+
+#[test]
+fn names_read_back(rt: HostRuntime) -> Result<(), Fail> {
+    expect_read_names(&rt, &two_alike()?, &["abcd0", "abcd1", "ffff"])
+}
+
 #[test]
 fn shortest_names(rt: HostRuntime) -> Result<(), Fail> {
     let zeros = "0000000000000000000000000000000000000000";

@@ -9,6 +9,7 @@ use crate::into_slice::IntoSlice;
 use crate::plain::Plain;
 use crate::running::run_command;
 use gix_hash::Kind;
+use linked_list_allocator::LocalHeap;
 use std::fs;
 use std::io::BufWriter;
 use std::process::Abort;
@@ -127,6 +128,26 @@ fn tells_a_flush_that_fails(rt: HostRuntime) -> Result<(), Fail> {
     let whole = sealed(rt.alloc(), b"abc", ABC)?;
     expect_failed_flush(&rt, Command::Hash { kind }, ABC.as_bytes())?;
     expect_failed_flush(&rt, Command::Seal { kind }, &whole)
+}
+
+// With an allocator that has no room for the piece that is read, nor for a digest's line.
+#[test]
+fn hashes_without_memory(rt: HostRuntime) -> Result<(), Fail> {
+    let kind = Kind::Sha1;
+    let whole = sealed(rt.alloc(), b"abc", ABC)?;
+    let heap = LocalHeap::new(rt.alloc(), 0)?;
+    assert!(&rt; Vec::<u8, _>::with_capacity(&heap, 41).is_err());
+    for (command, written) in [
+        (Command::Hash { kind }, ABC.as_bytes()),
+        (Command::Seal { kind }, &whole),
+    ] {
+        let mut buf = [0; 80];
+        let mut out = IntoSlice::new(&mut buf);
+        let answer = run_command(&rt, &heap, command, &mut FromSlice::new(b"abc"), &mut out);
+        assert!(&rt; matches!(answer, Ok(1)));
+        assert_eq!(&rt; out.written(), written);
+    }
+    Ok(())
 }
 
 #[test]

@@ -1,15 +1,15 @@
-//! Writers that fail, and memory that is refused.
+//! Writers that fail, lists that are long, and searches that need no memory.
 
 use super::devices::{Fault, Writer};
-use super::{BLOB, BLOB_256, BLOB_LETTERS, TREE, TREE_256, text_of};
+use super::{BLOB, BLOB_256, TREE, TREE_256, text_of};
 use crate::finding::{FindError, find, find_change};
-use crate::finding_from::{FindFromError, find_from};
+use crate::finding_from::find_from;
 use crate::from_slice::FromSlice;
 use crate::into_slice::IntoSlice;
 use crate::plain::Plain;
 use crate::sink::Sink;
 use linked_list_allocator::LocalHeap;
-use std::alloc::{AllocError, Allocator, Global};
+use std::alloc::{AllocError, Global};
 use std::process::Abort;
 use std::test::Fail;
 
@@ -88,28 +88,6 @@ fn tells_a_write_that_fails(rt: HostRuntime) -> Result<(), Fail> {
 }
 
 #[test]
-fn tells_a_write_of_a_change_that_fails(rt: HostRuntime) -> Result<(), Fail> {
-    let list = list(rt.alloc())?;
-    let line = BLOB_LETTERS.as_bytes();
-    for at in 1..=42 {
-        let writer = Writer::new(Vec::new(rt.alloc()), 1, Fault::AtCall(at));
-        let mut out = Plain::new(writer);
-        let found = find_change(rt.alloc(), "ltqm", list.as_bytes(), &mut out);
-        assert!(&rt; at - 1 <= line.len());
-        assert_eq!(&rt; matches!(found, Ok(1)), at == 42, "at write {at}");
-        assert_eq!(&rt;
-            matches!(found, Err(FindError::Output)),
-            at < 42,
-            "at write {at}"
-        );
-        let writer = out.into_inner();
-        assert_eq!(&rt; writer.taken(), &line[..at - 1], "at write {at}");
-        assert_eq!(&rt; writer.calls(), at.min(41), "at write {at}");
-    }
-    Ok(())
-}
-
-#[test]
 fn keeps_a_failure(rt: HostRuntime) -> Result<(), Fail> {
     let mut out = Plain::new(Writer::new(Vec::new(rt.alloc()), 4, Fault::AtCall(2)));
     assert!(&rt; matches!(out.write(b"abcdef"), Ok(4)));
@@ -137,57 +115,6 @@ fn fills_a_slice(rt: HostRuntime) {
     assert_eq!(&rt; out.written(), b"abcdef".as_slice());
 }
 
-// Finds within an allocator: whether it gave all that was asked of it.
-fn finds_within<A: Allocator>(rt: &impl Abort, alloc: A, list: &[u8]) -> bool {
-    let mut buf = [0; 128];
-    let mut out = IntoSlice::new(&mut buf);
-    match find(alloc, "6ef1", list, &mut out) {
-        Err(FindError::Memory) => {
-            assert_eq!(rt; out.written(), b"".as_slice(), "nothing is written");
-            false
-        }
-        answer => {
-            assert!(rt; matches!(answer, Ok(1)));
-            assert_eq!(rt; out.written(), TREE_256.as_bytes());
-            true
-        }
-    }
-}
-
-// As `finds_within`, in what a source gives.
-fn finds_from_within<A: Allocator>(rt: &impl Abort, alloc: A, list: &[u8]) -> bool {
-    let mut buf = [0; 128];
-    let mut out = IntoSlice::new(&mut buf);
-    match find_from(alloc, "6ef1", &mut FromSlice::new(list), &mut out) {
-        Err(FindFromError::Memory) => {
-            assert_eq!(rt; out.written(), b"".as_slice(), "nothing is written");
-            false
-        }
-        answer => {
-            assert!(rt; matches!(answer, Ok(1)));
-            assert_eq!(rt; out.written(), TREE_256.as_bytes());
-            true
-        }
-    }
-}
-
-// As `finds_within`, in the letters of change ids.
-fn finds_change_within<A: Allocator>(rt: &impl Abort, alloc: A, list: &[u8]) -> bool {
-    let mut buf = [0; 128];
-    let mut out = IntoSlice::new(&mut buf);
-    match find_change(alloc, "ltqm", list, &mut out) {
-        Err(FindError::Memory) => {
-            assert_eq!(rt; out.written(), b"".as_slice(), "nothing is written");
-            false
-        }
-        answer => {
-            assert!(rt; matches!(answer, Ok(1)));
-            assert_eq!(rt; out.written(), BLOB_LETTERS.as_bytes());
-            true
-        }
-    }
-}
-
 // A list of so many lines, the trees of SHA-1 but for the tree of SHA-256 and the blob behind them.
 fn list_of(alloc: Global, lines: usize) -> Result<String, AllocError> {
     let mut text = String::new(alloc);
@@ -197,53 +124,6 @@ fn list_of(alloc: Global, lines: usize) -> Result<String, AllocError> {
     text.push_str(TREE_256)?;
     text.push_str(BLOB)?;
     Ok(text)
-}
-
-// For how many of the lists memory is found in a heap of so many units of 16 bytes, for each of the
-// three searches alike.
-fn granted_within(
-    rt: &(impl Abort + AllocGlobal),
-    lists: &[String],
-    units: usize,
-) -> Result<usize, Fail> {
-    let heap = LocalHeap::new(rt.alloc(), units.saturating_mul(16))?;
-    let mut granted = 0;
-    for (n, list) in lists.iter().enumerate() {
-        let found = finds_within(rt, &heap, list.as_bytes());
-        let found_change = finds_change_within(rt, &heap, list.as_bytes());
-        let found_from = finds_from_within(rt, &heap, list.as_bytes());
-        assert_eq!(rt; found, found_change, "both at {units}");
-        assert_eq!(rt; found, found_from, "both at {units}");
-        assert_eq!(rt; heap.used(), 0, "all is given back at {units}");
-        if found {
-            assert_eq!(rt; granted, n, "a shorter list is granted too at {units}");
-            granted = n + 1;
-        }
-    }
-    Ok(granted)
-}
-
-// Lists of 4, 8 and 9 lines make one growth, two and three. As the heap grows, each growth is in
-// turn the first that is refused.
-#[test]
-fn tells_memory_that_is_refused(rt: HostRuntime) -> Result<(), Fail> {
-    let mut lists = Vec::new(rt.alloc());
-    for lines in [4, 8, 9] {
-        lists.push(list_of(rt.alloc(), lines)?)?;
-    }
-    let mut before = 0;
-    for units in 0..1000 {
-        let granted = granted_within(&rt, &lists, units)?;
-        assert!(&rt;
-            granted.abs_diff(before) <= 1,
-            "no growth is passed over at {units}"
-        );
-        if granted == 3 {
-            return Ok(());
-        }
-        before = granted;
-    }
-    Err(Fail::new("some growth was refused each time"))
 }
 
 #[test]

@@ -1,13 +1,9 @@
 //! Finding among ids of one kind.
 
-use super::devices::{Fault, Writer};
 use super::{BLOB, BLOB_256, NO_MATCH, TREE, TREE_256, printed, shown, text_of};
 use crate::finding_in::{FindInError, find_in};
 use crate::into_slice::IntoSlice;
-use crate::plain::Plain;
 use gix_hash::{Kind, decode, prefix};
-use linked_list_allocator::LocalHeap;
-use std::alloc::Allocator;
 use std::process::Abort;
 use std::test::Fail;
 
@@ -148,60 +144,4 @@ fn tells_refusals_of_a_kind(rt: HostRuntime) -> Result<(), Fail> {
         assert_eq!(&rt; printed(rt.alloc(), error)?.as_str(), text);
     }
     Ok(())
-}
-
-#[test]
-fn tells_a_write_in_a_kind_that_fails(rt: HostRuntime) -> Result<(), Fail> {
-    let list = text_of(rt.alloc(), [TREE, BLOB].as_slice())?;
-    let line = TREE.as_bytes();
-    for at in 1..=42 {
-        let writer = Writer::new(Vec::new(rt.alloc()), 1, Fault::AtCall(at));
-        let mut out = Plain::new(writer);
-        let found = find_in(rt.alloc(), Kind::Sha1, "4b82", list.as_bytes(), &mut out);
-        assert!(&rt; at - 1 <= line.len());
-        assert_eq!(&rt; matches!(found, Ok(1)), at == 42, "at write {at}");
-        assert_eq!(&rt;
-            matches!(found, Err(FindInError::Output)),
-            at < 42,
-            "at write {at}"
-        );
-        let writer = out.into_inner();
-        assert_eq!(&rt; writer.taken(), &line[..at - 1], "at write {at}");
-        assert_eq!(&rt; writer.calls(), at.min(41), "at write {at}");
-        assert_eq!(&rt; writer.flushes(), 0, "at write {at}");
-    }
-    Ok(())
-}
-
-// Finds within an allocator: whether it gave all that was asked of it.
-fn finds_within<A: Allocator>(rt: &impl Abort, alloc: A, list: &[u8]) -> bool {
-    let mut buf = [0; 64];
-    let mut out = IntoSlice::new(&mut buf);
-    match find_in(alloc, Kind::Sha1, "4b82", list, &mut out) {
-        Err(FindInError::Memory) => {
-            assert_eq!(rt; out.written(), b"".as_slice(), "nothing is written");
-            false
-        }
-        answer => {
-            assert!(rt; matches!(answer, Ok(1)));
-            assert_eq!(rt; out.written(), TREE.as_bytes());
-            true
-        }
-    }
-}
-
-#[test]
-fn tells_memory_refused_in_a_kind(rt: HostRuntime) -> Result<(), Fail> {
-    let list = text_of(rt.alloc(), [TREE, BLOB].as_slice())?;
-    let mut refused = false;
-    for units in 0..1000 {
-        let heap = LocalHeap::new(rt.alloc(), 16 * units)?;
-        if finds_within(&rt, &heap, list.as_bytes()) {
-            assert!(&rt; refused, "no growth was refused");
-            return Ok(());
-        }
-        refused = true;
-        assert_eq!(&rt; heap.used(), 0, "at {units}");
-    }
-    Err(Fail::new("each run met a refusal"))
 }

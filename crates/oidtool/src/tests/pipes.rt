@@ -289,16 +289,36 @@ fn tells_a_write_that_fails(rt: HostRuntime) -> Result<(), Fail> {
     for pipe in [Pipe::Hash, Pipe::Seal] {
         expect_failed_write(&rt, pipe, 1, (0, Fault::Never))?;
     }
-    let run = Run {
-        pipe: Pipe::Hash,
-        read: (usize::MAX, Fault::Never),
-        write: (usize::MAX, Fault::AfterBytes(5)),
-        answer: Err(PipeError::Output),
-        taken: b"a9993",
-        calls: (2, 2),
-    };
-    expect_run(&rt, &run);
     Ok(())
+}
+
+// Writers with room for some bytes, and writers that take all behind their error.
+#[test]
+fn tells_a_write_of_more_bytes_that_fails(rt: HostRuntime) {
+    let whole = usize::MAX;
+    for (pipe, fault, taken, calls) in [
+        (
+            Pipe::Hash,
+            Fault::AfterBytes(5),
+            b"a9993".as_slice(),
+            (2, 2),
+        ),
+        (Pipe::Hash, Fault::AtCall(1), b"", (2, 1)),
+        (Pipe::Seal, Fault::AtCall(1), b"", (1, 1)),
+        (Pipe::Seal, Fault::AtCall(2), b"abc", (2, 2)),
+        (Pipe::Seal, Fault::AfterBytes(2), b"ab", (1, 2)),
+        (Pipe::Seal, Fault::AfterBytes(5), b"abc\xa9\x99", (2, 3)),
+    ] {
+        let run = Run {
+            pipe,
+            read: (whole, Fault::Never),
+            write: (whole, fault),
+            answer: Err(PipeError::Output),
+            taken,
+            calls,
+        };
+        expect_run(&rt, &run);
+    }
 }
 
 #[test]

@@ -1,9 +1,8 @@
 //! Finding in what a source gives: cut into pieces, ended early, and with devices that fail.
 
-use super::devices::{Fault, Reader, Writer};
+use super::devices::{Fault, Reader};
 use super::{BLOB, BLOB_256, NO_MATCH, TREE, TREE_256, printed, shown, text_of};
 use crate::finding_from::{FindFromError, find_from};
-use crate::from_slice::FromSlice;
 use crate::into_slice::IntoSlice;
 use crate::plain::Plain;
 use gix_hash::{decode, prefix};
@@ -121,31 +120,6 @@ fn tells_each_read_that_fails(rt: HostRuntime) -> Result<(), Fail> {
         }
     }
     expect_from(&rt, "4b82", list, (7, Fault::AtCall(33)), "Ok(1)", TREE)?;
-    Ok(())
-}
-
-#[test]
-fn tells_each_write_that_fails(rt: HostRuntime) -> Result<(), Fail> {
-    let list = list(rt.alloc())?;
-    let line = TREE.as_bytes();
-    for at in 1..=42 {
-        let mut input = FromSlice::new(list.as_bytes());
-        let writer = Writer::new(Vec::new(rt.alloc()), 1, Fault::AtCall(at));
-        let mut out = Plain::new(writer);
-        let found = find_from(rt.alloc(), "4b82", &mut input, &mut out);
-        assert!(&rt; at - 1 <= line.len());
-        if at == 42 {
-            assert!(&rt; matches!(found, Ok(1)));
-        } else {
-            assert!(&rt;
-                matches!(found, Err(FindFromError::Output)),
-                "at write {at}"
-            );
-        }
-        let writer = out.into_inner();
-        assert_eq!(&rt; writer.taken(), &line[..at - 1], "at write {at}");
-        assert!(&rt; !writer.was_asked_again(), "at write {at}");
-    }
     Ok(())
 }
 
