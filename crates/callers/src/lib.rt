@@ -6,7 +6,7 @@ mod runs;
 mod sets;
 
 pub use reading::{id_of_digest, is_named, read_again, read_id, short_name};
-pub use runs::{count_matches, only_match, run_of, write_name};
+pub use runs::{count_matches, only_match, run_of, write_name, write_names};
 pub use sets::{mark_seen, offset_of, set_offset, was_seen};
 
 #[cfg(test)]

@@ -1,6 +1,6 @@
 //! Runs of a prefix in sorted lists.
 
-ghost use Rattle.std.specs.Prelude.{◌≡◌, ◌≢◌, ◌↔◌, ◌+◌, ◌*◌, ◌<◌, ◌≤◌, ◌∷◌, ◌++◌, [], ℕ, List, OnOk, count_by, length, IfSome, IsSome, MatchOption};
+ghost use Rattle.std.specs.Prelude.{◌≡◌, ◌≢◌, ◌↔◌, ◌+◌, ◌*◌, ◌<◌, ◌≤◌, ◌∷◌, ◌++◌, [], ℕ, List, OnOk, count_by, flat_map, length, slice_index_or, IfSome, IsSome, MatchOption};
 ghost use Rattle.std.specs.Io.KnownBytes.{Appends};
 ghost use Rattle.gix_hash.specs.Digits.{hex_letter, spelling};
 ghost use Rattle.id_lookup.specs.Bits.{bits};
@@ -56,5 +56,17 @@ pub fn write_name<W: io::Write>(index: &IdIndex<'_>, at: usize, out: &mut W) -> 
 {
     index.abbreviate(at).write_hex_to(out)?;
     out.write_all(b"\n")?;
+    Ok(())
+}
+
+/// Writes the shortest names of all ids of an index, a line each, in the list's order.
+pub fn write_names<W: io::Write>(index: &IdIndex<'_>, out: &mut W) -> io::Result<()>
+    ensures { OnOk result ((names : List (List ℕ)) × (length names ≡ length index.now.ids)
+        × ((k : ℕ) → k < length names → IsShortestName index.now.ids k (slice_index_or names k []))
+        × Appends (W.contents out.old) (W.contents out.new) (flat_map (λ name. spelling hex_letter name ++ 10 ∷ []) names)) }
+{
+    for at in 0..index.len() {
+        write_name(index, at, out)?;
+    }
     Ok(())
 }

@@ -2,7 +2,7 @@
 
 use crate::{
     count_matches, id_of_digest, is_named, mark_seen, offset_of, only_match, read_again, read_id,
-    run_of, set_offset, short_name, was_seen, write_name,
+    run_of, set_offset, short_name, was_seen, write_name, write_names,
 };
 use gix_hash::{Kind, ObjectId, Prefix};
 use id_lookup::{IdIndex, SortedIds};
@@ -96,9 +96,8 @@ fn names_of_a_list(rt: HostRuntime) -> Result<(), Fail> {
     let ids = [ObjectId::from_hex(TREE)?, ObjectId::from_hex(BLOB)?];
     let index = IdIndex::try_new(&ids, Kind::Sha1)?;
     let mut out = Vec::new(rt.alloc());
-    for at in 0..index.len() {
-        write_name(&index, at, &mut out)?;
-    }
-    assert_eq!(rt; out.as_slice(), "4b82\ne69d\n".as_bytes());
+    write_name(&index, 1, &mut out)?;
+    write_names(&index, &mut out)?;
+    assert_eq!(rt; out.as_slice(), "e69d\n4b82\ne69d\n".as_bytes());
     Ok(())
 }
