@@ -44,6 +44,3 @@ pub use io::stream::{bytes, bytes_with_hasher};
 pub use kind::Kind;
 pub use object_id::ObjectId;
 pub use prefix::Prefix;
-
-#[cfg(test)]
-mod tests;

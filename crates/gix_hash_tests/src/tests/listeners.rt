@@ -2,7 +2,7 @@
 
 ghost use Rattle.std.specs.Prelude.{⊤};
 
-use crate::io::{Interrupt, Progress};
+use gix_hash::io::{Interrupt, Progress};
 use std::process::Abort;
 
 /// A call of a progress.

@@ -3,8 +3,8 @@
 use super::devices::{FAILED, Fault, Reader};
 use super::listeners::{Asked, Call, Heard};
 use super::{BLOB, expect_answer, expect_debug, expect_error, expect_text, id};
-use crate::io::{Never, NoProgress};
-use crate::{
+use gix_hash::io::{Never, NoProgress};
+use gix_hash::{
     Hasher, Kind, ObjectId, Prefix, bytes, bytes_with_hasher, hasher, hashing, hashing_laws, io,
 };
 use std::alloc::AllocError;

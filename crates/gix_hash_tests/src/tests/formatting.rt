@@ -1,7 +1,7 @@
 //! What printing and writing do with the options of a format and with a writer that fails.
 
 use super::{BLOB, BLOB_256, BLOB_LETTERS, expect_whole, id};
-use crate::{ChangeId, Kind, Prefix};
+use gix_hash::{ChangeId, Kind, Prefix};
 use std::io::{self, Write};
 use std::process::Abort;
 use std::test::Fail;

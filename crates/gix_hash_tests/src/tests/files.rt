@@ -3,7 +3,7 @@
 use super::expect_answer;
 use super::listeners::{Asked, Call, Heard};
 use super::streams::{ABC, ABC_256, EMPTY};
-use crate::{Kind, bytes_of_file, io};
+use gix_hash::{Kind, bytes_of_file, io};
 use std::fs;
 use std::path::Path;
 use std::test::Fail;

@@ -1,7 +1,7 @@
 //! Laws, at values that meet what they ask of the caller.
 
 use super::{BLOB, BLOB_256, BLOB_BYTES, id};
-use crate::{Alphabet, ChangeId, ObjectId, Prefix, laws, oid};
+use gix_hash::{Alphabet, ChangeId, ObjectId, Prefix, laws, oid};
 use std::test::Fail;
 
 #[test]

@@ -17,7 +17,7 @@ mod listeners;
 mod prefixes;
 mod streams;
 
-use crate::{ObjectId, decode};
+use gix_hash::{ObjectId, decode};
 use std::alloc::AllocError;
 use std::cmp::Ordering;
 use std::error::Error;

@@ -3,8 +3,8 @@
 use super::devices::{FAILED, Fault, Writer};
 use super::streams::{ABC, EMPTY};
 use super::{BLOB, expect_answer, expect_text};
-use crate::io::{Never, NoProgress};
-use crate::{Kind, bytes, io, oid, verify};
+use gix_hash::io::{Never, NoProgress};
+use gix_hash::{Kind, bytes, io, oid, verify};
 use std::io::Write;
 use std::test::Fail;
 

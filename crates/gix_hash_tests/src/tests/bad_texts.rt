@@ -2,8 +2,8 @@
 //! letters that are no digits.
 
 use super::{BLOB_256, id, parsed, tried};
-use crate::prefix::from_hex;
-use crate::{ChangeId, Kind, ObjectId, Prefix, decode};
+use gix_hash::prefix::from_hex;
+use gix_hash::{ChangeId, Kind, ObjectId, Prefix, decode};
 use std::alloc::{AllocError, Global};
 use std::process::Abort;
 use std::test::Fail;

@@ -3,7 +3,7 @@
 use super::{
     BLOB, BLOB_256, TREE, TREE_256, expect_below, expect_same, expect_text, parsed, tried,
 };
-use crate::{Kind, ObjectId};
+use gix_hash::{Kind, ObjectId};
 use std::alloc::AllocError;
 use std::process::Abort;
 use std::test::Fail;

@@ -1,7 +1,7 @@
 //! How many digits two ids share, by tables.
 
 use super::{BLOB, BLOB_256, TREE, id};
-use crate::{Kind, ObjectId};
+use gix_hash::{Kind, ObjectId};
 use std::process::Abort;
 use std::test::Fail;
 

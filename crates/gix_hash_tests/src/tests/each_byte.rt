@@ -1,7 +1,7 @@
 //! Full ids are read as the crate `hex` reads them: each byte is tried at each place of a text.
 
 use super::{BLOB, BLOB_256};
-use crate::{ChangeId, ObjectId, decode};
+use gix_hash::{ChangeId, ObjectId, decode};
 use std::process::Abort;
 
 const HEX: [u8; 16] = *b"0123456789abcdef";

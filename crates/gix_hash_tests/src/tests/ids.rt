@@ -5,7 +5,7 @@ use super::{
     BLOB, BLOB_256, BLOB_256_BYTES, BLOB_BYTES, TREE, ZEROS_65, converted, expect_answer,
     expect_below, expect_debug, expect_error, expect_same, expect_text, id, parsed, tried,
 };
-use crate::{Error, Kind, ObjectId, Prefix, decode, oid, verify};
+use gix_hash::{Error, Kind, ObjectId, Prefix, decode, oid, verify};
 use std::alloc::AllocError;
 use std::process::Abort;
 use std::test::Fail;

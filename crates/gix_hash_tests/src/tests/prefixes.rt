@@ -5,8 +5,8 @@ use super::{
     BLOB, BLOB_256, TREE, ZEROS_65, converted, expect_answer, expect_below, expect_error,
     expect_same, expect_text, id, tried,
 };
-use crate::prefix::{self, from_hex};
-use crate::{Kind, ObjectId, Prefix};
+use gix_hash::prefix::{self, from_hex};
+use gix_hash::{Kind, ObjectId, Prefix};
 use std::alloc::AllocError;
 use std::cmp::Ordering;
 use std::process::Abort;

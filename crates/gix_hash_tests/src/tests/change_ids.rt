@@ -5,8 +5,8 @@ use super::{
     BLOB, BLOB_256, BLOB_BYTES, BLOB_LETTERS, TREE, converted, expect_answer, expect_below,
     expect_debug, expect_same, expect_text, id, parsed,
 };
-use crate::prefix::from_hex;
-use crate::{Alphabet, ChangeId, Kind, ObjectId, Prefix};
+use gix_hash::prefix::from_hex;
+use gix_hash::{Alphabet, ChangeId, Kind, ObjectId, Prefix};
 use std::alloc::AllocError;
 use std::process::Abort;
 use std::test::Fail;
