@@ -75,6 +75,9 @@ fn runs_commands(rt: HostRuntime) -> Result<(), Fail> {
         expect_run(&rt, find_change("zzzz"), list, reader, "Ok(0)", NO_MATCH)?;
         expect_run(&rt, find_change("4b82"), list, reader, no_hex, NO_MATCH)?;
     }
+    let twice = text_of(rt.alloc(), [TREE, TREE].as_slice())?;
+    let twice = twice.as_str();
+    expect_run(&rt, find("4b82"), twice, (7, Fault::Never), "Ok(2)", twice)?;
     expect_run(&rt, find("4b82"), "", (1, Fault::Never), "Ok(0)", NO_MATCH)
 }
 
