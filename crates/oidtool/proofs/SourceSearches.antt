@@ -3,10 +3,11 @@ use Rattle.std.proofs.Common.{◌≡◌, ◌≢◌, ◌<◌, ◌≤◌, ◌^◌,
 use denote.Ref.{Bor}
 use Rattle.std.specs.Prelude.{Result}
 use Rattle.gix_hash.specs.Digits.{hex_letter}
-use Rattle.oidtool.specs.FindingFrom.{GivesAll, GivesTooMuch, IsSettled, SearchStops}
+use Rattle.oidtool.specs.FindingFrom.{GivesTooMuch, IsSettled, SearchStops}
 use Rattle.oidtool.specs.Lines.{lines_of}
 use Rattle.oidtool.specs.ListText.{IsFirstRead}
 use Rattle.oidtool.specs.Running.{Refuses, refusal_from_source}
+use Rattle.oidtool.specs.Source.{GivesAll}
 use Rattle.oidtool.specs.declared.command.Command.{Command}
 use Rattle.oidtool.specs.declared.command.Command.TheVariants.{Find}
 use Rattle.oidtool.specs.declared.finding_from.FindFromError.{FindFromError}

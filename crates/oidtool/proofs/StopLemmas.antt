@@ -5,8 +5,9 @@ use Rattle.gix_hash.specs.PrefixReading.{prefix_read}
 use Rattle.id_lookup.specs.Runs.{matches}
 use Rattle.id_lookup.specs.Sorted.{least_hex_len}
 use Rattle.oidtool.specs.Finding.{finding, found_among, found_in, IsFoundInPart}
-use Rattle.oidtool.specs.FindingFrom.{GivesAll, IsSettled, ReadingStops, SearchStops, from_source, from_reading}
+use Rattle.oidtool.specs.FindingFrom.{IsSettled, ReadingStops, SearchStops, from_source, from_reading}
 use Rattle.oidtool.specs.ListText.{list_read, first_unsorted}
+use Rattle.oidtool.specs.Source.{GivesAll}
 use Rattle.oidtool.specs.declared.finding.FindError.{FindError}
 use Rattle.oidtool.specs.declared.finding.FindError.TheVariants as search
 use Rattle.oidtool.specs.declared.list.ListError.TheVariants as list

@@ -6,18 +6,13 @@ use Rattle.oidtool.specs.Finding.{finding, refusal_of_list, IsFoundInPart}
 use Rattle.oidtool.specs.Lines.{lines_of}
 use Rattle.oidtool.specs.ListPieces.{NoBadLineEnded}
 use Rattle.oidtool.specs.ListText.{IsFirstRead, RefusesList}
+use Rattle.oidtool.specs.Source.{GivesAll}
 use Rattle.oidtool.specs.declared.finding.FindError.{FindError}
 use Rattle.oidtool.specs.declared.finding.FindError.TheVariants as search
 use Rattle.oidtool.specs.declared.finding_from.FindFromError.{FindFromError}
 use Rattle.oidtool.specs.declared.finding_from.FindFromError.TheVariants.{Prefix, BadLine, Unsorted, PrefixTooLong, Memory, Output, Input, TooMuch}
 use Rattle.oidtool.specs.declared.reading.ReadError.{ReadError}
 use Rattle.oidtool.specs.declared.reading.ReadError.TheVariants as read
-
--- the source gave the text, of fewer than 2^61 bytes, and has none left
-pub record GivesAll (old new : Option (List ℕ)) (text : List ℕ) : Type 0 where
-  pub gives : Consumes old new text
-  pub at_end : IsAtEnd new
-  pub short : length text < 2 ^ 61
 
 -- what the source gave settles that something holds of all that it has: of its first bytes, fewer than 2^61, whatever follows; or of all, at its end
 pub record IsSettled (Holds : List ℕ → Type 0) (old new : Option (List ℕ)) : Type 0 where

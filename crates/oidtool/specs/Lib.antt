@@ -9,5 +9,6 @@ pub mod FindingIn
 pub mod Writing
 pub mod Command
 pub mod Devices
+pub mod Source
 pub mod Pipe
 pub mod Running

@@ -1,11 +1,12 @@
 -- What a pipe reads and writes until it ends or stops.
-use Rattle.std.specs.Prelude.{ℕ, ◌<◌, ◌≤◌, ◌^◌, Option, List, ◌++◌, length}
-use Rattle.std.specs.Io.KnownBytes.{Appends, Consumes, IsAtEnd}
+use Rattle.std.specs.Prelude.{ℕ, ◌≤◌, ◌^◌, Option, List, ◌++◌, length}
+use Rattle.std.specs.Io.KnownBytes.{Appends, Consumes}
 use Rattle.gix_hash.specs.Digits.{hex_letter}
 use Rattle.gix_hash.specs.Hashing.{digest}
 use Rattle.gix_hash.specs.ObjectId.{id_bytes, id_digits}
 use Rattle.gix_hash.specs.declared.kind.Kind.{Kind}
 use Rattle.oidtool.specs.Finding.{line_of}
+use Rattle.oidtool.specs.Source.{Gives, GivesAll}
 use Rattle.oidtool.specs.Writing.{AppendsPart}
 use Rattle.oidtool.specs.declared.pipe.PipeError.{PipeError}
 use Rattle.oidtool.specs.declared.pipe.PipeError.TheVariants.{Input, Output, TooMuch}
@@ -18,29 +19,19 @@ digest_line kind message = line_of hex_letter (id_digits (digest kind message))
 abbrev pub sealed : Kind → List ℕ → List ℕ
 sealed kind message = message ++ id_bytes (digest kind message)
 
--- the source gave a message that FIPS 180-4 has a digest of: fewer than 2^61 bytes, that is fewer than 2^64 bits
-pub record Reads (old new : Option (List ℕ)) (message : List ℕ) : Type 0 where
-  pub has_digest : length message < 2 ^ 61
-  pub gives : Consumes old new message
-
--- the source gave such a message, and has none left
-pub record ReadsAll (old new : Option (List ℕ)) (message : List ℕ) : Type 0 where
-  pub reads : Reads old new message
-  pub at_end : IsAtEnd new
-
 -- the source gave a longer message
-pub record ReadsTooMuch (old new : Option (List ℕ)) (message : List ℕ) : Type 0 where
+pub record GivesMore (old new : Option (List ℕ)) (message : List ℕ) : Type 0 where
   pub too_long : 2 ^ 61 ≤ length message
   pub gives : Consumes old new message
 
 -- where hashing stops: what the source gave before, and what the sink took of the line
 abbrev pub HashingStops : PipeError → Kind → Option (List ℕ) → Option (List ℕ) → Option (List ℕ) → Option (List ℕ) → Type 0
-HashingStops Input kind source source' sink sink' = (message : List ℕ) × Reads source source' message
-HashingStops Output kind source source' sink sink' = (message : List ℕ) × ReadsAll source source' message × AppendsPart sink sink' (digest_line kind message)
-HashingStops TooMuch kind source source' sink sink' = (message : List ℕ) × ReadsTooMuch source source' message
+HashingStops Input kind source source' sink sink' = (message : List ℕ) × Gives source source' message
+HashingStops Output kind source source' sink sink' = (message : List ℕ) × GivesAll source source' message × AppendsPart sink sink' (digest_line kind message)
+HashingStops TooMuch kind source source' sink sink' = (message : List ℕ) × GivesMore source source' message
 
 -- where sealing stops: what the source gave before, and what the sink took of the sealed message
 abbrev pub SealingStops : PipeError → Kind → Option (List ℕ) → Option (List ℕ) → Option (List ℕ) → Option (List ℕ) → Type 0
-SealingStops Input kind source source' sink sink' = (message : List ℕ) × Reads source source' message × Appends sink sink' message
-SealingStops Output kind source source' sink sink' = (message : List ℕ) × Reads source source' message × AppendsPart sink sink' (sealed kind message)
-SealingStops TooMuch kind source source' sink sink' = (message : List ℕ) × ReadsTooMuch source source' message × AppendsPart sink sink' message
+SealingStops Input kind source source' sink sink' = (message : List ℕ) × Gives source source' message × Appends sink sink' message
+SealingStops Output kind source source' sink sink' = (message : List ℕ) × Gives source source' message × AppendsPart sink sink' (sealed kind message)
+SealingStops TooMuch kind source source' sink sink' = (message : List ℕ) × GivesMore source source' message × AppendsPart sink sink' message

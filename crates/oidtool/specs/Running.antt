@@ -153,13 +153,13 @@ TakesMemory (HashFile kind n path) = ⊥
 TakesMemory (Seal kind) = ⊥
 
 -- the command reads its input in pieces, and it has more than 2^61 - 1 bytes
-abbrev pub GivesTooMuch : Command → Option (List ℕ) → Type 0
-GivesTooMuch (Find prefix) input = IfSome input (λ text. 2 ^ 61 ≤ length text)
-GivesTooMuch (FindChange letters) input = ⊥
-GivesTooMuch (FindIn kind prefix) input = ⊥
-GivesTooMuch (Hash kind) input = IfSome input (λ text. 2 ^ 61 ≤ length text)
-GivesTooMuch (HashFile kind n path) input = ⊥
-GivesTooMuch (Seal kind) input = IfSome input (λ text. 2 ^ 61 ≤ length text)
+abbrev pub HasTooMuch : Command → Option (List ℕ) → Type 0
+HasTooMuch (Find prefix) input = IfSome input (λ text. 2 ^ 61 ≤ length text)
+HasTooMuch (FindChange letters) input = ⊥
+HasTooMuch (FindIn kind prefix) input = ⊥
+HasTooMuch (Hash kind) input = IfSome input (λ text. 2 ^ 61 ≤ length text)
+HasTooMuch (HashFile kind n path) input = ⊥
+HasTooMuch (Seal kind) input = IfSome input (λ text. 2 ^ 61 ≤ length text)
 
 -- the cause of an error of a command, where its input decides it
 abbrev pub Refuses : Command → Option (List ℕ) → CommandError → Type 0
@@ -168,4 +168,4 @@ Refuses asked input (command.FindIn error) = RefusesInputIn asked input error
 Refuses asked input command.Memory = TakesMemory asked
 Refuses asked input command.Input = Unit {0}
 Refuses asked input command.Output = Unit {0}
-Refuses asked input command.TooMuch = GivesTooMuch asked input
+Refuses asked input command.TooMuch = HasTooMuch asked input

@@ -4,7 +4,8 @@ ghost use Rattle.std.specs.Prelude.{◌≡◌, ◌≢◌, ◌↔◌, ℕ, List, 
 ghost use Rattle.gix_hash.specs.Digits.{hex_letter};
 ghost use Rattle.gix_hash.specs.PrefixReading.{prefix_read};
 ghost use Rattle.oidtool.specs.Finding.{finding, IsFound};
-ghost use Rattle.oidtool.specs.FindingFrom.{GivesAll, SearchStops};
+ghost use Rattle.oidtool.specs.FindingFrom.{SearchStops};
+ghost use Rattle.oidtool.specs.Source.{GivesAll};
 ghost use Rattle.oidtool.specs.declared.finding_from.FindFromError.{FindFromError};
 
 use crate::finding::{FindError, search_ids};

@@ -3,7 +3,8 @@
 ghost use Rattle.std.specs.Prelude.{◌≡◌, ◌≢◌, ◌↔◌, ℕ, List, false, true, OnOk, IfOk, IfErr, IsErrOf};
 ghost use Rattle.std.specs.Io.KnownBytes.{Appends};
 ghost use Rattle.gix_hash.specs.Hashing.{digest};
-ghost use Rattle.oidtool.specs.Pipe.{digest_line, sealed, ReadsAll, HashingStops, SealingStops};
+ghost use Rattle.oidtool.specs.Pipe.{digest_line, sealed, HashingStops, SealingStops};
+ghost use Rattle.oidtool.specs.Source.{GivesAll};
 
 use crate::printing::write_id;
 use crate::sink::{Sink, WriteFailed, write_all};
@@ -47,7 +48,7 @@ impl From<WriteFailed> for PipeError {
 pub fn hash_all<R: Source, W: Sink>(input: &mut R, out: &mut W, kind: Kind) -> Result<(), PipeError>
     requires input { R.has_failed input.old ≡ false }
     requires output { W.has_failed out.old ≡ false }
-    ensures hashed { OnOk result ((message : List ℕ) × ReadsAll (R.remaining input.old) (R.remaining input.new) message
+    ensures hashed { OnOk result ((message : List ℕ) × GivesAll (R.remaining input.old) (R.remaining input.new) message
         × Appends (W.taken out.old) (W.taken out.new) (digest_line kind message)) }
     ensures input { IsErrOf result PipeError.Input ↔ (R.has_failed input.new ≡ true) }
     ensures output { IsErrOf result PipeError.Output ↔ (W.has_failed out.new ≡ true) }
@@ -68,7 +69,7 @@ pub fn hash_all<R: Source, W: Sink>(input: &mut R, out: &mut W, kind: Kind) -> R
 pub fn seal<R: Source, W: Sink>(input: &mut R, out: &mut W, kind: Kind) -> Result<(), PipeError>
     requires input { R.has_failed input.old ≡ false }
     requires output { W.has_failed out.old ≡ false }
-    ensures sealed { OnOk result ((message : List ℕ) × ReadsAll (R.remaining input.old) (R.remaining input.new) message
+    ensures sealed { OnOk result ((message : List ℕ) × GivesAll (R.remaining input.old) (R.remaining input.new) message
         × Appends (W.taken out.old) (W.taken out.new) (sealed kind message)) }
     ensures input { IsErrOf result PipeError.Input ↔ (R.has_failed input.new ≡ true) }
     ensures output { IsErrOf result PipeError.Output ↔ (W.has_failed out.new ≡ true) }
@@ -86,7 +87,7 @@ fn copy_all<R: Source, W: Sink>(
 ) -> Result<ObjectId, PipeError>
     requires input { R.has_failed input.old ≡ false }
     requires output { W.has_failed out.old ≡ false }
-    ensures copied { IfOk result (λ id. (message : List ℕ) × ReadsAll (R.remaining input.old) (R.remaining input.new) message
+    ensures copied { IfOk result (λ id. (message : List ℕ) × GivesAll (R.remaining input.old) (R.remaining input.new) message
         × Appends (W.taken out.old) (W.taken out.new) message × (id ≡ digest kind message)) }
     ensures reads { OnOk result (R.has_failed input.new ≡ false) }
     ensures stands { OnOk result (W.has_failed out.new ≡ false) }

@@ -2,8 +2,9 @@
 
 ghost use Rattle.std.specs.Prelude.{◌≡◌, ◌↔◌, ℕ, List, false, true, map, IfOk, IfErr, OnOk, IsErrOf};
 ghost use Rattle.gix_hash.specs.ObjectId.{id_digits};
-ghost use Rattle.oidtool.specs.FindingFrom.{GivesAll, ReadingStops};
+ghost use Rattle.oidtool.specs.FindingFrom.{ReadingStops};
 ghost use Rattle.oidtool.specs.ListText.{list_read};
+ghost use Rattle.oidtool.specs.Source.{GivesAll};
 ghost use Rattle.oidtool.specs.declared.reading.ReadError.{ReadError};
 
 use crate::list::ListError;

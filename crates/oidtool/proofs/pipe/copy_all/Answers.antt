@@ -25,7 +25,7 @@ returns-in_err-write_all-clause-stopped g c =
     rw (exit.1, exit.2) (
       c.pieces.invariant.0 ++ piece,
       record {
-        has_digest = rw length-append (omega (arith, c.in-Ok.ensures.bound, length-take c.in-Ok.count c.read.new.buf));
+        short = rw length-append (omega (arith, c.in-Ok.ensures.bound, length-take c.in-Ok.count c.read.new.buf));
         gives = Consumes-trans _ _ _ _ _ before.given c.in-Ok.ensures.bytes.0;
       },
       AppendsPart-more _ _ _ _ (AppendsPart-behind _ _ _ _ piece before.taken c.in_err-write_all.ensures.part),
