@@ -21,6 +21,3 @@ pub use index::{Answer, IdIndex, IndexError};
 pub use probes::Probes;
 pub use search::{Run, begins_with, bits_of, lookup, lookup_in};
 pub use sorted::{SortedIds, Unsorted};
-
-#[cfg(test)]
-mod tests;

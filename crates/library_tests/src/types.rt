@@ -27,13 +27,13 @@ use std::process::Abort;
 use std::str::FromStr;
 
 // The ids of the empty blob and of the empty tree, by SHA-1 and by SHA-256.
-const BLOB: &str = "e69de29bb2d1d6434b8b29ae775ad8c2e48c5391";
+pub const BLOB: &str = "e69de29bb2d1d6434b8b29ae775ad8c2e48c5391";
 
-const TREE: &str = "4b825dc642cb6eb9a060e54bf8d69288fbee4904";
+pub const TREE: &str = "4b825dc642cb6eb9a060e54bf8d69288fbee4904";
 
-const BLOB_256: &str = "473a0f4c3be8a93681a267e3b1e9a7dcda1185436fe141f7749120a303721813";
+pub const BLOB_256: &str = "473a0f4c3be8a93681a267e3b1e9a7dcda1185436fe141f7749120a303721813";
 
-const TREE_256: &str = "6ef19b41225c5369f1c104d45d8d85efa9b057b53b14b4b9b939dd74decc5321";
+pub const TREE_256: &str = "6ef19b41225c5369f1c104d45d8d85efa9b057b53b14b4b9b939dd74decc5321";
 
 // The empty blob of SHA-1 in the letters `z` to `k`.
 const BLOB_LETTERS: &str = "ltqmlxqooxmymtvwvoroxqplssupmrnxlvrnuwqy";
@@ -50,7 +50,7 @@ const BLOB_256_BYTES: [u8; 32] = [
     0xda, 0x11, 0x85, 0x43, 0x6f, 0xe1, 0x41, 0xf7, 0x74, 0x91, 0x20, 0xa3, 0x03, 0x72, 0x18, 0x13,
 ];
 
-fn id(text: &str) -> Result<ObjectId, decode::Error> {
+pub fn id(text: &str) -> Result<ObjectId, decode::Error> {
     ObjectId::from_hex(text.as_bytes())
 }
 

@@ -1,25 +1,13 @@
 //! Runs in lists of the well-known ids and in a list of a thousand, by tables.
 
-use super::{Probes, Run, SortedIds, begins_with, bits_of, lookup};
+use crate::types::{BLOB, BLOB_256, TREE, TREE_256, id};
 use gix_hash::{ObjectId, Prefix};
+use id_lookup::{Probes, Run, SortedIds, begins_with, bits_of, lookup};
 use std::cmp::Ordering;
 use std::process::Abort;
 use std::test::Fail;
 
 mod index;
-
-// The ids of the empty blob and of the empty tree, by SHA-1 and by SHA-256.
-const BLOB: &str = "e69de29bb2d1d6434b8b29ae775ad8c2e48c5391";
-
-const TREE: &str = "4b825dc642cb6eb9a060e54bf8d69288fbee4904";
-
-const BLOB_256: &str = "473a0f4c3be8a93681a267e3b1e9a7dcda1185436fe141f7749120a303721813";
-
-const TREE_256: &str = "6ef19b41225c5369f1c104d45d8d85efa9b057b53b14b4b9b939dd74decc5321";
-
-fn id(text: &str) -> Result<ObjectId, Fail> {
-    Ok(ObjectId::from_hex(text.as_bytes())?)
-}
 
 // The four ids in order.
 fn well_known() -> Result<[ObjectId; 4], Fail> {

@@ -1,9 +1,10 @@
 //! Indexes of the well-known ids and of a thousand, by tables.
 
-use super::{BLOB, BLOB_256, TREE, TREE_256, id, thousand};
-use crate::laws::find_own_name;
-use crate::{Answer, IdIndex, IndexError, Run, lookup_in};
+use super::thousand;
+use crate::types::{BLOB, BLOB_256, TREE, TREE_256, id};
 use gix_hash::{Kind, ObjectId, Prefix};
+use id_lookup::laws::find_own_name;
+use id_lookup::{Answer, IdIndex, IndexError, Run, lookup_in};
 use std::process::Abort;
 use std::test::Fail;
 

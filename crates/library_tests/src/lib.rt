@@ -1,0 +1,7 @@
+//! Tests of `gix_hash` and `id_lookup` as their users see them: by public calls alone.
+#![tactic(auto)]
+
+#[cfg(test)]
+mod look_ups;
+#[cfg(test)]
+mod types;
