@@ -1,5 +1,5 @@
-//! What no clause says: worked examples, printed texts, buffers behind the digits, and each public
-//! call and impl once where it succeeds.
+//! What no clause says of `gix_hash`: worked examples, printed texts, buffers behind the digits, and
+//! each public call and impl once where it succeeds.
 
 mod bad_texts;
 mod change_ids;
