@@ -12,6 +12,6 @@ returns-in_err-write_all-clause-stopped g c =
     let digest_bytes = c.as_slice.ensures.value ∙ ap id_bytes copied.3 in
     rw (exit.1, exit.2) (
       copied.0,
-      record { gives = copied.1.gives; short = copied.1.short; },
+      record { gives = copied.1.gives; short = copied.1.short },
       rw (← digest_bytes) (AppendsPart-behind _ _ _ copied.0 c.as_slice.result.now copied.2 c.in_err-write_all.ensures.part),
     )
