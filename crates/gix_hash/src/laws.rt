@@ -1,7 +1,7 @@
 //! Laws of digits, ids and prefixes that no single call carries. Each is the contract of a function
 //! that computes nothing: a call of it brings the law into a caller's proof.
 
-ghost use Rattle.std.specs.Prelude.{◌≡◌, ◌≤◌, ◌<◌, ◌↔◌, ◌⊎◌, ◌+◌, ◌-◌, ◌/◌, ◌%◌, ◌^◌, ℕ, List, IsTrue, IsOk, IfOk, Some, None, codes, length, slice_index, MatchResult, Contains};
+ghost use Rattle.std.specs.Prelude.{◌≡◌, ◌≤◌, ◌<◌, ◌↔◌, ◌⊎◌, ◌+◌, ◌-◌, ◌/◌, ◌%◌, ◌^◌, ℕ, List, IsTrue, IsOk, IfOk, Some, None, [], codes, length, slice_index, MatchResult, Contains};
 ghost use Rattle.std.specs.declared.cmp.Ordering.{Ordering};
 ghost use Rattle.std.specs.Cmp.Lexicographic.{slice_cmp};
 ghost use Rattle.std.specs.List.{list_any};
@@ -16,6 +16,7 @@ ghost use Rattle.gix_hash.specs.Oid.{oid_digits, oid_kind, oid_eq, oid_cmp};
 ghost use Rattle.gix_hash.specs.Prefix.{place, Beginning, BeginsWith, prefix_eq};
 ghost use Rattle.gix_hash.specs.PrefixReading.{prefix_read, prefix_read_in, IsPrefixReading, IsPrefixRefusal, IsReadingIn, IsRefusalIn};
 ghost use Rattle.gix_hash.specs.Reading.{digits_read};
+ghost use Rattle.gix_hash.specs.WellKnown.{hex_values};
 ghost use Rattle.gix_hash.specs.Words.{words_of};
 ghost use Rattle.gix_hash.specs.declared.borrowed.oid as borrowed;
 ghost use Rattle.gix_hash.specs.declared.decode.Error as decode;
@@ -198,3 +199,11 @@ pub fn digits_in_words(prefix: &Prefix)
     // Where the range of the digits is told.
     let _len = prefix.hex_len();
 }
+
+/// The words of 7 digits, of 33 and of none, written out.
+pub fn words_written_out()
+    ensures seven { words_of (hex_values (codes "e69de29")) ≡ record { first = 0xe69de290000000000000000000000000; second = 0 } }
+    ensures over_a_word { words_of (hex_values (codes "e69de29bb2d1d6434b8b29ae775ad8c2e"))
+        ≡ record { first = 0xe69de29bb2d1d6434b8b29ae775ad8c2; second = 0xe0000000000000000000000000000000 } }
+    ensures none { words_of [] ≡ record { first = 0; second = 0 } }
+{}

@@ -20,8 +20,6 @@ pub mod from_hex;
 mod order;
 mod packing;
 mod printing;
-#[cfg(test)]
-mod tests;
 
 /// Why an id has no prefix of so many digits.
 #[derive(Debug, Drop)]

@@ -101,15 +101,3 @@ fn front_mask(digits: usize) -> u128
 {
     u128::MAX.unbounded_shl(128 - 4 * digits as u32)
 }
-
-#[cfg(test)]
-mod tests {
-    use super::front_mask;
-
-    #[test]
-    fn masks(rt: HostRuntime) {
-        assert_eq!(rt; front_mask(0), 0);
-        assert_eq!(rt; front_mask(7), 0xffff_fff0_0000_0000_0000_0000_0000_0000);
-        assert_eq!(rt; front_mask(32), u128::MAX);
-    }
-}

@@ -38,17 +38,17 @@ fn expect_run(
     let list = SortedIds::try_new(ids)?;
     assert!(rt; prefix.hex_len() <= list.min_hex_len());
     let mut probes = Probes::new(&list, prefix);
-    assert_eq!(rt; probes.asked(), 0);
+    assert!(rt; probes.asked() == 0);
     let run = lookup(&mut probes);
-    assert_eq!(rt; run, Run { start, end });
+    assert!(rt; run == Run { start, end });
     assert!(rt;
         probes.asked() <= most,
         "{} asks for {start}..{end}",
         probes.asked()
     );
-    assert_eq!(rt; probes.len(), ids.len());
+    assert!(rt; probes.len() == ids.len());
     assert!(rt; probes.prefix() == prefix);
-    assert_eq!(rt; list.find(&prefix), run);
+    assert!(rt; list.find(&prefix) == run);
     Ok(())
 }
 
@@ -74,8 +74,8 @@ fn expect_runs(
 #[test]
 fn empty_list(rt: HostRuntime) -> Result<(), Fail> {
     let list = SortedIds::try_new(&[])?;
-    assert_eq!(rt; list.min_hex_len(), 64);
-    assert_eq!(rt; list.len(), 0);
+    assert!(rt; list.min_hex_len() == 64);
+    assert!(rt; list.len() == 0);
     assert!(rt; list.is_empty());
     expect_runs(&rt, &[], 0, &[("e69d", 0, 0)])
 }
@@ -84,14 +84,11 @@ fn empty_list(rt: HostRuntime) -> Result<(), Fail> {
 fn well_known_ids(rt: HostRuntime) -> Result<(), Fail> {
     let ids = well_known()?;
     let list = SortedIds::try_new(&ids)?;
-    assert_eq!(rt; list.min_hex_len(), 40);
+    assert!(rt; list.min_hex_len() == 40);
     assert!(rt; !list.is_empty());
-    assert_eq!(rt; list.len(), 4);
+    assert!(rt; list.len() == 4);
     assert!(rt; list.get(3).as_oid() == id(BLOB)?.as_oid());
-    assert_eq!(rt;
-        SortedIds::try_new(&[id(BLOB_256)?, id(TREE_256)?])?.min_hex_len(),
-        64
-    );
+    assert!(rt; SortedIds::try_new(&[id(BLOB_256)?, id(TREE_256)?])?.min_hex_len() == 64);
     expect_runs(
         &rt,
         &ids,
@@ -125,7 +122,7 @@ fn five_copies(rt: HostRuntime) -> Result<(), Fail> {
     let ids = [blob; 5];
     expect_runs(&rt, &ids, 6, &[("e69d", 0, 5)])?;
     let nothing = blob.to_prefix(0..0);
-    assert_eq!(rt; nothing.hex_len(), 0);
+    assert!(rt; nothing.hex_len() == 0);
     expect_run(&rt, &ids, nothing, 0, 5, 6)
 }
 
@@ -145,12 +142,9 @@ fn not_sorted(rt: HostRuntime) -> Result<(), Fail> {
     let refusal = SortedIds::try_new(&ids)
         .err()
         .ok_or("it is taken for sorted")?;
-    assert_eq!(rt; refusal.at, 2);
+    assert!(rt; refusal.at == 2);
     let text = format!(in rt.alloc(); "{refusal}")?;
-    assert_eq!(rt;
-        text.as_str(),
-        "the id at place 2 is below the one before it"
-    );
+    assert!(rt; text.as_str() == "the id at place 2 is below the one before it");
     Ok(())
 }
 
@@ -169,9 +163,9 @@ fn one_ask_at_a_time(rt: HostRuntime) -> Result<(), Fail> {
         (3, Ordering::Less),
     ] {
         assert!(rt; at < probes.len() && probes.asked() < 4);
-        assert_eq!(rt; probes.ask(at), place, "at {at}");
+        assert!(rt; probes.ask(at) == place, "at {at}");
     }
-    assert_eq!(rt; probes.asked(), 4);
+    assert!(rt; probes.asked() == 4);
     Ok(())
 }
 
@@ -185,7 +179,7 @@ fn beginnings(rt: HostRuntime) -> Result<(), Fail> {
         let id = id(text)?;
         let prefix = Prefix::from_hex(digits)?;
         assert!(rt; prefix.hex_len() <= id.kind().len_in_hex());
-        assert_eq!(rt; begins_with(&id, &prefix), want, "{digits}");
+        assert!(rt; begins_with(&id, &prefix) == want, "{digits}");
     }
     Ok(())
 }
@@ -223,6 +217,6 @@ fn binary_digits(rt: HostRuntime) {
         (1024, 11),
         (usize::MAX, 64),
     ] {
-        assert_eq!(rt; bits_of(n), bits, "of {n}");
+        assert!(rt; bits_of(n) == bits, "of {n}");
     }
 }

@@ -61,7 +61,7 @@ fn expect_text<T: Display + Drop>(
     want: &str,
 ) -> Result<(), AllocError> {
     let text = format!(in rt.alloc(); "{value}")?;
-    assert_eq!(rt; text.as_str(), want);
+    assert!(rt; text.as_str() == want);
     Ok(())
 }
 
@@ -72,11 +72,11 @@ fn expect_whole<T: Display + Drop>(
     want: &str,
 ) -> Result<(), AllocError> {
     let wide = format!(in rt.alloc(); "{value:>70}")?;
-    assert_eq!(rt; wide.as_str(), want);
+    assert!(rt; wide.as_str() == want);
     let filled = format!(in rt.alloc(); "{value:*^70}")?;
-    assert_eq!(rt; filled.as_str(), want);
+    assert!(rt; filled.as_str() == want);
     let cut = format!(in rt.alloc(); "{value:.3}")?;
-    assert_eq!(rt; cut.as_str(), want);
+    assert!(rt; cut.as_str() == want);
     Ok(())
 }
 
@@ -87,7 +87,7 @@ fn expect_debug<T: Debug + Drop>(
     want: &str,
 ) -> Result<(), AllocError> {
     let text = format!(in rt.alloc(); "{value:?}")?;
-    assert_eq!(rt; text.as_str(), want);
+    assert!(rt; text.as_str() == want);
     Ok(())
 }
 
@@ -128,16 +128,16 @@ fn converted<S: Into<T>, T>(source: S) -> T {
 
 // The first is below the second, by each of the comparing traits.
 fn expect_below<T: Ord>(rt: &impl Abort, lower: &T, upper: &T) {
-    assert_eq!(rt; lower.cmp(upper), Ordering::Less);
-    assert_eq!(rt; upper.cmp(lower), Ordering::Greater);
-    assert_eq!(rt; lower.partial_cmp(upper), Some(Ordering::Less));
+    assert!(rt; lower.cmp(upper) == Ordering::Less);
+    assert!(rt; upper.cmp(lower) == Ordering::Greater);
+    assert!(rt; lower.partial_cmp(upper) == Some(Ordering::Less));
     assert!(rt; lower != upper);
 }
 
 // They are the same, by each of the comparing traits, and feed the same to a hash.
 fn expect_same<T: Ord + Hash>(rt: &impl Abort, one: &T, other: &T) {
-    assert_eq!(rt; one.cmp(other), Ordering::Equal);
-    assert_eq!(rt; one.partial_cmp(other), Some(Ordering::Equal));
+    assert!(rt; one.cmp(other) == Ordering::Equal);
+    assert!(rt; one.partial_cmp(other) == Some(Ordering::Equal));
     assert!(rt; one == other);
     assert!(rt; hashing_state::fed(one) == hashing_state::fed(other));
 }

@@ -27,21 +27,21 @@ fn expect_found(
     let prefix = Prefix::from_hex_nonempty(digits)?;
     assert!(rt; prefix.as_oid().kind() == index.kind());
     let mut probes = index.probes(&prefix);
-    assert_eq!(rt; probes.asked(), 0);
-    assert_eq!(rt; lookup_in(index.fan_out(), &mut probes), run, "{digits}");
+    assert!(rt; probes.asked() == 0);
+    assert!(rt; lookup_in(index.fan_out(), &mut probes) == run, "{digits}");
     assert!(rt;
         probes.asked() <= most,
         "{} asks for {digits}",
         probes.asked()
     );
-    assert_eq!(rt; probes.len(), index.len());
+    assert!(rt; probes.len() == index.len());
     assert!(rt; probes.prefix() == prefix);
     let want = match run.end - run.start {
         0 => Answer::None,
         1 => Answer::One(run.start),
         _ => Answer::Many(run),
     };
-    assert_eq!(rt; index.find(&prefix), want, "{digits}");
+    assert!(rt; index.find(&prefix) == want, "{digits}");
     Ok(())
 }
 
@@ -72,7 +72,7 @@ fn no_index(rt: HostRuntime) -> Result<(), Fail> {
         ),
     ];
     for (ids, kind, want) in rows {
-        assert_eq!(rt; refusal(ids, kind)?, want);
+        assert!(rt; refusal(ids, kind)? == want);
     }
     Ok(())
 }
@@ -89,7 +89,7 @@ fn index_errors(rt: HostRuntime) -> Result<(), Fail> {
             "the id at place 1 is not above the one before it",
         ),
     ] {
-        assert_eq!(rt; format!(in rt.alloc(); "{error}")?.as_str(), want);
+        assert!(rt; format!(in rt.alloc(); "{error}")?.as_str() == want);
     }
     Ok(())
 }
@@ -97,7 +97,7 @@ fn index_errors(rt: HostRuntime) -> Result<(), Fail> {
 #[test]
 fn empty_index(rt: HostRuntime) -> Result<(), Fail> {
     let index = IdIndex::try_new(&[], Kind::Sha1)?;
-    assert_eq!(rt; index.len(), 0);
+    assert!(rt; index.len() == 0);
     assert!(rt; index.is_empty());
     expect_found(&rt, &index, "4b82", Run { start: 0, end: 0 }, 0)
 }
@@ -109,7 +109,7 @@ fn first_bytes_of_two(rt: HostRuntime) -> Result<(), Fail> {
     assert!(rt; index.kind() == Kind::Sha1);
     assert!(rt; !index.is_empty());
     for (byte, want) in [(0x4a, 0), (0x4b, 1), (0xe5, 1), (0xe6, 2), (0xff, 2)] {
-        assert_eq!(rt; index.fan_out().up_to(byte), want, "up to {byte}");
+        assert!(rt; index.fan_out().up_to(byte) == want, "up to {byte}");
     }
     expect_found(&rt, &index, "4b82", Run { start: 0, end: 1 }, 2)
 }
@@ -118,7 +118,7 @@ fn first_bytes_of_two(rt: HostRuntime) -> Result<(), Fail> {
 fn index_of_a_thousand(rt: HostRuntime) -> Result<(), Fail> {
     let ids = thousand();
     let index = IdIndex::try_new(&ids, Kind::Sha1)?;
-    assert_eq!(rt; index.len(), 1000);
+    assert!(rt; index.len() == 1000);
     for (digits, start, end, most) in [
         ("0200", 512, 513, 18),
         ("03", 768, 1000, 16),
@@ -162,13 +162,13 @@ fn none_one_and_many(rt: HostRuntime) -> Result<(), Fail> {
 // Each member has its name, and by that it is found alone.
 fn expect_names(rt: &impl Abort, ids: &[ObjectId], names: &[&str]) -> Result<(), Fail> {
     let index = IdIndex::try_new(ids, Kind::Sha1)?;
-    assert_eq!(rt; names.len(), index.len());
+    assert!(rt; names.len() == index.len());
     for at in 0..index.len() {
         let name = index.abbreviate(at);
         assert!(rt; name.eq_str(names[at]), "at {at}");
         assert!(rt; name.as_oid().kind() == Kind::Sha1);
-        assert_eq!(rt; index.find(&name), Answer::One(at), "at {at}");
-        assert_eq!(rt; find_own_name(&index, at), Answer::One(at), "at {at}");
+        assert!(rt; index.find(&name) == Answer::One(at), "at {at}");
+        assert!(rt; find_own_name(&index, at) == Answer::One(at), "at {at}");
     }
     Ok(())
 }
@@ -180,13 +180,13 @@ fn expect_read_names(
     names: &[&str],
 ) -> Result<(), Fail> {
     let index = IdIndex::try_new(ids, Kind::Sha1)?;
-    assert_eq!(rt; names.len(), index.len());
+    assert!(rt; names.len() == index.len());
     for at in 0..index.len() {
         let printed = format!(in rt.alloc(); "{}", index.abbreviate(at))?;
-        assert_eq!(rt; printed.as_str(), names[at], "at {at}");
+        assert!(rt; printed.as_str() == names[at], "at {at}");
         let read = Prefix::from_hex_in(Kind::Sha1, printed.as_str())?;
         assert!(rt; read.as_oid().kind() == index.kind());
-        assert_eq!(rt; index.find(&read), Answer::One(at), "at {at}");
+        assert!(rt; index.find(&read) == Answer::One(at), "at {at}");
     }
     Ok(())
 }

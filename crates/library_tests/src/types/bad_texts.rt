@@ -99,7 +99,7 @@ fn expect_id(rt: &impl Abort, answer: Result<ObjectId, decode::Error>, len: usiz
         Err(decode::Error::InvalidHexEncodingLength(told)) => (BadLength, told),
         Err(decode::Error::Invalid) => (Invalid, len),
     };
-    assert_eq!(rt; told, (want, len));
+    assert!(rt; told == (want, len));
 }
 
 // The answer on a prefix, and the number of bytes that it tells.
@@ -118,7 +118,7 @@ fn expect_prefix(
         Err(from_hex::Error::TooLong { hex_len }) => (TooLong, hex_len),
         Err(from_hex::Error::Invalid) => (Invalid, len),
     };
-    assert_eq!(rt; told, (want, len));
+    assert!(rt; told == (want, len));
 }
 
 // The calls that read hex digits.

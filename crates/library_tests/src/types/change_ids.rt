@@ -90,7 +90,7 @@ fn read_from_text(rt: HostRuntime) -> Result<(), Fail> {
         TREE,
     )?;
     let wide = ChangeId::from_reverse_hex(BLOB_256_LETTERS.as_bytes())?;
-    assert_eq!(rt; wide.kind(), Kind::Sha256);
+    assert!(rt; wide.kind() == Kind::Sha256);
     expect_text(&rt, wide.to_hex(), BLOB_256)?;
     Ok(())
 }
@@ -115,21 +115,17 @@ fn prefixes(rt: HostRuntime) -> Result<(), Fail> {
             ),
         ],
     )?;
-    assert_eq!(rt;
-        Prefix::from_reverse_hex_nonempty(LETTERS_Z_65).err(),
-        Some(from_hex::Error::TooLong { hex_len: 65 })
+    assert!(rt;
+        Prefix::from_reverse_hex_nonempty(LETTERS_Z_65).err()
+            == Some(from_hex::Error::TooLong { hex_len: 65 })
     );
-    assert_eq!(rt;
-        Prefix::from_reverse_hex_nonempty("").err(),
-        Some(from_hex::Error::TooShort { hex_len: 0 })
+    assert!(rt;
+        Prefix::from_reverse_hex_nonempty("").err()
+            == Some(from_hex::Error::TooShort { hex_len: 0 })
     );
-    assert_eq!(rt;
-        Prefix::from_reverse_hex_nonempty("0").err(),
-        Some(from_hex::Error::Invalid)
-    );
-    assert_eq!(rt;
-        Prefix::from_reverse_hex("zzz").err(),
-        Some(from_hex::Error::TooShort { hex_len: 3 })
+    assert!(rt; Prefix::from_reverse_hex_nonempty("0").err() == Some(from_hex::Error::Invalid));
+    assert!(rt;
+        Prefix::from_reverse_hex("zzz").err() == Some(from_hex::Error::TooShort { hex_len: 3 })
     );
     for (letters, digits, kind) in [
         ("z", "0", Kind::Sha1),
@@ -141,7 +137,7 @@ fn prefixes(rt: HostRuntime) -> Result<(), Fail> {
         ),
     ] {
         let prefix = Prefix::from_reverse_hex_nonempty(letters)?;
-        assert_eq!(rt; prefix.as_oid().kind(), kind, "for {letters}");
+        assert!(rt; prefix.as_oid().kind() == kind, "for {letters}");
         expect_text(&rt, prefix, digits)?;
     }
     let prefix = Prefix::new(id(BLOB)?.as_oid(), 7)?;
@@ -176,7 +172,7 @@ fn alphabets(rt: HostRuntime) -> Result<(), Fail> {
         let view = blob.as_oid();
         assert!(rt; view.kind().len_in_hex() == 40);
         alphabet.put_id(view, &mut buffer);
-        assert_eq!(rt; &buffer, spelled);
+        assert!(rt; &buffer == spelled);
     }
     assert!(rt; Alphabet::Hex != Alphabet::Reverse);
     expect_debug(&rt, Alphabet::Reverse, "Reverse")?;
@@ -187,8 +183,8 @@ fn alphabets(rt: HostRuntime) -> Result<(), Fail> {
 fn conversions(rt: HostRuntime) -> Result<(), Fail> {
     let blob = id(BLOB)?;
     for change in [converted::<_, ChangeId>(blob), converted(blob.as_oid())] {
-        assert_eq!(rt; change.kind(), Kind::Sha1);
-        assert_eq!(rt; change.as_bytes(), BLOB_BYTES.as_slice());
+        assert!(rt; change.kind() == Kind::Sha1);
+        assert!(rt; change.as_bytes() == BLOB_BYTES.as_slice());
         assert!(rt; converted::<_, ObjectId>(change) == blob);
         assert!(rt; converted::<_, Prefix>(change) == Prefix::from(blob));
     }
@@ -196,7 +192,7 @@ fn conversions(rt: HostRuntime) -> Result<(), Fail> {
     let change = ChangeId::from(blob);
     assert!(rt; change.kind().len_in_hex() <= 42);
     change.put_reverse_hex(&mut buffer);
-    assert_eq!(rt; &buffer, b"ltqmlxqooxmymtvwvoroxqplssupmrnxlvrnuwqy##");
+    assert!(rt; &buffer == b"ltqmlxqooxmymtvwvoroxqplssupmrnxlvrnuwqy##");
     Ok(())
 }
 

@@ -33,7 +33,7 @@ fn expect_made(
 #[test]
 fn documented_example(rt: HostRuntime) -> Result<(), Fail> {
     let blob = ObjectId::from_hex(BLOB.as_bytes())?;
-    assert_eq!(rt; blob.kind(), Kind::Sha1);
+    assert!(rt; blob.kind() == Kind::Sha1);
     assert!(rt; blob.is_empty_blob());
     assert!(rt; blob.eq_str(BLOB));
     expect_debug(&rt, blob, "Sha1(e69de29bb2d1d6434b8b29ae775ad8c2e48c5391)")?;
@@ -103,10 +103,10 @@ fn compared_with_text(rt: HostRuntime) -> Result<(), Fail> {
         (TREE, false),
         ("e69de29", false),
     ] {
-        assert_eq!(rt; blob.eq_str(text), same, "with {text}");
-        assert_eq!(rt; blob.as_oid().eq_str(text), same, "with {text}");
-        assert_eq!(rt; blob.eq_bstr(text.as_bytes()), same, "with {text}");
-        assert_eq!(rt; blob.to_hex().eq_str(text), same, "with {text}");
+        assert!(rt; blob.eq_str(text) == same, "with {text}");
+        assert!(rt; blob.as_oid().eq_str(text) == same, "with {text}");
+        assert!(rt; blob.eq_bstr(text.as_bytes()) == same, "with {text}");
+        assert!(rt; blob.to_hex().eq_str(text) == same, "with {text}");
     }
     Ok(())
 }
@@ -148,19 +148,19 @@ fn converted_from_bytes(rt: HostRuntime) -> Result<(), Fail> {
         view.to_owned(),
     ] {
         assert!(rt; blob == id(BLOB)?);
-        assert_eq!(rt; blob.as_slice(), BLOB_BYTES.as_slice());
-        assert_eq!(rt; blob.as_bytes(), BLOB_BYTES.as_slice());
-        assert_eq!(rt; blob.first_byte(), 0xe6);
+        assert!(rt; blob.as_slice() == BLOB_BYTES.as_slice());
+        assert!(rt; blob.as_bytes() == BLOB_BYTES.as_slice());
+        assert!(rt; blob.first_byte() == 0xe6);
     }
     let wide: ObjectId = converted(BLOB_256_BYTES);
     expect_text(&rt, wide, BLOB_256)?;
-    assert_eq!(rt; wide.kind(), Kind::Sha256);
+    assert!(rt; wide.kind() == Kind::Sha256);
     let view: oid<'_> = converted(&BLOB_BYTES);
     let wide_view: oid<'_> = converted(&BLOB_256_BYTES);
-    assert_eq!(rt; view.kind(), Kind::Sha1);
-    assert_eq!(rt; wide_view.kind(), Kind::Sha256);
-    assert_eq!(rt; view.as_bytes(), BLOB_BYTES.as_slice());
-    assert_eq!(rt; wide_view.first_byte(), 0x47);
+    assert!(rt; view.kind() == Kind::Sha1);
+    assert!(rt; wide_view.kind() == Kind::Sha256);
+    assert!(rt; view.as_bytes() == BLOB_BYTES.as_slice());
+    assert!(rt; wide_view.first_byte() == 0x47);
     assert!(rt; wide.eq_oid(wide_view) && wide_view.eq_oid(&wide));
     assert!(rt; !wide.eq_oid(view) && !view.eq_oid(&wide));
     Ok(())
@@ -173,7 +173,7 @@ fn written_digest(rt: HostRuntime) -> Result<(), Fail> {
         *first = 0xe6;
     }
     expect_text(&rt, digest, "e600000000000000000000000000000000000000")?;
-    assert_eq!(rt; digest.kind(), Kind::Sha1);
+    assert!(rt; digest.kind() == Kind::Sha1);
     Ok(())
 }
 
@@ -246,19 +246,16 @@ fn displays_compared(rt: HostRuntime) -> Result<(), Fail> {
 #[test]
 fn written_into_buffers(rt: HostRuntime) -> Result<(), Fail> {
     let blob = id(BLOB)?;
-    assert_eq!(rt; blob.kind().len_in_hex(), 40);
+    assert!(rt; blob.kind().len_in_hex() == 40);
     let mut buffers = [[b'#'; 64]; 4];
     let view = blob.as_oid();
-    assert_eq!(rt; view.kind().len_in_hex(), 40);
-    assert_eq!(rt; blob.hex_to_buf(&mut buffers[0]), BLOB);
-    assert_eq!(rt; view.hex_to_buf(&mut buffers[1]), BLOB);
+    assert!(rt; view.kind().len_in_hex() == 40);
+    assert!(rt; blob.hex_to_buf(&mut buffers[0]) == BLOB);
+    assert!(rt; view.hex_to_buf(&mut buffers[1]) == BLOB);
     blob.put_hex(&mut buffers[2]);
     view.put_hex(&mut buffers[3]);
     for buffer in buffers {
-        assert_eq!(rt;
-            &buffer,
-            b"e69de29bb2d1d6434b8b29ae775ad8c2e48c5391########################"
-        );
+        assert!(rt; &buffer == b"e69de29bb2d1d6434b8b29ae775ad8c2e48c5391########################");
     }
     Ok(())
 }
@@ -267,10 +264,10 @@ fn written_into_buffers(rt: HostRuntime) -> Result<(), Fail> {
 fn hex_is_written(rt: HostRuntime) -> Result<(), Fail> {
     let mut out = Vec::with_capacity(rt.alloc(), 104)?;
     id(BLOB)?.write_hex_to(&mut out)?;
-    assert_eq!(rt; out.as_slice(), BLOB.as_bytes());
+    assert!(rt; out.as_slice() == BLOB.as_bytes());
     out.clear();
     id(BLOB_256)?.as_oid().write_hex_to(&mut out)?;
-    assert_eq!(rt; out.as_slice(), BLOB_256.as_bytes());
+    assert!(rt; out.as_slice() == BLOB_256.as_bytes());
     // The error of a writer without room for all.
     let mut short = [0; 39];
     let mut room = short.as_mut_slice();

@@ -14,25 +14,25 @@ const NULL_256: &str = "00000000000000000000000000000000000000000000000000000000
 
 fn expect_kind_of_len(rt: &impl Abort, rows: &[(usize, Option<Kind>)]) {
     for &(hex_len, kind) in rows {
-        assert_eq!(rt; Kind::from_hex_len(hex_len), kind, "for {hex_len} digits");
+        assert!(rt; Kind::from_hex_len(hex_len) == kind, "for {hex_len} digits");
     }
 }
 
 fn expect_names(rt: &impl Abort, rows: &[(&str, Kind)]) {
     for &(name, kind) in rows {
-        assert_eq!(rt; Kind::from_str(name).ok(), Some(kind), "for {name}");
+        assert!(rt; Kind::from_str(name).ok() == Some(kind), "for {name}");
     }
 }
 
 fn expect_no_names(rt: &impl Abort, names: &[&str]) {
     for &name in names {
-        assert_eq!(rt; Kind::from_str(name).err(), Some(name));
+        assert!(rt; Kind::from_str(name).err() == Some(name));
     }
 }
 
 fn expect_numbers(rt: &impl Abort, rows: &[(u8, Result<Kind, u8>)]) {
     for &(number, kind) in rows {
-        assert_eq!(rt; tried(number), kind, "for {number}");
+        assert!(rt; tried(number) == kind, "for {number}");
     }
 }
 
@@ -92,7 +92,7 @@ fn names_and_numbers(rt: HostRuntime) -> Result<(), Fail> {
             (255, Err(255)),
         ],
     );
-    assert_eq!(rt; [Kind::Sha1 as u8, Kind::Sha256 as u8], [1, 2]);
+    assert!(rt; [Kind::Sha1 as u8, Kind::Sha256 as u8] == [1, 2]);
     expect_text(&rt, Kind::Sha1, "sha1")?;
     expect_text(&rt, Kind::Sha256, "sha256")?;
     Ok(())
@@ -110,20 +110,20 @@ fn lengths(rt: HostRuntime) {
             (65, None),
         ],
     );
-    assert_eq!(rt; Kind::Sha1.len_in_hex(), 40);
-    assert_eq!(rt; Kind::Sha256.len_in_hex(), 64);
-    assert_eq!(rt; Kind::Sha1.len_in_bytes(), 20);
-    assert_eq!(rt; Kind::Sha256.len_in_bytes(), 32);
-    assert_eq!(rt; Kind::hex_buf(), [0; 64]);
-    assert_eq!(rt; Kind::buf(), [0; 32]);
+    assert!(rt; Kind::Sha1.len_in_hex() == 40);
+    assert!(rt; Kind::Sha256.len_in_hex() == 64);
+    assert!(rt; Kind::Sha1.len_in_bytes() == 20);
+    assert!(rt; Kind::Sha256.len_in_bytes() == 32);
+    assert!(rt; Kind::hex_buf() == [0; 64]);
+    assert!(rt; Kind::buf() == [0; 32]);
 }
 
 #[test]
 fn order(rt: HostRuntime) {
-    assert_eq!(rt; Kind::all(), [Kind::Sha1, Kind::Sha256].as_slice());
-    assert_eq!(rt; Kind::shortest(), Kind::Sha1);
-    assert_eq!(rt; Kind::longest(), Kind::Sha256);
-    assert_eq!(rt; Kind::default(), Kind::Sha1);
+    assert!(rt; Kind::all() == [Kind::Sha1, Kind::Sha256].as_slice());
+    assert!(rt; Kind::shortest() == Kind::Sha1);
+    assert!(rt; Kind::longest() == Kind::Sha256);
+    assert!(rt; Kind::default() == Kind::Sha1);
     expect_below(&rt, &Kind::Sha1, &Kind::Sha256);
     expect_same(&rt, &Kind::Sha256, &Kind::Sha256);
 }

@@ -37,8 +37,8 @@ impl Heard {
 
     /// It heard just these calls.
     pub fn expect(&self, rt: &impl Abort, calls: &[Call]) {
-        assert_eq!(rt; self.len, calls.len());
-        assert_eq!(rt; &self.calls[..self.len.min(20)], calls);
+        assert!(rt; self.len == calls.len());
+        assert!(rt; &self.calls[..self.len.min(20)] == calls);
     }
 }
 
