@@ -8,30 +8,13 @@
 
 ghost use Rattle.std.specs.Prelude.{◌≡◌};
 ghost use Rattle.std.specs.Process.{exit_status as ended_with};
-ghost use Rattle.oidtool.specs.Command.{status_of};
+ghost use Rattle.commands.specs.Command.{status_of};
 ghost use Rattle.oidtool.specs.declared.Failure.TheVariants as failure;
-ghost use Rattle.oidtool.specs.declared.running.CommandError.TheVariants as error;
+ghost use Rattle.commands.specs.declared.running.CommandError.TheVariants as error;
 
-pub mod command;
-pub mod finding;
-pub mod finding_from;
-pub mod finding_in;
-pub mod from_slice;
-pub mod into_slice;
-mod list;
-mod matching;
-mod pieces;
-pub mod pipe;
-pub mod plain;
-mod printing;
-mod reading;
-pub mod running;
-pub mod sink;
-pub mod source;
-
-use command::{ArgError, exit_status, read_command};
-use plain::Plain;
-use running::{CommandError, run_command};
+use commands::command::{ArgError, exit_status, read_command};
+use commands::running::{CommandError, run_command};
+use devices::plain::Plain;
 use std::alloc::AllocError;
 use std::io::BufWriter;
 use std::process::ExitCode;
@@ -107,6 +90,3 @@ fn told(rt: &impl Eprint, answer: Result<usize, Failure<'_>>) -> ExitCode
     }
     ExitCode::from(exit_status(&answer))
 }
-
-#[cfg(test)]
-mod tests;

@@ -1,0 +1,4 @@
+mod CommandLemmas
+mod PipeLemmas
+mod RunningLemmas
+mod SourceSearches

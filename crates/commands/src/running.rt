@@ -1,0 +1,256 @@
+//! Running a command over a reader and a writer.
+
+ghost use Rattle.std.specs.Prelude.{◌≡◌, ◌≢◌, ◌↔◌, ◌⊎◌, ℕ, List, [], length, true, false, IfOk, IfErr, IfSome, OnOk, IsErrOf};
+ghost use Rattle.std.specs.Io.KnownBytes.{Appends, Consumes, IsAtEnd};
+ghost use Rattle.commands.specs.declared.running.CommandError.{CommandError};
+ghost use Rattle.commands.specs.Pipe.{digest_line};
+ghost use Rattle.commands.specs.Running.{Does, DoesAtMost, HasCopied, Refuses, copies, reads_source};
+ghost use Rattle.devices.specs.Writing.{AppendsPart};
+
+use crate::command::Command;
+use crate::pipe::{PipeError, hash_all, seal};
+use devices::printing::write_id;
+use devices::sink::{BufferedSink, Sink, WriteFailed};
+use devices::source::{PIECE_LEN, Source};
+use gix_hash::io::{Never, NoProgress};
+use gix_hash::{Alphabet, Kind, bytes_of_file};
+use list_search::finding::{FindError, find_change};
+use list_search::finding_from::{FindFromError, find_from};
+use list_search::finding_in::{FindInError, find_in};
+use std::alloc::{AllocError, Allocator};
+use std::path::Path;
+use std::rt::Files;
+use thiserror::Error as ThisError;
+
+/// Why a command was refused, or did not end.
+#[derive(Debug, Drop, ThisError)]
+pub enum CommandError {
+    /// The prefix or the list text is refused.
+    #[error("{0}")]
+    Find(FindError),
+    /// The prefix or the list text is refused, for ids of one kind.
+    #[error("{0}")]
+    FindIn(FindInError),
+    /// Memory ran out.
+    #[error("out of memory")]
+    Memory,
+    /// A read of the input answered an error, or a file could not be opened or read.
+    #[error("cannot read")]
+    Input,
+    /// The writer failed at a write or at the flush.
+    #[error("cannot write")]
+    Output,
+    /// The input has more than 2^61 - 1 bytes.
+    #[error("too much input")]
+    TooMuch,
+}
+
+impl From<FindError> for CommandError {
+    ghost use Rattle.commands.specs.Running.{refusal_of_search};
+
+    ghost from_gives = { λ error e. e ≡ refusal_of_search error };
+
+    fn from(error: FindError) -> Self {
+        match error {
+            FindError::Memory => CommandError::Memory,
+            FindError::Output => CommandError::Output,
+            error => CommandError::Find(error),
+        }
+    }
+}
+
+impl From<FindInError> for CommandError {
+    ghost use Rattle.commands.specs.Running.{refusal_of_search_in};
+
+    ghost from_gives = { λ error e. e ≡ refusal_of_search_in error };
+
+    fn from(error: FindInError) -> Self {
+        match error {
+            FindInError::Memory => CommandError::Memory,
+            FindInError::Output => CommandError::Output,
+            error => CommandError::FindIn(error),
+        }
+    }
+}
+
+impl From<PipeError> for CommandError {
+    ghost use Rattle.commands.specs.Running.{refusal_of_pipe};
+
+    ghost from_gives = { λ error e. e ≡ refusal_of_pipe error };
+
+    fn from(error: PipeError) -> Self {
+        match error {
+            PipeError::Input => CommandError::Input,
+            PipeError::Output => CommandError::Output,
+            PipeError::TooMuch => CommandError::TooMuch,
+        }
+    }
+}
+
+impl From<FindFromError> for CommandError {
+    ghost use Rattle.commands.specs.Running.{refusal_from_source};
+
+    ghost from_gives = { λ error e. e ≡ refusal_from_source error };
+
+    fn from(error: FindFromError) -> Self {
+        match error {
+            FindFromError::Prefix(error) => CommandError::Find(FindError::Prefix(error)),
+            FindFromError::BadLine { line, error } => {
+                CommandError::Find(FindError::BadLine { line, error })
+            }
+            FindFromError::Unsorted { line } => CommandError::Find(FindError::Unsorted { line }),
+            FindFromError::PrefixTooLong { hex_len, min } => {
+                CommandError::Find(FindError::PrefixTooLong { hex_len, min })
+            }
+            FindFromError::Memory => CommandError::Memory,
+            FindFromError::Output => CommandError::Output,
+            FindFromError::Input => CommandError::Input,
+            FindFromError::TooMuch => CommandError::TooMuch,
+        }
+    }
+}
+
+impl From<WriteFailed> for CommandError {
+    ghost use Rattle.commands.specs.declared.running.CommandError.TheVariants.{Output};
+
+    ghost from_gives = { λ _ e. e ≡ Output };
+
+    fn from(_failed: WriteFailed) -> Self {
+        CommandError::Output
+    }
+}
+
+impl From<AllocError> for CommandError {
+    ghost use Rattle.commands.specs.declared.running.CommandError.TheVariants.{Memory};
+
+    ghost from_gives = { λ _ e. e ≡ Memory };
+
+    fn from(_failed: AllocError) -> Self {
+        CommandError::Memory
+    }
+}
+
+/// Runs a command over the input, writes what it gives, and flushes the writer. Answers how many ids
+/// it wrote: the matches of the commands that find, and the one digest of another command.
+///
+/// `find` reads the input in pieces, as a list text, and no further than the end of its first bad
+/// line; `find-change` and `find-in` read it to its end, and whole; `hash` and `seal` read it to its
+/// end in pieces; `hash-file` reads the file, and leaves the input as it is. `Input` comes exactly
+/// where the input failed, or for `hash-file` where the file was not read; `Output` exactly where the
+/// writer did, at a write or at the flush. Under another error `seal` has written what it read, and
+/// another command nothing. `Memory` comes for the commands that find alone, and never where the
+/// input is empty. Input and writer must not have failed before.
+pub fn run_command<F: Files, A: Allocator + Copy, R: Source, W: BufferedSink>(
+    files: &F,
+    alloc: A,
+    command: Command<'_>,
+    input: &mut R,
+    out: &mut W,
+) -> Result<usize, CommandError>
+    requires input { R.has_failed input.old ≡ false }
+    requires output { W.has_failed out.old ≡ false }
+    ensures done { IfOk result (Does command.entry (R.remaining input.old) (W.taken out.old) (W.taken out.new)) }
+    ensures flushed { OnOk result (W.kept_back out.new ≡ []) }
+    ensures refused { IfErr result (Refuses command.entry (R.remaining input.old)) }
+    ensures memory { IsErrOf result CommandError.Memory → IfSome (R.remaining input.old) (λ bytes. bytes ≢ []) }
+    ensures untouched { IfErr result (λ e. e ≢ CommandError.Output → copies command.entry ≡ false → out.new ≡ out.old) }
+    ensures copied { IfErr result (λ e. e ≢ CommandError.Output → HasCopied command.entry e (R.remaining input.old) (R.remaining input.new) (W.taken out.old) (W.taken out.new)) }
+    ensures input { reads_source command.entry ≡ true → (IsErrOf result CommandError.Input ↔ (R.has_failed input.new ≡ true)) }
+    ensures unread { reads_source command.entry ≡ false → input.new ≡ input.old }
+    ensures output { IsErrOf result CommandError.Output ↔ (W.has_failed out.new ≡ true) }
+    ensures part { IsErrOf result CommandError.Output → DoesAtMost command.entry (R.remaining input.old) (W.taken out.old) (W.taken out.new) }
+{
+    let count = answer(files, alloc, command, input, out)?;
+    match out.flush() {
+        Ok(()) => Ok(count),
+        Err(_) => Err(CommandError::Output),
+    }
+}
+
+// As `run_command`, but for the flush.
+fn answer<F: Files, A: Allocator + Copy, R: Source, W: Sink>(
+    files: &F,
+    alloc: A,
+    command: Command<'_>,
+    input: &mut R,
+    out: &mut W,
+) -> Result<usize, CommandError>
+    requires input { R.has_failed input.old ≡ false }
+    requires output { W.has_failed out.old ≡ false }
+    ensures done { IfOk result (Does command.entry (R.remaining input.old) (W.taken out.old) (W.taken out.new)) }
+    ensures refused { IfErr result (Refuses command.entry (R.remaining input.old)) }
+    ensures memory { IsErrOf result CommandError.Memory → IfSome (R.remaining input.old) (λ bytes. bytes ≢ []) }
+    ensures untouched { IfErr result (λ e. e ≢ CommandError.Output → copies command.entry ≡ false → out.new ≡ out.old) }
+    ensures copied { IfErr result (λ e. e ≢ CommandError.Output → HasCopied command.entry e (R.remaining input.old) (R.remaining input.new) (W.taken out.old) (W.taken out.new)) }
+    ensures input { reads_source command.entry ≡ true → (IsErrOf result CommandError.Input ↔ (R.has_failed input.new ≡ true)) }
+    ensures unread { reads_source command.entry ≡ false → input.new ≡ input.old }
+    ensures output { IsErrOf result CommandError.Output ↔ (W.has_failed out.new ≡ true) }
+    ensures part { IsErrOf result CommandError.Output → DoesAtMost command.entry (R.remaining input.old) (W.taken out.old) (W.taken out.new) }
+{
+    match command {
+        Command::Find { prefix } => Ok(find_from(alloc, prefix, input, out)?),
+        Command::FindChange { letters } => {
+            let list = read_all(alloc, input)?;
+            Ok(find_change(alloc, letters, &list, out)?)
+        }
+        Command::FindIn { kind, prefix } => {
+            let list = read_all(alloc, input)?;
+            Ok(find_in(alloc, kind, prefix, &list, out)?)
+        }
+        Command::Hash { kind } => {
+            hash_all(input, out, kind)?;
+            Ok(1)
+        }
+        Command::HashFile { kind, count, path } => {
+            hash_file(files, path, count, kind, out)?;
+            Ok(1)
+        }
+        Command::Seal { kind } => {
+            seal(input, out, kind)?;
+            Ok(1)
+        }
+    }
+}
+
+// Writes the digest of the first `count` bytes of a file: the lowercase hex digits and a line feed.
+fn hash_file<F: Files, W: Sink>(
+    files: &F,
+    path: &str,
+    count: u64,
+    kind: Kind,
+    out: &mut W,
+) -> Result<(), CommandError>
+    requires { W.has_failed out.old ≡ false }
+    ensures hashed { OnOk result ((message : List ℕ) × (length message ≡ count) × Appends (W.taken out.old) (W.taken out.new) (digest_line kind message)) }
+    ensures stands { OnOk result (W.has_failed out.new ≡ false) }
+    ensures refused { IfErr result (λ e. ((e ≡ CommandError.Input) × (out.new ≡ out.old)) ⊎ ((e ≡ CommandError.Output) × (W.has_failed out.new ≡ true)
+        × ((message : List ℕ) × (length message ≡ count) × AppendsPart (W.taken out.old) (W.taken out.new) (digest_line kind message)))) }
+{
+    let path = Path::new(path);
+    let Ok(id) = bytes_of_file(files, path, count, kind, &mut NoProgress, &mut Never) else {
+        return Err(CommandError::Input);
+    };
+    Ok(write_id(Alphabet::Hex, &id, out)?)
+}
+
+// All that the source gives until its end.
+fn read_all<A: Allocator, R: Source>(alloc: A, input: &mut R) -> Result<Vec<u8, A>, CommandError>
+    requires { R.has_failed input.old ≡ false }
+    ensures all { IfOk result (λ text. Consumes (R.remaining input.old) (R.remaining input.new) text.items) }
+    ensures end { OnOk result (IsAtEnd (R.remaining input.new)) }
+    ensures refused { IfErr result (λ e. (e ≡ CommandError.Memory) ⊎ (e ≡ CommandError.Input)) }
+    ensures memory { IsErrOf result CommandError.Memory → IfSome (R.remaining input.old) (λ bytes. bytes ≢ []) }
+    ensures input { IsErrOf result CommandError.Input ↔ (R.has_failed input.new ≡ true) }
+{
+    let mut text = Vec::new(alloc);
+    let mut piece = [0; PIECE_LEN];
+    'pieces: loop {
+        let Ok(count) = input.read(&mut piece) else {
+            return Err(CommandError::Input);
+        };
+        if count == 0 {
+            return Ok(text);
+        }
+        text.extend_from_slice(&piece[..count])?;
+    }
+}

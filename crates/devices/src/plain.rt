@@ -1,0 +1,115 @@
+//! Devices over the library's readers and writers.
+
+ghost use Rattle.std.specs.Prelude.{◌≡◌, ◌||◌, false, is_err};
+ghost use Rattle.std.specs.Io.{ReadsAtMost, WritesAtMost};
+ghost use Rattle.std.specs.Io.KnownBytes.{ReadConsumes, WriteAppends};
+ghost use Rattle.devices.specs.Writing.{write_fails};
+
+use crate::sink::{BufferedSink, Sink};
+use crate::source::Source;
+use std::alloc::Allocator;
+use std::io::{self, BufWriter, Write};
+
+/// A source over a reader of the library, or a sink over a writer of it. What is left, and what was
+/// taken, is what the reader or the writer tells of that.
+#[derive(Drop)]
+pub struct Plain<T> {
+    inner: T,
+    failed: bool,
+}
+
+impl<T> Plain<T> {
+    ghost use Rattle.devices.specs.Devices.{plain_inner, plain_failed};
+
+    /// A device that has not failed.
+    pub fn new(inner: T) -> Self
+        ensures stands { plain_failed result ≡ false }
+        ensures inner { plain_inner result ≡ inner }
+    {
+        Plain {
+            inner,
+            failed: false,
+        }
+    }
+
+    /// Whether some call of it failed: a read or a write that answered an error, or a write that took
+    /// none of a piece that is not empty.
+    pub fn failed(&self) -> bool
+        ensures { result ≡ plain_failed self.now }
+    {
+        let Plain { failed, .. } = self;
+        *failed
+    }
+
+    /// The reader or writer that it was made with.
+    pub fn into_inner(self) -> T
+        ensures { result ≡ plain_inner self }
+    {
+        let Plain { inner, .. } = self;
+        inner
+    }
+}
+
+impl<T: io::Read> Source for Plain<T> {
+    ghost use Rattle.devices.specs.Devices.{plain_failed, plain_inner};
+
+    ghost remaining = { λ s. T.remaining (plain_inner s) };
+
+    ghost has_failed = { plain_failed };
+
+    /// Reads from the reader that it stands over, once.
+    fn read(&mut self, buf: &mut [u8]) -> io::Result<usize>
+        ensures bound { ReadsAtMost result buf.new }
+        ensures bytes { ReadConsumes (T.remaining (plain_inner self.old)) (T.remaining (plain_inner self.new)) result buf.new }
+        ensures failed { plain_failed self.new ≡ (plain_failed self.old || is_err result) }
+    {
+        let answer = self.inner.read(buf);
+        self.failed = self.failed || answer.is_err();
+        answer
+    }
+
+    fn failed(&self) -> bool {
+        Plain::failed(self)
+    }
+}
+
+impl<T: io::Write> Sink for Plain<T> {
+    ghost use Rattle.devices.specs.Devices.{plain_failed, plain_inner};
+
+    ghost taken = { λ s. T.contents (plain_inner s) };
+
+    ghost has_failed = { plain_failed };
+
+    /// Writes to the writer that it stands over, once.
+    fn write(&mut self, piece: &[u8]) -> io::Result<usize>
+        ensures bound { WritesAtMost result piece.now }
+        ensures bytes { WriteAppends (T.contents (plain_inner self.old)) (T.contents (plain_inner self.new)) result piece.now }
+        ensures failed { plain_failed self.new ≡ (plain_failed self.old || write_fails result piece.now) }
+    {
+        let answer = self.inner.write(piece);
+        let fails = match &answer {
+            Ok(count) => *count == 0 && !piece.is_empty(),
+            Err(_) => true,
+        };
+        self.failed = self.failed || fails;
+        answer
+    }
+
+    fn failed(&self) -> bool {
+        Plain::failed(self)
+    }
+}
+
+impl<W: io::Write + Drop, A: Allocator> BufferedSink for Plain<BufWriter<W, A>> {
+    ghost use Rattle.std.specs.Io.Buffered.{writer_buffer};
+    ghost use Rattle.devices.specs.Devices.{plain_inner};
+
+    ghost kept_back = { λ s. writer_buffer (plain_inner s) };
+
+    /// Flushes the writer that it stands over.
+    fn flush(&mut self) -> io::Result<()> {
+        let flushed = self.inner.flush();
+        self.failed = self.failed || flushed.is_err();
+        flushed
+    }
+}

@@ -1,0 +1,162 @@
+//! The commands that compute digests: their words, and their runs.
+
+use super::faulty::{Fault, Reader, Writer};
+use super::pipes::{ABC, sealed};
+use super::shown;
+use commands::command::{Command, read_command};
+use commands::running::run_command;
+use devices::from_slice::FromSlice;
+use devices::into_slice::IntoSlice;
+use devices::plain::Plain;
+use gix_hash::Kind;
+use linked_list_allocator::LocalHeap;
+use std::fs;
+use std::io::BufWriter;
+use std::process::Abort;
+use std::rt::Files;
+use std::test::Fail;
+
+#[test]
+fn reads_kinds_and_numbers(rt: HostRuntime) -> Result<(), Fail> {
+    let most = "18446744073709551615";
+    let too_many = "18446744073709551616";
+    let rows = [
+        (["hash", "sha1"].as_slice(), "Ok(Hash { kind: Sha1 })"),
+        (["seal", "SHA-256"].as_slice(), "Ok(Seal { kind: Sha256 })"),
+        (["hash", "sha-1"].as_slice(), "Err(BadKind(\"sha-1\"))"),
+        (["seal", ""].as_slice(), "Err(BadKind(\"\"))"),
+        (["hash"].as_slice(), "Err(Usage)"),
+        (["seal", "sha1", "sha1"].as_slice(), "Err(Usage)"),
+        (["hash-file", "md5", "3"].as_slice(), "Err(Usage)"),
+        (
+            ["hash-file", "sha1", "3", "p", "p"].as_slice(),
+            "Err(Usage)",
+        ),
+        (["hash", "sha1", "3", "p"].as_slice(), "Err(Usage)"),
+        (
+            ["hash-file", "md5", "x", "p"].as_slice(),
+            "Err(BadKind(\"md5\"))",
+        ),
+    ];
+    for (words, answer) in rows {
+        assert!(&rt; shown(rt.alloc(), read_command(words))?.as_str() == answer);
+    }
+    let numbers = [
+        ("+3", "Ok(HashFile { kind: Sha1, count: 3, path: \"p\" })"),
+        ("007", "Ok(HashFile { kind: Sha1, count: 7, path: \"p\" })"),
+        (
+            most,
+            "Ok(HashFile { kind: Sha1, count: 18446744073709551615, path: \"p\" })",
+        ),
+        (too_many, "Err(BadNumber(\"18446744073709551616\"))"),
+        ("-1", "Err(BadNumber(\"-1\"))"),
+        ("+", "Err(BadNumber(\"+\"))"),
+        ("", "Err(BadNumber(\"\"))"),
+        ("++3", "Err(BadNumber(\"++3\"))"),
+        (" 3", "Err(BadNumber(\" 3\"))"),
+        ("0x3", "Err(BadNumber(\"0x3\"))"),
+    ];
+    for (number, answer) in numbers {
+        let words = ["hash-file", "sha1", number, "p"];
+        assert!(&rt; shown(rt.alloc(), read_command(words.as_slice()))?.as_str() == answer);
+    }
+    Ok(())
+}
+
+// Runs the command over `abc`, a byte a read, and compares the answer's Debug text, what was written,
+// and how often the input was read.
+fn expect_run(
+    rt: &(impl Abort + Files + AllocGlobal),
+    command: Command<'_>,
+    fault: Fault,
+    answer: &str,
+    written: &[u8],
+    reads: usize,
+) -> Result<(), Fail> {
+    let mut input = Plain::new(Reader::new(b"abc", 1, fault));
+    let mut buf = [0; 80];
+    let mut out = IntoSlice::new(&mut buf);
+    let answered = run_command(rt, rt.alloc(), command, &mut input, &mut out);
+    assert!(rt;
+        shown(rt.alloc(), answered)?.as_str() == answer,
+        "the answer of {command:?}"
+    );
+    assert!(rt; out.written() == written, "the output of {command:?}");
+    assert!(rt;
+        input.into_inner().calls() == reads,
+        "the reads of {command:?}"
+    );
+    Ok(())
+}
+
+#[test]
+fn runs_pipes(rt: HostRuntime) -> Result<(), Fail> {
+    let kind = Kind::Sha1;
+    let (hash, seal) = (Command::Hash { kind }, Command::Seal { kind });
+    let whole = sealed(rt.alloc(), b"abc", ABC)?;
+    expect_run(&rt, hash, Fault::Never, "Ok(1)", ABC.as_bytes(), 4)?;
+    expect_run(&rt, seal, Fault::Never, "Ok(1)", &whole, 4)?;
+    expect_run(&rt, hash, Fault::AtCall(3), "Err(Input)", b"", 3)?;
+    expect_run(&rt, seal, Fault::AtCall(3), "Err(Input)", b"ab", 3)
+}
+
+// Runs the command over `abc` with a buffered writer that fails at a flush.
+fn expect_failed_flush(
+    rt: &(impl Abort + Files + AllocGlobal),
+    command: Command<'_>,
+    taken: &[u8],
+) -> Result<(), Fail> {
+    let mut input = FromSlice::new(b"abc");
+    let writer = Writer::failing_at_flush(Vec::new(rt.alloc()));
+    let mut out = Plain::new(BufWriter::new(rt.alloc(), writer)?);
+    let answered = run_command(rt, rt.alloc(), command, &mut input, &mut out);
+    assert!(rt; shown(rt.alloc(), answered)?.as_str() == "Err(Output)");
+    assert!(rt; out.failed());
+    let (writer, _) = out.into_inner().into_parts();
+    assert!(rt; writer.taken() == taken);
+    Ok(())
+}
+
+#[test]
+fn tells_a_flush_that_fails(rt: HostRuntime) -> Result<(), Fail> {
+    let kind = Kind::Sha1;
+    let whole = sealed(rt.alloc(), b"abc", ABC)?;
+    expect_failed_flush(&rt, Command::Hash { kind }, ABC.as_bytes())?;
+    expect_failed_flush(&rt, Command::Seal { kind }, &whole)
+}
+
+// With an allocator that has no room for the piece that is read, nor for a digest's line.
+#[test]
+fn hashes_without_memory(rt: HostRuntime) -> Result<(), Fail> {
+    let kind = Kind::Sha1;
+    let whole = sealed(rt.alloc(), b"abc", ABC)?;
+    let heap = LocalHeap::new(rt.alloc(), 0)?;
+    assert!(&rt; Vec::<u8, _>::with_capacity(&heap, 41).is_err());
+    for (command, written) in [
+        (Command::Hash { kind }, ABC.as_bytes()),
+        (Command::Seal { kind }, &whole),
+    ] {
+        let mut buf = [0; 80];
+        let mut out = IntoSlice::new(&mut buf);
+        let answer = run_command(&rt, &heap, command, &mut FromSlice::new(b"abc"), &mut out);
+        assert!(&rt; matches!(answer, Ok(1)));
+        assert!(&rt; out.written() == written);
+    }
+    Ok(())
+}
+
+#[test]
+fn hashes_files(rt: HostRuntime) -> Result<(), Fail> {
+    let path = "oidtool-hashes-files";
+    fs::write(&rt, path, b"abcdef")?;
+    let hash_file = |count, path| Command::HashFile {
+        kind: Kind::Sha1,
+        count,
+        path,
+    };
+    let never = Fault::Never;
+    expect_run(&rt, hash_file(3, path), never, "Ok(1)", ABC.as_bytes(), 0)?;
+    expect_run(&rt, hash_file(7, path), never, "Err(Input)", b"", 0)?;
+    fs::remove_file(&rt, path)?;
+    expect_run(&rt, hash_file(3, path), never, "Err(Input)", b"", 0)
+}

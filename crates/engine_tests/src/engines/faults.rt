@@ -1,0 +1,174 @@
+//! Writers that fail, lists that are long, and searches that need no memory.
+
+use super::faulty::{Fault, Writer};
+use super::{BLOB, BLOB_256, TREE, TREE_256, text_of};
+use devices::from_slice::FromSlice;
+use devices::into_slice::IntoSlice;
+use devices::plain::Plain;
+use devices::sink::Sink;
+use linked_list_allocator::LocalHeap;
+use list_search::finding::{FindError, find, find_change};
+use list_search::finding_from::find_from;
+use std::alloc::{AllocError, Global};
+use std::process::Abort;
+use std::test::Fail;
+
+// The four ids in their order, the tree twice.
+fn list(alloc: Global) -> Result<String, AllocError> {
+    text_of(alloc, [BLOB_256, TREE, TREE, TREE_256, BLOB].as_slice())
+}
+
+// Finds the prefix with this writer, and compares the answer and what the writer took.
+fn expect_taken(
+    rt: &(impl Abort + AllocGlobal),
+    prefix: &str,
+    piece: usize,
+    fault: Fault,
+    answer: Result<usize, ()>,
+    taken: &[u8],
+) -> Result<(), Fail> {
+    let list = list(rt.alloc())?;
+    let mut out = Plain::new(Writer::new(Vec::new(rt.alloc()), piece, fault));
+    let found = find(rt.alloc(), prefix, list.as_bytes(), &mut out);
+    match answer {
+        Ok(count) => {
+            assert!(rt; matches!(found, Ok(n) if n == count), "{prefix} is found");
+            assert!(rt; !out.failed(), "no write of {prefix} fails");
+        }
+        Err(()) => {
+            assert!(rt;
+                matches!(found, Err(FindError::Output)),
+                "a write of {prefix} fails"
+            );
+            assert!(rt; out.failed(), "the failure is kept");
+        }
+    }
+    let writer = out.into_inner();
+    assert!(rt; writer.taken() == taken, "what was taken for {prefix}");
+    assert!(rt;
+        !writer.was_asked_again(),
+        "nothing is written for {prefix} behind a failure"
+    );
+    assert!(rt; writer.flushes() == 0, "{prefix} is not flushed");
+    Ok(())
+}
+
+#[test]
+fn tells_a_write_that_fails(rt: HostRuntime) -> Result<(), Fail> {
+    let both = text_of(rt.alloc(), [TREE, TREE].as_slice())?;
+    let both = both.as_bytes();
+    for at in 1..=82 {
+        assert!(&rt; at <= both.len());
+        expect_taken(&rt, "4b82", 1, Fault::AtCall(at), Err(()), &both[..at - 1])?;
+    }
+    expect_taken(&rt, "4b82", 1, Fault::AtCall(83), Ok(2), both)?;
+    for most in 0..82 {
+        assert!(&rt; most <= both.len());
+        expect_taken(
+            &rt,
+            "4b82",
+            7,
+            Fault::AfterBytes(most),
+            Err(()),
+            &both[..most],
+        )?;
+    }
+    expect_taken(&rt, "4b82", 7, Fault::AfterBytes(82), Ok(2), both)?;
+    expect_taken(
+        &rt,
+        "4b82",
+        128,
+        Fault::AfterBytes(10),
+        Err(()),
+        b"4b825dc642",
+    )?;
+    expect_taken(&rt, "4b82", 0, Fault::Never, Err(()), b"")?;
+    expect_taken(&rt, "4b82", 128, Fault::Never, Ok(2), both)?;
+    expect_taken(&rt, "ffff", 0, Fault::AtCall(1), Ok(0), b"")
+}
+
+#[test]
+fn keeps_a_failure(rt: HostRuntime) -> Result<(), Fail> {
+    let mut out = Plain::new(Writer::new(Vec::new(rt.alloc()), 4, Fault::AtCall(2)));
+    assert!(&rt; matches!(out.write(b"abcdef"), Ok(4)));
+    assert!(&rt; !out.failed());
+    assert!(&rt; out.write(b"ef").is_err());
+    assert!(&rt; out.failed());
+    assert!(&rt; matches!(out.write(b"gh"), Ok(2)));
+    assert!(&rt; out.failed());
+    let inner = out.into_inner();
+    assert!(&rt; inner.taken() == b"abcdgh".as_slice());
+    assert!(&rt; inner.calls() == 3);
+    Ok(())
+}
+
+#[test]
+fn fills_a_slice(rt: HostRuntime) {
+    let mut buf = [b'#'; 6];
+    let mut out = IntoSlice::new(&mut buf);
+    assert!(&rt; matches!(out.write(b"abcd"), Ok(4)));
+    assert!(&rt; matches!(out.write(b"efgh"), Ok(2)));
+    assert!(&rt; matches!(out.write(b""), Ok(0)));
+    assert!(&rt; !out.failed());
+    assert!(&rt; matches!(out.write(b"gh"), Ok(0)));
+    assert!(&rt; out.failed());
+    assert!(&rt; out.written() == b"abcdef".as_slice());
+}
+
+// A list of so many lines, the trees of SHA-1 but for the tree of SHA-256 and the blob behind them.
+fn list_of(alloc: Global, lines: usize) -> Result<String, AllocError> {
+    let mut text = String::new(alloc);
+    for _ in 2..lines {
+        text.push_str(TREE)?;
+    }
+    text.push_str(TREE_256)?;
+    text.push_str(BLOB)?;
+    Ok(text)
+}
+
+#[test]
+fn finds_in_long_lists(rt: HostRuntime) -> Result<(), Fail> {
+    let list = list_of(rt.alloc(), 3000)?;
+    let mut out = Plain::new(Vec::new(rt.alloc()));
+    let found = find(rt.alloc(), "e69d", list.as_bytes(), &mut out);
+    assert!(&rt; matches!(found, Ok(1)));
+    assert!(&rt; out.into_inner().as_slice() == BLOB.as_bytes());
+    let mut out = Plain::new(Vec::new(rt.alloc()));
+    let found = find_change(rt.alloc(), "vorx", list.as_bytes(), &mut out);
+    assert!(&rt; matches!(found, Ok(2998)));
+    assert!(&rt; out.into_inner().len() == 2998 * 41);
+    let mut input = FromSlice::new(list.as_bytes());
+    let mut out = Plain::new(Vec::new(rt.alloc()));
+    let found = find_from(rt.alloc(), "4b82", &mut input, &mut out);
+    assert!(&rt; matches!(found, Ok(2998)));
+    assert!(&rt; out.into_inner().len() == 2998 * 41);
+    Ok(())
+}
+
+#[test]
+fn needs_no_memory_without_lines(rt: HostRuntime) -> Result<(), Fail> {
+    let heap = LocalHeap::new(rt.alloc(), 0)?;
+    let mut buf = [0; 8];
+    let mut out = IntoSlice::new(&mut buf);
+    assert!(&rt; matches!(find(&heap, "4b82", b"", &mut out), Ok(0)));
+    assert!(&rt;
+        matches!(
+            find(&heap, "abc", TREE.as_bytes(), &mut out),
+            Err(FindError::Prefix(_))
+        )
+    );
+    assert!(&rt;
+        matches!(
+            find(&heap, "4b82", b"zz", &mut out),
+            Err(FindError::BadLine { line: 1, .. })
+        )
+    );
+    assert!(&rt;
+        matches!(
+            find(&heap, "4b82", TREE.as_bytes(), &mut out),
+            Err(FindError::Memory)
+        )
+    );
+    assert!(&rt; out.written() == b"".as_slice());
+    Ok(())
+}

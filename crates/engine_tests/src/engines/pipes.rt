@@ -1,0 +1,351 @@
+//! Hashing and sealing: digests from outside, texts, and devices that fail.
+
+ghost use Rattle.std.specs.Prelude.{◌≡◌, false};
+
+use super::faulty::{Fault, Reader, Writer};
+use super::printed;
+use commands::pipe::{PipeError, hash_all, seal};
+use devices::from_slice::FromSlice;
+use devices::into_slice::IntoSlice;
+use devices::plain::Plain;
+use devices::sink::Sink;
+use devices::source::Source;
+use gix_hash::io::{Never, NoProgress};
+use gix_hash::{Kind, ObjectId, bytes, oid, verify};
+use std::alloc::Global;
+use std::process::Abort;
+use std::test::Fail;
+
+// The digests of `abc` and of nothing, in FIPS 180-4's own examples.
+pub const ABC: &str = "a9993e364706816aba3e25717850c26c9cd0d89d\n";
+
+const ABC_256: &str = "ba7816bf8f01cfea414140de5dae2223b00361a396177a9cb410ff61f20015ad\n";
+
+const EMPTY: &str = "da39a3ee5e6b4b0d3255bfef95601890afd80709\n";
+
+const EMPTY_256: &str = "e3b0c44298fc1c149afbf4c8996fb92427ae41e4649b934ca495991b7852b855\n";
+
+// Those of a million letters `a`, likewise.
+const MILLION: &str = "34aa973cd4c4daa4f61eeb2bdbad27316534016f\n";
+
+const MILLION_256: &str = "cdc76e5c9914fb9281a1c7e284d73e67f1809a48a497200e046d39ccc7112cd0\n";
+
+// Those of `bbc`, by the program `sha1sum` and its like.
+const BBC: &str = "0fbe2a58568b4590569588e52ed6a7da4e91b6ab\n";
+
+const BBC_256: &str = "77e6f78af45f649c5f3b8ebe484a91a144eb203a34a89c8dc5b1c4ca87bc6f71\n";
+
+/// What stands between a source and a sink.
+#[derive(Clone, Copy, Debug, PartialEq, Eq)]
+enum Pipe {
+    Hash,
+    Seal,
+}
+
+impl Pipe {
+    fn run<R: Source, W: Sink>(
+        self,
+        input: &mut R,
+        out: &mut W,
+        kind: Kind,
+    ) -> Result<(), PipeError>
+        requires input { R.has_failed input.old ≡ false }
+        requires output { W.has_failed out.old ≡ false }
+    {
+        match self {
+            Pipe::Hash => hash_all(input, out, kind),
+            Pipe::Seal => seal(input, out, kind),
+        }
+    }
+}
+
+// A message and the bytes of its digest, which is written in hex digits and a line feed.
+pub fn sealed(alloc: Global, message: &[u8], line: &str) -> Result<Vec<u8>, Fail> {
+    let mut bytes = Vec::new(alloc);
+    bytes.extend_from_slice(message)?;
+    match ObjectId::from_hex(line.trim_end().as_bytes()) {
+        Ok(id) => bytes.extend_from_slice(id.as_slice())?,
+        Err(_) => return Err(Fail::new("a digest does not read")),
+    }
+    Ok(bytes)
+}
+
+// Hashes and seals the message in whole pieces, and compares with the digest's line.
+fn expect_digest(
+    rt: &(impl Abort + AllocGlobal),
+    kind: Kind,
+    message: &[u8],
+    line: &str,
+) -> Result<(), Fail> {
+    let mut buf = [0; 80];
+    let mut hashed = IntoSlice::new(&mut buf);
+    let answer = hash_all(&mut FromSlice::new(message), &mut hashed, kind);
+    assert!(rt; answer.is_ok(), "{line}");
+    assert!(rt; hashed.written() == line.as_bytes(), "{line}");
+    let mut out = Plain::new(Vec::new(rt.alloc()));
+    let answer = seal(&mut FromSlice::new(message), &mut out, kind);
+    assert!(rt; answer.is_ok(), "{line}");
+    let whole = sealed(rt.alloc(), message, line)?;
+    assert!(rt; out.into_inner() == whole, "{line}");
+    Ok(())
+}
+
+#[test]
+fn hashes_and_seals(rt: HostRuntime) -> Result<(), Fail> {
+    let million = vec![in rt.alloc(); b'a'; 1_000_000]?;
+    let rows = [
+        (Kind::Sha1, b"abc".as_slice(), ABC),
+        (Kind::Sha256, b"abc".as_slice(), ABC_256),
+        (Kind::Sha1, b"".as_slice(), EMPTY),
+        (Kind::Sha256, b"".as_slice(), EMPTY_256),
+        (Kind::Sha1, million.as_slice(), MILLION),
+        (Kind::Sha256, million.as_slice(), MILLION_256),
+    ];
+    for (kind, message, line) in rows {
+        expect_digest(&rt, kind, message, line)?;
+    }
+    Ok(())
+}
+
+// Compares the digest at the end of a sealed message with that of all before it, as who reads a pack
+// does.
+fn verified(sealed: &[u8], kind: Kind) -> Result<Result<(), verify::Error>, Fail> {
+    let Some(len) = sealed.len().checked_sub(kind.len_in_bytes()) else {
+        return Err(Fail::new("a sealed message is too short"));
+    };
+    let mut message = &sealed[..len];
+    let id = bytes(&mut message, len as u64, kind, &mut NoProgress, &mut Never)?;
+    Ok(id.verify(oid::try_from_bytes(&sealed[len..])?))
+}
+
+#[test]
+fn seals_verifiably(rt: HostRuntime) -> Result<(), Fail> {
+    for (kind, abc, bbc) in [(Kind::Sha1, ABC, BBC), (Kind::Sha256, ABC_256, BBC_256)] {
+        let mut buf = [0; 80];
+        let mut out = IntoSlice::new(&mut buf);
+        seal(&mut FromSlice::new(b"abc"), &mut out, kind)?;
+        let mut sealed = Vec::new(rt.alloc());
+        sealed.extend_from_slice(out.written())?;
+        assert!(&rt; verified(&sealed, kind)?.is_ok());
+        assert!(&rt; !sealed.is_empty());
+        sealed[0] = b'b';
+        match verified(&sealed, kind)? {
+            Ok(()) => return Err(Fail::new("another message is verified")),
+            Err(verify::Error { actual, expected }) => {
+                assert!(&rt; actual.eq_str(bbc.trim_end()));
+                assert!(&rt; expected.eq_str(abc.trim_end()));
+            }
+        }
+    }
+    Ok(())
+}
+
+/// A run between two devices, of `abc` in SHA-1, and what it must give.
+#[derive(Clone, Copy)]
+struct Run<'a> {
+    pipe: Pipe,
+    /// The most bytes a read, and the fault.
+    read: (usize, Fault),
+    /// The most bytes a write, and the fault.
+    write: (usize, Fault),
+    answer: Result<(), PipeError>,
+    taken: &'a [u8],
+    /// How often the devices are called.
+    calls: (usize, usize),
+}
+
+fn expect_run(rt: &(impl Abort + AllocGlobal), run: &Run<'_>) {
+    let (piece, fault) = run.read;
+    let mut input = Plain::new(Reader::new(b"abc", piece, fault));
+    let (piece, fault) = run.write;
+    let mut out = Plain::new(Writer::new(Vec::new(rt.alloc()), piece, fault));
+    let answer = run.pipe.run(&mut input, &mut out, Kind::Sha1);
+    let (pipe, calls) = (run.pipe, run.calls);
+    assert!(rt; answer == run.answer, "the answer of {pipe:?} at {calls:?}");
+    let failed = (input.failed(), out.failed());
+    let (input, out) = (input.into_inner(), out.into_inner());
+    assert!(rt;
+        (input.calls(), out.calls()) == calls,
+        "the calls of {pipe:?}"
+    );
+    assert!(rt;
+        out.taken() == run.taken,
+        "what {pipe:?} wrote at {calls:?}"
+    );
+    assert!(rt;
+        failed
+            == (
+                run.answer == Err(PipeError::Input),
+                run.answer == Err(PipeError::Output)
+            ),
+        "the failures of {pipe:?} at {calls:?}"
+    );
+}
+
+// What is right of `abc`, hashed and sealed.
+fn right(alloc: Global, pipe: Pipe) -> Result<Vec<u8>, Fail> {
+    match pipe {
+        Pipe::Hash => {
+            let mut line = Vec::new(alloc);
+            line.extend_from_slice(ABC.as_bytes())?;
+            Ok(line)
+        }
+        Pipe::Seal => sealed(alloc, b"abc", ABC),
+    }
+}
+
+#[test]
+fn ends_over_devices(rt: HostRuntime) -> Result<(), Fail> {
+    let fine = (usize::MAX, Fault::Never);
+    let single = (1, Fault::Never);
+    for (pipe, read, write, calls) in [
+        (Pipe::Hash, fine, fine, (2, 1)),
+        (Pipe::Hash, single, fine, (4, 1)),
+        (Pipe::Hash, fine, single, (2, 41)),
+        (Pipe::Seal, fine, fine, (2, 2)),
+        (Pipe::Seal, single, fine, (4, 4)),
+        (Pipe::Seal, fine, single, (2, 23)),
+        (Pipe::Seal, single, single, (4, 23)),
+    ] {
+        let whole = right(rt.alloc(), pipe)?;
+        let run = Run {
+            pipe,
+            read,
+            write,
+            answer: Ok(()),
+            taken: &whole,
+            calls,
+        };
+        expect_run(&rt, &run);
+    }
+    Ok(())
+}
+
+// The n-th read fails, or the library's loops would try it again.
+fn expect_failed_read(rt: &(impl Abort + AllocGlobal), n: usize, fault: Fault) {
+    assert!(rt; n >= 1);
+    let given = (n - 1).min(3);
+    let run = Run {
+        pipe: Pipe::Hash,
+        read: (1, fault),
+        write: (usize::MAX, Fault::Never),
+        answer: Err(PipeError::Input),
+        taken: b"",
+        calls: (n, 0),
+    };
+    expect_run(rt, &run);
+    let run = Run {
+        pipe: Pipe::Seal,
+        taken: &b"abc"[..given],
+        calls: (n, given),
+        ..run
+    };
+    expect_run(rt, &run);
+}
+
+#[test]
+fn tells_a_read_that_fails(rt: HostRuntime) {
+    for n in 1..=4 {
+        expect_failed_read(&rt, n, Fault::AtCall(n));
+        expect_failed_read(&rt, n, Fault::InterruptedAt(n));
+    }
+    expect_failed_read(&rt, 3, Fault::AfterBytes(2));
+}
+
+// The n-th write fails, or takes none.
+fn expect_failed_write(
+    rt: &(impl Abort + AllocGlobal),
+    pipe: Pipe,
+    n: usize,
+    write: (usize, Fault),
+) -> Result<(), Fail> {
+    let whole = right(rt.alloc(), pipe)?;
+    assert!(rt; n >= 1);
+    assert!(rt; n <= whole.len());
+    let reads = match pipe {
+        Pipe::Hash => 4,
+        Pipe::Seal => n.min(4),
+    };
+    let run = Run {
+        pipe,
+        read: (1, Fault::Never),
+        write,
+        answer: Err(PipeError::Output),
+        taken: &whole[..n - 1],
+        calls: (reads, n),
+    };
+    expect_run(rt, &run);
+    Ok(())
+}
+
+#[test]
+fn tells_a_write_that_fails(rt: HostRuntime) -> Result<(), Fail> {
+    for n in 1..=41 {
+        expect_failed_write(&rt, Pipe::Hash, n, (1, Fault::AtCall(n)))?;
+        expect_failed_write(&rt, Pipe::Hash, n, (1, Fault::InterruptedAt(n)))?;
+    }
+    for n in 1..=23 {
+        expect_failed_write(&rt, Pipe::Seal, n, (1, Fault::AtCall(n)))?;
+        expect_failed_write(&rt, Pipe::Seal, n, (1, Fault::InterruptedAt(n)))?;
+    }
+    for pipe in [Pipe::Hash, Pipe::Seal] {
+        expect_failed_write(&rt, pipe, 1, (0, Fault::Never))?;
+    }
+    Ok(())
+}
+
+// Writers with room for some bytes, and writers that take all behind their error.
+#[test]
+fn tells_a_write_of_more_bytes_that_fails(rt: HostRuntime) {
+    let whole = usize::MAX;
+    for (pipe, fault, taken, calls) in [
+        (
+            Pipe::Hash,
+            Fault::AfterBytes(5),
+            b"a9993".as_slice(),
+            (2, 2),
+        ),
+        (Pipe::Hash, Fault::AtCall(1), b"", (2, 1)),
+        (Pipe::Seal, Fault::AtCall(1), b"", (1, 1)),
+        (Pipe::Seal, Fault::AtCall(2), b"abc", (2, 2)),
+        (Pipe::Seal, Fault::AfterBytes(2), b"ab", (1, 2)),
+        (Pipe::Seal, Fault::AfterBytes(5), b"abc\xa9\x99", (2, 3)),
+    ] {
+        let run = Run {
+            pipe,
+            read: (whole, Fault::Never),
+            write: (whole, fault),
+            answer: Err(PipeError::Output),
+            taken,
+            calls,
+        };
+        expect_run(&rt, &run);
+    }
+}
+
+#[test]
+fn keeps_a_failed_read(rt: HostRuntime) {
+    let mut input = Plain::new(Reader::new(b"abcdef", 4, Fault::AtCall(2)));
+    let mut buf = [b'#'; 6];
+    assert!(&rt; matches!(input.read(&mut buf), Ok(4)));
+    assert!(&rt; !input.failed());
+    assert!(&rt; input.read(&mut buf).is_err());
+    assert!(&rt; input.failed());
+    assert!(&rt; matches!(input.read(&mut buf), Ok(2)));
+    assert!(&rt; input.failed());
+    assert!(&rt; buf == *b"efcd##");
+    assert!(&rt; input.into_inner().calls() == 3);
+}
+
+#[test]
+fn prints_why_a_pipe_stopped(rt: HostRuntime) -> Result<(), Fail> {
+    let rows = [
+        (PipeError::Input, "cannot read"),
+        (PipeError::Output, "cannot write"),
+        (PipeError::TooMuch, "too much input"),
+    ];
+    for (error, text) in rows {
+        assert!(&rt; printed(rt.alloc(), error)?.as_str() == text);
+    }
+    Ok(())
+}

@@ -1,0 +1,9 @@
+mod IndexPlaces
+mod LineLemmas
+mod Meaning
+mod MeaningIn
+mod Orders
+mod PieceLemmas
+mod ReadingLemmas
+mod RunLemmas
+mod StopLemmas

@@ -1,0 +1,318 @@
+-- What a reader of pieces has taken, line by line.
+use Rattle.std.proofs.Common.{◌≡◌, ◌⊎◌, inl, inr, ℕ, suc, ◌+◌, ◌<◌, ◌≤◌, Bool, true, false, Option, Some, None, eqb-true, List, [], ◌∷◌, ◌++◌, length, take, drop, map, get_or, set, refl, arith, sym, ap, ◌∙◌, subst, append_assoc, append-nil, drop-cons, take-append-drop, length-drop, length-take, get_or-drop, take-add, Result, Ok, Err}
+use Rattle.std.proofs.lemmas.Bool.Decides.{nat_tests}
+use Rattle.std.proofs.lemmas.List.{map-append, length-append, take_more_set, take_more, take_all, take-append-le}
+use Rattle.std.proofs.lemmas.List.Elements.{All-push, All-head, All-tail, All-nil, All-cons}
+use Rattle.std.proofs.lemmas.Grind.{flat_map-append}
+use Rattle.std.specs.Prelude.{All, IsOk, flat_map}
+use Rattle.gix_hash.specs.Digits.{hex_letter}
+use Rattle.gix_hash.specs.IdReading.{full_read, whole_of}
+use Rattle.gix_hash.specs.Kind.{kind_of_full_len}
+use Rattle.gix_hash.specs.ObjectId.{id_digits}
+use Rattle.gix_hash.specs.Prefix.{Beginning}
+use Rattle.gix_hash.specs.Reading.{digit_below, digit_in, digits_read, put_digit, answer_of}
+use Rattle.gix_hash.specs.declared.decode.Error.{Error}
+use Rattle.gix_hash.specs.declared.decode.Error.TheVariants.{InvalidHexEncodingLength, Invalid}
+use Rattle.gix_hash.specs.declared.kind.Kind.{Kind}
+use Rattle.gix_hash.specs.declared.object_id.ObjectId.{ObjectId}
+use Rattle.list_search.specs.Lines.{is_line_feed, lines_of}
+use Rattle.list_search.specs.ListPieces.{IsLine, ended, NoBadLineEnded, HasTaken, TakesLine}
+use Rattle.list_search.specs.ListText.{put_id, ids_read, list_read, IsFirstRead, RefusesList}
+use Rattle.list_search.specs.declared.list.ListError.{ListError}
+use Rattle.list_search.specs.declared.list.ListError.TheVariants.{BadLine, Memory}
+use Rattle.list_search.proofs.LineLemmas.{lines_of-ended, lines_of-last}
+use Rattle.list_search.specs.Lines.{lines_of-nil}
+use Rattle.std.proofs.lemmas.List.{nil_from_length}
+
+-- whole lines, and then more
+lines_of-lines : (lines : List (List ℕ)) (more : List ℕ) → All IsLine lines → lines_of (flat_map ended lines ++ more) ≡ lines ++ lines_of more
+lines_of-lines [] more each = refl
+lines_of-lines (line ∷ lines) more each =
+    ap lines_of (append_assoc (line ++ 10 ∷ []) (flat_map ended lines) more ∙ append_assoc line (10 ∷ []) (flat_map ended lines ++ more))
+    ∙ lines_of-ended line (flat_map ended lines ++ more) (All-head IsLine line lines each)
+    ∙ ap (λ r. line ∷ r) (lines_of-lines lines more (All-tail IsLine line lines each))
+
+-- each line reads as the id at its place
+abbrev ReadAs : List (List ℕ) → List ObjectId → Type 0
+ReadAs lines ids = map (full_read hex_letter) lines ≡ map (λ id. Ok (whole_of id)) ids
+
+-- ids before those that the lines behind theirs read as
+abbrev put_front : List (List ℕ) → Result (List (List ℕ)) ListError → Result (List (List ℕ)) ListError
+put_front front (Err error) = Err error
+put_front front (Ok ids) = Ok (front ++ ids)
+
+put_front-nil : (more : Result (List (List ℕ)) ListError) → more ≡ put_front [] more
+put_front-nil (Err error) = refl
+put_front-nil (Ok ids) = refl
+
+put_id-front : (n : ℕ) (id : Beginning) (front : List (List ℕ)) (more : Result (List (List ℕ)) ListError)
+    → put_id n (Ok id) (put_front front more) ≡ put_front (id.digits ∷ front) more
+put_id-front n id front (Err error) = refl
+put_id-front n id front (Ok ids) = refl
+
+-- lines that read as ids, before others
+ids_read-lines : (n : ℕ) (lines : List (List ℕ)) (ids : List ObjectId) (rest : List (List ℕ)) → ReadAs lines ids
+    → ids_read n (lines ++ rest) ≡ put_front (map id_digits ids) (ids_read (n + length ids) rest)
+unfolding ids_read
+ids_read-lines n [] [] rest reads = let same : n + 0 ≡ n = omega arith in rw same (put_front-nil (ids_read n rest))
+ids_read-lines n [] (id ∷ ids) rest reads = cc reads
+ids_read-lines n (line ∷ lines) [] rest reads = cc reads
+ids_read-lines n (line ∷ lines) (id ∷ ids) rest reads =
+    let first : full_read hex_letter line ≡ Ok (whole_of id) = cc reads in
+    let others : ReadAs lines ids = cc reads in
+    let next : n + 1 + length ids ≡ n + suc (length ids) = omega arith in
+    rw (first, ids_read-lines (n + 1) lines ids rest others, next) (put_id-front n (whole_of id) (map id_digits ids) (ids_read (n + suc (length ids)) rest))
+
+-- the first line reads, if there is one, and else the last
+first_read : (lines : List (List ℕ)) (ids : List ObjectId) (last : List ℕ) (rest : List (List ℕ)) → ReadAs lines ids → IsOk (full_read hex_letter last)
+    → IsFirstRead (lines ++ last ∷ rest)
+first_read [] ids last rest reads read = read
+first_read (line ∷ lines) [] last rest reads read = cc reads
+first_read (line ∷ lines) (id ∷ ids) last rest reads read =
+    let first : full_read hex_letter line ≡ Ok (whole_of id) = cc reads in rw first refl
+
+-- each of the lines reads
+all_read : (lines : List (List ℕ)) (ids : List ObjectId) → ReadAs lines ids → All (λ line. IsOk (full_read hex_letter line)) lines
+all_read [] ids reads = All-nil (λ line. IsOk (full_read hex_letter line))
+all_read (line ∷ lines) [] reads = cc reads
+all_read (line ∷ lines) (id ∷ ids) reads =
+    let first : full_read hex_letter line ≡ Ok (whole_of id) = cc reads in
+    let others : ReadAs lines ids = cc reads in
+    All-cons (λ l. IsOk (full_read hex_letter l)) line lines (rw first refl) (all_read lines ids others)
+
+-- nothing was taken
+pub taken_nothing : (ids : List ObjectId) (kept : List ℕ) → ids ≡ [] → HasTaken ids kept 0 []
+taken_nothing ids kept none = record {
+  lines = [];
+  last = [];
+  text_is = refl;
+  each_a_line = All-nil IsLine;
+  not_ended = All-nil (λ b. is_line_feed b ≡ false);
+  read = rw none refl;
+  last_len = refl;
+  last_kept = refl;
+}
+
+-- what was taken, of a reader with these parts
+module _ (ids : List ObjectId) (kept : List ℕ) (len : ℕ) (text : List ℕ) (h : HasTaken ids kept len text) where
+  -- the lines of what was taken, then a line feed, and then more
+  lines_of-taken : (more : List ℕ) → lines_of (text ++ 10 ∷ more) ≡ h.lines ++ h.last ∷ lines_of more
+  lines_of-taken more =
+      ap (λ t. lines_of (t ++ 10 ∷ more)) h.text_is
+      ∙ ap lines_of (append_assoc (flat_map ended h.lines) h.last (10 ∷ more))
+      ∙ lines_of-lines h.lines (h.last ++ 10 ∷ more) h.each_a_line
+      ∙ ap (λ r. h.lines ++ r) (lines_of-ended h.last more h.not_ended)
+
+  -- no bad line ended in it
+  pub no_bad_line : NoBadLineEnded text
+  no_bad_line = record {
+    lines = h.lines;
+    last = h.last;
+    text_is = h.text_is;
+    read = all_read h.lines ids h.read;
+    not_ended = h.not_ended;
+  }
+
+  -- the line that did not end reads as no id
+  pub refused_line : (more : List ℕ) (error : Error) (n : ℕ) → Err error ≡ full_read hex_letter h.last → n ≡ length ids + 1 → list_read (text ++ 10 ∷ more) ≡ Err (BadLine n error)
+  unfolding ids_read
+  refused_line more error n refused count =
+      let number : 1 + length ids ≡ n = omega (arith, count) in
+      ap (ids_read 1) (lines_of-taken more) ∙ ids_read-lines 1 h.lines ids (h.last ∷ lines_of more) h.read
+      ∙ rw (number, ← refused) refl
+
+  -- it reads, and so does the first line
+  pub first_read-taken : (more : List ℕ) → IsOk (full_read hex_letter h.last) → IsFirstRead (lines_of (text ++ 10 ∷ more))
+  first_read-taken more read = rw (lines_of-taken more) (first_read h.lines ids h.last (lines_of more) h.read read)
+
+  -- it reads as an id, and is ended
+  pub ended_taken : (new_ids : List ObjectId) (new_kept : List ℕ) (new_len : ℕ) (id : ObjectId) → full_read hex_letter h.last ≡ Ok (whole_of id)
+      → new_ids ≡ ids ++ id ∷ [] → new_len ≡ 0 → HasTaken new_ids new_kept new_len (text ++ 10 ∷ [])
+  ended_taken new_ids new_kept new_len id reads pushed empty = record {
+    lines = h.lines ++ h.last ∷ [];
+    last = [];
+    text_is =
+        ap (λ t. t ++ 10 ∷ []) h.text_is ∙ append_assoc (flat_map ended h.lines) h.last (10 ∷ [])
+        ∙ ap (λ r. flat_map ended h.lines ++ r) (sym (append-nil (ended h.last)))
+        ∙ sym (flat_map-append ended h.lines (h.last ∷ []))
+        ∙ sym (append-nil (flat_map ended (h.lines ++ h.last ∷ [])));
+    each_a_line = All-push IsLine h.lines h.last h.each_a_line h.not_ended;
+    not_ended = All-nil (λ b. is_line_feed b ≡ false);
+    read =
+        map-append (full_read hex_letter) h.lines (h.last ∷ []) ∙ ap (λ r. r ++ full_read hex_letter h.last ∷ []) h.read
+        ∙ ap (λ r. map (λ i. Ok (whole_of i)) ids ++ r ∷ []) reads
+        ∙ sym (map-append (λ i. Ok (whole_of i)) ids (id ∷ [])) ∙ ap (map (λ i. Ok (whole_of i))) (sym pushed);
+    last_len = empty;
+    last_kept = rw empty refl;
+  }
+
+  -- it is longer by a byte
+  pub longer_taken : (new_kept : List ℕ) (b : ℕ) → is_line_feed b ≡ false → take 64 (h.last ++ b ∷ []) ≡ take (len + 1) new_kept
+      → HasTaken ids new_kept (len + 1) (text ++ b ∷ [])
+  longer_taken new_kept b plain kept_more = record {
+    lines = h.lines;
+    last = h.last ++ b ∷ [];
+    text_is = ap (λ t. t ++ b ∷ []) h.text_is ∙ append_assoc (flat_map ended h.lines) h.last (b ∷ []);
+    each_a_line = h.each_a_line;
+    not_ended = All-push (λ c. is_line_feed c ≡ false) h.last b h.not_ended plain;
+    read = h.read;
+    last_len = omega (arith, h.last_len, length-append h.last (b ∷ []));
+    last_kept = kept_more;
+  }
+
+  -- no line is begun: then a line can be
+  pub begun_taken : (line : List ℕ) → len ≡ 0 → IsLine line → HasTaken ids (take 64 line) (length line) (text ++ line)
+  begun_taken line empty is_line =
+      let none : h.last ≡ [] = nil_from_length h.last (omega (arith, h.last_len)) in
+      record {
+        lines = h.lines;
+        last = line;
+        text_is = ap (λ t. t ++ line) (h.text_is ∙ ap (λ r. flat_map ended h.lines ++ r) none ∙ append-nil (flat_map ended h.lines));
+        each_a_line = h.each_a_line;
+        not_ended = is_line;
+        read = h.read;
+        last_len = refl;
+        last_kept = sym (take_all (length line) (take 64 line) (omega (arith, length-take 64 line)));
+      }
+
+  -- and the text is a list
+  pub list_taken : len ≡ 0 → list_read text ≡ Ok (map id_digits ids)
+  unfolding ids_read
+  list_taken empty =
+      let none : h.last ≡ [] = nil_from_length h.last (omega (arith, h.last_len)) in
+      ap (λ t. ids_read 1 (lines_of t)) (h.text_is ∙ ap (λ r. flat_map ended h.lines ++ r) none)
+      ∙ ap (ids_read 1) (lines_of-lines h.lines [] h.each_a_line ∙ ap (λ r. h.lines ++ r) lines_of-nil)
+      ∙ ids_read-lines 1 h.lines ids [] h.read ∙ ap Ok (append-nil (map id_digits ids))
+
+  -- a line that is not empty reads alike with its line feed and without
+  pub lines_of-unended : 0 < len → lines_of (text ++ 10 ∷ []) ≡ lines_of text
+  lines_of-unended some =
+      lines_of-taken []
+      ∙ ap (λ r. h.lines ++ h.last ∷ r) lines_of-nil
+      ∙ ap (λ r. h.lines ++ r) (sym (lines_of-last h.last (omega (arith, h.last_len)) h.not_ended))
+      ∙ sym (lines_of-lines h.lines h.last h.each_a_line) ∙ ap lines_of (sym h.text_is)
+
+-- texts of the same lines are refused alike
+pub refuses_same : (a b : List ℕ) (e : ListError) → lines_of a ≡ lines_of b → RefusesList a e → RefusesList b e
+refuses_same a b (BadLine n error) same h = ap (ids_read 1) (sym same) ∙ h
+refuses_same a b Memory same h = subst IsFirstRead same h
+
+-- a refusal of a list is that of its text, or want of memory
+pub refuses_or_memory : (text : List ℕ) (e : ListError) → RefusesList text e → (list_read text ≡ Err e) ⊎ (e ≡ Memory)
+refuses_or_memory text (BadLine n error) h = inl h
+refuses_or_memory text Memory h = inr refl
+
+-- which comes behind a first line that reads
+pub refuses_memory : (text : List ℕ) (e : ListError) → RefusesList text e → e ≡ Memory → IsFirstRead (lines_of text)
+refuses_memory text e h is = subst (RefusesList text) is h
+
+-- a refusal at a byte of a piece
+pub refuses_at : (text piece more : List ℕ) (i b : ℕ) (e : ListError) → i < length piece → b ≡ get_or piece i 0
+    → RefusesList ((text ++ take i piece) ++ b ∷ (drop (suc i) piece ++ more)) e → RefusesList ((text ++ piece) ++ more) e
+refuses_at text piece more i b e h is r =
+    let parts : take i piece ++ b ∷ drop (suc i) piece ≡ piece =
+    ap (λ r. take i piece ++ r) (sym (drop-cons piece i 0 h ∙ ap (λ y. y ∷ drop (suc i) piece) (sym is))) ∙ take-append-drop i piece in
+    let whole : (text ++ take i piece) ++ b ∷ (drop (suc i) piece ++ more) ≡ (text ++ piece) ++ more =
+    append_assoc text (take i piece) (b ∷ (drop (suc i) piece ++ more))
+    ∙ ap (λ r. text ++ r) (sym (append_assoc (take i piece) (b ∷ drop (suc i) piece) more) ∙ ap (λ r. r ++ more) parts)
+    ∙ sym (append_assoc text piece more) in
+    subst (λ t. RefusesList t e) whole r
+
+-- a line of which too much is kept to be an id, and one that is kept whole
+pub long_line : (line : List ℕ) (len : ℕ) → len ≡ length line → 64 < len → Err (InvalidHexEncodingLength len) ≡ full_read hex_letter line
+long_line line len is long = grind (arith, nat_tests)
+
+pub short_line : (line : List ℕ) (len : ℕ) (kept : List ℕ) → len ≡ length line → len ≤ 64 → take 64 line ≡ take len kept → line ≡ take len kept
+short_line line len kept is short same = sym (take_all 64 line (omega arith)) ∙ same
+
+-- a byte more of a line
+pub kept_short : (line kept : List ℕ) (len b : ℕ) → length kept ≡ 64 → len ≡ length line → take 64 line ≡ take len kept → len < 64
+    → take 64 (line ++ b ∷ []) ≡ take (len + 1) (set kept len b)
+kept_short line kept len b size is same short =
+    take_all 64 (line ++ b ∷ []) (omega (arith, length-append line (b ∷ [])))
+    ∙ ap (λ r. r ++ b ∷ []) (short_line line len kept is (omega arith) same)
+    ∙ sym (take_more_set kept len b (omega arith))
+
+pub kept_long : (line kept : List ℕ) (len b : ℕ) → length kept ≡ 64 → len ≡ length line → take 64 line ≡ take len kept → 64 ≤ len
+    → take 64 (line ++ b ∷ []) ≡ take (len + 1) kept
+kept_long line kept len b size is same long =
+    take-append-le 64 line (b ∷ []) (omega arith) ∙ same ∙ take_all len kept (omega arith) ∙ sym (take_all (len + 1) kept (omega arith))
+
+-- a line feed is no letter
+no_line_feed : (c d : ℕ) → digit_in hex_letter c ≡ Some d → is_line_feed c ≡ false
+unfolding digit_below
+no_line_feed c d found = by_test (is_line_feed c) refl
+  where
+    by_test : (feed : Bool) → is_line_feed c ≡ feed → feed ≡ false
+    by_test false is = refl
+    by_test true is = let none : digit_in hex_letter c ≡ None = rw (eqb-true c 10 is) refl in cc
+
+-- so what reads as digits has none
+IsLine-read : (line ds : List ℕ) → digits_read hex_letter line ≡ Some ds → IsLine line
+unfolding digits_read
+IsLine-read [] ds reads = All-nil (λ b. is_line_feed b ≡ false)
+IsLine-read (c ∷ line) ds reads =
+    by_parts (digit_in hex_letter c) refl (digits_read hex_letter line) refl (λ rest is. IsLine-read line rest is) reads
+  where
+    by_parts : (first : Option ℕ) → digit_in hex_letter c ≡ first → (more : Option (List ℕ)) → digits_read hex_letter line ≡ more
+        → ((rest : List ℕ) → digits_read hex_letter line ≡ Some rest → IsLine line) → put_digit first more ≡ Some ds → IsLine (c ∷ line)
+    by_parts None is more are behind h = cc h
+    by_parts (Some d) is None are behind h = cc h
+    by_parts (Some d) is (Some rest) are behind h = All-cons (λ b. is_line_feed b ≡ false) c line (no_line_feed c d is) (behind rest are)
+
+-- what reads as an id reads as digits
+IsLine-id : (line : List ℕ) (id : Beginning) → full_read hex_letter line ≡ Ok id → IsLine line
+IsLine-id line id reads = by_digits (digits_read hex_letter line) refl (kind_of_full_len (length line)) reads
+  where
+    by_digits : (digits : Option (List ℕ)) → digits_read hex_letter line ≡ digits → (kind : Option Kind)
+        → answer_of kind digits (InvalidHexEncodingLength (length line)) Invalid ≡ Ok id → IsLine line
+    by_digits digits is None h = cc h
+    by_digits None is (Some kind) h = cc h
+    by_digits (Some ds) is (Some kind) h = IsLine-read line ds is
+
+-- letters of an id, and a line feed
+pub line_taken : (piece line : List ℕ) (at n next : ℕ) (id : ObjectId) → at + (n + 1) ≤ length piece → next ≡ at + (n + 1) → line ≡ take n (drop at piece)
+    → get_or piece (at + n) 0 ≡ 10 → Ok (whole_of id) ≡ full_read hex_letter line → TakesLine piece at next id
+line_taken piece line at n next id room there is feed reads =
+    let last : take (n + 1) (drop at piece) ≡ line ++ 10 ∷ [] =
+    take_more (drop at piece) n 0 (omega (arith, length-drop at piece))
+    ∙ ap (λ l. l ++ get_or (drop at piece) n 0 ∷ []) (sym is)
+    ∙ ap (λ b. line ++ b ∷ []) (get_or-drop at piece n 0 ∙ feed) in
+    record {
+      line = line;
+      is_line = IsLine-id line (whole_of id) (sym reads);
+      reads = sym reads;
+      text_is = ap (λ k. take k piece) there ∙ take-add at (n + 1) piece ∙ ap (λ r. take at piece ++ r) last;
+      onward = omega arith;
+      in_piece = omega arith;
+    }
+
+-- a line of a piece where no line was begun
+module _ (ids : List ObjectId) (kept : List ℕ) (len : ℕ) (text piece : List ℕ) (at next : ℕ) (id : ObjectId)
+    (empty : len ≡ 0) (takes : TakesLine piece at next id) (h : HasTaken ids kept len (text ++ take at piece)) where
+  begun : HasTaken ids (take 64 takes.line) (length takes.line) ((text ++ take at piece) ++ takes.line)
+  begun = begun_taken ids kept len (text ++ take at piece) h takes.line empty takes.is_line
+
+  -- the text up to it, it, and its line feed, before more
+  line_behind : (more : List ℕ) → ((text ++ take at piece) ++ takes.line) ++ 10 ∷ more ≡ (text ++ take next piece) ++ more
+  line_behind more =
+      append_assoc (text ++ take at piece) takes.line (10 ∷ more)
+      ∙ sym (append_assoc (text ++ take at piece) (ended takes.line) more ∙ ap (λ r. (text ++ take at piece) ++ r) (append_assoc takes.line (10 ∷ []) more))
+      ∙ ap (λ r. r ++ more) (append_assoc text (take at piece) (ended takes.line) ∙ ap (λ r. text ++ r) (sym takes.text_is))
+
+  -- its id is pushed
+  pub line_pushed : (new_ids : List ObjectId) (new_kept : List ℕ) → new_ids ≡ ids ++ id ∷ [] → HasTaken new_ids new_kept len (text ++ take next piece)
+  unfolding begun begun_taken
+  line_pushed new_ids new_kept pushed =
+      subst (HasTaken new_ids new_kept len) (line_behind [] ∙ append-nil (text ++ take next piece))
+      (ended_taken ids (take 64 takes.line) (length takes.line) ((text ++ take at piece) ++ takes.line) begun new_ids new_kept len id takes.reads pushed empty)
+
+  -- or memory ran out
+  pub line_not_pushed : (more : List ℕ) → RefusesList ((text ++ piece) ++ more) Memory
+  unfolding begun begun_taken
+  line_not_pushed more =
+      let whole : (text ++ take next piece) ++ (drop next piece ++ more) ≡ (text ++ piece) ++ more =
+      sym (append_assoc (text ++ take next piece) (drop next piece) more)
+      ∙ ap (λ r. r ++ more) (append_assoc text (take next piece) (drop next piece) ∙ ap (λ r. text ++ r) (take-append-drop next piece)) in
+      subst (λ t. IsFirstRead (lines_of t)) (line_behind (drop next piece ++ more) ∙ whole)
+      (first_read-taken ids (take 64 takes.line) (length takes.line) ((text ++ take at piece) ++ takes.line) begun (drop next piece ++ more) (rw takes.reads refl))

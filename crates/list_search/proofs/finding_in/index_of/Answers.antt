@@ -1,0 +1,15 @@
+use Rattle.std.proofs.Common.{refl, ap}
+use Rattle.std.specs.Option.{option_map}
+use Rattle.id_lookup.specs.declared.index.IndexError.TheVariants.{WrongKind, NotRising}
+use Rattle.list_search.specs.FindingIn.{refusal_at}
+use Rattle.list_search.proofs.IndexPlaces.{first_bad-none, first_bad-some}
+use Rattle.list_search.proofs.finding_in.index_of.Goals as goal
+
+pub returns-in-Ok-clause-index : goal.returns-in-Ok-clause-index
+returns-in-Ok-clause-index c = first_bad-none _ _ (c.in-Ok.ensures.index.0 refl)
+
+pub returns-in-Err-WrongKind-clause-bad : goal.returns-in-Err-WrongKind-clause-bad
+returns-in-Err-WrongKind-clause-bad c = ap (option_map refusal_at) (first_bad-some _ _ (WrongKind c.in-Err-WrongKind.at) (rw c.in-Err-WrongKind.field-0-is at c.in-Err-WrongKind.ensures.err))
+
+pub returns-in-Err-NotRising-clause-bad : goal.returns-in-Err-NotRising-clause-bad
+returns-in-Err-NotRising-clause-bad c = ap (option_map refusal_at) (first_bad-some _ _ (NotRising c.in-Err-NotRising.at) (rw c.in-Err-NotRising.field-0-is at c.in-Err-NotRising.ensures.err))

@@ -1,0 +1,11 @@
+use Rattle.std.proofs.Common.{◌≡◌, ◌+◌, ◌-◌, refl, arith}
+use Rattle.list_search.proofs.Orders.{first_unsorted-none, first_unsorted-some}
+use Rattle.list_search.proofs.matching.sorted_ids.Goals as goal
+
+pub returns-in-Ok-clause-sorted : goal.returns-in-Ok-clause-sorted
+returns-in-Ok-clause-sorted c = first_unsorted-none _ (c.in-Ok.ensures.sorted.0 refl)
+
+pub returns-in-Err-clause-unsorted : goal.returns-in-Err-clause-unsorted
+returns-in-Err-clause-unsorted c =
+    let counted : c.in-Err.unsorted.at + 1 - 1 ≡ c.in-Err.unsorted.at = omega arith in
+    first_unsorted-some _ _ (rw counted c.in-Err.ensures.err)

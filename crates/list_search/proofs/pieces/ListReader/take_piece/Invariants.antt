@@ -1,0 +1,13 @@
+use Rattle.std.proofs.Common.{ℕ, ◌+◌, ◌-◌, ◌≤◌, List, ◌++◌, take, length}
+use Rattle.list_search.specs.ListPieces.{HasTaken}
+use Rattle.list_search.proofs.pieces.ListReader.take_piece.Given as goal
+
+abbrev pub invariant-loop-at : goal.invariant-loop-at
+invariant-loop-at g l = record {
+  taken : (text : List ℕ) → HasTaken l.fn.self.ids.items l.fn.self.line l.fn.self.len text → HasTaken l.self.ids.items l.self.line l.self.len (text ++ take l.at l.piece);
+  short : l.self.len ≤ l.fn.self.len + l.at;
+  in_piece : l.at ≤ length l.piece;
+}
+
+abbrev pub decreases-loop-at : goal.decreases-loop-at
+decreases-loop-at g l = length l.piece - l.at

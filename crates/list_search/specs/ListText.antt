@@ -1,0 +1,70 @@
+-- List texts: a line for each id.
+use Rattle.std.specs.Prelude.{◌≡◌, ℕ, ◌+◌, if◌then◌else◌, Option, Some, None, List, [], ◌∷◌, ◌++◌, All, IsOk, length, Result, Ok, Err}
+use Rattle.std.specs.List.{AllZip}
+use Rattle.std.specs.Ordering.{nat_cmp, is_lt}
+use Rattle.std.specs.Cmp.Lexicographic.{slice_cmp}
+use Rattle.gix_hash.specs.Digits.{hex_letter}
+use Rattle.gix_hash.specs.IdReading.{full_read}
+use Rattle.gix_hash.specs.Prefix.{Beginning, beginning_of}
+use Rattle.gix_hash.specs.declared.decode.Error.{Error}
+use Rattle.gix_hash.specs.declared.kind.Kind.{Kind}
+use Rattle.list_search.specs.declared.list.ListError.{ListError}
+use Rattle.list_search.specs.declared.list.ListError.TheVariants.{BadLine, Memory}
+use Rattle.list_search.specs.Lines.{lines_of}
+
+-- the digits of what line n reads as, before those of the lines behind it; or the first refusal
+abbrev pub put_id : ℕ → Result Beginning Error → Result (List (List ℕ)) ListError → Result (List (List ℕ)) ListError
+put_id n (Err error) more = Err (BadLine n error)
+put_id n (Ok id) (Err error) = Err error
+put_id n (Ok id) (Ok ids) = Ok (id.digits ∷ ids)
+
+-- the digits of the ids of some lines, counted from n, or the first refusal
+unfoldable pub ids_read : ℕ → List (List ℕ) → Result (List (List ℕ)) ListError
+ids_read n [] = Ok []
+ids_read n (line ∷ lines) = put_id n (full_read hex_letter line) (ids_read (n + 1) lines)
+
+-- the digits of the ids of a list text, or the first refusal, with its line, counted from 1
+abbrev pub list_read : List ℕ → Result (List (List ℕ)) ListError
+list_read text = ids_read 1 (lines_of text)
+
+-- the first of the lines reads as an id
+abbrev pub IsFirstRead : List (List ℕ) → Type 0
+IsFirstRead [] = ⊥
+IsFirstRead (line ∷ lines) = IsOk (full_read hex_letter line)
+
+-- the text is refused as a list: for its first bad line, or, behind a first line that reads, for want of memory
+abbrev pub RefusesList : List ℕ → ListError → Type 0
+RefusesList text (BadLine n error) = list_read text ≡ Err (BadLine n error)
+RefusesList text Memory = IsFirstRead (lines_of text)
+
+-- the first of some ids, counted from n, that is below the one before it; `last` stands before them
+unfoldable pub unsorted_behind : List ℕ → ℕ → List (List ℕ) → Option ℕ
+unsorted_behind last n [] = None
+unsorted_behind last n (id ∷ ids) = if is_lt (slice_cmp nat_cmp id last) then Some n else unsorted_behind id (n + 1) ids
+
+-- the first id that is below the one before it, counted from 1
+abbrev pub first_unsorted : List (List ℕ) → Option ℕ
+first_unsorted [] = None
+first_unsorted (id ∷ ids) = unsorted_behind id 2 ids
+
+-- the line reads as an id of these digits
+abbrev pub IsLineOf : List ℕ → List ℕ → Type 0
+IsLineOf line digits = (kind : Kind) × (full_read hex_letter line ≡ Ok (beginning_of kind digits))
+
+-- each line of the text reads as the id at its place
+abbrev pub IsListOf : List ℕ → List (List ℕ) → Type 0
+IsListOf text ids = AllZip IsLineOf (lines_of text) ids
+
+-- of some lines, counted from n, line m is the first that does not read as an id, and is refused for this error
+pub record IsFirstBad (n : ℕ) (lines : List (List ℕ)) (m : ℕ) (error : Error) : Type 0 where
+  pub before : List (List ℕ)
+  pub line : List ℕ
+  pub after : List (List ℕ)
+  pub is : lines ≡ before ++ line ∷ after
+  pub number : m ≡ n + length before
+  pub read : All (λ l. IsOk (full_read hex_letter l)) before
+  pub refused : full_read hex_letter line ≡ Err error
+
+-- line m of the text, counted from 1, is the first that does not read as an id, and is refused for this error
+abbrev pub IsFirstBadLine : List ℕ → ℕ → Error → Type 0
+IsFirstBadLine text m error = IsFirstBad 1 (lines_of text) m error

@@ -1,0 +1,125 @@
+//! Finding the ids of a list text that a source gives.
+
+ghost use Rattle.std.specs.Prelude.{◌≡◌, ◌≢◌, ◌↔◌, ℕ, List, true, false, IsErr, IfOk, IfErr, IsErrOf};
+ghost use Rattle.gix_hash.specs.Digits.{hex_letter};
+ghost use Rattle.gix_hash.specs.PrefixReading.{prefix_read};
+ghost use Rattle.list_search.specs.Finding.{finding, IsFound};
+ghost use Rattle.list_search.specs.FindingFrom.{SearchStops};
+ghost use Rattle.devices.specs.Source.{GivesAll};
+ghost use Rattle.list_search.specs.declared.finding_from.FindFromError.{FindFromError};
+
+use crate::finding::{FindError, search_ids};
+use crate::reading::{ReadError, read_source};
+use devices::sink::Sink;
+use devices::source::Source;
+use gix_hash::{Alphabet, decode, prefix};
+use std::alloc::Allocator;
+use thiserror::Error as ThisError;
+
+/// Why nothing was found in what a source gives, or not all that was found was written.
+#[derive(Debug, Drop, ThisError)]
+pub enum FindFromError {
+    /// The prefix does not read.
+    #[error("prefix: {0}")]
+    Prefix(prefix::from_hex::Error),
+    /// A line does not read as an id; the first such line.
+    #[error("line {line}: {error}")]
+    BadLine {
+        /// The line, counted from 1.
+        line: usize,
+        /// Why it does not read.
+        error: decode::Error,
+    },
+    /// The id of a line is below that of the line before it; the first such line.
+    #[error("line {line}: below the line before it")]
+    Unsorted {
+        /// The line, counted from 1.
+        line: usize,
+    },
+    /// The prefix has more digits than some id of the list.
+    #[error("prefix of {hex_len} digits, but an id of the list has only {min}")]
+    PrefixTooLong {
+        /// The number of the prefix's digits.
+        hex_len: usize,
+        /// The number of digits of the shortest id: 40 or 64.
+        min: usize,
+    },
+    /// Memory ran out.
+    #[error("out of memory")]
+    Memory,
+    /// The writer answered an error, or took none of a piece that is not empty.
+    #[error("cannot write")]
+    Output,
+    /// A read answered an error, before the list's end and before the end of a bad line.
+    #[error("cannot read")]
+    Input,
+    /// The list has more than 2^61 - 1 bytes, and no bad line ends within the first of them.
+    #[error("too much input")]
+    TooMuch,
+}
+
+impl From<FindError> for FindFromError {
+    ghost use Rattle.list_search.specs.FindingFrom.{from_source};
+
+    ghost from_gives = { λ error e. e ≡ from_source error };
+
+    fn from(error: FindError) -> Self {
+        match error {
+            FindError::Prefix(error) => FindFromError::Prefix(error),
+            FindError::BadLine { line, error } => FindFromError::BadLine { line, error },
+            FindError::Unsorted { line } => FindFromError::Unsorted { line },
+            FindError::PrefixTooLong { hex_len, min } => {
+                FindFromError::PrefixTooLong { hex_len, min }
+            }
+            FindError::Memory => FindFromError::Memory,
+            FindError::Output => FindFromError::Output,
+        }
+    }
+}
+
+impl From<ReadError> for FindFromError {
+    ghost use Rattle.list_search.specs.FindingFrom.{from_reading};
+
+    ghost from_gives = { λ error e. e ≡ from_reading error };
+
+    fn from(error: ReadError) -> Self {
+        match error {
+            ReadError::Refused(error) => FindFromError::from(FindError::from(error)),
+            ReadError::Input => FindFromError::Input,
+            ReadError::TooMuch => FindFromError::TooMuch,
+        }
+    }
+}
+
+/// Writes a line for each id of the list text that the source gives to its end, and answers how many
+/// there are, as [`find`](crate::finding::find) does over the whole text, however the source cuts it.
+///
+/// The prefix is read first: nothing is read of the source where it is refused. The source is read
+/// no further than the end of the first bad line, which [`FindFromError::BadLine`] tells with its
+/// whole length; the order of the ids and the length of the prefix are tested at the list's end.
+/// [`FindFromError::Input`] comes exactly where the source failed, [`FindFromError::Output`] exactly
+/// where the writer did, and nothing was written under another refusal. Both must not have failed
+/// before. At most 65536 bytes of the text are kept.
+pub fn find_from<A: Allocator, R: Source, W: Sink>(
+    alloc: A,
+    prefix: &str,
+    list: &mut R,
+    out: &mut W,
+) -> Result<usize, FindFromError>
+    requires input { R.has_failed list.old ≡ false }
+    requires output { W.has_failed out.old ≡ false }
+    ensures found { IfOk result (λ count. (text : List ℕ) × GivesAll (R.remaining list.old) (R.remaining list.new) text
+        × IsFound hex_letter (finding hex_letter prefix.now text) (W.taken out.old) (W.taken out.new) count) }
+    ensures stopped { IfErr result (λ e.
+        SearchStops hex_letter prefix.now e (R.remaining list.old) (R.remaining list.new) (W.taken out.old) (W.taken out.new)) }
+    ensures unread { IsErr (prefix_read hex_letter 4 prefix.now) → list.new ≡ list.old }
+    ensures untouched { IfErr result (λ e. e ≢ FindFromError.Output → out.new ≡ out.old) }
+    ensures input { IsErrOf result FindFromError.Input ↔ (R.has_failed list.new ≡ true) }
+    ensures output { IsErrOf result FindFromError.Output ↔ (W.has_failed out.new ≡ true) }
+{
+    let prefix = Alphabet::Hex
+        .read_prefix(prefix)
+        .map_err(FindFromError::Prefix)?;
+    let ids = read_source(alloc, list)?;
+    Ok(search_ids(Alphabet::Hex, &ids, &prefix, out)?)
+}
