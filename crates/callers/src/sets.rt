@@ -5,7 +5,7 @@ ghost use Rattle.std.specs.BTreeMap as tree;
 ghost use Rattle.std.specs.HashSet as hash_set;
 ghost use Rattle.std.specs.declared.cmp.Ordering.{Ordering};
 ghost use Rattle.gix_hash.specs.ObjectId.{id_cmp, id_eq};
-ghost use Rattle.gix_hash.specs.declared.object_id.ObjectId.{ObjectId};
+ghost use Rattle.gix_hash.specs.declared.ObjectId.{ObjectId};
 
 use gix_hash::{ObjectId, laws};
 use std::alloc::AllocFailed;

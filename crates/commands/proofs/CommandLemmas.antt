@@ -2,7 +2,7 @@
 use Rattle.std.proofs.Common.{ℕ, List, [], ◌∷◌, refl}
 use Rattle.std.specs.Prelude.{codes}
 use Rattle.gix_hash.specs.Kind.{IsNameOf}
-use Rattle.gix_hash.specs.declared.kind.Kind.{Kind}
+use Rattle.gix_hash.specs.declared.Kind.{Kind}
 use Rattle.commands.specs.declared.command.ArgError.{ArgError}
 use Rattle.commands.specs.declared.command.ArgError.TheVariants.{Usage, BadKind, BadNumber}
 use Rattle.commands.specs.Command.{TakesKind, RefusesKind, RefusesNumber, RefusesWords}

@@ -3,7 +3,7 @@ use Rattle.std.specs.Prelude.{◌≡◌, ◌≢◌, ◌⊎◌, ℕ, ◌^◌, ◌
 use Rattle.std.specs.Str.Parse.{IsNumeral, digits_value, without_leading_plus}
 use denote.Ref.{Bor}
 use Rattle.gix_hash.specs.Kind.{IsNameOf, IsNoName}
-use Rattle.gix_hash.specs.declared.kind.Kind.{Kind}
+use Rattle.gix_hash.specs.declared.Kind.{Kind}
 use Rattle.commands.specs.declared.command.Command.{Command}
 use Rattle.commands.specs.declared.command.Command.TheVariants.{Find, FindChange, FindIn, Hash, HashFile, Seal}
 use Rattle.commands.specs.declared.command.ArgError.{ArgError}

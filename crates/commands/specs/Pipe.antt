@@ -4,7 +4,7 @@ use Rattle.std.specs.Io.KnownBytes.{Appends, Consumes}
 use Rattle.gix_hash.specs.Digits.{hex_letter}
 use Rattle.gix_hash.specs.Hashing.{digest}
 use Rattle.gix_hash.specs.ObjectId.{id_bytes, id_digits}
-use Rattle.gix_hash.specs.declared.kind.Kind.{Kind}
+use Rattle.gix_hash.specs.declared.Kind.{Kind}
 use Rattle.devices.specs.Printing.{line_of}
 use Rattle.devices.specs.Source.{Gives, GivesAll}
 use Rattle.devices.specs.Writing.{AppendsPart}

@@ -6,7 +6,7 @@ use Rattle.std.proofs.Math.Seq.{drop-cons}
 use Rattle.std.proofs.KnownBytes.{Appends-trans}
 use Rattle.std.specs.Io.KnownBytes.{Appends}
 use Rattle.gix_hash.specs.ObjectId.{id_digits}
-use Rattle.gix_hash.specs.declared.object_id.ObjectId.{ObjectId}
+use Rattle.gix_hash.specs.declared.ObjectId.{ObjectId}
 use Rattle.devices.specs.Printing.{line_of, printed}
 use Rattle.devices.specs.Writing.{AppendsPart, AppendsPart-behind, AppendsPart-more}
 

@@ -1,69 +1,16 @@
 //! Ids in the letters by which Jujutsu spells change ids.
 
 ghost use Rattle.std.specs.Prelude.{◌≡◌, ◌≤◌, ◌<◌, ◌↔◌, ◌++◌, All, IsTrue, length, drop};
-ghost use Rattle.gix_hash.specs.CutId.{cut_of, shown_digits};
-ghost use Rattle.gix_hash.specs.Digits.{reverse_letter, spelling};
-ghost use Rattle.gix_hash.specs.Kind.{hex_len_of, byte_len_of};
-ghost use Rattle.gix_hash.specs.ObjectId.{id_bytes, id_digits, id_kind};
+ghost use Rattle.object_ids.specs.CutId.{cut_of, shown_digits};
+ghost use Rattle.object_ids.specs.Digits.{reverse_letter, spelling};
+ghost use Rattle.object_ids.specs.Kind.{hex_len_of, byte_len_of};
+ghost use Rattle.object_ids.specs.ObjectId.{id_bytes, id_digits, id_kind};
 
-use crate::alphabet::Alphabet;
-use crate::borrowed::oid;
-use crate::decode;
-use crate::display::{CutId, HexDisplay};
-use crate::kind::Kind;
-use crate::object_id::ObjectId;
-use crate::prefix::Prefix;
+pub use object_ids::ReverseHexDisplay;
+use object_ids::{Alphabet, HexDisplay, Kind, ObjectId, Prefix, decode, oid};
 use std::fmt;
 use std::marker::Model;
 use std::str::FromStr;
-
-/// An id that prints its first digits in the letters `z` to `k`: as many as were asked for, or all
-/// where it has fewer.
-///
-/// Two of them are equal where both the ids and the numbers asked for are, and ordered by the ids
-/// first.
-#[derive(PartialEq, Eq, PartialOrd, Ord, Hash, Drop)]
-pub struct ReverseHexDisplay<'a>(CutId<'a>);
-
-impl<'a> Model for ReverseHexDisplay<'a> {
-    ghost use Rattle.gix_hash.specs.declared.display.CutId.{CutId};
-
-    ghost Value = { CutId };
-
-    ghost view = { λ display. display.0 };
-
-    ghost inverse = { λ cut. record { 0 = cut } };
-}
-
-impl<'a> ReverseHexDisplay<'a> {
-    // A display of so many digits of an id.
-    pub(crate) fn new(id: oid<'a>, hex_len: usize) -> ReverseHexDisplay<'a>
-        ensures { result ≡ cut_of id.entry hex_len }
-    {
-        ReverseHexDisplay(CutId::new(id, hex_len))
-    }
-
-    /// Whether `text` is just what is printed.
-    pub fn eq_str(&self, text: &str) -> bool
-        ensures { IsTrue result ↔ (text.now ≡ spelling reverse_letter (shown_digits self.now)) }
-    {
-        let mut buffer = [0; 64];
-        self.0.text(Alphabet::Reverse, &mut buffer) == text
-    }
-}
-
-impl fmt::Display for ReverseHexDisplay<'_> {
-    ghost use Rattle.std.specs.Prelude.{Some};
-    ghost use Rattle.gix_hash.specs.Digits.{reverse_letter, spelling};
-    ghost use Rattle.gix_hash.specs.CutId.{shown_digits};
-
-    ghost output = { λ display. Some (spelling reverse_letter (shown_digits display)) };
-
-    fn fmt<W: fmt::Write>(&self, f: &mut fmt::Formatter<W>) -> fmt::Result {
-        let mut buffer = [0; 64];
-        f.write_str(self.0.text(Alphabet::Reverse, &mut buffer))
-    }
-}
 
 /// An id under another spelling: the letters `z` to `k` in place of the hex digits 0 to 15, as
 /// Jujutsu prints change ids. Contracts see the id.
@@ -71,7 +18,7 @@ impl fmt::Display for ReverseHexDisplay<'_> {
 pub struct ChangeId(ObjectId);
 
 impl Model for ChangeId {
-    ghost use Rattle.gix_hash.specs.declared.object_id.ObjectId.{ObjectId};
+    ghost use Rattle.object_ids.specs.declared.object_id.ObjectId.{ObjectId};
 
     ghost Value = { ObjectId };
 
@@ -81,8 +28,8 @@ impl Model for ChangeId {
 }
 
 impl ChangeId {
-    ghost use Rattle.gix_hash.specs.IdReading.{full_read, id_answered};
-    ghost use Rattle.gix_hash.specs.Oid.{oid_kind, oid_digits};
+    ghost use Rattle.object_ids.specs.IdReading.{full_read, id_answered};
+    ghost use Rattle.object_ids.specs.Oid.{oid_kind, oid_digits};
 
     /// Reads 40 or 64 of the letters `z` to `k`, in any letter case, as an id of SHA-1 or SHA-256.
     ///
@@ -176,8 +123,8 @@ impl ChangeId {
 
 impl fmt::Display for ChangeId {
     ghost use Rattle.std.specs.Prelude.{Some};
-    ghost use Rattle.gix_hash.specs.Digits.{reverse_letter, spelling};
-    ghost use Rattle.gix_hash.specs.ObjectId.{id_digits};
+    ghost use Rattle.object_ids.specs.Digits.{reverse_letter, spelling};
+    ghost use Rattle.object_ids.specs.ObjectId.{id_digits};
 
     ghost output = { λ change. Some (spelling reverse_letter (id_digits change)) };
 
@@ -189,8 +136,8 @@ impl fmt::Display for ChangeId {
 /// As [`ChangeId::from_reverse_hex`].
 impl FromStr for ChangeId {
     ghost use Rattle.std.specs.Prelude.{◌≡◌};
-    ghost use Rattle.gix_hash.specs.Digits.{reverse_letter};
-    ghost use Rattle.gix_hash.specs.IdReading.{full_read, id_answered};
+    ghost use Rattle.object_ids.specs.Digits.{reverse_letter};
+    ghost use Rattle.object_ids.specs.IdReading.{full_read, id_answered};
 
     type Err = decode::Error;
 
@@ -213,8 +160,8 @@ impl From<ObjectId> for ChangeId {
 
 impl<'a> From<oid<'a>> for ChangeId {
     ghost use Rattle.std.specs.Prelude.{◌≡◌};
-    ghost use Rattle.gix_hash.specs.ObjectId.{id_kind, id_digits};
-    ghost use Rattle.gix_hash.specs.Oid.{oid_kind, oid_digits};
+    ghost use Rattle.object_ids.specs.ObjectId.{id_kind, id_digits};
+    ghost use Rattle.object_ids.specs.Oid.{oid_kind, oid_digits};
 
     ghost from_gives = { λ id change. (id_kind change ≡ oid_kind id) × (id_digits change ≡ oid_digits id) };
 
@@ -236,7 +183,7 @@ impl From<ChangeId> for ObjectId {
 /// All digits of the id.
 impl From<ChangeId> for Prefix {
     ghost use Rattle.std.specs.Prelude.{◌≡◌};
-    ghost use Rattle.gix_hash.specs.ObjectId.{id_kind, id_digits};
+    ghost use Rattle.object_ids.specs.ObjectId.{id_kind, id_digits};
 
     ghost from_gives = { λ change prefix. prefix ≡ record { kind = id_kind change; digits = id_digits change } };
 

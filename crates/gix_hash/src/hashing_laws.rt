@@ -10,8 +10,7 @@ ghost use Rattle.gix_hash.specs.Streams.{Reaches, AreChunks, chunks, all_false};
 use crate::hashing;
 use crate::hashing::start::hasher;
 use crate::io::{Interrupt, Never, Write};
-use crate::kind::Kind;
-use crate::object_id::ObjectId;
+use object_ids::{Kind, ObjectId};
 use std::io;
 
 /// The id of pieces that are fed one after another: it is the id of their concatenation, however

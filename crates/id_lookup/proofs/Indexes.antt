@@ -8,8 +8,8 @@ use Rattle.std.proofs.lemmas.Bool.{cases_lt}
 use Rattle.std.proofs.lemmas.Cmp.{nat_list_cmp_total}
 use Rattle.gix_hash.specs.Kind.{hex_len_of, number_of}
 use Rattle.gix_hash.specs.Prefix.{Beginning}
-use Rattle.gix_hash.specs.declared.kind.Kind.{Kind}
-use Rattle.gix_hash.specs.declared.kind.Kind.TheVariants.{Sha1, Sha256}
+use Rattle.gix_hash.specs.declared.Kind.{Kind}
+use Rattle.gix_hash.specs.declared.Kind.TheVariants.{Sha1, Sha256}
 use Rattle.id_lookup.specs.FoundRun.{IsRun}
 use Rattle.id_lookup.specs.declared.search.Run.{Run}
 use Rattle.id_lookup.specs.Index.{IsIndex}

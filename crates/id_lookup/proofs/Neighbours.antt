@@ -9,9 +9,9 @@ use Rattle.std.proofs.lemmas.List.{get_or-map, length-take-le, take-take}
 use Rattle.std.proofs.lemmas.List.Sorted.{sorted_far, ranks_by}
 use Rattle.gix_hash.specs.Kind.{hex_len_of}
 use Rattle.gix_hash.specs.ObjectId.{id_digits}
-use Rattle.gix_hash.specs.declared.kind.Kind.{Kind}
-use Rattle.gix_hash.specs.declared.kind.Kind.TheVariants.{Sha1, Sha256}
-use Rattle.gix_hash.specs.declared.object_id.ObjectId.{ObjectId}
+use Rattle.gix_hash.specs.declared.Kind.{Kind}
+use Rattle.gix_hash.specs.declared.Kind.TheVariants.{Sha1, Sha256}
+use Rattle.gix_hash.specs.declared.ObjectId.{ObjectId}
 use Rattle.id_lookup.specs.Index.{IsIndex}
 use Rattle.id_lookup.specs.ShortNames.{IsShortestName, Parts, common_at}
 use Rattle.id_lookup.proofs.CommonDigits.{common-below, common-above, common-differ, common-symm, begins-common, begins-apart}

@@ -3,7 +3,7 @@ use Rattle.std.proofs.Common.{◌≡◌, ◌≢◌, ℕ, ◌+◌, ◌<◌, ◌�
 use Rattle.std.specs.List.{starts_with}
 use Rattle.std.proofs.lemmas.Bool.{cases_lt, false≢true}
 use Rattle.gix_hash.specs.Prefix.{Beginning}
-use Rattle.gix_hash.specs.declared.kind.Kind.{Kind}
+use Rattle.gix_hash.specs.declared.Kind.{Kind}
 use Rattle.id_lookup.specs.Bounds.{bound_of}
 use Rattle.id_lookup.specs.FoundRun.{IsRun}
 use Rattle.id_lookup.specs.Index.{IsAnswer, IsIndex}

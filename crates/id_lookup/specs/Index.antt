@@ -4,7 +4,7 @@ use Rattle.std.specs.List.{AllAdjacentBelow, AllWithin, count_by}
 use Rattle.std.specs.Ordering.{nat_cmp}
 use Rattle.std.specs.Cmp.Lexicographic.{slice_cmp}
 use Rattle.std.specs.declared.cmp.Ordering.TheVariants.{Less}
-use Rattle.gix_hash.specs.declared.kind.Kind.{Kind}
+use Rattle.gix_hash.specs.declared.Kind.{Kind}
 use Rattle.gix_hash.specs.Kind.{hex_len_of}
 use Rattle.gix_hash.specs.Prefix.{Beginning}
 use Rattle.id_lookup.specs.FoundRun.{IsRun}

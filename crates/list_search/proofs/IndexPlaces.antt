@@ -9,7 +9,7 @@ use Rattle.std.specs.Cmp.Lexicographic.{slice_cmp}
 use Rattle.std.specs.declared.cmp.Ordering.{Ordering}
 use Rattle.std.specs.declared.cmp.Ordering.TheVariants.{Less, Equal, Greater}
 use Rattle.gix_hash.specs.Kind.{hex_len_of}
-use Rattle.gix_hash.specs.declared.kind.Kind.{Kind}
+use Rattle.gix_hash.specs.declared.Kind.{Kind}
 use Rattle.id_lookup.specs.Index.{IsIndex, IsIndexUpTo, IsBadPlace}
 use Rattle.id_lookup.specs.declared.index.IndexError.{IndexError}
 use Rattle.id_lookup.specs.declared.index.IndexError.TheVariants.{WrongKind, NotRising}

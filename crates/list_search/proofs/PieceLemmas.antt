@@ -13,8 +13,8 @@ use Rattle.gix_hash.specs.Prefix.{Beginning}
 use Rattle.gix_hash.specs.Reading.{digit_below, digit_in, digits_read, put_digit, answer_of}
 use Rattle.gix_hash.specs.declared.decode.Error.{Error}
 use Rattle.gix_hash.specs.declared.decode.Error.TheVariants.{InvalidHexEncodingLength, Invalid}
-use Rattle.gix_hash.specs.declared.kind.Kind.{Kind}
-use Rattle.gix_hash.specs.declared.object_id.ObjectId.{ObjectId}
+use Rattle.gix_hash.specs.declared.Kind.{Kind}
+use Rattle.gix_hash.specs.declared.ObjectId.{ObjectId}
 use Rattle.list_search.specs.Lines.{is_line_feed, lines_of}
 use Rattle.list_search.specs.ListPieces.{IsLine, ended, NoBadLineEnded, HasTaken, TakesLine}
 use Rattle.list_search.specs.ListText.{put_id, ids_read, list_read, IsFirstRead, RefusesList}

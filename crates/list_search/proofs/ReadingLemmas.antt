@@ -3,7 +3,7 @@ use Rattle.std.proofs.Common.{◌≡◌, ◌≢◌, ℕ, ◌+◌, ◌^◌, ◌<�
 use Rattle.std.proofs.lemmas.List.{take-take}
 use Rattle.std.proofs.KnownBytes.{Consumes-trans, Consumes-kept}
 use Rattle.std.specs.Io.KnownBytes.{Consumes, Keeps, IsAtEnd}
-use Rattle.gix_hash.specs.declared.object_id.ObjectId.{ObjectId}
+use Rattle.gix_hash.specs.declared.ObjectId.{ObjectId}
 use Rattle.list_search.specs.FindingFrom.{IsSettled, GivesGoodLines, GivesTooMuch}
 use Rattle.list_search.specs.ListPieces.{HasTaken}
 use Rattle.list_search.proofs.PieceLemmas.{no_bad_line}

@@ -6,7 +6,7 @@ use Rattle.gix_hash.specs.Digits.{hex_letter}
 use Rattle.gix_hash.specs.Kind.{hex_len_of}
 use Rattle.gix_hash.specs.Prefix.{Beginning}
 use Rattle.gix_hash.specs.PrefixReading.{prefix_read_in}
-use Rattle.gix_hash.specs.declared.kind.Kind.{Kind}
+use Rattle.gix_hash.specs.declared.Kind.{Kind}
 use Rattle.gix_hash.specs.declared.prefix.from_hex.Error.{Error}
 use Rattle.id_lookup.specs.Index.{IsIndex, IsBadPlace}
 use Rattle.id_lookup.specs.Runs.{matches}

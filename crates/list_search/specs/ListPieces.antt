@@ -2,7 +2,7 @@
 use Rattle.std.specs.Prelude.{◌≡◌, ℕ, ◌<◌, ◌≤◌, false, List, [], ◌∷◌, ◌++◌, map, take, flat_map, length, All, IsOk, Ok}
 use Rattle.gix_hash.specs.Digits.{hex_letter}
 use Rattle.gix_hash.specs.IdReading.{full_read, whole_of}
-use Rattle.gix_hash.specs.declared.object_id.ObjectId.{ObjectId}
+use Rattle.gix_hash.specs.declared.ObjectId.{ObjectId}
 use Rattle.list_search.specs.Lines.{is_line_feed}
 
 -- no byte of a line is a line feed

@@ -7,7 +7,7 @@ use Rattle.gix_hash.specs.Digits.{hex_letter}
 use Rattle.gix_hash.specs.IdReading.{full_read}
 use Rattle.gix_hash.specs.Prefix.{Beginning, beginning_of}
 use Rattle.gix_hash.specs.declared.decode.Error.{Error}
-use Rattle.gix_hash.specs.declared.kind.Kind.{Kind}
+use Rattle.gix_hash.specs.declared.Kind.{Kind}
 use Rattle.list_search.specs.declared.list.ListError.{ListError}
 use Rattle.list_search.specs.declared.list.ListError.TheVariants.{BadLine, Memory}
 use Rattle.list_search.specs.Lines.{lines_of}

@@ -4,7 +4,7 @@ ghost use Rattle.std.specs.Prelude.{◌≡◌, []};
 ghost use Rattle.gix_hash.specs.Hashing.{hasher_kind, StandsFor};
 
 use super::state::Hasher;
-use crate::kind::Kind;
+use object_ids::Kind;
 
 /// A hasher for digests of the given kind, which was fed nothing.
 pub fn hasher(kind: Kind) -> Hasher

@@ -4,8 +4,7 @@ ghost use Rattle.std.specs.Prelude.{◌≡◌, ◌++◌, ℕ, List, [], Ok, IsOk
 ghost use Rattle.gix_hash.specs.Hashing.{digest, hasher_kind, StandsFor};
 
 use super::Error;
-use crate::kind::Kind;
-use crate::object_id::ObjectId;
+use object_ids::{Kind, ObjectId};
 use sha2::Digest;
 
 /// How far SHA-1 has come.

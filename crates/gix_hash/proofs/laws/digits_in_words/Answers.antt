@@ -1,8 +1,8 @@
 use Rattle.std.proofs.Common.{◌≡◌, ◌<◌, ◌+◌, ◌-◌, ◌/◌, ◌%◌, ◌^◌, ℕ, List, suc, drop, get_or, ◌∙◌, arith}
 use Rattle.std.proofs.lemmas.List.{get_or-drop}
 use Rattle.std.proofs.lemmas.List.Elements.{All-drop}
-use Rattle.gix_hash.specs.Words.{word}
-use Rattle.gix_hash.proofs.DigitNumbers.{AreDigits, word-digit}
+use Rattle.object_ids.specs.Words.{word}
+use Rattle.object_ids.proofs.DigitNumbers.{AreDigits, word-digit}
 use Rattle.gix_hash.proofs.laws.digits_in_words.Goals as goal
 
 -- a digit of one word

@@ -1,5 +1,0 @@
-use Rattle.std.proofs.Common.{arith}
-use Rattle.gix_hash.proofs.borrowed.first_word.Goals as goal
-
-pub returns : goal.returns
-returns c = omega (arith, c.from_be_bytes.ensures)

@@ -1,5 +1,0 @@
-use Rattle.gix_hash.proofs.Spellings.{IsOk-ascii}
-use Rattle.gix_hash.proofs.hex_digits.ascii_text.Goals as goal
-
-pub unwrap-requires : goal.unwrap-requires
-unwrap-requires c = IsOk-ascii _ _ _ _ c.requires c.from_utf8.ensures.cases

@@ -1,0 +1,95 @@
+-- The digits that two lists of bytes share: two for each byte, and one more where the next bytes share their high half.
+use Rattle.std.proofs.Common.{◌≡◌, ◌≢◌, ℕ, suc, ◌+◌, ◌/◌, ◌%◌, ◌<◌, ◌≤◌, Bool, true, false, cond, nat_eq, List, [], ◌∷◌, ◌++◌, length, get_or, min, take, drop, refl, sym, ap, ◌∙◌, arith, inl, inr, ◌⊎◌, eqb-true, drop-cons, take-append-drop}
+use Rattle.std.specs.List.{common_prefix_len}
+use Rattle.std.proofs.lemmas.Bool.Decides.{nat_tests}
+use Rattle.std.proofs.lemmas.Bool.{cases_lt}
+use Rattle.std.proofs.lemmas.List.{drop_all, length-take-le}
+use Rattle.std.proofs.lemmas.List.Sums.{common_prefix_len-le}
+use Rattle.object_ids.specs.Digits.{digits_of}
+use Rattle.object_ids.specs.Prefix.{BeginsWith}
+use Rattle.object_ids.specs.CommonDigits.{IsCommonLen}
+
+abbrev common : List ℕ → List ℕ → ℕ
+common = common_prefix_len nat_eq
+
+-- one byte each: both halves, the high half alone, or none
+one_byte : (x y n : ℕ) → cond (nat_eq (x / 16) (y / 16)) (1 + cond (nat_eq (x % 16) (y % 16)) (1 + n) 0) 0
+    ≡ cond (nat_eq x y) (2 + n) (cond (nat_eq (x / 16) (y / 16)) 1 0)
+one_byte x y n = grind (arith, nat_tests)
+
+byte_step : (x y : ℕ) (xs ys : List ℕ) → common (digits_of (x ∷ xs)) (digits_of (y ∷ ys))
+    ≡ cond (nat_eq x y) (2 + common (digits_of xs) (digits_of ys)) (cond (nat_eq (x / 16) (y / 16)) 1 0)
+unfolding digits_of
+byte_step x y xs ys = one_byte x y (common (digits_of xs) (digits_of ys))
+
+-- a choice by whether two numbers are equal
+pub pick_same : (x y n m : ℕ) → x ≡ y → cond (nat_eq x y) n m ≡ n
+pick_same x y n m h = grind (arith, nat_tests)
+
+pub pick_other : (x y n m : ℕ) → x ≢ y → cond (nat_eq x y) n m ≡ m
+pick_other x y n m h = grind (arith, nat_tests)
+
+module _ (xs ys : List ℕ) (at : ℕ) (in_first : at < length xs) (in_second : at < length ys) where
+  here : common (digits_of (drop at xs)) (digits_of (drop at ys))
+      ≡ cond (nat_eq (get_or xs at 0) (get_or ys at 0)) (2 + common (digits_of (drop (suc at) xs)) (digits_of (drop (suc at) ys)))
+      (cond (nat_eq (get_or xs at 0 / 16) (get_or ys at 0 / 16)) 1 0)
+  here = rw (drop-cons xs at 0 in_first, drop-cons ys at 0 in_second) (byte_step (get_or xs at 0) (get_or ys at 0) (drop (suc at) xs) (drop (suc at) ys))
+
+  -- equal bytes share both their digits
+  pub same_byte : get_or xs at 0 ≡ get_or ys at 0
+      → common (digits_of (drop at xs)) (digits_of (drop at ys)) ≡ 2 + common (digits_of (drop (suc at) xs)) (digits_of (drop (suc at) ys))
+  same_byte same = here ∙ pick_same _ _ _ _ same
+
+  -- other bytes share at most their high half, and nothing behind it
+  pub other_byte : get_or xs at 0 ≢ get_or ys at 0
+      → common (digits_of (drop at xs)) (digits_of (drop at ys)) ≡ cond (nat_eq (get_or xs at 0 / 16) (get_or ys at 0 / 16)) 1 0
+  other_byte other = here ∙ pick_other _ _ _ _ other
+
+-- behind the end of one list nothing is shared
+common-nil : (xs : List ℕ) → common xs [] ≡ 0
+common-nil [] = refl
+common-nil (x ∷ xs) = refl
+
+pub no_more : (xs ys : List ℕ) (at : ℕ) → min (length xs) (length ys) ≤ at → common (digits_of (drop at xs)) (digits_of (drop at ys)) ≡ 0
+unfolding digits_of
+no_more xs ys at h = by (cases_lt at (length xs))
+  where
+    by : ((at < length xs) ⊎ (length xs ≤ at)) → common (digits_of (drop at xs)) (digits_of (drop at ys)) ≡ 0
+    by (inl inside) = rw (drop_all at ys (omega arith)) (common-nil (digits_of (drop at xs)))
+    by (inr past) = rw (drop_all at xs past) refl
+
+-- two lists have the same beginning of as many digits as they share
+take-common : (xs ys : List ℕ) → take (common xs ys) xs ≡ take (common xs ys) ys
+take-common [] ys = refl
+take-common (x ∷ xs) [] = refl
+take-common (x ∷ xs) (y ∷ ys) = by (nat_eq x y) refl (take-common xs ys)
+  where
+    by : (b : Bool) → nat_eq x y ≡ b → take (common xs ys) xs ≡ take (common xs ys) ys
+        → take (cond b (1 + common xs ys) 0) (x ∷ xs) ≡ take (cond b (1 + common xs ys) 0) (y ∷ ys)
+    by true e rest = let one : 1 + common xs ys ≡ suc (common xs ys) = omega arith in rw one (λ i. eqb-true x y e i ∷ rest i)
+    by false e rest = refl
+
+-- and no longer one
+common-appended : (digits xs ys : List ℕ) → length digits ≤ common (digits ++ xs) (digits ++ ys)
+common-appended [] xs ys = omega arith
+common-appended (d ∷ digits) xs ys =
+    let more = common-appended digits xs ys in
+    omega (arith, pick_same d d (1 + common (digits ++ xs) (digits ++ ys)) 0 refl)
+
+begins_both : (xs ys digits : List ℕ) → BeginsWith xs digits → BeginsWith ys digits → length digits ≤ common xs ys
+begins_both xs ys digits first second = rw (first.1, second.1) (common-appended digits first.0 second.0)
+
+-- the number of shared digits, said by beginnings
+pub common_len-is : (xs ys : List ℕ) (n : ℕ) → n ≡ common xs ys → IsCommonLen xs ys n
+common_len-is xs ys n is =
+    let fits = common_prefix_len-le nat_eq xs ys in
+    let front = take (common xs ys) xs in
+    record {
+      shared = (
+        front,
+        length-take-le (common xs ys) xs fits.0 ∙ sym is,
+        (drop (common xs ys) xs, sym (take-append-drop (common xs ys) xs)),
+        (drop (common xs ys) ys, sym (ap (λ (first : List ℕ). first ++ drop (common xs ys) ys) (take-common xs ys) ∙ take-append-drop (common xs ys) ys)),
+      );
+      longest = λ digits first second. rw is (begins_both xs ys digits first second);
+    }

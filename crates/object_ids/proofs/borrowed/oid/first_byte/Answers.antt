@@ -1,0 +1,5 @@
+use Rattle.object_ids.proofs.Places.{first_byte-digits_of}
+use Rattle.object_ids.proofs.borrowed.oid.first_byte.Goals as goal
+
+pub returns : goal.returns
+returns c = first_byte-digits_of c.args.self.now.bytes.now

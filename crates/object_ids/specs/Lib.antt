@@ -1,0 +1,22 @@
+-- The model: an id is a kind and a list of digits, and bytes are read two digits a byte.
+pub mod Digits
+pub mod DigitOrder
+pub mod Reading
+pub mod LetterValues
+pub mod Kind
+pub mod Oid
+pub mod ObjectId
+pub mod Prefix
+pub mod PrefixReading
+pub mod PrefixBytes
+pub mod Equalities
+pub mod IdReading
+pub mod CutId
+pub mod WellKnown
+pub mod FirstWord
+pub mod ByteLengths
+pub mod Loan
+pub mod LentText
+pub mod Alphabet
+pub mod Words
+pub mod CommonDigits

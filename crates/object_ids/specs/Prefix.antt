@@ -1,0 +1,44 @@
+-- What contracts see of a prefix, and its place against an id.
+use Rattle.std.specs.Prelude.{◌≡◌, ◌-◌, ℕ, Bool, List, ◌++◌, length, nat_eq, take, replicate}
+use Rattle.std.specs.declared.cmp.Ordering.{Ordering}
+use Rattle.std.specs.Ordering.{nat_cmp, on, eq_of_both, then_cmp}
+use Rattle.std.specs.Cmp.Lexicographic.{slice_cmp, pointwise}
+use Rattle.object_ids.specs.Kind.{number_of}
+use Rattle.object_ids.specs.declared.kind.Kind.{Kind}
+
+-- a beginning of an id: its kind, and at most as many digits as an id of the kind has
+pub record Beginning : Type 0 where
+  pub kind : Kind
+  pub digits : List ℕ
+
+-- the beginning of a kind with these digits
+abbrev pub beginning_of : Kind → List ℕ → Beginning
+beginning_of kind digits = record { kind = kind; digits = digits }
+
+-- the place of a prefix against an id: dictionary order against as many of the id's first digits
+abbrev pub place : List ℕ → List ℕ → Ordering
+place prefix id = slice_cmp nat_cmp prefix (take (length prefix) id)
+
+-- the digits, and zeros behind them up to n
+abbrev pub padded : ℕ → List ℕ → List ℕ
+padded n digits = digits ++ replicate (n - length digits) 0
+
+-- the number of a prefix's kind, by which prefixes are ordered first
+abbrev pub prefix_kind_number : Beginning → ℕ
+prefix_kind_number prefix = number_of prefix.kind
+
+-- its digits, by which they are ordered then
+abbrev pub prefix_digits : Beginning → List ℕ
+prefix_digits prefix = prefix.digits
+
+-- `==` of prefixes: their kinds and their digits are equal
+abbrev pub prefix_eq : Beginning → Beginning → Bool
+prefix_eq = eq_of_both (on prefix_kind_number nat_eq) (on prefix_digits (pointwise nat_eq))
+
+-- the order of prefixes: by kind, and then dictionary order of the digits
+abbrev pub prefix_cmp : Beginning → Beginning → Ordering
+prefix_cmp = then_cmp (on prefix_kind_number nat_cmp) (on prefix_digits (slice_cmp nat_cmp))
+
+-- the digits of an id are those of a prefix followed by some more
+abbrev pub BeginsWith : List ℕ → List ℕ → Type 0
+BeginsWith id prefix = (rest : List ℕ) × (id ≡ prefix ++ rest)

@@ -1,0 +1,212 @@
+//! The alphabets in which digits are spelled and read.
+
+ghost use Rattle.std.specs.Prelude.{◌≡◌, ◌≤◌, ◌*◌, ◌++◌, Some, None, MatchResult, IsTrue, length, drop, map};
+ghost use Rattle.std.specs.Option.{ok_or, option_map};
+ghost use Rattle.object_ids.specs.Digits.{digits_of, spelling};
+ghost use Rattle.object_ids.specs.Kind.{hex_len_of, is_digest_len};
+ghost use Rattle.object_ids.specs.Prefix.{beginning_of};
+ghost use Rattle.object_ids.specs.PrefixReading.{prefix_read};
+ghost use Rattle.object_ids.specs.Reading.{digits_read};
+ghost use Rattle.object_ids.specs.Alphabet.{letter_of, hex_of_reverse, reverse_of_hex};
+ghost use Rattle.object_ids.specs.declared.decode.Error as decode;
+ghost use Rattle.object_ids.specs.declared.prefix.from_hex.Error as from_hex;
+
+use crate::borrowed::oid;
+use crate::decode;
+use crate::hex_digits::decode_digits;
+use crate::kind::Kind;
+use crate::lanes::reading::read_digest;
+use crate::lanes::spell_hex;
+use crate::object_id::ObjectId;
+use crate::prefix::{Prefix, from_hex};
+
+/// An alphabet of sixteen letters for the digits 0 to 15. Texts are read in any letter case, and
+/// spelled in lowercase.
+#[derive(Clone, Copy, Debug, PartialEq, Eq)]
+pub enum Alphabet {
+    /// `0` to `9` and `a` to `f`.
+    Hex,
+    /// `z` down to `k`, in which Jujutsu spells change ids, so that they differ from other ids.
+    Reverse,
+}
+
+impl Alphabet {
+    ghost use Rattle.object_ids.specs.IdReading.{full_read, id_answered};
+    ghost use Rattle.object_ids.specs.Oid.{oid_digits, oid_kind};
+
+    /// Reads a prefix of 4 to 64 digits. Its kind is the least one whose ids have so many digits.
+    ///
+    /// Fewer bytes are refused as [`from_hex::Error::TooShort`], more as
+    /// [`from_hex::Error::TooLong`], both with their number, and else a byte that is no letter as
+    /// [`from_hex::Error::Invalid`].
+    pub fn read_prefix(self, text: &str) -> Result<Prefix, from_hex::Error>
+        ensures { result ≡ prefix_read (letter_of self) 4 text.now }
+    {
+        if text.len() < Prefix::MIN_HEX_LEN {
+            return Err(from_hex::Error::TooShort {
+                hex_len: text.len(),
+            });
+        }
+        self.read_prefix_nonempty(text)
+    }
+
+    /// As [`Alphabet::read_prefix`], from 1 digit on: no byte is refused as
+    /// [`from_hex::Error::TooShort`].
+    pub fn read_prefix_nonempty(self, text: &str) -> Result<Prefix, from_hex::Error>
+        ensures { result ≡ prefix_read (letter_of self) 1 text.now }
+    {
+        if text.is_empty() {
+            return Err(from_hex::Error::TooShort { hex_len: 0 });
+        }
+        match Kind::from_hex_len(text.len()) {
+            Some(kind) => self.read_beginning(kind, text.as_bytes()),
+            None => Err(from_hex::Error::TooLong {
+                hex_len: text.len(),
+            }),
+        }
+    }
+
+    // Reads the beginning of an id of the kind.
+    pub(crate) fn read_beginning(self, kind: Kind, text: &[u8]) -> Result<Prefix, from_hex::Error>
+        requires { length text.now ≤ hex_len_of kind }
+        ensures { result ≡ ok_or (option_map (beginning_of kind) (digits_read (letter_of self) text.now)) from_hex.Error.Invalid }
+    {
+        let mut letters = [self.zero_letter(); 64];
+        letters[..text.len()].copy_from_slice(text);
+        let mut bytes = [0; 32];
+        match self.decode(&letters, &mut bytes) {
+            Ok(()) => Ok(Prefix::packed(kind, &bytes[..kind.len_in_bytes()], text.len())),
+            Err(_) => Err(from_hex::Error::Invalid),
+        }
+    }
+
+    /// Reads 40 or 64 digits as an id of SHA-1 or SHA-256.
+    ///
+    /// A text of another length is refused as [`decode::Error::InvalidHexEncodingLength`] with its
+    /// length in bytes. A text of such a length with a byte that is no letter is refused as
+    /// [`decode::Error::Invalid`].
+    pub fn read_id(self, text: &[u8]) -> Result<ObjectId, decode::Error>
+        ensures { id_answered result ≡ full_read (letter_of self) text.now }
+    {
+        match text.len() {
+            40 => {
+                let mut bytes = [0; 20];
+                self.decode_digest(text, &mut bytes)?;
+                Ok(ObjectId::Sha1(bytes))
+            }
+            64 => {
+                let mut bytes = [0; 32];
+                self.decode_digest(text, &mut bytes)?;
+                Ok(ObjectId::Sha256(bytes))
+            }
+            len => Err(decode::Error::InvalidHexEncodingLength(len)),
+        }
+    }
+
+    // Decodes a text of two letters a byte, for at most 32 bytes. Where some byte of it is no letter,
+    // what `bytes` then holds is not said.
+    fn decode(self, text: &[u8], bytes: &mut [u8]) -> Result<(), decode::Error>
+        requires two_a_byte { length text.now ≡ 2 * length bytes.old }
+        requires most { length text.now ≤ 64 }
+        ensures { MatchResult result (λ _. digits_read (letter_of self) text.now ≡ Some (digits_of bytes.new))
+            (λ e. (e ≡ decode.Error.Invalid) × (digits_read (letter_of self) text.now ≡ None)) }
+    {
+        match self {
+            Alphabet::Hex => decode_digits(text, bytes),
+            Alphabet::Reverse => {
+                let mut letters = [0; 64];
+                decode_digits(in_hex(text, &mut letters), bytes)
+            }
+        }
+    }
+
+    // As `decode`, of a digest of 20 or 32 bytes: lists have one a line, so it is read by lanes.
+    fn decode_digest(self, text: &[u8], bytes: &mut [u8]) -> Result<(), decode::Error>
+        requires digest { IsTrue (is_digest_len (length bytes.old)) }
+        requires two_a_byte { length text.now ≡ 2 * length bytes.old }
+        ensures { MatchResult result (λ _. digits_read (letter_of self) text.now ≡ Some (digits_of bytes.new))
+            (λ e. (e ≡ decode.Error.Invalid) × (digits_read (letter_of self) text.now ≡ None)) }
+    {
+        match self {
+            Alphabet::Hex => read_digest(text, bytes),
+            Alphabet::Reverse => {
+                let mut letters = [0; 64];
+                read_digest(in_hex(text, &mut letters), bytes)
+            }
+        }
+    }
+
+    // The letter of the digit 0.
+    fn zero_letter(self) -> u8
+        ensures { result ≡ letter_of self 0 }
+    {
+        match self {
+            Alphabet::Hex => b'0',
+            Alphabet::Reverse => b'z',
+        }
+    }
+
+    /// Spells all digits of an id into the front of `buffer`, as many as its kind's length in digits;
+    /// the bytes behind them stay. The buffer needs room for the digits.
+    pub fn put_id(self, id: oid<'_>, buffer: &mut [u8])
+        requires { hex_len_of (oid_kind id) ≤ length buffer.old }
+        ensures value { buffer.new ≡ spelling (letter_of self) (oid_digits id.entry) ++ drop (hex_len_of (oid_kind id.entry)) buffer.old }
+        ensures len { length (oid_digits id.entry) ≡ hex_len_of (oid_kind id.entry) }
+    {
+        let bytes = id.as_bytes();
+        spell_hex(bytes, buffer);
+        if let Alphabet::Reverse = self {
+            to_reverse_letters(&mut buffer[..2 * bytes.len()]);
+        }
+    }
+}
+
+// Puts the hex letters for a text in the reverse alphabet into the front of `letters`, and lends them.
+fn in_hex<'a>(text: &[u8], letters: &'a mut [u8; 64]) -> &'a [u8]
+    requires { length text.now ≤ 64 }
+    ensures { result.now ≡ map hex_of_reverse text.now }
+{
+    let letters = &mut letters[..text.len()];
+    letters.copy_from_slice(text);
+    to_hex_letters(letters);
+    letters
+}
+
+// Replaces each letter of the reverse alphabet by the hex letter of its digit, and any other byte by
+// one that is no hex letter.
+fn to_hex_letters(text: &mut [u8])
+    ensures { text.new ≡ map hex_of_reverse text.old }
+{
+    for letter in text.iter_mut() {
+        *letter = to_hex_letter(*letter);
+    }
+}
+
+// Replaces each hex letter by the reverse letter of its digit.
+fn to_reverse_letters(text: &mut [u8])
+    ensures { text.new ≡ map reverse_of_hex text.old }
+{
+    for letter in text.iter_mut() {
+        *letter = to_reverse_letter(*letter);
+    }
+}
+
+fn to_hex_letter(letter: u8) -> u8
+    ensures { result ≡ hex_of_reverse letter }
+{
+    match letter.to_ascii_lowercase() {
+        lower @ b'q'..=b'z' => b'z' - lower + b'0',
+        lower @ b'k'..=b'p' => b'p' - lower + b'a',
+        _ => b'-',
+    }
+}
+
+fn to_reverse_letter(letter: u8) -> u8
+    ensures { result ≡ reverse_of_hex letter }
+{
+    match letter {
+        b'0'..=b'9' => b'z' - (letter - b'0'),
+        b'a'..=b'f' => b'p' - (letter - b'a'),
+        _ => letter,
+    }
+}
