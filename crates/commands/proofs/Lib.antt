@@ -1,4 +1,3 @@
 mod CommandLemmas
-mod PipeLemmas
 mod RunningLemmas
 mod SourceSearches

@@ -14,7 +14,7 @@ use Rattle.list_search.specs.declared.finding_in.FindInError.{FindInError}
 use Rattle.list_search.specs.declared.finding_in.FindInError.TheVariants as in_kind
 use Rattle.commands.specs.declared.running.CommandError.{CommandError}
 use Rattle.commands.specs.declared.running.CommandError.TheVariants as command
-use Rattle.commands.specs.Pipe.{digest_line, sealed}
+use Rattle.pipes.specs.Pipe.{digest_line, sealed}
 use Rattle.commands.specs.Running.{refusal_of_search, refusal_of_search_in, IsFoundAtMost, WritesAtMost, Does, DoesAtMost}
 use Rattle.devices.specs.Writing.{Appends-kept}
 use Rattle.std.proofs.lemmas.List.{nil_from_length}

@@ -1,4 +1,3 @@
 -- What the words of a command ask for, and what each command does.
 pub mod Command
-pub mod Pipe
 pub mod Running

@@ -12,12 +12,12 @@ use Rattle.list_search.specs.declared.finding_in.FindInError.{FindInError}
 use Rattle.list_search.specs.declared.finding_in.FindInError.TheVariants as in_kind
 use Rattle.commands.specs.declared.running.CommandError.{CommandError}
 use Rattle.commands.specs.declared.running.CommandError.TheVariants as command
-use Rattle.commands.specs.declared.pipe.PipeError.{PipeError}
-use Rattle.commands.specs.declared.pipe.PipeError.TheVariants as pipe
+use Rattle.pipes.specs.declared.PipeError.{PipeError}
+use Rattle.pipes.specs.declared.PipeError.TheVariants as pipe
 use Rattle.devices.specs.Printing.{printed}
 use Rattle.list_search.specs.Finding.{finding, IsFound}
 use Rattle.list_search.specs.FindingIn.{finding_in}
-use Rattle.commands.specs.Pipe.{digest_line, sealed, SealingStops}
+use Rattle.pipes.specs.Pipe.{digest_line, sealed, SealingStops}
 
 -- a refusal of a search, as one of a command: memory and the writer fail alike whatever the command
 abbrev pub refusal_of_search : FindError → CommandError

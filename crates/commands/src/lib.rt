@@ -2,9 +2,8 @@
 //!
 //! [`read_command`](command::read_command) reads the words of a command line, and
 //! [`run_command`](running::run_command) does what they ask for: a search in a list,
-//! [`hash_all`](pipe::hash_all), [`seal`](pipe::seal), or the digest of a file.
+//! [`hash_all`](pipes::hash_all), [`seal`](pipes::seal), or the digest of a file.
 #![tactic(auto)]
 
 pub mod command;
-pub mod pipe;
 pub mod running;

@@ -3,12 +3,11 @@
 ghost use Rattle.std.specs.Prelude.{◌≡◌, ◌≢◌, ◌↔◌, ◌⊎◌, ℕ, List, [], length, true, false, IfOk, IfErr, IfSome, OnOk, IsErrOf};
 ghost use Rattle.std.specs.Io.KnownBytes.{Appends, Consumes, IsAtEnd};
 ghost use Rattle.commands.specs.declared.running.CommandError.{CommandError};
-ghost use Rattle.commands.specs.Pipe.{digest_line};
 ghost use Rattle.commands.specs.Running.{Does, DoesAtMost, HasCopied, Refuses, copies, reads_source};
 ghost use Rattle.devices.specs.Writing.{AppendsPart};
+ghost use Rattle.pipes.specs.Pipe.{digest_line};
 
 use crate::command::Command;
-use crate::pipe::{PipeError, hash_all, seal};
 use devices::printing::write_id;
 use devices::sink::{BufferedSink, Sink, WriteFailed};
 use devices::source::{PIECE_LEN, Source};
@@ -17,6 +16,7 @@ use gix_hash::{Alphabet, Kind, bytes_of_file};
 use list_search::finding::{FindError, find_change};
 use list_search::finding_from::{FindFromError, find_from};
 use list_search::finding_in::{FindInError, find_in};
+use pipes::{PipeError, hash_all, seal};
 use std::alloc::{AllocError, Allocator};
 use std::path::Path;
 use std::rt::Files;

@@ -5,8 +5,8 @@ mod digests;
 mod faults;
 mod faulty;
 mod finding_in;
-mod pipes;
 mod running;
+mod sealing;
 mod searches;
 mod sources;
 

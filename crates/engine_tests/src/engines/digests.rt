@@ -1,7 +1,7 @@
 //! The commands that compute digests: their words, and their runs.
 
 use super::faulty::{Fault, Reader, Writer};
-use super::pipes::{ABC, sealed};
+use super::sealing::{ABC, sealed};
 use super::shown;
 use commands::command::{Command, read_command};
 use commands::running::run_command;

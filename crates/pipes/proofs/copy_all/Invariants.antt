@@ -1,7 +1,7 @@
 use Rattle.std.proofs.Common.{◌≡◌, ℕ, ◌-◌, ◌≤◌, ◌^◌, List, length, false}
 use Rattle.std.specs.Io.KnownBytes.{Appends, Consumes}
 use Rattle.gix_hash.specs.Hashing.{StandsFor, hasher_kind}
-use Rattle.commands.proofs.pipe.copy_all.Given as goal
+use Rattle.pipes.proofs.copy_all.Given as goal
 
 -- the sink took what the source gave, and the hasher was fed it
 abbrev pub invariant-pieces : goal.invariant-pieces

@@ -8,8 +8,8 @@ use Rattle.gix_hash.specs.declared.Kind.{Kind}
 use Rattle.devices.specs.Printing.{line_of}
 use Rattle.devices.specs.Source.{Gives, GivesAll}
 use Rattle.devices.specs.Writing.{AppendsPart}
-use Rattle.commands.specs.declared.pipe.PipeError.{PipeError}
-use Rattle.commands.specs.declared.pipe.PipeError.TheVariants.{Input, Output, TooMuch}
+use Rattle.pipes.specs.declared.PipeError.{PipeError}
+use Rattle.pipes.specs.declared.PipeError.TheVariants.{Input, Output, TooMuch}
 
 -- the line of a message's digest: its lowercase hex digits, and a line feed
 abbrev pub digest_line : Kind → List ℕ → List ℕ

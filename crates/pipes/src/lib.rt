@@ -1,9 +1,10 @@
 //! Hashing and sealing a stream of bytes, from a source to a sink.
+#![tactic(auto)]
 
 ghost use Rattle.std.specs.Prelude.{◌≡◌, ◌≢◌, ◌↔◌, ℕ, List, false, true, OnOk, IfOk, IfErr, IsErrOf};
 ghost use Rattle.std.specs.Io.KnownBytes.{Appends};
 ghost use Rattle.gix_hash.specs.Hashing.{digest};
-ghost use Rattle.commands.specs.Pipe.{digest_line, sealed, HashingStops, SealingStops};
+ghost use Rattle.pipes.specs.Pipe.{digest_line, sealed, HashingStops, SealingStops};
 ghost use Rattle.devices.specs.Source.{GivesAll};
 
 use devices::printing::write_id;
@@ -28,7 +29,7 @@ pub enum PipeError {
 }
 
 impl From<WriteFailed> for PipeError {
-    ghost use Rattle.commands.specs.declared.pipe.PipeError.TheVariants.{Output};
+    ghost use Rattle.pipes.specs.declared.PipeError.TheVariants.{Output};
 
     ghost from_gives = { λ _ error. error ≡ Output };
 

@@ -2,7 +2,7 @@ use Rattle.std.proofs.Common.{ap, ◌∙◌}
 use Rattle.std.proofs.lemmas.Result.{err_from_is_err_and}
 use Rattle.gix_hash.specs.ObjectId.{id_bytes}
 use Rattle.devices.specs.Writing.{AppendsPart-behind}
-use Rattle.commands.proofs.pipe.seal.Goals as goal
+use Rattle.pipes.proofs.seal.Goals as goal
 
 pub returns-in_err-write_all-clause-stopped : goal.returns-in_err-write_all-clause-stopped
 returns-in_err-write_all-clause-stopped g c =

@@ -4,7 +4,6 @@ ghost use Rattle.std.specs.Prelude.{◌≡◌, false};
 
 use super::faulty::{Fault, Reader, Writer};
 use super::printed;
-use commands::pipe::{PipeError, hash_all, seal};
 use devices::from_slice::FromSlice;
 use devices::into_slice::IntoSlice;
 use devices::plain::Plain;
@@ -12,6 +11,7 @@ use devices::sink::Sink;
 use devices::source::Source;
 use gix_hash::io::{Never, NoProgress};
 use gix_hash::{Kind, ObjectId, bytes, oid, verify};
+use pipes::{PipeError, hash_all, seal};
 use std::alloc::Global;
 use std::process::Abort;
 use std::test::Fail;

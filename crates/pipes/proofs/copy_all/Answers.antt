@@ -3,8 +3,8 @@ use Rattle.std.proofs.KnownBytes.{Consumes-trans}
 use Rattle.std.proofs.lemmas.List.{length-take}
 use Rattle.std.proofs.lemmas.Result.{err_from_is_err_and}
 use Rattle.devices.specs.Writing.{AppendsPart-behind, AppendsPart-more}
-use Rattle.commands.proofs.PipeLemmas.{take-some, AppendsPart-before}
-use Rattle.commands.proofs.pipe.copy_all.Goals as goal
+use Rattle.pipes.proofs.PipeLemmas.{take-some, AppendsPart-before}
+use Rattle.pipes.proofs.copy_all.Goals as goal
 
 pub returns-then-count-total-clause-stopped : goal.returns-then-count-total-clause-stopped
 returns-then-count-total-clause-stopped g c =
