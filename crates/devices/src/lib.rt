@@ -1,5 +1,5 @@
-//! What searches and commands read from and write to: readers and writers that remember whether they
-//! failed, and the lines of ids.
+//! What searches, pipes and commands read from and write to: readers and writers that remember
+//! whether they failed, and the lines of ids.
 //!
 //! A [`Source`](source::Source) gives bytes and a [`Sink`](sink::Sink) takes them. Both know whether
 //! a call of theirs failed, so that a contract can say that a refusal comes exactly where its device
