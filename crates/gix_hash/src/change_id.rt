@@ -1,7 +1,7 @@
 //! Ids in the letters by which Jujutsu spells change ids.
 
 ghost use Rattle.std.specs.Prelude.{◌≡◌, ◌≤◌, ◌<◌, ◌↔◌, ◌++◌, All, IsTrue, length, drop};
-ghost use Rattle.object_ids.specs.CutId.{cut_of, shown_digits};
+ghost use Rattle.object_ids.specs.CutId.{shown_digits};
 ghost use Rattle.object_ids.specs.Digits.{reverse_letter, spelling};
 ghost use Rattle.object_ids.specs.Kind.{hex_len_of, byte_len_of};
 ghost use Rattle.object_ids.specs.ObjectId.{id_bytes, id_digits, id_kind};

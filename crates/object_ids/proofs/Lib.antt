@@ -16,7 +16,7 @@ mod LaneValues
 mod Masks
 mod Packing
 mod PaddedReading
-pub mod Places
+mod Places
 pub mod ReadingFacts
 pub mod Spellings
 mod WordOrder
