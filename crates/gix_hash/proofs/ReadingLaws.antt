@@ -22,8 +22,8 @@ use Rattle.object_ids.specs.declared.kind.Kind.TheVariants as kinds
 use Rattle.object_ids.specs.declared.object_id.ObjectId.{ObjectId}
 use Rattle.object_ids.specs.declared.prefix.from_hex.Error as from_hex
 use Rattle.object_ids.specs.declared.prefix.from_hex.Error.TheVariants.{TooShort, TooLong, Invalid}
-use Rattle.object_ids.proofs.Alphabets.{reverse_alphabet}
-use Rattle.object_ids.proofs.ReadingFacts.{IsAlphabet, hex_alphabet, digits_read-ReadsAs, ReadsAs-digits_read, IsUnreadable-digits_read, digits_read-IsUnreadable}
+use Rattle.id_digits.proofs.ReverseLetters.{reverse_alphabet}
+use Rattle.id_digits.proofs.ReadingFacts.{IsAlphabet, hex_alphabet, digits_read-ReadsAs, ReadsAs-digits_read, IsUnreadable-digits_read, digits_read-IsUnreadable}
 use Rattle.gix_hash.proofs.SpellingLaws.{ReadsAs-lowered}
 
 -- both alphabets are alphabets

@@ -2,7 +2,6 @@
 pub use Rattle.object_ids.specs.Digits
 pub use Rattle.object_ids.specs.DigitOrder
 pub use Rattle.object_ids.specs.Reading
-pub use Rattle.object_ids.specs.LetterValues
 pub use Rattle.object_ids.specs.Kind
 pub use Rattle.object_ids.specs.Oid
 pub use Rattle.object_ids.specs.ObjectId

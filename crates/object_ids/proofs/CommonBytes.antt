@@ -5,7 +5,7 @@ use Rattle.std.proofs.lemmas.Bool.Decides.{nat_tests}
 use Rattle.std.proofs.lemmas.Bool.{cases_lt}
 use Rattle.std.proofs.lemmas.List.{drop_all, length-take-le}
 use Rattle.std.proofs.lemmas.List.Sums.{common_prefix_len-le}
-use Rattle.object_ids.specs.Digits.{digits_of}
+use Rattle.id_digits.specs.Digits.{digits_of}
 use Rattle.object_ids.specs.Prefix.{BeginsWith}
 use Rattle.object_ids.specs.CommonDigits.{IsCommonLen}
 

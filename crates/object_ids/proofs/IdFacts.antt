@@ -7,8 +7,8 @@ use Rattle.object_ids.specs.Oid.{oid_kind, oid_bytes, oid_digits}
 use Rattle.object_ids.specs.declared.borrowed.oid.{oid}
 use Rattle.object_ids.specs.declared.object_id.ObjectId.{ObjectId}
 use Rattle.object_ids.proofs.KindFacts.{hex_len_of-bytes, hex_len_of-kind}
-use Rattle.object_ids.proofs.Places.{length-digits_of}
-use Rattle.object_ids.proofs.Spellings.{All-digits_of}
+use Rattle.id_digits.proofs.Places.{length-digits_of}
+use Rattle.id_digits.proofs.Spellings.{All-digits_of}
 
 -- how many they are
 pub length-known : (id : ObjectId) (bytes : List ℕ) → bytes ≡ id_bytes id → length bytes ≡ byte_len_of (id_kind id)

@@ -10,8 +10,8 @@ use Rattle.object_ids.specs.PrefixBytes.{IsPacked, shown, length-shown}
 use Rattle.object_ids.specs.declared.kind.Kind.{Kind}
 use Rattle.object_ids.specs.declared.kind.Kind.TheVariants.{Sha1, Sha256}
 use Rattle.object_ids.specs.declared.prefix.Prefix.TheInside.{Inside}
-use Rattle.object_ids.specs.declared.words.Words.{Words}
-use Rattle.object_ids.proofs.WordOrder.{slice_cmp-words, then_assoc}
+use Rattle.id_digits.specs.declared.words.Words.{Words}
+use Rattle.id_digits.proofs.WordOrder.{slice_cmp-words, then_assoc}
 
 -- no kind has more than 64 digits
 most_digits : (kind : Kind) (n : ℕ) → n ≤ hex_len_of kind → n ≤ 64

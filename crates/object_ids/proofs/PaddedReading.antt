@@ -3,10 +3,10 @@ use Rattle.std.proofs.Common.{◌≡◌, ℕ, zero, suc, ◌*◌, ◌≤◌, Lis
 use Rattle.std.specs.Option.{option_map}
 use Rattle.std.proofs.lemmas.List.{take_at, take-take}
 use Rattle.std.proofs.lemmas.List.Elements.{length_all_zip}
-use Rattle.object_ids.specs.Digits.{digits_of, IsLetterOf}
+use Rattle.id_digits.specs.Digits.{digits_of, IsLetterOf}
 use Rattle.object_ids.specs.Reading.{digit_in, digits_read, put_digit}
-use Rattle.object_ids.proofs.ReadingFacts.{ReadsAs-digits_read}
-use Rattle.object_ids.proofs.Places.{take-digits_of}
+use Rattle.id_digits.proofs.ReadingFacts.{ReadsAs-digits_read}
+use Rattle.id_digits.proofs.Places.{take-digits_of}
 
 -- digits with n zeros behind them
 abbrev zeros_behind : ℕ → Option (List ℕ) → Option (List ℕ)

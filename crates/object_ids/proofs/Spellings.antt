@@ -1,69 +1,21 @@
--- Spellings: their lengths, letters and beginnings.
-use Rattle.std.proofs.Common.{◌++◌, ◌≤◌, ◌≡◌, ℕ, ◌/◌, ◌%◌, ◌<◌, ◌==◌, true, List, [], ◌∷◌, length, slice_index, take, min, refl, sym, ap, ◌∙◌, arith, eqb-true, Result, Ok, Err}
-use Rattle.std.specs.Prelude.{IsAscii, IsUtf8, MatchResult, All, IsOk}
-use Rattle.std.proofs.lemmas.Bool.{agree_below_at}
-use Rattle.std.proofs.lemmas.List.{take_all, length-map, take_min, take-map, take-append-le}
-use Rattle.std.proofs.lemmas.List.Elements.{All-nil, All-cons, All-head, All-tail}
+-- Spellings of ids.
+use Rattle.std.proofs.Common.{◌++◌, ◌≡◌, ℕ, List, length, take, min, refl, sym, ap, ◌∙◌, arith, Result, Ok, Err}
+use Rattle.std.specs.Prelude.{IsAscii, IsUtf8, MatchResult, IsOk}
+use Rattle.std.proofs.lemmas.List.{take_all}
 use Rattle.std.proofs.lemmas.Str.{IsUtf8-from_ascii}
-use Rattle.std.proofs.lemmas.Str.Ascii.{IsAscii-nil, IsAscii-cons}
-use Rattle.std.proofs.lemmas.Bool.Decides.{nat_tests}
-use Rattle.hex.specs.Hex.{lower_digits}
-use Rattle.object_ids.specs.Digits.{digits_of, spelling, hex_letter}
+use Rattle.id_digits.specs.Digits.{spelling}
 use Rattle.object_ids.specs.Kind.{hex_len_of}
 use Rattle.object_ids.specs.Oid.{oid_bytes, oid_digits, oid_kind}
 use Rattle.object_ids.specs.declared.borrowed.oid.{oid}
+use Rattle.id_digits.proofs.Spellings.{take-spelling}
 use Rattle.object_ids.proofs.KindFacts.{hex_len_of-kind}
-use Rattle.object_ids.proofs.Places.{length-digits_of}
-
--- a digit's letter stands at the digit's place among the letters
-pub hex_letter-table : (d : ℕ) → d < 16 → slice_index lower_digits d ≡ hex_letter d
-hex_letter-table d h =
-    eqb-true (slice_index lower_digits d) (hex_letter d)
-    (agree_below_at (λ k. slice_index lower_digits k == hex_letter k) (λ k. true) 16 d refl h)
-
--- a spelling has a letter a digit
-pub length-spelling : (letter : ℕ → ℕ) (ds : List ℕ) → length (spelling letter ds) ≡ length ds
-length-spelling letter ds = length-map ds letter
-
--- the digits of bytes are below sixteen
-pub All-digits_of : (bytes : List ℕ) → All (λ b. b < 256) bytes → All (λ d. d < 16) (digits_of bytes)
-unfolding digits_of
-All-digits_of [] h = All-nil (λ (d : ℕ). d < 16)
-All-digits_of (b ∷ bytes) h =
-    let fits : b < 256 = All-head (λ (x : ℕ). x < 256) b bytes h in
-    let more = All-digits_of bytes (All-tail (λ (x : ℕ). x < 256) b bytes h) in
-    All-cons (λ (d : ℕ). d < 16) (b / 16) (b % 16 ∷ digits_of bytes) (omega arith)
-    (All-cons (λ (d : ℕ). d < 16) (b % 16) (digits_of bytes) (omega arith) more)
-
--- a spelling in letters that are ASCII is ASCII
-pub IsAscii-spelling : (letter : ℕ → ℕ) → ((d : ℕ) → d < 16 → letter d < 128) → (ds : List ℕ) → All (λ d. d < 16) ds → IsAscii (spelling letter ds)
-IsAscii-spelling letter ascii [] h = IsAscii-nil
-IsAscii-spelling letter ascii (d ∷ ds) h =
-    IsAscii-cons (letter d) (spelling letter ds) (ascii d (All-head (λ (x : ℕ). x < 16) d ds h))
-    (IsAscii-spelling letter ascii ds (All-tail (λ (x : ℕ). x < 16) d ds h))
-
--- the hex spelling of digits is ASCII
-pub IsAscii-hex_digits : (ds : List ℕ) → All (λ d. d < 16) ds → IsAscii (spelling hex_letter ds)
-IsAscii-hex_digits ds h = IsAscii-spelling hex_letter (λ d lt. grind (arith, nat_tests)) ds h
-
--- and so is that of bytes
-pub IsAscii-hex : (bytes : List ℕ) → All (λ b. b < 256) bytes → IsAscii (spelling hex_letter (digits_of bytes))
-IsAscii-hex bytes h = IsAscii-hex_digits (digits_of bytes) (All-digits_of bytes h)
+use Rattle.id_digits.proofs.Places.{length-digits_of}
 
 -- reading ASCII bytes as text succeeds
 pub IsOk-ascii : {T E : Type 0} (P : T → Type 0) (Q : E → Type 0) (bytes : List ℕ) (answer : Result T E) → IsAscii bytes
     → MatchResult answer P (λ e. (¬ IsUtf8 bytes) × Q e) → IsOk answer
 IsOk-ascii P Q bytes (Ok text) ascii h = refl
 IsOk-ascii P Q bytes (Err e) ascii h = absurd (h.0 (IsUtf8-from_ascii bytes ascii))
-
--- a spelling in front of other bytes, cut at a number of letters or at its end, spells the first digits
-pub take-spelling : (letter : ℕ → ℕ) (n : ℕ) (ds behind : List ℕ)
-    → take (min n (length ds)) (spelling letter ds ++ behind) ≡ spelling letter (take n ds)
-take-spelling letter n ds behind =
-    let len = length-spelling letter ds in
-    let within : min n (length ds) ≤ length (spelling letter ds) = omega arith in
-    take-append-le (min n (length ds)) (spelling letter ds) behind within
-    ∙ take-map letter (min n (length ds)) ds ∙ ap (spelling letter) (take_min n ds)
 
 -- an id has as many digits as its kind says
 pub length-oid_digits : (id : oid) → length (oid_digits id) ≡ hex_len_of (oid_kind id)

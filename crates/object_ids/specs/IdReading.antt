@@ -1,7 +1,7 @@
 -- What reading a full id answers.
 use Rattle.std.specs.Prelude.{◌≡◌, ℕ, List, length, Result}
 use Rattle.std.specs.Result.{result_map_both}
-use Rattle.object_ids.specs.Digits.{ReadsAs, IsUnreadable}
+use Rattle.id_digits.specs.Digits.{ReadsAs, IsUnreadable}
 use Rattle.object_ids.specs.Kind.{kind_of_full_len, hex_len_of, IsFullLen}
 use Rattle.object_ids.specs.Prefix.{Beginning, beginning_of}
 use Rattle.object_ids.specs.Reading.{digits_read, answer_of}

@@ -1,6 +1,7 @@
 -- The kinds of digest, with their numbers and lengths.
+pub use Rattle.id_digits.specs.DigestLengths.{is_digest_len}
 use Rattle.std.proofs.Common.{◌≡◌, refl, arith}
-use Rattle.std.specs.Prelude.{ℕ, Bool, nat_le, ◌==◌, ◌||◌, if◌then◌else◌, Option, Some, None, List, [], ◌∷◌, ◌≢◌, Contains, codes}
+use Rattle.std.specs.Prelude.{ℕ, nat_le, ◌==◌, if◌then◌else◌, Option, Some, None, List, [], ◌∷◌, ◌≢◌, Contains, codes}
 use Rattle.object_ids.specs.declared.kind.Kind.{Kind}
 use Rattle.object_ids.specs.declared.kind.Kind.TheVariants.{Sha1, Sha256}
 
@@ -37,10 +38,6 @@ kind_of_full_len n = if n == 40 then Some Sha1 else if n == 64 then Some Sha256 
 -- the ids of some kind have just so many digits
 abbrev pub IsFullLen : ℕ → Type 0
 IsFullLen n = (kind : Kind) × (n ≡ hex_len_of kind)
-
--- whether some kind has digests of so many bytes
-abbrev pub is_digest_len : ℕ → Bool
-is_digest_len n = n == 20 || n == 32
 
 -- the kind of a digest by its length in bytes, which is 20 or 32
 abbrev pub kind_of_byte_len : ℕ → Kind

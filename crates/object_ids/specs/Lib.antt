@@ -1,8 +1,7 @@
 -- The model: an id is a kind and a list of digits, and bytes are read two digits a byte.
-pub mod Digits
+pub use Rattle.id_digits.specs.Digits
 pub mod DigitOrder
 pub mod Reading
-pub mod LetterValues
 pub mod Kind
 pub mod Oid
 pub mod ObjectId
@@ -18,5 +17,5 @@ pub mod ByteLengths
 pub mod Loan
 pub mod LentText
 pub mod Alphabet
-pub mod Words
+pub use Rattle.id_digits.specs.Words
 pub mod CommonDigits

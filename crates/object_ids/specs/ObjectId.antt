@@ -9,7 +9,7 @@ use Rattle.object_ids.specs.declared.object_id.ObjectId.{ObjectId}
 use Rattle.object_ids.specs.declared.object_id.ObjectId.TheVariants.{Sha1, Sha256}
 use Rattle.object_ids.specs.declared.kind.Kind.{Kind}
 use Rattle.object_ids.specs.declared.kind.Kind.TheVariants as kinds
-use Rattle.object_ids.specs.Digits.{digits_of}
+use Rattle.id_digits.specs.Digits.{digits_of}
 use Rattle.object_ids.specs.DigitOrder.{same_bytes}
 use Rattle.object_ids.specs.Kind.{number_of}
 

@@ -1,5 +1,6 @@
--- What contracts see of a prefix, and its place against an id.
-use Rattle.std.specs.Prelude.{◌≡◌, ◌-◌, ℕ, Bool, List, ◌++◌, length, nat_eq, take, replicate}
+-- What contracts see of a prefix.
+pub use Rattle.id_digits.specs.Beginnings.{place, padded}
+use Rattle.std.specs.Prelude.{◌≡◌, ℕ, Bool, List, ◌++◌, nat_eq}
 use Rattle.std.specs.declared.cmp.Ordering.{Ordering}
 use Rattle.std.specs.Ordering.{nat_cmp, on, eq_of_both, then_cmp}
 use Rattle.std.specs.Cmp.Lexicographic.{slice_cmp, pointwise}
@@ -14,14 +15,6 @@ pub record Beginning : Type 0 where
 -- the beginning of a kind with these digits
 abbrev pub beginning_of : Kind → List ℕ → Beginning
 beginning_of kind digits = record { kind = kind; digits = digits }
-
--- the place of a prefix against an id: dictionary order against as many of the id's first digits
-abbrev pub place : List ℕ → List ℕ → Ordering
-place prefix id = slice_cmp nat_cmp prefix (take (length prefix) id)
-
--- the digits, and zeros behind them up to n
-abbrev pub padded : ℕ → List ℕ → List ℕ
-padded n digits = digits ++ replicate (n - length digits) 0
 
 -- the number of a prefix's kind, by which prefixes are ordered first
 abbrev pub prefix_kind_number : Beginning → ℕ

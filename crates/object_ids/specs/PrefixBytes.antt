@@ -5,11 +5,11 @@ use Rattle.std.specs.Hash as fed
 use Rattle.std.specs.Cmp.Lexicographic.{pointwise, bytes_decides}
 use Rattle.std.proofs.lemmas.Bool.{and_parts}
 use Rattle.std.proofs.lemmas.List.{length-replicate, length-take-le}
-use Rattle.object_ids.specs.Digits.{digits_of}
+use Rattle.id_digits.specs.Digits.{digits_of}
 use Rattle.object_ids.specs.Kind.{hex_len_of, number_of, kind_by_number}
 use Rattle.object_ids.specs.ObjectId.{id_kind, id_bytes, id_digits}
 use Rattle.object_ids.specs.Prefix.{Beginning, padded, prefix_eq}
-use Rattle.object_ids.specs.Words.{words_of}
+use Rattle.id_digits.specs.Words.{words_of}
 use Rattle.object_ids.specs.declared.kind.Kind.{Kind}
 use Rattle.object_ids.specs.declared.kind.Kind.TheVariants as kinds
 use Rattle.object_ids.specs.declared.object_id.ObjectId.{ObjectId}

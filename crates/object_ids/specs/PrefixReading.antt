@@ -1,7 +1,7 @@
 -- What reading a prefix answers.
 use Rattle.std.specs.Prelude.{◌≡◌, ◌==◌, ◌≤◌, ◌<◌, ℕ, nat_lt, if◌then◌else◌, List, length, Some, Result, Err}
 use Rattle.std.specs.Option.{ok_or, option_map}
-use Rattle.object_ids.specs.Digits.{ReadsAs, IsUnreadable}
+use Rattle.id_digits.specs.Digits.{ReadsAs, IsUnreadable}
 use Rattle.object_ids.specs.Kind.{kind_of_hex_len, hex_len_of}
 use Rattle.object_ids.specs.Prefix.{Beginning, beginning_of}
 use Rattle.object_ids.specs.Reading.{digits_read, answer_of}

@@ -1,29 +1,10 @@
--- Reading as a function: the one list of digits that a text reads as, and what the reading calls answer.
-use Rattle.std.specs.Prelude.{ℕ, zero, suc, ◌==◌, if◌then◌else◌, List, [], ◌∷◌, Option, Some, None, Result, Err}
+-- What the reading calls answer of a text.
+unfoldable pub use Rattle.id_digits.specs.Reading.{digit_below, digits_read}
+pub use Rattle.id_digits.specs.Reading.{digit_in, put_digit}
+use Rattle.std.specs.Prelude.{ℕ, List, Option, Some, None, Result, Err}
 use Rattle.std.specs.Option.{ok_or, option_map}
-use Rattle.std.specs.Char.{to_ascii_lowercase}
 use Rattle.object_ids.specs.Prefix.{Beginning, beginning_of}
 use Rattle.object_ids.specs.declared.kind.Kind.{Kind}
-
--- the digit below n whose letter c is, in either case
-unfoldable pub digit_below : (ℕ → ℕ) → ℕ → ℕ → Option ℕ
-digit_below letter c zero = None
-digit_below letter c (suc n) = if letter n == to_ascii_lowercase c then Some n else digit_below letter c n
-
--- the digit whose letter c is, in either case
-abbrev pub digit_in : (ℕ → ℕ) → ℕ → Option ℕ
-digit_in letter c = digit_below letter c 16
-
--- a digit before the digits that follow it, where all of them read
-abbrev pub put_digit : Option ℕ → Option (List ℕ) → Option (List ℕ)
-put_digit None more = None
-put_digit (Some d) None = None
-put_digit (Some d) (Some digits) = Some (d ∷ digits)
-
--- the digits that a text reads as
-unfoldable pub digits_read : (ℕ → ℕ) → List ℕ → Option (List ℕ)
-digits_read letter [] = Some []
-digits_read letter (c ∷ text) = put_digit (digit_in letter c) (digits_read letter text)
 
 -- what a reading call answers: the digits that the text reads as, of the kind for its length; or the refusal of its length, or of its letters
 abbrev pub answer_of : {E : Type 0} → Option Kind → Option (List ℕ) → E → E → Result Beginning E

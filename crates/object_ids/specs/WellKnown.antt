@@ -1,6 +1,6 @@
 -- The ids that Git names without an object at hand.
 use Rattle.std.specs.Prelude.{ℕ, List, map, replicate, codes, unwrap_or}
-use Rattle.object_ids.specs.Digits.{hex_letter}
+use Rattle.id_digits.specs.Digits.{hex_letter}
 use Rattle.object_ids.specs.Kind.{hex_len_of}
 use Rattle.object_ids.specs.Reading.{digit_in}
 use Rattle.object_ids.specs.declared.kind.Kind.{Kind}

@@ -2,23 +2,24 @@
 
 ghost use Rattle.std.specs.Prelude.{◌≡◌, ◌≤◌, ◌*◌, ◌++◌, Some, None, MatchResult, IsTrue, length, drop, map};
 ghost use Rattle.std.specs.Option.{ok_or, option_map};
-ghost use Rattle.object_ids.specs.Digits.{digits_of, spelling};
+ghost use Rattle.id_digits.specs.Digits.{digits_of, spelling};
 ghost use Rattle.object_ids.specs.Kind.{hex_len_of, is_digest_len};
 ghost use Rattle.object_ids.specs.Prefix.{beginning_of};
 ghost use Rattle.object_ids.specs.PrefixReading.{prefix_read};
 ghost use Rattle.object_ids.specs.Reading.{digits_read};
-ghost use Rattle.object_ids.specs.Alphabet.{letter_of, hex_of_reverse, reverse_of_hex};
+ghost use Rattle.id_digits.specs.ReverseLetters.{hex_of_reverse};
+ghost use Rattle.object_ids.specs.Alphabet.{letter_of};
 ghost use Rattle.object_ids.specs.declared.decode.Error as decode;
 ghost use Rattle.object_ids.specs.declared.prefix.from_hex.Error as from_hex;
 
 use crate::borrowed::oid;
 use crate::decode;
-use crate::hex_digits::decode_digits;
 use crate::kind::Kind;
-use crate::lanes::reading::read_digest;
-use crate::lanes::spell_hex;
 use crate::object_id::ObjectId;
 use crate::prefix::{Prefix, from_hex};
+use id_digits::{
+    NotDigits, decode_digits, read_digest, spell_hex, to_hex_letters, to_reverse_letters,
+};
 
 /// An alphabet of sixteen letters for the digits 0 to 15. Texts are read in any letter case, and
 /// spelled in lowercase.
@@ -91,13 +92,17 @@ impl Alphabet {
         match text.len() {
             40 => {
                 let mut bytes = [0; 20];
-                self.decode_digest(text, &mut bytes)?;
-                Ok(ObjectId::Sha1(bytes))
+                match self.decode_digest(text, &mut bytes) {
+                    Ok(()) => Ok(ObjectId::Sha1(bytes)),
+                    Err(NotDigits) => Err(decode::Error::Invalid),
+                }
             }
             64 => {
                 let mut bytes = [0; 32];
-                self.decode_digest(text, &mut bytes)?;
-                Ok(ObjectId::Sha256(bytes))
+                match self.decode_digest(text, &mut bytes) {
+                    Ok(()) => Ok(ObjectId::Sha256(bytes)),
+                    Err(NotDigits) => Err(decode::Error::Invalid),
+                }
             }
             len => Err(decode::Error::InvalidHexEncodingLength(len)),
         }
@@ -105,11 +110,11 @@ impl Alphabet {
 
     // Decodes a text of two letters a byte, for at most 32 bytes. Where some byte of it is no letter,
     // what `bytes` then holds is not said.
-    fn decode(self, text: &[u8], bytes: &mut [u8]) -> Result<(), decode::Error>
+    fn decode(self, text: &[u8], bytes: &mut [u8]) -> Result<(), NotDigits>
         requires two_a_byte { length text.now ≡ 2 * length bytes.old }
         requires most { length text.now ≤ 64 }
         ensures { MatchResult result (λ _. digits_read (letter_of self) text.now ≡ Some (digits_of bytes.new))
-            (λ e. (e ≡ decode.Error.Invalid) × (digits_read (letter_of self) text.now ≡ None)) }
+            (λ _. digits_read (letter_of self) text.now ≡ None) }
     {
         match self {
             Alphabet::Hex => decode_digits(text, bytes),
@@ -121,11 +126,11 @@ impl Alphabet {
     }
 
     // As `decode`, of a digest of 20 or 32 bytes: lists have one a line, so it is read by lanes.
-    fn decode_digest(self, text: &[u8], bytes: &mut [u8]) -> Result<(), decode::Error>
+    fn decode_digest(self, text: &[u8], bytes: &mut [u8]) -> Result<(), NotDigits>
         requires digest { IsTrue (is_digest_len (length bytes.old)) }
         requires two_a_byte { length text.now ≡ 2 * length bytes.old }
         ensures { MatchResult result (λ _. digits_read (letter_of self) text.now ≡ Some (digits_of bytes.new))
-            (λ e. (e ≡ decode.Error.Invalid) × (digits_read (letter_of self) text.now ≡ None)) }
+            (λ _. digits_read (letter_of self) text.now ≡ None) }
     {
         match self {
             Alphabet::Hex => read_digest(text, bytes),
@@ -170,43 +175,4 @@ fn in_hex<'a>(text: &[u8], letters: &'a mut [u8; 64]) -> &'a [u8]
     letters.copy_from_slice(text);
     to_hex_letters(letters);
     letters
-}
-
-// Replaces each letter of the reverse alphabet by the hex letter of its digit, and any other byte by
-// one that is no hex letter.
-fn to_hex_letters(text: &mut [u8])
-    ensures { text.new ≡ map hex_of_reverse text.old }
-{
-    for letter in text.iter_mut() {
-        *letter = to_hex_letter(*letter);
-    }
-}
-
-// Replaces each hex letter by the reverse letter of its digit.
-fn to_reverse_letters(text: &mut [u8])
-    ensures { text.new ≡ map reverse_of_hex text.old }
-{
-    for letter in text.iter_mut() {
-        *letter = to_reverse_letter(*letter);
-    }
-}
-
-fn to_hex_letter(letter: u8) -> u8
-    ensures { result ≡ hex_of_reverse letter }
-{
-    match letter.to_ascii_lowercase() {
-        lower @ b'q'..=b'z' => b'z' - lower + b'0',
-        lower @ b'k'..=b'p' => b'p' - lower + b'a',
-        _ => b'-',
-    }
-}
-
-fn to_reverse_letter(letter: u8) -> u8
-    ensures { result ≡ reverse_of_hex letter }
-{
-    match letter {
-        b'0'..=b'9' => b'z' - (letter - b'0'),
-        b'a'..=b'f' => b'p' - (letter - b'a'),
-        _ => letter,
-    }
 }

@@ -5,7 +5,7 @@ ghost use Rattle.std.proofs.Common.{rules};
 ghost use Rattle.std.specs.Cmp.{partial_order_from_own_ties};
 ghost use Rattle.std.specs.Cmp.Rules.{comparing};
 ghost use Rattle.std.specs.Ordering.{as_partial_cmp};
-ghost use Rattle.object_ids.specs.Digits.{first_byte_of, spelling, hex_letter};
+ghost use Rattle.id_digits.specs.Digits.{first_byte_of, spelling, hex_letter};
 ghost use Rattle.object_ids.specs.Kind.{is_digest_len, hex_len_of};
 ghost use Rattle.object_ids.specs.FirstWord.{word_from};
 
@@ -323,7 +323,7 @@ impl Ord for oid<'_> {
 
 impl fmt::Display for oid<'_> {
     ghost use Rattle.std.specs.Prelude.{Some};
-    ghost use Rattle.object_ids.specs.Digits.{spelling, hex_letter};
+    ghost use Rattle.id_digits.specs.Digits.{spelling, hex_letter};
     ghost use Rattle.object_ids.specs.Oid.{oid_digits};
 
     ghost output = { λ id. Some (spelling hex_letter (oid_digits id)) };

@@ -1,7 +1,7 @@
 //! Ids cut to a number of digits, for printing.
 
 ghost use Rattle.std.specs.Prelude.{◌≡◌, ◌≤◌, ◌↔◌, IsTrue, length};
-ghost use Rattle.object_ids.specs.Digits.{spelling, hex_letter};
+ghost use Rattle.id_digits.specs.Digits.{spelling, hex_letter};
 ghost use Rattle.object_ids.specs.Alphabet.{letter_of};
 
 use crate::alphabet::Alphabet;
@@ -76,7 +76,7 @@ impl<'a> HexDisplay<'a> {
 
 impl fmt::Display for HexDisplay<'_> {
     ghost use Rattle.std.specs.Prelude.{Some};
-    ghost use Rattle.object_ids.specs.Digits.{spelling, hex_letter};
+    ghost use Rattle.id_digits.specs.Digits.{spelling, hex_letter};
     ghost use Rattle.object_ids.specs.CutId.{shown_digits};
 
     ghost output = { λ display. Some (spelling hex_letter (shown_digits display)) };
@@ -107,7 +107,7 @@ impl<'a> Model for ReverseHexDisplay<'a> {
 
 impl<'a> ReverseHexDisplay<'a> {
     ghost use Rattle.object_ids.specs.CutId.{cut_of, shown_digits};
-    ghost use Rattle.object_ids.specs.Digits.{reverse_letter};
+    ghost use Rattle.id_digits.specs.Digits.{reverse_letter};
 
     /// The id for printing its first `hex_len` digits in the letters `z` to `k`, or all where it
     /// has fewer.
@@ -128,7 +128,7 @@ impl<'a> ReverseHexDisplay<'a> {
 
 impl fmt::Display for ReverseHexDisplay<'_> {
     ghost use Rattle.std.specs.Prelude.{Some};
-    ghost use Rattle.object_ids.specs.Digits.{reverse_letter, spelling};
+    ghost use Rattle.id_digits.specs.Digits.{reverse_letter, spelling};
     ghost use Rattle.object_ids.specs.CutId.{shown_digits};
 
     ghost output = { λ display. Some (spelling reverse_letter (shown_digits display)) };

@@ -14,13 +14,11 @@ mod display;
 mod error;
 mod hex_digits;
 mod kind;
-mod lanes;
 mod object_id;
 /// Beginnings of ids.
 pub mod prefix;
 /// Comparing a computed id with the one that was expected.
 pub mod verify;
-mod words;
 
 pub use alphabet::Alphabet;
 pub use borrowed::oid;

@@ -32,7 +32,7 @@ impl ObjectId {
     ghost use Rattle.std.specs.List.{common_prefix_len};
     ghost use Rattle.std.specs.Prelude.{nat_eq};
     ghost use Rattle.object_ids.specs.CommonDigits.{IsCommonLen};
-    ghost use Rattle.object_ids.specs.Digits.{digits_of, first_byte_of, hex_letter, spelling};
+    ghost use Rattle.id_digits.specs.Digits.{digits_of, first_byte_of, hex_letter, spelling};
     ghost use Rattle.object_ids.specs.CutId.{shown_digits};
     ghost use Rattle.object_ids.specs.Loan.{LendsDigest};
     ghost use Rattle.object_ids.specs.WellKnown.{null_digits, empty_blob_digits, empty_tree_digits};
@@ -304,7 +304,7 @@ const fn with_range(bytes: &[u8]) -> &[u8]
 
 impl fmt::Display for ObjectId {
     ghost use Rattle.std.specs.Prelude.{Some};
-    ghost use Rattle.object_ids.specs.Digits.{spelling, hex_letter};
+    ghost use Rattle.id_digits.specs.Digits.{spelling, hex_letter};
     ghost use Rattle.object_ids.specs.ObjectId.{id_digits};
 
     ghost output = { λ id. Some (spelling hex_letter (id_digits id)) };
@@ -394,7 +394,7 @@ impl Hash for ObjectId {
 /// As [`ObjectId::from_hex`].
 impl FromStr for ObjectId {
     ghost use Rattle.std.specs.Prelude.{◌≡◌};
-    ghost use Rattle.object_ids.specs.Digits.{hex_letter};
+    ghost use Rattle.id_digits.specs.Digits.{hex_letter};
     ghost use Rattle.object_ids.specs.IdReading.{full_read, id_answered};
 
     type Err = decode::Error;
@@ -445,7 +445,7 @@ impl<'a> From<oid<'a>> for ObjectId {
 impl<'a> TryFrom<&'a [u8]> for ObjectId {
     ghost use Rattle.std.specs.Prelude.{◌≡◌, MatchResult, length};
     ghost use Rattle.object_ids.specs.Kind.{kind_of_byte_len};
-    ghost use Rattle.object_ids.specs.Digits.{digits_of};
+    ghost use Rattle.id_digits.specs.Digits.{digits_of};
     ghost use Rattle.object_ids.specs.ObjectId.{id_kind, id_digits};
     ghost use Rattle.object_ids.specs.ByteLengths.{IsLengthRefusal};
 

@@ -2,7 +2,7 @@
 
 ghost use Rattle.std.specs.Prelude.{◌≡◌, ◌≤◌, ◌<◌, ℕ, length, take, IfOk, All};
 ghost use Rattle.std.specs.declared.cmp.Ordering.{Ordering};
-ghost use Rattle.object_ids.specs.Digits.{hex_letter, reverse_letter};
+ghost use Rattle.id_digits.specs.Digits.{hex_letter, reverse_letter};
 ghost use Rattle.object_ids.specs.Kind.{hex_len_of};
 ghost use Rattle.object_ids.specs.Prefix.{place, padded};
 ghost use Rattle.object_ids.specs.PrefixReading.{prefix_read, prefix_read_in};
@@ -11,7 +11,7 @@ use crate::alphabet::Alphabet;
 use crate::borrowed::oid;
 use crate::kind::Kind;
 use crate::object_id::ObjectId;
-use crate::words::Words;
+use id_digits::Words;
 use std::cmp::Ordering;
 use std::marker::Model;
 use std::{error, fmt};
@@ -205,7 +205,7 @@ impl Prefix {
         requires { length self.now.digits ≤ hex_len_of (oid_kind candidate) }
         ensures { result ≡ place self.now.digits (oid_digits candidate.entry) }
     {
-        self.words.place(self.hex_len, candidate)
+        self.words.place(self.hex_len, candidate.as_bytes())
     }
 }
 
@@ -223,7 +223,7 @@ impl From<ObjectId> for Prefix {
 /// Reads as [`Prefix::from_hex`] does.
 impl<'a> TryFrom<&'a str> for Prefix {
     ghost use Rattle.std.specs.Prelude.{◌≡◌};
-    ghost use Rattle.object_ids.specs.Digits.{hex_letter};
+    ghost use Rattle.id_digits.specs.Digits.{hex_letter};
     ghost use Rattle.object_ids.specs.PrefixReading.{prefix_read, prefix_read_in};
 
     type Error = from_hex::Error;

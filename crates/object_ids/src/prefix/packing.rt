@@ -1,7 +1,7 @@
-//! Digits packed into the bytes of an id, with zeros behind them.
+//! Prefixes made of digits.
 
 ghost use Rattle.std.specs.Prelude.{◌≡◌, ◌≤◌, ◌*◌, length, take, replicate};
-ghost use Rattle.object_ids.specs.Digits.{digits_of};
+ghost use Rattle.id_digits.specs.Digits.{digits_of};
 ghost use Rattle.object_ids.specs.Kind.{hex_len_of, byte_len_of};
 ghost use Rattle.object_ids.specs.ObjectId.{id_kind, id_digits};
 ghost use Rattle.object_ids.specs.Prefix.{padded};
@@ -9,7 +9,7 @@ ghost use Rattle.object_ids.specs.Prefix.{padded};
 use super::Prefix;
 use crate::kind::Kind;
 use crate::object_id::ObjectId;
-use crate::words::Words;
+use id_digits::{Words, copy_digits};
 
 impl Prefix {
     // The prefix of the first digits of some bytes.
@@ -28,7 +28,7 @@ impl Prefix {
         ensures { result ≡ record { kind = id_kind bytes; digits = take hex_len (id_digits bytes) } }
     {
         Prefix {
-            words: Words::of(bytes.as_oid()),
+            words: Words::of(bytes.as_slice()),
             bytes,
             hex_len,
         }
@@ -53,20 +53,5 @@ fn padded_bytes(kind: Kind, front: &[u8], hex_len: usize) -> ObjectId
             copy_digits(front, hex_len, &mut bytes);
             ObjectId::Sha256(bytes)
         }
-    }
-}
-
-// Copies the first `hex_len` digits of `front` into zeros: whole bytes, and at an odd number the
-// high half of one more.
-fn copy_digits(front: &[u8], hex_len: usize, zeros: &mut [u8])
-    requires zeros { zeros.old ≡ replicate (length zeros.old) 0 }
-    requires room { length front.now ≤ length zeros.old }
-    requires digits { hex_len ≤ 2 * length front.now }
-    ensures { digits_of zeros.new ≡ padded (2 * length zeros.old) (take hex_len (digits_of front.now)) }
-{
-    let whole = hex_len / 2;
-    zeros[..whole].copy_from_slice(&front[..whole]);
-    if hex_len % 2 == 1 {
-        zeros[whole] = front[whole] / 16 * 16;
     }
 }

@@ -4,7 +4,7 @@ ghost use Rattle.std.specs.Prelude.{◌≡◌, ◌≤◌, ◌↔◌, ◌++◌, l
 ghost use Rattle.std.specs.Borrow.{sem};
 ghost use Rattle.std.specs.Io.KnownBytes.{Appends};
 ghost use Rattle.object_ids.specs.CutId.{shown_digits};
-ghost use Rattle.object_ids.specs.Digits.{hex_letter, spelling};
+ghost use Rattle.id_digits.specs.Digits.{hex_letter, spelling};
 ghost use Rattle.object_ids.specs.Kind.{hex_len_of};
 ghost use Rattle.object_ids.specs.LentText.{EndsAs};
 ghost use Rattle.object_ids.specs.Oid.{oid_kind, oid_digits};
@@ -105,7 +105,7 @@ impl Prefix {
 
 impl fmt::Display for Prefix {
     ghost use Rattle.std.specs.Prelude.{Some};
-    ghost use Rattle.object_ids.specs.Digits.{spelling, hex_letter};
+    ghost use Rattle.id_digits.specs.Digits.{spelling, hex_letter};
 
     ghost output = { λ prefix. Some (spelling hex_letter prefix.digits) };
 

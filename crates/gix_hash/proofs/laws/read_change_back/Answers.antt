@@ -1,5 +1,5 @@
 use Rattle.object_ids.specs.Digits.{reverse_letter}
-use Rattle.object_ids.proofs.Alphabets.{reverse_alphabet}
+use Rattle.id_digits.proofs.ReverseLetters.{reverse_alphabet}
 use Rattle.gix_hash.proofs.ReadingLaws.{full_read-printed}
 use Rattle.gix_hash.proofs.laws.read_change_back.Goals as goal
 

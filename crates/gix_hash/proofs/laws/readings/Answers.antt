@@ -1,5 +1,5 @@
 use Rattle.object_ids.specs.Alphabet.{letter_of}
-use Rattle.object_ids.proofs.ReadingFacts.{ReadsAs-digits_read, digits_read-ReadsAs, IsUnreadable-digits_read, digits_read-IsUnreadable}
+use Rattle.id_digits.proofs.ReadingFacts.{ReadsAs-digits_read, digits_read-ReadsAs, IsUnreadable-digits_read, digits_read-IsUnreadable}
 use Rattle.gix_hash.proofs.ReadingLaws.{letter_of-alphabet}
 use Rattle.gix_hash.proofs.laws.readings.Goals as goal
 

@@ -1,4 +1,4 @@
-use Rattle.object_ids.proofs.Alphabets.{digits_read-hex_of_reverse}
+use Rattle.id_digits.proofs.ReverseLetters.{digits_read-hex_of_reverse}
 use Rattle.object_ids.proofs.alphabet.Alphabet.decode.Goals as goal
 
 pub returns-in-Hex : goal.returns-in-Hex

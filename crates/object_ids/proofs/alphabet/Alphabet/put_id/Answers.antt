@@ -1,11 +1,12 @@
 use Rattle.std.proofs.Common.{◌*◌, length, refl, ◌∙◌}
 use Rattle.std.proofs.lemmas.List.{take_at, drop_at}
-use Rattle.object_ids.specs.Digits.{digits_of, hex_letter}
+use Rattle.id_digits.specs.Digits.{digits_of, hex_letter}
 use Rattle.object_ids.specs.Oid.{oid_bytes}
-use Rattle.object_ids.proofs.Alphabets.{spelling-reverse_of_hex}
+use Rattle.id_digits.proofs.ReverseLetters.{spelling-reverse_of_hex}
 use Rattle.object_ids.proofs.KindFacts.{hex_len_of-kind}
-use Rattle.object_ids.proofs.Places.{length-digits_of}
-use Rattle.object_ids.proofs.Spellings.{All-digits_of, length-oid_digits, length-spelling}
+use Rattle.id_digits.proofs.Places.{length-digits_of}
+use Rattle.id_digits.proofs.Spellings.{All-digits_of, length-spelling}
+use Rattle.object_ids.proofs.Spellings.{length-oid_digits}
 use Rattle.object_ids.proofs.alphabet.Alphabet.put_id.Goals as goal
 
 pub returns-in-Reverse-clause-value : goal.returns-in-Reverse-clause-value

@@ -29,5 +29,5 @@ returns-in-Err c =
     let text = c.args.text.now in
     let z = c.zero_letter-letters.result in
     let zero = digit_in-zero c.args.self z c.zero_letter-letters.ensures in
-    let whole = rw (c.copy_from_slice.ensures.after, letters_behind z (length text)) at c.in-Err.ensures.1 in
+    let whole = rw (c.copy_from_slice.ensures.after, letters_behind z (length text)) at c.in-Err.ensures in
     rw (read_front-none (letter_of c.args.self) z _ text zero whole) refl

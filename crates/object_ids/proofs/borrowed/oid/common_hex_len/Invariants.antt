@@ -1,6 +1,6 @@
 use Rattle.std.proofs.Common.{◌≡◌, ◌+◌, ◌*◌, drop, nat_eq}
 use Rattle.std.specs.List.{common_prefix_len}
-use Rattle.object_ids.specs.Digits.{digits_of}
+use Rattle.id_digits.specs.Digits.{digits_of}
 use Rattle.object_ids.proofs.borrowed.oid.common_hex_len.Given as goal
 
 abbrev pub invariant-loop-at : goal.invariant-loop-at

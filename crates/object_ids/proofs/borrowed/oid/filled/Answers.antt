@@ -1,9 +1,9 @@
 use Rattle.std.proofs.Common.{length, take, drop, ap, ◌∙◌, arith, length-append}
 use Rattle.std.proofs.lemmas.List.{take_at}
-use Rattle.object_ids.specs.Digits.{spelling, hex_letter}
+use Rattle.id_digits.specs.Digits.{spelling, hex_letter}
 use Rattle.object_ids.specs.Kind.{hex_len_of}
 use Rattle.object_ids.specs.Oid.{oid_digits, oid_kind}
-use Rattle.object_ids.proofs.Spellings.{length-spelling}
+use Rattle.id_digits.proofs.Spellings.{length-spelling}
 use Rattle.object_ids.proofs.borrowed.oid.filled.Goals as goal
 
 pub returns-clause-room : goal.returns-clause-room

@@ -1,7 +1,7 @@
 use Rattle.std.proofs.Common.{take, subst, sym, ap, ◌∙◌}
 use Rattle.std.specs.Prelude.{IsAscii}
 use Rattle.object_ids.specs.Kind.{hex_len_of}
-use Rattle.object_ids.proofs.Spellings.{IsAscii-hex}
+use Rattle.id_digits.proofs.Spellings.{IsAscii-hex}
 use Rattle.object_ids.proofs.borrowed.oid.front_text.Goals as goal
 
 -- the text stands in the front of the buffer

@@ -3,11 +3,12 @@ use Rattle.std.specs.Prelude.{IsAscii}
 use Rattle.std.proofs.lemmas.List.Elements.{All-take}
 use Rattle.object_ids.specs.Alphabet.{letter_of}
 use Rattle.object_ids.specs.CutId.{shown_digits}
-use Rattle.object_ids.specs.Digits.{spelling}
+use Rattle.id_digits.specs.Digits.{spelling}
 use Rattle.object_ids.specs.Kind.{hex_len_of}
 use Rattle.object_ids.specs.Oid.{oid_bytes, oid_digits}
 use Rattle.object_ids.proofs.Alphabets.{letter_of-ascii}
-use Rattle.object_ids.proofs.Spellings.{All-digits_of, IsAscii-spelling, take-put_id}
+use Rattle.id_digits.proofs.Spellings.{All-digits_of, IsAscii-spelling}
+use Rattle.object_ids.proofs.Spellings.{take-put_id}
 use Rattle.object_ids.proofs.display.CutId.text.Goals as goal
 
 -- the digits that are shown stand in the front of the buffer

@@ -1,5 +1,5 @@
 use Rattle.std.proofs.Common.{refl}
-use Rattle.object_ids.specs.Digits.{digits_of}
+use Rattle.id_digits.specs.Digits.{digits_of}
 use Rattle.object_ids.specs.Reading.{digit_below}
 use Rattle.object_ids.proofs.kind.Kind.empty_blob.Goals as goal
 

@@ -1,4 +1,4 @@
-use Rattle.object_ids.proofs.Packing.{digits_of-zeros}
+use Rattle.id_digits.proofs.Packing.{digits_of-zeros}
 use Rattle.object_ids.proofs.kind.Kind.null.Goals as goal
 
 pub returns-in-Sha1-clause-digits : goal.returns-in-Sha1-clause-digits

@@ -3,7 +3,7 @@ use Rattle.std.proofs.Common.{◌≡◌, ℕ, ◌≤◌, List, [], ◌∷◌, �
 use Rattle.std.specs.Prelude.{IsAscii}
 use Rattle.std.proofs.raw_atomic.Walks.{proved, leaves}
 use Rattle.object_ids.specs.LentText.{EndsAs}
-use Rattle.object_ids.specs.Digits.{spelling, hex_letter}
+use Rattle.id_digits.specs.Digits.{spelling, hex_letter}
 use Rattle.object_ids.specs.Kind.{hex_len_of}
 use Rattle.object_ids.specs.ObjectId.{id_digits, id_kind}
 use Rattle.object_ids.specs.declared.object_id.ObjectId.{ObjectId}

@@ -1,7 +1,7 @@
 use Rattle.std.proofs.Common.{ℕ, List, length, take, drop, ap, ◌∙◌, arith}
 use Rattle.std.proofs.lemmas.List.{take_at}
-use Rattle.object_ids.specs.Digits.{spelling, hex_letter}
-use Rattle.object_ids.proofs.Spellings.{length-spelling}
+use Rattle.id_digits.specs.Digits.{spelling, hex_letter}
+use Rattle.id_digits.proofs.Spellings.{length-spelling}
 use lib.ListN.{length-append}
 use Rattle.object_ids.proofs.prefix.Prefix.filled.Goals as goal
 

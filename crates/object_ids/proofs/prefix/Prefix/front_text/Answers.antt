@@ -2,7 +2,7 @@ use Rattle.std.proofs.Common.{take, subst, sym, ap, ◌∙◌}
 use Rattle.std.specs.Prelude.{IsAscii}
 use Rattle.object_ids.specs.PrefixBytes.{shown, length-shown}
 use Rattle.object_ids.proofs.KeptDigits.{shown-below}
-use Rattle.object_ids.proofs.Spellings.{IsAscii-hex_digits}
+use Rattle.id_digits.proofs.Spellings.{IsAscii-hex_digits}
 use Rattle.object_ids.proofs.prefix.Prefix.front_text.Goals as goal
 
 -- the text stands in the front of the buffer

@@ -3,7 +3,7 @@ use Rattle.std.proofs.Common.{◌≡◌, ℕ, ◌≤◌, List, [], ◌∷◌, �
 use Rattle.std.specs.Prelude.{IsAscii}
 use Rattle.std.proofs.raw_atomic.Walks.{proved, leaves}
 use Rattle.object_ids.specs.LentText.{EndsAs}
-use Rattle.object_ids.specs.Digits.{spelling, hex_letter}
+use Rattle.id_digits.specs.Digits.{spelling, hex_letter}
 use Rattle.object_ids.specs.Prefix.{Beginning}
 use Rattle.object_ids.specs.contracts.prefix.Prefix as id_type
 use Rattle.object_ids.proofs.prefix.Prefix.TheLaws as id_laws

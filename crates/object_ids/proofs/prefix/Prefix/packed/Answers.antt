@@ -1,5 +1,5 @@
 use Rattle.std.proofs.Common.{◌≡◌, take, ap, ◌∙◌}
-use Rattle.object_ids.specs.Digits.{digits_of}
+use Rattle.id_digits.specs.Digits.{digits_of}
 use Rattle.object_ids.specs.ObjectId.{id_digits}
 use Rattle.object_ids.specs.Prefix.{beginning_of}
 use Rattle.object_ids.proofs.Packing.{length-first, take-padded}

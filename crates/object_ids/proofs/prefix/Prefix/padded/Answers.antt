@@ -1,7 +1,11 @@
-use Rattle.std.proofs.Common.{◌≡◌, ◌-◌, ℕ, List, length, ap, ◌∙◌}
+use Rattle.std.proofs.Common.{◌≡◌, ◌<◌, ◌-◌, ℕ, List, length, ap, subst, ◌∙◌}
+use Rattle.std.specs.Prelude.{All}
+use Rattle.id_digits.specs.Digits.{digits_of}
+use Rattle.object_ids.specs.ObjectId.{id_bytes}
 use Rattle.object_ids.specs.Prefix.{padded}
-use Rattle.object_ids.specs.Words.{words_of}
-use Rattle.object_ids.proofs.DigitNumbers.{word-padded, word-padded_from}
+use Rattle.id_digits.specs.Words.{words_of}
+use Rattle.id_digits.proofs.DigitNumbers.{word-padded, word-padded_from}
+use Rattle.id_digits.proofs.Spellings.{All-digits_of}
 use Rattle.object_ids.proofs.prefix.Prefix.padded.Goals as goal
 
 -- zeros behind the digits leave their words
@@ -15,6 +19,6 @@ pub invariant_of-result : goal.invariant_of-result
 invariant_of-result c = record {
   within = c.requires.within;
   zeros = c.requires.zeros;
-  digits_in_range = c.as_oid.ensures.digits_in_range;
-  words = c.of.ensures ∙ ap words_of (c.as_oid.ensures.digits ∙ c.requires.zeros) ∙ words_of-padded _ _;
+  digits_in_range = All-digits_of (id_bytes c.args.bytes) (subst (All (λ b. b < 256)) c.as_slice.ensures.value c.as_slice.ensures.bytes_in_range);
+  words = c.of.ensures ∙ ap (λ (bs : List ℕ). words_of (digits_of bs)) c.as_slice.ensures.value ∙ ap words_of c.requires.zeros ∙ words_of-padded _ _;
 }

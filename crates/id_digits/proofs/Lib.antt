@@ -1,0 +1,15 @@
+pub mod DigitNumbers
+mod HexReading
+mod LaneHalves
+mod LaneLetters
+mod LanePacking
+mod LanePlaces
+mod LaneReading
+mod LaneValues
+mod Masks
+pub mod Packing
+pub mod Places
+pub mod ReadingFacts
+pub mod ReverseLetters
+pub mod Spellings
+pub mod WordOrder

@@ -1,0 +1,62 @@
+-- The reverse alphabet through hex letters: reading and spelling.
+use Rattle.std.proofs.Common.{◌≡◌, ℕ, ◌+◌, ◌<◌, List, [], ◌∷◌, ◌++◌, length, map, take, drop, get_or, slice_set, refl, sym, arith, Option, Some, None}
+use Rattle.std.specs.Prelude.{All}
+use Rattle.std.specs.Char.{to_ascii_lowercase}
+use Rattle.std.proofs.lemmas.Bool.Decides.{nat_tests}
+use Rattle.std.proofs.lemmas.List.{get_or_default}
+use Rattle.std.proofs.lemmas.List.Edits.{map_over_more}
+use Rattle.std.proofs.lemmas.List.Elements.{All-head, All-tail}
+use Rattle.id_digits.specs.ReverseLetters.{hex_of_reverse, reverse_of_hex}
+use Rattle.id_digits.specs.Digits.{hex_letter, reverse_letter, spelling}
+use Rattle.id_digits.specs.Reading.{digit_in, digits_read}
+use Rattle.id_digits.proofs.ReadingFacts.{IsAlphabet, hex_alphabet, digit_in-is, digit_in-letter}
+
+-- the reverse letters are distinct
+pub reverse_alphabet : IsAlphabet reverse_letter
+reverse_alphabet = record { distinct = λ d e h g same. omega arith }
+
+-- one step of replacing letters in place
+pub replaced_more : (f : ℕ → ℕ) (xs ys : List ℕ) (i y : ℕ) → i < length xs → i < length ys → ys ≡ map f (take i xs) ++ drop i xs
+    → y ≡ f (get_or ys i 0) → slice_set ys i y ≡ map f (take (i + 1) xs) ++ drop (i + 1) xs
+replaced_more f xs ys i y within there inv is =
+    rw is (map_over_more f xs ys i (get_or ys i 0) within inv (get_or_default ys i 0 (get_or ys i 0) there))
+
+-- the hex letter for a reverse letter has its digit
+to_hex : (c d : ℕ) → d < 16 → reverse_letter d ≡ to_ascii_lowercase c → hex_letter d ≡ to_ascii_lowercase (hex_of_reverse c)
+to_hex c d lt h = grind (arith, nat_tests)
+
+-- and no other byte becomes a hex letter
+from_hex : (c d : ℕ) → d < 16 → hex_letter d ≡ to_ascii_lowercase (hex_of_reverse c) → reverse_letter d ≡ to_ascii_lowercase c
+from_hex c d lt h = grind (arith, nat_tests)
+
+-- what is found for a byte, given that what is found of its reverse letter is `found`
+found_in_hex : (c : ℕ) (found : Option ℕ) → digit_in reverse_letter c ≡ found → digit_in hex_letter (hex_of_reverse c) ≡ found
+found_in_hex c (Some d) h =
+    let is = digit_in-letter reverse_letter c d h in
+    digit_in-is hex_letter hex_alphabet (hex_of_reverse c) d
+    (record { digit = is.digit; same_letter = sym (to_hex c d is.digit (sym is.same_letter)) })
+found_in_hex c None h = unfound (digit_in hex_letter (hex_of_reverse c)) refl
+  where
+    unfound : (other : Option ℕ) → digit_in hex_letter (hex_of_reverse c) ≡ other → other ≡ None
+    unfound None e = refl
+    unfound (Some d) e =
+        let is = digit_in-letter hex_letter (hex_of_reverse c) d e in
+        let back = from_hex c d is.digit (sym is.same_letter) in
+        let there = digit_in-is reverse_letter reverse_alphabet c d (record { digit = is.digit; same_letter = sym back }) in cc
+
+-- the hex letters for reverse letters read as the same digits
+pub digits_read-hex_of_reverse : (text : List ℕ) → digits_read hex_letter (map hex_of_reverse text) ≡ digits_read reverse_letter text
+unfolding digits_read
+digits_read-hex_of_reverse [] = refl
+digits_read-hex_of_reverse (c ∷ text) =
+    rw (found_in_hex c (digit_in reverse_letter c) refl, digits_read-hex_of_reverse text) refl
+
+-- the reverse letter for a digit's hex letter is the digit's
+letter_for : (d : ℕ) → d < 16 → reverse_of_hex (hex_letter d) ≡ reverse_letter d
+letter_for d lt = grind (arith, nat_tests)
+
+-- the reverse letters for a hex spelling are the reverse spelling
+pub spelling-reverse_of_hex : (ds : List ℕ) → All (λ d. d < 16) ds → map reverse_of_hex (spelling hex_letter ds) ≡ spelling reverse_letter ds
+spelling-reverse_of_hex [] h = refl
+spelling-reverse_of_hex (d ∷ ds) h =
+    rw (letter_for d (All-head (λ (x : ℕ). x < 16) d ds h), spelling-reverse_of_hex ds (All-tail (λ (x : ℕ). x < 16) d ds h)) refl

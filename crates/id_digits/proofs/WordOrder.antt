@@ -1,0 +1,122 @@
+-- Why words and then the number of digits are the dictionary order of digits.
+use Rattle.std.proofs.Common.{◌≡◌, ℕ, zero, suc, ◌+◌, ◌-◌, ◌*◌, ◌^◌, ◌<◌, ◌≤◌, List, [], ◌∷◌, length, take, drop, refl, sym, ap, ◌∙◌, arith, inl, inr, Ordering, Less, Equal, Greater}
+use Rattle.std.specs.Ordering.{nat_cmp, ordering_then}
+use Rattle.std.specs.Cmp.{nat_cmp_is}
+use Rattle.std.specs.Cmp.Lexicographic.{slice_cmp}
+use Rattle.std.proofs.Math.Nat.{mul-le-mul_right, add-mul}
+use Rattle.std.proofs.lemmas.Bool.{cases_lt, cases_order}
+use Rattle.std.proofs.lemmas.List.{drop-take, length-take-le, take-take}
+use Rattle.std.proofs.lemmas.List.Elements.{All-tail, All-drop, All-take}
+use Rattle.id_digits.specs.Words.{word}
+use Rattle.id_digits.specs.Beginnings.{place}
+use Rattle.id_digits.proofs.DigitNumbers.{AreDigits, word-nil, word-cons, word_lt, word-split, word-take}
+
+less : (x y : ℕ) → x < y → nat_cmp x y ≡ Less
+less x y h = sym (nat_cmp_is x y Less h)
+
+equal : (x y : ℕ) → x ≡ y → nat_cmp x y ≡ Equal
+equal x y h = sym (nat_cmp_is x y Equal h)
+
+greater : (x y : ℕ) → y < x → nat_cmp x y ≡ Greater
+greater x y h = sym (nat_cmp_is x y Greater h)
+
+pub then_assoc : (a b c : Ordering) → ordering_then (ordering_then a b) c ≡ ordering_then a (ordering_then b c)
+then_assoc Less b c = refl
+then_assoc Equal b c = refl
+then_assoc Greater b c = refl
+
+then_equal : (a : Ordering) → ordering_then a Equal ≡ a
+then_equal Less = refl
+then_equal Equal = refl
+then_equal Greater = refl
+
+-- a higher part that is below outweighs the lower parts
+below : (p a b c d : ℕ) → b < p → a < c → a * p + b < c * p + d
+below p a b c d small h =
+    let step : (a + 1) * p ≤ c * p = mul-le-mul_right p (omega arith) in
+    omega (arith, step, add-mul a 1 p)
+
+-- numbers of two parts compare as the higher parts do, and then as the lower
+cmp_parts : (p a b c d : ℕ) → b < p → d < p → nat_cmp (a * p + b) (c * p + d) ≡ ordering_then (nat_cmp a c) (nat_cmp b d)
+cmp_parts p a b c d h k = elim (cases_order a c) [
+  | inl e ↦ elim (cases_order b d) [
+    | inl f ↦ let whole : a * p + b ≡ c * p + d = rw (e, f) refl in
+        rw (equal a c e, equal b d f, equal (a * p + b) (c * p + d) whole) refl
+    | inr (inl lt) ↦ let whole : a * p + b < c * p + d = rw e (omega arith) in
+        rw (equal a c e, less b d lt, less (a * p + b) (c * p + d) whole) refl
+    | inr (inr gt) ↦ let whole : c * p + d < a * p + b = rw e (omega arith) in
+        rw (equal a c e, greater b d gt, greater (a * p + b) (c * p + d) whole) refl
+  ]
+  | inr (inl lt) ↦ rw (less a c lt, less (a * p + b) (c * p + d) (below p a b c d h lt)) refl
+  | inr (inr gt) ↦ rw (greater a c gt, greater (a * p + b) (c * p + d) (below p c d a b k gt)) refl
+]
+
+nat_cmp-suc : (a b : ℕ) → nat_cmp (suc a) (suc b) ≡ nat_cmp a b
+nat_cmp-suc a b = elim (cases_order a b) [
+  | inl e ↦ rw (equal a b e, equal (suc a) (suc b) (omega arith)) refl
+  | inr (inl lt) ↦ rw (less a b lt, less (suc a) (suc b) (omega arith)) refl
+  | inr (inr gt) ↦ rw (greater a b gt, greater (suc a) (suc b) (omega arith)) refl
+]
+
+-- lists of at most n digits compare as their numbers do, and then as their lengths
+slice_cmp-word : (n : ℕ) (ds es : List ℕ) → AreDigits ds → AreDigits es → length ds ≤ n → length es ≤ n
+    → ordering_then (nat_cmp (word n ds) (word n es)) (nat_cmp (length ds) (length es)) ≡ slice_cmp nat_cmp ds es
+slice_cmp-word n [] [] f g h k = rw word-nil refl
+slice_cmp-word zero [] (e ∷ es) f g h k = absurd (omega arith)
+slice_cmp-word zero (d ∷ ds) es f g h k = absurd (omega arith)
+slice_cmp-word (suc n) [] (e ∷ es) f g h k = elim (cases_lt 0 (word (suc n) (e ∷ es))) [
+  | inl some ↦ rw (word-nil (suc n), less 0 (word (suc n) (e ∷ es)) some) refl
+  | inr none ↦ let zeros : word (suc n) (e ∷ es) ≡ 0 = omega arith in
+      rw (word-nil (suc n), zeros, less 0 (suc (length es)) (omega arith)) refl
+]
+slice_cmp-word (suc n) (d ∷ ds) [] f g h k = elim (cases_lt 0 (word (suc n) (d ∷ ds))) [
+  | inl some ↦ rw (word-nil (suc n), greater (word (suc n) (d ∷ ds)) 0 some) refl
+  | inr none ↦ let zeros : word (suc n) (d ∷ ds) ≡ 0 = omega arith in
+      rw (word-nil (suc n), zeros, greater (suc (length ds)) 0 (omega arith)) refl
+]
+slice_cmp-word (suc n) (d ∷ ds) (e ∷ es) f g h k =
+    let first = All-tail (λ (x : ℕ). x < 16) d ds f in
+    let second = All-tail (λ (x : ℕ). x < 16) e es g in
+    let rest = slice_cmp-word n ds es first second (omega arith) (omega arith) in
+    let parts = cmp_parts (16 ^ n) d (word n ds) e (word n es) (word_lt n ds first) (word_lt n es second) in
+    rw (word-cons n d ds, word-cons n e es, parts, then_assoc, nat_cmp-suc (length ds) (length es), rest) refl
+
+-- the order of the two words of some digits
+abbrev pub words_cmp : List ℕ → List ℕ → Ordering
+words_cmp ds es = ordering_then (nat_cmp (word 32 ds) (word 32 es)) (nat_cmp (word 32 (drop 32 ds)) (word 32 (drop 32 es)))
+
+-- lists of at most 64 digits compare as their two words do, and then as their lengths
+pub slice_cmp-words : (ds es : List ℕ) → AreDigits ds → AreDigits es → length ds ≤ 64 → length es ≤ 64
+    → ordering_then (words_cmp ds es) (nat_cmp (length ds) (length es)) ≡ slice_cmp nat_cmp ds es
+slice_cmp-words ds es f g h k =
+    let parts = cmp_parts (16 ^ 32) (word 32 ds) (word 32 (drop 32 ds)) (word 32 es) (word 32 (drop 32 es))
+    (word_lt 32 (drop 32 ds) (All-drop (λ (x : ℕ). x < 16) 32 ds f)) (word_lt 32 (drop 32 es) (All-drop (λ (x : ℕ). x < 16) 32 es g)) in
+    let whole : nat_cmp (word 64 ds) (word 64 es) ≡ words_cmp ds es =
+    (λ i. nat_cmp (word-split 32 32 ds i) (word-split 32 32 es i)) ∙ parts in
+    ap (λ (o : Ordering). ordering_then o (nat_cmp (length ds) (length es))) (sym whole) ∙ slice_cmp-word 64 ds es f g h k
+
+-- the place of at most 32 digits is that of their word against the masked word
+pub place-first_word : (n : ℕ) (ds es : List ℕ) → AreDigits ds → AreDigits es → length ds ≡ n → n ≤ length es → n ≤ 32
+    → place ds es ≡ nat_cmp (word 32 ds) (word 32 (take n es))
+place-first_word n ds es f g is reach within =
+    let cut = length-take-le n es reach in
+    let whole = slice_cmp-word 32 ds (take n es) f (All-take (λ (x : ℕ). x < 16) n es g) (omega arith) (omega arith) in
+    let ties = equal (length ds) (length (take n es)) (is ∙ sym cut) in
+    ap (λ (k : ℕ). slice_cmp nat_cmp ds (take k es)) is ∙ sym whole
+    ∙ ap (ordering_then (nat_cmp (word 32 ds) (word 32 (take n es)))) ties
+    ∙ then_equal (nat_cmp (word 32 ds) (word 32 (take n es)))
+
+-- the place of more digits is that of the whole first words, and then of the second against the masked second
+pub place-words : (n : ℕ) (ds es : List ℕ) → AreDigits ds → AreDigits es → length ds ≡ n → n ≤ length es → 32 ≤ n → n ≤ 64
+    → place ds es ≡ ordering_then (nat_cmp (word 32 ds) (word 32 es)) (nat_cmp (word 32 (drop 32 ds)) (word 32 (take (n - 32) (drop 32 es))))
+place-words n ds es f g is reach from within =
+    let cut = length-take-le n es reach in
+    let whole = slice_cmp-words ds (take n es) f (All-take (λ (x : ℕ). x < 16) n es g) (omega arith) (omega arith) in
+    let ties = equal (length ds) (length (take n es)) (is ∙ sym cut) in
+    let first : word 32 (take n es) ≡ word 32 es =
+    sym (word-take 32 (take n es)) ∙ ap (word 32) (take-take 32 n es from) ∙ word-take 32 es in
+    let more : 32 + (n - 32) ≡ n = omega arith in
+    let second : drop 32 (take n es) ≡ take (n - 32) (drop 32 es) = rw more at (drop-take 32 (n - 32) es) in
+    ap (λ (k : ℕ). slice_cmp nat_cmp ds (take k es)) is ∙ sym whole
+    ∙ ap (ordering_then (words_cmp ds (take n es))) ties ∙ then_equal (words_cmp ds (take n es))
+    ∙ (λ i. ordering_then (nat_cmp (word 32 ds) (first i)) (nat_cmp (word 32 (drop 32 ds)) (word 32 (second i))))

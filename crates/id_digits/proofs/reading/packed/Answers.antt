@@ -1,0 +1,7 @@
+use Rattle.id_digits.specs.LetterValues.{packed}
+use Rattle.id_digits.proofs.LanePacking.{packed-lanes}
+use Rattle.id_digits.proofs.reading.packed.Goals as goal
+
+pub returns : goal.returns
+unfolding packed
+returns c = packed-lanes c.args.values c.fits-values.0

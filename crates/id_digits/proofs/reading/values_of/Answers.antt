@@ -1,0 +1,21 @@
+use Rattle.std.proofs.Common.{ℕ, refl}
+use Rattle.std.proofs.lemmas.Simd.{zip2_splat, zip2_of_maps, splat_is_map}
+use Rattle.id_digits.specs.LetterValues.{value_of}
+use Rattle.id_digits.proofs.LaneValues.{selected, same_lanes}
+use Rattle.id_digits.specs.Reading.{digit_below}
+use Rattle.id_digits.proofs.reading.values_of.Goals as goal
+
+pub returns : goal.returns
+unfolding digit_below
+returns c =
+    let v = c.args.letters in
+    let long = c.fits-letters.0 in
+    same_lanes _ value_of v
+    (selected _ _ _ v
+    (zip2_of_maps _ _ _ v (zip2_splat {Y = ℕ} _ v 32 48 long) (splat_is_map v 32 10 long))
+    (zip2_splat {Y = ℕ} _ v 32 48 long)
+    (selected _ _ _ v
+    (zip2_of_maps _ _ _ v (zip2_of_maps _ _ _ v (zip2_splat {Y = ℕ} _ v 32 32 long) (splat_is_map v 32 97 long)) (splat_is_map v 32 6 long))
+    (zip2_of_maps _ _ _ v (zip2_of_maps _ _ _ v (zip2_splat {Y = ℕ} _ v 32 32 long) (splat_is_map v 32 97 long)) (splat_is_map v 32 10 long))
+    (splat_is_map v 32 255 long)))
+    c.fits-letters.1 refl

@@ -1,0 +1,19 @@
+use Rattle.std.proofs.Common.{◌≡◌, ℕ, List, ◌-◌, length, take, drop, sym, ap, ◌∙◌, arith}
+use Rattle.std.proofs.lemmas.List.{take_all, length-drop}
+use Rattle.id_digits.specs.Digits.{digits_of}
+use Rattle.id_digits.specs.Words.{word}
+use Rattle.id_digits.proofs.Places.{drop-digits_of}
+use Rattle.id_digits.proofs.words.second_word.Goals as goal
+
+-- the digits of the bytes behind the first sixteen are those behind the first 32 digits
+behind : (bytes : List ℕ) → word 32 (digits_of (take (length bytes - 16) (drop 16 bytes))) ≡ word 32 (drop 32 (digits_of bytes))
+behind bytes =
+    let rest : take (length bytes - 16) (drop 16 bytes) ≡ drop 16 bytes =
+    take_all (length bytes - 16) (drop 16 bytes) (omega (arith, length-drop 16 bytes)) in
+    ap (λ (bs : List ℕ). word 32 (digits_of bs)) rest ∙ ap (word 32) (sym (drop-digits_of 16 bytes))
+
+pub returns-then-behind-eq4 : goal.returns-then-behind-eq4
+returns-then-behind-eq4 c = c.short_word_at.ensures ∙ behind c.args.bytes.now
+
+pub returns-else-behind-eq4 : goal.returns-else-behind-eq4
+returns-else-behind-eq4 c = c.word_at.ensures ∙ behind c.args.bytes.now

@@ -1,0 +1,13 @@
+use Rattle.std.proofs.Common.{◌≡◌, ◌<◌, ℕ, arith}
+use Rattle.std.proofs.lemmas.List.Elements.{All-from_get_or}
+use Rattle.id_digits.proofs.DigitNumbers.{word-four, big_from}
+use Rattle.id_digits.proofs.Spellings.{All-digits_of}
+use Rattle.id_digits.proofs.words.short_word_at.Goals as goal
+
+pub returns : goal.returns
+returns c =
+    let bytes = c.args.bytes.now in
+    let in_range = All-from_get_or (λ (b : ℕ). b < 256) bytes 0 (λ i lt. (c.type_inv.bytes i).fits) in
+    let front = c.from_be_bytes-front.result in
+    let number : front ≡ big_from 0 4 bytes = omega (arith, c.from_be_bytes-front.ensures) in
+    word-four bytes front (All-digits_of bytes in_range) c.requires number

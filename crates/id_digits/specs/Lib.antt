@@ -1,0 +1,8 @@
+-- Digits of bytes, and how they are spelled and read.
+pub mod Digits
+pub mod Reading
+pub mod LetterValues
+pub mod ReverseLetters
+pub mod DigestLengths
+pub mod Beginnings
+pub mod Words

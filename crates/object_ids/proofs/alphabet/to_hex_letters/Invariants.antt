@@ -1,6 +1,0 @@
-use Rattle.std.proofs.Common.{◌≡◌, ◌++◌, map, take, drop}
-use Rattle.object_ids.specs.Alphabet.{hex_of_reverse}
-use Rattle.object_ids.proofs.alphabet.to_hex_letters.Given as goal
-
-abbrev pub invariant-loop-letter : goal.invariant-loop-letter
-invariant-loop-letter l = l.text ≡ map hex_of_reverse (take l.letter-index l.initial.text) ++ drop l.letter-index l.initial.text
