@@ -10,9 +10,9 @@ ghost use Rattle.object_ids.specs.Kind.{is_digest_len, hex_len_of};
 ghost use Rattle.object_ids.specs.FirstWord.{word_from};
 
 use crate::alphabet::Alphabet;
+use crate::ascii::ascii_text;
 use crate::display::HexDisplay;
 use crate::error::Error;
-use crate::hex_digits::ascii_text;
 use crate::kind::Kind;
 use crate::object_id::ObjectId;
 use crate::prefix::Prefix;

@@ -5,8 +5,8 @@ ghost use Rattle.id_digits.specs.Digits.{spelling, hex_letter};
 ghost use Rattle.object_ids.specs.Alphabet.{letter_of};
 
 use crate::alphabet::Alphabet;
+use crate::ascii::ascii_text;
 use crate::borrowed::oid;
-use crate::hex_digits::ascii_text;
 use std::fmt;
 use std::marker::Model;
 

@@ -7,12 +7,12 @@
 #![tactic(auto)]
 
 mod alphabet;
+mod ascii;
 mod borrowed;
 /// Reading ids from text.
 pub mod decode;
 mod display;
 mod error;
-mod hex_digits;
 mod kind;
 mod object_id;
 /// Beginnings of ids.

@@ -12,8 +12,8 @@ ghost use Rattle.object_ids.specs.Prefix.{padded};
 
 use super::Prefix;
 use crate::alphabet::Alphabet;
+use crate::ascii::ascii_text;
 use crate::display::{CutId, ReverseHexDisplay};
-use crate::hex_digits::ascii_text;
 use std::{fmt, io};
 
 impl Prefix {
