@@ -4,6 +4,7 @@ mod Meaning
 mod MeaningIn
 mod Orders
 mod PieceLemmas
+mod ReadLemmas
 mod ReadingLemmas
 mod RunLemmas
 mod StopLemmas
