@@ -1,3 +1,4 @@
+-- `search` says the same of these letters.
 use Rattle.list_search.proofs.finding.find.Goals as goal
 
 pub returns : goal.returns

@@ -1,3 +1,4 @@
+-- What is found in the two texts is what is found among the ids that they read as.
 use Rattle.std.proofs.Common.{◌≡◌, Ok, map, sym, ◌∙◌}
 use Rattle.gix_hash.specs.Alphabet.{letter_of}
 use Rattle.gix_hash.specs.ObjectId.{id_digits}

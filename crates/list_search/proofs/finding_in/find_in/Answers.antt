@@ -1,3 +1,4 @@
+-- What is found in the two texts is what is found among the ids that they read as.
 use Rattle.std.proofs.Common.{◌≡◌, inl, Ok, None, map, sym, ◌∙◌, refl}
 use Rattle.std.proofs.lemmas.Result.{err_from_is_err_and}
 use Rattle.std.proofs.lemmas.Bool.{false≢true}
