@@ -15,12 +15,12 @@ use Rattle.list_search.specs.declared.finding_in.FindInError.TheVariants as in_k
 use Rattle.commands.specs.declared.running.CommandError.{CommandError}
 use Rattle.commands.specs.declared.running.CommandError.TheVariants as command
 use Rattle.pipes.specs.Pipe.{digest_line, sealed}
-use Rattle.commands.specs.Running.{refusal_of_search, refusal_of_search_in, IsFoundAtMost, WritesAtMost, Does, DoesAtMost}
+use Rattle.commands.specs.Running.{refusal_of_search, refusal_of_search_in, IsFoundAtMost, Writes, WritesAtMost, Does, DoesAtMost}
 use Rattle.devices.specs.Writing.{Appends-kept}
 use Rattle.std.proofs.lemmas.List.{nil_from_length}
 
 -- what bytes were read of was not empty, where they are not
-some_left : (a b : Option (List ℕ)) (items : List ℕ) → Consumes a b items → items ≢ [] → IfSome a (λ bytes. bytes ≢ [])
+pub some_left : (a b : Option (List ℕ)) (items : List ℕ) → Consumes a b items → items ≢ [] → IfSome a (λ bytes. bytes ≢ [])
 some_left None b items p some = tt
 some_left (Some xs) None items p some = absurd p
 some_left (Some xs) (Some ys) items p some =
@@ -91,6 +91,36 @@ all_bytes make message a b c written kept = record {
   is_beginning = sym (append-nil (make message));
   written = Appends-kept a b c (make message) written kept;
 }
+
+-- what was found stays found, and what was written stays written
+found_kept : {E : Type 0} (letter : ℕ → ℕ) (answer : Result (List (List ℕ)) E) (a b c : Option (List ℕ)) (count : ℕ) → IsFound letter answer a b count
+    → Keeps b c → IsFound letter answer a c count
+found_kept letter answer a b c count found kept = record {
+  ids = found.ids;
+  found = found.found;
+  counted = found.counted;
+  written = Appends-kept a b c (printed letter found.ids) found.written kept;
+}
+
+bytes_kept : (make : List ℕ → List ℕ) (message : List ℕ) (a b c : Option (List ℕ)) → Writes make message a b → Keeps b c → Writes make message a c
+bytes_kept make message a b c done kept = record {
+  has_digest = done.has_digest;
+  written = Appends-kept a b c (make message) done.written kept;
+}
+
+-- what was done stays done, where the flush kept what was written
+pub done_kept : (asked : Command) (input a b c : Option (List ℕ)) (count : ℕ) → Does asked input a b count → Keeps b c → Does asked input a c count
+done_kept (Find prefix) None a b c count done kept = tt
+done_kept (Find prefix) (Some text) a b c count done kept = found_kept _ _ a b c count done kept
+done_kept (FindChange letters) None a b c count done kept = tt
+done_kept (FindChange letters) (Some text) a b c count done kept = found_kept _ _ a b c count done kept
+done_kept (FindIn kind prefix) None a b c count done kept = tt
+done_kept (FindIn kind prefix) (Some text) a b c count done kept = found_kept _ _ a b c count done kept
+done_kept (Hash kind) None a b c count done kept = (tt, done.1)
+done_kept (Hash kind) (Some text) a b c count done kept = (bytes_kept (digest_line kind) text a b c done.0 kept, done.1)
+done_kept (HashFile kind n path) input a b c count done kept = ((done.0.0, done.0.1, Appends-kept a b c _ done.0.2 kept), done.1)
+done_kept (Seal kind) None a b c count done kept = (tt, done.1)
+done_kept (Seal kind) (Some text) a b c count done kept = (bytes_kept (sealed kind) text a b c done.0 kept, done.1)
 
 -- what was done is done at most, where the flush kept what was written
 pub done_at_most : (asked : Command) (input a b c : Option (List ℕ)) (count : ℕ) → Does asked input a b count → Keeps b c → DoesAtMost asked input a c
