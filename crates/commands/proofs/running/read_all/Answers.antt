@@ -17,3 +17,6 @@ returns-in_err-extend_from_slice-clause-memory g c =
     let len = length-append c.pieces.text.items piece in
     let piece_len = length-take c.in-Ok.count c.read.new.buf in
     λ _. some_left _ _ _ read (λ none. c.if-count-eq0.false (omega (arith, c.in-Ok.ensures.bound, len, piece_len, ap length none)))
+
+pub returns-then-count-eq0-clause-memory : goal.returns-then-count-eq0-clause-memory
+returns-then-count-eq0-clause-memory g c = λ is. cc is
