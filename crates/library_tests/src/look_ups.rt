@@ -1,7 +1,7 @@
 //! Runs in lists of the well-known ids and in a list of a thousand, by tables.
 
 use crate::types::{BLOB, BLOB_256, TREE, TREE_256, id};
-use gix_hash::{ObjectId, Prefix};
+use gix_hash::{Kind, ObjectId, Prefix};
 use id_lookup::{Probes, Run, SortedIds, begins_with, bits_of, lookup};
 use std::cmp::Ordering;
 use std::process::Abort;
@@ -9,9 +9,14 @@ use std::test::Fail;
 
 mod index;
 
-// The four ids in order.
-fn well_known() -> Result<[ObjectId; 4], Fail> {
-    Ok([id(BLOB_256)?, id(TREE)?, id(TREE_256)?, id(BLOB)?])
+// The ids of the empty blobs and trees, in order.
+fn well_known() -> [ObjectId; 4] {
+    [
+        Kind::Sha256.empty_blob(),
+        Kind::Sha1.empty_tree(),
+        Kind::Sha256.empty_tree(),
+        Kind::Sha1.empty_blob(),
+    ]
 }
 
 // The SHA-1 ids whose first four digits are the numbers below a thousand, each followed by zeros.
@@ -26,30 +31,22 @@ fn thousand() -> [ObjectId; 1000] {
     ids
 }
 
+// That so many asks for a prefix are few enough.
+fn expect_at_most(rt: &impl Abort, asked: u64, most: u64, prefix: &Prefix) {
+    assert!(rt; asked <= most, "{asked} asks for {prefix}");
+}
+
 // The run that a look-up gives, by at most `most` asks. The list and the prefix stay.
-fn expect_run(
-    rt: &impl Abort,
-    ids: &[ObjectId],
-    prefix: Prefix,
-    start: usize,
-    end: usize,
-    most: u64,
-) -> Result<(), Fail> {
-    let list = SortedIds::try_new(ids)?;
+fn expect_run(rt: &impl Abort, list: &SortedIds<'_>, prefix: &Prefix, want: Run, most: u64) {
     assert!(rt; prefix.hex_len() <= list.min_hex_len());
-    let mut probes = Probes::new(&list, prefix);
-    assert!(rt; probes.asked() == 0);
+    let mut probes = Probes::new(list, *prefix);
+    expect!(rt; probes.asked() == 0, prefix);
     let run = lookup(&mut probes);
-    assert!(rt; run == Run { start, end });
-    assert!(rt;
-        probes.asked() <= most,
-        "{} asks for {start}..{end}",
-        probes.asked()
-    );
-    assert!(rt; probes.len() == ids.len());
-    assert!(rt; probes.prefix() == prefix);
-    assert!(rt; list.find(&prefix) == run);
-    Ok(())
+    expect!(rt; run == want, prefix);
+    expect_at_most(rt, probes.asked(), most, prefix);
+    expect!(rt; probes.len() == list.len(), prefix);
+    expect!(rt; probes.prefix() == *prefix, prefix);
+    expect!(rt; list.find(prefix) == want, prefix);
 }
 
 fn expect_runs(
@@ -58,15 +55,10 @@ fn expect_runs(
     most: u64,
     rows: &[(&str, usize, usize)],
 ) -> Result<(), Fail> {
+    let list = SortedIds::try_new(ids)?;
     for &(digits, start, end) in rows {
-        expect_run(
-            rt,
-            ids,
-            Prefix::from_hex_nonempty(digits)?,
-            start,
-            end,
-            most,
-        )?;
+        let prefix = Prefix::from_hex_nonempty(digits)?;
+        expect_run(rt, &list, &prefix, Run { start, end }, most);
     }
     Ok(())
 }
@@ -74,21 +66,21 @@ fn expect_runs(
 #[test]
 fn empty_list(rt: HostRuntime) -> Result<(), Fail> {
     let list = SortedIds::try_new(&[])?;
-    assert!(rt; list.min_hex_len() == 64);
-    assert!(rt; list.len() == 0);
-    assert!(rt; list.is_empty());
+    expect!(&rt; list.min_hex_len() == 64);
+    expect!(&rt; list.len() == 0);
+    expect!(&rt; list.is_empty());
     expect_runs(&rt, &[], 0, &[("e69d", 0, 0)])
 }
 
 #[test]
 fn well_known_ids(rt: HostRuntime) -> Result<(), Fail> {
-    let ids = well_known()?;
+    let ids = well_known();
     let list = SortedIds::try_new(&ids)?;
-    assert!(rt; list.min_hex_len() == 40);
-    assert!(rt; !list.is_empty());
+    expect!(&rt; list.min_hex_len() == 40);
+    expect!(&rt; !list.is_empty());
     assert!(rt; list.len() == 4);
-    assert!(rt; list.get(3).as_oid() == id(BLOB)?.as_oid());
-    assert!(rt; SortedIds::try_new(&[id(BLOB_256)?, id(TREE_256)?])?.min_hex_len() == 64);
+    expect!(&rt; list.get(3).as_oid() == id(BLOB)?.as_oid());
+    expect!(&rt; SortedIds::try_new(&[id(BLOB_256)?, id(TREE_256)?])?.min_hex_len() == 64);
     expect_runs(
         &rt,
         &ids,
@@ -107,11 +99,14 @@ fn well_known_ids(rt: HostRuntime) -> Result<(), Fail> {
 // The beginnings of one id of four, of each number of digits.
 #[test]
 fn each_number_of_digits(rt: HostRuntime) -> Result<(), Fail> {
-    let ids = well_known()?;
-    expect_run(&rt, &ids, id(BLOB)?.to_prefix(0..0), 0, 4, 6)?;
+    let ids = well_known();
+    let list = SortedIds::try_new(&ids)?;
+    let nothing = id(BLOB)?.to_prefix(0..0);
+    expect_run(&rt, &list, &nothing, Run { start: 0, end: 4 }, 6);
     for hex_len in 1..=40 {
         let digits = BLOB.get(..hex_len).ok_or("the id has fewer digits")?;
-        expect_run(&rt, &ids, Prefix::from_hex_nonempty(digits)?, 3, 4, 6)?;
+        let prefix = Prefix::from_hex_nonempty(digits)?;
+        expect_run(&rt, &list, &prefix, Run { start: 3, end: 4 }, 6);
     }
     Ok(())
 }
@@ -121,9 +116,11 @@ fn five_copies(rt: HostRuntime) -> Result<(), Fail> {
     let blob = id(BLOB)?;
     let ids = [blob; 5];
     expect_runs(&rt, &ids, 6, &[("e69d", 0, 5)])?;
+    let list = SortedIds::try_new(&ids)?;
     let nothing = blob.to_prefix(0..0);
-    assert!(rt; nothing.hex_len() == 0);
-    expect_run(&rt, &ids, nothing, 0, 5, 6)
+    expect!(&rt; nothing.hex_len() == 0);
+    expect_run(&rt, &list, &nothing, Run { start: 0, end: 5 }, 6);
+    Ok(())
 }
 
 #[test]
@@ -142,20 +139,20 @@ fn not_sorted(rt: HostRuntime) -> Result<(), Fail> {
     let refusal = SortedIds::try_new(&ids)
         .err()
         .ok_or("it is taken for sorted")?;
-    assert!(rt; refusal.at == 2);
+    expect!(&rt; refusal.at == 2);
     let text = format!(in rt.alloc(); "{refusal}")?;
-    assert!(rt; text.as_str() == "the id at place 2 is below the one before it");
+    expect!(&rt; text.as_str() == "the id at place 2 is below the one before it");
     Ok(())
 }
 
 #[test]
 fn one_ask_at_a_time(rt: HostRuntime) -> Result<(), Fail> {
-    let ids = well_known()?;
+    let ids = well_known();
     let list = SortedIds::try_new(&ids)?;
     let prefix = Prefix::from_hex("4b82")?;
     assert!(rt; prefix.hex_len() <= list.min_hex_len());
     let mut probes = Probes::new(&list, prefix);
-    assert!(rt; !probes.is_empty());
+    expect!(&rt; !probes.is_empty());
     for (at, place) in [
         (0, Ordering::Greater),
         (1, Ordering::Equal),
@@ -163,9 +160,9 @@ fn one_ask_at_a_time(rt: HostRuntime) -> Result<(), Fail> {
         (3, Ordering::Less),
     ] {
         assert!(rt; at < probes.len() && probes.asked() < 4);
-        assert!(rt; probes.ask(at) == place, "at {at}");
+        expect!(&rt; probes.ask(at) == place, &at);
     }
-    assert!(rt; probes.asked() == 4);
+    expect!(&rt; probes.asked() == 4);
     Ok(())
 }
 
@@ -179,7 +176,7 @@ fn beginnings(rt: HostRuntime) -> Result<(), Fail> {
         let id = id(text)?;
         let prefix = Prefix::from_hex(digits)?;
         assert!(rt; prefix.hex_len() <= id.kind().len_in_hex());
-        assert!(rt; begins_with(&id, &prefix) == want, "{digits}");
+        expect!(&rt; begins_with(&id, &prefix) == want, &digits);
     }
     Ok(())
 }
@@ -187,7 +184,7 @@ fn beginnings(rt: HostRuntime) -> Result<(), Fail> {
 // With no runtime there is no memory to take.
 #[test]
 fn without_a_runtime() -> Result<(), Fail> {
-    let ids = well_known()?;
+    let ids = well_known();
     let list = SortedIds::try_new(&ids)?;
     for (digits, start, end) in [("4b82", 1, 2), ("4", 0, 2), ("5", 2, 2), ("6ef1", 2, 3)] {
         let prefix = Prefix::from_hex_nonempty(digits)?;
@@ -217,6 +214,6 @@ fn binary_digits(rt: HostRuntime) {
         (1024, 11),
         (usize::MAX, 64),
     ] {
-        assert!(rt; bits_of(n) == bits, "of {n}");
+        expect!(&rt; bits_of(n) == bits, &n);
     }
 }

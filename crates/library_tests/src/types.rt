@@ -55,13 +55,13 @@ pub fn id(text: &str) -> Result<ObjectId, decode::Error> {
 }
 
 // The value prints so.
-fn expect_text<T: Display + Drop>(
+pub fn expect_text<T: Display + Drop>(
     rt: &(impl Abort + AllocGlobal),
     value: T,
     want: &str,
 ) -> Result<(), AllocError> {
     let text = format!(in rt.alloc(); "{value}")?;
-    assert!(rt; text.as_str() == want);
+    expect!(rt; text.as_str() == want);
     Ok(())
 }
 
@@ -72,11 +72,11 @@ fn expect_whole<T: Display + Drop>(
     want: &str,
 ) -> Result<(), AllocError> {
     let wide = format!(in rt.alloc(); "{value:>70}")?;
-    assert!(rt; wide.as_str() == want);
+    expect!(rt; wide.as_str() == want);
     let filled = format!(in rt.alloc(); "{value:*^70}")?;
-    assert!(rt; filled.as_str() == want);
+    expect!(rt; filled.as_str() == want);
     let cut = format!(in rt.alloc(); "{value:.3}")?;
-    assert!(rt; cut.as_str() == want);
+    expect!(rt; cut.as_str() == want);
     Ok(())
 }
 
@@ -87,7 +87,7 @@ fn expect_debug<T: Debug + Drop>(
     want: &str,
 ) -> Result<(), AllocError> {
     let text = format!(in rt.alloc(); "{value:?}")?;
-    assert!(rt; text.as_str() == want);
+    expect!(rt; text.as_str() == want);
     Ok(())
 }
 
@@ -98,7 +98,7 @@ fn expect_error<E: Error + Drop>(
     want: &str,
 ) -> Result<(), AllocError> {
     let shown = format!(in rt.alloc(); "{error:?}")?;
-    assert!(rt; !shown.is_empty());
+    expect!(rt; !shown.is_empty());
     expect_text(rt, error, want)
 }
 
@@ -128,16 +128,16 @@ fn converted<S: Into<T>, T>(source: S) -> T {
 
 // The first is below the second, by each of the comparing traits.
 fn expect_below<T: Ord>(rt: &impl Abort, lower: &T, upper: &T) {
-    assert!(rt; lower.cmp(upper) == Ordering::Less);
-    assert!(rt; upper.cmp(lower) == Ordering::Greater);
-    assert!(rt; lower.partial_cmp(upper) == Some(Ordering::Less));
-    assert!(rt; lower != upper);
+    expect!(rt; lower.cmp(upper) == Ordering::Less);
+    expect!(rt; upper.cmp(lower) == Ordering::Greater);
+    expect!(rt; lower.partial_cmp(upper) == Some(Ordering::Less));
+    expect!(rt; lower != upper);
 }
 
 // They are the same, by each of the comparing traits, and feed the same to a hash.
 fn expect_same<T: Ord + Hash>(rt: &impl Abort, one: &T, other: &T) {
-    assert!(rt; one.cmp(other) == Ordering::Equal);
-    assert!(rt; one.partial_cmp(other) == Some(Ordering::Equal));
-    assert!(rt; one == other);
-    assert!(rt; hashing_state::fed(one) == hashing_state::fed(other));
+    expect!(rt; one.cmp(other) == Ordering::Equal);
+    expect!(rt; one.partial_cmp(other) == Some(Ordering::Equal));
+    expect!(rt; one == other);
+    expect!(rt; hashing_state::fed(one) == hashing_state::fed(other));
 }

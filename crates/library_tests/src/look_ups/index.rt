@@ -1,7 +1,7 @@
 //! Indexes of the well-known ids and of a thousand, by tables.
 
-use super::thousand;
-use crate::types::{BLOB, BLOB_256, TREE, TREE_256, id};
+use super::{expect_at_most, thousand};
+use crate::types::{BLOB, BLOB_256, TREE, TREE_256, expect_text, id};
 use gix_hash::{Kind, ObjectId, Prefix};
 use id_lookup::laws::find_own_name;
 use id_lookup::{Answer, IdIndex, IndexError, Run, lookup_in};
@@ -16,6 +16,31 @@ fn refusal(ids: &[ObjectId], kind: Kind) -> Result<IndexError, Fail> {
     )
 }
 
+// The run that probes find, by at most `most` asks. The index and the prefix stay.
+fn expect_probed(rt: &impl Abort, index: &IdIndex<'_>, prefix: &Prefix, want: Run, most: u64) {
+    assert!(rt; prefix.as_oid().kind() == index.kind());
+    let mut probes = index.probes(prefix);
+    expect!(rt; probes.asked() == 0, prefix);
+    let run = lookup_in(index.fan_out(), &mut probes);
+    expect!(rt; run == want, prefix);
+    expect_at_most(rt, probes.asked(), most, prefix);
+    expect!(rt; probes.len() == index.len(), prefix);
+    expect!(rt; probes.prefix() == *prefix, prefix);
+}
+
+fn answer_of(run: Run) -> Answer {
+    match run.end.saturating_sub(run.start) {
+        0 => Answer::None,
+        1 => Answer::One(run.start),
+        _ => Answer::Many(run),
+    }
+}
+
+fn expect_answer(rt: &impl Abort, index: &IdIndex<'_>, prefix: &Prefix, want: Answer) {
+    assert!(rt; prefix.as_oid().kind() == index.kind());
+    expect!(rt; index.find(prefix) == want, prefix);
+}
+
 // What an index answers on a prefix, by the look-up and by probes with at most `most` asks.
 fn expect_found(
     rt: &impl Abort,
@@ -25,23 +50,8 @@ fn expect_found(
     most: u64,
 ) -> Result<(), Fail> {
     let prefix = Prefix::from_hex_nonempty(digits)?;
-    assert!(rt; prefix.as_oid().kind() == index.kind());
-    let mut probes = index.probes(&prefix);
-    assert!(rt; probes.asked() == 0);
-    assert!(rt; lookup_in(index.fan_out(), &mut probes) == run, "{digits}");
-    assert!(rt;
-        probes.asked() <= most,
-        "{} asks for {digits}",
-        probes.asked()
-    );
-    assert!(rt; probes.len() == index.len());
-    assert!(rt; probes.prefix() == prefix);
-    let want = match run.end - run.start {
-        0 => Answer::None,
-        1 => Answer::One(run.start),
-        _ => Answer::Many(run),
-    };
-    assert!(rt; index.find(&prefix) == want, "{digits}");
+    expect_probed(rt, index, &prefix, run, most);
+    expect_answer(rt, index, &prefix, answer_of(run));
     Ok(())
 }
 
@@ -72,7 +82,7 @@ fn no_index(rt: HostRuntime) -> Result<(), Fail> {
         ),
     ];
     for (ids, kind, want) in rows {
-        assert!(rt; refusal(ids, kind)? == want);
+        expect!(&rt; refusal(ids, kind)? == want);
     }
     Ok(())
 }
@@ -89,7 +99,7 @@ fn index_errors(rt: HostRuntime) -> Result<(), Fail> {
             "the id at place 1 is not above the one before it",
         ),
     ] {
-        assert!(rt; format!(in rt.alloc(); "{error}")?.as_str() == want);
+        expect_text(&rt, error, want)?;
     }
     Ok(())
 }
@@ -97,8 +107,8 @@ fn index_errors(rt: HostRuntime) -> Result<(), Fail> {
 #[test]
 fn empty_index(rt: HostRuntime) -> Result<(), Fail> {
     let index = IdIndex::try_new(&[], Kind::Sha1)?;
-    assert!(rt; index.len() == 0);
-    assert!(rt; index.is_empty());
+    expect!(&rt; index.len() == 0);
+    expect!(&rt; index.is_empty());
     expect_found(&rt, &index, "4b82", Run { start: 0, end: 0 }, 0)
 }
 
@@ -106,10 +116,10 @@ fn empty_index(rt: HostRuntime) -> Result<(), Fail> {
 fn first_bytes_of_two(rt: HostRuntime) -> Result<(), Fail> {
     let ids = [id(TREE)?, id(BLOB)?];
     let index = IdIndex::try_new(&ids, Kind::Sha1)?;
-    assert!(rt; index.kind() == Kind::Sha1);
-    assert!(rt; !index.is_empty());
+    expect!(&rt; index.kind() == Kind::Sha1);
+    expect!(&rt; !index.is_empty());
     for (byte, want) in [(0x4a, 0), (0x4b, 1), (0xe5, 1), (0xe6, 2), (0xff, 2)] {
-        assert!(rt; index.fan_out().up_to(byte) == want, "up to {byte}");
+        expect!(&rt; index.fan_out().up_to(byte) == want, &byte);
     }
     expect_found(&rt, &index, "4b82", Run { start: 0, end: 1 }, 2)
 }
@@ -118,7 +128,7 @@ fn first_bytes_of_two(rt: HostRuntime) -> Result<(), Fail> {
 fn index_of_a_thousand(rt: HostRuntime) -> Result<(), Fail> {
     let ids = thousand();
     let index = IdIndex::try_new(&ids, Kind::Sha1)?;
-    assert!(rt; index.len() == 1000);
+    expect!(&rt; index.len() == 1000);
     for (digits, start, end, most) in [
         ("0200", 512, 513, 18),
         ("03", 768, 1000, 16),
@@ -159,34 +169,48 @@ fn none_one_and_many(rt: HostRuntime) -> Result<(), Fail> {
     Ok(())
 }
 
-// Each member has its name, and by that it is found alone.
+// The member at a place has its name, and by that it is found alone.
+fn expect_name(rt: &impl Abort, index: &IdIndex<'_>, at: usize, want: &str) {
+    assert!(rt; at < index.len());
+    let name = index.abbreviate(at);
+    expect!(rt; name.eq_str(want), &want);
+    expect!(rt; name.as_oid().kind() == index.kind(), &want);
+    expect_answer(rt, index, &name, Answer::One(at));
+    expect!(rt; find_own_name(index, at) == Answer::One(at), &want);
+}
+
 fn expect_names(rt: &impl Abort, ids: &[ObjectId], names: &[&str]) -> Result<(), Fail> {
     let index = IdIndex::try_new(ids, Kind::Sha1)?;
-    assert!(rt; names.len() == index.len());
-    for at in 0..index.len() {
-        let name = index.abbreviate(at);
-        assert!(rt; name.eq_str(names[at]), "at {at}");
-        assert!(rt; name.as_oid().kind() == Kind::Sha1);
-        assert!(rt; index.find(&name) == Answer::One(at), "at {at}");
-        assert!(rt; find_own_name(&index, at) == Answer::One(at), "at {at}");
+    expect!(rt; names.len() == index.len());
+    for (at, name) in names.iter().enumerate() {
+        expect_name(rt, &index, at, name);
     }
     Ok(())
 }
 
-// Each member's name is printed, read in the kind of the index, and found: the member alone.
+// A member's name is printed, read in the kind of the index, and found: the member alone.
+fn expect_read_name(
+    rt: &(impl Abort + AllocGlobal),
+    index: &IdIndex<'_>,
+    at: usize,
+    want: &str,
+) -> Result<(), Fail> {
+    assert!(rt; at < index.len());
+    expect_text(rt, index.abbreviate(at), want)?;
+    let read = Prefix::from_hex_in(index.kind(), want)?;
+    expect_answer(rt, index, &read, Answer::One(at));
+    Ok(())
+}
+
 fn expect_read_names(
     rt: &(impl Abort + AllocGlobal),
     ids: &[ObjectId],
     names: &[&str],
 ) -> Result<(), Fail> {
     let index = IdIndex::try_new(ids, Kind::Sha1)?;
-    assert!(rt; names.len() == index.len());
-    for at in 0..index.len() {
-        let printed = format!(in rt.alloc(); "{}", index.abbreviate(at))?;
-        assert!(rt; printed.as_str() == names[at], "at {at}");
-        let read = Prefix::from_hex_in(Kind::Sha1, printed.as_str())?;
-        assert!(rt; read.as_oid().kind() == index.kind());
-        assert!(rt; index.find(&read) == Answer::One(at), "at {at}");
+    expect!(rt; names.len() == index.len());
+    for (at, name) in names.iter().enumerate() {
+        expect_read_name(rt, &index, at, name)?;
     }
     Ok(())
 }

@@ -93,13 +93,13 @@ fn text_of(alloc: Global, letter: char, len: usize) -> Result<String, AllocError
 fn expect_id(rt: &impl Abort, answer: Result<ObjectId, decode::Error>, len: usize, want: Answer) {
     let told = match answer {
         Ok(id) => {
-            assert!(rt; id.is_null(), "{len} digits 0");
+            expect!(rt; id.is_null(), &len);
             (Zeros(id.kind()), id.kind().len_in_hex())
         }
         Err(decode::Error::InvalidHexEncodingLength(told)) => (BadLength, told),
         Err(decode::Error::Invalid) => (Invalid, len),
     };
-    assert!(rt; told == (want, len));
+    expect!(rt; told == (want, len));
 }
 
 // The answer on a prefix, and the number of bytes that it tells.
@@ -111,14 +111,14 @@ fn expect_prefix(
 ) {
     let told = match answer {
         Ok(prefix) => {
-            assert!(rt; prefix.as_oid().is_null(), "{len} digits 0");
+            expect!(rt; prefix.as_oid().is_null(), &len);
             (Zeros(prefix.as_oid().kind()), prefix.hex_len())
         }
         Err(from_hex::Error::TooShort { hex_len }) => (TooShort, hex_len),
         Err(from_hex::Error::TooLong { hex_len }) => (TooLong, hex_len),
         Err(from_hex::Error::Invalid) => (Invalid, len),
     };
-    assert!(rt; told == (want, len));
+    expect!(rt; told == (want, len));
 }
 
 // The calls that read hex digits.
@@ -196,10 +196,10 @@ fn letters_that_are_no_digits(rt: HostRuntime) -> Result<(), Fail> {
 fn prefixes_of_a_given_kind(rt: HostRuntime) -> Result<(), Fail> {
     let blob = id(BLOB_256)?;
     let six = Prefix::new(blob.as_oid(), 6)?;
-    assert!(&rt; Prefix::from_hex_in(Kind::Sha256, "473a0f")? == six);
-    assert!(&rt; Prefix::from_hex_in(Kind::Sha256, "473A0F")? == six);
-    assert!(&rt; Prefix::from_hex_in(Kind::Sha1, "473a0f")? != six);
-    assert!(&rt; Prefix::from_hex_in(Kind::Sha256, BLOB_256)? == Prefix::from(blob));
+    expect!(&rt; Prefix::from_hex_in(Kind::Sha256, "473a0f")? == six);
+    expect!(&rt; Prefix::from_hex_in(Kind::Sha256, "473A0F")? == six);
+    expect!(&rt; Prefix::from_hex_in(Kind::Sha1, "473a0f")? != six);
+    expect!(&rt; Prefix::from_hex_in(Kind::Sha256, BLOB_256)? == Prefix::from(blob));
     let g_41 = text_of(rt.alloc(), 'g', 41)?;
     for (kind, text, len, want) in [
         (Kind::Sha1, "G", 1, Invalid),

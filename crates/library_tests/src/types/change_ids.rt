@@ -52,13 +52,13 @@ fn spelled(rt: HostRuntime) -> Result<(), Fail> {
         (100, BLOB_LETTERS),
     ] {
         expect_text(&rt, blob.to_reverse_hex_with_len(hex_len), want)?;
-        assert!(rt; blob.to_reverse_hex_with_len(hex_len).eq_str(want));
+        expect!(&rt; blob.to_reverse_hex_with_len(hex_len).eq_str(want));
     }
     expect_text(&rt, blob.to_hex(), BLOB)?;
-    assert!(rt; blob.eq_str(BLOB_LETTERS) && blob.to_reverse_hex().eq_str(BLOB_LETTERS));
-    assert!(rt; !blob.eq_str(BLOB) && !blob.eq_str("LTQMLXQOOXMYMTVWVOROXQPLSSUPMRNXLVRNUWQY"));
+    expect!(&rt; blob.eq_str(BLOB_LETTERS) && blob.to_reverse_hex().eq_str(BLOB_LETTERS));
+    expect!(&rt; !blob.eq_str(BLOB) && !blob.eq_str("LTQMLXQOOXMYMTVWVOROXQPLSSUPMRNXLVRNUWQY"));
     let shown = format!(in rt.alloc(); "{blob:?}")?;
-    assert!(rt; !shown.is_empty());
+    expect!(&rt; !shown.is_empty());
     Ok(())
 }
 
@@ -90,7 +90,7 @@ fn read_from_text(rt: HostRuntime) -> Result<(), Fail> {
         TREE,
     )?;
     let wide = ChangeId::from_reverse_hex(BLOB_256_LETTERS.as_bytes())?;
-    assert!(rt; wide.kind() == Kind::Sha256);
+    expect!(&rt; wide.kind() == Kind::Sha256);
     expect_text(&rt, wide.to_hex(), BLOB_256)?;
     Ok(())
 }
@@ -115,18 +115,12 @@ fn prefixes(rt: HostRuntime) -> Result<(), Fail> {
             ),
         ],
     )?;
-    assert!(rt;
-        Prefix::from_reverse_hex_nonempty(LETTERS_Z_65).err()
-            == Some(from_hex::Error::TooLong { hex_len: 65 })
-    );
-    assert!(rt;
-        Prefix::from_reverse_hex_nonempty("").err()
-            == Some(from_hex::Error::TooShort { hex_len: 0 })
-    );
-    assert!(rt; Prefix::from_reverse_hex_nonempty("0").err() == Some(from_hex::Error::Invalid));
-    assert!(rt;
-        Prefix::from_reverse_hex("zzz").err() == Some(from_hex::Error::TooShort { hex_len: 3 })
-    );
+    expect!(&rt; Prefix::from_reverse_hex_nonempty(LETTERS_Z_65).err()
+            == Some(from_hex::Error::TooLong { hex_len: 65 }));
+    expect!(&rt; Prefix::from_reverse_hex_nonempty("").err()
+            == Some(from_hex::Error::TooShort { hex_len: 0 }));
+    expect!(&rt; Prefix::from_reverse_hex_nonempty("0").err() == Some(from_hex::Error::Invalid));
+    expect!(&rt; Prefix::from_reverse_hex("zzz").err() == Some(from_hex::Error::TooShort { hex_len: 3 }));
     for (letters, digits, kind) in [
         ("z", "0", Kind::Sha1),
         ("Lt", "e6", Kind::Sha1),
@@ -137,7 +131,7 @@ fn prefixes(rt: HostRuntime) -> Result<(), Fail> {
         ),
     ] {
         let prefix = Prefix::from_reverse_hex_nonempty(letters)?;
-        assert!(rt; prefix.as_oid().kind() == kind, "for {letters}");
+        expect!(&rt; prefix.as_oid().kind() == kind, &letters);
         expect_text(&rt, prefix, digits)?;
     }
     let prefix = Prefix::new(id(BLOB)?.as_oid(), 7)?;
@@ -164,17 +158,17 @@ fn alphabets(rt: HostRuntime) -> Result<(), Fail> {
             "l",
         ),
     ] {
-        assert!(rt; alphabet.read_id(letters.as_bytes())? == blob);
+        expect!(&rt; alphabet.read_id(letters.as_bytes())? == blob);
         expect_text(&rt, alphabet.read_prefix(beginning)?, "e69de29")?;
         expect_text(&rt, alphabet.read_prefix_nonempty(first)?, "e")?;
-        assert!(rt; alphabet.read_prefix(first).is_err());
+        expect!(&rt; alphabet.read_prefix(first).is_err());
         let mut buffer = [b'#'; 41];
         let view = blob.as_oid();
         assert!(rt; view.kind().len_in_hex() == 40);
         alphabet.put_id(view, &mut buffer);
-        assert!(rt; &buffer == spelled);
+        expect!(&rt; &buffer == spelled);
     }
-    assert!(rt; Alphabet::Hex != Alphabet::Reverse);
+    expect!(&rt; Alphabet::Hex != Alphabet::Reverse);
     expect_debug(&rt, Alphabet::Reverse, "Reverse")?;
     Ok(())
 }
@@ -183,16 +177,16 @@ fn alphabets(rt: HostRuntime) -> Result<(), Fail> {
 fn conversions(rt: HostRuntime) -> Result<(), Fail> {
     let blob = id(BLOB)?;
     for change in [converted::<_, ChangeId>(blob), converted(blob.as_oid())] {
-        assert!(rt; change.kind() == Kind::Sha1);
-        assert!(rt; change.as_bytes() == BLOB_BYTES.as_slice());
-        assert!(rt; converted::<_, ObjectId>(change) == blob);
-        assert!(rt; converted::<_, Prefix>(change) == Prefix::from(blob));
+        expect!(&rt; change.kind() == Kind::Sha1);
+        expect!(&rt; change.as_bytes() == BLOB_BYTES.as_slice());
+        expect!(&rt; converted::<_, ObjectId>(change) == blob);
+        expect!(&rt; converted::<_, Prefix>(change) == Prefix::from(blob));
     }
     let mut buffer = [b'#'; 42];
     let change = ChangeId::from(blob);
     assert!(rt; change.kind().len_in_hex() <= 42);
     change.put_reverse_hex(&mut buffer);
-    assert!(rt; &buffer == b"ltqmlxqooxmymtvwvoroxqplssupmrnxlvrnuwqy##");
+    expect!(&rt; &buffer == b"ltqmlxqooxmymtvwvoroxqplssupmrnxlvrnuwqy##");
     Ok(())
 }
 

@@ -6,9 +6,9 @@ use std::process::Abort;
 use std::test::Fail;
 
 fn expect_common(rt: &impl Abort, one: &ObjectId, other: &ObjectId, want: usize) {
-    assert!(rt; one.as_oid().common_hex_len(other.as_oid()) == want);
-    assert!(rt; other.as_oid().common_hex_len(one.as_oid()) == want);
-    assert!(rt; one.common_hex_len(other.as_oid()) == want);
+    expect!(rt; one.as_oid().common_hex_len(other.as_oid()) == want);
+    expect!(rt; other.as_oid().common_hex_len(one.as_oid()) == want);
+    expect!(rt; one.common_hex_len(other.as_oid()) == want);
 }
 
 #[test]

@@ -8,28 +8,43 @@ const HEX: [u8; 16] = *b"0123456789abcdef";
 
 const REVERSE: [u8; 16] = *b"zyxwvutsrqponmlk";
 
-// Replaces each letter of one alphabet, in either case, by the letter of its digit in another, and
-// any other byte by a dash.
+// The letter of the same digit in another alphabet, for a letter in either case. For any other byte
+// a dash.
+fn translated(byte: u8, from: [u8; 16], to: [u8; 16]) -> u8 {
+    let lower = byte.to_ascii_lowercase();
+    for digit in 0..16 {
+        if from[digit] == lower {
+            return to[digit];
+        }
+    }
+    b'-'
+}
+
 fn translate(text: &mut [u8], from: [u8; 16], to: [u8; 16]) {
     for byte in text.iter_mut() {
-        let lower = byte.to_ascii_lowercase();
-        *byte = match from.iter().position(|&letter| letter == lower) {
-            Some(digit) => to[digit],
-            None => b'-',
-        };
+        *byte = translated(*byte, from, to);
+    }
+}
+
+// Whether a reading gives just these bytes, or refuses a letter where there are none.
+fn gives(answer: &Result<ObjectId, decode::Error>, bytes: Option<&[u8]>) -> bool {
+    match answer {
+        Ok(id) => bytes == Some(id.as_slice()),
+        Err(decode::Error::Invalid) => bytes.is_none(),
+        Err(_) => false,
     }
 }
 
 // The answer is that of the crate `hex` to a text in hex.
-fn expect_as_hex(rt: &impl Abort, text: &[u8], answer: Result<ObjectId, decode::Error>) {
+fn expect_as_hex(rt: &impl Abort, text: &[u8], answer: &Result<ObjectId, decode::Error>) {
     let mut bytes = [0; 32];
     let len = text.len() / 2;
     assert!(rt; len <= bytes.len());
-    match (hex::decode_to_slice(text, &mut bytes[..len]), answer) {
-        (Ok(()), Ok(id)) => assert!(rt; id.as_slice() == &bytes[..len]),
-        (Err(_), Err(decode::Error::Invalid)) => {}
-        _ => assert!(rt; false, "only one of the two reads {text:?}"),
-    }
+    let holds = match hex::decode_to_slice(text, &mut bytes[..len]) {
+        Ok(()) => gives(answer, Some(&bytes[..len])),
+        Err(_) => gives(answer, None),
+    };
+    assert!(rt; holds, "not as the crate hex reads {text:?}");
 }
 
 // Reads the text with each byte in place of each of its letters, in both alphabets.
@@ -41,13 +56,13 @@ fn expect_each_byte(rt: &impl Abort, text: &[u8]) {
         for byte in 0..=u8::MAX {
             letters.copy_from_slice(text);
             letters[place] = byte;
-            expect_as_hex(rt, letters, ObjectId::from_hex(letters));
+            expect_as_hex(rt, letters, &ObjectId::from_hex(letters));
             letters.copy_from_slice(text);
             translate(letters, HEX, REVERSE);
             letters[place] = byte;
-            let answer = ChangeId::from_reverse_hex(letters);
+            let answer = ChangeId::from_reverse_hex(letters).map(ObjectId::from);
             translate(letters, REVERSE, HEX);
-            expect_as_hex(rt, letters, answer.map(ObjectId::from));
+            expect_as_hex(rt, letters, &answer);
         }
     }
 }

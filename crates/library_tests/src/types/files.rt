@@ -31,7 +31,7 @@ fn first_bytes_of_a_file(rt: HostRuntime) -> Result<(), Fail> {
         ];
         let none = [Call::Init(Some(0)), Call::ShowThroughput];
         heard.expect(&rt, if num_bytes == 0 { &none } else { &chunk });
-        assert!(rt; asked.times == (if num_bytes == 0 { 0 } else { 1 }));
+        expect!(&rt; asked.times == (if num_bytes == 0 { 0 } else { 1 }));
     }
     fs::remove_file(&rt, FILE)?;
     Ok(())
@@ -49,9 +49,9 @@ fn files_that_give_no_digest(rt: HostRuntime) -> Result<(), Fail> {
         let (mut heard, mut asked) = (Heard::new(), Asked::stopping_at(1));
         let path = Path::new(name);
         let answer = bytes_of_file(&rt, path, num_bytes, Kind::Sha1, &mut heard, &mut asked);
-        assert!(rt; matches!(answer, Err(io::Error::Io(_))));
+        expect!(&rt; matches!(answer, Err(io::Error::Io(_))));
         heard.expect(&rt, calls);
-        assert!(rt; asked.times == 0);
+        expect!(&rt; asked.times == 0);
     }
     let (mut heard, mut asked) = (Heard::new(), Asked::stopping_at(1));
     let path = Path::new(name);

@@ -23,7 +23,7 @@ impl Write for Refusing {
 fn expect_refused(rt: &impl Abort, answer: io::Result<()>) {
     match answer {
         Ok(()) => panic!(rt; "a refused write succeeds"),
-        Err(error) => assert!(rt; error.kind() == io::ErrorKind::PermissionDenied),
+        Err(error) => expect!(rt; error.kind() == io::ErrorKind::PermissionDenied),
     }
 }
 

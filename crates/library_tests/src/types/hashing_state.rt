@@ -70,5 +70,5 @@ pub fn expect_fed<T: Hash>(rt: &impl Abort, value: &T, writes: &[&[u8]]) {
     for &write in writes {
         want = want.with(write);
     }
-    assert!(rt; fed(value) == want);
+    expect!(rt; fed(value) == want);
 }

@@ -24,8 +24,8 @@ fn hashed_as_far_as_it_was_taken(rt: HostRuntime) -> Result<(), Fail> {
     expect_answer(&rt, out.write(b"blob 0\0"), "1")?;
     expect_answer(&rt, out.write(b"lob 0\0"), FAILED)?;
     expect_answer(&rt, out.write(b"lob 0\0"), "6")?;
-    assert!(rt; out.inner.calls == 3);
-    assert!(rt; out.inner.bytes.as_slice() == b"blob 0\0".as_slice());
+    expect!(&rt; out.inner.calls == 3);
+    expect!(&rt; out.inner.bytes.as_slice() == b"blob 0\0".as_slice());
     expect_answer(&rt, out.hash.try_finalize(), BLOB)?;
     Ok(())
 }
@@ -48,8 +48,8 @@ fn inner_writer_called_once(rt: HostRuntime) -> Result<(), Fail> {
                 out.write(b"abc")
             };
             expect_answer(&rt, answer, taken)?;
-            assert!(rt; out.inner.calls == 1);
-            assert!(rt; out.inner.bytes.as_slice() == &b"abc"[..piece.min(3)]);
+            expect!(&rt; out.inner.calls == 1);
+            expect!(&rt; out.inner.bytes.as_slice() == &b"abc"[..piece.min(3)]);
             expect_answer(&rt, out.hash.try_finalize(), digest)?;
         }
     }
@@ -65,11 +65,11 @@ fn flushes_leave_the_hasher(rt: HostRuntime) -> Result<(), Fail> {
         out.write_all(b"abc")?;
         for answer in [out.flush(), flushed(&mut out)] {
             match answer {
-                Ok(()) => assert!(rt; !flush_fails),
+                Ok(()) => expect!(&rt; !flush_fails),
                 Err(error) => expect_text(&rt, error, FAILED)?,
             }
         }
-        assert!(rt; (out.inner.flushes, out.inner.calls) == (2, 1));
+        expect!(&rt; (out.inner.flushes, out.inner.calls) == (2, 1));
         expect_answer(&rt, out.hash.try_finalize(), ABC)?;
     }
     Ok(())

@@ -33,9 +33,9 @@ fn expect_made(
 #[test]
 fn documented_example(rt: HostRuntime) -> Result<(), Fail> {
     let blob = ObjectId::from_hex(BLOB.as_bytes())?;
-    assert!(rt; blob.kind() == Kind::Sha1);
-    assert!(rt; blob.is_empty_blob());
-    assert!(rt; blob.eq_str(BLOB));
+    expect!(&rt; blob.kind() == Kind::Sha1);
+    expect!(&rt; blob.is_empty_blob());
+    expect!(&rt; blob.eq_str(BLOB));
     expect_debug(&rt, blob, "Sha1(e69de29bb2d1d6434b8b29ae775ad8c2e48c5391)")?;
     let prefix = Prefix::new(blob.as_oid(), 7)?;
     expect_text(&rt, prefix, "e69de29")?;
@@ -103,10 +103,10 @@ fn compared_with_text(rt: HostRuntime) -> Result<(), Fail> {
         (TREE, false),
         ("e69de29", false),
     ] {
-        assert!(rt; blob.eq_str(text) == same, "with {text}");
-        assert!(rt; blob.as_oid().eq_str(text) == same, "with {text}");
-        assert!(rt; blob.eq_bstr(text.as_bytes()) == same, "with {text}");
-        assert!(rt; blob.to_hex().eq_str(text) == same, "with {text}");
+        expect!(&rt; blob.eq_str(text) == same, &text);
+        expect!(&rt; blob.as_oid().eq_str(text) == same, &text);
+        expect!(&rt; blob.eq_bstr(text.as_bytes()) == same, &text);
+        expect!(&rt; blob.to_hex().eq_str(text) == same, &text);
     }
     Ok(())
 }
@@ -147,22 +147,22 @@ fn converted_from_bytes(rt: HostRuntime) -> Result<(), Fail> {
         converted(view),
         view.to_owned(),
     ] {
-        assert!(rt; blob == id(BLOB)?);
-        assert!(rt; blob.as_slice() == BLOB_BYTES.as_slice());
-        assert!(rt; blob.as_bytes() == BLOB_BYTES.as_slice());
-        assert!(rt; blob.first_byte() == 0xe6);
+        expect!(&rt; blob == id(BLOB)?);
+        expect!(&rt; blob.as_slice() == BLOB_BYTES.as_slice());
+        expect!(&rt; blob.as_bytes() == BLOB_BYTES.as_slice());
+        expect!(&rt; blob.first_byte() == 0xe6);
     }
     let wide: ObjectId = converted(BLOB_256_BYTES);
     expect_text(&rt, wide, BLOB_256)?;
-    assert!(rt; wide.kind() == Kind::Sha256);
+    expect!(&rt; wide.kind() == Kind::Sha256);
     let view: oid<'_> = converted(&BLOB_BYTES);
     let wide_view: oid<'_> = converted(&BLOB_256_BYTES);
-    assert!(rt; view.kind() == Kind::Sha1);
-    assert!(rt; wide_view.kind() == Kind::Sha256);
-    assert!(rt; view.as_bytes() == BLOB_BYTES.as_slice());
-    assert!(rt; wide_view.first_byte() == 0x47);
-    assert!(rt; wide.eq_oid(wide_view) && wide_view.eq_oid(&wide));
-    assert!(rt; !wide.eq_oid(view) && !view.eq_oid(&wide));
+    expect!(&rt; view.kind() == Kind::Sha1);
+    expect!(&rt; wide_view.kind() == Kind::Sha256);
+    expect!(&rt; view.as_bytes() == BLOB_BYTES.as_slice());
+    expect!(&rt; wide_view.first_byte() == 0x47);
+    expect!(&rt; wide.eq_oid(wide_view) && wide_view.eq_oid(&wide));
+    expect!(&rt; !wide.eq_oid(view) && !view.eq_oid(&wide));
     Ok(())
 }
 
@@ -173,7 +173,7 @@ fn written_digest(rt: HostRuntime) -> Result<(), Fail> {
         *first = 0xe6;
     }
     expect_text(&rt, digest, "e600000000000000000000000000000000000000")?;
-    assert!(rt; digest.kind() == Kind::Sha1);
+    expect!(&rt; digest.kind() == Kind::Sha1);
     Ok(())
 }
 
@@ -226,7 +226,7 @@ fn printed(rt: HostRuntime) -> Result<(), Fail> {
         (100, BLOB),
     ] {
         expect_text(&rt, blob.to_hex_with_len(hex_len), want)?;
-        assert!(rt; blob.as_oid().to_hex_with_len(hex_len).eq_str(want));
+        expect!(&rt; blob.as_oid().to_hex_with_len(hex_len).eq_str(want));
     }
     expect_text(&rt, blob.to_hex(), BLOB)?;
     expect_text(&rt, wide.as_oid().to_hex(), BLOB_256)?;
@@ -250,12 +250,12 @@ fn written_into_buffers(rt: HostRuntime) -> Result<(), Fail> {
     let mut buffers = [[b'#'; 64]; 4];
     let view = blob.as_oid();
     assert!(rt; view.kind().len_in_hex() == 40);
-    assert!(rt; blob.hex_to_buf(&mut buffers[0]) == BLOB);
-    assert!(rt; view.hex_to_buf(&mut buffers[1]) == BLOB);
+    expect!(&rt; blob.hex_to_buf(&mut buffers[0]) == BLOB);
+    expect!(&rt; view.hex_to_buf(&mut buffers[1]) == BLOB);
     blob.put_hex(&mut buffers[2]);
     view.put_hex(&mut buffers[3]);
     for buffer in buffers {
-        assert!(rt; &buffer == b"e69de29bb2d1d6434b8b29ae775ad8c2e48c5391########################");
+        expect!(&rt; &buffer == b"e69de29bb2d1d6434b8b29ae775ad8c2e48c5391########################");
     }
     Ok(())
 }
@@ -264,14 +264,14 @@ fn written_into_buffers(rt: HostRuntime) -> Result<(), Fail> {
 fn hex_is_written(rt: HostRuntime) -> Result<(), Fail> {
     let mut out = Vec::with_capacity(rt.alloc(), 104)?;
     id(BLOB)?.write_hex_to(&mut out)?;
-    assert!(rt; out.as_slice() == BLOB.as_bytes());
+    expect!(&rt; out.as_slice() == BLOB.as_bytes());
     out.clear();
     id(BLOB_256)?.as_oid().write_hex_to(&mut out)?;
-    assert!(rt; out.as_slice() == BLOB_256.as_bytes());
+    expect!(&rt; out.as_slice() == BLOB_256.as_bytes());
     // The error of a writer without room for all.
     let mut short = [0; 39];
     let mut room = short.as_mut_slice();
-    assert!(rt; id(BLOB)?.write_hex_to(&mut room).is_err());
+    expect!(&rt; id(BLOB)?.write_hex_to(&mut room).is_err());
     Ok(())
 }
 
@@ -285,7 +285,7 @@ fn verified(rt: HostRuntime) -> Result<(), Fail> {
         blob.as_oid().verify(tree.as_oid()),
     ] {
         let refusal: verify::Error = answer.err().ok_or("another id is verified")?;
-        assert!(rt; refusal.actual == blob && refusal.expected == tree);
+        expect!(&rt; refusal.actual == blob && refusal.expected == tree);
         expect_error(
             &rt,
             refusal,

@@ -14,25 +14,25 @@ const NULL_256: &str = "00000000000000000000000000000000000000000000000000000000
 
 fn expect_kind_of_len(rt: &impl Abort, rows: &[(usize, Option<Kind>)]) {
     for &(hex_len, kind) in rows {
-        assert!(rt; Kind::from_hex_len(hex_len) == kind, "for {hex_len} digits");
+        expect!(rt; Kind::from_hex_len(hex_len) == kind, &hex_len);
     }
 }
 
 fn expect_names(rt: &impl Abort, rows: &[(&str, Kind)]) {
     for &(name, kind) in rows {
-        assert!(rt; Kind::from_str(name).ok() == Some(kind), "for {name}");
+        expect!(rt; Kind::from_str(name).ok() == Some(kind), &name);
     }
 }
 
 fn expect_no_names(rt: &impl Abort, names: &[&str]) {
     for &name in names {
-        assert!(rt; Kind::from_str(name).err() == Some(name));
+        expect!(rt; Kind::from_str(name).err() == Some(name));
     }
 }
 
 fn expect_numbers(rt: &impl Abort, rows: &[(u8, Result<Kind, u8>)]) {
     for &(number, kind) in rows {
-        assert!(rt; tried(number) == kind, "for {number}");
+        expect!(rt; tried(number) == kind, &number);
     }
 }
 
@@ -49,18 +49,18 @@ fn expect_well_known(
         kind.null_ref().to_owned(),
     ] {
         expect_text(rt, id, null)?;
-        assert!(rt; id.is_null() && id.as_oid().is_null());
-        assert!(rt; !id.is_empty_blob() && !id.is_empty_tree());
+        expect!(rt; id.is_null() && id.as_oid().is_null());
+        expect!(rt; !id.is_empty_blob() && !id.is_empty_tree());
     }
     for id in [kind.empty_blob(), ObjectId::empty_blob(kind)] {
         expect_text(rt, id, blob)?;
-        assert!(rt; id.is_empty_blob() && id.as_oid().is_empty_blob());
-        assert!(rt; !id.is_null() && !id.is_empty_tree());
+        expect!(rt; id.is_empty_blob() && id.as_oid().is_empty_blob());
+        expect!(rt; !id.is_null() && !id.is_empty_tree());
     }
     for id in [kind.empty_tree(), ObjectId::empty_tree(kind)] {
         expect_text(rt, id, tree)?;
-        assert!(rt; id.is_empty_tree() && id.as_oid().is_empty_tree());
-        assert!(rt; !id.is_null() && !id.is_empty_blob());
+        expect!(rt; id.is_empty_tree() && id.as_oid().is_empty_tree());
+        expect!(rt; !id.is_null() && !id.is_empty_blob());
     }
     Ok(())
 }
@@ -92,7 +92,7 @@ fn names_and_numbers(rt: HostRuntime) -> Result<(), Fail> {
             (255, Err(255)),
         ],
     );
-    assert!(rt; [Kind::Sha1 as u8, Kind::Sha256 as u8] == [1, 2]);
+    expect!(&rt; [Kind::Sha1 as u8, Kind::Sha256 as u8] == [1, 2]);
     expect_text(&rt, Kind::Sha1, "sha1")?;
     expect_text(&rt, Kind::Sha256, "sha256")?;
     Ok(())
@@ -110,20 +110,20 @@ fn lengths(rt: HostRuntime) {
             (65, None),
         ],
     );
-    assert!(rt; Kind::Sha1.len_in_hex() == 40);
-    assert!(rt; Kind::Sha256.len_in_hex() == 64);
-    assert!(rt; Kind::Sha1.len_in_bytes() == 20);
-    assert!(rt; Kind::Sha256.len_in_bytes() == 32);
-    assert!(rt; Kind::hex_buf() == [0; 64]);
-    assert!(rt; Kind::buf() == [0; 32]);
+    expect!(&rt; Kind::Sha1.len_in_hex() == 40);
+    expect!(&rt; Kind::Sha256.len_in_hex() == 64);
+    expect!(&rt; Kind::Sha1.len_in_bytes() == 20);
+    expect!(&rt; Kind::Sha256.len_in_bytes() == 32);
+    expect!(&rt; Kind::hex_buf() == [0; 64]);
+    expect!(&rt; Kind::buf() == [0; 32]);
 }
 
 #[test]
 fn order(rt: HostRuntime) {
-    assert!(rt; Kind::all() == [Kind::Sha1, Kind::Sha256].as_slice());
-    assert!(rt; Kind::shortest() == Kind::Sha1);
-    assert!(rt; Kind::longest() == Kind::Sha256);
-    assert!(rt; Kind::default() == Kind::Sha1);
+    expect!(&rt; Kind::all() == [Kind::Sha1, Kind::Sha256].as_slice());
+    expect!(&rt; Kind::shortest() == Kind::Sha1);
+    expect!(&rt; Kind::longest() == Kind::Sha256);
+    expect!(&rt; Kind::default() == Kind::Sha1);
     expect_below(&rt, &Kind::Sha1, &Kind::Sha256);
     expect_same(&rt, &Kind::Sha256, &Kind::Sha256);
 }
@@ -133,6 +133,6 @@ fn well_known_ids(rt: HostRuntime) -> Result<(), Fail> {
     expect_well_known(&rt, Kind::Sha1, NULL, BLOB, TREE)?;
     expect_well_known(&rt, Kind::Sha256, NULL_256, BLOB_256, TREE_256)?;
     // Each is read from its text.
-    assert!(rt; parsed::<ObjectId>(TREE_256)? == Kind::Sha256.empty_tree());
+    expect!(&rt; parsed::<ObjectId>(TREE_256)? == Kind::Sha256.empty_tree());
     Ok(())
 }

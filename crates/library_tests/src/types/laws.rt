@@ -11,13 +11,13 @@ fn read_back_in_any_letter_case(rt: HostRuntime) -> Result<(), Fail> {
     let lowered = text.to_ascii_lowercase(rt.alloc())?;
     assert!(rt; blob.eq_str(lowered.as_str()));
     laws::read_back(&blob, text.as_bytes());
-    assert!(rt; ObjectId::from_hex(text.as_bytes())? == blob);
+    expect!(&rt; ObjectId::from_hex(text.as_bytes())? == blob);
     let change = ChangeId::from(blob);
     let letters = "LTqmlxqooxmymtvwvoroxqplssupmrnxlvrnuwqY";
     let lowered = letters.to_ascii_lowercase(rt.alloc())?;
     assert!(rt; change.eq_str(lowered.as_str()));
     laws::read_change_back(&change, letters.as_bytes());
-    assert!(rt; ChangeId::from_reverse_hex(letters.as_bytes())? == change);
+    expect!(&rt; ChangeId::from_reverse_hex(letters.as_bytes())? == change);
     Ok(())
 }
 
@@ -33,7 +33,7 @@ fn a_printed_prefix_read_back(rt: HostRuntime) -> Result<(), Fail> {
         laws::read_prefix_back(Alphabet::Hex, &prefix, text);
         let read = Prefix::from_hex_nonempty(text)?;
         assert!(rt; read.eq_str(lowered.as_str()), "{hex_len} digits");
-        assert!(rt; (read == prefix) == same, "{hex_len} digits");
+        expect!(&rt; (read == prefix) == same, &hex_len);
     }
     Ok(())
 }

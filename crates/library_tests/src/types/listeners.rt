@@ -13,6 +13,17 @@ pub enum Call {
     ShowThroughput,
 }
 
+/// How many of the calls tell of a chunk.
+pub fn chunks(calls: &[Call]) -> usize {
+    let mut chunks = 0usize;
+    for call in calls {
+        if let Call::IncBy(_) = call {
+            chunks = chunks.saturating_add(1);
+        }
+    }
+    chunks
+}
+
 /// The first 20 calls of a progress, and how many there were.
 #[derive(Drop)]
 pub struct Heard {
@@ -37,8 +48,8 @@ impl Heard {
 
     /// It heard just these calls.
     pub fn expect(&self, rt: &impl Abort, calls: &[Call]) {
-        assert!(rt; self.len == calls.len());
-        assert!(rt; &self.calls[..self.len.min(20)] == calls);
+        expect!(rt; self.len == calls.len());
+        expect!(rt; &self.calls[..self.len.min(20)] == calls);
     }
 }
 

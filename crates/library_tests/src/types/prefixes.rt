@@ -48,13 +48,13 @@ fn expect_read_nonempty(
 fn expect_place(rt: &impl Abort, prefix: Prefix, candidate: &ObjectId, place: Ordering) {
     let candidate = candidate.as_oid();
     assert!(rt; prefix.hex_len() <= candidate.kind().len_in_hex());
-    assert!(rt; prefix.cmp_oid(candidate) == place, "for {prefix}");
+    expect!(rt; prefix.cmp_oid(candidate) == place, &prefix);
 }
 
 #[test]
 fn beginnings_of_ids(rt: HostRuntime) -> Result<(), Fail> {
     let (blob, wide) = (id(BLOB)?, id(BLOB_256)?);
-    assert!(rt; Prefix::MIN_HEX_LEN == 4);
+    expect!(&rt; Prefix::MIN_HEX_LEN == 4);
     expect_new(
         &rt,
         &[
@@ -105,8 +105,8 @@ fn beginnings_by_ranges(rt: HostRuntime) -> Result<(), Fail> {
         (blob.to_prefix(1..3), "9de2"),
         (view.to_prefix(1..3), "9de2"),
     ] {
-        assert!(rt; prefix.hex_len() == want.len());
-        assert!(rt; prefix.as_oid().kind() == Kind::Sha1);
+        expect!(&rt; prefix.hex_len() == want.len());
+        expect!(&rt; prefix.as_oid().kind() == Kind::Sha1);
         expect_text(&rt, prefix, want)?;
     }
     Ok(())
@@ -153,17 +153,17 @@ fn read_from_text(rt: HostRuntime) -> Result<(), Fail> {
             ),
         ],
     )?;
-    assert!(rt; Prefix::from_hex("35e77c16")?.hex_len() == 8);
-    assert!(rt; Prefix::from_hex_nonempty("35e")?.hex_len() == 3);
-    assert!(rt; Prefix::from_hex_nonempty(ZEROS_41)?.as_oid().kind() == Kind::Sha256);
+    expect!(&rt; Prefix::from_hex("35e77c16")?.hex_len() == 8);
+    expect!(&rt; Prefix::from_hex_nonempty("35e")?.hex_len() == 3);
+    expect!(&rt; Prefix::from_hex_nonempty(ZEROS_41)?.as_oid().kind() == Kind::Sha256);
     Ok(())
 }
 
 #[test]
 fn refusals(rt: HostRuntime) -> Result<(), Fail> {
-    assert!(rt; Prefix::from_hex("abc").err() == Some(from_hex::Error::TooShort { hex_len: 3 }));
-    assert!(rt; Prefix::from_hex(ZEROS_65).err() == Some(from_hex::Error::TooLong { hex_len: 65 }));
-    assert!(rt; Prefix::from_hex("abcg").err() == Some(from_hex::Error::Invalid));
+    expect!(&rt; Prefix::from_hex("abc").err() == Some(from_hex::Error::TooShort { hex_len: 3 }));
+    expect!(&rt; Prefix::from_hex(ZEROS_65).err() == Some(from_hex::Error::TooLong { hex_len: 65 }));
+    expect!(&rt; Prefix::from_hex("abcg").err() == Some(from_hex::Error::Invalid));
     expect_error(
         &rt,
         from_hex::Error::TooShort { hex_len: 3 },
@@ -218,10 +218,10 @@ fn places_against_ids(rt: HostRuntime) -> Result<(), Fail> {
     // Kinds count in the order of prefixes, not in the place.
     let begun = Prefix::new(wide.as_oid(), 6)?;
     expect_place(&rt, begun, &wide, Ordering::Equal);
-    assert!(rt; begun.as_oid().kind() == Kind::Sha256);
+    expect!(&rt; begun.as_oid().kind() == Kind::Sha256);
     let read = Prefix::from_hex("473a0f")?;
-    assert!(rt; read.as_oid().kind() == Kind::Sha1);
-    assert!(rt; read != begun);
+    expect!(&rt; read.as_oid().kind() == Kind::Sha1);
+    expect!(&rt; read != begun);
     Ok(())
 }
 
@@ -274,23 +274,23 @@ fn fed_to_a_hash(rt: HostRuntime) -> Result<(), Fail> {
 fn hex_is_written(rt: HostRuntime) -> Result<(), Fail> {
     let mut out = Vec::with_capacity(rt.alloc(), 64)?;
     Prefix::from_hex("e69de29")?.write_hex_to(&mut out)?;
-    assert!(rt; out.as_slice() == b"e69de29".as_slice());
+    expect!(&rt; out.as_slice() == b"e69de29".as_slice());
     Ok(())
 }
 
 #[test]
 fn written_into_buffers(rt: HostRuntime) -> Result<(), Fail> {
     let prefix = Prefix::from_hex("e69de29")?;
-    assert!(rt; prefix.eq_str("e69de29"));
-    assert!(rt; !prefix.eq_str("E69DE29") && !prefix.eq_str("e69de2"));
+    expect!(&rt; prefix.eq_str("e69de29"));
+    expect!(&rt; !prefix.eq_str("E69DE29") && !prefix.eq_str("e69de2"));
     assert!(rt; prefix.hex_len() <= 10);
     let mut buffer = [b'#'; 10];
-    assert!(rt; prefix.hex_to_buf(&mut buffer) == "e69de29");
-    assert!(rt; &buffer == b"e69de29###");
+    expect!(&rt; prefix.hex_to_buf(&mut buffer) == "e69de29");
+    expect!(&rt; &buffer == b"e69de29###");
     let mut buffer = [b'#'; 10];
     prefix.put_hex(&mut buffer);
-    assert!(rt; &buffer == b"e69de29###");
+    expect!(&rt; &buffer == b"e69de29###");
     let shown = format!(in rt.alloc(); "{prefix:?}")?;
-    assert!(rt; !shown.is_empty());
+    expect!(&rt; !shown.is_empty());
     Ok(())
 }

@@ -1,7 +1,7 @@
 //! Hashers, and digests of what readers give.
 
 use super::devices::{FAILED, Fault, Reader};
-use super::listeners::{Asked, Call, Heard};
+use super::listeners::{Asked, Call, Heard, chunks};
 use super::{BLOB, expect_answer, expect_debug, expect_error, expect_text, id};
 use gix_hash::io::{Never, NoProgress};
 use gix_hash::{
@@ -72,13 +72,13 @@ fn pieces_are_one_message(rt: HostRuntime) -> Result<(), Fail> {
 #[test]
 fn documented_example_whole(rt: HostRuntime) -> Result<(), Fail> {
     let blob = ObjectId::from_hex(BLOB.as_bytes())?;
-    assert!(rt; blob.kind() == Kind::Sha1);
-    assert!(rt; blob.is_empty_blob());
-    assert!(rt; blob.eq_str(BLOB));
+    expect!(&rt; blob.kind() == Kind::Sha1);
+    expect!(&rt; blob.is_empty_blob());
+    expect!(&rt; blob.eq_str(BLOB));
     expect_text(&rt, Prefix::new(blob.as_oid(), 7)?, "e69de29")?;
     let computed = hasher_fed(Kind::Sha1, &[blob.as_slice()]).try_finalize()?;
-    assert!(rt; computed.kind() == Kind::Sha1);
-    assert!(rt; computed != blob);
+    expect!(&rt; computed.kind() == Kind::Sha1);
+    expect!(&rt; computed != blob);
     Ok(())
 }
 
@@ -101,13 +101,13 @@ fn just_the_next_bytes_are_read(rt: HostRuntime) -> Result<(), Fail> {
         let mut input = Reader::new(b"abcdef", piece, Fault::Never);
         let id = bytes(&mut input, 3, Kind::Sha1, &mut NoProgress, &mut Never);
         expect_answer(&rt, id, ABC)?;
-        assert!(rt; input.rest == b"def".as_slice());
+        expect!(&rt; input.rest == b"def".as_slice());
 
         let mut input = Reader::new(b"bcX", piece, Fault::Never);
         let fed = hasher_fed(Kind::Sha1, &[b"a"]);
         let id = bytes_with_hasher(&mut input, 2, fed, &mut NoProgress, &mut Never);
         expect_answer(&rt, id, ABC)?;
-        assert!(rt; input.rest == b"X".as_slice());
+        expect!(&rt; input.rest == b"X".as_slice());
     }
     Ok(())
 }
@@ -145,22 +145,12 @@ fn expect_run(rt: &(impl Abort + AllocGlobal), run: &Run<'_>) -> Result<(), Allo
     let mut input = run.given;
     let mut heard = Heard::new();
     let mut asked = Asked::stopping_at(run.stops_at);
-    let answer = bytes(
-        &mut input,
-        run.num_bytes,
-        Kind::Sha1,
-        &mut heard,
-        &mut asked,
-    );
-    expect_answer(rt, answer, run.answer)?;
+    let len = run.num_bytes;
+    let answer = bytes(&mut input, len, Kind::Sha1, &mut heard, &mut asked);
     heard.expect(rt, run.heard);
-    let chunks = run
-        .heard
-        .iter()
-        .filter(|call| matches!(call, Call::IncBy(_)));
-    assert!(rt; asked.times == chunks.count());
-    assert!(rt; input.len() == run.unread);
-    Ok(())
+    expect!(rt; asked.times == chunks(run.heard), &run.answer);
+    expect!(rt; input.len() == run.unread, &run.answer);
+    expect_answer(rt, answer, run.answer)
 }
 
 #[test]
@@ -263,7 +253,7 @@ fn a_reader_that_ends_too_early(rt: HostRuntime) -> Result<(), Fail> {
         let mut input = given;
         let mut progress = Heard::new();
         let answer = bytes(&mut input, num_bytes, Kind::Sha1, &mut progress, &mut Never);
-        assert!(rt; matches!(answer, Err(io::Error::Io(_))));
+        expect!(&rt; matches!(answer, Err(io::Error::Io(_))));
         progress.expect(&rt, heard);
     }
     Ok(())
@@ -288,12 +278,12 @@ fn each_read_fails_in_turn(rt: HostRuntime) -> Result<(), Fail> {
             expect_answer(&rt, answer, THREE_CHUNKS)?;
             heard.expect(&rt, &all);
         } else {
-            assert!(rt; matches!(answer, Err(io::Error::Io(_))), "at read {at}");
+            expect!(&rt; matches!(answer, Err(io::Error::Io(_))), &at);
             expect_answer(&rt, answer, FAILED)?;
             let chunks = (at - 1) / 3;
             heard.expect(&rt, &all[..1 + chunks]);
-            assert!(rt; asked.times == chunks, "at read {at}");
-            assert!(rt; input.calls == at);
+            expect!(&rt; asked.times == chunks, &at);
+            expect!(&rt; input.calls == at);
         }
     }
     // The error that a reader answers behind its bytes.
@@ -323,10 +313,10 @@ fn error_texts(rt: HostRuntime) -> Result<(), Fail> {
         "Detected SHA-1 collision attack with digest 0000000000000000000000000000000000000000",
     )?;
     let failed = io::Error::from(std::io::Error::new(std::io::ErrorKind::Other, FAILED));
-    assert!(rt; matches!(failed, io::Error::Io(_)));
+    expect!(&rt; matches!(failed, io::Error::Io(_)));
     expect_error(&rt, failed, FAILED)?;
     let refused = io::Error::from(collision());
-    assert!(rt; matches!(refused, io::Error::Hasher(_)));
+    expect!(&rt; matches!(refused, io::Error::Hasher(_)));
     expect_error(&rt, refused, "Failed to hash data")?;
     expect_error(&rt, io::Error::Interrupted, "Interrupted")?;
     expect_debug(&rt, (NoProgress, Never), "(NoProgress, Never)")?;
