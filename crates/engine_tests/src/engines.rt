@@ -10,12 +10,12 @@ mod sealing;
 mod searches;
 mod sources;
 
+use crate::expecting::{expect_bytes, expect_printed, expect_shown};
 use commands::command::{ArgError, exit_status, read_command};
 use devices::into_slice::IntoSlice;
 use gix_hash::{decode, prefix};
 use list_search::finding::{FindError, find, find_change};
 use std::alloc::{AllocError, Global};
-use std::fmt::{Debug, Display};
 use std::process::Abort;
 use std::test::Fail;
 
@@ -35,7 +35,7 @@ const TREE_LETTERS: &str = "vorxumntvxnotloqpztzluvokrmtqxrrkollvqzv\n";
 
 const NO_MATCH: &str = "";
 
-fn text_of(alloc: Global, parts: &[&str]) -> Result<String, AllocError> {
+fn joined(alloc: Global, parts: &[&str]) -> Result<String, AllocError> {
     let mut text = String::new(alloc);
     for part in parts {
         text.push_str(part)?;
@@ -43,12 +43,8 @@ fn text_of(alloc: Global, parts: &[&str]) -> Result<String, AllocError> {
     Ok(text)
 }
 
-fn shown<T: Debug + Drop>(alloc: Global, value: T) -> Result<String, AllocError> {
-    format!(in alloc; "{value:?}")
-}
-
-fn printed<T: Display + Drop>(alloc: Global, value: T) -> Result<String, AllocError> {
-    format!(in alloc; "{value}")
+fn text_of(rt: &(impl Abort + AllocGlobal), parts: &[&str]) -> String {
+    joined(rt.alloc(), parts).expect(rt, "no memory for a text")
 }
 
 // Finds the prefix in the lines, as one text and as what a source gives, and compares the answer's
@@ -59,19 +55,13 @@ fn expect_find(
     lines: &[&str],
     answer: &str,
     written: &str,
-) -> Result<(), Fail> {
-    let list = text_of(rt.alloc(), lines)?;
+) {
+    let list = text_of(rt, lines);
     let mut buf = [0; 256];
     let mut out = IntoSlice::new(&mut buf);
     let found = find(rt.alloc(), prefix, list.as_bytes(), &mut out);
-    assert!(rt;
-        shown(rt.alloc(), found)?.as_str() == answer,
-        "the answer for {prefix}"
-    );
-    assert!(rt;
-        out.written() == written.as_bytes(),
-        "the output for {prefix}"
-    );
+    expect_bytes(rt, out.written(), written.as_bytes(), &prefix);
+    expect_shown(rt, found, answer, &prefix);
     sources::expect_however_cut(rt, prefix, list.as_bytes(), answer, written)
 }
 
@@ -82,38 +72,31 @@ fn expect_find_change(
     lines: &[&str],
     answer: &str,
     written: &str,
-) -> Result<(), Fail> {
-    let list = text_of(rt.alloc(), lines)?;
+) {
+    let list = text_of(rt, lines);
     let mut buf = [0; 256];
     let mut out = IntoSlice::new(&mut buf);
     let found = find_change(rt.alloc(), letters, list.as_bytes(), &mut out);
-    assert!(rt;
-        shown(rt.alloc(), found)?.as_str() == answer,
-        "the answer for {letters}"
-    );
-    assert!(rt;
-        out.written() == written.as_bytes(),
-        "the output for {letters}"
-    );
-    Ok(())
+    expect_bytes(rt, out.written(), written.as_bytes(), &letters);
+    expect_shown(rt, found, answer, &letters);
 }
 
 #[test]
-fn finds_changes_in_list_texts(rt: HostRuntime) -> Result<(), Fail> {
+fn finds_changes_in_list_texts(rt: HostRuntime) {
     let all = [BLOB_256, TREE, TREE_256, BLOB].as_slice();
     let unsorted = [BLOB, TREE].as_slice();
-    expect_find_change(&rt, "LTQM", all, "Ok(1)", BLOB_LETTERS)?;
-    expect_find_change(&rt, "VoRx", all, "Ok(1)", TREE_LETTERS)?;
-    expect_find_change(&rt, "zzzz", all, "Ok(0)", NO_MATCH)?;
-    expect_find_change(&rt, "abcd", all, "Err(Prefix(Invalid))", NO_MATCH)?;
+    expect_find_change(&rt, "LTQM", all, "Ok(1)", BLOB_LETTERS);
+    expect_find_change(&rt, "VoRx", all, "Ok(1)", TREE_LETTERS);
+    expect_find_change(&rt, "zzzz", all, "Ok(0)", NO_MATCH);
+    expect_find_change(&rt, "abcd", all, "Err(Prefix(Invalid))", NO_MATCH);
     expect_find_change(
         &rt,
         "zzz",
         all,
         "Err(Prefix(TooShort { hex_len: 3 }))",
         NO_MATCH,
-    )?;
-    expect_find_change(&rt, "vorx", unsorted, "Err(Unsorted { line: 2 })", NO_MATCH)?;
+    );
+    expect_find_change(&rt, "vorx", unsorted, "Err(Unsorted { line: 2 })", NO_MATCH);
     expect_find_change(
         &rt,
         "vorx",
@@ -124,42 +107,42 @@ fn finds_changes_in_list_texts(rt: HostRuntime) -> Result<(), Fail> {
 }
 
 #[test]
-fn finds_in_list_texts(rt: HostRuntime) -> Result<(), Fail> {
+fn finds_in_list_texts(rt: HostRuntime) {
     let all = [BLOB_256, TREE, TREE_256, BLOB].as_slice();
     let zeros = "00000000000000000000000000000000000000000";
     let upper = "4B825DC642CB6EB9A060E54BF8D69288FBEE4904";
     let mixed = "4b825DC642cb6eb9a060e54bf8d69288fBEE4904\n";
     let twice = [TREE, TREE].as_slice();
-    let tree_twice = text_of(rt.alloc(), twice)?;
-    expect_find(&rt, "4b82", all, "Ok(1)", TREE)?;
-    expect_find(&rt, "4B825dC", all, "Ok(1)", TREE)?;
-    expect_find(&rt, "ffff", all, "Ok(0)", NO_MATCH)?;
-    expect_find(&rt, "473a0f", all, "Ok(1)", BLOB_256)?;
+    let tree_twice = text_of(&rt, twice);
+    expect_find(&rt, "4b82", all, "Ok(1)", TREE);
+    expect_find(&rt, "4B825dC", all, "Ok(1)", TREE);
+    expect_find(&rt, "ffff", all, "Ok(0)", NO_MATCH);
+    expect_find(&rt, "473a0f", all, "Ok(1)", BLOB_256);
     expect_find(
         &rt,
         "473a0f4c3be8a93681a267e3b1e9a7dcda1185436",
         [BLOB_256, TREE_256].as_slice(),
         "Ok(1)",
         BLOB_256,
-    )?;
-    expect_find(&rt, "4b82", [].as_slice(), "Ok(0)", NO_MATCH)?;
-    expect_find(&rt, "4b82", [upper].as_slice(), "Ok(1)", TREE)?;
-    expect_find(&rt, "4b82", [mixed].as_slice(), "Ok(1)", TREE)?;
-    expect_find(&rt, "4b82", twice, "Ok(2)", tree_twice.as_str())?;
+    );
+    expect_find(&rt, "4b82", [].as_slice(), "Ok(0)", NO_MATCH);
+    expect_find(&rt, "4b82", [upper].as_slice(), "Ok(1)", TREE);
+    expect_find(&rt, "4b82", [mixed].as_slice(), "Ok(1)", TREE);
+    expect_find(&rt, "4b82", twice, "Ok(2)", tree_twice.as_str());
     expect_find(
         &rt,
         zeros,
         all,
         "Err(PrefixTooLong { hex_len: 41, min: 40 })",
         NO_MATCH,
-    )?;
+    );
     expect_find(
         &rt,
         zeros,
         [BLOB, TREE].as_slice(),
         "Err(Unsorted { line: 2 })",
         NO_MATCH,
-    )?;
+    );
     expect_find(
         &rt,
         "4b82",
@@ -170,7 +153,7 @@ fn finds_in_list_texts(rt: HostRuntime) -> Result<(), Fail> {
 }
 
 #[test]
-fn refuses_bad_lines(rt: HostRuntime) -> Result<(), Fail> {
+fn refuses_bad_lines(rt: HostRuntime) {
     let first_of_three = "Err(BadLine { line: 3, error: InvalidHexEncodingLength(2) })";
     expect_find(
         &rt,
@@ -178,14 +161,14 @@ fn refuses_bad_lines(rt: HostRuntime) -> Result<(), Fail> {
         [TREE, "zz"].as_slice(),
         "Err(BadLine { line: 2, error: InvalidHexEncodingLength(2) })",
         NO_MATCH,
-    )?;
+    );
     expect_find(
         &rt,
         "4b82",
         [BLOB, TREE, "zz"].as_slice(),
         first_of_three,
         NO_MATCH,
-    )?;
+    );
     expect_find(
         &rt,
         "4b82",
@@ -196,23 +179,22 @@ fn refuses_bad_lines(rt: HostRuntime) -> Result<(), Fail> {
 }
 
 #[test]
-fn refuses_prefixes_first(rt: HostRuntime) -> Result<(), Fail> {
+fn refuses_prefixes_first(rt: HostRuntime) {
     let too_short = "Err(Prefix(TooShort { hex_len: 3 }))";
     for list in ["", "zz", TREE] {
-        expect_find(&rt, "abc", [list].as_slice(), too_short, NO_MATCH)?;
+        expect_find(&rt, "abc", [list].as_slice(), too_short, NO_MATCH);
         expect_find(
             &rt,
             "abcg",
             [list].as_slice(),
             "Err(Prefix(Invalid))",
             NO_MATCH,
-        )?;
+        );
     }
-    Ok(())
 }
 
 #[test]
-fn prints_refusals(rt: HostRuntime) -> Result<(), Fail> {
+fn prints_refusals(rt: HostRuntime) {
     let too_short = prefix::from_hex::Error::TooShort { hex_len: 3 };
     let invalid = prefix::from_hex::Error::Invalid;
     let bad_line = FindError::BadLine {
@@ -245,13 +227,12 @@ fn prints_refusals(rt: HostRuntime) -> Result<(), Fail> {
         (FindError::Output, "cannot write"),
     ];
     for (error, text) in rows {
-        assert!(&rt; printed(rt.alloc(), error)?.as_str() == text);
+        expect_printed(&rt, error, text);
     }
-    Ok(())
 }
 
 #[test]
-fn reads_commands(rt: HostRuntime) -> Result<(), Fail> {
+fn reads_commands(rt: HostRuntime) {
     let usage =
         "usage: oidtool find PREFIX | find-change LETTERS | find-in KIND PREFIX | hash KIND | hash-file KIND N PATH | seal KIND";
     let rows = [
@@ -278,14 +259,11 @@ fn reads_commands(rt: HostRuntime) -> Result<(), Fail> {
         (["hash", "4b82"].as_slice(), "Err(BadKind(\"4b82\"))"),
     ];
     for (words, answer) in rows {
-        assert!(&rt; shown(rt.alloc(), read_command(words))?.as_str() == answer);
+        expect_shown(&rt, read_command(words), answer, &answer);
     }
-    assert!(&rt; printed(rt.alloc(), ArgError::Usage)?.as_str() == usage);
-    assert!(&rt;
-        printed(rt.alloc(), ArgError::BadKind("md5"))?.as_str() == "unknown hash kind: md5"
-    );
-    assert!(&rt; printed(rt.alloc(), ArgError::BadNumber("-1"))?.as_str() == "bad number: -1");
-    Ok(())
+    expect_printed(&rt, ArgError::Usage, usage);
+    expect_printed(&rt, ArgError::BadKind("md5"), "unknown hash kind: md5");
+    expect_printed(&rt, ArgError::BadNumber("-1"), "bad number: -1");
 }
 
 #[test]

@@ -1,17 +1,17 @@
 //! List texts that are no lists, through each of the searches.
 
 use super::faulty::{Fault, Reader};
-use super::{BLOB, NO_MATCH, TREE, TREE_LETTERS, shown};
+use super::{BLOB, NO_MATCH, TREE, TREE_LETTERS};
+use crate::expecting::{expect_bytes, expect_shown};
 use devices::into_slice::IntoSlice;
 use devices::plain::Plain;
 use gix_hash::Kind;
 use list_search::finding::{find, find_change};
 use list_search::finding_from::find_from;
 use list_search::finding_in::find_in;
-use std::alloc::AllocError;
+use std::alloc::{AllocError, Global};
 use std::fmt::Debug;
 use std::process::Abort;
-use std::test::Fail;
 
 // An answer's Debug text, and what was written.
 fn expect<T: Debug + Drop>(
@@ -19,22 +19,15 @@ fn expect<T: Debug + Drop>(
     search: &str,
     got: (T, &[u8]),
     want: (&str, &str),
-) -> Result<(), AllocError> {
+) {
     let (answer, written) = got;
-    let answer = shown(rt.alloc(), answer)?;
-    assert!(rt; answer.as_str() == want.0, "the answer of {search}");
-    assert!(rt; written == want.1.as_bytes(), "the output of {search}");
-    Ok(())
+    expect_bytes(rt, written, want.1.as_bytes(), &search);
+    expect_shown(rt, answer, want.0, &search);
 }
 
 // Looks for the empty tree of SHA-1 by each of the searches. Each gives the same answer, and writes
 // the tree's line in its letters where it is found.
-fn expect_each(
-    rt: &(impl Abort + AllocGlobal),
-    list: &[u8],
-    answer: &str,
-    is_found: bool,
-) -> Result<(), AllocError> {
+fn expect_each(rt: &(impl Abort + AllocGlobal), list: &[u8], answer: &str, is_found: bool) {
     let (line, letters) = if is_found {
         (TREE, TREE_LETTERS)
     } else {
@@ -43,25 +36,24 @@ fn expect_each(
     let mut buf = [0; 64];
     let mut out = IntoSlice::new(&mut buf);
     let found = find(rt.alloc(), "4b82", list, &mut out);
-    expect(rt, "find", (found, out.written()), (answer, line))?;
+    expect(rt, "find", (found, out.written()), (answer, line));
     let mut out = IntoSlice::new(&mut buf);
     let found = find_change(rt.alloc(), "vorx", list, &mut out);
-    expect(rt, "find_change", (found, out.written()), (answer, letters))?;
+    expect(rt, "find_change", (found, out.written()), (answer, letters));
     let mut out = IntoSlice::new(&mut buf);
     let found = find_in(rt.alloc(), Kind::Sha1, "4b82", list, &mut out);
-    expect(rt, "find_in", (found, out.written()), (answer, line))?;
+    expect(rt, "find_in", (found, out.written()), (answer, line));
     for piece in [1, 7, 41, usize::MAX] {
         let mut input = Plain::new(Reader::new(list, piece, Fault::Never));
         let mut out = IntoSlice::new(&mut buf);
         let found = find_from(rt.alloc(), "4b82", &mut input, &mut out);
-        expect(rt, "find_from", (found, out.written()), (answer, line))?;
+        expect(rt, "find_from", (found, out.written()), (answer, line));
     }
-    Ok(())
 }
 
 // The parts, one behind another.
-fn joined(parts: &[&[u8]], rt: &impl AllocGlobal) -> Result<Vec<u8>, AllocError> {
-    let mut bytes = Vec::new(rt.alloc());
+fn joined(parts: &[&[u8]], alloc: Global) -> Result<Vec<u8>, AllocError> {
+    let mut bytes = Vec::new(alloc);
     for part in parts {
         bytes.extend_from_slice(part)?;
     }
@@ -69,7 +61,7 @@ fn joined(parts: &[&[u8]], rt: &impl AllocGlobal) -> Result<Vec<u8>, AllocError>
 }
 
 #[test]
-fn read_alike_by_each_search(rt: HostRuntime) -> Result<(), Fail> {
+fn read_alike_by_each_search(rt: HostRuntime) {
     let (tree, blob) = (TREE.as_bytes(), BLOB.as_bytes());
     let (digits, rest) = (
         TREE.trim_end().as_bytes(),
@@ -91,7 +83,7 @@ fn read_alike_by_each_search(rt: HostRuntime) -> Result<(), Fail> {
         (&[], "Ok(0)", false),
     ];
     for (parts, answer, is_found) in rows {
-        expect_each(&rt, &joined(parts, &rt)?, answer, is_found)?;
+        let list = joined(parts, rt.alloc()).expect(&rt, "no memory for a list");
+        expect_each(&rt, &list, answer, is_found);
     }
-    Ok(())
 }

@@ -2,7 +2,7 @@
 
 use super::faulty::{Fault, Reader, Writer};
 use super::sealing::{ABC, sealed};
-use super::shown;
+use crate::expecting::{expect_bytes, expect_shown};
 use commands::command::{Command, read_command};
 use commands::running::run_command;
 use devices::from_slice::FromSlice;
@@ -17,7 +17,7 @@ use std::rt::Files;
 use std::test::Fail;
 
 #[test]
-fn reads_kinds_and_numbers(rt: HostRuntime) -> Result<(), Fail> {
+fn reads_kinds_and_numbers(rt: HostRuntime) {
     let most = "18446744073709551615";
     let too_many = "18446744073709551616";
     let rows = [
@@ -39,7 +39,7 @@ fn reads_kinds_and_numbers(rt: HostRuntime) -> Result<(), Fail> {
         ),
     ];
     for (words, answer) in rows {
-        assert!(&rt; shown(rt.alloc(), read_command(words))?.as_str() == answer);
+        expect_shown(&rt, read_command(words), answer, &answer);
     }
     let numbers = [
         ("+3", "Ok(HashFile { kind: Sha1, count: 3, path: \"p\" })"),
@@ -58,9 +58,8 @@ fn reads_kinds_and_numbers(rt: HostRuntime) -> Result<(), Fail> {
     ];
     for (number, answer) in numbers {
         let words = ["hash-file", "sha1", number, "p"];
-        assert!(&rt; shown(rt.alloc(), read_command(words.as_slice()))?.as_str() == answer);
+        expect_shown(&rt, read_command(words.as_slice()), answer, &number);
     }
-    Ok(())
 }
 
 // Runs the command over `abc`, a byte a read, and compares the answer's Debug text, what was written,
@@ -72,32 +71,25 @@ fn expect_run(
     answer: &str,
     written: &[u8],
     reads: usize,
-) -> Result<(), Fail> {
+) {
     let mut input = Plain::new(Reader::new(b"abc", 1, fault));
     let mut buf = [0; 80];
     let mut out = IntoSlice::new(&mut buf);
     let answered = run_command(rt, rt.alloc(), command, &mut input, &mut out);
-    assert!(rt;
-        shown(rt.alloc(), answered)?.as_str() == answer,
-        "the answer of {command:?}"
-    );
-    assert!(rt; out.written() == written, "the output of {command:?}");
-    assert!(rt;
-        input.into_inner().calls() == reads,
-        "the reads of {command:?}"
-    );
-    Ok(())
+    expect_bytes(rt, out.written(), written, &command);
+    expect!(rt; input.into_inner().calls() == reads, &command);
+    expect_shown(rt, answered, answer, &command);
 }
 
 #[test]
-fn runs_pipes(rt: HostRuntime) -> Result<(), Fail> {
+fn runs_pipes(rt: HostRuntime) {
     let kind = Kind::Sha1;
     let (hash, seal) = (Command::Hash { kind }, Command::Seal { kind });
-    let whole = sealed(rt.alloc(), b"abc", ABC)?;
-    expect_run(&rt, hash, Fault::Never, "Ok(1)", ABC.as_bytes(), 4)?;
-    expect_run(&rt, seal, Fault::Never, "Ok(1)", &whole, 4)?;
-    expect_run(&rt, hash, Fault::AtCall(3), "Err(Input)", b"", 3)?;
-    expect_run(&rt, seal, Fault::AtCall(3), "Err(Input)", b"ab", 3)
+    let whole = sealed(&rt, b"abc", ABC);
+    expect_run(&rt, hash, Fault::Never, "Ok(1)", ABC.as_bytes(), 4);
+    expect_run(&rt, seal, Fault::Never, "Ok(1)", &whole, 4);
+    expect_run(&rt, hash, Fault::AtCall(3), "Err(Input)", b"", 3);
+    expect_run(&rt, seal, Fault::AtCall(3), "Err(Input)", b"ab", 3);
 }
 
 // Runs the command over `abc` with a buffered writer that fails at a flush.
@@ -105,33 +97,33 @@ fn expect_failed_flush(
     rt: &(impl Abort + Files + AllocGlobal),
     command: Command<'_>,
     taken: &[u8],
-) -> Result<(), Fail> {
+) {
     let mut input = FromSlice::new(b"abc");
     let writer = Writer::failing_at_flush(Vec::new(rt.alloc()));
-    let mut out = Plain::new(BufWriter::new(rt.alloc(), writer)?);
+    let buffered = BufWriter::new(rt.alloc(), writer).expect(rt, "no memory for a buffer");
+    let mut out = Plain::new(buffered);
     let answered = run_command(rt, rt.alloc(), command, &mut input, &mut out);
-    assert!(rt; shown(rt.alloc(), answered)?.as_str() == "Err(Output)");
-    assert!(rt; out.failed());
+    expect!(rt; out.failed(), &command);
     let (writer, _) = out.into_inner().into_parts();
-    assert!(rt; writer.taken() == taken);
-    Ok(())
+    expect_bytes(rt, writer.taken(), taken, &command);
+    expect_shown(rt, answered, "Err(Output)", &command);
 }
 
 #[test]
-fn tells_a_flush_that_fails(rt: HostRuntime) -> Result<(), Fail> {
+fn tells_a_flush_that_fails(rt: HostRuntime) {
     let kind = Kind::Sha1;
-    let whole = sealed(rt.alloc(), b"abc", ABC)?;
-    expect_failed_flush(&rt, Command::Hash { kind }, ABC.as_bytes())?;
-    expect_failed_flush(&rt, Command::Seal { kind }, &whole)
+    let whole = sealed(&rt, b"abc", ABC);
+    expect_failed_flush(&rt, Command::Hash { kind }, ABC.as_bytes());
+    expect_failed_flush(&rt, Command::Seal { kind }, &whole);
 }
 
 // With an allocator that has no room for the piece that is read, nor for a digest's line.
 #[test]
 fn hashes_without_memory(rt: HostRuntime) -> Result<(), Fail> {
     let kind = Kind::Sha1;
-    let whole = sealed(rt.alloc(), b"abc", ABC)?;
+    let whole = sealed(&rt, b"abc", ABC);
     let heap = LocalHeap::new(rt.alloc(), 0)?;
-    assert!(&rt; Vec::<u8, _>::with_capacity(&heap, 41).is_err());
+    expect!(&rt; Vec::<u8, _>::with_capacity(&heap, 41).is_err());
     for (command, written) in [
         (Command::Hash { kind }, ABC.as_bytes()),
         (Command::Seal { kind }, &whole),
@@ -139,8 +131,8 @@ fn hashes_without_memory(rt: HostRuntime) -> Result<(), Fail> {
         let mut buf = [0; 80];
         let mut out = IntoSlice::new(&mut buf);
         let answer = run_command(&rt, &heap, command, &mut FromSlice::new(b"abc"), &mut out);
-        assert!(&rt; matches!(answer, Ok(1)));
-        assert!(&rt; out.written() == written);
+        expect!(&rt; matches!(answer, Ok(1)), &command);
+        expect_bytes(&rt, out.written(), written, &command);
     }
     Ok(())
 }
@@ -155,8 +147,9 @@ fn hashes_files(rt: HostRuntime) -> Result<(), Fail> {
         path,
     };
     let never = Fault::Never;
-    expect_run(&rt, hash_file(3, path), never, "Ok(1)", ABC.as_bytes(), 0)?;
-    expect_run(&rt, hash_file(7, path), never, "Err(Input)", b"", 0)?;
+    expect_run(&rt, hash_file(3, path), never, "Ok(1)", ABC.as_bytes(), 0);
+    expect_run(&rt, hash_file(7, path), never, "Err(Input)", b"", 0);
     fs::remove_file(&rt, path)?;
-    expect_run(&rt, hash_file(3, path), never, "Err(Input)", b"", 0)
+    expect_run(&rt, hash_file(3, path), never, "Err(Input)", b"", 0);
+    Ok(())
 }

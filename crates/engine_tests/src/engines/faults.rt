@@ -2,6 +2,7 @@
 
 use super::faulty::{Fault, Writer};
 use super::{BLOB, BLOB_256, TREE, TREE_256, text_of};
+use crate::expecting::expect_bytes;
 use devices::from_slice::FromSlice;
 use devices::into_slice::IntoSlice;
 use devices::plain::Plain;
@@ -11,11 +12,10 @@ use list_search::finding::{FindError, find, find_change};
 use list_search::finding_from::find_from;
 use std::alloc::{AllocError, Global};
 use std::process::Abort;
-use std::test::Fail;
 
 // The four ids in their order, the tree twice.
-fn list(alloc: Global) -> Result<String, AllocError> {
-    text_of(alloc, [BLOB_256, TREE, TREE, TREE_256, BLOB].as_slice())
+fn list(rt: &(impl Abort + AllocGlobal)) -> String {
+    text_of(rt, [BLOB_256, TREE, TREE, TREE_256, BLOB].as_slice())
 }
 
 // Finds the prefix with this writer, and compares the answer and what the writer took.
@@ -26,42 +26,33 @@ fn expect_taken(
     fault: Fault,
     answer: Result<usize, ()>,
     taken: &[u8],
-) -> Result<(), Fail> {
-    let list = list(rt.alloc())?;
+) {
+    let row = (prefix, answer, taken.len());
+    let list = list(rt);
     let mut out = Plain::new(Writer::new(Vec::new(rt.alloc()), piece, fault));
     let found = find(rt.alloc(), prefix, list.as_bytes(), &mut out);
-    match answer {
-        Ok(count) => {
-            assert!(rt; matches!(found, Ok(n) if n == count), "{prefix} is found");
-            assert!(rt; !out.failed(), "no write of {prefix} fails");
-        }
-        Err(()) => {
-            assert!(rt;
-                matches!(found, Err(FindError::Output)),
-                "a write of {prefix} fails"
-            );
-            assert!(rt; out.failed(), "the failure is kept");
-        }
-    }
+    let holds = match answer {
+        Ok(count) => matches!(found, Ok(n) if n == count),
+        Err(()) => matches!(found, Err(FindError::Output)),
+    };
+    expect!(rt; holds, &row);
+    expect!(rt; out.failed() == answer.is_err(), &row);
     let writer = out.into_inner();
-    assert!(rt; writer.taken() == taken, "what was taken for {prefix}");
-    assert!(rt;
-        !writer.was_asked_again(),
-        "nothing is written for {prefix} behind a failure"
-    );
-    assert!(rt; writer.flushes() == 0, "{prefix} is not flushed");
-    Ok(())
+    expect_bytes(rt, writer.taken(), taken, &row);
+    // Nothing is written behind a failure, and nothing flushed.
+    expect!(rt; !writer.was_asked_again(), &row);
+    expect!(rt; writer.flushes() == 0, &row);
 }
 
 #[test]
-fn tells_a_write_that_fails(rt: HostRuntime) -> Result<(), Fail> {
-    let both = text_of(rt.alloc(), [TREE, TREE].as_slice())?;
+fn tells_a_write_that_fails(rt: HostRuntime) {
+    let both = text_of(&rt, [TREE, TREE].as_slice());
     let both = both.as_bytes();
     for at in 1..=82 {
         assert!(&rt; at <= both.len());
-        expect_taken(&rt, "4b82", 1, Fault::AtCall(at), Err(()), &both[..at - 1])?;
+        expect_taken(&rt, "4b82", 1, Fault::AtCall(at), Err(()), &both[..at - 1]);
     }
-    expect_taken(&rt, "4b82", 1, Fault::AtCall(83), Ok(2), both)?;
+    expect_taken(&rt, "4b82", 1, Fault::AtCall(83), Ok(2), both);
     for most in 0..82 {
         assert!(&rt; most <= both.len());
         expect_taken(
@@ -71,9 +62,9 @@ fn tells_a_write_that_fails(rt: HostRuntime) -> Result<(), Fail> {
             Fault::AfterBytes(most),
             Err(()),
             &both[..most],
-        )?;
+        );
     }
-    expect_taken(&rt, "4b82", 7, Fault::AfterBytes(82), Ok(2), both)?;
+    expect_taken(&rt, "4b82", 7, Fault::AfterBytes(82), Ok(2), both);
     expect_taken(
         &rt,
         "4b82",
@@ -81,38 +72,37 @@ fn tells_a_write_that_fails(rt: HostRuntime) -> Result<(), Fail> {
         Fault::AfterBytes(10),
         Err(()),
         b"4b825dc642",
-    )?;
-    expect_taken(&rt, "4b82", 0, Fault::Never, Err(()), b"")?;
-    expect_taken(&rt, "4b82", 128, Fault::Never, Ok(2), both)?;
-    expect_taken(&rt, "ffff", 0, Fault::AtCall(1), Ok(0), b"")
+    );
+    expect_taken(&rt, "4b82", 0, Fault::Never, Err(()), b"");
+    expect_taken(&rt, "4b82", 128, Fault::Never, Ok(2), both);
+    expect_taken(&rt, "ffff", 0, Fault::AtCall(1), Ok(0), b"");
 }
 
 #[test]
-fn keeps_a_failure(rt: HostRuntime) -> Result<(), Fail> {
+fn keeps_a_failure(rt: HostRuntime) {
     let mut out = Plain::new(Writer::new(Vec::new(rt.alloc()), 4, Fault::AtCall(2)));
-    assert!(&rt; matches!(out.write(b"abcdef"), Ok(4)));
-    assert!(&rt; !out.failed());
-    assert!(&rt; out.write(b"ef").is_err());
-    assert!(&rt; out.failed());
-    assert!(&rt; matches!(out.write(b"gh"), Ok(2)));
-    assert!(&rt; out.failed());
+    expect!(&rt; matches!(out.write(b"abcdef"), Ok(4)));
+    expect!(&rt; !out.failed());
+    expect!(&rt; out.write(b"ef").is_err());
+    expect!(&rt; out.failed());
+    expect!(&rt; matches!(out.write(b"gh"), Ok(2)));
+    expect!(&rt; out.failed());
     let inner = out.into_inner();
-    assert!(&rt; inner.taken() == b"abcdgh".as_slice());
-    assert!(&rt; inner.calls() == 3);
-    Ok(())
+    expect!(&rt; inner.taken() == b"abcdgh".as_slice());
+    expect!(&rt; inner.calls() == 3);
 }
 
 #[test]
 fn fills_a_slice(rt: HostRuntime) {
     let mut buf = [b'#'; 6];
     let mut out = IntoSlice::new(&mut buf);
-    assert!(&rt; matches!(out.write(b"abcd"), Ok(4)));
-    assert!(&rt; matches!(out.write(b"efgh"), Ok(2)));
-    assert!(&rt; matches!(out.write(b""), Ok(0)));
-    assert!(&rt; !out.failed());
-    assert!(&rt; matches!(out.write(b"gh"), Ok(0)));
-    assert!(&rt; out.failed());
-    assert!(&rt; out.written() == b"abcdef".as_slice());
+    expect!(&rt; matches!(out.write(b"abcd"), Ok(4)));
+    expect!(&rt; matches!(out.write(b"efgh"), Ok(2)));
+    expect!(&rt; matches!(out.write(b""), Ok(0)));
+    expect!(&rt; !out.failed());
+    expect!(&rt; matches!(out.write(b"gh"), Ok(0)));
+    expect!(&rt; out.failed());
+    expect!(&rt; out.written() == b"abcdef".as_slice());
 }
 
 // A list of so many lines, the trees of SHA-1 but for the tree of SHA-256 and the blob behind them.
@@ -127,48 +117,34 @@ fn list_of(alloc: Global, lines: usize) -> Result<String, AllocError> {
 }
 
 #[test]
-fn finds_in_long_lists(rt: HostRuntime) -> Result<(), Fail> {
-    let list = list_of(rt.alloc(), 3000)?;
+fn finds_in_long_lists(rt: HostRuntime) {
+    let list = list_of(rt.alloc(), 3000).expect(&rt, "no memory for a list");
     let mut out = Plain::new(Vec::new(rt.alloc()));
     let found = find(rt.alloc(), "e69d", list.as_bytes(), &mut out);
-    assert!(&rt; matches!(found, Ok(1)));
-    assert!(&rt; out.into_inner().as_slice() == BLOB.as_bytes());
+    expect!(&rt; matches!(found, Ok(1)));
+    expect!(&rt; out.into_inner().as_slice() == BLOB.as_bytes());
     let mut out = Plain::new(Vec::new(rt.alloc()));
     let found = find_change(rt.alloc(), "vorx", list.as_bytes(), &mut out);
-    assert!(&rt; matches!(found, Ok(2998)));
-    assert!(&rt; out.into_inner().len() == 2998 * 41);
+    expect!(&rt; matches!(found, Ok(2998)));
+    expect!(&rt; out.into_inner().len() == 2998 * 41);
     let mut input = FromSlice::new(list.as_bytes());
     let mut out = Plain::new(Vec::new(rt.alloc()));
     let found = find_from(rt.alloc(), "4b82", &mut input, &mut out);
-    assert!(&rt; matches!(found, Ok(2998)));
-    assert!(&rt; out.into_inner().len() == 2998 * 41);
-    Ok(())
+    expect!(&rt; matches!(found, Ok(2998)));
+    expect!(&rt; out.into_inner().len() == 2998 * 41);
 }
 
 #[test]
-fn needs_no_memory_without_lines(rt: HostRuntime) -> Result<(), Fail> {
-    let heap = LocalHeap::new(rt.alloc(), 0)?;
+fn needs_no_memory_without_lines(rt: HostRuntime) {
+    let heap = LocalHeap::new(rt.alloc(), 0).expect(&rt, "no memory for a heap");
     let mut buf = [0; 8];
     let mut out = IntoSlice::new(&mut buf);
-    assert!(&rt; matches!(find(&heap, "4b82", b"", &mut out), Ok(0)));
-    assert!(&rt;
-        matches!(
-            find(&heap, "abc", TREE.as_bytes(), &mut out),
-            Err(FindError::Prefix(_))
-        )
-    );
-    assert!(&rt;
-        matches!(
-            find(&heap, "4b82", b"zz", &mut out),
-            Err(FindError::BadLine { line: 1, .. })
-        )
-    );
-    assert!(&rt;
-        matches!(
-            find(&heap, "4b82", TREE.as_bytes(), &mut out),
-            Err(FindError::Memory)
-        )
-    );
-    assert!(&rt; out.written() == b"".as_slice());
-    Ok(())
+    expect!(&rt; matches!(find(&heap, "4b82", b"", &mut out), Ok(0)));
+    let found = find(&heap, "abc", TREE.as_bytes(), &mut out);
+    expect!(&rt; matches!(found, Err(FindError::Prefix(_))));
+    let found = find(&heap, "4b82", b"zz", &mut out);
+    expect!(&rt; matches!(found, Err(FindError::BadLine { line: 1, .. })));
+    let found = find(&heap, "4b82", TREE.as_bytes(), &mut out);
+    expect!(&rt; matches!(found, Err(FindError::Memory)));
+    expect!(&rt; out.written() == b"".as_slice());
 }

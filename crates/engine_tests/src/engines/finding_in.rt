@@ -1,11 +1,11 @@
 //! Finding among ids of one kind.
 
-use super::{BLOB, BLOB_256, NO_MATCH, TREE, TREE_256, printed, shown, text_of};
+use super::{BLOB, BLOB_256, NO_MATCH, TREE, TREE_256, text_of};
+use crate::expecting::{expect_bytes, expect_printed, expect_shown};
 use devices::into_slice::IntoSlice;
 use gix_hash::{Kind, decode, prefix};
 use list_search::finding_in::{FindInError, find_in};
 use std::process::Abort;
-use std::test::Fail;
 
 // Finds the prefix in the lines, and compares the answer's Debug text and what was written.
 fn expect_find_in(
@@ -15,24 +15,18 @@ fn expect_find_in(
     lines: &[&str],
     answer: &str,
     written: &str,
-) -> Result<(), Fail> {
-    let list = text_of(rt.alloc(), lines)?;
+) {
+    let list = text_of(rt, lines);
     let mut buf = [0; 256];
     let mut out = IntoSlice::new(&mut buf);
     let found = find_in(rt.alloc(), kind, prefix, list.as_bytes(), &mut out);
-    assert!(rt;
-        shown(rt.alloc(), found)?.as_str() == answer,
-        "the answer for {prefix} in {kind}"
-    );
-    assert!(rt;
-        out.written() == written.as_bytes(),
-        "the output for {prefix} in {kind}"
-    );
-    Ok(())
+    let row = (prefix, kind);
+    expect_bytes(rt, out.written(), written.as_bytes(), &row);
+    expect_shown(rt, found, answer, &row);
 }
 
 #[test]
-fn finds_in_a_kind(rt: HostRuntime) -> Result<(), Fail> {
+fn finds_in_a_kind(rt: HostRuntime) {
     let rows: [(Kind, &str, &[&str], &str, &str); 10] = [
         (Kind::Sha1, "4b82", &[TREE, BLOB], "Ok(1)", TREE),
         (Kind::Sha1, "4", &[TREE, BLOB], "Ok(1)", TREE),
@@ -82,13 +76,12 @@ fn finds_in_a_kind(rt: HostRuntime) -> Result<(), Fail> {
         ),
     ];
     for (kind, prefix, lines, answer, written) in rows {
-        expect_find_in(&rt, kind, prefix, lines, answer, written)?;
+        expect_find_in(&rt, kind, prefix, lines, answer, written);
     }
-    Ok(())
 }
 
 #[test]
-fn refuses_a_list_of_no_index(rt: HostRuntime) -> Result<(), Fail> {
+fn refuses_a_list_of_no_index(rt: HostRuntime) {
     let rows: [(&[&str], &str); 6] = [
         (
             &[BLOB_256, TREE, TREE_256, BLOB],
@@ -104,13 +97,12 @@ fn refuses_a_list_of_no_index(rt: HostRuntime) -> Result<(), Fail> {
         ),
     ];
     for (lines, answer) in rows {
-        expect_find_in(&rt, Kind::Sha1, "4b82", lines, answer, NO_MATCH)?;
+        expect_find_in(&rt, Kind::Sha1, "4b82", lines, answer, NO_MATCH);
     }
-    Ok(())
 }
 
 #[test]
-fn tells_refusals_of_a_kind(rt: HostRuntime) -> Result<(), Fail> {
+fn tells_refusals_of_a_kind(rt: HostRuntime) {
     let rows = [
         (
             FindInError::Prefix(prefix::from_hex::Error::TooLong { hex_len: 41 }),
@@ -139,7 +131,6 @@ fn tells_refusals_of_a_kind(rt: HostRuntime) -> Result<(), Fail> {
         (FindInError::Output, "cannot write"),
     ];
     for (error, text) in rows {
-        assert!(&rt; printed(rt.alloc(), error)?.as_str() == text);
+        expect_printed(&rt, error, text);
     }
-    Ok(())
 }

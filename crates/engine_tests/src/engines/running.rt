@@ -1,9 +1,8 @@
 //! Commands over readers and writers that give and take odd pieces, or fail.
 
 use super::faulty::{Fault, Reader, Writer};
-use super::{
-    BLOB, BLOB_256, BLOB_LETTERS, NO_MATCH, TREE, TREE_256, TREE_LETTERS, printed, shown, text_of,
-};
+use super::{BLOB, BLOB_256, BLOB_LETTERS, NO_MATCH, TREE, TREE_256, TREE_LETTERS, text_of};
+use crate::expecting::{expect_bytes, expect_printed, expect_shown};
 use commands::command::Command;
 use commands::running::{CommandError, run_command};
 use devices::from_slice::FromSlice;
@@ -13,15 +12,15 @@ use devices::sink::Sink;
 use gix_hash::Kind;
 use linked_list_allocator::LocalHeap;
 use list_search::finding::FindError;
-use std::alloc::{AllocError, Allocator, Global};
+use std::alloc::Allocator;
 use std::io::BufWriter;
 use std::process::Abort;
 use std::rt::Files;
 use std::test::Fail;
 
 // The four ids in their order.
-fn list(alloc: Global) -> Result<String, AllocError> {
-    text_of(alloc, [BLOB_256, TREE, TREE_256, BLOB].as_slice())
+fn list(rt: &(impl Abort + AllocGlobal)) -> String {
+    text_of(rt, [BLOB_256, TREE, TREE_256, BLOB].as_slice())
 }
 
 // Runs the command over a list text in pieces of so many bytes, and compares the answer's Debug text
@@ -33,35 +32,28 @@ fn expect_run(
     reader: (usize, Fault),
     answer: &str,
     written: &str,
-) -> Result<(), Fail> {
+) {
     let (piece, fault) = reader;
     let mut input = Plain::new(Reader::new(list.as_bytes(), piece, fault));
     let mut buf = [0; 256];
     let mut out = IntoSlice::new(&mut buf);
     let answered = run_command(rt, rt.alloc(), command, &mut input, &mut out);
-    assert!(rt;
-        shown(rt.alloc(), answered)?.as_str() == answer,
-        "the answer of {command:?}"
-    );
-    assert!(rt;
-        out.written() == written.as_bytes(),
-        "the output of {command:?}"
-    );
-    Ok(())
+    expect_bytes(rt, out.written(), written.as_bytes(), &command);
+    expect_shown(rt, answered, answer, &command);
 }
 
 #[test]
-fn runs_commands(rt: HostRuntime) -> Result<(), Fail> {
-    let list = list(rt.alloc())?;
+fn runs_commands(rt: HostRuntime) {
+    let list = list(&rt);
     let list = list.as_str();
     let no_hex = "Err(Find(Prefix(Invalid)))";
     let find = |prefix| Command::Find { prefix };
     let find_change = |letters| Command::FindChange { letters };
     for piece in [1, 7, 41, 1000] {
         let reader = (piece, Fault::Never);
-        expect_run(&rt, find("4b82"), list, reader, "Ok(1)", TREE)?;
-        expect_run(&rt, find("ffff"), list, reader, "Ok(0)", NO_MATCH)?;
-        expect_run(&rt, find("ltqm"), list, reader, no_hex, NO_MATCH)?;
+        expect_run(&rt, find("4b82"), list, reader, "Ok(1)", TREE);
+        expect_run(&rt, find("ffff"), list, reader, "Ok(0)", NO_MATCH);
+        expect_run(&rt, find("ltqm"), list, reader, no_hex, NO_MATCH);
         expect_run(
             &rt,
             find_change("ltqm"),
@@ -69,23 +61,23 @@ fn runs_commands(rt: HostRuntime) -> Result<(), Fail> {
             reader,
             "Ok(1)",
             BLOB_LETTERS,
-        )?;
-        expect_run(&rt, find_change("zzzz"), list, reader, "Ok(0)", NO_MATCH)?;
-        expect_run(&rt, find_change("4b82"), list, reader, no_hex, NO_MATCH)?;
+        );
+        expect_run(&rt, find_change("zzzz"), list, reader, "Ok(0)", NO_MATCH);
+        expect_run(&rt, find_change("4b82"), list, reader, no_hex, NO_MATCH);
     }
-    let twice = text_of(rt.alloc(), [TREE, TREE].as_slice())?;
+    let twice = text_of(&rt, [TREE, TREE].as_slice());
     let twice = twice.as_str();
-    expect_run(&rt, find("4b82"), twice, (7, Fault::Never), "Ok(2)", twice)?;
+    expect_run(&rt, find("4b82"), twice, (7, Fault::Never), "Ok(2)", twice);
     expect_run(&rt, find("4b82"), "", (1, Fault::Never), "Ok(0)", NO_MATCH)
 }
 
 #[test]
-fn runs_finding_in_a_kind(rt: HostRuntime) -> Result<(), Fail> {
-    let mixed = list(rt.alloc())?;
+fn runs_finding_in_a_kind(rt: HostRuntime) {
+    let mixed = list(&rt);
     let mixed = mixed.as_str();
-    let of_sha1 = text_of(rt.alloc(), [TREE, BLOB].as_slice())?;
+    let of_sha1 = text_of(&rt, [TREE, BLOB].as_slice());
     let of_sha1 = of_sha1.as_str();
-    let of_sha256 = text_of(rt.alloc(), [BLOB_256, TREE_256].as_slice())?;
+    let of_sha256 = text_of(&rt, [BLOB_256, TREE_256].as_slice());
     let of_sha256 = of_sha256.as_str();
     let (sha1, sha256) = (Kind::Sha1, Kind::Sha256);
     let other_kind = "Err(FindIn(WrongKind { line: 1 }))";
@@ -101,15 +93,27 @@ fn runs_finding_in_a_kind(rt: HostRuntime) -> Result<(), Fail> {
     ] {
         let find_in = Command::FindIn { kind, prefix };
         for piece in [1, 1000] {
-            expect_run(&rt, find_in, list, (piece, Fault::Never), answer, written)?;
+            expect_run(&rt, find_in, list, (piece, Fault::Never), answer, written);
         }
     }
-    Ok(())
+}
+
+// Nothing is read behind a failure, and nothing flushed.
+fn expect_stopped(rt: &(impl Abort + Files + AllocGlobal), list: &str) {
+    let find = Command::Find { prefix: "4b82" };
+    let mut input = Plain::new(Reader::new(list.as_bytes(), 41, Fault::AtCall(3)));
+    let writer = Writer::failing_at_flush(Vec::new(rt.alloc()));
+    let buffered = BufWriter::new(rt.alloc(), writer).expect(rt, "no memory for a buffer");
+    let mut out = Plain::new(buffered);
+    let answered = run_command(rt, rt.alloc(), find, &mut input, &mut out);
+    expect!(rt; matches!(answered, Err(CommandError::Input)));
+    expect!(rt; input.into_inner().calls() == 3);
+    expect!(rt; !out.failed());
 }
 
 #[test]
-fn tells_a_read_that_fails(rt: HostRuntime) -> Result<(), Fail> {
-    let list = list(rt.alloc())?;
+fn tells_a_read_that_fails(rt: HostRuntime) {
+    let list = list(&rt);
     let list = list.as_str();
     let find = Command::Find { prefix: "4b82" };
     let find_change = Command::FindChange { letters: "ltqm" };
@@ -125,27 +129,11 @@ fn tells_a_read_that_fails(rt: HostRuntime) -> Result<(), Fail> {
         Fault::AfterBytes(65),
     ];
     for fault in faults {
-        expect_run(&rt, find, list, (41, fault), "Err(Input)", NO_MATCH)?;
-        expect_run(&rt, find_change, list, (41, fault), "Err(Input)", NO_MATCH)?;
-        expect_run(&rt, find_in, list, (41, fault), "Err(Input)", NO_MATCH)?;
+        expect_run(&rt, find, list, (41, fault), "Err(Input)", NO_MATCH);
+        expect_run(&rt, find_change, list, (41, fault), "Err(Input)", NO_MATCH);
+        expect_run(&rt, find_in, list, (41, fault), "Err(Input)", NO_MATCH);
     }
-    let mut input = Plain::new(Reader::new(list.as_bytes(), 41, Fault::AtCall(3)));
-    let mut out = Plain::new(BufWriter::new(
-        rt.alloc(),
-        Writer::failing_at_flush(Vec::new(rt.alloc())),
-    )?);
-    assert!(&rt;
-        matches!(
-            run_command(&rt, rt.alloc(), find, &mut input, &mut out),
-            Err(CommandError::Input)
-        )
-    );
-    assert!(&rt;
-        input.into_inner().calls() == 3,
-        "nothing is read behind a failure"
-    );
-    assert!(&rt; !out.failed(), "nothing is flushed behind a failure");
-    Ok(())
+    expect_stopped(&rt, list);
 }
 
 // The searches for the empty tree of SHA-1, and what each writes.
@@ -170,25 +158,24 @@ fn expect_flushed(
     answer: &str,
     taken: &[u8],
     flushes: usize,
-) -> Result<(), Fail> {
-    let list = text_of(rt.alloc(), [TREE, BLOB].as_slice())?;
+) {
+    let list = text_of(rt, [TREE, BLOB].as_slice());
     let mut input = FromSlice::new(list.as_bytes());
-    let mut out = Plain::new(BufWriter::new(rt.alloc(), writer)?);
+    let buffered = BufWriter::new(rt.alloc(), writer).expect(rt, "no memory for a buffer");
+    let mut out = Plain::new(buffered);
     let answered = run_command(rt, rt.alloc(), command, &mut input, &mut out);
-    assert!(rt; out.failed() == answered.is_err(), "a failure is kept");
-    assert!(rt; shown(rt.alloc(), answered)?.as_str() == answer);
+    // A failure is kept, and nothing is written behind it.
+    let row = (command, answer, flushes);
+    expect!(rt; out.failed() == answered.is_err(), &row);
     let (writer, _) = out.into_inner().into_parts();
-    assert!(rt; writer.taken() == taken);
-    assert!(rt; writer.flushes() == flushes);
-    assert!(rt;
-        !writer.was_asked_again(),
-        "nothing is written behind a failure"
-    );
-    Ok(())
+    expect_bytes(rt, writer.taken(), taken, &row);
+    expect!(rt; writer.flushes() == flushes, &row);
+    expect!(rt; !writer.was_asked_again(), &row);
+    expect_shown(rt, answered, answer, &row);
 }
 
 #[test]
-fn flushes_at_the_end(rt: HostRuntime) -> Result<(), Fail> {
+fn flushes_at_the_end(rt: HostRuntime) {
     let writer = |piece, fault| Writer::new(Vec::new(rt.alloc()), piece, fault);
     for (command, line) in SEARCHES {
         let output = "Err(Output)";
@@ -201,12 +188,11 @@ fn flushes_at_the_end(rt: HostRuntime) -> Result<(), Fail> {
             (1000, Fault::AtCall(1), output, b"", 0),
             (4, Fault::AfterBytes(10), output, &line[..10], 0),
         ] {
-            expect_flushed(&rt, command, writer(piece, fault), answer, taken, flushes)?;
+            expect_flushed(&rt, command, writer(piece, fault), answer, taken, flushes);
         }
         let failing = Writer::failing_at_flush(Vec::new(rt.alloc()));
-        expect_flushed(&rt, command, failing, output, line, 1)?;
+        expect_flushed(&rt, command, failing, output, line, 1);
     }
-    Ok(())
 }
 
 // Runs a search within an allocator: whether it gave all that was asked of it.
@@ -222,12 +208,12 @@ fn runs_within<A: Allocator + Copy>(
     let mut out = IntoSlice::new(&mut buf);
     match run_command(rt, alloc, command, &mut input, &mut out) {
         Err(CommandError::Memory) => {
-            assert!(rt; out.written() == b"".as_slice(), "nothing is written");
+            expect_bytes(rt, out.written(), b"", &command);
             false
         }
         answer => {
-            assert!(rt; matches!(answer, Ok(1)));
-            assert!(rt; out.written() == line.as_bytes());
+            expect!(rt; matches!(answer, Ok(1)), &command);
+            expect_bytes(rt, out.written(), line.as_bytes(), &command);
             true
         }
     }
@@ -238,13 +224,14 @@ fn least_heap(
     rt: &(impl Abort + Files + AllocGlobal),
     search: (Command<'_>, &str),
 ) -> Result<usize, Fail> {
-    let list = text_of(rt.alloc(), [TREE, BLOB].as_slice())?;
+    let list = text_of(rt, [TREE, BLOB].as_slice());
     for units in 0..100 {
         let heap = LocalHeap::new(rt.alloc(), 16 * units)?;
         if runs_within(rt, &heap, search, list.as_bytes()) {
             return Ok(units);
         }
-        assert!(rt; heap.used() == 0, "all is given back at {units}");
+        // All is given back.
+        expect!(rt; heap.used() == 0, &units);
     }
     Err(Fail::new("each run met a refusal"))
 }
@@ -252,13 +239,14 @@ fn least_heap(
 #[test]
 fn tells_memory_that_is_refused(rt: HostRuntime) -> Result<(), Fail> {
     for search in SEARCHES {
-        assert!(&rt; least_heap(&rt, search)? > 0, "the list text needs memory");
+        // The list text needs memory.
+        expect!(&rt; least_heap(&rt, search)? > 0, &search);
     }
     Ok(())
 }
 
 #[test]
-fn prints_refusals(rt: HostRuntime) -> Result<(), Fail> {
+fn prints_refusals(rt: HostRuntime) {
     let unsorted = CommandError::Find(FindError::Unsorted { line: 3 });
     let rows = [
         (unsorted, "line 3: below the line before it"),
@@ -268,7 +256,6 @@ fn prints_refusals(rt: HostRuntime) -> Result<(), Fail> {
         (CommandError::TooMuch, "too much input"),
     ];
     for (error, text) in rows {
-        assert!(&rt; printed(rt.alloc(), error)?.as_str() == text);
+        expect_printed(&rt, error, text);
     }
-    Ok(())
 }

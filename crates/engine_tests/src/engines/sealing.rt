@@ -3,7 +3,7 @@
 ghost use Rattle.std.specs.Prelude.{◌≡◌, false};
 
 use super::faulty::{Fault, Reader, Writer};
-use super::printed;
+use crate::expecting::{expect_bytes, expect_printed};
 use devices::from_slice::FromSlice;
 use devices::into_slice::IntoSlice;
 use devices::plain::Plain;
@@ -12,7 +12,7 @@ use devices::source::Source;
 use gix_hash::io::{Never, NoProgress};
 use gix_hash::{Kind, ObjectId, bytes, oid, verify};
 use pipes::{PipeError, hash_all, seal};
-use std::alloc::Global;
+use std::alloc::{AllocError, Global};
 use std::process::Abort;
 use std::test::Fail;
 
@@ -60,39 +60,41 @@ impl Pipe {
 }
 
 // A message and the bytes of its digest, which is written in hex digits and a line feed.
-pub fn sealed(alloc: Global, message: &[u8], line: &str) -> Result<Vec<u8>, Fail> {
+pub fn sealed(rt: &(impl Abort + AllocGlobal), message: &[u8], line: &str) -> Vec<u8> {
+    let Ok(id) = ObjectId::from_hex(line.trim_end().as_bytes()) else {
+        panic!(rt; "a digest does not read: {line}");
+    };
+    joined(rt.alloc(), message, id.as_slice()).expect(rt, "no memory for a message")
+}
+
+fn joined(alloc: Global, message: &[u8], digest: &[u8]) -> Result<Vec<u8>, AllocError> {
     let mut bytes = Vec::new(alloc);
     bytes.extend_from_slice(message)?;
-    match ObjectId::from_hex(line.trim_end().as_bytes()) {
-        Ok(id) => bytes.extend_from_slice(id.as_slice())?,
-        Err(_) => return Err(Fail::new("a digest does not read")),
-    }
+    bytes.extend_from_slice(digest)?;
     Ok(bytes)
 }
 
-// Hashes and seals the message in whole pieces, and compares with the digest's line.
-fn expect_digest(
-    rt: &(impl Abort + AllocGlobal),
-    kind: Kind,
-    message: &[u8],
-    line: &str,
-) -> Result<(), Fail> {
+// Hashes the message in whole pieces, and compares with the digest's line.
+fn expect_digest(rt: &impl Abort, kind: Kind, message: &[u8], line: &str) {
     let mut buf = [0; 80];
     let mut hashed = IntoSlice::new(&mut buf);
     let answer = hash_all(&mut FromSlice::new(message), &mut hashed, kind);
-    assert!(rt; answer.is_ok(), "{line}");
-    assert!(rt; hashed.written() == line.as_bytes(), "{line}");
+    expect!(rt; answer.is_ok(), &line);
+    expect_bytes(rt, hashed.written(), line.as_bytes(), &line);
+}
+
+// Seals the message in whole pieces, and compares with the digest's line.
+fn expect_sealed(rt: &(impl Abort + AllocGlobal), kind: Kind, message: &[u8], line: &str) {
     let mut out = Plain::new(Vec::new(rt.alloc()));
     let answer = seal(&mut FromSlice::new(message), &mut out, kind);
-    assert!(rt; answer.is_ok(), "{line}");
-    let whole = sealed(rt.alloc(), message, line)?;
-    assert!(rt; out.into_inner() == whole, "{line}");
-    Ok(())
+    expect!(rt; answer.is_ok(), &line);
+    let whole = sealed(rt, message, line);
+    expect!(rt; out.into_inner() == whole, &line);
 }
 
 #[test]
-fn hashes_and_seals(rt: HostRuntime) -> Result<(), Fail> {
-    let million = vec![in rt.alloc(); b'a'; 1_000_000]?;
+fn hashes_and_seals(rt: HostRuntime) {
+    let million = vec![in rt.alloc(); b'a'; 1_000_000].expect(&rt, "no memory for a message");
     let rows = [
         (Kind::Sha1, b"abc".as_slice(), ABC),
         (Kind::Sha256, b"abc".as_slice(), ABC_256),
@@ -102,9 +104,9 @@ fn hashes_and_seals(rt: HostRuntime) -> Result<(), Fail> {
         (Kind::Sha256, million.as_slice(), MILLION_256),
     ];
     for (kind, message, line) in rows {
-        expect_digest(&rt, kind, message, line)?;
+        expect_digest(&rt, kind, message, line);
+        expect_sealed(&rt, kind, message, line);
     }
-    Ok(())
 }
 
 // Compares the digest at the end of a sealed message with that of all before it, as who reads a pack
@@ -126,14 +128,14 @@ fn seals_verifiably(rt: HostRuntime) -> Result<(), Fail> {
         seal(&mut FromSlice::new(b"abc"), &mut out, kind)?;
         let mut sealed = Vec::new(rt.alloc());
         sealed.extend_from_slice(out.written())?;
-        assert!(&rt; verified(&sealed, kind)?.is_ok());
+        expect!(&rt; verified(&sealed, kind)?.is_ok(), &abc);
         assert!(&rt; !sealed.is_empty());
         sealed[0] = b'b';
         match verified(&sealed, kind)? {
             Ok(()) => return Err(Fail::new("another message is verified")),
             Err(verify::Error { actual, expected }) => {
-                assert!(&rt; actual.eq_str(bbc.trim_end()));
-                assert!(&rt; expected.eq_str(abc.trim_end()));
+                expect!(&rt; actual.eq_str(bbc.trim_end()), &bbc);
+                expect!(&rt; expected.eq_str(abc.trim_end()), &abc);
             }
         }
     }
@@ -160,42 +162,27 @@ fn expect_run(rt: &(impl Abort + AllocGlobal), run: &Run<'_>) {
     let (piece, fault) = run.write;
     let mut out = Plain::new(Writer::new(Vec::new(rt.alloc()), piece, fault));
     let answer = run.pipe.run(&mut input, &mut out, Kind::Sha1);
-    let (pipe, calls) = (run.pipe, run.calls);
-    assert!(rt; answer == run.answer, "the answer of {pipe:?} at {calls:?}");
-    let failed = (input.failed(), out.failed());
-    let (input, out) = (input.into_inner(), out.into_inner());
-    assert!(rt;
-        (input.calls(), out.calls()) == calls,
-        "the calls of {pipe:?}"
-    );
-    assert!(rt;
-        out.taken() == run.taken,
-        "what {pipe:?} wrote at {calls:?}"
-    );
-    assert!(rt;
-        failed
-            == (
-                run.answer == Err(PipeError::Input),
-                run.answer == Err(PipeError::Output)
-            ),
-        "the failures of {pipe:?} at {calls:?}"
-    );
+    let row = (run.pipe, run.calls);
+    expect!(rt; answer == run.answer, &row);
+    expect!(rt; input.failed() == (answer == Err(PipeError::Input)), &row);
+    expect!(rt; out.failed() == (answer == Err(PipeError::Output)), &row);
+    let (reads, writes) = run.calls;
+    expect!(rt; input.into_inner().calls() == reads, &row);
+    let writer = out.into_inner();
+    expect!(rt; writer.calls() == writes, &row);
+    expect_bytes(rt, writer.taken(), run.taken, &row);
 }
 
 // What is right of `abc`, hashed and sealed.
-fn right(alloc: Global, pipe: Pipe) -> Result<Vec<u8>, Fail> {
+fn right(rt: &(impl Abort + AllocGlobal), pipe: Pipe) -> Vec<u8> {
     match pipe {
-        Pipe::Hash => {
-            let mut line = Vec::new(alloc);
-            line.extend_from_slice(ABC.as_bytes())?;
-            Ok(line)
-        }
-        Pipe::Seal => sealed(alloc, b"abc", ABC),
+        Pipe::Hash => joined(rt.alloc(), ABC.as_bytes(), b"").expect(rt, "no memory for a line"),
+        Pipe::Seal => sealed(rt, b"abc", ABC),
     }
 }
 
 #[test]
-fn ends_over_devices(rt: HostRuntime) -> Result<(), Fail> {
+fn ends_over_devices(rt: HostRuntime) {
     let fine = (usize::MAX, Fault::Never);
     let single = (1, Fault::Never);
     for (pipe, read, write, calls) in [
@@ -207,7 +194,7 @@ fn ends_over_devices(rt: HostRuntime) -> Result<(), Fail> {
         (Pipe::Seal, fine, single, (2, 23)),
         (Pipe::Seal, single, single, (4, 23)),
     ] {
-        let whole = right(rt.alloc(), pipe)?;
+        let whole = right(&rt, pipe);
         let run = Run {
             pipe,
             read,
@@ -218,7 +205,6 @@ fn ends_over_devices(rt: HostRuntime) -> Result<(), Fail> {
         };
         expect_run(&rt, &run);
     }
-    Ok(())
 }
 
 // The n-th read fails, or the library's loops would try it again.
@@ -258,8 +244,8 @@ fn expect_failed_write(
     pipe: Pipe,
     n: usize,
     write: (usize, Fault),
-) -> Result<(), Fail> {
-    let whole = right(rt.alloc(), pipe)?;
+) {
+    let whole = right(rt, pipe);
     assert!(rt; n >= 1);
     assert!(rt; n <= whole.len());
     let reads = match pipe {
@@ -275,23 +261,21 @@ fn expect_failed_write(
         calls: (reads, n),
     };
     expect_run(rt, &run);
-    Ok(())
 }
 
 #[test]
-fn tells_a_write_that_fails(rt: HostRuntime) -> Result<(), Fail> {
+fn tells_a_write_that_fails(rt: HostRuntime) {
     for n in 1..=41 {
-        expect_failed_write(&rt, Pipe::Hash, n, (1, Fault::AtCall(n)))?;
-        expect_failed_write(&rt, Pipe::Hash, n, (1, Fault::InterruptedAt(n)))?;
+        expect_failed_write(&rt, Pipe::Hash, n, (1, Fault::AtCall(n)));
+        expect_failed_write(&rt, Pipe::Hash, n, (1, Fault::InterruptedAt(n)));
     }
     for n in 1..=23 {
-        expect_failed_write(&rt, Pipe::Seal, n, (1, Fault::AtCall(n)))?;
-        expect_failed_write(&rt, Pipe::Seal, n, (1, Fault::InterruptedAt(n)))?;
+        expect_failed_write(&rt, Pipe::Seal, n, (1, Fault::AtCall(n)));
+        expect_failed_write(&rt, Pipe::Seal, n, (1, Fault::InterruptedAt(n)));
     }
     for pipe in [Pipe::Hash, Pipe::Seal] {
-        expect_failed_write(&rt, pipe, 1, (0, Fault::Never))?;
+        expect_failed_write(&rt, pipe, 1, (0, Fault::Never));
     }
-    Ok(())
 }
 
 // Writers with room for some bytes, and writers that take all behind their error.
@@ -327,25 +311,24 @@ fn tells_a_write_of_more_bytes_that_fails(rt: HostRuntime) {
 fn keeps_a_failed_read(rt: HostRuntime) {
     let mut input = Plain::new(Reader::new(b"abcdef", 4, Fault::AtCall(2)));
     let mut buf = [b'#'; 6];
-    assert!(&rt; matches!(input.read(&mut buf), Ok(4)));
-    assert!(&rt; !input.failed());
-    assert!(&rt; input.read(&mut buf).is_err());
-    assert!(&rt; input.failed());
-    assert!(&rt; matches!(input.read(&mut buf), Ok(2)));
-    assert!(&rt; input.failed());
-    assert!(&rt; buf == *b"efcd##");
-    assert!(&rt; input.into_inner().calls() == 3);
+    expect!(&rt; matches!(input.read(&mut buf), Ok(4)));
+    expect!(&rt; !input.failed());
+    expect!(&rt; input.read(&mut buf).is_err());
+    expect!(&rt; input.failed());
+    expect!(&rt; matches!(input.read(&mut buf), Ok(2)));
+    expect!(&rt; input.failed());
+    expect!(&rt; buf == *b"efcd##");
+    expect!(&rt; input.into_inner().calls() == 3);
 }
 
 #[test]
-fn prints_why_a_pipe_stopped(rt: HostRuntime) -> Result<(), Fail> {
+fn prints_why_a_pipe_stopped(rt: HostRuntime) {
     let rows = [
         (PipeError::Input, "cannot read"),
         (PipeError::Output, "cannot write"),
         (PipeError::TooMuch, "too much input"),
     ];
     for (error, text) in rows {
-        assert!(&rt; printed(rt.alloc(), error)?.as_str() == text);
+        expect_printed(&rt, error, text);
     }
-    Ok(())
 }

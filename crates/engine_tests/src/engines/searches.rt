@@ -4,6 +4,7 @@ ghost use Rattle.std.specs.Prelude.{◌≡◌, false};
 
 use super::faulty::{Fault, Writer};
 use super::{BLOB, BLOB_256, TREE, TREE_256, TREE_LETTERS};
+use crate::expecting::expect_bytes;
 use devices::from_slice::FromSlice;
 use devices::into_slice::IntoSlice;
 use devices::plain::Plain;
@@ -110,31 +111,34 @@ fn expect_taken(
     want: Outcome,
     len: usize,
     calls: usize,
-) -> Result<(), AllocError> {
-    let list = search.list(rt.alloc(), 4)?;
+) {
+    let list = search
+        .list(rt.alloc(), 4)
+        .expect(rt, "no memory for a list");
     let mut out = Plain::new(writer);
     let came = search.run(rt.alloc(), list.as_bytes(), &mut out);
-    assert!(rt; came == want, "{search:?} at write {calls}");
-    assert!(rt; out.failed() == (want == Outcome::FailedWrite));
+    let row = (search, len, calls);
+    expect!(rt; came == want, &row);
+    expect!(rt; out.failed() == (want == Outcome::FailedWrite), &row);
     let writer = out.into_inner();
     let line = search.line().as_bytes();
     assert!(rt; len <= line.len());
-    assert!(rt; writer.taken() == &line[..len]);
-    assert!(rt; (writer.calls(), writer.flushes()) == (calls, 0));
-    Ok(())
+    expect_bytes(rt, writer.taken(), &line[..len], &row);
+    expect!(rt; writer.calls() == calls, &row);
+    expect!(rt; writer.flushes() == 0, &row);
 }
 
 #[test]
-fn tell_each_write_that_fails(rt: HostRuntime) -> Result<(), Fail> {
+fn tell_each_write_that_fails(rt: HostRuntime) {
     let bytes = || Vec::new(rt.alloc());
     let (found, failed) = (Outcome::Found(1), Outcome::FailedWrite);
     for search in SEARCHES {
         let flushing = Writer::failing_at_flush(bytes());
-        expect_taken(&rt, search, flushing, found, 41, 1)?;
+        expect_taken(&rt, search, flushing, found, 41, 1);
         for n in 1..=41 {
             for fault in [Fault::AtCall(n), Fault::InterruptedAt(n)] {
                 let writer = Writer::new(bytes(), 1, fault);
-                expect_taken(&rt, search, writer, failed, n - 1, n)?;
+                expect_taken(&rt, search, writer, failed, n - 1, n);
             }
         }
         // Those that take a byte a call, none, all behind their error, and as much as there is room.
@@ -147,10 +151,9 @@ fn tell_each_write_that_fails(rt: HostRuntime) -> Result<(), Fail> {
             (usize::MAX, Fault::AfterBytes(41), found, 41, 1),
         ] {
             let writer = Writer::new(bytes(), piece, fault);
-            expect_taken(&rt, search, writer, outcome, len, calls)?;
+            expect_taken(&rt, search, writer, outcome, len, calls);
         }
     }
-    Ok(())
 }
 
 // Searches within an allocator: whether it gave all that was asked of it.
@@ -159,12 +162,12 @@ fn finds_within<A: Allocator>(rt: &impl Abort, search: Search, alloc: A, list: &
     let mut out = IntoSlice::new(&mut buf);
     match search.run(alloc, list, &mut out) {
         Outcome::NoMemory => {
-            assert!(rt; out.written() == b"".as_slice(), "nothing is written");
+            expect_bytes(rt, out.written(), b"", &search);
             false
         }
         came => {
-            assert!(rt; came == Outcome::Found(1));
-            assert!(rt; out.written() == search.line().as_bytes());
+            expect!(rt; came == Outcome::Found(1), &search);
+            expect_bytes(rt, out.written(), search.line().as_bytes(), &search);
             true
         }
     }
@@ -181,9 +184,10 @@ fn granted_within(
     let mut granted = 0;
     for (n, list) in lists.iter().enumerate() {
         let finds = finds_within(rt, search, &heap, list.as_bytes());
-        assert!(rt; heap.used() == 0, "all is given back at {units}");
+        // All is given back, and where a list is granted, each shorter one is.
+        expect!(rt; heap.used() == 0, &(search, units));
         if finds {
-            assert!(rt; granted == n, "a shorter list is granted too at {units}");
+            expect!(rt; granted == n, &(search, units));
             granted = n + 1;
         }
     }
@@ -200,7 +204,8 @@ fn expect_each_refused(rt: &(impl Abort + AllocGlobal), search: Search) -> Resul
     for units in 0..1000 {
         let granted = granted_within(rt, search, &lists, units)?;
         let steps = granted.abs_diff(before);
-        assert!(rt; steps <= 1, "no growth is passed over at {units}");
+        // No growth is passed over.
+        expect!(rt; steps <= 1, &(search, units));
         if granted == 3 {
             return Ok(());
         }

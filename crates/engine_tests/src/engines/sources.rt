@@ -1,18 +1,18 @@
 //! Finding in what a source gives: cut into pieces, ended early, and with devices that fail.
 
 use super::faulty::{Fault, Reader};
-use super::{BLOB, BLOB_256, NO_MATCH, TREE, TREE_256, printed, shown, text_of};
+use super::{BLOB, BLOB_256, NO_MATCH, TREE, TREE_256, text_of};
+use crate::expecting::{expect_bytes, expect_printed, expect_shown};
 use devices::into_slice::IntoSlice;
 use devices::plain::Plain;
 use gix_hash::{decode, prefix};
 use list_search::finding_from::{FindFromError, find_from};
-use std::alloc::{AllocError, Global};
 use std::process::Abort;
 use std::test::Fail;
 
 // The four ids in their order.
-fn list(alloc: Global) -> Result<String, AllocError> {
-    text_of(alloc, [BLOB_256, TREE, TREE_256, BLOB].as_slice())
+fn list(rt: &(impl Abort + AllocGlobal)) -> String {
+    text_of(rt, [BLOB_256, TREE, TREE_256, BLOB].as_slice())
 }
 
 // Finds the prefix in what the reader gives in pieces of so many bytes, and compares the answer's
@@ -24,25 +24,18 @@ fn expect_from(
     reader: (usize, Fault),
     answer: &str,
     written: &str,
-) -> Result<usize, Fail> {
+) -> usize {
     let (piece, fault) = reader;
     let mut input = Plain::new(Reader::new(list, piece, fault));
     let mut buf = [0; 256];
     let mut out = IntoSlice::new(&mut buf);
     let found = find_from(rt.alloc(), prefix, &mut input, &mut out);
-    assert!(rt;
-        matches!(found, Err(FindFromError::Input)) == input.failed(),
-        "a failure of the reader is told"
-    );
-    assert!(rt;
-        shown(rt.alloc(), found)?.as_str() == answer,
-        "the answer for {prefix} in pieces of {piece}"
-    );
-    assert!(rt;
-        out.written() == written.as_bytes(),
-        "the output for {prefix} in pieces of {piece}"
-    );
-    Ok(input.into_inner().calls())
+    let row = (prefix, piece);
+    let is_told = matches!(found, Err(FindFromError::Input));
+    expect!(rt; is_told == input.failed(), &row);
+    expect_bytes(rt, out.written(), written.as_bytes(), &row);
+    expect_shown(rt, found, answer, &row);
+    input.into_inner().calls()
 }
 
 /// As `expect_from`, of a reader that does not fail, in pieces of 1, of 7 and of 41 bytes, and whole.
@@ -52,25 +45,23 @@ pub fn expect_however_cut(
     list: &[u8],
     answer: &str,
     written: &str,
-) -> Result<(), Fail> {
+) {
     for piece in [1, 7, 41, usize::MAX] {
-        expect_from(rt, prefix, list, (piece, Fault::Never), answer, written)?;
+        expect_from(rt, prefix, list, (piece, Fault::Never), answer, written);
     }
-    Ok(())
 }
 
 #[test]
-fn finds_however_it_is_cut(rt: HostRuntime) -> Result<(), Fail> {
-    let all = list(rt.alloc())?;
+fn finds_however_it_is_cut(rt: HostRuntime) {
+    let all = list(&rt);
     let all = all.as_bytes();
     assert!(&rt; !all.is_empty());
     for list in [all, &all[..all.len() - 1]] {
-        expect_however_cut(&rt, "4b82", list, "Ok(1)", TREE)?;
-        expect_however_cut(&rt, "473a0f", list, "Ok(1)", BLOB_256)?;
-        expect_however_cut(&rt, "e69d", list, "Ok(1)", BLOB)?;
-        expect_however_cut(&rt, "ffff", list, "Ok(0)", NO_MATCH)?;
+        expect_however_cut(&rt, "4b82", list, "Ok(1)", TREE);
+        expect_however_cut(&rt, "473a0f", list, "Ok(1)", BLOB_256);
+        expect_however_cut(&rt, "e69d", list, "Ok(1)", BLOB);
+        expect_however_cut(&rt, "ffff", list, "Ok(0)", NO_MATCH);
     }
-    Ok(())
 }
 
 #[test]
@@ -79,16 +70,16 @@ fn tells_the_whole_length_of_a_bad_line(rt: HostRuntime) -> Result<(), Fail> {
     let told = "Err(BadLine { line: 1, error: InvalidHexEncodingLength(70000) })";
     for piece in [4096, 65_536, usize::MAX] {
         let reader = (piece, Fault::Never);
-        expect_from(&rt, "4b82", &zeros, reader, told, NO_MATCH)?;
+        expect_from(&rt, "4b82", &zeros, reader, told, NO_MATCH);
     }
     Ok(())
 }
 
 #[test]
-fn reads_no_further_than_a_refusal(rt: HostRuntime) -> Result<(), Fail> {
+fn reads_no_further_than_a_refusal(rt: HostRuntime) {
     let bad_line = "Err(BadLine { line: 1, error: InvalidHexEncodingLength(2) })";
     let too_short = "Err(Prefix(TooShort { hex_len: 3 }))";
-    let ended = text_of(rt.alloc(), ["zz\n", TREE].as_slice())?;
+    let ended = text_of(&rt, ["zz\n", TREE].as_slice());
     let ended = ended.as_bytes();
     let failing = |piece, after| (piece, Fault::AfterBytes(after));
     let rows = [
@@ -99,29 +90,28 @@ fn reads_no_further_than_a_refusal(rt: HostRuntime) -> Result<(), Fail> {
         ("abc", ended, failing(1, 0), too_short, 0),
     ];
     for (prefix, list, reader, answer, calls) in rows {
-        let called = expect_from(&rt, prefix, list, reader, answer, NO_MATCH)?;
-        assert!(&rt; called == calls, "the reads for {answer}");
+        let called = expect_from(&rt, prefix, list, reader, answer, NO_MATCH);
+        expect!(&rt; called == calls, &answer);
     }
-    Ok(())
 }
 
 #[test]
-fn tells_each_read_that_fails(rt: HostRuntime) -> Result<(), Fail> {
-    let list = list(rt.alloc())?;
+fn tells_each_read_that_fails(rt: HostRuntime) {
+    let list = list(&rt);
     let list = list.as_bytes();
     // 212 bytes in pieces of 7, and the read that meets the end.
     for at in 1..=32 {
         for fault in [Fault::AtCall(at), Fault::InterruptedAt(at)] {
-            let calls = expect_from(&rt, "4b82", list, (7, fault), "Err(Input)", NO_MATCH)?;
-            assert!(&rt; calls == at, "nothing is read behind a failure");
+            let calls = expect_from(&rt, "4b82", list, (7, fault), "Err(Input)", NO_MATCH);
+            // Nothing is read behind a failure.
+            expect!(&rt; calls == at, &at);
         }
     }
-    expect_from(&rt, "4b82", list, (7, Fault::AtCall(33)), "Ok(1)", TREE)?;
-    Ok(())
+    expect_from(&rt, "4b82", list, (7, Fault::AtCall(33)), "Ok(1)", TREE);
 }
 
 #[test]
-fn prints_refusals(rt: HostRuntime) -> Result<(), Fail> {
+fn prints_refusals(rt: HostRuntime) {
     let error = decode::Error::InvalidHexEncodingLength(2);
     let min = 40;
     let rows = [
@@ -147,7 +137,6 @@ fn prints_refusals(rt: HostRuntime) -> Result<(), Fail> {
         (FindFromError::TooMuch, "too much input"),
     ];
     for (error, text) in rows {
-        assert!(&rt; printed(rt.alloc(), error)?.as_str() == text);
+        expect_printed(&rt, error, text);
     }
-    Ok(())
 }

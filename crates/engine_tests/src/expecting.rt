@@ -1,0 +1,35 @@
+//! Assertions that are calls, and tell their condition in words.
+
+use std::fmt::{Debug, Display};
+use std::process::Abort;
+
+pub fn expect(rt: &impl Abort, holds: bool, condition: &str) {
+    assert!(rt; holds, "assertion failed: {condition}");
+}
+
+/// As `expect`, of a row of a table.
+pub fn expect_of<T: Debug>(rt: &impl Abort, holds: bool, condition: &str, row: &T) {
+    assert!(rt; holds, "assertion failed for {row:?}: {condition}");
+}
+
+/// The value's Debug text, of a row of a table.
+pub fn expect_shown<T: Debug + Drop, U: Debug>(
+    rt: &(impl Abort + AllocGlobal),
+    value: T,
+    want: &str,
+    row: &U,
+) {
+    let text = format!(in rt.alloc(); "{value:?}").expect(rt, "no memory for a text");
+    assert!(rt; text.as_str() == want, "{text} for {row:?}");
+}
+
+/// The value prints so.
+pub fn expect_printed<T: Display + Drop>(rt: &(impl Abort + AllocGlobal), value: T, want: &str) {
+    let text = format!(in rt.alloc(); "{value}").expect(rt, "no memory for a text");
+    assert!(rt; text.as_str() == want, "{text}");
+}
+
+/// The bytes are those of the text, of a row of a table.
+pub fn expect_bytes<T: Debug>(rt: &impl Abort, bytes: &[u8], want: &[u8], row: &T) {
+    assert!(rt; bytes == want, "{bytes:?} for {row:?}");
+}
