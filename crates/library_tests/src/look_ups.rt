@@ -1,6 +1,6 @@
 //! Runs in lists of the well-known ids and in a list of a thousand, by tables.
 
-use crate::types::{BLOB, BLOB_256, TREE, TREE_256, id};
+use crate::types::{BLOB, BLOB_256, TREE, TREE_256, expect_text, id};
 use gix_hash::{Kind, ObjectId, Prefix};
 use id_lookup::{Probes, Run, SortedIds, begins_with, bits_of, lookup};
 use std::cmp::Ordering;
@@ -49,38 +49,34 @@ fn expect_run(rt: &impl Abort, list: &SortedIds<'_>, prefix: &Prefix, want: Run,
     expect!(rt; list.find(prefix) == want, prefix);
 }
 
-fn expect_runs(
-    rt: &impl Abort,
-    ids: &[ObjectId],
-    most: u64,
-    rows: &[(&str, usize, usize)],
-) -> Result<(), Fail> {
-    let list = SortedIds::try_new(ids)?;
+fn expect_runs(rt: &impl Abort, ids: &[ObjectId], most: u64, rows: &[(&str, usize, usize)]) {
+    let list = SortedIds::try_new(ids).expect(rt, "ids out of order");
     for &(digits, start, end) in rows {
-        let prefix = Prefix::from_hex_nonempty(digits)?;
+        let prefix = Prefix::from_hex_nonempty(digits).expect(rt, "digits that are no prefix");
         expect_run(rt, &list, &prefix, Run { start, end }, most);
     }
-    Ok(())
 }
 
 #[test]
-fn empty_list(rt: HostRuntime) -> Result<(), Fail> {
-    let list = SortedIds::try_new(&[])?;
+fn empty_list(rt: HostRuntime) {
+    let list = SortedIds::try_new(&[]).expect(&rt, "ids out of order");
     expect!(&rt; list.min_hex_len() == 64);
     expect!(&rt; list.len() == 0);
     expect!(&rt; list.is_empty());
-    expect_runs(&rt, &[], 0, &[("e69d", 0, 0)])
+    expect_runs(&rt, &[], 0, &[("e69d", 0, 0)]);
 }
 
 #[test]
-fn well_known_ids(rt: HostRuntime) -> Result<(), Fail> {
+fn well_known_ids(rt: HostRuntime) {
     let ids = well_known();
-    let list = SortedIds::try_new(&ids)?;
+    let list = SortedIds::try_new(&ids).expect(&rt, "ids out of order");
     expect!(&rt; list.min_hex_len() == 40);
     expect!(&rt; !list.is_empty());
     assert!(rt; list.len() == 4);
-    expect!(&rt; list.get(3).as_oid() == id(BLOB)?.as_oid());
-    expect!(&rt; SortedIds::try_new(&[id(BLOB_256)?, id(TREE_256)?])?.min_hex_len() == 64);
+    expect!(&rt; list.get(3).as_oid() == id(&rt, BLOB).as_oid());
+    let wide_ids = [id(&rt, BLOB_256), id(&rt, TREE_256)];
+    let wide_list = SortedIds::try_new(&wide_ids).expect(&rt, "ids out of order");
+    expect!(&rt; wide_list.min_hex_len() == 64);
     expect_runs(
         &rt,
         &ids,
@@ -93,63 +89,63 @@ fn well_known_ids(rt: HostRuntime) -> Result<(), Fail> {
             ("ffff", 4, 4),
             (BLOB, 3, 4),
         ],
-    )
+    );
 }
 
 // The beginnings of one id of four, of each number of digits.
 #[test]
-fn each_number_of_digits(rt: HostRuntime) -> Result<(), Fail> {
+fn each_number_of_digits(rt: HostRuntime) {
     let ids = well_known();
-    let list = SortedIds::try_new(&ids)?;
-    let nothing = id(BLOB)?.to_prefix(0..0);
+    let list = SortedIds::try_new(&ids).expect(&rt, "ids out of order");
+    let nothing = id(&rt, BLOB).to_prefix(0..0);
     expect_run(&rt, &list, &nothing, Run { start: 0, end: 4 }, 6);
     for hex_len in 1..=40 {
-        let digits = BLOB.get(..hex_len).ok_or("the id has fewer digits")?;
-        let prefix = Prefix::from_hex_nonempty(digits)?;
+        let digits = BLOB.get(..hex_len).expect(&rt, "the id has fewer digits");
+        let prefix = Prefix::from_hex_nonempty(digits).expect(&rt, "digits that are no prefix");
         expect_run(&rt, &list, &prefix, Run { start: 3, end: 4 }, 6);
     }
-    Ok(())
 }
 
 #[test]
-fn five_copies(rt: HostRuntime) -> Result<(), Fail> {
-    let blob = id(BLOB)?;
+fn five_copies(rt: HostRuntime) {
+    let blob = id(&rt, BLOB);
     let ids = [blob; 5];
-    expect_runs(&rt, &ids, 6, &[("e69d", 0, 5)])?;
-    let list = SortedIds::try_new(&ids)?;
+    expect_runs(&rt, &ids, 6, &[("e69d", 0, 5)]);
+    let list = SortedIds::try_new(&ids).expect(&rt, "ids out of order");
     let nothing = blob.to_prefix(0..0);
     expect!(&rt; nothing.hex_len() == 0);
     expect_run(&rt, &list, &nothing, Run { start: 0, end: 5 }, 6);
-    Ok(())
 }
 
 #[test]
-fn thousand_ids(rt: HostRuntime) -> Result<(), Fail> {
+fn thousand_ids(rt: HostRuntime) {
     expect_runs(
         &rt,
         &thousand(),
         20,
         &[("0200", 512, 513), ("03", 768, 1000), ("ffff", 1000, 1000)],
-    )
+    );
 }
 
 #[test]
-fn not_sorted(rt: HostRuntime) -> Result<(), Fail> {
-    let ids = [id(TREE)?, id(BLOB)?, id(BLOB_256)?, id(TREE_256)?];
-    let refusal = SortedIds::try_new(&ids)
-        .err()
-        .ok_or("it is taken for sorted")?;
+fn not_sorted(rt: HostRuntime) {
+    let ids = [
+        id(&rt, TREE),
+        id(&rt, BLOB),
+        id(&rt, BLOB_256),
+        id(&rt, TREE_256),
+    ];
+    let refusal = SortedIds::try_new(&ids).err();
+    let refusal = refusal.expect(&rt, "it is taken for sorted");
     expect!(&rt; refusal.at == 2);
-    let text = format!(in rt.alloc(); "{refusal}")?;
-    expect!(&rt; text.as_str() == "the id at place 2 is below the one before it");
-    Ok(())
+    expect_text(&rt, refusal, "the id at place 2 is below the one before it");
 }
 
 #[test]
-fn one_ask_at_a_time(rt: HostRuntime) -> Result<(), Fail> {
+fn one_ask_at_a_time(rt: HostRuntime) {
     let ids = well_known();
-    let list = SortedIds::try_new(&ids)?;
-    let prefix = Prefix::from_hex("4b82")?;
+    let list = SortedIds::try_new(&ids).expect(&rt, "ids out of order");
+    let prefix = Prefix::from_hex("4b82").expect(&rt, "digits that are no prefix");
     assert!(rt; prefix.hex_len() <= list.min_hex_len());
     let mut probes = Probes::new(&list, prefix);
     expect!(&rt; !probes.is_empty());
@@ -163,22 +159,20 @@ fn one_ask_at_a_time(rt: HostRuntime) -> Result<(), Fail> {
         expect!(&rt; probes.ask(at) == place, &at);
     }
     expect!(&rt; probes.asked() == 4);
-    Ok(())
 }
 
 #[test]
-fn beginnings(rt: HostRuntime) -> Result<(), Fail> {
+fn beginnings(rt: HostRuntime) {
     for (text, digits, want) in [
         (BLOB, "e69de2", true),
         (BLOB, "e69de3", false),
         (BLOB_256, "473A", true),
     ] {
-        let id = id(text)?;
-        let prefix = Prefix::from_hex(digits)?;
+        let id = id(&rt, text);
+        let prefix = Prefix::from_hex(digits).expect(&rt, "digits that are no prefix");
         assert!(rt; prefix.hex_len() <= id.kind().len_in_hex());
         expect!(&rt; begins_with(&id, &prefix) == want, &digits);
     }
-    Ok(())
 }
 
 // With no runtime there is no memory to take.

@@ -17,8 +17,7 @@ mod listeners;
 mod prefixes;
 mod streams;
 
-use gix_hash::{ObjectId, decode};
-use std::alloc::AllocError;
+use gix_hash::ObjectId;
 use std::cmp::Ordering;
 use std::error::Error;
 use std::fmt::{Debug, Display};
@@ -50,56 +49,37 @@ const BLOB_256_BYTES: [u8; 32] = [
     0xda, 0x11, 0x85, 0x43, 0x6f, 0xe1, 0x41, 0xf7, 0x74, 0x91, 0x20, 0xa3, 0x03, 0x72, 0x18, 0x13,
 ];
 
-pub fn id(text: &str) -> Result<ObjectId, decode::Error> {
-    ObjectId::from_hex(text.as_bytes())
+pub fn id(rt: &impl Abort, text: &str) -> ObjectId {
+    ObjectId::from_hex(text.as_bytes()).expect(rt, "a text that is no id")
 }
 
 // The value prints so.
-pub fn expect_text<T: Display + Drop>(
-    rt: &(impl Abort + AllocGlobal),
-    value: T,
-    want: &str,
-) -> Result<(), AllocError> {
-    let text = format!(in rt.alloc(); "{value}")?;
-    expect!(rt; text.as_str() == want);
-    Ok(())
+pub fn expect_text<T: Display + Drop>(rt: &(impl Abort + AllocGlobal), value: T, want: &str) {
+    let text = format!(in rt.alloc(); "{value}").expect(rt, "no memory for a text");
+    expect!(rt; text.as_str() == want, &want);
 }
 
 // The value prints so whatever width, fill and precision are asked for.
-fn expect_whole<T: Display + Drop>(
-    rt: &(impl Abort + AllocGlobal),
-    value: T,
-    want: &str,
-) -> Result<(), AllocError> {
-    let wide = format!(in rt.alloc(); "{value:>70}")?;
-    expect!(rt; wide.as_str() == want);
-    let filled = format!(in rt.alloc(); "{value:*^70}")?;
-    expect!(rt; filled.as_str() == want);
-    let cut = format!(in rt.alloc(); "{value:.3}")?;
-    expect!(rt; cut.as_str() == want);
-    Ok(())
+fn expect_whole<T: Display + Drop>(rt: &(impl Abort + AllocGlobal), value: T, want: &str) {
+    let wide = format!(in rt.alloc(); "{value:>70}").expect(rt, "no memory for a text");
+    expect!(rt; wide.as_str() == want, &want);
+    let filled = format!(in rt.alloc(); "{value:*^70}").expect(rt, "no memory for a text");
+    expect!(rt; filled.as_str() == want, &want);
+    let cut = format!(in rt.alloc(); "{value:.3}").expect(rt, "no memory for a text");
+    expect!(rt; cut.as_str() == want, &want);
 }
 
 // The value's Debug text.
-fn expect_debug<T: Debug + Drop>(
-    rt: &(impl Abort + AllocGlobal),
-    value: T,
-    want: &str,
-) -> Result<(), AllocError> {
-    let text = format!(in rt.alloc(); "{value:?}")?;
-    expect!(rt; text.as_str() == want);
-    Ok(())
+fn expect_debug<T: Debug + Drop>(rt: &(impl Abort + AllocGlobal), value: T, want: &str) {
+    let text = format!(in rt.alloc(); "{value:?}").expect(rt, "no memory for a text");
+    expect!(rt; text.as_str() == want, &want);
 }
 
 // The error prints so, and has some Debug text.
-fn expect_error<E: Error + Drop>(
-    rt: &(impl Abort + AllocGlobal),
-    error: E,
-    want: &str,
-) -> Result<(), AllocError> {
-    let shown = format!(in rt.alloc(); "{error:?}")?;
+fn expect_error<E: Error + Drop>(rt: &(impl Abort + AllocGlobal), error: E, want: &str) {
+    let shown = format!(in rt.alloc(); "{error:?}").expect(rt, "no memory for a text");
     expect!(rt; !shown.is_empty());
-    expect_text(rt, error, want)
+    expect_text(rt, error, want);
 }
 
 // The value or the error prints so; no error's text is a value's.
@@ -107,7 +87,7 @@ fn expect_answer<T: Display + Drop, E: Display + Drop>(
     rt: &(impl Abort + AllocGlobal),
     answer: Result<T, E>,
     want: &str,
-) -> Result<(), AllocError> {
+) {
     match answer {
         Ok(value) => expect_text(rt, value, want),
         Err(error) => expect_text(rt, error, want),

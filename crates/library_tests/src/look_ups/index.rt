@@ -8,12 +8,9 @@ use id_lookup::{Answer, IdIndex, IndexError, Run, lookup_in};
 use std::process::Abort;
 use std::test::Fail;
 
-fn refusal(ids: &[ObjectId], kind: Kind) -> Result<IndexError, Fail> {
-    Ok(
-        IdIndex::try_new(ids, kind)
-            .err()
-            .ok_or("it is taken for an index")?,
-    )
+fn refusal(rt: &impl Abort, ids: &[ObjectId], kind: Kind) -> IndexError {
+    let refusal = IdIndex::try_new(ids, kind).err();
+    refusal.expect(rt, "it is taken for an index")
 }
 
 // The run that probes find, by at most `most` asks. The index and the prefix stay.
@@ -42,25 +39,18 @@ fn expect_answer(rt: &impl Abort, index: &IdIndex<'_>, prefix: &Prefix, want: An
 }
 
 // What an index answers on a prefix, by the look-up and by probes with at most `most` asks.
-fn expect_found(
-    rt: &impl Abort,
-    index: &IdIndex<'_>,
-    digits: &str,
-    run: Run,
-    most: u64,
-) -> Result<(), Fail> {
-    let prefix = Prefix::from_hex_nonempty(digits)?;
+fn expect_found(rt: &impl Abort, index: &IdIndex<'_>, digits: &str, run: Run, most: u64) {
+    let prefix = Prefix::from_hex_nonempty(digits).expect(rt, "digits that are no prefix");
     expect_probed(rt, index, &prefix, run, most);
     expect_answer(rt, index, &prefix, answer_of(run));
-    Ok(())
 }
 
 #[test]
-fn no_index(rt: HostRuntime) -> Result<(), Fail> {
-    let tree = id(TREE)?;
-    let blob = id(BLOB)?;
-    let tree_256 = id(TREE_256)?;
-    let blob_256 = id(BLOB_256)?;
+fn no_index(rt: HostRuntime) {
+    let tree = id(&rt, TREE);
+    let blob = id(&rt, BLOB);
+    let tree_256 = id(&rt, TREE_256);
+    let blob_256 = id(&rt, BLOB_256);
     let rows: [(&[ObjectId], Kind, IndexError); 6] = [
         (
             &[blob_256, tree, tree_256, blob],
@@ -82,13 +72,12 @@ fn no_index(rt: HostRuntime) -> Result<(), Fail> {
         ),
     ];
     for (ids, kind, want) in rows {
-        expect!(&rt; refusal(ids, kind)? == want);
+        expect!(&rt; refusal(&rt, ids, kind) == want, &want);
     }
-    Ok(())
 }
 
 #[test]
-fn index_errors(rt: HostRuntime) -> Result<(), Fail> {
+fn index_errors(rt: HostRuntime) {
     for (error, want) in [
         (
             IndexError::WrongKind { at: 3 },
@@ -99,35 +88,34 @@ fn index_errors(rt: HostRuntime) -> Result<(), Fail> {
             "the id at place 1 is not above the one before it",
         ),
     ] {
-        expect_text(&rt, error, want)?;
+        expect_text(&rt, error, want);
     }
-    Ok(())
 }
 
 #[test]
-fn empty_index(rt: HostRuntime) -> Result<(), Fail> {
-    let index = IdIndex::try_new(&[], Kind::Sha1)?;
+fn empty_index(rt: HostRuntime) {
+    let index = IdIndex::try_new(&[], Kind::Sha1).expect(&rt, "ids of no index");
     expect!(&rt; index.len() == 0);
     expect!(&rt; index.is_empty());
-    expect_found(&rt, &index, "4b82", Run { start: 0, end: 0 }, 0)
+    expect_found(&rt, &index, "4b82", Run { start: 0, end: 0 }, 0);
 }
 
 #[test]
-fn first_bytes_of_two(rt: HostRuntime) -> Result<(), Fail> {
-    let ids = [id(TREE)?, id(BLOB)?];
-    let index = IdIndex::try_new(&ids, Kind::Sha1)?;
+fn first_bytes_of_two(rt: HostRuntime) {
+    let ids = [id(&rt, TREE), id(&rt, BLOB)];
+    let index = IdIndex::try_new(&ids, Kind::Sha1).expect(&rt, "ids of no index");
     expect!(&rt; index.kind() == Kind::Sha1);
     expect!(&rt; !index.is_empty());
     for (byte, want) in [(0x4a, 0), (0x4b, 1), (0xe5, 1), (0xe6, 2), (0xff, 2)] {
         expect!(&rt; index.fan_out().up_to(byte) == want, &byte);
     }
-    expect_found(&rt, &index, "4b82", Run { start: 0, end: 1 }, 2)
+    expect_found(&rt, &index, "4b82", Run { start: 0, end: 1 }, 2);
 }
 
 #[test]
-fn index_of_a_thousand(rt: HostRuntime) -> Result<(), Fail> {
+fn index_of_a_thousand(rt: HostRuntime) {
     let ids = thousand();
-    let index = IdIndex::try_new(&ids, Kind::Sha1)?;
+    let index = IdIndex::try_new(&ids, Kind::Sha1).expect(&rt, "ids of no index");
     expect!(&rt; index.len() == 1000);
     for (digits, start, end, most) in [
         ("0200", 512, 513, 18),
@@ -136,37 +124,35 @@ fn index_of_a_thousand(rt: HostRuntime) -> Result<(), Fail> {
         ("1", 1000, 1000, 0),
         ("04", 1000, 1000, 0),
     ] {
-        expect_found(&rt, &index, digits, Run { start, end }, most)?;
+        expect_found(&rt, &index, digits, Run { start, end }, most);
     }
-    Ok(())
 }
 
 #[test]
-fn index_of_sha256(rt: HostRuntime) -> Result<(), Fail> {
-    let ids = [id(BLOB_256)?, id(TREE_256)?];
-    let index = IdIndex::try_new(&ids, Kind::Sha256)?;
-    let beginning = TREE_256.get(..41).ok_or("the id has fewer digits")?;
-    expect_found(&rt, &index, beginning, Run { start: 1, end: 2 }, 2)?;
+fn index_of_sha256(rt: HostRuntime) {
+    let ids = [id(&rt, BLOB_256), id(&rt, TREE_256)];
+    let index = IdIndex::try_new(&ids, Kind::Sha256).expect(&rt, "ids of no index");
+    let beginning = TREE_256.get(..41).expect(&rt, "the id has fewer digits");
+    expect_found(&rt, &index, beginning, Run { start: 1, end: 2 }, 2);
     expect_found(&rt, &index, BLOB_256, Run { start: 0, end: 1 }, 2)
 }
 
 // Two ids that share four digits, and a third.
-fn two_alike() -> Result<[ObjectId; 3], Fail> {
-    Ok([
-        id("abcd000000000000000000000000000000000000")?,
-        id("abcd100000000000000000000000000000000000")?,
-        id("ffff000000000000000000000000000000000000")?,
-    ])
+fn two_alike(rt: &impl Abort) -> [ObjectId; 3] {
+    [
+        id(rt, "abcd000000000000000000000000000000000000"),
+        id(rt, "abcd100000000000000000000000000000000000"),
+        id(rt, "ffff000000000000000000000000000000000000"),
+    ]
 }
 
 #[test]
-fn none_one_and_many(rt: HostRuntime) -> Result<(), Fail> {
-    let ids = two_alike()?;
-    let index = IdIndex::try_new(&ids, Kind::Sha1)?;
+fn none_one_and_many(rt: HostRuntime) {
+    let ids = two_alike(&rt);
+    let index = IdIndex::try_new(&ids, Kind::Sha1).expect(&rt, "ids of no index");
     for (digits, start, end) in [("abcd", 0, 2), ("abcd1", 1, 2), ("abce", 2, 2)] {
-        expect_found(&rt, &index, digits, Run { start, end }, 4)?;
+        expect_found(&rt, &index, digits, Run { start, end }, 4);
     }
-    Ok(())
 }
 
 // The member at a place has its name, and by that it is found alone.
@@ -179,62 +165,54 @@ fn expect_name(rt: &impl Abort, index: &IdIndex<'_>, at: usize, want: &str) {
     expect!(rt; find_own_name(index, at) == Answer::One(at), &want);
 }
 
-fn expect_names(rt: &impl Abort, ids: &[ObjectId], names: &[&str]) -> Result<(), Fail> {
-    let index = IdIndex::try_new(ids, Kind::Sha1)?;
+fn expect_names(rt: &impl Abort, ids: &[ObjectId], names: &[&str]) {
+    let index = IdIndex::try_new(ids, Kind::Sha1).expect(rt, "ids of no index");
     expect!(rt; names.len() == index.len());
     for (at, name) in names.iter().enumerate() {
         expect_name(rt, &index, at, name);
     }
-    Ok(())
 }
 
 // A member's name is printed, read in the kind of the index, and found: the member alone.
-fn expect_read_name(
-    rt: &(impl Abort + AllocGlobal),
-    index: &IdIndex<'_>,
-    at: usize,
-    want: &str,
-) -> Result<(), Fail> {
+fn expect_read_name(rt: &(impl Abort + AllocGlobal), index: &IdIndex<'_>, at: usize, want: &str) {
     assert!(rt; at < index.len());
-    expect_text(rt, index.abbreviate(at), want)?;
-    let read = Prefix::from_hex_in(index.kind(), want)?;
+    expect_text(rt, index.abbreviate(at), want);
+    let read = Prefix::from_hex_in(index.kind(), want).expect(rt, "a name that is no prefix");
     expect_answer(rt, index, &read, Answer::One(at));
-    Ok(())
 }
 
-fn expect_read_names(
-    rt: &(impl Abort + AllocGlobal),
-    ids: &[ObjectId],
-    names: &[&str],
-) -> Result<(), Fail> {
-    let index = IdIndex::try_new(ids, Kind::Sha1)?;
+fn expect_read_names(rt: &(impl Abort + AllocGlobal), ids: &[ObjectId], names: &[&str]) {
+    let index = IdIndex::try_new(ids, Kind::Sha1).expect(rt, "ids of no index");
     expect!(rt; names.len() == index.len());
     for (at, name) in names.iter().enumerate() {
-        expect_read_name(rt, &index, at, name)?;
+        expect_read_name(rt, &index, at, name);
     }
-    Ok(())
 }
 
 #[test]
-fn names_read_back(rt: HostRuntime) -> Result<(), Fail> {
-    expect_read_names(&rt, &two_alike()?, &["abcd0", "abcd1", "ffff"])
+fn names_read_back(rt: HostRuntime) {
+    expect_read_names(&rt, &two_alike(&rt), &["abcd0", "abcd1", "ffff"]);
 }
 
 #[test]
-fn shortest_names(rt: HostRuntime) -> Result<(), Fail> {
+fn shortest_names(rt: HostRuntime) {
     let zeros = "0000000000000000000000000000000000000000";
     let last_one = "0000000000000000000000000000000000000001";
-    expect_names(&rt, &[id(TREE)?], &["4b82"])?;
-    expect_names(&rt, &[id(zeros)?, id(last_one)?], &[zeros, last_one])?;
-    expect_names(&rt, &two_alike()?, &["abcd0", "abcd1", "ffff"])?;
-    expect_names(&rt, &[id(TREE)?, id(BLOB)?], &["4b82", "e69d"])?;
+    expect_names(&rt, &[id(&rt, TREE)], &["4b82"]);
+    expect_names(
+        &rt,
+        &[id(&rt, zeros), id(&rt, last_one)],
+        &[zeros, last_one],
+    );
+    expect_names(&rt, &two_alike(&rt), &["abcd0", "abcd1", "ffff"]);
+    expect_names(&rt, &[id(&rt, TREE), id(&rt, BLOB)], &["4b82", "e69d"]);
     expect_names(
         &rt,
         &[
-            id("12340000000000000000000000000000000000ff")?,
-            id("1234567800000000000000000000000000000000")?,
-            id("1234567900000000000000000000000000000000")?,
-            id("1235000000000000000000000000000000000000")?,
+            id(&rt, "12340000000000000000000000000000000000ff"),
+            id(&rt, "1234567800000000000000000000000000000000"),
+            id(&rt, "1234567900000000000000000000000000000000"),
+            id(&rt, "1235000000000000000000000000000000000000"),
         ],
         &["12340", "12345678", "12345679", "1235"],
     )
@@ -243,7 +221,7 @@ fn shortest_names(rt: HostRuntime) -> Result<(), Fail> {
 // With no runtime there is no memory to take.
 #[test]
 fn index_without_a_runtime() -> Result<(), Fail> {
-    let ids = [id(TREE)?, id(BLOB)?];
+    let ids = [Kind::Sha1.empty_tree(), Kind::Sha1.empty_blob()];
     let index = IdIndex::try_new(&ids, Kind::Sha1)?;
     let prefix = Prefix::from(ids[1]);
     if prefix.as_oid().kind() != index.kind() {

@@ -6,7 +6,6 @@ use gix_hash::prefix::from_hex;
 use gix_hash::{ChangeId, Kind, ObjectId, Prefix, decode};
 use std::alloc::{AllocError, Global};
 use std::process::Abort;
-use std::test::Fail;
 
 /// What a call answers.
 #[derive(Clone, Copy, PartialEq, Eq, Debug)]
@@ -81,12 +80,16 @@ impl Answer {
     }
 }
 
-fn text_of(alloc: Global, letter: char, len: usize) -> Result<String, AllocError> {
+fn repeated(alloc: Global, letter: char, len: usize) -> Result<String, AllocError> {
     let mut text = String::new(alloc);
     for _ in 0..len {
         text.push(letter)?;
     }
     Ok(text)
+}
+
+fn text_of(rt: &(impl Abort + AllocGlobal), letter: char, len: usize) -> String {
+    repeated(rt.alloc(), letter, len).expect(rt, "no memory for a text")
 }
 
 // The answer on a whole id, and the number of bytes that it tells.
@@ -152,10 +155,10 @@ fn expect_reverse(rt: &impl Abort, text: &str, row: &Row) {
 
 // In the alphabet of the other calls the texts have the same lengths, but no digits.
 #[test]
-fn each_length(rt: HostRuntime) -> Result<(), Fail> {
+fn each_length(rt: HostRuntime) {
     for row in rows() {
-        let hex = text_of(rt.alloc(), '0', row.len)?;
-        let letters = text_of(rt.alloc(), 'z', row.len)?;
+        let hex = text_of(&rt, '0', row.len);
+        let letters = text_of(&rt, 'z', row.len);
         let without_digits = Row {
             len: row.len,
             id: row.id.without_digits(),
@@ -169,14 +172,13 @@ fn each_length(rt: HostRuntime) -> Result<(), Fail> {
         expect_reverse(&rt, letters.as_str(), &row);
         expect_reverse(&rt, hex.as_str(), &without_digits);
     }
-    Ok(())
 }
 
 // Lengths count bytes, and no letter but the sixteen of an alphabet is a digit: the Kelvin sign, whose
 // lowercase is `k`, takes three bytes.
 #[test]
-fn letters_that_are_no_digits(rt: HostRuntime) -> Result<(), Fail> {
-    let g_65 = text_of(rt.alloc(), 'g', 65)?;
+fn letters_that_are_no_digits(rt: HostRuntime) {
+    let g_65 = text_of(&rt, 'g', 65);
     for (text, len, prefix, nonempty) in [
         ("é", 2, TooShort, Invalid),
         ("éé", 4, Invalid, Invalid),
@@ -189,18 +191,22 @@ fn letters_that_are_no_digits(rt: HostRuntime) -> Result<(), Fail> {
         expect_prefix(&rt, Prefix::from_reverse_hex(text), len, prefix);
         expect_prefix(&rt, Prefix::from_reverse_hex_nonempty(text), len, nonempty);
     }
-    Ok(())
 }
 
 #[test]
-fn prefixes_of_a_given_kind(rt: HostRuntime) -> Result<(), Fail> {
-    let blob = id(BLOB_256)?;
-    let six = Prefix::new(blob.as_oid(), 6)?;
-    expect!(&rt; Prefix::from_hex_in(Kind::Sha256, "473a0f")? == six);
-    expect!(&rt; Prefix::from_hex_in(Kind::Sha256, "473A0F")? == six);
-    expect!(&rt; Prefix::from_hex_in(Kind::Sha1, "473a0f")? != six);
-    expect!(&rt; Prefix::from_hex_in(Kind::Sha256, BLOB_256)? == Prefix::from(blob));
-    let g_41 = text_of(rt.alloc(), 'g', 41)?;
+fn prefixes_of_a_given_kind(rt: HostRuntime) {
+    let blob = id(&rt, BLOB_256);
+    let six = Prefix::new(blob.as_oid(), 6).expect(&rt, "six digits are no prefix");
+    for (kind, text, prefix, is_same) in [
+        (Kind::Sha256, "473a0f", six, true),
+        (Kind::Sha256, "473A0F", six, true),
+        (Kind::Sha1, "473a0f", six, false),
+        (Kind::Sha256, BLOB_256, Prefix::from(blob), true),
+    ] {
+        let read = Prefix::from_hex_in(kind, text).expect(&rt, "a text that is no prefix");
+        expect!(&rt; (read == prefix) == is_same, &text);
+    }
+    let g_41 = text_of(&rt, 'g', 41);
     for (kind, text, len, want) in [
         (Kind::Sha1, "G", 1, Invalid),
         (Kind::Sha1, "", 0, TooShort),
@@ -210,5 +216,4 @@ fn prefixes_of_a_given_kind(rt: HostRuntime) -> Result<(), Fail> {
     ] {
         expect_prefix(&rt, Prefix::from_hex_in(kind, text), len, want);
     }
-    Ok(())
 }

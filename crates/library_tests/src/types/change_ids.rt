@@ -7,7 +7,6 @@ use super::{
 };
 use gix_hash::prefix::from_hex;
 use gix_hash::{Alphabet, ChangeId, Kind, ObjectId, Prefix};
-use std::alloc::AllocError;
 use std::process::Abort;
 use std::test::Fail;
 
@@ -21,40 +20,35 @@ const LETTERS_Z_65: &str = "zzzzzzzzzzzzzzzzzzzzzzzzzzzzzzzzzzzzzzzzzzzzzzzzzzzz
 const LETTERS_Z_41: &str = "zzzzzzzzzzzzzzzzzzzzzzzzzzzzzzzzzzzzzzzzz";
 
 // Reads by each of the calls that read a change id.
-fn expect_read(rt: &(impl Abort + AllocGlobal), rows: &[(&str, &str)]) -> Result<(), AllocError> {
+fn expect_read(rt: &(impl Abort + AllocGlobal), rows: &[(&str, &str)]) {
     for &(text, want) in rows {
-        expect_answer(rt, ChangeId::from_reverse_hex(text.as_bytes()), want)?;
-        expect_answer(rt, parsed::<ChangeId>(text), want)?;
+        expect_answer(rt, ChangeId::from_reverse_hex(text.as_bytes()), want);
+        expect_answer(rt, parsed::<ChangeId>(text), want);
     }
-    Ok(())
 }
 
-fn expect_read_prefix(
-    rt: &(impl Abort + AllocGlobal),
-    rows: &[(&str, &str)],
-) -> Result<(), AllocError> {
+fn expect_read_prefix(rt: &(impl Abort + AllocGlobal), rows: &[(&str, &str)]) {
     for &(text, want) in rows {
-        expect_answer(rt, Prefix::from_reverse_hex(text), want)?;
+        expect_answer(rt, Prefix::from_reverse_hex(text), want);
     }
-    Ok(())
 }
 
 #[test]
 fn spelled(rt: HostRuntime) -> Result<(), Fail> {
-    let blob = ChangeId::from(id(BLOB)?);
-    expect_text(&rt, blob, BLOB_LETTERS)?;
-    expect_text(&rt, ChangeId::from(id(TREE)?), TREE_LETTERS)?;
-    expect_text(&rt, blob.to_reverse_hex(), BLOB_LETTERS)?;
+    let blob = ChangeId::from(id(&rt, BLOB));
+    expect_text(&rt, blob, BLOB_LETTERS);
+    expect_text(&rt, ChangeId::from(id(&rt, TREE)), TREE_LETTERS);
+    expect_text(&rt, blob.to_reverse_hex(), BLOB_LETTERS);
     for (hex_len, want) in [
         (0, ""),
         (8, "ltqmlxqo"),
         (40, BLOB_LETTERS),
         (100, BLOB_LETTERS),
     ] {
-        expect_text(&rt, blob.to_reverse_hex_with_len(hex_len), want)?;
+        expect_text(&rt, blob.to_reverse_hex_with_len(hex_len), want);
         expect!(&rt; blob.to_reverse_hex_with_len(hex_len).eq_str(want));
     }
-    expect_text(&rt, blob.to_hex(), BLOB)?;
+    expect_text(&rt, blob.to_hex(), BLOB);
     expect!(&rt; blob.eq_str(BLOB_LETTERS) && blob.to_reverse_hex().eq_str(BLOB_LETTERS));
     expect!(&rt; !blob.eq_str(BLOB) && !blob.eq_str("LTQMLXQOOXMYMTVWVOROXQPLSSUPMRNXLVRNUWQY"));
     let shown = format!(in rt.alloc(); "{blob:?}")?;
@@ -83,15 +77,15 @@ fn read_from_text(rt: HostRuntime) -> Result<(), Fail> {
             (BLOB, "Invalid character encountered"),
             (BLOB_256, "Invalid character encountered"),
         ],
-    )?;
+    );
     expect_text(
         &rt,
         ChangeId::from_reverse_hex(TREE_LETTERS.as_bytes())?.as_oid(),
         TREE,
-    )?;
+    );
     let wide = ChangeId::from_reverse_hex(BLOB_256_LETTERS.as_bytes())?;
     expect!(&rt; wide.kind() == Kind::Sha256);
-    expect_text(&rt, wide.to_hex(), BLOB_256)?;
+    expect_text(&rt, wide.to_hex(), BLOB_256);
     Ok(())
 }
 
@@ -114,13 +108,15 @@ fn prefixes(rt: HostRuntime) -> Result<(), Fail> {
                 "An id cannot be larger than 64 chars in hex, but 65 was requested",
             ),
         ],
-    )?;
-    expect!(&rt; Prefix::from_reverse_hex_nonempty(LETTERS_Z_65).err()
-            == Some(from_hex::Error::TooLong { hex_len: 65 }));
-    expect!(&rt; Prefix::from_reverse_hex_nonempty("").err()
-            == Some(from_hex::Error::TooShort { hex_len: 0 }));
-    expect!(&rt; Prefix::from_reverse_hex_nonempty("0").err() == Some(from_hex::Error::Invalid));
-    expect!(&rt; Prefix::from_reverse_hex("zzz").err() == Some(from_hex::Error::TooShort { hex_len: 3 }));
+    );
+    let too_long = Prefix::from_reverse_hex_nonempty(LETTERS_Z_65).err();
+    expect!(&rt; too_long == Some(from_hex::Error::TooLong { hex_len: 65 }));
+    let empty = Prefix::from_reverse_hex_nonempty("").err();
+    expect!(&rt; empty == Some(from_hex::Error::TooShort { hex_len: 0 }));
+    let invalid = Prefix::from_reverse_hex_nonempty("0").err();
+    expect!(&rt; invalid == Some(from_hex::Error::Invalid));
+    let too_short = Prefix::from_reverse_hex("zzz").err();
+    expect!(&rt; too_short == Some(from_hex::Error::TooShort { hex_len: 3 }));
     for (letters, digits, kind) in [
         ("z", "0", Kind::Sha1),
         ("Lt", "e6", Kind::Sha1),
@@ -132,16 +128,16 @@ fn prefixes(rt: HostRuntime) -> Result<(), Fail> {
     ] {
         let prefix = Prefix::from_reverse_hex_nonempty(letters)?;
         expect!(&rt; prefix.as_oid().kind() == kind, &letters);
-        expect_text(&rt, prefix, digits)?;
+        expect_text(&rt, prefix, digits);
     }
-    let prefix = Prefix::new(id(BLOB)?.as_oid(), 7)?;
-    expect_text(&rt, prefix.to_reverse_hex(), "ltqmlxq")?;
+    let prefix = Prefix::new(id(&rt, BLOB).as_oid(), 7)?;
+    expect_text(&rt, prefix.to_reverse_hex(), "ltqmlxq");
     Ok(())
 }
 
 #[test]
 fn alphabets(rt: HostRuntime) -> Result<(), Fail> {
-    let blob = id(BLOB)?;
+    let blob = id(&rt, BLOB);
     for (alphabet, letters, spelled, beginning, first) in [
         (
             Alphabet::Hex,
@@ -159,8 +155,8 @@ fn alphabets(rt: HostRuntime) -> Result<(), Fail> {
         ),
     ] {
         expect!(&rt; alphabet.read_id(letters.as_bytes())? == blob);
-        expect_text(&rt, alphabet.read_prefix(beginning)?, "e69de29")?;
-        expect_text(&rt, alphabet.read_prefix_nonempty(first)?, "e")?;
+        expect_text(&rt, alphabet.read_prefix(beginning)?, "e69de29");
+        expect_text(&rt, alphabet.read_prefix_nonempty(first)?, "e");
         expect!(&rt; alphabet.read_prefix(first).is_err());
         let mut buffer = [b'#'; 41];
         let view = blob.as_oid();
@@ -169,13 +165,13 @@ fn alphabets(rt: HostRuntime) -> Result<(), Fail> {
         expect!(&rt; &buffer == spelled);
     }
     expect!(&rt; Alphabet::Hex != Alphabet::Reverse);
-    expect_debug(&rt, Alphabet::Reverse, "Reverse")?;
+    expect_debug(&rt, Alphabet::Reverse, "Reverse");
     Ok(())
 }
 
 #[test]
-fn conversions(rt: HostRuntime) -> Result<(), Fail> {
-    let blob = id(BLOB)?;
+fn conversions(rt: HostRuntime) {
+    let blob = id(&rt, BLOB);
     for change in [converted::<_, ChangeId>(blob), converted(blob.as_oid())] {
         expect!(&rt; change.kind() == Kind::Sha1);
         expect!(&rt; change.as_bytes() == BLOB_BYTES.as_slice());
@@ -187,14 +183,13 @@ fn conversions(rt: HostRuntime) -> Result<(), Fail> {
     assert!(rt; change.kind().len_in_hex() <= 42);
     change.put_reverse_hex(&mut buffer);
     expect!(&rt; &buffer == b"ltqmlxqooxmymtvwvoroxqplssupmrnxlvrnuwqy##");
-    Ok(())
 }
 
 #[test]
-fn compared(rt: HostRuntime) -> Result<(), Fail> {
-    let (blob, tree) = (ChangeId::from(id(BLOB)?), ChangeId::from(id(TREE)?));
+fn compared(rt: HostRuntime) {
+    let (blob, tree) = (ChangeId::from(id(&rt, BLOB)), ChangeId::from(id(&rt, TREE)));
     expect_below(&rt, &tree, &blob);
-    expect_same(&rt, &blob, &ChangeId::from(id(BLOB)?));
+    expect_same(&rt, &blob, &ChangeId::from(id(&rt, BLOB)));
     expect_fed(&rt, &blob, &[&BLOB_BYTES]);
     // What was asked for counts, not what is printed.
     let (asked_50, asked_100) = (
@@ -209,5 +204,4 @@ fn compared(rt: HostRuntime) -> Result<(), Fail> {
         &blob.to_reverse_hex_with_len(40),
     );
     expect_fed(&rt, &asked_50, &[&BLOB_BYTES, &[50, 0, 0, 0, 0, 0, 0, 0]]);
-    Ok(())
 }

@@ -29,23 +29,22 @@ fn expect_refused(rt: &impl Abort, answer: io::Result<()>) {
 
 #[test]
 fn options_have_no_effect(rt: HostRuntime) -> Result<(), Fail> {
-    let (blob, wide) = (id(BLOB)?, id(BLOB_256)?);
-    expect_whole(&rt, blob, BLOB)?;
-    expect_whole(&rt, wide.as_oid(), BLOB_256)?;
-    expect_whole(&rt, blob.to_hex_with_len(7), "e69de29")?;
-    expect_whole(&rt, Prefix::from_hex("e69d0")?, "e69d0")?;
+    let (blob, wide) = (id(&rt, BLOB), id(&rt, BLOB_256));
+    expect_whole(&rt, blob, BLOB);
+    expect_whole(&rt, wide.as_oid(), BLOB_256);
+    expect_whole(&rt, blob.to_hex_with_len(7), "e69de29");
+    expect_whole(&rt, Prefix::from_hex("e69d0")?, "e69d0");
     let change = ChangeId::from(blob);
-    expect_whole(&rt, change, BLOB_LETTERS)?;
-    expect_whole(&rt, change.to_reverse_hex_with_len(8), "ltqmlxqo")?;
-    expect_whole(&rt, Kind::Sha256, "sha256")?;
+    expect_whole(&rt, change, BLOB_LETTERS);
+    expect_whole(&rt, change.to_reverse_hex_with_len(8), "ltqmlxqo");
+    expect_whole(&rt, Kind::Sha256, "sha256");
     Ok(())
 }
 
 #[test]
-fn errors_are_the_writers(rt: HostRuntime) -> Result<(), Fail> {
-    let blob = id(BLOB)?;
+fn errors_are_the_writers(rt: HostRuntime) {
+    let blob = id(&rt, BLOB);
     expect_refused(&rt, blob.write_hex_to(&mut Refusing));
     expect_refused(&rt, blob.as_oid().write_hex_to(&mut Refusing));
     expect_refused(&rt, Prefix::from(blob).write_hex_to(&mut Refusing));
-    Ok(())
 }

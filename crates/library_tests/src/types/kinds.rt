@@ -4,7 +4,6 @@ use super::{
     BLOB, BLOB_256, TREE, TREE_256, expect_below, expect_same, expect_text, parsed, tried,
 };
 use gix_hash::{Kind, ObjectId};
-use std::alloc::AllocError;
 use std::process::Abort;
 use std::test::Fail;
 
@@ -42,31 +41,30 @@ fn expect_well_known(
     null: &str,
     blob: &str,
     tree: &str,
-) -> Result<(), AllocError> {
+) {
     for id in [
         kind.null(),
         ObjectId::null(kind),
         kind.null_ref().to_owned(),
     ] {
-        expect_text(rt, id, null)?;
+        expect_text(rt, id, null);
         expect!(rt; id.is_null() && id.as_oid().is_null());
         expect!(rt; !id.is_empty_blob() && !id.is_empty_tree());
     }
     for id in [kind.empty_blob(), ObjectId::empty_blob(kind)] {
-        expect_text(rt, id, blob)?;
+        expect_text(rt, id, blob);
         expect!(rt; id.is_empty_blob() && id.as_oid().is_empty_blob());
         expect!(rt; !id.is_null() && !id.is_empty_tree());
     }
     for id in [kind.empty_tree(), ObjectId::empty_tree(kind)] {
-        expect_text(rt, id, tree)?;
+        expect_text(rt, id, tree);
         expect!(rt; id.is_empty_tree() && id.as_oid().is_empty_tree());
         expect!(rt; !id.is_null() && !id.is_empty_blob());
     }
-    Ok(())
 }
 
 #[test]
-fn names_and_numbers(rt: HostRuntime) -> Result<(), Fail> {
+fn names_and_numbers(rt: HostRuntime) {
     expect_names(
         &rt,
         &[
@@ -93,9 +91,8 @@ fn names_and_numbers(rt: HostRuntime) -> Result<(), Fail> {
         ],
     );
     expect!(&rt; [Kind::Sha1 as u8, Kind::Sha256 as u8] == [1, 2]);
-    expect_text(&rt, Kind::Sha1, "sha1")?;
-    expect_text(&rt, Kind::Sha256, "sha256")?;
-    Ok(())
+    expect_text(&rt, Kind::Sha1, "sha1");
+    expect_text(&rt, Kind::Sha256, "sha256");
 }
 
 #[test]
@@ -130,8 +127,8 @@ fn order(rt: HostRuntime) {
 
 #[test]
 fn well_known_ids(rt: HostRuntime) -> Result<(), Fail> {
-    expect_well_known(&rt, Kind::Sha1, NULL, BLOB, TREE)?;
-    expect_well_known(&rt, Kind::Sha256, NULL_256, BLOB_256, TREE_256)?;
+    expect_well_known(&rt, Kind::Sha1, NULL, BLOB, TREE);
+    expect_well_known(&rt, Kind::Sha256, NULL_256, BLOB_256, TREE_256);
     // Each is read from its text.
     expect!(&rt; parsed::<ObjectId>(TREE_256)? == Kind::Sha256.empty_tree());
     Ok(())

@@ -6,7 +6,7 @@ use std::test::Fail;
 
 #[test]
 fn read_back_in_any_letter_case(rt: HostRuntime) -> Result<(), Fail> {
-    let blob = id(BLOB)?;
+    let blob = id(&rt, BLOB);
     let text = "E69De29bb2d1d6434b8b29ae775ad8c2e48C5391";
     let lowered = text.to_ascii_lowercase(rt.alloc())?;
     assert!(rt; blob.eq_str(lowered.as_str()));
@@ -26,7 +26,7 @@ fn a_printed_prefix_read_back(rt: HostRuntime) -> Result<(), Fail> {
     // From 41 digits on a prefix reads as of its own kind, and below that as of SHA-1.
     let long = "473A0f4c3be8a93681a267e3b1e9a7dcda1185436";
     for (text, hex_len, same) in [("473A0", 5, false), (long, 41, true)] {
-        let prefix = Prefix::new(id(BLOB_256)?.as_oid(), hex_len)?;
+        let prefix = Prefix::new(id(&rt, BLOB_256).as_oid(), hex_len)?;
         let lowered = text.to_ascii_lowercase(rt.alloc())?;
         let is_printed = prefix.hex_len() >= 1 && prefix.eq_str(lowered.as_str());
         assert!(rt; is_printed, "{hex_len} digits");
@@ -52,7 +52,7 @@ fn hold_without_computing() -> Result<(), Fail> {
     laws::same_id(&blob, &null);
     laws::equal_ids(&blob, &null);
     laws::contains_equal(&blob);
-    laws::equal_views(view, id(BLOB_256)?.as_oid());
+    laws::equal_views(view, ObjectId::from_hex(BLOB_256.as_bytes())?.as_oid());
     laws::equal_prefixes(&prefix, &other);
     laws::compare_as_ids(&change, &other_change);
     laws::orders_agree(&blob, &null);
