@@ -139,12 +139,12 @@ fn needs_no_memory_without_lines(rt: HostRuntime) {
     let heap = LocalHeap::new(rt.alloc(), 0).expect(&rt, "no memory for a heap");
     let mut buf = [0; 8];
     let mut out = IntoSlice::new(&mut buf);
-    expect!(&rt; matches!(find(&heap, "4b82", b"", &mut out), Ok(0)));
+    assert!(&rt; matches!(find(&heap, "4b82", b"", &mut out), Ok(0)));
     let found = find(&heap, "abc", TREE.as_bytes(), &mut out);
-    expect!(&rt; matches!(found, Err(FindError::Prefix(_))));
+    assert!(&rt; matches!(found, Err(FindError::Prefix(_))));
     let found = find(&heap, "4b82", b"zz", &mut out);
-    expect!(&rt; matches!(found, Err(FindError::BadLine { line: 1, .. })));
+    assert!(&rt; matches!(found, Err(FindError::BadLine { line: 1, .. })));
     let found = find(&heap, "4b82", TREE.as_bytes(), &mut out);
-    expect!(&rt; matches!(found, Err(FindError::Memory)));
+    assert!(&rt; matches!(found, Err(FindError::Memory)));
     expect!(&rt; out.written() == b"".as_slice());
 }
