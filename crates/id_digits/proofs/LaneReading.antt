@@ -1,7 +1,7 @@
 -- A text read as the values of its letters, of which the first are packed, and the last.
 use Rattle.std.proofs.Common.{◌≡◌, ℕ, zero, suc, ◌+◌, ◌-◌, ◌*◌, ◌≤◌, Bool, true, false, ◌&&◌, ltb, List, [], ◌∷◌, ◌++◌, length, take, drop, Option, Some, None, if◌then◌else◌, refl, sym, ap, ap₂, ◌∙◌, arith, append-nil, length-drop}
 use Rattle.std.proofs.lemmas.Bool.Decides.{nat_tests}
-use Rattle.std.proofs.lemmas.List.{length-map, length-take-le, take_all, take_at, take-map, drop-map, drop-drop, take-append-drop}
+use Rattle.std.proofs.lemmas.List.{nil_from_length, length-map, length-take-le, take_all, take_at, take-map, drop-map, drop-drop, take-append-drop}
 use Rattle.std.proofs.lemmas.Simd.{length-put_chunk}
 use Rattle.std.specs.List.{list_all}
 use borrow.Rule.Slice.PartMut.{post_of}
@@ -55,17 +55,12 @@ all-overlapped p (suc m) (suc n) (x ∷ xs) h = step (p x) _ _ _ (all-overlapped
     step true a r s e = e
     step false a r s e = refl
 
--- a list of no length
-no_length : (xs : List ℕ) → length xs ≡ 0 → xs ≡ []
-no_length [] e = refl
-no_length (x ∷ xs) e = absurd (omega arith)
-
 -- lanes stored behind the first sixteen bytes, from the first of them that has its place there
 pub rest_stored : (n : ℕ) (old lanes : List ℕ) → length lanes ≡ 16 → length old ≡ n → 16 ≤ n → n ≤ 32
     → take 16 old ++ (take (16 - (32 - n)) (drop (32 - n) lanes) ++ post_of 16 (n - 16) old) ≡ take 16 old ++ drop (32 - n) lanes
 rest_stored n old lanes many long least most =
     let all : take (16 - (32 - n)) (drop (32 - n) lanes) ≡ drop (32 - n) lanes = take_all _ _ (omega (arith, length-drop (32 - n) lanes)) in
-    let none : post_of 16 (n - 16) old ≡ [] = no_length _ (omega (arith, length-drop (n - 16) (drop 16 old), length-drop 16 old)) in
+    let none : post_of 16 (n - 16) old ≡ [] = nil_from_length _ (omega (arith, length-drop (n - 16) (drop 16 old), length-drop 16 old)) in
     rw (all, none) (ap (λ l. take 16 old ++ l) (append-nil (drop (32 - n) lanes)))
 
 -- a text of so many bytes, of which the first sixteen were packed, and the last sixteen

@@ -7,6 +7,7 @@ mod LanePlaces
 mod LaneReading
 mod LaneValues
 mod Masks
+pub mod NumberParts
 pub mod Packing
 pub mod Places
 pub mod ReadingFacts

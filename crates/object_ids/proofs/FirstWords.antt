@@ -2,9 +2,7 @@
 use Rattle.std.proofs.Common.{◌≡◌, ℕ, zero, suc, ◌+◌, ◌*◌, ◌^◌, ◌<◌, ◌≤◌, ◌-◌, List, [], ◌∷◌, length, take, drop, slice_index, Ordering, Less, Equal, Greater, true, false, refl, sym, ap, ◌∙◌, arith, inl, inr}
 use Rattle.std.specs.Prelude.{All, IsTrue}
 use Rattle.std.specs.Ordering.{nat_cmp, ordering_then, is_eq}
-use Rattle.std.specs.Cmp.{nat_cmp_is}
 use Rattle.std.specs.Cmp.Lexicographic.{slice_cmp}
-use Rattle.std.proofs.lemmas.Bool.{cases_order}
 use Rattle.std.proofs.lemmas.Bool.Decides.{nat_tests}
 use Rattle.std.proofs.lemmas.List.{take_all, length-drop}
 use Rattle.std.proofs.lemmas.List.Elements.{All-head, All-tail}
@@ -13,40 +11,7 @@ use Rattle.id_digits.specs.Digits.{digits_of}
 use Rattle.object_ids.specs.DigitOrder.{slice_cmp-digits_of}
 use Rattle.object_ids.specs.Kind.{is_digest_len}
 use Rattle.object_ids.specs.FirstWord.{word_from}
-
-less : (x y : ℕ) → x < y → nat_cmp x y ≡ Less
-less x y h = sym (nat_cmp_is x y Less h)
-
-equal : (x y : ℕ) → x ≡ y → nat_cmp x y ≡ Equal
-equal x y h = sym (nat_cmp_is x y Equal h)
-
-greater : (x y : ℕ) → y < x → nat_cmp x y ≡ Greater
-greater x y h = sym (nat_cmp_is x y Greater h)
-
-then_assoc : (a b c : Ordering) → ordering_then (ordering_then a b) c ≡ ordering_then a (ordering_then b c)
-then_assoc Less b c = refl
-then_assoc Equal b c = refl
-then_assoc Greater b c = refl
-
--- a higher part that is below outweighs the lower parts
-below : (p a b c d : ℕ) → b < p → a < c → a * p + b < c * p + d
-below p a b c d small h =
-    let step : (a + 1) * p ≤ c * p = mul-le-mul_right p (omega arith) in
-    omega (arith, step, add-mul a 1 p)
-
--- the comparison of the higher parts decides, unless they are equal
-cmp_parts : (p a b c d : ℕ) → b < p → d < p → nat_cmp (a * p + b) (c * p + d) ≡ ordering_then (nat_cmp a c) (nat_cmp b d)
-cmp_parts p a b c d h k =
-    elim (cases_order a c) [
-      | inl e ↦
-          elim (cases_order b d) [
-            | inl f ↦ let whole : a * p + b ≡ c * p + d = rw (e, f) refl in rw (equal a c e, equal b d f, equal (a * p + b) (c * p + d) whole) refl
-            | inr (inl lt) ↦ let whole : a * p + b < c * p + d = rw e (omega arith) in rw (equal a c e, less b d lt, less (a * p + b) (c * p + d) whole) refl
-            | inr (inr gt) ↦ let whole : c * p + d < a * p + b = rw e (omega arith) in rw (equal a c e, greater b d gt, greater (a * p + b) (c * p + d) whole) refl
-          ]
-      | inr (inl lt) ↦ rw (less a c lt, less (a * p + b) (c * p + d) (below p a b c d h lt)) refl
-      | inr (inr gt) ↦ rw (greater a c gt, greater (a * p + b) (c * p + d) (below p c d a b k gt)) refl
-    ]
+use Rattle.id_digits.proofs.NumberParts.{then_assoc, cmp_parts}
 
 -- a byte in front moves the places on
 word_from-cons : (i n b : ℕ) (bytes : List ℕ) → word_from (suc i) n (b ∷ bytes) ≡ word_from i n bytes

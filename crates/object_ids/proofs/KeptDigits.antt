@@ -11,7 +11,8 @@ use Rattle.object_ids.specs.declared.kind.Kind.{Kind}
 use Rattle.object_ids.specs.declared.kind.Kind.TheVariants.{Sha1, Sha256}
 use Rattle.object_ids.specs.declared.prefix.Prefix.TheInside.{Inside}
 use Rattle.id_digits.specs.declared.words.Words.{Words}
-use Rattle.id_digits.proofs.WordOrder.{slice_cmp-words, then_assoc}
+use Rattle.id_digits.proofs.NumberParts.{then_assoc}
+use Rattle.id_digits.proofs.WordOrder.{slice_cmp-words}
 
 -- no kind has more than 64 digits
 most_digits : (kind : Kind) (n : ℕ) → n ≤ hex_len_of kind → n ≤ 64

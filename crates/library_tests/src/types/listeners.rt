@@ -15,13 +15,10 @@ pub enum Call {
 
 /// How many of the calls tell of a chunk.
 pub fn chunks(calls: &[Call]) -> usize {
-    let mut chunks = 0usize;
-    for call in calls {
-        if let Call::IncBy(_) = call {
-            chunks = chunks.saturating_add(1);
-        }
-    }
-    chunks
+    calls
+        .iter()
+        .filter(|call| matches!(call, Call::IncBy(_)))
+        .count()
 }
 
 /// The first 20 calls of a progress, and how many there were.
