@@ -165,8 +165,8 @@ fn read_count<'a>(word: &'a str) -> Result<u64, ArgError<'a>>
     }
 }
 
-/// The status for an answer that counts matches: 0 where there is one, 1 where there is none, and 2
-/// for a refusal.
+/// The status for an answer that counts the ids written: 0 where there is one, 1 where there is
+/// none, and 2 for a refusal.
 pub fn exit_status<E>(answer: &Result<usize, E>) -> u8
     ensures { result ≡ status_of answer.now }
 {

@@ -34,7 +34,8 @@ pub enum CommandError {
     /// Memory ran out.
     #[error("out of memory")]
     Memory,
-    /// A read of the input answered an error, or a file could not be opened or read.
+    /// A read of the input answered an error, or a file could not be opened or read, or has fewer
+    /// bytes than were asked for.
     #[error("cannot read")]
     Input,
     /// The writer failed at a write or at the flush.
@@ -133,13 +134,17 @@ impl From<AllocError> for CommandError {
 /// Runs a command over the input, writes what it gives, and flushes the writer. Answers how many ids
 /// it wrote: the matches of the commands that find, and the one digest of another command.
 ///
-/// `find` reads the input in pieces, as a list text, and no further than the end of its first bad
-/// line; `find-change` and `find-in` read it to its end, and whole; `hash` and `seal` read it to its
-/// end in pieces; `hash-file` reads the file, and leaves the input as it is. `Input` comes exactly
-/// where the input failed, or for `hash-file` where the file was not read; `Output` exactly where the
-/// writer did, at a write or at the flush. Under another error `seal` has written what it read, and
-/// another command nothing. `Memory` comes for the commands that find alone, and never where the
-/// input is empty. Input and writer must not have failed before.
+/// `find` reads the input in pieces, as a list text, and none behind the piece in which its first
+/// bad line ends; `find-change` and `find-in` read it to its end, and whole; `hash` and `seal` read
+/// it to its end in pieces; `hash-file` reads the file, and leaves the input as it is.
+///
+/// `Output` comes exactly where the writer failed, at a write or at the flush. `Input` comes exactly
+/// where the input failed, but for `hash-file`, which answers it where its file gives no digest.
+/// `Memory` comes only of the commands that find, and never where the input is empty.
+///
+/// Under `Output` a beginning of what is right was written. Under another error `seal` has written
+/// what it read, or under `TooMuch` a beginning of it, and another command nothing. Input and
+/// writer must not have failed before.
 pub fn run_command<F: Files, A: Allocator + Copy, R: Source, W: BufferedSink>(
     files: &F,
     alloc: A,

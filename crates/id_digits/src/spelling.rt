@@ -12,13 +12,14 @@ const WIDTH: usize = 16;
 
 const HEX_LETTERS: [u8; 16] = *b"0123456789abcdef";
 
-/// Writes the lowercase hex digits of a digest of 20 or 32 bytes into the front of the buffer; the bytes behind stay.
+/// Writes the lowercase hex digits of a digest of 20 or 32 bytes into the front of the buffer; the
+/// bytes behind stay. The buffer needs room for two digits a byte.
 pub fn spell_hex(bytes: &[u8], buffer: &mut [u8])
     requires digest { IsTrue (is_digest_len (length bytes.now)) }
     requires room { 2 * length bytes.now ≤ length buffer.old }
     ensures { buffer.new ≡ spelling hex_letter (digits_of bytes.now) ++ drop (2 * length bytes.now) buffer.old }
 {
-    // The last vector of 20 bytes begins within the first: the letters that both have are written twice.
+    // The last vector of 20 bytes begins within the first: letters of both are written twice.
     put_vector(bytes, 0, buffer);
     put_vector(bytes, bytes.len() - WIDTH, buffer);
 }

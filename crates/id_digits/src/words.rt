@@ -33,9 +33,9 @@ impl Words {
         }
     }
 
-    /// The place of a beginning of `hex_len` digits, which these are, against the digits of a digest
-    /// of 20 or 32 bytes that has at least as many: `Greater` where it stands behind them. What the
-    /// digest has behind so many digits is masked.
+    /// The order of these digits, `hex_len` in number, and of as many of the first digits of a digest
+    /// of 20 or 32 bytes, which must have so many: `Greater` where these stand behind. What the digest
+    /// has behind them is masked.
     pub fn place(&self, hex_len: usize, bytes: &[u8]) -> Ordering
         requires most { hex_len ≤ 64 }
         requires digest { IsTrue (is_digest_len (length bytes.now)) }

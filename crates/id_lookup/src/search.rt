@@ -164,8 +164,8 @@ fn find_bound(probes: &mut Probes<'_>, bound: Bound, mut low: usize, mut high: u
 
 /// Whether an id begins with a prefix, whatever their kinds.
 ///
-/// The id has at least as many digits as the prefix. What is said of lowercase hex spellings is said
-/// of digits, and is the same as that the place of the prefix against the id is `Equal`.
+/// The id must have at least as many digits as the prefix. It begins with the prefix by its lowercase
+/// hex spelling just where it does by its digits, and just where [`Prefix::cmp_oid`] answers `Equal`.
 pub fn begins_with(id: &ObjectId, prefix: &Prefix) -> bool
     requires { length prefix.now.digits ≤ hex_len_of (id_kind id.now) }
     ensures value { result ≡ begins_with prefix.now (id_digits id.now) }
@@ -176,8 +176,8 @@ pub fn begins_with(id: &ObjectId, prefix: &Prefix) -> bool
     prefix.cmp_oid(id.as_oid()).is_eq()
 }
 
-/// The number of binary digits: the least b such that `n` is below the b-th power of two. Of at most
-/// half of a number that is not 0 it is less.
+/// The number of binary digits: the least b such that `n` is below the b-th power of two. Where `n`
+/// is not 0, a number of at most half of it has fewer.
 pub fn bits_of(n: usize) -> u32
     ensures value { result ≡ bits n }
     ensures above { n < 2 ^ bits n }

@@ -84,9 +84,9 @@ impl From<ListError> for FindError {
 /// A list text has a line of 40 or 64 hex digits, in any letter case, for each id; the last line
 /// feed may be absent. The ids stand in the dictionary order of their digits, whatever their kinds.
 ///
-/// The refusals come in the order of [`FindError`], each where its cause holds and none before it
-/// does; [`FindError::Memory`] at whatever place a growth was refused, but never where the prefix
-/// or the first line is refused, or there is no line. The writer is as it was under each of them but
+/// Where several causes hold, the first in the order of [`FindError`] decides. But
+/// [`FindError::Memory`] comes at whatever place a growth was refused, and never where the prefix or
+/// the first line is refused, or there is no line. The writer is as it was under each of them but
 /// [`FindError::Output`], under which a proper beginning of the lines was written. The writer must
 /// not have failed before.
 pub fn find<A: Allocator, W: Sink>(

@@ -94,12 +94,17 @@ impl From<ReadError> for FindFromError {
 /// Writes a line for each id of the list text that the source gives to its end, and answers how many
 /// there are, as [`find`](crate::finding::find) does over the whole text, however the source cuts it.
 ///
-/// The prefix is read first: nothing is read of the source where it is refused. The source is read
-/// no further than the end of the first bad line, which [`FindFromError::BadLine`] tells with its
-/// whole length; the order of the ids and the length of the prefix are tested at the list's end.
+/// The prefix is read first: nothing is read of the source where it is refused. Then the source is
+/// read in pieces of at most 65536 bytes, and none behind the piece in which the first bad line
+/// ends; [`FindFromError::BadLine`] tells that line with its whole length. The order of the ids and
+/// the length of the prefix are tested at the list's end. Of the text one piece is kept, and at most
+/// 64 bytes of a line that has not ended.
+///
 /// [`FindFromError::Input`] comes exactly where the source failed, [`FindFromError::Output`] exactly
-/// where the writer did, and nothing was written under another refusal. Both must not have failed
-/// before. At most 65536 bytes of the text are kept.
+/// where the writer did, and nothing was written under another refusal.
+/// [`FindFromError::TooMuch`] comes where the source gave more than 2^61 - 1 bytes and no bad line
+/// ended within the first of them, [`FindFromError::Memory`] only where the prefix and the first
+/// line read. Source and writer must not have failed before.
 pub fn find_from<A: Allocator, R: Source, W: Sink>(
     alloc: A,
     prefix: &str,

@@ -90,9 +90,10 @@ impl From<ListError> for FindInError {
 /// digits, in any letter case, for each id, as for [`find`](crate::finding::find), but each id is of
 /// the kind and above the one before it.
 ///
-/// The refusals come in the order of [`FindInError`], `WrongKind` or `NotRising` for the first bad
-/// line, and there `WrongKind` before `NotRising`; [`FindInError::Memory`] at whatever place a growth
-/// was refused, but never where the prefix or the first line is refused, or there is no line. The
+/// Where several causes hold, the first in the order of [`FindInError`] decides. `WrongKind` and
+/// `NotRising` tell the first line whose id is of the other kind or not above the one before it, and
+/// `WrongKind` where both hold of it. But [`FindInError::Memory`] comes at whatever place a growth
+/// was refused, and never where the prefix or the first line is refused, or there is no line. The
 /// writer is as it was under each of them but [`FindInError::Output`], under which a proper beginning
 /// of the lines was written. The writer must not have failed before.
 pub fn find_in<A: Allocator, W: Sink>(

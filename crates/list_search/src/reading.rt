@@ -36,8 +36,8 @@ impl From<ListError> for ReadError {
 
 /// The ids of the list text that the source gives to its end, a line each, in the text's order.
 ///
-/// It reads no further than the end of the first bad line, and never again where a read answered an
-/// error.
+/// It reads nothing behind the piece in which the first bad line ends, and never again where a read
+/// answered an error.
 pub fn read_source<A: Allocator, R: Source>(
     alloc: A,
     input: &mut R,

@@ -7,7 +7,7 @@ use Rattle.std.specs.Cmp.Lexicographic.{slice_cmp, pointwise}
 use Rattle.object_ids.specs.Kind.{number_of}
 use Rattle.object_ids.specs.declared.kind.Kind.{Kind}
 
--- a beginning of an id: its kind, and at most as many digits as an id of the kind has
+-- a beginning of an id: its kind and its digits
 pub record Beginning : Type 0 where
   pub kind : Kind
   pub digits : List ℕ

@@ -51,8 +51,7 @@ impl Alphabet {
         self.read_prefix_nonempty(text)
     }
 
-    /// As [`Alphabet::read_prefix`], from 1 digit on: no byte is refused as
-    /// [`from_hex::Error::TooShort`].
+    /// As [`Alphabet::read_prefix`], from 1 digit on: of too short texts only the empty one is refused.
     pub fn read_prefix_nonempty(self, text: &str) -> Result<Prefix, from_hex::Error>
         ensures { result ≡ prefix_read (letter_of self) 1 text.now }
     {

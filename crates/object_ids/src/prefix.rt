@@ -136,8 +136,8 @@ impl Prefix {
     /// Reads 1 to 64 hex digits, in any letter case. The kind is the least one whose ids have so
     /// many digits.
     ///
-    /// More bytes are refused as [`from_hex::Error::TooLong`], none as
-    /// [`from_hex::Error::TooShort`], and else a byte that is no digit as
+    /// An empty text is refused as [`from_hex::Error::TooShort`], one of more bytes as
+    /// [`from_hex::Error::TooLong`], and else a byte that is no digit as
     /// [`from_hex::Error::Invalid`].
     pub fn from_hex_nonempty(text: &str) -> Result<Prefix, from_hex::Error>
         ensures { result ≡ prefix_read hex_letter 1 text.now }
@@ -162,8 +162,8 @@ impl Prefix {
     /// Reads 1 hex digit up to as many as ids of the given kind have, in any letter case, as a
     /// prefix of that kind.
     ///
-    /// More bytes are refused as [`from_hex::Error::TooLong`], none as
-    /// [`from_hex::Error::TooShort`], and else a byte that is no digit as
+    /// An empty text is refused as [`from_hex::Error::TooShort`], one of more bytes as
+    /// [`from_hex::Error::TooLong`], and else a byte that is no digit as
     /// [`from_hex::Error::Invalid`].
     pub fn from_hex_in(kind: Kind, text: &str) -> Result<Prefix, from_hex::Error>
         ensures { result ≡ prefix_read_in kind hex_letter text.now }

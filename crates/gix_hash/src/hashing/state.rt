@@ -47,8 +47,8 @@ impl Hasher {
         }
     }
 
-    /// Feeds `bytes`, which stand behind all that was fed before. No bytes change nothing of the
-    /// message.
+    /// Feeds `bytes`, which stand behind all that was fed before. An empty slice leaves the message as
+    /// it is.
     pub fn update(&mut self, bytes: &[u8])
         ensures kind { hasher_kind self.new ≡ hasher_kind self.old }
         ensures fed { (message : List ℕ) → StandsFor self.old message → StandsFor self.new (message ++ bytes.now) }

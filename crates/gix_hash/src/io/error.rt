@@ -1,9 +1,9 @@
-//! Why a stream or a file gave no digest.
+//! The error of streams and files.
 
 use crate::hashing;
 use thiserror::Error as ThisError;
 
-/// Reading that stopped before all bytes were read and hashed.
+/// Why a stream or a file gave no digest.
 #[derive(Debug, Drop, ThisError)]
 pub enum Error {
     /// A file could not be opened, or a reader failed or ended too early.

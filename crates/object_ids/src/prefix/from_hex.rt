@@ -7,12 +7,14 @@ use std::{error, fmt};
 /// A text that is not the digits of a prefix.
 #[derive(Debug, PartialEq, Eq, Drop)]
 pub enum Error {
-    /// The text has fewer bytes than the prefix would have digits at least.
+    /// The text has fewer bytes than the call takes: fewer than 4, or none at all where a call takes
+    /// any text but the empty one.
     TooShort {
         /// The length of the text, in bytes.
         hex_len: usize,
     },
-    /// The text has more bytes than any id has digits.
+    /// The text has more bytes than an id has digits: any id, or for [`Prefix::from_hex_in`] one of
+    /// the kind that was asked for.
     TooLong {
         /// The length of the text, in bytes.
         hex_len: usize,
