@@ -188,7 +188,8 @@ impl<'a> oid<'a> {
         ensures { OnOk result (Appends (W.contents out.old) (W.contents out.new) (spelling hex_letter (oid_digits self.now))) }
     {
         let mut buffer = [0; 64];
-        out.write_all(self.hex_to_buf(&mut buffer).as_bytes())
+        self.put_hex(&mut buffer);
+        out.write_all(&buffer[..self.kind().len_in_hex()])
     }
 
     /// Compares with the id that this one should be. Where they differ, the error holds both.

@@ -1,6 +1,6 @@
 //! Ids cut to a number of digits, for printing.
 
-ghost use Rattle.std.specs.Prelude.{◌≡◌, ◌≤◌, ◌↔◌, IsTrue, length};
+ghost use Rattle.std.specs.Prelude.{◌≡◌, ◌≤◌, ◌↔◌, IsTrue, IsAscii, length};
 ghost use Rattle.id_digits.specs.Digits.{spelling, hex_letter};
 ghost use Rattle.object_ids.specs.Alphabet.{letter_of};
 
@@ -27,13 +27,23 @@ impl<'a> CutId<'a> {
         CutId { inner, hex_len }
     }
 
-    // What is printed in an alphabet, written into a buffer with room for the digits of any id.
+    // The letters that are printed in an alphabet, in the front of a buffer with room for those of
+    // any id.
+    pub(crate) fn letters<'b>(&self, alphabet: Alphabet, buffer: &'b mut [u8]) -> &'b [u8]
+        requires { 64 ≤ length buffer.old }
+        ensures value { result.now ≡ spelling (letter_of alphabet) (shown_digits self.now) }
+        ensures ascii { IsAscii result.now }
+    {
+        alphabet.put_id(self.inner, buffer);
+        &buffer[..self.hex_len.min(self.inner.kind().len_in_hex())]
+    }
+
+    // The same as text.
     pub(crate) fn text<'b>(&self, alphabet: Alphabet, buffer: &'b mut [u8]) -> &'b str
         requires { 64 ≤ length buffer.old }
         ensures { result.now ≡ spelling (letter_of alphabet) (shown_digits self.now) }
     {
-        alphabet.put_id(self.inner, buffer);
-        ascii_text(&buffer[..self.hex_len.min(self.inner.kind().len_in_hex())])
+        ascii_text(self.letters(alphabet, buffer))
     }
 }
 

@@ -202,7 +202,8 @@ impl ObjectId {
         ensures { IsTrue result ↔ (text.now ≡ spelling hex_letter (id_digits self.now)) }
     {
         let mut buffer = [0; 64];
-        self.hex_to_buf(&mut buffer).as_bytes() == text
+        let filled = self.filled(&mut buffer);
+        &filled[..self.kind().len_in_hex()] == text
     }
 
     /// The id for printing in full.

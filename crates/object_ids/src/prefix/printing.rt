@@ -32,8 +32,8 @@ impl Prefix {
     {
         // Ids are spelled whole, for which the buffer may have no room.
         let mut whole = [0; 64];
-        let text = self.cut().text(Alphabet::Hex, &mut whole);
-        buffer[..text.len()].copy_from_slice(text.as_bytes());
+        let letters = self.cut().letters(Alphabet::Hex, &mut whole);
+        buffer[..letters.len()].copy_from_slice(letters);
     }
 
     /// Writes the lowercase hex digits into the front of `buffer` as [`Prefix::put_hex`] does, and
@@ -81,7 +81,7 @@ impl Prefix {
         ensures { OnOk result (Appends (W.contents out.old) (W.contents out.new) (spelling hex_letter self.now.digits)) }
     {
         let mut buffer = [0; 64];
-        out.write_all(self.cut().text(Alphabet::Hex, &mut buffer).as_bytes())
+        out.write_all(self.cut().letters(Alphabet::Hex, &mut buffer))
     }
 
     /// The prefix for printing in the letters `z` to `k`.

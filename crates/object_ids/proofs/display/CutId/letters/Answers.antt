@@ -9,7 +9,7 @@ use Rattle.object_ids.specs.Oid.{oid_bytes, oid_digits}
 use Rattle.object_ids.proofs.Alphabets.{letter_of-ascii}
 use Rattle.id_digits.proofs.Spellings.{All-digits_of, IsAscii-spelling}
 use Rattle.object_ids.proofs.Spellings.{take-put_id}
-use Rattle.object_ids.proofs.display.CutId.text.Goals as goal
+use Rattle.object_ids.proofs.display.CutId.letters.Goals as goal
 
 -- the digits that are shown stand in the front of the buffer
 spelled : (c : goal.After-min) → take c.min.result c.put_id.new.buffer ≡ spelling (letter_of c.args.alphabet) (shown_digits c.args.self.now)
@@ -18,11 +18,11 @@ spelled c =
     take-put_id (letter_of c.args.alphabet) cut.hex_len _ cut.inner _ _ c.put_id.ensures.value
     (c.min.ensures ∙ ap (min cut.hex_len) (c.len_in_hex.ensures ∙ ap hex_len_of c.kind.ensures.value))
 
-pub ascii_text-requires : goal.ascii_text-requires
-ascii_text-requires c =
+pub returns : goal.returns
+returns c =
     let cut = c.args.self.now in
     let digits = All-take (λ (d : ℕ). d < 16) cut.hex_len (oid_digits cut.inner) (All-digits_of (oid_bytes cut.inner) cut.inner.bytes_in_range) in
-    subst IsAscii (sym (spelled c)) (IsAscii-spelling (letter_of c.args.alphabet) (letter_of-ascii c.args.alphabet) (shown_digits cut) digits)
-
-pub returns : goal.returns
-returns c = c.ascii_text.ensures.value ∙ spelled c.before
+    record {
+      value = spelled c;
+      ascii = subst IsAscii (sym (spelled c)) (IsAscii-spelling (letter_of c.args.alphabet) (letter_of-ascii c.args.alphabet) (shown_digits cut) digits);
+    }
