@@ -1,4 +1,5 @@
 pub mod DigitNumbers
+mod FirstWords
 mod HexReading
 mod LaneHalves
 mod LaneLetters

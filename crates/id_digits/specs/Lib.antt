@@ -1,4 +1,4 @@
--- Digits of bytes, and how they are spelled and read.
+-- Digits of bytes, and how they are spelled, read and compared.
 pub mod Digits
 pub mod Reading
 pub mod LetterValues
@@ -6,3 +6,5 @@ pub mod ReverseLetters
 pub mod DigestLengths
 pub mod Beginnings
 pub mod Words
+pub mod DigitOrder
+pub mod FirstWord

@@ -2,11 +2,12 @@
 //!
 //! A byte is two digits below 16, the high half first. Digits are spelled in hex letters, or in the
 //! letters z down to k, in which Jujutsu spells change ids; they are packed with zeros behind them,
-//! and compared as numbers of 128 bits.
+//! and compared as numbers of 128 bits. Digests are ordered by their digits.
 #![tactic(auto)]
 
 mod copying;
 mod decoding;
+mod order;
 mod reading;
 mod reverse;
 mod spelling;
@@ -14,6 +15,7 @@ mod words;
 
 pub use copying::copy_digits;
 pub use decoding::{NotDigits, decode_digits};
+pub use order::digest_cmp;
 pub use reading::read_digest;
 pub use reverse::{to_hex_letters, to_reverse_letters};
 pub use spelling::spell_hex;

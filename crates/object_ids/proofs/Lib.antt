@@ -1,7 +1,6 @@
 mod Alphabets
 mod BufferEnds
 mod CommonBytes
-mod FirstWords
 pub mod IdFacts
 mod KeptDigits
 pub mod KindFacts

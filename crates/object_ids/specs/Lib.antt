@@ -1,6 +1,6 @@
 -- The model: an id is a kind and a list of digits, and bytes are read two digits a byte.
 pub use Rattle.id_digits.specs.Digits
-pub mod DigitOrder
+pub use Rattle.id_digits.specs.DigitOrder
 pub mod Reading
 pub mod Kind
 pub mod Oid
@@ -12,7 +12,7 @@ pub mod Equalities
 pub mod IdReading
 pub mod CutId
 pub mod WellKnown
-pub mod FirstWord
+pub use Rattle.id_digits.specs.FirstWord
 pub mod ByteLengths
 pub mod Loan
 pub mod LentText

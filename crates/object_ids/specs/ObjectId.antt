@@ -10,7 +10,7 @@ use Rattle.object_ids.specs.declared.object_id.ObjectId.TheVariants.{Sha1, Sha25
 use Rattle.object_ids.specs.declared.kind.Kind.{Kind}
 use Rattle.object_ids.specs.declared.kind.Kind.TheVariants as kinds
 use Rattle.id_digits.specs.Digits.{digits_of}
-use Rattle.object_ids.specs.DigitOrder.{same_bytes}
+use Rattle.id_digits.specs.DigitOrder.{same_bytes}
 use Rattle.object_ids.specs.Kind.{number_of}
 
 -- the bytes of its digest

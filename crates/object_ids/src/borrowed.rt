@@ -7,7 +7,6 @@ ghost use Rattle.std.specs.Cmp.Rules.{comparing};
 ghost use Rattle.std.specs.Ordering.{as_partial_cmp};
 ghost use Rattle.id_digits.specs.Digits.{first_byte_of, spelling, hex_letter};
 ghost use Rattle.object_ids.specs.Kind.{is_digest_len, hex_len_of};
-ghost use Rattle.object_ids.specs.FirstWord.{word_from};
 
 use crate::alphabet::Alphabet;
 use crate::ascii::ascii_text;
@@ -17,13 +16,11 @@ use crate::kind::Kind;
 use crate::object_id::ObjectId;
 use crate::prefix::Prefix;
 use crate::verify;
+use id_digits::digest_cmp;
 use std::cmp::Ordering;
 use std::hash::{Hash, Hasher};
 use std::ops::Range;
 use std::{fmt, io};
-
-// The bytes of the word by which two ids are compared first.
-const WORD: usize = 8;
 
 /// A view of the digest of an id, of 20 or 32 bytes.
 ///
@@ -278,7 +275,7 @@ impl PartialEq for oid<'_> {
 
     ghost laws = { Prim.search (comparing, rules) };
 
-    #[tactic(auto, using(crate::specs::DigitOrder::to_digits))]
+    #[tactic(auto, using(id_digits::specs::DigitOrder::to_digits))]
     fn eq(&self, other: &Self) -> bool {
         self.bytes == other.bytes
     }
@@ -311,14 +308,8 @@ impl Ord for oid<'_> {
 
     ghost matches_eq = { Prim.search (comparing, rules) };
 
-    // Two ids mostly differ in their first word, which costs one comparison of numbers.
     fn cmp(&self, other: &Self) -> Ordering {
-        let order = first_word(self.bytes).cmp(&first_word(other.bytes));
-        if order.is_eq() {
-            self.bytes[WORD..].cmp(&other.bytes[WORD..])
-        } else {
-            order
-        }
+        digest_cmp(self.bytes, other.bytes)
     }
 }
 
@@ -393,15 +384,4 @@ impl<'a> From<&'a [u8; 32]> for oid<'a> {
     fn from(bytes: &'a [u8; 32]) -> Self {
         oid::from_bytes_unchecked(bytes)
     }
-}
-
-// The first eight bytes as a number, which is ordered as they are.
-#[inline(always)]
-fn first_word(bytes: &[u8]) -> u64
-    requires { WORD ≤ length bytes.now }
-    ensures { result ≡ word_from 0 WORD bytes.now }
-{
-    u64::from_be_bytes([
-        bytes[0], bytes[1], bytes[2], bytes[3], bytes[4], bytes[5], bytes[6], bytes[7],
-    ])
 }

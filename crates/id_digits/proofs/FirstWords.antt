@@ -1,5 +1,5 @@
 -- Lists of bytes compare as the numbers of their first bytes do, and then as the bytes behind them.
-use Rattle.std.proofs.Common.{◌≡◌, ℕ, zero, suc, ◌+◌, ◌*◌, ◌^◌, ◌<◌, ◌≤◌, ◌-◌, List, [], ◌∷◌, length, take, drop, slice_index, Ordering, Less, Equal, Greater, true, false, refl, sym, ap, ◌∙◌, arith, inl, inr}
+use Rattle.std.proofs.Common.{◌≡◌, ℕ, zero, suc, ◌+◌, ◌*◌, ◌^◌, ◌<◌, ◌≤◌, ◌-◌, List, [], ◌∷◌, length, take, drop, slice_index, Ordering, Less, Equal, Greater, true, false, refl, sym, ap, ◌∙◌, arith}
 use Rattle.std.specs.Prelude.{All, IsTrue}
 use Rattle.std.specs.Ordering.{nat_cmp, ordering_then, is_eq}
 use Rattle.std.specs.Cmp.Lexicographic.{slice_cmp}
@@ -8,9 +8,9 @@ use Rattle.std.proofs.lemmas.List.{take_all, length-drop}
 use Rattle.std.proofs.lemmas.List.Elements.{All-head, All-tail}
 use Rattle.std.proofs.Math.Nat.{mul-le-mul_right, add-mul, pow-suc}
 use Rattle.id_digits.specs.Digits.{digits_of}
-use Rattle.object_ids.specs.DigitOrder.{slice_cmp-digits_of}
-use Rattle.object_ids.specs.Kind.{is_digest_len}
-use Rattle.object_ids.specs.FirstWord.{word_from}
+use Rattle.id_digits.specs.DigitOrder.{slice_cmp-digits_of}
+use Rattle.id_digits.specs.DigestLengths.{is_digest_len}
+use Rattle.id_digits.specs.FirstWord.{word_from}
 use Rattle.id_digits.proofs.NumberParts.{then_assoc, cmp_parts}
 
 -- a byte in front moves the places on
