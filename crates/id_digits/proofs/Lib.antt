@@ -1,3 +1,4 @@
+mod CommonBytes
 pub mod DigitNumbers
 mod FirstWords
 mod HexReading

@@ -2,9 +2,11 @@
 //!
 //! A byte is two digits below 16, the high half first. Digits are spelled in hex letters, or in the
 //! letters z down to k, in which Jujutsu spells change ids; they are packed with zeros behind them,
-//! and compared as numbers of 128 bits. Digests are ordered by their digits.
+//! and compared as numbers of 128 bits. Digests are ordered by their digits, and the digits that two
+//! of them share are counted.
 #![tactic(auto)]
 
+mod common;
 mod copying;
 mod decoding;
 mod order;
@@ -13,6 +15,7 @@ mod reverse;
 mod spelling;
 mod words;
 
+pub use common::common_digits;
 pub use copying::copy_digits;
 pub use decoding::{NotDigits, decode_digits};
 pub use order::digest_cmp;

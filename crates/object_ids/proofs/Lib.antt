@@ -1,6 +1,6 @@
 mod Alphabets
 mod BufferEnds
-mod CommonBytes
+mod CommonBeginnings
 pub mod IdFacts
 mod KeptDigits
 pub mod KindFacts

@@ -16,7 +16,7 @@ use crate::kind::Kind;
 use crate::object_id::ObjectId;
 use crate::prefix::Prefix;
 use crate::verify;
-use id_digits::digest_cmp;
+use id_digits::{common_digits, digest_cmp};
 use std::cmp::Ordering;
 use std::hash::{Hash, Hasher};
 use std::ops::Range;
@@ -150,18 +150,12 @@ impl<'a> oid<'a> {
 
     /// The number of digits that two ids share: those before the first that differs, or all of the
     /// shorter id's where none does. Kinds are ignored.
+    #[tactic(auto, using(crate::proofs::CommonBeginnings::longest_common))]
     pub fn common_hex_len(&self, other: oid<'_>) -> usize
         ensures value { result ≡ common_prefix_len nat_eq (oid_digits self.now) (oid_digits other.entry) }
         ensures longest { IsCommonLen (oid_digits self.now) (oid_digits other.entry) result }
     {
-        let len = self.bytes.len().min(other.bytes.len());
-        for at in 0..len {
-            if self.bytes[at] != other.bytes[at] {
-                let same_high_half = self.bytes[at] / 16 == other.bytes[at] / 16;
-                return if same_high_half { 2 * at + 1 } else { 2 * at };
-            }
-        }
-        2 * len
+        common_digits(self.bytes, other.bytes)
     }
 
     /// The id for printing in full.

@@ -1,13 +1,10 @@
 -- The digits that two lists of bytes share: two for each byte, and one more where the next bytes share their high half.
-use Rattle.std.proofs.Common.{◌≡◌, ◌≢◌, ℕ, suc, ◌+◌, ◌/◌, ◌%◌, ◌<◌, ◌≤◌, Bool, true, false, cond, nat_eq, List, [], ◌∷◌, ◌++◌, length, get_or, min, take, drop, refl, sym, ap, ◌∙◌, arith, inl, inr, ◌⊎◌, eqb-true, drop-cons, take-append-drop}
+use Rattle.std.proofs.Common.{◌≡◌, ◌≢◌, ℕ, suc, ◌+◌, ◌/◌, ◌%◌, ◌<◌, ◌≤◌, cond, nat_eq, List, [], ◌∷◌, length, get_or, min, drop, refl, ◌∙◌, arith, inl, inr, ◌⊎◌, drop-cons}
 use Rattle.std.specs.List.{common_prefix_len}
 use Rattle.std.proofs.lemmas.Bool.Decides.{nat_tests}
 use Rattle.std.proofs.lemmas.Bool.{cases_lt}
-use Rattle.std.proofs.lemmas.List.{drop_all, length-take-le}
-use Rattle.std.proofs.lemmas.List.Sums.{common_prefix_len-le}
+use Rattle.std.proofs.lemmas.List.{drop_all}
 use Rattle.id_digits.specs.Digits.{digits_of}
-use Rattle.object_ids.specs.Prefix.{BeginsWith}
-use Rattle.object_ids.specs.CommonDigits.{IsCommonLen}
 
 abbrev common : List ℕ → List ℕ → ℕ
 common = common_prefix_len nat_eq
@@ -57,39 +54,3 @@ no_more xs ys at h = by (cases_lt at (length xs))
     by : ((at < length xs) ⊎ (length xs ≤ at)) → common (digits_of (drop at xs)) (digits_of (drop at ys)) ≡ 0
     by (inl inside) = rw (drop_all at ys (omega arith)) (common-nil (digits_of (drop at xs)))
     by (inr past) = rw (drop_all at xs past) refl
-
--- two lists have the same beginning of as many digits as they share
-take-common : (xs ys : List ℕ) → take (common xs ys) xs ≡ take (common xs ys) ys
-take-common [] ys = refl
-take-common (x ∷ xs) [] = refl
-take-common (x ∷ xs) (y ∷ ys) = by (nat_eq x y) refl (take-common xs ys)
-  where
-    by : (b : Bool) → nat_eq x y ≡ b → take (common xs ys) xs ≡ take (common xs ys) ys
-        → take (cond b (1 + common xs ys) 0) (x ∷ xs) ≡ take (cond b (1 + common xs ys) 0) (y ∷ ys)
-    by true e rest = let one : 1 + common xs ys ≡ suc (common xs ys) = omega arith in rw one (λ i. eqb-true x y e i ∷ rest i)
-    by false e rest = refl
-
--- and no longer one
-common-appended : (digits xs ys : List ℕ) → length digits ≤ common (digits ++ xs) (digits ++ ys)
-common-appended [] xs ys = omega arith
-common-appended (d ∷ digits) xs ys =
-    let more = common-appended digits xs ys in
-    omega (arith, pick_same d d (1 + common (digits ++ xs) (digits ++ ys)) 0 refl)
-
-begins_both : (xs ys digits : List ℕ) → BeginsWith xs digits → BeginsWith ys digits → length digits ≤ common xs ys
-begins_both xs ys digits first second = rw (first.1, second.1) (common-appended digits first.0 second.0)
-
--- the number of shared digits, said by beginnings
-pub common_len-is : (xs ys : List ℕ) (n : ℕ) → n ≡ common xs ys → IsCommonLen xs ys n
-common_len-is xs ys n is =
-    let fits = common_prefix_len-le nat_eq xs ys in
-    let front = take (common xs ys) xs in
-    record {
-      shared = (
-        front,
-        length-take-le (common xs ys) xs fits.0 ∙ sym is,
-        (drop (common xs ys) xs, sym (take-append-drop (common xs ys) xs)),
-        (drop (common xs ys) ys, sym (ap (λ (first : List ℕ). first ++ drop (common xs ys) ys) (take-common xs ys) ∙ take-append-drop (common xs ys) ys)),
-      );
-      longest = λ digits first second. rw is (begins_both xs ys digits first second);
-    }

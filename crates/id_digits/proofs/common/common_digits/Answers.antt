@@ -1,0 +1,25 @@
+use Rattle.std.proofs.Common.{add-one, arith}
+use Rattle.id_digits.proofs.CommonBytes.{pick_same, pick_other, same_byte, other_byte, no_more}
+use Rattle.id_digits.proofs.common.common_digits.Goals as goal
+
+pub returns-then-same_high_half : goal.returns-then-same_high_half
+returns-then-same_high_half c =
+    let rest = other_byte c.args.one.now c.args.other.now c.loop-at.at (omega arith) (omega arith) c.if-one-at.true in
+    let one = pick_same _ _ 1 0 c.if-same_high_half.true in
+    omega (arith, c.loop-at.invariant, rest, one)
+
+pub returns-else-same_high_half : goal.returns-else-same_high_half
+returns-else-same_high_half c =
+    let rest = other_byte c.args.one.now c.args.other.now c.loop-at.at (omega arith) (omega arith) c.if-one-at.true in
+    let none = pick_other _ _ 1 0 c.if-same_high_half.false in
+    omega (arith, c.loop-at.invariant, rest, none)
+
+pub loop-at-preserved : goal.loop-at-preserved
+loop-at-preserved c =
+    let more = same_byte c.args.one.now c.args.other.now c.loop-at.at (omega arith) (omega arith) c.if-one-at.false in
+    rw add-one (omega (arith, c.loop-at.invariant, more))
+
+pub returns : goal.returns
+returns c =
+    let none = no_more c.args.one.now c.args.other.now c.loop-at.at (omega arith) in
+    omega (arith, c.loop-at.invariant, none)

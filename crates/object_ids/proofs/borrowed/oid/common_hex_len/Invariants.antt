@@ -1,9 +1,0 @@
-use Rattle.std.proofs.Common.{◌≡◌, ◌+◌, ◌*◌, drop, nat_eq}
-use Rattle.std.specs.List.{common_prefix_len}
-use Rattle.id_digits.specs.Digits.{digits_of}
-use Rattle.object_ids.proofs.borrowed.oid.common_hex_len.Given as goal
-
-abbrev pub invariant-loop-at : goal.invariant-loop-at
-invariant-loop-at l =
-    common_prefix_len nat_eq (digits_of l.self.bytes.now) (digits_of l.other.bytes.now)
-    ≡ 2 * l.at + common_prefix_len nat_eq (digits_of (drop l.at l.self.bytes.now)) (digits_of (drop l.at l.other.bytes.now))
