@@ -28,7 +28,7 @@ impl Words {
         ensures { result ≡ words_of (digits_of bytes.now) }
     {
         Words {
-            first: word_at(bytes),
+            first: word_of_16_bytes(bytes),
             second: second_word(bytes),
         }
     }
@@ -44,10 +44,10 @@ impl Words {
     {
         if hex_len <= WORD_DIGITS {
             // The second word is zero.
-            let theirs = word_at(bytes) & front_mask(hex_len);
+            let theirs = word_of_16_bytes(bytes) & front_mask(hex_len);
             self.first.cmp(&theirs)
         } else {
-            match self.first.cmp(&word_at(bytes)) {
+            match self.first.cmp(&word_of_16_bytes(bytes)) {
                 Ordering::Equal => {
                     let theirs = second_word(bytes) & front_mask(hex_len - WORD_DIGITS);
                     self.second.cmp(&theirs)
@@ -65,14 +65,14 @@ fn second_word(bytes: &[u8]) -> u128
 {
     let behind = &bytes[WORD_DIGITS / 2..];
     if behind.len() == 4 {
-        short_word_at(behind)
+        word_of_4_bytes(behind)
     } else {
-        word_at(behind)
+        word_of_16_bytes(behind)
     }
 }
 
 // The digits of the first 16 bytes.
-fn word_at(bytes: &[u8]) -> u128
+fn word_of_16_bytes(bytes: &[u8]) -> u128
     requires { 16 ≤ length bytes.now }
     ensures { result ≡ word 32 (digits_of bytes.now) }
 {
@@ -83,7 +83,7 @@ fn word_at(bytes: &[u8]) -> u128
 }
 
 // The digits of 4 bytes, with zeros behind them.
-fn short_word_at(bytes: &[u8]) -> u128
+fn word_of_4_bytes(bytes: &[u8]) -> u128
     requires { length bytes.now ≡ 4 }
     ensures { result ≡ word 32 (digits_of bytes.now) }
 {

@@ -13,7 +13,7 @@ behind bytes =
     ap (λ (bs : List ℕ). word 32 (digits_of bs)) rest ∙ ap (word 32) (sym (drop-digits_of 16 bytes))
 
 pub returns-then-behind-eq4 : goal.returns-then-behind-eq4
-returns-then-behind-eq4 c = c.short_word_at.ensures ∙ behind c.args.bytes.now
+returns-then-behind-eq4 c = c.word_of_4_bytes.ensures ∙ behind c.args.bytes.now
 
 pub returns-else-behind-eq4 : goal.returns-else-behind-eq4
-returns-else-behind-eq4 c = c.word_at.ensures ∙ behind c.args.bytes.now
+returns-else-behind-eq4 c = c.word_of_16_bytes.ensures ∙ behind c.args.bytes.now

@@ -27,7 +27,7 @@ returns-then-hex_len-le-WORD_DIGITS c = λ digits below words is reach.
     let es = digits_of bytes in
     let theirs = All-digits_of bytes (All-from_get_or (λ (b : ℕ). b < 256) bytes 0 (λ i lt. (c.type_inv.bytes i).fits)) in
     let within = c.if-hex_len-le-WORD_DIGITS.true in
-    let masked = word-masked _ _ n es theirs within c.word_at.ensures c.front_mask.ensures in
+    let masked = word-masked _ _ n es theirs within c.word_of_16_bytes.ensures c.front_mask.ensures in
     let own : c.args.self.now.first ≡ word 32 digits = ap (λ (w : Words). w.first) words in
     c.cmp.ensures ∙ (λ i. nat_cmp (own i) (masked i)) ∙ sym (place-first_word n digits es below theirs is (among n bytes reach) within)
 
@@ -41,7 +41,7 @@ returns-in-Equal c = λ digits below words is reach.
     c.second_word.ensures c.front_mask-in-Equal.ensures in
     let first : nat_cmp (word 32 digits) (word 32 es) ≡ Equal =
     sym (c.cmp-else-hex_len-le-WORD_DIGITS.ensures
-    ∙ (λ i. nat_cmp (ap (λ (w : Words). w.first) words i) (c.word_at-else-hex_len-le-WORD_DIGITS.ensures i)))
+    ∙ (λ i. nat_cmp (ap (λ (w : Words). w.first) words i) (c.word_of_16_bytes-else-hex_len-le-WORD_DIGITS.ensures i)))
     ∙ c.in-Equal.is in
     c.cmp-in-Equal.ensures ∙ (λ i. nat_cmp (ap (λ (w : Words). w.second) words i) (masked i))
     ∙ sym (place-words n digits es below theirs is (among n bytes reach) (omega arith) c.requires.most
@@ -54,7 +54,7 @@ returns-in_default c = λ digits below words is reach.
     let es = digits_of bytes in
     let theirs = All-digits_of bytes (All-from_get_or (λ (b : ℕ). b < 256) bytes 0 (λ i lt. (c.type_inv.bytes i).fits)) in
     let first = c.cmp-else-hex_len-le-WORD_DIGITS.ensures
-    ∙ (λ i. nat_cmp (ap (λ (w : Words). w.first) words i) (c.word_at-else-hex_len-le-WORD_DIGITS.ensures i)) in
+    ∙ (λ i. nat_cmp (ap (λ (w : Words). w.first) words i) (c.word_of_16_bytes-else-hex_len-le-WORD_DIGITS.ensures i)) in
     let second = nat_cmp (word 32 (drop 32 digits)) (word 32 (take (n - 32) (drop 32 es))) in
     first ∙ sym (decided (nat_cmp (word 32 digits) (word 32 es)) second (λ ties. c.in_default.not-Equal (first ∙ ties)))
     ∙ sym (place-words n digits es below theirs is (among n bytes reach) (omega arith) c.requires.most)

@@ -1,6 +1,6 @@
 use Rattle.std.proofs.Common.{◌≡◌, sym, ◌∙◌, arith}
 use Rattle.id_digits.proofs.DigitNumbers.{word-bytes, big_from}
-use Rattle.id_digits.proofs.words.word_at.Goals as goal
+use Rattle.id_digits.proofs.words.word_of_16_bytes.Goals as goal
 
 pub returns : goal.returns
 returns c =
