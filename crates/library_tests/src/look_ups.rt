@@ -2,7 +2,7 @@
 
 use crate::types::{BLOB, BLOB_256, TREE, TREE_256, expect_text, id};
 use gix_hash::{Kind, ObjectId, Prefix};
-use id_lookup::{Probes, Run, SortedIds, begins_with, bits_of, lookup};
+use id_lookup::{Probes, Run, SortedIds, begins_with, bits_of, laws, lookup};
 use std::cmp::Ordering;
 use std::process::Abort;
 use std::test::Fail;
@@ -171,6 +171,7 @@ fn beginnings(rt: HostRuntime) {
         let id = id(&rt, text);
         let prefix = Prefix::from_hex(digits).expect(&rt, "digits that are no prefix");
         assert!(rt; prefix.hex_len() <= id.kind().len_in_hex());
+        laws::beginnings(&prefix);
         expect!(&rt; begins_with(&id, &prefix) == want, &digits);
     }
 }

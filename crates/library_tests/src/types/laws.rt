@@ -1,7 +1,7 @@
 //! Laws, at values that meet what they ask of the caller.
 
 use super::{BLOB, BLOB_256, BLOB_BYTES, id};
-use gix_hash::{Alphabet, ChangeId, ObjectId, Prefix, laws, oid};
+use gix_hash::{Alphabet, ChangeId, Kind, ObjectId, Prefix, laws, oid};
 use std::test::Fail;
 
 #[test]
@@ -34,6 +34,8 @@ fn a_printed_prefix_read_back(rt: HostRuntime) -> Result<(), Fail> {
         let read = Prefix::from_hex_nonempty(text)?;
         assert!(rt; read.eq_str(lowered.as_str()), "{hex_len} digits");
         expect!(&rt; (read == prefix) == same, &hex_len);
+        laws::read_prefix_back_in_kind(Alphabet::Hex, &prefix, text);
+        expect!(&rt; Prefix::from_hex_in(Kind::Sha256, text)? == prefix, &hex_len);
     }
     Ok(())
 }
@@ -49,6 +51,8 @@ fn hold_without_computing() -> Result<(), Fail> {
     laws::readings(Alphabet::Hex, &BLOB_BYTES);
     laws::full_readings(Alphabet::Reverse, &BLOB_BYTES);
     laws::prefix_readings(Alphabet::Hex, 1, "e69d");
+    laws::prefix_readings_in(Kind::Sha256, Alphabet::Hex, "e69d");
+    laws::digits_in_words(&prefix);
     laws::same_id(&blob, &null);
     laws::equal_ids(&blob, &null);
     laws::contains_equal(&blob);
