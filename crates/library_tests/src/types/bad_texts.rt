@@ -3,7 +3,7 @@
 
 use super::{BLOB_256, id, parsed, tried};
 use gix_hash::prefix::from_hex;
-use gix_hash::{ChangeId, Kind, ObjectId, Prefix, decode};
+use gix_hash::{Alphabet, ChangeId, Kind, ObjectId, Prefix, decode};
 use std::alloc::{AllocError, Global};
 use std::process::Abort;
 
@@ -124,6 +124,14 @@ fn expect_prefix(
     expect!(rt; told == (want, len));
 }
 
+// The calls of an alphabet.
+fn expect_alphabet(rt: &impl Abort, alphabet: Alphabet, text: &str, row: &Row) {
+    let len = text.len();
+    expect_id(rt, alphabet.read_id(text.as_bytes()), len, row.id);
+    expect_prefix(rt, alphabet.read_prefix(text), len, row.prefix);
+    expect_prefix(rt, alphabet.read_prefix_nonempty(text), len, row.nonempty);
+}
+
 // The calls that read hex digits.
 fn expect_hex(rt: &impl Abort, text: &str, row: &Row) {
     let len = text.len();
@@ -135,6 +143,7 @@ fn expect_hex(rt: &impl Abort, text: &str, row: &Row) {
     for (kind, want) in [(Kind::Sha1, row.in_sha1), (Kind::Sha256, row.in_sha256)] {
         expect_prefix(rt, Prefix::from_hex_in(kind, text), len, want);
     }
+    expect_alphabet(rt, Alphabet::Hex, text, row);
 }
 
 // The calls that read the letters `z` to `k`.
@@ -151,6 +160,7 @@ fn expect_reverse(rt: &impl Abort, text: &str, row: &Row) {
         len,
         row.nonempty,
     );
+    expect_alphabet(rt, Alphabet::Reverse, text, row);
 }
 
 // In the alphabet of the other calls the texts have the same lengths, but no digits.
@@ -183,6 +193,7 @@ fn letters_that_are_no_digits(rt: HostRuntime) {
         ("é", 2, TooShort, Invalid),
         ("éé", 4, Invalid, Invalid),
         ("+123", 4, Invalid, Invalid),
+        ("abcg", 4, Invalid, Invalid),
         ("\u{212a}zzz", 6, Invalid, Invalid),
         (g_65.as_str(), 65, TooLong, TooLong),
     ] {

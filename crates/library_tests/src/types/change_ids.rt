@@ -5,7 +5,6 @@ use super::{
     BLOB, BLOB_256, BLOB_BYTES, BLOB_LETTERS, TREE, converted, expect_answer, expect_below,
     expect_debug, expect_same, expect_text, id, parsed,
 };
-use gix_hash::prefix::from_hex;
 use gix_hash::{Alphabet, ChangeId, Kind, ObjectId, Prefix};
 use std::process::Abort;
 use std::test::Fail;
@@ -109,14 +108,6 @@ fn prefixes(rt: HostRuntime) -> Result<(), Fail> {
             ),
         ],
     );
-    let too_long = Prefix::from_reverse_hex_nonempty(LETTERS_Z_65).err();
-    expect!(&rt; too_long == Some(from_hex::Error::TooLong { hex_len: 65 }));
-    let empty = Prefix::from_reverse_hex_nonempty("").err();
-    expect!(&rt; empty == Some(from_hex::Error::TooShort { hex_len: 0 }));
-    let invalid = Prefix::from_reverse_hex_nonempty("0").err();
-    expect!(&rt; invalid == Some(from_hex::Error::Invalid));
-    let too_short = Prefix::from_reverse_hex("zzz").err();
-    expect!(&rt; too_short == Some(from_hex::Error::TooShort { hex_len: 3 }));
     for (letters, digits, kind) in [
         ("z", "0", Kind::Sha1),
         ("Lt", "e6", Kind::Sha1),
