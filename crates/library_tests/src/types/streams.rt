@@ -2,10 +2,10 @@
 
 use super::devices::{FAILED, Fault, Reader};
 use super::listeners::{Asked, Call, Heard, chunks};
-use super::{BLOB, expect_answer, expect_debug, expect_error, expect_text, id};
+use super::{BLOB, expect_answer, expect_debug, expect_error, id};
 use gix_hash::io::{Never, NoProgress};
 use gix_hash::{
-    Hasher, Kind, ObjectId, Prefix, bytes, bytes_with_hasher, hasher, hashing, hashing_laws, io,
+    Hasher, Kind, ObjectId, bytes, bytes_with_hasher, hasher, hashing, hashing_laws, io,
 };
 use std::process::Abort;
 use std::test::Fail;
@@ -62,17 +62,15 @@ fn pieces_are_one_message(rt: HostRuntime) {
     );
 }
 
+// The digest of the 20 bytes of the empty blob's id, by sha1sum.
 #[test]
-fn documented_example_whole(rt: HostRuntime) -> Result<(), Fail> {
-    let blob = ObjectId::from_hex(BLOB.as_bytes())?;
-    expect!(&rt; blob.kind() == Kind::Sha1);
-    expect!(&rt; blob.is_empty_blob());
-    expect!(&rt; blob.eq_str(BLOB));
-    expect_text(&rt, Prefix::new(blob.as_oid(), 7)?, "e69de29");
-    let computed = hasher_fed(Kind::Sha1, &[blob.as_slice()]).try_finalize()?;
-    expect!(&rt; computed.kind() == Kind::Sha1);
-    expect!(&rt; computed != blob);
-    Ok(())
+fn an_id_is_hashed_by_its_bytes(rt: HostRuntime) {
+    expect_digest(
+        &rt,
+        Kind::Sha1,
+        &[id(&rt, BLOB).as_slice()],
+        "d96f4801970aae11efea1c6d388b6a6c021b1095",
+    );
 }
 
 // The objects by whose digests Git names the empty blob and the empty tree.
