@@ -64,7 +64,10 @@ fn flushes_leave_the_hasher(rt: HostRuntime) -> Result<(), Fail> {
         for answer in [out.flush(), flushed(&mut out)] {
             match answer {
                 Ok(()) => expect!(&rt; !flush_fails),
-                Err(error) => expect_text(&rt, error, FAILED),
+                Err(error) => {
+                    expect!(&rt; flush_fails);
+                    expect_text(&rt, error, FAILED)
+                }
             }
         }
         expect!(&rt; (out.inner.flushes, out.inner.calls) == (2, 1));
