@@ -155,43 +155,25 @@ fn none_one_and_many(rt: HostRuntime) {
     }
 }
 
-// The member at a place has its name, and by that it is found alone.
-fn expect_name(rt: &impl Abort, index: &IdIndex<'_>, at: usize, want: &str) {
+// The member at a place has its name, which prints and reads back, and by that it is found alone.
+fn expect_name(rt: &(impl Abort + AllocGlobal), index: &IdIndex<'_>, at: usize, want: &str) {
     assert!(rt; at < index.len());
     let name = index.abbreviate(at);
+    expect_text(rt, name, want);
     expect!(rt; name.eq_str(want), &want);
     expect!(rt; name.as_oid().kind() == index.kind(), &want);
-    expect_answer(rt, index, &name, Answer::One(at));
+    let read = Prefix::from_hex_in(index.kind(), want).expect(rt, "a name that is no prefix");
+    expect!(rt; read == name, &want);
+    expect_answer(rt, index, &read, Answer::One(at));
     expect!(rt; find_own_name(index, at) == Answer::One(at), &want);
 }
 
-fn expect_names(rt: &impl Abort, ids: &[ObjectId], names: &[&str]) {
+fn expect_names(rt: &(impl Abort + AllocGlobal), ids: &[ObjectId], names: &[&str]) {
     let index = IdIndex::try_new(ids, Kind::Sha1).expect(rt, "ids of no index");
     expect!(rt; names.len() == index.len());
     for (at, name) in names.iter().enumerate() {
         expect_name(rt, &index, at, name);
     }
-}
-
-// A member's name is printed, read in the kind of the index, and found: the member alone.
-fn expect_read_name(rt: &(impl Abort + AllocGlobal), index: &IdIndex<'_>, at: usize, want: &str) {
-    assert!(rt; at < index.len());
-    expect_text(rt, index.abbreviate(at), want);
-    let read = Prefix::from_hex_in(index.kind(), want).expect(rt, "a name that is no prefix");
-    expect_answer(rt, index, &read, Answer::One(at));
-}
-
-fn expect_read_names(rt: &(impl Abort + AllocGlobal), ids: &[ObjectId], names: &[&str]) {
-    let index = IdIndex::try_new(ids, Kind::Sha1).expect(rt, "ids of no index");
-    expect!(rt; names.len() == index.len());
-    for (at, name) in names.iter().enumerate() {
-        expect_read_name(rt, &index, at, name);
-    }
-}
-
-#[test]
-fn names_read_back(rt: HostRuntime) {
-    expect_read_names(&rt, &two_alike(&rt), &["abcd0", "abcd1", "ffff"]);
 }
 
 #[test]
