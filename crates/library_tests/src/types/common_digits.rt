@@ -10,44 +10,24 @@ fn expect_common(rt: &impl Abort, one: &ObjectId, other: &ObjectId, want: usize)
     expect!(rt; one.common_hex_len(other.as_oid()) == want);
 }
 
+// Ids of which the first shares so many digits with the second.
+const SHARED: [(&str, &str, usize); 8] = [
+    (BLOB, BLOB, 40),
+    (TREE, BLOB, 0),
+    (BLOB_256, TREE, 1),
+    ("e69de29bb2d1d6434b8b29ae775ad8c2e48c5390", BLOB, 39),
+    ("e69de29bb2d1d6434b8b29ae775ad8c2e48c5381", BLOB, 38),
+    ("e69de28bb2d1d6434b8b29ae775ad8c2e48c5391", BLOB, 6),
+    ("e69de20bb2d1d6434b8b29ae775ad8c2e48c5391", BLOB, 6),
+    ("e69d029bb2d1d6434b8b29ae775ad8c2e48c5391", BLOB, 4),
+];
+
 #[test]
 fn shared_digits(rt: HostRuntime) {
-    for (one, other, want) in [
-        (id(&rt, BLOB), id(&rt, BLOB), 40),
-        (id(&rt, TREE), id(&rt, BLOB), 0),
-        (id(&rt, BLOB_256), id(&rt, TREE), 1),
-        (ObjectId::null(Kind::Sha1), ObjectId::null(Kind::Sha256), 40),
-        (
-            ObjectId::null(Kind::Sha256),
-            ObjectId::null(Kind::Sha256),
-            64,
-        ),
-        (
-            id(&rt, "e69de29bb2d1d6434b8b29ae775ad8c2e48c5390"),
-            id(&rt, BLOB),
-            39,
-        ),
-        (
-            id(&rt, "e69de29bb2d1d6434b8b29ae775ad8c2e48c5381"),
-            id(&rt, BLOB),
-            38,
-        ),
-        (
-            id(&rt, "e69de28bb2d1d6434b8b29ae775ad8c2e48c5391"),
-            id(&rt, BLOB),
-            6,
-        ),
-        (
-            id(&rt, "e69de20bb2d1d6434b8b29ae775ad8c2e48c5391"),
-            id(&rt, BLOB),
-            6,
-        ),
-        (
-            id(&rt, "e69d029bb2d1d6434b8b29ae775ad8c2e48c5391"),
-            id(&rt, BLOB),
-            4,
-        ),
-    ] {
-        expect_common(&rt, &one, &other, want);
+    for (one, other, want) in SHARED {
+        expect_common(&rt, &id(&rt, one), &id(&rt, other), want);
     }
+    let (null, wide_null) = (ObjectId::null(Kind::Sha1), ObjectId::null(Kind::Sha256));
+    expect_common(&rt, &null, &wide_null, 40);
+    expect_common(&rt, &wide_null, &wide_null, 64);
 }

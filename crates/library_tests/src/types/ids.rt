@@ -41,43 +41,43 @@ fn documented_example(rt: HostRuntime) -> Result<(), Fail> {
     Ok(())
 }
 
+// Texts, and what the id prints as, or why there is none.
+const TEXTS: [(&str, &str); 12] = [
+    (BLOB, BLOB),
+    ("E69DE29BB2D1D6434B8B29AE775AD8C2E48C5391", BLOB),
+    ("e69DE29bb2d1d6434B8B29ae775ad8c2E48C5391", BLOB),
+    (BLOB_256, BLOB_256),
+    (
+        "473A0F4C3BE8A93681A267E3B1E9A7DCDA1185436FE141F7749120A303721813",
+        BLOB_256,
+    ),
+    ("", "A hash sized 0 hexadecimal characters is invalid"),
+    ("zzz", "A hash sized 3 hexadecimal characters is invalid"),
+    (
+        "e69de29bb2d1d6434b8b29ae775ad8c2e48c53910",
+        "A hash sized 41 hexadecimal characters is invalid",
+    ),
+    (
+        ZEROS_65,
+        "A hash sized 65 hexadecimal characters is invalid",
+    ),
+    (
+        "g69de29bb2d1d6434b8b29ae775ad8c2e48c5391",
+        "Invalid character encountered",
+    ),
+    (
+        "473a0f4c3be8a93681a267e3b1e9a7dcda1185436fe141f7749120a30372181g",
+        "Invalid character encountered",
+    ),
+    (
+        "e69de29bb2d1d6434b8b29ae775ad8c2e48c539/",
+        "Invalid character encountered",
+    ),
+];
+
 #[test]
 fn read_from_text(rt: HostRuntime) {
-    expect_read(
-        &rt,
-        &[
-            (BLOB, BLOB),
-            ("E69DE29BB2D1D6434B8B29AE775AD8C2E48C5391", BLOB),
-            ("e69DE29bb2d1d6434B8B29ae775ad8c2E48C5391", BLOB),
-            (BLOB_256, BLOB_256),
-            (
-                "473A0F4C3BE8A93681A267E3B1E9A7DCDA1185436FE141F7749120A303721813",
-                BLOB_256,
-            ),
-            ("", "A hash sized 0 hexadecimal characters is invalid"),
-            ("zzz", "A hash sized 3 hexadecimal characters is invalid"),
-            (
-                "e69de29bb2d1d6434b8b29ae775ad8c2e48c53910",
-                "A hash sized 41 hexadecimal characters is invalid",
-            ),
-            (
-                ZEROS_65,
-                "A hash sized 65 hexadecimal characters is invalid",
-            ),
-            (
-                "g69de29bb2d1d6434b8b29ae775ad8c2e48c5391",
-                "Invalid character encountered",
-            ),
-            (
-                "473a0f4c3be8a93681a267e3b1e9a7dcda1185436fe141f7749120a30372181g",
-                "Invalid character encountered",
-            ),
-            (
-                "e69de29bb2d1d6434b8b29ae775ad8c2e48c539/",
-                "Invalid character encountered",
-            ),
-        ],
-    );
+    expect_read(&rt, &TEXTS);
     expect_error(
         &rt,
         decode::Error::InvalidHexEncodingLength(2),

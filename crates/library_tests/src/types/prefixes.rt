@@ -14,9 +14,9 @@ use std::test::Fail;
 const ZEROS_41: &str = "00000000000000000000000000000000000000000";
 
 // Makes a prefix of so many digits of an id.
-fn expect_new(rt: &(impl Abort + AllocGlobal), rows: &[(ObjectId, usize, &str)]) {
-    for &(id, hex_len, want) in rows {
-        expect_answer(rt, Prefix::new(id.as_oid(), hex_len), want);
+fn expect_new(rt: &(impl Abort + AllocGlobal), rows: &[(&str, usize, &str)]) {
+    for &(text, hex_len, want) in rows {
+        expect_answer(rt, Prefix::new(id(rt, text).as_oid(), hex_len), want);
     }
 }
 
@@ -41,40 +41,40 @@ fn expect_place(rt: &impl Abort, prefix: Prefix, candidate: &ObjectId, place: Or
     expect!(rt; prefix.cmp_oid(candidate) == place, &prefix);
 }
 
+// Ids, numbers of digits, and what the prefix prints as, or why there is none.
+const BEGINNINGS: [(&str, usize, &str); 9] = [
+    (BLOB, 4, "e69d"),
+    (BLOB, 7, "e69de29"),
+    (BLOB, 40, BLOB),
+    (BLOB_256, 6, "473a0f"),
+    (BLOB_256, 64, BLOB_256),
+    (
+        BLOB,
+        0,
+        "The minimum hex length of a short object id is 4, got 0",
+    ),
+    (
+        BLOB,
+        3,
+        "The minimum hex length of a short object id is 4, got 3",
+    ),
+    (
+        BLOB,
+        41,
+        "An object of kind sha1 cannot be larger than 40 in hex, but 41 was requested",
+    ),
+    (
+        BLOB_256,
+        65,
+        "An object of kind sha256 cannot be larger than 64 in hex, but 65 was requested",
+    ),
+];
+
 #[test]
 fn beginnings_of_ids(rt: HostRuntime) -> Result<(), Fail> {
-    let (blob, wide) = (id(&rt, BLOB), id(&rt, BLOB_256));
+    let blob = id(&rt, BLOB);
     expect!(&rt; Prefix::MIN_HEX_LEN == 4);
-    expect_new(
-        &rt,
-        &[
-            (blob, 4, "e69d"),
-            (blob, 7, "e69de29"),
-            (blob, 40, BLOB),
-            (wide, 6, "473a0f"),
-            (wide, 64, BLOB_256),
-            (
-                blob,
-                0,
-                "The minimum hex length of a short object id is 4, got 0",
-            ),
-            (
-                blob,
-                3,
-                "The minimum hex length of a short object id is 4, got 3",
-            ),
-            (
-                blob,
-                41,
-                "An object of kind sha1 cannot be larger than 40 in hex, but 41 was requested",
-            ),
-            (
-                wide,
-                65,
-                "An object of kind sha256 cannot be larger than 64 in hex, but 65 was requested",
-            ),
-        ],
-    );
+    expect_new(&rt, &BEGINNINGS);
     expect_text(
         &rt,
         Prefix::new(blob.as_oid(), 4)?.as_oid(),
@@ -101,47 +101,47 @@ fn beginnings_by_ranges(rt: HostRuntime) {
     }
 }
 
+// Texts, and what the prefix prints as, or why there is none.
+const TEXTS: [(&str, &str); 8] = [
+    ("e69d", "e69d"),
+    ("E69D0", "e69d0"),
+    ("35e77c16", "35e77c16"),
+    (BLOB_256, BLOB_256),
+    (
+        "",
+        "The minimum hex length of a short object id is 4, got 0",
+    ),
+    (
+        "abc",
+        "The minimum hex length of a short object id is 4, got 3",
+    ),
+    ("abcg", "Invalid hex character"),
+    (
+        ZEROS_65,
+        "An id cannot be larger than 64 chars in hex, but 65 was requested",
+    ),
+];
+
+// Of less than 4 digits too.
+const NONEMPTY_TEXTS: [(&str, &str); 6] = [
+    ("e", "e"),
+    ("35e", "35e"),
+    (ZEROS_41, ZEROS_41),
+    (
+        "",
+        "The minimum hex length of a short object id is 4, got 0",
+    ),
+    ("g", "Invalid hex character"),
+    (
+        ZEROS_65,
+        "An id cannot be larger than 64 chars in hex, but 65 was requested",
+    ),
+];
+
 #[test]
 fn read_from_text(rt: HostRuntime) -> Result<(), Fail> {
-    expect_read(
-        &rt,
-        &[
-            ("e69d", "e69d"),
-            ("E69D0", "e69d0"),
-            ("35e77c16", "35e77c16"),
-            (BLOB_256, BLOB_256),
-            (
-                "",
-                "The minimum hex length of a short object id is 4, got 0",
-            ),
-            (
-                "abc",
-                "The minimum hex length of a short object id is 4, got 3",
-            ),
-            ("abcg", "Invalid hex character"),
-            (
-                ZEROS_65,
-                "An id cannot be larger than 64 chars in hex, but 65 was requested",
-            ),
-        ],
-    );
-    expect_read_nonempty(
-        &rt,
-        &[
-            ("e", "e"),
-            ("35e", "35e"),
-            (ZEROS_41, ZEROS_41),
-            (
-                "",
-                "The minimum hex length of a short object id is 4, got 0",
-            ),
-            ("g", "Invalid hex character"),
-            (
-                ZEROS_65,
-                "An id cannot be larger than 64 chars in hex, but 65 was requested",
-            ),
-        ],
-    );
+    expect_read(&rt, &TEXTS);
+    expect_read_nonempty(&rt, &NONEMPTY_TEXTS);
     expect!(&rt; Prefix::from_hex("35e77c16")?.hex_len() == 8);
     expect!(&rt; Prefix::from_hex_nonempty("35e")?.hex_len() == 3);
     expect!(&rt; Prefix::from_hex_nonempty(ZEROS_41)?.as_oid().kind() == Kind::Sha256);

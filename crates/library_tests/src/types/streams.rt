@@ -118,21 +118,94 @@ fn hashed_without_memory() -> Result<(), Fail> {
     Ok(())
 }
 
-// What a run answers that reads zero bytes, and is interrupted at an asking with that number, or
-// never at 0.
+// What is heard of 131071 bytes.
+const THREE_CHUNKS_HEARD: [Call; 5] = [
+    Call::Init(Some(131071)),
+    Call::IncBy(65535),
+    Call::IncBy(65535),
+    Call::IncBy(1),
+    Call::ShowThroughput,
+];
+
+// What a run answers that reads of 131071 zero bytes, and is interrupted at an asking with that
+// number, or never at 0.
 #[derive(Clone, Copy)]
-struct Run<'a> {
-    given: &'a [u8],
+struct Run {
     num_bytes: u64,
     stops_at: usize,
-    answer: &'a str,
-    heard: &'a [Call],
+    answer: &'static str,
+    heard: &'static [Call],
     unread: usize,
 }
 
+const RUNS: [Run; 7] = [
+    Run {
+        num_bytes: 0,
+        stops_at: 0,
+        answer: EMPTY,
+        heard: &[Call::Init(Some(0)), Call::ShowThroughput],
+        unread: 131071,
+    },
+    Run {
+        num_bytes: 65535,
+        stops_at: 0,
+        answer: FULL_CHUNK,
+        heard: &[
+            Call::Init(Some(65535)),
+            Call::IncBy(65535),
+            Call::ShowThroughput,
+        ],
+        unread: 65536,
+    },
+    Run {
+        num_bytes: 131071,
+        stops_at: 0,
+        answer: THREE_CHUNKS,
+        heard: &THREE_CHUNKS_HEARD,
+        unread: 0,
+    },
+    Run {
+        num_bytes: 131071,
+        stops_at: 1,
+        answer: "Interrupted",
+        heard: &[Call::Init(Some(131071)), Call::IncBy(65535)],
+        unread: 65536,
+    },
+    Run {
+        num_bytes: 131071,
+        stops_at: 2,
+        answer: "Interrupted",
+        heard: &[
+            Call::Init(Some(131071)),
+            Call::IncBy(65535),
+            Call::IncBy(65535),
+        ],
+        unread: 1,
+    },
+    Run {
+        num_bytes: 131071,
+        stops_at: 3,
+        answer: "Interrupted",
+        heard: &[
+            Call::Init(Some(131071)),
+            Call::IncBy(65535),
+            Call::IncBy(65535),
+            Call::IncBy(1),
+        ],
+        unread: 0,
+    },
+    Run {
+        num_bytes: 65536,
+        stops_at: 2,
+        answer: "Interrupted",
+        heard: &[Call::Init(Some(65536)), Call::IncBy(65535), Call::IncBy(1)],
+        unread: 65535,
+    },
+];
+
 // Each chunk that was heard of was asked after.
-fn expect_run(rt: &(impl Abort + AllocGlobal), run: &Run<'_>) {
-    let mut input = run.given;
+fn expect_run(rt: &(impl Abort + AllocGlobal), zeros: &[u8], run: &Run) {
+    let mut input = zeros;
     let mut heard = Heard::new();
     let mut asked = Asked::stopping_at(run.stops_at);
     let len = run.num_bytes;
@@ -146,55 +219,8 @@ fn expect_run(rt: &(impl Abort + AllocGlobal), run: &Run<'_>) {
 #[test]
 fn chunks_are_heard_and_asked_after(rt: HostRuntime) {
     let zeros = [0; 131071];
-    let all = [
-        Call::Init(Some(131071)),
-        Call::IncBy(65535),
-        Call::IncBy(65535),
-        Call::IncBy(1),
-        Call::ShowThroughput,
-    ];
-    for (num_bytes, stops_at, answer, heard, unread) in [
-        (
-            0,
-            0,
-            EMPTY,
-            [Call::Init(Some(0)), Call::ShowThroughput].as_slice(),
-            131071,
-        ),
-        (
-            65535,
-            0,
-            FULL_CHUNK,
-            &[
-                Call::Init(Some(65535)),
-                Call::IncBy(65535),
-                Call::ShowThroughput,
-            ],
-            65536,
-        ),
-        (131071, 0, THREE_CHUNKS, &all, 0),
-        (131071, 1, "Interrupted", &all[..2], 65536),
-        (131071, 2, "Interrupted", &all[..3], 1),
-        (131071, 3, "Interrupted", &all[..4], 0),
-        (
-            65536,
-            2,
-            "Interrupted",
-            &[Call::Init(Some(65536)), Call::IncBy(65535), Call::IncBy(1)],
-            65535,
-        ),
-    ] {
-        expect_run(
-            &rt,
-            &Run {
-                given: &zeros,
-                num_bytes,
-                stops_at,
-                answer,
-                heard,
-                unread,
-            },
-        );
+    for run in RUNS {
+        expect_run(&rt, &zeros, &run);
     }
     let whole = hasher_fed(Kind::Sha1, &[&zeros]).try_finalize();
     expect_answer(&rt, whole, THREE_CHUNKS);
@@ -249,13 +275,7 @@ fn a_reader_that_ends_too_early(rt: HostRuntime) {
 #[test]
 fn each_read_fails_in_turn(rt: HostRuntime) {
     let zeros = [0; 131071];
-    let all = [
-        Call::Init(Some(131071)),
-        Call::IncBy(65535),
-        Call::IncBy(65535),
-        Call::IncBy(1),
-        Call::ShowThroughput,
-    ];
+    let all = THREE_CHUNKS_HEARD;
     for at in 1..=8 {
         let mut input = Reader::new(&zeros, 30000, Fault::AtCall(at));
         let (mut heard, mut asked) = (Heard::new(), Asked::stopping_at(0));
