@@ -16,6 +16,7 @@ use devices::into_slice::IntoSlice;
 use gix_hash::{decode, prefix};
 use list_search::finding::{FindError, find, find_change};
 use std::alloc::{AllocError, Global};
+use std::fmt::Debug;
 use std::process::Abort;
 use std::test::Fail;
 
@@ -27,6 +28,9 @@ const TREE: &str = "4b825dc642cb6eb9a060e54bf8d69288fbee4904\n";
 const BLOB_256: &str = "473a0f4c3be8a93681a267e3b1e9a7dcda1185436fe141f7749120a303721813\n";
 
 const TREE_256: &str = "6ef19b41225c5369f1c104d45d8d85efa9b057b53b14b4b9b939dd74decc5321\n";
+
+// The four in the order of ids.
+const WELL_KNOWN: [&str; 4] = [BLOB_256, TREE, TREE_256, BLOB];
 
 // The two of SHA-1 in the letters of change ids.
 const BLOB_LETTERS: &str = "ltqmlxqooxmymtvwvoroxqplssupmrnxlvrnuwqy\n";
@@ -45,6 +49,36 @@ fn joined(alloc: Global, parts: &[&str]) -> Result<String, AllocError> {
 
 fn text_of(rt: &(impl Abort + AllocGlobal), parts: &[&str]) -> String {
     joined(rt.alloc(), parts).expect(rt, "no memory for a text")
+}
+
+// The list of the four.
+fn well_known_list(rt: &(impl Abort + AllocGlobal)) -> String {
+    text_of(rt, &WELL_KNOWN)
+}
+
+/// What came of a search.
+#[derive(Clone, Copy, Debug, PartialEq, Eq)]
+enum Outcome {
+    Found(usize),
+    NoMemory,
+    FailedWrite,
+    Refused,
+}
+
+// A search that had memory found one id and wrote its line, and one that had none wrote nothing:
+// whether it had memory.
+fn expect_granted<T: Debug>(
+    rt: &impl Abort,
+    came: Outcome,
+    written: &[u8],
+    line: &str,
+    search: &T,
+) -> bool {
+    let is_granted = came != Outcome::NoMemory;
+    let want = if is_granted { line } else { NO_MATCH };
+    expect_bytes(rt, written, want.as_bytes(), search);
+    expect!(rt; !is_granted || came == Outcome::Found(1), search);
+    is_granted
 }
 
 // Finds the prefix in the lines, as one text and as what a source gives, and compares the answer's
@@ -83,7 +117,7 @@ fn expect_find_change(
 
 #[test]
 fn finds_changes_in_list_texts(rt: HostRuntime) {
-    let all = [BLOB_256, TREE, TREE_256, BLOB].as_slice();
+    let all = WELL_KNOWN.as_slice();
     let unsorted = [BLOB, TREE].as_slice();
     expect_find_change(&rt, "LTQM", all, "Ok(1)", BLOB_LETTERS);
     expect_find_change(&rt, "VoRx", all, "Ok(1)", TREE_LETTERS);

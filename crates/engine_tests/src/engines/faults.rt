@@ -1,8 +1,7 @@
-//! Writers that fail, lists that are long, and searches that need no memory.
+//! Sinks that fail, lists that are long, and searches that need no memory.
 
 use super::faulty::{Fault, Writer};
-use super::{BLOB, BLOB_256, TREE, TREE_256, text_of};
-use crate::expecting::expect_bytes;
+use super::{BLOB, TREE, TREE_256};
 use devices::from_slice::FromSlice;
 use devices::into_slice::IntoSlice;
 use devices::plain::Plain;
@@ -12,71 +11,6 @@ use list_search::finding::{FindError, find, find_change};
 use list_search::finding_from::find_from;
 use std::alloc::{AllocError, Global};
 use std::process::Abort;
-
-// The four ids in their order, the tree twice.
-fn list(rt: &(impl Abort + AllocGlobal)) -> String {
-    text_of(rt, [BLOB_256, TREE, TREE, TREE_256, BLOB].as_slice())
-}
-
-// Finds the prefix with this writer, and compares the answer and what the writer took.
-fn expect_taken(
-    rt: &(impl Abort + AllocGlobal),
-    prefix: &str,
-    piece: usize,
-    fault: Fault,
-    answer: Result<usize, ()>,
-    taken: &[u8],
-) {
-    let row = (prefix, answer, taken.len());
-    let list = list(rt);
-    let mut out = Plain::new(Writer::new(Vec::new(rt.alloc()), piece, fault));
-    let found = find(rt.alloc(), prefix, list.as_bytes(), &mut out);
-    let holds = match answer {
-        Ok(count) => matches!(found, Ok(n) if n == count),
-        Err(()) => matches!(found, Err(FindError::Output)),
-    };
-    expect!(rt; holds, &row);
-    expect!(rt; out.failed() == answer.is_err(), &row);
-    let writer = out.into_inner();
-    expect_bytes(rt, writer.taken(), taken, &row);
-    // Nothing is written behind a failure, and nothing flushed.
-    expect!(rt; !writer.was_asked_again(), &row);
-    expect!(rt; writer.flushes() == 0, &row);
-}
-
-#[test]
-fn tells_a_write_that_fails(rt: HostRuntime) {
-    let both = text_of(&rt, [TREE, TREE].as_slice());
-    let both = both.as_bytes();
-    for at in 1..=82 {
-        assert!(&rt; at <= both.len());
-        expect_taken(&rt, "4b82", 1, Fault::AtCall(at), Err(()), &both[..at - 1]);
-    }
-    expect_taken(&rt, "4b82", 1, Fault::AtCall(83), Ok(2), both);
-    for most in 0..82 {
-        assert!(&rt; most <= both.len());
-        expect_taken(
-            &rt,
-            "4b82",
-            7,
-            Fault::AfterBytes(most),
-            Err(()),
-            &both[..most],
-        );
-    }
-    expect_taken(&rt, "4b82", 7, Fault::AfterBytes(82), Ok(2), both);
-    expect_taken(
-        &rt,
-        "4b82",
-        128,
-        Fault::AfterBytes(10),
-        Err(()),
-        b"4b825dc642",
-    );
-    expect_taken(&rt, "4b82", 0, Fault::Never, Err(()), b"");
-    expect_taken(&rt, "4b82", 128, Fault::Never, Ok(2), both);
-    expect_taken(&rt, "ffff", 0, Fault::AtCall(1), Ok(0), b"");
-}
 
 #[test]
 fn keeps_a_failure(rt: HostRuntime) {

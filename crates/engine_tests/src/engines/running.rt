@@ -1,7 +1,10 @@
 //! Commands over readers and writers that give and take odd pieces, or fail.
 
 use super::faulty::{Fault, Reader, Writer};
-use super::{BLOB, BLOB_256, BLOB_LETTERS, NO_MATCH, TREE, TREE_256, TREE_LETTERS, text_of};
+use super::{
+    BLOB, BLOB_256, BLOB_LETTERS, NO_MATCH, Outcome, TREE, TREE_256, expect_granted, text_of,
+    well_known_list,
+};
 use crate::expecting::{expect_bytes, expect_printed, expect_shown};
 use commands::command::Command;
 use commands::running::{CommandError, run_command};
@@ -12,16 +15,10 @@ use devices::sink::Sink;
 use gix_hash::Kind;
 use linked_list_allocator::LocalHeap;
 use list_search::finding::FindError;
-use std::alloc::Allocator;
 use std::io::BufWriter;
 use std::process::Abort;
 use std::rt::Files;
 use std::test::Fail;
-
-// The four ids in their order.
-fn list(rt: &(impl Abort + AllocGlobal)) -> String {
-    text_of(rt, [BLOB_256, TREE, TREE_256, BLOB].as_slice())
-}
 
 // Runs the command over a list text in pieces of so many bytes, and compares the answer's Debug text
 // and what was written.
@@ -44,7 +41,7 @@ fn expect_run(
 
 #[test]
 fn runs_commands(rt: HostRuntime) {
-    let list = list(&rt);
+    let list = well_known_list(&rt);
     let list = list.as_str();
     let no_hex = "Err(Find(Prefix(Invalid)))";
     let find = |prefix| Command::Find { prefix };
@@ -73,7 +70,7 @@ fn runs_commands(rt: HostRuntime) {
 
 #[test]
 fn runs_finding_in_a_kind(rt: HostRuntime) {
-    let mixed = list(&rt);
+    let mixed = well_known_list(&rt);
     let mixed = mixed.as_str();
     let of_sha1 = text_of(&rt, [TREE, BLOB].as_slice());
     let of_sha1 = of_sha1.as_str();
@@ -113,7 +110,7 @@ fn expect_stopped(rt: &(impl Abort + Files + AllocGlobal), list: &str) {
 
 #[test]
 fn tells_a_read_that_fails(rt: HostRuntime) {
-    let list = list(&rt);
+    let list = well_known_list(&rt);
     let list = list.as_str();
     let find = Command::Find { prefix: "4b82" };
     let find_change = Command::FindChange { letters: "ltqm" };
@@ -136,10 +133,10 @@ fn tells_a_read_that_fails(rt: HostRuntime) {
     expect_stopped(&rt, list);
 }
 
-// The searches for the empty tree of SHA-1, and what each writes.
+// Searches for an id of SHA-1, and what each writes.
 const SEARCHES: [(Command<'_>, &str); 3] = [
     (Command::Find { prefix: "4b82" }, TREE),
-    (Command::FindChange { letters: "vorx" }, TREE_LETTERS),
+    (Command::FindChange { letters: "LTQM" }, BLOB_LETTERS),
     (
         Command::FindIn {
             kind: Kind::Sha1,
@@ -195,27 +192,12 @@ fn flushes_at_the_end(rt: HostRuntime) {
     }
 }
 
-// Runs a search within an allocator: whether it gave all that was asked of it.
-fn runs_within<A: Allocator + Copy>(
-    rt: &(impl Abort + Files),
-    alloc: A,
-    search: (Command<'_>, &str),
-    list: &[u8],
-) -> bool {
-    let (command, line) = search;
-    let mut input = FromSlice::new(list);
-    let mut buf = [0; 64];
-    let mut out = IntoSlice::new(&mut buf);
-    match run_command(rt, alloc, command, &mut input, &mut out) {
-        Err(CommandError::Memory) => {
-            expect_bytes(rt, out.written(), b"", &command);
-            false
-        }
-        answer => {
-            expect!(rt; matches!(answer, Ok(1)), &command);
-            expect_bytes(rt, out.written(), line.as_bytes(), &command);
-            true
-        }
+fn came_of(answer: Result<usize, CommandError>) -> Outcome {
+    match answer {
+        Ok(count) => Outcome::Found(count),
+        Err(CommandError::Memory) => Outcome::NoMemory,
+        Err(CommandError::Output) => Outcome::FailedWrite,
+        Err(_) => Outcome::Refused,
     }
 }
 
@@ -224,10 +206,15 @@ fn least_heap(
     rt: &(impl Abort + Files + AllocGlobal),
     search: (Command<'_>, &str),
 ) -> Result<usize, Fail> {
+    let (command, line) = search;
     let list = text_of(rt, [TREE, BLOB].as_slice());
     for units in 0..100 {
         let heap = LocalHeap::new(rt.alloc(), 16 * units)?;
-        if runs_within(rt, &heap, search, list.as_bytes()) {
+        let mut input = FromSlice::new(list.as_bytes());
+        let mut buf = [0; 64];
+        let mut out = IntoSlice::new(&mut buf);
+        let came = came_of(run_command(rt, &heap, command, &mut input, &mut out));
+        if expect_granted(rt, came, out.written(), line, &command) {
             return Ok(units);
         }
         // All is given back.

@@ -3,7 +3,7 @@
 ghost use Rattle.std.specs.Prelude.{◌≡◌, false};
 
 use super::faulty::{Fault, Writer};
-use super::{BLOB, BLOB_256, TREE, TREE_256, TREE_LETTERS};
+use super::{BLOB, BLOB_256, BLOB_LETTERS, Outcome, TREE, TREE_256, expect_granted, text_of};
 use crate::expecting::expect_bytes;
 use devices::from_slice::FromSlice;
 use devices::into_slice::IntoSlice;
@@ -18,7 +18,14 @@ use std::alloc::{AllocError, Allocator, Global};
 use std::process::Abort;
 use std::test::Fail;
 
-/// A search for the empty tree of SHA-1.
+// The ids one above the empty tree and the empty blob of SHA-1, and the latter in letters.
+const NEXT_TREE: &str = "4b825dc642cb6eb9a060e54bf8d69288fbee4905\n";
+
+const NEXT_BLOB: &str = "e69de29bb2d1d6434b8b29ae775ad8c2e48c5392\n";
+
+const NEXT_BLOB_LETTERS: &str = "ltqmlxqooxmymtvwvoroxqplssupmrnxlvrnuwqx\n";
+
+/// A search for the empty tree of SHA-1, or in the letters of change ids for the empty blob.
 #[derive(Clone, Copy, Debug, PartialEq, Eq)]
 enum Search {
     Find,
@@ -34,22 +41,13 @@ const SEARCHES: [Search; 4] = [
     Search::FindIn,
 ];
 
-/// What came of a search.
-#[derive(Clone, Copy, Debug, PartialEq, Eq)]
-enum Outcome {
-    Found(usize),
-    NoMemory,
-    FailedWrite,
-    Refused,
-}
-
 impl Search {
     fn run<A: Allocator, W: Sink>(self, alloc: A, list: &[u8], out: &mut W) -> Outcome
         requires { W.has_failed out.old ≡ false }
     {
         match self {
             Search::Find => came_of(find(alloc, "4b82", list, out)),
-            Search::FindChange => came_of(find_change(alloc, "vorx", list, out)),
+            Search::FindChange => came_of(find_change(alloc, "LTQM", list, out)),
             Search::FindFrom => match find_from(alloc, "4b82", &mut FromSlice::new(list), out) {
                 Ok(count) => Outcome::Found(count),
                 Err(FindFromError::Memory) => Outcome::NoMemory,
@@ -68,8 +66,24 @@ impl Search {
     /// The line that it writes.
     fn line(self) -> &'static str {
         match self {
-            Search::FindChange => TREE_LETTERS,
+            Search::FindChange => BLOB_LETTERS,
             _ => TREE,
+        }
+    }
+
+    /// The line that it writes behind that, where the list has the next id too.
+    fn next_line(self) -> &'static str {
+        match self {
+            Search::FindChange => NEXT_BLOB_LETTERS,
+            _ => NEXT_TREE,
+        }
+    }
+
+    /// A list in which it finds two ids.
+    fn list_of_two(self) -> &'static [&'static str] {
+        match self {
+            Search::FindIn => &[TREE, NEXT_TREE, BLOB, NEXT_BLOB],
+            _ => &[BLOB_256, TREE, NEXT_TREE, TREE_256, BLOB, NEXT_BLOB],
         }
     }
 
@@ -102,74 +116,97 @@ fn came_of(answer: Result<usize, FindError>) -> Outcome {
     }
 }
 
-// Searches with this writer, and compares the outcome, what the writer took, and how often it was
-// called. No search flushes.
+/// A search of a list, and the lines that it writes.
+#[derive(Clone, Copy)]
+struct Searched<'a> {
+    search: Search,
+    list: &'a [u8],
+    lines: &'a [u8],
+}
+
+// Searches with this writer, and compares the outcome, how many bytes of the lines the writer took,
+// and how often it was called. No search flushes.
 fn expect_taken(
     rt: &(impl Abort + AllocGlobal),
-    search: Search,
+    searched: &Searched<'_>,
     writer: Writer,
     want: Outcome,
     len: usize,
     calls: usize,
 ) {
-    let list = search
-        .list(rt.alloc(), 4)
-        .expect(rt, "no memory for a list");
     let mut out = Plain::new(writer);
-    let came = search.run(rt.alloc(), list.as_bytes(), &mut out);
-    let row = (search, len, calls);
+    let came = searched.search.run(rt.alloc(), searched.list, &mut out);
+    let row = (searched.search, len, calls);
     expect!(rt; came == want, &row);
     expect!(rt; out.failed() == (want == Outcome::FailedWrite), &row);
     let writer = out.into_inner();
-    let line = search.line().as_bytes();
-    assert!(rt; len <= line.len());
-    expect_bytes(rt, writer.taken(), &line[..len], &row);
+    assert!(rt; len <= searched.lines.len());
+    expect_bytes(rt, writer.taken(), &searched.lines[..len], &row);
     expect!(rt; writer.calls() == calls, &row);
     expect!(rt; writer.flushes() == 0, &row);
+}
+
+// Writers that fail at each call and behind each byte, of two lines of 41 bytes.
+fn expect_each_failed(rt: &(impl Abort + AllocGlobal), searched: &Searched<'_>) {
+    let bytes = || Vec::new(rt.alloc());
+    let failed = Outcome::FailedWrite;
+    for n in 1..=82 {
+        for fault in [Fault::AtCall(n), Fault::InterruptedAt(n)] {
+            let writer = Writer::new(bytes(), 1, fault);
+            expect_taken(rt, searched, writer, failed, n - 1, n);
+        }
+    }
+    for most in 0..82 {
+        let writer = Writer::new(bytes(), 7, Fault::AfterBytes(most));
+        // The calls that take some of each line, and the one that fails.
+        let calls = most.min(41).div_ceil(7) + most.saturating_sub(41).div_ceil(7) + 1;
+        expect_taken(rt, searched, writer, failed, most, calls);
+    }
 }
 
 #[test]
 fn tell_each_write_that_fails(rt: HostRuntime) {
     let bytes = || Vec::new(rt.alloc());
-    let (found, failed) = (Outcome::Found(1), Outcome::FailedWrite);
+    let (found, failed, whole) = (Outcome::Found(2), Outcome::FailedWrite, usize::MAX);
     for search in SEARCHES {
+        let list = text_of(&rt, search.list_of_two());
+        let lines = text_of(&rt, &[search.line(), search.next_line()]);
+        let searched = Searched {
+            search,
+            list: list.as_bytes(),
+            lines: lines.as_bytes(),
+        };
+        expect_each_failed(&rt, &searched);
         let flushing = Writer::failing_at_flush(bytes());
-        expect_taken(&rt, search, flushing, found, 41, 1);
-        for n in 1..=41 {
-            for fault in [Fault::AtCall(n), Fault::InterruptedAt(n)] {
-                let writer = Writer::new(bytes(), 1, fault);
-                expect_taken(&rt, search, writer, failed, n - 1, n);
-            }
-        }
+        expect_taken(&rt, &searched, flushing, found, 82, 2);
         // Those that take a byte a call, none, all behind their error, and as much as there is room.
         for (piece, fault, outcome, len, calls) in [
-            (1, Fault::Never, found, 41, 41),
+            (1, Fault::Never, found, 82, 82),
             (0, Fault::Never, failed, 0, 1),
-            (usize::MAX, Fault::AtCall(1), failed, 0, 1),
-            (usize::MAX, Fault::AfterBytes(10), failed, 10, 2),
-            (usize::MAX, Fault::AfterBytes(40), failed, 40, 2),
-            (usize::MAX, Fault::AfterBytes(41), found, 41, 1),
+            (7, Fault::AfterBytes(82), found, 82, 12),
+            (whole, Fault::AtCall(1), failed, 0, 1),
+            (whole, Fault::AtCall(2), failed, 41, 2),
+            (whole, Fault::AfterBytes(10), failed, 10, 2),
+            (whole, Fault::AfterBytes(40), failed, 40, 2),
+            (whole, Fault::AfterBytes(41), failed, 41, 2),
+            (whole, Fault::AfterBytes(82), found, 82, 2),
         ] {
             let writer = Writer::new(bytes(), piece, fault);
-            expect_taken(&rt, search, writer, outcome, len, calls);
+            expect_taken(&rt, &searched, writer, outcome, len, calls);
         }
     }
 }
 
-// Searches within an allocator: whether it gave all that was asked of it.
-fn finds_within<A: Allocator>(rt: &impl Abort, search: Search, alloc: A, list: &[u8]) -> bool {
-    let mut buf = [0; 64];
-    let mut out = IntoSlice::new(&mut buf);
-    match search.run(alloc, list, &mut out) {
-        Outcome::NoMemory => {
-            expect_bytes(rt, out.written(), b"", &search);
-            false
-        }
-        came => {
-            expect!(rt; came == Outcome::Found(1), &search);
-            expect_bytes(rt, out.written(), search.line().as_bytes(), &search);
-            true
-        }
+#[test]
+fn write_nothing_where_none_is_found(rt: HostRuntime) {
+    for search in SEARCHES {
+        let searched = Searched {
+            search,
+            list: b"5000000000000000000000000000000000000000\n",
+            lines: b"",
+        };
+        let writer = Writer::new(Vec::new(rt.alloc()), 0, Fault::AtCall(1));
+        expect_taken(&rt, &searched, writer, Outcome::Found(0), 0, 0);
     }
 }
 
@@ -183,10 +220,13 @@ fn granted_within(
     let heap = LocalHeap::new(rt.alloc(), units.saturating_mul(16))?;
     let mut granted = 0;
     for (n, list) in lists.iter().enumerate() {
-        let finds = finds_within(rt, search, &heap, list.as_bytes());
+        let mut buf = [0; 64];
+        let mut out = IntoSlice::new(&mut buf);
+        let came = search.run(&heap, list.as_bytes(), &mut out);
+        let is_granted = expect_granted(rt, came, out.written(), search.line(), &search);
         // All is given back, and where a list is granted, each shorter one is.
         expect!(rt; heap.used() == 0, &(search, units));
-        if finds {
+        if is_granted {
             expect!(rt; granted == n, &(search, units));
             granted = n + 1;
         }

@@ -1,7 +1,7 @@
 //! Finding in what a source gives: cut into pieces, ended early, and with devices that fail.
 
 use super::faulty::{Fault, Reader};
-use super::{BLOB, BLOB_256, NO_MATCH, TREE, TREE_256, text_of};
+use super::{BLOB, BLOB_256, NO_MATCH, TREE, text_of, well_known_list};
 use crate::expecting::{expect_bytes, expect_printed, expect_shown};
 use devices::into_slice::IntoSlice;
 use devices::plain::Plain;
@@ -9,11 +9,6 @@ use gix_hash::{decode, prefix};
 use list_search::finding_from::{FindFromError, find_from};
 use std::process::Abort;
 use std::test::Fail;
-
-// The four ids in their order.
-fn list(rt: &(impl Abort + AllocGlobal)) -> String {
-    text_of(rt, [BLOB_256, TREE, TREE_256, BLOB].as_slice())
-}
 
 // Finds the prefix in what the reader gives in pieces of so many bytes, and compares the answer's
 // Debug text, what was written, and whether the reader failed. Answers how often it was called.
@@ -53,7 +48,7 @@ pub fn expect_however_cut(
 
 #[test]
 fn finds_however_it_is_cut(rt: HostRuntime) {
-    let all = list(&rt);
+    let all = well_known_list(&rt);
     let all = all.as_bytes();
     assert!(&rt; !all.is_empty());
     for list in [all, &all[..all.len() - 1]] {
@@ -97,7 +92,7 @@ fn reads_no_further_than_a_refusal(rt: HostRuntime) {
 
 #[test]
 fn tells_each_read_that_fails(rt: HostRuntime) {
-    let list = list(&rt);
+    let list = well_known_list(&rt);
     let list = list.as_bytes();
     // 212 bytes in pieces of 7, and the read that meets the end.
     for at in 1..=32 {
