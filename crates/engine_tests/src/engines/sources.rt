@@ -71,7 +71,7 @@ fn tells_the_whole_length_of_a_bad_line(rt: HostRuntime) -> Result<(), Fail> {
 }
 
 #[test]
-fn reads_no_further_than_a_refusal(rt: HostRuntime) {
+fn reads_no_piece_behind_a_bad_line(rt: HostRuntime) {
     let bad_line = "Err(BadLine { line: 1, error: InvalidHexEncodingLength(2) })";
     let too_short = "Err(Prefix(TooShort { hex_len: 3 }))";
     let ended = text_of(&rt, ["zz\n", TREE].as_slice());
