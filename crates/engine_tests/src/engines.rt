@@ -142,8 +142,7 @@ fn finds_changes_in_list_texts(rt: HostRuntime) {
 
 #[test]
 fn finds_in_list_texts(rt: HostRuntime) {
-    let all = [BLOB_256, TREE, TREE_256, BLOB].as_slice();
-    let zeros = "00000000000000000000000000000000000000000";
+    let all = WELL_KNOWN.as_slice();
     let upper = "4B825DC642CB6EB9A060E54BF8D69288FBEE4904";
     let mixed = "4b825DC642cb6eb9a060e54bf8d69288fBEE4904\n";
     let twice = [TREE, TREE].as_slice();
@@ -162,11 +161,16 @@ fn finds_in_list_texts(rt: HostRuntime) {
     expect_find(&rt, "4b82", [].as_slice(), "Ok(0)", NO_MATCH);
     expect_find(&rt, "4b82", [upper].as_slice(), "Ok(1)", TREE);
     expect_find(&rt, "4b82", [mixed].as_slice(), "Ok(1)", TREE);
-    expect_find(&rt, "4b82", twice, "Ok(2)", tree_twice.as_str());
+    expect_find(&rt, "4b82", twice, "Ok(2)", tree_twice.as_str())
+}
+
+#[test]
+fn refuses_unsorted_lists_and_longer_prefixes(rt: HostRuntime) {
+    let zeros = "00000000000000000000000000000000000000000";
     expect_find(
         &rt,
         zeros,
-        all,
+        WELL_KNOWN.as_slice(),
         "Err(PrefixTooLong { hex_len: 41, min: 40 })",
         NO_MATCH,
     );

@@ -16,47 +16,45 @@ use std::process::Abort;
 use std::rt::Files;
 use std::test::Fail;
 
+// Words, and the Debug text of what they read as.
+const WORDS: [(&[&str], &str); 10] = [
+    (&["hash", "sha1"], "Ok(Hash { kind: Sha1 })"),
+    (&["seal", "SHA-256"], "Ok(Seal { kind: Sha256 })"),
+    (&["hash", "sha-1"], "Err(BadKind(\"sha-1\"))"),
+    (&["seal", ""], "Err(BadKind(\"\"))"),
+    (&["hash"], "Err(Usage)"),
+    (&["seal", "sha1", "sha1"], "Err(Usage)"),
+    (&["hash-file", "md5", "3"], "Err(Usage)"),
+    (&["hash-file", "sha1", "3", "p", "p"], "Err(Usage)"),
+    (&["hash", "sha1", "3", "p"], "Err(Usage)"),
+    (&["hash-file", "md5", "x", "p"], "Err(BadKind(\"md5\"))"),
+];
+
+const NUMBERS: [(&str, &str); 10] = [
+    ("+3", "Ok(HashFile { kind: Sha1, count: 3, path: \"p\" })"),
+    ("007", "Ok(HashFile { kind: Sha1, count: 7, path: \"p\" })"),
+    (
+        "18446744073709551615",
+        "Ok(HashFile { kind: Sha1, count: 18446744073709551615, path: \"p\" })",
+    ),
+    (
+        "18446744073709551616",
+        "Err(BadNumber(\"18446744073709551616\"))",
+    ),
+    ("-1", "Err(BadNumber(\"-1\"))"),
+    ("+", "Err(BadNumber(\"+\"))"),
+    ("", "Err(BadNumber(\"\"))"),
+    ("++3", "Err(BadNumber(\"++3\"))"),
+    (" 3", "Err(BadNumber(\" 3\"))"),
+    ("0x3", "Err(BadNumber(\"0x3\"))"),
+];
+
 #[test]
 fn reads_kinds_and_numbers(rt: HostRuntime) {
-    let most = "18446744073709551615";
-    let too_many = "18446744073709551616";
-    let rows = [
-        (["hash", "sha1"].as_slice(), "Ok(Hash { kind: Sha1 })"),
-        (["seal", "SHA-256"].as_slice(), "Ok(Seal { kind: Sha256 })"),
-        (["hash", "sha-1"].as_slice(), "Err(BadKind(\"sha-1\"))"),
-        (["seal", ""].as_slice(), "Err(BadKind(\"\"))"),
-        (["hash"].as_slice(), "Err(Usage)"),
-        (["seal", "sha1", "sha1"].as_slice(), "Err(Usage)"),
-        (["hash-file", "md5", "3"].as_slice(), "Err(Usage)"),
-        (
-            ["hash-file", "sha1", "3", "p", "p"].as_slice(),
-            "Err(Usage)",
-        ),
-        (["hash", "sha1", "3", "p"].as_slice(), "Err(Usage)"),
-        (
-            ["hash-file", "md5", "x", "p"].as_slice(),
-            "Err(BadKind(\"md5\"))",
-        ),
-    ];
-    for (words, answer) in rows {
+    for (words, answer) in WORDS {
         expect_shown(&rt, read_command(words), answer, &answer);
     }
-    let numbers = [
-        ("+3", "Ok(HashFile { kind: Sha1, count: 3, path: \"p\" })"),
-        ("007", "Ok(HashFile { kind: Sha1, count: 7, path: \"p\" })"),
-        (
-            most,
-            "Ok(HashFile { kind: Sha1, count: 18446744073709551615, path: \"p\" })",
-        ),
-        (too_many, "Err(BadNumber(\"18446744073709551616\"))"),
-        ("-1", "Err(BadNumber(\"-1\"))"),
-        ("+", "Err(BadNumber(\"+\"))"),
-        ("", "Err(BadNumber(\"\"))"),
-        ("++3", "Err(BadNumber(\"++3\"))"),
-        (" 3", "Err(BadNumber(\" 3\"))"),
-        ("0x3", "Err(BadNumber(\"0x3\"))"),
-    ];
-    for (number, answer) in numbers {
+    for (number, answer) in NUMBERS {
         let words = ["hash-file", "sha1", number, "p"];
         expect_shown(&rt, read_command(words.as_slice()), answer, &number);
     }

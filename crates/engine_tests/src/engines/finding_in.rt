@@ -25,57 +25,59 @@ fn expect_find_in(
     expect_shown(rt, found, answer, &row);
 }
 
+// Kinds, prefixes and lists, and what is answered and written.
+const FOUND: [(Kind, &str, &[&str], &str, &str); 10] = [
+    (Kind::Sha1, "4b82", &[TREE, BLOB], "Ok(1)", TREE),
+    (Kind::Sha1, "4", &[TREE, BLOB], "Ok(1)", TREE),
+    (Kind::Sha1, "4C", &[TREE, BLOB], "Ok(0)", NO_MATCH),
+    (Kind::Sha1, "4b82", &[], "Ok(0)", NO_MATCH),
+    (
+        Kind::Sha256,
+        "473a0f",
+        &[BLOB_256, TREE_256],
+        "Ok(1)",
+        BLOB_256,
+    ),
+    (
+        Kind::Sha256,
+        "473a0f4c3be8a93681a267e3b1e9a7dcda1185436",
+        &[BLOB_256, TREE_256],
+        "Ok(1)",
+        BLOB_256,
+    ),
+    (
+        Kind::Sha1,
+        "",
+        &[TREE, BLOB],
+        "Err(Prefix(TooShort { hex_len: 0 }))",
+        NO_MATCH,
+    ),
+    (
+        Kind::Sha1,
+        "00000000000000000000000000000000000000000",
+        &[TREE, BLOB],
+        "Err(Prefix(TooLong { hex_len: 41 }))",
+        NO_MATCH,
+    ),
+    (
+        Kind::Sha1,
+        "4g",
+        &["zz\n"],
+        "Err(Prefix(Invalid))",
+        NO_MATCH,
+    ),
+    (
+        Kind::Sha256,
+        "4",
+        &[TREE_256, "zz\n"],
+        "Err(BadLine { line: 2, error: InvalidHexEncodingLength(2) })",
+        NO_MATCH,
+    ),
+];
+
 #[test]
 fn finds_in_a_kind(rt: HostRuntime) {
-    let rows: [(Kind, &str, &[&str], &str, &str); 10] = [
-        (Kind::Sha1, "4b82", &[TREE, BLOB], "Ok(1)", TREE),
-        (Kind::Sha1, "4", &[TREE, BLOB], "Ok(1)", TREE),
-        (Kind::Sha1, "4C", &[TREE, BLOB], "Ok(0)", NO_MATCH),
-        (Kind::Sha1, "4b82", &[], "Ok(0)", NO_MATCH),
-        (
-            Kind::Sha256,
-            "473a0f",
-            &[BLOB_256, TREE_256],
-            "Ok(1)",
-            BLOB_256,
-        ),
-        (
-            Kind::Sha256,
-            "473a0f4c3be8a93681a267e3b1e9a7dcda1185436",
-            &[BLOB_256, TREE_256],
-            "Ok(1)",
-            BLOB_256,
-        ),
-        (
-            Kind::Sha1,
-            "",
-            &[TREE, BLOB],
-            "Err(Prefix(TooShort { hex_len: 0 }))",
-            NO_MATCH,
-        ),
-        (
-            Kind::Sha1,
-            "00000000000000000000000000000000000000000",
-            &[TREE, BLOB],
-            "Err(Prefix(TooLong { hex_len: 41 }))",
-            NO_MATCH,
-        ),
-        (
-            Kind::Sha1,
-            "4g",
-            &["zz\n"],
-            "Err(Prefix(Invalid))",
-            NO_MATCH,
-        ),
-        (
-            Kind::Sha256,
-            "4",
-            &[TREE_256, "zz\n"],
-            "Err(BadLine { line: 2, error: InvalidHexEncodingLength(2) })",
-            NO_MATCH,
-        ),
-    ];
-    for (kind, prefix, lines, answer, written) in rows {
+    for (kind, prefix, lines, answer, written) in FOUND {
         expect_find_in(&rt, kind, prefix, lines, answer, written);
     }
 }
