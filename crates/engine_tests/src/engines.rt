@@ -13,8 +13,8 @@ mod sources;
 use crate::expecting::{expect_bytes, expect_printed, expect_shown};
 use commands::command::{ArgError, exit_status, read_command};
 use devices::into_slice::IntoSlice;
-use gix_hash::{decode, prefix};
-use list_search::finding::{FindError, find, find_change};
+use gix_hash::{Alphabet, decode, prefix};
+use list_search::finding::{FindError, find, find_change, finding_means};
 use std::alloc::{AllocError, Global};
 use std::fmt::Debug;
 use std::process::Abort;
@@ -93,6 +93,7 @@ fn expect_find(
     let list = text_of(rt, lines);
     let mut buf = [0; 256];
     let mut out = IntoSlice::new(&mut buf);
+    finding_means(Alphabet::Hex, prefix, list.as_bytes());
     let found = find(rt.alloc(), prefix, list.as_bytes(), &mut out);
     expect_bytes(rt, out.written(), written.as_bytes(), &prefix);
     expect_shown(rt, found, answer, &prefix);

@@ -4,7 +4,7 @@ use super::{BLOB, BLOB_256, NO_MATCH, TREE, TREE_256, text_of};
 use crate::expecting::{expect_bytes, expect_printed, expect_shown};
 use devices::into_slice::IntoSlice;
 use gix_hash::{Kind, decode, prefix};
-use list_search::finding_in::{FindInError, find_in};
+use list_search::finding_in::{FindInError, find_in, finding_in_means};
 use std::process::Abort;
 
 // Finds the prefix in the lines, and compares the answer's Debug text and what was written.
@@ -19,6 +19,7 @@ fn expect_find_in(
     let list = text_of(rt, lines);
     let mut buf = [0; 256];
     let mut out = IntoSlice::new(&mut buf);
+    finding_in_means(kind, prefix, list.as_bytes());
     let found = find_in(rt.alloc(), kind, prefix, list.as_bytes(), &mut out);
     let row = (prefix, kind);
     expect_bytes(rt, out.written(), written.as_bytes(), &row);
