@@ -1,10 +1,11 @@
+mod FoundInTexts
 mod IndexPlaces
 mod LineLemmas
 mod Meaning
 mod MeaningIn
 mod Orders
 mod PieceLemmas
-mod ReadLemmas
-mod ReadingLemmas
 mod RunLemmas
+mod SourceReads
+mod Steps
 mod StopLemmas

@@ -1,18 +1,19 @@
 -- Where the reading of a list text stops, there stops the search in it.
-use Rattle.std.proofs.Common.{◌≡◌, ◌⊎◌, ℕ, nat_lt, inl, inr, if◌then◌else◌, Bool, true, false, Option, Some, None, List, ◌++◌, length, refl, sym, ◌∙◌, subst, Ok, Err}
+use Rattle.std.proofs.Common.{◌≡◌, ◌⊎◌, ◌↔◌, ℕ, inl, inr, Option, List, ◌++◌, refl, sym, ◌∙◌, subst, Result, Ok, Err}
 use Rattle.gix_hash.specs.Prefix.{Beginning}
 use Rattle.gix_hash.specs.PrefixReading.{prefix_read}
-use Rattle.id_lookup.specs.Runs.{matches}
-use Rattle.id_lookup.specs.Sorted.{least_hex_len}
-use Rattle.list_search.specs.Finding.{finding, found_among, found_in, IsFoundInPart}
+use Rattle.list_search.specs.Finding.{finding, found_among, IsFoundInPart}
 use Rattle.list_search.specs.FindingFrom.{IsSettled, ReadingStops, SearchStops, from_source, from_reading}
-use Rattle.list_search.specs.ListText.{list_read, first_unsorted}
+use Rattle.list_search.specs.ListText.{list_read}
 use Rattle.devices.specs.Source.{GivesAll}
 use Rattle.list_search.specs.declared.finding.FindError.{FindError}
 use Rattle.list_search.specs.declared.finding.FindError.TheVariants as search
+use Rattle.list_search.specs.declared.finding_from.FindFromError.{FindFromError}
+use Rattle.list_search.specs.declared.finding_from.FindFromError.TheVariants.{Input, Output}
 use Rattle.list_search.specs.declared.list.ListError.TheVariants as list
 use Rattle.list_search.specs.declared.reading.ReadError.{ReadError}
 use Rattle.list_search.specs.declared.reading.ReadError.TheVariants as read
+use Rattle.list_search.proofs.FoundInTexts.{among, found_read}
 
 -- what follows from what is settled is settled
 settled_map : (P Q : List ℕ → Type 0) (old new : Option (List ℕ)) → ((text : List ℕ) → P text → Q text) → IsSettled P old new → IsSettled Q old new
@@ -37,36 +38,16 @@ search_stops letter prefix start (read.Refused list.Memory) source source' sink 
 search_stops letter prefix start read.Input source source' sink sink' reads stops = (rw reads refl, stops)
 search_stops letter prefix start read.TooMuch source source' sink sink' reads stops = (rw reads refl, stops)
 
--- whether a search among ids can refuse for this error: for their order, or for the length of the prefix
-IsAmong : FindError → Type 0
-IsAmong (search.Unsorted n) = Unit {0}
-IsAmong (search.PrefixTooLong hex_len least) = Unit {0}
-IsAmong error = ⊥
-
--- it refuses for no other
-among : (digits : List ℕ) (ids : List (List ℕ)) (error : FindError) → found_among digits ids ≡ Err error → IsAmong error
-unfolding IsAmong
-among digits ids error h = by_order (first_unsorted ids) h
-  where
-    by_test : (long : Bool) → (if long then Err (search.PrefixTooLong (length digits) (least_hex_len ids)) else Ok (matches digits ids)) ≡ Err error → IsAmong error
-    by_test true e = let is : search.PrefixTooLong (length digits) (least_hex_len ids) ≡ error = cc e in subst IsAmong is tt
-    by_test false e = cc e
-
-    by_order : (order : Option ℕ) → found_in digits ids order ≡ Err error → IsAmong error
-    by_order (Some n) e = let is : search.Unsorted n ≡ error = cc e in subst IsAmong is tt
-    by_order None e = by_test (nat_lt (least_hex_len ids) (length digits)) e
-
 -- where all was given and read as ids, a refusal of the search among them is the search's in the text
 pub among_stops : (letter : ℕ → ℕ) (prefix text : List ℕ) (start : Beginning) (ids : List (List ℕ)) (error : FindError)
     (source source' sink sink' : Option (List ℕ)) → prefix_read letter 4 prefix ≡ Ok start → list_read text ≡ Ok ids → GivesAll source source' text
     → (found_among start.digits ids ≡ Err error) ⊎ (error ≡ search.Output)
     → (error ≡ search.Output → IsFoundInPart letter (found_among start.digits ids) sink sink')
     → SearchStops letter prefix (from_source error) source source' sink sink'
-unfolding IsAmong
 among_stops letter prefix text start ids error source source' sink sink' reads list_reads gives refused part = by_error error refused part
   where
     is_found : finding letter prefix text ≡ found_among start.digits ids
-    is_found = rw (reads, list_reads) refl
+    is_found = found_read letter prefix text start ids reads list_reads
 
     by_error : (e : FindError) → (found_among start.digits ids ≡ Err e) ⊎ (e ≡ search.Output)
         → (e ≡ search.Output → IsFoundInPart letter (found_among start.digits ids) sink sink') → SearchStops letter prefix (from_source e) source source' sink sink'
@@ -82,3 +63,35 @@ among_stops letter prefix text start ids error source source' sink sink' reads l
     by_error (search.Prefix e) (inr h) p = cc h
     by_error (search.BadLine n e) (inr h) p = cc h
     by_error search.Memory (inr h) p = cc h
+
+-- a refusal of the reading is one of the source just where it was before, and never one of the writer
+pub reading_input : {T U : Type 0} (error : ReadError) (failed : Type 0) → (◌≡◌ {A = Result T ReadError} (Err error) (Err read.Input)) ↔ failed
+    → (◌≡◌ {A = Result U FindFromError} (Err (from_reading error)) (Err Input)) ↔ failed
+reading_input read.Input failed same = (λ _. same.0 refl, λ f. refl)
+reading_input read.TooMuch failed same = (λ is. cc is, λ f. cc (same.1 f))
+reading_input (read.Refused (list.BadLine n e)) failed same = (λ is. cc is, λ f. cc (same.1 f))
+reading_input (read.Refused list.Memory) failed same = (λ is. cc is, λ f. cc (same.1 f))
+
+pub reading_not_output : {U : Type 0} (error : ReadError) → ◌≡◌ {A = Result U FindFromError} (Err (from_reading error)) (Err Output) → ⊥
+reading_not_output read.Input is = cc is
+reading_not_output read.TooMuch is = cc is
+reading_not_output (read.Refused (list.BadLine n e)) is = cc is
+reading_not_output (read.Refused list.Memory) is = cc is
+
+-- a refusal of the search is one of the writer just where it was before, and never one of the source
+pub among_output : {T U : Type 0} (error : FindError) (failed : Type 0) → (◌≡◌ {A = Result T FindError} (Err error) (Err search.Output)) ↔ failed
+    → (◌≡◌ {A = Result U FindFromError} (Err (from_source error)) (Err Output)) ↔ failed
+among_output search.Output failed same = (λ _. same.0 refl, λ f. refl)
+among_output search.Memory failed same = (λ is. cc is, λ f. cc (same.1 f))
+among_output (search.Prefix e) failed same = (λ is. cc is, λ f. cc (same.1 f))
+among_output (search.BadLine n e) failed same = (λ is. cc is, λ f. cc (same.1 f))
+among_output (search.Unsorted n) failed same = (λ is. cc is, λ f. cc (same.1 f))
+among_output (search.PrefixTooLong hex_len least) failed same = (λ is. cc is, λ f. cc (same.1 f))
+
+pub among_not_input : {U : Type 0} (error : FindError) → ◌≡◌ {A = Result U FindFromError} (Err (from_source error)) (Err Input) → ⊥
+among_not_input search.Output is = cc is
+among_not_input search.Memory is = cc is
+among_not_input (search.Prefix e) is = cc is
+among_not_input (search.BadLine n e) is = cc is
+among_not_input (search.Unsorted n) is = cc is
+among_not_input (search.PrefixTooLong hex_len least) is = cc is

@@ -1,5 +1,5 @@
 use Rattle.std.proofs.Common.{◌≡◌, ◌+◌, ◌<◌, ◌^◌, false}
-use Rattle.list_search.proofs.ReadingLemmas.{IsTaken}
+use Rattle.list_search.proofs.SourceReads.{IsTaken}
 use Rattle.list_search.proofs.reading.read_source.Given as goal
 
 abbrev pub invariant-pieces : goal.invariant-pieces

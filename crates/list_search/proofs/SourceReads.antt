@@ -1,11 +1,15 @@
 -- What a source has given to a reader of pieces, read by read.
-use Rattle.std.proofs.Common.{◌≡◌, ◌≢◌, ℕ, ◌+◌, ◌^◌, ◌<◌, ◌≤◌, inl, inr, Option, List, [], ◌++◌, length, take, drop, refl, sym, ap, ◌∙◌, subst, arith, append_assoc, length-append, length-take, length-drop, take-append-drop}
+use Rattle.std.proofs.Common.{◌≡◌, ◌≢◌, ◌↔◌, ◌||◌, Bool, true, false, ℕ, ◌+◌, ◌^◌, ◌<◌, ◌≤◌, inl, inr, Option, List, [], ◌++◌, length, take, drop, refl, sym, ap, ◌∙◌, subst, arith, append_assoc, length-append, length-take, length-drop, take-append-drop, append-nil, Result, Err}
+use Rattle.std.proofs.lemmas.Bool.{false≢true}
 use Rattle.std.proofs.lemmas.List.{take-take}
-use Rattle.std.proofs.KnownBytes.{Consumes-trans, Consumes-kept}
+use Rattle.std.proofs.KnownBytes.{Consumes-nil, Consumes-trans, Consumes-kept}
 use Rattle.std.specs.Io.KnownBytes.{Consumes, Keeps, IsAtEnd}
+use Rattle.devices.specs.Source.{GivesAll}
 use Rattle.gix_hash.specs.declared.ObjectId.{ObjectId}
 use Rattle.list_search.specs.FindingFrom.{IsSettled, GivesGoodLines, GivesTooMuch}
 use Rattle.list_search.specs.ListPieces.{HasTaken}
+use Rattle.list_search.specs.declared.reading.ReadError.{ReadError}
+use Rattle.list_search.specs.declared.reading.ReadError.TheVariants.{Input}
 use Rattle.list_search.proofs.PieceLemmas.{no_bad_line}
 
 -- the reader has taken all that the source gave, which may give so many bytes more
@@ -14,6 +18,16 @@ pub record IsTaken (ids : List ObjectId) (kept : List ℕ) (len room : ℕ) (old
   pub gives : Consumes old now text
   pub taken : HasTaken ids kept len text
   pub limit : length text + room + 1 ≡ 2 ^ 61
+
+-- before the first read
+pub taken_none : (ids : List ObjectId) (kept : List ℕ) (len room : ℕ) (old : Option (List ℕ)) → HasTaken ids kept len [] → room + 1 ≡ 2 ^ 61
+    → IsTaken ids kept len room old old
+taken_none ids kept len room old taken limit = record {
+  text = [];
+  gives = Consumes-nil old;
+  taken = taken;
+  limit = omega (arith, limit);
+}
 
 -- one read more
 module _ (ids : List ObjectId) (kept : List ℕ) (len room : ℕ) (old now new : Option (List ℕ)) (t : IsTaken ids kept len room old now) where
@@ -27,6 +41,14 @@ module _ (ids : List ObjectId) (kept : List ℕ) (len room : ℕ) (old now new :
   }
 
   -- it gave none: that was all
+  pub given_all : (count : ℕ) (buf : List ℕ) → count ≡ 0 → Consumes now new (take count buf) → IsAtEnd new → GivesAll old new t.text
+  given_all count buf none gives at_end = record {
+    gives = subst (Consumes old new) (append-nil t.text) (Consumes-trans old now new t.text [] t.gives (subst (λ n. Consumes now new (take n buf)) none gives));
+    at_end = at_end;
+    short = omega (arith, t.limit);
+  }
+
+  -- which settles an answer that rests on its end
   pub settled_at_end : (Holds : List ℕ → Type 0) (count : ℕ) (buf : List ℕ) → count ≡ 0 → Consumes now new (take count buf) → IsAtEnd new → Holds t.text
       → IsSettled Holds old new
   settled_at_end Holds count buf none gives at_end holds = record {
@@ -83,3 +105,12 @@ parted now new room count buf less gives =
 pub some_behind : (room count : ℕ) (buf : List ℕ) → room < count → count ≤ length buf → drop room (take count buf) ≢ []
 some_behind room count buf less within none =
     absurd (omega (arith, length-drop room (take count buf), length-take count buf, ap length none))
+
+-- a read that gave bytes leaves the source standing
+pub stands_still : (before after : Bool) → before ≡ false → after ≡ (before || false) → after ≡ false
+stands_still before after stood same = same ∙ ap (λ b. b || false) stood
+
+-- so a refusal of another kind is told where the source stands
+pub not_of_input : {T : Type 0} (error : ReadError) (before after : Bool) → before ≡ false → after ≡ (before || false) → (error ≡ Input → ⊥)
+    → (◌≡◌ {A = Result T ReadError} (Err error) (Err Input)) ↔ (after ≡ true)
+not_of_input error before after stood same other = (λ is. absurd (other (cc is)), λ failed. absurd (false≢true (sym (stands_still before after stood same) ∙ failed)))
