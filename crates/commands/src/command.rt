@@ -1,6 +1,6 @@
 //! The command line, and the status with which the program ends.
 
-ghost use Rattle.std.specs.Prelude.{◌≡◌, [], ◌∷◌, IfOk, IfErr, map};
+ghost use Rattle.std.specs.Prelude.{◌≡◌, [], ◌∷◌, IfOk, IfErr};
 ghost use Rattle.gix_hash.specs.Kind.{IsNameOf};
 ghost use Rattle.commands.specs.Command.{AsksFor, IsNumberOf, RefusesKind, RefusesNumber, RefusesWords, status_of, texts_of};
 
