@@ -344,8 +344,7 @@ impl Hash for oid<'_> {
 
 /// As [`oid::try_from_bytes`].
 impl<'a> TryFrom<&'a [u8]> for oid<'a> {
-    ghost use Rattle.std.specs.Prelude.{◌≡◌, MatchResult, IsTrue, false, length};
-    ghost use Rattle.object_ids.specs.Kind.{is_digest_len};
+    ghost use Rattle.std.specs.Prelude.{◌≡◌, MatchResult};
     ghost use Rattle.object_ids.specs.Oid.{oid_bytes};
     ghost use Rattle.object_ids.specs.ByteLengths.{IsLengthRefusal};
 

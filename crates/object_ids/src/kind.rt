@@ -232,7 +232,7 @@ impl Ord for Kind {
 
 /// Reads the number of a kind, 1 or 2. Any other number is the error.
 impl TryFrom<u8> for Kind {
-    ghost use Rattle.std.specs.Prelude.{◌≡◌, ◌≢◌, MatchResult};
+    ghost use Rattle.std.specs.Prelude.{◌≡◌, MatchResult};
     ghost use Rattle.object_ids.specs.Kind.{number_of, IsNoNumber};
 
     type Error = u8;

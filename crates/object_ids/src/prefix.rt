@@ -1,6 +1,6 @@
 //! Beginnings of ids.
 
-ghost use Rattle.std.specs.Prelude.{◌≡◌, ◌≤◌, ◌<◌, ℕ, length, take, IfOk, All};
+ghost use Rattle.std.specs.Prelude.{◌≡◌, ◌≤◌, ◌<◌, length, take, IfOk, All};
 ghost use Rattle.std.specs.declared.cmp.Ordering.{Ordering};
 ghost use Rattle.id_digits.specs.Digits.{hex_letter, reverse_letter};
 ghost use Rattle.object_ids.specs.Kind.{hex_len_of};
@@ -224,7 +224,7 @@ impl From<ObjectId> for Prefix {
 impl<'a> TryFrom<&'a str> for Prefix {
     ghost use Rattle.std.specs.Prelude.{◌≡◌};
     ghost use Rattle.id_digits.specs.Digits.{hex_letter};
-    ghost use Rattle.object_ids.specs.PrefixReading.{prefix_read, prefix_read_in};
+    ghost use Rattle.object_ids.specs.PrefixReading.{prefix_read};
 
     type Error = from_hex::Error;
 

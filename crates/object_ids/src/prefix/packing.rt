@@ -1,6 +1,6 @@
 //! Prefixes made of digits.
 
-ghost use Rattle.std.specs.Prelude.{◌≡◌, ◌≤◌, ◌*◌, length, take, replicate};
+ghost use Rattle.std.specs.Prelude.{◌≡◌, ◌≤◌, ◌*◌, length, take};
 ghost use Rattle.id_digits.specs.Digits.{digits_of};
 ghost use Rattle.object_ids.specs.Kind.{hex_len_of, byte_len_of};
 ghost use Rattle.object_ids.specs.ObjectId.{id_kind, id_digits};
