@@ -14,6 +14,7 @@ const WORD: usize = 8;
 
 /// The order of two digests of 20 or 32 bytes each: dictionary order of their digits, a shorter
 /// beginning first.
+#[inline(always)]
 pub fn digest_cmp(one: &[u8], other: &[u8]) -> Ordering
     requires one { IsTrue (is_digest_len (length one.now)) }
     requires other { IsTrue (is_digest_len (length other.now)) }

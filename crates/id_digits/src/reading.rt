@@ -24,6 +24,7 @@ const NO_DIGIT: u8 = 255;
 
 /// Reads a text of two hex letters a byte, in either case, as a digest of 20 or 32 bytes. A text with
 /// another byte is refused; what `bytes` then holds is not said.
+#[inline(always)]
 pub fn read_digest(text: &[u8], bytes: &mut [u8]) -> Result<(), NotDigits>
     requires digest { IsTrue (is_digest_len (length bytes.old)) }
     requires len { length text.now ≡ 2 * length bytes.old }

@@ -302,6 +302,7 @@ impl Ord for oid<'_> {
 
     ghost matches_eq = { Prim.search (comparing, rules) };
 
+    #[inline(always)]
     fn cmp(&self, other: &Self) -> Ordering {
         digest_cmp(self.bytes, other.bytes)
     }

@@ -46,6 +46,7 @@ impl ObjectId {
     /// A text of another length is refused as [`decode::Error::InvalidHexEncodingLength`] with its
     /// length in bytes. A text of such a length with a byte that is no hex digit is refused as
     /// [`decode::Error::Invalid`].
+    #[inline(always)]
     pub fn from_hex(text: &[u8]) -> Result<ObjectId, decode::Error>
         ensures { id_answered result ≡ full_read hex_letter text.now }
     {
@@ -101,6 +102,7 @@ impl ObjectId {
     }
 
     /// The bytes of the digest, as many as the kind's length in bytes.
+    #[inline(always)]
     pub const fn as_slice(&self) -> &[u8]
         ensures value { result.now ≡ id_bytes self.now }
         ensures len { length result.now ≡ byte_len_of (id_kind self.now) }
@@ -113,6 +115,7 @@ impl ObjectId {
     }
 
     /// The id as a view of its bytes.
+    #[inline(always)]
     #[tactic(auto, using(crate::proofs::IdFacts::digits_of_id))]
     pub fn as_oid(&self) -> oid<'_>
         ensures kind { oid_kind result ≡ id_kind self.now }
