@@ -1,7 +1,7 @@
 mod CommonBytes
 pub mod DigitNumbers
 mod FirstWords
-mod HexReading
+mod FrontReading
 mod LaneHalves
 mod LaneLetters
 mod LanePacking

@@ -1,7 +1,8 @@
 -- Reading as a function is the relation: a text reads as the digits that the function gives, and as no others.
-use Rattle.std.proofs.Common.{◌≡◌, ℕ, zero, suc, ◌<◌, ◌≤◌, ◌⊎◌, inl, inr, List, [], ◌∷◌, refl, sym, ap, ◌∙◌, arith, Option, Some, None}
+use Rattle.std.proofs.Common.{◌≡◌, ℕ, zero, suc, ◌<◌, ◌≤◌, ◌⊎◌, inl, inr, List, [], ◌∷◌, length, refl, sym, ap, ◌∙◌, arith, Option, Some, None}
 use Rattle.std.specs.Char.{to_ascii_lowercase}
 use Rattle.std.proofs.lemmas.Bool.Decides.{nat_tests}
+use Rattle.std.proofs.lemmas.List.Elements.{length_all_zip}
 use Rattle.id_digits.specs.Digits.{hex_letter, IsLetterOf, ReadsAs, IsUnreadable}
 use Rattle.id_digits.specs.Reading.{digit_below, digit_in, digits_read, put_digit}
 
@@ -68,6 +69,11 @@ ReadsAs-digits_read letter (c ∷ text) (d ∷ ds) h =
     let first : d ≡ parts.0 = cc parts.4 in
     let rest : ds ≡ parts.1 = cc parts.4 in
     (digit_in-letter letter c d (parts.2 ∙ ap Some (sym first)), ReadsAs-digits_read letter text ds (parts.3 ∙ ap Some (sym rest)))
+
+-- a text has a byte for each digit that it reads as
+pub length-digits_read : (letter : ℕ → ℕ) (text ds : List ℕ) → digits_read letter text ≡ Some ds → length ds ≡ length text
+length-digits_read letter text ds h =
+    sym (length_all_zip (IsLetterOf letter) text ds (ReadsAs-digits_read letter text ds h))
 
 -- the function gives the digits that the text reads as
 pub digits_read-ReadsAs : (letter : ℕ → ℕ) → IsAlphabet letter → (text ds : List ℕ) → ReadsAs letter text ds → digits_read letter text ≡ Some ds

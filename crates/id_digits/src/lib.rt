@@ -8,7 +8,6 @@
 
 mod common;
 mod copying;
-mod decoding;
 mod order;
 mod reading;
 mod reverse;
@@ -17,9 +16,8 @@ mod words;
 
 pub use common::common_digits;
 pub use copying::copy_digits;
-pub use decoding::{NotDigits, decode_digits};
 pub use order::digest_cmp;
-pub use reading::read_digest;
+pub use reading::{NotDigits, read_digest, read_front};
 pub use reverse::{to_hex_letters, to_reverse_letters};
 pub use spelling::spell_hex;
 pub use words::Words;

@@ -1,13 +1,14 @@
-//! The digest that hex letters spell, thirty-two letters at a time.
+//! The digits that hex letters spell, thirty-two letters at a time.
 
-ghost use Rattle.std.specs.Prelude.{◌≡◌, ◌-◌, ◌*◌, ◌++◌, IsTrue, Some, None, MatchResult, length, take, drop};
+ghost use Rattle.std.specs.Prelude.{◌≡◌, ◌≤◌, ◌-◌, ◌*◌, ◌++◌, IsTrue, Some, None, MatchResult, length, take, drop, replicate};
 ghost use Rattle.std.specs.List.{list_all};
+ghost use Rattle.std.specs.Option.{option_map};
+ghost use Rattle.id_digits.specs.Beginnings.{padded};
 ghost use Rattle.id_digits.specs.Digits.{digits_of, hex_letter};
 ghost use Rattle.id_digits.specs.DigestLengths.{is_digest_len};
 ghost use Rattle.id_digits.specs.LetterValues.{values_of, is_digit, packed};
 ghost use Rattle.id_digits.specs.Reading.{digits_read};
 
-use crate::decoding::NotDigits;
 use std::simd::prelude::*;
 use std::simd::{u8x16, u8x32};
 
@@ -21,6 +22,10 @@ const LOWERCASE: u8 = 0x20;
 
 // The value of a byte that is the letter of no digit.
 const NO_DIGIT: u8 = 255;
+
+/// Some byte of a text is the letter of no digit.
+#[derive(Clone, Copy, Debug)]
+pub struct NotDigits;
 
 /// Reads a text of two hex letters a byte, in either case, as a digest of 20 or 32 bytes. A text with
 /// another byte is refused; what `bytes` then holds is not said.
@@ -37,6 +42,29 @@ pub fn read_digest(text: &[u8], bytes: &mut [u8]) -> Result<(), NotDigits>
     put_rest(packed(back), bytes);
     // No branch between the two tests: mostly both hold.
     let reads = are_digits(front) & are_digits(back);
+    if reads { Ok(()) } else { Err(NotDigits) }
+}
+
+/// Reads a text of hex letters, in either case, into the front of a digest of zeros, 20 or 32 bytes: two
+/// letters a byte, and the last of an odd number as the high half of one more. A text with another byte
+/// is refused; what `zeros` then holds is not said.
+pub fn read_front(text: &[u8], zeros: &mut [u8]) -> Result<(), NotDigits>
+    requires digest { IsTrue (is_digest_len (length zeros.old)) }
+    requires zeros { zeros.old ≡ replicate (length zeros.old) 0 }
+    requires room { length text.now ≤ 2 * length zeros.old }
+    ensures { MatchResult result
+        (λ _. option_map (padded (2 * length zeros.old)) (digits_read hex_letter text.now) ≡ Some (digits_of zeros.new))
+        (λ _. digits_read hex_letter text.now ≡ None) }
+{
+    // Letters of the digit 0 fill the text up, so that no length needs a case of its own.
+    let mut letters = [b'0'; 2 * LETTERS];
+    letters[..text.len()].copy_from_slice(text);
+    if text.len() > LETTERS {
+        return read_digest(&letters[..2 * zeros.len()], zeros);
+    }
+    let values = values_of(u8x32::from_slice(&letters));
+    packed(values).copy_to_slice(zeros);
+    let reads = are_digits(values);
     if reads { Ok(()) } else { Err(NotDigits) }
 }
 

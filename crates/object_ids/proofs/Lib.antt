@@ -1,9 +1,9 @@
 mod Alphabets
 mod BufferEnds
 mod CommonBeginnings
+mod FrontReading
 pub mod IdFacts
 mod KeptDigits
 pub mod KindFacts
 mod Packing
-mod PaddedReading
 pub mod Spellings

@@ -1,11 +1,11 @@
 //! The alphabets in which digits are spelled and read.
 
-ghost use Rattle.std.specs.Prelude.{◌≡◌, ◌≤◌, ◌*◌, ◌++◌, Some, None, MatchResult, IsTrue, length, drop, map};
+ghost use Rattle.std.specs.Prelude.{◌≡◌, ◌≤◌, ◌*◌, ◌++◌, Some, None, MatchResult, IsTrue, length, drop, map, replicate};
 ghost use Rattle.std.specs.Option.{ok_or, option_map};
 ghost use Rattle.std.specs.Result.{result_ok};
 ghost use Rattle.id_digits.specs.Digits.{digits_of, spelling};
 ghost use Rattle.object_ids.specs.Kind.{hex_len_of, is_digest_len};
-ghost use Rattle.object_ids.specs.Prefix.{beginning_of};
+ghost use Rattle.object_ids.specs.Prefix.{beginning_of, padded};
 ghost use Rattle.object_ids.specs.PrefixReading.{prefix_read};
 ghost use Rattle.object_ids.specs.Reading.{digits_read};
 ghost use Rattle.id_digits.specs.ReverseLetters.{hex_of_reverse};
@@ -19,7 +19,7 @@ use crate::kind::Kind;
 use crate::object_id::ObjectId;
 use crate::prefix::{Prefix, from_hex};
 use id_digits::{
-    NotDigits, decode_digits, read_digest, spell_hex, to_hex_letters, to_reverse_letters,
+    NotDigits, read_digest, read_front, spell_hex, to_hex_letters, to_reverse_letters,
 };
 
 /// An alphabet of sixteen letters for the digits 0 to 15. Texts are read in any letter case, and
@@ -72,12 +72,21 @@ impl Alphabet {
         requires { length text.now ≤ hex_len_of kind }
         ensures { result ≡ ok_or (option_map (beginning_of kind) (digits_read (letter_of self) text.now)) from_hex.Error.Invalid }
     {
-        let mut letters = [self.zero_letter(); 64];
-        letters[..text.len()].copy_from_slice(text);
-        let mut bytes = [0; 32];
-        match self.decode(&letters, &mut bytes) {
-            Ok(()) => Ok(Prefix::packed(kind, &bytes[..kind.len_in_bytes()], text.len())),
-            Err(_) => Err(from_hex::Error::Invalid),
+        match kind {
+            Kind::Sha1 => {
+                let mut bytes = [0; 20];
+                match self.decode_front(text, &mut bytes) {
+                    Ok(()) => Ok(Prefix::padded(ObjectId::Sha1(bytes), text.len())),
+                    Err(NotDigits) => Err(from_hex::Error::Invalid),
+                }
+            }
+            Kind::Sha256 => {
+                let mut bytes = [0; 32];
+                match self.decode_front(text, &mut bytes) {
+                    Ok(()) => Ok(Prefix::padded(ObjectId::Sha256(bytes), text.len())),
+                    Err(NotDigits) => Err(from_hex::Error::Invalid),
+                }
+            }
         }
     }
 
@@ -134,24 +143,8 @@ impl Alphabet {
         }
     }
 
-    // Decodes a text of two letters a byte, for at most 32 bytes. Where some byte of it is no letter,
-    // what `bytes` then holds is not said.
-    fn decode(self, text: &[u8], bytes: &mut [u8]) -> Result<(), NotDigits>
-        requires two_a_byte { length text.now ≡ 2 * length bytes.old }
-        requires most { length text.now ≤ 64 }
-        ensures { MatchResult result (λ _. digits_read (letter_of self) text.now ≡ Some (digits_of bytes.new))
-            (λ _. digits_read (letter_of self) text.now ≡ None) }
-    {
-        match self {
-            Alphabet::Hex => decode_digits(text, bytes),
-            Alphabet::Reverse => {
-                let mut letters = [0; 64];
-                decode_digits(in_hex(text, &mut letters), bytes)
-            }
-        }
-    }
-
-    // As `decode`, of a digest of 20 or 32 bytes: lists have one a line, so it is read by lanes.
+    // Decodes a text of two letters a byte as a digest of 20 or 32 bytes. Where some byte of it is no
+    // letter, what `bytes` then holds is not said.
     #[inline(always)]
     fn decode_digest(self, text: &[u8], bytes: &mut [u8]) -> Result<(), NotDigits>
         requires digest { IsTrue (is_digest_len (length bytes.old)) }
@@ -168,13 +161,22 @@ impl Alphabet {
         }
     }
 
-    // The letter of the digit 0.
-    fn zero_letter(self) -> u8
-        ensures { result ≡ letter_of self 0 }
+    // Decodes a text of letters into the front of a digest of zeros. Where some byte of it is no letter,
+    // what `zeros` then holds is not said.
+    fn decode_front(self, text: &[u8], zeros: &mut [u8]) -> Result<(), NotDigits>
+        requires digest { IsTrue (is_digest_len (length zeros.old)) }
+        requires zeros { zeros.old ≡ replicate (length zeros.old) 0 }
+        requires room { length text.now ≤ 2 * length zeros.old }
+        ensures { MatchResult result
+            (λ _. option_map (padded (2 * length zeros.old)) (digits_read (letter_of self) text.now) ≡ Some (digits_of zeros.new))
+            (λ _. digits_read (letter_of self) text.now ≡ None) }
     {
         match self {
-            Alphabet::Hex => b'0',
-            Alphabet::Reverse => b'z',
+            Alphabet::Hex => read_front(text, zeros),
+            Alphabet::Reverse => {
+                let mut letters = [0; 64];
+                read_front(in_hex(text, &mut letters), zeros)
+            }
         }
     }
 

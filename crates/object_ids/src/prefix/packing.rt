@@ -22,7 +22,7 @@ impl Prefix {
     }
 
     // The prefix of the first digits of an id that has zeros behind them.
-    pub(super) fn padded(bytes: ObjectId, hex_len: usize) -> Prefix
+    pub(crate) fn padded(bytes: ObjectId, hex_len: usize) -> Prefix
         requires within { hex_len ≤ hex_len_of (id_kind bytes) }
         requires zeros { id_digits bytes ≡ padded (hex_len_of (id_kind bytes)) (take hex_len (id_digits bytes)) }
         ensures { result ≡ record { kind = id_kind bytes; digits = take hex_len (id_digits bytes) } }
