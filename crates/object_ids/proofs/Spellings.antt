@@ -1,8 +1,6 @@
 -- Spellings of ids.
-use Rattle.std.proofs.Common.{◌++◌, ◌≡◌, ℕ, List, length, take, min, refl, sym, ap, ◌∙◌, arith, Result, Ok, Err}
-use Rattle.std.specs.Prelude.{IsAscii, IsUtf8, MatchResult, IsOk}
+use Rattle.std.proofs.Common.{◌++◌, ◌≡◌, ℕ, List, length, take, min, sym, ap, ◌∙◌, arith}
 use Rattle.std.proofs.lemmas.List.{take_all}
-use Rattle.std.proofs.lemmas.Str.{IsUtf8-from_ascii}
 use Rattle.id_digits.specs.Digits.{spelling}
 use Rattle.object_ids.specs.Kind.{hex_len_of}
 use Rattle.object_ids.specs.Oid.{oid_bytes, oid_digits, oid_kind}
@@ -10,12 +8,6 @@ use Rattle.object_ids.specs.declared.borrowed.oid.{oid}
 use Rattle.id_digits.proofs.Spellings.{take-spelling}
 use Rattle.object_ids.proofs.KindFacts.{hex_len_of-kind}
 use Rattle.id_digits.proofs.Places.{length-digits_of}
-
--- reading ASCII bytes as text succeeds
-pub IsOk-ascii : {T E : Type 0} (P : T → Type 0) (Q : E → Type 0) (bytes : List ℕ) (answer : Result T E) → IsAscii bytes
-    → MatchResult answer P (λ e. (¬ IsUtf8 bytes) × Q e) → IsOk answer
-IsOk-ascii P Q bytes (Ok text) ascii h = refl
-IsOk-ascii P Q bytes (Err e) ascii h = absurd (h.0 (IsUtf8-from_ascii bytes ascii))
 
 -- an id has as many digits as its kind says
 pub length-oid_digits : (id : oid) → length (oid_digits id) ≡ hex_len_of (oid_kind id)

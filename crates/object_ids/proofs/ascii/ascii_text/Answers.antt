@@ -1,5 +1,5 @@
-use Rattle.object_ids.proofs.Spellings.{IsOk-ascii}
+use Rattle.std.proofs.lemmas.Str.{IsUtf8-from_ascii}
 use Rattle.object_ids.proofs.ascii.ascii_text.Goals as goal
 
-pub unwrap-requires : goal.unwrap-requires
-unwrap-requires c = IsOk-ascii _ _ _ _ c.requires c.from_utf8.ensures.cases
+pub from_utf8_unchecked-requires : goal.from_utf8_unchecked-requires
+from_utf8_unchecked-requires c = IsUtf8-from_ascii c.args.bytes.now c.requires
