@@ -48,6 +48,7 @@ pub fn read_digest(text: &[u8], bytes: &mut [u8]) -> Result<(), NotDigits>
 /// Reads a text of hex letters, in either case, into the front of a digest of zeros, 20 or 32 bytes: two
 /// letters a byte, and the last of an odd number as the high half of one more. A text with another byte
 /// is refused; what `zeros` then holds is not said.
+#[inline(always)]
 pub fn read_front(text: &[u8], zeros: &mut [u8]) -> Result<(), NotDigits>
     requires digest { IsTrue (is_digest_len (length zeros.old)) }
     requires zeros { zeros.old ≡ replicate (length zeros.old) 0 }

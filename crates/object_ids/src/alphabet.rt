@@ -163,6 +163,7 @@ impl Alphabet {
 
     // Decodes a text of letters into the front of a digest of zeros. Where some byte of it is no letter,
     // what `zeros` then holds is not said.
+    #[inline(always)]
     fn decode_front(self, text: &[u8], zeros: &mut [u8]) -> Result<(), NotDigits>
         requires digest { IsTrue (is_digest_len (length zeros.old)) }
         requires zeros { zeros.old ≡ replicate (length zeros.old) 0 }
