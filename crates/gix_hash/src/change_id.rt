@@ -121,12 +121,15 @@ impl ChangeId {
     }
 }
 
+/// Prints the digits in the letters `z` to `k`, whatever width, fill and precision are asked for.
 impl fmt::Display for ChangeId {
     ghost use Rattle.std.specs.Prelude.{Some};
     ghost use Rattle.object_ids.specs.Digits.{reverse_letter, spelling};
     ghost use Rattle.object_ids.specs.ObjectId.{id_digits};
 
     ghost output = { λ change. Some (spelling reverse_letter (id_digits change)) };
+
+    ghost styled_output = { λ change _. Some (spelling reverse_letter (id_digits change)) };
 
     fn fmt<W: fmt::Write>(&self, f: &mut fmt::Formatter<W>) -> fmt::Result {
         self.to_reverse_hex().fmt(f)

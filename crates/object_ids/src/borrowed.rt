@@ -308,12 +308,15 @@ impl Ord for oid<'_> {
     }
 }
 
+/// Prints the digits in lowercase hex, whatever width, fill and precision are asked for.
 impl fmt::Display for oid<'_> {
     ghost use Rattle.std.specs.Prelude.{Some};
     ghost use Rattle.id_digits.specs.Digits.{spelling, hex_letter};
     ghost use Rattle.object_ids.specs.Oid.{oid_digits};
 
     ghost output = { λ id. Some (spelling hex_letter (oid_digits id)) };
+
+    ghost styled_output = { λ id _. Some (spelling hex_letter (oid_digits id)) };
 
     fn fmt<W: fmt::Write>(&self, f: &mut fmt::Formatter<W>) -> fmt::Result {
         let mut buffer = [0; 64];

@@ -84,12 +84,15 @@ impl<'a> HexDisplay<'a> {
     }
 }
 
+/// Prints the first digits in lowercase hex, whatever width, fill and precision are asked for.
 impl fmt::Display for HexDisplay<'_> {
     ghost use Rattle.std.specs.Prelude.{Some};
     ghost use Rattle.id_digits.specs.Digits.{spelling, hex_letter};
     ghost use Rattle.object_ids.specs.CutId.{shown_digits};
 
     ghost output = { λ display. Some (spelling hex_letter (shown_digits display)) };
+
+    ghost styled_output = { λ display _. Some (spelling hex_letter (shown_digits display)) };
 
     fn fmt<W: fmt::Write>(&self, f: &mut fmt::Formatter<W>) -> fmt::Result {
         let mut buffer = [0; 64];
@@ -136,12 +139,16 @@ impl<'a> ReverseHexDisplay<'a> {
     }
 }
 
+/// Prints the first digits in the letters `z` to `k`, whatever width, fill and precision are asked
+/// for.
 impl fmt::Display for ReverseHexDisplay<'_> {
     ghost use Rattle.std.specs.Prelude.{Some};
     ghost use Rattle.id_digits.specs.Digits.{reverse_letter, spelling};
     ghost use Rattle.object_ids.specs.CutId.{shown_digits};
 
     ghost output = { λ display. Some (spelling reverse_letter (shown_digits display)) };
+
+    ghost styled_output = { λ display _. Some (spelling reverse_letter (shown_digits display)) };
 
     fn fmt<W: fmt::Write>(&self, f: &mut fmt::Formatter<W>) -> fmt::Result {
         let mut buffer = [0; 64];

@@ -248,8 +248,11 @@ impl TryFrom<u8> for Kind {
     }
 }
 
+/// Prints `sha1` or `sha256`, whatever width, fill and precision are asked for.
 impl fmt::Display for Kind {
     ghost output = { λ kind. Some (name_of kind) };
+
+    ghost styled_output = { λ kind _. Some (name_of kind) };
 
     fn fmt<W: fmt::Write>(&self, f: &mut fmt::Formatter<W>) -> fmt::Result {
         f.write_str(match self {

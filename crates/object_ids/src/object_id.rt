@@ -306,12 +306,15 @@ const fn with_range(bytes: &[u8]) -> &[u8]
     bytes
 }
 
+/// As the Display of [`oid`].
 impl fmt::Display for ObjectId {
     ghost use Rattle.std.specs.Prelude.{Some};
     ghost use Rattle.id_digits.specs.Digits.{spelling, hex_letter};
     ghost use Rattle.object_ids.specs.ObjectId.{id_digits};
 
     ghost output = { λ id. Some (spelling hex_letter (id_digits id)) };
+
+    ghost styled_output = { λ id _. Some (spelling hex_letter (id_digits id)) };
 
     fn fmt<W: fmt::Write>(&self, f: &mut fmt::Formatter<W>) -> fmt::Result {
         self.as_oid().fmt(f)

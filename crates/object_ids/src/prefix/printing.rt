@@ -103,11 +103,14 @@ impl Prefix {
     }
 }
 
+/// Prints the digits in lowercase hex, whatever width, fill and precision are asked for.
 impl fmt::Display for Prefix {
     ghost use Rattle.std.specs.Prelude.{Some};
     ghost use Rattle.id_digits.specs.Digits.{spelling, hex_letter};
 
     ghost output = { λ prefix. Some (spelling hex_letter prefix.digits) };
+
+    ghost styled_output = { λ prefix _. Some (spelling hex_letter prefix.digits) };
 
     fn fmt<W: fmt::Write>(&self, f: &mut fmt::Formatter<W>) -> fmt::Result {
         let mut buffer = [0; 64];
