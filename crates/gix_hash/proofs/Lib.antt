@@ -6,3 +6,4 @@ mod PlaceLaws
 mod Reaching
 mod ReadingLaws
 mod SpellingLaws
+mod WellKnownDigests

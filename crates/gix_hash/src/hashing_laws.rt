@@ -1,11 +1,13 @@
 //! Laws of hashing that no single call carries. Each is the contract of a function, and those that
 //! return nothing compute nothing.
 
-ghost use Rattle.std.specs.Prelude.{◌≡◌, ◌↔◌, ℕ, Bool, List, [], map, length};
+ghost use Rattle.std.specs.Prelude.{◌≡◌, ◌↔◌, ℕ, Bool, List, [], ◌∷◌, ◌++◌, map, length, codes};
 ghost use Rattle.std.specs.List.{concat};
 ghost use Rattle.gix_hash.specs.Hashing.{digest, StandsFor};
 ghost use Rattle.gix_hash.specs.HashingWriter.{Takes, WriterCall, Passes, accepted};
 ghost use Rattle.gix_hash.specs.Streams.{Reaches, AreChunks, chunks, all_false};
+ghost use Rattle.object_ids.specs.ObjectId.{id_digits};
+ghost use Rattle.object_ids.specs.WellKnown.{empty_blob_digits, empty_tree_digits};
 
 use crate::hashing;
 use crate::hashing::start::hasher;
@@ -45,4 +47,11 @@ pub fn stands_for_what_was_accepted<T: io::Write>(before: &Write<T>, after: &Wri
 pub fn never_interrupts(before: &Never, after: &Never)
     ensures { (answers : List Bool) → Reaches ⟦<Never as Interrupt>⟧.answers before.now answers after.now
         → answers ≡ all_false (length answers) }
+{}
+
+/// The ids of the empty blob and of the empty tree are the digests of these objects, as Git hashes
+/// them: the texts `blob 0` and `tree 0`, with a NUL byte behind each.
+pub fn well_known_ids(kind: Kind)
+    ensures blob { id_digits (digest kind (codes "blob 0" ++ 0 ∷ [])) ≡ empty_blob_digits kind }
+    ensures tree { id_digits (digest kind (codes "tree 0" ++ 0 ∷ [])) ≡ empty_tree_digits kind }
 {}

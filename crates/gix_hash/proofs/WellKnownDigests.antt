@@ -1,0 +1,23 @@
+-- The digests of the empty blob and of the empty tree, which are computed.
+use Rattle.std.proofs.Common.{◌≡◌, [], ◌∷◌, ◌++◌, codes, refl}
+use Rattle.sha1.specs.Sha1 as fips1
+use Rattle.sha2.specs.Sha256 as fips256
+use Rattle.id_digits.specs.Digits.{digits_of}
+use Rattle.object_ids.specs.Reading.{digit_below}
+use Rattle.object_ids.specs.ObjectId.{id_digits}
+use Rattle.object_ids.specs.WellKnown.{empty_blob_digits, empty_tree_digits}
+use Rattle.object_ids.specs.declared.kind.Kind.{Kind}
+use Rattle.object_ids.specs.declared.kind.Kind.TheVariants.{Sha1, Sha256}
+use Rattle.gix_hash.specs.Hashing.{digest}
+
+pub blob_digest : (kind : Kind) → id_digits (digest kind (codes "blob 0" ++ 0 ∷ [])) ≡ empty_blob_digits kind
+unfolding fips1.first_words fips1.schedule fips1.rounds fips1.compress fips1.hash_after fips1.digest_bytes fips1.sha1
+  fips256.first_words fips256.schedule fips256.rounds fips256.compress fips256.hash_after fips256.digest_bytes fips256.sha256 digits_of digit_below
+blob_digest Sha1 = refl
+blob_digest Sha256 = refl
+
+pub tree_digest : (kind : Kind) → id_digits (digest kind (codes "tree 0" ++ 0 ∷ [])) ≡ empty_tree_digits kind
+unfolding fips1.first_words fips1.schedule fips1.rounds fips1.compress fips1.hash_after fips1.digest_bytes fips1.sha1
+  fips256.first_words fips256.schedule fips256.rounds fips256.compress fips256.hash_after fips256.digest_bytes fips256.sha256 digits_of digit_below
+tree_digest Sha1 = refl
+tree_digest Sha256 = refl
