@@ -57,7 +57,7 @@ count_by-up_to b = count_by-split (is_up_to b) (is_below b) (has_first_byte b) (
     split n m = grind (arith, nat_tests)
 
 -- or those that have it and those up to the byte before it
-up_to_step : (b : ℕ) (ids : List (List ℕ)) → 0 < b → count_by (is_up_to b) ids ≡ count_by (has_first_byte b) ids + count_by (is_up_to (b - 1)) ids
+pub up_to_step : (b : ℕ) (ids : List (List ℕ)) → 0 < b → count_by (is_up_to b) ids ≡ count_by (has_first_byte b) ids + count_by (is_up_to (b - 1)) ids
 up_to_step b ids some = count_by-split (is_up_to b) (has_first_byte b) (is_up_to (b - 1)) (λ id. step (first_byte_of id) b some) ids
   where
     step : (n m : ℕ) → 0 < m → cond {A = ℕ} (leb n m) 1 0 ≡ cond (nat_eq n m) 1 0 + cond (leb n (m - 1)) 1 0

@@ -1,18 +1,21 @@
--- Indexes are sorted, so that a prefix of their kind can be asked for, and a run of one id is its place.
-use Rattle.std.proofs.Common.{◌≡◌, ℕ, zero, suc, not, nat_eq, ◌+◌, ◌<◌, ◌≤◌, false, List, length, get_or, ◌⊎◌, inl, inr, refl, ap, ◌∙◌, subst, arith}
+-- Indexes are sorted, so that a prefix of their kind can be asked for, and a run is told by its length.
+use Rattle.std.proofs.Common.{◌≡◌, ℕ, zero, suc, not, nat_eq, ◌+◌, ◌-◌, ◌<◌, ◌≤◌, false, List, [], length, get_or, ◌⊎◌, inl, inr, refl, ap, ◌∙◌, subst, arith}
 use Rattle.std.specs.List.{AllPairs}
 use Rattle.std.specs.Ordering.{nat_cmp, is_lt, ordering_reverse}
 use Rattle.std.specs.Cmp.Lexicographic.{slice_cmp}
 use Rattle.std.specs.declared.cmp.Ordering.TheVariants.{Less}
 use Rattle.std.proofs.lemmas.Bool.{cases_lt}
+use Rattle.std.proofs.lemmas.Bool.Decides.{nat_tests}
 use Rattle.std.proofs.lemmas.Cmp.{nat_list_cmp_total}
-use Rattle.gix_hash.specs.Kind.{hex_len_of, number_of}
+use Rattle.std.proofs.lemmas.List.{get_or_default}
+use Rattle.std.proofs.lemmas.List.Elements.{AllWithin-more}
+use Rattle.gix_hash.specs.Kind.{hex_len_of, kind_by_number, number_of}
 use Rattle.gix_hash.specs.Prefix.{Beginning}
 use Rattle.gix_hash.specs.declared.Kind.{Kind}
 use Rattle.gix_hash.specs.declared.Kind.TheVariants.{Sha1, Sha256}
 use Rattle.id_lookup.specs.FoundRun.{IsRun}
 use Rattle.id_lookup.specs.declared.search.Run.{Run}
-use Rattle.id_lookup.specs.Index.{IsIndex}
+use Rattle.id_lookup.specs.Index.{IsIndex, IsIndexUpTo}
 use Rattle.id_lookup.specs.Probing.{CanProbe}
 use Rattle.id_lookup.specs.Sorted.{IsSortedIds}
 
@@ -32,6 +35,21 @@ index-pairs kind ids index i (suc j) d low high = by (cases_lt i j) (λ less. in
     by : ((i < j) ⊎ (j ≤ i)) → (i < j → slice_cmp nat_cmp (get_or ids i d) (get_or ids j d) ≡ Less) → slice_cmp nat_cmp (get_or ids i d) (get_or ids (suc j) d) ≡ Less
     by (inl less) earlier = nat_list_cmp_total.trans (get_or ids i d) (get_or ids j d) (get_or ids (suc j) d) (earlier less) last
     by (inr more) earlier = let here : i ≡ j = omega arith in rw here last
+
+-- one id more, of the kind and above the one before it
+pub index_more : (kind : Kind) (ids : List (List ℕ)) (at : ℕ) → IsIndexUpTo at kind ids → at < length ids → length (get_or ids at []) ≡ hex_len_of kind
+    → (0 < at → slice_cmp nat_cmp (get_or ids (at - 1) []) (get_or ids at []) ≡ Less) → IsIndexUpTo (at + 1) kind ids
+index_more kind ids at before inside long above = record {
+  kinds = AllWithin-more (λ (id : List ℕ). length id ≡ hex_len_of kind) ids 0 at before.kinds (λ d. ap length (get_or_default ids at d [] inside) ∙ long);
+  rises = λ k d low. by k d (cases_lt (k + 1) at) low;
+}
+  where
+    by : (k : ℕ) (d : List ℕ) → ((k + 1 < at) ⊎ (at ≤ k + 1)) → k + 1 < at + 1 → slice_cmp nat_cmp (get_or ids k d) (get_or ids (k + 1) d) ≡ Less
+    by k d (inl less) low = before.rises k d less
+    by k d (inr more) low =
+        let last : k + 1 ≡ at = omega arith in
+        let before_last : k ≡ at - 1 = omega arith in
+        rw (last, before_last, get_or_default ids at d [] inside, get_or_default ids (at - 1) d [] (omega arith)) (above (omega arith))
 
 -- a prefix of the index's kind can be asked for
 pub index-can_probe : (kind : Kind) (ids : List (List ℕ)) (prefix : Beginning) → IsIndex kind ids → length prefix.digits ≤ hex_len_of kind → CanProbe prefix ids
@@ -55,7 +73,10 @@ not_other a b same = ap (λ (kind : Kind). not (nat_eq (number_of kind) (number_
     itself Sha1 = refl
     itself Sha256 = refl
 
--- a run of one place
-pub run_of_one : (prefix : Beginning) (ids : List (List ℕ)) (run : Run) → IsRun prefix ids run → run.end ≡ run.start + 1
-    → IsRun prefix ids (record { start = run.start; end = run.start + 1 })
-run_of_one prefix ids run is one = subst (λ (n : ℕ). IsRun prefix ids (record { start = run.start; end = n })) one is
+pub no_other : (a b : Kind) → not (nat_eq (number_of a) (number_of b)) ≡ false → a ≡ b
+no_other a b same = kind_by_number a b (grind (arith, nat_tests))
+
+-- a run by its end
+pub run_ending : (prefix : Beginning) (ids : List (List ℕ)) (run : Run) (end : ℕ) → IsRun prefix ids run → run.end ≡ end
+    → IsRun prefix ids (record { start = run.start; end = end })
+run_ending prefix ids run end is ends = subst (λ (n : ℕ). IsRun prefix ids (record { start = run.start; end = n })) ends is

@@ -7,8 +7,10 @@ mod FirstByteOrder
 mod Indexes
 mod Kept
 mod Least
+mod Matched
 mod Neighbours
 mod Ordered
+mod Parts
 mod Placed
 mod Rising
 mod Spelled

@@ -1,19 +1,17 @@
 -- The two neighbours of an id in an index decide how many digits tell it from all others.
-use Rattle.std.proofs.Common.{◌≡◌, ℕ, ◌+◌, ◌-◌, ◌<◌, ◌≤◌, true, false, max, List, [], length, get_or, map, take, nat_eq, inl, inr, refl, sym, ap, ◌∙◌, arith}
-use Rattle.std.specs.List.{starts_with, common_prefix_len}
+use Rattle.std.proofs.Common.{◌≡◌, ℕ, ◌+◌, ◌-◌, ◌<◌, ◌≤◌, true, false, max, List, [], length, get_or, take, nat_eq, inl, inr, sym, ap, ◌∙◌, arith}
+use Rattle.std.specs.List.{starts_with}
 use Rattle.std.specs.Ordering.{nat_cmp, is_lt}
 use Rattle.std.specs.Cmp.Lexicographic.{slice_cmp}
 use Rattle.std.proofs.lemmas.Bool.{cases_lt}
 use Rattle.std.proofs.lemmas.Cmp.{nat_list_cmp_total}
-use Rattle.std.proofs.lemmas.List.{get_or-map, length-take-le, take-take}
+use Rattle.std.proofs.lemmas.List.{length-take-le, take-take}
 use Rattle.std.proofs.lemmas.List.Sorted.{sorted_far, ranks_by}
 use Rattle.gix_hash.specs.Kind.{hex_len_of}
-use Rattle.gix_hash.specs.ObjectId.{id_digits}
 use Rattle.gix_hash.specs.declared.Kind.{Kind}
 use Rattle.gix_hash.specs.declared.Kind.TheVariants.{Sha1, Sha256}
-use Rattle.gix_hash.specs.declared.ObjectId.{ObjectId}
 use Rattle.id_lookup.specs.Index.{IsIndex}
-use Rattle.id_lookup.specs.ShortNames.{IsShortestName, Parts, common_at}
+use Rattle.id_lookup.specs.ShortNames.{IsShortestNameFrom, Parts, common_at}
 use Rattle.id_lookup.proofs.CommonDigits.{common-below, common-above, common-differ, common-symm, begins-common, begins-apart}
 use Rattle.id_lookup.proofs.Indexes.{index-pairs, index-sorted}
 
@@ -21,14 +19,6 @@ use Rattle.id_lookup.proofs.Indexes.{index-pairs, index-sorted}
 pub four_fits : (kind : Kind) → 4 ≤ hex_len_of kind
 four_fits Sha1 = omega arith
 four_fits Sha256 = omega arith
-
--- how many digits two ids share, told of a list of ids
-pub common_at-told : (ids : List ObjectId) (i j : ℕ) (d : ObjectId) → i < length ids → j < length ids
-    → common_prefix_len nat_eq (id_digits (get_or ids i d)) (id_digits (get_or ids j d)) ≡ common_at (map id_digits ids) i j
-common_at-told ids i j d h g =
-    let first = get_or-map id_digits ids i d [] h in
-    let second = get_or-map id_digits ids j d [] g in
-    rw (first, second) refl
 
 module _ (kind : Kind) (ids : List (List ℕ)) (index : IsIndex kind ids) where
   -- no id is below one before it
@@ -70,10 +60,10 @@ module _ (kind : Kind) (ids : List (List ℕ)) (index : IsIndex kind ids) where
   pub behind_fits : (at : ℕ) → at + 1 < length ids → common_at ids at (at + 1) < hex_len_of kind
   behind_fits at inside = differ at (at + 1) (omega arith) inside
 
-  -- so the more of both, and four at least, make the shortest name
-  pub shortest : (at before behind len : ℕ) (name : List ℕ) → at < length ids → Parts ids at 0 at before → Parts ids at (at + 1) (length ids) behind
-      → len ≡ max (max before behind) 4 → len ≤ hex_len_of kind → name ≡ take len (get_or ids at []) → IsShortestName ids at name
-  shortest at before behind len name inside front back is fits name_is =
+  -- so the more of both, and the fewest that are asked for, make the shortest name
+  pub shortest : (fewest at before behind len : ℕ) (name : List ℕ) → at < length ids → Parts ids at 0 at before → Parts ids at (at + 1) (length ids) behind
+      → len ≡ max (max before behind) fewest → len ≤ hex_len_of kind → name ≡ take len (get_or ids at []) → IsShortestNameFrom fewest ids at name
+  shortest fewest at before behind len name inside front back is fits name_is =
       let id = get_or ids at [] in
       let enough : len ≤ length id = omega (arith, fits, index.kinds at [] (omega arith) inside) in
       let len_of : length name ≡ len = ap length name_is ∙ length-take-le len id enough in
@@ -91,7 +81,7 @@ module _ (kind : Kind) (ids : List (List ℕ)) (index : IsIndex kind ids) where
               | inr high ↦ omega (arith, back.apart k (omega (arith, other)) within)
             ] in
             rw name_is (begins-apart len id (get_or ids k []) enough apart);
-        least = λ n four low. elim (cases_lt before behind) [
+        least = λ n enough_of low. elim (cases_lt before behind) [
           | inl lower ↦
               let r = back.reached (omega arith) in
               (r.0, r.2, omega (arith, r.1), shared n (omega (arith, len_of)) r.0 (omega (arith, r.3, len_of)))

@@ -8,7 +8,7 @@ use Rattle.id_lookup.specs.Bounds.{bound_of}
 use Rattle.id_lookup.specs.FoundRun.{IsRun}
 use Rattle.id_lookup.specs.Index.{IsAnswer, IsIndex}
 use Rattle.id_lookup.specs.Runs.{begins_with}
-use Rattle.id_lookup.specs.ShortNames.{IsShortestName}
+use Rattle.id_lookup.specs.ShortNames.{IsShortestNameFrom}
 use Rattle.id_lookup.specs.Sorted.{IsSortedIds}
 use Rattle.id_lookup.specs.declared.index.Answer.{Answer}
 use Rattle.id_lookup.specs.declared.index.Answer.TheVariants.{None, One, Many}
@@ -51,9 +51,9 @@ begins_first id name first =
     (starts_with-BeginsWith id name).1 (rest, sym (ap (λ (front : List ℕ). front ++ rest) first ∙ take-append-drop (length name) id))
 
 -- the run of a shortest name is its id
-pub name_run : (kind : Kind) (ids : List (List ℕ)) (at : ℕ) (prefix : Beginning) → IsIndex kind ids → at < length ids
-    → IsShortestName ids at prefix.digits → IsRun prefix ids (record { start = at; end = at + 1 })
-name_run kind ids at prefix index inside name =
+pub name_run : (kind : Kind) (fewest : ℕ) (ids : List (List ℕ)) (at : ℕ) (prefix : Beginning) → IsIndex kind ids → at < length ids
+    → IsShortestNameFrom fewest ids at prefix.digits → IsRun prefix ids (record { start = at; end = at + 1 })
+name_run kind fewest ids at prefix index inside name =
     unique_run prefix ids at (index-sorted kind ids index) inside
     (starts_with-spelling (get_or ids at []) prefix.digits ∙ begins_first (get_or ids at []) prefix.digits name.first)
     (λ k within other. starts_with-spelling (get_or ids k []) prefix.digits ∙ name.alone k within other)
@@ -61,7 +61,10 @@ name_run kind ids at prefix index inside name =
 -- a run of one id is answered as that id
 pub one_answer : (prefix : Beginning) (ids : List (List ℕ)) (at : ℕ) (answer : Answer) → IsRun prefix ids (record { start = at; end = at + 1 })
     → IsAnswer prefix ids answer → answer ≡ One at
-one_answer prefix ids at None run is = let end = run.end in absurd (omega (arith, end, is))
+one_answer prefix ids at None run is =
+    let end = run.end in
+    let none = is.1.end in
+    absurd (omega (arith, end, none))
 one_answer prefix ids at (One k) run is =
     let here = run.start in
     let there = is.start in

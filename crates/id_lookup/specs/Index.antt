@@ -1,6 +1,6 @@
 -- Lists of ids of one kind, each above the one before it. An id is told by its digits, whose number tells its kind.
 use Rattle.std.specs.Prelude.{◌≡◌, ◌≢◌, ℕ, ◌+◌, ◌-◌, ◌<◌, List, [], length, slice_index_or}
-use Rattle.std.specs.List.{AllAdjacentBelow, AllWithin, count_by}
+use Rattle.std.specs.List.{AllAdjacentBelow, AllWithin}
 use Rattle.std.specs.Ordering.{nat_cmp}
 use Rattle.std.specs.Cmp.Lexicographic.{slice_cmp}
 use Rattle.std.specs.declared.cmp.Ordering.TheVariants.{Less}
@@ -8,7 +8,6 @@ use Rattle.gix_hash.specs.declared.Kind.{Kind}
 use Rattle.gix_hash.specs.Kind.{hex_len_of}
 use Rattle.gix_hash.specs.Prefix.{Beginning}
 use Rattle.id_lookup.specs.FoundRun.{IsRun}
-use Rattle.id_lookup.specs.Runs.{begins_with}
 use Rattle.id_lookup.specs.declared.index.Answer.{Answer}
 use Rattle.id_lookup.specs.declared.index.Answer.TheVariants as answers
 use Rattle.id_lookup.specs.declared.index.IndexError.{IndexError}
@@ -47,8 +46,8 @@ abbrev pub IsBadPlace : Kind → List (List ℕ) → IndexError → Type 0
 IsBadPlace kind ids (WrongKind at) = IsWrongKind kind ids at
 IsBadPlace kind ids (NotRising at) = IsNotRising kind ids at
 
--- the answer on a prefix, by how many ids begin with it
+-- the answer on a prefix, by how many ids begin with it. Where none does, an empty run stands where the prefix would
 abbrev pub IsAnswer : Beginning → List (List ℕ) → Answer → Type 0
-IsAnswer prefix ids answers.None = count_by (begins_with prefix) ids ≡ 0
+IsAnswer prefix ids answers.None = (at : ℕ) × IsRun prefix ids (record { start = at; end = at })
 IsAnswer prefix ids (answers.One at) = IsRun prefix ids (record { start = at; end = at + 1 })
 IsAnswer prefix ids (answers.Many run) = IsRun prefix ids run × (run.start + 1 < run.end)

@@ -2,12 +2,16 @@
 use Rattle.std.specs.Prelude.{◌≡◌, ◌≢◌, ℕ, ◌+◌, ◌<◌, ◌≤◌, true, false, List, [], length, take, nat_eq, slice_index_or}
 use Rattle.std.specs.List.{starts_with, common_prefix_len}
 
--- the first digits of the id at a place, four or more and as few as may be, with which no other id begins
-pub record IsShortestName (ids : List (List ℕ)) (at : ℕ) (name : List ℕ) : Type 0 where
+-- the first digits of the id at a place, so many or more and as few as may be, with which no other id begins
+pub record IsShortestNameFrom (fewest : ℕ) (ids : List (List ℕ)) (at : ℕ) (name : List ℕ) : Type 0 where
   pub first : name ≡ take (length name) (slice_index_or ids at [])
-  pub long : 4 ≤ length name
+  pub long : fewest ≤ length name
   pub alone : (k : ℕ) → k < length ids → k ≢ at → starts_with nat_eq (slice_index_or ids k []) name ≡ false
-  pub least : (n : ℕ) → 4 ≤ n → n < length name → (k : ℕ) × (k < length ids) × (k ≢ at) × (starts_with nat_eq (slice_index_or ids k []) (take n name) ≡ true)
+  pub least : (n : ℕ) → fewest ≤ n → n < length name → (k : ℕ) × (k < length ids) × (k ≢ at) × (starts_with nat_eq (slice_index_or ids k []) (take n name) ≡ true)
+
+-- four or more
+abbrev pub IsShortestName : List (List ℕ) → ℕ → List ℕ → Type 0
+IsShortestName ids at name = IsShortestNameFrom 4 ids at name
 
 -- how many digits the ids at two places share
 abbrev pub common_at : List (List ℕ) → ℕ → ℕ → ℕ

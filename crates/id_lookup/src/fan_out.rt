@@ -1,10 +1,9 @@
 //! How many ids of a list have at most a given first byte.
 
-ghost use Rattle.std.specs.Prelude.{◌≡◌, ℕ, ◌<◌, All, List, count_by, map, slice_index};
-ghost use Rattle.gix_hash.specs.ObjectId.{id_digits};
+ghost use Rattle.std.specs.Prelude.{◌≡◌, ℕ, ◌<◌, ◌^◌, All, List, count_by, length, map, slice_index};
 ghost use Rattle.id_lookup.specs.FirstBytes.{IsFanOut, has_first_byte, is_below, is_up_to};
 
-use gix_hash::ObjectId;
+use crate::ids::{Id, id_at};
 use std::marker::Model;
 
 /// For each byte, how many ids of a list have at most that first byte, as in Git's pack indexes.
@@ -25,8 +24,8 @@ impl Model for FanOut {
 
 impl FanOut {
     // The fan-out of a list.
-    pub(crate) fn of(ids: &[ObjectId]) -> FanOut
-        ensures { IsFanOut result (map id_digits ids.now) }
+    pub(crate) fn of<I: Id>(ids: &[I]) -> FanOut
+        ensures { IsFanOut result (map I.digits ids.now) }
     {
         let mut counts = first_bytes(ids);
         for byte in 1..256 {
@@ -52,13 +51,14 @@ impl FanOut {
 }
 
 // For each byte, the number of ids that have it as their first.
-fn first_bytes(ids: &[ObjectId]) -> [usize; 256]
-    ensures counts { (b : ℕ) → b < 256 → slice_index result b ≡ count_by (has_first_byte b) (map id_digits ids.now) }
-    ensures digits { All (λ id. All (λ d. d < 16) id) (map id_digits ids.now) }
+fn first_bytes<I: Id>(ids: &[I]) -> [usize; 256]
+    ensures counts { (b : ℕ) → b < 256 → slice_index result b ≡ count_by (has_first_byte b) (map I.digits ids.now) }
+    ensures digits { All (λ id. All (λ d. d < 16) id) (map I.digits ids.now) }
+    ensures few { length ids.now < 2 ^ 64 }
 {
     let mut counts = [0; 256];
-    for id in ids {
-        counts[usize::from(id.as_oid().first_byte())] += 1;
+    for at in 0..ids.len() {
+        counts[usize::from(id_at(ids, at).first_byte())] += 1;
     }
     counts
 }

@@ -1,17 +1,18 @@
 //! Lists of ids of one kind, each above the one before it.
 
-ghost use Rattle.std.specs.Prelude.{◌≡◌, ◌↔◌, ◌+◌, ◌-◌, ◌<◌, ◌≤◌, [], AllPairs, IfOk, IfErr, IsOk, IsTrue, length, map, slice_index_or};
+ghost use Rattle.std.specs.Prelude.{◌≡◌, ◌↔◌, ◌+◌, ◌-◌, ◌<◌, ◌≤◌, [], All, AllPairs, IfOk, IfErr, IsOk, IsTrue, length, map, slice_get, slice_index_or};
 ghost use Rattle.std.specs.Cmp.Lexicographic.{slice_cmp};
 ghost use Rattle.std.specs.Ordering.{nat_cmp};
 ghost use Rattle.std.specs.declared.cmp.Ordering.{Ordering};
-ghost use Rattle.gix_hash.specs.ObjectId.{id_digits};
 ghost use Rattle.gix_hash.specs.Kind.{hex_len_of};
 ghost use Rattle.id_lookup.specs.FirstBytes.{IsFanOut};
 ghost use Rattle.id_lookup.specs.FoundRun.{IsRun};
-ghost use Rattle.id_lookup.specs.ShortNames.{IsShortestName, Parts};
+ghost use Rattle.id_lookup.specs.Runs.{matches};
+ghost use Rattle.id_lookup.specs.ShortNames.{IsShortestName, IsShortestNameFrom, Parts};
 ghost use Rattle.id_lookup.specs.Index.{IsAnswer, IsBadPlace, IsIndex};
 
 use crate::fan_out::FanOut;
+use crate::ids::{Id, id_at};
 use crate::probes::Probes;
 use crate::search::{Run, lookup_in};
 use gix_hash::{Kind, ObjectId, Prefix};
@@ -23,36 +24,37 @@ use std::marker::Model;
 ///
 /// It takes no memory: the counts are a table of fixed size in it.
 #[derive(Drop)]
-pub struct IdIndex<'a> {
-    ids: &'a [ObjectId],
+pub struct IdIndex<'a, I: Id = ObjectId> {
+    ids: &'a [I],
     kind: Kind,
     fan_out: FanOut,
 }
 
-impl<'a> Model for IdIndex<'a> {
-    ghost use Rattle.std.specs.Prelude.{map};
-    ghost use Rattle.gix_hash.specs.ObjectId.{id_digits};
+impl<'a, I: Id> Model for IdIndex<'a, I> {
+    ghost use Rattle.std.specs.Prelude.{◌≡◌, All, map};
     ghost use Rattle.id_lookup.specs.FirstBytes.{IsFanOut};
     ghost use Rattle.id_lookup.specs.Index.{Index, IsIndex};
 
     ghost Value = { Index };
 
-    ghost view = { λ index. record { kind = index.kind; ids = map id_digits index.ids.now } };
+    ghost view = { λ index. record { kind = index.kind; ids = map I.digits index.ids.now } };
 
-    ghost invariant = { λ index. IsIndex index.kind (map id_digits index.ids.now) × IsFanOut index.fan_out (map id_digits index.ids.now) };
+    ghost invariant = { λ index. IsIndex index.kind (map I.digits index.ids.now)
+        × IsFanOut index.fan_out (map I.digits index.ids.now)
+        × All (λ id. I.kind id ≡ index.kind) index.ids.now };
 }
 
-impl<'a> IdIndex<'a> {
+impl<'a, I: Id> IdIndex<'a, I> {
     /// The list as an index of a kind, or its first bad place: there [`IndexError::WrongKind`] where
     /// the id is of the other kind, and else [`IndexError::NotRising`] where it is not above the one
     /// before it.
-    pub fn try_new(ids: &'a [ObjectId], kind: Kind) -> Result<IdIndex<'a>, IndexError>
-        ensures ok { IfOk result (λ index. index ≡ record { kind = kind; ids = map id_digits ids.now }) }
-        ensures index { IsOk result ↔ IsIndex kind (map id_digits ids.now) }
-        ensures err { IfErr result (IsBadPlace kind (map id_digits ids.now)) }
+    pub fn try_new(ids: &'a [I], kind: Kind) -> Result<IdIndex<'a, I>, IndexError>
+        ensures ok { IfOk result (λ index. index ≡ record { kind = kind; ids = map I.digits ids.now }) }
+        ensures index { IsOk result ↔ IsIndex kind (map I.digits ids.now) }
+        ensures err { IfErr result (IsBadPlace kind (map I.digits ids.now)) }
     {
         for at in 0..ids.len() {
-            if ids[at].kind() != kind {
+            if id_at(ids, at).kind() != kind {
                 return Err(IndexError::WrongKind { at });
             }
             if !rises_at(ids, at) {
@@ -89,6 +91,24 @@ impl<'a> IdIndex<'a> {
         self.ids.is_empty()
     }
 
+    /// The id at a place, counted from 0.
+    pub fn get(&self, at: usize) -> &I
+        requires { at < length self.now.ids }
+        ensures value { slice_get self.now.ids at ≡ Some (I.digits result.now) }
+        ensures kind { I.kind result.now ≡ self.now.kind }
+    {
+        let ids = self.ids;
+        &ids[at]
+    }
+
+    /// The ids, in order.
+    pub fn members(&self) -> &'a [I]
+        ensures value { map I.digits result.now ≡ self.now.ids }
+        ensures kinds { All (λ id. I.kind id ≡ self.now.kind) result.now }
+    {
+        self.ids
+    }
+
     /// The counts of the ids' first bytes.
     pub fn fan_out(&self) -> &FanOut
         ensures { IsFanOut result.now self.now.ids }
@@ -99,7 +119,7 @@ impl<'a> IdIndex<'a> {
     /// Probes of the list by a prefix, of which nothing was asked.
     ///
     /// The prefix has the index's kind.
-    pub fn probes(&self, prefix: &Prefix) -> Probes<'a>
+    pub fn probes(&self, prefix: &Prefix) -> Probes<'a, I>
         requires { prefix.now.kind ≡ self.now.kind }
         ensures { result ≡ record { ids = self.now.ids; prefix = prefix.now; asked = 0 } }
     {
@@ -123,6 +143,19 @@ impl<'a> IdIndex<'a> {
         }
     }
 
+    /// The members that begin with a prefix, and no other, in the list's order.
+    ///
+    /// The prefix has the index's kind.
+    pub fn matches(&self, prefix: &Prefix) -> &'a [I]
+        requires { prefix.now.kind ≡ self.now.kind }
+        ensures value { map I.digits result.now ≡ matches prefix.now.digits self.now.ids }
+        ensures kinds { All (λ id. I.kind id ≡ self.now.kind) result.now }
+    {
+        let run = lookup_in(&self.fan_out, &mut self.probes(prefix));
+        let ids = self.ids;
+        &ids[run.start..run.end]
+    }
+
     /// The shortest name of the member at a place, counted from 0: its first digits, at least 4 and
     /// as few as may be, with which no other member begins. Only its two neighbours are looked at.
     pub fn abbreviate(&self, at: usize) -> Prefix
@@ -131,9 +164,22 @@ impl<'a> IdIndex<'a> {
         ensures name { IsShortestName self.now.ids at result.digits }
         ensures run { IsRun result self.now.ids (record { start = at; end = at + 1 }) }
     {
+        self.abbreviate_from(at, Prefix::MIN_HEX_LEN)
+    }
+
+    /// As [`IdIndex::abbreviate`], of at least so many digits in place of 4: at least 4, and at most
+    /// as many as an id of the kind has.
+    pub fn abbreviate_from(&self, at: usize, least: usize) -> Prefix
+        requires in_range { at < length self.now.ids }
+        requires enough { 4 ≤ least }
+        requires fits { least ≤ hex_len_of self.now.kind }
+        ensures kind { result.kind ≡ self.now.kind }
+        ensures name { IsShortestNameFrom least self.now.ids at result.digits }
+        ensures run { IsRun result self.now.ids (record { start = at; end = at + 1 }) }
+    {
         let neighbours = self.digits_before(at).max(self.digits_behind(at));
         let ids = self.ids;
-        Prefix::new(ids[at].as_oid(), neighbours.max(Prefix::MIN_HEX_LEN)).unwrap()
+        Prefix::new(id_at(ids, at), neighbours.max(least)).unwrap()
     }
 
     // How many first digits tell the member at a place from all before it.
@@ -146,7 +192,7 @@ impl<'a> IdIndex<'a> {
             return 0;
         }
         let ids = self.ids;
-        ids[at].common_hex_len(ids[at - 1].as_oid()) + 1
+        id_at(ids, at).common_hex_len(id_at(ids, at - 1)) + 1
     }
 
     // How many first digits tell the member at a place from all behind it.
@@ -160,17 +206,17 @@ impl<'a> IdIndex<'a> {
         if at + 1 == len {
             return 0;
         }
-        ids[at].common_hex_len(ids[at + 1].as_oid()) + 1
+        id_at(ids, at).common_hex_len(id_at(ids, at + 1)) + 1
     }
 }
 
 // Whether the id at a place is above the one before it, if there is one.
-fn rises_at(ids: &[ObjectId], at: usize) -> bool
+fn rises_at<I: Id>(ids: &[I], at: usize) -> bool
     requires { at < length ids.now }
-    ensures { let digits = map id_digits ids.now in
+    ensures { let digits = map I.digits ids.now in
         IsTrue result ↔ (0 < at → slice_cmp nat_cmp (slice_index_or digits (at - 1) []) (slice_index_or digits at []) ≡ Ordering.Less) }
 {
-    at == 0 || ids[at - 1].as_oid() < ids[at].as_oid()
+    at == 0 || id_at(ids, at - 1) < id_at(ids, at)
 }
 
 /// Why a list is no index of a kind.

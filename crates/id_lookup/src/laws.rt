@@ -1,10 +1,14 @@
 //! Laws of look-ups that no single call carries. Each is the contract of a function.
 
-ghost use Rattle.std.specs.Prelude.{◌≡◌, ◌↔◌, ◌<◌, ℕ, List, IsTrue, length};
+ghost use Rattle.std.specs.Prelude.{◌≡◌, ◌↔◌, ◌+◌, ◌++◌, ◌<◌, ℕ, List, IsTrue, flat_map, length};
 ghost use Rattle.std.specs.declared.cmp.Ordering.{Ordering};
-ghost use Rattle.gix_hash.specs.Prefix.{BeginsWith, place};
-ghost use Rattle.id_lookup.specs.Runs.{begins_with};
+ghost use Rattle.gix_hash.specs.Prefix.{Beginning, BeginsWith, place};
+ghost use Rattle.id_lookup.specs.FoundRun.{IsRun};
+ghost use Rattle.id_lookup.specs.Runs.{begins_with, matches};
+ghost use Rattle.id_lookup.specs.Sorted.{IsSortedIds};
+ghost use Rattle.id_lookup.specs.declared.search.Run.{Run};
 
+use crate::ids::Id;
 use crate::index::{Answer, IdIndex};
 use gix_hash::Prefix;
 
@@ -15,8 +19,20 @@ pub fn beginnings(prefix: &Prefix)
     ensures place { (id : List ℕ) → IsTrue (begins_with prefix.now id) ↔ (place prefix.now.digits id ≡ Ordering.Equal) }
 {}
 
+/// The members that begin with some digits, of a list in parts that stand one behind the other, are
+/// those of the parts, one behind the other.
+///
+/// Where a list in two parts is sorted, as many stand before the run of a prefix as in both parts
+/// together, and as many in it.
+pub fn matches_in_parts()
+    ensures two { (digits : List ℕ) (first second : List (List ℕ)) → matches digits (first ++ second) ≡ matches digits first ++ matches digits second }
+    ensures all { (digits : List ℕ) (parts : List (List (List ℕ))) → matches digits (flat_map (λ part. part) parts) ≡ flat_map (matches digits) parts }
+    ensures runs { (prefix : Beginning) (first second : List (List ℕ)) (a b : Run) → IsSortedIds (first ++ second) → IsRun prefix first a → IsRun prefix second b
+        → IsRun prefix (first ++ second) (record { start = a.start + b.start; end = a.end + b.end }) }
+{}
+
 /// What an index finds by the shortest name of a member, by its place, is that member alone.
-pub fn find_own_name(index: &IdIndex<'_>, at: usize) -> Answer
+pub fn find_own_name<I: Id>(index: &IdIndex<'_, I>, at: usize) -> Answer
     requires { at < length index.now.ids }
     ensures { result ≡ Answer.One at }
 {

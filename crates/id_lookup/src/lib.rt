@@ -4,12 +4,16 @@
 //! [`Run`] of all members that begin with a prefix by two binary searches over [`Probes`], which
 //! lend no id, answer one place at a time, and count each answer.
 //!
+//! A list is of any ids that have the trait [`Id`]: of owned ids, or of the bytes of digests of one
+//! kind, such as the table of names in one of Git's pack indexes.
+//!
 //! An [`IdIndex`] is such a list of one kind and without repeats, with a [`FanOut`] of its first
 //! bytes. [`lookup_in`] finds the same run among the ids that have the prefix's first byte, and
 //! [`IdIndex::abbreviate`] names each id as briefly as can be.
 #![tactic(auto)]
 
 mod fan_out;
+mod ids;
 mod index;
 pub mod laws;
 mod probes;
@@ -17,6 +21,7 @@ mod search;
 mod sorted;
 
 pub use fan_out::FanOut;
+pub use ids::Id;
 pub use index::{Answer, IdIndex, IndexError};
 pub use probes::Probes;
 pub use search::{Run, begins_with, bits_of, lookup, lookup_in};

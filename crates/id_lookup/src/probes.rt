@@ -2,11 +2,11 @@
 
 ghost use Rattle.std.specs.Prelude.{◌≡◌, ◌↔◌, ◌+◌, ◌<◌, ◌≤◌, ◌^◌, IsTrue, length, map};
 ghost use Rattle.std.specs.List.{HoldsAt};
-ghost use Rattle.gix_hash.specs.ObjectId.{id_digits};
 ghost use Rattle.gix_hash.specs.Prefix.{place};
 ghost use Rattle.id_lookup.specs.Sorted.{least_hex_len};
 ghost use Rattle.id_lookup.specs.Probing.{CanProbe};
 
+use crate::ids::{Id, id_at};
 use crate::sorted::SortedIds;
 use gix_hash::{ObjectId, Prefix};
 use std::cmp::Ordering;
@@ -18,29 +18,28 @@ use std::marker::Model;
 /// It lends no id, and there is no copy of it and no way back to an earlier count, so whoever has
 /// nothing else of the list has asked as often as [`Probes::asked`] says.
 #[derive(Drop)]
-pub struct Probes<'a> {
-    ids: &'a [ObjectId],
+pub struct Probes<'a, I: Id = ObjectId> {
+    ids: &'a [I],
     prefix: Prefix,
     asked: u64,
 }
 
-impl<'a> Model for Probes<'a> {
+impl<'a, I: Id> Model for Probes<'a, I> {
     ghost use Rattle.std.specs.Prelude.{map};
-    ghost use Rattle.gix_hash.specs.ObjectId.{id_digits};
     ghost use Rattle.id_lookup.specs.Probing.{Probing, CanProbe};
 
     ghost Value = { Probing };
 
-    ghost view = { λ p. record { ids = map id_digits p.ids.now; prefix = p.prefix; asked = p.asked } };
+    ghost view = { λ p. record { ids = map I.digits p.ids.now; prefix = p.prefix; asked = p.asked } };
 
-    ghost invariant = { λ p. CanProbe p.prefix (map id_digits p.ids.now) };
+    ghost invariant = { λ p. CanProbe p.prefix (map I.digits p.ids.now) };
 }
 
-impl<'a> Probes<'a> {
+impl<'a, I: Id> Probes<'a, I> {
     /// Probes of a list by a prefix, of which nothing was asked.
     ///
     /// The prefix has at most as many digits as each member: at most `ids.min_hex_len()`.
-    pub fn new(ids: &SortedIds<'a>, prefix: Prefix) -> Self
+    pub fn new(ids: &SortedIds<'a, I>, prefix: Prefix) -> Self
         requires { length prefix.digits ≤ least_hex_len ids.now }
         ensures { result ≡ record { ids = ids.now; prefix = prefix; asked = 0 } }
     {
@@ -49,9 +48,9 @@ impl<'a> Probes<'a> {
 
     // Probes of a list that is known to be sorted, and to have no member with fewer digits than the
     // prefix.
-    pub(crate) fn over(ids: &'a [ObjectId], prefix: Prefix) -> Self
-        requires { CanProbe prefix (map id_digits ids.now) }
-        ensures { result ≡ record { ids = map id_digits ids.now; prefix = prefix; asked = 0 } }
+    pub(crate) fn over(ids: &'a [I], prefix: Prefix) -> Self
+        requires { CanProbe prefix (map I.digits ids.now) }
+        ensures { result ≡ record { ids = map I.digits ids.now; prefix = prefix; asked = 0 } }
     {
         Probes {
             ids,
@@ -103,6 +102,6 @@ impl<'a> Probes<'a> {
     {
         self.asked += 1;
         let ids = self.ids;
-        self.prefix.cmp_oid(ids[at].as_oid())
+        self.prefix.cmp_oid(id_at(ids, at))
     }
 }

@@ -14,6 +14,7 @@ ghost use Rattle.id_lookup.specs.Candidates.{AreCandidates};
 ghost use Rattle.id_lookup.specs.FirstBytes.{IsFanOut, shares_first_byte};
 
 use crate::fan_out::FanOut;
+use crate::ids::Id;
 use crate::probes::Probes;
 use gix_hash::{ObjectId, Prefix};
 use std::cmp::Ordering;
@@ -62,7 +63,7 @@ impl Bound {
 ///
 /// It asks at most twice as often as the number of members has binary digits. Nothing may have been
 /// asked before. The list and the prefix stay as they were.
-pub fn lookup(probes: &mut Probes<'_>) -> Run
+pub fn lookup<I: Id>(probes: &mut Probes<'_, I>) -> Run
     requires { probes.old.asked ≡ 0 }
     ensures list { CanProbe probes.old.prefix probes.old.ids }
     ensures run { IsRun probes.old.prefix probes.old.ids result }
@@ -78,7 +79,7 @@ pub fn lookup(probes: &mut Probes<'_>) -> Run
 /// It asks at most twice as often as the number of those has binary digits, and never for a prefix
 /// of fewer than two digits. Nothing may have been asked before, and the fan-out is that of the
 /// probes' list, as it is where both come from one [`IdIndex`](crate::IdIndex).
-pub fn lookup_in(fan_out: &FanOut, probes: &mut Probes<'_>) -> Run
+pub fn lookup_in<I: Id>(fan_out: &FanOut, probes: &mut Probes<'_, I>) -> Run
     requires fresh { probes.old.asked ≡ 0 }
     requires fan_out { IsFanOut fan_out.now probes.old.ids }
     ensures list { CanProbe probes.old.prefix probes.old.ids }
@@ -95,7 +96,7 @@ pub fn lookup_in(fan_out: &FanOut, probes: &mut Probes<'_>) -> Run
 }
 
 // The members that have the digits of the prefix, as far as it has them, in their first byte.
-fn candidates(fan_out: &FanOut, probes: &Probes<'_>) -> Run
+fn candidates<I: Id>(fan_out: &FanOut, probes: &Probes<'_, I>) -> Run
     requires { IsFanOut fan_out.now probes.now.ids }
     ensures part { AreCandidates probes.now.prefix probes.now.ids result }
     ensures can_probe { CanProbe probes.now.prefix probes.now.ids }
@@ -125,7 +126,7 @@ fn last_byte(first: u8, hex_len: usize) -> u8
 }
 
 // The run of the prefix, by a search for each of its bounds in a part of the list that has both.
-fn find_run(probes: &mut Probes<'_>, part: Run) -> Run
+fn find_run<I: Id>(probes: &mut Probes<'_, I>, part: Run) -> Run
     requires can_probe { CanProbe probes.old.prefix probes.old.ids }
     requires fresh { probes.old.asked ≡ 0 }
     requires above { part.start ≤ bound_of Bound.Start probes.old.prefix probes.old.ids }
@@ -141,7 +142,12 @@ fn find_run(probes: &mut Probes<'_>, part: Run) -> Run
 }
 
 // The bound of the run, which is known to be no lower than `low` and no higher than `high`.
-fn find_bound(probes: &mut Probes<'_>, bound: Bound, mut low: usize, mut high: usize) -> usize
+fn find_bound<I: Id>(
+    probes: &mut Probes<'_, I>,
+    bound: Bound,
+    mut low: usize,
+    mut high: usize,
+) -> usize
     requires can_probe { CanProbe probes.old.prefix probes.old.ids }
     requires above { low ≤ bound_of bound probes.old.prefix probes.old.ids }
     requires below { bound_of bound probes.old.prefix probes.old.ids ≤ high }

@@ -4,10 +4,11 @@ ghost use Rattle.std.specs.Prelude.{◌≡◌, ◌≢◌, ◌↔◌, ◌-◌, �
 ghost use Rattle.std.specs.Cmp.Lexicographic.{slice_cmp};
 ghost use Rattle.std.specs.Ordering.{nat_cmp};
 ghost use Rattle.std.specs.declared.cmp.Ordering.{Ordering};
-ghost use Rattle.gix_hash.specs.ObjectId.{id_digits};
 ghost use Rattle.id_lookup.specs.FoundRun.{IsRun};
+ghost use Rattle.id_lookup.specs.Runs.{matches};
 ghost use Rattle.id_lookup.specs.Sorted.{IsSortedIds, IsFirstFall, least_hex_len};
 
+use crate::ids::{Id, id_at};
 use crate::probes::Probes;
 use crate::search::{Run, lookup};
 use gix_hash::{ObjectId, Prefix};
@@ -19,37 +20,36 @@ use std::marker::Model;
 ///
 /// Ids of both kinds may be mixed, and an id may stand there more than once.
 #[derive(Drop)]
-pub struct SortedIds<'a> {
-    ids: &'a [ObjectId],
+pub struct SortedIds<'a, I: Id = ObjectId> {
+    ids: &'a [I],
     min_hex_len: usize,
 }
 
-impl<'a> Model for SortedIds<'a> {
+impl<'a, I: Id> Model for SortedIds<'a, I> {
     ghost use Rattle.std.specs.Prelude.{◌≡◌, ℕ, List, map};
-    ghost use Rattle.gix_hash.specs.ObjectId.{id_digits};
 
     ghost Value = { List (List ℕ) };
 
     ghost use Rattle.id_lookup.specs.Sorted.{IsSortedIds, least_hex_len};
 
-    ghost view = { λ list. map id_digits list.ids.now };
+    ghost view = { λ list. map I.digits list.ids.now };
 
-    ghost invariant = { λ list. IsSortedIds (map id_digits list.ids.now) × (list.min_hex_len ≡ least_hex_len (map id_digits list.ids.now)) };
+    ghost invariant = { λ list. IsSortedIds (map I.digits list.ids.now) × (list.min_hex_len ≡ least_hex_len (map I.digits list.ids.now)) };
 }
 
-impl<'a> SortedIds<'a> {
+impl<'a, I: Id> SortedIds<'a, I> {
     /// The list as a sorted one, or the first place whose id is below the one before it.
-    pub fn try_new(ids: &'a [ObjectId]) -> Result<SortedIds<'a>, Unsorted>
-        ensures ok { IfOk result (λ list. list ≡ map id_digits ids.now) }
-        ensures sorted { IsOk result ↔ IsSortedIds (map id_digits ids.now) }
-        ensures err { IfErr result (λ e. IsFirstFall (map id_digits ids.now) e.at) }
+    pub fn try_new(ids: &'a [I]) -> Result<SortedIds<'a, I>, Unsorted>
+        ensures ok { IfOk result (λ list. list ≡ map I.digits ids.now) }
+        ensures sorted { IsOk result ↔ IsSortedIds (map I.digits ids.now) }
+        ensures err { IfErr result (λ e. IsFirstFall (map I.digits ids.now) e.at) }
     {
         let mut min_hex_len = 64;
         for at in 0..ids.len() {
             if falls_at(ids, at) {
                 return Err(Unsorted { at });
             }
-            min_hex_len = ids[at].kind().len_in_hex().min(min_hex_len);
+            min_hex_len = id_at(ids, at).kind().len_in_hex().min(min_hex_len);
         }
         Ok(SortedIds { ids, min_hex_len })
     }
@@ -72,9 +72,9 @@ impl<'a> SortedIds<'a> {
     }
 
     /// The id at a place, counted from 0.
-    pub fn get(&self, at: usize) -> &ObjectId
+    pub fn get(&self, at: usize) -> &I
         requires { at < length self.now }
-        ensures { slice_get self.now at ≡ Some (id_digits result.now) }
+        ensures { slice_get self.now at ≡ Some (I.digits result.now) }
     {
         let ids = self.ids;
         &ids[at]
@@ -101,9 +101,21 @@ impl<'a> SortedIds<'a> {
         lookup(&mut Probes::new(self, *prefix))
     }
 
-    // The ids, for probes alone.
-    pub(crate) fn members(&self) -> &'a [ObjectId]
-        ensures value { map id_digits result.now ≡ self.now }
+    /// The members that begin with a prefix, and no other, in the list's order.
+    ///
+    /// The prefix has at most as many digits as each member: at most `min_hex_len()`.
+    pub fn matches(&self, prefix: &Prefix) -> &'a [I]
+        requires { length prefix.now.digits ≤ least_hex_len self.now }
+        ensures { map I.digits result.now ≡ matches prefix.now.digits self.now }
+    {
+        let run = self.find(prefix);
+        let ids = self.members();
+        &ids[run.start..run.end]
+    }
+
+    /// The ids, in order.
+    pub fn members(&self) -> &'a [I]
+        ensures value { map I.digits result.now ≡ self.now }
         ensures sorted { IsSortedIds self.now }
     {
         self.ids
@@ -111,12 +123,12 @@ impl<'a> SortedIds<'a> {
 }
 
 // Whether the id at a place is below the one before it.
-fn falls_at(ids: &[ObjectId], at: usize) -> bool
+fn falls_at<I: Id>(ids: &[I], at: usize) -> bool
     requires { at < length ids.now }
-    ensures { let digits = map id_digits ids.now in
+    ensures { let digits = map I.digits ids.now in
         IsTrue result ↔ ((0 < at) × (slice_cmp nat_cmp (slice_index_or digits at []) (slice_index_or digits (at - 1) []) ≡ Ordering.Less)) }
 {
-    at > 0 && ids[at].as_oid() < ids[at - 1].as_oid()
+    at > 0 && id_at(ids, at) < id_at(ids, at - 1)
 }
 
 /// A list that is not sorted.

@@ -59,7 +59,7 @@ fn expect_runs(rt: &impl Abort, ids: &[ObjectId], most: u64, rows: &[(&str, usiz
 
 #[test]
 fn empty_list(rt: HostRuntime) {
-    let list = SortedIds::try_new(&[]).expect(&rt, "ids out of order");
+    let list: SortedIds<'_> = SortedIds::try_new(&[]).expect(&rt, "ids out of order");
     expect!(&rt; list.min_hex_len() == 64);
     expect!(&rt; list.len() == 0);
     expect!(&rt; list.is_empty());

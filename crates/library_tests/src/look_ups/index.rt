@@ -4,7 +4,7 @@ use super::{expect_at_most, thousand};
 use crate::types::{BLOB, BLOB_256, TREE, TREE_256, expect_text, id};
 use gix_hash::{Kind, ObjectId, Prefix};
 use id_lookup::laws::find_own_name;
-use id_lookup::{Answer, IdIndex, IndexError, Run, lookup_in};
+use id_lookup::{Answer, Id, IdIndex, IndexError, Run, lookup_in};
 use std::process::Abort;
 use std::test::Fail;
 
@@ -14,7 +14,13 @@ fn refusal(rt: &impl Abort, ids: &[ObjectId], kind: Kind) -> IndexError {
 }
 
 // The run that probes find, by at most `most` asks. The index and the prefix stay.
-fn expect_probed(rt: &impl Abort, index: &IdIndex<'_>, prefix: &Prefix, want: Run, most: u64) {
+fn expect_probed<I: Id>(
+    rt: &impl Abort,
+    index: &IdIndex<'_, I>,
+    prefix: &Prefix,
+    want: Run,
+    most: u64,
+) {
     assert!(rt; prefix.as_oid().kind() == index.kind());
     let mut probes = index.probes(prefix);
     expect!(rt; probes.asked() == 0, prefix);
@@ -33,13 +39,13 @@ fn answer_of(run: Run) -> Answer {
     }
 }
 
-fn expect_answer(rt: &impl Abort, index: &IdIndex<'_>, prefix: &Prefix, want: Answer) {
+fn expect_answer<I: Id>(rt: &impl Abort, index: &IdIndex<'_, I>, prefix: &Prefix, want: Answer) {
     assert!(rt; prefix.as_oid().kind() == index.kind());
     expect!(rt; index.find(prefix) == want, prefix);
 }
 
 // What an index answers on a prefix, by the look-up and by probes with at most `most` asks.
-fn expect_found(rt: &impl Abort, index: &IdIndex<'_>, digits: &str, run: Run, most: u64) {
+fn expect_found<I: Id>(rt: &impl Abort, index: &IdIndex<'_, I>, digits: &str, run: Run, most: u64) {
     let prefix = Prefix::from_hex_nonempty(digits).expect(rt, "digits that are no prefix");
     expect_probed(rt, index, &prefix, run, most);
     expect_answer(rt, index, &prefix, answer_of(run));
@@ -94,7 +100,7 @@ fn index_errors(rt: HostRuntime) {
 
 #[test]
 fn empty_index(rt: HostRuntime) {
-    let index = IdIndex::try_new(&[], Kind::Sha1).expect(&rt, "ids of no index");
+    let index: IdIndex<'_> = IdIndex::try_new(&[], Kind::Sha1).expect(&rt, "ids of no index");
     expect!(&rt; index.len() == 0);
     expect!(&rt; index.is_empty());
     expect_found(&rt, &index, "4b82", Run { start: 0, end: 0 }, 0);
@@ -110,6 +116,26 @@ fn first_bytes_of_two(rt: HostRuntime) {
         expect!(&rt; index.fan_out().up_to(byte) == want, &byte);
     }
     expect_found(&rt, &index, "4b82", Run { start: 0, end: 1 }, 2);
+}
+
+// Digests that stand one behind the other in some bytes are a list of ids.
+#[test]
+fn tables_of_digests(rt: HostRuntime) {
+    let mut table = [0; 60];
+    table[20] = 0x4b;
+    table[21] = 0x82;
+    table[40] = 0xe6;
+    let digests = table.as_chunks::<20>().0;
+    let index = IdIndex::try_new(digests, Kind::Sha1).expect(&rt, "digests of no index");
+    expect_found(&rt, &index, "4b82", Run { start: 1, end: 2 }, 2);
+    let refusal = IdIndex::try_new(digests, Kind::Sha256).err();
+    expect!(&rt; refusal == Some(IndexError::WrongKind { at: 0 }));
+    let mut table = [0; 64];
+    table[32] = 0x48;
+    let digests = table.as_chunks::<32>().0;
+    let index = IdIndex::try_new(digests, Kind::Sha256).expect(&rt, "digests of no index");
+    let digits = BLOB_256.get(..41).expect(&rt, "the id has fewer digits");
+    expect_found(&rt, &index, digits, Run { start: 1, end: 1 }, 0);
 }
 
 #[test]

@@ -1,12 +1,11 @@
 use Rattle.std.proofs.Common.{◌≡◌, ℕ, ◌<◌, [], get_or, take, length, map}
 use Rattle.std.specs.List.{All, count_by}
-use Rattle.gix_hash.specs.ObjectId.{id_digits}
 use Rattle.id_lookup.specs.FirstBytes.{has_first_byte}
 use Rattle.id_lookup.proofs.fan_out.first_bytes.Given as goal
 
-abbrev pub invariant-loop-id : goal.invariant-loop-id
-invariant-loop-id l = record {
+abbrev pub invariant-loop-at : goal.invariant-loop-at
+invariant-loop-at g l = record {
   len : length l.counts ≡ 256;
-  counted : (b : ℕ) → b < 256 → get_or l.counts b 0 ≡ count_by (has_first_byte b) (take l.id-index (map id_digits l.ids));
-  digits : (k : ℕ) → k < l.id-index → All (λ d. d < 16) (get_or (map id_digits l.ids) k []);
+  counted : (b : ℕ) → b < 256 → get_or l.counts b 0 ≡ count_by (has_first_byte b) (take l.at (map g.I.Id.digits l.ids));
+  digits : (k : ℕ) → k < l.at → All (λ d. d < 16) (get_or (map g.I.Id.digits l.ids) k []);
 }

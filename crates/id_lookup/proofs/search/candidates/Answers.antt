@@ -8,7 +8,7 @@ use Rattle.id_lookup.proofs.FirstByteOrder.{are_digits, first_byte_of-padded, la
 use Rattle.id_lookup.proofs.search.candidates.Goals as goal
 
 pub returns-clause-part : goal.returns-clause-part
-returns-clause-part c =
+returns-clause-part g c =
     let prefix = c.args.probes.now.prefix in
     let ids = c.args.probes.now.ids in
     let small = rw c.prefix-prefix.ensures.value at c.hex_len.ensures.digits_in_range in

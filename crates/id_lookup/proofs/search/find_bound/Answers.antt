@@ -7,12 +7,12 @@ use Rattle.id_lookup.proofs.Placed.{told}
 use Rattle.id_lookup.proofs.search.find_bound.Goals as goal
 
 pub ask-requires-clause-room : goal.ask-requires-clause-room
-ask-requires-clause-room c =
+ask-requires-clause-room g c =
     let some = bits-half (c.loop-low.high - c.loop-low.low) 0 (omega arith) (omega arith) in
     omega arith
 
 pub loop-low-preserved-then-is_behind : goal.loop-low-preserved-then-is_behind
-loop-low-preserved-then-is_behind c =
+loop-low-preserved-then-is_behind g c =
     let middle = c.loop-low.low + (c.loop-low.high - c.loop-low.low) / 2 in
     let answer = rw c.loop-low.invariant.same at c.ask.ensures.answer in
     let tells = told c.args.bound c.args.probes.now.prefix c.args.probes.now.ids c.requires.can_probe.sorted middle (omega arith) c.ask.result answer in
@@ -28,7 +28,7 @@ loop-low-preserved-then-is_behind c =
     }
 
 pub loop-low-preserved : goal.loop-low-preserved
-loop-low-preserved c =
+loop-low-preserved g c =
     let middle = c.loop-low.low + (c.loop-low.high - c.loop-low.low) / 2 in
     let answer = rw c.loop-low.invariant.same at c.ask.ensures.answer in
     let tells = told c.args.bound c.args.probes.now.prefix c.args.probes.now.ids c.requires.can_probe.sorted middle (omega arith) c.ask.result answer in

@@ -4,7 +4,7 @@ use Rattle.id_lookup.specs.Bounds.{bound_of}
 use Rattle.id_lookup.proofs.search.find_bound.Given as goal
 
 abbrev pub invariant-loop-low : goal.invariant-loop-low
-invariant-loop-low l = record {
+invariant-loop-low g l = record {
   above : l.low ≤ bound_of l.bound l.fn.probes.prefix l.fn.probes.ids;
   below : bound_of l.bound l.fn.probes.prefix l.fn.probes.ids ≤ l.high;
   in_range : l.high ≤ l.fn.high;
@@ -13,4 +13,4 @@ invariant-loop-low l = record {
 }
 
 abbrev pub decreases-loop-low : goal.decreases-loop-low
-decreases-loop-low l = l.high - l.low
+decreases-loop-low g l = l.high - l.low

@@ -5,36 +5,36 @@ use Rattle.id_lookup.proofs.Placed.{bound_of-end, run_is}
 use Rattle.id_lookup.proofs.search.find_run.Goals as goal
 
 pub find_bound-start-requires-clause-below : goal.find_bound-start-requires-clause-below
-find_bound-start-requires-clause-below c =
+find_bound-start-requires-clause-below g c =
     omega (arith, c.requires.below, bound_of-end c.args.probes.now.prefix c.args.probes.now.ids)
 
 pub find_bound-start-requires-clause-room : goal.find_bound-start-requires-clause-room
-find_bound-start-requires-clause-room c =
+find_bound-start-requires-clause-room g c =
     let few = bits-usize (c.args.part.end - c.args.part.start) (omega arith) in
     omega arith
 
 pub find_bound-end-requires-clause-above : goal.find_bound-end-requires-clause-above
-find_bound-end-requires-clause-above c =
+find_bound-end-requires-clause-above g c =
     let list = ap (λ (p : Probing). p.ids) c.find_bound-start.ensures.same in
     let prefix = ap (λ (p : Probing). p.prefix) c.find_bound-start.ensures.same in
     let ends = bound_of-end c.args.probes.now.prefix c.args.probes.now.ids in
     rw (list, prefix) (omega (arith, c.find_bound-start.ensures.place))
 
 pub find_bound-end-requires-clause-room : goal.find_bound-end-requires-clause-room
-find_bound-end-requires-clause-room c =
+find_bound-end-requires-clause-room g c =
     let few = bits-usize (c.args.part.end - c.args.part.start) (omega arith) in
     let fewer = bits-usize (c.args.part.end - c.find_bound-start.result) (omega arith) in
     omega (arith, c.find_bound-start.ensures.asked)
 
 pub returns-clause-run : goal.returns-clause-run
-returns-clause-run c =
+returns-clause-run g c =
     let list = ap (λ (p : Probing). p.ids) c.find_bound-start.ensures.same in
     let prefix = ap (λ (p : Probing). p.prefix) c.find_bound-start.ensures.same in
     run_is c.args.probes.now.prefix c.args.probes.now.ids c.requires.can_probe.sorted _ c.find_bound-start.ensures.place
     (rw (list, prefix) at c.find_bound-end.ensures.place)
 
 pub returns-clause-asked : goal.returns-clause-asked
-returns-clause-asked c =
+returns-clause-asked g c =
     let fewer = bits-mono (c.args.part.end - c.find_bound-start.result) (c.args.part.end - c.args.part.start)
     (omega (arith, c.requires.above, c.find_bound-start.ensures.place)) in
     omega (arith, c.requires.fresh, c.find_bound-start.ensures.asked, c.find_bound-end.ensures.asked)

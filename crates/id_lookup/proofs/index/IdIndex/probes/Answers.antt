@@ -1,11 +1,10 @@
 use Rattle.std.proofs.Common.{◌≤◌, length, map, subst}
 use Rattle.gix_hash.specs.Kind.{hex_len_of}
-use Rattle.gix_hash.specs.ObjectId.{id_digits}
 use Rattle.id_lookup.proofs.Indexes.{index-can_probe}
 use Rattle.id_lookup.proofs.index.IdIndex.probes.Goals as goal
 
 pub over-requires : goal.over-requires
-over-requires c =
+over-requires g c =
     let same = rw (← c.self.view_is) at c.requires in
-    index-can_probe c.self.inside.kind (map id_digits c.self.inside.ids.now) c.args.prefix.now c.self.invariant.0
+    index-can_probe c.self.inside.kind (map g.I.Id.digits c.self.inside.ids.now) c.args.prefix.now c.self.invariant.0
     (subst (λ kind. length c.args.prefix.now.digits ≤ hex_len_of kind) same (rw c.hex_len-hex_len.ensures.value at c.hex_len-hex_len.ensures.at_most_kind))

@@ -1,7 +1,10 @@
-use Rattle.std.proofs.Common.{map}
-use Rattle.gix_hash.specs.ObjectId.{id_digits}
+use Rattle.std.proofs.Common.{◌≡◌, map}
+use Rattle.std.specs.List.{AllWithin}
 use Rattle.id_lookup.specs.Index.{IsIndexUpTo}
 use Rattle.id_lookup.proofs.index.IdIndex.try_new.Given as goal
 
 abbrev pub invariant-loop-at : goal.invariant-loop-at
-invariant-loop-at l = IsIndexUpTo l.at l.kind (map id_digits l.ids)
+invariant-loop-at g l = record {
+  index : IsIndexUpTo l.at l.kind (map g.I.Id.digits l.ids);
+  kinds : AllWithin (λ id. g.I.Id.kind id ≡ l.kind) l.ids 0 l.at;
+}

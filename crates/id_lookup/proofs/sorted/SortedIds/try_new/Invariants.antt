@@ -2,12 +2,11 @@ use Rattle.std.proofs.Common.{◌≡◌, map, take}
 use Rattle.std.specs.Ordering.{nat_cmp, is_lt}
 use Rattle.std.specs.Cmp.Lexicographic.{slice_cmp}
 use Rattle.std.specs.List.Sorted.{IsSortedWithin}
-use Rattle.gix_hash.specs.ObjectId.{id_digits}
 use Rattle.id_lookup.specs.Sorted.{least_hex_len}
 use Rattle.id_lookup.proofs.sorted.SortedIds.try_new.Given as goal
 
 abbrev pub invariant-loop-at : goal.invariant-loop-at
-invariant-loop-at l = record {
-  sorted : IsSortedWithin (λ a b. is_lt (slice_cmp nat_cmp a b)) (map id_digits l.ids) 0 l.at;
-  least : l.min_hex_len ≡ least_hex_len (take l.at (map id_digits l.ids));
+invariant-loop-at g l = record {
+  sorted : IsSortedWithin (λ a b. is_lt (slice_cmp nat_cmp a b)) (map g.I.Id.digits l.ids) 0 l.at;
+  least : l.min_hex_len ≡ least_hex_len (take l.at (map g.I.Id.digits l.ids));
 }

@@ -1,0 +1,7 @@
+use Rattle.id_lookup.proofs.Matched.{run_matches}
+use Rattle.id_lookup.proofs.index.IdIndex.matches.Goals as goal
+
+pub returns-clause-value : goal.returns-clause-value
+returns-clause-value g c =
+    let run = rw c.probes.ensures at c.lookup_in-run.ensures.run in
+    rw (← c.self.view_is) (run_matches g.I.Id.digits c.args.prefix.now c.self.inside.ids.now c.lookup_in-run.result (rw (← c.self.view_is) at run))
