@@ -1,10 +1,11 @@
-//! Making hashers. The function stands apart from the type, whose name differs by case alone.
+//! Making hashers, and digests of one piece. They stand apart from the type, whose name differs from
+//! the function's by case alone.
 
 ghost use Rattle.std.specs.Prelude.{◌≡◌, []};
-ghost use Rattle.gix_hash.specs.Hashing.{hasher_kind, StandsFor};
+ghost use Rattle.gix_hash.specs.Hashing.{digest, hasher_kind, StandsFor};
 
 use super::state::Hasher;
-use object_ids::Kind;
+use object_ids::{Kind, ObjectId};
 
 /// A hasher for digests of the given kind, which was fed nothing.
 pub fn hasher(kind: Kind) -> Hasher
@@ -12,4 +13,13 @@ pub fn hasher(kind: Kind) -> Hasher
     ensures empty { StandsFor result [] }
 {
     Hasher::of_kind(kind)
+}
+
+/// The digest of `bytes`, of 20 or 32 bytes by the kind: for a message that is at hand in one piece.
+pub fn digest_of(kind: Kind, bytes: &[u8]) -> ObjectId
+    ensures { result ≡ digest kind bytes.now }
+{
+    let mut hasher = hasher(kind);
+    hasher.update(bytes);
+    hasher.try_finalize().unwrap()
 }

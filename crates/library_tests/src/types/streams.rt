@@ -2,10 +2,10 @@
 
 use super::devices::{FAILED, Fault, Reader};
 use super::listeners::{Asked, Call, Heard, chunks};
-use super::{BLOB, expect_answer, expect_debug, expect_error, id};
+use super::{BLOB, expect_answer, expect_debug, expect_error, expect_text, id};
 use gix_hash::io::{Never, NoProgress};
 use gix_hash::{
-    Hasher, Kind, ObjectId, bytes, bytes_with_hasher, hasher, hashing, hashing_laws, io,
+    Hasher, Kind, ObjectId, bytes, bytes_with_hasher, digest_of, hasher, hashing, hashing_laws, io,
 };
 use std::process::Abort;
 use std::test::Fail;
@@ -65,10 +65,10 @@ fn pieces_are_one_message(rt: HostRuntime) {
 // The digest of the 20 bytes of the empty blob's id, by sha1sum.
 #[test]
 fn an_id_is_hashed_by_its_bytes(rt: HostRuntime) {
-    expect_digest(
+    let blob = id(&rt, BLOB);
+    expect_text(
         &rt,
-        Kind::Sha1,
-        &[id(&rt, BLOB).as_slice()],
+        digest_of(Kind::Sha1, blob.as_slice()),
         "d96f4801970aae11efea1c6d388b6a6c021b1095",
     );
 }
@@ -77,8 +77,8 @@ fn an_id_is_hashed_by_its_bytes(rt: HostRuntime) {
 #[test]
 fn well_known_ids_are_digests() -> Result<(), Fail> {
     for &kind in Kind::all() {
-        let blob = hasher_fed(kind, &[b"blob 0\0"]).try_finalize()?;
-        let tree = hasher_fed(kind, &[b"tree 0\0"]).try_finalize()?;
+        let blob = digest_of(kind, b"blob 0\0");
+        let tree = digest_of(kind, b"tree 0\0");
         if blob != kind.empty_blob() || tree != kind.empty_tree() {
             return Err(Fail::new("a well-known id is another digest"));
         }
@@ -111,7 +111,7 @@ fn hashed_without_memory() -> Result<(), Fail> {
     let mut input: &[u8] = b"bcX";
     let fed = hasher_fed(Kind::Sha1, &[b"a"]);
     let read_on = bytes_with_hasher(&mut input, 2, fed, &mut NoProgress, &mut Never)?;
-    let wide = hasher_fed(Kind::Sha256, &[b"abc"]).try_finalize()?;
+    let wide = digest_of(Kind::Sha256, b"abc");
     if read != abc || read_on != abc || wide != ObjectId::from_hex(ABC_256.as_bytes())? {
         return Err(Fail::new("another digest without memory"));
     }
@@ -222,8 +222,7 @@ fn chunks_are_heard_and_asked_after(rt: HostRuntime) {
     for run in RUNS {
         expect_run(&rt, &zeros, &run);
     }
-    let whole = hasher_fed(Kind::Sha1, &[&zeros]).try_finalize();
-    expect_answer(&rt, whole, THREE_CHUNKS);
+    expect_text(&rt, digest_of(Kind::Sha1, &zeros), THREE_CHUNKS);
 }
 
 #[test]
