@@ -1,5 +1,6 @@
 mod Accepted
 mod Chunks
+mod IdDigits
 mod Made
 mod OnlyChunks
 mod PlaceLaws

@@ -24,7 +24,8 @@ use Rattle.object_ids.specs.declared.prefix.from_hex.Error as from_hex
 use Rattle.object_ids.specs.declared.prefix.from_hex.Error.TheVariants.{TooShort, TooLong, Invalid}
 use Rattle.id_digits.proofs.ReverseLetters.{reverse_alphabet}
 use Rattle.id_digits.proofs.ReadingFacts.{IsAlphabet, hex_alphabet, digits_read-ReadsAs, ReadsAs-digits_read, IsUnreadable-digits_read, digits_read-IsUnreadable}
-use Rattle.gix_hash.proofs.SpellingLaws.{ReadsAs-lowered}
+use Rattle.gix_hash.specs.IdDigits.{AreIdDigits}
+use Rattle.gix_hash.proofs.SpellingLaws.{ReadsAs-lowered, lowercase_spelling}
 
 -- both alphabets are alphabets
 pub letter_of-alphabet : (alphabet : Alphabet) → IsAlphabet (letter_of alphabet)
@@ -79,6 +80,16 @@ full_read-printed letter a text id lowered len fits =
     let count : length text ≡ hex_len_of (id_kind id) =
     sym (length-map text to_ascii_lowercase) ∙ ap length lowered ∙ length-map (id_digits id) letter ∙ len
     in rw (count, full (id_kind id), digits) refl
+
+-- the spelling of an id's digits reads as these
+pub full_read-spelling : (alphabet : Alphabet) (kind : Kind) (digits : List ℕ) → AreIdDigits kind digits
+    → full_read (letter_of alphabet) (spelling (letter_of alphabet) digits) ≡ Ok (beginning_of kind digits)
+full_read-spelling alphabet kind digits h =
+    let letter = letter_of alphabet in
+    (full_read-is letter (letter_of-alphabet alphabet) _ (beginning_of kind digits)).1 record {
+      kind = length-map digits letter ∙ h.0;
+      reads = ReadsAs-lowered letter _ digits h.1 (lowercase_spelling alphabet digits h.1);
+    }
 
 -- what a refusal is made from
 refused : {E : Type 0} (kind : Option Kind) (digits : Option (List ℕ)) (e f x : E) → answer_of kind digits e f ≡ Err x

@@ -7,13 +7,16 @@ use Rattle.std.specs.Ordering.{nat_cmp, ordering_then, ordering_reverse}
 use Rattle.std.specs.Char.{to_ascii_lowercase}
 use Rattle.std.proofs.lemmas.Bool.{agree_below_at}
 use Rattle.std.proofs.lemmas.Bool.Decides.{nat_tests}
-use Rattle.std.proofs.lemmas.List.Elements.{All-head, All-tail}
+use Rattle.std.proofs.lemmas.List.Elements.{All-nil, All-cons, All-head, All-tail}
+use Rattle.object_ids.specs.Alphabet.{letter_of}
 use Rattle.object_ids.specs.Digits.{hex_letter, reverse_letter, spelling, ReadsAs}
 use Rattle.object_ids.specs.Equalities.{id_eq-parts, oid_eq-digits, prefix_eq-parts}
 use Rattle.object_ids.specs.Kind.{hex_len_of, number_of}
 use Rattle.object_ids.specs.ObjectId.{id_kind, id_digits, id_eq, id_cmp}
 use Rattle.object_ids.specs.Oid.{oid_kind, oid_digits, oid_eq}
 use Rattle.object_ids.specs.Prefix.{Beginning, prefix_eq}
+use Rattle.object_ids.specs.declared.alphabet.Alphabet.{Alphabet}
+use Rattle.object_ids.specs.declared.alphabet.Alphabet.TheVariants.{Hex, Reverse}
 use Rattle.object_ids.specs.declared.borrowed.oid.{oid}
 use Rattle.object_ids.specs.declared.object_id.ObjectId.{ObjectId}
 use Rattle.object_ids.proofs.IdFacts.{length-oid}
@@ -79,6 +82,36 @@ ReadsAs-lowered letter (c ∷ text) (d ∷ ds) fits h = (
   record { digit = All-head (λ (x : ℕ). x < 16) d ds fits; same_letter = cc h },
   ReadsAs-lowered letter text ds (All-tail (λ (x : ℕ). x < 16) d ds fits) (cc h),
 )
+
+-- and only such a text does
+ReadsAs-spelled : (letter : ℕ → ℕ) (text ds : List ℕ) → ReadsAs letter text ds → All (λ d. d < 16) ds × (map to_ascii_lowercase text ≡ spelling letter ds)
+ReadsAs-spelled letter [] [] h = (All-nil (λ (x : ℕ). x < 16), refl)
+ReadsAs-spelled letter [] (d ∷ ds) h = absurd h
+ReadsAs-spelled letter (c ∷ text) [] h = absurd h
+ReadsAs-spelled letter (c ∷ text) (d ∷ ds) h =
+    let first = h.0.same_letter in
+    let rest = ReadsAs-spelled letter text ds h.1 in
+    (All-cons (λ (x : ℕ). x < 16) d ds h.0.digit rest.0, λ i. first i ∷ rest.1 i)
+
+-- both ways
+pub ReadsAs-is : (letter : ℕ → ℕ) (text ds : List ℕ) → ReadsAs letter text ds ↔ (All (λ d. d < 16) ds × (map to_ascii_lowercase text ≡ spelling letter ds))
+ReadsAs-is letter text ds = (ReadsAs-spelled letter text ds, λ h. ReadsAs-lowered letter text ds h.0 h.1)
+
+-- letters are lowercase
+lowercase_letter : (alphabet : Alphabet) (d : ℕ) → d < 16 → to_ascii_lowercase (letter_of alphabet d) ≡ letter_of alphabet d
+lowercase_letter Hex d h =
+    eqb-true _ _ (agree_below_at (λ k. to_ascii_lowercase (hex_letter k) == hex_letter k) (λ k. true) 16 d refl h)
+lowercase_letter Reverse d h =
+    eqb-true _ _ (agree_below_at (λ k. to_ascii_lowercase (reverse_letter k) == reverse_letter k) (λ k. true) 16 d refl h)
+
+-- and so are spellings
+pub lowercase_spelling : (alphabet : Alphabet) (ds : List ℕ) → All (λ d. d < 16) ds
+    → map to_ascii_lowercase (spelling (letter_of alphabet) ds) ≡ spelling (letter_of alphabet) ds
+lowercase_spelling alphabet [] fits = refl
+lowercase_spelling alphabet (d ∷ ds) fits =
+    let first = lowercase_letter alphabet d (All-head (λ (x : ℕ). x < 16) d ds fits) in
+    let rest = lowercase_spelling alphabet ds (All-tail (λ (x : ℕ). x < 16) d ds fits) in
+    λ i. first i ∷ rest i
 
 -- within a kind owned ids are ordered by their digits
 pub id_cmp-digits : (a b : ObjectId) → id_kind a ≡ id_kind b → id_cmp a b ≡ slice_cmp nat_cmp (id_digits a) (id_digits b)

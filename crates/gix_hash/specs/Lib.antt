@@ -20,5 +20,6 @@ pub use Rattle.object_ids.specs.Alphabet
 pub use Rattle.object_ids.specs.Words
 pub use Rattle.object_ids.specs.CommonDigits
 pub mod Hashing
+pub mod IdDigits
 pub mod Streams
 pub mod HashingWriter

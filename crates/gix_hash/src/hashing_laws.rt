@@ -1,12 +1,14 @@
 //! Laws of hashing that no single call carries. Each is the contract of a function, and those that
 //! return nothing compute nothing.
 
-ghost use Rattle.std.specs.Prelude.{◌≡◌, ◌↔◌, ℕ, Bool, List, [], ◌∷◌, ◌++◌, map, length, codes};
+ghost use Rattle.std.specs.Prelude.{◌≡◌, ◌↔◌, ◌<◌, ℕ, All, Bool, List, [], ◌∷◌, ◌++◌, map, length, codes};
 ghost use Rattle.std.specs.List.{concat};
 ghost use Rattle.gix_hash.specs.Hashing.{digest, StandsFor};
 ghost use Rattle.gix_hash.specs.HashingWriter.{Takes, WriterCall, Passes, accepted};
+ghost use Rattle.gix_hash.specs.IdDigits.{AreIdDigits};
 ghost use Rattle.gix_hash.specs.Streams.{Reaches, AreChunks, chunks, all_false};
-ghost use Rattle.object_ids.specs.ObjectId.{id_digits};
+ghost use Rattle.object_ids.specs.Kind.{byte_len_of};
+ghost use Rattle.object_ids.specs.ObjectId.{id_bytes, id_digits, id_kind};
 ghost use Rattle.object_ids.specs.WellKnown.{empty_blob_digits, empty_tree_digits};
 
 use crate::hashing;
@@ -26,6 +28,15 @@ pub fn id_of_pieces(kind: Kind, pieces: &[&[u8]]) -> Result<ObjectId, hashing::E
     }
     hasher.try_finalize()
 }
+
+/// The digest of any message has the kind that was asked for, as many bytes as the kind's digests, each
+/// below 256, and the digits of an id of the kind.
+pub fn digests(kind: Kind)
+    ensures kind { (message : List ℕ) → id_kind (digest kind message) ≡ kind }
+    ensures len { (message : List ℕ) → length (id_bytes (digest kind message)) ≡ byte_len_of kind }
+    ensures bytes_in_range { (message : List ℕ) → All (λ b. b < 256) (id_bytes (digest kind message)) }
+    ensures digits { (message : List ℕ) → AreIdDigits kind (id_digits (digest kind message)) }
+{}
 
 /// The chunks in which so many bytes are read are the only numbers with that sum of which all but
 /// the last are 65535, and the last is 1 to 65535. At 0 there are none.

@@ -1,25 +1,27 @@
 //! Laws of digits, ids and prefixes that no single call carries. Each is the contract of a function
 //! that computes nothing: a call of it brings the law into a caller's proof.
 
-ghost use Rattle.std.specs.Prelude.{◌≡◌, ◌≤◌, ◌<◌, ◌↔◌, ◌⊎◌, ◌+◌, ◌-◌, ◌/◌, ◌%◌, ◌^◌, ℕ, List, IsTrue, IsOk, IfOk, Some, None, [], codes, length, slice_index, MatchResult, Contains};
+ghost use Rattle.std.specs.Prelude.{◌≡◌, ◌≤◌, ◌<◌, ◌↔◌, ◌⊎◌, ◌+◌, ◌-◌, ◌/◌, ◌%◌, ◌^◌, ℕ, All, List, IsTrue, IsOk, IfOk, Some, None, [], codes, length, slice_index, MatchResult, Contains};
 ghost use Rattle.std.specs.declared.cmp.Ordering.{Ordering};
 ghost use Rattle.std.specs.Cmp.Lexicographic.{slice_cmp};
 ghost use Rattle.std.specs.List.{list_any};
 ghost use Rattle.std.specs.Ordering.{nat_cmp, ordering_reverse};
 ghost use Rattle.std.specs.Str.{str_to_ascii_lowercase};
+ghost use Rattle.gix_hash.specs.IdDigits.{AreIdDigits, HasDigits};
 ghost use Rattle.object_ids.specs.Alphabet.{letter_of};
 ghost use Rattle.object_ids.specs.Digits.{hex_letter, reverse_letter, spelling, ReadsAs, IsUnreadable};
 ghost use Rattle.object_ids.specs.IdReading.{full_read, whole_of, IsFullReading, IsFullRefusal};
 ghost use Rattle.object_ids.specs.Kind.{kind_of_hex_len};
 ghost use Rattle.object_ids.specs.ObjectId.{id_digits, id_kind, id_eq, id_cmp, id_hash_input};
 ghost use Rattle.object_ids.specs.Oid.{oid_digits, oid_kind, oid_eq, oid_cmp};
-ghost use Rattle.object_ids.specs.Prefix.{place, Beginning, BeginsWith, prefix_eq};
+ghost use Rattle.object_ids.specs.Prefix.{place, Beginning, beginning_of, BeginsWith, prefix_eq};
 ghost use Rattle.object_ids.specs.PrefixReading.{prefix_read, prefix_read_in, IsPrefixReading, IsPrefixRefusal, IsReadingIn, IsRefusalIn};
 ghost use Rattle.object_ids.specs.Reading.{digits_read};
 ghost use Rattle.object_ids.specs.WellKnown.{hex_values};
 ghost use Rattle.object_ids.specs.Words.{words_of};
 ghost use Rattle.object_ids.specs.declared.borrowed.oid as borrowed;
 ghost use Rattle.object_ids.specs.declared.decode.Error as decode;
+ghost use Rattle.object_ids.specs.declared.kind.Kind as kinds;
 ghost use Rattle.object_ids.specs.declared.object_id.ObjectId as ids;
 ghost use Rattle.object_ids.specs.declared.prefix.from_hex.Error as from_hex;
 
@@ -38,6 +40,27 @@ pub fn letters()
 pub fn readings(alphabet: Alphabet, text: &[u8])
     ensures some { (digits : List ℕ) → (digits_read (letter_of alphabet) text.now ≡ Some digits) ↔ ReadsAs (letter_of alphabet) text.now digits }
     ensures none { (digits_read (letter_of alphabet) text.now ≡ None) ↔ IsUnreadable (letter_of alphabet) text.now }
+{}
+
+/// A text reads as digits just where each of them is below 16 and the text, in lowercase, is their
+/// spelling.
+pub fn spelled(alphabet: Alphabet, text: &[u8])
+    ensures { (digits : List ℕ) → ReadsAs (letter_of alphabet) text.now digits
+        ↔ (All (λ d. d < 16) digits × (str_to_ascii_lowercase text.now ≡ spelling (letter_of alphabet) digits)) }
+{}
+
+/// The digits of some id of a kind are those that its ids have.
+pub fn digits_of_ids(kind: Kind)
+    ensures { (digits : List ℕ) → AreIdDigits kind digits ↔ ((id : ids.ObjectId) × HasDigits kind digits id) }
+{}
+
+/// What is printed of any id is in lowercase, and reads as the id. So no id is printed as a text that
+/// is refused or that reads as an id which is printed otherwise.
+pub fn printed(alphabet: Alphabet)
+    ensures lowercase { (digits : List ℕ) → All (λ d. d < 16) digits
+        → str_to_ascii_lowercase (spelling (letter_of alphabet) digits) ≡ spelling (letter_of alphabet) digits }
+    ensures reads { (kind : kinds.Kind) → (digits : List ℕ) → AreIdDigits kind digits
+        → full_read (letter_of alphabet) (spelling (letter_of alphabet) digits) ≡ Ok (beginning_of kind digits) }
 {}
 
 /// The texts that read as a full id, which are those of as many bytes as its kind has digits that

@@ -1,7 +1,7 @@
 //! Laws, at values that meet what they ask of the caller.
 
 use super::{BLOB, BLOB_256, BLOB_BYTES, id};
-use gix_hash::{Alphabet, ChangeId, Kind, ObjectId, Prefix, laws, oid};
+use gix_hash::{Alphabet, ChangeId, Kind, ObjectId, Prefix, hashing_laws, laws, oid};
 use std::test::Fail;
 
 #[test]
@@ -49,6 +49,10 @@ fn hold_without_computing() -> Result<(), Fail> {
     laws::letters();
     laws::words_written_out();
     laws::readings(Alphabet::Hex, &BLOB_BYTES);
+    laws::spelled(Alphabet::Reverse, &BLOB_BYTES);
+    laws::printed(Alphabet::Hex);
+    laws::digits_of_ids(Kind::Sha256);
+    hashing_laws::digests(Kind::Sha1);
     laws::full_readings(Alphabet::Reverse, &BLOB_BYTES);
     laws::prefix_readings(Alphabet::Hex, 1, "e69d");
     laws::prefix_readings_in(Kind::Sha256, Alphabet::Hex, "e69d");
