@@ -1,7 +1,7 @@
-"""A small repository in which the script ./oidtool is run, with an rt that proves nothing.
+"""A small repository in which a program's script is run, with an rt that proves nothing.
 
-Its program oidtool stands on `left` and `right`, and these on `low`; `apart` is none of it. The rt notes each crate that
-it is asked for, and gives the tried program as what oidtool builds. It answers for `left` and `right` only once it was
+The program there stands on `left` and `right`, and these on `low`; `apart` is none of it. The rt notes each crate that
+it is asked for, and gives the tried program as the one that it builds. It answers for `left` and `right` only once it was
 asked for both, and for `right` first: a script that asks for one once the other is built never ends.
 """
 
@@ -14,7 +14,7 @@ import time
 from pathlib import Path
 
 ROOT = Path(__file__).resolve().parent.parent
-CRATES = {"low": "a_library_of_the_kit", "left": "low", "right": "low", "oidtool": "left right", "apart": "low"}
+LIBRARIES = {"low": "a_library_of_the_kit", "left": "low", "right": "low", "apart": "low"}
 RT = """#!/bin/sh
 crate=${PWD##*/}
 echo "$1 $crate" >> "$SANDBOX/asked"
@@ -28,7 +28,7 @@ case $RT_DOES in
 esac
 mkdir -p out/rlib out/incremental
 case $1 in
-run) cp "$TRIED" out/oidtool && : > out/oidtool.stamp; exit 2 ;;
+run) cp "$TRIED" "out/$crate" && : > "out/$crate.stamp"; exit 2 ;;
 esac
 """
 SECONDS = 20
@@ -44,11 +44,13 @@ class Sandbox:
         self.asked = Path(room, "asked")
         self.hanging = Path(room, "hanging")
         self.temporary.mkdir()
-        for name in CRATES:
+        self.script = self.root / program.name
+        crates = {**LIBRARIES, program.name: "left right"}
+        for name in crates:
             self.write(f"crates/{name}/src/lib.rt", f"//! {name}\n")
         self.write("crates/low/proofs/given/Answers.antt", "module Answers where\n")
-        self.write("crates.txt", "".join(f"{name}: {below}\n" for name, below in CRATES.items()))
-        for path in ("oidtool", "tools/program", "crates/oidtool/help"):
+        self.write("crates.txt", "".join(f"{name}: {below}\n" for name, below in crates.items()))
+        for path in (program.name, "tools/program", f"crates/{program.name}/help"):
             self.write(path, "")
             shutil.copy(ROOT / path, self.root / path)
         for path, text in (("bin/rt", RT), ("KIT-ID", "a kit\n"), ("WHAT", "as it is\n")):
@@ -71,7 +73,7 @@ class Sandbox:
         path = f"{has_rt}/usr/local/bin:/usr/bin:/bin" if has_rt else self.tools()
         environment = {**self.environment, "PATH": path, "RT_DOES": rt}
         child = subprocess.Popen(
-            [self.root / "oidtool", *words],
+            [self.script, *words],
             stdin=subprocess.PIPE,
             stdout=subprocess.PIPE,
             stderr=subprocess.PIPE,
