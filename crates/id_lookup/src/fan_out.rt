@@ -8,7 +8,8 @@ use std::marker::Model;
 
 /// For each byte, how many ids of a list have at most that first byte, as in Git's pack indexes.
 ///
-/// An index has one of its ids: [`IdIndex::fan_out`](crate::IdIndex::fan_out).
+/// An index has one of its ids: [`IdIndex::fan_out`](crate::IdIndex::fan_out). Of another list it
+/// is made by [`FanOut::of`].
 #[derive(Drop)]
 pub struct FanOut {
     counts: [usize; 256],
@@ -23,8 +24,8 @@ impl Model for FanOut {
 }
 
 impl FanOut {
-    // The fan-out of a list.
-    pub(crate) fn of<I: Id>(ids: &[I]) -> FanOut
+    /// The counts of a list, in any order.
+    pub fn of<I: Id>(ids: &[I]) -> FanOut
         ensures { IsFanOut result (map I.digits ids.now) }
     {
         let mut counts = first_bytes(ids);

@@ -1,0 +1,6 @@
+-- Lemmas of several proofs.
+mod Counted
+mod Ending
+mod Firsts
+mod Looked
+mod Refusals

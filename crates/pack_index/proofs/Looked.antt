@@ -1,0 +1,60 @@
+-- Where an id stands among names of its kind, by the run of all its digits.
+use Rattle.std.proofs.Common.{◌≡◌, ◌≢◌, ℕ, ◌+◌, ◌<◌, ◌≤◌, true, false, not, nat_eq, List, [], ◌++◌, length, get_or, refl, sym, ap, ◌∙◌, arith, append-nil}
+use Rattle.std.specs.Prelude.{◌↔◌, IsTrue}
+use Rattle.std.proofs.lemmas.List.{length-append, nil_from_length}
+use Rattle.std.proofs.lemmas.Bool.{false≢true}
+use Rattle.gix_hash.specs.Kind.{hex_len_of, number_of}
+use Rattle.gix_hash.specs.Prefix.{Beginning, BeginsWith}
+use Rattle.gix_hash.specs.declared.Kind.{Kind}
+use Rattle.gix_hash.specs.declared.Kind.TheVariants.{Sha1, Sha256}
+use Rattle.id_lookup.specs.FoundRun.{IsRun}
+use Rattle.id_lookup.specs.Runs.{begins_with}
+use Rattle.id_lookup.specs.declared.search.Run.{Run}
+use Rattle.pack_index.specs.Names.{IsFirstPlace}
+
+-- what begins with a list of its own length is that list
+same_length : (xs ys rest : List ℕ) → xs ≡ ys ++ rest → length xs ≡ length ys → xs ≡ ys
+same_length xs ys rest is long =
+    let none : rest ≡ [] = nil_from_length rest (omega (arith, ap length is, length-append ys rest)) in
+    is ∙ ap (λ (r : List ℕ). ys ++ r) none ∙ append-nil ys
+
+module _ (prefix : Beginning) (names : List (List ℕ)) (run : Run) (is : IsRun prefix names run)
+    (begins : (id : List ℕ) → IsTrue (begins_with prefix id) ↔ BeginsWith id prefix.digits)
+    (long : (k : ℕ) → k < length names → length (get_or names k []) ≡ length prefix.digits) where
+  -- the names of the run are the id
+  same_within : (k : ℕ) → k < length names → run.start ≤ k → k < run.end → get_or names k [] ≡ prefix.digits
+  same_within k inside low high =
+      let split = (begins (get_or names k [])).0 ((is.members k inside).1 (low, high)) in
+      same_length (get_or names k []) prefix.digits split.0 split.1 (long k inside)
+
+  -- and no others are
+  within_same : (k : ℕ) → k < length names → get_or names k [] ≡ prefix.digits → (run.start ≤ k) × (k < run.end)
+  within_same k inside same =
+      (is.members k inside).0 ((begins (get_or names k [])).1 ([], same ∙ sym (append-nil prefix.digits)))
+
+  pub absent : run.start ≡ run.end → (k : ℕ) → k < length names → get_or names k [] ≢ prefix.digits
+  absent empty k inside same = let here = within_same k inside same in omega (arith, empty, here.0, here.1)
+
+  pub present : run.start ≢ run.end → IsFirstPlace names prefix.digits run.start
+  present some =
+      let end = is.end in
+      let reach = is.in_range in
+      let inside : run.start < length names = omega (arith, end, reach, some) in
+      record {
+        in_range = inside;
+        same = same_within run.start inside (omega arith) (omega (arith, end, some));
+        first = λ k low same. let here = within_same k (omega (arith, low, inside)) same in omega (arith, here.0, low);
+      }
+
+-- kinds that a test tells apart have other numbers of digits, and those that it does not are one
+pub kinds_differ : (a b : Kind) → not (nat_eq (number_of a) (number_of b)) ≡ true → hex_len_of a ≢ hex_len_of b
+kinds_differ Sha1 Sha1 other same = false≢true other
+kinds_differ Sha1 Sha256 other same = absurd (omega arith)
+kinds_differ Sha256 Sha1 other same = absurd (omega arith)
+kinds_differ Sha256 Sha256 other same = false≢true other
+
+pub kinds_same : (a b : Kind) → not (nat_eq (number_of a) (number_of b)) ≡ false → a ≡ b
+kinds_same Sha1 Sha1 same = refl
+kinds_same Sha1 Sha256 same = absurd (false≢true (sym same))
+kinds_same Sha256 Sha1 same = absurd (false≢true (sym same))
+kinds_same Sha256 Sha256 same = refl

@@ -1,0 +1,5 @@
+-- Git's pack indexes.
+pub mod Firsts
+pub mod Format
+pub mod Names
+pub mod Refusal

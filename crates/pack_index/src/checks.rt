@@ -1,0 +1,117 @@
+//! What is checked of the bytes of a pack index.
+
+ghost use Rattle.std.specs.Prelude.{◌≡◌, ◌≢◌, ◌↔◌, ◌+◌, ◌*◌, ◌<◌, ◌≤◌, ℕ, IfErr, IsTrue, MatchOption, OnOk, length};
+ghost use Rattle.gix_hash.specs.Kind.{byte_len_of};
+ghost use Rattle.id_lookup.specs.FirstBytes.{IsFanOut};
+ghost use Rattle.pack_index.specs.Firsts.{IsFirstNot};
+ghost use Rattle.pack_index.specs.Format.{HasChecksum, HasCount, HasHead, HasOffset, HasTables, count_in, magic_number, names_in, word_at};
+ghost use Rattle.pack_index.specs.Refusal.{IsRefusal, version_1_len};
+
+use crate::error::Error;
+use crate::words::{LONG, NAMES_AT, count_in, digest_at, long_at, offset_word, tables_end, word_at};
+use gix_hash::{Kind, hasher};
+use id_lookup::FanOut;
+
+const MAGIC: u32 = 0xff74_4f63;
+const VERSION: u32 = 2;
+
+// Whether the front of the bytes and the lengths of their tables are those of a pack index.
+pub(crate) fn check_tables(bytes: &[u8], kind: Kind) -> Result<(), Error>
+    ensures head { OnOk result (HasHead kind bytes.now) }
+    ensures tables { OnOk result (HasTables kind bytes.now) }
+    ensures err { IfErr result (IsRefusal kind bytes.now) }
+{
+    if bytes.len() < NAMES_AT + 2 * kind.len_in_bytes() {
+        return Err(Error::TooShort);
+    }
+    if word_at(bytes, 0) != MAGIC {
+        return Err(if bytes.len() == version_1_len(bytes, kind) {
+            Error::Version1
+        } else {
+            Error::BadMagic
+        });
+    }
+    let version = word_at(bytes, 4);
+    if version != VERSION {
+        return Err(Error::BadVersion(version));
+    }
+    if !has_tables(bytes, kind) {
+        return Err(Error::WrongLength);
+    }
+    Ok(())
+}
+
+// How many bytes an index of version 1 has, by its last count.
+fn version_1_len(bytes: &[u8], kind: Kind) -> usize
+    requires { 1032 ≤ length bytes.now }
+    ensures { result ≡ version_1_len kind bytes.now }
+{
+    let count = word_at(bytes, NAMES_AT - 12) as usize;
+    let names = match kind {
+        Kind::Sha1 => 20 * count,
+        Kind::Sha256 => 32 * count,
+    };
+    NAMES_AT - 8 + names + 4 * count + 2 * kind.len_in_bytes()
+}
+
+// Whether the tables fill the bytes up to the digests.
+fn has_tables(bytes: &[u8], kind: Kind) -> bool
+    requires { 1032 + 2 * byte_len_of kind ≤ length bytes.now }
+    ensures { IsTrue result ↔ HasTables kind bytes.now }
+{
+    let long = long_at(bytes, kind);
+    let end = tables_end(bytes, kind);
+    long <= end && (end - long) % 8 == 0
+}
+
+// The first byte whose count is not that of the names.
+pub(crate) fn first_wrong_count(bytes: &[u8], fan_out: &FanOut, kind: Kind) -> Option<u8>
+    requires tables { HasTables kind bytes.now }
+    requires fan_out { IsFanOut fan_out.now (names_in kind bytes.now) }
+    ensures { MatchOption result ((b : ℕ) → b < 256 → HasCount kind bytes.now b) (IsFirstNot (HasCount kind bytes.now) 256) }
+{
+    for byte in 0..=255 {
+        if word_at(bytes, 8 + 4 * usize::from(byte)) as usize != fan_out.up_to(byte) {
+            return Some(byte);
+        }
+    }
+    None
+}
+
+// The first name that has no offset.
+pub(crate) fn first_without_offset(bytes: &[u8], kind: Kind) -> Option<usize>
+    requires { HasTables kind bytes.now }
+    ensures { MatchOption result ((k : ℕ) → k < count_in bytes.now → HasOffset kind bytes.now k) (IsFirstNot (HasOffset kind bytes.now) (count_in bytes.now)) }
+{
+    for at in 0..count_in(bytes) as usize {
+        if !has_offset(bytes, kind, at) {
+            return Some(at);
+        }
+    }
+    None
+}
+
+// Whether the name at a place has an offset.
+fn has_offset(bytes: &[u8], kind: Kind, at: usize) -> bool
+    requires tables { HasTables kind bytes.now }
+    requires in_range { at < count_in bytes.now }
+    ensures { IsTrue result ↔ HasOffset kind bytes.now at }
+{
+    let word = offset_word(bytes, kind, at);
+    let end = tables_end(bytes, kind);
+    word < LONG || long_at(bytes, kind) + 8 * (word - LONG) as usize + 8 <= end
+}
+
+// Whether the last bytes are the digest of all before them.
+pub(crate) fn has_checksum(bytes: &[u8], kind: Kind) -> bool
+    requires { byte_len_of kind ≤ length bytes.now }
+    ensures { IsTrue result ↔ HasChecksum kind bytes.now }
+{
+    let (front, checksum) = bytes.split_at(digest_at(bytes, kind));
+    let mut hasher = hasher(kind);
+    hasher.update(front);
+    match hasher.try_finalize() {
+        Ok(id) => id.as_slice() == checksum,
+        Err(_) => false,
+    }
+}

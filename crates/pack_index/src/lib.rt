@@ -1,0 +1,16 @@
+//! Git's pack indexes of version 2, over their bytes.
+//!
+//! A [`File`] stands on bytes that were checked once: their tables, order, counts and checksum. It
+//! takes no memory and copies no name. Its names are looked up by
+//! [`lookup_in`](id_lookup::lookup_in) where they stand, and it tells where each object stands in the
+//! pack.
+#![tactic(auto)]
+
+mod checks;
+mod error;
+mod index_file;
+mod names;
+mod words;
+
+pub use error::Error;
+pub use index_file::File;

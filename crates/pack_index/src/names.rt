@@ -1,0 +1,90 @@
+//! The names of a pack index, which are of one kind.
+
+ghost use Rattle.std.specs.Prelude.{◌≡◌, ◌↔◌, ◌<◌, ◌≤◌, IfErr, IfOk, IsOk, length};
+ghost use Rattle.std.specs.List.{HoldsAt};
+ghost use Rattle.gix_hash.specs.Oid.{oid_digits};
+ghost use Rattle.id_lookup.specs.FirstBytes.{IsFanOut};
+ghost use Rattle.id_lookup.specs.FoundRun.{IsRun};
+ghost use Rattle.id_lookup.specs.Sorted.{IsFirstFall, IsSortedIds, least_hex_len};
+ghost use Rattle.pack_index.specs.Format.{digests_in};
+ghost use Rattle.pack_index.specs.Names.{kind_of, list_of};
+
+use gix_hash::{Kind, Prefix, oid};
+use id_lookup::{FanOut, Id, Probes, Run, SortedIds, Unsorted, lookup_in};
+
+// A sorted list of digests of a kind.
+#[derive(Drop)]
+pub(crate) enum Names<'a> {
+    Sha1(SortedIds<'a, [u8; 20]>),
+    Sha256(SortedIds<'a, [u8; 32]>),
+}
+
+impl<'a> Names<'a> {
+    // The digests of a kind that stand in some bytes, one behind the other.
+    pub(crate) fn try_new(bytes: &'a [u8], kind: Kind) -> Result<Names<'a>, Unsorted>
+        ensures kind { IfOk result (λ names. kind_of names ≡ kind) }
+        ensures list { IfOk result (λ names. list_of names ≡ digests_in kind bytes.now) }
+        ensures sorted { IsOk result ↔ IsSortedIds (digests_in kind bytes.now) }
+        ensures err { IfErr result (λ e. IsFirstFall (digests_in kind bytes.now) e.at) }
+    {
+        match kind {
+            Kind::Sha1 => match SortedIds::try_new(bytes.as_chunks().0) {
+                Ok(ids) => Ok(Names::Sha1(ids)),
+                Err(unsorted) => Err(unsorted),
+            },
+            Kind::Sha256 => match SortedIds::try_new(bytes.as_chunks().0) {
+                Ok(ids) => Ok(Names::Sha256(ids)),
+                Err(unsorted) => Err(unsorted),
+            },
+        }
+    }
+
+    pub(crate) fn kind(&self) -> Kind
+        ensures { result ≡ kind_of self.now }
+    {
+        match self {
+            Names::Sha1(_) => Kind::Sha1,
+            Names::Sha256(_) => Kind::Sha256,
+        }
+    }
+
+    pub(crate) fn len(&self) -> usize
+        ensures { result ≡ length (list_of self.now) }
+    {
+        match self {
+            Names::Sha1(ids) => ids.len(),
+            Names::Sha256(ids) => ids.len(),
+        }
+    }
+
+    pub(crate) fn get(&self, at: usize) -> oid<'_>
+        requires { at < length (list_of self.now) }
+        ensures { HoldsAt (λ id. oid_digits result ≡ id) (list_of self.now) at }
+    {
+        match self {
+            Names::Sha1(ids) => ids.get(at).as_oid(),
+            Names::Sha256(ids) => ids.get(at).as_oid(),
+        }
+    }
+
+    pub(crate) fn fan_out(&self) -> FanOut
+        ensures { IsFanOut result (list_of self.now) }
+    {
+        match self {
+            Names::Sha1(ids) => FanOut::of(ids.members()),
+            Names::Sha256(ids) => FanOut::of(ids.members()),
+        }
+    }
+
+    // The run of a prefix, among the names with its first byte.
+    pub(crate) fn find(&self, fan_out: &FanOut, prefix: &Prefix) -> Run
+        requires fan_out { IsFanOut fan_out.now (list_of self.now) }
+        requires reach { length prefix.now.digits ≤ least_hex_len (list_of self.now) }
+        ensures { IsRun prefix.now (list_of self.now) result }
+    {
+        match self {
+            Names::Sha1(ids) => lookup_in(fan_out, &mut Probes::new(ids, *prefix)),
+            Names::Sha256(ids) => lookup_in(fan_out, &mut Probes::new(ids, *prefix)),
+        }
+    }
+}

@@ -1,0 +1,111 @@
+//! Numbers and tables in the bytes of a pack index.
+
+ghost use Rattle.std.specs.Prelude.{◌≡◌, ◌+◌, ◌*◌, ◌<◌, ◌≤◌, ◌^◌, ℕ, length};
+ghost use Rattle.gix_hash.specs.Kind.{byte_len_of};
+ghost use Rattle.pack_index.specs.Format.{HasOffset, HasTables, count_in, crc_in, crcs_at, digest_at, long_at, offset_in, offset_word, offsets_at, tables_end, word_at};
+
+use gix_hash::Kind;
+
+/// Where the names begin.
+pub(crate) const NAMES_AT: usize = 1032;
+
+/// The least number that the table of offsets has for a long offset.
+pub(crate) const LONG: u32 = 0x8000_0000;
+
+// The number that four bytes write from a place on, the highest first.
+#[tactic(auto, unfolding(crate::specs::Format::word_at))]
+pub(crate) fn word_at(bytes: &[u8], at: usize) -> u32
+    requires { at + 4 ≤ length bytes.now }
+    ensures { result ≡ word_at bytes.now at }
+{
+    u32::from_be_bytes([bytes[at], bytes[at + 1], bytes[at + 2], bytes[at + 3]])
+}
+
+// The number of names.
+pub(crate) fn count_in(bytes: &[u8]) -> u32
+    requires { 1032 ≤ length bytes.now }
+    ensures { result ≡ count_in bytes.now }
+{
+    word_at(bytes, NAMES_AT - 4)
+}
+
+// Where the CRCs begin, behind the names.
+pub(crate) fn crcs_at(bytes: &[u8], kind: Kind) -> usize
+    requires { 1032 ≤ length bytes.now }
+    ensures place { result ≡ crcs_at kind bytes.now }
+    ensures small { result < 2 ^ 40 }
+{
+    let count = count_in(bytes) as usize;
+    let len = match kind {
+        Kind::Sha1 => 20 * count,
+        Kind::Sha256 => 32 * count,
+    };
+    NAMES_AT + len
+}
+
+// Where the offsets begin.
+pub(crate) fn offsets_at(bytes: &[u8], kind: Kind) -> usize
+    requires { 1032 ≤ length bytes.now }
+    ensures place { result ≡ offsets_at kind bytes.now }
+    ensures small { result < 2 ^ 41 }
+{
+    crcs_at(bytes, kind) + 4 * count_in(bytes) as usize
+}
+
+// Where the long offsets begin.
+pub(crate) fn long_at(bytes: &[u8], kind: Kind) -> usize
+    requires { 1032 ≤ length bytes.now }
+    ensures place { result ≡ long_at kind bytes.now }
+    ensures small { result < 2 ^ 42 }
+{
+    offsets_at(bytes, kind) + 4 * count_in(bytes) as usize
+}
+
+// Where the long offsets end.
+pub(crate) fn tables_end(bytes: &[u8], kind: Kind) -> usize
+    requires { 2 * byte_len_of kind ≤ length bytes.now }
+    ensures { result ≡ tables_end kind bytes.now }
+{
+    bytes.len() - 2 * kind.len_in_bytes()
+}
+
+// Where the digest of all bytes before it begins.
+pub(crate) fn digest_at(bytes: &[u8], kind: Kind) -> usize
+    requires { byte_len_of kind ≤ length bytes.now }
+    ensures { result ≡ digest_at kind bytes.now }
+{
+    bytes.len() - kind.len_in_bytes()
+}
+
+// The CRC of the object of the name at a place.
+pub(crate) fn crc_in(bytes: &[u8], kind: Kind, at: usize) -> u32
+    requires tables { HasTables kind bytes.now }
+    requires in_range { at < count_in bytes.now }
+    ensures { result ≡ crc_in kind bytes.now at }
+{
+    word_at(bytes, crcs_at(bytes, kind) + 4 * at)
+}
+
+// What the table of offsets has for the name at a place.
+pub(crate) fn offset_word(bytes: &[u8], kind: Kind, at: usize) -> u32
+    requires tables { HasTables kind bytes.now }
+    requires in_range { at < count_in bytes.now }
+    ensures { result ≡ offset_word kind bytes.now at }
+{
+    word_at(bytes, offsets_at(bytes, kind) + 4 * at)
+}
+
+// Where the object of the name at a place stands in the pack.
+pub(crate) fn offset_in(bytes: &[u8], kind: Kind, at: usize) -> u64
+    requires tables { HasTables kind bytes.now }
+    requires in_range { at < count_in bytes.now }
+    requires has { HasOffset kind bytes.now at }
+    ensures { result ≡ offset_in kind bytes.now at }
+{
+    let word = offset_word(bytes, kind, at);
+    if word < LONG {
+        return u64::from(word);
+    }
+    let place = long_at(bytes, kind) + 8 * (word - LONG) as usize;
+    0x1_0000_0000 * u64::from(word_at(bytes, place)) + u64::from(word_at(bytes, place + 4))
+}
