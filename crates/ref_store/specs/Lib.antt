@@ -1,0 +1,6 @@
+pub mod Commits
+pub mod Names
+pub mod Packs
+pub mod Paths
+pub mod Printed
+pub mod References

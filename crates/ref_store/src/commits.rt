@@ -1,0 +1,56 @@
+//! The head of a commit: the lines of its tree and its parents.
+
+ghost use Rattle.std.specs.Prelude.{◌≡◌, IfOk, MatchOption};
+ghost use Rattle.gix_hash.specs.ObjectId.{id_digits, id_kind};
+ghost use Rattle.ref_store.specs.Commits.{keyed_then, HasNoKeyed, IsHead};
+
+use crate::printed::{behind, read_line};
+use gix_hash::{Kind, ObjectId};
+use std::alloc::{AllocError, Global};
+
+const TREE: &[u8] = b"tree ";
+
+const PARENT: &[u8] = b"parent ";
+
+/// The tree and the parents of a commit, and what is behind them.
+#[derive(Drop)]
+pub struct Head<'a> {
+    /// The tree.
+    pub tree: ObjectId,
+    /// The parents, in order.
+    pub parents: Vec<ObjectId>,
+    /// The bytes behind the parents, from the author on.
+    pub rest: &'a [u8],
+}
+
+/// Reads the head of a commit's content, or `None` where it begins with no tree of the kind.
+///
+/// The lines of parents are all that stand behind the tree's.
+pub fn read_head(alloc: Global, kind: Kind, text: &[u8]) -> Result<Option<Head<'_>>, AllocError>
+    ensures { IfOk result (λ found. MatchOption found (HasNoKeyed kind TREE.now text.now)
+        (λ head. IsHead kind text.now head.tree head.parents.items head.rest.now)) }
+{
+    let Some((tree, mut rest)) = read_keyed(kind, TREE, text) else {
+        return Ok(None);
+    };
+    let mut parents = Vec::new(alloc);
+    while let Some((parent, behind_it)) = read_keyed(kind, PARENT, rest) {
+        parents.push(parent)?;
+        rest = behind_it;
+    }
+    Ok(Some(Head {
+        tree,
+        parents,
+        rest,
+    }))
+}
+
+// Reads a line of a key and an id, and tells what is behind it.
+#[tactic(auto, using(std::proofs::lemmas::List::append_cancel_left))]
+fn read_keyed<'a>(kind: Kind, key: &[u8], text: &'a [u8]) -> Option<(ObjectId, &'a [u8])>
+    ensures { MatchOption result (HasNoKeyed kind key.now text.now)
+        (λ line. (id_kind line.0 ≡ kind) × (text.now ≡ keyed_then key.now (id_digits line.0) line.1.now)) }
+{
+    let line = read_line(kind, behind(key, text)?)?;
+    Some((line.id, line.rest))
+}

@@ -1,0 +1,28 @@
+//! What a tool over Git's object store reads, writes and keeps of ids: paths of loose objects, files
+//! of references, heads of commits, checksums of packs, names that a user types, sets and maps.
+//!
+//! The pages CALLING.md of `gix_hash` and `id_lookup` quote it.
+#![tactic(auto)]
+
+/// Ids that are compared, verified and printed, and kinds by their names.
+pub mod checking;
+/// The head of a commit.
+pub mod commits;
+/// Names that a user types and is shown.
+pub mod names;
+/// Checksums of packs.
+pub mod packs;
+/// Paths of loose objects.
+pub mod paths;
+/// Ids in texts.
+pub mod printed;
+/// Ids and prefixes of texts and of digests.
+pub mod reading;
+/// Files of references.
+pub mod references;
+/// Runs of a prefix in sorted lists.
+pub mod runs;
+/// Sets and maps of ids.
+pub mod sets;
+#[cfg(test)]
+mod tests;
