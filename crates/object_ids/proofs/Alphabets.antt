@@ -1,5 +1,5 @@
 -- Letters of either alphabet.
-use Rattle.std.proofs.Common.{◌≡◌, ℕ, ◌<◌, arith}
+use Rattle.std.proofs.Common.{ℕ, ◌<◌, arith}
 use Rattle.std.proofs.lemmas.Bool.Decides.{nat_tests}
 use Rattle.object_ids.specs.declared.alphabet.Alphabet.{Alphabet}
 use Rattle.object_ids.specs.declared.alphabet.Alphabet.TheVariants.{Hex, Reverse}
