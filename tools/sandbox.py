@@ -96,7 +96,7 @@ class Sandbox:
         folder = self.root.parent / "bin"
         if not folder.exists():
             folder.mkdir()
-            for name in "bash cat find flock head mkdir readlink sed setsid sha256sum sort xargs".split():
+            for name in "bash cat flock head mkdir readlink setsid sha256sum".split():
                 (folder / name).symlink_to(shutil.which(name))
         return str(folder)
 
@@ -108,7 +108,7 @@ class Sandbox:
 
     def leftover(self):
         """What is left of a build, if anything."""
-        if any(self.temporary.iterdir()):
+        if not until(lambda: not any(self.temporary.iterdir())):
             return "files"
         if self.hanging.exists() and not until(lambda: not is_running(int(self.hanging.read_text()))):
             return "a process"
