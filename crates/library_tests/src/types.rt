@@ -14,6 +14,7 @@ mod ids;
 mod kinds;
 mod laws;
 mod listeners;
+mod opening;
 mod prefixes;
 mod streams;
 
@@ -22,6 +23,7 @@ use std::cmp::Ordering;
 use std::error::Error;
 use std::fmt::{Debug, Display};
 use std::hash::Hash;
+use std::io;
 use std::process::Abort;
 use std::str::FromStr;
 
@@ -80,6 +82,14 @@ fn expect_error<E: Error + Drop>(rt: &(impl Abort + AllocGlobal), error: E, want
     let shown = format!(in rt.alloc(); "{error:?}").expect(rt, "no memory for a text");
     expect!(rt; !shown.is_empty());
     expect_text(rt, error, want);
+}
+
+// The device's error is one of that kind.
+fn expect_kind<T: Drop>(rt: &impl Abort, answer: io::Result<T>, kind: io::ErrorKind) {
+    match answer {
+        Ok(_) => panic!(rt; "no error where one of {kind} is wanted"),
+        Err(error) => expect!(rt; error.kind() == kind, &kind),
+    }
 }
 
 // The value or the error prints so; no error's text is a value's.

@@ -5,9 +5,51 @@ use std::io;
 /// The text of a device's error.
 pub const FAILED: &str = "the device failed";
 
-fn failure() -> io::Error {
-    io::Error::new(io::ErrorKind::Other, FAILED)
-}
+/// Every kind of error that a device may answer.
+pub const KINDS: [io::ErrorKind; 42] = [
+    io::ErrorKind::NotFound,
+    io::ErrorKind::PermissionDenied,
+    io::ErrorKind::ConnectionRefused,
+    io::ErrorKind::ConnectionReset,
+    io::ErrorKind::HostUnreachable,
+    io::ErrorKind::NetworkUnreachable,
+    io::ErrorKind::ConnectionAborted,
+    io::ErrorKind::NotConnected,
+    io::ErrorKind::AddrInUse,
+    io::ErrorKind::AddrNotAvailable,
+    io::ErrorKind::NetworkDown,
+    io::ErrorKind::BrokenPipe,
+    io::ErrorKind::AlreadyExists,
+    io::ErrorKind::WouldBlock,
+    io::ErrorKind::NotADirectory,
+    io::ErrorKind::IsADirectory,
+    io::ErrorKind::DirectoryNotEmpty,
+    io::ErrorKind::ReadOnlyFilesystem,
+    io::ErrorKind::FilesystemLoop,
+    io::ErrorKind::StaleNetworkFileHandle,
+    io::ErrorKind::InvalidInput,
+    io::ErrorKind::InvalidData,
+    io::ErrorKind::TimedOut,
+    io::ErrorKind::WriteZero,
+    io::ErrorKind::StorageFull,
+    io::ErrorKind::NotSeekable,
+    io::ErrorKind::QuotaExceeded,
+    io::ErrorKind::FileTooLarge,
+    io::ErrorKind::ResourceBusy,
+    io::ErrorKind::ExecutableFileBusy,
+    io::ErrorKind::Deadlock,
+    io::ErrorKind::CrossesDevices,
+    io::ErrorKind::TooManyLinks,
+    io::ErrorKind::InvalidFilename,
+    io::ErrorKind::ArgumentListTooLong,
+    io::ErrorKind::Interrupted,
+    io::ErrorKind::Unsupported,
+    io::ErrorKind::UnexpectedEof,
+    io::ErrorKind::OutOfMemory,
+    io::ErrorKind::InProgress,
+    io::ErrorKind::Other,
+    io::ErrorKind::Uncategorized,
+];
 
 /// When a device answers an error.
 #[derive(Clone, Copy)]
@@ -16,8 +58,12 @@ pub enum Fault {
     Never,
     /// At the call with this number, counted from 1. A writer takes all from then on.
     AtCall(usize),
+    /// As `AtCall`, with the error that the library's own loops try again after.
+    InterruptedAt(usize),
     /// At each call once so many bytes have passed.
     AfterBytes(usize),
+    /// At each call, and at each flush of a writer, with an error of that kind.
+    Always(io::ErrorKind),
 }
 
 impl Fault {
@@ -25,8 +71,18 @@ impl Fault {
     fn strikes(self, calls: usize, len: usize) -> bool {
         match self {
             Fault::Never => false,
-            Fault::AtCall(at) => calls == at,
+            Fault::AtCall(at) | Fault::InterruptedAt(at) => calls == at,
             Fault::AfterBytes(most) => len >= most,
+            Fault::Always(_) => true,
+        }
+    }
+
+    /// The error that it answers.
+    fn error(self) -> io::Error {
+        match self {
+            Fault::InterruptedAt(_) => io::Error::from(io::ErrorKind::Interrupted),
+            Fault::Always(kind) => io::Error::from(kind),
+            _ => io::Error::new(io::ErrorKind::Other, FAILED),
         }
     }
 
@@ -70,7 +126,7 @@ impl io::Read for Reader<'_> {
     fn read(&mut self, buf: &mut [u8]) -> io::Result<usize> {
         self.calls = self.calls.saturating_add(1);
         if self.fault.strikes(self.calls, self.given) {
-            return Err(failure());
+            return Err(self.fault.error());
         }
         let room = self.piece.min(self.fault.room(self.given));
         let count = buf.len().min(self.rest.len()).min(room);
@@ -110,7 +166,7 @@ impl io::Write for Writer {
         self.calls = self.calls.saturating_add(1);
         let len = self.bytes.len();
         if self.fault.strikes(self.calls, len) {
-            return Err(failure());
+            return Err(self.fault.error());
         }
         let mut count = buf.len();
         if !self.fault.is_over(self.calls) {
@@ -122,8 +178,8 @@ impl io::Write for Writer {
 
     fn flush(&mut self) -> io::Result<()> {
         self.flushes = self.flushes.saturating_add(1);
-        if self.flush_fails {
-            return Err(failure());
+        if self.flush_fails || matches!(self.fault, Fault::Always(_)) {
+            return Err(self.fault.error());
         }
         Ok(())
     }

@@ -1,11 +1,16 @@
 //! Digests of files.
 
-use super::expect_answer;
+use super::devices::KINDS;
 use super::listeners::{Asked, Call, Heard};
+use super::opening::Opening;
 use super::streams::{ABC, ABC_256, EMPTY};
+use super::{expect_answer, expect_kind};
 use gix_hash::{Kind, bytes_of_file, io};
 use std::fs;
+use std::io::ErrorKind;
 use std::path::Path;
+use std::process::Abort;
+use std::rt::Files;
 use std::test::Fail;
 
 const FILE: &str = "six_bytes_to_be_hashed";
@@ -22,8 +27,10 @@ fn first_bytes_of_a_file(rt: HostRuntime) -> Result<(), Fail> {
         (6, Kind::Sha1, "1f8ac10f23c5b5bc1167bda84b833e5c057a77d2"),
     ] {
         let (mut heard, mut asked) = (Heard::new(), Asked::stopping_at(0));
-        let id = bytes_of_file(&rt, path, num_bytes, kind, &mut heard, &mut asked);
+        let files = Opening::new(&rt);
+        let id = bytes_of_file(&files, path, num_bytes, kind, &mut heard, &mut asked);
         expect_answer(&rt, id, want);
+        expect!(&rt; files.times() == 1);
         let chunk = [
             Call::Init(Some(num_bytes)),
             Call::IncBy(num_bytes),
@@ -37,21 +44,61 @@ fn first_bytes_of_a_file(rt: HostRuntime) -> Result<(), Fail> {
     Ok(())
 }
 
+// The file gives no digest because a call on it fails. It was opened once.
+fn expect_failure<F: Files>(
+    rt: &(impl Abort + AllocGlobal),
+    files: &Opening<'_, F>,
+    name: &str,
+    num_bytes: u64,
+    kind: ErrorKind,
+    calls: &[Call],
+) {
+    let (mut heard, mut asked) = (Heard::new(), Asked::stopping_at(1));
+    let path = Path::new(name);
+    match bytes_of_file(files, path, num_bytes, Kind::Sha1, &mut heard, &mut asked) {
+        Err(io::Error::Io(error)) => expect_kind::<()>(rt, Err(error), kind),
+        _ => panic!(rt; "no error of {name}"),
+    }
+    heard.expect(rt, calls);
+    expect!(rt; asked.times == 0, &name);
+    expect!(rt; files.times() == 1, &name);
+}
+
+// Where opening fails, the answer is its error, of whatever kind and however few bytes are asked for.
+#[test]
+fn files_that_cannot_be_opened(rt: HostRuntime) -> Result<(), Fail> {
+    let name = "not_a_folder";
+    fs::write(&rt, name, b"abc")?;
+    for num_bytes in [0, 3] {
+        for kind in KINDS {
+            let refusing = Opening::refused(&rt, kind);
+            expect_failure(&rt, &refusing, name, num_bytes, kind, &[]);
+        }
+        for (name, kind) in [
+            ("no_file_of_that_name", ErrorKind::NotFound),
+            ("", ErrorKind::NotFound),
+            ("not_a_folder/file", ErrorKind::NotADirectory),
+            ("a\0b", ErrorKind::InvalidInput),
+        ] {
+            expect_failure(&rt, &Opening::new(&rt), name, num_bytes, kind, &[]);
+        }
+    }
+    fs::remove_file(&rt, name)?;
+    Ok(())
+}
+
+// A folder opens, and can't be read.
 #[test]
 fn files_that_give_no_digest(rt: HostRuntime) -> Result<(), Fail> {
     let name = "three_bytes_to_be_hashed";
     fs::write(&rt, name, b"abc")?;
-    let rows = [
-        (name, 5, [Call::Init(Some(5))].as_slice()),
-        ("no_file_of_that_name", 5, &[]),
-    ];
-    for (name, num_bytes, calls) in rows {
-        let (mut heard, mut asked) = (Heard::new(), Asked::stopping_at(1));
-        let path = Path::new(name);
-        let answer = bytes_of_file(&rt, path, num_bytes, Kind::Sha1, &mut heard, &mut asked);
-        expect!(&rt; matches!(answer, Err(io::Error::Io(_))));
-        heard.expect(&rt, calls);
-        expect!(&rt; asked.times == 0);
+    for (name, num_bytes, kind) in [
+        (name, 4, ErrorKind::UnexpectedEof),
+        (name, 70_000, ErrorKind::UnexpectedEof),
+        (".", 1, ErrorKind::IsADirectory),
+    ] {
+        let calls = [Call::Init(Some(num_bytes))];
+        expect_failure(&rt, &Opening::new(&rt), name, num_bytes, kind, &calls);
     }
     let (mut heard, mut asked) = (Heard::new(), Asked::stopping_at(1));
     let path = Path::new(name);

@@ -1,31 +1,11 @@
 //! What printing and writing do with the options of a format and with a writer that fails.
 
-use super::{BLOB, BLOB_256, BLOB_LETTERS, expect_whole, id};
-use gix_hash::{ChangeId, Kind, Prefix};
+use super::devices::{FAILED, Fault, KINDS, Writer};
+use super::{BLOB, BLOB_256, BLOB_LETTERS, expect_kind, expect_text, expect_whole, id};
+use gix_hash::{ChangeId, Kind, ObjectId, Prefix, oid};
 use std::io::{self, Write};
 use std::process::Abort;
 use std::test::Fail;
-
-// A writer that refuses each write.
-#[derive(Drop)]
-struct Refusing;
-
-impl Write for Refusing {
-    fn write(&mut self, _bytes: &[u8]) -> io::Result<usize> {
-        Err(io::Error::from(io::ErrorKind::PermissionDenied))
-    }
-
-    fn flush(&mut self) -> io::Result<()> {
-        Ok(())
-    }
-}
-
-fn expect_refused(rt: &impl Abort, answer: io::Result<()>) {
-    match answer {
-        Ok(()) => panic!(rt; "a refused write succeeds"),
-        Err(error) => expect!(rt; error.kind() == io::ErrorKind::PermissionDenied),
-    }
-}
 
 #[test]
 fn options_have_no_effect(rt: HostRuntime) -> Result<(), Fail> {
@@ -41,10 +21,94 @@ fn options_have_no_effect(rt: HostRuntime) -> Result<(), Fail> {
     Ok(())
 }
 
+// What writes its lowercase hex digits.
+#[derive(Clone, Copy)]
+enum Named<'a> {
+    View(oid<'a>),
+    Id(ObjectId),
+    Prefix(Prefix),
+}
+
+impl Named<'_> {
+    fn write_hex_to<W: Write>(&self, out: &mut W) -> io::Result<()> {
+        match self {
+            Named::View(view) => view.write_hex_to(out),
+            Named::Id(id) => id.write_hex_to(out),
+            Named::Prefix(prefix) => prefix.write_hex_to(out),
+        }
+    }
+}
+
+// Writes to a writer that takes at most `piece` bytes a call, and compares the answer, what was
+// written, and how often was asked.
+fn expect_written(
+    rt: &(impl Abort + AllocGlobal),
+    named: &Named<'_>,
+    writer: (usize, Fault),
+    answer: Result<(), &str>,
+    written: &[u8],
+    calls: usize,
+) {
+    let (piece, fault) = writer;
+    let mut out = Writer::new(Vec::new(rt.alloc()), piece, fault);
+    match (named.write_hex_to(&mut out), answer) {
+        (Ok(()), Ok(())) => {}
+        (Err(error), Err(text)) => expect_text(rt, error, text),
+        _ => panic!(rt; "another answer, behind {calls} calls"),
+    }
+    expect!(rt; out.bytes.as_slice() == written, &calls);
+    expect!(rt; (out.calls, out.flushes) == (calls, 0), &calls);
+}
+
+// The digits are written by `write_all`: in one write where there is room, else in several, with
+// another try after an interruption, and until the writer fails.
+fn expect_all_written(rt: &(impl Abort + AllocGlobal), named: &Named<'_>, text: &str) {
+    let bytes = text.as_bytes();
+    let (len, whole) = (bytes.len(), usize::MAX);
+    let (never, interrupted) = (Fault::Never, Fault::InterruptedAt(1));
+    let full = "failed to write whole buffer";
+    assert!(rt; len >= 5);
+    expect_written(rt, named, (whole, never), Ok(()), bytes, 1);
+    expect_written(rt, named, (1, never), Ok(()), bytes, len);
+    expect_written(rt, named, (whole, interrupted), Ok(()), bytes, 2);
+    expect_written(
+        rt,
+        named,
+        (2, Fault::AtCall(3)),
+        Err(FAILED),
+        &bytes[..4],
+        3,
+    );
+    expect_written(rt, named, (0, never), Err(full), b"", 1);
+    expect_written(
+        rt,
+        named,
+        (whole, Fault::AfterBytes(3)),
+        Err(FAILED),
+        &bytes[..3],
+        2,
+    );
+    for kind in KINDS {
+        if kind != io::ErrorKind::Interrupted {
+            let mut out = Writer::new(Vec::new(rt.alloc()), 9, Fault::Always(kind));
+            expect_kind(rt, named.write_hex_to(&mut out), kind);
+            expect!(rt; (out.calls, out.flushes) == (1, 0), &kind);
+        }
+    }
+}
+
 #[test]
-fn errors_are_the_writers(rt: HostRuntime) {
-    let blob = id(&rt, BLOB);
-    expect_refused(&rt, blob.write_hex_to(&mut Refusing));
-    expect_refused(&rt, blob.as_oid().write_hex_to(&mut Refusing));
-    expect_refused(&rt, Prefix::from(blob).write_hex_to(&mut Refusing));
+fn digits_are_written(rt: HostRuntime) -> Result<(), Fail> {
+    let (blob, wide) = (id(&rt, BLOB), id(&rt, BLOB_256));
+    expect_all_written(&rt, &Named::View(blob.as_oid()), BLOB);
+    expect_all_written(&rt, &Named::View(wide.as_oid()), BLOB_256);
+    expect_all_written(&rt, &Named::Id(blob), BLOB);
+    expect_all_written(&rt, &Named::Id(wide), BLOB_256);
+    expect_all_written(&rt, &Named::Prefix(Prefix::from(wide)), BLOB_256);
+    expect_all_written(&rt, &Named::Prefix(Prefix::from_hex("e69d0")?), "e69d0");
+    // No digits make no write.
+    let none = Named::Prefix(blob.to_prefix(0..0));
+    let failing = (0, Fault::Always(io::ErrorKind::Other));
+    expect_written(&rt, &none, failing, Ok(()), b"", 0);
+    Ok(())
 }

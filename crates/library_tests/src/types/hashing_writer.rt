@@ -1,8 +1,8 @@
 //! What is written through a hashing writer.
 
-use super::devices::{FAILED, Fault, Writer};
-use super::streams::{ABC, EMPTY};
-use super::{BLOB, expect_answer, expect_text};
+use super::devices::{FAILED, Fault, KINDS, Writer};
+use super::streams::{ABC, EMPTY, THREE_CHUNKS};
+use super::{BLOB, expect_answer, expect_kind, expect_text};
 use gix_hash::io::{Never, NoProgress};
 use gix_hash::{Kind, bytes, io, oid, verify};
 use std::io::Write;
@@ -49,6 +49,50 @@ fn inner_writer_called_once(rt: HostRuntime) {
             expect_answer(&rt, answer, taken);
             expect!(&rt; out.inner.calls == 1);
             expect!(&rt; out.inner.bytes.as_slice() == &b"abc"[..piece.min(3)]);
+            expect_answer(&rt, out.hash.try_finalize(), digest);
+        }
+    }
+}
+
+// The inner writer answers an error of each kind, which is handed on as it is. It is asked once.
+#[test]
+fn errors_are_the_inner_writers(rt: HostRuntime) {
+    for kind in KINDS {
+        for by_trait in [false, true] {
+            let inner = Writer::new(Vec::new(rt.alloc()), 9, Fault::Always(kind));
+            let mut out = io::Write::new(inner, Kind::Sha1);
+            let (write, flush) = if by_trait {
+                (written(&mut out, b"abc"), flushed(&mut out))
+            } else {
+                (out.write(b"abc"), out.flush())
+            };
+            expect_kind(&rt, write, kind);
+            expect_kind(&rt, flush, kind);
+            expect!(&rt; (out.inner.calls, out.inner.flushes) == (1, 1), &kind);
+            expect_answer(&rt, out.hash.try_finalize(), EMPTY);
+        }
+    }
+}
+
+// What is written is handed on in one piece, however long it is.
+#[test]
+fn pieces_are_handed_on_whole(rt: HostRuntime) {
+    let zeros = [0; 131071];
+    for (piece, taken, digest) in [
+        (b"".as_slice(), "0", EMPTY),
+        (&zeros, "131071", THREE_CHUNKS),
+    ] {
+        for by_trait in [false, true] {
+            let inner = Writer::new(Vec::new(rt.alloc()), usize::MAX, Fault::Never);
+            let mut out = io::Write::new(inner, Kind::Sha1);
+            let answer = if by_trait {
+                written(&mut out, piece)
+            } else {
+                out.write(piece)
+            };
+            expect_answer(&rt, answer, taken);
+            expect!(&rt; out.inner.calls == 1, &taken);
+            expect!(&rt; out.inner.bytes.as_slice() == piece, &taken);
             expect_answer(&rt, out.hash.try_finalize(), digest);
         }
     }

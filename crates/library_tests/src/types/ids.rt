@@ -245,21 +245,6 @@ fn written_into_buffers(rt: HostRuntime) {
 }
 
 #[test]
-fn hex_is_written(rt: HostRuntime) -> Result<(), Fail> {
-    let mut out = Vec::with_capacity(rt.alloc(), 104)?;
-    id(&rt, BLOB).write_hex_to(&mut out)?;
-    expect!(&rt; out.as_slice() == BLOB.as_bytes());
-    out.clear();
-    id(&rt, BLOB_256).as_oid().write_hex_to(&mut out)?;
-    expect!(&rt; out.as_slice() == BLOB_256.as_bytes());
-    // The error of a writer without room for all.
-    let mut short = [0; 39];
-    let mut room = short.as_mut_slice();
-    expect!(&rt; id(&rt, BLOB).write_hex_to(&mut room).is_err());
-    Ok(())
-}
-
-#[test]
 fn verified(rt: HostRuntime) -> Result<(), Fail> {
     let (blob, tree) = (id(&rt, BLOB), id(&rt, TREE));
     blob.verify(blob.as_oid())?;

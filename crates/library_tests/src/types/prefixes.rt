@@ -256,14 +256,6 @@ fn fed_to_a_hash(rt: HostRuntime) -> Result<(), Fail> {
 }
 
 #[test]
-fn hex_is_written(rt: HostRuntime) -> Result<(), Fail> {
-    let mut out = Vec::with_capacity(rt.alloc(), 64)?;
-    Prefix::from_hex("e69de29")?.write_hex_to(&mut out)?;
-    expect!(&rt; out.as_slice() == b"e69de29".as_slice());
-    Ok(())
-}
-
-#[test]
 fn written_into_buffers(rt: HostRuntime) -> Result<(), Fail> {
     let prefix = Prefix::from_hex("e69de29")?;
     expect!(&rt; prefix.eq_str("e69de29"));
