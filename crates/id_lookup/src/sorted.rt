@@ -128,7 +128,7 @@ fn falls_at<I: Id>(ids: &[I], at: usize) -> bool
     ensures { let digits = map I.digits ids.now in
         IsTrue result ↔ ((0 < at) × (slice_cmp nat_cmp (slice_index_or digits at []) (slice_index_or digits (at - 1) []) ≡ Ordering.Less)) }
 {
-    at > 0 && id_at(ids, at) < id_at(ids, at - 1)
+    at > 0 && id_at(ids, at).cmp(&id_at(ids, at - 1)).is_lt()
 }
 
 /// A list that is not sorted.
