@@ -7,7 +7,6 @@ use Rattle.list_search.specs.FindingFrom.{GivesTooMuch, IsSettled, SearchStops}
 use Rattle.list_search.specs.Lines.{lines_of, lines_of-nil}
 use Rattle.list_search.specs.ListText.{IsFirstRead}
 use Rattle.commands.specs.Running.{Refuses, refusal_from_source}
-use Rattle.devices.specs.Source.{GivesAll}
 use Rattle.commands.specs.declared.command.Command.{Command}
 use Rattle.commands.specs.declared.command.Command.TheVariants.{Find}
 use Rattle.list_search.specs.declared.finding_from.FindFromError.{FindFromError}
@@ -54,13 +53,6 @@ source_some letter prefix error (Err e) a b c d is stops ran_out = by_error erro
     by_error from.Input is stops = cc is
     by_error from.TooMuch is stops = cc is
 
--- what holds of all that was given holds of all that there was
-given_whole : (P : List ℕ → Type 0) (a b : Option (List ℕ)) (text : List ℕ) → GivesAll a b text → P text → IfSome a P
-given_whole P None b text given h = tt
-given_whole P (Some xs) None text given h = absurd given.gives
-given_whole P (Some xs) (Some ys) text given h =
-    let alone : xs ≡ text = given.gives ∙ ap (λ l. text ++ l) given.at_end ∙ append-nil text in subst P (sym alone) h
-
 -- a source that gave too much has it
 too_much : (a b : Option (List ℕ)) → GivesTooMuch a b → IfSome a (λ bytes. 2 ^ 61 ≤ length bytes)
 too_much None b given = tt
@@ -75,6 +67,14 @@ too_much (Some xs) (Some ys) given =
     some_length [] some = absurd (some refl)
     some_length (x ∷ bytes) some = omega arith
 
+-- a source that gave some of what was settled, or too much, was not empty
+pub settled_some : (a b : Option (List ℕ)) → IsSettled (λ text. IsFirstRead (lines_of text)) a b → IfSome a (λ bytes. bytes ≢ [])
+settled_some a b settled = first_line a (settled_whole (λ text. IsFirstRead (lines_of text)) a b settled)
+
+pub much_some : (a b : Option (List ℕ)) → GivesTooMuch a b → IfSome a (λ bytes. bytes ≢ [])
+much_some None b given = tt
+much_some (Some xs) b given = λ none. let much : 2 ^ 61 ≤ length xs = too_much (Some xs) b given in absurd (omega (arith, much, ap length none))
+
 -- where a search in what a source gives stops, the command refuses its input
 source_refused : (prefix : Bor (List ℕ)) (error : FindFromError) (a b c d : Option (List ℕ)) → SearchStops hex_letter prefix.now error a b c d
     → Refuses (Find prefix) a (refusal_from_source error)
@@ -84,8 +84,8 @@ source_refused prefix (from.Prefix error) a b c d stops = whatever a (λ text. r
     whatever None all = tt
     whatever (Some text) all = all text
 source_refused prefix (from.BadLine n error) a b c d stops = settled_whole _ a b stops
-source_refused prefix (from.Unsorted n) a b c d stops = given_whole _ a b stops.0 stops.1 stops.2
-source_refused prefix (from.PrefixTooLong hex_len least) a b c d stops = given_whole _ a b stops.0 stops.1 stops.2
+source_refused prefix (from.Unsorted n) a b c d stops = settled_whole _ a b stops
+source_refused prefix (from.PrefixTooLong hex_len least) a b c d stops = settled_whole _ a b stops
 source_refused prefix from.Memory a b c d stops = tt
 source_refused prefix from.Output a b c d stops = tt
 source_refused prefix from.Input a b c d stops = tt

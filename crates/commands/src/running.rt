@@ -1,7 +1,8 @@
 //! Running a command over a reader and a writer.
 
 ghost use Rattle.std.specs.Prelude.{◌≡◌, ◌≢◌, ◌↔◌, ◌⊎◌, ℕ, List, [], length, true, false, IfOk, IfErr, IfSome, OnOk, IsErrOf};
-ghost use Rattle.std.specs.Io.KnownBytes.{Appends, Consumes, IsAtEnd};
+ghost use Rattle.std.specs.Io.KnownBytes.{Appends};
+ghost use Rattle.commands.specs.declared.command.Command.TheVariants.{FindChange, FindIn};
 ghost use Rattle.commands.specs.declared.running.CommandError.{CommandError};
 ghost use Rattle.commands.specs.Running.{Does, DoesAtMost, HasCopied, Refuses, copies, reads_source};
 ghost use Rattle.devices.specs.Writing.{AppendsPart};
@@ -13,11 +14,12 @@ use devices::sink::{BufferedSink, Sink, WriteFailed};
 use devices::source::{PIECE_LEN, Source};
 use gix_hash::io::{Never, NoProgress};
 use gix_hash::{Alphabet, Kind, bytes_of_file};
-use list_search::finding::{FindError, find_change};
-use list_search::finding_from::{FindFromError, find_from};
-use list_search::finding_in::{FindInError, find_in};
+use list_search::finding::FindError;
+use list_search::finding_from::{FindFromError, find_change_from, find_from};
+use list_search::finding_in::FindInError;
+use list_search::finding_in_from::{FindInFromError, find_in_from};
 use pipes::{PipeError, hash_all, seal};
-use std::alloc::{AllocError, Allocator};
+use std::alloc::Allocator;
 use std::path::Path;
 use std::rt::Files;
 use thiserror::Error as ThisError;
@@ -44,34 +46,6 @@ pub enum CommandError {
     /// The input has more than 2^61 - 1 bytes.
     #[error("too much input")]
     TooMuch,
-}
-
-impl From<FindError> for CommandError {
-    ghost use Rattle.commands.specs.Running.{refusal_of_search};
-
-    ghost from_gives = { λ error e. e ≡ refusal_of_search error };
-
-    fn from(error: FindError) -> Self {
-        match error {
-            FindError::Memory => CommandError::Memory,
-            FindError::Output => CommandError::Output,
-            error => CommandError::Find(error),
-        }
-    }
-}
-
-impl From<FindInError> for CommandError {
-    ghost use Rattle.commands.specs.Running.{refusal_of_search_in};
-
-    ghost from_gives = { λ error e. e ≡ refusal_of_search_in error };
-
-    fn from(error: FindInError) -> Self {
-        match error {
-            FindInError::Memory => CommandError::Memory,
-            FindInError::Output => CommandError::Output,
-            error => CommandError::FindIn(error),
-        }
-    }
 }
 
 impl From<PipeError> for CommandError {
@@ -121,22 +95,12 @@ impl From<WriteFailed> for CommandError {
     }
 }
 
-impl From<AllocError> for CommandError {
-    ghost use Rattle.commands.specs.declared.running.CommandError.TheVariants.{Memory};
-
-    ghost from_gives = { λ _ e. e ≡ Memory };
-
-    fn from(_failed: AllocError) -> Self {
-        CommandError::Memory
-    }
-}
-
 /// Runs a command over the input, writes what it gives, and flushes the writer. Answers how many ids
 /// it wrote: the matches of the commands that find, and the one digest of another command.
 ///
-/// `find` reads the input in pieces, as a list text, and none behind the piece in which its first
-/// bad line ends; `find-change` and `find-in` read it to its end, and whole; `hash` and `seal` read
-/// it to its end in pieces; `hash-file` reads the file, and leaves the input as it is.
+/// All but `hash-file` read the input in pieces. `find` reads none behind the piece in which the
+/// first bad line of its list ends; the others read to the end. `hash-file` reads the file, and
+/// leaves the input as it is.
 ///
 /// `Output` comes exactly where the writer failed, at a write or at the flush. `Input` comes exactly
 /// where the input failed, but for `hash-file`, which answers it where its file gives no digest.
@@ -194,14 +158,8 @@ fn answer<F: Files, A: Allocator + Copy, R: Source, W: Sink>(
 {
     match command {
         Command::Find { prefix } => Ok(find_from(alloc, prefix, input, out)?),
-        Command::FindChange { letters } => {
-            let list = read_all(alloc, input)?;
-            Ok(find_change(alloc, letters, &list, out)?)
-        }
-        Command::FindIn { kind, prefix } => {
-            let list = read_all(alloc, input)?;
-            Ok(find_in(alloc, kind, prefix, &list, out)?)
-        }
+        Command::FindChange { letters } => find_change_to_end(alloc, letters, input, out),
+        Command::FindIn { kind, prefix } => find_in_to_end(alloc, kind, prefix, input, out),
         Command::Hash { kind } => {
             hash_all(input, out, kind)?;
             Ok(1)
@@ -214,6 +172,92 @@ fn answer<F: Files, A: Allocator + Copy, R: Source, W: Sink>(
             seal(input, out, kind)?;
             Ok(1)
         }
+    }
+}
+
+// As `answer`, of `Command::FindChange`. A refusal that was settled before the input's end is told
+// behind that.
+fn find_change_to_end<A: Allocator, R: Source, W: Sink>(
+    alloc: A,
+    letters: &str,
+    input: &mut R,
+    out: &mut W,
+) -> Result<usize, CommandError>
+    requires input { R.has_failed input.old ≡ false }
+    requires output { W.has_failed out.old ≡ false }
+    ensures done { IfOk result (Does (FindChange letters.entry) (R.remaining input.old) (W.taken out.old) (W.taken out.new)) }
+    ensures refused { IfErr result (Refuses (FindChange letters.entry) (R.remaining input.old)) }
+    ensures memory { IsErrOf result CommandError.Memory → IfSome (R.remaining input.old) (λ bytes. bytes ≢ []) }
+    ensures untouched { IfErr result (λ e. e ≢ CommandError.Output → out.new ≡ out.old) }
+    ensures input { IsErrOf result CommandError.Input ↔ (R.has_failed input.new ≡ true) }
+    ensures output { IsErrOf result CommandError.Output ↔ (W.has_failed out.new ≡ true) }
+    ensures part { IsErrOf result CommandError.Output → DoesAtMost (FindChange letters.entry) (R.remaining input.old) (W.taken out.old) (W.taken out.new) }
+{
+    match find_change_from(alloc, letters, input, out) {
+        Ok(count) => Ok(count),
+        Err(FindFromError::Prefix(error)) => {
+            read_on(input)?;
+            Err(CommandError::Find(FindError::Prefix(error)))
+        }
+        Err(FindFromError::BadLine { line, error }) => {
+            read_on(input)?;
+            Err(CommandError::Find(FindError::BadLine { line, error }))
+        }
+        Err(FindFromError::Unsorted { line }) => {
+            Err(CommandError::Find(FindError::Unsorted { line }))
+        }
+        Err(FindFromError::PrefixTooLong { hex_len, min }) => {
+            Err(CommandError::Find(FindError::PrefixTooLong { hex_len, min }))
+        }
+        Err(FindFromError::Memory) => Err(CommandError::Memory),
+        // No memory holds as much.
+        Err(FindFromError::TooMuch) => Err(CommandError::Memory),
+        Err(FindFromError::Output) => Err(CommandError::Output),
+        Err(FindFromError::Input) => Err(CommandError::Input),
+    }
+}
+
+// As `find_change_to_end`, of `Command::FindIn`.
+fn find_in_to_end<A: Allocator, R: Source, W: Sink>(
+    alloc: A,
+    kind: Kind,
+    prefix: &str,
+    input: &mut R,
+    out: &mut W,
+) -> Result<usize, CommandError>
+    requires input { R.has_failed input.old ≡ false }
+    requires output { W.has_failed out.old ≡ false }
+    ensures done { IfOk result (Does (FindIn kind prefix.entry) (R.remaining input.old) (W.taken out.old) (W.taken out.new)) }
+    ensures refused { IfErr result (Refuses (FindIn kind prefix.entry) (R.remaining input.old)) }
+    ensures memory { IsErrOf result CommandError.Memory → IfSome (R.remaining input.old) (λ bytes. bytes ≢ []) }
+    ensures untouched { IfErr result (λ e. e ≢ CommandError.Output → out.new ≡ out.old) }
+    ensures input { IsErrOf result CommandError.Input ↔ (R.has_failed input.new ≡ true) }
+    ensures output { IsErrOf result CommandError.Output ↔ (W.has_failed out.new ≡ true) }
+    ensures part { IsErrOf result CommandError.Output → DoesAtMost (FindIn kind prefix.entry) (R.remaining input.old) (W.taken out.old) (W.taken out.new) }
+{
+    match find_in_from(alloc, kind, prefix, input, out) {
+        Ok(count) => Ok(count),
+        Err(FindInFromError::Search(FindInError::Prefix(error))) => {
+            read_on(input)?;
+            Err(CommandError::FindIn(FindInError::Prefix(error)))
+        }
+        Err(FindInFromError::Search(FindInError::BadLine { line, error })) => {
+            read_on(input)?;
+            Err(CommandError::FindIn(FindInError::BadLine { line, error }))
+        }
+        Err(FindInFromError::Search(FindInError::OtherKind { kind })) => {
+            Err(CommandError::FindIn(FindInError::OtherKind { kind }))
+        }
+        Err(FindInFromError::Search(FindInError::WrongKind { line })) => {
+            Err(CommandError::FindIn(FindInError::WrongKind { line }))
+        }
+        Err(FindInFromError::Search(FindInError::NotRising { line })) => {
+            Err(CommandError::FindIn(FindInError::NotRising { line }))
+        }
+        Err(FindInFromError::Search(FindInError::Memory)) => Err(CommandError::Memory),
+        Err(FindInFromError::Search(FindInError::Output)) => Err(CommandError::Output),
+        Err(FindInFromError::Input) => Err(CommandError::Input),
+        Err(FindInFromError::TooMuch) => Err(CommandError::Memory),
     }
 }
 
@@ -238,24 +282,20 @@ fn hash_file<F: Files, W: Sink>(
     Ok(write_id(Alphabet::Hex, &id, out)?)
 }
 
-// All that the source gives until its end.
-fn read_all<A: Allocator, R: Source>(alloc: A, input: &mut R) -> Result<Vec<u8, A>, CommandError>
+// Reads the source to its end, and keeps nothing.
+fn read_on<R: Source>(input: &mut R) -> Result<(), CommandError>
     requires { R.has_failed input.old ≡ false }
-    ensures all { IfOk result (λ text. Consumes (R.remaining input.old) (R.remaining input.new) text.items) }
-    ensures end { OnOk result (IsAtEnd (R.remaining input.new)) }
-    ensures refused { IfErr result (λ e. (e ≡ CommandError.Memory) ⊎ (e ≡ CommandError.Input)) }
-    ensures memory { IsErrOf result CommandError.Memory → IfSome (R.remaining input.old) (λ bytes. bytes ≢ []) }
-    ensures input { IsErrOf result CommandError.Input ↔ (R.has_failed input.new ≡ true) }
+    ensures stands { OnOk result (R.has_failed input.new ≡ false) }
+    ensures refused { IfErr result (λ e. (e ≡ CommandError.Input) × (R.has_failed input.new ≡ true)) }
 {
-    let mut text = Vec::new(alloc);
     let mut piece = [0; PIECE_LEN];
-    'pieces: loop {
+    'pieces: for _ in 0..u64::MAX {
         let Ok(count) = input.read(&mut piece) else {
             return Err(CommandError::Input);
         };
         if count == 0 {
-            return Ok(text);
+            return Ok(());
         }
-        text.extend_from_slice(&piece[..count])?;
     }
+    Ok(())
 }

@@ -4,8 +4,8 @@ mod LineLemmas
 mod Meaning
 mod MeaningIn
 mod Orders
+mod PartLemmas
 mod PieceLemmas
-mod RunLemmas
 mod SourceReads
 mod Steps
 mod StopLemmas

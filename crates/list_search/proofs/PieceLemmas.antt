@@ -1,10 +1,11 @@
 -- What a reader of pieces has taken, line by line.
-use Rattle.std.proofs.Common.{◌≡◌, ◌⊎◌, inl, inr, ℕ, suc, ◌+◌, ◌<◌, ◌≤◌, Bool, true, false, Option, Some, None, eqb-true, List, [], ◌∷◌, ◌++◌, length, take, drop, map, get_or, set, refl, arith, sym, ap, ◌∙◌, subst, append_assoc, append-nil, drop-cons, take-append-drop, length-drop, length-take, get_or-drop, take-add, Result, Ok, Err}
+use Rattle.std.proofs.Common.{◌≡◌, ◌≢◌, ◌⊎◌, inl, inr, ℕ, suc, ◌+◌, ◌<◌, ◌≤◌, Bool, true, false, Option, Some, None, eqb-true, List, [], ◌∷◌, ◌++◌, length, take, drop, map, get_or, set, refl, arith, sym, ap, ◌∙◌, subst, append_assoc, append-nil, drop-cons, take-append-drop, length-drop, length-take, get_or-drop, take-add, Result, Ok, Err}
 use Rattle.std.proofs.lemmas.Bool.Decides.{nat_tests}
 use Rattle.std.proofs.lemmas.List.{map-append, length-append, take_more_set, take_more, take_all, take-append-le}
 use Rattle.std.proofs.lemmas.List.Elements.{All-push, All-head, All-tail, All-nil, All-cons}
 use Rattle.std.proofs.lemmas.Grind.{flat_map-append}
 use Rattle.std.specs.Prelude.{All, IsOk, flat_map}
+use Rattle.std.specs.Result.{result_ok}
 use Rattle.gix_hash.specs.Digits.{hex_letter}
 use Rattle.gix_hash.specs.IdReading.{full_read, whole_of}
 use Rattle.gix_hash.specs.Kind.{kind_of_full_len}
@@ -192,6 +193,39 @@ module _ (ids : List ObjectId) (kept : List ℕ) (len : ℕ) (text : List ℕ) (
       ∙ ap (λ r. h.lines ++ r) (sym (lines_of-last h.last (omega (arith, h.last_len)) h.not_ended))
       ∙ sym (lines_of-lines h.lines h.last h.each_a_line) ∙ ap lines_of (sym h.text_is)
 
+-- the first line of a text reads, where it was taken and is an id
+first_of_lines : (lines : List (List ℕ)) (earlier part : List ObjectId) (rest : List (List ℕ)) → ReadAs lines (earlier ++ part) → part ≢ [] → IsFirstRead (lines ++ rest)
+first_of_lines [] [] [] rest reads some = absurd (some refl)
+first_of_lines [] [] (id ∷ part) rest reads some = cc reads
+first_of_lines [] (id ∷ earlier) part rest reads some = cc reads
+first_of_lines (line ∷ lines) [] [] rest reads some = absurd (some refl)
+first_of_lines (line ∷ lines) [] (id ∷ part) rest reads some = let first : full_read hex_letter line ≡ Ok (whole_of id) = cc reads in rw first refl
+first_of_lines (line ∷ lines) (id ∷ earlier) part rest reads some = let first : full_read hex_letter line ≡ Ok (whole_of id) = cc reads in rw first refl
+
+pub first_of_taken : (earlier part : List ObjectId) (kept : List ℕ) (len : ℕ) (text more : List ℕ) → HasTaken (earlier ++ part) kept len text → part ≢ []
+    → IsFirstRead (lines_of (text ++ more))
+first_of_taken earlier part kept len text more h some =
+    let whole : lines_of (text ++ more) ≡ h.lines ++ lines_of (h.last ++ more) =
+    ap (λ t. lines_of (t ++ more)) h.text_is ∙ ap lines_of (append_assoc (flat_map ended h.lines) h.last more)
+    ∙ lines_of-lines h.lines (h.last ++ more) h.each_a_line in
+    rw whole (first_of_lines h.lines earlier part (lines_of (h.last ++ more)) h.read some)
+
+-- and where it is a list of some ids
+pub first_of_list : (text : List ℕ) (earlier part : List ObjectId) → list_read text ≡ Ok (map id_digits (earlier ++ part)) → part ≢ [] → IsFirstRead (lines_of text)
+unfolding ids_read
+first_of_list text earlier part reads some = by_lines (lines_of text) earlier part reads some
+  where
+    by_answer : (line : List ℕ) (answer : Result Beginning Error) (more : Result (List (List ℕ)) ListError) (ids : List (List ℕ)) → full_read hex_letter line ≡ answer
+        → put_id 1 answer more ≡ Ok ids → IsOk (full_read hex_letter line)
+    by_answer line (Ok id) more ids is h = rw is refl
+    by_answer line (Err error) more ids is h = cc h
+
+    by_lines : (lines : List (List ℕ)) (earlier part : List ObjectId) → ids_read 1 lines ≡ Ok (map id_digits (earlier ++ part)) → part ≢ [] → IsFirstRead lines
+    by_lines [] [] [] h some = absurd (some refl)
+    by_lines [] [] (id ∷ part) h some = cc h
+    by_lines [] (id ∷ earlier) part h some = cc h
+    by_lines (line ∷ lines) earlier part h some = by_answer line (full_read hex_letter line) (ids_read 2 lines) (map id_digits (earlier ++ part)) refl h
+
 -- texts of the same lines are refused alike
 pub refuses_same : (a b : List ℕ) (e : ListError) → lines_of a ≡ lines_of b → RefusesList a e → RefusesList b e
 refuses_same a b (BadLine n error) same h = ap (ids_read 1) (sym same) ∙ h
@@ -269,6 +303,11 @@ IsLine-id line id reads = by_digits (digits_read hex_letter line) refl (kind_of_
     by_digits digits is None h = cc h
     by_digits None is (Some kind) h = cc h
     by_digits (Some ds) is (Some kind) h = IsLine-read line ds is
+
+-- a text of which an id was found reads as that
+pub id_found : (answer : Result Beginning Error) (id : Beginning) → Some id ≡ result_ok answer → Ok id ≡ answer
+id_found (Ok read) id is = cc is
+id_found (Err error) id is = cc is
 
 -- letters of an id, and a line feed
 pub line_taken : (piece line : List ℕ) (at n next : ℕ) (id : ObjectId) → at + (n + 1) ≤ length piece → next ≡ at + (n + 1) → line ≡ take n (drop at piece)

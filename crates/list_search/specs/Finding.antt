@@ -1,17 +1,17 @@
 -- Finding a prefix in a list text.
-use Rattle.std.specs.Prelude.{◌≡◌, ℕ, nat_lt, if◌then◌else◌, Option, Some, None, List, length, Result, Ok, Err}
+use Rattle.std.specs.Prelude.{◌≡◌, ℕ, nat_lt, if◌then◌else◌, Bool, false, Option, Some, None, List, [], ◌∷◌, length, Result, Ok}
 use Rattle.std.specs.Io.KnownBytes.{Appends}
-use Rattle.gix_hash.specs.Prefix.{Beginning}
+use Rattle.std.specs.Ordering.{nat_cmp, is_lt}
+use Rattle.std.specs.Cmp.Lexicographic.{slice_cmp}
 use Rattle.gix_hash.specs.PrefixReading.{prefix_read}
-use Rattle.gix_hash.specs.declared.prefix.from_hex.Error.{Error}
 use Rattle.list_search.specs.declared.finding.FindError.{FindError}
 use Rattle.list_search.specs.declared.finding.FindError.TheVariants.{Prefix, BadLine, Unsorted, PrefixTooLong, Memory}
 use Rattle.list_search.specs.declared.list.ListError.{ListError}
 use Rattle.list_search.specs.declared.list.ListError.TheVariants as list
-use Rattle.list_search.specs.ListText.{list_read, first_unsorted}
+use Rattle.list_search.specs.ListText.{list_read}
+use Rattle.list_search.specs.Searching.{Search, found_from}
 use Rattle.devices.specs.Printing.{printed}
 use Rattle.devices.specs.Writing.{AppendsPart}
-use Rattle.id_lookup.specs.Runs.{matches}
 use Rattle.id_lookup.specs.Sorted.{least_hex_len}
 
 -- a refusal of a list text, as one of a search in it
@@ -19,26 +19,28 @@ abbrev pub refusal_of_list : ListError → FindError
 refusal_of_list (list.BadLine n error) = BadLine n error
 refusal_of_list list.Memory = Memory
 
--- the ids that begin with the digits, given the first id out of order, if any; digits are refused that an id has too few for
-abbrev pub found_in : List ℕ → List (List ℕ) → Option ℕ → Result (List (List ℕ)) FindError
-found_in digits ids (Some n) = Err (Unsorted n)
-found_in digits ids None =
-    if nat_lt (least_hex_len ids) (length digits) then Err (PrefixTooLong (length digits) (least_hex_len ids))
-    else Ok (matches digits ids)
+-- refused behind another: an id that is below it
+abbrev pub falls : Option (List ℕ) → List ℕ → Option (ℕ → FindError)
+falls None id = None
+falls (Some last) id = if is_lt (slice_cmp nat_cmp id last) then Some Unsorted else None
 
--- the ids that begin with the digits, or the first refusal of the order or of the digits
-abbrev pub found_among : List ℕ → List (List ℕ) → Result (List (List ℕ)) FindError
-found_among digits ids = found_in digits ids (first_unsorted ids)
+-- whether the first of some ids is below the one before it, if there is one
+abbrev pub front_falls : Option (List ℕ) → List (List ℕ) → Bool
+front_falls None ids = false
+front_falls (Some last) [] = false
+front_falls (Some last) (id ∷ ids) = is_lt (slice_cmp nat_cmp id last)
 
--- what is found, given what the prefix and the list text read as
-abbrev pub found_from : Result Beginning Error → Result (List (List ℕ)) ListError → Result (List (List ℕ)) FindError
-found_from (Err error) ids = Err (Prefix error)
-found_from (Ok prefix) (Err error) = Err (refusal_of_list error)
-found_from (Ok prefix) (Ok ids) = found_among prefix.digits ids
+-- digits are refused that an id has too few for
+abbrev pub too_long : List ℕ → List (List ℕ) → Option FindError
+too_long digits ids = if nat_lt (least_hex_len ids) (length digits) then Some (PrefixTooLong (length digits) (least_hex_len ids)) else None
+
+-- the search among ids of any kinds, none below the one before it
+abbrev pub in_sorted : List ℕ → Search FindError
+in_sorted digits = record { order = falls; too_long = too_long digits; digits = digits }
 
 -- the ids of a list text that begin with a prefix, or the first refusal
 abbrev pub finding : (ℕ → ℕ) → List ℕ → List ℕ → Result (List (List ℕ)) FindError
-finding letter prefix text = found_from (prefix_read letter 4 prefix) (list_read text)
+finding letter prefix text = found_from Prefix refusal_of_list in_sorted (prefix_read letter 4 prefix) (list_read text)
 
 -- the answer is ids, of which so many are told and the lines were written
 pub record IsFound {E : Type 0} (letter : ℕ → ℕ) (answer : Result (List (List ℕ)) E) (old new : Option (List ℕ)) (count : ℕ) : Type 0 where

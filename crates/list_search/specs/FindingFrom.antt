@@ -1,8 +1,11 @@
 -- Finding a prefix in what a source gives, and where the reading stops.
 use Rattle.std.specs.Prelude.{◌≡◌, ◌≢◌, ◌⊎◌, ℕ, ◌+◌, ◌^◌, ◌<◌, Option, List, [], ◌++◌, length, IsOk, Err}
 use Rattle.std.specs.Io.KnownBytes.{Consumes, IsAtEnd}
-use Rattle.gix_hash.specs.PrefixReading.{prefix_read}
+use Rattle.gix_hash.specs.Digits.{hex_letter}
+use Rattle.gix_hash.specs.PrefixReading.{prefix_read, prefix_read_in}
+use Rattle.gix_hash.specs.declared.Kind.{Kind}
 use Rattle.list_search.specs.Finding.{finding, refusal_of_list, IsFoundInPart}
+use Rattle.list_search.specs.FindingIn.{finding_in, refusal_of_list_in}
 use Rattle.list_search.specs.Lines.{lines_of}
 use Rattle.list_search.specs.ListPieces.{NoBadLineEnded}
 use Rattle.list_search.specs.ListText.{IsFirstRead, RefusesList}
@@ -11,6 +14,9 @@ use Rattle.list_search.specs.declared.finding.FindError.{FindError}
 use Rattle.list_search.specs.declared.finding.FindError.TheVariants as search
 use Rattle.list_search.specs.declared.finding_from.FindFromError.{FindFromError}
 use Rattle.list_search.specs.declared.finding_from.FindFromError.TheVariants.{Prefix, BadLine, Unsorted, PrefixTooLong, Memory, Output, Input, TooMuch}
+use Rattle.list_search.specs.declared.finding_in.FindInError.TheVariants as found
+use Rattle.list_search.specs.declared.finding_in_from.FindInFromError.{FindInFromError}
+use Rattle.list_search.specs.declared.finding_in_from.FindInFromError.TheVariants as in_kind
 use Rattle.list_search.specs.declared.reading.ReadError.{ReadError}
 use Rattle.list_search.specs.declared.reading.ReadError.TheVariants as read
 
@@ -59,18 +65,32 @@ from_reading (read.Refused error) = from_source (refusal_of_list error)
 from_reading read.Input = Input
 from_reading read.TooMuch = TooMuch
 
--- all that the source gave is refused for this error
-abbrev pub RefusesAll : (ℕ → ℕ) → List ℕ → FindError → Option (List ℕ) → Option (List ℕ) → Type 0
-RefusesAll letter prefix error old new = (text : List ℕ) × GivesAll old new text × (finding letter prefix text ≡ Err error)
-
 -- where a search in what a source gives stops: what was given before, and what was written
 abbrev pub SearchStops : (ℕ → ℕ) → List ℕ → FindFromError → Option (List ℕ) → Option (List ℕ) → Option (List ℕ) → Option (List ℕ) → Type 0
 SearchStops letter prefix (Prefix error) source source' sink sink' = prefix_read letter 4 prefix ≡ Err error
 SearchStops letter prefix (BadLine n error) source source' sink sink' = IsSettled (λ text. finding letter prefix text ≡ Err (search.BadLine n error)) source source'
-SearchStops letter prefix (Unsorted n) source source' sink sink' = RefusesAll letter prefix (search.Unsorted n) source source'
-SearchStops letter prefix (PrefixTooLong hex_len least) source source' sink sink' = RefusesAll letter prefix (search.PrefixTooLong hex_len least) source source'
+SearchStops letter prefix (Unsorted n) source source' sink sink' = IsSettled (λ text. finding letter prefix text ≡ Err (search.Unsorted n)) source source'
+SearchStops letter prefix (PrefixTooLong hex_len least) source source' sink sink' =
+    IsSettled (λ text. finding letter prefix text ≡ Err (search.PrefixTooLong hex_len least)) source source'
 SearchStops letter prefix Memory source source' sink sink' = IsOk (prefix_read letter 4 prefix) × IsSettled (λ text. IsFirstRead (lines_of text)) source source'
 SearchStops letter prefix Output source source' sink sink' =
     (text : List ℕ) × GivesAll source source' text × IsFoundInPart letter (finding letter prefix text) sink sink'
 SearchStops letter prefix Input source source' sink sink' = IsOk (prefix_read letter 4 prefix) × GivesGoodLines source source'
 SearchStops letter prefix TooMuch source source' sink sink' = IsOk (prefix_read letter 4 prefix) × GivesTooMuch source source'
+
+-- a refusal of the reading, as one of a search in ids of one kind
+abbrev pub from_reading_in : ReadError → FindInFromError
+from_reading_in (read.Refused error) = in_kind.Search (refusal_of_list_in error)
+from_reading_in read.Input = in_kind.Input
+from_reading_in read.TooMuch = in_kind.TooMuch
+
+-- where a search in ids of one kind stops, likewise
+abbrev pub SearchStopsIn : Kind → List ℕ → FindInFromError → Option (List ℕ) → Option (List ℕ) → Option (List ℕ) → Option (List ℕ) → Type 0
+SearchStopsIn kind prefix (in_kind.Search (found.Prefix error)) source source' sink sink' = prefix_read_in kind hex_letter prefix ≡ Err error
+SearchStopsIn kind prefix (in_kind.Search found.Memory) source source' sink sink' =
+    IsOk (prefix_read_in kind hex_letter prefix) × IsSettled (λ text. IsFirstRead (lines_of text)) source source'
+SearchStopsIn kind prefix (in_kind.Search found.Output) source source' sink sink' =
+    (text : List ℕ) × GivesAll source source' text × IsFoundInPart hex_letter (finding_in kind prefix text) sink sink'
+SearchStopsIn kind prefix (in_kind.Search error) source source' sink sink' = IsSettled (λ text. finding_in kind prefix text ≡ Err error) source source'
+SearchStopsIn kind prefix in_kind.Input source source' sink sink' = IsOk (prefix_read_in kind hex_letter prefix) × GivesGoodLines source source'
+SearchStopsIn kind prefix in_kind.TooMuch source source' sink sink' = IsOk (prefix_read_in kind hex_letter prefix) × GivesTooMuch source source'

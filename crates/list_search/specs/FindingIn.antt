@@ -1,5 +1,5 @@
 -- Finding a prefix in a list text of ids of one kind, each above the one before it.
-use Rattle.std.specs.Prelude.{◌≡◌, ℕ, Bool, true, not, ◌==◌, ◌+◌, if◌then◌else◌, Option, Some, None, List, [], ◌∷◌, IsOk, length, Result, Ok, Err}
+use Rattle.std.specs.Prelude.{◌≡◌, ℕ, Bool, true, false, not, ◌==◌, ◌&&◌, ◌+◌, if◌then◌else◌, Option, Some, None, List, [], ◌∷◌, IsOk, length, Result, Ok, Err}
 use Rattle.std.specs.Ordering.{nat_cmp, is_lt}
 use Rattle.std.specs.Cmp.Lexicographic.{slice_cmp}
 use Rattle.gix_hash.specs.Digits.{hex_letter}
@@ -7,12 +7,12 @@ use Rattle.gix_hash.specs.Kind.{hex_len_of}
 use Rattle.gix_hash.specs.Prefix.{Beginning}
 use Rattle.gix_hash.specs.PrefixReading.{prefix_read_in}
 use Rattle.gix_hash.specs.declared.Kind.{Kind}
-use Rattle.gix_hash.specs.declared.prefix.from_hex.Error.{Error}
 use Rattle.id_lookup.specs.Index.{IsIndex, IsBadPlace}
 use Rattle.id_lookup.specs.Runs.{matches}
 use Rattle.id_lookup.specs.declared.index.IndexError.{IndexError}
 use Rattle.id_lookup.specs.declared.index.IndexError.TheVariants as place
 use Rattle.list_search.specs.ListText.{list_read, IsListOf, IsFirstBadLine}
+use Rattle.list_search.specs.Searching.{Search, found_from}
 use Rattle.list_search.specs.declared.finding_in.FindInError.{FindInError}
 use Rattle.list_search.specs.declared.finding_in.FindInError.TheVariants.{Prefix, OtherKind, BadLine, WrongKind, NotRising, Memory, Output}
 use Rattle.list_search.specs.declared.list.ListError.{ListError}
@@ -23,42 +23,28 @@ abbrev pub rises : Option (List ℕ) → List ℕ → Bool
 rises None id = true
 rises (Some last) id = is_lt (slice_cmp nat_cmp last id)
 
--- the first of some ids, counted from a place, that is of another kind, or else not above the one before it
-unfoldable pub bad_behind : Kind → Option (List ℕ) → ℕ → List (List ℕ) → Option IndexError
-bad_behind kind last at [] = None
-bad_behind kind last at (id ∷ ids) =
-    if not (length id == hex_len_of kind) then Some (place.WrongKind at)
-    else if rises last id then bad_behind kind (Some id) (at + 1) ids
-    else Some (place.NotRising at)
+-- refused behind another: an id of another kind, or else one that is not above it
+abbrev pub strays : Kind → Option (List ℕ) → List ℕ → Option (ℕ → FindInError)
+strays kind last id = if not (length id == hex_len_of kind) then Some WrongKind else if rises last id then None else Some NotRising
 
--- the first place at which ids are no index of the kind, counted from 0
-abbrev pub first_bad : Kind → List (List ℕ) → Option IndexError
-first_bad kind ids = bad_behind kind None 0 ids
+-- whether the first of some ids is of the kind, and not above the one before it, if there is one
+abbrev pub front_stays : Kind → Option (List ℕ) → List (List ℕ) → Bool
+front_stays kind None ids = false
+front_stays kind (Some last) [] = false
+front_stays kind (Some last) (id ∷ ids) = (length id == hex_len_of kind) && not (is_lt (slice_cmp nat_cmp last id))
 
--- a bad place, as a refusal of its line, counted from 1
-abbrev pub refusal_at : IndexError → FindInError
-refusal_at (place.WrongKind at) = WrongKind (at + 1)
-refusal_at (place.NotRising at) = NotRising (at + 1)
+-- the search among ids of one kind, each above the one before it
+abbrev pub in_rising : Kind → List ℕ → Search FindInError
+in_rising kind digits = record { order = strays kind; too_long = λ ids. None; digits = digits }
 
 -- a refusal of a list text, as one of a search in ids of one kind
 abbrev pub refusal_of_list_in : ListError → FindInError
 refusal_of_list_in (list.BadLine n error) = BadLine n error
 refusal_of_list_in list.Memory = Memory
 
--- the ids that begin with the digits, given the first bad place, if any
-abbrev pub found_in_index : List ℕ → List (List ℕ) → Option IndexError → Result (List (List ℕ)) FindInError
-found_in_index digits ids (Some error) = Err (refusal_at error)
-found_in_index digits ids None = Ok (matches digits ids)
-
--- what is found, given what the prefix and the list text read as
-abbrev pub found_from_in : Kind → Result Beginning Error → Result (List (List ℕ)) ListError → Result (List (List ℕ)) FindInError
-found_from_in kind (Err error) ids = Err (Prefix error)
-found_from_in kind (Ok prefix) (Err error) = Err (refusal_of_list_in error)
-found_from_in kind (Ok prefix) (Ok ids) = found_in_index prefix.digits ids (first_bad kind ids)
-
 -- the ids of a list text of one kind that begin with a prefix, or the first refusal
 abbrev pub finding_in : Kind → List ℕ → List ℕ → Result (List (List ℕ)) FindInError
-finding_in kind prefix text = found_from_in kind (prefix_read_in kind hex_letter prefix) (list_read text)
+finding_in kind prefix text = found_from Prefix refusal_of_list_in (in_rising kind) (prefix_read_in kind hex_letter prefix) (list_read text)
 
 -- the two texts read as a prefix of the kind and as ids
 pub record IsSearchIn (kind : Kind) (prefix text : List ℕ) : Type 0 where

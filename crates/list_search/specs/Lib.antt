@@ -2,7 +2,8 @@
 pub mod Lines
 pub mod ListText
 pub mod ListPieces
+pub mod Searching
 pub mod Finding
-pub mod FindingFrom
 pub mod Refusal
 pub mod FindingIn
+pub mod FindingFrom

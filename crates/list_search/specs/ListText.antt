@@ -1,8 +1,6 @@
 -- List texts: a line for each id.
-use Rattle.std.specs.Prelude.{◌≡◌, ℕ, ◌+◌, if◌then◌else◌, Option, Some, None, List, [], ◌∷◌, ◌++◌, All, IsOk, length, Result, Ok, Err}
+use Rattle.std.specs.Prelude.{◌≡◌, ℕ, ◌+◌, List, [], ◌∷◌, ◌++◌, All, IsOk, length, Result, Ok, Err}
 use Rattle.std.specs.List.{AllZip}
-use Rattle.std.specs.Ordering.{nat_cmp, is_lt}
-use Rattle.std.specs.Cmp.Lexicographic.{slice_cmp}
 use Rattle.gix_hash.specs.Digits.{hex_letter}
 use Rattle.gix_hash.specs.IdReading.{full_read}
 use Rattle.gix_hash.specs.Prefix.{Beginning, beginning_of}
@@ -36,16 +34,6 @@ IsFirstRead (line ∷ lines) = IsOk (full_read hex_letter line)
 abbrev pub RefusesList : List ℕ → ListError → Type 0
 RefusesList text (BadLine n error) = list_read text ≡ Err (BadLine n error)
 RefusesList text Memory = IsFirstRead (lines_of text)
-
--- the first of some ids, counted from n, that is below the one before it; `last` stands before them
-unfoldable pub unsorted_behind : List ℕ → ℕ → List (List ℕ) → Option ℕ
-unsorted_behind last n [] = None
-unsorted_behind last n (id ∷ ids) = if is_lt (slice_cmp nat_cmp id last) then Some n else unsorted_behind id (n + 1) ids
-
--- the first id that is below the one before it, counted from 1
-abbrev pub first_unsorted : List (List ℕ) → Option ℕ
-first_unsorted [] = None
-first_unsorted (id ∷ ids) = unsorted_behind id 2 ids
 
 -- the line reads as an id of these digits
 abbrev pub IsLineOf : List ℕ → List ℕ → Type 0

@@ -1,20 +1,21 @@
 //! Finding the ids of a list text that begin with a prefix.
 
-ghost use Rattle.std.specs.Prelude.{◌≡◌, ◌≢◌, ◌↔◌, ◌⊎◌, true, false, ℕ, List, map, Result, IsOk, IfOk, IfErr, IsErrOf};
+ghost use Rattle.std.specs.Prelude.{◌≡◌, ◌≢◌, ◌↔◌, ◌⊎◌, true, false, ℕ, List, Result, IsOk, IfOk, IfErr, IsErrOf};
 ghost use Rattle.gix_hash.specs.Alphabet.{letter_of};
 ghost use Rattle.gix_hash.specs.Digits.{hex_letter, reverse_letter};
-ghost use Rattle.gix_hash.specs.ObjectId.{id_digits};
 ghost use Rattle.gix_hash.specs.PrefixReading.{prefix_read};
 ghost use Rattle.list_search.specs.declared.finding.FindError.{FindError};
-ghost use Rattle.list_search.specs.Finding.{finding, found_among, IsFound, IsFoundInPart};
+ghost use Rattle.list_search.specs.Finding.{finding, IsFound, IsFoundInPart};
 ghost use Rattle.list_search.specs.Lines.{lines_of};
 ghost use Rattle.list_search.specs.ListText.{IsFirstRead};
 ghost use Rattle.list_search.specs.Refusal.{Means};
 
-use crate::list::{ListError, read_list};
-use crate::matching::{sorted_ids, write_matches};
+use crate::list::ListError;
+use crate::order::Sorted;
+use crate::reading::find_in_text;
+use devices::printing::write_ids;
 use devices::sink::{Sink, WriteFailed};
-use gix_hash::{Alphabet, ObjectId, Prefix, decode, prefix};
+use gix_hash::{Alphabet, decode, prefix};
 use std::alloc::Allocator;
 use thiserror::Error as ThisError;
 
@@ -142,35 +143,9 @@ fn search<A: Allocator, W: Sink>(
     ensures part { IsErrOf result FindError.Output → IsFoundInPart (letter_of alphabet) (finding (letter_of alphabet) prefix.now list.now) (W.taken out.old) (W.taken out.new) }
 {
     let prefix = alphabet.read_prefix(prefix).map_err(FindError::Prefix)?;
-    let ids = read_list(alloc, list)?;
-    search_ids(alphabet, &ids, &prefix, out)
-}
-
-/// As [`find`] and [`find_change`], of a prefix and a list that were read.
-pub(crate) fn search_ids<W: Sink>(
-    alphabet: Alphabet,
-    ids: &[ObjectId],
-    prefix: &Prefix,
-    out: &mut W,
-) -> Result<usize, FindError>
-    requires { W.has_failed out.old ≡ false }
-    ensures found { IfOk result (IsFound (letter_of alphabet) (found_among prefix.now.digits (map id_digits ids.now)) (W.taken out.old) (W.taken out.new)) }
-    ensures refused { IfErr result (λ e. (found_among prefix.now.digits (map id_digits ids.now) ≡ Err e) ⊎ (e ≡ FindError.Output)) }
-    ensures untouched { IfErr result (λ e. e ≢ FindError.Output → out.new ≡ out.old) }
-    ensures output { IsErrOf result FindError.Output ↔ (W.has_failed out.new ≡ true) }
-    ensures part { IsErrOf result FindError.Output
-        → IsFoundInPart (letter_of alphabet) (found_among prefix.now.digits (map id_digits ids.now)) (W.taken out.old) (W.taken out.new) }
-{
-    let sorted = match sorted_ids(ids) {
-        Ok(sorted) => sorted,
-        Err(line) => return Err(FindError::Unsorted { line }),
-    };
-    let min = sorted.min_hex_len();
-    let hex_len = prefix.hex_len();
-    if hex_len > min {
-        return Err(FindError::PrefixTooLong { hex_len, min });
-    }
-    Ok(write_matches(alphabet, &sorted, ids, prefix, out)?)
+    let ids = find_in_text(&alloc, Sorted::new(prefix), list)??;
+    write_ids(alphabet, &ids, out)?;
+    Ok(ids.len())
 }
 
 /// A law: an answer is what is found just where what it says of the two texts holds.

@@ -1,16 +1,19 @@
 //! Finding the ids of a list text that a source gives.
 
 ghost use Rattle.std.specs.Prelude.{◌≡◌, ◌≢◌, ◌↔◌, ℕ, List, true, false, IsErr, IfOk, IfErr, IsErrOf};
-ghost use Rattle.gix_hash.specs.Digits.{hex_letter};
+ghost use Rattle.gix_hash.specs.Alphabet.{letter_of};
+ghost use Rattle.gix_hash.specs.Digits.{hex_letter, reverse_letter};
 ghost use Rattle.gix_hash.specs.PrefixReading.{prefix_read};
 ghost use Rattle.list_search.specs.Finding.{finding, IsFound};
 ghost use Rattle.list_search.specs.FindingFrom.{SearchStops};
 ghost use Rattle.devices.specs.Source.{GivesAll};
 ghost use Rattle.list_search.specs.declared.finding_from.FindFromError.{FindFromError};
 
-use crate::finding::{FindError, search_ids};
-use crate::reading::{ReadError, read_source};
-use devices::sink::Sink;
+use crate::finding::FindError;
+use crate::order::Sorted;
+use crate::reading::{ReadError, find_in_source};
+use devices::printing::write_ids;
+use devices::sink::{Sink, WriteFailed};
 use devices::source::Source;
 use gix_hash::{Alphabet, decode, prefix};
 use std::alloc::Allocator;
@@ -77,6 +80,16 @@ impl From<FindError> for FindFromError {
     }
 }
 
+impl From<WriteFailed> for FindFromError {
+    ghost use Rattle.list_search.specs.declared.finding_from.FindFromError.TheVariants.{Output};
+
+    ghost from_gives = { λ _ e. e ≡ Output };
+
+    fn from(_failed: WriteFailed) -> Self {
+        FindFromError::Output
+    }
+}
+
 impl From<ReadError> for FindFromError {
     ghost use Rattle.list_search.specs.FindingFrom.{from_reading};
 
@@ -122,9 +135,52 @@ pub fn find_from<A: Allocator, R: Source, W: Sink>(
     ensures input { IsErrOf result FindFromError.Input ↔ (R.has_failed list.new ≡ true) }
     ensures output { IsErrOf result FindFromError.Output ↔ (W.has_failed out.new ≡ true) }
 {
-    let prefix = Alphabet::Hex
-        .read_prefix(prefix)
-        .map_err(FindFromError::Prefix)?;
-    let ids = read_source(alloc, list)?;
-    Ok(search_ids(Alphabet::Hex, &ids, &prefix, out)?)
+    search_from(alloc, Alphabet::Hex, prefix, list, out)
+}
+
+/// As [`find_from`], with the prefix read in the letters `z` to `k`, and the ids written in them, as
+/// [`find_change`](crate::finding::find_change) does. The list text is in hex.
+pub fn find_change_from<A: Allocator, R: Source, W: Sink>(
+    alloc: A,
+    letters: &str,
+    list: &mut R,
+    out: &mut W,
+) -> Result<usize, FindFromError>
+    requires input { R.has_failed list.old ≡ false }
+    requires output { W.has_failed out.old ≡ false }
+    ensures found { IfOk result (λ count. (text : List ℕ) × GivesAll (R.remaining list.old) (R.remaining list.new) text
+        × IsFound reverse_letter (finding reverse_letter letters.now text) (W.taken out.old) (W.taken out.new) count) }
+    ensures stopped { IfErr result (λ e.
+        SearchStops reverse_letter letters.now e (R.remaining list.old) (R.remaining list.new) (W.taken out.old) (W.taken out.new)) }
+    ensures unread { IsErr (prefix_read reverse_letter 4 letters.now) → list.new ≡ list.old }
+    ensures untouched { IfErr result (λ e. e ≢ FindFromError.Output → out.new ≡ out.old) }
+    ensures input { IsErrOf result FindFromError.Input ↔ (R.has_failed list.new ≡ true) }
+    ensures output { IsErrOf result FindFromError.Output ↔ (W.has_failed out.new ≡ true) }
+{
+    search_from(alloc, Alphabet::Reverse, letters, list, out)
+}
+
+// As `find_from` and `find_change_from`.
+fn search_from<A: Allocator, R: Source, W: Sink>(
+    alloc: A,
+    alphabet: Alphabet,
+    prefix: &str,
+    list: &mut R,
+    out: &mut W,
+) -> Result<usize, FindFromError>
+    requires input { R.has_failed list.old ≡ false }
+    requires output { W.has_failed out.old ≡ false }
+    ensures found { IfOk result (λ count. (text : List ℕ) × GivesAll (R.remaining list.old) (R.remaining list.new) text
+        × IsFound (letter_of alphabet) (finding (letter_of alphabet) prefix.now text) (W.taken out.old) (W.taken out.new) count) }
+    ensures stopped { IfErr result (λ e.
+        SearchStops (letter_of alphabet) prefix.now e (R.remaining list.old) (R.remaining list.new) (W.taken out.old) (W.taken out.new)) }
+    ensures unread { IsErr (prefix_read (letter_of alphabet) 4 prefix.now) → list.new ≡ list.old }
+    ensures untouched { IfErr result (λ e. e ≢ FindFromError.Output → out.new ≡ out.old) }
+    ensures input { IsErrOf result FindFromError.Input ↔ (R.has_failed list.new ≡ true) }
+    ensures output { IsErrOf result FindFromError.Output ↔ (W.has_failed out.new ≡ true) }
+{
+    let prefix = alphabet.read_prefix(prefix).map_err(FindFromError::Prefix)?;
+    let ids = find_in_source(&alloc, Sorted::new(prefix), list)??;
+    write_ids(alphabet, &ids, out)?;
+    Ok(ids.len())
 }

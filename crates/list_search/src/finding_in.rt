@@ -1,21 +1,20 @@
 //! Finding the ids of a list text of one kind that begin with a prefix.
 
-ghost use Rattle.std.specs.Prelude.{◌≡◌, ◌≢◌, ◌↔◌, ◌⊎◌, true, false, ℕ, List, Some, None, Result, map, IsOk, IfOk, OnOk, IfErr, IsErrOf};
-ghost use Rattle.std.specs.Option.{option_map};
+ghost use Rattle.std.specs.Prelude.{◌≡◌, ◌≢◌, ◌↔◌, ◌⊎◌, true, false, ℕ, List, Result, IsOk, IfOk, IfErr, IsErrOf};
 ghost use Rattle.gix_hash.specs.Digits.{hex_letter};
-ghost use Rattle.gix_hash.specs.ObjectId.{id_digits};
 ghost use Rattle.gix_hash.specs.PrefixReading.{prefix_read_in};
 ghost use Rattle.list_search.specs.declared.finding_in.FindInError.{FindInError};
 ghost use Rattle.list_search.specs.Finding.{IsFound, IsFoundInPart};
-ghost use Rattle.list_search.specs.FindingIn.{finding_in, first_bad, refusal_at, MeansIn};
+ghost use Rattle.list_search.specs.FindingIn.{finding_in, MeansIn};
 ghost use Rattle.list_search.specs.Lines.{lines_of};
 ghost use Rattle.list_search.specs.ListText.{IsFirstRead};
 
-use crate::list::{ListError, read_list};
-use crate::matching::write_run;
+use crate::list::ListError;
+use crate::order::Rising;
+use crate::reading::find_in_text;
+use devices::printing::write_ids;
 use devices::sink::{Sink, WriteFailed};
-use gix_hash::{Alphabet, Kind, ObjectId, Prefix, decode, prefix};
-use id_lookup::{IdIndex, IndexError, lookup_in};
+use gix_hash::{Alphabet, Kind, Prefix, decode, prefix};
 use std::alloc::Allocator;
 use thiserror::Error as ThisError;
 
@@ -113,23 +112,9 @@ pub fn find_in<A: Allocator, W: Sink>(
     ensures part { IsErrOf result FindInError.Output → IsFoundInPart hex_letter (finding_in kind prefix.now list.now) (W.taken out.old) (W.taken out.new) }
 {
     let prefix = Prefix::from_hex_in(kind, prefix).map_err(FindInError::Prefix)?;
-    let ids = read_list(alloc, list)?;
-    let index = index_of(&ids, kind)?;
-    let run = lookup_in(index.fan_out(), &mut index.probes(&prefix));
-    Ok(write_run(Alphabet::Hex, &ids, run, &prefix, out)?)
-}
-
-// The ids as an index of the kind, or the refusal of the first bad line.
-fn index_of(ids: &[ObjectId], kind: Kind) -> Result<IdIndex<'_>, FindInError>
-    ensures same { IfOk result (λ index. index ≡ record { kind = kind; ids = map id_digits ids.now }) }
-    ensures index { OnOk result (first_bad kind (map id_digits ids.now) ≡ None) }
-    ensures bad { IfErr result (λ e. option_map refusal_at (first_bad kind (map id_digits ids.now)) ≡ Some e) }
-{
-    match IdIndex::try_new(ids, kind) {
-        Ok(index) => Ok(index),
-        Err(IndexError::WrongKind { at }) => Err(FindInError::WrongKind { line: at + 1 }),
-        Err(IndexError::NotRising { at }) => Err(FindInError::NotRising { line: at + 1 }),
-    }
+    let ids = find_in_text(&alloc, Rising::new(kind, prefix), list)??;
+    write_ids(Alphabet::Hex, &ids, out)?;
+    Ok(ids.len())
 }
 
 /// A law: an answer is what is found in ids of one kind just where what it says of the two texts

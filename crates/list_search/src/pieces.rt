@@ -8,7 +8,7 @@ ghost use Rattle.list_search.specs.ListPieces.{HasTaken, TakesLine};
 ghost use Rattle.list_search.specs.ListText.{list_read, RefusesList};
 
 use crate::list::ListError;
-use gix_hash::{Kind, ObjectId, decode};
+use gix_hash::{Alphabet, Kind, ObjectId, decode};
 use std::alloc::Allocator;
 
 // The bytes of the longest line that is an id.
@@ -18,10 +18,11 @@ const LINE_FEED: u8 = b'\n';
 
 /// Reads a list text that comes in pieces, which may cut lines anywhere.
 ///
-/// It keeps the ids of the lines that ended, and of the line that has not ended its length and its
-/// first 64 bytes.
+/// It keeps the ids of the lines that ended until it is told to drop them, and of the line that has
+/// not ended its length and its first 64 bytes.
 #[derive(Drop)]
 pub struct ListReader<A: Allocator> {
+    dropped: usize,
     ids: Vec<ObjectId, A>,
     line: [u8; MAX_DIGITS],
     len: usize,
@@ -32,8 +33,11 @@ impl<A: Allocator> ListReader<A> {
     pub fn new(alloc: A) -> Self
         ensures taken { HasTaken result.ids.items result.line result.len [] }
         ensures empty { result.len ≡ 0 }
+        ensures none { result.dropped ≡ 0 }
+        ensures no_ids { result.ids.items ≡ [] }
     {
         ListReader {
+            dropped: 0,
             ids: Vec::new(alloc),
             line: [0; MAX_DIGITS],
             len: 0,
@@ -42,12 +46,13 @@ impl<A: Allocator> ListReader<A> {
 
     /// Takes the next piece of the text. An error is that of the whole text, whatever follows.
     pub fn take_piece(&mut self, piece: &[u8]) -> Result<(), ListError>
-        requires { self.old.len + length piece.now < 2 ^ 64 }
-        ensures ok { OnOk result ((text : List ℕ) → HasTaken self.old.ids.items self.old.line self.old.len text
-            → HasTaken self.new.ids.items self.new.line self.new.len (text ++ piece.now)) }
-        ensures short { OnOk result (self.new.len ≤ self.old.len + length piece.now) }
-        ensures err { IfErr result (λ e. (text more : List ℕ) → HasTaken self.old.ids.items self.old.line self.old.len text
-            → RefusesList ((text ++ piece.now) ++ more) e) }
+        requires { self.old.dropped + length self.old.ids.items + self.old.len + length piece.now < 2 ^ 64 }
+        ensures ok { OnOk result ((earlier : List ObjectId) (text : List ℕ) → HasTaken (earlier ++ self.old.ids.items) self.old.line self.old.len text
+            → HasTaken (earlier ++ self.new.ids.items) self.new.line self.new.len (text ++ piece.now)) }
+        ensures dropped { OnOk result (self.new.dropped ≡ self.old.dropped) }
+        ensures short { OnOk result (length self.new.ids.items + self.new.len ≤ length self.old.ids.items + self.old.len + length piece.now) }
+        ensures err { IfErr result (λ e. (earlier : List ObjectId) (text more : List ℕ) → length earlier ≡ self.old.dropped
+            → HasTaken (earlier ++ self.old.ids.items) self.old.line self.old.len text → RefusesList ((text ++ piece.now) ++ more) e) }
     {
         let mut at = 0;
         while at < piece.len() {
@@ -58,9 +63,12 @@ impl<A: Allocator> ListReader<A> {
 
     /// The ids of the whole text, whose last line feed may be absent.
     pub fn finish(mut self) -> Result<Vec<ObjectId, A>, ListError>
-        ensures ok { IfOk result (λ ids. (text : List ℕ) → HasTaken self.ids.items self.line self.len text
-            → list_read text ≡ Ok (map id_digits ids.items)) }
-        ensures err { IfErr result (λ e. (text : List ℕ) → HasTaken self.ids.items self.line self.len text → RefusesList text e) }
+        requires { self.dropped + length self.ids.items + 1 < 2 ^ 64 }
+        ensures ok { IfOk result (λ ids. (earlier : List ObjectId) (text : List ℕ) → HasTaken (earlier ++ self.ids.items) self.line self.len text
+            → list_read text ≡ Ok (map id_digits (earlier ++ ids.items))) }
+        ensures short { IfOk result (λ ids. length ids.items ≤ length self.ids.items + 1) }
+        ensures err { IfErr result (λ e. (earlier : List ObjectId) (text : List ℕ) → length earlier ≡ self.dropped
+            → HasTaken (earlier ++ self.ids.items) self.line self.len text → RefusesList text e) }
     {
         if self.len > 0 {
             self.end_line()?;
@@ -69,17 +77,39 @@ impl<A: Allocator> ListReader<A> {
         Ok(ids)
     }
 
+    /// The ids that it keeps.
+    pub fn ids(&self) -> &[ObjectId]
+        ensures { result.now ≡ self.now.ids.items }
+    {
+        &self.ids
+    }
+
+    /// Drops the ids that it keeps.
+    pub fn drop_ids(&mut self)
+        requires { self.old.dropped + length self.old.ids.items < 2 ^ 64 }
+        ensures ids { self.new.ids.items ≡ [] }
+        ensures dropped { self.new.dropped ≡ self.old.dropped + length self.old.ids.items }
+        ensures line { self.new.line ≡ self.old.line }
+        ensures len { self.new.len ≡ self.old.len }
+    {
+        self.dropped += self.ids.len();
+        self.ids.clear();
+    }
+
     // Takes the line that begins at this place, where the piece has all of it and it is an id, and
     // else the byte there. Answers the place behind.
     #[inline(always)]
     fn take_some(&mut self, piece: &[u8], at: usize) -> Result<usize, ListError>
         requires place { at < length piece.now }
-        requires room { self.old.len + 1 < 2 ^ 64 }
+        requires room { self.old.dropped + length self.old.ids.items + self.old.len + 1 < 2 ^ 64 }
         ensures onward { IfOk result (λ next. (at < next) × (next ≤ length piece.now)) }
-        ensures ok { IfOk result (λ next. (text : List ℕ) → HasTaken self.old.ids.items self.old.line self.old.len (text ++ take at piece.now)
-            → HasTaken self.new.ids.items self.new.line self.new.len (text ++ take next piece.now)) }
-        ensures short { IfOk result (λ next. self.new.len + at ≤ self.old.len + next) }
-        ensures err { IfErr result (λ e. (text more : List ℕ) → HasTaken self.old.ids.items self.old.line self.old.len (text ++ take at piece.now)
+        ensures ok { IfOk result (λ next. (earlier : List ObjectId) (text : List ℕ)
+            → HasTaken (earlier ++ self.old.ids.items) self.old.line self.old.len (text ++ take at piece.now)
+            → HasTaken (earlier ++ self.new.ids.items) self.new.line self.new.len (text ++ take next piece.now)) }
+        ensures dropped { OnOk result (self.new.dropped ≡ self.old.dropped) }
+        ensures short { IfOk result (λ next. length self.new.ids.items + self.new.len + at ≤ length self.old.ids.items + self.old.len + next) }
+        ensures err { IfErr result (λ e. (earlier : List ObjectId) (text more : List ℕ) → length earlier ≡ self.old.dropped
+            → HasTaken (earlier ++ self.old.ids.items) self.old.line self.old.len (text ++ take at piece.now)
             → RefusesList ((text ++ piece.now) ++ more) e) }
     {
         if self.len == 0 {
@@ -93,12 +123,13 @@ impl<A: Allocator> ListReader<A> {
     }
 
     fn take_byte(&mut self, byte: u8) -> Result<(), ListError>
-        requires { self.old.len + 1 < 2 ^ 64 }
-        ensures ok { OnOk result ((text : List ℕ) → HasTaken self.old.ids.items self.old.line self.old.len text
-            → HasTaken self.new.ids.items self.new.line self.new.len (text ++ byte ∷ [])) }
-        ensures short { OnOk result (self.new.len ≤ self.old.len + 1) }
-        ensures err { IfErr result (λ e. (text more : List ℕ) → HasTaken self.old.ids.items self.old.line self.old.len text
-            → RefusesList (text ++ byte ∷ more) e) }
+        requires { self.old.dropped + length self.old.ids.items + self.old.len + 1 < 2 ^ 64 }
+        ensures ok { OnOk result ((earlier : List ObjectId) (text : List ℕ) → HasTaken (earlier ++ self.old.ids.items) self.old.line self.old.len text
+            → HasTaken (earlier ++ self.new.ids.items) self.new.line self.new.len (text ++ byte ∷ [])) }
+        ensures dropped { OnOk result (self.new.dropped ≡ self.old.dropped) }
+        ensures short { OnOk result (length self.new.ids.items + self.new.len ≤ length self.old.ids.items + self.old.len + 1) }
+        ensures err { IfErr result (λ e. (earlier : List ObjectId) (text more : List ℕ) → length earlier ≡ self.old.dropped
+            → HasTaken (earlier ++ self.old.ids.items) self.old.line self.old.len text → RefusesList (text ++ byte ∷ more) e) }
     {
         if byte == LINE_FEED {
             return self.end_line();
@@ -110,11 +141,14 @@ impl<A: Allocator> ListReader<A> {
 
     // Takes a line feed.
     fn end_line(&mut self) -> Result<(), ListError>
-        ensures ok { OnOk result ((text : List ℕ) → HasTaken self.old.ids.items self.old.line self.old.len text
-            → HasTaken self.new.ids.items self.new.line self.new.len (text ++ 10 ∷ [])) }
+        requires { self.old.dropped + length self.old.ids.items + 1 < 2 ^ 64 }
+        ensures ok { OnOk result ((earlier : List ObjectId) (text : List ℕ) → HasTaken (earlier ++ self.old.ids.items) self.old.line self.old.len text
+            → HasTaken (earlier ++ self.new.ids.items) self.new.line self.new.len (text ++ 10 ∷ [])) }
+        ensures dropped { OnOk result (self.new.dropped ≡ self.old.dropped) }
+        ensures one { OnOk result (length self.new.ids.items ≡ length self.old.ids.items + 1) }
         ensures short { OnOk result (self.new.len ≡ 0) }
-        ensures err { IfErr result (λ e. (text more : List ℕ) → HasTaken self.old.ids.items self.old.line self.old.len text
-            → RefusesList (text ++ 10 ∷ more) e) }
+        ensures err { IfErr result (λ e. (earlier : List ObjectId) (text more : List ℕ) → length earlier ≡ self.old.dropped
+            → HasTaken (earlier ++ self.old.ids.items) self.old.line self.old.len text → RefusesList (text ++ 10 ∷ more) e) }
     {
         match read_kept(&self.line, self.len) {
             Ok(id) => {
@@ -123,7 +157,7 @@ impl<A: Allocator> ListReader<A> {
                 Ok(())
             }
             Err(error) => Err(ListError::BadLine {
-                line: self.ids.len() + 1,
+                line: self.dropped + self.ids.len() + 1,
                 error,
             }),
         }
@@ -174,8 +208,8 @@ fn line_of(kind: Kind, piece: &[u8], at: usize) -> Option<(ObjectId, usize)>
     if piece.len() - at <= digits || piece[at + digits] != LINE_FEED {
         return None;
     }
-    match ObjectId::from_hex(&piece[at..at + digits]) {
-        Ok(id) => Some((id, at + digits + 1)),
-        Err(_) => None,
+    match Alphabet::Hex.find_id(&piece[at..at + digits]) {
+        Some(id) => Some((id, at + digits + 1)),
+        None => None,
     }
 }

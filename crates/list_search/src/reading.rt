@@ -1,13 +1,17 @@
-//! The ids of a list text that a source gives.
+//! What is found in a list text, which is in memory or comes from a source.
 
-ghost use Rattle.std.specs.Prelude.{◌≡◌, ◌↔◌, ℕ, List, false, true, map, IfOk, IfErr, OnOk, IsErrOf};
+ghost use Rattle.std.specs.Prelude.{◌≡◌, ◌↔◌, ℕ, List, [], false, true, map, IfOk, IfErr, OnOk, IsErrOf};
+ghost use Rattle.std.specs.Result.{result_map_both};
 ghost use Rattle.gix_hash.specs.ObjectId.{id_digits};
 ghost use Rattle.list_search.specs.FindingFrom.{ReadingStops};
-ghost use Rattle.list_search.specs.ListText.{list_read};
+ghost use Rattle.list_search.specs.ListText.{RefusesList};
+ghost use Rattle.list_search.specs.Searching.{IsFoundAmong};
 ghost use Rattle.devices.specs.Source.{GivesAll};
 ghost use Rattle.list_search.specs.declared.reading.ReadError.{ReadError};
 
+use crate::finder::Finder;
 use crate::list::ListError;
+use crate::order::ListOrder;
 use crate::pieces::ListReader;
 use devices::source::{MAX_LEN, PIECE_LEN, Source};
 use gix_hash::ObjectId;
@@ -34,22 +38,48 @@ impl From<ListError> for ReadError {
     }
 }
 
-/// The ids of the list text that the source gives to its end, a line each, in the text's order.
+/// What is found among the ids of a list text, or why they are refused.
+///
+/// The error is that of the text: its first line that is no id, or that memory ran out behind a
+/// first line that reads.
+pub fn find_in_text<A: Allocator + Copy, O: ListOrder>(
+    alloc: A,
+    order: O,
+    text: &[u8],
+) -> Result<Result<Vec<ObjectId, A>, O::Error>, ListError>
+    requires { O.has_seen order [] }
+    ensures found { IfOk result (λ found. IsFoundAmong (O.sought order) text.now (result_map_both (λ ids. map id_digits ids.items) (λ error. error) found)) }
+    ensures refused { IfErr result (RefusesList text.now) }
+{
+    let mut reader = ListReader::new(alloc);
+    reader.take_piece(text)?;
+    let ids = reader.finish()?;
+    let mut finder = Finder::new(alloc, order);
+    finder.take(&ids)?;
+    Ok(finder.into_found())
+}
+
+/// What is found among the ids of the list text that the source gives to its end, or why they are
+/// refused. The ids that a piece ends are looked up together, and dropped but for those that are
+/// found.
 ///
 /// It reads nothing behind the piece in which the first bad line ends, and never again where a read
 /// answered an error.
-pub fn read_source<A: Allocator, R: Source>(
+pub fn find_in_source<A: Allocator + Copy, O: ListOrder, R: Source>(
     alloc: A,
+    order: O,
     input: &mut R,
-) -> Result<Vec<ObjectId, A>, ReadError>
-    requires { R.has_failed input.old ≡ false }
-    ensures read { IfOk result (λ ids. (text : List ℕ) × GivesAll (R.remaining input.old) (R.remaining input.new) text
-        × (list_read text ≡ Ok (map id_digits ids.items))) }
+) -> Result<Result<Vec<ObjectId, A>, O::Error>, ReadError>
+    requires order { O.has_seen order [] }
+    requires input { R.has_failed input.old ≡ false }
+    ensures found { IfOk result (λ found. (text : List ℕ) × GivesAll (R.remaining input.old) (R.remaining input.new) text
+        × IsFoundAmong (O.sought order) text (result_map_both (λ ids. map id_digits ids.items) (λ error. error) found)) }
     ensures stands { OnOk result (R.has_failed input.new ≡ false) }
     ensures stopped { IfErr result (λ e. ReadingStops e (R.remaining input.old) (R.remaining input.new)) }
     ensures input { IsErrOf result ReadError.Input ↔ (R.has_failed input.new ≡ true) }
 {
     let mut reader = ListReader::new(alloc);
+    let mut finder = Finder::new(alloc, order);
     let mut piece = [0; PIECE_LEN];
     let mut room = MAX_LEN;
     'pieces: loop {
@@ -57,7 +87,9 @@ pub fn read_source<A: Allocator, R: Source>(
             return Err(ReadError::Input);
         };
         if count == 0 {
-            return Ok(reader.finish()?);
+            let ids = reader.finish()?;
+            finder.take(&ids)?;
+            return Ok(finder.into_found());
         }
         if count as u64 > room {
             // A bad line that ends where there still is room is told first.
@@ -65,6 +97,8 @@ pub fn read_source<A: Allocator, R: Source>(
             return Err(ReadError::TooMuch);
         }
         reader.take_piece(&piece[..count])?;
+        finder.take(reader.ids())?;
+        reader.drop_ids();
         room -= count as u64;
     }
 }

@@ -1,22 +1,84 @@
--- What is found in the two texts is what is found among the ids that they read as.
-use Rattle.std.proofs.Common.{◌≡◌, Ok, map}
+-- Each exit is a case of what is found in the two texts.
+use Rattle.std.proofs.Common.{◌≡◌, inl, inr, Ok, Err, map, length, ap, subst, sym, ◌∙◌, refl}
+use Rattle.std.proofs.lemmas.Result.{err_from_is_err_and}
+use Rattle.std.proofs.lemmas.List.{length-map}
+use Rattle.std.proofs.lemmas.Bool.{false≢true}
 use Rattle.gix_hash.specs.Alphabet.{letter_of}
 use Rattle.gix_hash.specs.ObjectId.{id_digits}
-use Rattle.list_search.specs.ListText.{list_read}
-use Rattle.list_search.proofs.FoundInTexts.{found_read, among_refused, among_not_memory}
-use Rattle.list_search.proofs.Steps.{step_gave}
+use Rattle.gix_hash.specs.PrefixReading.{prefix_read}
+use Rattle.list_search.specs.declared.finding.FindError.TheVariants.{Prefix}
+use Rattle.list_search.specs.Finding.{in_sorted, refusal_of_list}
+use Rattle.list_search.specs.Searching.{found_among}
+use Rattle.list_search.proofs.FoundInTexts.{IsAmong, among, found_texts, list_refused, memory_first, memory_of, not_output}
+use Rattle.list_search.proofs.Steps.{step_gave, no_refusal, same_error}
 use Rattle.list_search.proofs.finding.search.Goals as goal
+
+pub returns-in_err-find_in_text : goal.returns-in_err-find_in_text
+returns-in_err-find_in_text g c =
+    let p = err_from_is_err_and c.from_residual-in_err-find_in_text.result c.from_residual-in_err-find_in_text.ensures.1 in
+    let error = c.in_err-find_in_text.field-0.0 in
+    let refused = c.in_err-find_in_text.ensures.refused in
+    let reads : prefix_read (letter_of c.args.alphabet) 4 c.args.prefix.now ≡ Ok c.in_ok-prefix.prefix = step_gave _ _ _ _ c.read_prefix.ensures c.in_ok-prefix.ensures.cases in
+    rw (p.1, p.2) (record {
+      found = tt;
+      refused = elim (list_refused Prefix refusal_of_list in_sorted _ _ c.args.list.now error reads refused) [ inl is ↦ inl is | inr memory ↦ inr (inl (ap refusal_of_list memory)) ];
+      memory = λ is. (rw reads refl, memory_first c.args.list.now error refused (memory_of error (same_error _ _ is)));
+      untouched = λ _. refl;
+      output = (λ is. absurd (not_output error (same_error _ _ is)), λ failed. absurd (false≢true (sym c.requires ∙ failed)));
+      part = λ is. absurd (not_output error (same_error _ _ is));
+    })
+
+pub returns-in_err-ids : goal.returns-in_err-ids
+returns-in_err-ids g c =
+    let p = err_from_is_err_and c.from_residual-in_err-ids.result c.from_residual-in_err-ids.ensures.1 in
+    let error = c.in_err-ids.field-0.0 in
+    let reads : prefix_read (letter_of c.args.alphabet) 4 c.args.prefix.now ≡ Ok c.in_ok-prefix.prefix = step_gave _ _ _ _ c.read_prefix.ensures c.in_ok-prefix.ensures.cases in
+    let found = rw c.in_err-ids.was at c.in_ok-find_in_text.ensures.found in
+    let refused : found_among (in_sorted c.in_ok-prefix.prefix.digits) found.ids ≡ Err error = subst (λ sought. found_among sought found.ids ≡ Err error) c.new.ensures.sought found.found_there in
+    let of_order = among c.in_ok-prefix.prefix.digits found.ids error refused in
+    rw (p.1, p.2) (record {
+      found = tt;
+      refused = inl (found_texts Prefix refusal_of_list in_sorted _ _ _ c.args.list.now _ reads c.new.ensures.sought found);
+      memory = λ is. absurd (subst IsAmong (same_error _ _ is) of_order);
+      untouched = λ _. refl;
+      output = (λ is. absurd (subst IsAmong (same_error _ _ is) of_order), λ failed. absurd (false≢true (sym c.requires ∙ failed)));
+      part = λ is. absurd (subst IsAmong (same_error _ _ is) of_order);
+    })
+
+pub returns-in_err-write_ids : goal.returns-in_err-write_ids
+returns-in_err-write_ids g c =
+    let p = err_from_is_err_and c.from_residual-in_err-write_ids.result c.from_residual-in_err-write_ids.ensures.1 in
+    let reads : prefix_read (letter_of c.args.alphabet) 4 c.args.prefix.now ≡ Ok c.in_ok-prefix.prefix = step_gave _ _ _ _ c.read_prefix.ensures c.in_ok-prefix.ensures.cases in
+    let found = rw (c.in_ok-ids.was, ← c.deref.ensures.value) at c.in_ok-find_in_text.ensures.found in
+    let said = c.in_err-write_ids.ensures in
+    rw (p.1, p.2) (record {
+      found = tt;
+      refused = inr (inr refl);
+      memory = λ is. cc is;
+      untouched = λ other. absurd (other refl);
+      output = (λ _. said.failed, λ _. refl);
+      part = λ _. record {
+        ids = map id_digits c.deref.result.now;
+        found = found_texts Prefix refusal_of_list in_sorted _ _ _ c.args.list.now _ reads c.new.ensures.sought found;
+        written = said.part;
+      };
+    })
 
 pub returns : goal.returns
 returns g c =
-    let listed : list_read c.args.list.now ≡ Ok (map id_digits c.deref.result.now) = rw c.deref.ensures.value c.in_ok-ids.ensures.read in
-    let is_found = found_read (letter_of c.args.alphabet) c.args.prefix.now c.args.list.now c.in_ok-prefix.prefix (map id_digits c.deref.result.now)
-    (step_gave _ _ _ _ c.read_prefix.ensures c.in_ok-prefix.ensures.cases) listed in
+    let reads : prefix_read (letter_of c.args.alphabet) 4 c.args.prefix.now ≡ Ok c.in_ok-prefix.prefix = step_gave _ _ _ _ c.read_prefix.ensures c.in_ok-prefix.ensures.cases in
+    let found = rw (c.in_ok-ids.was, ← c.deref.ensures.value) at c.in_ok-find_in_text.ensures.found in
+    let said = c.in_ok-write_ids.ensures in
     record {
-      found = rw is_found c.search_ids.ensures.found;
-      refused = rw is_found (among_refused c.search_ids.result _ c.search_ids.ensures.refused);
-      memory = λ memory. absurd (among_not_memory c.in_ok-prefix.prefix.digits (map id_digits c.deref.result.now) c.search_ids.result c.search_ids.ensures.refused memory);
-      untouched = c.search_ids.ensures.untouched;
-      output = c.search_ids.ensures.output;
-      part = rw is_found c.search_ids.ensures.part;
+      found = record {
+        ids = map id_digits c.deref.result.now;
+        found = found_texts Prefix refusal_of_list in_sorted _ _ _ c.args.list.now _ reads c.new.ensures.sought found;
+        counted = c.len.ensures ∙ c.in_ok-ids.ids.ok.0 ∙ ap length (sym c.deref.ensures.value) ∙ sym (length-map c.deref.result.now id_digits);
+        written = said.written;
+      };
+      refused = tt;
+      memory = λ is. absurd (no_refusal _ _ is);
+      untouched = tt;
+      output = (λ is. absurd (no_refusal _ _ is), λ failed. absurd (false≢true (sym said.stands ∙ failed)));
+      part = λ is. absurd (no_refusal _ _ is);
     }
