@@ -239,7 +239,7 @@ fn names(rt: HostRuntime) -> Result<(), Fail> {
         ("e69", false),
         ("e69g", false),
     ] {
-        assert!(rt; is_named(text, blob.as_oid()) == want, "{text}");
+        assert!(rt; is_named(text, blob.as_oid()) == want);
     }
     assert!(rt; short_name(&blob, 7).eq_str("e69de29"));
     assert!(rt; short_name(&blob, 3) == Prefix::from(blob));
@@ -269,14 +269,14 @@ fn sets_and_maps(rt: HostRuntime) -> Result<(), Fail> {
     let mut seen = HashSet::new(rt.alloc());
     for (id, want) in [(blob, true), (blob, false), (tree, true)] {
         let added = mark_seen(&mut seen, id)?;
-        assert!(rt; added == want, "{id}");
+        assert!(rt; added == want);
     }
     assert!(rt; was_seen(&seen, &tree));
     assert!(rt; !was_seen(&seen, &ObjectId::Sha1([0; 20])));
     let mut offsets = BTreeMap::new(rt.alloc());
     for (offset, before) in [(12, None), (34, Some(12))] {
         let was = set_offset(&mut offsets, blob, offset)?;
-        assert!(rt; was == before, "{offset}");
+        assert!(rt; was == before);
     }
     assert!(rt; offset_of(&offsets, &blob) == Some(34));
     assert!(rt; offset_of(&offsets, &tree) == None);
@@ -296,6 +296,6 @@ fn runs(rt: HostRuntime) -> Result<(), Fail> {
     assert!(rt; within);
     let (matches, asked) = count_matches(&list, prefix);
     assert!(rt; matches == 1);
-    assert!(rt; asked <= 4, "{asked} asks");
+    assert!(rt; asked <= 4);
     Ok(())
 }
