@@ -3,17 +3,15 @@ use Rattle.std.proofs.Common.{◌≡◌, ◌≢◌, ℕ, ◌+◌, ◌<◌, ◌�
 use Rattle.std.specs.List.{starts_with}
 use Rattle.std.proofs.lemmas.Bool.{cases_lt, false≢true}
 use Rattle.gix_hash.specs.Prefix.{Beginning}
-use Rattle.gix_hash.specs.declared.Kind.{Kind}
 use Rattle.id_lookup.specs.Bounds.{bound_of}
 use Rattle.id_lookup.specs.FoundRun.{IsRun}
-use Rattle.id_lookup.specs.Index.{IsAnswer, IsIndex}
+use Rattle.id_lookup.specs.Index.{IsAnswer}
 use Rattle.id_lookup.specs.Runs.{begins_with}
 use Rattle.id_lookup.specs.ShortNames.{IsShortestNameFrom}
 use Rattle.id_lookup.specs.Sorted.{IsSortedIds}
 use Rattle.id_lookup.specs.declared.index.Answer.{Answer}
 use Rattle.id_lookup.specs.declared.index.Answer.TheVariants.{None, One, Many}
 use Rattle.id_lookup.specs.declared.search.Bound.TheVariants.{Start, End}
-use Rattle.id_lookup.proofs.Indexes.{index-sorted}
 use Rattle.id_lookup.proofs.Placed.{run_is}
 use Rattle.id_lookup.proofs.Spelled.{starts_with-BeginsWith, starts_with-spelling}
 
@@ -51,10 +49,10 @@ begins_first id name first =
     (starts_with-BeginsWith id name).1 (rest, sym (ap (λ (front : List ℕ). front ++ rest) first ∙ take-append-drop (length name) id))
 
 -- the run of a shortest name is its id
-pub name_run : (kind : Kind) (fewest : ℕ) (ids : List (List ℕ)) (at : ℕ) (prefix : Beginning) → IsIndex kind ids → at < length ids
+pub name_run : (fewest : ℕ) (ids : List (List ℕ)) (at : ℕ) (prefix : Beginning) → IsSortedIds ids → at < length ids
     → IsShortestNameFrom fewest ids at prefix.digits → IsRun prefix ids (record { start = at; end = at + 1 })
-name_run kind fewest ids at prefix index inside name =
-    unique_run prefix ids at (index-sorted kind ids index) inside
+name_run fewest ids at prefix sorted inside name =
+    unique_run prefix ids at sorted inside
     (starts_with-spelling (get_or ids at []) prefix.digits ∙ begins_first (get_or ids at []) prefix.digits name.first)
     (λ k within other. starts_with-spelling (get_or ids k []) prefix.digits ∙ name.alone k within other)
 

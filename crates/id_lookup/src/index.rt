@@ -8,13 +8,14 @@ ghost use Rattle.gix_hash.specs.Kind.{hex_len_of};
 ghost use Rattle.id_lookup.specs.FirstBytes.{IsFanOut};
 ghost use Rattle.id_lookup.specs.FoundRun.{IsRun};
 ghost use Rattle.id_lookup.specs.Runs.{matches};
-ghost use Rattle.id_lookup.specs.ShortNames.{IsShortestName, IsShortestNameFrom, Parts};
+ghost use Rattle.id_lookup.specs.ShortNames.{IsShortestName, IsShortestNameFrom};
 ghost use Rattle.id_lookup.specs.Index.{IsAnswer, IsBadPlace, IsIndex};
 
 use crate::fan_out::FanOut;
 use crate::ids::{Id, id_at};
 use crate::probes::Probes;
 use crate::search::{Run, lookup_in};
+use crate::short_names::{digits_before, digits_behind};
 use gix_hash::{Kind, ObjectId, Prefix};
 use std::error::Error;
 use std::fmt;
@@ -177,36 +178,9 @@ impl<'a, I: Id> IdIndex<'a, I> {
         ensures name { IsShortestNameFrom least self.now.ids at result.digits }
         ensures run { IsRun result self.now.ids (record { start = at; end = at + 1 }) }
     {
-        let neighbours = self.digits_before(at).max(self.digits_behind(at));
         let ids = self.ids;
+        let neighbours = digits_before(ids, at).max(digits_behind(ids, at));
         Prefix::new(id_at(ids, at), neighbours.max(least)).unwrap()
-    }
-
-    // How many first digits tell the member at a place from all before it.
-    fn digits_before(&self, at: usize) -> usize
-        requires { at < length self.now.ids }
-        ensures parts { Parts self.now.ids at 0 at result }
-        ensures at_most { result ≤ hex_len_of self.now.kind }
-    {
-        if at == 0 {
-            return 0;
-        }
-        let ids = self.ids;
-        id_at(ids, at).common_hex_len(id_at(ids, at - 1)) + 1
-    }
-
-    // How many first digits tell the member at a place from all behind it.
-    fn digits_behind(&self, at: usize) -> usize
-        requires { at < length self.now.ids }
-        ensures parts { Parts self.now.ids at (at + 1) (length self.now.ids) result }
-        ensures at_most { result ≤ hex_len_of self.now.kind }
-    {
-        let ids = self.ids;
-        let len = ids.len();
-        if at + 1 == len {
-            return 0;
-        }
-        id_at(ids, at).common_hex_len(id_at(ids, at + 1)) + 1
     }
 }
 

@@ -18,6 +18,7 @@ mod index;
 pub mod laws;
 mod probes;
 mod search;
+mod short_names;
 mod sorted;
 
 pub use fan_out::FanOut;

@@ -1,16 +1,19 @@
 //! Lists of ids in order.
 
-ghost use Rattle.std.specs.Prelude.{◌≡◌, ◌≢◌, ◌↔◌, ◌-◌, ◌<◌, ◌≤◌, [], All, AllPairs, IfOk, IfErr, IsOk, IsTrue, length, map, slice_get, slice_index_or};
+ghost use Rattle.std.specs.Prelude.{◌≡◌, ◌≢◌, ◌↔◌, ℕ, ◌+◌, ◌-◌, ◌<◌, ◌≤◌, [], All, AllPairs, IfOk, IfErr, IfSome, IsNone, List, IsOk, IsTrue, length, map, slice_get, slice_index_or};
 ghost use Rattle.std.specs.Cmp.Lexicographic.{slice_cmp};
 ghost use Rattle.std.specs.Ordering.{nat_cmp};
 ghost use Rattle.std.specs.declared.cmp.Ordering.{Ordering};
+ghost use Rattle.gix_hash.specs.Kind.{hex_len_of};
 ghost use Rattle.id_lookup.specs.FoundRun.{IsRun};
 ghost use Rattle.id_lookup.specs.Runs.{matches};
+ghost use Rattle.id_lookup.specs.ShortNames.{IsShortestNameFrom};
 ghost use Rattle.id_lookup.specs.Sorted.{IsSortedIds, IsFirstFall, least_hex_len};
 
 use crate::ids::{Id, id_at};
 use crate::probes::Probes;
 use crate::search::{Run, lookup};
+use crate::short_names::{digits_before, digits_behind};
 use gix_hash::{ObjectId, Prefix};
 use std::error::Error;
 use std::fmt;
@@ -111,6 +114,30 @@ impl<'a, I: Id> SortedIds<'a, I> {
         let run = self.find(prefix);
         let ids = self.members();
         &ids[run.start..run.end]
+    }
+
+    /// The shortest name of the member at a place, counted from 0: its first digits, at least so many
+    /// and as few as may be, with which no other member begins. It is at least 4 digits.
+    ///
+    /// There is none where all digits of the member are those with which another one begins, as where
+    /// it stands twice, or where it has fewer than were asked for. Only its two neighbours are looked
+    /// at.
+    pub fn abbreviate_from(&self, at: usize, least: usize) -> Option<Prefix>
+        requires in_range { at < length self.now }
+        requires enough { 4 ≤ least }
+        ensures kind { IfSome result (λ name. hex_len_of name.kind ≡ length (slice_index_or self.now at [])) }
+        ensures name { IfSome result (λ name. IsShortestNameFrom least self.now at name.digits) }
+        ensures run { IfSome result (λ name. IsRun name self.now (record { start = at; end = at + 1 })) }
+        ensures none { IsNone result → (name : List ℕ) → ¬ IsShortestNameFrom least self.now at name }
+    {
+        let ids = self.ids;
+        let neighbours = digits_before(ids, at).max(digits_behind(ids, at));
+        let hex_len = neighbours.max(least);
+        let id = id_at(ids, at);
+        if hex_len > id.kind().len_in_hex() {
+            return None;
+        }
+        Some(Prefix::new(id, hex_len).unwrap())
     }
 
     /// The ids, in order.

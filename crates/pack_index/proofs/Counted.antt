@@ -1,7 +1,7 @@
 -- How many names the bytes of a pack index have, and how many digits each.
-use Rattle.std.proofs.Common.{◌≡◌, ℕ, ◌-◌, ◌*◌, ◌/◌, ◌<◌, ◌≤◌, zero, suc, List, [], ◌∷◌, length, map, get_or, take, drop, refl, ap, ◌∙◌, arith, length-drop}
-use Rattle.std.specs.Prelude.{slice_range}
-use Rattle.std.proofs.lemmas.List.{length-map, length-take-le}
+use Rattle.std.proofs.Common.{◌≡◌, ℕ, ◌-◌, ◌%◌, ◌++◌, ◌*◌, ◌/◌, ◌<◌, ◌≤◌, zero, suc, List, [], ◌∷◌, length, map, get_or, take, drop, refl, sym, ap, ◌∙◌, arith, length-drop, take-append-drop}
+use Rattle.std.specs.Prelude.{flat_map, slice_range}
+use Rattle.std.proofs.lemmas.List.{length-map, length-take-le, nil_from_length}
 use Rattle.gix_hash.specs.Kind.{byte_len_of, hex_len_of}
 use Rattle.gix_hash.specs.declared.Kind.{Kind}
 use Rattle.gix_hash.specs.declared.Kind.TheVariants.{Sha1, Sha256}
@@ -85,3 +85,35 @@ long Sha256 (suc n) bytes fits (suc k) low =
 pub length-digests_in_at : (kind : Kind) (bytes : List ℕ) (k : ℕ) → k < length (digests_in kind bytes) → length (get_or (digests_in kind bytes) k []) ≡ hex_len_of kind
 length-digests_in_at kind bytes k low =
     long kind (length bytes / byte_len_of kind) bytes (whole kind (length bytes)) k (omega (arith, length-digests_in kind bytes))
+
+-- digits of bytes in two parts
+digits_of-append : (front back : List ℕ) → digits_of (front ++ back) ≡ digits_of front ++ digits_of back
+unfolding digits_of
+digits_of-append [] back = refl
+digits_of-append (b ∷ front) back = ap (λ (rest : List ℕ). (b / 16) ∷ (b % 16) ∷ rest) (digits_of-append front back)
+
+-- what is left behind one digest of several
+one_less : (kind : Kind) (k n : ℕ) → n ≡ byte_len_of kind * suc k → n - byte_len_of kind ≡ byte_len_of kind * k
+one_less Sha1 k n is = omega arith
+one_less Sha256 k n is = omega arith
+
+no_bytes : (kind : Kind) (n : ℕ) → n ≡ byte_len_of kind * 0 → n ≡ 0
+no_bytes Sha1 n is = omega arith
+no_bytes Sha256 n is = omega arith
+
+-- whole digests one behind the other are the bytes
+row : (kind : Kind) (k : ℕ) (bytes : List ℕ) → length bytes ≡ byte_len_of kind * k
+    → flat_map (λ name. name) (map digits_of (first_chunks (byte_len_of kind) k bytes)) ≡ digits_of bytes
+unfolding digits_of
+row kind zero bytes exact = sym (ap digits_of (nil_from_length bytes (no_bytes kind (length bytes) exact)))
+row kind (suc k) bytes exact =
+    let one = byte_len_of kind in
+    ap (λ (rest : List ℕ). digits_of (take one bytes) ++ rest) (row kind k (drop one bytes) (length-drop one bytes ∙ one_less kind k (length bytes) exact))
+    ∙ sym (digits_of-append (take one bytes) (drop one bytes)) ∙ ap digits_of (take-append-drop one bytes)
+
+pub names_row : (kind : Kind) (bytes : List ℕ) → HasTables kind bytes
+    → flat_map (λ name. name) (names_in kind bytes) ≡ digits_of (slice_range bytes 1032 (crcs_at kind bytes))
+names_row kind bytes tables =
+    let table = slice_range bytes 1032 (crcs_at kind bytes) in
+    let count = ap (λ n. n / byte_len_of kind) (length-table kind bytes tables) ∙ as_many kind (count_in bytes) in
+    row kind (length table / byte_len_of kind) table (length-table kind bytes tables ∙ ap (λ n. byte_len_of kind * n) (sym count))

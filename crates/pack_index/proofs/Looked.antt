@@ -1,6 +1,6 @@
 -- Where an id stands among names of its kind, by the run of all its digits.
-use Rattle.std.proofs.Common.{◌≡◌, ◌≢◌, ℕ, ◌+◌, ◌<◌, ◌≤◌, true, false, not, nat_eq, List, [], ◌++◌, length, get_or, refl, sym, ap, ◌∙◌, arith, append-nil}
-use Rattle.std.specs.Prelude.{◌↔◌, IsTrue}
+use Rattle.std.proofs.Common.{◌≡◌, ◌≢◌, ℕ, ◌<◌, ◌≤◌, true, false, not, nat_eq, Option, None, Some, List, [], ◌++◌, length, get_or, refl, sym, ap, ◌∙◌, arith, append-nil}
+use Rattle.std.specs.Prelude.{◌↔◌, IfSome, IsTrue}
 use Rattle.std.proofs.lemmas.List.{length-append, nil_from_length}
 use Rattle.std.proofs.lemmas.Bool.{false≢true}
 use Rattle.gix_hash.specs.Kind.{hex_len_of, number_of}
@@ -58,3 +58,16 @@ kinds_same Sha1 Sha1 same = refl
 kinds_same Sha1 Sha256 same = absurd (false≢true (sym same))
 kinds_same Sha256 Sha1 same = absurd (false≢true (sym same))
 kinds_same Sha256 Sha256 same = refl
+
+-- kinds with as many digits are one
+same_hex_len : (a b : Kind) → hex_len_of a ≡ hex_len_of b → a ≡ b
+same_hex_len Sha1 Sha1 same = refl
+same_hex_len Sha1 Sha256 same = absurd (omega arith)
+same_hex_len Sha256 Sha1 same = absurd (omega arith)
+same_hex_len Sha256 Sha256 same = refl
+
+-- so the beginning of a name is of the kind of its digits
+pub named_kind : (kind : Kind) (names : List (List ℕ)) (at : ℕ) (answer : Option Beginning) → length (get_or names at []) ≡ hex_len_of kind
+    → IfSome answer (λ name. hex_len_of name.kind ≡ length (get_or names at [])) → IfSome answer (λ name. name.kind ≡ kind)
+named_kind kind names at None long is = is
+named_kind kind names at (Some name) long is = same_hex_len name.kind kind (is ∙ long)

@@ -1,21 +1,17 @@
 -- What refuses bytes, as a fact and as a test.
 use Rattle.std.proofs.Common.{◌≡◌, ◌≢◌, ℕ, ◌+◌, ◌-◌, ◌*◌, ◌%◌, ◌<◌, ◌≤◌, Bool, true, false, not, nat_eq, nat_lt, Option, None, Some, Result, Ok, Err, List, [], ◌∷◌, length, get_or, refl, sym, ap, subst, ◌∙◌, arith}
-use Rattle.std.specs.Prelude.{nat_le, ◌&&◌, IfOk, IfErr, IsOk, ◌↔◌, count_by, drop, option_map, take}
+use Rattle.std.specs.Prelude.{nat_le, ◌&&◌, IfOk, IfErr, IsOk, ◌↔◌, option_map}
 use Rattle.std.specs.Option.{is_some}
 use Rattle.std.specs.Ordering.{nat_cmp, is_lt}
 use Rattle.std.specs.Cmp.Lexicographic.{slice_cmp}
 use Rattle.std.specs.declared.cmp.Ordering.TheVariants.{Less}
-use Rattle.std.specs.Str.{bytes_eq}
 use Rattle.std.proofs.lemmas.Bool.{and_parts, false≢true, le-leb, le-ltb, lt-ltb, leb-true, eqb-true}
 use Rattle.std.proofs.lemmas.Slice.Eq.{bytes_eq-Decides}
-use Rattle.gix_hash.specs.Hashing.{digest}
 use Rattle.gix_hash.specs.Kind.{byte_len_of}
-use Rattle.gix_hash.specs.ObjectId.{id_bytes}
 use Rattle.gix_hash.specs.declared.Kind.{Kind}
-use Rattle.id_lookup.specs.FirstBytes.{is_up_to}
 use Rattle.id_lookup.specs.Sorted.{IsFirstFall, IsSortedIds}
-use Rattle.pack_index.specs.Firsts.{IsFirstNot, cause_if, first_below, first_cause}
-use Rattle.pack_index.specs.Format.{HasChecksum, HasCount, HasHead, HasOffset, HasTables, IndexFile, IsPackIndex, count_in, digest_at, long_at, long_place, magic_number, names_in, offset_word, tables_end, word_at}
+use Rattle.pack_index.specs.Firsts.{cause_if, first_below, first_cause}
+use Rattle.pack_index.specs.Format.{HasChecksum, HasCount, HasHead, HasOffset, HasTables, IndexFile, IsPackIndex, count_in, long_at, magic_number, names_in, tables_end, word_at}
 use Rattle.pack_index.specs.Refusal.{IsRefusal, falls, has_checksum, has_tables, no_offset, opened, opened_by, refusal, version_1_len, wrong_count}
 use Rattle.pack_index.specs.declared.error.Error.{Error}
 use Rattle.pack_index.specs.declared.error.Error.TheVariants.{TooShort, Version1, BadMagic, BadVersion, WrongLength, NamesFall, WrongCount, NoOffset, WrongChecksum}

@@ -1,18 +1,21 @@
 //! What is checked of the bytes of a pack index.
 
-ghost use Rattle.std.specs.Prelude.{◌≡◌, ◌≢◌, ◌↔◌, ◌+◌, ◌*◌, ◌<◌, ◌≤◌, ℕ, IfErr, IsTrue, MatchOption, OnOk, length};
+ghost use Rattle.std.specs.Prelude.{◌≡◌, ◌↔◌, ◌+◌, ◌*◌, ◌<◌, ◌≤◌, ℕ, IfErr, IsTrue, MatchOption, OnOk, length};
 ghost use Rattle.gix_hash.specs.Kind.{byte_len_of};
 ghost use Rattle.id_lookup.specs.FirstBytes.{IsFanOut};
 ghost use Rattle.pack_index.specs.Firsts.{IsFirstNot};
-ghost use Rattle.pack_index.specs.Format.{HasChecksum, HasCount, HasHead, HasOffset, HasTables, count_in, magic_number, names_in, word_at};
+ghost use Rattle.pack_index.specs.Format.{HasChecksum, HasCount, HasHead, HasOffset, HasTables, count_in, names_in, word_at};
 ghost use Rattle.pack_index.specs.Refusal.{IsRefusal, version_1_len};
 
 use crate::error::Error;
-use crate::words::{LONG, NAMES_AT, count_in, digest_at, long_at, offset_word, tables_end, word_at};
+use crate::words::{
+    LONG, NAMES_AT, count_in, digest_at, long_at, offset_word, tables_end, word_at,
+};
 use gix_hash::{Kind, hasher};
 use id_lookup::FanOut;
 
 const MAGIC: u32 = 0xff74_4f63;
+
 const VERSION: u32 = 2;
 
 // Whether the front of the bytes and the lengths of their tables are those of a pack index.

@@ -1,11 +1,12 @@
 //! A pack index over its bytes.
 
-ghost use Rattle.std.specs.Prelude.{◌≡◌, ◌≢◌, ◌↔◌, ◌+◌, ◌<◌, All, ℕ, [], IfErr, IfOk, IsOk, MatchOption, drop, length, slice_index_or, slice_range, take};
+ghost use Rattle.std.specs.Prelude.{◌≡◌, ◌≢◌, ◌↔◌, ◌+◌, ◌<◌, ℕ, [], IfErr, IfOk, IsOk, MatchOption, drop, length, slice_index_or, slice_range, take, IfSome, IsNone, List};
 ghost use Rattle.std.specs.List.{HoldsAt};
 ghost use Rattle.gix_hash.specs.Hashing.{digest};
 ghost use Rattle.gix_hash.specs.ObjectId.{id_bytes};
 ghost use Rattle.gix_hash.specs.Oid.{oid_bytes, oid_digits, oid_kind};
 ghost use Rattle.id_lookup.specs.Index.{IsAnswer};
+ghost use Rattle.id_lookup.specs.ShortNames.{IsShortestName};
 ghost use Rattle.id_lookup.specs.FoundRun.{IsRun};
 ghost use Rattle.pack_index.specs.Format.{IsPackIndex, crc_in, digest_at, names_in, offset_in, tables_end};
 ghost use Rattle.pack_index.specs.Names.{IsFirstPlace};
@@ -48,6 +49,7 @@ impl<'a> File<'a> {
     /// none.
     pub fn try_new(bytes: &'a [u8], kind: Kind) -> Result<File<'a>, Error>
         ensures value { result ≡ opened kind bytes.now }
+        ensures ok { IfOk result (λ file. file ≡ record { kind = kind; bytes = bytes.now }) }
         ensures accepted { IsOk result ↔ IsPackIndex kind bytes.now }
     {
         File::checked(bytes, kind)
@@ -163,6 +165,18 @@ impl<'a> File<'a> {
             return None;
         }
         Some(run.start)
+    }
+
+    /// The shortest name of the object at a place: its first digits, at least 4 and as few as may be,
+    /// with which no other name of the index begins. A name that stands twice has none.
+    pub fn abbreviate(&self, at: usize) -> Option<Prefix>
+        requires { at < length (names_in self.now.kind self.now.bytes) }
+        ensures kind { IfSome result (λ name. name.kind ≡ self.now.kind) }
+        ensures name { IfSome result (λ name. IsShortestName (names_in self.now.kind self.now.bytes) at name.digits) }
+        ensures run { IfSome result (λ name. IsRun name (names_in self.now.kind self.now.bytes) (record { start = at; end = at + 1 })) }
+        ensures none { IsNone result → (name : List ℕ) → ¬ IsShortestName (names_in self.now.kind self.now.bytes) at name }
+    {
+        self.names.abbreviate(at)
     }
 
     /// The digest of the pack, as the index has it.

@@ -9,6 +9,7 @@
 mod checks;
 mod error;
 mod index_file;
+pub mod laws;
 mod names;
 mod words;
 

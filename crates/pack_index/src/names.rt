@@ -1,10 +1,12 @@
 //! The names of a pack index, which are of one kind.
 
-ghost use Rattle.std.specs.Prelude.{◌≡◌, ◌↔◌, ◌<◌, ◌≤◌, IfErr, IfOk, IsOk, length};
+ghost use Rattle.std.specs.Prelude.{◌≡◌, ◌↔◌, ◌+◌, ◌<◌, ◌≤◌, ℕ, [], List, IfErr, IfOk, IfSome, IsNone, IsOk, length, slice_index_or};
 ghost use Rattle.std.specs.List.{HoldsAt};
+ghost use Rattle.gix_hash.specs.Kind.{hex_len_of};
 ghost use Rattle.gix_hash.specs.Oid.{oid_digits};
 ghost use Rattle.id_lookup.specs.FirstBytes.{IsFanOut};
 ghost use Rattle.id_lookup.specs.FoundRun.{IsRun};
+ghost use Rattle.id_lookup.specs.ShortNames.{IsShortestName};
 ghost use Rattle.id_lookup.specs.Sorted.{IsFirstFall, IsSortedIds, least_hex_len};
 ghost use Rattle.pack_index.specs.Format.{digests_in};
 ghost use Rattle.pack_index.specs.Names.{kind_of, list_of};
@@ -73,6 +75,20 @@ impl<'a> Names<'a> {
         match self {
             Names::Sha1(ids) => FanOut::of(ids.members()),
             Names::Sha256(ids) => FanOut::of(ids.members()),
+        }
+    }
+
+    // The shortest name of the member at a place, if it has one.
+    pub(crate) fn abbreviate(&self, at: usize) -> Option<Prefix>
+        requires { at < length (list_of self.now) }
+        ensures kind { IfSome result (λ name. hex_len_of name.kind ≡ length (slice_index_or (list_of self.now) at [])) }
+        ensures name { IfSome result (λ name. IsShortestName (list_of self.now) at name.digits) }
+        ensures run { IfSome result (λ name. IsRun name (list_of self.now) (record { start = at; end = at + 1 })) }
+        ensures none { IsNone result → (name : List ℕ) → ¬ IsShortestName (list_of self.now) at name }
+    {
+        match self {
+            Names::Sha1(ids) => ids.abbreviate_from(at, Prefix::MIN_HEX_LEN),
+            Names::Sha256(ids) => ids.abbreviate_from(at, Prefix::MIN_HEX_LEN),
         }
     }
 

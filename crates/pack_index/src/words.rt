@@ -1,6 +1,6 @@
 //! Numbers and tables in the bytes of a pack index.
 
-ghost use Rattle.std.specs.Prelude.{◌≡◌, ◌+◌, ◌*◌, ◌<◌, ◌≤◌, ◌^◌, ℕ, length};
+ghost use Rattle.std.specs.Prelude.{◌≡◌, ◌+◌, ◌*◌, ◌<◌, ◌≤◌, ◌^◌, length};
 ghost use Rattle.gix_hash.specs.Kind.{byte_len_of};
 ghost use Rattle.pack_index.specs.Format.{HasOffset, HasTables, count_in, crc_in, crcs_at, digest_at, long_at, offset_in, offset_word, offsets_at, tables_end, word_at};
 

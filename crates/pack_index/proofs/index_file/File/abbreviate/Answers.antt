@@ -1,0 +1,18 @@
+use Rattle.std.proofs.Common.{◌≡◌, ◌<◌, [], length, get_or, subst, sym}
+use Rattle.std.specs.Prelude.{slice_range}
+use Rattle.gix_hash.specs.Kind.{hex_len_of}
+use Rattle.pack_index.specs.Format.{crcs_at, names_in}
+use Rattle.pack_index.specs.Names.{kind_of, list_of}
+use Rattle.pack_index.proofs.Counted.{length-digests_in_at}
+use Rattle.pack_index.proofs.Looked.{named_kind}
+use Rattle.pack_index.proofs.index_file.File.abbreviate.Goals as goal
+
+pub returns-clause-kind : goal.returns-clause-kind
+returns-clause-kind c =
+    let kind = kind_of c.self.inside.names in
+    let bytes = c.self.inside.bytes.now in
+    let at = c.args.at in
+    let inside : at < length (names_in kind bytes) = rw (← c.self.view_is) at c.requires in
+    let long = subst (λ names. length (get_or names at []) ≡ hex_len_of kind) (sym c.self.invariant.1)
+    (length-digests_in_at kind (slice_range bytes 1032 (crcs_at kind bytes)) at inside) in
+    rw (← c.self.view_is) (named_kind kind (list_of c.self.inside.names) at c.abbreviate.result long c.abbreviate.ensures.kind)
