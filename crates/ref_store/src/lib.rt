@@ -1,7 +1,7 @@
 //! What a tool over Git's object store reads, writes and keeps of ids: paths of loose objects, files
 //! of references, heads of commits, checksums of packs, names that a user types, sets and maps.
 //!
-//! The pages CALLING.md of `gix_hash` and `id_lookup` quote it.
+//! The pages CALLING.md of `gix_hash`, `id_lookup` and `pack_index` quote it.
 #![tactic(auto)]
 
 /// Ids that are compared, verified and printed, and kinds by their names.
@@ -10,6 +10,8 @@ pub mod checking;
 pub mod commits;
 /// Names that a user types and is shown.
 pub mod names;
+/// Places of objects in packs.
+pub mod offsets;
 /// Checksums of packs.
 pub mod packs;
 /// Paths of loose objects.
