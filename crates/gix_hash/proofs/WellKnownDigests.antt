@@ -12,12 +12,12 @@ use Rattle.gix_hash.specs.Hashing.{digest}
 
 pub blob_digest : (kind : Kind) → id_digits (digest kind (codes "blob 0" ++ 0 ∷ [])) ≡ empty_blob_digits kind
 unfolding fips1.first_words fips1.schedule fips1.rounds fips1.compress fips1.hash_after fips1.digest_bytes fips1.sha1
-  fips256.first_words fips256.schedule fips256.rounds fips256.compress fips256.hash_after fips256.digest_bytes fips256.sha256 digits_of digit_below
+    fips256.first_words fips256.schedule fips256.rounds fips256.compress fips256.hash_after fips256.digest_bytes fips256.sha256 digits_of digit_below
 blob_digest Sha1 = refl
 blob_digest Sha256 = refl
 
 pub tree_digest : (kind : Kind) → id_digits (digest kind (codes "tree 0" ++ 0 ∷ [])) ≡ empty_tree_digits kind
 unfolding fips1.first_words fips1.schedule fips1.rounds fips1.compress fips1.hash_after fips1.digest_bytes fips1.sha1
-  fips256.first_words fips256.schedule fips256.rounds fips256.compress fips256.hash_after fips256.digest_bytes fips256.sha256 digits_of digit_below
+    fips256.first_words fips256.schedule fips256.rounds fips256.compress fips256.hash_after fips256.digest_bytes fips256.sha256 digits_of digit_below
 tree_digest Sha1 = refl
 tree_digest Sha256 = refl
