@@ -1,5 +1,6 @@
 //! What no clause says: worked examples, texts, and devices and memory that fail.
 
+mod asking;
 mod bad_lists;
 mod digests;
 mod faults;
@@ -9,6 +10,7 @@ mod running;
 mod sealing;
 mod searches;
 mod sources;
+mod watched;
 
 use crate::expecting::{expect_bytes, expect_printed, expect_shown};
 use commands::command::{ArgError, exit_status, read_command};

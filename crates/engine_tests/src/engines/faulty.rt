@@ -49,7 +49,6 @@ pub struct Writer {
     piece: usize,
     fault: Fault,
     fails_at_flush: bool,
-    failed_at: Option<usize>,
     calls: usize,
     flushes: usize,
 }
@@ -62,7 +61,6 @@ impl Writer {
             piece,
             fault,
             fails_at_flush: false,
-            failed_at: None,
             calls: 0,
             flushes: 0,
         }
@@ -89,21 +87,6 @@ impl Writer {
     pub fn flushes(&self) -> usize {
         self.flushes
     }
-
-    /// Whether it was asked to write behind a write that answered an error, or took none of a piece
-    /// that is not empty.
-    pub fn was_asked_again(&self) -> bool {
-        match self.failed_at {
-            Some(at) => self.calls > at,
-            None => false,
-        }
-    }
-
-    fn note_failure(&mut self) {
-        if self.failed_at.is_none() {
-            self.failed_at = Some(self.calls);
-        }
-    }
 }
 
 impl io::Write for Writer {
@@ -111,13 +94,9 @@ impl io::Write for Writer {
         self.calls = self.calls.saturating_add(1);
         let len = self.bytes.len();
         if self.fault.strikes(self.calls, len) {
-            self.note_failure();
             return Err(self.fault.error());
         }
         let count = buf.len().min(self.piece).min(self.fault.room(len));
-        if count == 0 && !buf.is_empty() {
-            self.note_failure();
-        }
         self.bytes.extend_from_slice(&buf[..count])?;
         Ok(count)
     }

@@ -95,19 +95,6 @@ fn runs_finding_in_a_kind(rt: HostRuntime) {
     }
 }
 
-// Nothing is read behind a failure, and nothing flushed.
-fn expect_stopped(rt: &(impl Abort + Files + AllocGlobal), list: &str) {
-    let find = Command::Find { prefix: "4b82" };
-    let mut input = Plain::new(Reader::new(list.as_bytes(), 41, Fault::AtCall(3)));
-    let writer = Writer::failing_at_flush(Vec::new(rt.alloc()));
-    let buffered = BufWriter::new(rt.alloc(), writer).expect(rt, "no memory for a buffer");
-    let mut out = Plain::new(buffered);
-    let answered = run_command(rt, rt.alloc(), find, &mut input, &mut out);
-    expect!(rt; matches!(answered, Err(CommandError::Input)));
-    expect!(rt; input.into_inner().calls() == 3);
-    expect!(rt; !out.failed());
-}
-
 #[test]
 fn tells_a_read_that_fails(rt: HostRuntime) {
     let list = well_known_list(&rt);
@@ -130,7 +117,6 @@ fn tells_a_read_that_fails(rt: HostRuntime) {
         expect_run(&rt, find_change, list, (41, fault), "Err(Input)", NO_MATCH);
         expect_run(&rt, find_in, list, (41, fault), "Err(Input)", NO_MATCH);
     }
-    expect_stopped(&rt, list);
 }
 
 // Searches for an id of SHA-1, and what each writes.
@@ -161,13 +147,11 @@ fn expect_flushed(
     let buffered = BufWriter::new(rt.alloc(), writer).expect(rt, "no memory for a buffer");
     let mut out = Plain::new(buffered);
     let answered = run_command(rt, rt.alloc(), command, &mut input, &mut out);
-    // A failure is kept, and nothing is written behind it.
     let row = (command, answer, flushes);
     expect!(rt; out.failed() == answered.is_err(), &row);
     let (writer, _) = out.into_inner().into_parts();
     expect_bytes(rt, writer.taken(), taken, &row);
     expect!(rt; writer.flushes() == flushes, &row);
-    expect!(rt; !writer.was_asked_again(), &row);
     expect_shown(rt, answered, answer, &row);
 }
 

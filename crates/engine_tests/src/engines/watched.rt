@@ -1,0 +1,80 @@
+//! Devices of which it is known whether one was asked behind a failure.
+
+use std::cell::Cell;
+use std::io;
+
+/// How the devices of a run fared.
+#[derive(Clone, Copy, Debug, PartialEq, Eq)]
+pub enum Course {
+    /// None failed.
+    Fine,
+    /// One failed, and none was asked behind that.
+    Failed,
+    /// One was asked behind the failure of it or of another.
+    AskedAgain,
+}
+
+/// What the devices of a run tell of their calls.
+#[derive(Drop)]
+pub struct Watch {
+    course: Cell<Course>,
+}
+
+impl Watch {
+    pub fn new() -> Self {
+        Watch {
+            course: Cell::new(Course::Fine),
+        }
+    }
+
+    pub fn course(&self) -> Course {
+        self.course.get()
+    }
+
+    // A device was asked.
+    fn note(&self, fails: bool) {
+        self.course.set(match self.course.get() {
+            Course::Fine if fails => Course::Failed,
+            Course::Fine => Course::Fine,
+            Course::Failed | Course::AskedAgain => Course::AskedAgain,
+        });
+    }
+}
+
+/// A reader or a writer that tells of its calls.
+#[derive(Drop)]
+pub struct Watched<'a, T> {
+    inner: T,
+    watch: &'a Watch,
+}
+
+impl<'a, T> Watched<'a, T> {
+    pub fn new(inner: T, watch: &'a Watch) -> Self {
+        Watched { inner, watch }
+    }
+}
+
+impl<T: io::Read> io::Read for Watched<'_, T> {
+    fn read(&mut self, buf: &mut [u8]) -> io::Result<usize> {
+        let answer = self.inner.read(buf);
+        self.watch.note(answer.is_err());
+        answer
+    }
+}
+
+impl<T: io::Write> io::Write for Watched<'_, T> {
+    fn write(&mut self, buf: &[u8]) -> io::Result<usize> {
+        let answer = self.inner.write(buf);
+        self.watch.note(match &answer {
+            Ok(count) => *count == 0 && !buf.is_empty(),
+            Err(_) => true,
+        });
+        answer
+    }
+
+    fn flush(&mut self) -> io::Result<()> {
+        let answer = self.inner.flush();
+        self.watch.note(answer.is_err());
+        answer
+    }
+}
