@@ -7,8 +7,9 @@ use devices::into_slice::IntoSlice;
 use devices::plain::Plain;
 use gix_hash::Kind;
 use list_search::finding::{find, find_change};
-use list_search::finding_from::find_from;
+use list_search::finding_from::{find_change_from, find_from};
 use list_search::finding_in::find_in;
+use list_search::finding_in_from::{FindInFromError, find_in_from};
 use std::alloc::{AllocError, Global};
 use std::fmt::Debug;
 use std::process::Abort;
@@ -48,6 +49,20 @@ fn expect_each(rt: &(impl Abort + AllocGlobal), list: &[u8], answer: &str, is_fo
         let mut out = IntoSlice::new(&mut buf);
         let found = find_from(rt.alloc(), "4b82", &mut input, &mut out);
         expect(rt, "find_from", (found, out.written()), (answer, line));
+        let mut input = Plain::new(Reader::new(list, piece, Fault::Never));
+        let mut out = IntoSlice::new(&mut buf);
+        let found = find_change_from(rt.alloc(), "vorx", &mut input, &mut out);
+        let got = (found, out.written());
+        expect(rt, "find_change_from", got, (answer, letters));
+        let mut input = Plain::new(Reader::new(list, piece, Fault::Never));
+        let mut out = IntoSlice::new(&mut buf);
+        match find_in_from(rt.alloc(), Kind::Sha1, "4b82", &mut input, &mut out) {
+            Err(FindInFromError::Search(error)) => {
+                let refused: Result<usize, _> = Err(error);
+                expect(rt, "find_in_from", (refused, out.written()), (answer, line));
+            }
+            other => expect(rt, "find_in_from", (other, out.written()), (answer, line)),
+        }
     }
 }
 

@@ -12,8 +12,9 @@ use devices::sink::Sink;
 use gix_hash::Kind;
 use linked_list_allocator::LocalHeap;
 use list_search::finding::{FindError, find, find_change};
-use list_search::finding_from::{FindFromError, find_from};
+use list_search::finding_from::{FindFromError, find_change_from, find_from};
 use list_search::finding_in::{FindInError, find_in};
+use list_search::finding_in_from::{FindInFromError, find_in_from};
 use std::alloc::{AllocError, Allocator, Global};
 use std::process::Abort;
 use std::test::Fail;
@@ -30,60 +31,78 @@ const NEXT_BLOB_LETTERS: &str = "ltqmlxqooxmymtvwvoroxqplssupmrnxlvrnuwqx\n";
 enum Search {
     Find,
     FindChange,
-    FindFrom,
     FindIn,
+    FindFrom,
+    FindChangeFrom,
+    FindInFrom,
 }
 
-const SEARCHES: [Search; 4] = [
+const SEARCHES: [Search; 6] = [
     Search::Find,
     Search::FindChange,
-    Search::FindFrom,
     Search::FindIn,
+    Search::FindFrom,
+    Search::FindChangeFrom,
+    Search::FindInFrom,
 ];
 
 impl Search {
     fn run<A: Allocator, W: Sink>(self, alloc: A, list: &[u8], out: &mut W) -> Outcome
         requires { W.has_failed out.old ≡ false }
     {
+        let mut source = FromSlice::new(list);
         match self {
             Search::Find => came_of(find(alloc, "4b82", list, out)),
             Search::FindChange => came_of(find_change(alloc, "LTQM", list, out)),
-            Search::FindFrom => match find_from(alloc, "4b82", &mut FromSlice::new(list), out) {
-                Ok(count) => Outcome::Found(count),
-                Err(FindFromError::Memory) => Outcome::NoMemory,
-                Err(FindFromError::Output) => Outcome::FailedWrite,
-                Err(_) => Outcome::Refused,
-            },
-            Search::FindIn => match find_in(alloc, Kind::Sha1, "4b82", list, out) {
-                Ok(count) => Outcome::Found(count),
-                Err(FindInError::Memory) => Outcome::NoMemory,
-                Err(FindInError::Output) => Outcome::FailedWrite,
-                Err(_) => Outcome::Refused,
-            },
+            Search::FindIn => came_of_kind(find_in(alloc, Kind::Sha1, "4b82", list, out)),
+            Search::FindFrom => came_of_source(find_from(alloc, "4b82", &mut source, out)),
+            Search::FindChangeFrom => {
+                came_of_source(find_change_from(alloc, "LTQM", &mut source, out))
+            }
+            Search::FindInFrom => {
+                match find_in_from(alloc, Kind::Sha1, "4b82", &mut source, out) {
+                    Ok(count) => Outcome::Found(count),
+                    Err(FindInFromError::Search(error)) => came_of_kind(Err(error)),
+                    Err(_) => Outcome::Refused,
+                }
+            }
         }
+    }
+
+    /// Whether it looks for the empty blob, in the letters of change ids.
+    fn is_in_letters(self) -> bool {
+        matches!(self, Search::FindChange | Search::FindChangeFrom)
+    }
+
+    /// Whether it searches ids of one kind.
+    fn is_in_kind(self) -> bool {
+        matches!(self, Search::FindIn | Search::FindInFrom)
     }
 
     /// The line that it writes.
     fn line(self) -> &'static str {
-        match self {
-            Search::FindChange => BLOB_LETTERS,
-            _ => TREE,
+        if self.is_in_letters() {
+            BLOB_LETTERS
+        } else {
+            TREE
         }
     }
 
     /// The line that it writes behind that, where the list has the next id too.
     fn next_line(self) -> &'static str {
-        match self {
-            Search::FindChange => NEXT_BLOB_LETTERS,
-            _ => NEXT_TREE,
+        if self.is_in_letters() {
+            NEXT_BLOB_LETTERS
+        } else {
+            NEXT_TREE
         }
     }
 
     /// A list in which it finds two ids.
     fn list_of_two(self) -> &'static [&'static str] {
-        match self {
-            Search::FindIn => &[TREE, NEXT_TREE, BLOB, NEXT_BLOB],
-            _ => &[BLOB_256, TREE, NEXT_TREE, TREE_256, BLOB, NEXT_BLOB],
+        if self.is_in_kind() {
+            &[TREE, NEXT_TREE, BLOB, NEXT_BLOB]
+        } else {
+            &[BLOB_256, TREE, NEXT_TREE, TREE_256, BLOB, NEXT_BLOB]
         }
     }
 
@@ -92,15 +111,17 @@ impl Search {
     fn list(self, alloc: Global, lines: usize) -> Result<String, AllocError> {
         let mut text = String::new(alloc);
         for n in 3..lines.max(4) {
-            match self {
-                Search::FindIn => text.push_str(format!(in alloc; "{n:040}\n")?.as_str())?,
-                _ => text.push_str(BLOB_256)?,
+            if self.is_in_kind() {
+                text.push_str(format!(in alloc; "{n:040}\n")?.as_str())?;
+            } else {
+                text.push_str(BLOB_256)?;
             }
         }
         text.push_str(TREE)?;
-        text.push_str(match self {
-            Search::FindIn => "5000000000000000000000000000000000000000\n",
-            _ => TREE_256,
+        text.push_str(if self.is_in_kind() {
+            "5000000000000000000000000000000000000000\n"
+        } else {
+            TREE_256
         })?;
         text.push_str(BLOB)?;
         Ok(text)
@@ -112,6 +133,24 @@ fn came_of(answer: Result<usize, FindError>) -> Outcome {
         Ok(count) => Outcome::Found(count),
         Err(FindError::Memory) => Outcome::NoMemory,
         Err(FindError::Output) => Outcome::FailedWrite,
+        Err(_) => Outcome::Refused,
+    }
+}
+
+fn came_of_source(answer: Result<usize, FindFromError>) -> Outcome {
+    match answer {
+        Ok(count) => Outcome::Found(count),
+        Err(FindFromError::Memory) => Outcome::NoMemory,
+        Err(FindFromError::Output) => Outcome::FailedWrite,
+        Err(_) => Outcome::Refused,
+    }
+}
+
+fn came_of_kind(answer: Result<usize, FindInError>) -> Outcome {
+    match answer {
+        Ok(count) => Outcome::Found(count),
+        Err(FindInError::Memory) => Outcome::NoMemory,
+        Err(FindInError::Output) => Outcome::FailedWrite,
         Err(_) => Outcome::Refused,
     }
 }
@@ -254,7 +293,7 @@ fn expect_each_refused(rt: &(impl Abort + AllocGlobal), search: Search) -> Resul
     Err(Fail::new("some growth was refused each time"))
 }
 
-// Lists of 4, 8 and 9 lines make one growth, two and three.
+// Lists of 4, 8 and 9 lines make one growth, two and three for their ids, and one for what is found.
 #[test]
 fn tell_each_growth_that_is_refused(rt: HostRuntime) -> Result<(), Fail> {
     for search in SEARCHES {

@@ -1,17 +1,66 @@
 //! Finding in what a source gives: cut into pieces, ended early, and with devices that fail.
 
 use super::faulty::{Fault, Reader};
-use super::{BLOB, BLOB_256, NO_MATCH, TREE, text_of, well_known_list};
+use super::{BLOB, BLOB_256, NO_MATCH, TREE, TREE_LETTERS, text_of, well_known_list};
 use crate::expecting::{expect_bytes, expect_printed, expect_shown};
 use devices::into_slice::IntoSlice;
 use devices::plain::Plain;
-use gix_hash::{decode, prefix};
-use list_search::finding_from::{FindFromError, find_from};
+use gix_hash::{Kind, decode, prefix};
+use list_search::finding_from::{FindFromError, find_change_from, find_from};
+use list_search::finding_in::FindInError;
+use list_search::finding_in_from::{FindInFromError, find_in_from};
 use std::process::Abort;
 use std::test::Fail;
 
+/// A search in what a source gives: in hex, in the letters of change ids, or among ids of SHA-1.
+#[derive(Clone, Copy, Debug)]
+enum By {
+    Hex,
+    Letters,
+    Sha1,
+}
+
+const EACH: [By; 3] = [By::Hex, By::Letters, By::Sha1];
+
 // Finds the prefix in what the reader gives in pieces of so many bytes, and compares the answer's
 // Debug text, what was written, and whether the reader failed. Answers how often it was called.
+fn expect_by(
+    rt: &(impl Abort + AllocGlobal),
+    by: By,
+    prefix: &str,
+    list: &[u8],
+    reader: (usize, Fault),
+    want: (&str, &str),
+) -> usize {
+    let (piece, fault) = reader;
+    let (answer, written) = want;
+    let mut input = Plain::new(Reader::new(list, piece, fault));
+    let mut buf = [0; 256];
+    let mut out = IntoSlice::new(&mut buf);
+    let row = (by, prefix, piece);
+    let is_told = match by {
+        By::Sha1 => {
+            let found = find_in_from(rt.alloc(), Kind::Sha1, prefix, &mut input, &mut out);
+            let is_told = matches!(found, Err(FindInFromError::Input));
+            expect_shown(rt, found, answer, &row);
+            is_told
+        }
+        By::Hex | By::Letters => {
+            let found = match by {
+                By::Letters => find_change_from(rt.alloc(), prefix, &mut input, &mut out),
+                _ => find_from(rt.alloc(), prefix, &mut input, &mut out),
+            };
+            let is_told = matches!(found, Err(FindFromError::Input));
+            expect_shown(rt, found, answer, &row);
+            is_told
+        }
+    };
+    expect!(rt; is_told == input.failed(), &row);
+    expect_bytes(rt, out.written(), written.as_bytes(), &row);
+    input.into_inner().calls()
+}
+
+// As `expect_by`, in hex.
 fn expect_from(
     rt: &(impl Abort + AllocGlobal),
     prefix: &str,
@@ -20,17 +69,7 @@ fn expect_from(
     answer: &str,
     written: &str,
 ) -> usize {
-    let (piece, fault) = reader;
-    let mut input = Plain::new(Reader::new(list, piece, fault));
-    let mut buf = [0; 256];
-    let mut out = IntoSlice::new(&mut buf);
-    let found = find_from(rt.alloc(), prefix, &mut input, &mut out);
-    let row = (prefix, piece);
-    let is_told = matches!(found, Err(FindFromError::Input));
-    expect!(rt; is_told == input.failed(), &row);
-    expect_bytes(rt, out.written(), written.as_bytes(), &row);
-    expect_shown(rt, found, answer, &row);
-    input.into_inner().calls()
+    expect_by(rt, By::Hex, prefix, list, reader, (answer, written))
 }
 
 /// As `expect_from`, of a reader that does not fail, in pieces of 1, of 7 and of 41 bytes, and whole.
@@ -56,6 +95,48 @@ fn finds_however_it_is_cut(rt: HostRuntime) {
         expect_however_cut(&rt, "473a0f", list, "Ok(1)", BLOB_256);
         expect_however_cut(&rt, "e69d", list, "Ok(1)", BLOB);
         expect_however_cut(&rt, "ffff", list, "Ok(0)", NO_MATCH);
+    }
+}
+
+#[test]
+fn finds_by_letters_and_in_a_kind_however_it_is_cut(rt: HostRuntime) {
+    let list = text_of(&rt, [TREE, BLOB].as_slice());
+    let list = list.as_bytes();
+    assert!(&rt; !list.is_empty());
+    let falls = text_of(&rt, [TREE, BLOB, TREE].as_slice());
+    let twice = text_of(&rt, [TREE, BLOB, BLOB].as_slice());
+    let mixed = text_of(&rt, [TREE, BLOB_256].as_slice());
+    let not_rising = "Err(Search(NotRising { line: 3 }))";
+    let rows = [
+        (By::Letters, "vorx", list, ("Ok(1)", TREE_LETTERS)),
+        (By::Letters, "zzzz", list, ("Ok(0)", NO_MATCH)),
+        (
+            By::Letters,
+            "vorx",
+            falls.as_bytes(),
+            ("Err(Unsorted { line: 3 })", NO_MATCH),
+        ),
+        (
+            By::Letters,
+            "vorx",
+            twice.as_bytes(),
+            ("Ok(1)", TREE_LETTERS),
+        ),
+        (By::Sha1, "4", list, ("Ok(1)", TREE)),
+        (By::Sha1, "e69de", &list[..list.len() - 1], ("Ok(1)", BLOB)),
+        (By::Sha1, "4", falls.as_bytes(), (not_rising, NO_MATCH)),
+        (By::Sha1, "4", twice.as_bytes(), (not_rising, NO_MATCH)),
+        (
+            By::Sha1,
+            "4",
+            mixed.as_bytes(),
+            ("Err(Search(WrongKind { line: 2 }))", NO_MATCH),
+        ),
+    ];
+    for (by, prefix, list, want) in rows {
+        for piece in [1, 7, 41, 42, usize::MAX] {
+            expect_by(&rt, by, prefix, list, (piece, Fault::Never), want);
+        }
     }
 }
 
@@ -92,17 +173,31 @@ fn reads_no_piece_behind_a_bad_line(rt: HostRuntime) {
 
 #[test]
 fn tells_each_read_that_fails(rt: HostRuntime) {
-    let list = well_known_list(&rt);
+    let list = text_of(&rt, [TREE, BLOB].as_slice());
     let list = list.as_bytes();
-    // 212 bytes in pieces of 7, and the read that meets the end.
-    for at in 1..=32 {
-        for fault in [Fault::AtCall(at), Fault::InterruptedAt(at)] {
-            let calls = expect_from(&rt, "4b82", list, (7, fault), "Err(Input)", NO_MATCH);
-            // Nothing is read behind a failure.
-            expect!(&rt; calls == at, &at);
+    for by in EACH {
+        let (prefix, line) = match by {
+            By::Letters => ("vorx", TREE_LETTERS),
+            _ => ("4b82", TREE),
+        };
+        // 82 bytes in pieces of 7, and the read that meets the end.
+        for at in 1..=13 {
+            for fault in [Fault::AtCall(at), Fault::InterruptedAt(at)] {
+                let failed = ("Err(Input)", NO_MATCH);
+                let calls = expect_by(&rt, by, prefix, list, (7, fault), failed);
+                // Nothing is read behind a failure.
+                expect!(&rt; calls == at, &at);
+            }
         }
+        expect_by(
+            &rt,
+            by,
+            prefix,
+            list,
+            (7, Fault::AtCall(14)),
+            ("Ok(1)", line),
+        );
     }
-    expect_from(&rt, "4b82", list, (7, Fault::AtCall(33)), "Ok(1)", TREE);
 }
 
 #[test]
@@ -130,6 +225,22 @@ fn prints_refusals(rt: HostRuntime) {
         (FindFromError::Output, "cannot write"),
         (FindFromError::Input, "cannot read"),
         (FindFromError::TooMuch, "too much input"),
+    ];
+    for (error, text) in rows {
+        expect_printed(&rt, error, text);
+    }
+}
+
+#[test]
+fn prints_refusals_in_a_kind(rt: HostRuntime) {
+    let rows = [
+        (
+            FindInFromError::Search(FindInError::NotRising { line: 3 }),
+            "line 3: not above the line before it",
+        ),
+        (FindInFromError::Search(FindInError::Output), "cannot write"),
+        (FindInFromError::Input, "cannot read"),
+        (FindInFromError::TooMuch, "too much input"),
     ];
     for (error, text) in rows {
         expect_printed(&rt, error, text);
