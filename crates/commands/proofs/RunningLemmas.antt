@@ -1,5 +1,5 @@
 -- A command that was done, and its flush.
-use Rattle.std.proofs.Common.{◌≡◌, ℕ, Option, Some, None, List, [], sym, append-nil}
+use Rattle.std.proofs.Common.{ℕ, Option, Some, None, List, [], sym, append-nil}
 use Rattle.std.specs.Prelude.{Result}
 use Rattle.std.specs.Io.KnownBytes.{Appends, Keeps}
 use Rattle.commands.specs.declared.command.Command.{Command}

@@ -4,11 +4,9 @@ use Rattle.std.specs.Io.KnownBytes.{Appends}
 use Rattle.gix_hash.specs.Digits.{hex_letter, reverse_letter}
 use Rattle.commands.specs.declared.command.Command.{Command}
 use Rattle.commands.specs.declared.command.Command.TheVariants.{Find, FindChange, FindIn, Hash, HashFile, Seal}
-use Rattle.list_search.specs.declared.finding.FindError.{FindError}
 use Rattle.list_search.specs.declared.finding.FindError.TheVariants as found
 use Rattle.list_search.specs.declared.finding_from.FindFromError.{FindFromError}
 use Rattle.list_search.specs.declared.finding_from.FindFromError.TheVariants as from
-use Rattle.list_search.specs.declared.finding_in.FindInError.{FindInError}
 use Rattle.commands.specs.declared.running.CommandError.{CommandError}
 use Rattle.commands.specs.declared.running.CommandError.TheVariants as command
 use Rattle.pipes.specs.declared.PipeError.{PipeError}
