@@ -262,6 +262,8 @@ fn find_in_to_end<A: Allocator, R: Source, W: Sink>(
 }
 
 // Writes the digest of the first `count` bytes of a file: the lowercase hex digits and a line feed.
+// Its piece is on the stack while it runs alone.
+#[inline(never)]
 fn hash_file<F: Files, W: Sink>(
     files: &F,
     path: &str,
@@ -282,7 +284,8 @@ fn hash_file<F: Files, W: Sink>(
     Ok(write_id(Alphabet::Hex, &id, out)?)
 }
 
-// Reads the source to its end, and keeps nothing.
+// Reads the source to its end, and keeps nothing. Its piece is on the stack while it runs alone.
+#[inline(never)]
 fn read_on<R: Source>(input: &mut R) -> Result<(), CommandError>
     requires { R.has_failed input.old ≡ false }
     ensures stands { OnOk result (R.has_failed input.new ≡ false) }

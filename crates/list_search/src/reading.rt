@@ -65,6 +65,8 @@ pub fn find_in_text<A: Allocator + Copy, O: ListOrder>(
 ///
 /// It reads nothing behind the piece in which the first bad line ends, and never again where a read
 /// answered an error.
+// Its piece is on the stack while it runs alone.
+#[inline(never)]
 pub fn find_in_source<A: Allocator + Copy, O: ListOrder, R: Source>(
     alloc: A,
     order: O,

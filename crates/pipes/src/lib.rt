@@ -80,7 +80,9 @@ pub fn seal<R: Source, W: Sink>(input: &mut R, out: &mut W, kind: Kind) -> Resul
     Ok(write_all(out, id.as_slice())?)
 }
 
-// Copies the source to its end, and answers the digest of all that it gave.
+// Copies the source to its end, and answers the digest of all that it gave. Its piece is on the
+// stack while it runs alone.
+#[inline(never)]
 fn copy_all<R: Source, W: Sink>(
     input: &mut R,
     out: &mut W,
