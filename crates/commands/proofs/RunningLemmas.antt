@@ -7,29 +7,25 @@ use Rattle.commands.specs.declared.command.Command.TheVariants.{Find, FindChange
 use Rattle.devices.specs.Printing.{printed}
 use Rattle.list_search.specs.Finding.{IsFound}
 use Rattle.pipes.specs.Pipe.{digest_line, sealed}
-use Rattle.commands.specs.Running.{IsFoundAtMost, Writes, WritesAtMost, Does, DoesAtMost}
+use Rattle.commands.specs.Running.{AppendsAtMost, IsFoundAtMost, Writes, Does, DoesAtMost}
 use Rattle.devices.specs.Writing.{Appends-kept}
 
--- all lines are a beginning of them
+-- all of the bytes are a beginning of them
+all_written : (a b c : Option (List ℕ)) (bytes : List ℕ) → Appends a b bytes → Keeps b c → AppendsAtMost a c bytes
+all_written a b c bytes written kept = record {
+  part = bytes;
+  rest = [];
+  is_beginning = sym (append-nil bytes);
+  written = Appends-kept a b c bytes written kept;
+}
+
+-- and all lines of theirs
 all_lines : {E : Type 0} (letter : ℕ → ℕ) (answer : Result (List (List ℕ)) E) (a b c : Option (List ℕ)) (count : ℕ) → IsFound letter answer a b count
     → Keeps b c → IsFoundAtMost letter answer a c
 all_lines letter answer a b c count found kept = record {
   ids = found.ids;
   found = found.found;
-  part = printed letter found.ids;
-  rest = [];
-  is_beginning = sym (append-nil (printed letter found.ids));
-  written = Appends-kept a b c (printed letter found.ids) found.written kept;
-}
-
--- all bytes are a beginning of them
-all_bytes : (make : List ℕ → List ℕ) (message : List ℕ) (a b c : Option (List ℕ)) → Appends a b (make message) → Keeps b c
-    → WritesAtMost make message a c
-all_bytes make message a b c written kept = record {
-  part = make message;
-  rest = [];
-  is_beginning = sym (append-nil (make message));
-  written = Appends-kept a b c (make message) written kept;
+  lines = all_written a b c (printed letter found.ids) found.written kept;
 }
 
 -- what was found stays found, and what was written stays written
@@ -71,12 +67,12 @@ done_at_most (FindChange letters) (Some text) a b c count done kept = all_lines 
 done_at_most (FindIn kind prefix) None a b c count done kept = tt
 done_at_most (FindIn kind prefix) (Some text) a b c count done kept = all_lines _ _ a b c count done kept
 done_at_most (Hash kind) None a b c count done kept = tt
-done_at_most (Hash kind) (Some text) a b c count done kept = all_bytes (digest_line kind) text a b c done.0.written kept
-done_at_most (HashFile kind n path) input a b c count done kept = (done.0.0, done.0.1, all_bytes (digest_line kind) done.0.0 a b c done.0.2 kept)
+done_at_most (Hash kind) (Some text) a b c count done kept = all_written a b c (digest_line kind text) done.0.written kept
+done_at_most (HashFile kind n path) input a b c count done kept = (done.0.0, done.0.1, all_written a b c (digest_line kind done.0.0) done.0.2 kept)
 done_at_most (Seal kind) None a b c count done kept = tt
 done_at_most (Seal kind) (Some text) a b c count done kept = record {
   message = text;
   unread = [];
   text_is = sym (append-nil text);
-  copied = all_bytes (sealed kind) text a b c done.0.written kept;
+  copied = all_written a b c (sealed kind text) done.0.written kept;
 }

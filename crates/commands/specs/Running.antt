@@ -33,14 +33,18 @@ refusal_from_source from.Output = command.Output
 refusal_from_source from.Input = command.Input
 refusal_from_source from.TooMuch = command.TooMuch
 
+-- a beginning of the bytes was written, or all
+pub record AppendsAtMost (old new : Option (List ℕ)) (whole : List ℕ) : Type 0 where
+  pub part : List ℕ
+  pub rest : List ℕ
+  pub is_beginning : whole ≡ part ++ rest
+  pub written : Appends old new part
+
 -- the answer is ids, of whose lines a beginning was written, or all
 pub record IsFoundAtMost {E : Type 0} (letter : ℕ → ℕ) (answer : Result (List (List ℕ)) E) (old new : Option (List ℕ)) : Type 0 where
   pub ids : List (List ℕ)
   pub found : answer ≡ Ok ids
-  pub part : List ℕ
-  pub rest : List ℕ
-  pub is_beginning : printed letter ids ≡ part ++ rest
-  pub written : Appends old new part
+  pub lines : AppendsAtMost old new (printed letter ids)
 
 -- whether a command reads the input, and not a file
 abbrev pub reads_source : Command → Bool
@@ -57,19 +61,12 @@ pub record Writes (make : List ℕ → List ℕ) (message : List ℕ) (old new :
   pub has_digest : length message < 2 ^ 61
   pub written : Appends old new (make message)
 
--- a beginning of them was written, or all
-pub record WritesAtMost (make : List ℕ → List ℕ) (message : List ℕ) (old new : Option (List ℕ)) : Type 0 where
-  pub part : List ℕ
-  pub rest : List ℕ
-  pub is_beginning : make message ≡ part ++ rest
-  pub written : Appends old new part
-
--- the same of a message that the text begins with
+-- a beginning was written of what is made of a message that the text begins with, or all
 pub record CopiesAtMost (make : List ℕ → List ℕ) (text : List ℕ) (old new : Option (List ℕ)) : Type 0 where
   pub message : List ℕ
   pub unread : List ℕ
   pub text_is : text ≡ message ++ unread
-  pub copied : WritesAtMost make message old new
+  pub copied : AppendsAtMost old new (make message)
 
 -- what a command has done that answers a number, by its input, where that is known, and by what was written before and after
 abbrev pub Does : Command → Option (List ℕ) → Option (List ℕ) → Option (List ℕ) → ℕ → Type 0
@@ -85,8 +82,8 @@ abbrev pub DoesAtMost : Command → Option (List ℕ) → Option (List ℕ) → 
 DoesAtMost (Find prefix) input old new = IfSome input (λ text. IsFoundAtMost hex_letter (finding hex_letter prefix.now text) old new)
 DoesAtMost (FindChange letters) input old new = IfSome input (λ text. IsFoundAtMost reverse_letter (finding reverse_letter letters.now text) old new)
 DoesAtMost (FindIn kind prefix) input old new = IfSome input (λ text. IsFoundAtMost hex_letter (finding_in kind prefix.now text) old new)
-DoesAtMost (Hash kind) input old new = IfSome input (λ text. WritesAtMost (digest_line kind) text old new)
-DoesAtMost (HashFile kind n path) input old new = (message : List ℕ) × (length message ≡ n) × WritesAtMost (digest_line kind) message old new
+DoesAtMost (Hash kind) input old new = IfSome input (λ text. AppendsAtMost old new (digest_line kind text))
+DoesAtMost (HashFile kind n path) input old new = (message : List ℕ) × (length message ≡ n) × AppendsAtMost old new (digest_line kind message)
 DoesAtMost (Seal kind) input old new = IfSome input (λ text. CopiesAtMost (sealed kind) text old new)
 
 -- what a command has copied where it stops with an error that is not the writer's
