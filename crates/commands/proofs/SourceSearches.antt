@@ -1,5 +1,5 @@
 -- A search in what a source gives, as one in all that it has, where that is known.
-use Rattle.std.proofs.Common.{◌≡◌, ◌≢◌, ◌<◌, ◌≤◌, ◌^◌, ℕ, inl, inr, Option, Some, None, List, [], ◌∷◌, ◌++◌, length, length-append, refl, sym, ap, ◌∙◌, subst, append_assoc, append-nil, arith, IfErr, IfSome, IsErrOf, IsErrAnd, Ok, Err}
+use Rattle.std.proofs.Common.{◌≡◌, ◌≢◌, ◌≤◌, ◌^◌, ℕ, inl, inr, Option, Some, None, List, [], ◌++◌, length, length-append, refl, sym, ap, ◌∙◌, subst, append_assoc, append-nil, arith, IfErr, IfSome, IsErrOf, IsErrAnd, Ok, Err}
 use denote.Ref.{Bor}
 use Rattle.std.specs.Prelude.{Result}
 use Rattle.gix_hash.specs.Digits.{hex_letter}
@@ -56,16 +56,8 @@ source_some letter prefix error (Err e) a b c d is stops ran_out = by_error erro
 -- a source that gave too much has it
 too_much : (a b : Option (List ℕ)) → GivesTooMuch a b → IfSome a (λ bytes. 2 ^ 61 ≤ length bytes)
 too_much None b given = tt
-too_much (Some xs) None given = absurd given.gives
-too_much (Some xs) (Some ys) given =
-    let whole = length-append (given.text ++ given.behind) ys in
-    let front = length-append given.text given.behind in
-    let some : 0 < length given.behind = some_length given.behind given.some_more in
-    omega (arith, ap length given.gives, given.full)
-  where
-    some_length : (bytes : List ℕ) → bytes ≢ [] → 0 < length bytes
-    some_length [] some = absurd (some refl)
-    some_length (x ∷ bytes) some = omega arith
+too_much (Some xs) None given = absurd given.more.gives
+too_much (Some xs) (Some ys) given = omega (arith, ap length given.more.gives, given.more.too_long, length-append given.bytes ys)
 
 -- a source that gave some of what was settled, or too much, was not empty
 pub settled_some : (a b : Option (List ℕ)) → IsSettled (λ text. IsFirstRead (lines_of text)) a b → IfSome a (λ bytes. bytes ≢ [])

@@ -1,13 +1,14 @@
 -- What a source has given to a reader of pieces, read by read.
-use Rattle.std.proofs.Common.{◌≡◌, ◌≢◌, ◌↔◌, ◌||◌, Bool, true, false, ℕ, ◌+◌, ◌^◌, ◌<◌, ◌≤◌, inl, inr, Option, List, [], ◌++◌, length, take, drop, refl, sym, ap, ◌∙◌, subst, arith, append_assoc, length-append, length-take, length-drop, take-append-drop, append-nil, Result, Err}
+use Rattle.std.proofs.Common.{◌≡◌, ◌≢◌, ◌↔◌, ◌||◌, Bool, true, false, ℕ, ◌+◌, ◌^◌, ◌<◌, ◌≤◌, inl, inr, Option, List, [], ◌∷◌, ◌++◌, length, take, drop, refl, sym, ap, ◌∙◌, subst, arith, append_assoc, length-append, length-take, length-drop, take-append-drop, append-nil, Result, Err}
 use Rattle.std.proofs.lemmas.Bool.{false≢true}
 use Rattle.std.proofs.lemmas.List.{take-take}
 use Rattle.std.proofs.KnownBytes.{Consumes-nil, Consumes-trans, Consumes-kept}
 use Rattle.std.specs.Io.KnownBytes.{Consumes, Keeps, IsAtEnd}
-use Rattle.devices.specs.Source.{GivesAll}
+use Rattle.devices.specs.Source.{GivesAll, max_len}
+use Rattle.std.proofs.Math.Seq.{take-append_seam}
 use Rattle.gix_hash.specs.declared.ObjectId.{ObjectId}
 use Rattle.list_search.specs.FindingFrom.{IsSettled, GivesGoodLines, GivesTooMuch}
-use Rattle.list_search.specs.ListPieces.{HasTaken}
+use Rattle.list_search.specs.ListPieces.{HasTaken, NoBadLineEnded}
 use Rattle.list_search.specs.declared.reading.ReadError.{ReadError}
 use Rattle.list_search.specs.declared.reading.ReadError.TheVariants.{Input}
 use Rattle.list_search.proofs.PieceLemmas.{no_bad_line}
@@ -28,6 +29,10 @@ taken_none ids kept len room old taken limit = record {
   taken = taken;
   limit = omega (arith, limit);
 }
+
+some_length : (bytes : List ℕ) → bytes ≢ [] → 0 < length bytes
+some_length [] some = absurd (some refl)
+some_length (x ∷ bytes) some = omega arith
 
 -- one read more
 module _ (ids : List ObjectId) (kept : List ℕ) (len room : ℕ) (old now new : Option (List ℕ)) (t : IsTaken ids kept len room old now) where
@@ -77,14 +82,20 @@ module _ (ids : List ObjectId) (kept : List ℕ) (len room : ℕ) (old now new :
     -- and more than there was room for
     pub too_much : (new_ids : List ObjectId) (new_kept : List ℕ) (new_len : ℕ) → length piece ≡ room → behind ≢ []
         → HasTaken new_ids new_kept new_len (t.text ++ piece) → GivesTooMuch old new
-    too_much new_ids new_kept new_len full some taken = record {
-      text = t.text ++ piece;
-      behind = behind;
-      gives = given;
-      full = omega (arith, t.limit, length-append t.text piece);
-      some_more = some;
-      good = no_bad_line new_ids new_kept new_len (t.text ++ piece) taken;
-    }
+    too_much new_ids new_kept new_len full some taken =
+        let text = t.text ++ piece in
+        let len = length-append t.text piece in
+        let most : length text ≡ max_len = omega (arith, t.limit, len) in
+        record {
+          bytes = text ++ behind;
+          more = record {
+            too_long = omega (arith, t.limit, len, length-append text behind, some_length behind some);
+            gives = given;
+          };
+          good =
+              subst NoBadLineEnded (sym (ap (λ n. take n (text ++ behind)) (sym most) ∙ take-append_seam text behind))
+              (no_bad_line new_ids new_kept new_len text taken);
+        }
 
   -- it gave a piece that was taken
   pub taken_piece : (new_ids : List ObjectId) (new_kept : List ℕ) (new_len new_room : ℕ) (piece : List ℕ) → Consumes now new piece

@@ -1,5 +1,5 @@
 -- Finding a prefix in what a source gives, and where the reading stops.
-use Rattle.std.specs.Prelude.{◌≡◌, ◌≢◌, ◌⊎◌, ℕ, ◌+◌, ◌^◌, ◌<◌, Option, List, [], ◌++◌, length, IsOk, Err}
+use Rattle.std.specs.Prelude.{◌≡◌, ◌⊎◌, ℕ, ◌^◌, ◌<◌, Option, List, [], ◌++◌, take, length, IsOk, Err}
 use Rattle.std.specs.Io.KnownBytes.{Consumes, IsAtEnd}
 use Rattle.gix_hash.specs.Digits.{hex_letter}
 use Rattle.gix_hash.specs.PrefixReading.{prefix_read, prefix_read_in}
@@ -9,7 +9,7 @@ use Rattle.list_search.specs.FindingIn.{finding_in, refusal_of_list_in}
 use Rattle.list_search.specs.Lines.{lines_of}
 use Rattle.list_search.specs.ListPieces.{NoBadLineEnded}
 use Rattle.list_search.specs.ListText.{IsFirstRead, RefusesList}
-use Rattle.devices.specs.Source.{GivesAll}
+use Rattle.devices.specs.Source.{GivesAll, GivesMore, max_len}
 use Rattle.list_search.specs.declared.finding.FindError.{FindError}
 use Rattle.list_search.specs.declared.finding.FindError.TheVariants as search
 use Rattle.list_search.specs.declared.finding_from.FindFromError.{FindFromError}
@@ -35,14 +35,11 @@ pub record GivesGoodLines (old new : Option (List ℕ)) : Type 0 where
   pub short : length text < 2 ^ 61
   pub good : NoBadLineEnded text
 
--- the source gave more than 2^61 - 1 bytes, and in the first of them no bad line ended
+-- the source gave more than the most bytes of a message, and in the first of them no bad line ended
 pub record GivesTooMuch (old new : Option (List ℕ)) : Type 0 where
-  pub text : List ℕ
-  pub behind : List ℕ
-  pub gives : Consumes old new (text ++ behind)
-  pub full : length text + 1 ≡ 2 ^ 61
-  pub some_more : behind ≢ []
-  pub good : NoBadLineEnded text
+  pub bytes : List ℕ
+  pub more : GivesMore old new bytes
+  pub good : NoBadLineEnded (take max_len bytes)
 
 -- where the reading of a list text stops
 abbrev pub ReadingStops : ReadError → Option (List ℕ) → Option (List ℕ) → Type 0

@@ -1,12 +1,12 @@
 -- What a pipe reads and writes until it ends or stops.
-use Rattle.std.specs.Prelude.{ℕ, ◌≤◌, ◌^◌, Option, List, ◌++◌, length}
-use Rattle.std.specs.Io.KnownBytes.{Appends, Consumes}
+use Rattle.std.specs.Prelude.{ℕ, Option, List, ◌++◌}
+use Rattle.std.specs.Io.KnownBytes.{Appends}
 use Rattle.gix_hash.specs.Digits.{hex_letter}
 use Rattle.gix_hash.specs.Hashing.{digest}
 use Rattle.gix_hash.specs.ObjectId.{id_bytes, id_digits}
 use Rattle.gix_hash.specs.declared.Kind.{Kind}
 use Rattle.devices.specs.Printing.{line_of}
-use Rattle.devices.specs.Source.{Gives, GivesAll}
+use Rattle.devices.specs.Source.{Gives, GivesAll, GivesMore}
 use Rattle.devices.specs.Writing.{AppendsPart}
 use Rattle.pipes.specs.declared.PipeError.{PipeError}
 use Rattle.pipes.specs.declared.PipeError.TheVariants.{Input, Output, TooMuch}
@@ -18,11 +18,6 @@ digest_line kind message = line_of hex_letter (id_digits (digest kind message))
 -- a message, and the bytes of its digest behind it
 abbrev pub sealed : Kind → List ℕ → List ℕ
 sealed kind message = message ++ id_bytes (digest kind message)
-
--- the source gave a longer message
-pub record GivesMore (old new : Option (List ℕ)) (message : List ℕ) : Type 0 where
-  pub too_long : 2 ^ 61 ≤ length message
-  pub gives : Consumes old new message
 
 -- where hashing stops: what the source gave before, and what the sink took of the line
 abbrev pub HashingStops : PipeError → Kind → Option (List ℕ) → Option (List ℕ) → Option (List ℕ) → Option (List ℕ) → Type 0
