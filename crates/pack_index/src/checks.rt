@@ -11,7 +11,7 @@ use crate::error::Error;
 use crate::words::{
     LONG, NAMES_AT, count_in, digest_at, long_at, offset_word, tables_end, word_at,
 };
-use gix_hash::{Kind, hasher};
+use gix_hash::{Kind, digest_of};
 use id_lookup::FanOut;
 
 const MAGIC: u32 = 0xff74_4f63;
@@ -111,10 +111,5 @@ pub(crate) fn has_checksum(bytes: &[u8], kind: Kind) -> bool
     ensures { IsTrue result ↔ HasChecksum kind bytes.now }
 {
     let (front, checksum) = bytes.split_at(digest_at(bytes, kind));
-    let mut hasher = hasher(kind);
-    hasher.update(front);
-    match hasher.try_finalize() {
-        Ok(id) => id.as_slice() == checksum,
-        Err(_) => false,
-    }
+    digest_of(kind, front).as_slice() == checksum
 }

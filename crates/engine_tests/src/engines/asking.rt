@@ -12,8 +12,9 @@ use devices::sink::{BufferedSink, Sink, write_all};
 use devices::source::Source;
 use gix_hash::{Alphabet, Kind};
 use list_search::finding::{find, find_change};
-use list_search::finding_from::find_from;
+use list_search::finding_from::{find_change_from, find_from};
 use list_search::finding_in::find_in;
+use list_search::finding_in_from::find_in_from;
 use pipes::{hash_all, seal};
 use std::fs;
 use std::io::{BufWriter, ErrorKind};
@@ -39,19 +40,23 @@ enum Engine {
     FindChange,
     FindIn,
     FindFrom,
+    FindChangeFrom,
+    FindInFrom,
     Hash,
     Seal,
 }
 
 // How often each reads and writes where nothing fails: two pieces and the end are read, a line of 41
 // bytes takes six writes, and the digest of a sealed list takes three.
-const ENGINES: [(Engine, usize, usize); 8] = [
+const ENGINES: [(Engine, usize, usize); 10] = [
     (Engine::WriteAll, 0, 12),
     (Engine::WriteIds, 0, 12),
     (Engine::Find, 0, 6),
     (Engine::FindChange, 0, 6),
     (Engine::FindIn, 0, 6),
     (Engine::FindFrom, 3, 6),
+    (Engine::FindChangeFrom, 3, 6),
+    (Engine::FindInFrom, 3, 6),
     (Engine::Hash, 3, 6),
     (Engine::Seal, 3, 15),
 ];
@@ -78,6 +83,8 @@ impl Engine {
             Engine::FindChange => find_change(alloc, "LTQM", text, out).is_ok(),
             Engine::FindIn => find_in(alloc, kind, "4b82", text, out).is_ok(),
             Engine::FindFrom => find_from(alloc, "4b82", input, out).is_ok(),
+            Engine::FindChangeFrom => find_change_from(alloc, "LTQM", input, out).is_ok(),
+            Engine::FindInFrom => find_in_from(alloc, kind, "4b82", input, out).is_ok(),
             Engine::Hash => hash_all(input, out, kind).is_ok(),
             Engine::Seal => seal(input, out, kind).is_ok(),
         }

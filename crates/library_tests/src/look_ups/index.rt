@@ -3,8 +3,8 @@
 use super::{expect_at_most, thousand};
 use crate::types::{BLOB, BLOB_256, TREE, TREE_256, expect_text, id};
 use gix_hash::{Kind, ObjectId, Prefix};
-use id_lookup::laws::find_own_name;
-use id_lookup::{Answer, Id, IdIndex, IndexError, Run, lookup_in};
+use id_lookup::laws::{find_own_name, matches_in_parts};
+use id_lookup::{Answer, FanOut, Id, IdIndex, IndexError, Run, SortedIds, lookup_in};
 use std::process::Abort;
 use std::test::Fail;
 
@@ -224,6 +224,56 @@ fn shortest_names(rt: HostRuntime) {
         ],
         &["12340", "12345678", "12345679", "1235"],
     )
+}
+
+#[test]
+fn names_from_more_digits(rt: HostRuntime) {
+    let ids = two_alike(&rt);
+    let index = IdIndex::try_new(&ids, Kind::Sha1).expect(&rt, "ids of no index");
+    let sorted = SortedIds::try_new(&ids).expect(&rt, "ids that are not sorted");
+    assert!(&rt; index.len() == 3);
+    assert!(&rt; sorted.len() == 3);
+    for (least, names) in [
+        (4, ["abcd0", "abcd1", "ffff"]),
+        (5, ["abcd0", "abcd1", "ffff0"]),
+        (7, ["abcd000", "abcd100", "ffff000"]),
+    ] {
+        for (at, want) in names.into_iter().enumerate() {
+            assert!(&rt; at < 3);
+            expect_text(&rt, index.abbreviate_from(at, least), want);
+            let name = sorted.abbreviate_from(at, least);
+            expect!(&rt; name == Some(index.abbreviate_from(at, least)), &want);
+        }
+    }
+    let twice = [ids[0], ids[0]];
+    let sorted = SortedIds::try_new(&twice).expect(&rt, "ids that are not sorted");
+    assert!(&rt; sorted.len() == 2);
+    expect!(&rt; sorted.abbreviate_from(0, 4).is_none());
+}
+
+#[test]
+fn members_that_match(rt: HostRuntime) {
+    matches_in_parts();
+    let ids = two_alike(&rt);
+    let index = IdIndex::try_new(&ids, Kind::Sha1).expect(&rt, "ids of no index");
+    let sorted = SortedIds::try_new(&ids).expect(&rt, "ids that are not sorted");
+    expect!(&rt; index.members() == ids.as_slice());
+    expect!(&rt; sorted.members() == ids.as_slice());
+    expect!(&rt; FanOut::of(&ids).up_to(0xab) == 2);
+    assert!(&rt; index.len() == 3);
+    expect!(&rt; *index.get(2) == ids[2]);
+    for (digits, from, to) in [
+        ("abcd", 0, 2),
+        ("abcd1", 1, 2),
+        ("abce", 0, 0),
+        ("ffff", 2, 3),
+    ] {
+        let prefix = Prefix::from_hex(digits).expect(&rt, "no prefix");
+        assert!(&rt; prefix.as_oid().kind() == index.kind());
+        assert!(&rt; prefix.hex_len() <= sorted.min_hex_len());
+        expect!(&rt; index.matches(&prefix) == &ids[from..to], &digits);
+        expect!(&rt; sorted.matches(&prefix) == &ids[from..to], &digits);
+    }
 }
 
 // With no runtime there is no memory to take.
