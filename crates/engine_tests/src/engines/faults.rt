@@ -107,6 +107,8 @@ fn finds_across_parts(rt: HostRuntime) {
     let mut input = FromSlice::new(list.as_bytes());
     let found = find_in_from(rt.alloc(), Kind::Sha1, "4", &mut input, &mut out);
     expect!(&rt; matches!(found, Err(FindInFromError::Search(FindInError::NotRising { line: 4003 }))));
+    expect!(&rt; out.written() == b"".as_slice());
+    let mut out = IntoSlice::new(&mut buf);
     let mut input = FromSlice::new(list.as_bytes());
     let found = find_from(rt.alloc(), "4b82", &mut input, &mut out);
     expect!(&rt; matches!(found, Err(FindFromError::Unsorted { line: 4003 })));
