@@ -4,7 +4,7 @@ use Rattle.std.specs.Prelude.{Result}
 use Rattle.std.specs.Io.KnownBytes.{Appends, Keeps}
 use Rattle.commands.specs.declared.command.Command.{Command}
 use Rattle.commands.specs.declared.command.Command.TheVariants.{Find, FindChange, FindIn, Hash, HashFile, Seal}
-use Rattle.devices.specs.Printing.{printed}
+use Rattle.pipes.specs.Printing.{printed}
 use Rattle.list_search.specs.Finding.{IsFound}
 use Rattle.pipes.specs.Pipe.{digest_line, sealed}
 use Rattle.commands.specs.Running.{AppendsAtMost, IsFoundAtMost, Writes, Does, DoesAtMost}

@@ -9,8 +9,8 @@ use Rattle.list_search.specs.ListText.{IsFirstRead}
 use Rattle.commands.specs.Running.{Refuses, refusal_from_source}
 use Rattle.commands.specs.declared.command.Command.{Command}
 use Rattle.commands.specs.declared.command.Command.TheVariants.{Find}
-use Rattle.list_search.specs.declared.finding_from.FindFromError.{FindFromError}
-use Rattle.list_search.specs.declared.finding_from.FindFromError.TheVariants as from
+use Rattle.list_search.specs.declared.FindFromError.{FindFromError}
+use Rattle.list_search.specs.declared.FindFromError.TheVariants as from
 use Rattle.commands.specs.declared.running.CommandError.{CommandError}
 use Rattle.commands.specs.declared.running.CommandError.TheVariants as command
 

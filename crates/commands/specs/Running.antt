@@ -4,14 +4,14 @@ use Rattle.std.specs.Io.KnownBytes.{Appends}
 use Rattle.gix_hash.specs.Digits.{hex_letter, reverse_letter}
 use Rattle.commands.specs.declared.command.Command.{Command}
 use Rattle.commands.specs.declared.command.Command.TheVariants.{Find, FindChange, FindIn, Hash, HashFile, Seal}
-use Rattle.list_search.specs.declared.finding.FindError.TheVariants as found
-use Rattle.list_search.specs.declared.finding_from.FindFromError.{FindFromError}
-use Rattle.list_search.specs.declared.finding_from.FindFromError.TheVariants as from
+use Rattle.list_search.specs.declared.FindError.TheVariants as found
+use Rattle.list_search.specs.declared.FindFromError.{FindFromError}
+use Rattle.list_search.specs.declared.FindFromError.TheVariants as from
 use Rattle.commands.specs.declared.running.CommandError.{CommandError}
 use Rattle.commands.specs.declared.running.CommandError.TheVariants as command
 use Rattle.pipes.specs.declared.PipeError.{PipeError}
 use Rattle.pipes.specs.declared.PipeError.TheVariants as pipe
-use Rattle.devices.specs.Printing.{printed}
+use Rattle.pipes.specs.Printing.{printed}
 use Rattle.list_search.specs.Finding.{finding, IsFound}
 use Rattle.list_search.specs.FindingIn.{finding_in}
 use Rattle.pipes.specs.Pipe.{digest_line, sealed, SealingStops}

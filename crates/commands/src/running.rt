@@ -9,16 +9,14 @@ ghost use Rattle.devices.specs.Writing.{AppendsPart};
 ghost use Rattle.pipes.specs.Pipe.{digest_line};
 
 use crate::command::Command;
-use devices::printing::write_id;
-use devices::sink::{BufferedSink, Sink, WriteFailed};
-use devices::source::{PIECE_LEN, Source};
+use devices::{BufferedSink, PIECE_LEN, Sink, Source, WriteFailed};
 use gix_hash::io::{Never, NoProgress};
 use gix_hash::{Alphabet, Kind, bytes_of_file};
-use list_search::finding::FindError;
-use list_search::finding_from::{FindFromError, find_change_from, find_from};
-use list_search::finding_in::FindInError;
-use list_search::finding_in_from::{FindInFromError, find_in_from};
-use pipes::{PipeError, hash_all, seal};
+use list_search::{
+    FindError, FindFromError, FindInError, FindInFromError, find_change_from, find_from,
+    find_in_from,
+};
+use pipes::{PipeError, hash_all, seal, write_id};
 use std::alloc::Allocator;
 use std::path::Path;
 use std::rt::Files;

@@ -1,2 +1,1 @@
-mod PrintLemmas
 mod Taking

@@ -2,4 +2,3 @@
 pub mod Writing
 pub mod Devices
 pub mod Source
-pub mod Printing

@@ -1,16 +1,18 @@
-//! What searches, pipes and commands read from and write to: readers and writers that remember
-//! whether they failed, and the lines of ids.
+//! What programs read from and write to: readers and writers that remember whether they failed.
 //!
-//! A [`Source`](source::Source) gives bytes and a [`Sink`](sink::Sink) takes them. Both know whether
-//! a call of theirs failed, so that a contract can say that a refusal comes exactly where its device
-//! failed. [`FromSlice`](from_slice::FromSlice) and [`IntoSlice`](into_slice::IntoSlice)
-//! are devices over slices, and [`Plain`](plain::Plain) makes one of a reader or writer of `std`.
-//! [`write_ids`](printing::write_ids) writes a line for each id.
+//! A [`Source`] gives bytes and a [`Sink`] takes them. Both know whether a call of theirs failed, so
+//! that a contract can say that a refusal comes exactly where its device failed. [`FromSlice`] and
+//! [`IntoSlice`] are devices over slices, and [`Plain`] makes one of a reader or writer of `std`.
 #![tactic(auto)]
 
-pub mod from_slice;
-pub mod into_slice;
-pub mod plain;
-pub mod printing;
-pub mod sink;
-pub mod source;
+mod from_slice;
+mod into_slice;
+mod plain;
+mod sink;
+mod source;
+
+pub use from_slice::FromSlice;
+pub use into_slice::IntoSlice;
+pub use plain::Plain;
+pub use sink::{BufferedSink, Sink, WriteFailed, write_all};
+pub use source::{MAX_LEN, PIECE_LEN, Source};

@@ -7,13 +7,13 @@ use Rattle.sha1.specs.Sha1 as sha1
 use Rattle.sha2.specs.Sha256 as sha256
 use Rattle.id_digits.proofs.Places.{length-digits_of}
 use Rattle.id_digits.proofs.Spellings.{All-digits_of}
-use Rattle.object_ids.specs.Digits.{digits_of}
-use Rattle.object_ids.specs.Kind.{byte_len_of}
-use Rattle.object_ids.specs.ObjectId.{id_bytes, id_digits}
-use Rattle.object_ids.specs.PrefixBytes.{packed, id_of}
-use Rattle.object_ids.specs.declared.kind.Kind.{Kind}
-use Rattle.object_ids.specs.declared.kind.Kind.TheVariants.{Sha1, Sha256}
-use Rattle.object_ids.specs.declared.object_id.ObjectId.{ObjectId}
+use Rattle.id_digits.specs.Digits.{digits_of}
+use Rattle.gix_hash.specs.Kind.{byte_len_of}
+use Rattle.gix_hash.specs.ObjectId.{id_bytes, id_digits}
+use Rattle.gix_hash.specs.PrefixBytes.{packed, id_of}
+use Rattle.gix_hash.specs.declared.kind.Kind.{Kind}
+use Rattle.gix_hash.specs.declared.kind.Kind.TheVariants.{Sha1, Sha256}
+use Rattle.gix_hash.specs.declared.object_id.ObjectId.{ObjectId}
 use Rattle.gix_hash.specs.Hashing.{digest}
 use Rattle.gix_hash.specs.IdDigits.{AreIdDigits, HasDigits}
 

@@ -7,7 +7,7 @@ use Rattle.std.specs.Ordering.{is_eq}
 use Rattle.std.proofs.lemmas.Bool.{cases_lt}
 use Rattle.std.proofs.lemmas.Cmp.{nat_list_cmp_total}
 use Rattle.std.proofs.lemmas.List.{take_at, take-append-drop, take-append-le}
-use Rattle.object_ids.specs.Prefix.{place, BeginsWith}
+use Rattle.gix_hash.specs.Prefix.{place, BeginsWith}
 
 -- where a prefix is at its place, its digits are the first
 pub first_from_place : (p c : List ℕ) → place p c ≡ Equal → p ≡ take (length p) c

@@ -5,23 +5,23 @@ use Rattle.std.specs.Char.{to_ascii_lowercase}
 use Rattle.std.proofs.lemmas.Bool.Decides.{nat_tests}
 use Rattle.std.proofs.lemmas.List.{length-map}
 use borrow.Author.Tests.{ltb-true}
-use Rattle.object_ids.specs.Alphabet.{letter_of}
-use Rattle.object_ids.specs.Digits.{spelling}
-use Rattle.object_ids.specs.IdReading.{full_read, whole_of, IsFullReading, IsFullRefusal}
-use Rattle.object_ids.specs.Kind.{hex_len_of, kind_of_full_len, kind_of_hex_len, IsFullLen}
-use Rattle.object_ids.specs.ObjectId.{id_kind, id_digits}
-use Rattle.object_ids.specs.Prefix.{Beginning, beginning_of}
-use Rattle.object_ids.specs.PrefixReading.{prefix_read, prefix_read_in, IsPrefixReading, IsPrefixRefusal, IsReadingIn, IsRefusalIn}
-use Rattle.object_ids.specs.Reading.{answer_of, digits_read}
-use Rattle.object_ids.specs.declared.alphabet.Alphabet.{Alphabet}
-use Rattle.object_ids.specs.declared.alphabet.Alphabet.TheVariants.{Hex, Reverse}
-use Rattle.object_ids.specs.declared.decode.Error as decode
-use Rattle.object_ids.specs.declared.decode.Error.TheVariants as full_errors
-use Rattle.object_ids.specs.declared.kind.Kind.{Kind}
-use Rattle.object_ids.specs.declared.kind.Kind.TheVariants as kinds
-use Rattle.object_ids.specs.declared.object_id.ObjectId.{ObjectId}
-use Rattle.object_ids.specs.declared.prefix.from_hex.Error as from_hex
-use Rattle.object_ids.specs.declared.prefix.from_hex.Error.TheVariants.{TooShort, TooLong, Invalid}
+use Rattle.gix_hash.specs.Alphabet.{letter_of}
+use Rattle.id_digits.specs.Digits.{spelling}
+use Rattle.gix_hash.specs.IdReading.{full_read, whole_of, IsFullReading, IsFullRefusal}
+use Rattle.gix_hash.specs.Kind.{hex_len_of, kind_of_full_len, kind_of_hex_len, IsFullLen}
+use Rattle.gix_hash.specs.ObjectId.{id_kind, id_digits}
+use Rattle.gix_hash.specs.Prefix.{Beginning, beginning_of}
+use Rattle.gix_hash.specs.PrefixReading.{prefix_read, prefix_read_in, IsPrefixReading, IsPrefixRefusal, IsReadingIn, IsRefusalIn}
+use Rattle.gix_hash.specs.Reading.{answer_of, digits_read}
+use Rattle.gix_hash.specs.declared.alphabet.Alphabet.{Alphabet}
+use Rattle.gix_hash.specs.declared.alphabet.Alphabet.TheVariants.{Hex, Reverse}
+use Rattle.gix_hash.specs.declared.decode.Error as decode
+use Rattle.gix_hash.specs.declared.decode.Error.TheVariants as full_errors
+use Rattle.gix_hash.specs.declared.kind.Kind.{Kind}
+use Rattle.gix_hash.specs.declared.kind.Kind.TheVariants as kinds
+use Rattle.gix_hash.specs.declared.object_id.ObjectId.{ObjectId}
+use Rattle.gix_hash.specs.declared.prefix.from_hex.Error as from_hex
+use Rattle.gix_hash.specs.declared.prefix.from_hex.Error.TheVariants.{TooShort, TooLong, Invalid}
 use Rattle.id_digits.proofs.ReverseLetters.{reverse_alphabet}
 use Rattle.id_digits.proofs.ReadingFacts.{IsAlphabet, hex_alphabet, digits_read-ReadsAs, ReadsAs-digits_read, IsUnreadable-digits_read, digits_read-IsUnreadable}
 use Rattle.gix_hash.specs.IdDigits.{AreIdDigits}

@@ -8,19 +8,19 @@ use Rattle.std.specs.Char.{to_ascii_lowercase}
 use Rattle.std.proofs.lemmas.Bool.{agree_below_at}
 use Rattle.std.proofs.lemmas.Bool.Decides.{nat_tests}
 use Rattle.std.proofs.lemmas.List.Elements.{All-nil, All-cons, All-head, All-tail}
-use Rattle.object_ids.specs.Alphabet.{letter_of}
-use Rattle.object_ids.specs.Digits.{hex_letter, reverse_letter, spelling, ReadsAs}
-use Rattle.object_ids.specs.Equalities.{id_eq-parts, oid_eq-digits, prefix_eq-parts}
-use Rattle.object_ids.specs.Kind.{hex_len_of, number_of}
-use Rattle.object_ids.specs.ObjectId.{id_kind, id_digits, id_eq, id_cmp}
-use Rattle.object_ids.specs.Oid.{oid_kind, oid_digits, oid_eq}
-use Rattle.object_ids.specs.Prefix.{Beginning, prefix_eq}
-use Rattle.object_ids.specs.declared.alphabet.Alphabet.{Alphabet}
-use Rattle.object_ids.specs.declared.alphabet.Alphabet.TheVariants.{Hex, Reverse}
-use Rattle.object_ids.specs.declared.borrowed.oid.{oid}
-use Rattle.object_ids.specs.declared.object_id.ObjectId.{ObjectId}
-use Rattle.object_ids.proofs.IdFacts.{length-oid}
-use Rattle.object_ids.proofs.KindFacts.{kind_by_hex_len}
+use Rattle.gix_hash.specs.Alphabet.{letter_of}
+use Rattle.id_digits.specs.Digits.{hex_letter, reverse_letter, spelling, ReadsAs}
+use Rattle.gix_hash.specs.Equalities.{id_eq-parts, oid_eq-digits, prefix_eq-parts}
+use Rattle.gix_hash.specs.Kind.{hex_len_of, number_of}
+use Rattle.gix_hash.specs.ObjectId.{id_kind, id_digits, id_eq, id_cmp}
+use Rattle.gix_hash.specs.Oid.{oid_kind, oid_digits, oid_eq}
+use Rattle.gix_hash.specs.Prefix.{Beginning, prefix_eq}
+use Rattle.gix_hash.specs.declared.alphabet.Alphabet.{Alphabet}
+use Rattle.gix_hash.specs.declared.alphabet.Alphabet.TheVariants.{Hex, Reverse}
+use Rattle.gix_hash.specs.declared.borrowed.oid.{oid}
+use Rattle.gix_hash.specs.declared.object_id.ObjectId.{ObjectId}
+use Rattle.gix_hash.proofs.IdFacts.{length-oid}
+use Rattle.gix_hash.proofs.KindFacts.{kind_by_hex_len}
 
 -- the reverse letters by their table
 pub reverse_letter-table : (d : ℕ) → d < 16 → reverse_letter d ≡ slice_index (codes "zyxwvutsrqponmlk") d

@@ -3,11 +3,11 @@ use Rattle.std.proofs.Common.{◌≡◌, [], ◌∷◌, ◌++◌, codes, refl}
 use Rattle.sha1.specs.Sha1 as fips1
 use Rattle.sha2.specs.Sha256 as fips256
 use Rattle.id_digits.specs.Digits.{digits_of}
-use Rattle.object_ids.specs.Reading.{digit_below}
-use Rattle.object_ids.specs.ObjectId.{id_digits}
-use Rattle.object_ids.specs.WellKnown.{empty_blob_digits, empty_tree_digits}
-use Rattle.object_ids.specs.declared.kind.Kind.{Kind}
-use Rattle.object_ids.specs.declared.kind.Kind.TheVariants.{Sha1, Sha256}
+use Rattle.gix_hash.specs.Reading.{digit_below}
+use Rattle.gix_hash.specs.ObjectId.{id_digits}
+use Rattle.gix_hash.specs.WellKnown.{empty_blob_digits, empty_tree_digits}
+use Rattle.gix_hash.specs.declared.kind.Kind.{Kind}
+use Rattle.gix_hash.specs.declared.kind.Kind.TheVariants.{Sha1, Sha256}
 use Rattle.gix_hash.specs.Hashing.{digest}
 
 pub blob_digest : (kind : Kind) → id_digits (digest kind (codes "blob 0" ++ 0 ∷ [])) ≡ empty_blob_digits kind

@@ -5,10 +5,10 @@ use Rattle.sha2.specs.Sha256.{sha256}
 use Rattle.sha2.specs.Hashers.{Holds256}
 use Rattle.gix_hash.specs.declared.hashing.state.Hasher.{Hasher}
 use Rattle.gix_hash.specs.declared.hashing.state.Hasher.TheVariants as hashers
-use Rattle.object_ids.specs.declared.kind.Kind.{Kind}
-use Rattle.object_ids.specs.declared.kind.Kind.TheVariants as kinds
-use Rattle.object_ids.specs.declared.object_id.ObjectId.{ObjectId}
-use Rattle.object_ids.specs.declared.object_id.ObjectId.TheVariants.{Sha1, Sha256}
+use Rattle.gix_hash.specs.declared.kind.Kind.{Kind}
+use Rattle.gix_hash.specs.declared.kind.Kind.TheVariants as kinds
+use Rattle.gix_hash.specs.declared.object_id.ObjectId.{ObjectId}
+use Rattle.gix_hash.specs.declared.object_id.ObjectId.TheVariants.{Sha1, Sha256}
 
 -- the digest of a message of bytes
 abbrev pub digest : Kind → List ℕ → ObjectId

@@ -1,10 +1,10 @@
 -- The lists of digits that ids have.
 use Rattle.std.specs.Prelude.{◌≡◌, ◌<◌, ℕ, List, length}
 use Rattle.std.specs.List.{All}
-use Rattle.object_ids.specs.Kind.{hex_len_of, byte_len_of}
-use Rattle.object_ids.specs.ObjectId.{id_bytes, id_digits, id_kind}
-use Rattle.object_ids.specs.declared.kind.Kind.{Kind}
-use Rattle.object_ids.specs.declared.object_id.ObjectId.{ObjectId}
+use Rattle.gix_hash.specs.Kind.{hex_len_of, byte_len_of}
+use Rattle.gix_hash.specs.ObjectId.{id_bytes, id_digits, id_kind}
+use Rattle.gix_hash.specs.declared.kind.Kind.{Kind}
+use Rattle.gix_hash.specs.declared.object_id.ObjectId.{ObjectId}
 
 -- the digits of some id of the kind: as many as its ids have, each below 16
 abbrev pub AreIdDigits : Kind → List ℕ → Type 0

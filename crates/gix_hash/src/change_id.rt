@@ -1,13 +1,19 @@
 //! Ids in the letters by which Jujutsu spells change ids.
 
 ghost use Rattle.std.specs.Prelude.{◌≡◌, ◌≤◌, ◌<◌, ◌↔◌, ◌++◌, All, IsTrue, length, drop};
-ghost use Rattle.object_ids.specs.CutId.{shown_digits};
-ghost use Rattle.object_ids.specs.Digits.{reverse_letter, spelling};
-ghost use Rattle.object_ids.specs.Kind.{hex_len_of, byte_len_of};
-ghost use Rattle.object_ids.specs.ObjectId.{id_bytes, id_digits, id_kind};
+ghost use Rattle.gix_hash.specs.CutId.{shown_digits};
+ghost use Rattle.id_digits.specs.Digits.{reverse_letter, spelling};
+ghost use Rattle.gix_hash.specs.Kind.{hex_len_of, byte_len_of};
+ghost use Rattle.gix_hash.specs.ObjectId.{id_bytes, id_digits, id_kind};
 
-pub use object_ids::ReverseHexDisplay;
-use object_ids::{Alphabet, HexDisplay, Kind, ObjectId, Prefix, decode, oid};
+use crate::alphabet::Alphabet;
+use crate::borrowed::oid;
+use crate::decode;
+use crate::display::HexDisplay;
+pub use crate::display::ReverseHexDisplay;
+use crate::kind::Kind;
+use crate::object_id::ObjectId;
+use crate::prefix::Prefix;
 use std::fmt;
 use std::marker::Model;
 use std::str::FromStr;
@@ -18,7 +24,7 @@ use std::str::FromStr;
 pub struct ChangeId(ObjectId);
 
 impl Model for ChangeId {
-    ghost use Rattle.object_ids.specs.declared.object_id.ObjectId.{ObjectId};
+    ghost use Rattle.gix_hash.specs.declared.object_id.ObjectId.{ObjectId};
 
     ghost Value = { ObjectId };
 
@@ -28,8 +34,8 @@ impl Model for ChangeId {
 }
 
 impl ChangeId {
-    ghost use Rattle.object_ids.specs.IdReading.{full_read, id_answered};
-    ghost use Rattle.object_ids.specs.Oid.{oid_kind, oid_digits};
+    ghost use Rattle.gix_hash.specs.IdReading.{full_read, id_answered};
+    ghost use Rattle.gix_hash.specs.Oid.{oid_kind, oid_digits};
 
     /// Reads 40 or 64 of the letters `z` to `k`, in any letter case, as an id of SHA-1 or SHA-256.
     ///
@@ -124,8 +130,8 @@ impl ChangeId {
 /// Prints the digits in the letters `z` to `k`, whatever width, fill and precision are asked for.
 impl fmt::Display for ChangeId {
     ghost use Rattle.std.specs.Prelude.{Some};
-    ghost use Rattle.object_ids.specs.Digits.{reverse_letter, spelling};
-    ghost use Rattle.object_ids.specs.ObjectId.{id_digits};
+    ghost use Rattle.id_digits.specs.Digits.{reverse_letter, spelling};
+    ghost use Rattle.gix_hash.specs.ObjectId.{id_digits};
 
     ghost output = { λ change. Some (spelling reverse_letter (id_digits change)) };
 
@@ -139,8 +145,8 @@ impl fmt::Display for ChangeId {
 /// As [`ChangeId::from_reverse_hex`].
 impl FromStr for ChangeId {
     ghost use Rattle.std.specs.Prelude.{◌≡◌};
-    ghost use Rattle.object_ids.specs.Digits.{reverse_letter};
-    ghost use Rattle.object_ids.specs.IdReading.{full_read, id_answered};
+    ghost use Rattle.id_digits.specs.Digits.{reverse_letter};
+    ghost use Rattle.gix_hash.specs.IdReading.{full_read, id_answered};
 
     type Err = decode::Error;
 
@@ -163,8 +169,8 @@ impl From<ObjectId> for ChangeId {
 
 impl<'a> From<oid<'a>> for ChangeId {
     ghost use Rattle.std.specs.Prelude.{◌≡◌};
-    ghost use Rattle.object_ids.specs.ObjectId.{id_kind, id_digits};
-    ghost use Rattle.object_ids.specs.Oid.{oid_kind, oid_digits};
+    ghost use Rattle.gix_hash.specs.ObjectId.{id_kind, id_digits};
+    ghost use Rattle.gix_hash.specs.Oid.{oid_kind, oid_digits};
 
     ghost from_gives = { λ id change. (id_kind change ≡ oid_kind id) × (id_digits change ≡ oid_digits id) };
 
@@ -186,7 +192,7 @@ impl From<ChangeId> for ObjectId {
 /// All digits of the id.
 impl From<ChangeId> for Prefix {
     ghost use Rattle.std.specs.Prelude.{◌≡◌};
-    ghost use Rattle.object_ids.specs.ObjectId.{id_kind, id_digits};
+    ghost use Rattle.gix_hash.specs.ObjectId.{id_kind, id_digits};
 
     ghost from_gives = { λ change prefix. prefix ≡ record { kind = id_kind change; digits = id_digits change } };
 

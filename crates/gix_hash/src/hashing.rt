@@ -3,7 +3,7 @@
 pub(crate) mod start;
 pub(crate) mod state;
 
-use object_ids::ObjectId;
+use crate::object_id::ObjectId;
 use thiserror::Error as ThisError;
 
 /// Why a hasher gives no digest. No hasher of this crate answers it, since none looks for

@@ -7,14 +7,15 @@ ghost use Rattle.gix_hash.specs.Hashing.{digest, StandsFor};
 ghost use Rattle.gix_hash.specs.HashingWriter.{Takes, WriterCall, Passes, accepted};
 ghost use Rattle.gix_hash.specs.IdDigits.{AreIdDigits};
 ghost use Rattle.gix_hash.specs.Streams.{Reaches, AreChunks, chunks, all_false};
-ghost use Rattle.object_ids.specs.Kind.{byte_len_of};
-ghost use Rattle.object_ids.specs.ObjectId.{id_bytes, id_digits, id_kind};
-ghost use Rattle.object_ids.specs.WellKnown.{empty_blob_digits, empty_tree_digits};
+ghost use Rattle.gix_hash.specs.Kind.{byte_len_of};
+ghost use Rattle.gix_hash.specs.ObjectId.{id_bytes, id_digits, id_kind};
+ghost use Rattle.gix_hash.specs.WellKnown.{empty_blob_digits, empty_tree_digits};
 
 use crate::hashing;
 use crate::hashing::start::hasher;
 use crate::io::{Interrupt, Never, Write};
-use object_ids::{Kind, ObjectId};
+use crate::kind::Kind;
+use crate::object_id::ObjectId;
 use std::io;
 
 /// The id of pieces that are fed one after another: it is the id of their concatenation, however

@@ -2,28 +2,44 @@
 //!
 //! An id is a SHA-1 digest of 20 bytes or a SHA-256 digest of 32 bytes, and contracts see it as a
 //! [`Kind`] and a list of 40 or 64 digits. [`ObjectId`] owns its bytes, [`oid`] borrows them, and a
-//! [`Prefix`] is a beginning of an id's digits. They come from the crate `object_ids`. A
-//! [`ChangeId`] is an id in Jujutsu's letters. A [`Hasher`] computes ids from bytes in pieces,
-//! [`digest_of`] from one piece, and [`bytes`], [`bytes_of_file`] and [`io::Write`] from what is read
-//! and written.
+//! [`Prefix`] is a beginning of an id's digits. A [`ChangeId`] is an id in Jujutsu's letters. A
+//! [`Hasher`] computes ids from bytes in pieces, [`digest_of`] from one piece, and [`bytes`],
+//! [`bytes_of_file`] and [`io::Write`] from what is read and written.
 #![tactic(auto)]
 
+mod alphabet;
+mod ascii;
+mod borrowed;
 /// Ids in the letters by which Jujutsu spells change ids.
 pub mod change_id;
+/// Reading ids from text.
+pub mod decode;
+mod display;
+mod error;
 /// Computing ids from bytes.
 pub mod hashing;
 /// Laws of hashing that no single call carries.
 pub mod hashing_laws;
 /// Digests of streams and files.
 pub mod io;
+mod kind;
 /// Laws that no single call carries.
 pub mod laws;
+mod object_id;
+/// Beginnings of ids.
+pub mod prefix;
+/// Comparing a computed id with the one that was expected.
+pub mod verify;
 
+pub use alphabet::Alphabet;
+pub use borrowed::oid;
 pub use change_id::ChangeId;
+pub use display::HexDisplay;
+pub use error::Error;
 pub use hashing::start::{digest_of, hasher};
 pub use hashing::state::Hasher;
 pub use io::file::bytes_of_file;
 pub use io::stream::{bytes, bytes_with_hasher};
-pub use object_ids::{
-    Alphabet, Error, HexDisplay, Kind, ObjectId, Prefix, decode, oid, prefix, verify,
-};
+pub use kind::Kind;
+pub use object_id::ObjectId;
+pub use prefix::Prefix;

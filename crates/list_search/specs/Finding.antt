@@ -10,7 +10,7 @@ use Rattle.list_search.specs.declared.list.ListError.{ListError}
 use Rattle.list_search.specs.declared.list.ListError.TheVariants as list
 use Rattle.list_search.specs.ListText.{list_read}
 use Rattle.list_search.specs.Searching.{Search, found_from}
-use Rattle.devices.specs.Printing.{printed}
+use Rattle.pipes.specs.Printing.{printed}
 use Rattle.devices.specs.Writing.{AppendsPart}
 use Rattle.id_lookup.specs.Sorted.{least_hex_len}
 

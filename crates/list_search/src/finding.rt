@@ -13,9 +13,9 @@ ghost use Rattle.list_search.specs.Refusal.{Means};
 use crate::list::ListError;
 use crate::order::Sorted;
 use crate::reading::find_in_text;
-use devices::printing::write_ids;
-use devices::sink::{Sink, WriteFailed};
+use devices::{Sink, WriteFailed};
 use gix_hash::{Alphabet, decode, prefix};
+use pipes::write_ids;
 use std::alloc::Allocator;
 use thiserror::Error as ThisError;
 

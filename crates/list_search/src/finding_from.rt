@@ -12,10 +12,9 @@ ghost use Rattle.list_search.specs.declared.finding_from.FindFromError.{FindFrom
 use crate::finding::FindError;
 use crate::order::Sorted;
 use crate::reading::{ReadError, find_in_source};
-use devices::printing::write_ids;
-use devices::sink::{Sink, WriteFailed};
-use devices::source::Source;
+use devices::{Sink, Source, WriteFailed};
 use gix_hash::{Alphabet, decode, prefix};
+use pipes::write_ids;
 use std::alloc::Allocator;
 use thiserror::Error as ThisError;
 

@@ -12,9 +12,9 @@ ghost use Rattle.list_search.specs.ListText.{IsFirstRead};
 use crate::list::ListError;
 use crate::order::Rising;
 use crate::reading::find_in_text;
-use devices::printing::write_ids;
-use devices::sink::{Sink, WriteFailed};
+use devices::{Sink, WriteFailed};
 use gix_hash::{Alphabet, Kind, Prefix, decode, prefix};
+use pipes::write_ids;
 use std::alloc::Allocator;
 use thiserror::Error as ThisError;
 

@@ -13,10 +13,9 @@ ghost use Rattle.list_search.specs.declared.finding_in_from.FindInFromError.{Fin
 use crate::finding_in::FindInError;
 use crate::order::Rising;
 use crate::reading::{ReadError, find_in_source};
-use devices::printing::write_ids;
-use devices::sink::{Sink, WriteFailed};
-use devices::source::Source;
+use devices::{Sink, Source, WriteFailed};
 use gix_hash::{Alphabet, Kind, Prefix};
+use pipes::write_ids;
 use std::alloc::Allocator;
 use thiserror::Error as ThisError;
 

@@ -13,7 +13,7 @@ use crate::finder::Finder;
 use crate::list::ListError;
 use crate::order::ListOrder;
 use crate::pieces::ListReader;
-use devices::source::{MAX_LEN, PIECE_LEN, Source};
+use devices::{MAX_LEN, PIECE_LEN, Source};
 use gix_hash::ObjectId;
 use std::alloc::Allocator;
 

@@ -10,11 +10,10 @@ ghost use Rattle.std.specs.Prelude.{◌≡◌};
 ghost use Rattle.std.specs.Process.{exit_status as ended_with};
 ghost use Rattle.commands.specs.Command.{status_of};
 ghost use Rattle.oidtool.specs.declared.Failure.TheVariants as failure;
-ghost use Rattle.commands.specs.declared.running.CommandError.TheVariants as error;
+ghost use Rattle.commands.specs.declared.CommandError.TheVariants as error;
 
-use commands::command::{ArgError, exit_status, read_command};
-use commands::running::{CommandError, run_command};
-use devices::plain::Plain;
+use commands::{ArgError, CommandError, exit_status, read_command, run_command};
+use devices::Plain;
 use std::alloc::AllocError;
 use std::io::BufWriter;
 use std::process::ExitCode;

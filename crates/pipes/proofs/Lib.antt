@@ -1,1 +1,2 @@
 mod PipeLemmas
+mod PrintLemmas

@@ -1,2 +1,3 @@
--- What a pipe reads and writes until it ends or stops.
+-- The lines of ids, and what a pipe reads and writes until it ends or stops.
+pub mod Printing
 pub mod Pipe

@@ -5,7 +5,7 @@ use Rattle.gix_hash.specs.Digits.{hex_letter}
 use Rattle.gix_hash.specs.Hashing.{digest}
 use Rattle.gix_hash.specs.ObjectId.{id_bytes, id_digits}
 use Rattle.gix_hash.specs.declared.Kind.{Kind}
-use Rattle.devices.specs.Printing.{line_of}
+use Rattle.pipes.specs.Printing.{line_of}
 use Rattle.devices.specs.Source.{Gives, GivesAll, GivesMore}
 use Rattle.devices.specs.Writing.{AppendsPart}
 use Rattle.pipes.specs.declared.PipeError.{PipeError}

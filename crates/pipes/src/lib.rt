@@ -1,5 +1,7 @@
-//! Hashing and sealing a stream of bytes, from a source to a sink.
+//! Lines of ids, and streams of bytes that are hashed or sealed, from a source to a sink.
 #![tactic(auto)]
+
+mod printing;
 
 ghost use Rattle.std.specs.Prelude.{◌≡◌, ◌≢◌, ◌↔◌, ℕ, List, false, true, OnOk, IfOk, IfErr, IsErrOf};
 ghost use Rattle.std.specs.Io.KnownBytes.{Appends};
@@ -7,10 +9,9 @@ ghost use Rattle.gix_hash.specs.Hashing.{digest};
 ghost use Rattle.pipes.specs.Pipe.{digest_line, sealed, HashingStops, SealingStops};
 ghost use Rattle.devices.specs.Source.{GivesAll};
 
-use devices::printing::write_id;
-use devices::sink::{Sink, WriteFailed, write_all};
-use devices::source::{MAX_LEN, PIECE_LEN, Source};
+use devices::{MAX_LEN, PIECE_LEN, Sink, Source, WriteFailed, write_all};
 use gix_hash::{Alphabet, Kind, ObjectId, hasher};
+pub use printing::{write_id, write_ids};
 use std::io;
 use thiserror::Error as ThisError;
 

@@ -5,7 +5,8 @@ ghost use Rattle.std.specs.Prelude.{◌≡◌, []};
 ghost use Rattle.gix_hash.specs.Hashing.{digest, hasher_kind, StandsFor};
 
 use super::state::Hasher;
-use object_ids::{Kind, ObjectId};
+use crate::kind::Kind;
+use crate::object_id::ObjectId;
 
 /// A hasher for digests of the given kind, which was fed nothing.
 pub fn hasher(kind: Kind) -> Hasher

@@ -4,7 +4,8 @@ ghost use Rattle.std.specs.Prelude.{◌≡◌, ◌++◌, ℕ, List, [], Ok, IsOk
 ghost use Rattle.gix_hash.specs.Hashing.{digest, hasher_kind, StandsFor};
 
 use super::Error;
-use object_ids::{Kind, ObjectId};
+use crate::kind::Kind;
+use crate::object_id::ObjectId;
 use sha2::Digest;
 
 /// How far SHA-1 has come.

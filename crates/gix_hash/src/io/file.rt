@@ -2,12 +2,13 @@
 
 ghost use Rattle.std.specs.Prelude.{◌≡◌, ℕ, List, length, IfOk, OnOk, IfErr};
 ghost use Rattle.gix_hash.specs.Hashing.{digest};
-ghost use Rattle.object_ids.specs.ObjectId.{id_kind};
+ghost use Rattle.gix_hash.specs.ObjectId.{id_kind};
 ghost use Rattle.gix_hash.specs.Streams.{Reaches, StopsInFile, chunks, heard_all, all_false};
 
 use super::stream::bytes;
 use super::{Error, Interrupt, Progress};
-use object_ids::{Kind, ObjectId};
+use crate::kind::Kind;
+use crate::object_id::ObjectId;
 use std::fs;
 use std::path::Path;
 use std::rt::Files;

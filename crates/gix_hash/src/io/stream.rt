@@ -7,7 +7,8 @@ ghost use Rattle.gix_hash.specs.Streams.{Reaches, GivesNext, Stops, chunks, hear
 use super::{Error, Interrupt, Progress};
 use crate::hashing::start::hasher;
 use crate::hashing::state::Hasher;
-use object_ids::{Kind, ObjectId};
+use crate::kind::Kind;
+use crate::object_id::ObjectId;
 use std::io::Read;
 
 // The most bytes that are read at once.

@@ -8,7 +8,7 @@ ghost use Rattle.gix_hash.specs.HashingWriter.{Passes, Wrote, Flushed};
 
 use crate::hashing::start::hasher;
 use crate::hashing::state::Hasher;
-use object_ids::Kind;
+use crate::kind::Kind;
 use std::io;
 
 /// A writer that hands what is written to an inner writer, and hashes what that takes of it.

@@ -1,4 +1,4 @@
-use Rattle.object_ids.specs.Digits.{hex_letter}
+use Rattle.id_digits.specs.Digits.{hex_letter}
 use Rattle.id_digits.proofs.ReadingFacts.{hex_alphabet}
 use Rattle.gix_hash.proofs.ReadingLaws.{full_read-printed}
 use Rattle.gix_hash.proofs.laws.read_back.Goals as goal

@@ -1,4 +1,4 @@
-use Rattle.object_ids.specs.Digits.{reverse_letter}
+use Rattle.id_digits.specs.Digits.{reverse_letter}
 use Rattle.id_digits.proofs.ReverseLetters.{reverse_alphabet}
 use Rattle.gix_hash.proofs.ReadingLaws.{full_read-printed}
 use Rattle.gix_hash.proofs.laws.read_change_back.Goals as goal

@@ -1,6 +1,6 @@
 use Rattle.std.proofs.Common.{sym, ap, ◌∙◌}
-use Rattle.object_ids.specs.Kind.{hex_len_of}
-use Rattle.object_ids.proofs.Spellings.{all_shown}
+use Rattle.gix_hash.specs.Kind.{hex_len_of}
+use Rattle.gix_hash.proofs.Spellings.{all_shown}
 use Rattle.gix_hash.proofs.change_id.ChangeId.to_reverse_hex.Goals as goal
 
 pub returns-clause-shown : goal.returns-clause-shown

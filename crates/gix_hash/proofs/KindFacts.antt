@@ -1,0 +1,23 @@
+-- The lengths of kinds, in digits and in bytes.
+use Rattle.std.proofs.Common.{◌≡◌, ℕ, ◌*◌, refl, arith}
+use Rattle.std.specs.Prelude.{IsTrue}
+use Rattle.std.proofs.lemmas.Bool.Decides.{nat_tests}
+use Rattle.gix_hash.specs.Kind.{hex_len_of, byte_len_of, is_digest_len, kind_of_byte_len}
+use Rattle.gix_hash.specs.declared.kind.Kind.{Kind}
+use Rattle.gix_hash.specs.declared.kind.Kind.TheVariants.{Sha1, Sha256}
+
+-- two digits a byte
+pub hex_len_of-bytes : (kind : Kind) → hex_len_of kind ≡ 2 * byte_len_of kind
+hex_len_of-bytes Sha1 = refl
+hex_len_of-bytes Sha256 = refl
+
+-- the kind of a digest has two digits for each of its bytes
+pub hex_len_of-kind : (n : ℕ) → IsTrue (is_digest_len n) → hex_len_of (kind_of_byte_len n) ≡ 2 * n
+hex_len_of-kind n h = grind (arith, nat_tests)
+
+-- a kind is told by its number of digits
+pub kind_by_hex_len : (a b : Kind) → hex_len_of a ≡ hex_len_of b → a ≡ b
+kind_by_hex_len Sha1 Sha1 h = refl
+kind_by_hex_len Sha1 Sha256 h = absurd (omega arith)
+kind_by_hex_len Sha256 Sha1 h = absurd (omega arith)
+kind_by_hex_len Sha256 Sha256 h = refl

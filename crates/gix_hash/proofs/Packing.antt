@@ -1,0 +1,26 @@
+-- The first digits of bytes, copied into zeros.
+use Rattle.std.proofs.Common.{◌≡◌, ℕ, ◌-◌, ◌*◌, ◌≤◌, List, length, take, drop, replicate, slice_range, arith}
+use Rattle.std.proofs.lemmas.List.{take-take, append-nil, take_at, length-take-le}
+use Rattle.id_digits.specs.Digits.{digits_of}
+use Rattle.gix_hash.specs.Prefix.{padded}
+use Rattle.id_digits.proofs.Places.{length-digits_of, take-digits_of, drop-digits_of}
+
+-- as many first digits as were asked for
+pub length-first : (n : ℕ) (front : List ℕ) → n ≤ 2 * length front → length (take n (digits_of front)) ≡ n
+length-first n front within = length-take-le n (digits_of front) (omega (arith, length-digits_of front))
+
+-- the digits stand before the zeros
+pub take-padded : (n room : ℕ) (digits : List ℕ) → length digits ≡ n → take n (padded room digits) ≡ digits
+take-padded n room digits len = take_at digits (replicate (room - length digits) 0) n len
+
+-- as many digits as asked for need no zeros
+pub padded-full : (n : ℕ) (digits : List ℕ) → length digits ≡ n → padded n digits ≡ digits
+padded-full n digits len = let none : n - length digits ≡ 0 = omega arith in rw none (append-nil digits)
+
+-- the digits of a range of bytes
+pub digits_of-range : (start end : ℕ) (bytes : List ℕ)
+    → take (2 * (end - start)) (digits_of (take (end - start) (drop start bytes))) ≡ slice_range (digits_of bytes) (2 * start) (2 * end)
+digits_of-range start end bytes =
+    let n = end - start in
+    let count : 2 * end - 2 * start ≡ 2 * n = omega arith in
+    rw (count, drop-digits_of start bytes, ← take-digits_of n (drop start bytes)) (take-take (2 * n) (2 * n) (digits_of (drop start bytes)) (omega arith))

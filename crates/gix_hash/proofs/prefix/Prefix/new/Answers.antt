@@ -1,0 +1,15 @@
+use Rattle.std.proofs.Common.{◌≡◌, ℕ, List, take, Equal}
+use Rattle.std.proofs.lemmas.List.{length-take, take_min}
+use Rattle.std.proofs.lemmas.Cmp.{tied_itself, nat_list_cmp_total}
+use Rattle.gix_hash.specs.Prefix.{place}
+use Rattle.gix_hash.proofs.prefix.Prefix.new.Goals as goal
+
+-- the first digits of an id are at their place in it
+place-first : (n : ℕ) (digits : List ℕ) → place (take n digits) digits ≡ Equal
+place-first n digits =
+    let len = length-take n digits in
+    let cut = take_min n digits in
+    rw (len, cut) (tied_itself nat_list_cmp_total (take n digits))
+
+pub returns-clause-matches : goal.returns-clause-matches
+returns-clause-matches c = rw (c.packed.ensures, c.as_bytes.ensures.value) (place-first c.args.hex_len _)

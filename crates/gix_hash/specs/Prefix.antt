@@ -1,0 +1,37 @@
+-- What contracts see of a prefix.
+pub use Rattle.id_digits.specs.Beginnings.{place, padded}
+use Rattle.std.specs.Prelude.{◌≡◌, ℕ, Bool, List, ◌++◌, nat_eq}
+use Rattle.std.specs.declared.cmp.Ordering.{Ordering}
+use Rattle.std.specs.Ordering.{nat_cmp, on, eq_of_both, then_cmp}
+use Rattle.std.specs.Cmp.Lexicographic.{slice_cmp, pointwise}
+use Rattle.gix_hash.specs.Kind.{number_of}
+use Rattle.gix_hash.specs.declared.kind.Kind.{Kind}
+
+-- a beginning of an id: its kind and its digits
+pub record Beginning : Type 0 where
+  pub kind : Kind
+  pub digits : List ℕ
+
+-- the beginning of a kind with these digits
+abbrev pub beginning_of : Kind → List ℕ → Beginning
+beginning_of kind digits = record { kind = kind; digits = digits }
+
+-- the number of a prefix's kind, by which prefixes are ordered first
+abbrev pub prefix_kind_number : Beginning → ℕ
+prefix_kind_number prefix = number_of prefix.kind
+
+-- its digits, by which they are ordered then
+abbrev pub prefix_digits : Beginning → List ℕ
+prefix_digits prefix = prefix.digits
+
+-- `==` of prefixes: their kinds and their digits are equal
+abbrev pub prefix_eq : Beginning → Beginning → Bool
+prefix_eq = eq_of_both (on prefix_kind_number nat_eq) (on prefix_digits (pointwise nat_eq))
+
+-- the order of prefixes: by kind, and then dictionary order of the digits
+abbrev pub prefix_cmp : Beginning → Beginning → Ordering
+prefix_cmp = then_cmp (on prefix_kind_number nat_cmp) (on prefix_digits (slice_cmp nat_cmp))
+
+-- the digits of an id are those of a prefix followed by some more
+abbrev pub BeginsWith : List ℕ → List ℕ → Type 0
+BeginsWith id prefix = (rest : List ℕ) × (id ≡ prefix ++ rest)

@@ -1,0 +1,208 @@
+//! The alphabets in which digits are spelled and read.
+
+ghost use Rattle.std.specs.Prelude.{◌≡◌, ◌≤◌, ◌*◌, ◌++◌, Some, None, MatchResult, IsTrue, length, drop, map, replicate};
+ghost use Rattle.std.specs.Option.{ok_or, option_map};
+ghost use Rattle.std.specs.Result.{result_ok};
+ghost use Rattle.id_digits.specs.Digits.{digits_of, spelling};
+ghost use Rattle.gix_hash.specs.Kind.{hex_len_of, is_digest_len};
+ghost use Rattle.gix_hash.specs.Prefix.{beginning_of, padded};
+ghost use Rattle.gix_hash.specs.PrefixReading.{prefix_read};
+ghost use Rattle.gix_hash.specs.Reading.{digits_read};
+ghost use Rattle.id_digits.specs.ReverseLetters.{hex_of_reverse};
+ghost use Rattle.gix_hash.specs.Alphabet.{letter_of};
+ghost use Rattle.gix_hash.specs.declared.decode.Error as decode;
+ghost use Rattle.gix_hash.specs.declared.prefix.from_hex.Error as from_hex;
+
+use crate::borrowed::oid;
+use crate::decode;
+use crate::kind::Kind;
+use crate::object_id::ObjectId;
+use crate::prefix::{Prefix, from_hex};
+use id_digits::{
+    NotDigits, read_digest, read_front, spell_hex, to_hex_letters, to_reverse_letters,
+};
+
+/// An alphabet of sixteen letters for the digits 0 to 15. Texts are read in any letter case, and
+/// spelled in lowercase.
+#[derive(Clone, Copy, Debug, PartialEq, Eq)]
+pub enum Alphabet {
+    /// `0` to `9` and `a` to `f`.
+    Hex,
+    /// `z` down to `k`, in which Jujutsu spells change ids, so that they differ from other ids.
+    Reverse,
+}
+
+impl Alphabet {
+    ghost use Rattle.gix_hash.specs.IdReading.{full_read, id_answered, whole_of};
+    ghost use Rattle.gix_hash.specs.Oid.{oid_digits, oid_kind};
+
+    /// Reads a prefix of 4 to 64 digits. Its kind is the least one whose ids have so many digits.
+    ///
+    /// Fewer bytes are refused as [`from_hex::Error::TooShort`], more as
+    /// [`from_hex::Error::TooLong`], both with their number, and else a byte that is no letter as
+    /// [`from_hex::Error::Invalid`].
+    pub fn read_prefix(self, text: &str) -> Result<Prefix, from_hex::Error>
+        ensures { result ≡ prefix_read (letter_of self) 4 text.now }
+    {
+        if text.len() < Prefix::MIN_HEX_LEN {
+            return Err(from_hex::Error::TooShort {
+                hex_len: text.len(),
+            });
+        }
+        self.read_prefix_nonempty(text)
+    }
+
+    /// As [`Alphabet::read_prefix`], from 1 digit on: of too short texts only the empty one is refused.
+    pub fn read_prefix_nonempty(self, text: &str) -> Result<Prefix, from_hex::Error>
+        ensures { result ≡ prefix_read (letter_of self) 1 text.now }
+    {
+        if text.is_empty() {
+            return Err(from_hex::Error::TooShort { hex_len: 0 });
+        }
+        match Kind::from_hex_len(text.len()) {
+            Some(kind) => self.read_beginning(kind, text.as_bytes()),
+            None => Err(from_hex::Error::TooLong {
+                hex_len: text.len(),
+            }),
+        }
+    }
+
+    // Reads the beginning of an id of the kind.
+    pub(crate) fn read_beginning(self, kind: Kind, text: &[u8]) -> Result<Prefix, from_hex::Error>
+        requires { length text.now ≤ hex_len_of kind }
+        ensures { result ≡ ok_or (option_map (beginning_of kind) (digits_read (letter_of self) text.now)) from_hex.Error.Invalid }
+    {
+        match kind {
+            Kind::Sha1 => {
+                let mut bytes = [0; 20];
+                match self.decode_front(text, &mut bytes) {
+                    Ok(()) => Ok(Prefix::padded(ObjectId::Sha1(bytes), text.len())),
+                    Err(NotDigits) => Err(from_hex::Error::Invalid),
+                }
+            }
+            Kind::Sha256 => {
+                let mut bytes = [0; 32];
+                match self.decode_front(text, &mut bytes) {
+                    Ok(()) => Ok(Prefix::padded(ObjectId::Sha256(bytes), text.len())),
+                    Err(NotDigits) => Err(from_hex::Error::Invalid),
+                }
+            }
+        }
+    }
+
+    /// Reads 40 or 64 digits as an id of SHA-1 or SHA-256.
+    ///
+    /// A text of another length is refused as [`decode::Error::InvalidHexEncodingLength`] with its
+    /// length in bytes. A text of such a length with a byte that is no letter is refused as
+    /// [`decode::Error::Invalid`].
+    #[inline(always)]
+    pub fn read_id(self, text: &[u8]) -> Result<ObjectId, decode::Error>
+        ensures { id_answered result ≡ full_read (letter_of self) text.now }
+    {
+        match text.len() {
+            40 => {
+                let mut bytes = [0; 20];
+                match self.decode_digest(text, &mut bytes) {
+                    Ok(()) => Ok(ObjectId::Sha1(bytes)),
+                    Err(NotDigits) => Err(decode::Error::Invalid),
+                }
+            }
+            64 => {
+                let mut bytes = [0; 32];
+                match self.decode_digest(text, &mut bytes) {
+                    Ok(()) => Ok(ObjectId::Sha256(bytes)),
+                    Err(NotDigits) => Err(decode::Error::Invalid),
+                }
+            }
+            len => Err(decode::Error::InvalidHexEncodingLength(len)),
+        }
+    }
+
+    /// Reads 40 or 64 digits as [`Alphabet::read_id`] does, and answers `None` for each text that it
+    /// refuses. Lists have an id a line, and an `Option` of it comes in fewer steps than a `Result`.
+    #[inline(always)]
+    pub fn find_id(self, text: &[u8]) -> Option<ObjectId>
+        ensures { option_map whole_of result ≡ result_ok (full_read (letter_of self) text.now) }
+    {
+        match text.len() {
+            40 => {
+                let mut bytes = [0; 20];
+                match self.decode_digest(text, &mut bytes) {
+                    Ok(()) => Some(ObjectId::Sha1(bytes)),
+                    Err(NotDigits) => None,
+                }
+            }
+            64 => {
+                let mut bytes = [0; 32];
+                match self.decode_digest(text, &mut bytes) {
+                    Ok(()) => Some(ObjectId::Sha256(bytes)),
+                    Err(NotDigits) => None,
+                }
+            }
+            _ => None,
+        }
+    }
+
+    // Decodes a text of two letters a byte as a digest of 20 or 32 bytes. Where some byte of it is no
+    // letter, what `bytes` then holds is not said.
+    #[inline(always)]
+    fn decode_digest(self, text: &[u8], bytes: &mut [u8]) -> Result<(), NotDigits>
+        requires digest { IsTrue (is_digest_len (length bytes.old)) }
+        requires two_a_byte { length text.now ≡ 2 * length bytes.old }
+        ensures { MatchResult result (λ _. digits_read (letter_of self) text.now ≡ Some (digits_of bytes.new))
+            (λ _. digits_read (letter_of self) text.now ≡ None) }
+    {
+        match self {
+            Alphabet::Hex => read_digest(text, bytes),
+            Alphabet::Reverse => {
+                let mut letters = [0; 64];
+                read_digest(in_hex(text, &mut letters), bytes)
+            }
+        }
+    }
+
+    // Decodes a text of letters into the front of a digest of zeros. Where some byte of it is no letter,
+    // what `zeros` then holds is not said.
+    #[inline(always)]
+    fn decode_front(self, text: &[u8], zeros: &mut [u8]) -> Result<(), NotDigits>
+        requires digest { IsTrue (is_digest_len (length zeros.old)) }
+        requires zeros { zeros.old ≡ replicate (length zeros.old) 0 }
+        requires room { length text.now ≤ 2 * length zeros.old }
+        ensures { MatchResult result
+            (λ _. option_map (padded (2 * length zeros.old)) (digits_read (letter_of self) text.now) ≡ Some (digits_of zeros.new))
+            (λ _. digits_read (letter_of self) text.now ≡ None) }
+    {
+        match self {
+            Alphabet::Hex => read_front(text, zeros),
+            Alphabet::Reverse => {
+                let mut letters = [0; 64];
+                read_front(in_hex(text, &mut letters), zeros)
+            }
+        }
+    }
+
+    /// Spells all digits of an id into the front of `buffer`, as many as its kind's length in digits;
+    /// the bytes behind them stay. The buffer needs room for the digits.
+    pub fn put_id(self, id: oid<'_>, buffer: &mut [u8])
+        requires { hex_len_of (oid_kind id) ≤ length buffer.old }
+        ensures value { buffer.new ≡ spelling (letter_of self) (oid_digits id.entry) ++ drop (hex_len_of (oid_kind id.entry)) buffer.old }
+        ensures len { length (oid_digits id.entry) ≡ hex_len_of (oid_kind id.entry) }
+    {
+        let bytes = id.as_bytes();
+        spell_hex(bytes, buffer);
+        if let Alphabet::Reverse = self {
+            to_reverse_letters(&mut buffer[..2 * bytes.len()]);
+        }
+    }
+}
+
+// Puts the hex letters for a text in the reverse alphabet into the front of `letters`, and lends them.
+fn in_hex<'a>(text: &[u8], letters: &'a mut [u8; 64]) -> &'a [u8]
+    requires { length text.now ≤ 64 }
+    ensures { result.now ≡ map hex_of_reverse text.now }
+{
+    let letters = &mut letters[..text.len()];
+    letters.copy_from_slice(text);
+    to_hex_letters(letters);
+    letters
+}

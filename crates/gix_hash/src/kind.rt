@@ -1,0 +1,263 @@
+//! The kinds of digest by which objects are named.
+
+ghost use Rattle.std.specs.Prelude.{◌≡◌, ◌∷◌, [], Some, MatchResult, replicate, nat_eq};
+ghost use Rattle.std.proofs.Common.{rules};
+ghost use Rattle.std.specs.Cmp.{partial_order_from_own_ties};
+ghost use Rattle.std.specs.Cmp.Rules.{comparing, hashing};
+ghost use Rattle.std.specs.Hash as fed;
+ghost use Rattle.std.specs.Ordering.{nat_cmp, on, as_partial_cmp};
+ghost use Rattle.gix_hash.specs.Kind.{number_of, hex_len_of, byte_len_of, kind_of_hex_len, name_of, IsNameOf, IsNoName};
+
+use crate::borrowed::oid;
+use crate::object_id::ObjectId;
+use std::cmp::Ordering;
+use std::fmt;
+use std::hash::{Hash, Hasher};
+
+/// The kind of digest that an id is.
+#[derive(Clone, Copy, Debug)]
+pub enum Kind {
+    /// SHA-1, a digest of 20 bytes (FIPS 180-4).
+    Sha1 = 1,
+    /// SHA-256, a digest of 32 bytes (FIPS 180-4).
+    Sha256 = 2,
+}
+
+impl Kind {
+    ghost use Rattle.gix_hash.specs.ObjectId.{id_kind, id_digits};
+    ghost use Rattle.gix_hash.specs.Oid.{oid_kind, oid_digits};
+    ghost use Rattle.gix_hash.specs.WellKnown.{null_digits, empty_blob_digits, empty_tree_digits};
+
+    /// The number of hex digits of an id of this kind: 40 or 64.
+    pub const fn len_in_hex(&self) -> usize
+        ensures { result ≡ hex_len_of self.now }
+    {
+        match self {
+            Kind::Sha1 => 40,
+            Kind::Sha256 => 64,
+        }
+    }
+
+    /// The number of bytes of a digest of this kind: 20 or 32.
+    pub const fn len_in_bytes(&self) -> usize
+        ensures { result ≡ byte_len_of self.now }
+    {
+        match self {
+            Kind::Sha1 => 20,
+            Kind::Sha256 => 32,
+        }
+    }
+
+    /// The least kind whose ids have at least `hex_len` digits: SHA-1 for 0 to 40, SHA-256 for 41
+    /// to 64, both ends included, and `None` above.
+    pub const fn from_hex_len(hex_len: usize) -> Option<Kind>
+        ensures { result ≡ kind_of_hex_len hex_len }
+    {
+        match hex_len {
+            0..=40 => Some(Kind::Sha1),
+            41..=64 => Some(Kind::Sha256),
+            _ => None,
+        }
+    }
+
+    /// The kind with the shortest ids.
+    pub const fn shortest() -> Kind
+        ensures { result ≡ Kind.Sha1 }
+    {
+        Kind::Sha1
+    }
+
+    /// The kind with the longest ids.
+    pub const fn longest() -> Kind
+        ensures { result ≡ Kind.Sha256 }
+    {
+        Kind::Sha256
+    }
+
+    /// A buffer of zeros with room for the hex digits of an id of any kind.
+    pub const fn hex_buf() -> [u8; 64]
+        ensures { result ≡ replicate 64 0 }
+    {
+        [0; 64]
+    }
+
+    /// A buffer of zeros with room for the digest of any kind, in bytes.
+    pub const fn buf() -> [u8; 32]
+        ensures { result ≡ replicate 32 0 }
+    {
+        [0; 32]
+    }
+
+    /// The id of zero digits alone.
+    pub fn null(&self) -> ObjectId
+        ensures kind { id_kind result ≡ self.now }
+        ensures digits { id_digits result ≡ null_digits self.now }
+    {
+        match self {
+            Kind::Sha1 => ObjectId::Sha1([0; 20]),
+            Kind::Sha256 => ObjectId::Sha256([0; 32]),
+        }
+    }
+
+    /// The id of zero digits alone, as a view.
+    pub fn null_ref(&self) -> oid<'static>
+        ensures kind { oid_kind result ≡ self.now }
+        ensures digits { oid_digits result ≡ null_digits self.now }
+    {
+        match self {
+            Kind::Sha1 => oid::from_bytes_unchecked(&[0; 20]),
+            Kind::Sha256 => oid::from_bytes_unchecked(&[0; 32]),
+        }
+    }
+
+    /// The id of the empty blob: the digest of `blob 0` and a NUL byte.
+    pub fn empty_blob(&self) -> ObjectId
+        ensures kind { id_kind result ≡ self.now }
+        ensures digits { id_digits result ≡ empty_blob_digits self.now }
+    {
+        match self {
+            Kind::Sha1 => ObjectId::Sha1(EMPTY_BLOB_SHA1),
+            Kind::Sha256 => ObjectId::Sha256(EMPTY_BLOB_SHA256),
+        }
+    }
+
+    /// The id of the empty tree: the digest of `tree 0` and a NUL byte.
+    pub fn empty_tree(&self) -> ObjectId
+        ensures kind { id_kind result ≡ self.now }
+        ensures digits { id_digits result ≡ empty_tree_digits self.now }
+    {
+        match self {
+            Kind::Sha1 => ObjectId::Sha1(EMPTY_TREE_SHA1),
+            Kind::Sha256 => ObjectId::Sha256(EMPTY_TREE_SHA256),
+        }
+    }
+
+    /// Every kind, the shortest first.
+    pub fn all() -> &'static [Kind]
+        ensures { result.now ≡ Kind.Sha1 ∷ Kind.Sha256 ∷ [] }
+    {
+        &[Kind::Sha1, Kind::Sha256]
+    }
+
+    /// Reads the name of a kind: `sha1`, `SHA1`, `SHA-1`, `sha256`, `SHA256` or `SHA-256`. Any
+    /// other text is handed back.
+    pub fn from_str(name: &str) -> Result<Kind, &str>
+        ensures { MatchResult result (IsNameOf name.now) (λ refused. (refused.now ≡ name.now) × IsNoName name.now) }
+    {
+        match name {
+            "sha1" | "SHA1" | "SHA-1" => Ok(Kind::Sha1),
+            "sha256" | "SHA256" | "SHA-256" => Ok(Kind::Sha256),
+            _ => Err(name),
+        }
+    }
+}
+
+const EMPTY_BLOB_SHA1: [u8; 20] = [
+    0xe6, 0x9d, 0xe2, 0x9b, 0xb2, 0xd1, 0xd6, 0x43, 0x4b, 0x8b, 0x29, 0xae, 0x77, 0x5a, 0xd8, 0xc2,
+    0xe4, 0x8c, 0x53, 0x91,
+];
+
+const EMPTY_BLOB_SHA256: [u8; 32] = [
+    0x47, 0x3a, 0x0f, 0x4c, 0x3b, 0xe8, 0xa9, 0x36, 0x81, 0xa2, 0x67, 0xe3, 0xb1, 0xe9, 0xa7, 0xdc,
+    0xda, 0x11, 0x85, 0x43, 0x6f, 0xe1, 0x41, 0xf7, 0x74, 0x91, 0x20, 0xa3, 0x03, 0x72, 0x18, 0x13,
+];
+
+const EMPTY_TREE_SHA1: [u8; 20] = [
+    0x4b, 0x82, 0x5d, 0xc6, 0x42, 0xcb, 0x6e, 0xb9, 0xa0, 0x60, 0xe5, 0x4b, 0xf8, 0xd6, 0x92, 0x88,
+    0xfb, 0xee, 0x49, 0x04,
+];
+
+const EMPTY_TREE_SHA256: [u8; 32] = [
+    0x6e, 0xf1, 0x9b, 0x41, 0x22, 0x5c, 0x53, 0x69, 0xf1, 0xc1, 0x04, 0xd4, 0x5d, 0x8d, 0x85, 0xef,
+    0xa9, 0xb0, 0x57, 0xb5, 0x3b, 0x14, 0xb4, 0xb9, 0xb9, 0x39, 0xdd, 0x74, 0xde, 0xcc, 0x53, 0x21,
+];
+
+impl Default for Kind {
+    ghost use Rattle.gix_hash.specs.declared.kind.Kind.TheVariants.{Sha1};
+
+    ghost is_default = { λ kind. kind ≡ Sha1 };
+
+    fn default() -> Self {
+        Kind::Sha1
+    }
+}
+
+impl PartialEq for Kind {
+    ghost eq = { on number_of nat_eq };
+
+    ghost laws = { Prim.search (comparing, rules) };
+
+    fn eq(&self, other: &Self) -> bool {
+        *self as u8 == *other as u8
+    }
+}
+
+impl Eq for Kind {
+    ghost laws = { Prim.search (comparing, rules) };
+}
+
+impl Hash for Kind {
+    ghost hash_input = { λ kind. fed.u8 (number_of kind) };
+
+    ghost respects_eq = { Prim.search (hashing, rules) };
+
+    fn hash<H: Hasher>(&self, state: &mut H) {
+        state.write_u8(*self as u8);
+    }
+}
+
+impl PartialOrd for Kind {
+    ghost partial_cmp = { as_partial_cmp (on number_of nat_cmp) };
+
+    ghost laws = { partial_order_from_own_ties (Prim.search (comparing, rules)) (Prim.search (comparing, rules)) };
+
+    fn partial_cmp(&self, other: &Self) -> Option<Ordering> {
+        Some(self.cmp(other))
+    }
+}
+
+impl Ord for Kind {
+    ghost cmp = { on number_of nat_cmp };
+
+    ghost total = { Prim.search (comparing, rules) };
+
+    ghost matches_partial_cmp = { Prim.search (comparing, rules) };
+
+    ghost matches_eq = { Prim.search (comparing, rules) };
+
+    fn cmp(&self, other: &Self) -> Ordering {
+        (*self as u8).cmp(&(*other as u8))
+    }
+}
+
+/// Reads the number of a kind, 1 or 2. Any other number is the error.
+impl TryFrom<u8> for Kind {
+    ghost use Rattle.std.specs.Prelude.{◌≡◌, MatchResult};
+    ghost use Rattle.gix_hash.specs.Kind.{number_of, IsNoNumber};
+
+    type Error = u8;
+
+    ghost try_from_gives = { λ number answer. MatchResult answer (λ kind. number_of kind ≡ number) (λ refused. (refused ≡ number) × IsNoNumber number) };
+
+    fn try_from(number: u8) -> Result<Kind, u8> {
+        match number {
+            1 => Ok(Kind::Sha1),
+            2 => Ok(Kind::Sha256),
+            _ => Err(number),
+        }
+    }
+}
+
+/// Prints `sha1` or `sha256`, whatever width, fill and precision are asked for.
+impl fmt::Display for Kind {
+    ghost output = { λ kind. Some (name_of kind) };
+
+    ghost styled_output = { λ kind _. Some (name_of kind) };
+
+    fn fmt<W: fmt::Write>(&self, f: &mut fmt::Formatter<W>) -> fmt::Result {
+        f.write_str(match self {
+            Kind::Sha1 => "sha1",
+            Kind::Sha256 => "sha256",
+        })
+    }
+}

@@ -1,0 +1,471 @@
+//! Ids that own their bytes.
+
+ghost use Rattle.std.specs.Prelude.{◌≡◌, ◌≤◌, ◌<◌, ◌*◌, All, length, slice_range};
+
+use crate::alphabet::Alphabet;
+use crate::borrowed::oid;
+use crate::display::HexDisplay;
+use crate::error::Error;
+use crate::kind::Kind;
+use crate::prefix::Prefix;
+use crate::{decode, verify};
+use std::cmp::Ordering;
+use std::hash::{Hash, Hasher};
+use std::ops::Range;
+use std::str::FromStr;
+use std::{fmt, io};
+
+/// The name of an object: the digest of its content.
+#[derive(Clone, Copy)]
+pub enum ObjectId {
+    /// A SHA-1 digest.
+    Sha1([u8; 20]),
+    /// A SHA-256 digest.
+    Sha256([u8; 32]),
+}
+
+impl ObjectId {
+    ghost use Rattle.std.specs.Prelude.{◌↔◌, ◌++◌, IsTrue, IsOk, IfErr, OnOk, IsAscii, take, drop};
+    ghost use Rattle.std.specs.Borrow.{sem};
+    ghost use Rattle.gix_hash.specs.LentText.{EndsAs};
+    ghost use Rattle.std.specs.Io.KnownBytes.{Appends};
+    ghost use Rattle.std.specs.List.{common_prefix_len};
+    ghost use Rattle.std.specs.Prelude.{nat_eq};
+    ghost use Rattle.gix_hash.specs.CommonDigits.{IsCommonLen};
+    ghost use Rattle.id_digits.specs.Digits.{digits_of, first_byte_of, hex_letter, spelling};
+    ghost use Rattle.gix_hash.specs.CutId.{shown_digits};
+    ghost use Rattle.gix_hash.specs.Loan.{LendsDigest};
+    ghost use Rattle.gix_hash.specs.WellKnown.{null_digits, empty_blob_digits, empty_tree_digits};
+    ghost use Rattle.gix_hash.specs.IdReading.{full_read, id_answered};
+    ghost use Rattle.gix_hash.specs.Kind.{byte_len_of, hex_len_of, is_digest_len, kind_of_byte_len};
+    ghost use Rattle.gix_hash.specs.ObjectId.{id_bytes, id_kind, id_digits};
+    ghost use Rattle.gix_hash.specs.Oid.{oid_digits, oid_kind};
+
+    /// Reads 40 or 64 hex digits, in any letter case, as an id of SHA-1 or SHA-256.
+    ///
+    /// A text of another length is refused as [`decode::Error::InvalidHexEncodingLength`] with its
+    /// length in bytes. A text of such a length with a byte that is no hex digit is refused as
+    /// [`decode::Error::Invalid`].
+    #[inline(always)]
+    pub fn from_hex(text: &[u8]) -> Result<ObjectId, decode::Error>
+        ensures { id_answered result ≡ full_read hex_letter text.now }
+    {
+        Alphabet::Hex.read_id(text)
+    }
+
+    /// The kind of the digest.
+    #[tactic(auto, using(crate::proofs::IdFacts::digits_of_id))]
+    pub const fn kind(&self) -> Kind
+        ensures value { result ≡ id_kind self.now }
+        ensures len { length (id_digits self.now) ≡ hex_len_of (id_kind self.now) }
+        ensures digits_in_range { All (λ d. d < 16) (id_digits self.now) }
+    {
+        // Where the digest's length and the range of its bytes are told.
+        let _bytes = self.as_slice();
+        match self {
+            ObjectId::Sha1(_) => Kind::Sha1,
+            ObjectId::Sha256(_) => Kind::Sha256,
+        }
+    }
+
+    /// The id of zero digits alone, as [`Kind::null`].
+    pub fn null(kind: Kind) -> ObjectId
+        ensures kind { id_kind result ≡ kind }
+        ensures digits { id_digits result ≡ null_digits kind }
+    {
+        kind.null()
+    }
+
+    /// The id of the empty blob, as [`Kind::empty_blob`].
+    pub fn empty_blob(kind: Kind) -> ObjectId
+        ensures kind { id_kind result ≡ kind }
+        ensures digits { id_digits result ≡ empty_blob_digits kind }
+    {
+        kind.empty_blob()
+    }
+
+    /// The id of the empty tree, as [`Kind::empty_tree`].
+    pub fn empty_tree(kind: Kind) -> ObjectId
+        ensures kind { id_kind result ≡ kind }
+        ensures digits { id_digits result ≡ empty_tree_digits kind }
+    {
+        kind.empty_tree()
+    }
+
+    /// The id of a digest. The bytes are 20 or 32.
+    pub fn from_bytes_or_panic(bytes: &[u8]) -> ObjectId
+        requires { IsTrue (is_digest_len (length bytes.now)) }
+        ensures kind { id_kind result ≡ kind_of_byte_len (length bytes.now) }
+        ensures digits { id_digits result ≡ digits_of bytes.now }
+    {
+        oid::from_bytes_unchecked(bytes).to_owned()
+    }
+
+    /// The bytes of the digest, as many as the kind's length in bytes.
+    #[inline(always)]
+    pub const fn as_slice(&self) -> &[u8]
+        ensures value { result.now ≡ id_bytes self.now }
+        ensures len { length result.now ≡ byte_len_of (id_kind self.now) }
+        ensures bytes_in_range { All (λ b. b < 256) result.now }
+    {
+        match self {
+            ObjectId::Sha1(bytes) => with_range(bytes),
+            ObjectId::Sha256(bytes) => with_range(bytes),
+        }
+    }
+
+    /// The id as a view of its bytes.
+    #[inline(always)]
+    #[tactic(auto, using(crate::proofs::IdFacts::digits_of_id))]
+    pub fn as_oid(&self) -> oid<'_>
+        ensures kind { oid_kind result ≡ id_kind self.now }
+        ensures digits { oid_digits result ≡ id_digits self.now }
+        ensures len { length (id_digits self.now) ≡ hex_len_of (id_kind self.now) }
+        ensures digits_in_range { All (λ d. d < 16) (id_digits self.now) }
+    {
+        oid::from_bytes_unchecked(self.as_slice())
+    }
+
+    /// As [`ObjectId::as_slice`].
+    pub fn as_bytes(&self) -> &[u8]
+        ensures value { result.now ≡ id_bytes self.now }
+        ensures len { length result.now ≡ byte_len_of (id_kind self.now) }
+        ensures bytes_in_range { All (λ b. b < 256) result.now }
+    {
+        self.as_slice()
+    }
+
+    /// The bytes of the digest, to be written: what is written there is the digest afterwards, and
+    /// the kind stays.
+    pub fn as_mut_slice(&mut self) -> &mut [u8]
+        ensures* lends { sem 𝓛 (LendsDigest self.entry result) }
+        ensures value { result.now ≡ id_bytes self.old }
+        ensures len { length result.now ≡ byte_len_of (id_kind self.old) }
+    {
+        // Where the digest's length is told.
+        let _len = self.as_slice().len();
+        match self {
+            ObjectId::Sha1(bytes) => bytes.as_mut_slice(),
+            ObjectId::Sha256(bytes) => bytes.as_mut_slice(),
+        }
+    }
+
+    /// The first byte of the digest.
+    pub fn first_byte(&self) -> u8
+        ensures { result ≡ first_byte_of (id_digits self.now) }
+    {
+        self.as_oid().first_byte()
+    }
+
+    /// Whether all digits are zero.
+    pub fn is_null(&self) -> bool
+        ensures { IsTrue result ↔ (id_digits self.now ≡ null_digits (id_kind self.now)) }
+    {
+        self.as_oid().is_null()
+    }
+
+    /// Whether this is the id of the empty blob, of its kind.
+    pub fn is_empty_blob(&self) -> bool
+        ensures { IsTrue result ↔ (id_digits self.now ≡ empty_blob_digits (id_kind self.now)) }
+    {
+        self.as_oid().is_empty_blob()
+    }
+
+    /// Whether this is the id of the empty tree, of its kind.
+    pub fn is_empty_tree(&self) -> bool
+        ensures { IsTrue result ↔ (id_digits self.now ≡ empty_tree_digits (id_kind self.now)) }
+    {
+        self.as_oid().is_empty_tree()
+    }
+
+    /// Whether the digits are those of a borrowed id.
+    pub fn eq_oid(&self, other: oid<'_>) -> bool
+        ensures { IsTrue result ↔ (id_digits self.now ≡ oid_digits other.entry) }
+    {
+        self.as_oid() == other
+    }
+
+    /// As [`oid::common_hex_len`].
+    pub fn common_hex_len(&self, other: oid<'_>) -> usize
+        ensures value { result ≡ common_prefix_len nat_eq (id_digits self.now) (oid_digits other.entry) }
+        ensures longest { IsCommonLen (id_digits self.now) (oid_digits other.entry) result }
+    {
+        self.as_oid().common_hex_len(other)
+    }
+
+    /// Whether `text` is just the lowercase hex digits.
+    pub fn eq_str(&self, text: &str) -> bool
+        ensures { IsTrue result ↔ (text.now ≡ spelling hex_letter (id_digits self.now)) }
+    {
+        self.as_oid().eq_str(text)
+    }
+
+    /// Whether `text` is just the lowercase hex digits.
+    pub fn eq_bstr(&self, text: &[u8]) -> bool
+        ensures { IsTrue result ↔ (text.now ≡ spelling hex_letter (id_digits self.now)) }
+    {
+        let mut buffer = [0; 64];
+        let filled = self.filled(&mut buffer);
+        &filled[..self.kind().len_in_hex()] == text
+    }
+
+    /// The id for printing in full.
+    pub fn to_hex(&self) -> HexDisplay<'_>
+        ensures id { oid_digits result.inner ≡ id_digits self.now }
+        ensures kind { oid_kind result.inner ≡ id_kind self.now }
+        ensures hex_len { result.hex_len ≡ hex_len_of (id_kind self.now) }
+        ensures shown { shown_digits result ≡ id_digits self.now }
+    {
+        self.as_oid().to_hex()
+    }
+
+    /// The id for printing its first `hex_len` digits, or all where it has fewer.
+    pub fn to_hex_with_len(&self, hex_len: usize) -> HexDisplay<'_>
+        ensures id { oid_digits result.inner ≡ id_digits self.now }
+        ensures kind { oid_kind result.inner ≡ id_kind self.now }
+        ensures hex_len { result.hex_len ≡ hex_len }
+    {
+        self.as_oid().to_hex_with_len(hex_len)
+    }
+
+    /// As [`oid::put_hex`].
+    pub fn put_hex(&self, buffer: &mut [u8])
+        requires { hex_len_of (id_kind self.now) ≤ length buffer.old }
+        ensures value { buffer.new ≡ spelling hex_letter (id_digits self.now) ++ drop (hex_len_of (id_kind self.now)) buffer.old }
+        ensures len { length (id_digits self.now) ≡ hex_len_of (id_kind self.now) }
+    {
+        self.as_oid().put_hex(buffer);
+    }
+
+    /// As [`oid::hex_to_buf`].
+    pub fn hex_to_buf<'b>(&self, buffer: &'b mut [u8]) -> &'b str
+        requires { hex_len_of (id_kind self.now) ≤ length buffer.old }
+        ensures* behind { sem 𝓛 (EndsAs buffer.entry (spelling hex_letter (id_digits self.now) ++ drop (hex_len_of (id_kind self.now)) buffer.old)) }
+        ensures text { result.now ≡ spelling hex_letter (id_digits self.now) }
+        ensures ascii { IsAscii result.now }
+        ensures len { length result.now ≡ hex_len_of (id_kind self.now) }
+    {
+        self.front_text(self.filled(buffer))
+    }
+
+    // The same buffer, with the digits in its front.
+    fn filled<'b>(&self, buffer: &'b mut [u8]) -> &'b mut [u8]
+        requires { hex_len_of (id_kind self.now) ≤ length buffer.old }
+        ensures same { result.ghost_name ≡ buffer.entry.ghost_name }
+        ensures value { result.now ≡ spelling hex_letter (id_digits self.now) ++ drop (hex_len_of (id_kind self.now)) buffer.old }
+        ensures room { hex_len_of (id_kind self.now) ≤ length result.now }
+        ensures front { take (hex_len_of (id_kind self.now)) result.now ≡ spelling hex_letter (id_digits self.now) }
+    {
+        self.as_oid().filled(buffer)
+    }
+
+    // The digits in front of a buffer, as text.
+    fn front_text<'b>(&self, buffer: &'b [u8]) -> &'b str
+        requires room { hex_len_of (id_kind self.now) ≤ length buffer.now }
+        requires front { take (hex_len_of (id_kind self.now)) buffer.now ≡ spelling hex_letter (id_digits self.now) }
+        ensures text { result.now ≡ spelling hex_letter (id_digits self.now) }
+        ensures ascii { IsAscii result.now }
+        ensures len { length result.now ≡ hex_len_of (id_kind self.now) }
+    {
+        self.as_oid().front_text(buffer)
+    }
+
+    /// As [`oid::write_hex_to`].
+    pub fn write_hex_to<W: io::Write>(&self, out: &mut W) -> io::Result<()>
+        ensures { OnOk result (Appends (W.contents out.old) (W.contents out.new) (spelling hex_letter (id_digits self.now))) }
+    {
+        self.as_oid().write_hex_to(out)
+    }
+
+    /// As [`oid::verify`].
+    pub fn verify(&self, expected: oid<'_>) -> Result<(), verify::Error>
+        ensures equal { IsOk result ↔ (id_digits self.now ≡ oid_digits expected.entry) }
+        ensures actual { IfErr result (λ e. (id_kind e.actual ≡ id_kind self.now) × (id_digits e.actual ≡ id_digits self.now)) }
+        ensures expected { IfErr result (λ e. (id_kind e.expected ≡ oid_kind expected.entry) × (id_digits e.expected ≡ oid_digits expected.entry)) }
+    {
+        self.as_oid().verify(expected)
+    }
+
+    /// As [`oid::to_prefix`].
+    pub fn to_prefix(&self, range: Range<usize>) -> Prefix
+        requires ordered { range.start ≤ range.end }
+        requires within { range.end ≤ byte_len_of (id_kind self.now) }
+        ensures kind { result.kind ≡ id_kind self.now }
+        ensures digits { result.digits ≡ slice_range (id_digits self.now) (2 * range.start) (2 * range.end) }
+    {
+        self.as_oid().to_prefix(range)
+    }
+}
+
+// The bytes as they are. A parameter that is a slice is known to hold bytes, an array in a variant
+// is not.
+const fn with_range(bytes: &[u8]) -> &[u8]
+    ensures value { result.now ≡ bytes.now }
+    ensures bytes_in_range { All (λ b. b < 256) result.now }
+{
+    bytes
+}
+
+/// As the Display of [`oid`].
+impl fmt::Display for ObjectId {
+    ghost use Rattle.std.specs.Prelude.{Some};
+    ghost use Rattle.id_digits.specs.Digits.{spelling, hex_letter};
+    ghost use Rattle.gix_hash.specs.ObjectId.{id_digits};
+
+    ghost output = { λ id. Some (spelling hex_letter (id_digits id)) };
+
+    ghost styled_output = { λ id _. Some (spelling hex_letter (id_digits id)) };
+
+    fn fmt<W: fmt::Write>(&self, f: &mut fmt::Formatter<W>) -> fmt::Result {
+        self.as_oid().fmt(f)
+    }
+}
+
+impl fmt::Debug for ObjectId {
+    fn fmt<W: fmt::Write>(&self, f: &mut fmt::Formatter<W>) -> fmt::Result {
+        self.as_oid().fmt(f)
+    }
+}
+
+impl PartialEq for ObjectId {
+    ghost use Rattle.std.proofs.Common.{rules};
+    ghost use Rattle.std.specs.Cmp.Rules.{comparing};
+    ghost use Rattle.gix_hash.specs.ObjectId.{id_eq};
+
+    ghost eq = { id_eq };
+
+    ghost laws = { Prim.search (comparing, rules) };
+
+    fn eq(&self, other: &Self) -> bool {
+        self.kind() == other.kind() && self.as_oid() == other.as_oid()
+    }
+}
+
+impl Eq for ObjectId {
+    ghost use Rattle.std.proofs.Common.{rules};
+    ghost use Rattle.std.specs.Cmp.Rules.{comparing};
+
+    ghost laws = { Prim.search (comparing, rules) };
+}
+
+impl PartialOrd for ObjectId {
+    ghost use Rattle.std.proofs.Common.{rules};
+    ghost use Rattle.std.specs.Cmp.{partial_order_from_own_ties};
+    ghost use Rattle.std.specs.Cmp.Rules.{comparing};
+    ghost use Rattle.std.specs.Ordering.{as_partial_cmp};
+    ghost use Rattle.gix_hash.specs.ObjectId.{id_cmp};
+
+    ghost partial_cmp = { as_partial_cmp id_cmp };
+
+    ghost laws = { partial_order_from_own_ties (Prim.search (comparing, rules)) (Prim.search (comparing, rules)) };
+
+    fn partial_cmp(&self, other: &Self) -> Option<Ordering> {
+        Some(self.cmp(other))
+    }
+}
+
+/// By kind, and then by digits.
+impl Ord for ObjectId {
+    ghost use Rattle.std.proofs.Common.{rules};
+    ghost use Rattle.std.specs.Cmp.Rules.{comparing};
+    ghost use Rattle.gix_hash.specs.ObjectId.{id_cmp};
+
+    ghost cmp = { id_cmp };
+
+    ghost total = { Prim.search (comparing, rules) };
+
+    ghost matches_partial_cmp = { Prim.search (comparing, rules) };
+
+    ghost matches_eq = { Prim.search (comparing, rules) };
+
+    fn cmp(&self, other: &Self) -> Ordering {
+        self.kind()
+            .cmp(&other.kind())
+            .then(self.as_oid().cmp(&other.as_oid()))
+    }
+}
+
+/// Feeds the bytes of the digest in one write, without a length.
+impl Hash for ObjectId {
+    ghost use Rattle.gix_hash.specs.ObjectId.{id_hash_input, same_id_input};
+
+    ghost hash_input = { id_hash_input };
+
+    ghost respects_eq = { same_id_input };
+
+    fn hash<H: Hasher>(&self, state: &mut H) {
+        state.write(self.as_slice());
+    }
+}
+
+/// As [`ObjectId::from_hex`].
+impl FromStr for ObjectId {
+    ghost use Rattle.std.specs.Prelude.{◌≡◌};
+    ghost use Rattle.id_digits.specs.Digits.{hex_letter};
+    ghost use Rattle.gix_hash.specs.IdReading.{full_read, id_answered};
+
+    type Err = decode::Error;
+
+    ghost from_str_gives = { λ text answer. id_answered answer ≡ full_read hex_letter text };
+
+    fn from_str(text: &str) -> Result<ObjectId, decode::Error> {
+        ObjectId::from_hex(text.as_bytes())
+    }
+}
+
+impl From<[u8; 20]> for ObjectId {
+    ghost use Rattle.std.specs.Prelude.{◌≡◌};
+    ghost use Rattle.gix_hash.specs.declared.object_id.ObjectId.TheVariants.{Sha1};
+
+    ghost from_gives = { λ bytes id. id ≡ Sha1 bytes };
+
+    fn from(bytes: [u8; 20]) -> ObjectId {
+        ObjectId::Sha1(bytes)
+    }
+}
+
+impl From<[u8; 32]> for ObjectId {
+    ghost use Rattle.std.specs.Prelude.{◌≡◌};
+    ghost use Rattle.gix_hash.specs.declared.object_id.ObjectId.TheVariants.{Sha256};
+
+    ghost from_gives = { λ bytes id. id ≡ Sha256 bytes };
+
+    fn from(bytes: [u8; 32]) -> ObjectId {
+        ObjectId::Sha256(bytes)
+    }
+}
+
+impl<'a> From<oid<'a>> for ObjectId {
+    ghost use Rattle.std.specs.Prelude.{◌≡◌};
+    ghost use Rattle.gix_hash.specs.ObjectId.{id_kind, id_digits};
+    ghost use Rattle.gix_hash.specs.Oid.{oid_kind, oid_digits};
+
+    ghost from_gives = { λ id owned. (id_kind owned ≡ oid_kind id) × (id_digits owned ≡ oid_digits id) };
+
+    fn from(id: oid<'a>) -> ObjectId {
+        id.to_owned()
+    }
+}
+
+/// Bytes that are neither 20 nor 32 are refused as [`Error::InvalidByteSliceLength`] with their
+/// number.
+impl<'a> TryFrom<&'a [u8]> for ObjectId {
+    ghost use Rattle.std.specs.Prelude.{◌≡◌, MatchResult, length};
+    ghost use Rattle.gix_hash.specs.Kind.{kind_of_byte_len};
+    ghost use Rattle.id_digits.specs.Digits.{digits_of};
+    ghost use Rattle.gix_hash.specs.ObjectId.{id_kind, id_digits};
+    ghost use Rattle.gix_hash.specs.ByteLengths.{IsLengthRefusal};
+
+    type Error = Error;
+
+    ghost try_from_gives = { λ bytes answer. MatchResult answer
+        (λ id. (id_digits id ≡ digits_of bytes.now) × (id_kind id ≡ kind_of_byte_len (length bytes.now)))
+        (IsLengthRefusal bytes.now) };
+
+    fn try_from(bytes: &'a [u8]) -> Result<ObjectId, Error> {
+        match bytes.len() {
+            20 | 32 => Ok(ObjectId::from_bytes_or_panic(bytes)),
+            len => Err(Error::InvalidByteSliceLength(len)),
+        }
+    }
+}

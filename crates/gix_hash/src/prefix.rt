@@ -1,0 +1,236 @@
+//! Beginnings of ids.
+
+ghost use Rattle.std.specs.Prelude.{◌≡◌, ◌≤◌, ◌<◌, length, take, IfOk, All};
+ghost use Rattle.std.specs.declared.cmp.Ordering.{Ordering};
+ghost use Rattle.id_digits.specs.Digits.{hex_letter, reverse_letter};
+ghost use Rattle.gix_hash.specs.Kind.{hex_len_of};
+ghost use Rattle.gix_hash.specs.Prefix.{place, padded};
+ghost use Rattle.gix_hash.specs.PrefixReading.{prefix_read, prefix_read_in};
+
+use crate::alphabet::Alphabet;
+use crate::borrowed::oid;
+use crate::kind::Kind;
+use crate::object_id::ObjectId;
+use id_digits::Words;
+use std::cmp::Ordering;
+use std::marker::Model;
+use std::{error, fmt};
+
+pub mod from_hex;
+mod order;
+mod packing;
+mod printing;
+
+/// Why an id has no prefix of so many digits.
+#[derive(Debug, Drop)]
+pub enum Error {
+    /// Fewer than 4 digits were asked for.
+    TooShort {
+        /// The number of digits that was asked for.
+        hex_len: usize,
+    },
+    /// More digits were asked for than the id has.
+    TooLong {
+        /// The kind of the id.
+        object_kind: Kind,
+        /// The number of digits that was asked for.
+        hex_len: usize,
+    },
+}
+
+impl fmt::Display for Error {
+    fn fmt<W: fmt::Write>(&self, f: &mut fmt::Formatter<W>) -> fmt::Result {
+        match *self {
+            Error::TooShort { hex_len } => {
+                let least = Prefix::MIN_HEX_LEN;
+                write!(
+                    f,
+                    "The minimum hex length of a short object id is {least}, got {hex_len}"
+                )
+            }
+            Error::TooLong {
+                object_kind,
+                hex_len,
+            } => {
+                let most = object_kind.len_in_hex();
+                write!(
+                    f,
+                    "An object of kind {object_kind} cannot be larger than {most} in hex, but {hex_len} was requested"
+                )
+            }
+        }
+    }
+}
+
+impl error::Error for Error {}
+
+/// A beginning of an id: a kind, and 0 to 40 or 0 to 64 digits.
+///
+/// It keeps the bytes of its digits with zeros behind them, as many as the kind's digest has, and
+/// beside them the same digits as two numbers of 128 bits, by which it compares.
+#[derive(Clone, Copy)]
+pub struct Prefix {
+    bytes: ObjectId,
+    hex_len: usize,
+    words: Words,
+}
+
+impl Model for Prefix {
+    ghost use Rattle.gix_hash.specs.Prefix.{Beginning};
+
+    ghost Value = { Beginning };
+
+    ghost use Rattle.gix_hash.specs.PrefixBytes.{IsPacked, kept, seen, kept-seen};
+
+    ghost view = { seen };
+
+    ghost invariant = { IsPacked };
+
+    ghost inverse = { kept };
+
+    ghost inverse_ok = { kept-seen };
+}
+
+impl Prefix {
+    ghost use Rattle.gix_hash.specs.Oid.{oid_kind, oid_digits};
+
+    /// The least number of digits that [`Prefix::new`] and [`Prefix::from_hex`] take.
+    pub const MIN_HEX_LEN: usize = 4;
+
+    /// The prefix of the first `hex_len` digits of an id, and of the id's kind.
+    ///
+    /// More digits than the id has are refused as [`Error::TooLong`], and else fewer than 4 as
+    /// [`Error::TooShort`].
+    pub fn new(id: oid<'_>, hex_len: usize) -> Result<Prefix, Error>
+        ensures too_long { hex_len_of (oid_kind id.entry) < hex_len → result ≡ Err (Error.TooLong (oid_kind id.entry) hex_len) }
+        ensures too_short { hex_len < 4 → result ≡ Err (Error.TooShort hex_len) }
+        ensures ok { 4 ≤ hex_len → hex_len ≤ hex_len_of (oid_kind id.entry) →
+            result ≡ Ok (record { kind = oid_kind id.entry; digits = take hex_len (oid_digits id.entry) }) }
+        ensures matches { IfOk result (λ prefix. place prefix.digits (oid_digits id.entry) ≡ Ordering.Equal) }
+    {
+        let object_kind = id.kind();
+        if hex_len > object_kind.len_in_hex() {
+            return Err(Error::TooLong {
+                object_kind,
+                hex_len,
+            });
+        }
+        if hex_len < Prefix::MIN_HEX_LEN {
+            return Err(Error::TooShort { hex_len });
+        }
+        Ok(Prefix::packed(object_kind, id.as_bytes(), hex_len))
+    }
+
+    /// Reads 4 to 64 hex digits, in any letter case. The kind is the least one whose ids have so
+    /// many digits.
+    ///
+    /// Fewer bytes are refused as [`from_hex::Error::TooShort`], more as
+    /// [`from_hex::Error::TooLong`], and else a byte that is no digit as
+    /// [`from_hex::Error::Invalid`].
+    pub fn from_hex(text: &str) -> Result<Prefix, from_hex::Error>
+        ensures { result ≡ prefix_read hex_letter 4 text.now }
+    {
+        Alphabet::Hex.read_prefix(text)
+    }
+
+    /// Reads 1 to 64 hex digits, in any letter case. The kind is the least one whose ids have so
+    /// many digits.
+    ///
+    /// An empty text is refused as [`from_hex::Error::TooShort`], one of more bytes as
+    /// [`from_hex::Error::TooLong`], and else a byte that is no digit as
+    /// [`from_hex::Error::Invalid`].
+    pub fn from_hex_nonempty(text: &str) -> Result<Prefix, from_hex::Error>
+        ensures { result ≡ prefix_read hex_letter 1 text.now }
+    {
+        Alphabet::Hex.read_prefix_nonempty(text)
+    }
+
+    /// As [`Prefix::from_hex`], of the letters `z` to `k` in place of hex digits.
+    pub fn from_reverse_hex(text: &str) -> Result<Prefix, from_hex::Error>
+        ensures { result ≡ prefix_read reverse_letter 4 text.now }
+    {
+        Alphabet::Reverse.read_prefix(text)
+    }
+
+    /// As [`Prefix::from_hex_nonempty`], of the letters `z` to `k` in place of hex digits.
+    pub fn from_reverse_hex_nonempty(text: &str) -> Result<Prefix, from_hex::Error>
+        ensures { result ≡ prefix_read reverse_letter 1 text.now }
+    {
+        Alphabet::Reverse.read_prefix_nonempty(text)
+    }
+
+    /// Reads 1 hex digit up to as many as ids of the given kind have, in any letter case, as a
+    /// prefix of that kind.
+    ///
+    /// An empty text is refused as [`from_hex::Error::TooShort`], one of more bytes as
+    /// [`from_hex::Error::TooLong`], and else a byte that is no digit as
+    /// [`from_hex::Error::Invalid`].
+    pub fn from_hex_in(kind: Kind, text: &str) -> Result<Prefix, from_hex::Error>
+        ensures { result ≡ prefix_read_in kind hex_letter text.now }
+    {
+        if text.len() > kind.len_in_hex() {
+            return Err(from_hex::Error::TooLong {
+                hex_len: text.len(),
+            });
+        }
+        if text.is_empty() {
+            return Err(from_hex::Error::TooShort { hex_len: 0 });
+        }
+        Alphabet::Hex.read_beginning(kind, text.as_bytes())
+    }
+
+    /// The digits with zeros behind them, as an id of the prefix's kind.
+    pub fn as_oid(&self) -> oid<'_>
+        ensures kind { oid_kind result ≡ self.now.kind }
+        ensures digits { oid_digits result ≡ padded (hex_len_of self.now.kind) self.now.digits }
+    {
+        self.bytes.as_oid()
+    }
+
+    /// The number of digits.
+    pub fn hex_len(&self) -> usize
+        ensures value { result ≡ length self.now.digits }
+        ensures at_most_kind { result ≤ hex_len_of self.now.kind }
+        ensures most { result ≤ 64 }
+        ensures digits_in_range { All (λ d. d < 16) self.now.digits }
+    {
+        self.hex_len
+    }
+
+    /// The place of this prefix against an id: the dictionary order of its digits against as many
+    /// of the candidate's first digits. Kinds are ignored.
+    ///
+    /// The candidate needs at least as many digits as the prefix has.
+    pub fn cmp_oid(&self, candidate: oid<'_>) -> Ordering
+        requires { length self.now.digits ≤ hex_len_of (oid_kind candidate) }
+        ensures { result ≡ place self.now.digits (oid_digits candidate.entry) }
+    {
+        self.words.place(self.hex_len, candidate.as_bytes())
+    }
+}
+
+/// All digits of the id.
+impl From<ObjectId> for Prefix {
+    ghost use Rattle.gix_hash.specs.ObjectId.{id_kind, id_digits};
+
+    ghost from_gives = { λ id prefix. prefix ≡ record { kind = id_kind id; digits = id_digits id } };
+
+    fn from(id: ObjectId) -> Prefix {
+        Prefix::padded(id, id.kind().len_in_hex())
+    }
+}
+
+/// Reads as [`Prefix::from_hex`] does.
+impl<'a> TryFrom<&'a str> for Prefix {
+    ghost use Rattle.std.specs.Prelude.{◌≡◌};
+    ghost use Rattle.id_digits.specs.Digits.{hex_letter};
+    ghost use Rattle.gix_hash.specs.PrefixReading.{prefix_read};
+
+    type Error = from_hex::Error;
+
+    ghost try_from_gives = { λ text answer. answer ≡ prefix_read hex_letter 4 text.now };
+
+    fn try_from(text: &'a str) -> Result<Prefix, from_hex::Error> {
+        Prefix::from_hex(text)
+    }
+}

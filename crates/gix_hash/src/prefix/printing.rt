@@ -1,0 +1,125 @@
+//! Prefixes as text.
+
+ghost use Rattle.std.specs.Prelude.{◌≡◌, ◌≤◌, ◌↔◌, ◌++◌, length, take, drop, IsTrue, IsAscii, OnOk};
+ghost use Rattle.std.specs.Borrow.{sem};
+ghost use Rattle.std.specs.Io.KnownBytes.{Appends};
+ghost use Rattle.gix_hash.specs.CutId.{shown_digits};
+ghost use Rattle.id_digits.specs.Digits.{hex_letter, spelling};
+ghost use Rattle.gix_hash.specs.Kind.{hex_len_of};
+ghost use Rattle.gix_hash.specs.LentText.{EndsAs};
+ghost use Rattle.gix_hash.specs.Oid.{oid_kind, oid_digits};
+ghost use Rattle.gix_hash.specs.Prefix.{padded};
+
+use super::Prefix;
+use crate::alphabet::Alphabet;
+use crate::ascii::ascii_text;
+use crate::display::{CutId, ReverseHexDisplay};
+use std::{fmt, io};
+
+impl Prefix {
+    // The prefix as a cut id.
+    fn cut(&self) -> CutId<'_>
+        ensures { shown_digits result ≡ self.now.digits }
+    {
+        CutId::new(self.as_oid(), self.hex_len)
+    }
+
+    /// Writes the lowercase hex digits into the front of `buffer`; the bytes behind them stay. The
+    /// buffer needs room for the digits.
+    pub fn put_hex(&self, buffer: &mut [u8])
+        requires { length self.now.digits ≤ length buffer.old }
+        ensures { buffer.new ≡ spelling hex_letter self.now.digits ++ drop (length self.now.digits) buffer.old }
+    {
+        // Ids are spelled whole, for which the buffer may have no room.
+        let mut whole = [0; 64];
+        let letters = self.cut().letters(Alphabet::Hex, &mut whole);
+        buffer[..letters.len()].copy_from_slice(letters);
+    }
+
+    /// Writes the lowercase hex digits into the front of `buffer` as [`Prefix::put_hex`] does, and
+    /// lends them as text. The buffer needs room for the digits.
+    ///
+    /// The clause `behind` says what the buffer holds once the text is let go. Only a caller that is
+    /// proved by hand learns it: it lends the buffer again for a lifetime of its own, and takes it
+    /// back at what the clause says. [`Prefix::put_hex`] says the same of the buffer to every caller.
+    pub fn hex_to_buf<'b>(&self, buffer: &'b mut [u8]) -> &'b str
+        requires { length self.now.digits ≤ length buffer.old }
+        ensures* behind { sem 𝓛 (EndsAs buffer.entry (spelling hex_letter self.now.digits ++ drop (length self.now.digits) buffer.old)) }
+        ensures text { result.now ≡ spelling hex_letter self.now.digits }
+        ensures ascii { IsAscii result.now }
+        ensures len { length result.now ≡ length self.now.digits }
+    {
+        self.front_text(self.filled(buffer))
+    }
+
+    // The same buffer, with the digits in its front.
+    fn filled<'b>(&self, buffer: &'b mut [u8]) -> &'b mut [u8]
+        requires { length self.now.digits ≤ length buffer.old }
+        ensures same { result.ghost_name ≡ buffer.entry.ghost_name }
+        ensures value { result.now ≡ spelling hex_letter self.now.digits ++ drop (length self.now.digits) buffer.old }
+        ensures room { length self.now.digits ≤ length result.now }
+        ensures front { take (length self.now.digits) result.now ≡ spelling hex_letter self.now.digits }
+    {
+        self.put_hex(buffer);
+        buffer
+    }
+
+    // The digits in front of a buffer, as text.
+    fn front_text<'b>(&self, buffer: &'b [u8]) -> &'b str
+        requires room { length self.now.digits ≤ length buffer.now }
+        requires front { take (length self.now.digits) buffer.now ≡ spelling hex_letter self.now.digits }
+        ensures text { result.now ≡ spelling hex_letter self.now.digits }
+        ensures ascii { IsAscii result.now }
+        ensures len { length result.now ≡ length self.now.digits }
+    {
+        ascii_text(&buffer[..self.hex_len])
+    }
+
+    /// Writes the lowercase hex digits to `out`. The error is the writer's; how many digits were
+    /// written then is not said.
+    pub fn write_hex_to<W: io::Write>(&self, out: &mut W) -> io::Result<()>
+        ensures { OnOk result (Appends (W.contents out.old) (W.contents out.new) (spelling hex_letter self.now.digits)) }
+    {
+        let mut buffer = [0; 64];
+        out.write_all(self.cut().letters(Alphabet::Hex, &mut buffer))
+    }
+
+    /// The prefix for printing in the letters `z` to `k`.
+    pub fn to_reverse_hex(&self) -> ReverseHexDisplay<'_>
+        ensures id { oid_digits result.inner ≡ padded (hex_len_of self.now.kind) self.now.digits }
+        ensures kind { oid_kind result.inner ≡ self.now.kind }
+        ensures hex_len { result.hex_len ≡ length self.now.digits }
+        ensures shown { shown_digits result ≡ self.now.digits }
+    {
+        ReverseHexDisplay::new(self.as_oid(), self.hex_len)
+    }
+
+    /// Whether `text` is just the lowercase hex digits.
+    pub fn eq_str(&self, text: &str) -> bool
+        ensures { IsTrue result ↔ (text.now ≡ spelling hex_letter self.now.digits) }
+    {
+        let mut buffer = [0; 64];
+        self.cut().text(Alphabet::Hex, &mut buffer) == text
+    }
+}
+
+/// Prints the digits in lowercase hex, whatever width, fill and precision are asked for.
+impl fmt::Display for Prefix {
+    ghost use Rattle.std.specs.Prelude.{Some};
+    ghost use Rattle.id_digits.specs.Digits.{spelling, hex_letter};
+
+    ghost output = { λ prefix. Some (spelling hex_letter prefix.digits) };
+
+    ghost styled_output = { λ prefix _. Some (spelling hex_letter prefix.digits) };
+
+    fn fmt<W: fmt::Write>(&self, f: &mut fmt::Formatter<W>) -> fmt::Result {
+        let mut buffer = [0; 64];
+        f.write_str(self.cut().text(Alphabet::Hex, &mut buffer))
+    }
+}
+
+impl fmt::Debug for Prefix {
+    fn fmt<W: fmt::Write>(&self, f: &mut fmt::Formatter<W>) -> fmt::Result {
+        write!(f, "Prefix({self})")
+    }
+}

@@ -1,5 +1,0 @@
-use Rattle.id_digits.proofs.Places.{first_byte-digits_of}
-use Rattle.object_ids.proofs.borrowed.oid.first_byte.Goals as goal
-
-pub returns : goal.returns
-returns c = first_byte-digits_of c.args.self.now.bytes.now

@@ -1,9 +1,0 @@
--- The refusal of bytes that are no digest.
-use Rattle.std.specs.Prelude.{◌≡◌, ℕ, List, false, length}
-use Rattle.object_ids.specs.Kind.{is_digest_len}
-use Rattle.object_ids.specs.declared.error.Error.{Error}
-use Rattle.object_ids.specs.declared.error.Error.TheVariants.{InvalidByteSliceLength}
-
--- no kind has digests of so many bytes, and the error tells how many they are
-abbrev pub IsLengthRefusal : List ℕ → Error → Type 0
-IsLengthRefusal bytes error = (is_digest_len (length bytes) ≡ false) × (error ≡ InvalidByteSliceLength (length bytes))

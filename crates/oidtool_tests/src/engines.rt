@@ -1,0 +1,325 @@
+//! What no clause says: worked examples, texts, and devices and memory that fail.
+
+mod asking;
+mod bad_lists;
+mod digests;
+mod faults;
+mod faulty;
+mod finding_in;
+mod running;
+mod sealing;
+mod searches;
+mod sources;
+mod watched;
+
+use crate::expecting::{expect_bytes, expect_printed, expect_shown};
+use commands::{ArgError, exit_status, read_command};
+use devices::IntoSlice;
+use gix_hash::{Alphabet, decode, prefix};
+use list_search::{FindError, find, find_change, finding_means};
+use std::alloc::{AllocError, Global};
+use std::fmt::Debug;
+use std::process::Abort;
+use std::test::Fail;
+
+// The empty blob and the empty tree, of SHA-1 and of SHA-256, a line each.
+const BLOB: &str = "e69de29bb2d1d6434b8b29ae775ad8c2e48c5391\n";
+
+const TREE: &str = "4b825dc642cb6eb9a060e54bf8d69288fbee4904\n";
+
+const BLOB_256: &str = "473a0f4c3be8a93681a267e3b1e9a7dcda1185436fe141f7749120a303721813\n";
+
+const TREE_256: &str = "6ef19b41225c5369f1c104d45d8d85efa9b057b53b14b4b9b939dd74decc5321\n";
+
+// The four in the order of ids.
+const WELL_KNOWN: [&str; 4] = [BLOB_256, TREE, TREE_256, BLOB];
+
+// The two of SHA-1 in the letters of change ids.
+const BLOB_LETTERS: &str = "ltqmlxqooxmymtvwvoroxqplssupmrnxlvrnuwqy\n";
+
+const TREE_LETTERS: &str = "vorxumntvxnotloqpztzluvokrmtqxrrkollvqzv\n";
+
+const NO_MATCH: &str = "";
+
+fn joined(alloc: Global, parts: &[&str]) -> Result<String, AllocError> {
+    let mut text = String::new(alloc);
+    for part in parts {
+        text.push_str(part)?;
+    }
+    Ok(text)
+}
+
+fn text_of(rt: &(impl Abort + AllocGlobal), parts: &[&str]) -> String {
+    joined(rt.alloc(), parts).expect(rt, "no memory for a text")
+}
+
+// The list of the four.
+fn well_known_list(rt: &(impl Abort + AllocGlobal)) -> String {
+    text_of(rt, &WELL_KNOWN)
+}
+
+/// What came of a search.
+#[derive(Clone, Copy, Debug, PartialEq, Eq)]
+enum Outcome {
+    Found(usize),
+    NoMemory,
+    FailedWrite,
+    Refused,
+}
+
+// A search that had memory found one id and wrote its line, and one that had none wrote nothing:
+// whether it had memory.
+fn expect_granted<T: Debug>(
+    rt: &impl Abort,
+    came: Outcome,
+    written: &[u8],
+    line: &str,
+    search: &T,
+) -> bool {
+    let is_granted = came != Outcome::NoMemory;
+    let want = if is_granted { line } else { NO_MATCH };
+    expect_bytes(rt, written, want.as_bytes(), search);
+    expect!(rt; !is_granted || came == Outcome::Found(1), search);
+    is_granted
+}
+
+// Finds the prefix in the lines, as one text and as what a source gives, and compares the answer's
+// Debug text and what was written.
+fn expect_find(
+    rt: &(impl Abort + AllocGlobal),
+    prefix: &str,
+    lines: &[&str],
+    answer: &str,
+    written: &str,
+) {
+    let list = text_of(rt, lines);
+    let mut buf = [0; 256];
+    let mut out = IntoSlice::new(&mut buf);
+    finding_means(Alphabet::Hex, prefix, list.as_bytes());
+    let found = find(rt.alloc(), prefix, list.as_bytes(), &mut out);
+    expect_bytes(rt, out.written(), written.as_bytes(), &prefix);
+    expect_shown(rt, found, answer, &prefix);
+    sources::expect_however_cut(rt, prefix, list.as_bytes(), answer, written)
+}
+
+// As `expect_find`, in the letters of change ids.
+fn expect_find_change(
+    rt: &(impl Abort + AllocGlobal),
+    letters: &str,
+    lines: &[&str],
+    answer: &str,
+    written: &str,
+) {
+    let list = text_of(rt, lines);
+    let mut buf = [0; 256];
+    let mut out = IntoSlice::new(&mut buf);
+    let found = find_change(rt.alloc(), letters, list.as_bytes(), &mut out);
+    expect_bytes(rt, out.written(), written.as_bytes(), &letters);
+    expect_shown(rt, found, answer, &letters);
+}
+
+#[test]
+fn finds_changes_in_list_texts(rt: HostRuntime) {
+    let all = WELL_KNOWN.as_slice();
+    let unsorted = [BLOB, TREE].as_slice();
+    expect_find_change(&rt, "LTQM", all, "Ok(1)", BLOB_LETTERS);
+    expect_find_change(&rt, "VoRx", all, "Ok(1)", TREE_LETTERS);
+    expect_find_change(&rt, "zzzz", all, "Ok(0)", NO_MATCH);
+    expect_find_change(&rt, "abcd", all, "Err(Prefix(Invalid))", NO_MATCH);
+    expect_find_change(
+        &rt,
+        "zzz",
+        all,
+        "Err(Prefix(TooShort { hex_len: 3 }))",
+        NO_MATCH,
+    );
+    expect_find_change(&rt, "vorx", unsorted, "Err(Unsorted { line: 2 })", NO_MATCH);
+    expect_find_change(
+        &rt,
+        "vorx",
+        [TREE_LETTERS].as_slice(),
+        "Err(BadLine { line: 1, error: Invalid })",
+        NO_MATCH,
+    )
+}
+
+#[test]
+fn finds_in_list_texts(rt: HostRuntime) {
+    let all = WELL_KNOWN.as_slice();
+    let upper = "4B825DC642CB6EB9A060E54BF8D69288FBEE4904";
+    let mixed = "4b825DC642cb6eb9a060e54bf8d69288fBEE4904\n";
+    let twice = [TREE, TREE].as_slice();
+    let tree_twice = text_of(&rt, twice);
+    expect_find(&rt, "4b82", all, "Ok(1)", TREE);
+    expect_find(&rt, "4B825dC", all, "Ok(1)", TREE);
+    expect_find(&rt, "ffff", all, "Ok(0)", NO_MATCH);
+    expect_find(&rt, "473a0f", all, "Ok(1)", BLOB_256);
+    expect_find(
+        &rt,
+        "473a0f4c3be8a93681a267e3b1e9a7dcda1185436",
+        [BLOB_256, TREE_256].as_slice(),
+        "Ok(1)",
+        BLOB_256,
+    );
+    expect_find(&rt, "4b82", [].as_slice(), "Ok(0)", NO_MATCH);
+    expect_find(&rt, "4b82", [upper].as_slice(), "Ok(1)", TREE);
+    expect_find(&rt, "4b82", [mixed].as_slice(), "Ok(1)", TREE);
+    expect_find(&rt, "4b82", twice, "Ok(2)", tree_twice.as_str())
+}
+
+#[test]
+fn refuses_unsorted_lists_and_longer_prefixes(rt: HostRuntime) {
+    let zeros = "00000000000000000000000000000000000000000";
+    expect_find(
+        &rt,
+        zeros,
+        WELL_KNOWN.as_slice(),
+        "Err(PrefixTooLong { hex_len: 41, min: 40 })",
+        NO_MATCH,
+    );
+    expect_find(
+        &rt,
+        zeros,
+        [BLOB, TREE].as_slice(),
+        "Err(Unsorted { line: 2 })",
+        NO_MATCH,
+    );
+    expect_find(
+        &rt,
+        "4b82",
+        [TREE, BLOB, BLOB_256, TREE_256].as_slice(),
+        "Err(Unsorted { line: 3 })",
+        NO_MATCH,
+    )
+}
+
+#[test]
+fn refuses_bad_lines(rt: HostRuntime) {
+    let first_of_three = "Err(BadLine { line: 3, error: InvalidHexEncodingLength(2) })";
+    expect_find(
+        &rt,
+        "4b82",
+        [TREE, "zz"].as_slice(),
+        "Err(BadLine { line: 2, error: InvalidHexEncodingLength(2) })",
+        NO_MATCH,
+    );
+    expect_find(
+        &rt,
+        "4b82",
+        [BLOB, TREE, "zz"].as_slice(),
+        first_of_three,
+        NO_MATCH,
+    );
+    expect_find(
+        &rt,
+        "4b82",
+        ["\n"].as_slice(),
+        "Err(BadLine { line: 1, error: InvalidHexEncodingLength(0) })",
+        NO_MATCH,
+    )
+}
+
+#[test]
+fn refuses_prefixes_first(rt: HostRuntime) {
+    let too_short = "Err(Prefix(TooShort { hex_len: 3 }))";
+    for list in ["", "zz", TREE] {
+        expect_find(&rt, "abc", [list].as_slice(), too_short, NO_MATCH);
+        expect_find(
+            &rt,
+            "abcg",
+            [list].as_slice(),
+            "Err(Prefix(Invalid))",
+            NO_MATCH,
+        );
+    }
+}
+
+#[test]
+fn prints_refusals(rt: HostRuntime) {
+    let too_short = prefix::from_hex::Error::TooShort { hex_len: 3 };
+    let invalid = prefix::from_hex::Error::Invalid;
+    let bad_line = FindError::BadLine {
+        line: 2,
+        error: decode::Error::InvalidHexEncodingLength(2),
+    };
+    let too_long = FindError::PrefixTooLong {
+        hex_len: 41,
+        min: 40,
+    };
+    let rows = [
+        (
+            FindError::Prefix(too_short),
+            "prefix: The minimum hex length of a short object id is 4, got 3",
+        ),
+        (FindError::Prefix(invalid), "prefix: Invalid hex character"),
+        (
+            bad_line,
+            "line 2: A hash sized 2 hexadecimal characters is invalid",
+        ),
+        (
+            FindError::Unsorted { line: 3 },
+            "line 3: below the line before it",
+        ),
+        (
+            too_long,
+            "prefix of 41 digits, but an id of the list has only 40",
+        ),
+        (FindError::Memory, "out of memory"),
+        (FindError::Output, "cannot write"),
+    ];
+    for (error, text) in rows {
+        expect_printed(&rt, error, text);
+    }
+}
+
+#[test]
+fn reads_commands(rt: HostRuntime) {
+    let usage =
+        "usage: oidtool find PREFIX | find-change LETTERS | find-in KIND PREFIX | hash KIND | hash-file KIND N PATH | seal KIND";
+    let rows = [
+        ([].as_slice(), "Err(Usage)"),
+        (["find"].as_slice(), "Err(Usage)"),
+        (["find", "4b82"].as_slice(), "Ok(Find { prefix: \"4b82\" })"),
+        (["find", ""].as_slice(), "Ok(Find { prefix: \"\" })"),
+        (["find", "4b82", "ffff"].as_slice(), "Err(Usage)"),
+        (["Find", "4b82"].as_slice(), "Err(Usage)"),
+        (
+            ["find-change", "LTQM"].as_slice(),
+            "Ok(FindChange { letters: \"LTQM\" })",
+        ),
+        (["find-change"].as_slice(), "Err(Usage)"),
+        (["find-change", "zzzz", "zzzz"].as_slice(), "Err(Usage)"),
+        (
+            ["find-in", "sha1", "4"].as_slice(),
+            "Ok(FindIn { kind: Sha1, prefix: \"4\" })",
+        ),
+        (["find-in"].as_slice(), "Err(Usage)"),
+        (["find-in", "sha1"].as_slice(), "Err(Usage)"),
+        (["find-in", "md5", "4", "4"].as_slice(), "Err(Usage)"),
+        (["find-in", "md5", "4"].as_slice(), "Err(BadKind(\"md5\"))"),
+        (["hash", "4b82"].as_slice(), "Err(BadKind(\"4b82\"))"),
+    ];
+    for (words, answer) in rows {
+        expect_shown(&rt, read_command(words), answer, &answer);
+    }
+    expect_printed(&rt, ArgError::Usage, usage);
+    expect_printed(&rt, ArgError::BadKind("md5"), "unknown hash kind: md5");
+    expect_printed(&rt, ArgError::BadNumber("-1"), "bad number: -1");
+}
+
+#[test]
+fn gives_statuses() -> Result<(), Fail> {
+    let answers: [(Result<usize, FindError>, u8); 5] = [
+        (Ok(0), 1),
+        (Ok(1), 0),
+        (Ok(usize::MAX), 0),
+        (Err(FindError::Output), 2),
+        (Err(FindError::Unsorted { line: 2 }), 2),
+    ];
+    for (answer, status) in answers {
+        if exit_status(&answer) != status {
+            return Err(Fail::new("a status is wrong"));
+        }
+    }
+    Ok(())
+}

@@ -1,0 +1,330 @@
+//! Hashing and sealing: digests from outside, texts, and devices that fail.
+
+ghost use Rattle.std.specs.Prelude.{◌≡◌, false};
+
+use super::faulty::{Fault, Reader, Writer};
+use crate::expecting::{expect_bytes, expect_printed};
+use devices::{FromSlice, IntoSlice, Plain, Sink, Source};
+use gix_hash::io::{Never, NoProgress};
+use gix_hash::{Kind, ObjectId, bytes, oid, verify};
+use pipes::{PipeError, hash_all, seal};
+use std::alloc::{AllocError, Global};
+use std::process::Abort;
+use std::test::Fail;
+
+// The digests of `abc` and of nothing, in FIPS 180-4's own examples.
+pub const ABC: &str = "a9993e364706816aba3e25717850c26c9cd0d89d\n";
+
+const ABC_256: &str = "ba7816bf8f01cfea414140de5dae2223b00361a396177a9cb410ff61f20015ad\n";
+
+const EMPTY: &str = "da39a3ee5e6b4b0d3255bfef95601890afd80709\n";
+
+const EMPTY_256: &str = "e3b0c44298fc1c149afbf4c8996fb92427ae41e4649b934ca495991b7852b855\n";
+
+// Those of a million letters `a`, likewise.
+const MILLION: &str = "34aa973cd4c4daa4f61eeb2bdbad27316534016f\n";
+
+const MILLION_256: &str = "cdc76e5c9914fb9281a1c7e284d73e67f1809a48a497200e046d39ccc7112cd0\n";
+
+// Those of `bbc`, by the program `sha1sum` and its like.
+const BBC: &str = "0fbe2a58568b4590569588e52ed6a7da4e91b6ab\n";
+
+const BBC_256: &str = "77e6f78af45f649c5f3b8ebe484a91a144eb203a34a89c8dc5b1c4ca87bc6f71\n";
+
+/// What stands between a source and a sink.
+#[derive(Clone, Copy, Debug, PartialEq, Eq)]
+enum Pipe {
+    Hash,
+    Seal,
+}
+
+impl Pipe {
+    fn run<R: Source, W: Sink>(
+        self,
+        input: &mut R,
+        out: &mut W,
+        kind: Kind,
+    ) -> Result<(), PipeError>
+        requires input { R.has_failed input.old ≡ false }
+        requires output { W.has_failed out.old ≡ false }
+    {
+        match self {
+            Pipe::Hash => hash_all(input, out, kind),
+            Pipe::Seal => seal(input, out, kind),
+        }
+    }
+}
+
+// A message and the bytes of its digest, which is written in hex digits and a line feed.
+pub fn sealed(rt: &(impl Abort + AllocGlobal), message: &[u8], line: &str) -> Vec<u8> {
+    let Ok(id) = ObjectId::from_hex(line.trim_end().as_bytes()) else {
+        panic!(rt; "a digest does not read: {line}");
+    };
+    joined(rt.alloc(), message, id.as_slice()).expect(rt, "no memory for a message")
+}
+
+fn joined(alloc: Global, message: &[u8], digest: &[u8]) -> Result<Vec<u8>, AllocError> {
+    let mut bytes = Vec::new(alloc);
+    bytes.extend_from_slice(message)?;
+    bytes.extend_from_slice(digest)?;
+    Ok(bytes)
+}
+
+// Hashes the message in whole pieces, and compares with the digest's line.
+fn expect_digest(rt: &impl Abort, kind: Kind, message: &[u8], line: &str) {
+    let mut buf = [0; 80];
+    let mut hashed = IntoSlice::new(&mut buf);
+    let answer = hash_all(&mut FromSlice::new(message), &mut hashed, kind);
+    expect!(rt; answer.is_ok(), &line);
+    expect_bytes(rt, hashed.written(), line.as_bytes(), &line);
+}
+
+// Seals the message in whole pieces, and compares with the digest's line.
+fn expect_sealed(rt: &(impl Abort + AllocGlobal), kind: Kind, message: &[u8], line: &str) {
+    let mut out = Plain::new(Vec::new(rt.alloc()));
+    let answer = seal(&mut FromSlice::new(message), &mut out, kind);
+    expect!(rt; answer.is_ok(), &line);
+    let whole = sealed(rt, message, line);
+    expect!(rt; out.into_inner() == whole, &line);
+}
+
+#[test]
+fn hashes_and_seals(rt: HostRuntime) {
+    let million = vec![in rt.alloc(); b'a'; 1_000_000].expect(&rt, "no memory for a message");
+    let rows = [
+        (Kind::Sha1, b"abc".as_slice(), ABC),
+        (Kind::Sha256, b"abc".as_slice(), ABC_256),
+        (Kind::Sha1, b"".as_slice(), EMPTY),
+        (Kind::Sha256, b"".as_slice(), EMPTY_256),
+        (Kind::Sha1, million.as_slice(), MILLION),
+        (Kind::Sha256, million.as_slice(), MILLION_256),
+    ];
+    for (kind, message, line) in rows {
+        expect_digest(&rt, kind, message, line);
+        expect_sealed(&rt, kind, message, line);
+    }
+}
+
+// Compares the digest at the end of a sealed message with that of all before it, as who reads a pack
+// does.
+fn verified(sealed: &[u8], kind: Kind) -> Result<Result<(), verify::Error>, Fail> {
+    let Some(len) = sealed.len().checked_sub(kind.len_in_bytes()) else {
+        return Err(Fail::new("a sealed message is too short"));
+    };
+    let mut message = &sealed[..len];
+    let id = bytes(&mut message, len as u64, kind, &mut NoProgress, &mut Never)?;
+    Ok(id.verify(oid::try_from_bytes(&sealed[len..])?))
+}
+
+#[test]
+fn seals_verifiably(rt: HostRuntime) -> Result<(), Fail> {
+    for (kind, abc, bbc) in [(Kind::Sha1, ABC, BBC), (Kind::Sha256, ABC_256, BBC_256)] {
+        let mut buf = [0; 80];
+        let mut out = IntoSlice::new(&mut buf);
+        seal(&mut FromSlice::new(b"abc"), &mut out, kind)?;
+        let mut sealed = Vec::new(rt.alloc());
+        sealed.extend_from_slice(out.written())?;
+        expect!(&rt; verified(&sealed, kind)?.is_ok(), &abc);
+        assert!(&rt; !sealed.is_empty());
+        sealed[0] = b'b';
+        match verified(&sealed, kind)? {
+            Ok(()) => return Err(Fail::new("another message is verified")),
+            Err(verify::Error { actual, expected }) => {
+                expect!(&rt; actual.eq_str(bbc.trim_end()), &bbc);
+                expect!(&rt; expected.eq_str(abc.trim_end()), &abc);
+            }
+        }
+    }
+    Ok(())
+}
+
+/// A run between two devices, of `abc` in SHA-1, and what it must give.
+#[derive(Clone, Copy)]
+struct Run<'a> {
+    pipe: Pipe,
+    /// The most bytes a read, and the fault.
+    read: (usize, Fault),
+    /// The most bytes a write, and the fault.
+    write: (usize, Fault),
+    answer: Result<(), PipeError>,
+    taken: &'a [u8],
+    /// How often the devices are called.
+    calls: (usize, usize),
+}
+
+fn expect_run(rt: &(impl Abort + AllocGlobal), run: &Run<'_>) {
+    let (piece, fault) = run.read;
+    let mut input = Plain::new(Reader::new(b"abc", piece, fault));
+    let (piece, fault) = run.write;
+    let mut out = Plain::new(Writer::new(Vec::new(rt.alloc()), piece, fault));
+    let answer = run.pipe.run(&mut input, &mut out, Kind::Sha1);
+    let row = (run.pipe, run.calls);
+    expect!(rt; answer == run.answer, &row);
+    expect!(rt; input.failed() == (answer == Err(PipeError::Input)), &row);
+    expect!(rt; out.failed() == (answer == Err(PipeError::Output)), &row);
+    let (reads, writes) = run.calls;
+    expect!(rt; input.into_inner().calls() == reads, &row);
+    let writer = out.into_inner();
+    expect!(rt; writer.calls() == writes, &row);
+    expect_bytes(rt, writer.taken(), run.taken, &row);
+}
+
+// What is right of `abc`, hashed and sealed.
+fn right(rt: &(impl Abort + AllocGlobal), pipe: Pipe) -> Vec<u8> {
+    match pipe {
+        Pipe::Hash => joined(rt.alloc(), ABC.as_bytes(), b"").expect(rt, "no memory for a line"),
+        Pipe::Seal => sealed(rt, b"abc", ABC),
+    }
+}
+
+#[test]
+fn ends_over_devices(rt: HostRuntime) {
+    let fine = (usize::MAX, Fault::Never);
+    let single = (1, Fault::Never);
+    for (pipe, read, write, calls) in [
+        (Pipe::Hash, fine, fine, (2, 1)),
+        (Pipe::Hash, single, fine, (4, 1)),
+        (Pipe::Hash, fine, single, (2, 41)),
+        (Pipe::Seal, fine, fine, (2, 2)),
+        (Pipe::Seal, single, fine, (4, 4)),
+        (Pipe::Seal, fine, single, (2, 23)),
+        (Pipe::Seal, single, single, (4, 23)),
+    ] {
+        let whole = right(&rt, pipe);
+        let run = Run {
+            pipe,
+            read,
+            write,
+            answer: Ok(()),
+            taken: &whole,
+            calls,
+        };
+        expect_run(&rt, &run);
+    }
+}
+
+// The n-th read fails, or the library's loops would try it again.
+fn expect_failed_read(rt: &(impl Abort + AllocGlobal), n: usize, fault: Fault) {
+    assert!(rt; n >= 1);
+    let given = (n - 1).min(3);
+    let run = Run {
+        pipe: Pipe::Hash,
+        read: (1, fault),
+        write: (usize::MAX, Fault::Never),
+        answer: Err(PipeError::Input),
+        taken: b"",
+        calls: (n, 0),
+    };
+    expect_run(rt, &run);
+    let run = Run {
+        pipe: Pipe::Seal,
+        taken: &b"abc"[..given],
+        calls: (n, given),
+        ..run
+    };
+    expect_run(rt, &run);
+}
+
+#[test]
+fn tells_a_read_that_fails(rt: HostRuntime) {
+    for n in 1..=4 {
+        expect_failed_read(&rt, n, Fault::AtCall(n));
+        expect_failed_read(&rt, n, Fault::InterruptedAt(n));
+    }
+    expect_failed_read(&rt, 3, Fault::AfterBytes(2));
+}
+
+// The n-th write fails, or takes none.
+fn expect_failed_write(
+    rt: &(impl Abort + AllocGlobal),
+    pipe: Pipe,
+    n: usize,
+    write: (usize, Fault),
+) {
+    let whole = right(rt, pipe);
+    assert!(rt; n >= 1);
+    assert!(rt; n <= whole.len());
+    let reads = match pipe {
+        Pipe::Hash => 4,
+        Pipe::Seal => n.min(4),
+    };
+    let run = Run {
+        pipe,
+        read: (1, Fault::Never),
+        write,
+        answer: Err(PipeError::Output),
+        taken: &whole[..n - 1],
+        calls: (reads, n),
+    };
+    expect_run(rt, &run);
+}
+
+#[test]
+fn tells_a_write_that_fails(rt: HostRuntime) {
+    for n in 1..=41 {
+        expect_failed_write(&rt, Pipe::Hash, n, (1, Fault::AtCall(n)));
+        expect_failed_write(&rt, Pipe::Hash, n, (1, Fault::InterruptedAt(n)));
+    }
+    for n in 1..=23 {
+        expect_failed_write(&rt, Pipe::Seal, n, (1, Fault::AtCall(n)));
+        expect_failed_write(&rt, Pipe::Seal, n, (1, Fault::InterruptedAt(n)));
+    }
+    for pipe in [Pipe::Hash, Pipe::Seal] {
+        expect_failed_write(&rt, pipe, 1, (0, Fault::Never));
+    }
+}
+
+// Writers with room for some bytes, and writers that take all behind their error.
+#[test]
+fn tells_a_write_of_more_bytes_that_fails(rt: HostRuntime) {
+    let whole = usize::MAX;
+    for (pipe, fault, taken, calls) in [
+        (
+            Pipe::Hash,
+            Fault::AfterBytes(5),
+            b"a9993".as_slice(),
+            (2, 2),
+        ),
+        (Pipe::Hash, Fault::AtCall(1), b"", (2, 1)),
+        (Pipe::Seal, Fault::AtCall(1), b"", (1, 1)),
+        (Pipe::Seal, Fault::AtCall(2), b"abc", (2, 2)),
+        (Pipe::Seal, Fault::AfterBytes(2), b"ab", (1, 2)),
+        (Pipe::Seal, Fault::AfterBytes(5), b"abc\xa9\x99", (2, 3)),
+    ] {
+        let run = Run {
+            pipe,
+            read: (whole, Fault::Never),
+            write: (whole, fault),
+            answer: Err(PipeError::Output),
+            taken,
+            calls,
+        };
+        expect_run(&rt, &run);
+    }
+}
+
+#[test]
+fn keeps_a_failed_read(rt: HostRuntime) {
+    let mut input = Plain::new(Reader::new(b"abcdef", 4, Fault::AtCall(2)));
+    let mut buf = [b'#'; 6];
+    expect!(&rt; matches!(input.read(&mut buf), Ok(4)));
+    expect!(&rt; !input.failed());
+    expect!(&rt; input.read(&mut buf).is_err());
+    expect!(&rt; input.failed());
+    expect!(&rt; matches!(input.read(&mut buf), Ok(2)));
+    expect!(&rt; input.failed());
+    expect!(&rt; buf == *b"efcd##");
+    expect!(&rt; input.into_inner().calls() == 3);
+}
+
+#[test]
+fn prints_why_a_pipe_stopped(rt: HostRuntime) {
+    let rows = [
+        (PipeError::Input, "cannot read"),
+        (PipeError::Output, "cannot write"),
+        (PipeError::TooMuch, "too much input"),
+    ];
+    for (error, text) in rows {
+        expect_printed(&rt, error, text);
+    }
+}
