@@ -10,7 +10,7 @@ use Rattle.id_digits.specs.Digits.{spelling}
 use Rattle.gix_hash.specs.IdReading.{full_read, whole_of, IsFullReading, IsFullRefusal}
 use Rattle.gix_hash.specs.Kind.{hex_len_of, kind_of_full_len, kind_of_hex_len, IsFullLen}
 use Rattle.gix_hash.specs.ObjectId.{id_kind, id_digits}
-use Rattle.gix_hash.specs.Prefix.{Beginning, beginning_of}
+use Rattle.gix_hash.specs.Prefix.{KindDigits, kind_digits}
 use Rattle.gix_hash.specs.PrefixReading.{prefix_read, prefix_read_in, IsPrefixReading, IsPrefixRefusal, IsReadingIn, IsRefusalIn}
 use Rattle.gix_hash.specs.Reading.{answer_of, digits_read}
 use Rattle.gix_hash.specs.declared.alphabet.Alphabet.{Alphabet}
@@ -42,15 +42,15 @@ full_len n kinds.Sha1 h = grind (arith, nat_tests)
 full_len n kinds.Sha256 h = grind (arith, nat_tests)
 
 -- what an answer that is no refusal is made from
-answered : {E : Type 0} (kind : Option Kind) (digits : Option (List ℕ)) (e f : E) (b : Beginning) → answer_of kind digits e f ≡ Ok b
+answered : {E : Type 0} (kind : Option Kind) (digits : Option (List ℕ)) (e f : E) (b : KindDigits) → answer_of kind digits e f ≡ Ok b
     → (kind ≡ Some b.kind) × (digits ≡ Some b.digits)
 answered None digits e f b h = cc h
 answered (Some k) None e f b h = cc h
 answered (Some k) (Some ds) e f b h =
-    let is : beginning_of k ds ≡ b = cc h in (ap (λ p. Some p.kind) is, ap (λ p. Some p.digits) is)
+    let is : kind_digits k ds ≡ b = cc h in (ap (λ p. Some p.kind) is, ap (λ p. Some p.digits) is)
 
 -- the texts that read as a full id
-pub full_read-is : (letter : ℕ → ℕ) → IsAlphabet letter → (text : List ℕ) (b : Beginning)
+pub full_read-is : (letter : ℕ → ℕ) → IsAlphabet letter → (text : List ℕ) (b : KindDigits)
     → (full_read letter text ≡ Ok b) ↔ IsFullReading letter text b
 full_read-is letter a text b = (
   λ h. let parts = answered _ _ _ _ b h in
@@ -59,7 +59,7 @@ full_read-is letter a text b = (
 )
 
 -- the texts that read as a prefix
-pub prefix_read-is : (letter : ℕ → ℕ) → IsAlphabet letter → (least : ℕ) (text : List ℕ) (b : Beginning)
+pub prefix_read-is : (letter : ℕ → ℕ) → IsAlphabet letter → (least : ℕ) (text : List ℕ) (b : KindDigits)
     → (prefix_read letter least text ≡ Ok b) ↔ IsPrefixReading letter least text b
 prefix_read-is letter a least text b = by_test (nat_lt (length text) least) refl
   where
@@ -83,10 +83,10 @@ full_read-printed letter a text id lowered len fits =
 
 -- the spelling of an id's digits reads as these
 pub full_read-spelling : (alphabet : Alphabet) (kind : Kind) (digits : List ℕ) → AreIdDigits kind digits
-    → full_read (letter_of alphabet) (spelling (letter_of alphabet) digits) ≡ Ok (beginning_of kind digits)
+    → full_read (letter_of alphabet) (spelling (letter_of alphabet) digits) ≡ Ok (kind_digits kind digits)
 full_read-spelling alphabet kind digits h =
     let letter = letter_of alphabet in
-    (full_read-is letter (letter_of-alphabet alphabet) _ (beginning_of kind digits)).1 record {
+    (full_read-is letter (letter_of-alphabet alphabet) _ (kind_digits kind digits)).1 record {
       kind = length-map digits letter ∙ h.0;
       reads = ReadsAs-lowered letter _ digits h.1 (lowercase_spelling alphabet digits h.1);
     }
@@ -129,7 +129,7 @@ pub full_read-cases : (letter : ℕ → ℕ) → IsAlphabet letter → (text : L
     → MatchResult (full_read letter text) (IsFullReading letter text) (IsFullRefusal letter text)
 full_read-cases letter a text = by_answer (full_read letter text) refl
   where
-    by_answer : (answer : Result Beginning decode.Error) → full_read letter text ≡ answer
+    by_answer : (answer : Result KindDigits decode.Error) → full_read letter text ≡ answer
         → MatchResult answer (IsFullReading letter text) (IsFullRefusal letter text)
     by_answer (Ok id) e = (full_read-is letter a text id).0 e
     by_answer (Err error) e = (full_read-refused letter a text error).0 e
@@ -191,15 +191,15 @@ pub prefix_read-cases : (letter : ℕ → ℕ) → IsAlphabet letter → (least 
     → MatchResult (prefix_read letter least text) (IsPrefixReading letter least text) (IsPrefixRefusal letter least text)
 prefix_read-cases letter a least text = by_answer (prefix_read letter least text) refl
   where
-    by_answer : (answer : Result Beginning from_hex.Error) → prefix_read letter least text ≡ answer
+    by_answer : (answer : Result KindDigits from_hex.Error) → prefix_read letter least text ≡ answer
         → MatchResult answer (IsPrefixReading letter least text) (IsPrefixRefusal letter least text)
     by_answer (Ok prefix) e = (prefix_read-is letter a least text prefix).0 e
     by_answer (Err error) e = (prefix_read-refused letter a least text error).0 e
 
 -- a prefix's spelling, in any letter case, reads as its digits, of the least kind with room for them
-pub prefix_read-printed : (letter : ℕ → ℕ) → IsAlphabet letter → (text : List ℕ) (p : Beginning)
+pub prefix_read-printed : (letter : ℕ → ℕ) → IsAlphabet letter → (text : List ℕ) (p : KindDigits)
     → map to_ascii_lowercase text ≡ spelling letter p.digits → 1 ≤ length p.digits → length p.digits ≤ 64 → All (λ d. d < 16) p.digits
-    → (kind : Kind) × (kind_of_hex_len (length p.digits) ≡ Some kind) × (prefix_read letter 1 text ≡ Ok (beginning_of kind p.digits))
+    → (kind : Kind) × (kind_of_hex_len (length p.digits) ≡ Some kind) × (prefix_read letter 1 text ≡ Ok (kind_digits kind p.digits))
 prefix_read-printed letter a text p lowered some within fits =
     let digits = digits_read-ReadsAs letter a text p.digits (ReadsAs-lowered letter text p.digits fits lowered) in
     let count : length text ≡ length p.digits =
@@ -209,18 +209,18 @@ prefix_read-printed letter a text p lowered some within fits =
     (kind.0, kind.1, rw (count, enough, kind.1, digits) refl)
 
 -- and so it reads as the prefix just where its kind is that one
-pub prefix_read-same : (letter : ℕ → ℕ) (text : List ℕ) (p : Beginning)
-    → ((kind : Kind) × (kind_of_hex_len (length p.digits) ≡ Some kind) × (prefix_read letter 1 text ≡ Ok (beginning_of kind p.digits)))
+pub prefix_read-same : (letter : ℕ → ℕ) (text : List ℕ) (p : KindDigits)
+    → ((kind : Kind) × (kind_of_hex_len (length p.digits) ≡ Some kind) × (prefix_read letter 1 text ≡ Ok (kind_digits kind p.digits)))
     → (prefix_read letter 1 text ≡ Ok p) ↔ (kind_of_hex_len (length p.digits) ≡ Some p.kind)
 prefix_read-same letter text p read = (
   λ h. (let both = sym read.2 ∙ h in
-      let is : beginning_of read.0 p.digits ≡ p = cc both in read.1 ∙ ap (λ b. Some b.kind) is),
+      let is : kind_digits read.0 p.digits ≡ p = cc both in read.1 ∙ ap (λ b. Some b.kind) is),
   λ h. (let some = sym read.1 ∙ h in
-      let is : read.0 ≡ p.kind = cc some in read.2 ∙ ap (λ kind. Ok (beginning_of kind p.digits)) is),
+      let is : read.0 ≡ p.kind = cc some in read.2 ∙ ap (λ kind. Ok (kind_digits kind p.digits)) is),
 )
 
 -- the texts that read as a prefix in a kind
-pub prefix_read_in-is : (kind : Kind) (letter : ℕ → ℕ) → IsAlphabet letter → (text : List ℕ) (b : Beginning)
+pub prefix_read_in-is : (kind : Kind) (letter : ℕ → ℕ) → IsAlphabet letter → (text : List ℕ) (b : KindDigits)
     → (prefix_read_in kind letter text ≡ Ok b) ↔ IsReadingIn kind letter text b
 prefix_read_in-is kind letter a text b = by_tests (nat_lt (hex_len_of kind) (length text)) refl (length text == 0) refl
   where
@@ -236,7 +236,7 @@ prefix_read_in-is kind letter a text b = by_tests (nat_lt (hex_len_of kind) (len
             same_kind = cc parts.0;
             reads = ReadsAs-digits_read letter text b.digits parts.1;
           },
-      λ h. let is : beginning_of kind b.digits ≡ b = ap (λ k. beginning_of k b.digits) (sym h.same_kind) in
+      λ h. let is : kind_digits kind b.digits ≡ b = ap (λ k. kind_digits k b.digits) (sym h.same_kind) in
           rw (e, f, digits_read-ReadsAs letter a text b.digits h.reads) (ap Ok is),
     )
 
@@ -270,7 +270,7 @@ prefix_read_in-refused kind letter a text error = by_tests (nat_lt (hex_len_of k
     )
 
 -- a prefix's spelling, in any letter case, reads in its kind as the prefix
-pub prefix_read_in-printed : (letter : ℕ → ℕ) → IsAlphabet letter → (text : List ℕ) (p : Beginning)
+pub prefix_read_in-printed : (letter : ℕ → ℕ) → IsAlphabet letter → (text : List ℕ) (p : KindDigits)
     → map to_ascii_lowercase text ≡ spelling letter p.digits → 1 ≤ length p.digits → length p.digits ≤ hex_len_of p.kind → All (λ d. d < 16) p.digits
     → prefix_read_in p.kind letter text ≡ Ok p
 prefix_read_in-printed letter a text p lowered some within fits =

@@ -14,7 +14,7 @@ use Rattle.gix_hash.specs.Equalities.{id_eq-parts, oid_eq-digits, prefix_eq-part
 use Rattle.gix_hash.specs.Kind.{hex_len_of, number_of}
 use Rattle.gix_hash.specs.ObjectId.{id_kind, id_digits, id_eq, id_cmp}
 use Rattle.gix_hash.specs.Oid.{oid_kind, oid_digits, oid_eq}
-use Rattle.gix_hash.specs.Prefix.{Beginning, prefix_eq}
+use Rattle.gix_hash.specs.Prefix.{KindDigits, prefix_eq}
 use Rattle.gix_hash.specs.declared.alphabet.Alphabet.{Alphabet}
 use Rattle.gix_hash.specs.declared.alphabet.Alphabet.TheVariants.{Hex, Reverse}
 use Rattle.gix_hash.specs.declared.borrowed.oid.{oid}
@@ -66,7 +66,7 @@ oid_eq-kind a b h =
     kind_by_hex_len (oid_kind a) (oid_kind b) (sym (length-oid a) ∙ ap length ((oid_eq-digits a b).0 h) ∙ length-oid b)
 
 -- `==` of prefixes by their kinds and their spellings
-pub prefix_eq-spelling : (a b : Beginning)
+pub prefix_eq-spelling : (a b : KindDigits)
     → IsTrue (prefix_eq a b) ↔ ((a.kind ≡ b.kind) × (spelling hex_letter a.digits ≡ spelling hex_letter b.digits))
 prefix_eq-spelling a b = (
   λ h. (let parts = (prefix_eq-parts a b).0 h in (parts.0, ap (spelling hex_letter) parts.1)),

@@ -9,7 +9,7 @@ use Rattle.std.proofs.lemmas.Bool.{and_parts, eq-eqb}
 use Rattle.gix_hash.specs.Kind.{number_of, kind_by_number}
 use Rattle.gix_hash.specs.ObjectId.{id_kind, id_digits, id_eq}
 use Rattle.gix_hash.specs.Oid.{oid_digits, oid_eq}
-use Rattle.gix_hash.specs.Prefix.{Beginning, beginning_of, prefix_eq}
+use Rattle.gix_hash.specs.Prefix.{KindDigits, kind_digits, prefix_eq}
 use Rattle.gix_hash.specs.PrefixBytes.{packed, id_of, id_of-parts}
 use Rattle.gix_hash.specs.declared.borrowed.oid.{oid}
 use Rattle.gix_hash.specs.declared.kind.Kind.{Kind}
@@ -35,7 +35,7 @@ pub oid_eq-digits : (a b : oid) → IsTrue (oid_eq a b) ↔ (oid_digits a ≡ oi
 oid_eq-digits a b = bytes_decides (oid_digits a) (oid_digits b)
 
 -- `==` of prefixes
-pub prefix_eq-parts : (a b : Beginning) → IsTrue (prefix_eq a b) ↔ ((a.kind ≡ b.kind) × (a.digits ≡ b.digits))
+pub prefix_eq-parts : (a b : KindDigits) → IsTrue (prefix_eq a b) ↔ ((a.kind ≡ b.kind) × (a.digits ≡ b.digits))
 prefix_eq-parts a b = both_equal a.kind b.kind a.digits b.digits
 
 -- an owned id is told by its kind and its digits
@@ -57,5 +57,5 @@ Contains-id_eq ids id = (
 )
 
 -- a prefix is told by its kind and its digits
-pub same_prefix : (a b : Beginning) → a.kind ≡ b.kind → a.digits ≡ b.digits → a ≡ b
-same_prefix a b kinds digits = λ i. beginning_of (kinds i) (digits i)
+pub same_prefix : (a b : KindDigits) → a.kind ≡ b.kind → a.digits ≡ b.digits → a ≡ b
+same_prefix a b kinds digits = λ i. kind_digits (kinds i) (digits i)

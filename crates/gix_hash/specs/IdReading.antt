@@ -3,7 +3,7 @@ use Rattle.std.specs.Prelude.{◌≡◌, ℕ, List, length, Result}
 use Rattle.std.specs.Result.{result_map_both}
 use Rattle.id_digits.specs.Digits.{ReadsAs, IsUnreadable}
 use Rattle.gix_hash.specs.Kind.{kind_of_full_len, hex_len_of, IsFullLen}
-use Rattle.gix_hash.specs.Prefix.{Beginning, beginning_of}
+use Rattle.gix_hash.specs.Prefix.{KindDigits, kind_digits}
 use Rattle.gix_hash.specs.Reading.{digits_read, answer_of}
 use Rattle.gix_hash.specs.ObjectId.{id_digits, id_kind}
 use Rattle.gix_hash.specs.declared.object_id.ObjectId.{ObjectId}
@@ -11,16 +11,16 @@ use Rattle.gix_hash.specs.declared.decode.Error.{Error}
 use Rattle.gix_hash.specs.declared.decode.Error.TheVariants.{InvalidHexEncodingLength, Invalid}
 
 -- what reading a full id answers in an alphabet: the digits, of the kind that has so many
-abbrev pub full_read : (ℕ → ℕ) → List ℕ → Result Beginning Error
+abbrev pub full_read : (ℕ → ℕ) → List ℕ → Result KindDigits Error
 full_read letter text =
     answer_of (kind_of_full_len (length text)) (digits_read letter text) (InvalidHexEncodingLength (length text)) Invalid
 
 -- an id as the beginning of all its digits
-abbrev pub whole_of : ObjectId → Beginning
-whole_of id = beginning_of (id_kind id) (id_digits id)
+abbrev pub whole_of : ObjectId → KindDigits
+whole_of id = kind_digits (id_kind id) (id_digits id)
 
 -- an answer of an id, seen by its kind and its digits
-abbrev pub id_answered : Result ObjectId Error → Result Beginning Error
+abbrev pub id_answered : Result ObjectId Error → Result KindDigits Error
 id_answered answer = result_map_both whole_of (λ error. error) answer
 
 -- why a text is no id: no kind has so many digits, or else some letter is none of the alphabet
@@ -29,6 +29,6 @@ IsFullRefusal letter text (InvalidHexEncodingLength n) = (n ≡ length text) × 
 IsFullRefusal letter text Invalid = IsFullLen (length text) × IsUnreadable letter text
 
 -- the text has as many digits as ids of the kind, and reads as these
-pub record IsFullReading (letter : ℕ → ℕ) (text : List ℕ) (id : Beginning) : Type 0 where
+pub record IsFullReading (letter : ℕ → ℕ) (text : List ℕ) (id : KindDigits) : Type 0 where
   pub kind : length text ≡ hex_len_of id.kind
   pub reads : ReadsAs letter text id.digits

@@ -7,29 +7,29 @@ use Rattle.std.specs.Cmp.Lexicographic.{slice_cmp, pointwise}
 use Rattle.gix_hash.specs.Kind.{number_of}
 use Rattle.gix_hash.specs.declared.kind.Kind.{Kind}
 
--- a beginning of an id: its kind and its digits
-pub record Beginning : Type 0 where
+-- a kind and digits: those of a prefix, or all of an id's
+pub record KindDigits : Type 0 where
   pub kind : Kind
   pub digits : List ℕ
 
--- the beginning of a kind with these digits
-abbrev pub beginning_of : Kind → List ℕ → Beginning
-beginning_of kind digits = record { kind = kind; digits = digits }
+-- these digits, of this kind
+abbrev pub kind_digits : Kind → List ℕ → KindDigits
+kind_digits kind digits = record { kind = kind; digits = digits }
 
 -- the number of a prefix's kind, by which prefixes are ordered first
-abbrev pub prefix_kind_number : Beginning → ℕ
+abbrev pub prefix_kind_number : KindDigits → ℕ
 prefix_kind_number prefix = number_of prefix.kind
 
 -- its digits, by which they are ordered then
-abbrev pub prefix_digits : Beginning → List ℕ
+abbrev pub prefix_digits : KindDigits → List ℕ
 prefix_digits prefix = prefix.digits
 
 -- `==` of prefixes: their kinds and their digits are equal
-abbrev pub prefix_eq : Beginning → Beginning → Bool
+abbrev pub prefix_eq : KindDigits → KindDigits → Bool
 prefix_eq = eq_of_both (on prefix_kind_number nat_eq) (on prefix_digits (pointwise nat_eq))
 
 -- the order of prefixes: by kind, and then dictionary order of the digits
-abbrev pub prefix_cmp : Beginning → Beginning → Ordering
+abbrev pub prefix_cmp : KindDigits → KindDigits → Ordering
 prefix_cmp = then_cmp (on prefix_kind_number nat_cmp) (on prefix_digits (slice_cmp nat_cmp))
 
 -- the digits of an id are those of a prefix followed by some more

@@ -8,7 +8,7 @@ use Rattle.std.proofs.lemmas.List.{length-replicate, length-take-le}
 use Rattle.id_digits.specs.Digits.{digits_of}
 use Rattle.gix_hash.specs.Kind.{hex_len_of, number_of, kind_by_number}
 use Rattle.gix_hash.specs.ObjectId.{id_kind, id_bytes, id_digits}
-use Rattle.gix_hash.specs.Prefix.{Beginning, padded, prefix_eq}
+use Rattle.gix_hash.specs.Prefix.{KindDigits, padded, prefix_eq}
 use Rattle.id_digits.specs.Words.{words_of}
 use Rattle.gix_hash.specs.declared.kind.Kind.{Kind}
 use Rattle.gix_hash.specs.declared.kind.Kind.TheVariants as kinds
@@ -73,7 +73,7 @@ length-shown p h =
     (omega (arith, h.within, length-padded (hex_len_of (id_kind p.bytes)) (shown p), ap length h.zeros))
 
 -- how a prefix of a kind and digits is kept
-abbrev pub kept : Beginning → Inside
+abbrev pub kept : KindDigits → Inside
 kept prefix = record {
   bytes = padded_id prefix.kind prefix.digits;
   hex_len = length prefix.digits;
@@ -81,7 +81,7 @@ kept prefix = record {
 }
 
 -- the prefix that is seen
-abbrev pub seen : Inside → Beginning
+abbrev pub seen : Inside → KindDigits
 seen p = record { kind = id_kind p.bytes; digits = shown p }
 
 -- what is seen of a prefix tells how it is kept
@@ -89,11 +89,11 @@ pub kept-seen : (p : Inside) → IsPacked p → kept (seen p) ≡ p
 kept-seen p h = λ i. record { bytes = given_back p h i; hex_len = length-shown p h i; words = sym h.words i }
 
 -- what a prefix feeds to a hash: its bytes in one write, and then the number of digits
-abbrev pub prefix_hash_input : Beginning → List (List ℕ)
+abbrev pub prefix_hash_input : KindDigits → List (List ℕ)
 prefix_hash_input prefix = packed (padded (hex_len_of prefix.kind) prefix.digits) ∷ fed.usize (length prefix.digits)
 
 -- equal prefixes feed the same
-pub same_hash_input : (a b : Beginning)
+pub same_hash_input : (a b : KindDigits)
     → IsTrue (prefix_eq a b)
     → prefix_hash_input a ≡ prefix_hash_input b
 same_hash_input a b h =

@@ -5,7 +5,7 @@ ghost use Rattle.std.specs.Option.{ok_or, option_map};
 ghost use Rattle.std.specs.Result.{result_ok};
 ghost use Rattle.id_digits.specs.Digits.{digits_of, spelling};
 ghost use Rattle.gix_hash.specs.Kind.{hex_len_of, is_digest_len};
-ghost use Rattle.gix_hash.specs.Prefix.{beginning_of, padded};
+ghost use Rattle.gix_hash.specs.Prefix.{kind_digits, padded};
 ghost use Rattle.gix_hash.specs.PrefixReading.{prefix_read};
 ghost use Rattle.gix_hash.specs.Reading.{digits_read};
 ghost use Rattle.id_digits.specs.ReverseLetters.{hex_of_reverse};
@@ -70,7 +70,7 @@ impl Alphabet {
     // Reads the beginning of an id of the kind.
     pub(crate) fn read_beginning(self, kind: Kind, text: &[u8]) -> Result<Prefix, from_hex::Error>
         requires { length text.now ≤ hex_len_of kind }
-        ensures { result ≡ ok_or (option_map (beginning_of kind) (digits_read (letter_of self) text.now)) from_hex.Error.Invalid }
+        ensures { result ≡ ok_or (option_map (kind_digits kind) (digits_read (letter_of self) text.now)) from_hex.Error.Invalid }
     {
         match kind {
             Kind::Sha1 => {

@@ -14,7 +14,7 @@ ghost use Rattle.gix_hash.specs.IdReading.{full_read, whole_of, IsFullReading, I
 ghost use Rattle.gix_hash.specs.Kind.{kind_of_hex_len};
 ghost use Rattle.gix_hash.specs.ObjectId.{id_digits, id_kind, id_eq, id_cmp, id_hash_input};
 ghost use Rattle.gix_hash.specs.Oid.{oid_digits, oid_kind, oid_eq, oid_cmp};
-ghost use Rattle.gix_hash.specs.Prefix.{place, Beginning, beginning_of, BeginsWith, prefix_eq};
+ghost use Rattle.gix_hash.specs.Prefix.{place, KindDigits, kind_digits, BeginsWith, prefix_eq};
 ghost use Rattle.gix_hash.specs.PrefixReading.{prefix_read, prefix_read_in, IsPrefixReading, IsPrefixRefusal, IsReadingIn, IsRefusalIn};
 ghost use Rattle.gix_hash.specs.Reading.{digits_read};
 ghost use Rattle.gix_hash.specs.WellKnown.{hex_values};
@@ -64,13 +64,13 @@ pub fn printed(alphabet: Alphabet)
     ensures lowercase { (digits : List ℕ) → All (λ d. d < 16) digits
         → str_to_ascii_lowercase (spelling (letter_of alphabet) digits) ≡ spelling (letter_of alphabet) digits }
     ensures reads { (kind : kinds.Kind) → (digits : List ℕ) → AreIdDigits kind digits
-        → full_read (letter_of alphabet) (spelling (letter_of alphabet) digits) ≡ Ok (beginning_of kind digits) }
+        → full_read (letter_of alphabet) (spelling (letter_of alphabet) digits) ≡ Ok (kind_digits kind digits) }
 {}
 
 /// The texts that read as a full id, which are those of as many bytes as its kind has digits that
 /// read as its digits; and why any other is refused.
 pub fn full_readings(alphabet: Alphabet, text: &[u8])
-    ensures ok { (id : Beginning) → (full_read (letter_of alphabet) text.now ≡ Ok id) ↔ IsFullReading (letter_of alphabet) text.now id }
+    ensures ok { (id : KindDigits) → (full_read (letter_of alphabet) text.now ≡ Ok id) ↔ IsFullReading (letter_of alphabet) text.now id }
     ensures err { (error : decode.Error) → (full_read (letter_of alphabet) text.now ≡ Err error) ↔ IsFullRefusal (letter_of alphabet) text.now error }
     ensures cases { MatchResult (full_read (letter_of alphabet) text.now)
         (IsFullReading (letter_of alphabet) text.now) (IsFullRefusal (letter_of alphabet) text.now) }
@@ -78,7 +78,7 @@ pub fn full_readings(alphabet: Alphabet, text: &[u8])
 
 /// The texts that read as a prefix of at least so many digits, and why any other is refused.
 pub fn prefix_readings(alphabet: Alphabet, least: usize, text: &str)
-    ensures ok { (prefix : Beginning) → (prefix_read (letter_of alphabet) least text.now ≡ Ok prefix) ↔ IsPrefixReading (letter_of alphabet) least text.now prefix }
+    ensures ok { (prefix : KindDigits) → (prefix_read (letter_of alphabet) least text.now ≡ Ok prefix) ↔ IsPrefixReading (letter_of alphabet) least text.now prefix }
     ensures err { (error : from_hex.Error) → (prefix_read (letter_of alphabet) least text.now ≡ Err error) ↔ IsPrefixRefusal (letter_of alphabet) least text.now error }
     ensures cases { MatchResult (prefix_read (letter_of alphabet) least text.now)
         (IsPrefixReading (letter_of alphabet) least text.now) (IsPrefixRefusal (letter_of alphabet) least text.now) }
@@ -86,7 +86,7 @@ pub fn prefix_readings(alphabet: Alphabet, least: usize, text: &str)
 
 /// The texts that read as a prefix in a given kind, and why any other is refused.
 pub fn prefix_readings_in(kind: Kind, alphabet: Alphabet, text: &str)
-    ensures ok { (prefix : Beginning) → (prefix_read_in kind (letter_of alphabet) text.now ≡ Ok prefix) ↔ IsReadingIn kind (letter_of alphabet) text.now prefix }
+    ensures ok { (prefix : KindDigits) → (prefix_read_in kind (letter_of alphabet) text.now ≡ Ok prefix) ↔ IsReadingIn kind (letter_of alphabet) text.now prefix }
     ensures err { (error : from_hex.Error) → (prefix_read_in kind (letter_of alphabet) text.now ≡ Err error) ↔ IsRefusalIn kind (letter_of alphabet) text.now error }
 {}
 

@@ -76,9 +76,9 @@ pub struct Prefix {
 }
 
 impl Model for Prefix {
-    ghost use Rattle.gix_hash.specs.Prefix.{Beginning};
+    ghost use Rattle.gix_hash.specs.Prefix.{KindDigits};
 
-    ghost Value = { Beginning };
+    ghost Value = { KindDigits };
 
     ghost use Rattle.gix_hash.specs.PrefixBytes.{IsPacked, kept, seen, kept-seen};
 

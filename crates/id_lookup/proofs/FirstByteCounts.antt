@@ -5,7 +5,7 @@ use Rattle.std.proofs.lemmas.Bool.Decides.{nat_tests}
 use Rattle.std.proofs.lemmas.List.Sums.{count_by-le-length, count_by_more_no, count_by_more_yes}
 use Rattle.std.proofs.lemmas.List.Elements.{All-head, All-tail}
 use Rattle.gix_hash.specs.Digits.{first_byte_of}
-use Rattle.gix_hash.specs.Prefix.{Beginning, place}
+use Rattle.gix_hash.specs.Prefix.{KindDigits, place}
 use Rattle.id_lookup.specs.Bounds.{bound_of, stands_before}
 use Rattle.id_lookup.specs.Candidates.{AreCandidates}
 use Rattle.id_lookup.specs.FirstBytes.{is_up_to, is_below, has_first_byte}
@@ -95,7 +95,7 @@ one_more counts ids i byte len within small is counted b below = by (nat_eq byte
         let no : has_first_byte b (get_or ids i []) ≡ false = ap (λ n. nat_eq n b) (sym is) ∙ e in
         rw get_or-set_other (counted b below ∙ sym (count_by_more_no (has_first_byte b) ids i [] within no))
 
-module _ (prefix : Beginning) (ids : List (List ℕ)) (can : CanProbe prefix ids) (small : AreDigits prefix.digits) (each : All (λ id. All (λ d. d < 16) id) ids) where
+module _ (prefix : KindDigits) (ids : List (List ℕ)) (can : CanProbe prefix ids) (small : AreDigits prefix.digits) (each : All (λ id. All (λ d. d < 16) id) ids) where
   -- both bounds of the run lie between those below the prefix's first byte and those up to its last
   start_above : count_by (is_below (first_byte_of prefix.digits)) ids ≤ bound_of Start prefix ids
   start_above = count_by-le (is_below (first_byte_of prefix.digits)) (λ id. stands_before Start (place prefix.digits id)) ids

@@ -10,7 +10,7 @@ use Rattle.std.proofs.lemmas.Cmp.{nat_list_cmp_total}
 use Rattle.std.proofs.lemmas.List.{get_or_default}
 use Rattle.std.proofs.lemmas.List.Elements.{AllWithin-more}
 use Rattle.gix_hash.specs.Kind.{hex_len_of, kind_by_number, number_of}
-use Rattle.gix_hash.specs.Prefix.{Beginning}
+use Rattle.gix_hash.specs.Prefix.{KindDigits}
 use Rattle.gix_hash.specs.declared.Kind.{Kind}
 use Rattle.gix_hash.specs.declared.Kind.TheVariants.{Sha1, Sha256}
 use Rattle.id_lookup.specs.FoundRun.{IsRun}
@@ -52,7 +52,7 @@ index_more kind ids at before inside long above = record {
         rw (last, before_last, get_or_default ids at d [] inside, get_or_default ids (at - 1) d [] (omega arith)) (above (omega arith))
 
 -- a prefix of the index's kind can be asked for
-pub index-can_probe : (kind : Kind) (ids : List (List ℕ)) (prefix : Beginning) → IsIndex kind ids → length prefix.digits ≤ hex_len_of kind → CanProbe prefix ids
+pub index-can_probe : (kind : Kind) (ids : List (List ℕ)) (prefix : KindDigits) → IsIndex kind ids → length prefix.digits ≤ hex_len_of kind → CanProbe prefix ids
 index-can_probe kind ids prefix index fits = record {
   sorted = index-sorted kind ids index;
   reach = λ k d inside. omega (arith, fits, index.kinds k d (omega arith) inside);
@@ -77,6 +77,6 @@ pub no_other : (a b : Kind) → not (nat_eq (number_of a) (number_of b)) ≡ fal
 no_other a b same = kind_by_number a b (grind (arith, nat_tests))
 
 -- a run by its end
-pub run_ending : (prefix : Beginning) (ids : List (List ℕ)) (run : Run) (end : ℕ) → IsRun prefix ids run → run.end ≡ end
+pub run_ending : (prefix : KindDigits) (ids : List (List ℕ)) (run : Run) (end : ℕ) → IsRun prefix ids run → run.end ≡ end
     → IsRun prefix ids (record { start = run.start; end = end })
 run_ending prefix ids run end is ends = subst (λ (n : ℕ). IsRun prefix ids (record { start = run.start; end = n })) ends is

@@ -2,13 +2,13 @@
 use Rattle.std.proofs.Common.{◌≡◌, ℕ, ◌-◌, List, map, take, drop, sym, ap, ◌∙◌}
 use Rattle.std.proofs.lemmas.List.{take-map, drop-map}
 use Rattle.std.specs.List.{slice_range}
-use Rattle.gix_hash.specs.Prefix.{Beginning}
+use Rattle.gix_hash.specs.Prefix.{KindDigits}
 use Rattle.id_lookup.specs.FoundRun.{IsRun}
 use Rattle.id_lookup.specs.Runs.{matches}
 use Rattle.id_lookup.specs.declared.search.Run.{Run}
 
 -- the ids of the run, told by their digits
-pub run_matches : {I : Type 0} (digits : I → List ℕ) (prefix : Beginning) (ids : List I) (run : Run) → IsRun prefix (map digits ids) run
+pub run_matches : {I : Type 0} (digits : I → List ℕ) (prefix : KindDigits) (ids : List I) (run : Run) → IsRun prefix (map digits ids) run
     → map digits (slice_range ids run.start run.end) ≡ matches prefix.digits (map digits ids)
 run_matches digits prefix ids run found =
     sym (take-map digits (run.end - run.start) (drop run.start ids)) ∙ sym (ap (take (run.end - run.start)) (drop-map digits run.start ids))

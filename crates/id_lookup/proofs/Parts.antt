@@ -4,7 +4,7 @@ use Rattle.std.specs.List.{count_by, flat_map, starts_with}
 use Rattle.std.specs.Ordering.{is_gt}
 use Rattle.std.proofs.lemmas.List.Elements.{filter-append}
 use Rattle.std.proofs.lemmas.List.Sums.{sum_by-append}
-use Rattle.gix_hash.specs.Prefix.{Beginning, place}
+use Rattle.gix_hash.specs.Prefix.{KindDigits, place}
 use Rattle.id_lookup.specs.FoundRun.{IsRun}
 use Rattle.id_lookup.specs.Runs.{begins_with, matches}
 use Rattle.id_lookup.specs.Sorted.{IsSortedIds}
@@ -23,11 +23,11 @@ matches_parts digits (part ∷ parts) =
 count_by-append : (p : List ℕ → Bool) (first second : List (List ℕ)) → count_by p (first ++ second) ≡ count_by p first + count_by p second
 count_by-append p first second = sum_by-append (λ id. cond (p id) 1 0) first second
 
-pub runs_together : (prefix : Beginning) (first second : List (List ℕ)) (a b : Run) → IsSortedIds (first ++ second) → IsRun prefix first a → IsRun prefix second b
+pub runs_together : (prefix : KindDigits) (first second : List (List ℕ)) (a b : Run) → IsSortedIds (first ++ second) → IsRun prefix first a → IsRun prefix second b
     → IsRun prefix (first ++ second) (record { start = a.start + b.start; end = a.end + b.end })
 runs_together prefix first second a b sorted one two =
     let before = count_by-append (λ id. is_gt (place prefix.digits id)) first second in
-    let within = count_by-append (begins_with prefix) first second in
+    let within = count_by-append (λ id. begins_with id prefix) first second in
     run_is prefix (first ++ second) sorted (record { start = a.start + b.start; end = a.end + b.end })
     (omega (arith, before, one.start, two.start))
     (omega (arith, before, within, one.start, two.start, one.end, two.end, bound_of-end prefix (first ++ second)))

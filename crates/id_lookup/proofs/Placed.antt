@@ -9,7 +9,7 @@ use Rattle.std.specs.Cmp.Lexicographic.{texts_ties}
 use Rattle.std.proofs.lemmas.List.Sums.{count_by-le-length}
 use Rattle.std.proofs.lemmas.Bool.Decides.{nat_tests}
 use Rattle.std.proofs.lemmas.List.{get_or-take, get_or-drop, length-take, length-drop}
-use Rattle.gix_hash.specs.Prefix.{Beginning, place}
+use Rattle.gix_hash.specs.Prefix.{KindDigits, place}
 use Rattle.id_lookup.specs.declared.search.Bound.{Bound}
 use Rattle.id_lookup.specs.declared.search.Bound.TheVariants.{Start, End}
 use Rattle.id_lookup.specs.Runs.{begins_with, matches}
@@ -29,13 +29,13 @@ not_less Equal member e = rw e refl
 not_less Greater member e = rw e refl
 
 -- the end of a run is its start and the number of its members
-pub bound_of-end : (prefix : Beginning) (ids : List (List ℕ)) → bound_of End prefix ids ≡ bound_of Start prefix ids + count_by (begins_with prefix) ids
+pub bound_of-end : (prefix : KindDigits) (ids : List (List ℕ)) → bound_of End prefix ids ≡ bound_of Start prefix ids + count_by (λ id. begins_with id prefix) ids
 bound_of-end prefix ids =
-    count_by-split (λ id. is_ge (place prefix.digits id)) (λ id. is_gt (place prefix.digits id)) (begins_with prefix)
-    (λ id. not_less (place prefix.digits id) (begins_with prefix id) (begins_with-place prefix id)) ids
+    count_by-split (λ id. is_ge (place prefix.digits id)) (λ id. is_gt (place prefix.digits id)) (λ id. begins_with id prefix)
+    (λ id. not_less (place prefix.digits id) (begins_with id prefix) (begins_with-place prefix id)) ids
 
 -- what an answer of the member at a place tells of a bound
-pub told : (bound : Bound) (prefix : Beginning) (ids : List (List ℕ)) → IsSortedIds ids → (k : ℕ) → k < length ids
+pub told : (bound : Bound) (prefix : KindDigits) (ids : List (List ℕ)) → IsSortedIds ids → (k : ℕ) → k < length ids
     → (o : Ordering) → HoldsAt (λ id. o ≡ place prefix.digits id) ids k → stands_before bound o ≡ nat_lt k (bound_of bound prefix ids)
 told bound prefix [] sorted k h o answer = absurd (omega arith)
 told bound prefix (id ∷ ids) sorted k h o answer =
@@ -48,8 +48,8 @@ record IsPlaced (start end k : ℕ) (o : Ordering) : Type 0 where
   pub not_below : is_ge o ≡ nat_lt k end
 
 -- the place of a prefix against each member of a sorted list
-placed : (prefix : Beginning) (ids : List (List ℕ)) → IsSortedIds ids → (k : ℕ) (d : List ℕ) → k < length ids
-    → IsPlaced (bound_of Start prefix ids) (bound_of Start prefix ids + count_by (begins_with prefix) ids) k (place prefix.digits (get_or ids k d))
+placed : (prefix : KindDigits) (ids : List (List ℕ)) → IsSortedIds ids → (k : ℕ) (d : List ℕ) → k < length ids
+    → IsPlaced (bound_of Start prefix ids) (bound_of Start prefix ids + count_by (λ id. begins_with id prefix) ids) k (place prefix.digits (get_or ids k d))
 placed prefix ids sorted k d h = record {
   above = passes_below (λ id. is_gt (place prefix.digits id)) ids (before_bound Start prefix ids sorted) k d h;
   not_below =
@@ -79,17 +79,17 @@ is_equal start end k Equal h p = (λ e. (let a = p.above in grind (arith, nat_te
 is_equal start end k Greater h p = (λ e. absurd (let a = p.above in cc), λ e. absurd (let a = p.above in let b = e.0 in grind (arith, nat_tests)))
 
 -- whether an id begins with the digits of a prefix, by the place of the prefix against it
-matches-place : (prefix : Beginning) (id : List ℕ) (o : Ordering) → place prefix.digits id ≡ o → starts_with nat_eq id prefix.digits ≡ is_eq o
+matches-place : (prefix : KindDigits) (id : List ℕ) (o : Ordering) → place prefix.digits id ≡ o → starts_with nat_eq id prefix.digits ≡ is_eq o
 matches-place prefix id o is = texts_ties prefix.digits _ ∙ ap is_eq is
 
 -- what is said of a run
-module _ (prefix : Beginning) (ids : List (List ℕ)) (sorted : IsSortedIds ids) (run : Run)
-    (starts : run.start ≡ bound_of Start prefix ids) (ends : run.end ≡ run.start + count_by (begins_with prefix) ids) where
+module _ (prefix : KindDigits) (ids : List (List ℕ)) (sorted : IsSortedIds ids) (run : Run)
+    (starts : run.start ≡ bound_of Start prefix ids) (ends : run.end ≡ run.start + count_by (λ id. begins_with id prefix) ids) where
   at_place : (k : ℕ) (d : List ℕ) → k < length ids → IsPlaced run.start run.end k (place prefix.digits (get_or ids k d))
   at_place k d h = rw (ends, starts) (placed prefix ids sorted k d h)
 
   run_members : (k : ℕ) → k < length ids
-      → IsTrue (begins_with prefix (get_or ids k [])) ↔ ((run.start ≤ k) × (k < run.end))
+      → IsTrue (begins_with (get_or ids k []) prefix) ↔ ((run.start ≤ k) × (k < run.end))
   run_members k h =
       rw (begins_with-place prefix (get_or ids k [])) (is_equal run.start run.end k _ (omega arith) (at_place k [] h))
 
@@ -118,10 +118,10 @@ module _ (prefix : Beginning) (ids : List (List ℕ)) (sorted : IsSortedIds ids)
       (λ k d h. matches-place prefix _ Less (run_behind k d h))
 
 -- two bounds are a run
-pub run_is : (prefix : Beginning) (ids : List (List ℕ)) → IsSortedIds ids → (run : Run)
+pub run_is : (prefix : KindDigits) (ids : List (List ℕ)) → IsSortedIds ids → (run : Run)
     → run.start ≡ bound_of Start prefix ids → run.end ≡ bound_of End prefix ids → IsRun prefix ids run
 run_is prefix ids sorted run starts bound =
-    let ends : run.end ≡ run.start + count_by (begins_with prefix) ids = rw (bound, starts) (bound_of-end prefix ids) in
+    let ends : run.end ≡ run.start + count_by (λ id. begins_with id prefix) ids = rw (bound, starts) (bound_of-end prefix ids) in
     record {
       start = starts;
       end = ends;

@@ -7,7 +7,7 @@ use Rattle.std.specs.Cmp.Lexicographic.{slice_cmp}
 use Rattle.std.specs.List.Sorted.{IsNonDecreasingBy, IsPartitionedBy}
 use Rattle.std.proofs.lemmas.Cmp.{nat_list_cmp_total}
 use Rattle.std.proofs.lemmas.List.Sorted.{searchable_from_sorted}
-use Rattle.gix_hash.specs.Prefix.{Beginning, place}
+use Rattle.gix_hash.specs.Prefix.{KindDigits, place}
 use Rattle.id_lookup.specs.declared.search.Bound.{Bound}
 use Rattle.id_lookup.specs.declared.search.Bound.TheVariants.{Start, End}
 use Rattle.id_lookup.specs.Bounds.{stands_before}
@@ -28,7 +28,7 @@ take_falls (suc n) (x ∷ xs) [] h = refl
 take_falls (suc n) (x ∷ xs) (y ∷ ys) h = rest_falls (nat_cmp x y) _ _ (take_falls n xs ys) h
 
 -- the first digits of the members stand ever higher against the prefix
-rising : (prefix : Beginning) (ids : List (List ℕ)) → IsSortedIds ids
+rising : (prefix : KindDigits) (ids : List (List ℕ)) → IsSortedIds ids
     → IsNonDecreasingBy (λ id. ordering_index (slice_cmp nat_cmp (take (length prefix.digits) id) prefix.digits)) ids
 rising prefix ids sorted =
     searchable_from_sorted nat_list_cmp_total (λ id. take (length prefix.digits) id) ids prefix.digits
@@ -51,7 +51,7 @@ still_before End Greater Equal h g = absurd (omega arith)
 still_before End Greater Greater h g = g
 
 -- no member that stands before a bound is behind one that does not
-pub before_bound : (bound : Bound) (prefix : Beginning) (ids : List (List ℕ)) → IsSortedIds ids
+pub before_bound : (bound : Bound) (prefix : KindDigits) (ids : List (List ℕ)) → IsSortedIds ids
     → IsPartitionedBy (λ id. stands_before bound (place prefix.digits id)) ids
 before_bound bound prefix ids sorted i j d h g passes =
     let lower = get_or ids i d in

@@ -10,7 +10,7 @@ use Rattle.std.specs.Bool.{Decides}
 use Rattle.std.proofs.lemmas.List.{take-map, length-map, take-append-drop}
 use Rattle.std.proofs.Math.Seq.{take-append_seam}
 use Rattle.gix_hash.specs.Digits.{hex_letter, spelling}
-use Rattle.gix_hash.specs.Prefix.{Beginning, BeginsWith, place}
+use Rattle.gix_hash.specs.Prefix.{KindDigits, BeginsWith, place}
 use Rattle.id_lookup.specs.Runs.{begins_with}
 
 -- distinct numbers have distinct letters
@@ -33,7 +33,7 @@ starts_with-spelling ds ps =
     ∙ pointwise-spelling ps (take (length ps) ds)
 
 -- an id begins with a prefix exactly where the place is Equal
-pub begins_with-place : (prefix : Beginning) (id : List ℕ) → begins_with prefix id ≡ is_eq (place prefix.digits id)
+pub begins_with-place : (prefix : KindDigits) (id : List ℕ) → begins_with id prefix ≡ is_eq (place prefix.digits id)
 begins_with-place prefix id =
     starts_with-spelling id prefix.digits
     ∙ texts_ties prefix.digits (take (length prefix.digits) id)

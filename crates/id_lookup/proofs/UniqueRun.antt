@@ -2,7 +2,7 @@
 use Rattle.std.proofs.Common.{◌≡◌, ◌≢◌, ℕ, ◌+◌, ◌<◌, ◌≤◌, true, false, List, [], ◌++◌, length, take, drop, get_or, nat_eq, ◌⊎◌, inl, inr, refl, sym, ap, ◌∙◌, arith, take-append-drop}
 use Rattle.std.specs.List.{starts_with}
 use Rattle.std.proofs.lemmas.Bool.{cases_lt, false≢true}
-use Rattle.gix_hash.specs.Prefix.{Beginning}
+use Rattle.gix_hash.specs.Prefix.{KindDigits}
 use Rattle.id_lookup.specs.Bounds.{bound_of}
 use Rattle.id_lookup.specs.FoundRun.{IsRun}
 use Rattle.id_lookup.specs.Index.{IsAnswer}
@@ -16,8 +16,8 @@ use Rattle.id_lookup.proofs.Placed.{run_is}
 use Rattle.id_lookup.proofs.Spelled.{starts_with-BeginsWith, starts_with-spelling}
 
 -- where one id alone begins with the prefix, the run is that id
-unique_run : (prefix : Beginning) (ids : List (List ℕ)) (at : ℕ) → IsSortedIds ids → at < length ids → begins_with prefix (get_or ids at []) ≡ true
-    → ((k : ℕ) → k < length ids → k ≢ at → begins_with prefix (get_or ids k []) ≡ false) → IsRun prefix ids (record { start = at; end = at + 1 })
+unique_run : (prefix : KindDigits) (ids : List (List ℕ)) (at : ℕ) → IsSortedIds ids → at < length ids → begins_with (get_or ids at []) prefix ≡ true
+    → ((k : ℕ) → k < length ids → k ≢ at → begins_with (get_or ids k []) prefix ≡ false) → IsRun prefix ids (record { start = at; end = at + 1 })
 unique_run prefix ids at sorted inside begins alone = run_is prefix ids sorted (record { start = at; end = at + 1 }) (starts (cases_lt start at)) (ends (cases_lt (at + 1) end))
   where
     start : ℕ
@@ -49,7 +49,7 @@ begins_first id name first =
     (starts_with-BeginsWith id name).1 (rest, sym (ap (λ (front : List ℕ). front ++ rest) first ∙ take-append-drop (length name) id))
 
 -- the run of a shortest name is its id
-pub name_run : (fewest : ℕ) (ids : List (List ℕ)) (at : ℕ) (prefix : Beginning) → IsSortedIds ids → at < length ids
+pub name_run : (fewest : ℕ) (ids : List (List ℕ)) (at : ℕ) (prefix : KindDigits) → IsSortedIds ids → at < length ids
     → IsShortestNameFrom fewest ids at prefix.digits → IsRun prefix ids (record { start = at; end = at + 1 })
 name_run fewest ids at prefix sorted inside name =
     unique_run prefix ids at sorted inside
@@ -57,7 +57,7 @@ name_run fewest ids at prefix sorted inside name =
     (λ k within other. starts_with-spelling (get_or ids k []) prefix.digits ∙ name.alone k within other)
 
 -- a run of one id is answered as that id
-pub one_answer : (prefix : Beginning) (ids : List (List ℕ)) (at : ℕ) (answer : Answer) → IsRun prefix ids (record { start = at; end = at + 1 })
+pub one_answer : (prefix : KindDigits) (ids : List (List ℕ)) (at : ℕ) (answer : Answer) → IsRun prefix ids (record { start = at; end = at + 1 })
     → IsAnswer prefix ids answer → answer ≡ One at
 one_answer prefix ids at None run is =
     let end = run.end in

@@ -1,14 +1,14 @@
 -- The part of a list in which a look-up has to search.
 use Rattle.std.specs.Prelude.{◌≡◌, ℕ, ◌+◌, ◌<◌, ◌≤◌, List, length}
 use Rattle.std.specs.List.{count_by}
-use Rattle.gix_hash.specs.Prefix.{Beginning}
+use Rattle.gix_hash.specs.Prefix.{KindDigits}
 use Rattle.id_lookup.specs.Bounds.{bound_of}
 use Rattle.id_lookup.specs.FirstBytes.{shares_first_byte}
 use Rattle.id_lookup.specs.declared.search.Bound.TheVariants.{Start, End}
 use Rattle.id_lookup.specs.declared.search.Run.{Run}
 
 -- both bounds of the prefix's run are there. Below two digits it is the run, and else the members with the prefix's first byte
-pub record AreCandidates (prefix : Beginning) (ids : List (List ℕ)) (part : Run) : Type 0 where
+pub record AreCandidates (prefix : KindDigits) (ids : List (List ℕ)) (part : Run) : Type 0 where
   pub above : part.start ≤ bound_of Start prefix ids
   pub below : bound_of End prefix ids ≤ part.end
   pub in_range : part.end ≤ length ids

@@ -2,7 +2,7 @@
 use Rattle.std.specs.Prelude.{◌≡◌, ℕ, ◌<◌, Bool, List, nat_eq, nat_le, nat_lt, slice_index}
 use Rattle.std.specs.List.{All, count_by}
 use Rattle.gix_hash.specs.Digits.{first_byte_of}
-use Rattle.gix_hash.specs.Prefix.{Beginning}
+use Rattle.gix_hash.specs.Prefix.{KindDigits}
 
 -- whether the id's first byte is at most b
 abbrev pub is_up_to : ℕ → List ℕ → Bool
@@ -17,7 +17,7 @@ abbrev pub has_first_byte : ℕ → List ℕ → Bool
 has_first_byte b id = nat_eq (first_byte_of id) b
 
 -- whether it is that of the prefix
-abbrev pub shares_first_byte : Beginning → List ℕ → Bool
+abbrev pub shares_first_byte : KindDigits → List ℕ → Bool
 shares_first_byte prefix id = has_first_byte (first_byte_of prefix.digits) id
 
 -- for each byte, how many ids have at most that first byte. The digits of the ids are below 16

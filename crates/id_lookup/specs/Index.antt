@@ -6,7 +6,7 @@ use Rattle.std.specs.Cmp.Lexicographic.{slice_cmp}
 use Rattle.std.specs.declared.cmp.Ordering.TheVariants.{Less}
 use Rattle.gix_hash.specs.declared.Kind.{Kind}
 use Rattle.gix_hash.specs.Kind.{hex_len_of}
-use Rattle.gix_hash.specs.Prefix.{Beginning}
+use Rattle.gix_hash.specs.Prefix.{KindDigits}
 use Rattle.id_lookup.specs.FoundRun.{IsRun}
 use Rattle.id_lookup.specs.declared.index.Answer.{Answer}
 use Rattle.id_lookup.specs.declared.index.Answer.TheVariants as answers
@@ -47,7 +47,7 @@ IsBadPlace kind ids (WrongKind at) = IsWrongKind kind ids at
 IsBadPlace kind ids (NotRising at) = IsNotRising kind ids at
 
 -- the answer on a prefix, by how many ids begin with it. Where none does, an empty run stands where the prefix would
-abbrev pub IsAnswer : Beginning → List (List ℕ) → Answer → Type 0
+abbrev pub IsAnswer : KindDigits → List (List ℕ) → Answer → Type 0
 IsAnswer prefix ids answers.None = (at : ℕ) × IsRun prefix ids (record { start = at; end = at })
 IsAnswer prefix ids (answers.One at) = IsRun prefix ids (record { start = at; end = at + 1 })
 IsAnswer prefix ids (answers.Many run) = IsRun prefix ids run × (run.start + 1 < run.end)

@@ -2,7 +2,7 @@
 
 ghost use Rattle.std.specs.Prelude.{◌≡◌, ◌↔◌, ◌+◌, ◌++◌, ◌<◌, ℕ, List, IsTrue, flat_map, length};
 ghost use Rattle.std.specs.declared.cmp.Ordering.{Ordering};
-ghost use Rattle.gix_hash.specs.Prefix.{Beginning, BeginsWith, place};
+ghost use Rattle.gix_hash.specs.Prefix.{KindDigits, BeginsWith, place};
 ghost use Rattle.id_lookup.specs.FoundRun.{IsRun};
 ghost use Rattle.id_lookup.specs.Runs.{begins_with, matches};
 ghost use Rattle.id_lookup.specs.Sorted.{IsSortedIds};
@@ -15,8 +15,8 @@ use gix_hash::Prefix;
 /// The lowercase hex spelling of some digits begins with that of a prefix just where the digits
 /// begin with the prefix's, and just where the prefix's place against them is Equal.
 pub fn beginnings(prefix: &Prefix)
-    ensures digits { (id : List ℕ) → IsTrue (begins_with prefix.now id) ↔ BeginsWith id prefix.now.digits }
-    ensures place { (id : List ℕ) → IsTrue (begins_with prefix.now id) ↔ (place prefix.now.digits id ≡ Ordering.Equal) }
+    ensures digits { (id : List ℕ) → IsTrue (begins_with id prefix.now) ↔ BeginsWith id prefix.now.digits }
+    ensures place { (id : List ℕ) → IsTrue (begins_with id prefix.now) ↔ (place prefix.now.digits id ≡ Ordering.Equal) }
 {}
 
 /// The members that begin with some digits, of a list in parts that stand one behind the other, are
@@ -27,7 +27,7 @@ pub fn beginnings(prefix: &Prefix)
 pub fn matches_in_parts()
     ensures two { (digits : List ℕ) (first second : List (List ℕ)) → matches digits (first ++ second) ≡ matches digits first ++ matches digits second }
     ensures all { (digits : List ℕ) (parts : List (List (List ℕ))) → matches digits (flat_map (λ part. part) parts) ≡ flat_map (matches digits) parts }
-    ensures runs { (prefix : Beginning) (first second : List (List ℕ)) (a b : Run) → IsSortedIds (first ++ second) → IsRun prefix first a → IsRun prefix second b
+    ensures runs { (prefix : KindDigits) (first second : List (List ℕ)) (a b : Run) → IsSortedIds (first ++ second) → IsRun prefix first a → IsRun prefix second b
         → IsRun prefix (first ++ second) (record { start = a.start + b.start; end = a.end + b.end }) }
 {}
 

@@ -174,7 +174,7 @@ fn find_bound<I: Id>(
 /// hex spelling just where it does by its digits, and just where [`Prefix::cmp_oid`] answers `Equal`.
 pub fn begins_with(id: &ObjectId, prefix: &Prefix) -> bool
     requires { length prefix.now.digits ≤ hex_len_of (id_kind id.now) }
-    ensures value { result ≡ begins_with prefix.now (id_digits id.now) }
+    ensures value { result ≡ begins_with (id_digits id.now) prefix.now }
     ensures spelling { IsTrue result ↔ BeginsWith (spelling hex_letter (id_digits id.now)) (spelling hex_letter prefix.now.digits) }
     ensures digits { IsTrue result ↔ BeginsWith (id_digits id.now) prefix.now.digits }
     ensures place { IsTrue result ↔ (place prefix.now.digits (id_digits id.now) ≡ Ordering.Equal) }

@@ -8,7 +8,7 @@ use Rattle.id_lookup.specs.declared.index.IndexError.{IndexError}
 use Rattle.id_lookup.specs.declared.index.IndexError.TheVariants as place
 use Rattle.list_search.specs.Finding.{in_sorted, too_long, refusal_of_list}
 use Rattle.list_search.specs.FindingIn.{in_rising, refusal_of_list_in}
-use Rattle.gix_hash.specs.Prefix.{Beginning}
+use Rattle.gix_hash.specs.Prefix.{KindDigits}
 use Rattle.list_search.specs.Lines.{lines_of}
 use Rattle.list_search.specs.ListText.{list_read, IsFirstRead, RefusesList}
 use Rattle.list_search.specs.Searching.{Search, first_refused, unless, found_among, found_from, IsFoundAmong}
@@ -73,13 +73,13 @@ memory_of_list (list.BadLine n error) is = cc is
 memory_of_list list.Memory is = refl
 
 -- what is found among the ids that a list text reads as is found in the texts
-pub found_texts : {E P : Type 0} (of_prefix : P → E) (of_list : ListError → E) (sought : List ℕ → Search E) (read : Result Beginning P) (start : Beginning)
+pub found_texts : {E P : Type 0} (of_prefix : P → E) (of_list : ListError → E) (sought : List ℕ → Search E) (read : Result KindDigits P) (start : KindDigits)
     (search : Search E) (text : List ℕ) (found : Result (List (List ℕ)) E) → read ≡ Ok start → search ≡ sought start.digits → IsFoundAmong search text found
     → found_from of_prefix of_list sought read (list_read text) ≡ found
 found_texts of_prefix of_list sought read start search text found reads same among = rw (reads, among.read, ← same) among.found_there
 
 -- a refusal of the list is the search's, or a lack of memory
-pub list_refused : {E P : Type 0} (of_prefix : P → E) (of_list : ListError → E) (sought : List ℕ → Search E) (read : Result Beginning P) (start : Beginning)
+pub list_refused : {E P : Type 0} (of_prefix : P → E) (of_list : ListError → E) (sought : List ℕ → Search E) (read : Result KindDigits P) (start : KindDigits)
     (text : List ℕ) (error : ListError) → read ≡ Ok start → RefusesList text error
     → (found_from of_prefix of_list sought read (list_read text) ≡ Err (of_list error)) ⊎ (error ≡ list.Memory)
 list_refused of_prefix of_list sought read start text (list.BadLine n e) reads refused = inl (rw (reads, refused) refl)

@@ -4,7 +4,7 @@ use Rattle.std.proofs.lemmas.Bool.Decides.{nat_tests}
 use Rattle.std.proofs.lemmas.List.Elements.{All-cons, All-head, All-tail}
 use Rattle.gix_hash.specs.Digits.{hex_letter}
 use Rattle.gix_hash.specs.IdReading.{full_read}
-use Rattle.gix_hash.specs.Prefix.{Beginning}
+use Rattle.gix_hash.specs.Prefix.{KindDigits}
 use Rattle.gix_hash.specs.PrefixReading.{prefix_read}
 use Rattle.gix_hash.specs.declared.decode.Error.{Error}
 use Rattle.gix_hash.specs.declared.prefix.from_hex.Error.{Error as PrefixError}
@@ -35,7 +35,7 @@ unfolding ids_read
 ids_read-means n [] = tt
 ids_read-means n (line ∷ lines) = by_line (full_read hex_letter line) refl (ids_read (n + 1) lines) (ids_read-means (n + 1) lines)
   where
-    by_line : (read : Result Beginning Error) → full_read hex_letter line ≡ read → (more : Result (List (List ℕ)) ListError)
+    by_line : (read : Result KindDigits Error) → full_read hex_letter line ≡ read → (more : Result (List (List ℕ)) ListError)
         → MeansLines (n + 1) lines more → MeansLines n (line ∷ lines) (put_id n read more)
     by_line (Err error) is more h = record {
       before = [];
@@ -73,7 +73,7 @@ means letter prefix text = by_texts (prefix_read letter 4 prefix) refl (list_rea
         by_test true e = rw e (search, h, refl, refl, grind (arith, nat_tests))
         by_test false e = rw e (search, h, grind (arith, nat_tests), refl)
 
-    by_texts : (read : Result Beginning PrefixError) → prefix_read letter 4 prefix ≡ read → (ids : Result (List (List ℕ)) ListError)
+    by_texts : (read : Result KindDigits PrefixError) → prefix_read letter 4 prefix ≡ read → (ids : Result (List (List ℕ)) ListError)
         → MeansLines 1 (lines_of text) ids → Means letter prefix text (found_from Prefix refusal_of_list in_sorted read ids)
     by_texts (Err error) is ids h = is
     by_texts (Ok p) is (Err (list.BadLine n error)) h = (ap is_ok is, h)
@@ -90,7 +90,7 @@ ids_read-of n (line ∷ lines) [] h = absurd h
 ids_read-of n (line ∷ lines) (id ∷ ids) h = rw (h.0.1, ids_read-of (n + 1) lines ids h.1) refl
 
 -- a line that reads, before a refusal
-put_id-err : (n : ℕ) (read : Result Beginning Error) (error : ListError) → IsOk read → put_id n read (Err error) ≡ Err error
+put_id-err : (n : ℕ) (read : Result KindDigits Error) (error : ListError) → IsOk read → put_id n read (Err error) ≡ Err error
 put_id-err n (Ok id) error h = refl
 put_id-err n (Err e) error h = cc h
 
@@ -112,7 +112,7 @@ list_read-bad text m error h =
     rw (h.is, h.number) (ids_read-bad 1 h.before h.line h.after error h.read h.refused)
 
 -- where the prefix reads, the refusal is the list's
-pub found_from-list : {E : Type 0} (of_prefix : PrefixError → E) (of_list : ListError → E) (search : List ℕ → Search E) (read : Result Beginning PrefixError)
+pub found_from-list : {E : Type 0} (of_prefix : PrefixError → E) (of_list : ListError → E) (search : List ℕ → Search E) (read : Result KindDigits PrefixError)
     (error : ListError) → IsOk read → found_from of_prefix of_list search read (Err error) ≡ Err (of_list error)
 found_from-list of_prefix of_list search (Ok p) error h = refl
 found_from-list of_prefix of_list search (Err e) error h = cc h

@@ -1,7 +1,7 @@
 -- What is found in ids of one kind means what it says of the two texts.
 use Rattle.std.proofs.Common.{◌≡◌, ℕ, ◌+◌, Option, Some, None, List, refl, ap, arith, Result, Ok, Err, is_ok}
 use Rattle.gix_hash.specs.Digits.{hex_letter}
-use Rattle.gix_hash.specs.Prefix.{Beginning}
+use Rattle.gix_hash.specs.Prefix.{KindDigits}
 use Rattle.gix_hash.specs.PrefixReading.{prefix_read_in}
 use Rattle.gix_hash.specs.declared.Kind.{Kind}
 use Rattle.gix_hash.specs.declared.prefix.from_hex.Error.{Error as PrefixError}
@@ -29,7 +29,7 @@ means_in kind prefix text = by_texts (prefix_read_in kind hex_letter prefix) ref
     by_place search (Some error) (place.WrongKind at, is, bad) = rw is (search, (at, omega arith, bad))
     by_place search (Some error) (place.NotRising at, is, bad) = rw is (search, (at, omega arith, bad))
 
-    by_texts : (read : Result Beginning PrefixError) → prefix_read_in kind hex_letter prefix ≡ read → (ids : Result (List (List ℕ)) ListError)
+    by_texts : (read : Result KindDigits PrefixError) → prefix_read_in kind hex_letter prefix ≡ read → (ids : Result (List (List ℕ)) ListError)
         → MeansLines 1 (lines_of text) ids → MeansIn kind prefix text (found_from Prefix refusal_of_list_in (in_rising kind) read ids)
     by_texts (Err error) is ids h = is
     by_texts (Ok p) is (Err (list.BadLine n error)) h = (ap is_ok is, h)

@@ -10,7 +10,7 @@ use Rattle.gix_hash.specs.Digits.{hex_letter}
 use Rattle.gix_hash.specs.IdReading.{full_read, whole_of}
 use Rattle.gix_hash.specs.Kind.{kind_of_full_len}
 use Rattle.gix_hash.specs.ObjectId.{id_digits}
-use Rattle.gix_hash.specs.Prefix.{Beginning}
+use Rattle.gix_hash.specs.Prefix.{KindDigits}
 use Rattle.gix_hash.specs.Reading.{digit_below, digit_in, digits_read, put_digit, answer_of}
 use Rattle.gix_hash.specs.declared.decode.Error.{Error}
 use Rattle.gix_hash.specs.declared.decode.Error.TheVariants.{InvalidHexEncodingLength, Invalid}
@@ -46,7 +46,7 @@ put_front-nil : (more : Result (List (List ℕ)) ListError) → more ≡ put_fro
 put_front-nil (Err error) = refl
 put_front-nil (Ok ids) = refl
 
-put_id-front : (n : ℕ) (id : Beginning) (front : List (List ℕ)) (more : Result (List (List ℕ)) ListError)
+put_id-front : (n : ℕ) (id : KindDigits) (front : List (List ℕ)) (more : Result (List (List ℕ)) ListError)
     → put_id n (Ok id) (put_front front more) ≡ put_front (id.digits ∷ front) more
 put_id-front n id front (Err error) = refl
 put_id-front n id front (Ok ids) = refl
@@ -215,7 +215,7 @@ pub first_of_list : (text : List ℕ) (earlier part : List ObjectId) → list_re
 unfolding ids_read
 first_of_list text earlier part reads some = by_lines (lines_of text) earlier part reads some
   where
-    by_answer : (line : List ℕ) (answer : Result Beginning Error) (more : Result (List (List ℕ)) ListError) (ids : List (List ℕ)) → full_read hex_letter line ≡ answer
+    by_answer : (line : List ℕ) (answer : Result KindDigits Error) (more : Result (List (List ℕ)) ListError) (ids : List (List ℕ)) → full_read hex_letter line ≡ answer
         → put_id 1 answer more ≡ Ok ids → IsOk (full_read hex_letter line)
     by_answer line (Ok id) more ids is h = rw is refl
     by_answer line (Err error) more ids is h = cc h
@@ -295,7 +295,7 @@ IsLine-read (c ∷ line) ds reads =
     by_parts (Some d) is (Some rest) are behind h = All-cons (λ b. is_line_feed b ≡ false) c line (no_line_feed c d is) (behind rest are)
 
 -- what reads as an id reads as digits
-IsLine-id : (line : List ℕ) (id : Beginning) → full_read hex_letter line ≡ Ok id → IsLine line
+IsLine-id : (line : List ℕ) (id : KindDigits) → full_read hex_letter line ≡ Ok id → IsLine line
 IsLine-id line id reads = by_digits (digits_read hex_letter line) refl (kind_of_full_len (length line)) reads
   where
     by_digits : (digits : Option (List ℕ)) → digits_read hex_letter line ≡ digits → (kind : Option Kind)
@@ -305,7 +305,7 @@ IsLine-id line id reads = by_digits (digits_read hex_letter line) refl (kind_of_
     by_digits (Some ds) is (Some kind) h = IsLine-read line ds is
 
 -- a text of which an id was found reads as that
-pub id_found : (answer : Result Beginning Error) (id : Beginning) → Some id ≡ result_ok answer → Ok id ≡ answer
+pub id_found : (answer : Result KindDigits Error) (id : KindDigits) → Some id ≡ result_ok answer → Ok id ≡ answer
 id_found (Ok read) id is = cc is
 id_found (Err error) id is = cc is
 

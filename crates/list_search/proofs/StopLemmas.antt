@@ -1,7 +1,7 @@
 -- Where the reading of a list text stops, there stops the search in it.
 use Rattle.std.proofs.Common.{◌≡◌, ◌↔◌, ℕ, inl, inr, Option, List, [], ◌++◌, refl, sym, append-nil, subst, Result, Ok, Err}
 use Rattle.gix_hash.specs.Digits.{hex_letter}
-use Rattle.gix_hash.specs.Prefix.{Beginning}
+use Rattle.gix_hash.specs.Prefix.{KindDigits}
 use Rattle.gix_hash.specs.PrefixReading.{prefix_read, prefix_read_in}
 use Rattle.gix_hash.specs.declared.Kind.{Kind}
 use Rattle.std.specs.Io.KnownBytes.{Consumes}
@@ -47,7 +47,7 @@ settled_all P old new text given holds = record {
 }
 
 -- where the prefix reads, a refusal of the list text is the search's
-pub search_stops : (letter : ℕ → ℕ) (prefix : List ℕ) (start : Beginning) (error : ReadError) (source source' sink sink' : Option (List ℕ))
+pub search_stops : (letter : ℕ → ℕ) (prefix : List ℕ) (start : KindDigits) (error : ReadError) (source source' sink sink' : Option (List ℕ))
     → prefix_read letter 4 prefix ≡ Ok start → ReadingStops error source source' → SearchStops letter prefix (from_reading error) source source' sink sink'
 search_stops letter prefix start (read.Refused (list.BadLine n error)) source source' sink sink' reads stops =
     settled_map (λ text. list_read text ≡ Err (list.BadLine n error)) (λ text. finding letter prefix text ≡ Err (search.BadLine n error)) source source'
@@ -100,7 +100,7 @@ reading_not_output (read.Refused (list.BadLine n e)) is = cc is
 reading_not_output (read.Refused list.Memory) is = cc is
 
 -- the same of a search in ids of one kind
-pub search_stops_in : (kind : Kind) (prefix : List ℕ) (start : Beginning) (error : ReadError) (source source' sink sink' : Option (List ℕ))
+pub search_stops_in : (kind : Kind) (prefix : List ℕ) (start : KindDigits) (error : ReadError) (source source' sink sink' : Option (List ℕ))
     → prefix_read_in kind hex_letter prefix ≡ Ok start → ReadingStops error source source' → SearchStopsIn kind prefix (from_reading_in error) source source' sink sink'
 search_stops_in kind prefix start (read.Refused (list.BadLine n error)) source source' sink sink' reads stops =
     settled_map (λ text. list_read text ≡ Err (list.BadLine n error)) (λ text. finding_in kind prefix text ≡ Err (found.BadLine n error)) source source'

@@ -4,7 +4,7 @@ use Rattle.std.specs.Ordering.{nat_cmp, is_lt}
 use Rattle.std.specs.Cmp.Lexicographic.{slice_cmp}
 use Rattle.gix_hash.specs.Digits.{hex_letter}
 use Rattle.gix_hash.specs.Kind.{hex_len_of}
-use Rattle.gix_hash.specs.Prefix.{Beginning}
+use Rattle.gix_hash.specs.Prefix.{KindDigits}
 use Rattle.gix_hash.specs.PrefixReading.{prefix_read_in}
 use Rattle.gix_hash.specs.declared.Kind.{Kind}
 use Rattle.id_lookup.specs.Index.{IsIndex, IsBadPlace}
@@ -48,7 +48,7 @@ finding_in kind prefix text = found_from Prefix refusal_of_list_in (in_rising ki
 
 -- the two texts read as a prefix of the kind and as ids
 pub record IsSearchIn (kind : Kind) (prefix text : List ℕ) : Type 0 where
-  pub start : Beginning
+  pub start : KindDigits
   pub ids : List (List ℕ)
   pub prefix_reads : prefix_read_in kind hex_letter prefix ≡ Ok start
   pub list_reads : IsListOf text ids

@@ -3,7 +3,7 @@ use Rattle.std.specs.Prelude.{◌≡◌, ℕ, ◌+◌, List, [], ◌∷◌, ◌+
 use Rattle.std.specs.List.{AllZip}
 use Rattle.gix_hash.specs.Digits.{hex_letter}
 use Rattle.gix_hash.specs.IdReading.{full_read}
-use Rattle.gix_hash.specs.Prefix.{Beginning, beginning_of}
+use Rattle.gix_hash.specs.Prefix.{KindDigits, kind_digits}
 use Rattle.gix_hash.specs.declared.decode.Error.{Error}
 use Rattle.gix_hash.specs.declared.Kind.{Kind}
 use Rattle.list_search.specs.declared.list.ListError.{ListError}
@@ -11,7 +11,7 @@ use Rattle.list_search.specs.declared.list.ListError.TheVariants.{BadLine, Memor
 use Rattle.list_search.specs.Lines.{lines_of}
 
 -- the digits of what line n reads as, before those of the lines behind it; or the first refusal
-abbrev pub put_id : ℕ → Result Beginning Error → Result (List (List ℕ)) ListError → Result (List (List ℕ)) ListError
+abbrev pub put_id : ℕ → Result KindDigits Error → Result (List (List ℕ)) ListError → Result (List (List ℕ)) ListError
 put_id n (Err error) more = Err (BadLine n error)
 put_id n (Ok id) (Err error) = Err error
 put_id n (Ok id) (Ok ids) = Ok (id.digits ∷ ids)
@@ -37,7 +37,7 @@ RefusesList text Memory = IsFirstRead (lines_of text)
 
 -- the line reads as an id of these digits
 abbrev pub IsLineOf : List ℕ → List ℕ → Type 0
-IsLineOf line digits = (kind : Kind) × (full_read hex_letter line ≡ Ok (beginning_of kind digits))
+IsLineOf line digits = (kind : Kind) × (full_read hex_letter line ≡ Ok (kind_digits kind digits))
 
 -- each line of the text reads as the id at its place
 abbrev pub IsListOf : List ℕ → List (List ℕ) → Type 0

@@ -1,6 +1,6 @@
 -- What the answer of a search means, in words of the two texts.
 use Rattle.std.specs.Prelude.{◌≡◌, ℕ, ◌-◌, ◌<◌, ◌≤◌, List, length, IsOk, Result, Ok, Err}
-use Rattle.gix_hash.specs.Prefix.{Beginning}
+use Rattle.gix_hash.specs.Prefix.{KindDigits}
 use Rattle.gix_hash.specs.PrefixReading.{prefix_read}
 use Rattle.list_search.specs.declared.finding.FindError.{FindError}
 use Rattle.list_search.specs.declared.finding.FindError.TheVariants.{Prefix, BadLine, Unsorted, PrefixTooLong, Memory, Output}
@@ -10,7 +10,7 @@ use Rattle.id_lookup.specs.Sorted.{IsSortedIds, IsFirstFall, least_hex_len}
 
 -- the two texts read as a prefix and as ids
 pub record IsSearch (letter : ℕ → ℕ) (prefix text : List ℕ) : Type 0 where
-  pub start : Beginning
+  pub start : KindDigits
   pub ids : List (List ℕ)
   pub prefix_reads : prefix_read letter 4 prefix ≡ Ok start
   pub list_reads : IsListOf text ids

@@ -2,7 +2,7 @@
 use Rattle.std.specs.Prelude.{◌≡◌, ℕ, ◌+◌, Option, Some, None, List, [], ◌∷◌, map, length, Result, Ok, Err}
 use Rattle.std.specs.Option.{option_map, option_or}
 use Rattle.gix_hash.specs.ObjectId.{id_digits}
-use Rattle.gix_hash.specs.Prefix.{Beginning}
+use Rattle.gix_hash.specs.Prefix.{KindDigits}
 use Rattle.gix_hash.specs.declared.ObjectId.{ObjectId}
 use Rattle.id_lookup.specs.Runs.{matches}
 use Rattle.list_search.specs.ListText.{list_read}
@@ -30,7 +30,7 @@ abbrev pub found_among : {E : Type 0} → Search E → List (List ℕ) → Resul
 found_among sought ids = unless (option_or (first_refused sought None 1 ids) (sought.too_long ids)) (matches sought.digits ids)
 
 -- what is found, given what the prefix and the list text read as
-abbrev pub found_from : {E P : Type 0} → (P → E) → (ListError → E) → (List ℕ → Search E) → Result Beginning P → Result (List (List ℕ)) ListError
+abbrev pub found_from : {E P : Type 0} → (P → E) → (ListError → E) → (List ℕ → Search E) → Result KindDigits P → Result (List (List ℕ)) ListError
     → Result (List (List ℕ)) E
 found_from of_prefix of_list sought (Err error) ids = Err (of_prefix error)
 found_from of_prefix of_list sought (Ok prefix) (Err error) = Err (of_list error)

@@ -4,7 +4,7 @@ use Rattle.std.specs.Prelude.{◌↔◌, IfSome, IsTrue}
 use Rattle.std.proofs.lemmas.List.{length-append, nil_from_length}
 use Rattle.std.proofs.lemmas.Bool.{false≢true}
 use Rattle.gix_hash.specs.Kind.{hex_len_of, number_of}
-use Rattle.gix_hash.specs.Prefix.{Beginning, BeginsWith}
+use Rattle.gix_hash.specs.Prefix.{KindDigits, BeginsWith}
 use Rattle.gix_hash.specs.declared.Kind.{Kind}
 use Rattle.gix_hash.specs.declared.Kind.TheVariants.{Sha1, Sha256}
 use Rattle.id_lookup.specs.FoundRun.{IsRun}
@@ -18,8 +18,8 @@ same_length xs ys rest is long =
     let none : rest ≡ [] = nil_from_length rest (omega (arith, ap length is, length-append ys rest)) in
     is ∙ ap (λ (r : List ℕ). ys ++ r) none ∙ append-nil ys
 
-module _ (prefix : Beginning) (names : List (List ℕ)) (run : Run) (is : IsRun prefix names run)
-    (begins : (id : List ℕ) → IsTrue (begins_with prefix id) ↔ BeginsWith id prefix.digits)
+module _ (prefix : KindDigits) (names : List (List ℕ)) (run : Run) (is : IsRun prefix names run)
+    (begins : (id : List ℕ) → IsTrue (begins_with id prefix) ↔ BeginsWith id prefix.digits)
     (long : (k : ℕ) → k < length names → length (get_or names k []) ≡ length prefix.digits) where
   -- the names of the run are the id
   same_within : (k : ℕ) → k < length names → run.start ≤ k → k < run.end → get_or names k [] ≡ prefix.digits
@@ -67,7 +67,7 @@ same_hex_len Sha256 Sha1 same = absurd (omega arith)
 same_hex_len Sha256 Sha256 same = refl
 
 -- so the beginning of a name is of the kind of its digits
-pub named_kind : (kind : Kind) (names : List (List ℕ)) (at : ℕ) (answer : Option Beginning) → length (get_or names at []) ≡ hex_len_of kind
+pub named_kind : (kind : Kind) (names : List (List ℕ)) (at : ℕ) (answer : Option KindDigits) → length (get_or names at []) ≡ hex_len_of kind
     → IfSome answer (λ name. hex_len_of name.kind ≡ length (get_or names at [])) → IfSome answer (λ name. name.kind ≡ kind)
 named_kind kind names at None long is = is
 named_kind kind names at (Some name) long is = same_hex_len name.kind kind (is ∙ long)

@@ -44,7 +44,3 @@ AppendsPart-id a b c letter ids k e within first last =
     (AppendsPart-behind a b c (printed letter (map id_digits (take k ids)))
     (line_of letter (id_digits (get_or ids k e)) ++ printed letter (map id_digits (drop (k + 1) ids))) first
     (AppendsPart-more b c (line_of letter (id_digits (get_or ids k e))) (printed letter (map id_digits (drop (k + 1) ids))) last))
-
--- a list with a place is not empty
-pub some_id : (ids : List ObjectId) (k : ℕ) → k < length ids → ids ≢ []
-some_id ids k within none = absurd (omega (arith, ap length none))

@@ -1,6 +1,6 @@
 //! Writing ids, a line for each.
 
-ghost use Rattle.std.specs.Prelude.{◌≡◌, ◌≢◌, ◌≤◌, [], false, true, map, length, take, OnOk, OnErr};
+ghost use Rattle.std.specs.Prelude.{◌≡◌, ◌≤◌, false, true, map, length, take, OnOk, OnErr};
 ghost use Rattle.std.specs.Io.KnownBytes.{Appends};
 ghost use Rattle.gix_hash.specs.ObjectId.{id_digits};
 ghost use Rattle.gix_hash.specs.Alphabet.{letter_of};
@@ -24,7 +24,6 @@ pub fn write_ids<W: Sink>(
     requires { W.has_failed out.old ≡ false }
     ensures written { OnOk result (Appends (W.taken out.old) (W.taken out.new) (printed (letter_of alphabet) (map id_digits ids.now))) }
     ensures stands { OnOk result (W.has_failed out.new ≡ false) }
-    ensures some { OnErr result (ids.now ≢ []) }
     ensures part { OnErr result (AppendsPart (W.taken out.old) (W.taken out.new) (printed (letter_of alphabet) (map id_digits ids.now))) }
     ensures failed { OnErr result (W.has_failed out.new ≡ true) }
 {

@@ -2,7 +2,7 @@
 use Rattle.std.specs.Prelude.{◌≡◌, ◌≤◌, ℕ, List, [], ◌∷◌, Ok, length, map}
 use Rattle.gix_hash.specs.Digits.{hex_letter}
 use Rattle.gix_hash.specs.ObjectId.{id_digits, id_kind}
-use Rattle.gix_hash.specs.Prefix.{Beginning}
+use Rattle.gix_hash.specs.Prefix.{KindDigits}
 use Rattle.gix_hash.specs.PrefixReading.{prefix_read_in}
 use Rattle.gix_hash.specs.declared.Kind.{Kind}
 use Rattle.id_lookup.specs.Runs.{matches}
@@ -17,4 +17,4 @@ Names kind found (Ambiguous ids) = (found ≡ map id_digits ids.now) × (2 ≤ l
 
 -- the name reads as a prefix, and the answer names the ids that begin with it
 abbrev pub Resolves : Kind → List (List ℕ) → List ℕ → Resolved → Type 0
-Resolves kind ids name answer = (prefix : Beginning) × (prefix_read_in kind hex_letter name ≡ Ok prefix) × Names kind (matches prefix.digits ids) answer
+Resolves kind ids name answer = (prefix : KindDigits) × (prefix_read_in kind hex_letter name ≡ Ok prefix) × Names kind (matches prefix.digits ids) answer

@@ -23,7 +23,7 @@ pub fn run_of(list: &SortedIds<'_>, prefix: &Prefix) -> Option<Run>
 /// How many ids of the list begin with a prefix, and how often the look-up asked for that.
 pub fn count_matches(list: &SortedIds<'_>, prefix: Prefix) -> (usize, u64)
     requires { length prefix.digits ≤ least_hex_len list.now }
-    ensures matches { result.0 ≡ count_by (begins_with prefix) list.now }
+    ensures matches { result.0 ≡ count_by (λ id. begins_with id prefix) list.now }
     ensures asked { result.1 ≤ 2 * bits (length list.now) }
 {
     let mut probes = Probes::new(list, prefix);

@@ -1,6 +1,6 @@
 use Rattle.gix_hash.specs.Alphabet.{letter_of}
 use Rattle.devices.specs.Writing.{OnErr-of}
-use Rattle.pipes.proofs.PrintLemmas.{AppendsPart-id, Appends-id, some_id}
+use Rattle.pipes.proofs.PrintLemmas.{AppendsPart-id, Appends-id}
 use Rattle.pipes.proofs.printing.write_ids.Goals as goal
 
 pub loop-id-preserved : goal.loop-id-preserved
@@ -12,6 +12,3 @@ loop-id-preserved g c = (
 pub returns-in_err-write_id-clause-part : goal.returns-in_err-write_id-clause-part
 returns-in_err-write_id-clause-part g c =
     OnErr-of _ _ (AppendsPart-id _ _ _ (letter_of c.args.alphabet) c.args.ids.now c.loop-id.id-index _ c.loop-id-test.true c.loop-id.invariant.0 c.in_err-write_id.ensures.part)
-
-pub returns-in_err-write_id-clause-some : goal.returns-in_err-write_id-clause-some
-returns-in_err-write_id-clause-some g c = OnErr-of _ _ (some_id c.args.ids.now c.loop-id.id-index c.loop-id-test.true)

@@ -4,7 +4,7 @@ use Rattle.std.specs.Prelude.{IsAscii}
 use Rattle.std.proofs.raw_atomic.Walks.{proved, leaves}
 use Rattle.gix_hash.specs.LentText.{EndsAs}
 use Rattle.id_digits.specs.Digits.{spelling, hex_letter}
-use Rattle.gix_hash.specs.Prefix.{Beginning}
+use Rattle.gix_hash.specs.Prefix.{KindDigits}
 use Rattle.gix_hash.specs.contracts.prefix.Prefix as id_type
 use Rattle.gix_hash.proofs.prefix.Prefix.TheLaws as id_laws
 use Rattle.gix_hash.proofs.BufferEnds.{ends}
@@ -47,10 +47,10 @@ use Rattle.gix_hash.proofs.prefix.Prefix.front_text.Met as front_text
 use Rattle.gix_hash.proofs.prefix.Prefix.hex_to_buf.Statement.{statement}
 use Rattle.gix_hash.proofs.prefix.Prefix.hex_to_buf.Code as code
 
-abbrev text : Beginning → List ℕ
+abbrev text : KindDigits → List ℕ
 text id = spelling hex_letter id.digits
 
-abbrev count : Beginning → ℕ
+abbrev count : KindDigits → ℕ
 count id = length id.digits
 
 abbrev stayed : Stays f.ended.signature.params f.ended.kept

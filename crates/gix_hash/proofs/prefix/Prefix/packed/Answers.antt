@@ -1,7 +1,7 @@
 use Rattle.std.proofs.Common.{◌≡◌, take, ap, ◌∙◌}
 use Rattle.id_digits.specs.Digits.{digits_of}
 use Rattle.gix_hash.specs.ObjectId.{id_digits}
-use Rattle.gix_hash.specs.Prefix.{beginning_of}
+use Rattle.gix_hash.specs.Prefix.{kind_digits}
 use Rattle.gix_hash.proofs.Packing.{length-first, take-padded}
 use Rattle.gix_hash.proofs.prefix.Prefix.packed.Goals as goal
 
@@ -12,4 +12,4 @@ returns c =
     let digits : take c.args.hex_len (id_digits c.padded_bytes.result) ≡ take c.args.hex_len (digits_of c.args.front.now) =
     ap (take c.args.hex_len) c.padded_bytes.ensures.digits
     ∙ take-padded c.args.hex_len _ _ (length-first c.args.hex_len c.args.front.now c.requires.digits) in
-    c.padded.ensures ∙ (λ i. beginning_of (kind i) (digits i))
+    c.padded.ensures ∙ (λ i. kind_digits (kind i) (digits i))

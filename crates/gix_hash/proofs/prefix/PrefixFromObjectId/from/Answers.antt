@@ -2,7 +2,7 @@ use Rattle.std.proofs.Common.{◌≡◌, ℕ, length, take, arith, sym, ap, ◌�
 use Rattle.std.proofs.lemmas.List.{take_all}
 use Rattle.gix_hash.specs.Kind.{hex_len_of}
 use Rattle.gix_hash.specs.ObjectId.{id_kind, id_digits}
-use Rattle.gix_hash.specs.Prefix.{beginning_of}
+use Rattle.gix_hash.specs.Prefix.{kind_digits}
 use Rattle.gix_hash.specs.declared.object_id.ObjectId.{ObjectId}
 use Rattle.gix_hash.proofs.Packing.{padded-full}
 use Rattle.gix_hash.proofs.prefix.PrefixFromObjectId.from.Goals as goal
@@ -22,4 +22,4 @@ pub returns : goal.returns
 returns c =
     let id = c.args.id in
     let is = c.len_in_hex.ensures ∙ ap hex_len_of c.kind.ensures.value in
-    c.padded.ensures ∙ ap (beginning_of (id_kind id)) (all id c.len_in_hex.result c.kind.ensures.len is)
+    c.padded.ensures ∙ ap (kind_digits (id_kind id)) (all id c.len_in_hex.result c.kind.ensures.len is)

@@ -1,7 +1,7 @@
 use Rattle.std.proofs.Common.{◌≡◌, ◌+◌, ◌<◌, ◌≤◌, [], length, map, take, slice_index_or, refl, subst, sym, ap, ◌∙◌, arith}
 use Rattle.gix_hash.specs.Kind.{hex_len_of}
 use Rattle.gix_hash.specs.Oid.{oid_digits, oid_kind}
-use Rattle.gix_hash.specs.Prefix.{Beginning}
+use Rattle.gix_hash.specs.Prefix.{KindDigits}
 use Rattle.std.proofs.lemmas.List.{length-map}
 use Rattle.id_lookup.specs.Index.{IsIndex}
 use Rattle.id_lookup.specs.ShortNames.{Parts}
@@ -46,14 +46,14 @@ made g c =
     cc
 
 pub returns-clause-kind : goal.returns-clause-kind
-returns-clause-kind g c = ap (λ (prefix : Beginning). prefix.kind) (made g c) ∙ kind g c
+returns-clause-kind g c = ap (λ (prefix : KindDigits). prefix.kind) (made g c) ∙ kind g c
 
 pub returns-clause-name : goal.returns-clause-name
 returns-clause-name g c =
     let all = (index g c).kinds c.args.at [] (omega arith) c.requires.in_range in
     shortest c.args.self.now.ids c.args.least c.args.at c.digits_before.result c.digits_behind.result c.max.result c.unwrap.result.digits
     c.requires.in_range (before g c) (behind g c) (omega (arith, c.max.ensures, c.max-neighbours.ensures)) (omega (arith, all, fits g c))
-    (ap (λ (prefix : Beginning). prefix.digits) (made g c) ∙ ap (take c.max.result) (digits g c))
+    (ap (λ (prefix : KindDigits). prefix.digits) (made g c) ∙ ap (take c.max.result) (digits g c))
 
 pub returns-clause-run : goal.returns-clause-run
 returns-clause-run g c =

@@ -2,7 +2,7 @@ use Rattle.std.proofs.Common.{◌≡◌, ◌+◌, ◌<◌, ◌≤◌, [], length
 use Rattle.std.proofs.lemmas.List.{length-map}
 use Rattle.gix_hash.specs.Kind.{hex_len_of}
 use Rattle.gix_hash.specs.Oid.{oid_digits, oid_kind}
-use Rattle.gix_hash.specs.Prefix.{Beginning}
+use Rattle.gix_hash.specs.Prefix.{KindDigits}
 use Rattle.id_lookup.specs.ShortNames.{IsShortestNameFrom, Parts}
 use Rattle.id_lookup.proofs.Neighbours.{has_room, shortest}
 use Rattle.id_lookup.proofs.UniqueRun.{name_run}
@@ -31,7 +31,7 @@ returns-clause-name g c =
     rw (← c.self.view_is) (shortest ids c.args.least c.args.at c.digits_before.result c.digits_behind.result c.max-hex_len.result c.unwrap.result.digits inside
     c.digits_before.ensures back (omega (arith, c.max-hex_len.ensures, c.max-neighbours.ensures))
     (omega (arith, few, c.id_at-id.ensures.len, ap length (c.id_at-id.ensures.digits [])))
-    (ap (λ (prefix : Beginning). prefix.digits) made ∙ ap (take c.max-hex_len.result) (c.id_at-id.ensures.digits [])))
+    (ap (λ (prefix : KindDigits). prefix.digits) made ∙ ap (take c.max-hex_len.result) (c.id_at-id.ensures.digits [])))
 
 pub returns-clause-run : goal.returns-clause-run
 returns-clause-run g c =
