@@ -1,2 +1,3 @@
 mod PipeLemmas
 mod PrintLemmas
+mod SealedLemmas

@@ -1,7 +1,13 @@
-//! Lines of ids, and streams of bytes that are hashed or sealed, from a source to a sink.
+//! Lines of ids, and streams of bytes, from a source to a sink, that are hashed, sealed with their
+//! digest, or checked to be sealed.
 #![tactic(auto)]
 
+mod checking;
+pub mod laws;
 mod printing;
+
+pub use checking::check;
+pub use printing::{write_id, write_ids};
 
 ghost use Rattle.std.specs.Prelude.{◌≡◌, ◌≢◌, ◌↔◌, ℕ, List, false, true, OnOk, IfOk, IfErr, IsErrOf};
 ghost use Rattle.std.specs.Io.KnownBytes.{Appends};
@@ -11,11 +17,10 @@ ghost use Rattle.devices.specs.Source.{GivesAll};
 
 use devices::{MAX_LEN, PIECE_LEN, Sink, Source, WriteFailed, write_all};
 use gix_hash::{Alphabet, Kind, ObjectId, hasher};
-pub use printing::{write_id, write_ids};
 use std::io;
 use thiserror::Error as ThisError;
 
-/// Why a stream was not hashed or sealed to its end.
+/// Why a stream was not hashed, sealed or checked to its end.
 #[derive(Clone, Copy, PartialEq, Eq, Debug, ThisError)]
 pub enum PipeError {
     /// A read answered an error.
