@@ -18,16 +18,16 @@ const MAX_DIGEST_LEN: usize = 32;
 const BUFFER_LEN: usize = PIECE_LEN + MAX_DIGEST_LEN;
 
 /// Reads the source to its end, and tells whether the bytes that it gave end with the digest of all
-/// before it, as [`seal`](crate::seal) writes them: 20 bytes for SHA-1, 32 for SHA-256. So Git's packs and their
-/// indexes end, its commit-graphs and its multi-pack-indexes.
+/// before it, as [`seal`](crate::seal) writes them: 20 bytes for SHA-1, 32 for SHA-256. So Git's
+/// packs end, their indexes, its commit-graphs and its multi-pack-indexes.
 ///
-/// Where they do, the answer is 1, and the digest's line is written, its lowercase hex digits and a
-/// line feed. Where they do not, also where they are fewer than a digest has, the answer is 0, and
-/// the sink is as it was.
+/// Where they do, the answer is 1, and the digest's line is written: its lowercase hex digits and a
+/// line feed. Where they do not, also where they are fewer bytes than a digest has, the answer is 0,
+/// and the sink is as it was.
 ///
-/// The refusals come exactly where their causes hold, as those of [`hash_all`](crate::hash_all) do. The sink is as it
-/// was but under [`PipeError::Output`], under which it took a proper beginning of the line. Source
-/// and sink must not have failed before.
+/// The refusals come exactly where their causes hold, as those of [`hash_all`](crate::hash_all) do.
+/// The sink is as it was but under [`PipeError::Output`], under which it took a proper beginning of
+/// the line. Source and sink must not have failed before.
 pub fn check<R: Source, W: Sink>(input: &mut R, out: &mut W, kind: Kind) -> Result<usize, PipeError>
     requires input { R.has_failed input.old ≡ false }
     requires output { W.has_failed out.old ≡ false }

@@ -6,17 +6,16 @@ mod checking;
 pub mod laws;
 mod printing;
 
-pub use checking::check;
-pub use printing::{write_id, write_ids};
-
 ghost use Rattle.std.specs.Prelude.{◌≡◌, ◌≢◌, ◌↔◌, ℕ, List, false, true, OnOk, IfOk, IfErr, IsErrOf};
 ghost use Rattle.std.specs.Io.KnownBytes.{Appends};
 ghost use Rattle.gix_hash.specs.Hashing.{digest};
 ghost use Rattle.pipes.specs.Pipe.{digest_line, sealed, HashingStops, SealingStops};
 ghost use Rattle.devices.specs.Source.{GivesAll};
 
+pub use checking::check;
 use devices::{MAX_LEN, PIECE_LEN, Sink, Source, WriteFailed, write_all};
 use gix_hash::{Alphabet, Kind, ObjectId, hasher};
+pub use printing::{write_id, write_ids};
 use std::io;
 use thiserror::Error as ThisError;
 
