@@ -7,19 +7,11 @@ use Rattle.commands.specs.declared.command.Command.TheVariants.{Find, FindChange
 use Rattle.pipes.specs.Printing.{printed}
 use Rattle.list_search.specs.Finding.{IsFound}
 use Rattle.pipes.specs.Pipe.{digest_line, sealed}
-use Rattle.commands.specs.Running.{AppendsAtMost, IsFoundAtMost, Writes, Does, DoesAtMost}
+use Rattle.command_line.specs.Flushed.{all_written}
+use Rattle.commands.specs.Running.{IsFoundAtMost, Writes, Does, DoesAtMost}
 use Rattle.devices.specs.Writing.{Appends-kept}
 
--- all of the bytes are a beginning of them
-all_written : (a b c : Option (List ℕ)) (bytes : List ℕ) → Appends a b bytes → Keeps b c → AppendsAtMost a c bytes
-all_written a b c bytes written kept = record {
-  part = bytes;
-  rest = [];
-  is_beginning = sym (append-nil bytes);
-  written = Appends-kept a b c bytes written kept;
-}
-
--- and all lines of theirs
+-- all lines are a beginning of theirs, or all
 all_lines : {E : Type 0} (letter : ℕ → ℕ) (answer : Result (List (List ℕ)) E) (a b c : Option (List ℕ)) (count : ℕ) → IsFound letter answer a b count
     → Keeps b c → IsFoundAtMost letter answer a c
 all_lines letter answer a b c count found kept = record {

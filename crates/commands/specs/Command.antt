@@ -1,5 +1,5 @@
 -- What the words of a command line ask for.
-use Rattle.std.specs.Prelude.{◌≡◌, ◌≢◌, ◌⊎◌, ℕ, ◌^◌, ◌<◌, ◌==◌, if◌then◌else◌, List, [], ◌∷◌, codes, map, Result, Ok, Err}
+use Rattle.std.specs.Prelude.{◌≡◌, ◌≢◌, ◌⊎◌, ℕ, ◌^◌, ◌<◌, List, [], ◌∷◌, codes, map}
 use Rattle.std.specs.Str.Parse.{IsNumeral, digits_value, without_leading_plus}
 use denote.Ref.{Bor}
 use Rattle.gix_hash.specs.Kind.{IsNameOf, IsNoName}
@@ -58,11 +58,6 @@ RefusesWords words Usage = IsNoCommand words
 RefusesWords words (BadKind text) = TakesKind words text.now × IsNoName text.now
 RefusesWords words (BadNumber text) = (kind : Kind) × (name : List ℕ) × (path : List ℕ) × (words ≡ codes "hash-file" ∷ name ∷ text.now ∷ path ∷ [])
     × IsNameOf name kind × ((n : ℕ) → ¬ IsNumberOf text.now n)
-
--- the status of the program: 0 with a match, 1 without one, 2 under a refusal
-abbrev pub status_of : {E : Type 0} → Result ℕ E → ℕ
-status_of (Ok count) = if count == 0 then 1 else 0
-status_of (Err e) = 2
 
 -- the texts that words refer to
 abbrev pub texts_of : List (Bor (List ℕ)) → List (List ℕ)

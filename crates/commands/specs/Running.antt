@@ -1,6 +1,7 @@
 -- What a command does with its input, and what it refuses.
 use Rattle.std.specs.Prelude.{◌≡◌, ℕ, ◌^◌, ◌<◌, ◌≤◌, Bool, true, false, Option, List, ◌++◌, length, IfSome, Result, Ok, Err}
 use Rattle.std.specs.Io.KnownBytes.{Appends}
+use Rattle.command_line.specs.Flushed.{AppendsAtMost}
 use Rattle.gix_hash.specs.Digits.{hex_letter, reverse_letter}
 use Rattle.commands.specs.declared.command.Command.{Command}
 use Rattle.commands.specs.declared.command.Command.TheVariants.{Find, FindChange, FindIn, Hash, HashFile, Seal}
@@ -32,13 +33,6 @@ refusal_from_source from.Memory = command.Memory
 refusal_from_source from.Output = command.Output
 refusal_from_source from.Input = command.Input
 refusal_from_source from.TooMuch = command.TooMuch
-
--- a beginning of the bytes was written, or all
-pub record AppendsAtMost (old new : Option (List ℕ)) (whole : List ℕ) : Type 0 where
-  pub part : List ℕ
-  pub rest : List ℕ
-  pub is_beginning : whole ≡ part ++ rest
-  pub written : Appends old new part
 
 -- the answer is ids, of whose lines a beginning was written, or all
 pub record IsFoundAtMost {E : Type 0} (letter : ℕ → ℕ) (answer : Result (List (List ℕ)) E) (old new : Option (List ℕ)) : Type 0 where

@@ -1,8 +1,8 @@
-//! The command line, and the status with which the program ends.
+//! The command line.
 
 ghost use Rattle.std.specs.Prelude.{◌≡◌, [], ◌∷◌, IfOk, IfErr};
 ghost use Rattle.gix_hash.specs.Kind.{IsNameOf};
-ghost use Rattle.commands.specs.Command.{AsksFor, IsNumberOf, RefusesKind, RefusesNumber, RefusesWords, status_of, texts_of};
+ghost use Rattle.commands.specs.Command.{AsksFor, IsNumberOf, RefusesKind, RefusesNumber, RefusesWords, texts_of};
 
 use gix_hash::Kind;
 use std::fmt;
@@ -162,17 +162,5 @@ fn read_count<'a>(word: &'a str) -> Result<u64, ArgError<'a>>
     match word.parse() {
         Ok(count) => Ok(count),
         Err(_) => Err(ArgError::BadNumber(word)),
-    }
-}
-
-/// The status for an answer that counts the ids written: 0 where there is one, 1 where there is
-/// none, and 2 for a refusal.
-pub fn exit_status<E>(answer: &Result<usize, E>) -> u8
-    ensures { result ≡ status_of answer.now }
-{
-    match answer {
-        Ok(0) => 1,
-        Ok(_) => 0,
-        Err(_) => 2,
     }
 }

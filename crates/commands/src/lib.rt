@@ -7,5 +7,5 @@
 mod command;
 mod running;
 
-pub use command::{ArgError, Command, exit_status, read_command};
+pub use command::{ArgError, Command, read_command};
 pub use running::{CommandError, run_command};

@@ -7,24 +7,23 @@
 #![tactic(auto)]
 
 ghost use Rattle.std.specs.Prelude.{◌≡◌};
-ghost use Rattle.std.specs.Process.{exit_status as ended_with};
-ghost use Rattle.commands.specs.Command.{status_of};
 ghost use Rattle.oidtool.specs.declared.Failure.TheVariants as failure;
 ghost use Rattle.commands.specs.declared.CommandError.TheVariants as error;
 
-use commands::{ArgError, CommandError, exit_status, read_command, run_command};
+use command_line::{WordsError, own_words, told};
+use commands::{ArgError, CommandError, read_command, run_command};
 use devices::Plain;
 use std::alloc::AllocError;
+use std::io;
 use std::io::BufWriter;
 use std::process::ExitCode;
-use std::rt::{Env, Files};
-use std::{env, io};
+use std::rt::Files;
 use thiserror::Error as ThisError;
 
 fn main(rt: HostRuntime) -> ExitCode {
     match own_words(&rt) {
         Ok(words) => told(&rt, run(&rt, &words)),
-        Err(why) => told(&rt, Err(why)),
+        Err(why) => told(&rt, Err(Failure::from(why))),
     }
 }
 
@@ -45,22 +44,21 @@ impl From<CommandError> for Failure<'_> {
     }
 }
 
+// Words that are no text are refused as no command.
+impl From<WordsError> for Failure<'_> {
+    fn from(error: WordsError) -> Self {
+        match error {
+            WordsError::NotText => Failure::Words(ArgError::Usage),
+            WordsError::Memory => Failure::Command(CommandError::Memory),
+        }
+    }
+}
+
 impl From<AllocError> for Failure<'_> {
     ghost from_gives = { λ _ made. made ≡ failure.Command error.Memory };
 
     fn from(_error: AllocError) -> Self {
         Failure::Command(CommandError::Memory)
-    }
-}
-
-/// The words behind the program's name. Words that are no text are refused as no command.
-fn own_words(rt: &(impl Env + AllocGlobal)) -> Result<Vec<String>, Failure<'static>> {
-    match env::args(rt) {
-        Ok(args) => Ok(args.skip(1).collect(rt.alloc())?),
-        Err(error) => match error.kind() {
-            io::ErrorKind::OutOfMemory => Err(Failure::Command(CommandError::Memory)),
-            _ => Err(Failure::Words(ArgError::Usage)),
-        },
     }
 }
 
@@ -78,14 +76,4 @@ fn run<'a>(
     let mut input = Plain::new(rt.reader());
     let mut out = Plain::new(writer);
     Ok(run_command(rt, rt.alloc(), command, &mut input, &mut out)?)
-}
-
-/// Tells a refusal on standard error, and gives the status of the answer.
-fn told(rt: &impl Eprint, answer: Result<usize, Failure<'_>>) -> ExitCode
-    ensures { ended_with result ≡ status_of answer.entry }
-{
-    if let Err(why) = &answer {
-        let _ = rt.eprintln(why);
-    }
-    ExitCode::from(exit_status(&answer))
 }

@@ -13,7 +13,8 @@ mod sources;
 mod watched;
 
 use crate::expecting::{expect_bytes, expect_printed, expect_shown};
-use commands::{ArgError, exit_status, read_command};
+use command_line::exit_status;
+use commands::{ArgError, read_command};
 use devices::IntoSlice;
 use gix_hash::{Alphabet, decode, prefix};
 use list_search::{FindError, find, find_change, finding_means};

@@ -1,0 +1,36 @@
+//! The words that a program is started with.
+
+ghost use Rattle.std.specs.Prelude.{◌≡◌};
+ghost use Rattle.command_line.specs.declared.words.WordsError.TheVariants.{Memory};
+
+use std::alloc::AllocError;
+use std::rt::Env;
+use std::{env, io};
+
+/// Why a program has no words.
+#[derive(Clone, Copy, PartialEq, Eq, Debug)]
+pub enum WordsError {
+    /// Some word is no text in UTF-8.
+    NotText,
+    /// Memory ran out.
+    Memory,
+}
+
+impl From<AllocError> for WordsError {
+    ghost from_gives = { λ _ error. error ≡ Memory };
+
+    fn from(_error: AllocError) -> Self {
+        WordsError::Memory
+    }
+}
+
+/// The words behind the program's name.
+pub fn own_words(rt: &(impl Env + AllocGlobal)) -> Result<Vec<String>, WordsError> {
+    match env::args(rt) {
+        Ok(args) => Ok(args.skip(1).collect(rt.alloc())?),
+        Err(error) => match error.kind() {
+            io::ErrorKind::OutOfMemory => Err(WordsError::Memory),
+            _ => Err(WordsError::NotText),
+        },
+    }
+}
