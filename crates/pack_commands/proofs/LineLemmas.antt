@@ -1,0 +1,22 @@
+-- The texts of a line, one behind the other.
+use Rattle.std.proofs.Common.{◌≡◌, ℕ, List, [], ◌∷◌, ◌++◌, ap, ◌∙◌, append_assoc}
+use Rattle.std.specs.Prelude.{decimal}
+use Rattle.gix_hash.specs.Digits.{hex_letter, spelling}
+use Rattle.pack_commands.specs.Lines.{crc_text, line_of}
+
+-- what was put one behind the other is a line
+pub line_parts : (offset id crc l1 l2 l3 l4 l5 l6 : List ℕ) → l1 ≡ offset → l2 ≡ l1 ++ 32 ∷ [] → l3 ≡ l2 ++ id → l4 ≡ l3 ++ 32 ∷ 40 ∷ [] → l5 ≡ l4 ++ crc
+    → l6 ≡ l5 ++ 41 ∷ 10 ∷ [] → l6 ≡ line_of offset id crc
+unfolding line_of
+line_parts offset id crc l1 l2 l3 l4 l5 l6 e1 e2 e3 e4 e5 e6 =
+    let h3 : l3 ≡ offset ++ 32 ∷ id = e3 ∙ ap (λ (l : List ℕ). l ++ id) (e2 ∙ ap (λ (l : List ℕ). l ++ 32 ∷ []) e1) ∙ append_assoc offset (32 ∷ []) id in
+    let h5 : l5 ≡ offset ++ 32 ∷ id ++ 32 ∷ 40 ∷ crc =
+    e5 ∙ ap (λ (l : List ℕ). l ++ crc) (e4 ∙ ap (λ (l : List ℕ). l ++ 32 ∷ 40 ∷ []) h3) ∙ append_assoc (offset ++ 32 ∷ id) (32 ∷ 40 ∷ []) crc in
+    e6 ∙ ap (λ (l : List ℕ). l ++ 41 ∷ 10 ∷ []) h5
+
+-- the line of the same offset, id and CRC
+pub same_line : (offset offset' : ℕ) (id id' : List ℕ) (crc crc' : ℕ) → offset ≡ offset' → id ≡ id' → crc ≡ crc'
+    → line_of (decimal offset) (spelling hex_letter id) (crc_text crc) ≡ line_of (decimal offset') (spelling hex_letter id') (crc_text crc')
+same_line offset offset' id id' crc crc' first second third =
+    ap (λ n. line_of (decimal n) (spelling hex_letter id) (crc_text crc)) first ∙ ap (λ (ds : List ℕ). line_of (decimal offset') (spelling hex_letter ds) (crc_text crc)) second
+    ∙ ap (λ n. line_of (decimal offset') (spelling hex_letter id') (crc_text n)) third

@@ -1,0 +1,18 @@
+use Rattle.std.proofs.Common.{subst}
+use Rattle.std.specs.Io.KnownBytes.{Appends}
+use Rattle.devices.specs.Writing.{AppendsPart, OnErr-of}
+use Rattle.pack_commands.specs.Lines.{index_line}
+use Rattle.pack_commands.proofs.Places.{Appends-line, AppendsPart-line}
+use Rattle.pack_commands.proofs.showing.show_run.Goals as goal
+
+pub loop-at-preserved : goal.loop-at-preserved
+loop-at-preserved g c = (
+  Appends-line _ _ _ (index_line c.args.file.now.kind c.args.file.now.bytes) c.args.start c.loop-at.at c.loop-at.auto.at c.loop-at.invariant.0
+      (subst (Appends _ _) c.put_line-len.ensures.text c.in_ok-write_all.ensures.written),
+  c.in_ok-write_all.ensures.stands,
+)
+
+pub returns-in_err-write_all-clause-part : goal.returns-in_err-write_all-clause-part
+returns-in_err-write_all-clause-part g c =
+    OnErr-of _ _ (AppendsPart-line _ _ _ (index_line c.args.file.now.kind c.args.file.now.bytes) c.args.start c.loop-at.at c.args.end
+    c.loop-at.auto.at c.loop-at-test.true c.loop-at.invariant.0 (subst (AppendsPart _ _) c.put_line-len.ensures.text c.in_err-write_all.ensures.part))

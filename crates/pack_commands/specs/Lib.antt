@@ -1,0 +1,2 @@
+-- What the commands over pack indexes print.
+pub mod Lines

@@ -1,0 +1,85 @@
+//! Lines of a pack index, put together in a buffer.
+
+ghost use Rattle.std.specs.Prelude.{◌≡◌, ◌+◌, ◌<◌, ◌≤◌, ◌++◌, decimal, length, take};
+ghost use Rattle.gix_hash.specs.Digits.{hex_letter, spelling};
+ghost use Rattle.gix_hash.specs.Oid.{oid_digits};
+ghost use Rattle.pack_index.specs.Format.{names_in};
+ghost use Rattle.pack_commands.specs.Lines.{crc_text, index_line, line_of};
+
+use gix_hash::{Alphabet, oid};
+use hex::encode_to_slice;
+use itoa::Buffer;
+use pack_index::File;
+
+/// The bytes of the longest line: an offset of 20 digits, an id of 64 and a CRC of 8, and five bytes
+/// between and behind them.
+pub(crate) const MAX_LINE_LEN: usize = 97;
+
+// The most digits of an id.
+const MAX_ID_LEN: usize = 64;
+
+// The digits of a CRC.
+const CRC_LEN: usize = 8;
+
+/// Puts the line of a place into the front of the buffer, and answers how many bytes it has.
+pub(crate) fn put_line(file: &File<'_>, at: usize, line: &mut [u8]) -> usize
+    requires place { at < length (names_in file.now.kind file.now.bytes) }
+    requires room { length line.old ≡ MAX_LINE_LEN }
+    ensures len { result ≤ MAX_LINE_LEN }
+    ensures text { take result line.new ≡ index_line file.now.kind file.now.bytes at }
+{
+    let offset = file.pack_offset_at_index(at);
+    let id = file.oid_at_index(at);
+    let crc = file.crc32_at_index(at);
+    put_name(offset, id, crc, line)
+}
+
+// Puts the line of a name into the front of the buffer, and answers how many bytes it has.
+fn put_name(offset: u64, id: oid<'_>, crc: u32, line: &mut [u8]) -> usize
+    requires { length line.old ≡ MAX_LINE_LEN }
+    ensures len { result ≤ MAX_LINE_LEN }
+    ensures text { take result line.new ≡ line_of (decimal offset) (spelling hex_letter (oid_digits id.entry)) (crc_text crc) }
+{
+    let mut number = Buffer::new();
+    let offset = number.format(offset).as_bytes();
+    let offset_end = put(line, 0, offset);
+    let id_at = put(line, offset_end, b" ");
+    let id_end = put_id(line, id_at, id);
+    let crc_at = put(line, id_end, b" (");
+    let crc_end = put_crc(line, crc_at, crc);
+    put(line, crc_end, b")\n")
+}
+
+// Puts a piece into the buffer from a place on, and answers where it ends.
+fn put(line: &mut [u8], at: usize, piece: &[u8]) -> usize
+    requires { at + length piece.now ≤ length line.old }
+    ensures end { result ≡ at + length piece.now }
+    ensures text { take result line.new ≡ take at line.old ++ piece.now }
+{
+    let end = at + piece.len();
+    line[at..end].copy_from_slice(piece);
+    end
+}
+
+// The same of an id's digits in hex.
+fn put_id(line: &mut [u8], at: usize, id: oid<'_>) -> usize
+    requires { at + MAX_ID_LEN ≤ length line.old }
+    ensures end { result ≡ at + length (oid_digits id.entry) }
+    ensures most { result ≤ at + MAX_ID_LEN }
+    ensures text { take result line.new ≡ take at line.old ++ spelling hex_letter (oid_digits id.entry) }
+{
+    Alphabet::Hex.put_id(id, &mut line[at..]);
+    at + id.kind().len_in_hex()
+}
+
+// The same of a CRC's eight digits in hex.
+#[tactic(auto, unfolding(crate::specs::Lines::crc_text))]
+fn put_crc(line: &mut [u8], at: usize, crc: u32) -> usize
+    requires { at + CRC_LEN ≤ length line.old }
+    ensures end { result ≡ at + CRC_LEN }
+    ensures text { take result line.new ≡ take at line.old ++ crc_text crc }
+{
+    let end = at + CRC_LEN;
+    encode_to_slice(crc.to_be_bytes(), &mut line[at..end]).unwrap();
+    end
+}
