@@ -1,2 +1,3 @@
--- What the commands over pack indexes print.
+-- What the words of a command ask for, and what the commands over pack indexes print.
+pub mod Command
 pub mod Lines

@@ -1,10 +1,13 @@
-//! The commands over pack indexes: what they print of an index, told by its bytes.
+//! The commands of `packtool` over devices and memory that are handed in, and what they print of a
+//! pack index, told by its bytes.
 //!
-//! [`show`] writes a line for each name of an index as `git show-index` does, and [`find`] those of
-//! the names that begin with a prefix.
+//! [`read_command`] reads the words of a command line. [`show`] writes a line for each name of an
+//! index as `git show-index` does, and [`find`] those of the names that begin with a prefix.
 #![tactic(auto)]
 
+mod command;
 mod lines;
 mod showing;
 
+pub use command::{ArgError, Command, read_command};
 pub use showing::{find, show};
