@@ -1,3 +1,4 @@
 mod CommandLemmas
 mod LineLemmas
 mod Places
+mod ShortNames

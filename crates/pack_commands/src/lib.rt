@@ -3,11 +3,19 @@
 //!
 //! [`read_command`] reads the words of a command line. [`show`] writes a line for each name of an
 //! index as `git show-index` does, and [`find`] those of the names that begin with a prefix.
+//! [`names`] writes the shortest name of each.
 #![tactic(auto)]
 
 mod command;
+pub mod laws;
 mod lines;
+mod naming;
+mod over_bytes;
+mod reading;
 mod showing;
 
 pub use command::{ArgError, Command, read_command};
+pub use naming::names;
+pub use over_bytes::{IndexError, find_in, names_in, show_in};
+pub use reading::{ReadError, read_all};
 pub use showing::{find, show};

@@ -5,6 +5,7 @@ ghost use Rattle.gix_hash.specs.Digits.{hex_letter, spelling};
 ghost use Rattle.gix_hash.specs.Oid.{oid_digits};
 ghost use Rattle.pack_index.specs.Format.{names_in};
 ghost use Rattle.pack_commands.specs.Lines.{crc_text, index_line, line_of};
+ghost use Rattle.pack_commands.specs.Names.{line_of_name};
 
 use gix_hash::{Alphabet, oid};
 use hex::encode_to_slice;
@@ -48,6 +49,21 @@ fn put_name(offset: u64, id: oid<'_>, crc: u32, line: &mut [u8]) -> usize
     let crc_at = put(line, id_end, b" (");
     let crc_end = put_crc(line, crc_at, crc);
     put(line, crc_end, b")\n")
+}
+
+/// Puts the first digits of an id, a blank, the id and a line feed into the front of the buffer, and
+/// answers how many bytes they are.
+pub(crate) fn put_names(id: oid<'_>, len: usize, line: &mut [u8]) -> usize
+    requires digits { len ≤ length (oid_digits id) }
+    requires room { 130 ≤ length line.old }
+    ensures len { result ≤ 130 }
+    ensures text { take result line.new ≡ line_of_name (spelling hex_letter (take len (oid_digits id.entry))) (spelling hex_letter (oid_digits id.entry)) }
+{
+    // The id is cut to its first digits by what is put behind them.
+    put_id(line, 0, id);
+    let id_at = put(line, len, b" ");
+    let id_end = put_id(line, id_at, id);
+    put(line, id_end, b"\n")
 }
 
 // Puts a piece into the buffer from a place on, and answers where it ends.
