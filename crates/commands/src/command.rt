@@ -131,7 +131,8 @@ fn read_three_words<'a>(
     path: &'a str,
 ) -> Result<Command<'a>, ArgError<'a>>
     ensures asked { IfOk result (AsksFor (name.now ∷ kind.now ∷ count.now ∷ path.now ∷ [])) }
-    ensures refused { IfErr result (RefusesWords (name.now ∷ kind.now ∷ count.now ∷ path.now ∷ [])) }
+    ensures refused { IfErr result (RefusesWords
+        (name.now ∷ kind.now ∷ count.now ∷ path.now ∷ [])) }
 {
     match name {
         "hash-file" => Ok(Command::HashFile {

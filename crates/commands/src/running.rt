@@ -116,18 +116,25 @@ pub fn run_command<F: Files, A: Allocator + Copy, R: Source, W: BufferedSink>(
 ) -> Result<usize, CommandError>
     requires input { R.has_failed input.old ≡ false }
     requires output { W.has_failed out.old ≡ false }
-    ensures done { IfOk result (Does command.entry (R.remaining input.old) (W.taken out.old) (W.taken out.new)) }
+    ensures done { IfOk result (Does command.entry (R.remaining input.old) (W.taken out.old)
+        (W.taken out.new)) }
     ensures flushed { OnOk result (W.kept_back out.new ≡ []) }
     ensures refused { IfErr result (Refuses command.entry (R.remaining input.old)) }
-    ensures memory { IsErrOf result CommandError.Memory → IfSome (R.remaining input.old) (λ bytes. bytes ≢ []) }
-    ensures untouched { IfErr result (λ e. e ≢ CommandError.Output → copies command.entry ≡ false → out.new ≡ out.old) }
-    ensures copied { IfErr result (λ e. e ≢ CommandError.Output → HasCopied command.entry e (R.remaining input.old) (R.remaining input.new) (W.taken out.old) (W.taken out.new)) }
-    ensures input { reads_source command.entry ≡ true → (IsErrOf result CommandError.Input ↔ (R.has_failed input.new ≡ true)) }
+    ensures memory { IsErrOf result CommandError.Memory
+        → IfSome (R.remaining input.old) (λ bytes. bytes ≢ []) }
+    ensures untouched { IfErr result (λ e. e ≢ CommandError.Output → copies command.entry ≡ false
+        → out.new ≡ out.old) }
+    ensures copied { IfErr result (λ e. e ≢ CommandError.Output
+        → HasCopied command.entry e (R.remaining input.old) (R.remaining input.new)
+        (W.taken out.old) (W.taken out.new)) }
+    ensures input { reads_source command.entry ≡ true
+        → (IsErrOf result CommandError.Input ↔ (R.has_failed input.new ≡ true)) }
     ensures unread { reads_source command.entry ≡ false → input.new ≡ input.old }
     ensures output { IsErrOf result CommandError.Output ↔ (W.has_failed out.new ≡ true) }
-    ensures part { IsErrOf result CommandError.Output → DoesAtMost command.entry (R.remaining input.old) (W.taken out.old) (W.taken out.new) }
+    ensures part { IsErrOf result CommandError.Output
+        → DoesAtMost command.entry (R.remaining input.old) (W.taken out.old) (W.taken out.new) }
 {
-    let count = answer(files, alloc, command, input, out)?;
+    let count = run_unflushed(files, alloc, command, input, out)?;
     match out.flush() {
         Ok(()) => Ok(count),
         Err(_) => Err(CommandError::Output),
@@ -135,7 +142,7 @@ pub fn run_command<F: Files, A: Allocator + Copy, R: Source, W: BufferedSink>(
 }
 
 // As `run_command`, but for the flush.
-fn answer<F: Files, A: Allocator + Copy, R: Source, W: Sink>(
+fn run_unflushed<F: Files, A: Allocator + Copy, R: Source, W: Sink>(
     files: &F,
     alloc: A,
     command: Command<'_>,
@@ -144,15 +151,22 @@ fn answer<F: Files, A: Allocator + Copy, R: Source, W: Sink>(
 ) -> Result<usize, CommandError>
     requires input { R.has_failed input.old ≡ false }
     requires output { W.has_failed out.old ≡ false }
-    ensures done { IfOk result (Does command.entry (R.remaining input.old) (W.taken out.old) (W.taken out.new)) }
+    ensures done { IfOk result (Does command.entry (R.remaining input.old) (W.taken out.old)
+        (W.taken out.new)) }
     ensures refused { IfErr result (Refuses command.entry (R.remaining input.old)) }
-    ensures memory { IsErrOf result CommandError.Memory → IfSome (R.remaining input.old) (λ bytes. bytes ≢ []) }
-    ensures untouched { IfErr result (λ e. e ≢ CommandError.Output → copies command.entry ≡ false → out.new ≡ out.old) }
-    ensures copied { IfErr result (λ e. e ≢ CommandError.Output → HasCopied command.entry e (R.remaining input.old) (R.remaining input.new) (W.taken out.old) (W.taken out.new)) }
-    ensures input { reads_source command.entry ≡ true → (IsErrOf result CommandError.Input ↔ (R.has_failed input.new ≡ true)) }
+    ensures memory { IsErrOf result CommandError.Memory
+        → IfSome (R.remaining input.old) (λ bytes. bytes ≢ []) }
+    ensures untouched { IfErr result (λ e. e ≢ CommandError.Output → copies command.entry ≡ false
+        → out.new ≡ out.old) }
+    ensures copied { IfErr result (λ e. e ≢ CommandError.Output
+        → HasCopied command.entry e (R.remaining input.old) (R.remaining input.new)
+        (W.taken out.old) (W.taken out.new)) }
+    ensures input { reads_source command.entry ≡ true
+        → (IsErrOf result CommandError.Input ↔ (R.has_failed input.new ≡ true)) }
     ensures unread { reads_source command.entry ≡ false → input.new ≡ input.old }
     ensures output { IsErrOf result CommandError.Output ↔ (W.has_failed out.new ≡ true) }
-    ensures part { IsErrOf result CommandError.Output → DoesAtMost command.entry (R.remaining input.old) (W.taken out.old) (W.taken out.new) }
+    ensures part { IsErrOf result CommandError.Output
+        → DoesAtMost command.entry (R.remaining input.old) (W.taken out.old) (W.taken out.new) }
 {
     match command {
         Command::Find { prefix } => Ok(find_from(alloc, prefix, input, out)?),
@@ -173,7 +187,7 @@ fn answer<F: Files, A: Allocator + Copy, R: Source, W: Sink>(
     }
 }
 
-// As `answer`, of `Command::FindChange`. A refusal that was settled before the input's end is told
+// As `run_unflushed`, of `Command::FindChange`. A refusal that was settled before the input's end is told
 // behind that.
 fn find_change_to_end<A: Allocator, R: Source, W: Sink>(
     alloc: A,
@@ -183,13 +197,17 @@ fn find_change_to_end<A: Allocator, R: Source, W: Sink>(
 ) -> Result<usize, CommandError>
     requires input { R.has_failed input.old ≡ false }
     requires output { W.has_failed out.old ≡ false }
-    ensures done { IfOk result (Does (FindChange letters.entry) (R.remaining input.old) (W.taken out.old) (W.taken out.new)) }
+    ensures done { IfOk result (Does (FindChange letters.entry) (R.remaining input.old)
+        (W.taken out.old) (W.taken out.new)) }
     ensures refused { IfErr result (Refuses (FindChange letters.entry) (R.remaining input.old)) }
-    ensures memory { IsErrOf result CommandError.Memory → IfSome (R.remaining input.old) (λ bytes. bytes ≢ []) }
+    ensures memory { IsErrOf result CommandError.Memory
+        → IfSome (R.remaining input.old) (λ bytes. bytes ≢ []) }
     ensures untouched { IfErr result (λ e. e ≢ CommandError.Output → out.new ≡ out.old) }
     ensures input { IsErrOf result CommandError.Input ↔ (R.has_failed input.new ≡ true) }
     ensures output { IsErrOf result CommandError.Output ↔ (W.has_failed out.new ≡ true) }
-    ensures part { IsErrOf result CommandError.Output → DoesAtMost (FindChange letters.entry) (R.remaining input.old) (W.taken out.old) (W.taken out.new) }
+    ensures part { IsErrOf result CommandError.Output
+        → DoesAtMost (FindChange letters.entry) (R.remaining input.old) (W.taken out.old)
+        (W.taken out.new) }
 {
     match find_change_from(alloc, letters, input, out) {
         Ok(count) => Ok(count),
@@ -225,13 +243,17 @@ fn find_in_to_end<A: Allocator, R: Source, W: Sink>(
 ) -> Result<usize, CommandError>
     requires input { R.has_failed input.old ≡ false }
     requires output { W.has_failed out.old ≡ false }
-    ensures done { IfOk result (Does (FindIn kind prefix.entry) (R.remaining input.old) (W.taken out.old) (W.taken out.new)) }
+    ensures done { IfOk result (Does (FindIn kind prefix.entry) (R.remaining input.old)
+        (W.taken out.old) (W.taken out.new)) }
     ensures refused { IfErr result (Refuses (FindIn kind prefix.entry) (R.remaining input.old)) }
-    ensures memory { IsErrOf result CommandError.Memory → IfSome (R.remaining input.old) (λ bytes. bytes ≢ []) }
+    ensures memory { IsErrOf result CommandError.Memory
+        → IfSome (R.remaining input.old) (λ bytes. bytes ≢ []) }
     ensures untouched { IfErr result (λ e. e ≢ CommandError.Output → out.new ≡ out.old) }
     ensures input { IsErrOf result CommandError.Input ↔ (R.has_failed input.new ≡ true) }
     ensures output { IsErrOf result CommandError.Output ↔ (W.has_failed out.new ≡ true) }
-    ensures part { IsErrOf result CommandError.Output → DoesAtMost (FindIn kind prefix.entry) (R.remaining input.old) (W.taken out.old) (W.taken out.new) }
+    ensures part { IsErrOf result CommandError.Output
+        → DoesAtMost (FindIn kind prefix.entry) (R.remaining input.old) (W.taken out.old)
+        (W.taken out.new) }
 {
     match find_in_from(alloc, kind, prefix, input, out) {
         Ok(count) => Ok(count),
@@ -270,7 +292,8 @@ fn hash_file<F: Files, W: Sink>(
     out: &mut W,
 ) -> Result<(), CommandError>
     requires { W.has_failed out.old ≡ false }
-    ensures hashed { OnOk result ((message : List ℕ) × (length message ≡ count) × Appends (W.taken out.old) (W.taken out.new) (digest_line kind message)) }
+    ensures hashed { OnOk result ((message : List ℕ) × (length message ≡ count)
+        × Appends (W.taken out.old) (W.taken out.new) (digest_line kind message)) }
     ensures stands { OnOk result (W.has_failed out.new ≡ false) }
     ensures refused { IfErr result (λ e. ((e ≡ CommandError.Input) × (out.new ≡ out.old)) ⊎ ((e ≡ CommandError.Output) × (W.has_failed out.new ≡ true)
         × ((message : List ℕ) × (length message ≡ count) × AppendsPart (W.taken out.old) (W.taken out.new) (digest_line kind message)))) }
@@ -287,7 +310,8 @@ fn hash_file<F: Files, W: Sink>(
 fn read_on<R: Source>(input: &mut R) -> Result<(), CommandError>
     requires { R.has_failed input.old ≡ false }
     ensures stands { OnOk result (R.has_failed input.new ≡ false) }
-    ensures refused { IfErr result (λ e. (e ≡ CommandError.Input) × (R.has_failed input.new ≡ true)) }
+    ensures refused { IfErr result (λ e. (e ≡ CommandError.Input)
+        × (R.has_failed input.new ≡ true)) }
 {
     let mut piece = [0; PIECE_LEN];
     'pieces: for _ in 0..u64::MAX {

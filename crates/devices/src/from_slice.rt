@@ -34,7 +34,8 @@ impl Source for FromSlice<'_> {
     /// Gives as much as there is room for; the bytes of the buffer behind it stay.
     fn read(&mut self, buf: &mut [u8]) -> io::Result<usize>
         ensures bound { ReadsAtMost result buf.new }
-        ensures bytes { ReadConsumes (Some (slice_rest self.old)) (Some (slice_rest self.new)) result buf.new }
+        ensures bytes { ReadConsumes (Some (slice_rest self.old))
+            (Some (slice_rest self.new)) result buf.new }
         ensures fills { result ≡ Ok (min (length buf.old) (length (slice_rest self.old))) }
         ensures behind { let count = min (length buf.old) (length (slice_rest self.old)) in
             buf.new ≡ take count (slice_rest self.old) ++ drop count buf.old }

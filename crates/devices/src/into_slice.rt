@@ -52,8 +52,10 @@ impl Sink for IntoSlice<'_> {
     /// Takes as much of the piece as there is room for.
     fn write(&mut self, piece: &[u8]) -> io::Result<usize>
         ensures bound { WritesAtMost result piece.now }
-        ensures bytes { WriteAppends (Some (slice_taken self.old)) (Some (slice_taken self.new)) result piece.now }
-        ensures failed { slice_failed self.new ≡ (slice_failed self.old || write_fails result piece.now) }
+        ensures bytes { WriteAppends (Some (slice_taken self.old))
+            (Some (slice_taken self.new)) result piece.now }
+        ensures failed { slice_failed self.new
+            ≡ (slice_failed self.old || write_fails result piece.now) }
         ensures takes { result ≡ Ok (min (length piece.now) (room_in self.old)) }
         ensures left { room_in self.new ≡ room_in self.old - length piece.now }
     {

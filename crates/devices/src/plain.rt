@@ -60,7 +60,8 @@ impl<T: io::Read> Source for Plain<T> {
     /// Reads from the reader that it stands over, once.
     fn read(&mut self, buf: &mut [u8]) -> io::Result<usize>
         ensures bound { ReadsAtMost result buf.new }
-        ensures bytes { ReadConsumes (T.remaining (plain_inner self.old)) (T.remaining (plain_inner self.new)) result buf.new }
+        ensures bytes { ReadConsumes (T.remaining (plain_inner self.old))
+            (T.remaining (plain_inner self.new)) result buf.new }
         ensures failed { plain_failed self.new ≡ (plain_failed self.old || is_err result) }
     {
         let answer = self.inner.read(buf);
@@ -83,8 +84,10 @@ impl<T: io::Write> Sink for Plain<T> {
     /// Writes to the writer that it stands over, once.
     fn write(&mut self, piece: &[u8]) -> io::Result<usize>
         ensures bound { WritesAtMost result piece.now }
-        ensures bytes { WriteAppends (T.contents (plain_inner self.old)) (T.contents (plain_inner self.new)) result piece.now }
-        ensures failed { plain_failed self.new ≡ (plain_failed self.old || write_fails result piece.now) }
+        ensures bytes { WriteAppends (T.contents (plain_inner self.old))
+            (T.contents (plain_inner self.new)) result piece.now }
+        ensures failed { plain_failed self.new
+            ≡ (plain_failed self.old || write_fails result piece.now) }
     {
         let answer = self.inner.write(piece);
         let fails = match &answer {

@@ -12,7 +12,7 @@ use Rattle.gix_hash.specs.Kind.{hex_len_of, kind_of_full_len, kind_of_hex_len, I
 use Rattle.gix_hash.specs.ObjectId.{id_kind, id_digits}
 use Rattle.gix_hash.specs.Prefix.{KindDigits, kind_digits}
 use Rattle.gix_hash.specs.PrefixReading.{prefix_read, prefix_read_in, IsPrefixReading, IsPrefixRefusal, IsReadingIn, IsRefusalIn}
-use Rattle.gix_hash.specs.Reading.{answer_of, digits_read}
+use Rattle.gix_hash.specs.Reading.{reading_of, digits_read}
 use Rattle.gix_hash.specs.declared.alphabet.Alphabet.{Alphabet}
 use Rattle.gix_hash.specs.declared.alphabet.Alphabet.TheVariants.{Hex, Reverse}
 use Rattle.gix_hash.specs.declared.decode.Error as decode
@@ -42,7 +42,7 @@ full_len n kinds.Sha1 h = grind (arith, nat_tests)
 full_len n kinds.Sha256 h = grind (arith, nat_tests)
 
 -- what an answer that is no refusal is made from
-answered : {E : Type 0} (kind : Option Kind) (digits : Option (List ℕ)) (e f : E) (b : KindDigits) → answer_of kind digits e f ≡ Ok b
+answered : {E : Type 0} (kind : Option Kind) (digits : Option (List ℕ)) (e f : E) (b : KindDigits) → reading_of kind digits e f ≡ Ok b
     → (kind ≡ Some b.kind) × (digits ≡ Some b.digits)
 answered None digits e f b h = cc h
 answered (Some k) None e f b h = cc h
@@ -92,7 +92,7 @@ full_read-spelling alphabet kind digits h =
     }
 
 -- what a refusal is made from
-refused : {E : Type 0} (kind : Option Kind) (digits : Option (List ℕ)) (e f x : E) → answer_of kind digits e f ≡ Err x
+refused : {E : Type 0} (kind : Option Kind) (digits : Option (List ℕ)) (e f x : E) → reading_of kind digits e f ≡ Err x
     → ((kind ≡ None) × (x ≡ e)) ⊎ ((k : Kind) × (kind ≡ Some k) × (digits ≡ None) × (x ≡ f))
 refused None digits e f x h = inl (refl, cc h)
 refused (Some k) None e f x h = inr (k, refl, refl, cc h)

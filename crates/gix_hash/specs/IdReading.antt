@@ -4,7 +4,7 @@ use Rattle.std.specs.Result.{result_map_both}
 use Rattle.id_digits.specs.Digits.{ReadsAs, IsUnreadable}
 use Rattle.gix_hash.specs.Kind.{kind_of_full_len, hex_len_of, IsFullLen}
 use Rattle.gix_hash.specs.Prefix.{KindDigits, kind_digits}
-use Rattle.gix_hash.specs.Reading.{digits_read, answer_of}
+use Rattle.gix_hash.specs.Reading.{digits_read, reading_of}
 use Rattle.gix_hash.specs.ObjectId.{id_digits, id_kind}
 use Rattle.gix_hash.specs.declared.object_id.ObjectId.{ObjectId}
 use Rattle.gix_hash.specs.declared.decode.Error.{Error}
@@ -13,7 +13,7 @@ use Rattle.gix_hash.specs.declared.decode.Error.TheVariants.{InvalidHexEncodingL
 -- what reading a full id answers in an alphabet: the digits, of the kind that has so many
 abbrev pub full_read : (ℕ → ℕ) → List ℕ → Result KindDigits Error
 full_read letter text =
-    answer_of (kind_of_full_len (length text)) (digits_read letter text) (InvalidHexEncodingLength (length text)) Invalid
+    reading_of (kind_of_full_len (length text)) (digits_read letter text) (InvalidHexEncodingLength (length text)) Invalid
 
 -- an id as the beginning of all its digits
 abbrev pub whole_of : ObjectId → KindDigits

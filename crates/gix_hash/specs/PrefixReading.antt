@@ -4,7 +4,7 @@ use Rattle.std.specs.Option.{ok_or, option_map}
 use Rattle.id_digits.specs.Digits.{ReadsAs, IsUnreadable}
 use Rattle.gix_hash.specs.Kind.{kind_of_hex_len, hex_len_of}
 use Rattle.gix_hash.specs.Prefix.{KindDigits, kind_digits}
-use Rattle.gix_hash.specs.Reading.{digits_read, answer_of}
+use Rattle.gix_hash.specs.Reading.{digits_read, reading_of}
 use Rattle.gix_hash.specs.declared.kind.Kind.{Kind}
 use Rattle.gix_hash.specs.declared.prefix.from_hex.Error.{Error}
 use Rattle.gix_hash.specs.declared.prefix.from_hex.Error.TheVariants.{TooShort, TooLong, Invalid}
@@ -13,7 +13,7 @@ use Rattle.gix_hash.specs.declared.prefix.from_hex.Error.TheVariants.{TooShort, 
 abbrev pub prefix_read : (ℕ → ℕ) → ℕ → List ℕ → Result KindDigits Error
 prefix_read letter least text =
     if nat_lt (length text) least then Err (TooShort (length text))
-    else answer_of (kind_of_hex_len (length text)) (digits_read letter text) (TooLong (length text)) Invalid
+    else reading_of (kind_of_hex_len (length text)) (digits_read letter text) (TooLong (length text)) Invalid
 
 -- why a text is no prefix of at least so many digits: it is too short, or else too long, or else some letter is none of the alphabet
 abbrev pub IsPrefixRefusal : (ℕ → ℕ) → ℕ → List ℕ → Error → Type 0

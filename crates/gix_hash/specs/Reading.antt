@@ -7,6 +7,6 @@ use Rattle.gix_hash.specs.Prefix.{KindDigits, kind_digits}
 use Rattle.gix_hash.specs.declared.kind.Kind.{Kind}
 
 -- what a reading call answers: the digits that the text reads as, of the kind for its length; or the refusal of its length, or of its letters
-abbrev pub answer_of : {E : Type 0} → Option Kind → Option (List ℕ) → E → E → Result KindDigits E
-answer_of None digits wrong_length invalid = Err wrong_length
-answer_of (Some kind) digits wrong_length invalid = ok_or (option_map (kind_digits kind) digits) invalid
+abbrev pub reading_of : {E : Type 0} → Option Kind → Option (List ℕ) → E → E → Result KindDigits E
+reading_of None digits wrong_length invalid = Err wrong_length
+reading_of (Some kind) digits wrong_length invalid = ok_or (option_map (kind_digits kind) digits) invalid

@@ -70,7 +70,8 @@ impl Alphabet {
     // Reads the beginning of an id of the kind.
     pub(crate) fn read_beginning(self, kind: Kind, text: &[u8]) -> Result<Prefix, from_hex::Error>
         requires { length text.now ≤ hex_len_of kind }
-        ensures { result ≡ ok_or (option_map (kind_digits kind) (digits_read (letter_of self) text.now)) from_hex.Error.Invalid }
+        ensures { result ≡ ok_or (option_map (kind_digits kind)
+            (digits_read (letter_of self) text.now)) from_hex.Error.Invalid }
     {
         match kind {
             Kind::Sha1 => {
@@ -185,7 +186,8 @@ impl Alphabet {
     /// the bytes behind them stay. The buffer needs room for the digits.
     pub fn put_id(self, id: oid<'_>, buffer: &mut [u8])
         requires { hex_len_of (oid_kind id) ≤ length buffer.old }
-        ensures value { buffer.new ≡ spelling (letter_of self) (oid_digits id.entry) ++ drop (hex_len_of (oid_kind id.entry)) buffer.old }
+        ensures value { buffer.new ≡ spelling (letter_of self) (oid_digits id.entry) ++ drop
+            (hex_len_of (oid_kind id.entry)) buffer.old }
         ensures len { length (oid_digits id.entry) ≡ hex_len_of (oid_kind id.entry) }
     {
         let bytes = id.as_bytes();

@@ -152,7 +152,8 @@ impl<'a> oid<'a> {
     /// shorter id's where none does. Kinds are ignored.
     #[tactic(auto, using(crate::proofs::CommonBeginnings::longest_common))]
     pub fn common_hex_len(&self, other: oid<'_>) -> usize
-        ensures value { result ≡ common_prefix_len nat_eq (oid_digits self.now) (oid_digits other.entry) }
+        ensures value { result ≡ common_prefix_len nat_eq (oid_digits self.now)
+            (oid_digits other.entry) }
         ensures longest { IsCommonLen (oid_digits self.now) (oid_digits other.entry) result }
     {
         common_digits(self.bytes, other.bytes)
@@ -176,7 +177,8 @@ impl<'a> oid<'a> {
     /// Writes the lowercase hex digits to `out`. The error is the writer's; how many digits were
     /// written then is not said.
     pub fn write_hex_to<W: io::Write>(&self, out: &mut W) -> io::Result<()>
-        ensures { OnOk result (Appends (W.contents out.old) (W.contents out.new) (spelling hex_letter (oid_digits self.now))) }
+        ensures { OnOk result (Appends (W.contents out.old) (W.contents out.new)
+            (spelling hex_letter (oid_digits self.now))) }
     {
         let mut buffer = [0; 64];
         self.put_hex(&mut buffer);
@@ -186,8 +188,10 @@ impl<'a> oid<'a> {
     /// Compares with the id that this one should be. Where they differ, the error holds both.
     pub fn verify(&self, expected: oid<'_>) -> Result<(), verify::Error>
         ensures equal { IsOk result ↔ (oid_digits self.now ≡ oid_digits expected.entry) }
-        ensures actual { IfErr result (λ e. (id_kind e.actual ≡ oid_kind self.now) × (id_digits e.actual ≡ oid_digits self.now)) }
-        ensures expected { IfErr result (λ e. (id_kind e.expected ≡ oid_kind expected.entry) × (id_digits e.expected ≡ oid_digits expected.entry)) }
+        ensures actual { IfErr result (λ e. (id_kind e.actual ≡ oid_kind self.now)
+            × (id_digits e.actual ≡ oid_digits self.now)) }
+        ensures expected { IfErr result (λ e. (id_kind e.expected ≡ oid_kind expected.entry)
+            × (id_digits e.expected ≡ oid_digits expected.entry)) }
     {
         if *self == expected {
             Ok(())
@@ -203,7 +207,8 @@ impl<'a> oid<'a> {
     /// digits; the bytes behind them stay. The buffer needs room for the digits.
     pub fn put_hex(&self, buffer: &mut [u8])
         requires { hex_len_of (oid_kind self.now) ≤ length buffer.old }
-        ensures value { buffer.new ≡ spelling hex_letter (oid_digits self.now) ++ drop (hex_len_of (oid_kind self.now)) buffer.old }
+        ensures value { buffer.new ≡ spelling hex_letter (oid_digits self.now) ++ drop
+            (hex_len_of (oid_kind self.now)) buffer.old }
         ensures len { length (oid_digits self.now) ≡ hex_len_of (oid_kind self.now) }
     {
         Alphabet::Hex.put_id(*self, buffer);
@@ -217,7 +222,9 @@ impl<'a> oid<'a> {
     /// back at what the clause says. [`oid::put_hex`] says the same of the buffer to every caller.
     pub fn hex_to_buf<'b>(&self, buffer: &'b mut [u8]) -> &'b str
         requires { hex_len_of (oid_kind self.now) ≤ length buffer.old }
-        ensures* behind { sem 𝓛 (EndsAs buffer.entry (spelling hex_letter (oid_digits self.now) ++ drop (hex_len_of (oid_kind self.now)) buffer.old)) }
+        ensures* behind { sem 𝓛 (EndsAs buffer.entry
+            (spelling hex_letter (oid_digits self.now) ++ drop
+            (hex_len_of (oid_kind self.now)) buffer.old)) }
         ensures text { result.now ≡ spelling hex_letter (oid_digits self.now) }
         ensures ascii { IsAscii result.now }
         ensures len { length result.now ≡ hex_len_of (oid_kind self.now) }
@@ -229,9 +236,11 @@ impl<'a> oid<'a> {
     pub(crate) fn filled<'b>(&self, buffer: &'b mut [u8]) -> &'b mut [u8]
         requires { hex_len_of (oid_kind self.now) ≤ length buffer.old }
         ensures same { result.ghost_name ≡ buffer.entry.ghost_name }
-        ensures value { result.now ≡ spelling hex_letter (oid_digits self.now) ++ drop (hex_len_of (oid_kind self.now)) buffer.old }
+        ensures value { result.now ≡ spelling hex_letter (oid_digits self.now) ++ drop
+            (hex_len_of (oid_kind self.now)) buffer.old }
         ensures room { hex_len_of (oid_kind self.now) ≤ length result.now }
-        ensures front { take (hex_len_of (oid_kind self.now)) result.now ≡ spelling hex_letter (oid_digits self.now) }
+        ensures front { take (hex_len_of (oid_kind self.now)) result.now
+            ≡ spelling hex_letter (oid_digits self.now) }
     {
         self.put_hex(buffer);
         buffer
@@ -240,7 +249,8 @@ impl<'a> oid<'a> {
     // The digits in front of a buffer, as text.
     pub(crate) fn front_text<'b>(&self, buffer: &'b [u8]) -> &'b str
         requires room { hex_len_of (oid_kind self.now) ≤ length buffer.now }
-        requires front { take (hex_len_of (oid_kind self.now)) buffer.now ≡ spelling hex_letter (oid_digits self.now) }
+        requires front { take (hex_len_of (oid_kind self.now)) buffer.now
+            ≡ spelling hex_letter (oid_digits self.now) }
         ensures text { result.now ≡ spelling hex_letter (oid_digits self.now) }
         ensures ascii { IsAscii result.now }
         ensures len { length result.now ≡ hex_len_of (oid_kind self.now) }
@@ -255,7 +265,8 @@ impl<'a> oid<'a> {
         requires ordered { range.start ≤ range.end }
         requires within { range.end ≤ length (oid_bytes self.now) }
         ensures kind { result.kind ≡ oid_kind self.now }
-        ensures digits { result.digits ≡ slice_range (oid_digits self.now) (2 * range.start) (2 * range.end) }
+        ensures digits { result.digits ≡ slice_range (oid_digits self.now) (2 * range.start)
+            (2 * range.end) }
     {
         let hex_len = 2 * (range.end - range.start);
         Prefix::packed(self.kind(), &self.bytes[range.start..range.end], hex_len)

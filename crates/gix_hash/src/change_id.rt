@@ -113,7 +113,8 @@ impl ChangeId {
     /// length in digits; the bytes behind them stay. The buffer needs room for the digits.
     pub fn put_reverse_hex(&self, buffer: &mut [u8])
         requires { hex_len_of (id_kind self.now) ≤ length buffer.old }
-        ensures value { buffer.new ≡ spelling reverse_letter (id_digits self.now) ++ drop (hex_len_of (id_kind self.now)) buffer.old }
+        ensures value { buffer.new ≡ spelling reverse_letter (id_digits self.now) ++ drop
+            (hex_len_of (id_kind self.now)) buffer.old }
         ensures len { length (id_digits self.now) ≡ hex_len_of (id_kind self.now) }
     {
         Alphabet::Reverse.put_id(self.as_oid(), buffer);

@@ -35,7 +35,8 @@ pub fn id_of_pieces(kind: Kind, pieces: &[&[u8]]) -> Result<ObjectId, hashing::E
 pub fn digests(kind: Kind)
     ensures kind { (message : List ℕ) → id_kind (digest kind message) ≡ kind }
     ensures len { (message : List ℕ) → length (id_bytes (digest kind message)) ≡ byte_len_of kind }
-    ensures bytes_in_range { (message : List ℕ) → All (λ b. b < 256) (id_bytes (digest kind message)) }
+    ensures bytes_in_range { (message : List ℕ)
+        → All (λ b. b < 256) (id_bytes (digest kind message)) }
     ensures digits { (message : List ℕ) → AreIdDigits kind (id_digits (digest kind message)) }
 {}
 

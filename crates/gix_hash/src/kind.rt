@@ -142,7 +142,8 @@ impl Kind {
     /// Reads the name of a kind: `sha1`, `SHA1`, `SHA-1`, `sha256`, `SHA256` or `SHA-256`. Any
     /// other text is handed back.
     pub fn from_str(name: &str) -> Result<Kind, &str>
-        ensures { MatchResult result (IsNameOf name.now) (λ refused. (refused.now ≡ name.now) × IsNoName name.now) }
+        ensures { MatchResult result (IsNameOf name.now)
+            (λ refused. (refused.now ≡ name.now) × IsNoName name.now) }
     {
         match name {
             "sha1" | "SHA1" | "SHA-1" => Ok(Kind::Sha1),

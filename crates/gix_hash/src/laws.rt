@@ -36,14 +36,17 @@ use std::hash::Hash;
 /// The letters of the digits 0 to 15 are those of the two alphabets, in order.
 pub fn letters()
     ensures hex { (d : ℕ) → d < 16 → hex_letter d ≡ slice_index (codes "0123456789abcdef") d }
-    ensures reverse { (d : ℕ) → d < 16 → reverse_letter d ≡ slice_index (codes "zyxwvutsrqponmlk") d }
+    ensures reverse { (d : ℕ) → d < 16
+        → reverse_letter d ≡ slice_index (codes "zyxwvutsrqponmlk") d }
 {}
 
 /// A text reads as the digits that `digits_read` gives, and as no others; and where it gives none,
 /// no list of digits reads the text.
 pub fn readings(alphabet: Alphabet, text: &[u8])
-    ensures some { (digits : List ℕ) → (digits_read (letter_of alphabet) text.now ≡ Some digits) ↔ ReadsAs (letter_of alphabet) text.now digits }
-    ensures none { (digits_read (letter_of alphabet) text.now ≡ None) ↔ IsUnreadable (letter_of alphabet) text.now }
+    ensures some { (digits : List ℕ) → (digits_read (letter_of alphabet) text.now ≡ Some digits)
+        ↔ ReadsAs (letter_of alphabet) text.now digits }
+    ensures none { (digits_read (letter_of alphabet) text.now ≡ None)
+        ↔ IsUnreadable (letter_of alphabet) text.now }
 {}
 
 /// A text reads as digits just where each of them is below 16 and the text, in lowercase, is their
@@ -55,7 +58,8 @@ pub fn spelled(alphabet: Alphabet, text: &[u8])
 
 /// The digits of some id of a kind are those that its ids have.
 pub fn digits_of_ids(kind: Kind)
-    ensures { (digits : List ℕ) → AreIdDigits kind digits ↔ ((id : ids.ObjectId) × HasDigits kind digits id) }
+    ensures { (digits : List ℕ) → AreIdDigits kind digits
+        ↔ ((id : ids.ObjectId) × HasDigits kind digits id) }
 {}
 
 /// What is printed of any id is in lowercase, and reads as the id. So no id is printed as a text that
@@ -70,24 +74,35 @@ pub fn printed(alphabet: Alphabet)
 /// The texts that read as a full id, which are those of as many bytes as its kind has digits that
 /// read as its digits; and why any other is refused.
 pub fn full_readings(alphabet: Alphabet, text: &[u8])
-    ensures ok { (id : KindDigits) → (full_read (letter_of alphabet) text.now ≡ Ok id) ↔ IsFullReading (letter_of alphabet) text.now id }
-    ensures err { (error : decode.Error) → (full_read (letter_of alphabet) text.now ≡ Err error) ↔ IsFullRefusal (letter_of alphabet) text.now error }
+    ensures ok { (id : KindDigits) → (full_read (letter_of alphabet) text.now ≡ Ok id)
+        ↔ IsFullReading (letter_of alphabet) text.now id }
+    ensures err { (error : decode.Error)
+        → (full_read (letter_of alphabet) text.now ≡ Err error)
+        ↔ IsFullRefusal (letter_of alphabet) text.now error }
     ensures cases { MatchResult (full_read (letter_of alphabet) text.now)
         (IsFullReading (letter_of alphabet) text.now) (IsFullRefusal (letter_of alphabet) text.now) }
 {}
 
 /// The texts that read as a prefix of at least so many digits, and why any other is refused.
 pub fn prefix_readings(alphabet: Alphabet, least: usize, text: &str)
-    ensures ok { (prefix : KindDigits) → (prefix_read (letter_of alphabet) least text.now ≡ Ok prefix) ↔ IsPrefixReading (letter_of alphabet) least text.now prefix }
-    ensures err { (error : from_hex.Error) → (prefix_read (letter_of alphabet) least text.now ≡ Err error) ↔ IsPrefixRefusal (letter_of alphabet) least text.now error }
+    ensures ok { (prefix : KindDigits)
+        → (prefix_read (letter_of alphabet) least text.now ≡ Ok prefix)
+        ↔ IsPrefixReading (letter_of alphabet) least text.now prefix }
+    ensures err { (error : from_hex.Error)
+        → (prefix_read (letter_of alphabet) least text.now ≡ Err error)
+        ↔ IsPrefixRefusal (letter_of alphabet) least text.now error }
     ensures cases { MatchResult (prefix_read (letter_of alphabet) least text.now)
         (IsPrefixReading (letter_of alphabet) least text.now) (IsPrefixRefusal (letter_of alphabet) least text.now) }
 {}
 
 /// The texts that read as a prefix in a given kind, and why any other is refused.
 pub fn prefix_readings_in(kind: Kind, alphabet: Alphabet, text: &str)
-    ensures ok { (prefix : KindDigits) → (prefix_read_in kind (letter_of alphabet) text.now ≡ Ok prefix) ↔ IsReadingIn kind (letter_of alphabet) text.now prefix }
-    ensures err { (error : from_hex.Error) → (prefix_read_in kind (letter_of alphabet) text.now ≡ Err error) ↔ IsRefusalIn kind (letter_of alphabet) text.now error }
+    ensures ok { (prefix : KindDigits)
+        → (prefix_read_in kind (letter_of alphabet) text.now ≡ Ok prefix)
+        ↔ IsReadingIn kind (letter_of alphabet) text.now prefix }
+    ensures err { (error : from_hex.Error)
+        → (prefix_read_in kind (letter_of alphabet) text.now ≡ Err error)
+        ↔ IsRefusalIn kind (letter_of alphabet) text.now error }
 {}
 
 /// An id that is printed in full, and read in any letter case, is the same id.
@@ -112,9 +127,11 @@ pub fn read_change_back(change: &ChangeId, text: &[u8])
 /// it is the same prefix just where its kind is the least one with room for them.
 pub fn read_prefix_back(alphabet: Alphabet, prefix: &Prefix, text: &str)
     requires nonempty { 1 ≤ length prefix.now.digits }
-    requires printed { str_to_ascii_lowercase text.now ≡ spelling (letter_of alphabet) prefix.now.digits }
+    requires printed { str_to_ascii_lowercase text.now
+        ≡ spelling (letter_of alphabet) prefix.now.digits }
     ensures reads { IsOk (prefix_read (letter_of alphabet) 1 text.now) }
-    ensures digits { IfOk (prefix_read (letter_of alphabet) 1 text.now) (λ read. read.digits ≡ prefix.now.digits) }
+    ensures digits { IfOk (prefix_read (letter_of alphabet) 1 text.now)
+        (λ read. read.digits ≡ prefix.now.digits) }
     ensures same { (prefix_read (letter_of alphabet) 1 text.now ≡ Ok prefix.now)
         ↔ (kind_of_hex_len (length prefix.now.digits) ≡ Some prefix.now.kind) }
 {
@@ -126,7 +143,8 @@ pub fn read_prefix_back(alphabet: Alphabet, prefix: &Prefix, text: &str)
 /// the same prefix.
 pub fn read_prefix_back_in_kind(alphabet: Alphabet, prefix: &Prefix, text: &str)
     requires nonempty { 1 ≤ length prefix.now.digits }
-    requires printed { str_to_ascii_lowercase text.now ≡ spelling (letter_of alphabet) prefix.now.digits }
+    requires printed { str_to_ascii_lowercase text.now
+        ≡ spelling (letter_of alphabet) prefix.now.digits }
     ensures { prefix_read_in prefix.now.kind (letter_of alphabet) text.now ≡ Ok prefix.now }
 {
     // Where the number of the digits and their range are told.
@@ -142,7 +160,9 @@ pub fn same_id(first: &ObjectId, second: &ObjectId)
 /// their full spellings.
 pub fn equal_ids(first: &ObjectId, second: &ObjectId)
     ensures same { IsTrue (id_eq first.now second.now) ↔ (first.now ≡ second.now) }
-    ensures parts { IsTrue (id_eq first.now second.now) ↔ ((id_kind first.now ≡ id_kind second.now) × (id_digits first.now ≡ id_digits second.now)) }
+    ensures parts { IsTrue (id_eq first.now second.now)
+        ↔ ((id_kind first.now ≡ id_kind second.now)
+        × (id_digits first.now ≡ id_digits second.now)) }
     ensures spelling { IsTrue (id_eq first.now second.now)
         ↔ (spelling hex_letter (id_digits first.now) ≡ spelling hex_letter (id_digits second.now)) }
 {
@@ -153,16 +173,19 @@ pub fn equal_ids(first: &ObjectId, second: &ObjectId)
 /// A list of ids has one that is equal to an id just where it has the id itself. So a set has the ids
 /// that are its keys.
 pub fn contains_equal(id: &ObjectId)
-    ensures { (ids : List ids.ObjectId) → IsTrue (list_any (id_eq id.now) ids) ↔ Contains ids id.now }
+    ensures { (ids : List ids.ObjectId)
+        → IsTrue (list_any (id_eq id.now) ids) ↔ Contains ids id.now }
 {}
 
 /// Views are equal just where their digits are, or their full spellings, and their kinds are the
 /// same then.
 pub fn equal_views(first: oid<'_>, second: oid<'_>)
-    ensures digits { IsTrue (oid_eq first.entry second.entry) ↔ (oid_digits first.entry ≡ oid_digits second.entry) }
+    ensures digits { IsTrue (oid_eq first.entry second.entry)
+        ↔ (oid_digits first.entry ≡ oid_digits second.entry) }
     ensures spelling { IsTrue (oid_eq first.entry second.entry)
         ↔ (spelling hex_letter (oid_digits first.entry) ≡ spelling hex_letter (oid_digits second.entry)) }
-    ensures kind { IsTrue (oid_eq first.entry second.entry) → oid_kind first.entry ≡ oid_kind second.entry }
+    ensures kind { IsTrue (oid_eq first.entry second.entry)
+        → oid_kind first.entry ≡ oid_kind second.entry }
 {}
 
 /// Prefixes are equal just where they are the same, which is where their kinds and their spellings
@@ -216,8 +239,12 @@ pub fn nested_or_disjoint(first: &Prefix, second: &Prefix)
 /// 32 in the first word and the others in the second. Behind the digits are zeros, as a list gives 0
 /// behind its end.
 pub fn digits_in_words(prefix: &Prefix)
-    ensures first { (at : ℕ) → at < 32 → (words_of prefix.now.digits).first / 16 ^ (31 - at) % 16 ≡ slice_index prefix.now.digits at }
-    ensures second { (at : ℕ) → at < 32 → (words_of prefix.now.digits).second / 16 ^ (31 - at) % 16 ≡ slice_index prefix.now.digits (32 + at) }
+    ensures first { (at : ℕ) → at < 32
+        → (words_of prefix.now.digits).first / 16 ^ (31 - at) % 16
+        ≡ slice_index prefix.now.digits at }
+    ensures second { (at : ℕ) → at < 32
+        → (words_of prefix.now.digits).second / 16 ^ (31 - at) % 16
+        ≡ slice_index prefix.now.digits (32 + at) }
 {
     // Where the range of the digits is told.
     let _len = prefix.hex_len();
@@ -225,7 +252,8 @@ pub fn digits_in_words(prefix: &Prefix)
 
 /// The words of 7 digits, of 33 and of none, written out.
 pub fn words_written_out()
-    ensures seven { words_of (hex_values (codes "e69de29")) ≡ record { first = 0xe69de290000000000000000000000000; second = 0 } }
+    ensures seven { words_of (hex_values (codes "e69de29"))
+        ≡ record { first = 0xe69de290000000000000000000000000; second = 0 } }
     ensures over_a_word { words_of (hex_values (codes "e69de29bb2d1d6434b8b29ae775ad8c2e"))
         ≡ record { first = 0xe69de29bb2d1d6434b8b29ae775ad8c2; second = 0xe0000000000000000000000000000000 } }
     ensures none { words_of [] ≡ record { first = 0; second = 0 } }

@@ -187,7 +187,8 @@ impl ObjectId {
 
     /// As [`oid::common_hex_len`].
     pub fn common_hex_len(&self, other: oid<'_>) -> usize
-        ensures value { result ≡ common_prefix_len nat_eq (id_digits self.now) (oid_digits other.entry) }
+        ensures value { result ≡ common_prefix_len nat_eq (id_digits self.now)
+            (oid_digits other.entry) }
         ensures longest { IsCommonLen (id_digits self.now) (oid_digits other.entry) result }
     {
         self.as_oid().common_hex_len(other)
@@ -231,7 +232,8 @@ impl ObjectId {
     /// As [`oid::put_hex`].
     pub fn put_hex(&self, buffer: &mut [u8])
         requires { hex_len_of (id_kind self.now) ≤ length buffer.old }
-        ensures value { buffer.new ≡ spelling hex_letter (id_digits self.now) ++ drop (hex_len_of (id_kind self.now)) buffer.old }
+        ensures value { buffer.new ≡ spelling hex_letter (id_digits self.now) ++ drop
+            (hex_len_of (id_kind self.now)) buffer.old }
         ensures len { length (id_digits self.now) ≡ hex_len_of (id_kind self.now) }
     {
         self.as_oid().put_hex(buffer);
@@ -240,7 +242,9 @@ impl ObjectId {
     /// As [`oid::hex_to_buf`].
     pub fn hex_to_buf<'b>(&self, buffer: &'b mut [u8]) -> &'b str
         requires { hex_len_of (id_kind self.now) ≤ length buffer.old }
-        ensures* behind { sem 𝓛 (EndsAs buffer.entry (spelling hex_letter (id_digits self.now) ++ drop (hex_len_of (id_kind self.now)) buffer.old)) }
+        ensures* behind { sem 𝓛 (EndsAs buffer.entry
+            (spelling hex_letter (id_digits self.now) ++ drop
+            (hex_len_of (id_kind self.now)) buffer.old)) }
         ensures text { result.now ≡ spelling hex_letter (id_digits self.now) }
         ensures ascii { IsAscii result.now }
         ensures len { length result.now ≡ hex_len_of (id_kind self.now) }
@@ -252,9 +256,11 @@ impl ObjectId {
     fn filled<'b>(&self, buffer: &'b mut [u8]) -> &'b mut [u8]
         requires { hex_len_of (id_kind self.now) ≤ length buffer.old }
         ensures same { result.ghost_name ≡ buffer.entry.ghost_name }
-        ensures value { result.now ≡ spelling hex_letter (id_digits self.now) ++ drop (hex_len_of (id_kind self.now)) buffer.old }
+        ensures value { result.now ≡ spelling hex_letter (id_digits self.now) ++ drop
+            (hex_len_of (id_kind self.now)) buffer.old }
         ensures room { hex_len_of (id_kind self.now) ≤ length result.now }
-        ensures front { take (hex_len_of (id_kind self.now)) result.now ≡ spelling hex_letter (id_digits self.now) }
+        ensures front { take (hex_len_of (id_kind self.now)) result.now
+            ≡ spelling hex_letter (id_digits self.now) }
     {
         self.as_oid().filled(buffer)
     }
@@ -262,7 +268,8 @@ impl ObjectId {
     // The digits in front of a buffer, as text.
     fn front_text<'b>(&self, buffer: &'b [u8]) -> &'b str
         requires room { hex_len_of (id_kind self.now) ≤ length buffer.now }
-        requires front { take (hex_len_of (id_kind self.now)) buffer.now ≡ spelling hex_letter (id_digits self.now) }
+        requires front { take (hex_len_of (id_kind self.now)) buffer.now
+            ≡ spelling hex_letter (id_digits self.now) }
         ensures text { result.now ≡ spelling hex_letter (id_digits self.now) }
         ensures ascii { IsAscii result.now }
         ensures len { length result.now ≡ hex_len_of (id_kind self.now) }
@@ -272,7 +279,8 @@ impl ObjectId {
 
     /// As [`oid::write_hex_to`].
     pub fn write_hex_to<W: io::Write>(&self, out: &mut W) -> io::Result<()>
-        ensures { OnOk result (Appends (W.contents out.old) (W.contents out.new) (spelling hex_letter (id_digits self.now))) }
+        ensures { OnOk result (Appends (W.contents out.old) (W.contents out.new)
+            (spelling hex_letter (id_digits self.now))) }
     {
         self.as_oid().write_hex_to(out)
     }
@@ -280,8 +288,10 @@ impl ObjectId {
     /// As [`oid::verify`].
     pub fn verify(&self, expected: oid<'_>) -> Result<(), verify::Error>
         ensures equal { IsOk result ↔ (id_digits self.now ≡ oid_digits expected.entry) }
-        ensures actual { IfErr result (λ e. (id_kind e.actual ≡ id_kind self.now) × (id_digits e.actual ≡ id_digits self.now)) }
-        ensures expected { IfErr result (λ e. (id_kind e.expected ≡ oid_kind expected.entry) × (id_digits e.expected ≡ oid_digits expected.entry)) }
+        ensures actual { IfErr result (λ e. (id_kind e.actual ≡ id_kind self.now)
+            × (id_digits e.actual ≡ id_digits self.now)) }
+        ensures expected { IfErr result (λ e. (id_kind e.expected ≡ oid_kind expected.entry)
+            × (id_digits e.expected ≡ oid_digits expected.entry)) }
     {
         self.as_oid().verify(expected)
     }
@@ -291,7 +301,8 @@ impl ObjectId {
         requires ordered { range.start ≤ range.end }
         requires within { range.end ≤ byte_len_of (id_kind self.now) }
         ensures kind { result.kind ≡ id_kind self.now }
-        ensures digits { result.digits ≡ slice_range (id_digits self.now) (2 * range.start) (2 * range.end) }
+        ensures digits { result.digits ≡ slice_range (id_digits self.now) (2 * range.start)
+            (2 * range.end) }
     {
         self.as_oid().to_prefix(range)
     }

@@ -102,11 +102,13 @@ impl Prefix {
     /// More digits than the id has are refused as [`Error::TooLong`], and else fewer than 4 as
     /// [`Error::TooShort`].
     pub fn new(id: oid<'_>, hex_len: usize) -> Result<Prefix, Error>
-        ensures too_long { hex_len_of (oid_kind id.entry) < hex_len → result ≡ Err (Error.TooLong (oid_kind id.entry) hex_len) }
+        ensures too_long { hex_len_of (oid_kind id.entry) < hex_len
+            → result ≡ Err (Error.TooLong (oid_kind id.entry) hex_len) }
         ensures too_short { hex_len < 4 → result ≡ Err (Error.TooShort hex_len) }
         ensures ok { 4 ≤ hex_len → hex_len ≤ hex_len_of (oid_kind id.entry) →
             result ≡ Ok (record { kind = oid_kind id.entry; digits = take hex_len (oid_digits id.entry) }) }
-        ensures matches { IfOk result (λ prefix. place prefix.digits (oid_digits id.entry) ≡ Ordering.Equal) }
+        ensures matches { IfOk result (λ prefix. place prefix.digits (oid_digits id.entry)
+            ≡ Ordering.Equal) }
     {
         let object_kind = id.kind();
         if hex_len > object_kind.len_in_hex() {

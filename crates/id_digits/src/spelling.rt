@@ -17,7 +17,8 @@ const HEX_LETTERS: [u8; 16] = *b"0123456789abcdef";
 pub fn spell_hex(bytes: &[u8], buffer: &mut [u8])
     requires digest { IsTrue (is_digest_len (length bytes.now)) }
     requires room { 2 * length bytes.now ≤ length buffer.old }
-    ensures { buffer.new ≡ spelling hex_letter (digits_of bytes.now) ++ drop (2 * length bytes.now) buffer.old }
+    ensures { buffer.new ≡ spelling hex_letter (digits_of bytes.now) ++ drop
+        (2 * length bytes.now) buffer.old }
 {
     // The last vector of 20 bytes begins within the first: letters of both are written twice.
     put_vector(bytes, 0, buffer);

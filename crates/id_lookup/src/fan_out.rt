@@ -38,14 +38,16 @@ impl FanOut {
     /// The number of ids of the list whose first byte is at most the given one.
     pub fn up_to(&self, byte: u8) -> usize
         ensures value { result ≡ slice_index self.now byte }
-        ensures count { (ids : List (List ℕ)) → IsFanOut self.now ids → result ≡ count_by (is_up_to byte) ids }
+        ensures count { (ids : List (List ℕ)) → IsFanOut self.now ids
+            → result ≡ count_by (is_up_to byte) ids }
     {
         self.counts[usize::from(byte)]
     }
 
     // The number of ids of the list whose first byte is below the given one.
     pub(crate) fn below(&self, byte: u8) -> usize
-        ensures { (ids : List (List ℕ)) → IsFanOut self.now ids → result ≡ count_by (is_below byte) ids }
+        ensures { (ids : List (List ℕ)) → IsFanOut self.now ids
+            → result ≡ count_by (is_below byte) ids }
     {
         if byte == 0 { 0 } else { self.up_to(byte - 1) }
     }
@@ -53,7 +55,8 @@ impl FanOut {
 
 // For each byte, the number of ids that have it as their first.
 fn first_bytes<I: Id>(ids: &[I]) -> [usize; 256]
-    ensures counts { (b : ℕ) → b < 256 → slice_index result b ≡ count_by (has_first_byte b) (map I.digits ids.now) }
+    ensures counts { (b : ℕ) → b < 256
+        → slice_index result b ≡ count_by (has_first_byte b) (map I.digits ids.now) }
     ensures digits { All (λ id. All (λ d. d < 16) id) (map I.digits ids.now) }
     ensures few { length ids.now < 2 ^ 64 }
 {

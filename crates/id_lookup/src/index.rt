@@ -50,7 +50,8 @@ impl<'a, I: Id> IdIndex<'a, I> {
     /// the id is of the other kind, and else [`IndexError::NotRising`] where it is not above the one
     /// before it.
     pub fn try_new(ids: &'a [I], kind: Kind) -> Result<IdIndex<'a, I>, IndexError>
-        ensures ok { IfOk result (λ index. index ≡ record { kind = kind; ids = map I.digits ids.now }) }
+        ensures ok { IfOk result (λ index. index
+            ≡ record { kind = kind; ids = map I.digits ids.now }) }
         ensures index { IsOk result ↔ IsIndex kind (map I.digits ids.now) }
         ensures err { IfErr result (IsBadPlace kind (map I.digits ids.now)) }
     {

@@ -15,8 +15,10 @@ use gix_hash::Prefix;
 /// The lowercase hex spelling of some digits begins with that of a prefix just where the digits
 /// begin with the prefix's, and just where the prefix's place against them is Equal.
 pub fn beginnings(prefix: &Prefix)
-    ensures digits { (id : List ℕ) → IsTrue (begins_with id prefix.now) ↔ BeginsWith id prefix.now.digits }
-    ensures place { (id : List ℕ) → IsTrue (begins_with id prefix.now) ↔ (place prefix.now.digits id ≡ Ordering.Equal) }
+    ensures digits { (id : List ℕ) → IsTrue (begins_with id prefix.now)
+        ↔ BeginsWith id prefix.now.digits }
+    ensures place { (id : List ℕ) → IsTrue (begins_with id prefix.now)
+        ↔ (place prefix.now.digits id ≡ Ordering.Equal) }
 {}
 
 /// The members that begin with some digits, of a list in parts that stand one behind the other, are
@@ -25,8 +27,10 @@ pub fn beginnings(prefix: &Prefix)
 /// Where a list in two parts is sorted, as many stand before the run of a prefix as in both parts
 /// together, and as many in it.
 pub fn matches_in_parts()
-    ensures two { (digits : List ℕ) (first second : List (List ℕ)) → matches digits (first ++ second) ≡ matches digits first ++ matches digits second }
-    ensures all { (digits : List ℕ) (parts : List (List (List ℕ))) → matches digits (flat_map (λ part. part) parts) ≡ flat_map (matches digits) parts }
+    ensures two { (digits : List ℕ) (first second : List (List ℕ))
+        → matches digits (first ++ second) ≡ matches digits first ++ matches digits second }
+    ensures all { (digits : List ℕ) (parts : List (List (List ℕ)))
+        → matches digits (flat_map (λ part. part) parts) ≡ flat_map (matches digits) parts }
     ensures runs { (prefix : KindDigits) (first second : List (List ℕ)) (a b : Run) → IsSortedIds (first ++ second) → IsRun prefix first a → IsRun prefix second b
         → IsRun prefix (first ++ second) (record { start = a.start + b.start; end = a.end + b.end }) }
 {}

@@ -84,7 +84,8 @@ pub fn lookup_in<I: Id>(fan_out: &FanOut, probes: &mut Probes<'_, I>) -> Run
     requires fan_out { IsFanOut fan_out.now probes.old.ids }
     ensures list { CanProbe probes.old.prefix probes.old.ids }
     ensures run { IsRun probes.old.prefix probes.old.ids result }
-    ensures asked { probes.new.asked ≤ 2 * bits (count_by (shares_first_byte probes.old.prefix) probes.old.ids) }
+    ensures asked { probes.new.asked ≤ 2 * bits
+        (count_by (shares_first_byte probes.old.prefix) probes.old.ids) }
     ensures never { length probes.old.prefix.digits < 2 → probes.new.asked ≡ 0 }
     ensures same { probes.new ≡ record probes.old { asked = probes.new.asked } }
 {
@@ -175,7 +176,8 @@ fn find_bound<I: Id>(
 pub fn begins_with(id: &ObjectId, prefix: &Prefix) -> bool
     requires { length prefix.now.digits ≤ hex_len_of (id_kind id.now) }
     ensures value { result ≡ begins_with (id_digits id.now) prefix.now }
-    ensures spelling { IsTrue result ↔ BeginsWith (spelling hex_letter (id_digits id.now)) (spelling hex_letter prefix.now.digits) }
+    ensures spelling { IsTrue result ↔ BeginsWith (spelling hex_letter (id_digits id.now))
+        (spelling hex_letter prefix.now.digits) }
     ensures digits { IsTrue result ↔ BeginsWith (id_digits id.now) prefix.now.digits }
     ensures place { IsTrue result ↔ (place prefix.now.digits (id_digits id.now) ≡ Ordering.Equal) }
 {

@@ -125,10 +125,13 @@ impl<'a, I: Id> SortedIds<'a, I> {
     pub fn abbreviate_from(&self, at: usize, least: usize) -> Option<Prefix>
         requires in_range { at < length self.now }
         requires enough { 4 ≤ least }
-        ensures kind { IfSome result (λ name. hex_len_of name.kind ≡ length (slice_index_or self.now at [])) }
+        ensures kind { IfSome result (λ name. hex_len_of name.kind
+            ≡ length (slice_index_or self.now at [])) }
         ensures name { IfSome result (λ name. IsShortestNameFrom least self.now at name.digits) }
-        ensures run { IfSome result (λ name. IsRun name self.now (record { start = at; end = at + 1 })) }
-        ensures none { IsNone result → (name : List ℕ) → ¬ IsShortestNameFrom least self.now at name }
+        ensures run { IfSome result (λ name. IsRun name self.now
+            (record { start = at; end = at + 1 })) }
+        ensures none { IsNone result → (name : List ℕ)
+            → ¬ IsShortestNameFrom least self.now at name }
     {
         let ids = self.ids;
         let neighbours = digits_before(ids, at).max(digits_behind(ids, at));

@@ -15,7 +15,7 @@ use Rattle.list_search.specs.declared.list.ListError.{ListError}
 use Rattle.list_search.specs.declared.list.ListError.TheVariants as list
 use Rattle.list_search.specs.declared.finding.FindError.{FindError}
 use Rattle.list_search.specs.declared.finding.FindError.TheVariants.{Prefix, BadLine, Unsorted, PrefixTooLong, Memory, Output}
-use Rattle.list_search.specs.ListText.{put_id, ids_read, list_read, IsLineOf, IsFirstBad}
+use Rattle.list_search.specs.ListText.{put_first, ids_read, list_read, IsLineOf, IsFirstBad}
 use Rattle.list_search.specs.Searching.{Search, first_refused, unless, found_from}
 use Rattle.std.specs.Option.{option_or}
 use Rattle.id_lookup.specs.Sorted.{least_hex_len}
@@ -36,7 +36,7 @@ ids_read-means n [] = tt
 ids_read-means n (line ∷ lines) = by_line (full_read hex_letter line) refl (ids_read (n + 1) lines) (ids_read-means (n + 1) lines)
   where
     by_line : (read : Result KindDigits Error) → full_read hex_letter line ≡ read → (more : Result (List (List ℕ)) ListError)
-        → MeansLines (n + 1) lines more → MeansLines n (line ∷ lines) (put_id n read more)
+        → MeansLines (n + 1) lines more → MeansLines n (line ∷ lines) (put_first n read more)
     by_line (Err error) is more h = record {
       before = [];
       line = line;
@@ -90,9 +90,9 @@ ids_read-of n (line ∷ lines) [] h = absurd h
 ids_read-of n (line ∷ lines) (id ∷ ids) h = rw (h.0.1, ids_read-of (n + 1) lines ids h.1) refl
 
 -- a line that reads, before a refusal
-put_id-err : (n : ℕ) (read : Result KindDigits Error) (error : ListError) → IsOk read → put_id n read (Err error) ≡ Err error
-put_id-err n (Ok id) error h = refl
-put_id-err n (Err e) error h = cc h
+put_first-err : (n : ℕ) (read : Result KindDigits Error) (error : ListError) → IsOk read → put_first n read (Err error) ≡ Err error
+put_first-err n (Ok id) error h = refl
+put_first-err n (Err e) error h = cc h
 
 -- lines of which one is the first bad one
 ids_read-bad : (n : ℕ) (before : List (List ℕ)) (line : List ℕ) (after : List (List ℕ)) (error : Error)
@@ -104,7 +104,7 @@ ids_read-bad n [] line after error reads refused =
 ids_read-bad n (l ∷ before) line after error reads refused =
     let more = ids_read-bad (n + 1) before line after error (All-tail (λ l. IsOk (full_read hex_letter l)) l before reads) refused in
     let next : n + 1 + length before ≡ n + length (l ∷ before) = omega arith in
-    rw (more, next) (put_id-err n (full_read hex_letter l) (list.BadLine (n + length (l ∷ before)) error) (All-head (λ l. IsOk (full_read hex_letter l)) l before reads))
+    rw (more, next) (put_first-err n (full_read hex_letter l) (list.BadLine (n + length (l ∷ before)) error) (All-head (λ l. IsOk (full_read hex_letter l)) l before reads))
 
 -- a text with a first bad line
 pub list_read-bad : (text : List ℕ) (m : ℕ) (error : Error) → IsFirstBad 1 (lines_of text) m error → list_read text ≡ Err (list.BadLine m error)

@@ -11,14 +11,14 @@ use Rattle.gix_hash.specs.IdReading.{full_read, whole_of}
 use Rattle.gix_hash.specs.Kind.{kind_of_full_len}
 use Rattle.gix_hash.specs.ObjectId.{id_digits}
 use Rattle.gix_hash.specs.Prefix.{KindDigits}
-use Rattle.gix_hash.specs.Reading.{digit_below, digit_in, digits_read, put_digit, answer_of}
+use Rattle.gix_hash.specs.Reading.{digit_below, digit_in, digits_read, put_digit, reading_of}
 use Rattle.gix_hash.specs.declared.decode.Error.{Error}
 use Rattle.gix_hash.specs.declared.decode.Error.TheVariants.{InvalidHexEncodingLength, Invalid}
 use Rattle.gix_hash.specs.declared.Kind.{Kind}
 use Rattle.gix_hash.specs.declared.ObjectId.{ObjectId}
 use Rattle.list_search.specs.Lines.{is_line_feed, lines_of}
 use Rattle.list_search.specs.ListPieces.{IsLine, ended, NoBadLineEnded, HasTaken, TakesLine}
-use Rattle.list_search.specs.ListText.{put_id, ids_read, list_read, IsFirstRead, RefusesList}
+use Rattle.list_search.specs.ListText.{put_first, ids_read, list_read, IsFirstRead, RefusesList}
 use Rattle.list_search.specs.declared.list.ListError.{ListError}
 use Rattle.list_search.specs.declared.list.ListError.TheVariants.{BadLine, Memory}
 use Rattle.list_search.proofs.LineLemmas.{lines_of-ended, lines_of-last}
@@ -46,10 +46,10 @@ put_front-nil : (more : Result (List (List ℕ)) ListError) → more ≡ put_fro
 put_front-nil (Err error) = refl
 put_front-nil (Ok ids) = refl
 
-put_id-front : (n : ℕ) (id : KindDigits) (front : List (List ℕ)) (more : Result (List (List ℕ)) ListError)
-    → put_id n (Ok id) (put_front front more) ≡ put_front (id.digits ∷ front) more
-put_id-front n id front (Err error) = refl
-put_id-front n id front (Ok ids) = refl
+put_first-front : (n : ℕ) (id : KindDigits) (front : List (List ℕ)) (more : Result (List (List ℕ)) ListError)
+    → put_first n (Ok id) (put_front front more) ≡ put_front (id.digits ∷ front) more
+put_first-front n id front (Err error) = refl
+put_first-front n id front (Ok ids) = refl
 
 -- lines that read as ids, before others
 ids_read-lines : (n : ℕ) (lines : List (List ℕ)) (ids : List ObjectId) (rest : List (List ℕ)) → ReadAs lines ids
@@ -62,7 +62,7 @@ ids_read-lines n (line ∷ lines) (id ∷ ids) rest reads =
     let first : full_read hex_letter line ≡ Ok (whole_of id) = cc reads in
     let others : ReadAs lines ids = cc reads in
     let next : n + 1 + length ids ≡ n + suc (length ids) = omega arith in
-    rw (first, ids_read-lines (n + 1) lines ids rest others, next) (put_id-front n (whole_of id) (map id_digits ids) (ids_read (n + suc (length ids)) rest))
+    rw (first, ids_read-lines (n + 1) lines ids rest others, next) (put_first-front n (whole_of id) (map id_digits ids) (ids_read (n + suc (length ids)) rest))
 
 -- the first line reads, if there is one, and else the last
 first_read : (lines : List (List ℕ)) (ids : List ObjectId) (last : List ℕ) (rest : List (List ℕ)) → ReadAs lines ids → IsOk (full_read hex_letter last)
@@ -216,7 +216,7 @@ unfolding ids_read
 first_of_list text earlier part reads some = by_lines (lines_of text) earlier part reads some
   where
     by_answer : (line : List ℕ) (answer : Result KindDigits Error) (more : Result (List (List ℕ)) ListError) (ids : List (List ℕ)) → full_read hex_letter line ≡ answer
-        → put_id 1 answer more ≡ Ok ids → IsOk (full_read hex_letter line)
+        → put_first 1 answer more ≡ Ok ids → IsOk (full_read hex_letter line)
     by_answer line (Ok id) more ids is h = rw is refl
     by_answer line (Err error) more ids is h = cc h
 
@@ -299,7 +299,7 @@ IsLine-id : (line : List ℕ) (id : KindDigits) → full_read hex_letter line �
 IsLine-id line id reads = by_digits (digits_read hex_letter line) refl (kind_of_full_len (length line)) reads
   where
     by_digits : (digits : Option (List ℕ)) → digits_read hex_letter line ≡ digits → (kind : Option Kind)
-        → answer_of kind digits (InvalidHexEncodingLength (length line)) Invalid ≡ Ok id → IsLine line
+        → reading_of kind digits (InvalidHexEncodingLength (length line)) Invalid ≡ Ok id → IsLine line
     by_digits digits is None h = cc h
     by_digits None is (Some kind) h = cc h
     by_digits (Some ds) is (Some kind) h = IsLine-read line ds is

@@ -11,15 +11,15 @@ use Rattle.list_search.specs.declared.list.ListError.TheVariants.{BadLine, Memor
 use Rattle.list_search.specs.Lines.{lines_of}
 
 -- the digits of what line n reads as, before those of the lines behind it; or the first refusal
-abbrev pub put_id : ℕ → Result KindDigits Error → Result (List (List ℕ)) ListError → Result (List (List ℕ)) ListError
-put_id n (Err error) more = Err (BadLine n error)
-put_id n (Ok id) (Err error) = Err error
-put_id n (Ok id) (Ok ids) = Ok (id.digits ∷ ids)
+abbrev pub put_first : ℕ → Result KindDigits Error → Result (List (List ℕ)) ListError → Result (List (List ℕ)) ListError
+put_first n (Err error) more = Err (BadLine n error)
+put_first n (Ok id) (Err error) = Err error
+put_first n (Ok id) (Ok ids) = Ok (id.digits ∷ ids)
 
 -- the digits of the ids of some lines, counted from n, or the first refusal
 unfoldable pub ids_read : ℕ → List (List ℕ) → Result (List (List ℕ)) ListError
 ids_read n [] = Ok []
-ids_read n (line ∷ lines) = put_id n (full_read hex_letter line) (ids_read (n + 1) lines)
+ids_read n (line ∷ lines) = put_first n (full_read hex_letter line) (ids_read (n + 1) lines)
 
 -- the digits of the ids of a list text, or the first refusal, with its line, counted from 1
 abbrev pub list_read : List ℕ → Result (List (List ℕ)) ListError

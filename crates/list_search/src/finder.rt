@@ -28,7 +28,8 @@ impl<A: Allocator, O: ListOrder> Finder<A, O> {
     pub fn new(alloc: A, order: O) -> Self
         requires { O.has_seen order [] }
         ensures same { O.sought result.order ≡ O.sought order }
-        ensures known { IsKnown (O.sought order) (O.has_seen result.order) [] result.count result.last result.refusal result.found.items }
+        ensures known { IsKnown (O.sought order)
+            (O.has_seen result.order) [] result.count result.last result.refusal result.found.items }
         ensures none { result.count ≡ 0 }
     {
         Finder {
@@ -94,7 +95,8 @@ impl<A: Allocator, O: ListOrder> Finder<A, O> {
 
 // The last of the ids, or `last` where there is none.
 fn last_of(last: Option<ObjectId>, ids: &[ObjectId]) -> Option<ObjectId>
-    ensures { option_map id_digits result ≡ last_behind (option_map id_digits last) (map id_digits ids.now) }
+    ensures { option_map id_digits result
+        ≡ last_behind (option_map id_digits last) (map id_digits ids.now) }
 {
     let len = ids.len();
     if len == 0 {

@@ -97,12 +97,17 @@ pub fn find<A: Allocator, W: Sink>(
     out: &mut W,
 ) -> Result<usize, FindError>
     requires { W.has_failed out.old ≡ false }
-    ensures found { IfOk result (IsFound hex_letter (finding hex_letter prefix.now list.now) (W.taken out.old) (W.taken out.new)) }
-    ensures refused { IfErr result (λ e. (finding hex_letter prefix.now list.now ≡ Err e) ⊎ (e ≡ FindError.Memory) ⊎ (e ≡ FindError.Output)) }
-    ensures memory { IsErrOf result FindError.Memory → IsOk (prefix_read hex_letter 4 prefix.now) × IsFirstRead (lines_of list.now) }
+    ensures found { IfOk result (IsFound hex_letter (finding hex_letter prefix.now list.now)
+        (W.taken out.old) (W.taken out.new)) }
+    ensures refused { IfErr result (λ e. (finding hex_letter prefix.now list.now ≡ Err e)
+        ⊎ (e ≡ FindError.Memory) ⊎ (e ≡ FindError.Output)) }
+    ensures memory { IsErrOf result FindError.Memory
+        → IsOk (prefix_read hex_letter 4 prefix.now) × IsFirstRead (lines_of list.now) }
     ensures untouched { IfErr result (λ e. e ≢ FindError.Output → out.new ≡ out.old) }
     ensures output { IsErrOf result FindError.Output ↔ (W.has_failed out.new ≡ true) }
-    ensures part { IsErrOf result FindError.Output → IsFoundInPart hex_letter (finding hex_letter prefix.now list.now) (W.taken out.old) (W.taken out.new) }
+    ensures part { IsErrOf result FindError.Output
+        → IsFoundInPart hex_letter (finding hex_letter prefix.now list.now) (W.taken out.old)
+        (W.taken out.new) }
 {
     search(alloc, Alphabet::Hex, prefix, list, out)
 }
@@ -116,12 +121,17 @@ pub fn find_change<A: Allocator, W: Sink>(
     out: &mut W,
 ) -> Result<usize, FindError>
     requires { W.has_failed out.old ≡ false }
-    ensures found { IfOk result (IsFound reverse_letter (finding reverse_letter letters.now list.now) (W.taken out.old) (W.taken out.new)) }
-    ensures refused { IfErr result (λ e. (finding reverse_letter letters.now list.now ≡ Err e) ⊎ (e ≡ FindError.Memory) ⊎ (e ≡ FindError.Output)) }
-    ensures memory { IsErrOf result FindError.Memory → IsOk (prefix_read reverse_letter 4 letters.now) × IsFirstRead (lines_of list.now) }
+    ensures found { IfOk result (IsFound reverse_letter
+        (finding reverse_letter letters.now list.now) (W.taken out.old) (W.taken out.new)) }
+    ensures refused { IfErr result (λ e. (finding reverse_letter letters.now list.now ≡ Err e)
+        ⊎ (e ≡ FindError.Memory) ⊎ (e ≡ FindError.Output)) }
+    ensures memory { IsErrOf result FindError.Memory
+        → IsOk (prefix_read reverse_letter 4 letters.now) × IsFirstRead (lines_of list.now) }
     ensures untouched { IfErr result (λ e. e ≢ FindError.Output → out.new ≡ out.old) }
     ensures output { IsErrOf result FindError.Output ↔ (W.has_failed out.new ≡ true) }
-    ensures part { IsErrOf result FindError.Output → IsFoundInPart reverse_letter (finding reverse_letter letters.now list.now) (W.taken out.old) (W.taken out.new) }
+    ensures part { IsErrOf result FindError.Output
+        → IsFoundInPart reverse_letter (finding reverse_letter letters.now list.now)
+        (W.taken out.old) (W.taken out.new) }
 {
     search(alloc, Alphabet::Reverse, letters, list, out)
 }
@@ -135,12 +145,17 @@ fn search<A: Allocator, W: Sink>(
     out: &mut W,
 ) -> Result<usize, FindError>
     requires { W.has_failed out.old ≡ false }
-    ensures found { IfOk result (IsFound (letter_of alphabet) (finding (letter_of alphabet) prefix.now list.now) (W.taken out.old) (W.taken out.new)) }
-    ensures refused { IfErr result (λ e. (finding (letter_of alphabet) prefix.now list.now ≡ Err e) ⊎ (e ≡ FindError.Memory) ⊎ (e ≡ FindError.Output)) }
-    ensures memory { IsErrOf result FindError.Memory → IsOk (prefix_read (letter_of alphabet) 4 prefix.now) × IsFirstRead (lines_of list.now) }
+    ensures found { IfOk result (IsFound (letter_of alphabet)
+        (finding (letter_of alphabet) prefix.now list.now) (W.taken out.old) (W.taken out.new)) }
+    ensures refused { IfErr result (λ e. (finding (letter_of alphabet) prefix.now list.now ≡ Err e)
+        ⊎ (e ≡ FindError.Memory) ⊎ (e ≡ FindError.Output)) }
+    ensures memory { IsErrOf result FindError.Memory
+        → IsOk (prefix_read (letter_of alphabet) 4 prefix.now) × IsFirstRead (lines_of list.now) }
     ensures untouched { IfErr result (λ e. e ≢ FindError.Output → out.new ≡ out.old) }
     ensures output { IsErrOf result FindError.Output ↔ (W.has_failed out.new ≡ true) }
-    ensures part { IsErrOf result FindError.Output → IsFoundInPart (letter_of alphabet) (finding (letter_of alphabet) prefix.now list.now) (W.taken out.old) (W.taken out.new) }
+    ensures part { IsErrOf result FindError.Output
+        → IsFoundInPart (letter_of alphabet) (finding (letter_of alphabet) prefix.now list.now)
+        (W.taken out.old) (W.taken out.new) }
 {
     let prefix = alphabet.read_prefix(prefix).map_err(FindError::Prefix)?;
     let ids = find_in_text(&alloc, Sorted::new(prefix), list)??;

@@ -103,13 +103,18 @@ pub fn find_in<A: Allocator, W: Sink>(
     out: &mut W,
 ) -> Result<usize, FindInError>
     requires { W.has_failed out.old ≡ false }
-    ensures found { IfOk result (IsFound hex_letter (finding_in kind prefix.now list.now) (W.taken out.old) (W.taken out.new)) }
-    ensures refused { IfErr result (λ e. (finding_in kind prefix.now list.now ≡ Err e) ⊎ (e ≡ FindInError.Memory) ⊎ (e ≡ FindInError.Output)) }
+    ensures found { IfOk result (IsFound hex_letter (finding_in kind prefix.now list.now)
+        (W.taken out.old) (W.taken out.new)) }
+    ensures refused { IfErr result (λ e. (finding_in kind prefix.now list.now ≡ Err e)
+        ⊎ (e ≡ FindInError.Memory) ⊎ (e ≡ FindInError.Output)) }
     ensures same_kind { IfErr result (λ e. (other : Kind) → e ≢ FindInError.OtherKind other) }
-    ensures memory { IsErrOf result FindInError.Memory → IsOk (prefix_read_in kind hex_letter prefix.now) × IsFirstRead (lines_of list.now) }
+    ensures memory { IsErrOf result FindInError.Memory
+        → IsOk (prefix_read_in kind hex_letter prefix.now) × IsFirstRead (lines_of list.now) }
     ensures untouched { IfErr result (λ e. e ≢ FindInError.Output → out.new ≡ out.old) }
     ensures output { IsErrOf result FindInError.Output ↔ (W.has_failed out.new ≡ true) }
-    ensures part { IsErrOf result FindInError.Output → IsFoundInPart hex_letter (finding_in kind prefix.now list.now) (W.taken out.old) (W.taken out.new) }
+    ensures part { IsErrOf result FindInError.Output
+        → IsFoundInPart hex_letter (finding_in kind prefix.now list.now) (W.taken out.old)
+        (W.taken out.new) }
 {
     let prefix = Prefix::from_hex_in(kind, prefix).map_err(FindInError::Prefix)?;
     let ids = find_in_text(&alloc, Rising::new(kind, prefix), list)??;

@@ -90,9 +90,11 @@ pub fn find_in_from<A: Allocator, R: Source, W: Sink>(
     ensures stopped { IfErr result (λ e.
         SearchStopsIn kind prefix.now e (R.remaining list.old) (R.remaining list.new) (W.taken out.old) (W.taken out.new)) }
     ensures unread { IsErr (prefix_read_in kind hex_letter prefix.now) → list.new ≡ list.old }
-    ensures untouched { IfErr result (λ e. e ≢ FindInFromError.Search FindInError.Output → out.new ≡ out.old) }
+    ensures untouched { IfErr result (λ e. e ≢ FindInFromError.Search FindInError.Output
+        → out.new ≡ out.old) }
     ensures input { IsErrOf result FindInFromError.Input ↔ (R.has_failed list.new ≡ true) }
-    ensures output { IsErrOf result (FindInFromError.Search FindInError.Output) ↔ (W.has_failed out.new ≡ true) }
+    ensures output { IsErrOf result (FindInFromError.Search FindInError.Output)
+        ↔ (W.has_failed out.new ≡ true) }
 {
     let prefix = match Prefix::from_hex_in(kind, prefix) {
         Ok(prefix) => prefix,

@@ -38,8 +38,10 @@ pub trait ListOrder: Drop {
     ) -> Result<&'p [ObjectId], Self::Error>
         requires { before + length part.now < 2 ^ 64 }
         ensures same { sought self.new ≡ sought self.old }
-        ensures seen { OnOk result ((ids : List (List ℕ)) → has_seen self.old ids → has_seen self.new (ids ++ map id_digits part.now)) }
-        ensures in_order { OnOk result (first_refused (sought self.old) (option_map id_digits last) (before + 1) (map id_digits part.now) ≡ None) }
+        ensures seen { OnOk result ((ids : List (List ℕ)) → has_seen self.old ids
+            → has_seen self.new (ids ++ map id_digits part.now)) }
+        ensures in_order { OnOk result (first_refused (sought self.old) (option_map id_digits last)
+            (before + 1) (map id_digits part.now) ≡ None) }
         ensures found { IfOk result (λ found. (sought self.old).too_long (map id_digits part.now) ≡ None
             → map id_digits found.now ≡ matches (sought self.old).digits (map id_digits part.now)) }
         ensures parts { OnOk result ((ids : List (List ℕ)) → (sought self.old).too_long (ids ++ map id_digits part.now) ≡ None
@@ -157,8 +159,12 @@ fn sorted_behind(
 ) -> Result<SortedIds<'_>, FindError>
     requires { before + length ids.now < 2 ^ 64 }
     ensures same { IfOk result (λ list. list ≡ map id_digits ids.now) }
-    ensures sorted { OnOk result ((digits : List ℕ) → first_refused (in_sorted digits) (option_map id_digits last) (before + 1) (map id_digits ids.now) ≡ None) }
-    ensures falls { IfErr result (λ e. (digits : List ℕ) → first_refused (in_sorted digits) (option_map id_digits last) (before + 1) (map id_digits ids.now) ≡ Some e) }
+    ensures sorted { OnOk result ((digits : List ℕ)
+        → first_refused (in_sorted digits) (option_map id_digits last) (before + 1)
+        (map id_digits ids.now) ≡ None) }
+    ensures falls { IfErr result (λ e. (digits : List ℕ)
+        → first_refused (in_sorted digits) (option_map id_digits last) (before + 1)
+        (map id_digits ids.now) ≡ Some e) }
 {
     if falls_behind(last, ids) {
         return Err(FindError::Unsorted { line: before + 1 });
@@ -190,9 +196,14 @@ fn index_behind(
     ids: &[ObjectId],
 ) -> Result<IdIndex<'_>, FindInError>
     requires { before + length ids.now < 2 ^ 64 }
-    ensures same { IfOk result (λ index. index ≡ record { kind = kind; ids = map id_digits ids.now }) }
-    ensures index { OnOk result ((digits : List ℕ) → first_refused (in_rising kind digits) (option_map id_digits last) (before + 1) (map id_digits ids.now) ≡ None) }
-    ensures bad { IfErr result (λ e. (digits : List ℕ) → first_refused (in_rising kind digits) (option_map id_digits last) (before + 1) (map id_digits ids.now) ≡ Some e) }
+    ensures same { IfOk result (λ index. index
+        ≡ record { kind = kind; ids = map id_digits ids.now }) }
+    ensures index { OnOk result ((digits : List ℕ)
+        → first_refused (in_rising kind digits) (option_map id_digits last) (before + 1)
+        (map id_digits ids.now) ≡ None) }
+    ensures bad { IfErr result (λ e. (digits : List ℕ)
+        → first_refused (in_rising kind digits) (option_map id_digits last) (before + 1)
+        (map id_digits ids.now) ≡ Some e) }
 {
     if stays_behind(kind, last, ids) {
         return Err(FindInError::NotRising { line: before + 1 });

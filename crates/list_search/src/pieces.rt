@@ -50,7 +50,8 @@ impl<A: Allocator> ListReader<A> {
         ensures ok { OnOk result ((earlier : List ObjectId) (text : List ℕ) → HasTaken (earlier ++ self.old.ids.items) self.old.line self.old.len text
             → HasTaken (earlier ++ self.new.ids.items) self.new.line self.new.len (text ++ piece.now)) }
         ensures dropped { OnOk result (self.new.dropped ≡ self.old.dropped) }
-        ensures short { OnOk result (length self.new.ids.items + self.new.len ≤ length self.old.ids.items + self.old.len + length piece.now) }
+        ensures short { OnOk result (length self.new.ids.items + self.new.len
+            ≤ length self.old.ids.items + self.old.len + length piece.now) }
         ensures err { IfErr result (λ e. (earlier : List ObjectId) (text more : List ℕ) → length earlier ≡ self.old.dropped
             → HasTaken (earlier ++ self.old.ids.items) self.old.line self.old.len text → RefusesList ((text ++ piece.now) ++ more) e) }
     {
@@ -107,7 +108,8 @@ impl<A: Allocator> ListReader<A> {
             → HasTaken (earlier ++ self.old.ids.items) self.old.line self.old.len (text ++ take at piece.now)
             → HasTaken (earlier ++ self.new.ids.items) self.new.line self.new.len (text ++ take next piece.now)) }
         ensures dropped { OnOk result (self.new.dropped ≡ self.old.dropped) }
-        ensures short { IfOk result (λ next. length self.new.ids.items + self.new.len + at ≤ length self.old.ids.items + self.old.len + next) }
+        ensures short { IfOk result (λ next. length self.new.ids.items + self.new.len + at
+            ≤ length self.old.ids.items + self.old.len + next) }
         ensures err { IfErr result (λ e. (earlier : List ObjectId) (text more : List ℕ) → length earlier ≡ self.old.dropped
             → HasTaken (earlier ++ self.old.ids.items) self.old.line self.old.len (text ++ take at piece.now)
             → RefusesList ((text ++ piece.now) ++ more) e) }
@@ -127,7 +129,8 @@ impl<A: Allocator> ListReader<A> {
         ensures ok { OnOk result ((earlier : List ObjectId) (text : List ℕ) → HasTaken (earlier ++ self.old.ids.items) self.old.line self.old.len text
             → HasTaken (earlier ++ self.new.ids.items) self.new.line self.new.len (text ++ byte ∷ [])) }
         ensures dropped { OnOk result (self.new.dropped ≡ self.old.dropped) }
-        ensures short { OnOk result (length self.new.ids.items + self.new.len ≤ length self.old.ids.items + self.old.len + 1) }
+        ensures short { OnOk result (length self.new.ids.items + self.new.len
+            ≤ length self.old.ids.items + self.old.len + 1) }
         ensures err { IfErr result (λ e. (earlier : List ObjectId) (text more : List ℕ) → length earlier ≡ self.old.dropped
             → HasTaken (earlier ++ self.old.ids.items) self.old.line self.old.len text → RefusesList (text ++ byte ∷ more) e) }
     {
@@ -166,7 +169,8 @@ impl<A: Allocator> ListReader<A> {
 
 // Reads a line of which the first 64 bytes are kept: a longer one is refused by its length.
 fn read_kept(kept: &[u8; MAX_DIGITS], len: usize) -> Result<ObjectId, decode::Error>
-    ensures { (line : List ℕ) → len ≡ length line → take 64 line ≡ take len kept.now → id_answered result ≡ full_read hex_letter line }
+    ensures { (line : List ℕ) → len ≡ length line → take 64 line ≡ take len kept.now
+        → id_answered result ≡ full_read hex_letter line }
 {
     if len > MAX_DIGITS {
         return Err(decode::Error::InvalidHexEncodingLength(len));

@@ -48,7 +48,8 @@ pub fn find_in_text<A: Allocator + Copy, O: ListOrder>(
     text: &[u8],
 ) -> Result<Result<Vec<ObjectId, A>, O::Error>, ListError>
     requires { O.has_seen order [] }
-    ensures found { IfOk result (λ found. IsFoundAmong (O.sought order) text.now (result_map_both (λ ids. map id_digits ids.items) (λ error. error) found)) }
+    ensures found { IfOk result (λ found. IsFoundAmong (O.sought order) text.now
+        (result_map_both (λ ids. map id_digits ids.items) (λ error. error) found)) }
     ensures refused { IfErr result (RefusesList text.now) }
 {
     let mut reader = ListReader::new(alloc);
@@ -77,7 +78,8 @@ pub fn find_in_source<A: Allocator + Copy, O: ListOrder, R: Source>(
     ensures found { IfOk result (λ found. (text : List ℕ) × GivesAll (R.remaining input.old) (R.remaining input.new) text
         × IsFoundAmong (O.sought order) text (result_map_both (λ ids. map id_digits ids.items) (λ error. error) found)) }
     ensures stands { OnOk result (R.has_failed input.new ≡ false) }
-    ensures stopped { IfErr result (λ e. ReadingStops e (R.remaining input.old) (R.remaining input.new)) }
+    ensures stopped { IfErr result (λ e. ReadingStops e (R.remaining input.old)
+        (R.remaining input.new)) }
     ensures input { IsErrOf result ReadError.Input ↔ (R.has_failed input.new ≡ true) }
 {
     let mut reader = ListReader::new(alloc);

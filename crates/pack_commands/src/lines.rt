@@ -39,7 +39,8 @@ pub(crate) fn put_line(file: &File<'_>, at: usize, line: &mut [u8]) -> usize
 fn put_name(offset: u64, id: oid<'_>, crc: u32, line: &mut [u8]) -> usize
     requires { length line.old ≡ MAX_LINE_LEN }
     ensures len { result ≤ MAX_LINE_LEN }
-    ensures text { take result line.new ≡ line_of (decimal offset) (spelling hex_letter (oid_digits id.entry)) (crc_text crc) }
+    ensures text { take result line.new
+        ≡ line_of (decimal offset) (spelling hex_letter (oid_digits id.entry)) (crc_text crc) }
 {
     let mut number = Buffer::new();
     let offset = number.format(offset).as_bytes();
@@ -57,7 +58,9 @@ pub(crate) fn put_names(id: oid<'_>, len: usize, line: &mut [u8]) -> usize
     requires digits { len ≤ length (oid_digits id) }
     requires room { 130 ≤ length line.old }
     ensures len { result ≤ 130 }
-    ensures text { take result line.new ≡ line_of_name (spelling hex_letter (take len (oid_digits id.entry))) (spelling hex_letter (oid_digits id.entry)) }
+    ensures text { take result line.new
+        ≡ line_of_name (spelling hex_letter (take len (oid_digits id.entry)))
+        (spelling hex_letter (oid_digits id.entry)) }
 {
     // The id is cut to its first digits by what is put behind them.
     put_id(line, 0, id);
@@ -82,7 +85,8 @@ fn put_id(line: &mut [u8], at: usize, id: oid<'_>) -> usize
     requires { at + MAX_ID_LEN ≤ length line.old }
     ensures end { result ≡ at + length (oid_digits id.entry) }
     ensures most { result ≤ at + MAX_ID_LEN }
-    ensures text { take result line.new ≡ take at line.old ++ spelling hex_letter (oid_digits id.entry) }
+    ensures text { take result line.new
+        ≡ take at line.old ++ spelling hex_letter (oid_digits id.entry) }
 {
     Alphabet::Hex.put_id(id, &mut line[at..]);
     at + id.kind().len_in_hex()

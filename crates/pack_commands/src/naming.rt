@@ -22,9 +22,11 @@ const MAX_LINE_LEN: usize = 130;
 pub fn names<W: Sink>(file: &File<'_>, out: &mut W) -> Result<usize, WriteFailed>
     requires { W.has_failed out.old ≡ false }
     ensures count { IfOk result (λ count. count ≡ length (names_in file.now.kind file.now.bytes)) }
-    ensures written { OnOk result (Appends (W.taken out.old) (W.taken out.new) (named file.now.kind file.now.bytes)) }
+    ensures written { OnOk result (Appends (W.taken out.old) (W.taken out.new)
+        (named file.now.kind file.now.bytes)) }
     ensures stands { OnOk result (W.has_failed out.new ≡ false) }
-    ensures part { OnErr result (AppendsPart (W.taken out.old) (W.taken out.new) (named file.now.kind file.now.bytes)) }
+    ensures part { OnErr result (AppendsPart (W.taken out.old) (W.taken out.new)
+        (named file.now.kind file.now.bytes)) }
     ensures failed { OnErr result (W.has_failed out.new ≡ true) }
 {
     let count = file.num_objects();

@@ -57,11 +57,14 @@ impl From<WriteFailed> for IndexError {
 pub fn show_in<W: Sink>(bytes: &[u8], kind: Kind, out: &mut W) -> Result<usize, IndexError>
     requires { W.has_failed out.old ≡ false }
     ensures count { IfOk result (λ count. count ≡ length (names_in kind bytes.now)) }
-    ensures written { OnOk result (Appends (W.taken out.old) (W.taken out.new) (shown kind bytes.now)) }
-    ensures refused { (e : index.Error) → (result ≡ Err (IndexError.Index e)) ↔ (opened kind bytes.now ≡ Err e) }
+    ensures written { OnOk result (Appends (W.taken out.old) (W.taken out.new)
+        (shown kind bytes.now)) }
+    ensures refused { (e : index.Error)
+        → (result ≡ Err (IndexError.Index e)) ↔ (opened kind bytes.now ≡ Err e) }
     ensures untouched { IfErr result (λ e. e ≢ IndexError.Output → out.new ≡ out.old) }
     ensures output { IsErrOf result IndexError.Output ↔ (W.has_failed out.new ≡ true) }
-    ensures part { IsErrOf result IndexError.Output → AppendsPart (W.taken out.old) (W.taken out.new) (shown kind bytes.now) }
+    ensures part { IsErrOf result IndexError.Output
+        → AppendsPart (W.taken out.old) (W.taken out.new) (shown kind bytes.now) }
 {
     let file = File::try_new(bytes, kind)?;
     Ok(show(&file, out)?)
@@ -78,12 +81,16 @@ pub fn find_in<W: Sink>(
 ) -> Result<usize, IndexError>
     requires kind { prefix.now.kind ≡ kind }
     requires output { W.has_failed out.old ≡ false }
-    ensures count { IfOk result (λ count. count ≡ count_by (λ id. begins_with id prefix.now) (names_in kind bytes.now)) }
-    ensures written { OnOk result (Appends (W.taken out.old) (W.taken out.new) (found prefix.now kind bytes.now)) }
-    ensures refused { (e : index.Error) → (result ≡ Err (IndexError.Index e)) ↔ (opened kind bytes.now ≡ Err e) }
+    ensures count { IfOk result (λ count. count
+        ≡ count_by (λ id. begins_with id prefix.now) (names_in kind bytes.now)) }
+    ensures written { OnOk result (Appends (W.taken out.old) (W.taken out.new)
+        (found prefix.now kind bytes.now)) }
+    ensures refused { (e : index.Error)
+        → (result ≡ Err (IndexError.Index e)) ↔ (opened kind bytes.now ≡ Err e) }
     ensures untouched { IfErr result (λ e. e ≢ IndexError.Output → out.new ≡ out.old) }
     ensures output { IsErrOf result IndexError.Output ↔ (W.has_failed out.new ≡ true) }
-    ensures part { IsErrOf result IndexError.Output → AppendsPart (W.taken out.old) (W.taken out.new) (found prefix.now kind bytes.now) }
+    ensures part { IsErrOf result IndexError.Output
+        → AppendsPart (W.taken out.old) (W.taken out.new) (found prefix.now kind bytes.now) }
 {
     let file = File::try_new(bytes, kind)?;
     Ok(find(&file, prefix, out)?)
@@ -95,11 +102,14 @@ pub fn find_in<W: Sink>(
 pub fn names_in<W: Sink>(bytes: &[u8], kind: Kind, out: &mut W) -> Result<usize, IndexError>
     requires { W.has_failed out.old ≡ false }
     ensures count { IfOk result (λ count. count ≡ length (names_in kind bytes.now)) }
-    ensures written { OnOk result (Appends (W.taken out.old) (W.taken out.new) (named kind bytes.now)) }
-    ensures refused { (e : index.Error) → (result ≡ Err (IndexError.Index e)) ↔ (opened kind bytes.now ≡ Err e) }
+    ensures written { OnOk result (Appends (W.taken out.old) (W.taken out.new)
+        (named kind bytes.now)) }
+    ensures refused { (e : index.Error)
+        → (result ≡ Err (IndexError.Index e)) ↔ (opened kind bytes.now ≡ Err e) }
     ensures untouched { IfErr result (λ e. e ≢ IndexError.Output → out.new ≡ out.old) }
     ensures output { IsErrOf result IndexError.Output ↔ (W.has_failed out.new ≡ true) }
-    ensures part { IsErrOf result IndexError.Output → AppendsPart (W.taken out.old) (W.taken out.new) (named kind bytes.now) }
+    ensures part { IsErrOf result IndexError.Output
+        → AppendsPart (W.taken out.old) (W.taken out.new) (named kind bytes.now) }
 {
     let file = File::try_new(bytes, kind)?;
     Ok(names(&file, out)?)

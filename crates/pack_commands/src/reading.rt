@@ -35,10 +35,14 @@ impl From<AllocError> for ReadError {
 /// beginning of its bytes, and that is lost. The source must not have failed before.
 pub fn read_all<A: Allocator, R: Source>(alloc: A, input: &mut R) -> Result<Vec<u8, A>, ReadError>
     requires { R.has_failed input.old ≡ false }
-    ensures all { IfOk result (λ bytes. Consumes (R.remaining input.old) (R.remaining input.new) bytes.items) }
+    ensures all { IfOk result (λ bytes. Consumes (R.remaining input.old)
+        (R.remaining input.new) bytes.items) }
     ensures end { OnOk result (IsAtEnd (R.remaining input.new)) }
-    ensures given { OnErr result ((given : List ℕ) × Consumes (R.remaining input.old) (R.remaining input.new) given) }
-    ensures memory { IsErrOf result ReadError.Memory → (given : List ℕ) × (given ≢ []) × Consumes (R.remaining input.old) (R.remaining input.new) given }
+    ensures given { OnErr result ((given : List ℕ)
+        × Consumes (R.remaining input.old) (R.remaining input.new) given) }
+    ensures memory { IsErrOf result ReadError.Memory
+        → (given : List ℕ) × (given ≢ [])
+        × Consumes (R.remaining input.old) (R.remaining input.new) given }
     ensures input { IsErrOf result ReadError.Input ↔ (R.has_failed input.new ≡ true) }
 {
     let mut bytes = Vec::new(alloc);

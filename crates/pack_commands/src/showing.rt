@@ -18,9 +18,11 @@ use pack_index::File;
 pub fn show<W: Sink>(file: &File<'_>, out: &mut W) -> Result<usize, WriteFailed>
     requires { W.has_failed out.old ≡ false }
     ensures count { IfOk result (λ count. count ≡ length (names_in file.now.kind file.now.bytes)) }
-    ensures written { OnOk result (Appends (W.taken out.old) (W.taken out.new) (shown file.now.kind file.now.bytes)) }
+    ensures written { OnOk result (Appends (W.taken out.old) (W.taken out.new)
+        (shown file.now.kind file.now.bytes)) }
     ensures stands { OnOk result (W.has_failed out.new ≡ false) }
-    ensures part { OnErr result (AppendsPart (W.taken out.old) (W.taken out.new) (shown file.now.kind file.now.bytes)) }
+    ensures part { OnErr result (AppendsPart (W.taken out.old) (W.taken out.new)
+        (shown file.now.kind file.now.bytes)) }
     ensures failed { OnErr result (W.has_failed out.new ≡ true) }
 {
     show_run(file, 0, file.num_objects(), out)
@@ -30,10 +32,13 @@ pub fn show<W: Sink>(file: &File<'_>, out: &mut W) -> Result<usize, WriteFailed>
 pub fn find<W: Sink>(file: &File<'_>, prefix: &Prefix, out: &mut W) -> Result<usize, WriteFailed>
     requires kind { prefix.now.kind ≡ file.now.kind }
     requires output { W.has_failed out.old ≡ false }
-    ensures count { IfOk result (λ count. count ≡ count_by (λ id. begins_with id prefix.now) (names_in file.now.kind file.now.bytes)) }
-    ensures written { OnOk result (Appends (W.taken out.old) (W.taken out.new) (found prefix.now file.now.kind file.now.bytes)) }
+    ensures count { IfOk result (λ count. count
+        ≡ count_by (λ id. begins_with id prefix.now) (names_in file.now.kind file.now.bytes)) }
+    ensures written { OnOk result (Appends (W.taken out.old) (W.taken out.new)
+        (found prefix.now file.now.kind file.now.bytes)) }
     ensures stands { OnOk result (W.has_failed out.new ≡ false) }
-    ensures part { OnErr result (AppendsPart (W.taken out.old) (W.taken out.new) (found prefix.now file.now.kind file.now.bytes)) }
+    ensures part { OnErr result (AppendsPart (W.taken out.old) (W.taken out.new)
+        (found prefix.now file.now.kind file.now.bytes)) }
     ensures failed { OnErr result (W.has_failed out.new ≡ true) }
 {
     let run = file.find_prefix(prefix);
@@ -51,9 +56,11 @@ fn show_run<W: Sink>(
     requires in_range { end ≤ length (names_in file.now.kind file.now.bytes) }
     requires output { W.has_failed out.old ≡ false }
     ensures count { IfOk result (λ count. count ≡ end - start) }
-    ensures written { OnOk result (Appends (W.taken out.old) (W.taken out.new) (lines_of (index_line file.now.kind file.now.bytes) start end)) }
+    ensures written { OnOk result (Appends (W.taken out.old) (W.taken out.new)
+        (lines_of (index_line file.now.kind file.now.bytes) start end)) }
     ensures stands { OnOk result (W.has_failed out.new ≡ false) }
-    ensures part { OnErr result (AppendsPart (W.taken out.old) (W.taken out.new) (lines_of (index_line file.now.kind file.now.bytes) start end)) }
+    ensures part { OnErr result (AppendsPart (W.taken out.old) (W.taken out.new)
+        (lines_of (index_line file.now.kind file.now.bytes) start end)) }
     ensures failed { OnErr result (W.has_failed out.new ≡ true) }
 {
     let mut line = [0; MAX_LINE_LEN];

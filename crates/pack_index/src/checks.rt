@@ -71,7 +71,8 @@ fn has_tables(bytes: &[u8], kind: Kind) -> bool
 pub(crate) fn first_wrong_count(bytes: &[u8], fan_out: &FanOut, kind: Kind) -> Option<u8>
     requires tables { HasTables kind bytes.now }
     requires fan_out { IsFanOut fan_out.now (names_in kind bytes.now) }
-    ensures { MatchOption result ((b : ℕ) → b < 256 → HasCount kind bytes.now b) (IsFirstNot (HasCount kind bytes.now) 256) }
+    ensures { MatchOption result ((b : ℕ) → b < 256 → HasCount kind bytes.now b)
+        (IsFirstNot (HasCount kind bytes.now) 256) }
 {
     for byte in 0..=255 {
         if word_at(bytes, 8 + 4 * usize::from(byte)) as usize != fan_out.up_to(byte) {
@@ -84,7 +85,8 @@ pub(crate) fn first_wrong_count(bytes: &[u8], fan_out: &FanOut, kind: Kind) -> O
 // The first name that has no offset.
 pub(crate) fn first_without_offset(bytes: &[u8], kind: Kind) -> Option<usize>
     requires { HasTables kind bytes.now }
-    ensures { MatchOption result ((k : ℕ) → k < count_in bytes.now → HasOffset kind bytes.now k) (IsFirstNot (HasOffset kind bytes.now) (count_in bytes.now)) }
+    ensures { MatchOption result ((k : ℕ) → k < count_in bytes.now → HasOffset kind bytes.now k)
+        (IsFirstNot (HasOffset kind bytes.now) (count_in bytes.now)) }
 {
     for at in 0..count_in(bytes) as usize {
         if !has_offset(bytes, kind, at) {

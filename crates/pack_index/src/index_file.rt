@@ -101,7 +101,8 @@ impl<'a> File<'a> {
     /// The name at a place.
     pub fn oid_at_index(&self, at: usize) -> oid<'_>
         requires { at < length (names_in self.now.kind self.now.bytes) }
-        ensures { HoldsAt (λ id. oid_digits result ≡ id) (names_in self.now.kind self.now.bytes) at }
+        ensures { HoldsAt (λ id. oid_digits result ≡ id)
+            (names_in self.now.kind self.now.bytes) at }
     {
         self.names.get(at)
     }
@@ -172,16 +173,20 @@ impl<'a> File<'a> {
     pub fn abbreviate(&self, at: usize) -> Option<Prefix>
         requires { at < length (names_in self.now.kind self.now.bytes) }
         ensures kind { IfSome result (λ name. name.kind ≡ self.now.kind) }
-        ensures name { IfSome result (λ name. IsShortestName (names_in self.now.kind self.now.bytes) at name.digits) }
-        ensures run { IfSome result (λ name. IsRun name (names_in self.now.kind self.now.bytes) (record { start = at; end = at + 1 })) }
-        ensures none { IsNone result → (name : List ℕ) → ¬ IsShortestName (names_in self.now.kind self.now.bytes) at name }
+        ensures name { IfSome result (λ name. IsShortestName
+            (names_in self.now.kind self.now.bytes) at name.digits) }
+        ensures run { IfSome result (λ name. IsRun name (names_in self.now.kind self.now.bytes)
+            (record { start = at; end = at + 1 })) }
+        ensures none { IsNone result → (name : List ℕ)
+            → ¬ IsShortestName (names_in self.now.kind self.now.bytes) at name }
     {
         self.names.abbreviate(at)
     }
 
     /// The digest of the pack, as the index has it.
     pub fn pack_checksum(&self) -> oid<'a>
-        ensures { oid_bytes result ≡ slice_range self.now.bytes (tables_end self.now.kind self.now.bytes) (digest_at self.now.kind self.now.bytes) }
+        ensures { oid_bytes result ≡ slice_range self.now.bytes
+            (tables_end self.now.kind self.now.bytes) (digest_at self.now.kind self.now.bytes) }
     {
         let kind = self.names.kind();
         let bytes = self.bytes;
@@ -190,8 +195,11 @@ impl<'a> File<'a> {
 
     /// The digest of all bytes of the index before it.
     pub fn index_checksum(&self) -> oid<'a>
-        ensures last { oid_bytes result ≡ drop (digest_at self.now.kind self.now.bytes) self.now.bytes }
-        ensures digest { oid_bytes result ≡ id_bytes (digest self.now.kind (take (digest_at self.now.kind self.now.bytes) self.now.bytes)) }
+        ensures last { oid_bytes result ≡ drop
+            (digest_at self.now.kind self.now.bytes) self.now.bytes }
+        ensures digest { oid_bytes result
+            ≡ id_bytes (digest self.now.kind
+            (take (digest_at self.now.kind self.now.bytes) self.now.bytes)) }
     {
         let kind = self.names.kind();
         let bytes = self.bytes;

@@ -81,10 +81,13 @@ impl<'a> Names<'a> {
     // The shortest name of the member at a place, if it has one.
     pub(crate) fn abbreviate(&self, at: usize) -> Option<Prefix>
         requires { at < length (list_of self.now) }
-        ensures kind { IfSome result (λ name. hex_len_of name.kind ≡ length (slice_index_or (list_of self.now) at [])) }
+        ensures kind { IfSome result (λ name. hex_len_of name.kind
+            ≡ length (slice_index_or (list_of self.now) at [])) }
         ensures name { IfSome result (λ name. IsShortestName (list_of self.now) at name.digits) }
-        ensures run { IfSome result (λ name. IsRun name (list_of self.now) (record { start = at; end = at + 1 })) }
-        ensures none { IsNone result → (name : List ℕ) → ¬ IsShortestName (list_of self.now) at name }
+        ensures run { IfSome result (λ name. IsRun name (list_of self.now)
+            (record { start = at; end = at + 1 })) }
+        ensures none { IsNone result → (name : List ℕ)
+            → ¬ IsShortestName (list_of self.now) at name }
     {
         match self {
             Names::Sha1(ids) => ids.abbreviate_from(at, Prefix::MIN_HEX_LEN),

@@ -36,7 +36,8 @@ pub fn check<R: Source, W: Sink>(input: &mut R, out: &mut W, kind: Kind) -> Resu
     ensures unwritten { IfOk result (λ count. count ≡ 0 → out.new ≡ out.old) }
     ensures input { IsErrOf result PipeError.Input ↔ (R.has_failed input.new ≡ true) }
     ensures output { IsErrOf result PipeError.Output ↔ (W.has_failed out.new ≡ true) }
-    ensures stopped { IfErr result (λ e. CheckingStops e kind (R.remaining input.old) (R.remaining input.new) (W.taken out.old) (W.taken out.new)) }
+    ensures stopped { IfErr result (λ e. CheckingStops e kind (R.remaining input.old)
+        (R.remaining input.new) (W.taken out.old) (W.taken out.new)) }
     ensures untouched { IfErr result (λ e. e ≢ PipeError.Output → out.new ≡ out.old) }
 {
     let Some(id) = read_sealed(input, kind)? else {
@@ -57,7 +58,8 @@ fn read_sealed<R: Source>(input: &mut R, kind: Kind) -> Result<Option<ObjectId>,
     ensures reads { OnOk result (R.has_failed input.new ≡ false) }
     ensures input { IsErrOf result PipeError.Input ↔ (R.has_failed input.new ≡ true) }
     ensures output { ¬ (IsErrOf result PipeError.Output) }
-    ensures stopped { IfErr result (λ e. HashingStops e kind (R.remaining input.old) (R.remaining input.new) None None) }
+    ensures stopped { IfErr result (λ e. HashingStops e kind (R.remaining input.old)
+        (R.remaining input.new) None None) }
 {
     let digest_len = kind.len_in_bytes();
     let mut hasher = hasher(kind);

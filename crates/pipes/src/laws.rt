@@ -18,8 +18,10 @@ use gix_hash::hashing_laws::digests;
 pub fn sealed_bytes(kind: Kind)
     ensures written { (message : List ℕ) → IsSealed kind (sealed kind message) }
     ensures least { (bytes : List ℕ) → IsSealed kind bytes → byte_len_of kind ≤ length bytes }
-    ensures told { (front tail : List ℕ) → length tail ≡ byte_len_of kind → IsSealed kind (front ++ tail) ↔ (tail ≡ id_bytes (digest kind front)) }
-    ensures last { (front : List ℕ) (byte other : ℕ) → IsSealed kind (front ++ byte ∷ []) → other ≢ byte → ¬ IsSealed kind (front ++ other ∷ []) }
+    ensures told { (front tail : List ℕ) → length tail ≡ byte_len_of kind
+        → IsSealed kind (front ++ tail) ↔ (tail ≡ id_bytes (digest kind front)) }
+    ensures last { (front : List ℕ) (byte other : ℕ) → IsSealed kind (front ++ byte ∷ [])
+        → other ≢ byte → ¬ IsSealed kind (front ++ other ∷ []) }
 {
     digests(kind);
 }

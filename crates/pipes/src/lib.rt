@@ -58,7 +58,8 @@ pub fn hash_all<R: Source, W: Sink>(input: &mut R, out: &mut W, kind: Kind) -> R
         × Appends (W.taken out.old) (W.taken out.new) (digest_line kind message)) }
     ensures input { IsErrOf result PipeError.Input ↔ (R.has_failed input.new ≡ true) }
     ensures output { IsErrOf result PipeError.Output ↔ (W.has_failed out.new ≡ true) }
-    ensures stopped { IfErr result (λ e. HashingStops e kind (R.remaining input.old) (R.remaining input.new) (W.taken out.old) (W.taken out.new)) }
+    ensures stopped { IfErr result (λ e. HashingStops e kind (R.remaining input.old)
+        (R.remaining input.new) (W.taken out.old) (W.taken out.new)) }
     ensures untouched { IfErr result (λ e. e ≢ PipeError.Output → out.new ≡ out.old) }
 {
     let id = copy_all(input, &mut Discard, kind)?;
@@ -79,7 +80,8 @@ pub fn seal<R: Source, W: Sink>(input: &mut R, out: &mut W, kind: Kind) -> Resul
         × Appends (W.taken out.old) (W.taken out.new) (sealed kind message)) }
     ensures input { IsErrOf result PipeError.Input ↔ (R.has_failed input.new ≡ true) }
     ensures output { IsErrOf result PipeError.Output ↔ (W.has_failed out.new ≡ true) }
-    ensures stopped { IfErr result (λ e. SealingStops e kind (R.remaining input.old) (R.remaining input.new) (W.taken out.old) (W.taken out.new)) }
+    ensures stopped { IfErr result (λ e. SealingStops e kind (R.remaining input.old)
+        (R.remaining input.new) (W.taken out.old) (W.taken out.new)) }
 {
     let id = copy_all(input, out, kind)?;
     Ok(write_all(out, id.as_slice())?)
@@ -101,7 +103,8 @@ fn copy_all<R: Source, W: Sink>(
     ensures stands { OnOk result (W.has_failed out.new ≡ false) }
     ensures input { IsErrOf result PipeError.Input ↔ (R.has_failed input.new ≡ true) }
     ensures output { IsErrOf result PipeError.Output ↔ (W.has_failed out.new ≡ true) }
-    ensures stopped { IfErr result (λ e. SealingStops e kind (R.remaining input.old) (R.remaining input.new) (W.taken out.old) (W.taken out.new)) }
+    ensures stopped { IfErr result (λ e. SealingStops e kind (R.remaining input.old)
+        (R.remaining input.new) (W.taken out.old) (W.taken out.new)) }
 {
     let mut hasher = hasher(kind);
     let mut total: u64 = 0;

@@ -22,9 +22,11 @@ pub fn write_ids<W: Sink>(
     out: &mut W,
 ) -> Result<(), WriteFailed>
     requires { W.has_failed out.old ≡ false }
-    ensures written { OnOk result (Appends (W.taken out.old) (W.taken out.new) (printed (letter_of alphabet) (map id_digits ids.now))) }
+    ensures written { OnOk result (Appends (W.taken out.old) (W.taken out.new)
+        (printed (letter_of alphabet) (map id_digits ids.now))) }
     ensures stands { OnOk result (W.has_failed out.new ≡ false) }
-    ensures part { OnErr result (AppendsPart (W.taken out.old) (W.taken out.new) (printed (letter_of alphabet) (map id_digits ids.now))) }
+    ensures part { OnErr result (AppendsPart (W.taken out.old) (W.taken out.new)
+        (printed (letter_of alphabet) (map id_digits ids.now))) }
     ensures failed { OnErr result (W.has_failed out.new ≡ true) }
 {
     for id in ids {
@@ -36,9 +38,11 @@ pub fn write_ids<W: Sink>(
 /// Writes the line of an id in one piece: its digits and a line feed.
 pub fn write_id<W: Sink>(alphabet: Alphabet, id: &ObjectId, out: &mut W) -> Result<(), WriteFailed>
     requires { W.has_failed out.old ≡ false }
-    ensures written { OnOk result (Appends (W.taken out.old) (W.taken out.new) (line_of (letter_of alphabet) (id_digits id.now))) }
+    ensures written { OnOk result (Appends (W.taken out.old) (W.taken out.new)
+        (line_of (letter_of alphabet) (id_digits id.now))) }
     ensures stands { OnOk result (W.has_failed out.new ≡ false) }
-    ensures part { OnErr result (AppendsPart (W.taken out.old) (W.taken out.new) (line_of (letter_of alphabet) (id_digits id.now))) }
+    ensures part { OnErr result (AppendsPart (W.taken out.old) (W.taken out.new)
+        (line_of (letter_of alphabet) (id_digits id.now))) }
     ensures failed { OnErr result (W.has_failed out.new ≡ true) }
 {
     let mut line = [0; MAX_LINE_LEN];

@@ -14,7 +14,8 @@ use std::io;
 
 /// How many digits the ids of the named kind have, or `None` where no kind has the name.
 pub fn digits_of_kind(name: &str) -> Option<usize>
-    ensures { MatchOption result (IsNoName name.now) (λ hex_len. (kind : Kind) × IsNameOf name.now kind × (hex_len ≡ hex_len_of kind)) }
+    ensures { MatchOption result (IsNoName name.now)
+        (λ hex_len. (kind : Kind) × IsNameOf name.now kind × (hex_len ≡ hex_len_of kind)) }
 {
     match Kind::from_str(name) {
         Ok(kind) => Some(kind.len_in_hex()),
@@ -26,7 +27,8 @@ pub fn digits_of_kind(name: &str) -> Option<usize>
 pub fn verified(id: ObjectId, expected: oid<'_>) -> Result<ObjectId, verify::Error>
     ensures ok { IfOk result (λ same. same ≡ id) }
     ensures equal { IsOk result ↔ (id_digits id ≡ oid_digits expected.entry) }
-    ensures told { IfErr result (λ e. (id_digits e.actual ≡ id_digits id) × (id_digits e.expected ≡ oid_digits expected.entry)) }
+    ensures told { IfErr result (λ e. (id_digits e.actual ≡ id_digits id)
+        × (id_digits e.expected ≡ oid_digits expected.entry)) }
 {
     id.verify(expected)?;
     Ok(id)
@@ -48,7 +50,8 @@ pub fn prints_id(line: &[u8], id: &ObjectId) -> bool
 
 /// Writes an id's line, with its line feed.
 pub fn write_line<W: io::Write>(id: oid<'_>, out: &mut W) -> io::Result<()>
-    ensures { OnOk result (Appends (W.contents out.old) (W.contents out.new) (spelling hex_letter (oid_digits id.entry) ++ 10 ∷ [])) }
+    ensures { OnOk result (Appends (W.contents out.old) (W.contents out.new)
+        (spelling hex_letter (oid_digits id.entry) ++ 10 ∷ [])) }
 {
     id.write_hex_to(out)?;
     out.write_all(b"\n")?;
@@ -57,7 +60,8 @@ pub fn write_line<W: io::Write>(id: oid<'_>, out: &mut W) -> io::Result<()>
 
 /// The name that Git gives to a pack: its digest in hex, between `pack-` and `.pack`.
 pub fn pack_name(alloc: Global, digest: oid<'_>) -> Result<String, AllocError>
-    ensures { IfOk result (λ name. string_bytes name ≡ codes "pack-" ++ spelling hex_letter (oid_digits digest.entry) ++ codes ".pack") }
+    ensures { IfOk result (λ name. string_bytes name
+        ≡ codes "pack-" ++ spelling hex_letter (oid_digits digest.entry) ++ codes ".pack") }
 {
     format!(in alloc; "pack-{}.pack", digest.to_hex())
 }

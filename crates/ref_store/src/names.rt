@@ -26,7 +26,8 @@ pub enum Resolved<'a> {
 /// or more in any letter case. What is no such prefix is refused as [`Prefix::from_hex_in`] refuses it.
 pub fn resolve<'a>(index: &IdIndex<'a>, name: &str) -> Result<Resolved<'a>, prefix::from_hex::Error>
     ensures ok { IfOk result (Resolves index.now.kind index.now.ids name.now) }
-    ensures err { IfErr result (λ error. prefix_read_in index.now.kind hex_letter name.now ≡ Err error) }
+    ensures err { IfErr result (λ error. prefix_read_in index.now.kind hex_letter name.now
+        ≡ Err error) }
 {
     let prefix = Prefix::from_hex_in(index.kind(), name)?;
     match index.matches(&prefix) {

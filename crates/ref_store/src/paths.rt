@@ -13,7 +13,8 @@ use std::io;
 
 /// Writes the path of a loose object.
 pub fn write_loose_path<W: io::Write>(id: &ObjectId, out: &mut W) -> io::Result<()>
-    ensures { OnOk result (Appends (W.contents out.old) (W.contents out.new) (loose_path (id_digits id.now))) }
+    ensures { OnOk result (Appends (W.contents out.old) (W.contents out.new)
+        (loose_path (id_digits id.now))) }
 {
     let mut digits = [0; 64];
     id.put_hex(&mut digits);

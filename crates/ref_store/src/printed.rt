@@ -31,7 +31,8 @@ pub struct Line<'a> {
 
 /// Reads a line of an id of the kind from the front of a text, or `None` where there is none.
 pub fn read_line(kind: Kind, text: &[u8]) -> Option<Line<'_>>
-    ensures { MatchOption result (HasNoLine kind text.now) (λ line. HasLine kind text.now line.id line.rest.now) }
+    ensures { MatchOption result (HasNoLine kind text.now)
+        (λ line. HasLine kind text.now line.id line.rest.now) }
 {
     let len = kind.len_in_hex();
     if text.len() <= len || text[len] != b'\n' {
@@ -46,7 +47,8 @@ pub fn read_line(kind: Kind, text: &[u8]) -> Option<Line<'_>>
 
 /// What is behind a key, or `None` where the text does not begin with it.
 pub fn behind<'a>(key: &[u8], text: &'a [u8]) -> Option<&'a [u8]>
-    ensures { MatchOption result ((rest : List ℕ) → text.now ≢ key.now ++ rest) (λ rest. text.now ≡ key.now ++ rest.now) }
+    ensures { MatchOption result ((rest : List ℕ) → text.now ≢ key.now ++ rest)
+        (λ rest. text.now ≡ key.now ++ rest.now) }
 {
     text.strip_prefix(key)
 }

@@ -27,7 +27,8 @@ pub fn is_named(text: &str, id: oid<'_>) -> bool
 
 /// The id that `text` spells, or why it spells none.
 pub fn read_id(text: &[u8]) -> Result<ObjectId, decode::Error>
-    ensures { MatchResult result (λ id. IsFullReading hex_letter text.now (whole_of id)) (IsFullRefusal hex_letter text.now) }
+    ensures { MatchResult result (λ id. IsFullReading hex_letter text.now (whole_of id))
+        (IsFullRefusal hex_letter text.now) }
 {
     laws::full_readings(Alphabet::Hex, text);
     ObjectId::from_hex(text)

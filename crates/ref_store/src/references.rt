@@ -39,7 +39,8 @@ pub fn read_reference(kind: Kind, text: &[u8]) -> Option<Reference<'_>>
 
 /// Writes the file of a reference.
 pub fn write_reference<W: io::Write>(reference: &Reference<'_>, out: &mut W) -> io::Result<()>
-    ensures { OnOk result (Appends (W.contents out.old) (W.contents out.new) (reference_text reference.now)) }
+    ensures { OnOk result (Appends (W.contents out.old) (W.contents out.new)
+        (reference_text reference.now)) }
 {
     match reference {
         Reference::Id(id) => id.write_hex_to(out)?,
@@ -76,7 +77,8 @@ fn has_name_bytes(name: &[u8]) -> bool
 
 // A line without its line feed, where the text ends in one.
 fn line_in(text: &[u8]) -> Option<&[u8]>
-    ensures { MatchOption result ((line : List ℕ) → text.now ≢ line ++ 10 ∷ []) (λ line. text.now ≡ line.now ++ 10 ∷ []) }
+    ensures { MatchOption result ((line : List ℕ) → text.now ≢ line ++ 10 ∷ [])
+        (λ line. text.now ≡ line.now ++ 10 ∷ []) }
 {
     match text {
         [line @ .., b'\n'] => Some(line),

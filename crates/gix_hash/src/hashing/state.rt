@@ -52,7 +52,8 @@ impl Hasher {
     /// it is.
     pub fn update(&mut self, bytes: &[u8])
         ensures kind { hasher_kind self.new ≡ hasher_kind self.old }
-        ensures fed { (message : List ℕ) → StandsFor self.old message → StandsFor self.new (message ++ bytes.now) }
+        ensures fed { (message : List ℕ) → StandsFor self.old message
+            → StandsFor self.new (message ++ bytes.now) }
     {
         match self {
             Hasher::Sha1(hasher) => hasher.state.update(bytes),
@@ -67,7 +68,8 @@ impl Hasher {
     /// returns.
     pub fn try_finalize(self) -> Result<ObjectId, Error>
         ensures ok { IsOk result }
-        ensures digest { (message : List ℕ) → StandsFor self message → result ≡ Ok (digest (hasher_kind self) message) }
+        ensures digest { (message : List ℕ) → StandsFor self message
+            → result ≡ Ok (digest (hasher_kind self) message) }
     {
         match self {
             Hasher::Sha1(hasher) => Ok(ObjectId::Sha1(hasher.state.finalize())),

@@ -26,9 +26,11 @@ pub fn bytes_of_file<F: Files, P: Progress, I: Interrupt>(
     progress: &mut P,
     should_interrupt: &mut I,
 ) -> Result<ObjectId, Error>
-    ensures digest { IfOk result (λ id. (bytes : List ℕ) × (length bytes ≡ num_bytes_from_start) × (id ≡ digest kind bytes)) }
+    ensures digest { IfOk result (λ id. (bytes : List ℕ) × (length bytes ≡ num_bytes_from_start)
+        × (id ≡ digest kind bytes)) }
     ensures kind { IfOk result (λ id. id_kind id ≡ kind) }
-    ensures heard { OnOk result (Reaches P.hears progress.old (heard_all num_bytes_from_start) progress.new) }
+    ensures heard { OnOk result (Reaches P.hears progress.old
+        (heard_all num_bytes_from_start) progress.new) }
     ensures asked { OnOk result (Reaches I.answers should_interrupt.old
         (all_false (length (chunks num_bytes_from_start))) should_interrupt.new) }
     ensures err { IfErr result (λ e. StopsInFile e num_bytes_from_start

@@ -36,7 +36,8 @@ pub fn bytes_with_hasher<R: Read, P: Progress, I: Interrupt>(
     ensures digest { IfOk result (λ id. (bytes : List ℕ)
         × GivesNext (R.remaining read.old) (R.remaining read.new) num_bytes_from_start bytes
         × ((message : List ℕ) → StandsFor hasher message → id ≡ digest (hasher_kind hasher) (message ++ bytes))) }
-    ensures heard { OnOk result (Reaches P.hears progress.old (heard_all num_bytes_from_start) progress.new) }
+    ensures heard { OnOk result (Reaches P.hears progress.old
+        (heard_all num_bytes_from_start) progress.new) }
     ensures asked { OnOk result (Reaches I.answers should_interrupt.old
         (all_false (length (chunks num_bytes_from_start))) should_interrupt.new) }
     ensures err { IfErr result (λ e. Stops e num_bytes_from_start
@@ -75,7 +76,8 @@ pub fn bytes<R: Read, P: Progress, I: Interrupt>(
     ensures digest { IfOk result (λ id. (bytes : List ℕ)
         × GivesNext (R.remaining read.old) (R.remaining read.new) num_bytes_from_start bytes
         × (id ≡ digest kind bytes)) }
-    ensures heard { OnOk result (Reaches P.hears progress.old (heard_all num_bytes_from_start) progress.new) }
+    ensures heard { OnOk result (Reaches P.hears progress.old
+        (heard_all num_bytes_from_start) progress.new) }
     ensures asked { OnOk result (Reaches I.answers should_interrupt.old
         (all_false (length (chunks num_bytes_from_start))) should_interrupt.new) }
     ensures err { IfErr result (λ e. Stops e num_bytes_from_start

@@ -43,7 +43,8 @@ impl<T: io::Write> Write<T> {
     pub fn write(&mut self, buf: &[u8]) -> io::Result<usize>
         ensures bound { WritesAtMost result buf.now }
         ensures passes { Passes T.contents self.old (Wrote buf.now result) self.new }
-        ensures err { OnErr result ((self.new.hash ≡ self.old.hash) × Keeps (T.contents self.old.inner) (T.contents self.new.inner)) }
+        ensures err { OnErr result ((self.new.hash ≡ self.old.hash)
+            × Keeps (T.contents self.old.inner) (T.contents self.new.inner)) }
     {
         let written = self.inner.write(buf)?;
         self.hash.update(&buf[..written]);
@@ -66,9 +67,11 @@ impl<T: io::Write> io::Write for Write<T> {
 
     fn write(&mut self, buf: &[u8]) -> io::Result<usize>
         ensures bound { WritesAtMost result buf.now }
-        ensures bytes { WriteAppends (T.contents self.old.inner) (T.contents self.new.inner) result buf.now }
+        ensures bytes { WriteAppends (T.contents self.old.inner)
+            (T.contents self.new.inner) result buf.now }
         ensures passes { Passes T.contents self.old (Wrote buf.now result) self.new }
-        ensures err { OnErr result ((self.new.hash ≡ self.old.hash) × Keeps (T.contents self.old.inner) (T.contents self.new.inner)) }
+        ensures err { OnErr result ((self.new.hash ≡ self.old.hash)
+            × Keeps (T.contents self.old.inner) (T.contents self.new.inner)) }
     {
         self.write(buf)
     }

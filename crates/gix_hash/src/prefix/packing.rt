@@ -24,8 +24,13 @@ impl Prefix {
     // The prefix of the first digits of an id that has zeros behind them.
     pub(crate) fn padded(bytes: ObjectId, hex_len: usize) -> Prefix
         requires within { hex_len ≤ hex_len_of (id_kind bytes) }
-        requires zeros { id_digits bytes ≡ padded (hex_len_of (id_kind bytes)) (take hex_len (id_digits bytes)) }
-        ensures { result ≡ record { kind = id_kind bytes; digits = take hex_len (id_digits bytes) } }
+        requires zeros { id_digits bytes ≡ padded (hex_len_of (id_kind bytes))
+            (take hex_len (id_digits bytes)) }
+        ensures { result ≡ record {
+          kind = id_kind bytes;
+          digits = take hex_len
+              (id_digits bytes);
+        } }
     {
         Prefix {
             words: Words::of(bytes.as_slice()),
@@ -40,7 +45,8 @@ fn padded_bytes(kind: Kind, front: &[u8], hex_len: usize) -> ObjectId
     requires room { length front.now ≤ byte_len_of kind }
     requires digits { hex_len ≤ 2 * length front.now }
     ensures kind { id_kind result ≡ kind }
-    ensures digits { id_digits result ≡ padded (hex_len_of kind) (take hex_len (digits_of front.now)) }
+    ensures digits { id_digits result ≡ padded (hex_len_of kind)
+        (take hex_len (digits_of front.now)) }
 {
     match kind {
         Kind::Sha1 => {

@@ -28,7 +28,8 @@ impl Prefix {
     /// buffer needs room for the digits.
     pub fn put_hex(&self, buffer: &mut [u8])
         requires { length self.now.digits ≤ length buffer.old }
-        ensures { buffer.new ≡ spelling hex_letter self.now.digits ++ drop (length self.now.digits) buffer.old }
+        ensures { buffer.new ≡ spelling hex_letter self.now.digits ++ drop
+            (length self.now.digits) buffer.old }
     {
         // Ids are spelled whole, for which the buffer may have no room.
         let mut whole = [0; 64];
@@ -44,7 +45,8 @@ impl Prefix {
     /// back at what the clause says. [`Prefix::put_hex`] says the same of the buffer to every caller.
     pub fn hex_to_buf<'b>(&self, buffer: &'b mut [u8]) -> &'b str
         requires { length self.now.digits ≤ length buffer.old }
-        ensures* behind { sem 𝓛 (EndsAs buffer.entry (spelling hex_letter self.now.digits ++ drop (length self.now.digits) buffer.old)) }
+        ensures* behind { sem 𝓛 (EndsAs buffer.entry
+            (spelling hex_letter self.now.digits ++ drop (length self.now.digits) buffer.old)) }
         ensures text { result.now ≡ spelling hex_letter self.now.digits }
         ensures ascii { IsAscii result.now }
         ensures len { length result.now ≡ length self.now.digits }
@@ -56,9 +58,11 @@ impl Prefix {
     fn filled<'b>(&self, buffer: &'b mut [u8]) -> &'b mut [u8]
         requires { length self.now.digits ≤ length buffer.old }
         ensures same { result.ghost_name ≡ buffer.entry.ghost_name }
-        ensures value { result.now ≡ spelling hex_letter self.now.digits ++ drop (length self.now.digits) buffer.old }
+        ensures value { result.now ≡ spelling hex_letter self.now.digits ++ drop
+            (length self.now.digits) buffer.old }
         ensures room { length self.now.digits ≤ length result.now }
-        ensures front { take (length self.now.digits) result.now ≡ spelling hex_letter self.now.digits }
+        ensures front { take (length self.now.digits) result.now
+            ≡ spelling hex_letter self.now.digits }
     {
         self.put_hex(buffer);
         buffer
@@ -67,7 +71,8 @@ impl Prefix {
     // The digits in front of a buffer, as text.
     fn front_text<'b>(&self, buffer: &'b [u8]) -> &'b str
         requires room { length self.now.digits ≤ length buffer.now }
-        requires front { take (length self.now.digits) buffer.now ≡ spelling hex_letter self.now.digits }
+        requires front { take (length self.now.digits) buffer.now
+            ≡ spelling hex_letter self.now.digits }
         ensures text { result.now ≡ spelling hex_letter self.now.digits }
         ensures ascii { IsAscii result.now }
         ensures len { length result.now ≡ length self.now.digits }
@@ -78,7 +83,8 @@ impl Prefix {
     /// Writes the lowercase hex digits to `out`. The error is the writer's; how many digits were
     /// written then is not said.
     pub fn write_hex_to<W: io::Write>(&self, out: &mut W) -> io::Result<()>
-        ensures { OnOk result (Appends (W.contents out.old) (W.contents out.new) (spelling hex_letter self.now.digits)) }
+        ensures { OnOk result (Appends (W.contents out.old) (W.contents out.new)
+            (spelling hex_letter self.now.digits)) }
     {
         let mut buffer = [0; 64];
         out.write_all(self.cut().letters(Alphabet::Hex, &mut buffer))
