@@ -2,3 +2,4 @@ mod CommandLemmas
 mod LineLemmas
 mod Places
 mod ShortNames
+mod RunningLemmas

@@ -2,3 +2,4 @@
 pub mod Command
 pub mod Lines
 pub mod Names
+pub mod Running

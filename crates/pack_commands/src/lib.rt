@@ -1,9 +1,9 @@
 //! The commands of `packtool` over devices and memory that are handed in, and what they print of a
 //! pack index, told by its bytes.
 //!
-//! [`read_command`] reads the words of a command line. [`show`] writes a line for each name of an
-//! index as `git show-index` does, and [`find`] those of the names that begin with a prefix.
-//! [`names`] writes the shortest name of each.
+//! [`read_command`] reads the words of a command line, and [`run_command`] does what they ask for.
+//! [`show`] writes a line for each name of an index as `git show-index` does, and [`find`] those of
+//! the names that begin with a prefix. [`names`] writes the shortest name of each.
 #![tactic(auto)]
 
 mod command;
@@ -12,10 +12,12 @@ mod lines;
 mod naming;
 mod over_bytes;
 mod reading;
+mod running;
 mod showing;
 
 pub use command::{ArgError, Command, read_command};
 pub use naming::names;
 pub use over_bytes::{IndexError, find_in, names_in, show_in};
 pub use reading::{ReadError, read_all};
+pub use running::{CommandError, run_command};
 pub use showing::{find, show};
