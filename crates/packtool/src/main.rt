@@ -1,0 +1,85 @@
+//! `packtool` reads Git's pack indexes, and checks files that end with their own digest.
+//!
+//! It reads one on standard input and writes to standard output. Its status is 0 where it wrote a
+//! line, 1 where it wrote none, and 2 for a refusal, which is told on standard error.
+#![tactic(auto)]
+
+ghost use Rattle.std.specs.Prelude.{◌≡◌};
+ghost use Rattle.packtool.specs.declared.Failure.TheVariants as failure;
+ghost use Rattle.pack_commands.specs.declared.running.CommandError.TheVariants as error;
+
+mod help;
+
+use command_line::{WordsError, own_words, told};
+use devices::plain::Plain;
+use pack_commands::command::{ArgError, read_command};
+use pack_commands::running::{CommandError, run_command};
+use std::alloc::AllocError;
+use std::io;
+use std::io::BufWriter;
+use std::process::ExitCode;
+use thiserror::Error as ThisError;
+
+fn main(rt: HostRuntime) -> ExitCode {
+    match own_words(&rt) {
+        Ok(words) => told(&rt, run(&rt, &words)),
+        Err(why) => told(&rt, Err(Failure::from(why))),
+    }
+}
+
+/// Why the program did not run a command to its end.
+#[derive(Debug, Drop, ThisError)]
+enum Failure<'a> {
+    #[error("packtool: {0}")]
+    Words(ArgError<'a>),
+    #[error("packtool: {0}")]
+    Command(CommandError),
+}
+
+impl From<CommandError> for Failure<'_> {
+    ghost from_gives = { λ why made. made ≡ failure.Command why };
+
+    fn from(error: CommandError) -> Self {
+        Failure::Command(error)
+    }
+}
+
+// Words that are no text are refused as no command.
+impl From<WordsError> for Failure<'_> {
+    fn from(error: WordsError) -> Self {
+        match error {
+            WordsError::NotText => Failure::Words(ArgError::Usage),
+            WordsError::Memory => Failure::Command(CommandError::Memory),
+        }
+    }
+}
+
+impl From<AllocError> for Failure<'_> {
+    ghost from_gives = { λ _ made. made ≡ failure.Command error.Memory };
+
+    fn from(_error: AllocError) -> Self {
+        Failure::Command(CommandError::Memory)
+    }
+}
+
+/// Runs the command that the words ask for over standard input and standard output, or prints what
+/// they ask to know of the program. Nothing is read where the words are refused.
+fn run<'a>(
+    rt: &(impl Input + Print + AllocGlobal),
+    words: &'a [String],
+) -> Result<usize, Failure<'a>> {
+    let words: Vec<&str> = words.iter().map(|word| word.as_str()).collect(rt.alloc())?;
+    if let Some(text) = help::asked_text(&words) {
+        return match rt.print(text) {
+            Ok(()) => Ok(1),
+            Err(_) => Err(Failure::Command(CommandError::Output)),
+        };
+    }
+    let command = read_command(&words).map_err(Failure::Words)?;
+    let Ok(writer) = BufWriter::new(rt.alloc(), io::writer(rt)) else {
+        return Err(Failure::Command(CommandError::Memory));
+    };
+    let mut input = Plain::new(rt.reader());
+    let mut out = Plain::new(writer);
+    Ok(run_command(rt.alloc(), command, &mut input, &mut out)?)
+}
