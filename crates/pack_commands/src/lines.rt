@@ -16,6 +16,9 @@ use pack_index::File;
 /// between and behind them.
 pub(crate) const MAX_LINE_LEN: usize = 97;
 
+/// The bytes of the longest line of a name and its id: 64 digits of each, a blank and a line feed.
+pub(crate) const MAX_NAMES_LEN: usize = 130;
+
 // The most digits of an id.
 const MAX_ID_LEN: usize = 64;
 
@@ -56,11 +59,9 @@ fn put_name(offset: u64, id: oid<'_>, crc: u32, line: &mut [u8]) -> usize
 /// answers how many bytes they are.
 pub(crate) fn put_names(id: oid<'_>, len: usize, line: &mut [u8]) -> usize
     requires digits { len ≤ length (oid_digits id) }
-    requires room { 130 ≤ length line.old }
-    ensures len { result ≤ 130 }
-    ensures text { take result line.new
-        ≡ line_of_name (spelling hex_letter (take len (oid_digits id.entry)))
-        (spelling hex_letter (oid_digits id.entry)) }
+    requires room { length line.old ≡ MAX_NAMES_LEN }
+    ensures len { result ≤ MAX_NAMES_LEN }
+    ensures text { take result line.new ≡ line_of_name (spelling hex_letter (take len (oid_digits id.entry))) (spelling hex_letter (oid_digits id.entry)) }
 {
     // The id is cut to its first digits by what is put behind them.
     put_id(line, 0, id);

@@ -6,19 +6,16 @@ ghost use Rattle.devices.specs.Writing.{AppendsPart};
 ghost use Rattle.pack_index.specs.Format.{names_in};
 ghost use Rattle.pack_commands.specs.Names.{name_line, named, short_name};
 
-use crate::lines::put_names;
-use devices::{Sink, WriteFailed, write_all};
+use crate::lines::{MAX_NAMES_LEN, put_names};
+use devices::sink::{Sink, WriteFailed, write_all};
 use pack_index::File;
-
-// The bytes of the longest line: a name and an id of 64 digits each, a blank and a line feed.
-const MAX_LINE_LEN: usize = 130;
 
 /// Writes a line for each name of the index, in their order: the shortest name, a blank, the id and
 /// a line feed. It answers how many lines these are.
 ///
-/// The shortest name is the fewest digits, at least 4, with which no other id of the index begins.
-/// An id that stands twice has none, and stands in its own place with all its digits.
-/// It stops at the first write that fails, with a proper beginning of the lines written.
+/// The shortest name is the fewest digits, at least 4, with which no other id of the index begins. An
+/// id that stands twice has none, and all its digits stand in place of it. It stops at the first write
+/// that fails, with a proper beginning of the lines written. The sink must not have failed before.
 pub fn names<W: Sink>(file: &File<'_>, out: &mut W) -> Result<usize, WriteFailed>
     requires { W.has_failed out.old ≡ false }
     ensures count { IfOk result (λ count. count ≡ length (names_in file.now.kind file.now.bytes)) }
@@ -30,7 +27,7 @@ pub fn names<W: Sink>(file: &File<'_>, out: &mut W) -> Result<usize, WriteFailed
     ensures failed { OnErr result (W.has_failed out.new ≡ true) }
 {
     let count = file.num_objects();
-    let mut line = [0; MAX_LINE_LEN];
+    let mut line = [0; MAX_NAMES_LEN];
     for at in 0..count {
         let len = put_line(file, at, &mut line);
         write_all(out, &line[..len])?;
@@ -41,8 +38,8 @@ pub fn names<W: Sink>(file: &File<'_>, out: &mut W) -> Result<usize, WriteFailed
 // Puts the line of a place into the front of the buffer, and answers how many bytes it has.
 fn put_line(file: &File<'_>, at: usize, line: &mut [u8]) -> usize
     requires place { at < length (names_in file.now.kind file.now.bytes) }
-    requires room { length line.old ≡ MAX_LINE_LEN }
-    ensures len { result ≤ MAX_LINE_LEN }
+    requires room { length line.old ≡ MAX_NAMES_LEN }
+    ensures len { result ≤ MAX_NAMES_LEN }
     ensures text { take result line.new ≡ name_line (names_in file.now.kind file.now.bytes) at }
 {
     let len = short_len(file, at);

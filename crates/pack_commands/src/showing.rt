@@ -14,7 +14,12 @@ use gix_hash::Prefix;
 use id_lookup::Run;
 use pack_index::File;
 
-/// Writes a line for each name of the index, in their order, and answers how many they are.
+/// Writes a line for each name of the index, in their order, as `git show-index` does: where the
+/// object stands in the pack, in decimal; a blank; the id in hex; a blank; the CRC-32 of the packed
+/// object as eight hex digits in brackets; and a line feed. It answers how many lines these are.
+///
+/// It stops at the first write that fails, with a proper beginning of the lines written. The sink must
+/// not have failed before.
 pub fn show<W: Sink>(file: &File<'_>, out: &mut W) -> Result<usize, WriteFailed>
     requires { W.has_failed out.old ≡ false }
     ensures count { IfOk result (λ count. count ≡ length (names_in file.now.kind file.now.bytes)) }
@@ -28,7 +33,11 @@ pub fn show<W: Sink>(file: &File<'_>, out: &mut W) -> Result<usize, WriteFailed>
     show_run(file, 0, file.num_objects(), out)
 }
 
-/// Writes the lines of the names that begin with a prefix.
+/// Writes those lines of [`show`] whose ids begin with a prefix, in their order, and answers how many
+/// they are. The prefix has the index's kind.
+///
+/// It stops at the first write that fails, with a proper beginning of the lines written. The sink must
+/// not have failed before.
 pub fn find<W: Sink>(file: &File<'_>, prefix: &Prefix, out: &mut W) -> Result<usize, WriteFailed>
     requires kind { prefix.now.kind ≡ file.now.kind }
     requires output { W.has_failed out.old ≡ false }
