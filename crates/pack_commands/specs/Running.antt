@@ -3,7 +3,7 @@ use Rattle.std.specs.Prelude.{◌≡◌, ◌⊎◌, ℕ, ◌^◌, ◌<◌, ◌�
 use Rattle.std.specs.List.{count_by}
 use Rattle.std.specs.Io.KnownBytes.{Appends}
 use Rattle.gix_hash.specs.Digits.{hex_letter}
-use Rattle.gix_hash.specs.Prefix.{Beginning}
+use Rattle.gix_hash.specs.Prefix.{KindDigits}
 use Rattle.gix_hash.specs.PrefixReading.{prefix_read_in}
 use Rattle.gix_hash.specs.declared.Kind.{Kind}
 use Rattle.id_lookup.specs.Runs.{begins_with}
@@ -34,8 +34,8 @@ TellsDigest kind bytes count text = ((message : List ℕ) × (bytes ≡ sealed k
 
 -- what a command prints of all of its input, and the number that it answers
 abbrev pub Prints : Command → List ℕ → ℕ → List ℕ → Type 0
-Prints (Find kind prefix) bytes count text = (beginning : Beginning) × (prefix_read_in kind hex_letter prefix.now ≡ Ok beginning) × IsPackIndex kind bytes
-    × (count ≡ count_by (begins_with beginning) (names_in kind bytes)) × (text ≡ found beginning kind bytes)
+Prints (Find kind prefix) bytes count text = (read : KindDigits) × (prefix_read_in kind hex_letter prefix.now ≡ Ok read) × IsPackIndex kind bytes
+    × (count ≡ count_by (λ id. begins_with id read) (names_in kind bytes)) × (text ≡ found read kind bytes)
 Prints (Names kind) bytes count text = IsPackIndex kind bytes × (count ≡ length (names_in kind bytes)) × (text ≡ named kind bytes)
 Prints (Show kind) bytes count text = IsPackIndex kind bytes × (count ≡ length (names_in kind bytes)) × (text ≡ shown kind bytes)
 Prints (Check kind) bytes count text = (length bytes < 2 ^ 61) × TellsDigest kind bytes count text

@@ -1,8 +1,16 @@
-//! What the shortest names are, by a law that no single call carries.
+//! Laws of what is printed of pack indexes that no single call carries. Each is the contract of a
+//! function that computes nothing.
 
-ghost use Rattle.std.specs.Prelude.{◌≡◌, ◌<◌, ℕ, [], List, length, slice_index_or};
+ghost use Rattle.std.specs.Prelude.{◌≡◌, ◌<◌, ℕ, [], List, filter, flat_map, length, slice_index_or};
+ghost use Rattle.std.specs.List.{range_with_len};
+ghost use Rattle.gix_hash.specs.Prefix.{KindDigits};
+ghost use Rattle.id_lookup.specs.Runs.{begins_with};
 ghost use Rattle.id_lookup.specs.ShortNames.{IsShortestName};
+ghost use Rattle.pack_index.specs.Format.{names_in};
+ghost use Rattle.pack_commands.specs.Lines.{found, index_line, name_at, shown};
 ghost use Rattle.pack_commands.specs.Names.{short_name};
+
+use gix_hash::Kind;
 
 /// What [`names`](crate::names()) writes as the name of an id is its shortest name, and all its digits
 /// where it has none.
@@ -11,4 +19,14 @@ pub fn shortest_names()
         → (name : List ℕ) → IsShortestName ids at name → short_name ids (slice_index_or ids at []) ≡ name }
     ensures none { (ids : List (List ℕ)) (at : ℕ) → at < length ids
         → ((name : List ℕ) → ¬ IsShortestName ids at name) → short_name ids (slice_index_or ids at []) ≡ slice_index_or ids at [] }
+{}
+
+/// What [`show`](crate::show()) writes are the lines of all places, one behind the other, and what
+/// [`find`](crate::find()) writes are those of them whose ids begin with the prefix.
+pub fn shown_lines(kind: Kind, bytes: &[u8])
+    ensures shown { shown kind bytes.now
+        ≡ flat_map (index_line kind bytes.now) (range_with_len 0 (length (names_in kind bytes.now))) }
+    ensures found { (prefix : KindDigits) → found prefix kind bytes.now
+        ≡ flat_map (index_line kind bytes.now) (filter (λ k. begins_with (name_at kind bytes.now k) prefix)
+        (range_with_len 0 (length (names_in kind bytes.now)))) }
 {}

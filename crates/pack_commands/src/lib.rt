@@ -10,14 +10,10 @@ mod command;
 pub mod laws;
 mod lines;
 mod naming;
-mod over_bytes;
-mod reading;
 mod running;
 mod showing;
 
 pub use command::{ArgError, Command, read_command};
 pub use naming::names;
-pub use over_bytes::{IndexError, find_in, names_in, show_in};
-pub use reading::{ReadError, read_all};
 pub use running::{CommandError, run_command};
 pub use showing::{find, show};

@@ -61,7 +61,9 @@ pub(crate) fn put_names(id: oid<'_>, len: usize, line: &mut [u8]) -> usize
     requires digits { len ≤ length (oid_digits id) }
     requires room { length line.old ≡ MAX_NAMES_LEN }
     ensures len { result ≤ MAX_NAMES_LEN }
-    ensures text { take result line.new ≡ line_of_name (spelling hex_letter (take len (oid_digits id.entry))) (spelling hex_letter (oid_digits id.entry)) }
+    ensures text { take result line.new
+        ≡ line_of_name (spelling hex_letter (take len (oid_digits id.entry)))
+        (spelling hex_letter (oid_digits id.entry)) }
 {
     // The id is cut to its first digits by what is put behind them.
     put_id(line, 0, id);

@@ -7,7 +7,7 @@ ghost use Rattle.pack_index.specs.Format.{names_in};
 ghost use Rattle.pack_commands.specs.Names.{name_line, named, short_name};
 
 use crate::lines::{MAX_NAMES_LEN, put_names};
-use devices::sink::{Sink, WriteFailed, write_all};
+use devices::{Sink, WriteFailed, write_all};
 use pack_index::File;
 
 /// Writes a line for each name of the index, in their order: the shortest name, a blank, the id and

@@ -14,8 +14,7 @@ ghost use Rattle.pack_commands.specs.Running.{Does, DoesAtMost, Refuses, Refuses
 use crate::command::Command;
 use crate::naming::names;
 use crate::showing::{find, show};
-use devices::sink::{BufferedSink, Sink, WriteFailed};
-use devices::source::{PIECE_LEN, Source};
+use devices::{BufferedSink, PIECE_LEN, Sink, Source, WriteFailed};
 use gix_hash::{Kind, Prefix, prefix};
 use pack_index::File;
 use pipes::{PipeError, check};
@@ -110,16 +109,19 @@ pub fn run_command<A: Allocator, R: Source, W: BufferedSink>(
 ) -> Result<usize, CommandError>
     requires input { R.has_failed input.old ≡ false }
     requires output { W.has_failed out.old ≡ false }
-    ensures done { IfOk result (Does command.entry (R.remaining input.old) (W.taken out.old) (W.taken out.new)) }
+    ensures done { IfOk result (Does command.entry (R.remaining input.old) (W.taken out.old)
+        (W.taken out.new)) }
     ensures flushed { OnOk result (W.kept_back out.new ≡ []) }
     ensures refused { IfErr result (Refuses command.entry (R.remaining input.old)) }
-    ensures memory { IsErrOf result CommandError.Memory → IfSome (R.remaining input.old) (λ bytes. bytes ≢ []) }
+    ensures memory { IsErrOf result CommandError.Memory
+        → IfSome (R.remaining input.old) (λ bytes. bytes ≢ []) }
     ensures untouched { IfErr result (λ e. e ≢ CommandError.Output → out.new ≡ out.old) }
     ensures input { IsErrOf result CommandError.Input ↔ (R.has_failed input.new ≡ true) }
     ensures output { IsErrOf result CommandError.Output ↔ (W.has_failed out.new ≡ true) }
-    ensures part { IsErrOf result CommandError.Output → DoesAtMost command.entry (R.remaining input.old) (W.taken out.old) (W.taken out.new) }
+    ensures part { IsErrOf result CommandError.Output
+        → DoesAtMost command.entry (R.remaining input.old) (W.taken out.old) (W.taken out.new) }
 {
-    let count = answer(alloc, command, input, out)?;
+    let count = run_unflushed(alloc, command, input, out)?;
     match out.flush() {
         Ok(()) => Ok(count),
         Err(_) => Err(CommandError::Output),
@@ -127,7 +129,7 @@ pub fn run_command<A: Allocator, R: Source, W: BufferedSink>(
 }
 
 // As `run_command`, but for the flush.
-fn answer<A: Allocator, R: Source, W: Sink>(
+fn run_unflushed<A: Allocator, R: Source, W: Sink>(
     alloc: A,
     command: Command<'_>,
     input: &mut R,
@@ -135,13 +137,16 @@ fn answer<A: Allocator, R: Source, W: Sink>(
 ) -> Result<usize, CommandError>
     requires input { R.has_failed input.old ≡ false }
     requires output { W.has_failed out.old ≡ false }
-    ensures done { IfOk result (Does command.entry (R.remaining input.old) (W.taken out.old) (W.taken out.new)) }
+    ensures done { IfOk result (Does command.entry (R.remaining input.old) (W.taken out.old)
+        (W.taken out.new)) }
     ensures refused { IfErr result (Refuses command.entry (R.remaining input.old)) }
-    ensures memory { IsErrOf result CommandError.Memory → IfSome (R.remaining input.old) (λ bytes. bytes ≢ []) }
+    ensures memory { IsErrOf result CommandError.Memory
+        → IfSome (R.remaining input.old) (λ bytes. bytes ≢ []) }
     ensures untouched { IfErr result (λ e. e ≢ CommandError.Output → out.new ≡ out.old) }
     ensures input { IsErrOf result CommandError.Input ↔ (R.has_failed input.new ≡ true) }
     ensures output { IsErrOf result CommandError.Output ↔ (W.has_failed out.new ≡ true) }
-    ensures part { IsErrOf result CommandError.Output → DoesAtMost command.entry (R.remaining input.old) (W.taken out.old) (W.taken out.new) }
+    ensures part { IsErrOf result CommandError.Output
+        → DoesAtMost command.entry (R.remaining input.old) (W.taken out.old) (W.taken out.new) }
 {
     match command {
         Command::Find { kind, prefix } => {
@@ -170,12 +175,14 @@ fn print_found<W: Sink>(
 ) -> Result<usize, CommandError>
     requires kind { prefix.now.kind ≡ kind }
     requires output { W.has_failed out.old ≡ false }
-    ensures done { IfOk result (λ count. IsPackIndex kind bytes.now × (count ≡ count_by (begins_with prefix.now) (names_in kind bytes.now))
+    ensures done { IfOk result (λ count. IsPackIndex kind bytes.now × (count ≡ count_by (λ id. begins_with id prefix.now) (names_in kind bytes.now))
         × Appends (W.taken out.old) (W.taken out.new) (found prefix.now kind bytes.now)) }
     ensures refused { IfErr result (RefusesIndex kind bytes.now) }
     ensures untouched { IfErr result (λ e. e ≢ CommandError.Output → out.new ≡ out.old) }
     ensures output { IsErrOf result CommandError.Output ↔ (W.has_failed out.new ≡ true) }
-    ensures part { IsErrOf result CommandError.Output → IsPackIndex kind bytes.now × AppendsPart (W.taken out.old) (W.taken out.new) (found prefix.now kind bytes.now) }
+    ensures part { IsErrOf result CommandError.Output
+        → IsPackIndex kind bytes.now × AppendsPart (W.taken out.old) (W.taken out.new)
+        (found prefix.now kind bytes.now) }
 {
     let file = File::try_new(bytes, kind)?;
     Ok(find(&file, prefix, out)?)
@@ -189,7 +196,9 @@ fn print_names<W: Sink>(bytes: &[u8], kind: Kind, out: &mut W) -> Result<usize, 
     ensures refused { IfErr result (RefusesIndex kind bytes.now) }
     ensures untouched { IfErr result (λ e. e ≢ CommandError.Output → out.new ≡ out.old) }
     ensures output { IsErrOf result CommandError.Output ↔ (W.has_failed out.new ≡ true) }
-    ensures part { IsErrOf result CommandError.Output → IsPackIndex kind bytes.now × AppendsPart (W.taken out.old) (W.taken out.new) (named kind bytes.now) }
+    ensures part { IsErrOf result CommandError.Output
+        → IsPackIndex kind bytes.now × AppendsPart (W.taken out.old) (W.taken out.new)
+        (named kind bytes.now) }
 {
     let file = File::try_new(bytes, kind)?;
     Ok(names(&file, out)?)
@@ -203,7 +212,9 @@ fn print_all<W: Sink>(bytes: &[u8], kind: Kind, out: &mut W) -> Result<usize, Co
     ensures refused { IfErr result (RefusesIndex kind bytes.now) }
     ensures untouched { IfErr result (λ e. e ≢ CommandError.Output → out.new ≡ out.old) }
     ensures output { IsErrOf result CommandError.Output ↔ (W.has_failed out.new ≡ true) }
-    ensures part { IsErrOf result CommandError.Output → IsPackIndex kind bytes.now × AppendsPart (W.taken out.old) (W.taken out.new) (shown kind bytes.now) }
+    ensures part { IsErrOf result CommandError.Output
+        → IsPackIndex kind bytes.now × AppendsPart (W.taken out.old) (W.taken out.new)
+        (shown kind bytes.now) }
 {
     let file = File::try_new(bytes, kind)?;
     Ok(show(&file, out)?)
@@ -212,10 +223,12 @@ fn print_all<W: Sink>(bytes: &[u8], kind: Kind, out: &mut W) -> Result<usize, Co
 // All that the source gives until its end.
 fn read_all<A: Allocator, R: Source>(alloc: A, input: &mut R) -> Result<Vec<u8, A>, CommandError>
     requires { R.has_failed input.old ≡ false }
-    ensures all { IfOk result (λ text. Consumes (R.remaining input.old) (R.remaining input.new) text.items) }
+    ensures all { IfOk result (λ text. Consumes (R.remaining input.old)
+        (R.remaining input.new) text.items) }
     ensures end { OnOk result (IsAtEnd (R.remaining input.new)) }
     ensures refused { IfErr result (λ e. (e ≡ CommandError.Memory) ⊎ (e ≡ CommandError.Input)) }
-    ensures memory { IsErrOf result CommandError.Memory → IfSome (R.remaining input.old) (λ bytes. bytes ≢ []) }
+    ensures memory { IsErrOf result CommandError.Memory
+        → IfSome (R.remaining input.old) (λ bytes. bytes ≢ []) }
     ensures input { IsErrOf result CommandError.Input ↔ (R.has_failed input.new ≡ true) }
 {
     let mut text = Vec::new(alloc);

@@ -6,14 +6,13 @@
 
 ghost use Rattle.std.specs.Prelude.{◌≡◌};
 ghost use Rattle.packtool.specs.declared.Failure.TheVariants as failure;
-ghost use Rattle.pack_commands.specs.declared.running.CommandError.TheVariants as error;
+ghost use Rattle.pack_commands.specs.declared.CommandError.TheVariants as error;
 
 mod help;
 
 use command_line::{WordsError, own_words, told};
-use devices::plain::Plain;
-use pack_commands::command::{ArgError, read_command};
-use pack_commands::running::{CommandError, run_command};
+use devices::Plain;
+use pack_commands::{ArgError, CommandError, read_command, run_command};
 use std::alloc::AllocError;
 use std::io;
 use std::io::BufWriter;

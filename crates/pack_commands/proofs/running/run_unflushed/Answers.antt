@@ -1,7 +1,7 @@
 use Rattle.std.proofs.Common.{refl, sym, ap, ◌∙◌}
 use Rattle.pack_commands.specs.declared.command.Command.TheVariants.{Find, Names, Show}
 use Rattle.pack_commands.proofs.RunningLemmas.{printed, printed_part, refused, checked, checked_part}
-use Rattle.pack_commands.proofs.running.answer.Goals as goal
+use Rattle.pack_commands.proofs.running.run_unflushed.Goals as goal
 
 pub returns-in_ok-bytes-in-Find-clause-done : goal.returns-in_ok-bytes-in-Find-clause-done
 returns-in_ok-bytes-in-Find-clause-done g c =
