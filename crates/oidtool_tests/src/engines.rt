@@ -2,6 +2,7 @@
 
 mod asking;
 mod bad_lists;
+mod checking;
 mod digests;
 mod faults;
 mod faulty;

@@ -15,16 +15,16 @@ use std::test::Fail;
 // The digests of `abc` and of nothing, in FIPS 180-4's own examples.
 pub const ABC: &str = "a9993e364706816aba3e25717850c26c9cd0d89d\n";
 
-const ABC_256: &str = "ba7816bf8f01cfea414140de5dae2223b00361a396177a9cb410ff61f20015ad\n";
+pub const ABC_256: &str = "ba7816bf8f01cfea414140de5dae2223b00361a396177a9cb410ff61f20015ad\n";
 
-const EMPTY: &str = "da39a3ee5e6b4b0d3255bfef95601890afd80709\n";
+pub const EMPTY: &str = "da39a3ee5e6b4b0d3255bfef95601890afd80709\n";
 
-const EMPTY_256: &str = "e3b0c44298fc1c149afbf4c8996fb92427ae41e4649b934ca495991b7852b855\n";
+pub const EMPTY_256: &str = "e3b0c44298fc1c149afbf4c8996fb92427ae41e4649b934ca495991b7852b855\n";
 
 // Those of a million letters `a`, likewise.
-const MILLION: &str = "34aa973cd4c4daa4f61eeb2bdbad27316534016f\n";
+pub const MILLION: &str = "34aa973cd4c4daa4f61eeb2bdbad27316534016f\n";
 
-const MILLION_256: &str = "cdc76e5c9914fb9281a1c7e284d73e67f1809a48a497200e046d39ccc7112cd0\n";
+pub const MILLION_256: &str = "cdc76e5c9914fb9281a1c7e284d73e67f1809a48a497200e046d39ccc7112cd0\n";
 
 // Those of `bbc`, by the program `sha1sum` and its like.
 const BBC: &str = "0fbe2a58568b4590569588e52ed6a7da4e91b6ab\n";

@@ -1,0 +1,192 @@
+//! Checking what ends with the digest of all before it: digests from outside, and devices that fail.
+
+use super::faulty::{Fault, Reader, Writer};
+use super::sealing::{ABC, ABC_256, EMPTY, EMPTY_256, MILLION, MILLION_256, sealed};
+use crate::expecting::expect_bytes;
+use devices::from_slice::FromSlice;
+use devices::into_slice::IntoSlice;
+use devices::plain::Plain;
+use devices::sink::Sink;
+use devices::source::Source;
+use gix_hash::Kind;
+use pipes::{PipeError, check};
+use std::process::Abort;
+
+// The digests of so many letters `a`, by the programs `sha1sum` and `sha256sum`. A source is read in
+// pieces of 65536 bytes: what is sealed ends with one, or a byte behind it, or has its digest behind
+// it.
+const LETTERS: [(usize, &str); 5] = [
+    (65515, "558e35cffaba86317905d258353ec50e7536bba4\n"),
+    (65516, "886ebc06124d48cca5e41969c1cfd7b75455724f\n"),
+    (65517, "f95295d9ce52ac8a74cf28496be2ecfe40ca8d41\n"),
+    (65536, "79db5888b5d38e10afbdbd14a19cd1caa9044c65\n"),
+    (131052, "752ae3e0def5c57fc099604a377a97a71f618015\n"),
+];
+
+const LETTERS_256: [(usize, &str); 4] = [
+    (
+        65504,
+        "86a068709672991985c78087ee5afdf4373fcd7379027f17a5b12c65e2d15197\n",
+    ),
+    (
+        65505,
+        "b2456ddfbc5b5f09931877fd35e5857695fe18c1be1d622cd33a9d54597bc240\n",
+    ),
+    (
+        65536,
+        "bf718b6f653bebc184e1479f1935b8da974d701b893afcf49e701f3e2f9f9c5a\n",
+    ),
+    (
+        131040,
+        "fa8e97d6772471aeebeb8a51e0a1e0c1f97f6aae9d19412d7aad1619f538b54a\n",
+    ),
+];
+
+// The pack of no objects, as `git pack-objects` writes it in a repository of each kind.
+const NO_OBJECTS: &[u8] =
+    b"PACK\0\0\0\x02\0\0\0\0\x02\x9d\x08\x82\x3b\xd8\xa8\xea\xb5\x10\xad\x6a\xc7\x5c\x82\x3c\xfd\x3e\xd3\x1e";
+
+const NO_OBJECTS_256: &[u8] =
+    b"PACK\0\0\0\x02\0\0\0\0\x7e\xd8\x90\xd8\xa4\x57\x60\xf3\xee\xcf\x73\x04\x5b\x1d\x10\x47\x08\x5a\xf4\x77\x6d\xc6\x83\xd7\x8e\xac\x82\x20\x3d\xf1\x99\x3f";
+
+// Checks the bytes, at most so many a read, and compares the answer and what is written: the line
+// where it is given, and nothing otherwise.
+fn expect_check(rt: &impl Abort, kind: Kind, bytes: &[u8], piece: usize, line: Option<&str>) {
+    let mut input = Plain::new(Reader::new(bytes, piece, Fault::Never));
+    let mut buf = [0; 80];
+    let mut out = IntoSlice::new(&mut buf);
+    let row = (kind, bytes.len(), piece, line);
+    let found = check(&mut input, &mut out, kind);
+    expect!(rt; found == Ok(usize::from(line.is_some())), &row);
+    expect_bytes(rt, out.written(), line.unwrap_or("").as_bytes(), &row);
+}
+
+#[test]
+fn finds_what_is_sealed(rt: HostRuntime) {
+    for (kind, message, line) in [
+        (Kind::Sha1, b"abc".as_slice(), ABC),
+        (Kind::Sha256, b"abc".as_slice(), ABC_256),
+        (Kind::Sha1, b"".as_slice(), EMPTY),
+        (Kind::Sha256, b"".as_slice(), EMPTY_256),
+    ] {
+        let whole = sealed(&rt, message, line);
+        for piece in [1, 2, 3, 19, 20, 21, 32, 33, usize::MAX] {
+            expect_check(&rt, kind, &whole, piece, Some(line));
+        }
+    }
+    let line = Some("029d08823bd8a8eab510ad6ac75c823cfd3ed31e\n");
+    expect_check(&rt, Kind::Sha1, NO_OBJECTS, usize::MAX, line);
+    let line = Some("7ed890d8a45760f3eecf73045b1d1047085af4776dc683d78eac82203df1993f\n");
+    expect_check(&rt, Kind::Sha256, NO_OBJECTS_256, usize::MAX, line);
+}
+
+// Checks the letters and the digest behind them, and the same with the last byte changed.
+fn expect_letters(rt: &(impl Abort + AllocGlobal), kind: Kind, count: usize, line: &str) {
+    let letters = vec![in rt.alloc(); b'a'; count].expect(rt, "no memory for a message");
+    let mut whole = sealed(rt, &letters, line);
+    for piece in [31, 4095, 65535, usize::MAX] {
+        expect_check(rt, kind, &whole, piece, Some(line));
+    }
+    if let Some(last) = whole.last_mut() {
+        *last ^= 1;
+    }
+    expect_check(rt, kind, &whole, usize::MAX, None);
+}
+
+#[test]
+fn finds_across_pieces(rt: HostRuntime) {
+    for (count, line) in LETTERS {
+        expect_letters(&rt, Kind::Sha1, count, line);
+    }
+    for (count, line) in LETTERS_256 {
+        expect_letters(&rt, Kind::Sha256, count, line);
+    }
+    expect_letters(&rt, Kind::Sha1, 1_000_000, MILLION);
+    expect_letters(&rt, Kind::Sha256, 1_000_000, MILLION_256);
+}
+
+#[test]
+fn finds_what_is_not_sealed(rt: HostRuntime) {
+    for (kind, other, line) in [
+        (Kind::Sha1, Kind::Sha256, ABC),
+        (Kind::Sha256, Kind::Sha1, ABC_256),
+    ] {
+        let mut whole = sealed(&rt, b"abc", line);
+        expect_check(&rt, other, &whole, usize::MAX, None);
+        for len in 0..whole.len() {
+            expect_check(&rt, kind, &whole[..len], usize::MAX, None);
+            expect_check(&rt, kind, &whole[..len], 1, None);
+            whole[len] ^= 0x80;
+            expect_check(&rt, kind, &whole, usize::MAX, None);
+            whole[len] ^= 0x80;
+        }
+        whole.push(b'\n').expect(&rt, "no memory for a message");
+        expect_check(&rt, kind, &whole, usize::MAX, None);
+    }
+}
+
+// Checks `abc` and its digest in SHA-1, a byte a read, between two devices, and compares the answer,
+// what is written, and how often the devices are called.
+fn expect_stop(
+    rt: &(impl Abort + AllocGlobal),
+    read: Fault,
+    write: (usize, Fault),
+    error: PipeError,
+    taken: &[u8],
+    calls: (usize, usize),
+) {
+    let whole = sealed(rt, b"abc", ABC);
+    let mut input = Plain::new(Reader::new(&whole, 1, read));
+    let (piece, fault) = write;
+    let mut out = Plain::new(Writer::new(Vec::new(rt.alloc()), piece, fault));
+    let answer = check(&mut input, &mut out, Kind::Sha1);
+    expect!(rt; answer == Err(error), &calls);
+    expect!(rt; input.failed() == (error == PipeError::Input), &calls);
+    expect!(rt; out.failed() == (error == PipeError::Output), &calls);
+    let (reads, writes) = calls;
+    expect!(rt; input.into_inner().calls() == reads, &calls);
+    let writer = out.into_inner();
+    expect!(rt; writer.calls() == writes, &calls);
+    expect_bytes(rt, writer.taken(), taken, &calls);
+}
+
+// The 24th read is the one that finds the end.
+#[test]
+fn tells_a_read_that_fails(rt: HostRuntime) {
+    let whole = (usize::MAX, Fault::Never);
+    for n in 1..=24 {
+        for fault in [Fault::AtCall(n), Fault::InterruptedAt(n)] {
+            expect_stop(&rt, fault, whole, PipeError::Input, b"", (n, 0));
+        }
+    }
+}
+
+#[test]
+fn tells_a_write_that_fails(rt: HostRuntime) {
+    let line = ABC.as_bytes();
+    for n in 1..=line.len() {
+        for fault in [Fault::AtCall(n), Fault::InterruptedAt(n)] {
+            let write = (1, fault);
+            let taken = &line[..n - 1];
+            expect_stop(&rt, Fault::Never, write, PipeError::Output, taken, (24, n));
+        }
+    }
+    for (write, taken, writes) in [
+        ((0, Fault::Never), b"".as_slice(), 1),
+        ((usize::MAX, Fault::AfterBytes(5)), b"a9993", 2),
+    ] {
+        let calls = (24, writes);
+        expect_stop(&rt, Fault::Never, write, PipeError::Output, taken, calls);
+    }
+}
+
+// Bytes that are not sealed need no sink that takes the line.
+#[test]
+fn writes_nothing_of_other_bytes(rt: HostRuntime) {
+    let mut input = FromSlice::new(b"abc");
+    let mut out = Plain::new(Writer::new(Vec::new(rt.alloc()), 0, Fault::AtCall(1)));
+    let found = check(&mut input, &mut out, Kind::Sha1);
+    expect!(&rt; found == Ok(0));
+    expect!(&rt; !out.failed());
+    expect!(&rt; out.into_inner().calls() == 0);
+}
