@@ -3,11 +3,7 @@
 use super::faulty::{Fault, Reader, Writer};
 use super::sealing::{ABC, ABC_256, EMPTY, EMPTY_256, MILLION, MILLION_256, sealed};
 use crate::expecting::expect_bytes;
-use devices::from_slice::FromSlice;
-use devices::into_slice::IntoSlice;
-use devices::plain::Plain;
-use devices::sink::Sink;
-use devices::source::Source;
+use devices::{FromSlice, IntoSlice, Plain, Sink, Source};
 use gix_hash::Kind;
 use pipes::{PipeError, check};
 use std::process::Abort;
