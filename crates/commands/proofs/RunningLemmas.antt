@@ -1,7 +1,7 @@
 -- A command that was done, and its flush.
 use Rattle.std.proofs.Common.{ℕ, Option, Some, None, List, [], sym, append-nil}
 use Rattle.std.specs.Prelude.{Result}
-use Rattle.std.specs.Io.KnownBytes.{Appends, Keeps}
+use Rattle.std.specs.Io.KnownBytes.{Keeps}
 use Rattle.commands.specs.declared.command.Command.{Command}
 use Rattle.commands.specs.declared.command.Command.TheVariants.{Find, FindChange, FindIn, Hash, HashFile, Seal}
 use Rattle.pipes.specs.Printing.{printed}

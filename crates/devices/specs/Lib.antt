@@ -1,4 +1,4 @@
--- What devices gave and took, whether they failed, and the lines of ids.
+-- What devices gave and took, and whether they failed.
 pub mod Writing
 pub mod Devices
 pub mod Source

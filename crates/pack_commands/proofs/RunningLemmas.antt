@@ -1,5 +1,5 @@
 -- What a command read, and what it printed of that.
-use Rattle.std.proofs.Common.{◌≡◌, ◌≢◌, ◌≤◌, ◌^◌, ℕ, Option, Some, None, List, [], ◌++◌, length, length-append, inl, inr, refl, sym, ap, ◌∙◌, append-nil, arith, IfErr, IfOk, IfSome, IsErrAnd, IsErrOf, Ok, Err}
+use Rattle.std.proofs.Common.{◌≡◌, ◌≢◌, ◌≤◌, ◌^◌, ℕ, Option, Some, None, List, [], length, length-append, inl, inr, refl, sym, ap, append-nil, arith, IfErr, IfOk, IfSome, IsErrAnd, IsErrOf, Ok, Err}
 use Rattle.std.specs.Prelude.{Result}
 use Rattle.std.proofs.lemmas.List.{nil_from_length}
 use Rattle.std.specs.Io.KnownBytes.{Appends, Consumes, IsAtEnd, Keeps}
@@ -7,7 +7,6 @@ use Rattle.devices.specs.Source.{GivesAll, GivesMore}
 use Rattle.devices.specs.Writing.{Appends-kept, AppendsPart}
 use Rattle.gix_hash.specs.declared.Kind.{Kind}
 use Rattle.pack_index.specs.Format.{IsPackIndex}
-use Rattle.pack_index.specs.Refusal.{opened}
 use Rattle.pipes.specs.Pipe.{digest_line, sealed}
 use Rattle.pipes.specs.Sealed.{CheckingStops, IsChecked}
 use Rattle.pipes.specs.declared.PipeError.{PipeError}
