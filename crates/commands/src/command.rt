@@ -8,6 +8,10 @@ use gix_hash::Kind;
 use std::fmt;
 
 /// What the program is asked to do.
+///
+/// ```
+/// let command = read_command(&["find", "4b82"])?;
+/// ```
 #[derive(Clone, Copy, Debug)]
 pub enum Command<'a> {
     /// Find the ids of the list text on standard input that begin with this prefix.

@@ -8,6 +8,10 @@ use crate::source::Source;
 use std::io;
 
 /// A source that gives the bytes of a slice, from the front, and never fails.
+///
+/// ```
+/// hash_all(&mut FromSlice::new(b"abc"), &mut out, Kind::Sha1)?;
+/// ```
 #[derive(Drop)]
 pub struct FromSlice<'a> {
     rest: &'a [u8],

@@ -9,6 +9,13 @@ use crate::sink::{BufferedSink, Sink};
 use std::io;
 
 /// A sink that fills a slice from the front, and takes what fits.
+///
+/// ```
+/// let mut room = [0; 65];
+/// let mut out = IntoSlice::new(&mut room);
+/// hash_all(&mut input, &mut out, Kind::Sha1)?;
+/// println!(rt; "{} bytes", out.written().len())?;
+/// ```
 #[derive(Drop)]
 pub struct IntoSlice<'a> {
     buf: &'a mut [u8],

@@ -12,6 +12,11 @@ use std::io::{self, BufWriter, Write};
 
 /// A source over a reader of the library, or a sink over a writer of it. What is left, and what was
 /// taken, is what the reader or the writer tells of that.
+///
+/// ```
+/// let mut input = Plain::new(rt.reader());
+/// hash_all(&mut input, &mut out, Kind::Sha1)?;
+/// ```
 #[derive(Drop)]
 pub struct Plain<T> {
     inner: T,

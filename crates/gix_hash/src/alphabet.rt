@@ -24,6 +24,11 @@ use id_digits::{
 
 /// An alphabet of sixteen letters for the digits 0 to 15. Texts are read in any letter case, and
 /// spelled in lowercase.
+///
+/// ```
+/// // The prefix 4b82, as Jujutsu spells it.
+/// let prefix = Alphabet::Reverse.read_prefix("vorx")?;
+/// ```
 #[derive(Clone, Copy, Debug, PartialEq, Eq)]
 pub enum Alphabet {
     /// `0` to `9` and `a` to `f`.
@@ -156,7 +161,7 @@ impl Alphabet {
         match self {
             Alphabet::Hex => read_digest(text, bytes),
             Alphabet::Reverse => {
-                let mut letters = [0; 64];
+                let mut letters = Kind::hex_buf();
                 read_digest(in_hex(text, &mut letters), bytes)
             }
         }
@@ -176,7 +181,7 @@ impl Alphabet {
         match self {
             Alphabet::Hex => read_front(text, zeros),
             Alphabet::Reverse => {
-                let mut letters = [0; 64];
+                let mut letters = Kind::hex_buf();
                 read_front(in_hex(text, &mut letters), zeros)
             }
         }

@@ -25,6 +25,11 @@ use std::{fmt, io};
 /// A view of the digest of an id, of 20 or 32 bytes.
 ///
 /// It compares by its digits in dictionary order, a shorter beginning first, whatever the kinds.
+///
+/// ```
+/// let id = oid::try_from_bytes(digest)?;
+/// println!(rt; "{} begins with the byte {}", id, id.first_byte())?;
+/// ```
 #[derive(Clone, Copy)]
 pub struct oid<'a> {
     bytes: &'a [u8],
@@ -144,7 +149,7 @@ impl<'a> oid<'a> {
     pub fn eq_str(&self, text: &str) -> bool
         ensures { IsTrue result ↔ (text.now ≡ spelling hex_letter (oid_digits self.now)) }
     {
-        let mut buffer = [0; 64];
+        let mut buffer = Kind::hex_buf();
         self.hex_to_buf(&mut buffer) == text
     }
 
@@ -180,7 +185,7 @@ impl<'a> oid<'a> {
         ensures { OnOk result (Appends (W.contents out.old) (W.contents out.new)
             (spelling hex_letter (oid_digits self.now))) }
     {
-        let mut buffer = [0; 64];
+        let mut buffer = Kind::hex_buf();
         self.put_hex(&mut buffer);
         out.write_all(&buffer[..self.kind().len_in_hex()])
     }
@@ -330,7 +335,7 @@ impl fmt::Display for oid<'_> {
     ghost styled_output = { λ id _. Some (spelling hex_letter (oid_digits id)) };
 
     fn fmt<W: fmt::Write>(&self, f: &mut fmt::Formatter<W>) -> fmt::Result {
-        let mut buffer = [0; 64];
+        let mut buffer = Kind::hex_buf();
         f.write_str(self.hex_to_buf(&mut buffer))
     }
 }

@@ -20,6 +20,11 @@ use std::str::FromStr;
 
 /// An id under another spelling: the letters `z` to `k` in place of the hex digits 0 to 15, as
 /// Jujutsu prints change ids. Contracts see the id.
+///
+/// ```
+/// let change = ChangeId::from_reverse_hex(text)?;
+/// println!(rt; "{} is {} in hex", change, change.to_hex())?;
+/// ```
 #[derive(Clone, Copy, PartialEq, Eq, PartialOrd, Ord, Hash, Debug)]
 pub struct ChangeId(ObjectId);
 

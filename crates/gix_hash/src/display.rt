@@ -7,6 +7,7 @@ ghost use Rattle.gix_hash.specs.Alphabet.{letter_of};
 use crate::alphabet::Alphabet;
 use crate::ascii::ascii_text;
 use crate::borrowed::oid;
+use crate::kind::Kind;
 use std::fmt;
 use std::marker::Model;
 
@@ -52,6 +53,11 @@ impl<'a> CutId<'a> {
 ///
 /// Two of them are equal where both the ids and the numbers asked for are, and ordered by the ids
 /// first.
+///
+/// ```
+/// // Prints 4b825dc, of the empty tree.
+/// println!(rt; "{}", id.to_hex_with_len(7))?;
+/// ```
 #[derive(PartialEq, Eq, PartialOrd, Ord, Hash, Drop)]
 pub struct HexDisplay<'a>(CutId<'a>);
 
@@ -79,7 +85,7 @@ impl<'a> HexDisplay<'a> {
     pub fn eq_str(&self, text: &str) -> bool
         ensures { IsTrue result ↔ (text.now ≡ spelling hex_letter (shown_digits self.now)) }
     {
-        let mut buffer = [0; 64];
+        let mut buffer = Kind::hex_buf();
         self.0.text(Alphabet::Hex, &mut buffer) == text
     }
 }
@@ -95,7 +101,7 @@ impl fmt::Display for HexDisplay<'_> {
     ghost styled_output = { λ display _. Some (spelling hex_letter (shown_digits display)) };
 
     fn fmt<W: fmt::Write>(&self, f: &mut fmt::Formatter<W>) -> fmt::Result {
-        let mut buffer = [0; 64];
+        let mut buffer = Kind::hex_buf();
         f.write_str(self.0.text(Alphabet::Hex, &mut buffer))
     }
 }
@@ -105,6 +111,11 @@ impl fmt::Display for HexDisplay<'_> {
 ///
 /// Two of them are equal where both the ids and the numbers asked for are, and ordered by the ids
 /// first.
+///
+/// ```
+/// // Prints vorx, of the empty tree.
+/// println!(rt; "{}", change.to_reverse_hex_with_len(4))?;
+/// ```
 #[derive(PartialEq, Eq, PartialOrd, Ord, Hash, Drop)]
 pub struct ReverseHexDisplay<'a>(CutId<'a>);
 
@@ -134,7 +145,7 @@ impl<'a> ReverseHexDisplay<'a> {
     pub fn eq_str(&self, text: &str) -> bool
         ensures { IsTrue result ↔ (text.now ≡ spelling reverse_letter (shown_digits self.now)) }
     {
-        let mut buffer = [0; 64];
+        let mut buffer = Kind::hex_buf();
         self.0.text(Alphabet::Reverse, &mut buffer) == text
     }
 }
@@ -151,7 +162,7 @@ impl fmt::Display for ReverseHexDisplay<'_> {
     ghost styled_output = { λ display _. Some (spelling reverse_letter (shown_digits display)) };
 
     fn fmt<W: fmt::Write>(&self, f: &mut fmt::Formatter<W>) -> fmt::Result {
-        let mut buffer = [0; 64];
+        let mut buffer = Kind::hex_buf();
         f.write_str(self.0.text(Alphabet::Reverse, &mut buffer))
     }
 }

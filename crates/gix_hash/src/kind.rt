@@ -15,6 +15,11 @@ use std::fmt;
 use std::hash::{Hash, Hasher};
 
 /// The kind of digest that an id is.
+///
+/// ```
+/// let kind = Kind::Sha256;
+/// println!(rt; "{kind} has {} digits", kind.len_in_hex())?;
+/// ```
 #[derive(Clone, Copy, Debug)]
 pub enum Kind {
     /// SHA-1, a digest of 20 bytes (FIPS 180-4).

@@ -16,6 +16,11 @@ use std::str::FromStr;
 use std::{fmt, io};
 
 /// The name of an object: the digest of its content.
+///
+/// ```
+/// let id = ObjectId::from_hex(b"4b825dc642cb6eb9a060e54bf8d69288fbee4904")?;
+/// println!(rt; "{}", id.to_hex_with_len(7))?;
+/// ```
 #[derive(Clone, Copy)]
 pub enum ObjectId {
     /// A SHA-1 digest.
@@ -205,7 +210,7 @@ impl ObjectId {
     pub fn eq_bstr(&self, text: &[u8]) -> bool
         ensures { IsTrue result ↔ (text.now ≡ spelling hex_letter (id_digits self.now)) }
     {
-        let mut buffer = [0; 64];
+        let mut buffer = Kind::hex_buf();
         let filled = self.filled(&mut buffer);
         &filled[..self.kind().len_in_hex()] == text
     }

@@ -68,6 +68,13 @@ impl error::Error for Error {}
 ///
 /// It keeps the bytes of its digits with zeros behind them, as many as the kind's digest has, and
 /// beside them the same digits as two numbers of 128 bits, by which it compares.
+///
+/// ```
+/// let prefix = Prefix::from_hex("4b825dc")?;
+/// if prefix.cmp_oid(id.as_oid()).is_eq() {
+///     println!(rt; "{id} begins with {prefix}")?;
+/// }
+/// ```
 #[derive(Clone, Copy)]
 pub struct Prefix {
     bytes: ObjectId,

@@ -10,6 +10,11 @@ use std::marker::Model;
 ///
 /// An index has one of its ids: [`IdIndex::fan_out`](crate::IdIndex::fan_out). Of another list it
 /// is made by [`FanOut::of`].
+///
+/// ```
+/// let fan_out = index.fan_out();
+/// println!(rt; "{} ids begin with at most 4b", fan_out.up_to(0x4b))?;
+/// ```
 #[derive(Drop)]
 pub struct FanOut {
     counts: [usize; 256],

@@ -24,6 +24,11 @@ use std::marker::Model;
 /// A list of ids of one kind, each above the one before it, with the counts of its first bytes.
 ///
 /// It takes no memory: the counts are a table of fixed size in it.
+///
+/// ```
+/// let index = IdIndex::try_new(&list, Kind::Sha1)?;
+/// println!(rt; "the first id is {} for short", index.abbreviate(0))?;
+/// ```
 #[derive(Drop)]
 pub struct IdIndex<'a, I: Id = ObjectId> {
     ids: &'a [I],
@@ -225,6 +230,14 @@ impl fmt::Display for IndexError {
 impl Error for IndexError {}
 
 /// Which members of an index begin with a prefix.
+///
+/// ```
+/// match index.find(&prefix) {
+///     Answer::None => println!(rt; "no id"),
+///     Answer::One(at) => println!(rt; "{}", list[at]),
+///     Answer::Many(run) => println!(rt; "{} ids", run.end - run.start),
+/// }
+/// ```
 #[derive(Clone, Copy, PartialEq, Eq, Debug)]
 pub enum Answer {
     /// No member.

@@ -17,6 +17,12 @@ use std::marker::Model;
 ///
 /// It lends no id, and there is no copy of it and no way back to an earlier count, so whoever has
 /// nothing else of the list has asked as often as [`Probes::asked`] says.
+///
+/// ```
+/// let mut probes = Probes::new(&ids, prefix);
+/// let run = lookup(&mut probes);
+/// println!(rt; "found by {} answers", probes.asked())?;
+/// ```
 #[derive(Drop)]
 pub struct Probes<'a, I: Id = ObjectId> {
     ids: &'a [I],

@@ -23,6 +23,11 @@ const DIGITS_OF_A_BYTE: usize = 2;
 
 /// A run of places of a list, from `start` up to `end`, both counted from 0. It is empty where the
 /// two are equal.
+///
+/// ```
+/// let run = lookup(&mut probes);
+/// println!(rt; "{} ids begin with it", run.end - run.start)?;
+/// ```
 #[derive(Clone, Copy, PartialEq, Eq, Debug)]
 pub struct Run {
     /// The first place.

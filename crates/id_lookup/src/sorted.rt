@@ -22,6 +22,12 @@ use std::marker::Model;
 /// A list of ids of which none is below the one before it, in dictionary order of their digits.
 ///
 /// Ids of both kinds may be mixed, and an id may stand there more than once.
+///
+/// ```
+/// let ids = SortedIds::try_new(&list)?;
+/// let run = ids.find(&prefix);
+/// let found = &list[run.start..run.end];
+/// ```
 #[derive(Drop)]
 pub struct SortedIds<'a, I: Id = ObjectId> {
     ids: &'a [I],

@@ -8,6 +8,10 @@ use gix_hash::Kind;
 use std::fmt;
 
 /// What the program is asked to do.
+///
+/// ```
+/// let command = read_command(&["find", "sha1", "4b82"])?;
+/// ```
 #[derive(Clone, Copy, Debug)]
 pub enum Command<'a> {
     /// Print the lines of the pack index on standard input whose ids begin with this prefix.

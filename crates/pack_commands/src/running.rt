@@ -220,7 +220,8 @@ fn print_all<W: Sink>(bytes: &[u8], kind: Kind, out: &mut W) -> Result<usize, Co
     Ok(show(&file, out)?)
 }
 
-// All that the source gives until its end.
+// All that the source gives until its end. Its piece is on the stack while it runs alone.
+#[inline(never)]
 fn read_all<A: Allocator, R: Source>(alloc: A, input: &mut R) -> Result<Vec<u8, A>, CommandError>
     requires { R.has_failed input.old ≡ false }
     ensures all { IfOk result (λ text. Consumes (R.remaining input.old)

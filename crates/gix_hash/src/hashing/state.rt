@@ -24,6 +24,13 @@ pub struct Sha256State {
 /// so far, one piece behind the other, is the message that it stands for.
 ///
 /// [`hasher`](crate::hasher) makes one.
+///
+/// ```
+/// let mut hasher = hasher(Kind::Sha1);
+/// hasher.update(b"blob 0");
+/// hasher.update(b"\0");
+/// let id = hasher.try_finalize()?;
+/// ```
 #[derive(Drop)]
 pub enum Hasher {
     /// SHA-1 (FIPS 180-4).

@@ -15,6 +15,10 @@ pub trait Interrupt {
 }
 
 /// An interruption that never comes: it answers false at every asking, and stays as it is.
+///
+/// ```
+/// let id = bytes(&mut reader, 41, Kind::Sha1, &mut NoProgress, &mut Never)?;
+/// ```
 #[derive(Clone, Copy, Debug)]
 pub struct Never;
 

@@ -24,6 +24,10 @@ pub trait Progress {
 }
 
 /// A progress that does nothing, and stays as it is.
+///
+/// ```
+/// let id = bytes(&mut reader, 41, Kind::Sha1, &mut NoProgress, &mut Never)?;
+/// ```
 #[derive(Clone, Copy, Debug)]
 pub struct NoProgress;
 

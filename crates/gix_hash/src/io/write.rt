@@ -15,6 +15,12 @@ use std::io;
 ///
 /// One that is fresh, and whose fields are only read, stands for all that its inner writer took
 /// since.
+///
+/// ```
+/// let mut out = Write::new(file, Kind::Sha1);
+/// out.write_all(b"PACK")?;
+/// let id = out.hash.try_finalize()?;
+/// ```
 #[derive(Drop)]
 pub struct Write<T> {
     /// The hasher, which was fed all that the inner writer took.

@@ -14,6 +14,7 @@ use super::Prefix;
 use crate::alphabet::Alphabet;
 use crate::ascii::ascii_text;
 use crate::display::{CutId, ReverseHexDisplay};
+use crate::kind::Kind;
 use std::{fmt, io};
 
 impl Prefix {
@@ -32,7 +33,7 @@ impl Prefix {
             (length self.now.digits) buffer.old }
     {
         // Ids are spelled whole, for which the buffer may have no room.
-        let mut whole = [0; 64];
+        let mut whole = Kind::hex_buf();
         let letters = self.cut().letters(Alphabet::Hex, &mut whole);
         buffer[..letters.len()].copy_from_slice(letters);
     }
@@ -86,7 +87,7 @@ impl Prefix {
         ensures { OnOk result (Appends (W.contents out.old) (W.contents out.new)
             (spelling hex_letter self.now.digits)) }
     {
-        let mut buffer = [0; 64];
+        let mut buffer = Kind::hex_buf();
         out.write_all(self.cut().letters(Alphabet::Hex, &mut buffer))
     }
 
@@ -104,7 +105,7 @@ impl Prefix {
     pub fn eq_str(&self, text: &str) -> bool
         ensures { IsTrue result ↔ (text.now ≡ spelling hex_letter self.now.digits) }
     {
-        let mut buffer = [0; 64];
+        let mut buffer = Kind::hex_buf();
         self.cut().text(Alphabet::Hex, &mut buffer) == text
     }
 }
@@ -119,7 +120,7 @@ impl fmt::Display for Prefix {
     ghost styled_output = { λ prefix _. Some (spelling hex_letter prefix.digits) };
 
     fn fmt<W: fmt::Write>(&self, f: &mut fmt::Formatter<W>) -> fmt::Result {
-        let mut buffer = [0; 64];
+        let mut buffer = Kind::hex_buf();
         f.write_str(self.cut().text(Alphabet::Hex, &mut buffer))
     }
 }
