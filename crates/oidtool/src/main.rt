@@ -8,6 +8,8 @@
 
 ghost use Rattle.std.specs.Prelude.{◌≡◌};
 ghost use Rattle.oidtool.specs.declared.Failure.TheVariants as failure;
+ghost use Rattle.command_line.specs.declared.WordsError.TheVariants as words;
+ghost use Rattle.commands.specs.declared.ArgError.TheVariants as arg;
 ghost use Rattle.commands.specs.declared.CommandError.TheVariants as error;
 
 use command_line::{WordsError, own_words, told};
@@ -46,6 +48,9 @@ impl From<CommandError> for Failure<'_> {
 
 // Words that are no text are refused as no command.
 impl From<WordsError> for Failure<'_> {
+    ghost from_gives = { λ why made. (why ≡ words.NotText → made ≡ failure.Words arg.Usage)
+        × (why ≡ words.Memory → made ≡ failure.Command error.Memory) };
+
     fn from(error: WordsError) -> Self {
         match error {
             WordsError::NotText => Failure::Words(ArgError::Usage),

@@ -6,6 +6,8 @@
 
 ghost use Rattle.std.specs.Prelude.{◌≡◌};
 ghost use Rattle.packtool.specs.declared.Failure.TheVariants as failure;
+ghost use Rattle.command_line.specs.declared.WordsError.TheVariants as words;
+ghost use Rattle.pack_commands.specs.declared.ArgError.TheVariants as arg;
 ghost use Rattle.pack_commands.specs.declared.CommandError.TheVariants as error;
 
 mod help;
@@ -45,6 +47,9 @@ impl From<CommandError> for Failure<'_> {
 
 // Words that are no text are refused as no command.
 impl From<WordsError> for Failure<'_> {
+    ghost from_gives = { λ why made. (why ≡ words.NotText → made ≡ failure.Words arg.Usage)
+        × (why ≡ words.Memory → made ≡ failure.Command error.Memory) };
+
     fn from(error: WordsError) -> Self {
         match error {
             WordsError::NotText => Failure::Words(ArgError::Usage),
