@@ -1,10 +1,11 @@
 //! Running a command over a reader and a writer.
 
-ghost use Rattle.std.specs.Prelude.{◌≡◌, ◌≢◌, ◌↔◌, ◌⊎◌, [], true, false, length, IfErr, IfOk, IfSome, IsErrOf, OnOk};
+ghost use Rattle.std.specs.Prelude.{◌≡◌, ◌≢◌, ◌↔◌, ◌⊎◌, [], true, false, length, Err, IfErr, IfOk, IfSome, IsErrOf, OnOk};
 ghost use Rattle.std.specs.List.{count_by};
 ghost use Rattle.std.specs.Io.KnownBytes.{Appends, Consumes, IsAtEnd};
 ghost use Rattle.devices.specs.Writing.{AppendsPart};
 ghost use Rattle.id_lookup.specs.Runs.{begins_with};
+ghost use Rattle.gix_hash.specs.declared.prefix.from_hex.Error as from_hex;
 ghost use Rattle.pack_index.specs.Format.{IsPackIndex, names_in};
 ghost use Rattle.pack_commands.specs.declared.running.CommandError.TheVariants as command;
 ghost use Rattle.pack_commands.specs.Lines.{found, shown};
@@ -115,6 +116,8 @@ pub fn run_command<A: Allocator, R: Source, W: BufferedSink>(
     ensures refused { IfErr result (Refuses command.entry (R.remaining input.old)) }
     ensures memory { IsErrOf result CommandError.Memory
         → IfSome (R.remaining input.old) (λ bytes. bytes ≢ []) }
+    ensures unread { (why : from_hex.Error) → result ≡ Err (CommandError.Prefix why)
+        → input.new ≡ input.old }
     ensures untouched { IfErr result (λ e. e ≢ CommandError.Output → out.new ≡ out.old) }
     ensures input { IsErrOf result CommandError.Input ↔ (R.has_failed input.new ≡ true) }
     ensures output { IsErrOf result CommandError.Output ↔ (W.has_failed out.new ≡ true) }
@@ -142,6 +145,8 @@ fn run_unflushed<A: Allocator, R: Source, W: Sink>(
     ensures refused { IfErr result (Refuses command.entry (R.remaining input.old)) }
     ensures memory { IsErrOf result CommandError.Memory
         → IfSome (R.remaining input.old) (λ bytes. bytes ≢ []) }
+    ensures unread { (why : from_hex.Error) → result ≡ Err (CommandError.Prefix why)
+        → input.new ≡ input.old }
     ensures untouched { IfErr result (λ e. e ≢ CommandError.Output → out.new ≡ out.old) }
     ensures input { IsErrOf result CommandError.Input ↔ (R.has_failed input.new ≡ true) }
     ensures output { IsErrOf result CommandError.Output ↔ (W.has_failed out.new ≡ true) }
