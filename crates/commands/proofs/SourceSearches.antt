@@ -2,15 +2,20 @@
 use Rattle.std.proofs.Common.{◌≡◌, ◌≢◌, ◌≤◌, ◌^◌, ℕ, inl, inr, Option, Some, None, List, [], ◌++◌, length, length-append, refl, sym, ap, ◌∙◌, subst, append_assoc, append-nil, arith, IfErr, IfSome, IsErrOf, IsErrAnd, Ok, Err}
 use denote.Ref.{Bor}
 use Rattle.std.specs.Prelude.{Result}
-use Rattle.gix_hash.specs.Digits.{hex_letter}
-use Rattle.list_search.specs.FindingFrom.{GivesTooMuch, IsSettled, SearchStops}
+use Rattle.gix_hash.specs.Digits.{hex_letter, reverse_letter}
+use Rattle.gix_hash.specs.declared.Kind.{Kind}
+use Rattle.list_search.specs.Finding.{finding}
+use Rattle.list_search.specs.FindingFrom.{GivesTooMuch, IsSettled, SearchStops, SearchStopsIn}
 use Rattle.list_search.specs.Lines.{lines_of, lines_of-nil}
 use Rattle.list_search.specs.ListText.{IsFirstRead}
-use Rattle.commands.specs.Running.{Refuses, refusal_from_source}
-use Rattle.commands.specs.declared.command.Command.{Command}
-use Rattle.commands.specs.declared.command.Command.TheVariants.{Find}
+use Rattle.commands.specs.Running.{Refuses, refusal_from_source, refusal_in_source}
+use Rattle.commands.specs.declared.command.Command.TheVariants.{Find, FindChange, FindIn}
+use Rattle.list_search.specs.declared.FindError.{FindError}
+use Rattle.list_search.specs.declared.FindInError.TheVariants as found_in
 use Rattle.list_search.specs.declared.FindFromError.{FindFromError}
 use Rattle.list_search.specs.declared.FindFromError.TheVariants as from
+use Rattle.list_search.specs.declared.FindInFromError.{FindInFromError}
+use Rattle.list_search.specs.declared.FindInFromError.TheVariants as in_kind
 use Rattle.commands.specs.declared.running.CommandError.{CommandError}
 use Rattle.commands.specs.declared.running.CommandError.TheVariants as command
 
@@ -32,26 +37,43 @@ first_line : (a : Option (List ℕ)) → IfSome a (λ text. IsFirstRead (lines_o
 first_line None first = tt
 first_line (Some text) first = λ none. rw (none, lines_of-nil) at first
 
--- a search in a source that ran out of memory had some input
-pub source_some : (letter : ℕ → ℕ) (prefix : List ℕ) (error : FindFromError) (answer : Result ℕ CommandError) (a b c d : Option (List ℕ))
-    → IsErrAnd answer (λ e. e ≡ refusal_from_source error) → SearchStops letter prefix error a b c d → IsErrOf answer command.Memory
-    → IfSome a (λ bytes. bytes ≢ [])
-source_some letter prefix error (Ok count) a b c d is stops ran_out = absurd is
-source_some letter prefix error (Err e) a b c d is stops ran_out = by_error error (refused error is ran_out) stops
-  where
-    refused : (error : FindFromError) → e ≡ refusal_from_source error → IsErrOf {T = ℕ} (Err e) command.Memory → refusal_from_source error ≡ command.Memory
-    refused error is ran_out = cc
+-- what holds of an error holds of an answer that is this error
+pub answered : (P : CommandError → Type 0) (error : CommandError) (answer : Result ℕ CommandError) → IsErrAnd answer (λ e. e ≡ error) → P error
+    → IfErr answer P
+answered P error (Ok count) is holds = absurd is
+answered P error (Err e) is holds = subst P (sym is) holds
 
-    by_error : (error : FindFromError) → refusal_from_source error ≡ command.Memory → SearchStops letter prefix error a b c d
-        → IfSome a (λ bytes. bytes ≢ [])
-    by_error (from.Prefix error) is stops = cc is
-    by_error (from.BadLine n error) is stops = cc is
-    by_error (from.Unsorted n) is stops = cc is
-    by_error (from.PrefixTooLong hex_len least) is stops = cc is
-    by_error from.Memory is stops = first_line a (settled_whole (λ text. IsFirstRead (lines_of text)) a b stops.1)
-    by_error from.Output is stops = cc is
-    by_error from.Input is stops = cc is
-    by_error from.TooMuch is stops = cc is
+-- an answer that is an error and ran out of memory is that error
+pub ran_out : (error : CommandError) (answer : Result ℕ CommandError) → IsErrAnd answer (λ e. e ≡ error) → IsErrOf answer command.Memory
+    → error ≡ command.Memory
+ran_out error (Ok count) is memory = absurd is
+ran_out error (Err e) is memory = cc
+
+-- a search in a source that ran out of memory had some input
+pub some_input : (letter : ℕ → ℕ) (prefix : List ℕ) (error : FindFromError) (a b c d : Option (List ℕ)) → SearchStops letter prefix error a b c d
+    → refusal_from_source error ≡ command.Memory → IfSome a (λ bytes. bytes ≢ [])
+some_input letter prefix (from.Prefix error) a b c d stops is = cc is
+some_input letter prefix (from.BadLine n error) a b c d stops is = cc is
+some_input letter prefix (from.Unsorted n) a b c d stops is = cc is
+some_input letter prefix (from.PrefixTooLong hex_len least) a b c d stops is = cc is
+some_input letter prefix from.Memory a b c d stops is = first_line a (settled_whole (λ text. IsFirstRead (lines_of text)) a b stops.1)
+some_input letter prefix from.Output a b c d stops is = cc is
+some_input letter prefix from.Input a b c d stops is = cc is
+some_input letter prefix from.TooMuch a b c d stops is = cc is
+
+-- and one in ids of a kind
+pub some_input_in : (kind : Kind) (prefix : List ℕ) (error : FindInFromError) (a b c d : Option (List ℕ)) → SearchStopsIn kind prefix error a b c d
+    → refusal_in_source error ≡ command.Memory → IfSome a (λ bytes. bytes ≢ [])
+some_input_in kind prefix (in_kind.Search (found_in.Prefix error)) a b c d stops is = cc is
+some_input_in kind prefix (in_kind.Search (found_in.BadLine n error)) a b c d stops is = cc is
+some_input_in kind prefix (in_kind.Search (found_in.OtherKind other)) a b c d stops is = cc is
+some_input_in kind prefix (in_kind.Search (found_in.WrongKind n)) a b c d stops is = cc is
+some_input_in kind prefix (in_kind.Search (found_in.NotRising n)) a b c d stops is = cc is
+some_input_in kind prefix (in_kind.Search found_in.Memory) a b c d stops is =
+    first_line a (settled_whole (λ text. IsFirstRead (lines_of text)) a b stops.1)
+some_input_in kind prefix (in_kind.Search found_in.Output) a b c d stops is = cc is
+some_input_in kind prefix in_kind.Input a b c d stops is = cc is
+some_input_in kind prefix in_kind.TooMuch a b c d stops is = cc is
 
 -- a source that gave too much has it
 too_much : (a b : Option (List ℕ)) → GivesTooMuch a b → IfSome a (λ bytes. 2 ^ 61 ≤ length bytes)
@@ -59,33 +81,45 @@ too_much None b given = tt
 too_much (Some xs) None given = absurd given.more.gives
 too_much (Some xs) (Some ys) given = omega (arith, ap length given.more.gives, given.more.too_long, length-append given.bytes ys)
 
--- a source that gave some of what was settled, or too much, was not empty
-pub settled_some : (a b : Option (List ℕ)) → IsSettled (λ text. IsFirstRead (lines_of text)) a b → IfSome a (λ bytes. bytes ≢ [])
-settled_some a b settled = first_line a (settled_whole (λ text. IsFirstRead (lines_of text)) a b settled)
+-- what holds of every text holds of an input
+whatever : {P : List ℕ → Type 0} (input : Option (List ℕ)) → ((text : List ℕ) → P text) → IfSome input P
+whatever None all = tt
+whatever (Some text) all = all text
 
-pub much_some : (a b : Option (List ℕ)) → GivesTooMuch a b → IfSome a (λ bytes. bytes ≢ [])
-much_some None b given = tt
-much_some (Some xs) b given = λ none. let much : 2 ^ 61 ≤ length xs = too_much (Some xs) b given in absurd (omega (arith, much, ap length none))
+-- where a search in what a source gives stops, a command refuses its input that refuses so
+source_refused : (Refused : CommandError → Type 0) (letter : ℕ → ℕ) (prefix : List ℕ) (error : FindFromError) (a b c d : Option (List ℕ))
+    → ((why : FindError) → IfSome a (λ text. finding letter prefix text ≡ Err why) → Refused (command.Find why))
+    → Refused command.Memory → Refused command.Output → Refused command.Input → (IfSome a (λ text. 2 ^ 61 ≤ length text) → Refused command.TooMuch)
+    → SearchStops letter prefix error a b c d → Refused (refusal_from_source error)
+source_refused Refused letter prefix (from.Prefix error) a b c d found memory output input much stops = found _ (whatever a (λ text. rw stops refl))
+source_refused Refused letter prefix (from.BadLine n error) a b c d found memory output input much stops = found _ (settled_whole _ a b stops)
+source_refused Refused letter prefix (from.Unsorted n) a b c d found memory output input much stops = found _ (settled_whole _ a b stops)
+source_refused Refused letter prefix (from.PrefixTooLong hex_len least) a b c d found memory output input much stops = found _ (settled_whole _ a b stops)
+source_refused Refused letter prefix from.Memory a b c d found memory output input much stops = memory
+source_refused Refused letter prefix from.Output a b c d found memory output input much stops = output
+source_refused Refused letter prefix from.Input a b c d found memory output input much stops = input
+source_refused Refused letter prefix from.TooMuch a b c d found memory output input much stops = much (too_much a b stops.1)
 
--- where a search in what a source gives stops, the command refuses its input
-source_refused : (prefix : Bor (List ℕ)) (error : FindFromError) (a b c d : Option (List ℕ)) → SearchStops hex_letter prefix.now error a b c d
+-- so does `find`
+pub find_refuses : (prefix : Bor (List ℕ)) (error : FindFromError) (a b c d : Option (List ℕ)) → SearchStops hex_letter prefix.now error a b c d
     → Refuses (Find prefix) a (refusal_from_source error)
-source_refused prefix (from.Prefix error) a b c d stops = whatever a (λ text. rw stops refl)
-  where
-    whatever : {P : List ℕ → Type 0} (input : Option (List ℕ)) → ((text : List ℕ) → P text) → IfSome input P
-    whatever None all = tt
-    whatever (Some text) all = all text
-source_refused prefix (from.BadLine n error) a b c d stops = settled_whole _ a b stops
-source_refused prefix (from.Unsorted n) a b c d stops = settled_whole _ a b stops
-source_refused prefix (from.PrefixTooLong hex_len least) a b c d stops = settled_whole _ a b stops
-source_refused prefix from.Memory a b c d stops = tt
-source_refused prefix from.Output a b c d stops = tt
-source_refused prefix from.Input a b c d stops = tt
-source_refused prefix from.TooMuch a b c d stops = too_much a b stops.1
+find_refuses prefix error a b c d = source_refused (Refuses (Find prefix) a) hex_letter prefix.now error a b c d (λ why found. found) tt tt tt (λ much. much)
 
--- and answers so
-pub source_refuses : (asked : Command) (prefix : Bor (List ℕ)) (error : FindFromError) (answer : Result ℕ CommandError) (a b c d : Option (List ℕ))
-    → asked ≡ Find prefix → IsErrAnd answer (λ e. e ≡ refusal_from_source error) → SearchStops hex_letter prefix.now error a b c d
-    → IfErr answer (Refuses asked a)
-source_refuses asked prefix error (Ok count) a b c d find is stops = absurd is
-source_refuses asked prefix error (Err e) a b c d find is stops = rw (find, is) (source_refused prefix error a b c d stops)
+-- and `find-change`
+pub find_change_refuses : (letters : Bor (List ℕ)) (error : FindFromError) (a b c d : Option (List ℕ))
+    → SearchStops reverse_letter letters.now error a b c d → Refuses (FindChange letters) a (refusal_from_source error)
+find_change_refuses letters error a b c d =
+    source_refused (Refuses (FindChange letters) a) reverse_letter letters.now error a b c d (λ why found. found) tt tt tt (λ much. much)
+
+-- and `find-in`
+pub find_in_refuses : (kind : Kind) (prefix : Bor (List ℕ)) (error : FindInFromError) (a b c d : Option (List ℕ))
+    → SearchStopsIn kind prefix.now error a b c d → Refuses (FindIn kind prefix) a (refusal_in_source error)
+find_in_refuses kind prefix (in_kind.Search (found_in.Prefix error)) a b c d stops = whatever a (λ text. rw stops refl)
+find_in_refuses kind prefix (in_kind.Search (found_in.BadLine n error)) a b c d stops = settled_whole _ a b stops
+find_in_refuses kind prefix (in_kind.Search (found_in.OtherKind other)) a b c d stops = settled_whole _ a b stops
+find_in_refuses kind prefix (in_kind.Search (found_in.WrongKind n)) a b c d stops = settled_whole _ a b stops
+find_in_refuses kind prefix (in_kind.Search (found_in.NotRising n)) a b c d stops = settled_whole _ a b stops
+find_in_refuses kind prefix (in_kind.Search found_in.Memory) a b c d stops = tt
+find_in_refuses kind prefix (in_kind.Search found_in.Output) a b c d stops = tt
+find_in_refuses kind prefix in_kind.Input a b c d stops = tt
+find_in_refuses kind prefix in_kind.TooMuch a b c d stops = too_much a b stops.1

@@ -8,6 +8,9 @@ use Rattle.commands.specs.declared.command.Command.TheVariants.{Find, FindChange
 use Rattle.list_search.specs.declared.FindError.TheVariants as found
 use Rattle.list_search.specs.declared.FindFromError.{FindFromError}
 use Rattle.list_search.specs.declared.FindFromError.TheVariants as from
+use Rattle.list_search.specs.declared.FindInError.TheVariants as found_in
+use Rattle.list_search.specs.declared.FindInFromError.{FindInFromError}
+use Rattle.list_search.specs.declared.FindInFromError.TheVariants as in_kind
 use Rattle.commands.specs.declared.running.CommandError.{CommandError}
 use Rattle.commands.specs.declared.running.CommandError.TheVariants as command
 use Rattle.pipes.specs.declared.PipeError.{PipeError}
@@ -33,6 +36,14 @@ refusal_from_source from.Memory = command.Memory
 refusal_from_source from.Output = command.Output
 refusal_from_source from.Input = command.Input
 refusal_from_source from.TooMuch = command.TooMuch
+
+-- a refusal of one in ids of a kind, likewise
+abbrev pub refusal_in_source : FindInFromError → CommandError
+refusal_in_source (in_kind.Search found_in.Memory) = command.Memory
+refusal_in_source (in_kind.Search found_in.Output) = command.Output
+refusal_in_source (in_kind.Search error) = command.FindIn error
+refusal_in_source in_kind.Input = command.Input
+refusal_in_source in_kind.TooMuch = command.TooMuch
 
 -- the answer is ids, of whose lines a beginning was written, or all
 pub record IsFoundAtMost {E : Type 0} (letter : ℕ → ℕ) (answer : Result (List (List ℕ)) E) (old new : Option (List ℕ)) : Type 0 where
@@ -97,7 +108,6 @@ TakesMemory asked = ⊥
 
 -- the command reads its input in pieces, and it has more than 2^61 - 1 bytes
 abbrev pub HasTooMuch : Command → Option (List ℕ) → Type 0
-HasTooMuch (FindIn kind prefix) input = ⊥
 HasTooMuch (HashFile kind n path) input = ⊥
 HasTooMuch asked input = IfSome input (λ text. 2 ^ 61 ≤ length text)
 

@@ -83,6 +83,22 @@ impl From<FindFromError> for CommandError {
     }
 }
 
+impl From<FindInFromError> for CommandError {
+    ghost use Rattle.commands.specs.Running.{refusal_in_source};
+
+    ghost from_gives = { λ error e. e ≡ refusal_in_source error };
+
+    fn from(error: FindInFromError) -> Self {
+        match error {
+            FindInFromError::Search(FindInError::Memory) => CommandError::Memory,
+            FindInFromError::Search(FindInError::Output) => CommandError::Output,
+            FindInFromError::Search(error) => CommandError::FindIn(error),
+            FindInFromError::Input => CommandError::Input,
+            FindInFromError::TooMuch => CommandError::TooMuch,
+        }
+    }
+}
+
 impl From<WriteFailed> for CommandError {
     ghost use Rattle.commands.specs.declared.running.CommandError.TheVariants.{Output};
 
@@ -209,28 +225,11 @@ fn find_change_to_end<A: Allocator, R: Source, W: Sink>(
         → DoesAtMost (FindChange letters.entry) (R.remaining input.old) (W.taken out.old)
         (W.taken out.new) }
 {
-    match find_change_from(alloc, letters, input, out) {
-        Ok(count) => Ok(count),
-        Err(FindFromError::Prefix(error)) => {
-            read_on(input)?;
-            Err(CommandError::Find(FindError::Prefix(error)))
-        }
-        Err(FindFromError::BadLine { line, error }) => {
-            read_on(input)?;
-            Err(CommandError::Find(FindError::BadLine { line, error }))
-        }
-        Err(FindFromError::Unsorted { line }) => {
-            Err(CommandError::Find(FindError::Unsorted { line }))
-        }
-        Err(FindFromError::PrefixTooLong { hex_len, min }) => {
-            Err(CommandError::Find(FindError::PrefixTooLong { hex_len, min }))
-        }
-        Err(FindFromError::Memory) => Err(CommandError::Memory),
-        // No memory holds as much.
-        Err(FindFromError::TooMuch) => Err(CommandError::Memory),
-        Err(FindFromError::Output) => Err(CommandError::Output),
-        Err(FindFromError::Input) => Err(CommandError::Input),
+    let found = find_change_from(alloc, letters, input, out);
+    if let Err(FindFromError::Prefix(_) | FindFromError::BadLine { .. }) = found {
+        read_on(input)?;
     }
+    Ok(found?)
 }
 
 // As `find_change_to_end`, of `Command::FindIn`.
@@ -255,30 +254,14 @@ fn find_in_to_end<A: Allocator, R: Source, W: Sink>(
         → DoesAtMost (FindIn kind prefix.entry) (R.remaining input.old) (W.taken out.old)
         (W.taken out.new) }
 {
-    match find_in_from(alloc, kind, prefix, input, out) {
-        Ok(count) => Ok(count),
-        Err(FindInFromError::Search(FindInError::Prefix(error))) => {
-            read_on(input)?;
-            Err(CommandError::FindIn(FindInError::Prefix(error)))
-        }
-        Err(FindInFromError::Search(FindInError::BadLine { line, error })) => {
-            read_on(input)?;
-            Err(CommandError::FindIn(FindInError::BadLine { line, error }))
-        }
-        Err(FindInFromError::Search(FindInError::OtherKind { kind })) => {
-            Err(CommandError::FindIn(FindInError::OtherKind { kind }))
-        }
-        Err(FindInFromError::Search(FindInError::WrongKind { line })) => {
-            Err(CommandError::FindIn(FindInError::WrongKind { line }))
-        }
-        Err(FindInFromError::Search(FindInError::NotRising { line })) => {
-            Err(CommandError::FindIn(FindInError::NotRising { line }))
-        }
-        Err(FindInFromError::Search(FindInError::Memory)) => Err(CommandError::Memory),
-        Err(FindInFromError::Search(FindInError::Output)) => Err(CommandError::Output),
-        Err(FindInFromError::Input) => Err(CommandError::Input),
-        Err(FindInFromError::TooMuch) => Err(CommandError::Memory),
+    let found = find_in_from(alloc, kind, prefix, input, out);
+    if let Err(
+        FindInFromError::Search(FindInError::Prefix(_) | FindInError::BadLine { .. }),
+    ) = found
+    {
+        read_on(input)?;
     }
+    Ok(found?)
 }
 
 // Writes the digest of the first `count` bytes of a file: the lowercase hex digits and a line feed.
