@@ -78,6 +78,8 @@ class Sandbox:
             stdout=subprocess.PIPE,
             stderr=subprocess.PIPE,
             env=environment,
+            # (what a shell starts in the background ignores SIGINT, and would hand that on)
+            preexec_fn=lambda: signal.signal(signal.SIGINT, signal.SIG_DFL),
             start_new_session=True,
         )
         if number is not None:
