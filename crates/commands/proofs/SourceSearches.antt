@@ -5,12 +5,14 @@ use Rattle.std.specs.Prelude.{Result}
 use Rattle.gix_hash.specs.Digits.{hex_letter, reverse_letter}
 use Rattle.gix_hash.specs.declared.Kind.{Kind}
 use Rattle.list_search.specs.Finding.{finding}
+use Rattle.list_search.specs.FindingIn.{finding_in}
 use Rattle.list_search.specs.FindingFrom.{GivesTooMuch, IsSettled, SearchStops, SearchStopsIn}
 use Rattle.list_search.specs.Lines.{lines_of, lines_of-nil}
 use Rattle.list_search.specs.ListText.{IsFirstRead}
 use Rattle.commands.specs.Running.{Refuses, refusal_from_source, refusal_in_source}
 use Rattle.commands.specs.declared.command.Command.TheVariants.{Find, FindChange, FindIn}
 use Rattle.list_search.specs.declared.FindError.{FindError}
+use Rattle.list_search.specs.declared.FindInError.{FindInError}
 use Rattle.list_search.specs.declared.FindInError.TheVariants as found_in
 use Rattle.list_search.specs.declared.FindFromError.{FindFromError}
 use Rattle.list_search.specs.declared.FindFromError.TheVariants as from
@@ -49,32 +51,6 @@ pub ran_out : (error : CommandError) (answer : Result ℕ CommandError) → IsEr
 ran_out error (Ok count) is memory = absurd is
 ran_out error (Err e) is memory = cc
 
--- a search in a source that ran out of memory had some input
-pub some_input : (letter : ℕ → ℕ) (prefix : List ℕ) (error : FindFromError) (a b c d : Option (List ℕ)) → SearchStops letter prefix error a b c d
-    → refusal_from_source error ≡ command.Memory → IfSome a (λ bytes. bytes ≢ [])
-some_input letter prefix (from.Prefix error) a b c d stops is = cc is
-some_input letter prefix (from.BadLine n error) a b c d stops is = cc is
-some_input letter prefix (from.Unsorted n) a b c d stops is = cc is
-some_input letter prefix (from.PrefixTooLong hex_len least) a b c d stops is = cc is
-some_input letter prefix from.Memory a b c d stops is = first_line a (settled_whole (λ text. IsFirstRead (lines_of text)) a b stops.1)
-some_input letter prefix from.Output a b c d stops is = cc is
-some_input letter prefix from.Input a b c d stops is = cc is
-some_input letter prefix from.TooMuch a b c d stops is = cc is
-
--- and one in ids of a kind
-pub some_input_in : (kind : Kind) (prefix : List ℕ) (error : FindInFromError) (a b c d : Option (List ℕ)) → SearchStopsIn kind prefix error a b c d
-    → refusal_in_source error ≡ command.Memory → IfSome a (λ bytes. bytes ≢ [])
-some_input_in kind prefix (in_kind.Search (found_in.Prefix error)) a b c d stops is = cc is
-some_input_in kind prefix (in_kind.Search (found_in.BadLine n error)) a b c d stops is = cc is
-some_input_in kind prefix (in_kind.Search (found_in.OtherKind other)) a b c d stops is = cc is
-some_input_in kind prefix (in_kind.Search (found_in.WrongKind n)) a b c d stops is = cc is
-some_input_in kind prefix (in_kind.Search (found_in.NotRising n)) a b c d stops is = cc is
-some_input_in kind prefix (in_kind.Search found_in.Memory) a b c d stops is =
-    first_line a (settled_whole (λ text. IsFirstRead (lines_of text)) a b stops.1)
-some_input_in kind prefix (in_kind.Search found_in.Output) a b c d stops is = cc is
-some_input_in kind prefix in_kind.Input a b c d stops is = cc is
-some_input_in kind prefix in_kind.TooMuch a b c d stops is = cc is
-
 -- a source that gave too much has it
 too_much : (a b : Option (List ℕ)) → GivesTooMuch a b → IfSome a (λ bytes. 2 ^ 61 ≤ length bytes)
 too_much None b given = tt
@@ -86,40 +62,64 @@ whatever : {P : List ℕ → Type 0} (input : Option (List ℕ)) → ((text : Li
 whatever None all = tt
 whatever (Some text) all = all text
 
--- where a search in what a source gives stops, a command refuses its input that refuses so
-source_refused : (Refused : CommandError → Type 0) (letter : ℕ → ℕ) (prefix : List ℕ) (error : FindFromError) (a b c d : Option (List ℕ))
-    → ((why : FindError) → IfSome a (λ text. finding letter prefix text ≡ Err why) → Refused (command.Find why))
-    → Refused command.Memory → Refused command.Output → Refused command.Input → (IfSome a (λ text. 2 ^ 61 ≤ length text) → Refused command.TooMuch)
-    → SearchStops letter prefix error a b c d → Refused (refusal_from_source error)
-source_refused Refused letter prefix (from.Prefix error) a b c d found memory output input much stops = found _ (whatever a (λ text. rw stops refl))
-source_refused Refused letter prefix (from.BadLine n error) a b c d found memory output input much stops = found _ (settled_whole _ a b stops)
-source_refused Refused letter prefix (from.Unsorted n) a b c d found memory output input much stops = found _ (settled_whole _ a b stops)
-source_refused Refused letter prefix (from.PrefixTooLong hex_len least) a b c d found memory output input much stops = found _ (settled_whole _ a b stops)
-source_refused Refused letter prefix from.Memory a b c d found memory output input much stops = memory
-source_refused Refused letter prefix from.Output a b c d found memory output input much stops = output
-source_refused Refused letter prefix from.Input a b c d found memory output input much stops = input
-source_refused Refused letter prefix from.TooMuch a b c d found memory output input much stops = much (too_much a b stops.1)
+-- where a search in what a source gives stops, the command's error is told as its cause is
+source_told : (Told : CommandError → Type 0) (letter : ℕ → ℕ) (prefix : List ℕ) (error : FindFromError) (a b c d : Option (List ℕ))
+    → ((why : FindError) → IfSome a (λ text. finding letter prefix text ≡ Err why) → Told (command.Find why))
+    → (IfSome a (λ text. IsFirstRead (lines_of text)) → Told command.Memory) → Told command.Output → Told command.Input
+    → (IfSome a (λ text. 2 ^ 61 ≤ length text) → Told command.TooMuch) → SearchStops letter prefix error a b c d → Told (refusal_from_source error)
+source_told Told letter prefix (from.Prefix error) a b c d found memory output input much stops = found _ (whatever a (λ text. rw stops refl))
+source_told Told letter prefix (from.BadLine n error) a b c d found memory output input much stops = found _ (settled_whole _ a b stops)
+source_told Told letter prefix (from.Unsorted n) a b c d found memory output input much stops = found _ (settled_whole _ a b stops)
+source_told Told letter prefix (from.PrefixTooLong hex_len least) a b c d found memory output input much stops = found _ (settled_whole _ a b stops)
+source_told Told letter prefix from.Memory a b c d found memory output input much stops = memory (settled_whole _ a b stops.1)
+source_told Told letter prefix from.Output a b c d found memory output input much stops = output
+source_told Told letter prefix from.Input a b c d found memory output input much stops = input
+source_told Told letter prefix from.TooMuch a b c d found memory output input much stops = much (too_much a b stops.1)
 
--- so does `find`
+-- so is that of one in ids of a kind
+source_told_in : (Told : CommandError → Type 0) (kind : Kind) (prefix : List ℕ) (error : FindInFromError) (a b c d : Option (List ℕ))
+    → ((why : FindInError) → IfSome a (λ text. finding_in kind prefix text ≡ Err why) → Told (command.FindIn why))
+    → (IfSome a (λ text. IsFirstRead (lines_of text)) → Told command.Memory) → Told command.Output → Told command.Input
+    → (IfSome a (λ text. 2 ^ 61 ≤ length text) → Told command.TooMuch) → SearchStopsIn kind prefix error a b c d → Told (refusal_in_source error)
+source_told_in Told kind prefix (in_kind.Search (found_in.Prefix error)) a b c d found memory output input much stops =
+    found _ (whatever a (λ text. rw stops refl))
+source_told_in Told kind prefix (in_kind.Search (found_in.BadLine n error)) a b c d found memory output input much stops = found _ (settled_whole _ a b stops)
+source_told_in Told kind prefix (in_kind.Search (found_in.OtherKind other)) a b c d found memory output input much stops =
+    found _ (settled_whole _ a b stops)
+source_told_in Told kind prefix (in_kind.Search (found_in.WrongKind n)) a b c d found memory output input much stops = found _ (settled_whole _ a b stops)
+source_told_in Told kind prefix (in_kind.Search (found_in.NotRising n)) a b c d found memory output input much stops = found _ (settled_whole _ a b stops)
+source_told_in Told kind prefix (in_kind.Search found_in.Memory) a b c d found memory output input much stops = memory (settled_whole _ a b stops.1)
+source_told_in Told kind prefix (in_kind.Search found_in.Output) a b c d found memory output input much stops = output
+source_told_in Told kind prefix in_kind.Input a b c d found memory output input much stops = input
+source_told_in Told kind prefix in_kind.TooMuch a b c d found memory output input much stops = much (too_much a b stops.1)
+
+-- a command that finds refuses its input so
 pub find_refuses : (prefix : Bor (List ℕ)) (error : FindFromError) (a b c d : Option (List ℕ)) → SearchStops hex_letter prefix.now error a b c d
     → Refuses (Find prefix) a (refusal_from_source error)
-find_refuses prefix error a b c d = source_refused (Refuses (Find prefix) a) hex_letter prefix.now error a b c d (λ why found. found) tt tt tt (λ much. much)
+find_refuses prefix error a b c d =
+    source_told (Refuses (Find prefix) a) hex_letter prefix.now error a b c d (λ why found. found) (λ first. tt) tt tt (λ much. much)
 
--- and `find-change`
 pub find_change_refuses : (letters : Bor (List ℕ)) (error : FindFromError) (a b c d : Option (List ℕ))
     → SearchStops reverse_letter letters.now error a b c d → Refuses (FindChange letters) a (refusal_from_source error)
 find_change_refuses letters error a b c d =
-    source_refused (Refuses (FindChange letters) a) reverse_letter letters.now error a b c d (λ why found. found) tt tt tt (λ much. much)
+    source_told (Refuses (FindChange letters) a) reverse_letter letters.now error a b c d (λ why found. found) (λ first. tt) tt tt (λ much. much)
 
--- and `find-in`
 pub find_in_refuses : (kind : Kind) (prefix : Bor (List ℕ)) (error : FindInFromError) (a b c d : Option (List ℕ))
     → SearchStopsIn kind prefix.now error a b c d → Refuses (FindIn kind prefix) a (refusal_in_source error)
-find_in_refuses kind prefix (in_kind.Search (found_in.Prefix error)) a b c d stops = whatever a (λ text. rw stops refl)
-find_in_refuses kind prefix (in_kind.Search (found_in.BadLine n error)) a b c d stops = settled_whole _ a b stops
-find_in_refuses kind prefix (in_kind.Search (found_in.OtherKind other)) a b c d stops = settled_whole _ a b stops
-find_in_refuses kind prefix (in_kind.Search (found_in.WrongKind n)) a b c d stops = settled_whole _ a b stops
-find_in_refuses kind prefix (in_kind.Search (found_in.NotRising n)) a b c d stops = settled_whole _ a b stops
-find_in_refuses kind prefix (in_kind.Search found_in.Memory) a b c d stops = tt
-find_in_refuses kind prefix (in_kind.Search found_in.Output) a b c d stops = tt
-find_in_refuses kind prefix in_kind.Input a b c d stops = tt
-find_in_refuses kind prefix in_kind.TooMuch a b c d stops = too_much a b stops.1
+find_in_refuses kind prefix error a b c d =
+    source_told_in (Refuses (FindIn kind prefix) a) kind prefix.now error a b c d (λ why found. found) (λ first. tt) tt tt (λ much. much)
+
+-- where the command's error is that memory ran out, there was some input
+abbrev RanOut : Option (List ℕ) → CommandError → Type 0
+RanOut a error = error ≡ command.Memory → IfSome a (λ bytes. bytes ≢ [])
+
+-- so it is of every search in a source
+pub some_input : (letter : ℕ → ℕ) (prefix : List ℕ) (error : FindFromError) (a b c d : Option (List ℕ)) → SearchStops letter prefix error a b c d
+    → refusal_from_source error ≡ command.Memory → IfSome a (λ bytes. bytes ≢ [])
+some_input letter prefix error a b c d =
+    source_told (RanOut a) letter prefix error a b c d (λ why found is. cc is) (λ first is. first_line a first) (λ is. cc is) (λ is. cc is) (λ much is. cc is)
+
+pub some_input_in : (kind : Kind) (prefix : List ℕ) (error : FindInFromError) (a b c d : Option (List ℕ)) → SearchStopsIn kind prefix error a b c d
+    → refusal_in_source error ≡ command.Memory → IfSome a (λ bytes. bytes ≢ [])
+some_input_in kind prefix error a b c d =
+    source_told_in (RanOut a) kind prefix error a b c d (λ why found is. cc is) (λ first is. first_line a first) (λ is. cc is) (λ is. cc is) (λ much is. cc is)
