@@ -113,6 +113,12 @@ fn tells_a_read_that_fails(rt: HostRuntime) {
         expect_run(&rt, find_change, list, (41, fault), "Err(Input)", NO_MATCH);
         expect_run(&rt, find_in, list, (41, fault), "Err(Input)", NO_MATCH);
     }
+    // Behind a bad line `find` reads no more, and the others read on.
+    let bad_line = "Err(Find(BadLine { line: 1, error: InvalidHexEncodingLength(5) }))";
+    let reader = (6, Fault::AtCall(2));
+    expect_run(&rt, find, "no id\n", reader, bad_line, NO_MATCH);
+    expect_run(&rt, find_change, "no id\n", reader, "Err(Input)", NO_MATCH);
+    expect_run(&rt, find_in, "no id\n", reader, "Err(Input)", NO_MATCH)
 }
 
 // Searches for an id of SHA-1, and what each writes.
