@@ -53,7 +53,7 @@ merge
 ";
 
 // The objects of that repository, by `git rev-list --objects --all`, sorted.
-const OBJECTS: [&[u8]; 11] = [
+static OBJECTS: [&[u8]; 11] = [
     b"1aacd729786f83138b67bef0cd5e8c2028329be7",
     b"259ae177f9f667bfc2b0ee070b0d85e7fb7f0129",
     b"280bd343acd3b99e6f369110283329b8c3c5be24",
@@ -232,7 +232,7 @@ fn typed_names(rt: HostRuntime) -> Result<(), Fail> {
 #[test]
 fn names(rt: HostRuntime) -> Result<(), Fail> {
     let blob = ObjectId::from_hex(BLOB)?;
-    for (text, want) in [
+    for &(text, want) in &[
         ("e69d", true),
         ("E69DE29", true),
         ("e69e", false),
@@ -267,14 +267,14 @@ fn ids_of_texts_and_digests(rt: HostRuntime) -> Result<(), Fail> {
 fn sets_and_maps(rt: HostRuntime) -> Result<(), Fail> {
     let (blob, tree) = (ObjectId::from_hex(BLOB)?, ObjectId::from_hex(TREE)?);
     let mut seen = HashSet::new(rt.alloc());
-    for (id, want) in [(blob, true), (blob, false), (tree, true)] {
+    for &(id, want) in &[(blob, true), (blob, false), (tree, true)] {
         let added = mark_seen(&mut seen, id)?;
         assert!(rt; added == want);
     }
     assert!(rt; was_seen(&seen, &tree));
     assert!(rt; !was_seen(&seen, &ObjectId::Sha1([0; 20])));
     let mut offsets = BTreeMap::new(rt.alloc());
-    for (offset, before) in [(12, None), (34, Some(12))] {
+    for &(offset, before) in &[(12, None), (34, Some(12))] {
         let was = set_offset(&mut offsets, blob, offset)?;
         assert!(rt; was == before);
     }

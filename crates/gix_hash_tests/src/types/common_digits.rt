@@ -24,7 +24,7 @@ const SHARED: [(&str, &str, usize); 8] = [
 
 #[test]
 fn shared_digits(rt: HostRuntime) {
-    for (one, other, want) in SHARED {
+    for &(one, other, want) in &SHARED {
         expect_common(&rt, &id(&rt, one), &id(&rt, other), want);
     }
     let (null, wide_null) = (ObjectId::null(Kind::Sha1), ObjectId::null(Kind::Sha256));

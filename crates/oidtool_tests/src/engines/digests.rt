@@ -48,10 +48,10 @@ const NUMBERS: [(&str, &str); 10] = [
 
 #[test]
 fn reads_kinds_and_numbers(rt: HostRuntime) {
-    for (words, answer) in WORDS {
+    for &(words, answer) in &WORDS {
         expect_shown(&rt, read_command(words), answer, &answer);
     }
-    for (number, answer) in NUMBERS {
+    for &(number, answer) in &NUMBERS {
         let words = ["hash-file", "sha1", number, "p"];
         expect_shown(&rt, read_command(words.as_slice()), answer, &number);
     }

@@ -78,7 +78,7 @@ const FOUND: [(Kind, &str, &[&str], &str, &str); 10] = [
 
 #[test]
 fn finds_in_a_kind(rt: HostRuntime) {
-    for (kind, prefix, lines, answer, written) in FOUND {
+    for &(kind, prefix, lines, answer, written) in &FOUND {
         expect_find_in(&rt, kind, prefix, lines, answer, written);
     }
 }
