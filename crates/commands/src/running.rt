@@ -278,8 +278,10 @@ fn hash_file<F: Files, W: Sink>(
     ensures hashed { OnOk result ((message : List ℕ) × (length message ≡ count)
         × Appends (W.taken out.old) (W.taken out.new) (digest_line kind message)) }
     ensures stands { OnOk result (W.has_failed out.new ≡ false) }
-    ensures refused { IfErr result (λ e. ((e ≡ CommandError.Input) × (out.new ≡ out.old)) ⊎ ((e ≡ CommandError.Output) × (W.has_failed out.new ≡ true)
-        × ((message : List ℕ) × (length message ≡ count) × AppendsPart (W.taken out.old) (W.taken out.new) (digest_line kind message)))) }
+    ensures refused { IfErr result (λ e. ((e ≡ CommandError.Input) × (out.new ≡ out.old))
+        ⊎ ((e ≡ CommandError.Output) × (W.has_failed out.new ≡ true)
+        × ((message : List ℕ) × (length message ≡ count)
+        × AppendsPart (W.taken out.old) (W.taken out.new) (digest_line kind message)))) }
 {
     let path = Path::new(path);
     let Ok(id) = bytes_of_file(files, path, count, kind, &mut NoProgress, &mut Never) else {

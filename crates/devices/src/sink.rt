@@ -22,7 +22,8 @@ pub trait Sink {
     fn write(&mut self, piece: &[u8]) -> io::Result<usize>
         ensures bound { WritesAtMost result piece.now }
         ensures bytes { WriteAppends (taken self.old) (taken self.new) result piece.now }
-        ensures failed { has_failed self.new ≡ (has_failed self.old || write_fails result piece.now) };
+        ensures failed { has_failed self.new
+            ≡ (has_failed self.old || write_fails result piece.now) };
 
     /// Whether some call failed. Nothing clears it.
     fn failed(&self) -> bool

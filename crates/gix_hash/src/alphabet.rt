@@ -155,7 +155,8 @@ impl Alphabet {
     fn decode_digest(self, text: &[u8], bytes: &mut [u8]) -> Result<(), NotDigits>
         requires digest { IsTrue (is_digest_len (length bytes.old)) }
         requires two_a_byte { length text.now ≡ 2 * length bytes.old }
-        ensures { MatchResult result (λ _. digits_read (letter_of self) text.now ≡ Some (digits_of bytes.new))
+        ensures { MatchResult result (λ _. digits_read (letter_of self) text.now
+            ≡ Some (digits_of bytes.new))
             (λ _. digits_read (letter_of self) text.now ≡ None) }
     {
         match self {
@@ -175,7 +176,8 @@ impl Alphabet {
         requires zeros { zeros.old ≡ replicate (length zeros.old) 0 }
         requires room { length text.now ≤ 2 * length zeros.old }
         ensures { MatchResult result
-            (λ _. option_map (padded (2 * length zeros.old)) (digits_read (letter_of self) text.now) ≡ Some (digits_of zeros.new))
+            (λ _. option_map (padded (2 * length zeros.old)) (digits_read (letter_of self) text.now)
+            ≡ Some (digits_of zeros.new))
             (λ _. digits_read (letter_of self) text.now ≡ None) }
     {
         match self {

@@ -300,7 +300,8 @@ impl PartialOrd for oid<'_> {
 
     ghost partial_cmp = { as_partial_cmp oid_cmp };
 
-    ghost laws = { partial_order_from_own_ties (Prim.search (comparing, rules)) (Prim.search (comparing, rules)) };
+    ghost laws = { partial_order_from_own_ties (Prim.search (comparing, rules))
+        (Prim.search (comparing, rules)) };
 
     fn partial_cmp(&self, other: &Self) -> Option<Ordering> {
         Some(self.cmp(other))
@@ -370,7 +371,8 @@ impl<'a> TryFrom<&'a [u8]> for oid<'a> {
 
     type Error = Error;
 
-    ghost try_from_gives = { λ bytes answer. MatchResult answer (λ id. oid_bytes id ≡ bytes.now) (IsLengthRefusal bytes.now) };
+    ghost try_from_gives = { λ bytes answer. MatchResult answer
+        (λ id. oid_bytes id ≡ bytes.now) (IsLengthRefusal bytes.now) };
 
     fn try_from(bytes: &'a [u8]) -> Result<Self, Error> {
         oid::try_from_bytes(bytes)

@@ -178,7 +178,8 @@ impl<'a> From<oid<'a>> for ChangeId {
     ghost use Rattle.gix_hash.specs.ObjectId.{id_kind, id_digits};
     ghost use Rattle.gix_hash.specs.Oid.{oid_kind, oid_digits};
 
-    ghost from_gives = { λ id change. (id_kind change ≡ oid_kind id) × (id_digits change ≡ oid_digits id) };
+    ghost from_gives = { λ id change. (id_kind change ≡ oid_kind id)
+        × (id_digits change ≡ oid_digits id) };
 
     fn from(id: oid<'a>) -> ChangeId {
         ChangeId(id.to_owned())
@@ -200,7 +201,8 @@ impl From<ChangeId> for Prefix {
     ghost use Rattle.std.specs.Prelude.{◌≡◌};
     ghost use Rattle.gix_hash.specs.ObjectId.{id_kind, id_digits};
 
-    ghost from_gives = { λ change prefix. prefix ≡ record { kind = id_kind change; digits = id_digits change } };
+    ghost from_gives = { λ change prefix. prefix
+        ≡ record { kind = id_kind change; digits = id_digits change } };
 
     fn from(change: ChangeId) -> Prefix {
         Prefix::from(change.0)

@@ -50,15 +50,18 @@ pub fn only_chunks(num_bytes: u64)
 /// was fed, and the inner writer gained, just what the calls accepted. So a fresh writer whose
 /// fields nobody touches stands for what its inner writer accepted.
 pub fn stands_for_what_was_accepted<T: io::Write>(before: &Write<T>, after: &Write<T>)
-    ensures together { (calls : List WriterCall) → Reaches (Passes T.contents) before.now calls after.now
+    ensures together { (calls : List WriterCall)
+        → Reaches (Passes T.contents) before.now calls after.now
         → Takes T.contents before.now (accepted calls) after.now }
-    ensures fresh { (calls : List WriterCall) → Reaches (Passes T.contents) before.now calls after.now
+    ensures fresh { (calls : List WriterCall)
+        → Reaches (Passes T.contents) before.now calls after.now
         → StandsFor before.now.hash [] → StandsFor after.now.hash (accepted calls) }
 {}
 
 /// However often [`Never`] is asked, each answer is false.
 pub fn never_interrupts(before: &Never, after: &Never)
-    ensures { (answers : List Bool) → Reaches ⟦<Never as Interrupt>⟧.answers before.now answers after.now
+    ensures { (answers : List Bool)
+        → Reaches ⟦<Never as Interrupt>⟧.answers before.now answers after.now
         → answers ≡ all_false (length answers) }
 {}
 

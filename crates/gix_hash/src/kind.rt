@@ -215,7 +215,8 @@ impl Hash for Kind {
 impl PartialOrd for Kind {
     ghost partial_cmp = { as_partial_cmp (on number_of nat_cmp) };
 
-    ghost laws = { partial_order_from_own_ties (Prim.search (comparing, rules)) (Prim.search (comparing, rules)) };
+    ghost laws = { partial_order_from_own_ties (Prim.search (comparing, rules))
+        (Prim.search (comparing, rules)) };
 
     fn partial_cmp(&self, other: &Self) -> Option<Ordering> {
         Some(self.cmp(other))
@@ -243,7 +244,8 @@ impl TryFrom<u8> for Kind {
 
     type Error = u8;
 
-    ghost try_from_gives = { λ number answer. MatchResult answer (λ kind. number_of kind ≡ number) (λ refused. (refused ≡ number) × IsNoNumber number) };
+    ghost try_from_gives = { λ number answer. MatchResult answer
+        (λ kind. number_of kind ≡ number) (λ refused. (refused ≡ number) × IsNoNumber number) };
 
     fn try_from(number: u8) -> Result<Kind, u8> {
         match number {

@@ -53,7 +53,8 @@ pub fn readings(alphabet: Alphabet, text: &[u8])
 /// spelling.
 pub fn spelled(alphabet: Alphabet, text: &[u8])
     ensures { (digits : List ℕ) → ReadsAs (letter_of alphabet) text.now digits
-        ↔ (All (λ d. d < 16) digits × (str_to_ascii_lowercase text.now ≡ spelling (letter_of alphabet) digits)) }
+        ↔ (All (λ d. d < 16) digits
+        × (str_to_ascii_lowercase text.now ≡ spelling (letter_of alphabet) digits)) }
 {}
 
 /// The digits of some id of a kind are those that its ids have.
@@ -66,9 +67,11 @@ pub fn digits_of_ids(kind: Kind)
 /// is refused or that reads as an id which is printed otherwise.
 pub fn printed(alphabet: Alphabet)
     ensures lowercase { (digits : List ℕ) → All (λ d. d < 16) digits
-        → str_to_ascii_lowercase (spelling (letter_of alphabet) digits) ≡ spelling (letter_of alphabet) digits }
+        → str_to_ascii_lowercase (spelling (letter_of alphabet) digits)
+        ≡ spelling (letter_of alphabet) digits }
     ensures reads { (kind : kinds.Kind) → (digits : List ℕ) → AreIdDigits kind digits
-        → full_read (letter_of alphabet) (spelling (letter_of alphabet) digits) ≡ Ok (kind_digits kind digits) }
+        → full_read (letter_of alphabet) (spelling (letter_of alphabet) digits)
+        ≡ Ok (kind_digits kind digits) }
 {}
 
 /// The texts that read as a full id, which are those of as many bytes as its kind has digits that
@@ -80,7 +83,8 @@ pub fn full_readings(alphabet: Alphabet, text: &[u8])
         → (full_read (letter_of alphabet) text.now ≡ Err error)
         ↔ IsFullRefusal (letter_of alphabet) text.now error }
     ensures cases { MatchResult (full_read (letter_of alphabet) text.now)
-        (IsFullReading (letter_of alphabet) text.now) (IsFullRefusal (letter_of alphabet) text.now) }
+        (IsFullReading (letter_of alphabet) text.now)
+        (IsFullRefusal (letter_of alphabet) text.now) }
 {}
 
 /// The texts that read as a prefix of at least so many digits, and why any other is refused.
@@ -92,7 +96,8 @@ pub fn prefix_readings(alphabet: Alphabet, least: usize, text: &str)
         → (prefix_read (letter_of alphabet) least text.now ≡ Err error)
         ↔ IsPrefixRefusal (letter_of alphabet) least text.now error }
     ensures cases { MatchResult (prefix_read (letter_of alphabet) least text.now)
-        (IsPrefixReading (letter_of alphabet) least text.now) (IsPrefixRefusal (letter_of alphabet) least text.now) }
+        (IsPrefixReading (letter_of alphabet) least text.now)
+        (IsPrefixRefusal (letter_of alphabet) least text.now) }
 {}
 
 /// The texts that read as a prefix in a given kind, and why any other is refused.
@@ -110,7 +115,7 @@ pub fn read_back(id: &ObjectId, text: &[u8])
     requires { str_to_ascii_lowercase text.now ≡ spelling hex_letter (id_digits id.now) }
     ensures { full_read hex_letter text.now ≡ Ok (whole_of id.now) }
 {
-    // Where the number of the digits and their range are told.
+    // The contract of this call tells how many digits there are, and that each is below 16.
     let _kind = id.kind();
 }
 
@@ -119,7 +124,7 @@ pub fn read_change_back(change: &ChangeId, text: &[u8])
     requires { str_to_ascii_lowercase text.now ≡ spelling reverse_letter (id_digits change.now) }
     ensures { full_read reverse_letter text.now ≡ Ok (whole_of change.now) }
 {
-    // Where the number of the digits and their range are told.
+    // The contract of this call tells how many digits there are, and that each is below 16.
     let _kind = change.kind();
 }
 
@@ -135,7 +140,7 @@ pub fn read_prefix_back(alphabet: Alphabet, prefix: &Prefix, text: &str)
     ensures same { (prefix_read (letter_of alphabet) 1 text.now ≡ Ok prefix.now)
         ↔ (kind_of_hex_len (length prefix.now.digits) ≡ Some prefix.now.kind) }
 {
-    // Where the number of the digits and their range are told.
+    // The contract of this call tells how many digits there are, and that each is below 16.
     let _len = prefix.hex_len();
 }
 
@@ -147,7 +152,7 @@ pub fn read_prefix_back_in_kind(alphabet: Alphabet, prefix: &Prefix, text: &str)
         ≡ spelling (letter_of alphabet) prefix.now.digits }
     ensures { prefix_read_in prefix.now.kind (letter_of alphabet) text.now ≡ Ok prefix.now }
 {
-    // Where the number of the digits and their range are told.
+    // The contract of this call tells how many digits there are, and that each is below 16.
     let _len = prefix.hex_len();
 }
 
@@ -183,7 +188,8 @@ pub fn equal_views(first: oid<'_>, second: oid<'_>)
     ensures digits { IsTrue (oid_eq first.entry second.entry)
         ↔ (oid_digits first.entry ≡ oid_digits second.entry) }
     ensures spelling { IsTrue (oid_eq first.entry second.entry)
-        ↔ (spelling hex_letter (oid_digits first.entry) ≡ spelling hex_letter (oid_digits second.entry)) }
+        ↔ (spelling hex_letter (oid_digits first.entry)
+        ≡ spelling hex_letter (oid_digits second.entry)) }
     ensures kind { IsTrue (oid_eq first.entry second.entry)
         → oid_kind first.entry ≡ oid_kind second.entry }
 {}
@@ -193,7 +199,8 @@ pub fn equal_views(first: oid<'_>, second: oid<'_>)
 pub fn equal_prefixes(first: &Prefix, second: &Prefix)
     ensures same { IsTrue (prefix_eq first.now second.now) ↔ (first.now ≡ second.now) }
     ensures spelling { IsTrue (prefix_eq first.now second.now)
-        ↔ ((first.now.kind ≡ second.now.kind) × (spelling hex_letter first.now.digits ≡ spelling hex_letter second.now.digits)) }
+        ↔ ((first.now.kind ≡ second.now.kind)
+        × (spelling hex_letter first.now.digits ≡ spelling hex_letter second.now.digits)) }
 {}
 
 /// Change ids are equal and ordered as their ids are, and feed the same to a hash.
@@ -206,14 +213,16 @@ pub fn compare_as_ids(first: &ChangeId, second: &ChangeId)
 /// Within one kind owned ids have the order of their views.
 pub fn orders_agree(first: &ObjectId, second: &ObjectId)
     requires { id_kind first.now ≡ id_kind second.now }
-    ensures { (a b : borrowed.oid) → oid_digits a ≡ id_digits first.now → oid_digits b ≡ id_digits second.now
+    ensures { (a b : borrowed.oid) → oid_digits a ≡ id_digits first.now
+        → oid_digits b ≡ id_digits second.now
         → id_cmp first.now second.now ≡ oid_cmp a b }
 {}
 
 /// For change ids of one kind the order of the full spellings is opposite to that of the ids.
 pub fn opposite_order(first: &ChangeId, second: &ChangeId)
     requires { id_kind first.now ≡ id_kind second.now }
-    ensures { slice_cmp nat_cmp (spelling reverse_letter (id_digits first.now)) (spelling reverse_letter (id_digits second.now))
+    ensures { slice_cmp nat_cmp (spelling reverse_letter (id_digits first.now))
+        (spelling reverse_letter (id_digits second.now))
         ≡ ordering_reverse (id_cmp first.now second.now) }
 {
     // Where the numbers of the digits and their range are told.
@@ -255,6 +264,9 @@ pub fn words_written_out()
     ensures seven { words_of (hex_values (codes "e69de29"))
         ≡ record { first = 0xe69de290000000000000000000000000; second = 0 } }
     ensures over_a_word { words_of (hex_values (codes "e69de29bb2d1d6434b8b29ae775ad8c2e"))
-        ≡ record { first = 0xe69de29bb2d1d6434b8b29ae775ad8c2; second = 0xe0000000000000000000000000000000 } }
+        ≡ record {
+          first = 0xe69de29bb2d1d6434b8b29ae775ad8c2;
+          second = 0xe0000000000000000000000000000000;
+        } }
     ensures none { words_of [] ≡ record { first = 0; second = 0 } }
 {}

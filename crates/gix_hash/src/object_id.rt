@@ -373,7 +373,8 @@ impl PartialOrd for ObjectId {
 
     ghost partial_cmp = { as_partial_cmp id_cmp };
 
-    ghost laws = { partial_order_from_own_ties (Prim.search (comparing, rules)) (Prim.search (comparing, rules)) };
+    ghost laws = { partial_order_from_own_ties (Prim.search (comparing, rules))
+        (Prim.search (comparing, rules)) };
 
     fn partial_cmp(&self, other: &Self) -> Option<Ordering> {
         Some(self.cmp(other))
@@ -456,7 +457,8 @@ impl<'a> From<oid<'a>> for ObjectId {
     ghost use Rattle.gix_hash.specs.ObjectId.{id_kind, id_digits};
     ghost use Rattle.gix_hash.specs.Oid.{oid_kind, oid_digits};
 
-    ghost from_gives = { λ id owned. (id_kind owned ≡ oid_kind id) × (id_digits owned ≡ oid_digits id) };
+    ghost from_gives = { λ id owned. (id_kind owned ≡ oid_kind id)
+        × (id_digits owned ≡ oid_digits id) };
 
     fn from(id: oid<'a>) -> ObjectId {
         id.to_owned()
@@ -475,7 +477,8 @@ impl<'a> TryFrom<&'a [u8]> for ObjectId {
     type Error = Error;
 
     ghost try_from_gives = { λ bytes answer. MatchResult answer
-        (λ id. (id_digits id ≡ digits_of bytes.now) × (id_kind id ≡ kind_of_byte_len (length bytes.now)))
+        (λ id. (id_digits id ≡ digits_of bytes.now)
+        × (id_kind id ≡ kind_of_byte_len (length bytes.now)))
         (IsLengthRefusal bytes.now) };
 
     fn try_from(bytes: &'a [u8]) -> Result<ObjectId, Error> {

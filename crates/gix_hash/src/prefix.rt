@@ -113,7 +113,10 @@ impl Prefix {
             → result ≡ Err (Error.TooLong (oid_kind id.entry) hex_len) }
         ensures too_short { hex_len < 4 → result ≡ Err (Error.TooShort hex_len) }
         ensures ok { 4 ≤ hex_len → hex_len ≤ hex_len_of (oid_kind id.entry) →
-            result ≡ Ok (record { kind = oid_kind id.entry; digits = take hex_len (oid_digits id.entry) }) }
+            result ≡ Ok (record {
+              kind = oid_kind id.entry;
+              digits = take hex_len (oid_digits id.entry);
+            }) }
         ensures matches { IfOk result (λ prefix. place prefix.digits (oid_digits id.entry)
             ≡ Ordering.Equal) }
     {
@@ -222,7 +225,8 @@ impl Prefix {
 impl From<ObjectId> for Prefix {
     ghost use Rattle.gix_hash.specs.ObjectId.{id_kind, id_digits};
 
-    ghost from_gives = { λ id prefix. prefix ≡ record { kind = id_kind id; digits = id_digits id } };
+    ghost from_gives = { λ id prefix. prefix
+        ≡ record { kind = id_kind id; digits = id_digits id } };
 
     fn from(id: ObjectId) -> Prefix {
         Prefix::padded(id, id.kind().len_in_hex())

@@ -54,7 +54,8 @@ pub fn read_front(text: &[u8], zeros: &mut [u8]) -> Result<(), NotDigits>
     requires zeros { zeros.old ≡ replicate (length zeros.old) 0 }
     requires room { length text.now ≤ 2 * length zeros.old }
     ensures { MatchResult result
-        (λ _. option_map (padded (2 * length zeros.old)) (digits_read hex_letter text.now) ≡ Some (digits_of zeros.new))
+        (λ _. option_map (padded (2 * length zeros.old)) (digits_read hex_letter text.now)
+        ≡ Some (digits_of zeros.new))
         (λ _. digits_read hex_letter text.now ≡ None) }
 {
     // Letters of the digit 0 fill the text up, so that no length needs a case of its own.

@@ -39,7 +39,8 @@ impl Words {
     pub fn place(&self, hex_len: usize, bytes: &[u8]) -> Ordering
         requires most { hex_len ≤ 64 }
         requires digest { IsTrue (is_digest_len (length bytes.now)) }
-        ensures { (digits : List ℕ) → All (λ d. d < 16) digits → self.now ≡ words_of digits → length digits ≡ hex_len
+        ensures { (digits : List ℕ) → All (λ d. d < 16) digits → self.now ≡ words_of digits
+            → length digits ≡ hex_len
             → hex_len ≤ 2 * length bytes.now → result ≡ place digits (digits_of bytes.now) }
     {
         if hex_len <= WORD_DIGITS {

@@ -194,7 +194,8 @@ impl<'a, I: Id> IdIndex<'a, I> {
 fn rises_at<I: Id>(ids: &[I], at: usize) -> bool
     requires { at < length ids.now }
     ensures { let digits = map I.digits ids.now in
-        IsTrue result ↔ (0 < at → slice_cmp nat_cmp (slice_index_or digits (at - 1) []) (slice_index_or digits at []) ≡ Ordering.Less) }
+        IsTrue result ↔ (0 < at → slice_cmp nat_cmp (slice_index_or digits (at - 1) [])
+        (slice_index_or digits at []) ≡ Ordering.Less) }
 {
     at == 0 || id_at(ids, at - 1) < id_at(ids, at)
 }

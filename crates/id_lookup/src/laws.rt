@@ -31,8 +31,10 @@ pub fn matches_in_parts()
         → matches digits (first ++ second) ≡ matches digits first ++ matches digits second }
     ensures all { (digits : List ℕ) (parts : List (List (List ℕ)))
         → matches digits (flat_map (λ part. part) parts) ≡ flat_map (matches digits) parts }
-    ensures runs { (prefix : KindDigits) (first second : List (List ℕ)) (a b : Run) → IsSortedIds (first ++ second) → IsRun prefix first a → IsRun prefix second b
-        → IsRun prefix (first ++ second) (record { start = a.start + b.start; end = a.end + b.end }) }
+    ensures runs { (prefix : KindDigits) (first second : List (List ℕ)) (a b : Run)
+        → IsSortedIds (first ++ second) → IsRun prefix first a → IsRun prefix second b
+        → IsRun prefix (first ++ second)
+        (record { start = a.start + b.start; end = a.end + b.end }) }
 {}
 
 /// What an index finds by the shortest name of a member, by its place, is that member alone.

@@ -36,7 +36,11 @@ impl<'a, I: Id> Model for Probes<'a, I> {
 
     ghost Value = { Probing };
 
-    ghost view = { λ p. record { ids = map I.digits p.ids.now; prefix = p.prefix; asked = p.asked } };
+    ghost view = { λ p. record {
+      ids = map I.digits p.ids.now;
+      prefix = p.prefix;
+      asked = p.asked;
+    } };
 
     ghost invariant = { λ p. CanProbe p.prefix (map I.digits p.ids.now) };
 }

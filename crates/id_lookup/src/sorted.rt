@@ -43,7 +43,8 @@ impl<'a, I: Id> Model for SortedIds<'a, I> {
 
     ghost view = { λ list. map I.digits list.ids.now };
 
-    ghost invariant = { λ list. IsSortedIds (map I.digits list.ids.now) × (list.min_hex_len ≡ least_hex_len (map I.digits list.ids.now)) };
+    ghost invariant = { λ list. IsSortedIds (map I.digits list.ids.now)
+        × (list.min_hex_len ≡ least_hex_len (map I.digits list.ids.now)) };
 }
 
 impl<'a, I: Id> SortedIds<'a, I> {
@@ -162,7 +163,8 @@ impl<'a, I: Id> SortedIds<'a, I> {
 fn falls_at<I: Id>(ids: &[I], at: usize) -> bool
     requires { at < length ids.now }
     ensures { let digits = map I.digits ids.now in
-        IsTrue result ↔ ((0 < at) × (slice_cmp nat_cmp (slice_index_or digits at []) (slice_index_or digits (at - 1) []) ≡ Ordering.Less)) }
+        IsTrue result ↔ ((0 < at) × (slice_cmp nat_cmp (slice_index_or digits at [])
+        (slice_index_or digits (at - 1) []) ≡ Ordering.Less)) }
 {
     at > 0 && id_at(ids, at).cmp(&id_at(ids, at - 1)).is_lt()
 }

@@ -20,7 +20,7 @@ use Rattle.list_search.specs.declared.finding_in_from.FindInFromError.TheVariant
 use Rattle.list_search.specs.declared.reading.ReadError.{ReadError}
 use Rattle.list_search.specs.declared.reading.ReadError.TheVariants as read
 
--- what the source gave settles that something holds of all that it has: of its first bytes, fewer than 2^61, whatever follows; or of all, at its end
+-- the bytes that a source gave settle a statement on all its bytes: it holds of the first, fewer than 2^61, whatever follows them, or the source is at its end and it holds of all
 pub record IsSettled (Holds : List ℕ → Type 0) (old new : Option (List ℕ)) : Type 0 where
   pub text : List ℕ
   pub behind : List ℕ

@@ -28,8 +28,8 @@ impl<A: Allocator, O: ListOrder> Finder<A, O> {
     pub fn new(alloc: A, order: O) -> Self
         requires { O.has_seen order [] }
         ensures same { O.sought result.order ≡ O.sought order }
-        ensures known { IsKnown (O.sought order)
-            (O.has_seen result.order) [] result.count result.last result.refusal result.found.items }
+        ensures known { IsKnown (O.sought order) (O.has_seen result.order) []
+            result.count result.last result.refusal result.found.items }
         ensures none { result.count ≡ 0 }
     {
         Finder {
@@ -46,8 +46,11 @@ impl<A: Allocator, O: ListOrder> Finder<A, O> {
         requires { self.old.count + length part.now < 2 ^ 64 }
         ensures same { O.sought self.new.order ≡ O.sought self.old.order }
         ensures known { OnOk result ((ids : List (List ℕ))
-            → IsKnown (O.sought self.old.order) (O.has_seen self.old.order) ids self.old.count self.old.last self.old.refusal self.old.found.items
-            → IsKnown (O.sought self.old.order) (O.has_seen self.new.order) (ids ++ map id_digits part.now) self.new.count self.new.last self.new.refusal self.new.found.items) }
+            → IsKnown (O.sought self.old.order) (O.has_seen self.old.order) ids
+            self.old.count self.old.last self.old.refusal self.old.found.items
+            → IsKnown (O.sought self.old.order) (O.has_seen self.new.order)
+            (ids ++ map id_digits part.now)
+            self.new.count self.new.last self.new.refusal self.new.found.items) }
         ensures count { OnOk result (self.new.count ≡ self.old.count + length part.now) }
         ensures memory { IfErr result (λ e. (e ≡ ListError.Memory) × (part.now ≢ [])) }
     {
@@ -74,8 +77,10 @@ impl<A: Allocator, O: ListOrder> Finder<A, O> {
     /// The ids that are found, or the first refusal of the list that was taken.
     pub fn into_found(self) -> Result<Vec<ObjectId, A>, O::Error>
         ensures { (ids : List (List ℕ))
-            → IsKnown (O.sought self.order) (O.has_seen self.order) ids self.count self.last self.refusal self.found.items
-            → found_among (O.sought self.order) ids ≡ result_map_both (λ found. map id_digits found.items) (λ error. error) result }
+            → IsKnown (O.sought self.order) (O.has_seen self.order) ids
+            self.count self.last self.refusal self.found.items
+            → found_among (O.sought self.order) ids
+            ≡ result_map_both (λ found. map id_digits found.items) (λ error. error) result }
     {
         let Finder {
             order,

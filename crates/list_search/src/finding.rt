@@ -165,6 +165,7 @@ fn search<A: Allocator, W: Sink>(
 
 /// A law: an answer is what is found just where what it says of the two texts holds.
 pub fn finding_means(alphabet: Alphabet, prefix: &str, list: &[u8])
-    ensures { (answer : Result (List (List ℕ)) FindError) → (finding (letter_of alphabet) prefix.now list.now ≡ answer)
+    ensures { (answer : Result (List (List ℕ)) FindError)
+        → (finding (letter_of alphabet) prefix.now list.now ≡ answer)
         ↔ Means (letter_of alphabet) prefix.now list.now answer }
 {}

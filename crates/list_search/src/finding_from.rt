@@ -125,10 +125,13 @@ pub fn find_from<A: Allocator, R: Source, W: Sink>(
 ) -> Result<usize, FindFromError>
     requires input { R.has_failed list.old ≡ false }
     requires output { W.has_failed out.old ≡ false }
-    ensures found { IfOk result (λ count. (text : List ℕ) × GivesAll (R.remaining list.old) (R.remaining list.new) text
-        × IsFound hex_letter (finding hex_letter prefix.now text) (W.taken out.old) (W.taken out.new) count) }
+    ensures found { IfOk result (λ count. (text : List ℕ)
+        × GivesAll (R.remaining list.old) (R.remaining list.new) text
+        × IsFound hex_letter (finding hex_letter prefix.now text) (W.taken out.old)
+        (W.taken out.new) count) }
     ensures stopped { IfErr result (λ e.
-        SearchStops hex_letter prefix.now e (R.remaining list.old) (R.remaining list.new) (W.taken out.old) (W.taken out.new)) }
+        SearchStops hex_letter prefix.now e (R.remaining list.old) (R.remaining list.new)
+        (W.taken out.old) (W.taken out.new)) }
     ensures unread { IsErr (prefix_read hex_letter 4 prefix.now) → list.new ≡ list.old }
     ensures untouched { IfErr result (λ e. e ≢ FindFromError.Output → out.new ≡ out.old) }
     ensures input { IsErrOf result FindFromError.Input ↔ (R.has_failed list.new ≡ true) }
@@ -147,10 +150,13 @@ pub fn find_change_from<A: Allocator, R: Source, W: Sink>(
 ) -> Result<usize, FindFromError>
     requires input { R.has_failed list.old ≡ false }
     requires output { W.has_failed out.old ≡ false }
-    ensures found { IfOk result (λ count. (text : List ℕ) × GivesAll (R.remaining list.old) (R.remaining list.new) text
-        × IsFound reverse_letter (finding reverse_letter letters.now text) (W.taken out.old) (W.taken out.new) count) }
+    ensures found { IfOk result (λ count. (text : List ℕ)
+        × GivesAll (R.remaining list.old) (R.remaining list.new) text
+        × IsFound reverse_letter (finding reverse_letter letters.now text) (W.taken out.old)
+        (W.taken out.new) count) }
     ensures stopped { IfErr result (λ e.
-        SearchStops reverse_letter letters.now e (R.remaining list.old) (R.remaining list.new) (W.taken out.old) (W.taken out.new)) }
+        SearchStops reverse_letter letters.now e (R.remaining list.old) (R.remaining list.new)
+        (W.taken out.old) (W.taken out.new)) }
     ensures unread { IsErr (prefix_read reverse_letter 4 letters.now) → list.new ≡ list.old }
     ensures untouched { IfErr result (λ e. e ≢ FindFromError.Output → out.new ≡ out.old) }
     ensures input { IsErrOf result FindFromError.Input ↔ (R.has_failed list.new ≡ true) }
@@ -169,10 +175,13 @@ fn search_from<A: Allocator, R: Source, W: Sink>(
 ) -> Result<usize, FindFromError>
     requires input { R.has_failed list.old ≡ false }
     requires output { W.has_failed out.old ≡ false }
-    ensures found { IfOk result (λ count. (text : List ℕ) × GivesAll (R.remaining list.old) (R.remaining list.new) text
-        × IsFound (letter_of alphabet) (finding (letter_of alphabet) prefix.now text) (W.taken out.old) (W.taken out.new) count) }
+    ensures found { IfOk result (λ count. (text : List ℕ)
+        × GivesAll (R.remaining list.old) (R.remaining list.new) text
+        × IsFound (letter_of alphabet) (finding (letter_of alphabet) prefix.now text)
+        (W.taken out.old) (W.taken out.new) count) }
     ensures stopped { IfErr result (λ e.
-        SearchStops (letter_of alphabet) prefix.now e (R.remaining list.old) (R.remaining list.new) (W.taken out.old) (W.taken out.new)) }
+        SearchStops (letter_of alphabet) prefix.now e (R.remaining list.old) (R.remaining list.new)
+        (W.taken out.old) (W.taken out.new)) }
     ensures unread { IsErr (prefix_read (letter_of alphabet) 4 prefix.now) → list.new ≡ list.old }
     ensures untouched { IfErr result (λ e. e ≢ FindFromError.Output → out.new ≡ out.old) }
     ensures input { IsErrOf result FindFromError.Input ↔ (R.has_failed list.new ≡ true) }

@@ -125,6 +125,7 @@ pub fn find_in<A: Allocator, W: Sink>(
 /// A law: an answer is what is found in ids of one kind just where what it says of the two texts
 /// holds.
 pub fn finding_in_means(kind: Kind, prefix: &str, list: &[u8])
-    ensures { (answer : Result (List (List ℕ)) FindInError) → (finding_in kind prefix.now list.now ≡ answer)
+    ensures { (answer : Result (List (List ℕ)) FindInError)
+        → (finding_in kind prefix.now list.now ≡ answer)
         ↔ MeansIn kind prefix.now list.now answer }
 {}

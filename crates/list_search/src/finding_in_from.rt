@@ -85,10 +85,13 @@ pub fn find_in_from<A: Allocator, R: Source, W: Sink>(
 ) -> Result<usize, FindInFromError>
     requires input { R.has_failed list.old ≡ false }
     requires output { W.has_failed out.old ≡ false }
-    ensures found { IfOk result (λ count. (text : List ℕ) × GivesAll (R.remaining list.old) (R.remaining list.new) text
-        × IsFound hex_letter (finding_in kind prefix.now text) (W.taken out.old) (W.taken out.new) count) }
+    ensures found { IfOk result (λ count. (text : List ℕ)
+        × GivesAll (R.remaining list.old) (R.remaining list.new) text
+        × IsFound hex_letter (finding_in kind prefix.now text) (W.taken out.old)
+        (W.taken out.new) count) }
     ensures stopped { IfErr result (λ e.
-        SearchStopsIn kind prefix.now e (R.remaining list.old) (R.remaining list.new) (W.taken out.old) (W.taken out.new)) }
+        SearchStopsIn kind prefix.now e (R.remaining list.old) (R.remaining list.new)
+        (W.taken out.old) (W.taken out.new)) }
     ensures unread { IsErr (prefix_read_in kind hex_letter prefix.now) → list.new ≡ list.old }
     ensures untouched { IfErr result (λ e. e ≢ FindInFromError.Search FindInError.Output
         → out.new ≡ out.old) }

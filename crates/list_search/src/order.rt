@@ -42,16 +42,21 @@ pub trait ListOrder: Drop {
             → has_seen self.new (ids ++ map id_digits part.now)) }
         ensures in_order { OnOk result (first_refused (sought self.old) (option_map id_digits last)
             (before + 1) (map id_digits part.now) ≡ None) }
-        ensures found { IfOk result (λ found. (sought self.old).too_long (map id_digits part.now) ≡ None
+        ensures found { IfOk result (λ found. (sought self.old).too_long (map id_digits part.now)
+            ≡ None
             → map id_digits found.now ≡ matches (sought self.old).digits (map id_digits part.now)) }
-        ensures parts { OnOk result ((ids : List (List ℕ)) → (sought self.old).too_long (ids ++ map id_digits part.now) ≡ None
-            → ((sought self.old).too_long ids ≡ None) × ((sought self.old).too_long (map id_digits part.now) ≡ None)) }
+        ensures parts { OnOk result ((ids : List (List ℕ))
+            → (sought self.old).too_long (ids ++ map id_digits part.now) ≡ None
+            → ((sought self.old).too_long ids ≡ None)
+            × ((sought self.old).too_long (map id_digits part.now) ≡ None)) }
         ensures within { IfOk result (λ found. length found.now ≤ length part.now) }
-        ensures refused { IfErr result (λ e. first_refused (sought self.old) (option_map id_digits last) (before + 1) (map id_digits part.now) ≡ Some e) };
+        ensures refused { IfErr result (λ e. first_refused (sought self.old)
+            (option_map id_digits last) (before + 1) (map id_digits part.now) ≡ Some e) };
 
     /// Why all that was seen is refused, though it is in order.
     fn too_long(&self) -> Option<Self::Error>
-        ensures { (ids : List (List ℕ)) → has_seen self.now ids → result ≡ (sought self.now).too_long ids };
+        ensures { (ids : List (List ℕ)) → has_seen self.now ids
+            → result ≡ (sought self.now).too_long ids };
 }
 
 /// Ids of any kinds, none below the one before it, in which a prefix is found that has at most as

@@ -46,14 +46,19 @@ impl<A: Allocator> ListReader<A> {
 
     /// Takes the next piece of the text. An error is that of the whole text, whatever follows.
     pub fn take_piece(&mut self, piece: &[u8]) -> Result<(), ListError>
-        requires { self.old.dropped + length self.old.ids.items + self.old.len + length piece.now < 2 ^ 64 }
-        ensures ok { OnOk result ((earlier : List ObjectId) (text : List ℕ) → HasTaken (earlier ++ self.old.ids.items) self.old.line self.old.len text
-            → HasTaken (earlier ++ self.new.ids.items) self.new.line self.new.len (text ++ piece.now)) }
+        requires { self.old.dropped + length self.old.ids.items + self.old.len
+            + length piece.now < 2 ^ 64 }
+        ensures ok { OnOk result ((earlier : List ObjectId) (text : List ℕ)
+            → HasTaken (earlier ++ self.old.ids.items) self.old.line self.old.len text
+            → HasTaken (earlier ++ self.new.ids.items) self.new.line self.new.len
+            (text ++ piece.now)) }
         ensures dropped { OnOk result (self.new.dropped ≡ self.old.dropped) }
         ensures short { OnOk result (length self.new.ids.items + self.new.len
             ≤ length self.old.ids.items + self.old.len + length piece.now) }
-        ensures err { IfErr result (λ e. (earlier : List ObjectId) (text more : List ℕ) → length earlier ≡ self.old.dropped
-            → HasTaken (earlier ++ self.old.ids.items) self.old.line self.old.len text → RefusesList ((text ++ piece.now) ++ more) e) }
+        ensures err { IfErr result (λ e. (earlier : List ObjectId) (text more : List ℕ)
+            → length earlier ≡ self.old.dropped
+            → HasTaken (earlier ++ self.old.ids.items) self.old.line self.old.len text
+            → RefusesList ((text ++ piece.now) ++ more) e) }
     {
         let mut at = 0;
         while at < piece.len() {
@@ -65,10 +70,12 @@ impl<A: Allocator> ListReader<A> {
     /// The ids of the whole text, whose last line feed may be absent.
     pub fn finish(mut self) -> Result<Vec<ObjectId, A>, ListError>
         requires { self.dropped + length self.ids.items + 1 < 2 ^ 64 }
-        ensures ok { IfOk result (λ ids. (earlier : List ObjectId) (text : List ℕ) → HasTaken (earlier ++ self.ids.items) self.line self.len text
+        ensures ok { IfOk result (λ ids. (earlier : List ObjectId) (text : List ℕ)
+            → HasTaken (earlier ++ self.ids.items) self.line self.len text
             → list_read text ≡ Ok (map id_digits (earlier ++ ids.items))) }
         ensures short { IfOk result (λ ids. length ids.items ≤ length self.ids.items + 1) }
-        ensures err { IfErr result (λ e. (earlier : List ObjectId) (text : List ℕ) → length earlier ≡ self.dropped
+        ensures err { IfErr result (λ e. (earlier : List ObjectId) (text : List ℕ)
+            → length earlier ≡ self.dropped
             → HasTaken (earlier ++ self.ids.items) self.line self.len text → RefusesList text e) }
     {
         if self.len > 0 {
@@ -105,13 +112,17 @@ impl<A: Allocator> ListReader<A> {
         requires room { self.old.dropped + length self.old.ids.items + self.old.len + 1 < 2 ^ 64 }
         ensures onward { IfOk result (λ next. (at < next) × (next ≤ length piece.now)) }
         ensures ok { IfOk result (λ next. (earlier : List ObjectId) (text : List ℕ)
-            → HasTaken (earlier ++ self.old.ids.items) self.old.line self.old.len (text ++ take at piece.now)
-            → HasTaken (earlier ++ self.new.ids.items) self.new.line self.new.len (text ++ take next piece.now)) }
+            → HasTaken (earlier ++ self.old.ids.items) self.old.line self.old.len
+            (text ++ take at piece.now)
+            → HasTaken (earlier ++ self.new.ids.items) self.new.line self.new.len
+            (text ++ take next piece.now)) }
         ensures dropped { OnOk result (self.new.dropped ≡ self.old.dropped) }
         ensures short { IfOk result (λ next. length self.new.ids.items + self.new.len + at
             ≤ length self.old.ids.items + self.old.len + next) }
-        ensures err { IfErr result (λ e. (earlier : List ObjectId) (text more : List ℕ) → length earlier ≡ self.old.dropped
-            → HasTaken (earlier ++ self.old.ids.items) self.old.line self.old.len (text ++ take at piece.now)
+        ensures err { IfErr result (λ e. (earlier : List ObjectId) (text more : List ℕ)
+            → length earlier ≡ self.old.dropped
+            → HasTaken (earlier ++ self.old.ids.items) self.old.line self.old.len
+            (text ++ take at piece.now)
             → RefusesList ((text ++ piece.now) ++ more) e) }
     {
         if self.len == 0 {
@@ -126,13 +137,17 @@ impl<A: Allocator> ListReader<A> {
 
     fn take_byte(&mut self, byte: u8) -> Result<(), ListError>
         requires { self.old.dropped + length self.old.ids.items + self.old.len + 1 < 2 ^ 64 }
-        ensures ok { OnOk result ((earlier : List ObjectId) (text : List ℕ) → HasTaken (earlier ++ self.old.ids.items) self.old.line self.old.len text
-            → HasTaken (earlier ++ self.new.ids.items) self.new.line self.new.len (text ++ byte ∷ [])) }
+        ensures ok { OnOk result ((earlier : List ObjectId) (text : List ℕ)
+            → HasTaken (earlier ++ self.old.ids.items) self.old.line self.old.len text
+            → HasTaken (earlier ++ self.new.ids.items) self.new.line self.new.len
+            (text ++ byte ∷ [])) }
         ensures dropped { OnOk result (self.new.dropped ≡ self.old.dropped) }
         ensures short { OnOk result (length self.new.ids.items + self.new.len
             ≤ length self.old.ids.items + self.old.len + 1) }
-        ensures err { IfErr result (λ e. (earlier : List ObjectId) (text more : List ℕ) → length earlier ≡ self.old.dropped
-            → HasTaken (earlier ++ self.old.ids.items) self.old.line self.old.len text → RefusesList (text ++ byte ∷ more) e) }
+        ensures err { IfErr result (λ e. (earlier : List ObjectId) (text more : List ℕ)
+            → length earlier ≡ self.old.dropped
+            → HasTaken (earlier ++ self.old.ids.items) self.old.line self.old.len text
+            → RefusesList (text ++ byte ∷ more) e) }
     {
         if byte == LINE_FEED {
             return self.end_line();
@@ -145,13 +160,17 @@ impl<A: Allocator> ListReader<A> {
     // Takes a line feed.
     fn end_line(&mut self) -> Result<(), ListError>
         requires { self.old.dropped + length self.old.ids.items + 1 < 2 ^ 64 }
-        ensures ok { OnOk result ((earlier : List ObjectId) (text : List ℕ) → HasTaken (earlier ++ self.old.ids.items) self.old.line self.old.len text
-            → HasTaken (earlier ++ self.new.ids.items) self.new.line self.new.len (text ++ 10 ∷ [])) }
+        ensures ok { OnOk result ((earlier : List ObjectId) (text : List ℕ)
+            → HasTaken (earlier ++ self.old.ids.items) self.old.line self.old.len text
+            → HasTaken (earlier ++ self.new.ids.items) self.new.line self.new.len
+            (text ++ 10 ∷ [])) }
         ensures dropped { OnOk result (self.new.dropped ≡ self.old.dropped) }
         ensures one { OnOk result (length self.new.ids.items ≡ length self.old.ids.items + 1) }
         ensures short { OnOk result (self.new.len ≡ 0) }
-        ensures err { IfErr result (λ e. (earlier : List ObjectId) (text more : List ℕ) → length earlier ≡ self.old.dropped
-            → HasTaken (earlier ++ self.old.ids.items) self.old.line self.old.len text → RefusesList (text ++ 10 ∷ more) e) }
+        ensures err { IfErr result (λ e. (earlier : List ObjectId) (text more : List ℕ)
+            → length earlier ≡ self.old.dropped
+            → HasTaken (earlier ++ self.old.ids.items) self.old.line self.old.len text
+            → RefusesList (text ++ 10 ∷ more) e) }
     {
         match read_kept(&self.line, self.len) {
             Ok(id) => {

@@ -75,8 +75,10 @@ pub fn find_in_source<A: Allocator + Copy, O: ListOrder, R: Source>(
 ) -> Result<Result<Vec<ObjectId, A>, O::Error>, ReadError>
     requires order { O.has_seen order [] }
     requires input { R.has_failed input.old ≡ false }
-    ensures found { IfOk result (λ found. (text : List ℕ) × GivesAll (R.remaining input.old) (R.remaining input.new) text
-        × IsFoundAmong (O.sought order) text (result_map_both (λ ids. map id_digits ids.items) (λ error. error) found)) }
+    ensures found { IfOk result (λ found. (text : List ℕ)
+        × GivesAll (R.remaining input.old) (R.remaining input.new) text
+        × IsFoundAmong (O.sought order) text
+        (result_map_both (λ ids. map id_digits ids.items) (λ error. error) found)) }
     ensures stands { OnOk result (R.has_failed input.new ≡ false) }
     ensures stopped { IfErr result (λ e. ReadingStops e (R.remaining input.old)
         (R.remaining input.new)) }

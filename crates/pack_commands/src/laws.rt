@@ -16,17 +16,21 @@ use gix_hash::Kind;
 /// where it has none.
 pub fn shortest_names()
     ensures shortest { (ids : List (List ℕ)) (at : ℕ) → at < length ids
-        → (name : List ℕ) → IsShortestName ids at name → short_name ids (slice_index_or ids at []) ≡ name }
+        → (name : List ℕ) → IsShortestName ids at name
+        → short_name ids (slice_index_or ids at []) ≡ name }
     ensures none { (ids : List (List ℕ)) (at : ℕ) → at < length ids
-        → ((name : List ℕ) → ¬ IsShortestName ids at name) → short_name ids (slice_index_or ids at []) ≡ slice_index_or ids at [] }
+        → ((name : List ℕ) → ¬ IsShortestName ids at name)
+        → short_name ids (slice_index_or ids at []) ≡ slice_index_or ids at [] }
 {}
 
 /// What [`show`](crate::show()) writes are the lines of all places, one behind the other, and what
 /// [`find`](crate::find()) writes are those of them whose ids begin with the prefix.
 pub fn shown_lines(kind: Kind, bytes: &[u8])
     ensures shown { shown kind bytes.now
-        ≡ flat_map (index_line kind bytes.now) (range_with_len 0 (length (names_in kind bytes.now))) }
+        ≡ flat_map (index_line kind bytes.now)
+        (range_with_len 0 (length (names_in kind bytes.now))) }
     ensures found { (prefix : KindDigits) → found prefix kind bytes.now
-        ≡ flat_map (index_line kind bytes.now) (filter (λ k. begins_with (name_at kind bytes.now k) prefix)
+        ≡ flat_map (index_line kind bytes.now)
+        (filter (λ k. begins_with (name_at kind bytes.now k) prefix)
         (range_with_len 0 (length (names_in kind bytes.now)))) }
 {}

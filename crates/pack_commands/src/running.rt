@@ -180,7 +180,8 @@ fn print_found<W: Sink>(
 ) -> Result<usize, CommandError>
     requires kind { prefix.now.kind ≡ kind }
     requires output { W.has_failed out.old ≡ false }
-    ensures done { IfOk result (λ count. IsPackIndex kind bytes.now × (count ≡ count_by (λ id. begins_with id prefix.now) (names_in kind bytes.now))
+    ensures done { IfOk result (λ count. IsPackIndex kind bytes.now
+        × (count ≡ count_by (λ id. begins_with id prefix.now) (names_in kind bytes.now))
         × Appends (W.taken out.old) (W.taken out.new) (found prefix.now kind bytes.now)) }
     ensures refused { IfErr result (RefusesIndex kind bytes.now) }
     ensures untouched { IfErr result (λ e. e ≢ CommandError.Output → out.new ≡ out.old) }
@@ -196,7 +197,8 @@ fn print_found<W: Sink>(
 // Prints the names of the index that the bytes are.
 fn print_names<W: Sink>(bytes: &[u8], kind: Kind, out: &mut W) -> Result<usize, CommandError>
     requires { W.has_failed out.old ≡ false }
-    ensures done { IfOk result (λ count. IsPackIndex kind bytes.now × (count ≡ length (names_in kind bytes.now))
+    ensures done { IfOk result (λ count. IsPackIndex kind bytes.now
+        × (count ≡ length (names_in kind bytes.now))
         × Appends (W.taken out.old) (W.taken out.new) (named kind bytes.now)) }
     ensures refused { IfErr result (RefusesIndex kind bytes.now) }
     ensures untouched { IfErr result (λ e. e ≢ CommandError.Output → out.new ≡ out.old) }
@@ -212,7 +214,8 @@ fn print_names<W: Sink>(bytes: &[u8], kind: Kind, out: &mut W) -> Result<usize, 
 // Shows the index that the bytes are.
 fn print_all<W: Sink>(bytes: &[u8], kind: Kind, out: &mut W) -> Result<usize, CommandError>
     requires { W.has_failed out.old ≡ false }
-    ensures done { IfOk result (λ count. IsPackIndex kind bytes.now × (count ≡ length (names_in kind bytes.now))
+    ensures done { IfOk result (λ count. IsPackIndex kind bytes.now
+        × (count ≡ length (names_in kind bytes.now))
         × Appends (W.taken out.old) (W.taken out.new) (shown kind bytes.now)) }
     ensures refused { IfErr result (RefusesIndex kind bytes.now) }
     ensures untouched { IfErr result (λ e. e ≢ CommandError.Output → out.new ≡ out.old) }

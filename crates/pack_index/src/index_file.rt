@@ -161,7 +161,9 @@ impl<'a> File<'a> {
     /// The place of a name, the first one where it stands twice, or `None` where it is not there.
     pub fn lookup(&self, id: oid<'_>) -> Option<usize>
         ensures { let names = names_in self.now.kind self.now.bytes in
-            MatchOption result ((k : ℕ) → k < length names → slice_index_or names k [] ≢ oid_digits id.entry) (IsFirstPlace names (oid_digits id.entry)) }
+            MatchOption result ((k : ℕ) → k < length names
+            → slice_index_or names k [] ≢ oid_digits id.entry)
+            (IsFirstPlace names (oid_digits id.entry)) }
     {
         if id.kind() != self.names.kind() {
             return None;

@@ -31,7 +31,8 @@ const BUFFER_LEN: usize = PIECE_LEN + MAX_DIGEST_LEN;
 pub fn check<R: Source, W: Sink>(input: &mut R, out: &mut W, kind: Kind) -> Result<usize, PipeError>
     requires input { R.has_failed input.old ≡ false }
     requires output { W.has_failed out.old ≡ false }
-    ensures checked { IfOk result (λ count. (bytes : List ℕ) × GivesAll (R.remaining input.old) (R.remaining input.new) bytes
+    ensures checked { IfOk result (λ count. (bytes : List ℕ)
+        × GivesAll (R.remaining input.old) (R.remaining input.new) bytes
         × IsChecked kind bytes count (W.taken out.old) (W.taken out.new)) }
     ensures unwritten { IfOk result (λ count. count ≡ 0 → out.new ≡ out.old) }
     ensures input { IsErrOf result PipeError.Input ↔ (R.has_failed input.new ≡ true) }
@@ -53,7 +54,8 @@ pub fn check<R: Source, W: Sink>(input: &mut R, out: &mut W, kind: Kind) -> Resu
 #[inline(never)]
 fn read_sealed<R: Source>(input: &mut R, kind: Kind) -> Result<Option<ObjectId>, PipeError>
     requires { R.has_failed input.old ≡ false }
-    ensures read { IfOk result (λ found. (bytes : List ℕ) × GivesAll (R.remaining input.old) (R.remaining input.new) bytes
+    ensures read { IfOk result (λ found. (bytes : List ℕ)
+        × GivesAll (R.remaining input.old) (R.remaining input.new) bytes
         × EndsWith kind bytes found) }
     ensures reads { OnOk result (R.has_failed input.new ≡ false) }
     ensures input { IsErrOf result PipeError.Input ↔ (R.has_failed input.new ≡ true) }

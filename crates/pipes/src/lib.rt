@@ -54,7 +54,8 @@ impl From<WriteFailed> for PipeError {
 pub fn hash_all<R: Source, W: Sink>(input: &mut R, out: &mut W, kind: Kind) -> Result<(), PipeError>
     requires input { R.has_failed input.old ≡ false }
     requires output { W.has_failed out.old ≡ false }
-    ensures hashed { OnOk result ((message : List ℕ) × GivesAll (R.remaining input.old) (R.remaining input.new) message
+    ensures hashed { OnOk result ((message : List ℕ)
+        × GivesAll (R.remaining input.old) (R.remaining input.new) message
         × Appends (W.taken out.old) (W.taken out.new) (digest_line kind message)) }
     ensures input { IsErrOf result PipeError.Input ↔ (R.has_failed input.new ≡ true) }
     ensures output { IsErrOf result PipeError.Output ↔ (W.has_failed out.new ≡ true) }
@@ -76,7 +77,8 @@ pub fn hash_all<R: Source, W: Sink>(input: &mut R, out: &mut W, kind: Kind) -> R
 pub fn seal<R: Source, W: Sink>(input: &mut R, out: &mut W, kind: Kind) -> Result<(), PipeError>
     requires input { R.has_failed input.old ≡ false }
     requires output { W.has_failed out.old ≡ false }
-    ensures sealed { OnOk result ((message : List ℕ) × GivesAll (R.remaining input.old) (R.remaining input.new) message
+    ensures sealed { OnOk result ((message : List ℕ)
+        × GivesAll (R.remaining input.old) (R.remaining input.new) message
         × Appends (W.taken out.old) (W.taken out.new) (sealed kind message)) }
     ensures input { IsErrOf result PipeError.Input ↔ (R.has_failed input.new ≡ true) }
     ensures output { IsErrOf result PipeError.Output ↔ (W.has_failed out.new ≡ true) }
@@ -97,7 +99,8 @@ fn copy_all<R: Source, W: Sink>(
 ) -> Result<ObjectId, PipeError>
     requires input { R.has_failed input.old ≡ false }
     requires output { W.has_failed out.old ≡ false }
-    ensures copied { IfOk result (λ id. (message : List ℕ) × GivesAll (R.remaining input.old) (R.remaining input.new) message
+    ensures copied { IfOk result (λ id. (message : List ℕ)
+        × GivesAll (R.remaining input.old) (R.remaining input.new) message
         × Appends (W.taken out.old) (W.taken out.new) message × (id ≡ digest kind message)) }
     ensures reads { OnOk result (R.has_failed input.new ≡ false) }
     ensures stands { OnOk result (W.has_failed out.new ≡ false) }

@@ -49,7 +49,8 @@ pub fn read_head(alloc: Global, kind: Kind, text: &[u8]) -> Result<Option<Head<'
 #[tactic(auto, using(std::proofs::lemmas::List::append_cancel_left))]
 fn read_keyed<'a>(kind: Kind, key: &[u8], text: &'a [u8]) -> Option<(ObjectId, &'a [u8])>
     ensures { MatchOption result (HasNoKeyed kind key.now text.now)
-        (λ line. (id_kind line.0 ≡ kind) × (text.now ≡ keyed_then key.now (id_digits line.0) line.1.now)) }
+        (λ line. (id_kind line.0 ≡ kind)
+        × (text.now ≡ keyed_then key.now (id_digits line.0) line.1.now)) }
 {
     let line = read_line(kind, behind(key, text)?)?;
     Some((line.id, line.rest))

@@ -14,8 +14,10 @@ use pack_index::File;
 /// Where the object stands in the pack whose name alone begins with what was typed, in hex digits of
 /// the index's kind. `None` where there is none or more than one, or the bytes are no index.
 pub fn typed_offset(bytes: &[u8], kind: Kind, typed: &str) -> Option<u64>
-    ensures { IfSome result (λ offset. (prefix : KindDigits) × (at : ℕ) × (prefix_read_in kind hex_letter typed.now ≡ Ok prefix)
-        × IsRun prefix (names_in kind bytes.now) (record { start = at; end = at + 1 }) × (offset ≡ offset_in kind bytes.now at)) }
+    ensures { IfSome result (λ offset. (prefix : KindDigits) × (at : ℕ)
+        × (prefix_read_in kind hex_letter typed.now ≡ Ok prefix)
+        × IsRun prefix (names_in kind bytes.now) (record { start = at; end = at + 1 })
+        × (offset ≡ offset_in kind bytes.now at)) }
 {
     let Ok(prefix) = Prefix::from_hex_in(kind, typed) else {
         return None;

@@ -26,7 +26,8 @@ pub fn write_loose_path<W: io::Write>(id: &ObjectId, out: &mut W) -> io::Result<
 
 /// The id of the loose object at a path, or `None` where the path is that of no id of the kind.
 pub fn read_loose_path(kind: Kind, path: &[u8]) -> Option<ObjectId>
-    ensures { MatchOption result ((digits : List ℕ) → AreIdDigits kind digits → path.now ≢ loose_path digits)
+    ensures { MatchOption result ((digits : List ℕ) → AreIdDigits kind digits
+        → path.now ≢ loose_path digits)
         (λ id. (id_kind id ≡ kind) × (path.now ≡ loose_path (id_digits id))) }
 {
     if path.len() < 3 || path.len() > 65 {

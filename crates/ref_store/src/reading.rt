@@ -17,7 +17,8 @@ use gix_hash::{Alphabet, ObjectId, Prefix, decode, laws, oid};
 /// Whether `text` is a prefix of at least 4 digits that the id begins with.
 pub fn is_named(text: &str, id: oid<'_>) -> bool
     ensures { IsTrue result ↔ IsOkAnd (prefix_read hex_letter 4 text.now) (λ prefix.
-        (length prefix.digits ≤ hex_len_of (oid_kind id.entry)) × (place prefix.digits (oid_digits id.entry) ≡ Ordering.Equal)) }
+        (length prefix.digits ≤ hex_len_of (oid_kind id.entry))
+        × (place prefix.digits (oid_digits id.entry) ≡ Ordering.Equal)) }
 {
     match Prefix::from_hex(text) {
         Ok(prefix) => prefix.hex_len() <= id.kind().len_in_hex() && prefix.cmp_oid(id).is_eq(),
@@ -52,7 +53,8 @@ pub fn read_again(id: &ObjectId, text: &[u8]) -> Result<ObjectId, decode::Error>
 /// The id of a digest, or `None` where no kind has digests of so many bytes.
 pub fn id_of_digest(bytes: &[u8]) -> Option<ObjectId>
     ensures { MatchOption result (¬ IsTrue (is_digest_len (length bytes.now)))
-        (λ id. (id_digits id ≡ digits_of bytes.now) × (id_kind id ≡ kind_of_byte_len (length bytes.now))) }
+        (λ id. (id_digits id ≡ digits_of bytes.now)
+        × (id_kind id ≡ kind_of_byte_len (length bytes.now))) }
 {
     match oid::try_from_bytes(bytes) {
         Ok(id) => Some(id.to_owned()),

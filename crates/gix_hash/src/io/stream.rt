@@ -35,7 +35,8 @@ pub fn bytes_with_hasher<R: Read, P: Progress, I: Interrupt>(
 ) -> Result<ObjectId, Error>
     ensures digest { IfOk result (λ id. (bytes : List ℕ)
         × GivesNext (R.remaining read.old) (R.remaining read.new) num_bytes_from_start bytes
-        × ((message : List ℕ) → StandsFor hasher message → id ≡ digest (hasher_kind hasher) (message ++ bytes))) }
+        × ((message : List ℕ) → StandsFor hasher message
+        → id ≡ digest (hasher_kind hasher) (message ++ bytes))) }
     ensures heard { OnOk result (Reaches P.hears progress.old
         (heard_all num_bytes_from_start) progress.new) }
     ensures asked { OnOk result (Reaches I.answers should_interrupt.old
