@@ -8,6 +8,12 @@ use std::rt::Env;
 use std::{env, io};
 
 /// Why a program has no words.
+///
+/// ```
+/// if let Err(WordsError::NotText) = own_words(rt) {
+///     println!(rt; "some word is no text in UTF-8")?;
+/// }
+/// ```
 #[derive(Clone, Copy, PartialEq, Eq, Debug)]
 pub enum WordsError {
     /// Some word is no text in UTF-8.

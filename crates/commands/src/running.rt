@@ -23,6 +23,14 @@ use std::rt::Files;
 use thiserror::Error as ThisError;
 
 /// Why a command was refused, or did not end.
+///
+/// ```
+/// let command = Command::Hash { kind: Kind::Sha1 };
+/// match run_command(rt, rt.alloc(), command, &mut input, &mut out) {
+///     Err(CommandError::Input) => println!(rt; "standard input cannot be read")?,
+///     answer => println!(rt; "{} lines", answer?)?,
+/// }
+/// ```
 #[derive(Debug, Drop, ThisError)]
 pub enum CommandError {
     /// The prefix or the list text is refused.

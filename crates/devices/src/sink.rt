@@ -8,6 +8,11 @@ ghost use Rattle.devices.specs.Writing.{write_fails, AppendsPart};
 use std::io;
 
 /// A writer that knows whether it failed.
+///
+/// ```
+/// let count = out.write(b"4b82")?;
+/// println!(rt; "{count} of 4 bytes")?;
+/// ```
 pub trait Sink {
     ghost use Rattle.std.specs.Prelude.{ℕ, Bool, List, Option};
 
@@ -31,6 +36,12 @@ pub trait Sink {
 }
 
 /// A sink that may keep back what it took until it is flushed.
+///
+/// ```
+/// if out.write(b"4b82")? == 4 {
+///     out.flush()?;
+/// }
+/// ```
 pub trait BufferedSink: Sink {
     ghost use Rattle.std.specs.Prelude.{ℕ, List};
     ghost use Rattle.std.specs.Io.KnownBytes.{Keeps};
@@ -46,6 +57,12 @@ pub trait BufferedSink: Sink {
 }
 
 /// A writer failed.
+///
+/// ```
+/// if let Err(WriteFailed) = write_all(&mut out, b"4b82") {
+///     println!(rt; "not all was written")?;
+/// }
+/// ```
 #[derive(Clone, Copy, Debug)]
 pub struct WriteFailed;
 

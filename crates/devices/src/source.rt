@@ -14,6 +14,12 @@ pub const PIECE_LEN: usize = 65536;
 pub const MAX_LEN: u64 = 2305843009213693951;
 
 /// A reader that knows whether it failed.
+///
+/// ```
+/// let mut buf = [0; 16];
+/// let count = input.read(&mut buf)?;
+/// println!(rt; "{count} bytes")?;
+/// ```
 pub trait Source {
     ghost use Rattle.std.specs.Prelude.{ℕ, Bool, List, Option};
 

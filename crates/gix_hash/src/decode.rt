@@ -3,6 +3,12 @@
 use thiserror::Error as ThisError;
 
 /// A text that is not the digits of an id in the alphabet that it is read in.
+///
+/// ```
+/// // Neither 40 nor 64 digits.
+/// let why = ObjectId::from_hex(b"4b82");
+/// assert!(rt; matches!(why, Err(decode::Error::InvalidHexEncodingLength(4))));
+/// ```
 #[derive(Debug, Drop, ThisError)]
 pub enum Error {
     /// The text has neither 40 nor 64 bytes: it has as many as given here.

@@ -8,6 +8,13 @@ use thiserror::Error as ThisError;
 
 /// Why a hasher gives no digest. No hasher of this crate answers it, since none looks for
 /// collisions.
+///
+/// ```
+/// match hasher(Kind::Sha1).try_finalize() {
+///     Ok(id) => println!(rt; "{id}")?,
+///     Err(hashing::Error::CollisionAttack { digest }) => println!(rt; "no digest but {digest}")?,
+/// }
+/// ```
 #[derive(Debug, Drop, ThisError)]
 pub enum Error {
     /// The message looks as if it were made to have the SHA-1 digest of another one.

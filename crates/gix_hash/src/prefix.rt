@@ -22,6 +22,12 @@ mod packing;
 mod printing;
 
 /// Why an id has no prefix of so many digits.
+///
+/// ```
+/// // An id of SHA-1 has 40 digits.
+/// let why = Prefix::new(id.as_oid(), 65);
+/// assert!(rt; matches!(why, Err(prefix::Error::TooLong { .. })));
+/// ```
 #[derive(Debug, Drop)]
 pub enum Error {
     /// Fewer than 4 digits were asked for.

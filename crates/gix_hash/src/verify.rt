@@ -4,6 +4,12 @@ use crate::object_id::ObjectId;
 use thiserror::Error as ThisError;
 
 /// Two ids that should have been equal.
+///
+/// ```
+/// if let Err(why) = id.as_oid().verify(expected.as_oid()) {
+///     println!(rt; "{} is not {}", why.actual, why.expected)?;
+/// }
+/// ```
 #[derive(Debug, Drop, ThisError)]
 #[error("Hash was {actual}, but should have been {expected}")]
 pub struct Error {

@@ -24,6 +24,13 @@ const LOWERCASE: u8 = 0x20;
 const NO_DIGIT: u8 = 255;
 
 /// Some byte of a text is the letter of no digit.
+///
+/// ```
+/// let mut digest = [0; 20];
+/// if let Err(NotDigits) = read_digest(text, &mut digest) {
+///     println!(rt; "not 40 hex digits")?;
+/// }
+/// ```
 #[derive(Clone, Copy, Debug)]
 pub struct NotDigits;
 

@@ -13,6 +13,11 @@ const WORD_DIGITS: usize = 32;
 
 /// Up to 64 digits: the first 32 in one word from its highest four bits on, those behind them in
 /// the other likewise, and zeros behind them all.
+///
+/// ```
+/// // Words compare as digits do.
+/// assert!(rt; Words::of(&[0x4b; 20]) < Words::of(&[0x4c; 20]));
+/// ```
 #[derive(Clone, Copy, Debug, PartialEq, Eq, PartialOrd, Ord)]
 pub struct Words {
     /// The first 32 digits.

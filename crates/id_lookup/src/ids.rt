@@ -12,6 +12,11 @@ use gix_hash::{ObjectId, oid};
 ///
 /// So a table of digests that stand one behind the other, as in Git's pack indexes, is a list of ids
 /// too, by `as_chunks` of its bytes.
+///
+/// ```
+/// // The list is where it was: nothing is copied.
+/// let ids = SortedIds::try_new(table.as_chunks::<20>().0)?;
+/// ```
 pub trait Id {
     /// The id's kind.
     ghost kind: { Self → Kind };

@@ -201,6 +201,13 @@ fn rises_at<I: Id>(ids: &[I], at: usize) -> bool
 }
 
 /// Why a list is no index of a kind.
+///
+/// ```
+/// // No id is above itself.
+/// let twice = [id, id];
+/// let why = IdIndex::try_new(&twice, Kind::Sha1);
+/// assert!(rt; matches!(why, Err(IndexError::NotRising { at: 1 })));
+/// ```
 #[derive(Clone, Copy, PartialEq, Eq, Debug)]
 pub enum IndexError {
     /// An id is of the other kind.
@@ -234,9 +241,9 @@ impl Error for IndexError {}
 ///
 /// ```
 /// match index.find(&prefix) {
-///     Answer::None => println!(rt; "no id"),
-///     Answer::One(at) => println!(rt; "{}", list[at]),
-///     Answer::Many(run) => println!(rt; "{} ids", run.end - run.start),
+///     Answer::None => println!(rt; "no id")?,
+///     Answer::One(at) => println!(rt; "{}", list[at])?,
+///     Answer::Many(run) => println!(rt; "{} ids", run.end - run.start)?,
 /// }
 /// ```
 #[derive(Clone, Copy, PartialEq, Eq, Debug)]

@@ -170,6 +170,12 @@ fn falls_at<I: Id>(ids: &[I], at: usize) -> bool
 }
 
 /// A list that is not sorted.
+///
+/// ```
+/// if let Err(Unsorted { at }) = SortedIds::try_new(&list) {
+///     println!(rt; "{} is below {}", list[at], list[at - 1])?;
+/// }
+/// ```
 #[derive(Debug, Drop)]
 pub struct Unsorted {
     /// The first place whose id is below the one before it, counted from 0.

@@ -20,6 +20,13 @@ use std::alloc::Allocator;
 use thiserror::Error as ThisError;
 
 /// Why nothing was found, or not all that was found was written.
+///
+/// ```
+/// match find(rt.alloc(), "4b82", text, &mut out) {
+///     Err(FindError::BadLine { line, .. }) => println!(rt; "line {line} is no id")?,
+///     answer => println!(rt; "{} ids", answer?)?,
+/// }
+/// ```
 #[derive(Debug, Drop, ThisError)]
 pub enum FindError {
     /// The prefix does not read.

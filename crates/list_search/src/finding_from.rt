@@ -19,6 +19,13 @@ use std::alloc::Allocator;
 use thiserror::Error as ThisError;
 
 /// Why nothing was found in what a source gives, or not all that was found was written.
+///
+/// ```
+/// match find_from(rt.alloc(), "4b82", &mut input, &mut out) {
+///     Err(FindFromError::Input) => println!(rt; "the list cannot be read")?,
+///     answer => println!(rt; "{} ids", answer?)?,
+/// }
+/// ```
 #[derive(Debug, Drop, ThisError)]
 pub enum FindFromError {
     /// The prefix does not read.

@@ -19,6 +19,13 @@ use std::alloc::Allocator;
 use thiserror::Error as ThisError;
 
 /// Why nothing was found among ids of one kind, or not all that was found was written.
+///
+/// ```
+/// match find_in(rt.alloc(), Kind::Sha1, "4b", text, &mut out) {
+///     Err(FindInError::NotRising { line }) => println!(rt; "line {line} is out of order")?,
+///     answer => println!(rt; "{} ids", answer?)?,
+/// }
+/// ```
 #[derive(Debug, Drop, ThisError)]
 pub enum FindInError {
     /// The prefix does not read as one of the kind.

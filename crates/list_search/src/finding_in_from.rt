@@ -21,6 +21,13 @@ use thiserror::Error as ThisError;
 
 /// Why nothing was found among the ids of one kind that a source gives, or not all that was found
 /// was written.
+///
+/// ```
+/// match find_in_from(rt.alloc(), Kind::Sha1, "4b", &mut input, &mut out) {
+///     Err(FindInFromError::Search(why)) => println!(rt; "no such list: {why}")?,
+///     answer => println!(rt; "{} ids", answer?)?,
+/// }
+/// ```
 #[derive(Debug, Drop, ThisError)]
 pub enum FindInFromError {
     /// As where the whole text is searched.

@@ -10,7 +10,9 @@ use std::fmt;
 /// What the program is asked to do.
 ///
 /// ```
-/// let command = read_command(&["find", "sha1", "4b82"])?;
+/// if let Ok(Command::Find { prefix, .. }) = read_command(&["find", "sha1", "4b82"]) {
+///     println!(rt; "names that begin with {prefix}")?;
+/// }
 /// ```
 #[derive(Clone, Copy, Debug)]
 pub enum Command<'a> {
@@ -39,6 +41,11 @@ pub enum Command<'a> {
 }
 
 /// Why the words of a command line are no command.
+///
+/// ```
+/// let why = read_command(&["show", "md5"]);
+/// assert!(rt; matches!(why, Err(ArgError::BadKind("md5"))));
+/// ```
 #[derive(Clone, Copy, Debug)]
 pub enum ArgError<'a> {
     /// The command is unknown, or it does not take so many words.

@@ -23,6 +23,14 @@ use std::alloc::{AllocError, Allocator};
 use thiserror::Error as ThisError;
 
 /// Why a command was refused, or did not end.
+///
+/// ```
+/// let command = Command::Show { kind: Kind::Sha1 };
+/// match run_command(rt.alloc(), command, &mut input, &mut out) {
+///     Err(CommandError::Index(why)) => println!(rt; "no pack index: {why}")?,
+///     answer => println!(rt; "{} lines", answer?)?,
+/// }
+/// ```
 #[derive(Debug, Drop, ThisError)]
 pub enum CommandError {
     /// The prefix does not read as one of the kind.

@@ -4,6 +4,11 @@ use thiserror::Error as ThisError;
 
 /// Why bytes are no pack index of version 2 whose names are of a kind. Of several causes the first
 /// one here is told. Places are counted from 0.
+///
+/// ```
+/// let why = File::try_new(b"PACK", Kind::Sha1);
+/// assert!(rt; matches!(why, Err(Error::TooShort)));
+/// ```
 #[derive(Clone, Copy, PartialEq, Eq, Debug, ThisError)]
 pub enum Error {
     /// There are fewer bytes than an index of no names has: 1032, and two digests.

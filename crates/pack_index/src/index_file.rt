@@ -23,7 +23,7 @@ use std::marker::Model;
 /// A pack index of Git, of version 2, over its bytes. Places of names are counted from 0.
 ///
 /// ```
-/// let file = File::try_new(&bytes, Kind::Sha1)?;
+/// let file = File::try_new(content, Kind::Sha1)?;
 /// if let Some(at) = file.lookup(id.as_oid()) {
 ///     println!(rt; "at byte {} of the pack", file.pack_offset_at_index(at))?;
 /// }

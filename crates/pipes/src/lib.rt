@@ -20,6 +20,13 @@ use std::io;
 use thiserror::Error as ThisError;
 
 /// Why a stream was not hashed, sealed or checked to its end.
+///
+/// ```
+/// match seal(&mut input, &mut out, Kind::Sha1) {
+///     Err(PipeError::Output) => println!(rt; "not all was written")?,
+///     answer => answer?,
+/// }
+/// ```
 #[derive(Clone, Copy, PartialEq, Eq, Debug, ThisError)]
 pub enum PipeError {
     /// A read answered an error.

@@ -13,6 +13,12 @@ const TREE: &[u8] = b"tree ";
 const PARENT: &[u8] = b"parent ";
 
 /// The tree and the parents of a commit, and what is behind them.
+///
+/// ```
+/// if let Some(head) = read_head(rt.alloc(), Kind::Sha1, text)? {
+///     println!(rt; "{} parents", head.parents.len())?;
+/// }
+/// ```
 #[derive(Drop)]
 pub struct Head<'a> {
     /// The tree.

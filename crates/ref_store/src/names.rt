@@ -12,6 +12,14 @@ use id_lookup::IdIndex;
 use std::io;
 
 /// What a typed name stands for.
+///
+/// ```
+/// match resolve(&index, "4b82")? {
+///     Resolved::Unknown => println!(rt; "no such id")?,
+///     Resolved::Id(id) => println!(rt; "{id}")?,
+///     Resolved::Ambiguous(ids) => println!(rt; "{} ids", ids.len())?,
+/// }
+/// ```
 #[derive(Clone, Copy)]
 pub enum Resolved<'a> {
     /// No id begins with it.

@@ -21,6 +21,12 @@ pub fn read_printed(kind: Kind, text: &[u8]) -> Option<ObjectId>
 }
 
 /// A line of an id, and what is behind it.
+///
+/// ```
+/// if let Some(Line { id, rest }) = read_line(Kind::Sha1, text) {
+///     println!(rt; "{id}, and {} bytes", rest.len())?;
+/// }
+/// ```
 #[derive(Clone, Copy)]
 pub struct Line<'a> {
     /// The id.

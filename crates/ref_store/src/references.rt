@@ -11,6 +11,12 @@ use gix_hash::{Kind, ObjectId};
 use std::io;
 
 /// What a reference points to.
+///
+/// ```
+/// if let Some(Reference::Id(id)) = read_reference(Kind::Sha1, text) {
+///     println!(rt; "{id}")?;
+/// }
+/// ```
 #[derive(Clone, Copy)]
 pub enum Reference<'a> {
     /// An object.

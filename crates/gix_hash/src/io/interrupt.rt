@@ -6,6 +6,18 @@ ghost use Rattle.std.specs.Prelude.{◌≡◌, Bool, false};
 ///
 /// An implementation says what an asking makes of it by `answers`: a relation of its value before
 /// the asking, the answer, and its value after it.
+///
+/// ```
+/// struct AtOnce;
+///
+/// impl Interrupt for AtOnce {
+///     ghost answers = { λ before answer after. answer ≡ true };
+///
+///     fn should_interrupt(&mut self) -> bool {
+///         true
+///     }
+/// }
+/// ```
 pub trait Interrupt {
     ghost answers: { Self → Bool → Self → Type 0 };
 

@@ -7,6 +7,22 @@ ghost use Rattle.gix_hash.specs.Streams.{ProgressCall, Init, IncBy, ShowThroughp
 ///
 /// An implementation says what each call makes of it by `hears`: a relation of its value before the
 /// call, the call, and its value after it.
+///
+/// ```
+/// struct Total(u64);
+///
+/// impl Progress for Total {
+///     ghost hears = { λ before call after. ⊤ };
+///
+///     fn init(&mut self, _max: Option<u64>) {}
+///
+///     fn inc_by(&mut self, step: u64) {
+///         self.0 = self.0.saturating_add(step);
+///     }
+///
+///     fn show_throughput(&mut self) {}
+/// }
+/// ```
 pub trait Progress {
     ghost hears: { Self → ProgressCall → Self → Type 0 };
 

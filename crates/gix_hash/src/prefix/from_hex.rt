@@ -5,6 +5,11 @@ use crate::prefix::Prefix;
 use std::{error, fmt};
 
 /// A text that is not the digits of a prefix.
+///
+/// ```
+/// let why = Prefix::from_hex("4b8");
+/// assert!(rt; matches!(why, Err(prefix::from_hex::Error::TooShort { hex_len: 3 })));
+/// ```
 #[derive(Debug, PartialEq, Eq, Drop)]
 pub enum Error {
     /// The text has fewer bytes than the call takes: fewer than 4, or none at all where a call takes
