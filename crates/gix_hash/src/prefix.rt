@@ -24,7 +24,7 @@ mod printing;
 /// Why an id has no prefix of so many digits.
 ///
 /// ```
-/// // An id of SHA-1 has 40 digits.
+/// // No id has 65 digits.
 /// let why = Prefix::new(id.as_oid(), 65);
 /// assert!(rt; matches!(why, Err(prefix::Error::TooLong { .. })));
 /// ```

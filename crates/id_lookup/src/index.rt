@@ -205,7 +205,7 @@ fn rises_at<I: Id>(ids: &[I], at: usize) -> bool
 /// ```
 /// // No id is above itself.
 /// let twice = [id, id];
-/// let why = IdIndex::try_new(&twice, Kind::Sha1);
+/// let why = IdIndex::try_new(&twice, id.kind());
 /// assert!(rt; matches!(why, Err(IndexError::NotRising { at: 1 })));
 /// ```
 #[derive(Clone, Copy, PartialEq, Eq, Debug)]
