@@ -37,28 +37,26 @@ const BROKEN: [(usize, u8); 8] = [
     (1659, 0),
 ];
 
+// The lengths to which that index is cut: before its last names, and before its last byte.
+const CUT: [usize; 2] = [1071, 1659];
+
+// Whole files that are opened as what they are not.
+const OTHERS: [(&str, Kind); 3] = [
+    ("sha1.idx", Kind::Sha256),
+    ("sha256.idx", Kind::Sha1),
+    ("version-1.idx", Kind::Sha1),
+];
+
 fn main(rt: HostRuntime) -> io::Result<()> {
     for (name, kind) in INDEXES {
-        let bytes = fs::read(&rt, name)?;
         println!(rt; "{name}")?;
-        show(&rt, &bytes, kind)?;
+        show(&rt, &fs::read(&rt, name)?, kind)?;
     }
-    let mut bytes = fs::read(&rt, "sha1.idx")?;
-    for (at, broken) in BROKEN {
-        if at < bytes.len() {
-            let good = bytes[at];
-            bytes[at] = broken;
-            tell(&rt, &bytes, Kind::Sha1)?;
-            bytes[at] = good;
-        }
+    tell_broken(&rt, &mut fs::read(&rt, "sha1.idx")?)?;
+    for (name, kind) in OTHERS {
+        tell(&rt, &fs::read(&rt, name)?, kind)?;
     }
-    let few = bytes.len().min(1071);
-    tell(&rt, &bytes[..few], Kind::Sha1)?;
-    let cut = bytes.len().saturating_sub(1);
-    tell(&rt, &bytes[..cut], Kind::Sha1)?;
-    tell(&rt, &bytes, Kind::Sha256)?;
-    tell(&rt, &fs::read(&rt, "sha256.idx")?, Kind::Sha1)?;
-    tell(&rt, &fs::read(&rt, "version-1.idx")?, Kind::Sha1)
+    Ok(())
 }
 
 // What an index has.
@@ -66,20 +64,32 @@ fn show(rt: &impl Print, bytes: &[u8], kind: Kind) -> io::Result<()> {
     let Ok(file) = File::try_new(bytes, kind) else {
         return tell(rt, bytes, kind);
     };
+    show_objects(rt, &file)?;
+    show_runs(rt, &file)?;
+    show_names(rt, &file)?;
+    println!(rt; "{} {}", file.pack_checksum(), file.index_checksum())
+}
+
+fn show_objects(rt: &impl Print, file: &File<'_>) -> io::Result<()> {
     for at in 0..file.num_objects() {
         let offset = file.pack_offset_at_index(at);
         let crc = file.crc32_at_index(at);
         println!(rt; "{offset} {} ({crc:08x})", file.oid_at_index(at))?;
     }
+    Ok(())
+}
+
+fn show_runs(rt: &impl Print, file: &File<'_>) -> io::Result<()> {
     for digit in DIGITS {
-        let Ok(prefix) = Prefix::from_hex_in(kind, digit) else {
-            continue;
-        };
-        if prefix.as_oid().kind() == file.object_hash() {
+        if let Ok(prefix) = Prefix::from_hex_in(file.object_hash(), digit) {
             let run = file.find_prefix(&prefix);
             println!(rt; "{digit} {} {}", run.start, run.end)?;
         }
     }
+    Ok(())
+}
+
+fn show_names(rt: &impl Print, file: &File<'_>) -> io::Result<()> {
     for at in 0..file.num_objects() {
         match (file.lookup(file.oid_at_index(at)), file.abbreviate(at)) {
             (Some(place), Some(name)) => println!(rt; "{place} {name}")?,
@@ -87,7 +97,23 @@ fn show(rt: &impl Print, bytes: &[u8], kind: Kind) -> io::Result<()> {
             (None, _) => println!(rt; "not found")?,
         }
     }
-    println!(rt; "{} {}", file.pack_checksum(), file.index_checksum())
+    Ok(())
+}
+
+// Why an index with a broken byte is none, and one that is cut.
+fn tell_broken(rt: &impl Print, bytes: &mut [u8]) -> io::Result<()> {
+    for (at, broken) in BROKEN {
+        if at < bytes.len() {
+            let good = bytes[at];
+            bytes[at] = broken;
+            tell(rt, bytes, Kind::Sha1)?;
+            bytes[at] = good;
+        }
+    }
+    for len in CUT {
+        tell(rt, &bytes[..len.min(bytes.len())], Kind::Sha1)?;
+    }
+    Ok(())
 }
 
 // Whether bytes are an index, or why not.
