@@ -4,6 +4,8 @@ mod BufferEnds
 mod Chunks
 mod CommonBeginnings
 mod FrontReading
+mod HexReading
+mod HexSpelling
 mod IdDigits
 mod IdFacts
 mod KeptDigits

@@ -1,9 +1,9 @@
 //! The alphabets in which digits are spelled and read.
 
-ghost use Rattle.std.specs.Prelude.{◌≡◌, ◌≤◌, ◌*◌, ◌++◌, Some, None, MatchResult, IsTrue, length, drop, map, replicate};
+ghost use Rattle.std.specs.Prelude.{◌≡◌, ◌≤◌, ◌*◌, ◌++◌, Some, None, IsTrue, if◌then◌else◌, length, drop, map, replicate};
 ghost use Rattle.std.specs.Option.{ok_or, option_map};
 ghost use Rattle.std.specs.Result.{result_ok};
-ghost use Rattle.id_digits.specs.Digits.{digits_of, spelling};
+ghost use Rattle.id_digits.specs.Digits.{digits_of, spelling, hex_letter};
 ghost use Rattle.gix_hash.specs.Kind.{hex_len_of, is_digest_len};
 ghost use Rattle.gix_hash.specs.Prefix.{kind_digits, padded};
 ghost use Rattle.gix_hash.specs.PrefixReading.{prefix_read};
@@ -18,9 +18,7 @@ use crate::decode;
 use crate::kind::Kind;
 use crate::object_id::ObjectId;
 use crate::prefix::{Prefix, from_hex};
-use id_digits::{
-    NotDigits, read_digest, read_front, spell_hex, to_hex_letters, to_reverse_letters,
-};
+use id_digits::{read_digest, to_hex_letters, to_reverse_letters};
 
 /// An alphabet of sixteen letters for the digits 0 to 15. Texts are read in any letter case, and
 /// spelled in lowercase.
@@ -81,16 +79,18 @@ impl Alphabet {
         match kind {
             Kind::Sha1 => {
                 let mut bytes = [0; 20];
-                match self.decode_front(text, &mut bytes) {
-                    Ok(()) => Ok(Prefix::padded(ObjectId::Sha1(bytes), text.len())),
-                    Err(NotDigits) => Err(from_hex::Error::Invalid),
+                if self.decode(text, &mut bytes) {
+                    Ok(Prefix::padded(ObjectId::Sha1(bytes), text.len()))
+                } else {
+                    Err(from_hex::Error::Invalid)
                 }
             }
             Kind::Sha256 => {
                 let mut bytes = [0; 32];
-                match self.decode_front(text, &mut bytes) {
-                    Ok(()) => Ok(Prefix::padded(ObjectId::Sha256(bytes), text.len())),
-                    Err(NotDigits) => Err(from_hex::Error::Invalid),
+                if self.decode(text, &mut bytes) {
+                    Ok(Prefix::padded(ObjectId::Sha256(bytes), text.len()))
+                } else {
+                    Err(from_hex::Error::Invalid)
                 }
             }
         }
@@ -105,22 +105,12 @@ impl Alphabet {
     pub fn read_id(self, text: &[u8]) -> Result<ObjectId, decode::Error>
         ensures { id_answered result ≡ full_read (letter_of self) text.now }
     {
-        match text.len() {
-            40 => {
-                let mut bytes = [0; 20];
-                match self.decode_digest(text, &mut bytes) {
-                    Ok(()) => Ok(ObjectId::Sha1(bytes)),
-                    Err(NotDigits) => Err(decode::Error::Invalid),
-                }
-            }
-            64 => {
-                let mut bytes = [0; 32];
-                match self.decode_digest(text, &mut bytes) {
-                    Ok(()) => Ok(ObjectId::Sha256(bytes)),
-                    Err(NotDigits) => Err(decode::Error::Invalid),
-                }
-            }
-            len => Err(decode::Error::InvalidHexEncodingLength(len)),
+        match self.find_id(text) {
+            Some(id) => Ok(id),
+            None => match text.len() {
+                40 | 64 => Err(decode::Error::Invalid),
+                len => Err(decode::Error::InvalidHexEncodingLength(len)),
+            },
         }
     }
 
@@ -133,58 +123,57 @@ impl Alphabet {
         match text.len() {
             40 => {
                 let mut bytes = [0; 20];
-                match self.decode_digest(text, &mut bytes) {
-                    Ok(()) => Some(ObjectId::Sha1(bytes)),
-                    Err(NotDigits) => None,
+                if self.decode_digest(text, &mut bytes) {
+                    Some(ObjectId::Sha1(bytes))
+                } else {
+                    None
                 }
             }
             64 => {
                 let mut bytes = [0; 32];
-                match self.decode_digest(text, &mut bytes) {
-                    Ok(()) => Some(ObjectId::Sha256(bytes)),
-                    Err(NotDigits) => None,
+                if self.decode_digest(text, &mut bytes) {
+                    Some(ObjectId::Sha256(bytes))
+                } else {
+                    None
                 }
             }
             _ => None,
         }
     }
 
-    // Decodes a text of two letters a byte as a digest of 20 or 32 bytes. Where some byte of it is no
-    // letter, what `bytes` then holds is not said.
+    // Whether a text of two letters a byte reads as a digest of 20 or 32 bytes, which is then written.
+    // Hex is read by lanes: the crate `hex` takes a letter at a time, and six times as long.
     #[inline(always)]
-    fn decode_digest(self, text: &[u8], bytes: &mut [u8]) -> Result<(), NotDigits>
+    fn decode_digest(self, text: &[u8], bytes: &mut [u8]) -> bool
         requires digest { IsTrue (is_digest_len (length bytes.old)) }
         requires two_a_byte { length text.now ≡ 2 * length bytes.old }
-        ensures { MatchResult result (λ _. digits_read (letter_of self) text.now
-            ≡ Some (digits_of bytes.new))
-            (λ _. digits_read (letter_of self) text.now ≡ None) }
+        ensures { digits_read (letter_of self) text.now ≡ (if result then Some (digits_of bytes.new)
+            else None) }
     {
         match self {
             Alphabet::Hex => read_digest(text, bytes),
             Alphabet::Reverse => {
                 let mut letters = Kind::hex_buf();
-                read_digest(in_hex(text, &mut letters), bytes)
+                decode_pairs(in_hex(text, &mut letters), bytes)
             }
         }
     }
 
-    // Decodes a text of letters into the front of a digest of zeros. Where some byte of it is no letter,
-    // what `zeros` then holds is not said.
+    // Whether each byte of a text is a letter. Then the digits are written into the front of zeros, two a
+    // byte, and the last of an odd number as the high half of one more.
     #[inline(always)]
-    fn decode_front(self, text: &[u8], zeros: &mut [u8]) -> Result<(), NotDigits>
-        requires digest { IsTrue (is_digest_len (length zeros.old)) }
+    fn decode(self, text: &[u8], zeros: &mut [u8]) -> bool
         requires zeros { zeros.old ≡ replicate (length zeros.old) 0 }
         requires room { length text.now ≤ 2 * length zeros.old }
-        ensures { MatchResult result
-            (λ _. option_map (padded (2 * length zeros.old)) (digits_read (letter_of self) text.now)
-            ≡ Some (digits_of zeros.new))
-            (λ _. digits_read (letter_of self) text.now ≡ None) }
+        requires most { length text.now ≤ 64 }
+        ensures { option_map (padded (2 * length zeros.old)) (digits_read (letter_of self) text.now)
+            ≡ (if result then Some (digits_of zeros.new) else None) }
     {
         match self {
-            Alphabet::Hex => read_front(text, zeros),
+            Alphabet::Hex => decode_hex(text, zeros),
             Alphabet::Reverse => {
                 let mut letters = Kind::hex_buf();
-                read_front(in_hex(text, &mut letters), zeros)
+                decode_hex(in_hex(text, &mut letters), zeros)
             }
         }
     }
@@ -198,11 +187,41 @@ impl Alphabet {
         ensures len { length (oid_digits id.entry) ≡ hex_len_of (oid_kind id.entry) }
     {
         let bytes = id.as_bytes();
-        spell_hex(bytes, buffer);
+        hex::encode_to_slice(bytes, &mut buffer[..2 * bytes.len()]).unwrap();
         if let Alphabet::Reverse = self {
             to_reverse_letters(&mut buffer[..2 * bytes.len()]);
         }
     }
+}
+
+// As `Alphabet::decode`, in the letters of hex.
+#[inline(always)]
+fn decode_hex(text: &[u8], zeros: &mut [u8]) -> bool
+    requires zeros { zeros.old ≡ replicate (length zeros.old) 0 }
+    requires room { length text.now ≤ 2 * length zeros.old }
+    ensures { option_map (padded (2 * length zeros.old)) (digits_read hex_letter text.now)
+        ≡ (if result then Some (digits_of zeros.new) else None) }
+{
+    let whole = text.len() / 2;
+    let reads = decode_pairs(&text[..2 * whole], &mut zeros[..whole]);
+    if text.len() % 2 == 0 {
+        return reads;
+    }
+    // The digit 0 fills up the last byte.
+    let mut last = [0];
+    let last_reads = decode_pairs(&[text[2 * whole], b'0'], &mut last);
+    zeros[whole] = last[0];
+    reads & last_reads
+}
+
+// Whether a text of two hex letters a byte reads as bytes, which are then written.
+#[inline(always)]
+fn decode_pairs(text: &[u8], bytes: &mut [u8]) -> bool
+    requires { length text.now ≡ 2 * length bytes.old }
+    ensures { digits_read hex_letter text.now ≡ (if result then Some (digits_of bytes.new)
+        else None) }
+{
+    hex::decode_to_slice(text, bytes).is_ok()
 }
 
 // Puts the hex letters for a text in the reverse alphabet into the front of `letters`, and lends them.

@@ -1,15 +1,17 @@
 -- Bytes packed of two values each.
-use Rattle.std.proofs.Common.{◌≡◌, ℕ, zero, suc, ◌+◌, ◌*◌, ◌/◌, ◌%◌, true, ltb, List, [], ◌∷◌, ◌++◌, length, take, drop, refl, ap, ◌∙◌, arith, ltb-true}
+use Rattle.std.proofs.Common.{◌≡◌, ℕ, zero, suc, ◌+◌, ◌*◌, ◌/◌, ◌%◌, true, ltb, List, [], ◌∷◌, ◌++◌, length, take, drop, refl, ap, arith, ltb-true}
 use Rattle.std.proofs.lemmas.Bool.{and_parts}
-use Rattle.std.proofs.lemmas.Simd.{pick_l_left, pick_l_whole}
+use Rattle.std.proofs.lemmas.List.{length-append}
+use Rattle.std.proofs.lemmas.Simd.{pick_l_whole}
 use Rattle.std.specs.List.{list_all, range_with_len}
 use Rattle.std.specs.Simd.Lanes.{pick_l}
 use Rattle.id_digits.specs.Digits.{digits_of}
 use Rattle.id_digits.specs.LetterValues.{is_digit, packed}
 
--- the lanes of a vector that was shuffled with itself, packed
-pub packed-lanes : (v : List ℕ) → length v ≡ 32 → packed (pick_l 0 (v ++ v) (range_with_len 0 32)) ≡ packed v
-packed-lanes v long = ap packed (pick_l_left 0 v v 32 (range_with_len 0 32) long tt ∙ pick_l_whole 0 v 32 long)
+-- the lanes of two vectors that were shuffled together, packed
+pub packed-lanes : (front back : List ℕ) → length front ≡ 16 → length back ≡ 16
+    → packed (pick_l 0 (front ++ back) (range_with_len 0 32)) ≡ packed (front ++ back)
+packed-lanes front back long also = ap packed (pick_l_whole 0 (front ++ back) 32 (omega (arith, length-append front back)))
 
 -- a byte of each two values
 pub length-packed : (n : ℕ) (v : List ℕ) → length v ≡ 2 * n → length (packed v) ≡ n

@@ -1,17 +1,24 @@
 -- A text read as the values of its letters, of which the first are packed, and the last.
-use Rattle.std.proofs.Common.{◌≡◌, ℕ, zero, suc, ◌+◌, ◌-◌, ◌*◌, ◌≤◌, Bool, true, false, ◌&&◌, ltb, List, [], ◌∷◌, ◌++◌, length, take, drop, Option, Some, None, if◌then◌else◌, refl, sym, ap, ap₂, ◌∙◌, arith, append-nil, length-drop}
+use Rattle.std.proofs.Common.{◌≡◌, ℕ, zero, suc, ◌+◌, ◌-◌, ◌*◌, ◌<◌, ◌≤◌, Bool, true, false, ◌&&◌, ltb, eqb, eqb-true, min, List, [], ◌∷◌, ◌++◌, length, take, drop, Option, Some, None, if◌then◌else◌, refl, sym, ap, ap₂, ◌∙◌, arith, append-nil, append_assoc, length-drop, take-add}
 use Rattle.std.proofs.lemmas.Bool.Decides.{nat_tests}
-use Rattle.std.proofs.lemmas.List.{nil_from_length, length-map, length-take-le, take_all, take_at, take-map, drop-map, drop-drop, take-append-drop}
-use Rattle.std.proofs.lemmas.Simd.{length-put_chunk}
+use Rattle.std.proofs.lemmas.List.{nil_from_length, length-map, length-take-le, take_all, take_at, drop_at, take-map, drop-map, drop-drop, take-append-drop}
+use Rattle.std.proofs.lemmas.List.Folds.{list_all-append}
+use Rattle.std.proofs.lemmas.Simd.{put_chunk_is, length-put_chunk}
+use Rattle.std.specs.Prelude.{IsTrue}
 use Rattle.std.specs.List.{list_all}
 use borrow.Rule.Slice.PartMut.{post_of}
 use Rattle.std.specs.Simd.Lanes.{put_chunk}
 use Rattle.id_digits.specs.Digits.{digits_of, hex_letter}
-use Rattle.id_digits.specs.LetterValues.{value_of, values_of, is_digit, packed}
-use Rattle.id_digits.specs.Reading.{digit_in, digits_read, put_digit}
-use Rattle.id_digits.proofs.LanePacking.{length-packed, digits_of-packed, twice-is, packed-take, packed-drop}
-use Rattle.id_digits.proofs.LanePlaces.{stored_at}
-use Rattle.id_digits.proofs.ReadingFacts.{digit_in-letter}
+use Rattle.id_digits.specs.DigestLengths.{is_digest_len}
+use Rattle.id_digits.specs.LetterValues.{lane_of, value_of, values_of, is_digit, packed}
+use Rattle.id_digits.specs.Reading.{digit_below, digit_in, digits_read, put_digit}
+use Rattle.id_digits.proofs.LanePacking.{length-packed, digits_of-packed, packed-take, packed-drop}
+
+-- a digit that is found is below the number of those that were tried
+found_below : (c n d : ℕ) → digit_below hex_letter c n ≡ Some d → d < n
+unfolding digit_below
+found_below c zero d h = cc h
+found_below c (suc n) d h = let more = found_below c n d in grind (arith, nat_tests, more)
 
 -- values that are all digits, and none where one is not
 abbrev all_digits : List ℕ → Option (List ℕ)
@@ -20,9 +27,11 @@ all_digits values = if list_all is_digit values then Some values else None
 -- one letter before others
 put_value : (c : ℕ) (found : Option ℕ) (values : List ℕ) → digit_in hex_letter c ≡ found
     → put_digit found (all_digits values) ≡ all_digits (value_of c ∷ values)
-put_value c None values h = rw h refl
+put_value c None values h =
+    let large : ltb (16 + (lane_of c - 16)) 16 ≡ false = grind (arith, nat_tests) in
+    rw (h, large) refl
 put_value c (Some d) values h =
-    let small : ltb d 16 ≡ true = grind (arith, nat_tests, (digit_in-letter hex_letter c d h).digit) in
+    let small : ltb d 16 ≡ true = grind (arith, nat_tests, found_below c 16 d h) in
     rw (h, small) (go (list_all is_digit values))
   where
     go : (b : Bool) → put_digit (Some d) (if b then Some values else None) ≡ (if b then Some (d ∷ values) else None)
@@ -55,6 +64,13 @@ all-overlapped p (suc m) (suc n) (x ∷ xs) h = step (p x) _ _ _ (all-overlapped
     step true a r s e = e
     step false a r s e = refl
 
+-- sixteen bytes stored at a place
+stored_at : (at : ℕ) (buffer lanes : List ℕ) → length lanes ≡ 16 → at + 16 ≤ length buffer
+    → put_chunk at buffer lanes ≡ take at buffer ++ lanes ++ drop (at + 16) buffer
+stored_at at buffer lanes long room =
+    put_chunk_is at buffer lanes (omega arith)
+    ∙ rw (long, drop-drop 16 at buffer) (sym (append_assoc (take at buffer) lanes (drop (at + 16) buffer)))
+
 -- lanes stored behind the first sixteen bytes, from the first of them that has its place there
 pub rest_stored : (n : ℕ) (old lanes : List ℕ) → length lanes ≡ 16 → length old ≡ n → 16 ≤ n → n ≤ 32
     → take 16 old ++ (take (16 - (32 - n)) (drop (32 - n) lanes) ++ post_of 16 (n - 16) old) ≡ take 16 old ++ drop (32 - n) lanes
@@ -63,52 +79,107 @@ rest_stored n old lanes many long least most =
     let none : post_of 16 (n - 16) old ≡ [] = nil_from_length _ (omega (arith, length-drop (n - 16) (drop 16 old), length-drop 16 old)) in
     rw (all, none) (ap (λ l. take 16 old ++ l) (append-nil (drop (32 - n) lanes)))
 
--- a text of so many bytes, of which the first sixteen were packed, and the last sixteen
-module _ (k : ℕ) (text old front back : List ℕ) (all : length old ≡ k + 16) (few : k ≤ 16) (two : length text ≡ 2 * length old)
-    (of_front : front ≡ values_of (take 32 text)) (of_back : back ≡ values_of (take 32 (drop (length text - 32) text))) where
-  -- the values of the first letters are the first values
-  first_values : front ≡ take 32 (values_of text)
-  first_values = of_front ∙ sym (take-map value_of 32 text)
+-- the values of sixteen letters
+pub sixteen : (i : ℕ) (text : List ℕ) → values_of (take 16 (drop i text)) ≡ take 16 (drop i (values_of text))
+sixteen i text = sym (take-map value_of 16 (drop i text)) ∙ ap (take 16) (sym (drop-map value_of i text))
 
-  -- and those of the last letters the last
-  last_values : back ≡ drop (2 * k) (values_of text)
-  last_values =
-      let from : length text - 32 ≡ 2 * k = omega arith in
-      let rest = take_all 32 (drop (length text - 32) text) (omega (arith, length-drop (length text - 32) text)) in
-      of_back ∙ ap values_of rest ∙ ap (λ n. values_of (drop n text)) from ∙ sym (drop-map value_of (2 * k) text)
+-- and of the first thirty-two
+pub first_values : (text first second : List ℕ) → first ≡ values_of (take 16 text) → second ≡ values_of (take 16 (drop 16 text))
+    → first ++ second ≡ take 32 (values_of text)
+first_values text first second is also =
+    ap₂ (λ a b. a ++ b) (is ∙ sixteen 0 text) (also ∙ sixteen 16 text) ∙ sym (take-add 16 16 (values_of text))
 
-  -- the two together are digits where all values are
-  pub tested : (front_reads back_reads : Bool) → front_reads ≡ list_all is_digit front → back_reads ≡ list_all is_digit back
-      → (front_reads && back_reads) ≡ list_all is_digit (values_of text)
-  tested front_reads back_reads reads read =
-      ap₂ (λ a b. a && b) (reads ∙ ap (list_all is_digit) first_values) (read ∙ ap (list_all is_digit) last_values)
-      ∙ all-overlapped is_digit (2 * k) 32 (values_of text) (omega arith)
+-- where both of two lists are digits, so are they together
+pub both_digits : (p : ℕ → Bool) (xs ys all : List ℕ) → xs ++ ys ≡ all → (list_all p xs && list_all p ys) ≡ list_all p all
+both_digits p xs ys all is = sym (list_all-append p xs ys) ∙ ap (list_all p) is
 
-  -- and what was stored is packed of all values
-  pub stored : (first last bytes : List ℕ) → first ≡ packed front → last ≡ packed back
-      → bytes ≡ take 16 (put_chunk 0 old first) ++ drop (32 - length (put_chunk 0 old first)) last → bytes ≡ packed (values_of text)
-  stored first last bytes packs pack is =
-      let whole = packed (values_of text) in
-      let count : length whole ≡ k + 16 = length-packed (k + 16) (values_of text) (length-map text value_of ∙ omega arith) in
-      let front_bytes : first ≡ take 16 whole = packs ∙ ap packed first_values ∙ packed-take 16 (values_of text) in
-      let back_bytes : last ≡ drop k whole =
-      pack ∙ ap packed (last_values ∙ ap (λ n. drop n (values_of text)) (sym (twice-is k))) ∙ packed-drop k (values_of text) in
-      let sixteen : length first ≡ 16 = ap length front_bytes ∙ length-take-le 16 whole (omega arith) in
-      let kept : take 16 (put_chunk 0 old first) ≡ take 16 whole =
-      ap (take 16) (stored_at 0 old first sixteen (omega arith)) ∙ take_at first (drop 16 old) 16 sixteen ∙ front_bytes in
-      let shared : 32 - length (put_chunk 0 old first) ≡ 16 - k = omega (arith, length-put_chunk 0 old first) in
-      let to_sixteen : k + (16 - k) ≡ 16 = omega arith in
-      let rest : drop (32 - length (put_chunk 0 old first)) last ≡ drop 16 whole =
-      ap₂ (λ n l. drop n l) shared back_bytes ∙ drop-drop (16 - k) k whole ∙ ap (λ n. drop n whole) to_sixteen in
-      is ∙ ap₂ (λ a b. a ++ b) kept rest ∙ take-append-drop 16 whole
+once : (b : Bool) → (b && b) ≡ b
+once true = refl
+once false = refl
+
+-- a text of 40 letters or 64, of which the first thirty-two were read, and what is behind them: of 40 letters the last sixteen, twice
+module _ (n : ℕ) (text third last : List ℕ) (digest : IsTrue (is_digest_len n)) (two : length text ≡ 2 * n)
+    (of_third : third ≡ values_of (take 16 (drop (min (length text - 16) 32) text))) (of_last : last ≡ values_of (take 16 (drop (length text - 16) text))) where
+  abbrev pub values : List ℕ
+  values = values_of text
+
+  count : length values ≡ 2 * n
+  count = length-map text value_of ∙ two
+
+  -- the last of 40
+  last_of_40 : (from : ℕ) (lanes : List ℕ) → n ≡ 20 → from ≡ 24 → lanes ≡ values_of (take 16 (drop from text)) → lanes ≡ drop 24 values
+  last_of_40 from lanes is there of =
+      of ∙ sixteen from text ∙ ap (λ k. take 16 (drop k values)) there ∙ take_all 16 (drop 24 values) (omega (arith, length-drop 24 values, count))
+
+  -- the last two of 64
+  last_of_64 : n ≡ 32 → third ++ last ≡ drop 32 values
+  last_of_64 is =
+      let from : min (length text - 16) 32 ≡ 32 = omega arith in
+      let end : length text - 16 ≡ 48 = omega arith in
+      ap₂ (λ a b. a ++ b) (of_third ∙ sixteen _ text ∙ ap (λ k. take 16 (drop k values)) from)
+      (of_last ∙ sixteen _ text ∙ ap (λ k. take 16 (drop k values)) end ∙ ap (take 16) (sym (drop-drop 16 32 values)))
+      ∙ sym (take-add 16 16 (drop 32 values)) ∙ take_all 32 (drop 32 values) (omega (arith, length-drop 32 values, count))
+
+  -- all are digits where the first thirty-two are and those behind
+  pub tested : (front : Bool) → front ≡ list_all is_digit (take 32 values) → (front && (list_all is_digit third && list_all is_digit last)) ≡ list_all is_digit values
+  tested front is = by_len (eqb n 20) refl
+    where
+      by_len : (b : Bool) → eqb n 20 ≡ b → (front && (list_all is_digit third && list_all is_digit last)) ≡ list_all is_digit values
+      by_len true e =
+          let short = eqb-true n 20 e in
+          let from : min (length text - 16) 32 ≡ 24 = omega arith in
+          let end : length text - 16 ≡ 24 = omega arith in
+          ap₂ (λ a b. a && b) is
+          (ap₂ (λ a b. list_all is_digit a && list_all is_digit b) (last_of_40 _ third short from of_third) (last_of_40 _ last short end of_last)
+          ∙ once (list_all is_digit (drop 24 values)))
+          ∙ all-overlapped is_digit 24 32 values (omega arith)
+      by_len false e =
+          let long : n ≡ 32 = grind (arith, nat_tests, digest, e) in
+          ap₂ (λ a b. a && b) is (both_digits is_digit third last (drop 32 values) (last_of_64 long))
+          ∙ all-overlapped is_digit 32 32 values (omega arith)
+
+  -- and the last bytes are packed of what is behind them
+  pub packed_behind : drop (32 - n) (packed (third ++ last)) ≡ drop 16 (packed values)
+  packed_behind = by_len (eqb n 20) refl
+    where
+      by_len : (b : Bool) → eqb n 20 ≡ b → drop (32 - n) (packed (third ++ last)) ≡ drop 16 (packed values)
+      by_len true e =
+          let short = eqb-true n 20 e in
+          let from : min (length text - 16) 32 ≡ 24 = omega arith in
+          let end : length text - 16 ≡ 24 = omega arith in
+          let cut : 32 - n ≡ 12 = omega arith in
+          let is_third = last_of_40 _ third short from of_third in
+          let is_last = last_of_40 _ last short end of_last in
+          let wide : length third ≡ 16 = ap length is_third ∙ omega (arith, length-drop 24 values, count) in
+          ap (λ k. drop k (packed (third ++ last))) cut ∙ sym (packed-drop 12 (third ++ last))
+          ∙ ap packed (sym (drop-drop 8 16 (third ++ last)) ∙ ap (drop 8) (drop_at third last 16 wide ∙ is_last) ∙ drop-drop 8 24 values)
+          ∙ packed-drop 16 values
+      by_len false e =
+          let long : n ≡ 32 = grind (arith, nat_tests, digest, e) in
+          let cut : 32 - n ≡ 0 = omega arith in
+          ap (λ k. drop k (packed (third ++ last))) cut ∙ ap packed (last_of_64 long) ∙ packed-drop 16 values
+
+  -- what was stored is packed of all values
+  pub stored : (old first front_bytes bytes : List ℕ) → length old ≡ n → first ≡ take 32 values → front_bytes ≡ packed first
+      → bytes ≡ take 16 (put_chunk 0 old front_bytes) ++ drop (32 - length (put_chunk 0 old front_bytes)) (packed (third ++ last)) → bytes ≡ packed values
+  stored old first front_bytes bytes size is packs are =
+      let least : 16 ≤ n = grind (arith, nat_tests, digest) in
+      let whole = packed values in
+      let long : length whole ≡ n = length-packed n values count in
+      let front : front_bytes ≡ take 16 whole = packs ∙ ap packed is ∙ packed-take 16 values in
+      let wide : length front_bytes ≡ 16 = ap length front ∙ length-take-le 16 whole (omega arith) in
+      let kept : take 16 (put_chunk 0 old front_bytes) ≡ take 16 whole =
+      ap (take 16) (stored_at 0 old front_bytes wide (omega arith)) ∙ take_at front_bytes (drop 16 old) 16 wide ∙ front in
+      let shared : 32 - length (put_chunk 0 old front_bytes) ≡ 32 - n = omega (arith, length-put_chunk 0 old front_bytes) in
+      are ∙ ap₂ (λ a b. a ++ b) kept (ap (λ k. drop k (packed (third ++ last))) shared ∙ packed_behind) ∙ take-append-drop 16 whole
 
 -- a text reads as the digits of the bytes that are packed of its values, where all of these are digits
-pub read_packed : (n : ℕ) (text bytes : List ℕ) → length text ≡ 2 * n → list_all is_digit (values_of text) ≡ true → bytes ≡ packed (values_of text)
-    → digits_read hex_letter text ≡ Some (digits_of bytes)
-read_packed n text bytes two all is =
-    digits_read-values text
-    ∙ rw (all, is) (ap Some (sym (digits_of-packed n (values_of text) (length-map text value_of ∙ two) all)))
-
--- and as none where one is not
-pub read_none : (text : List ℕ) → list_all is_digit (values_of text) ≡ false → digits_read hex_letter text ≡ None
-read_none text one = digits_read-values text ∙ rw one refl
+pub read_values : (n : ℕ) (text bytes : List ℕ) (all : Bool) → length text ≡ 2 * n → all ≡ list_all is_digit (values_of text) → bytes ≡ packed (values_of text)
+    → digits_read hex_letter text ≡ (if all then Some (digits_of bytes) else None)
+read_values n text bytes all two tests is = digits_read-values text ∙ by (list_all is_digit (values_of text)) refl all tests
+  where
+    by : (b : Bool) → list_all is_digit (values_of text) ≡ b → (all : Bool) → all ≡ list_all is_digit (values_of text)
+        → all_digits (values_of text) ≡ (if all then Some (digits_of bytes) else None)
+    by true reads all tests =
+        rw (tests, reads, is) (ap Some (sym (digits_of-packed n (values_of text) (length-map text value_of ∙ two) reads)))
+    by false reads all tests = rw (tests, reads) refl

@@ -1,12 +1,13 @@
 -- The values of letters, computed lane by lane.
-use Rattle.std.proofs.Common.{◌≡◌, ℕ, ◌+◌, ◌*◌, ◌%◌, ◌^◌, ◌≤◌, Bool, true, false, not, ◌&&◌, cond, eqb, List, [], ◌∷◌, map, length, refl, ap, ap₂, ◌∙◌, arith, w8, Fits, eqb-true}
+use Rattle.std.proofs.Common.{◌≡◌, ℕ, ◌+◌, ◌*◌, ◌%◌, ◌^◌, ◌≤◌, Bool, true, false, not, ◌&&◌, cond, eqb, ltb, List, [], ◌∷◌, map, length, refl, ap, ap₂, ◌∙◌, arith, w8, Fits, eqb-true}
 use Rattle.std.proofs.lemmas.Bool.{agree_below, agree_below_at}
 use Rattle.std.proofs.lemmas.Bool.Decides.{nat_tests}
 use Rattle.std.proofs.lemmas.List.{length-map}
-use Rattle.std.proofs.lemmas.Simd.{map-map, mask_l-mod}
+use Rattle.std.proofs.lemmas.Simd.{map-map, mask_l-mod, tops_compared}
 use Rattle.std.specs.List.{list_all}
 use Rattle.std.specs.Prelude.{nat_eq}
-use Rattle.std.specs.Simd.Lanes.{sel_l, mask_l, top, Each1}
+use Rattle.std.specs.Simd.Lanes.{sel_l, mask_l, top, zip2, Each1}
+use Rattle.id_digits.specs.LetterValues.{is_digit}
 
 -- lanes chosen between two maps by a map of tests
 sel_l-map : (m : ℕ → Bool) (g h : ℕ → ℕ) (v : List ℕ) → sel_l (map m v) (map g v) (map h v) ≡ map (λ x. cond (m x) (g x) (h x)) v
@@ -49,3 +50,30 @@ all_clear f q v p few fits all =
     go : (v : List ℕ) → Each1 (Fits w8) v → list_all (λ x. not (top 7 (f x))) v ≡ list_all q v
     go [] h = refl
     go (x ∷ v) h = ap₂ (λ a r. a && r) (agree_below_at (λ x. not (top 7 (f x))) q 256 x all h.0.fits) (go v h.1)
+
+-- the greater of two values is a digit just where both are
+greater_digit : (x y : ℕ) → is_digit (cond (ltb x y) y x) ≡ (is_digit x && is_digit y)
+greater_digit x y = by_test (ltb x y) refl
+  where
+    by_test : (b : Bool) → ltb x y ≡ b → is_digit (cond b y x) ≡ (is_digit x && is_digit y)
+    by_test true less = grind (arith, nat_tests, less)
+    by_test false less = grind (arith, nat_tests, less)
+
+-- and so it is of lanes
+pub greater_digits : (xs ys : List ℕ) → length xs ≡ length ys
+    → list_all is_digit (sel_l (map (top 7) (zip2 (λ a b. cond (ltb a b) 255 0) xs ys)) ys xs) ≡ (list_all is_digit xs && list_all is_digit ys)
+greater_digits xs ys same = ap (λ ms. list_all is_digit (sel_l ms ys xs)) (tops_compared w8 ltb xs ys) ∙ go xs ys same
+  where
+    in_turn : (a b r s : Bool) → ((a && b) && (r && s)) ≡ ((a && r) && (b && s))
+    in_turn true true r s = refl
+    in_turn true false true s = refl
+    in_turn true false false s = refl
+    in_turn false b r s = refl
+
+    go : (xs ys : List ℕ) → length xs ≡ length ys → list_all is_digit (sel_l (zip2 ltb xs ys) ys xs) ≡ (list_all is_digit xs && list_all is_digit ys)
+    go [] [] e = refl
+    go [] (y ∷ ys) e = absurd (omega arith)
+    go (x ∷ xs) [] e = absurd (omega arith)
+    go (x ∷ xs) (y ∷ ys) e =
+        ap₂ (λ a r. a && r) (greater_digit x y) (go xs ys (omega arith))
+        ∙ in_turn (is_digit x) (is_digit y) (list_all is_digit xs) (list_all is_digit ys)

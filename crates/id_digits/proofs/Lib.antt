@@ -1,11 +1,7 @@
 mod CommonBytes
 pub mod DigitNumbers
 mod FirstWords
-mod FrontReading
-mod LaneHalves
-mod LaneLetters
 mod LanePacking
-mod LanePlaces
 mod LaneReading
 mod LaneValues
 mod Masks

@@ -1,19 +1,11 @@
 -- Spellings: their lengths, letters and beginnings.
-use Rattle.std.proofs.Common.{◌++◌, ◌≤◌, ◌≡◌, ℕ, ◌/◌, ◌%◌, ◌<◌, ◌==◌, true, List, [], ◌∷◌, length, slice_index, take, min, refl, ap, ◌∙◌, arith, eqb-true}
+use Rattle.std.proofs.Common.{◌++◌, ◌≤◌, ◌≡◌, ℕ, ◌/◌, ◌%◌, ◌<◌, List, [], ◌∷◌, length, take, min, ap, ◌∙◌, arith}
 use Rattle.std.specs.Prelude.{IsAscii, All}
-use Rattle.std.proofs.lemmas.Bool.{agree_below_at}
 use Rattle.std.proofs.lemmas.List.{length-map, take_min, take-map, take-append-le}
 use Rattle.std.proofs.lemmas.List.Elements.{All-nil, All-cons, All-head, All-tail}
 use Rattle.std.proofs.lemmas.Str.Ascii.{IsAscii-nil, IsAscii-cons}
 use Rattle.std.proofs.lemmas.Bool.Decides.{nat_tests}
-use Rattle.hex.specs.Hex.{lower_digits}
 use Rattle.id_digits.specs.Digits.{digits_of, spelling, hex_letter}
-
--- a digit's letter stands at the digit's place among the letters
-pub hex_letter-table : (d : ℕ) → d < 16 → slice_index lower_digits d ≡ hex_letter d
-hex_letter-table d h =
-    eqb-true (slice_index lower_digits d) (hex_letter d)
-    (agree_below_at (λ k. slice_index lower_digits k == hex_letter k) (λ k. true) 16 d refl h)
 
 -- a spelling has a letter a digit
 pub length-spelling : (letter : ℕ → ℕ) (ds : List ℕ) → length (spelling letter ds) ≡ length ds

@@ -1,9 +1,9 @@
 //! The digits of digests, over their bytes.
 //!
-//! A byte is two digits below 16, the high half first. Digits are spelled in hex letters, or in the
-//! letters z down to k, in which Jujutsu spells change ids; they are packed with zeros behind them,
-//! and compared as numbers of 128 bits. Digests are ordered by their digits, and the digits that two
-//! of them share are counted.
+//! A byte is two digits below 16, the high half first. Their letters are those of hex, or z down to k,
+//! in which Jujutsu spells change ids. Digits are packed with zeros behind them, and compared as
+//! numbers of 128 bits. Digests are ordered by their digits, and the digits that two of them share are
+//! counted.
 #![tactic(auto)]
 
 mod common;
@@ -11,13 +11,11 @@ mod copying;
 mod order;
 mod reading;
 mod reverse;
-mod spelling;
 mod words;
 
 pub use common::common_digits;
 pub use copying::copy_digits;
 pub use order::digest_cmp;
-pub use reading::{NotDigits, read_digest, read_front};
+pub use reading::read_digest;
 pub use reverse::{to_hex_letters, to_reverse_letters};
-pub use spelling::spell_hex;
 pub use words::Words;

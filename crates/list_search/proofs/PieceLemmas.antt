@@ -345,13 +345,3 @@ module _ (ids : List ObjectId) (kept : List ℕ) (len : ℕ) (text piece : List 
   line_pushed new_ids new_kept pushed =
       subst (HasTaken new_ids new_kept len) (line_behind [] ∙ append-nil (text ++ take next piece))
       (ended_taken ids (take 64 takes.line) (length takes.line) ((text ++ take at piece) ++ takes.line) begun new_ids new_kept len id takes.reads pushed empty)
-
-  -- or memory ran out
-  pub line_not_pushed : (more : List ℕ) → RefusesList ((text ++ piece) ++ more) Memory
-  unfolding begun begun_taken
-  line_not_pushed more =
-      let whole : (text ++ take next piece) ++ (drop next piece ++ more) ≡ (text ++ piece) ++ more =
-      sym (append_assoc (text ++ take next piece) (drop next piece) more)
-      ∙ ap (λ r. r ++ more) (append_assoc text (take next piece) (drop next piece) ∙ ap (λ r. text ++ r) (take-append-drop next piece)) in
-      subst (λ t. IsFirstRead (lines_of t)) (line_behind (drop next piece ++ more) ∙ whole)
-      (first_read-taken ids (take 64 takes.line) (length takes.line) ((text ++ take at piece) ++ takes.line) begun (drop next piece ++ more) (rw takes.reads refl))

@@ -104,8 +104,8 @@ impl<A: Allocator> ListReader<A> {
         self.ids.clear();
     }
 
-    // Takes the line that begins at this place, where the piece has all of it and it is an id, and
-    // else the byte there. Answers the place behind.
+    // Takes the lines that begin at this place, where the piece has all of the first and it is an id,
+    // and else the byte there. Answers the place behind.
     #[inline(always)]
     fn take_some(&mut self, piece: &[u8], at: usize) -> Result<usize, ListError>
         requires place { at < length piece.now }
@@ -125,14 +125,67 @@ impl<A: Allocator> ListReader<A> {
             (text ++ take at piece.now)
             → RefusesList ((text ++ piece.now) ++ more) e) }
     {
-        if self.len == 0 {
-            if let Some((id, next)) = whole_line(piece, at) {
-                self.ids.push(id)?;
-                return Ok(next);
-            }
+        let behind = self.take_lines(piece, at);
+        if behind > at {
+            return Ok(behind);
         }
         self.take_byte(piece[at])?;
         Ok(at + 1)
+    }
+
+    // Takes lines from this place on, if no line is begun, as long as the piece has all of the next, it
+    // is an id and there is room for it: first those of SHA-1, then those of SHA-256. Answers the place
+    // behind them.
+    #[inline(always)]
+    fn take_lines(&mut self, piece: &[u8], at: usize) -> usize
+        requires { at ≤ length piece.now }
+        ensures onward { (at ≤ result) × (result ≤ length piece.now) }
+        ensures ok { (earlier : List ObjectId) (text : List ℕ)
+            → HasTaken (earlier ++ self.old.ids.items) self.old.line self.old.len
+            (text ++ take at piece.now)
+            → HasTaken (earlier ++ self.new.ids.items) self.new.line self.new.len
+            (text ++ take result piece.now) }
+        ensures dropped { self.new.dropped ≡ self.old.dropped }
+        ensures short { length self.new.ids.items + self.new.len + at
+            ≤ length self.old.ids.items + self.old.len + result }
+    {
+        if self.len > 0 {
+            return at;
+        }
+        // A refusal is told once the line that wants the room was taken byte by byte.
+        if self.ids.reserve(1).is_err() {
+            return at;
+        }
+        let middle = self.fill_room(Kind::Sha1, piece, at);
+        self.fill_room(Kind::Sha256, piece, middle)
+    }
+
+    // As `take_lines`, of ids of the kind alone. Nothing is called in its loop, so that what the reading
+    // of a line wants stays in registers.
+    #[inline(always)]
+    fn fill_room(&mut self, kind: Kind, piece: &[u8], at: usize) -> usize
+        requires place { at ≤ length piece.now }
+        requires begun { self.old.len ≡ 0 }
+        ensures onward { (at ≤ result) × (result ≤ length piece.now) }
+        ensures ok { (earlier : List ObjectId) (text : List ℕ)
+            → HasTaken (earlier ++ self.old.ids.items) self.old.line self.old.len
+            (text ++ take at piece.now)
+            → HasTaken (earlier ++ self.new.ids.items) self.new.line self.new.len
+            (text ++ take result piece.now) }
+        ensures begun { self.new.len ≡ 0 }
+        ensures dropped { self.new.dropped ≡ self.old.dropped }
+        ensures short { length self.new.ids.items + self.new.len + at
+            ≤ length self.old.ids.items + self.old.len + result }
+    {
+        let mut place = at;
+        while self.ids.len() < self.ids.capacity() {
+            let Some((id, next)) = line_of(kind, piece, place) else {
+                break;
+            };
+            self.ids.push_reserved(id);
+            place = next;
+        }
+        place
     }
 
     fn take_byte(&mut self, byte: u8) -> Result<(), ListError>
@@ -208,20 +261,8 @@ fn keep_byte(kept: &mut [u8; MAX_DIGITS], len: usize, byte: u8)
     }
 }
 
-// The id of the line that begins at this place, and the place behind its line feed.
-#[inline(always)]
-fn whole_line(piece: &[u8], at: usize) -> Option<(ObjectId, usize)>
-    requires { at ≤ length piece.now }
-    ensures { IfSome result (λ found. TakesLine piece.now at found.1 found.0) }
-{
-    match line_of(Kind::Sha1, piece, at) {
-        Some(found) => Some(found),
-        None => line_of(Kind::Sha256, piece, at),
-    }
-}
-
-// As `whole_line`, of an id of the kind. No line feed is looked for: where one stands among the
-// digits they read as no id.
+// The id of the kind in the line that begins at this place, and the place behind its line feed. No
+// line feed is looked for: where one stands among the digits they read as no id.
 #[inline(always)]
 fn line_of(kind: Kind, piece: &[u8], at: usize) -> Option<(ObjectId, usize)>
     requires { at ≤ length piece.now }

@@ -1,6 +1,6 @@
 use Rattle.std.proofs.Common.{sym}
 use Rattle.gix_hash.proofs.SpellingLaws.{reverse_letter-table}
-use Rattle.id_digits.proofs.Spellings.{hex_letter-table}
+use Rattle.gix_hash.proofs.HexSpelling.{hex_letter-table}
 use Rattle.gix_hash.proofs.laws.letters.Goals as goal
 
 pub returns-clause-hex : goal.returns-clause-hex

@@ -7,4 +7,4 @@ use Rattle.id_digits.proofs.reading.are_digits.Goals as goal
 pub returns : goal.returns
 returns c =
     let v = c.args.values in
-    all_clear _ is_digit v (zip2_splat_left (λ a b. cond (leb a b) 255 0) 16 32 v c.fits-values.0) (omega (arith, c.fits-values.0)) c.fits-values.1 refl
+    all_clear _ is_digit v (zip2_splat_left (λ a b. cond (leb a b) 255 0) 16 16 v c.fits-values.0) (omega (arith, c.fits-values.0)) c.fits-values.1 refl

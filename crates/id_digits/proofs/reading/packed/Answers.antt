@@ -4,4 +4,4 @@ use Rattle.id_digits.proofs.reading.packed.Goals as goal
 
 pub returns : goal.returns
 unfolding packed
-returns c = packed-lanes c.args.values c.fits-values.0
+returns c = packed-lanes c.args.front c.args.back c.fits-front.0 c.fits-back.0

@@ -1,4 +1,4 @@
-use Rattle.std.proofs.Common.{ℕ, refl}
+use Rattle.std.proofs.Common.{ℕ, leb, cond, refl}
 use Rattle.std.proofs.lemmas.Simd.{zip2_splat, zip2_of_maps, splat_is_map}
 use Rattle.id_digits.specs.LetterValues.{value_of}
 use Rattle.id_digits.proofs.LaneValues.{selected, same_lanes}
@@ -11,11 +11,13 @@ returns c =
     let v = c.args.letters in
     let long = c.fits-letters.0 in
     same_lanes _ value_of v
+    (zip2_of_maps _ _ _ v
     (selected _ _ _ v
-    (zip2_of_maps _ _ _ v (zip2_splat {Y = ℕ} _ v 32 48 long) (splat_is_map v 32 10 long))
-    (zip2_splat {Y = ℕ} _ v 32 48 long)
+    (zip2_of_maps (λ (a b : ℕ). cond (leb a b) 255 0) _ _ v (splat_is_map v 16 128 long) (zip2_splat {Y = ℕ} _ v 16 58 long))
+    (zip2_splat {Y = ℕ} _ v 16 58 long)
     (selected _ _ _ v
-    (zip2_of_maps _ _ _ v (zip2_of_maps _ _ _ v (zip2_splat {Y = ℕ} _ v 32 32 long) (splat_is_map v 32 97 long)) (splat_is_map v 32 6 long))
-    (zip2_of_maps _ _ _ v (zip2_of_maps _ _ _ v (zip2_splat {Y = ℕ} _ v 32 32 long) (splat_is_map v 32 97 long)) (splat_is_map v 32 10 long))
-    (splat_is_map v 32 255 long)))
+    (zip2_of_maps _ _ _ v (zip2_of_maps _ _ _ v (zip2_splat {Y = ℕ} _ v 16 223 long) (splat_is_map v 16 65 long)) (splat_is_map v 16 245 long))
+    (zip2_of_maps _ _ _ v (zip2_splat {Y = ℕ} _ v 16 223 long) (splat_is_map v 16 65 long))
+    (splat_is_map v 16 245 long)))
+    (splat_is_map v 16 10 long))
     c.fits-letters.1 refl
