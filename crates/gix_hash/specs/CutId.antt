@@ -1,8 +1,11 @@
 -- What contracts see of an id that is printed cut, in either alphabet.
-use Rattle.std.specs.Prelude.{ℕ, List, take}
+use Rattle.std.specs.Prelude.{ℕ, Bool, List, ◌++◌, nat_eq, take}
+use Rattle.std.specs.Hash as fed
+use Rattle.std.specs.declared.cmp.Ordering.{Ordering}
+use Rattle.std.specs.Ordering.{nat_cmp, on, eq_of_both, then_cmp}
 use Rattle.gix_hash.specs.declared.borrowed.oid.{oid}
 use Rattle.gix_hash.specs.declared.display.CutId.{CutId}
-use Rattle.gix_hash.specs.Oid.{oid_digits}
+use Rattle.gix_hash.specs.Oid.{oid_digits, oid_eq, oid_cmp, oid_hash_input}
 
 -- an id, cut at so many digits
 abbrev pub cut_of : oid → ℕ → CutId
@@ -11,3 +14,15 @@ cut_of id hex_len = record { inner = id; hex_len = hex_len }
 -- the digits that are printed: all where more were asked for
 abbrev pub shown_digits : CutId → List ℕ
 shown_digits cut = take cut.hex_len (oid_digits cut.inner)
+
+-- `==` of displays: their ids are equal, and the numbers of digits asked for
+abbrev pub cut_eq : CutId → CutId → Bool
+cut_eq = eq_of_both (on (λ cut. cut.inner) oid_eq) (on (λ cut. cut.hex_len) nat_eq)
+
+-- the order of displays: by id, and then by the number of digits asked for
+abbrev pub cut_cmp : CutId → CutId → Ordering
+cut_cmp = then_cmp (on (λ cut. cut.inner) oid_cmp) (on (λ cut. cut.hex_len) nat_cmp)
+
+-- what a display feeds to a hash: what its id feeds, and then the number of digits asked for
+abbrev pub cut_hash_input : CutId → List (List ℕ)
+cut_hash_input cut = oid_hash_input cut.inner ++ fed.usize cut.hex_len

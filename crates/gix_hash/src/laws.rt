@@ -3,14 +3,16 @@
 
 ghost use Rattle.std.specs.Prelude.{◌≡◌, ◌≤◌, ◌<◌, ◌↔◌, ◌⊎◌, ◌+◌, ◌-◌, ◌/◌, ◌%◌, ◌^◌, ℕ, All, List, IsTrue, IsOk, IfOk, Some, None, [], codes, length, slice_index, MatchResult, Contains};
 ghost use Rattle.std.specs.declared.cmp.Ordering.{Ordering};
+ghost use Rattle.std.specs.Cmp.{IsEquivalence, IsTotalOrder};
 ghost use Rattle.std.specs.Cmp.Lexicographic.{slice_cmp};
 ghost use Rattle.std.specs.List.{list_any};
-ghost use Rattle.std.specs.Ordering.{nat_cmp, ordering_reverse};
+ghost use Rattle.std.specs.Ordering.{eq_by_cmp, nat_cmp, ordering_reverse};
 ghost use Rattle.std.specs.Str.{str_to_ascii_lowercase};
 ghost use Rattle.gix_hash.specs.IdDigits.{AreIdDigits, HasDigits};
 ghost use Rattle.gix_hash.specs.Alphabet.{letter_of};
 ghost use Rattle.id_digits.specs.Digits.{hex_letter, reverse_letter, spelling, ReadsAs, IsUnreadable};
 ghost use Rattle.gix_hash.specs.IdReading.{full_read, whole_of, IsFullReading, IsFullRefusal};
+ghost use Rattle.gix_hash.specs.CutId.{cut_cmp, cut_eq, cut_hash_input};
 ghost use Rattle.gix_hash.specs.Kind.{kind_of_hex_len};
 ghost use Rattle.gix_hash.specs.ObjectId.{id_digits, id_kind, id_eq, id_cmp, id_hash_input};
 ghost use Rattle.gix_hash.specs.Oid.{oid_digits, oid_kind, oid_eq, oid_cmp};
@@ -28,6 +30,7 @@ ghost use Rattle.gix_hash.specs.declared.prefix.from_hex.Error as from_hex;
 use crate::alphabet::Alphabet;
 use crate::borrowed::oid;
 use crate::change_id::ChangeId;
+use crate::display::{HexDisplay, ReverseHexDisplay};
 use crate::kind::Kind;
 use crate::object_id::ObjectId;
 use crate::prefix::Prefix;
@@ -208,6 +211,46 @@ pub fn compare_as_ids(first: &ChangeId, second: &ChangeId)
     ensures eq { ⟦<ChangeId as PartialEq>⟧.eq first.now second.now ≡ id_eq first.now second.now }
     ensures cmp { ⟦<ChangeId as Ord>⟧.cmp first.now second.now ≡ id_cmp first.now second.now }
     ensures hash_input { ⟦<ChangeId as Hash>⟧.hash_input first.now ≡ id_hash_input first.now }
+{}
+
+/// Displays in hex are equal if and only if their ids and the numbers of digits asked for are, are
+/// ordered by id and then by that number, and feed both to a hash.
+pub fn compare_hex_displays<'a>(first: &HexDisplay<'a>, second: &HexDisplay<'a>)
+    ensures eq { ⟦<HexDisplay<'a> as PartialEq>⟧.eq first.now second.now
+        ≡ cut_eq first.now second.now }
+    ensures cmp { ⟦<HexDisplay<'a> as Ord>⟧.cmp first.now second.now ≡ cut_cmp first.now second.now }
+    ensures hash_input { ⟦<HexDisplay<'a> as Hash>⟧.hash_input first.now ≡ cut_hash_input first.now }
+{}
+
+/// Displays in the letters `z` to `k` are equal and ordered as those in hex, and feed the same to a
+/// hash.
+pub fn compare_reverse_hex_displays<'a>(
+    first: &ReverseHexDisplay<'a>,
+    second: &ReverseHexDisplay<'a>,
+)
+    ensures eq { ⟦<ReverseHexDisplay<'a> as PartialEq>⟧.eq first.now second.now
+        ≡ cut_eq first.now second.now }
+    ensures cmp { ⟦<ReverseHexDisplay<'a> as Ord>⟧.cmp first.now second.now
+        ≡ cut_cmp first.now second.now }
+    ensures hash_input { ⟦<ReverseHexDisplay<'a> as Hash>⟧.hash_input first.now
+        ≡ cut_hash_input first.now }
+{}
+
+/// The order of owned ids is total, and two ids are equal if and only if it ties them, which is only
+/// if they are the same. So after a sort and a `dedup` each id of a list is below the next one, and
+/// the list contains the same ids as before.
+pub fn order_of_ids()
+    ensures total { IsTotalOrder id_cmp }
+    ensures equivalence { IsEquivalence id_eq }
+    ensures ties { (a b : ids.ObjectId) → id_eq a b ≡ eq_by_cmp id_cmp a b }
+    ensures same { (a b : ids.ObjectId) → IsTrue (id_eq a b) → a ≡ b }
+{}
+
+/// The order of views, of any kinds, is total, and two views are equal if and only if it ties them.
+pub fn order_of_views()
+    ensures total { IsTotalOrder oid_cmp }
+    ensures equivalence { IsEquivalence oid_eq }
+    ensures ties { (a b : borrowed.oid) → oid_eq a b ≡ eq_by_cmp oid_cmp a b }
 {}
 
 /// Within one kind owned ids have the order of their views.

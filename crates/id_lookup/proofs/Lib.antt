@@ -9,6 +9,7 @@ mod Kept
 mod Least
 mod Matched
 mod Neighbours
+mod OneKind
 mod Ordered
 mod Parts
 mod Placed

@@ -1,16 +1,19 @@
 //! Laws of look-ups that no single call carries. Each is the contract of a function.
 
-ghost use Rattle.std.specs.Prelude.{◌≡◌, ◌↔◌, ◌+◌, ◌++◌, ◌<◌, ℕ, List, IsTrue, flat_map, length};
+ghost use Rattle.std.specs.Prelude.{◌≡◌, ◌↔◌, ◌+◌, ◌++◌, ◌<◌, ℕ, List, All, IsTrue, flat_map, length, map};
+ghost use Rattle.std.specs.List.Sorted.{IsStrictlySortedBy};
 ghost use Rattle.std.specs.declared.cmp.Ordering.{Ordering};
+ghost use Rattle.gix_hash.specs.ObjectId.{id_cmp, id_digits, id_kind};
 ghost use Rattle.gix_hash.specs.Prefix.{KindDigits, BeginsWith, place};
 ghost use Rattle.id_lookup.specs.FoundRun.{IsRun};
+ghost use Rattle.id_lookup.specs.Index.{IsIndex};
 ghost use Rattle.id_lookup.specs.Runs.{begins_with, matches};
 ghost use Rattle.id_lookup.specs.Sorted.{IsSortedIds};
 ghost use Rattle.id_lookup.specs.declared.search.Run.{Run};
 
 use crate::ids::Id;
 use crate::index::{Answer, IdIndex};
-use gix_hash::Prefix;
+use gix_hash::{Kind, ObjectId, Prefix};
 
 /// The lowercase hex spelling of some digits begins with that of a prefix just where the digits
 /// begin with the prefix's, and just where the prefix's place against them is Equal.
@@ -43,4 +46,16 @@ pub fn find_own_name<I: Id>(index: &IdIndex<'_, I>, at: usize) -> Answer
     ensures { result ≡ Answer.One at }
 {
     index.find(&index.abbreviate(at))
+}
+
+/// Owned ids of which each is below the next one in their own order, as after a sort and a `dedup`,
+/// are an index of a kind if and only if each of them is of that kind.
+pub fn strictly_sorted(kind: Kind, ids: &[ObjectId])
+    ensures { IsStrictlySortedBy id_cmp ids.now
+        → IsIndex kind (map id_digits ids.now) ↔ All (λ id. id_kind id ≡ kind) ids.now }
+{
+    for id in ids {
+        // The contract of this call says how many digits the id has.
+        let _kind = id.kind();
+    }
 }

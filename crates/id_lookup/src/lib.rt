@@ -20,6 +20,7 @@ mod probes;
 mod search;
 mod short_names;
 mod sorted;
+mod sorting;
 
 pub use fan_out::FanOut;
 pub use ids::Id;
@@ -27,3 +28,4 @@ pub use index::{Answer, IdIndex, IndexError};
 pub use probes::Probes;
 pub use search::{Run, begins_with, bits_of, lookup, lookup_in};
 pub use sorted::{SortedIds, Unsorted};
+pub use sorting::sort_ids;

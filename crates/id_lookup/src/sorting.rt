@@ -1,0 +1,24 @@
+//! Sorting ids into the order in which they are looked up.
+
+ghost use Rattle.std.specs.Prelude.{map};
+ghost use Rattle.std.specs.List.Sorted.{IsPermutation};
+ghost use Rattle.id_lookup.specs.Sorted.{IsSortedIds};
+
+use crate::ids::Id;
+
+/// Sorts ids by their digits, whatever their kinds, as [`SortedIds::try_new`] takes them.
+///
+/// It works in place and takes no memory. The order of equal ids is not kept, which nobody can see.
+///
+/// ```
+/// sort_ids(&mut ids);
+/// let list = SortedIds::try_new(&ids)?;
+/// ```
+///
+/// [`SortedIds::try_new`]: crate::SortedIds::try_new
+pub fn sort_ids<I: Id>(ids: &mut [I])
+    ensures sorted { IsSortedIds (map I.digits ids.new) }
+    ensures permutation { IsPermutation ids.old ids.new }
+{
+    ids.sort_unstable_by(|a, b| a.as_oid().cmp(&b.as_oid()));
+}
