@@ -6,7 +6,8 @@ use Rattle.commands.specs.declared.command.Command.{Command}
 use Rattle.commands.specs.declared.command.Command.TheVariants.{Find, FindChange, FindIn, Hash, HashFile, Seal}
 use Rattle.pipes.specs.Printing.{printed}
 use Rattle.list_search.specs.Finding.{IsFound}
-use Rattle.pipes.specs.Pipe.{digest_line, sealed}
+use Rattle.gix_hash.specs.Hashing.{sealed}
+use Rattle.pipes.specs.Pipe.{digest_line}
 use Rattle.command_line.specs.Flushed.{all_written}
 use Rattle.commands.specs.Running.{IsFoundAtMost, Writes, Does, DoesAtMost}
 use Rattle.devices.specs.Writing.{Appends-kept}

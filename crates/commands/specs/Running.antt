@@ -3,6 +3,7 @@ use Rattle.std.specs.Prelude.{◌≡◌, ℕ, ◌^◌, ◌<◌, ◌≤◌, Bool,
 use Rattle.std.specs.Io.KnownBytes.{Appends}
 use Rattle.command_line.specs.Flushed.{AppendsAtMost}
 use Rattle.gix_hash.specs.Digits.{hex_letter, reverse_letter}
+use Rattle.gix_hash.specs.Hashing.{sealed}
 use Rattle.commands.specs.declared.command.Command.{Command}
 use Rattle.commands.specs.declared.command.Command.TheVariants.{Find, FindChange, FindIn, Hash, HashFile, Seal}
 use Rattle.list_search.specs.declared.FindError.TheVariants as found
@@ -18,7 +19,7 @@ use Rattle.pipes.specs.declared.PipeError.TheVariants as pipe
 use Rattle.pipes.specs.Printing.{printed}
 use Rattle.list_search.specs.Finding.{finding, IsFound}
 use Rattle.list_search.specs.FindingIn.{finding_in}
-use Rattle.pipes.specs.Pipe.{digest_line, sealed, SealingStops}
+use Rattle.pipes.specs.Pipe.{digest_line, SealingStops}
 
 -- a refusal of a pipe, as one of a command
 abbrev pub refusal_of_pipe : PipeError → CommandError

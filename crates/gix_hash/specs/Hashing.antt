@@ -1,8 +1,9 @@
--- Digests of messages, and what a hasher was fed.
-use Rattle.std.specs.Prelude.{ℕ, List}
+-- Digests of messages, bytes that end in the digest of all before it, and what a hasher was fed.
+use Rattle.std.specs.Prelude.{◌≡◌, ◌++◌, ℕ, List}
 use Rattle.sha1.specs.Sha1.{sha1, Holds}
 use Rattle.sha2.specs.Sha256.{sha256}
 use Rattle.sha2.specs.Hashers.{Holds256}
+use Rattle.gix_hash.specs.ObjectId.{id_bytes}
 use Rattle.gix_hash.specs.declared.hashing.state.Hasher.{Hasher}
 use Rattle.gix_hash.specs.declared.hashing.state.Hasher.TheVariants as hashers
 use Rattle.gix_hash.specs.declared.kind.Kind.{Kind}
@@ -14,6 +15,14 @@ use Rattle.gix_hash.specs.declared.object_id.ObjectId.TheVariants.{Sha1, Sha256}
 abbrev pub digest : Kind → List ℕ → ObjectId
 digest kinds.Sha1 message = Sha1 (sha1 message)
 digest kinds.Sha256 message = Sha256 (sha256 message)
+
+-- a message followed by the bytes of its digest
+abbrev pub sealed : Kind → List ℕ → List ℕ
+sealed kind message = message ++ id_bytes (digest kind message)
+
+-- the bytes are a message followed by its digest
+abbrev pub EndsInDigest : Kind → List ℕ → Type 0
+EndsInDigest kind bytes = (message : List ℕ) × (bytes ≡ sealed kind message)
 
 -- the kind of digest that a hasher computes
 abbrev pub hasher_kind : Hasher → Kind

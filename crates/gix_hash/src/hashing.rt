@@ -1,5 +1,6 @@
 //! Computing ids: why a hasher may give none.
 
+pub(crate) mod ending;
 pub(crate) mod start;
 pub(crate) mod state;
 

@@ -4,7 +4,8 @@
 //! [`Kind`] and a list of 40 or 64 digits. [`ObjectId`] owns its bytes, [`oid`] borrows them, and a
 //! [`Prefix`] is a beginning of an id's digits. A [`ChangeId`] is an id in Jujutsu's letters. A
 //! [`Hasher`] computes ids from bytes in pieces, [`digest_of`] from one piece, and [`bytes`],
-//! [`bytes_of_file`] and [`io::Write`] from what is read and written.
+//! [`bytes_of_file`] and [`io::Write`] from what is read and written. [`ends_in_digest`] tests the
+//! bytes of a pack or an index.
 #![tactic(auto)]
 
 mod alphabet;
@@ -36,6 +37,7 @@ pub use borrowed::oid;
 pub use change_id::ChangeId;
 pub use display::HexDisplay;
 pub use error::Error;
+pub use hashing::ending::ends_in_digest;
 pub use hashing::start::{digest_of, hasher};
 pub use hashing::state::Hasher;
 pub use io::file::bytes_of_file;

@@ -1,3 +1,4 @@
+mod AtTheEnd
 mod FoundInTexts
 mod IndexPlaces
 mod LineLemmas

@@ -7,12 +7,12 @@ use Rattle.std.specs.List.{slice_split}
 use Rattle.list_search.specs.Lines.{lines_of, is_line_feed, without_empty_last}
 
 -- behind a first part that is ended stand the other lines
-without_empty_last-cons : (part : List ℕ) (parts : List (List ℕ)) → parts ≢ [] → without_empty_last (part ∷ parts) ≡ part ∷ without_empty_last parts
+pub without_empty_last-cons : (part : List ℕ) (parts : List (List ℕ)) → parts ≢ [] → without_empty_last (part ∷ parts) ≡ part ∷ without_empty_last parts
 without_empty_last-cons part [] h = absurd (h refl)
 without_empty_last-cons part (next ∷ parts) h = refl
 
 -- a text has some part
-slice_split-some : (text : List ℕ) → slice_split is_line_feed text ≢ []
+pub slice_split-some : (text : List ℕ) → slice_split is_line_feed text ≢ []
 slice_split-some text e = absurd (omega (arith, length-slice_split is_line_feed text, ap length e))
 
 -- a text that begins with a line and its line feed

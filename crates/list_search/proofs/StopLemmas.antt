@@ -37,7 +37,7 @@ settled_map P Q old new follows settled = record {
 }
 
 -- what holds of all that was given is settled
-settled_all : (P : List ℕ → Type 0) (old new : Option (List ℕ)) (text : List ℕ) → GivesAll old new text → P text → IsSettled P old new
+pub settled_all : (P : List ℕ → Type 0) (old new : Option (List ℕ)) (text : List ℕ) → GivesAll old new text → P text → IsSettled P old new
 settled_all P old new text given holds = record {
   text = text;
   behind = [];
@@ -132,6 +132,17 @@ reading_not_output_in read.Input is = cc is
 reading_not_output_in read.TooMuch is = cc is
 reading_not_output_in (read.Refused (list.BadLine n e)) is = cc is
 reading_not_output_in (read.Refused list.Memory) is = cc is
+
+-- nor for another kind
+pub reading_same_kind : (other : Kind) (error : ReadError)
+    → ◌≡◌ {A = FindInFromError} (from_reading_in error) (in_kind.Search (found.OtherKind other)) → ⊥
+reading_same_kind other read.Input is = cc is
+reading_same_kind other read.TooMuch is = cc is
+reading_same_kind other (read.Refused (list.BadLine n e)) is = cc is
+reading_same_kind other (read.Refused list.Memory) is = cc is
+
+pub search_in : (d e : FindInError) → in_kind.Search d ≡ in_kind.Search e → d ≡ e
+search_in d e is = cc is
 
 pub search_error : {U : Type 0} (d e : FindInError) → ◌≡◌ {A = Result U FindInFromError} (Err (in_kind.Search d)) (Err (in_kind.Search e)) → d ≡ e
 search_error d e is = cc is

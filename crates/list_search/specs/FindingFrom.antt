@@ -28,6 +28,12 @@ pub record IsSettled (Holds : List ℕ → Type 0) (old new : Option (List ℕ))
   pub short : length text < 2 ^ 61
   pub holds : ((more : List ℕ) → Holds (text ++ more)) ⊎ (Holds text × IsAtEnd new × (behind ≡ []))
 
+-- a statement holds of all that the source gave, which is at its end
+pub record HoldsOfAll (Holds : List ℕ → Type 0) (old new : Option (List ℕ)) : Type 0 where
+  pub text : List ℕ
+  pub gives : GivesAll old new text
+  pub holds : Holds text
+
 -- the source gave fewer than 2^61 bytes, in which no bad line ended
 pub record GivesGoodLines (old new : Option (List ℕ)) : Type 0 where
   pub text : List ℕ

@@ -1,12 +1,13 @@
 //! Finding the ids of a list text that a source gives.
 
-ghost use Rattle.std.specs.Prelude.{◌≡◌, ◌≢◌, ◌↔◌, ℕ, List, true, false, IsErr, IfOk, IfErr, IsErrOf};
+ghost use Rattle.std.specs.Prelude.{◌≡◌, ◌≢◌, ◌↔◌, ℕ, List, Option, true, false, Err, IsErr, IfOk, IfErr, IsErrOf};
 ghost use Rattle.gix_hash.specs.Alphabet.{letter_of};
 ghost use Rattle.gix_hash.specs.Digits.{hex_letter, reverse_letter};
 ghost use Rattle.gix_hash.specs.PrefixReading.{prefix_read};
 ghost use Rattle.list_search.specs.Finding.{finding, IsFound};
-ghost use Rattle.list_search.specs.FindingFrom.{SearchStops};
+ghost use Rattle.list_search.specs.FindingFrom.{HoldsOfAll, SearchStops};
 ghost use Rattle.devices.specs.Source.{GivesAll};
+ghost use Rattle.list_search.specs.declared.finding.FindError.{FindError};
 ghost use Rattle.list_search.specs.declared.finding_from.FindFromError.{FindFromError};
 
 use crate::finding::FindError;
@@ -199,3 +200,20 @@ fn search_from<A: Allocator, R: Source, W: Sink>(
     write_ids(alphabet, &ids, out)?;
     Ok(ids.len())
 }
+
+/// A law: [`find_from`] and [`find_change_from`] return `Unsorted` or `PrefixTooLong` if and only if
+/// the source is at its end, and [`find`](crate::finding::find) or
+/// [`find_change`](crate::finding::find_change) does so of all that it gave. Before its end neither is
+/// certain, since a bad line that follows is reported first.
+pub fn unsorted_at_end(alphabet: Alphabet, prefix: &str)
+    ensures unsorted { (line : ℕ) (source source' sink sink' : Option (List ℕ))
+        → SearchStops (letter_of alphabet) prefix.now (FindFromError.Unsorted line) source source'
+        sink sink'
+        ↔ HoldsOfAll (λ text. finding (letter_of alphabet) prefix.now text
+        ≡ Err (FindError.Unsorted line)) source source' }
+    ensures prefix_too_long { (hex_len least : ℕ) (source source' sink sink' : Option (List ℕ))
+        → SearchStops (letter_of alphabet) prefix.now (FindFromError.PrefixTooLong hex_len least)
+        source source' sink sink'
+        ↔ HoldsOfAll (λ text. finding (letter_of alphabet) prefix.now text
+        ≡ Err (FindError.PrefixTooLong hex_len least)) source source' }
+{}

@@ -1,10 +1,10 @@
 //! Finding the ids of a list text of one kind that a source gives.
 
-ghost use Rattle.std.specs.Prelude.{◌≡◌, ◌≢◌, ◌↔◌, ℕ, List, true, false, IsErr, IfOk, IfErr, IsErrOf};
+ghost use Rattle.std.specs.Prelude.{◌≡◌, ◌≢◌, ◌↔◌, ℕ, List, Option, true, false, Err, IsErr, IfOk, IfErr, IsErrOf};
 ghost use Rattle.gix_hash.specs.Digits.{hex_letter};
 ghost use Rattle.gix_hash.specs.PrefixReading.{prefix_read_in};
 ghost use Rattle.list_search.specs.Finding.{IsFound};
-ghost use Rattle.list_search.specs.FindingFrom.{SearchStopsIn};
+ghost use Rattle.list_search.specs.FindingFrom.{HoldsOfAll, SearchStopsIn};
 ghost use Rattle.list_search.specs.FindingIn.{finding_in};
 ghost use Rattle.devices.specs.Source.{GivesAll};
 ghost use Rattle.list_search.specs.declared.finding_in.FindInError.{FindInError};
@@ -99,6 +99,8 @@ pub fn find_in_from<A: Allocator, R: Source, W: Sink>(
     ensures stopped { IfErr result (λ e.
         SearchStopsIn kind prefix.now e (R.remaining list.old) (R.remaining list.new)
         (W.taken out.old) (W.taken out.new)) }
+    ensures same_kind { IfErr result (λ e. (other : Kind)
+        → e ≢ FindInFromError.Search (FindInError.OtherKind other)) }
     ensures unread { IsErr (prefix_read_in kind hex_letter prefix.now) → list.new ≡ list.old }
     ensures untouched { IfErr result (λ e. e ≢ FindInFromError.Search FindInError.Output
         → out.new ≡ out.old) }
@@ -114,3 +116,19 @@ pub fn find_in_from<A: Allocator, R: Source, W: Sink>(
     write_ids(Alphabet::Hex, &ids, out)?;
     Ok(ids.len())
 }
+
+/// A law: [`find_in_from`] returns `WrongKind` or `NotRising` of a line if and only if the source is
+/// at its end, and [`find_in`](crate::finding_in::find_in) does so of all that it gave. Before its end
+/// neither is certain, since a bad line that follows is reported first.
+pub fn not_rising_at_end(kind: Kind, prefix: &str)
+    ensures wrong_kind { (line : ℕ) (source source' sink sink' : Option (List ℕ))
+        → SearchStopsIn kind prefix.now (FindInFromError.Search (FindInError.WrongKind line))
+        source source' sink sink'
+        ↔ HoldsOfAll (λ text. finding_in kind prefix.now text ≡ Err (FindInError.WrongKind line))
+        source source' }
+    ensures not_rising { (line : ℕ) (source source' sink sink' : Option (List ℕ))
+        → SearchStopsIn kind prefix.now (FindInFromError.Search (FindInError.NotRising line))
+        source source' sink sink'
+        ↔ HoldsOfAll (λ text. finding_in kind prefix.now text ≡ Err (FindInError.NotRising line))
+        source source' }
+{}

@@ -17,6 +17,6 @@ mod pieces;
 mod reading;
 
 pub use finding::{FindError, find, find_change, finding_means};
-pub use finding_from::{FindFromError, find_change_from, find_from};
+pub use finding_from::{FindFromError, find_change_from, find_from, unsorted_at_end};
 pub use finding_in::{FindInError, find_in, finding_in_means};
-pub use finding_in_from::{FindInFromError, find_in_from};
+pub use finding_in_from::{FindInFromError, find_in_from, not_rising_at_end};

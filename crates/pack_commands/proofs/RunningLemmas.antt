@@ -5,9 +5,10 @@ use Rattle.std.proofs.lemmas.List.{nil_from_length}
 use Rattle.std.specs.Io.KnownBytes.{Appends, Consumes, IsAtEnd, Keeps}
 use Rattle.devices.specs.Source.{GivesAll, GivesMore}
 use Rattle.devices.specs.Writing.{Appends-kept, AppendsPart}
+use Rattle.gix_hash.specs.Hashing.{sealed}
 use Rattle.gix_hash.specs.declared.Kind.{Kind}
 use Rattle.pack_index.specs.Format.{IsPackIndex}
-use Rattle.pipes.specs.Pipe.{digest_line, sealed}
+use Rattle.pipes.specs.Pipe.{digest_line}
 use Rattle.pipes.specs.Sealed.{CheckingStops, IsChecked}
 use Rattle.pipes.specs.declared.PipeError.{PipeError}
 use Rattle.pipes.specs.declared.PipeError.TheVariants as pipe

@@ -3,14 +3,14 @@ use Rattle.std.specs.Prelude.{◌≡◌, ◌⊎◌, ℕ, ◌^◌, ◌<◌, ◌�
 use Rattle.std.specs.List.{count_by}
 use Rattle.std.specs.Io.KnownBytes.{Appends}
 use Rattle.gix_hash.specs.Digits.{hex_letter}
+use Rattle.gix_hash.specs.Hashing.{sealed, EndsInDigest}
 use Rattle.gix_hash.specs.Prefix.{KindDigits}
 use Rattle.gix_hash.specs.PrefixReading.{prefix_read_in}
 use Rattle.gix_hash.specs.declared.Kind.{Kind}
 use Rattle.id_lookup.specs.Runs.{begins_with}
 use Rattle.pack_index.specs.Format.{IsPackIndex, names_in}
 use Rattle.pack_index.specs.Refusal.{opened}
-use Rattle.pipes.specs.Pipe.{digest_line, sealed}
-use Rattle.pipes.specs.Sealed.{IsSealed}
+use Rattle.pipes.specs.Pipe.{digest_line}
 use Rattle.command_line.specs.Flushed.{AppendsAtMost}
 use Rattle.pack_commands.specs.Lines.{found, shown}
 use Rattle.pack_commands.specs.Names.{named}
@@ -30,7 +30,7 @@ refusal_of_pipe pipe.TooMuch = command.TooMuch
 -- the bytes are a sealed message, and its digest's line is told; or they are none, and nothing is
 abbrev pub TellsDigest : Kind → List ℕ → ℕ → List ℕ → Type 0
 TellsDigest kind bytes count text = ((message : List ℕ) × (bytes ≡ sealed kind message) × (count ≡ 1) × (text ≡ digest_line kind message))
-    ⊎ ((¬ IsSealed kind bytes) × (count ≡ 0) × (text ≡ []))
+    ⊎ ((¬ EndsInDigest kind bytes) × (count ≡ 0) × (text ≡ []))
 
 -- what a command prints of all of its input, and the number that it answers
 abbrev pub Prints : Command → List ℕ → ℕ → List ℕ → Type 0

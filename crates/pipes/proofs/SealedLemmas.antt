@@ -8,12 +8,11 @@ use Rattle.std.proofs.Math.Seq.{take-add, take-append-add, take-append_seam, dro
 use Rattle.std.proofs.lemmas.List.{length-take, take-append-le}
 use Rattle.std.proofs.lemmas.List.Edits.{take-paste}
 use borrow.Rule.Slice.PartMut.{put_mid, post_of}
-use Rattle.gix_hash.specs.Hashing.{digest}
+use Rattle.gix_hash.specs.Hashing.{digest, EndsInDigest}
 use Rattle.gix_hash.specs.Kind.{byte_len_of}
 use Rattle.gix_hash.specs.ObjectId.{id_bytes}
 use Rattle.gix_hash.specs.declared.Kind.{Kind}
 use Rattle.gix_hash.specs.declared.Kind.TheVariants.{Sha1, Sha256}
-use Rattle.pipes.specs.Sealed.{IsSealed}
 
 -- the two parts of a list are told by the length of the second
 same_parts : (a b c d : List ℕ) → a ++ b ≡ c ++ d → length b ≡ length d → (a ≡ c) × (b ≡ d)
@@ -28,7 +27,7 @@ abbrev pub HaveLength : Kind → Type 0
 HaveLength kind = (message : List ℕ) → length (id_bytes (digest kind message)) ≡ byte_len_of kind
 
 -- of sealed bytes, the last, as many as a digest has, are the digest of those before them
-pub sealed-end : (kind : Kind) → HaveLength kind → (front tail : List ℕ) → length tail ≡ byte_len_of kind → IsSealed kind (front ++ tail)
+pub sealed-end : (kind : Kind) → HaveLength kind → (front tail : List ℕ) → length tail ≡ byte_len_of kind → EndsInDigest kind (front ++ tail)
     → tail ≡ id_bytes (digest kind front)
 sealed-end kind lens front tail len is_sealed =
     let message = is_sealed.0 in
@@ -36,7 +35,7 @@ sealed-end kind lens front tail len is_sealed =
     same.1 ∙ ap (λ (m : List ℕ). id_bytes (digest kind m)) (sym same.0)
 
 -- sealed bytes are no fewer than those of a digest
-pub sealed-length : (kind : Kind) → HaveLength kind → (bytes : List ℕ) → IsSealed kind bytes → byte_len_of kind ≤ length bytes
+pub sealed-length : (kind : Kind) → HaveLength kind → (bytes : List ℕ) → EndsInDigest kind bytes → byte_len_of kind ≤ length bytes
 sealed-length kind lens bytes is_sealed =
     let message = is_sealed.0 in
     omega (arith, ap length is_sealed.1, length-append message (id_bytes (digest kind message)), lens message)
@@ -47,8 +46,8 @@ byte_len_of-some Sha1 = omega arith
 byte_len_of-some Sha256 = omega arith
 
 -- of bytes that differ in the last alone, one list at most is sealed
-pub sealed-last : (kind : Kind) → HaveLength kind → (front : List ℕ) (byte other : ℕ) → IsSealed kind (front ++ byte ∷ [])
-    → IsSealed kind (front ++ other ∷ []) → other ≡ byte
+pub sealed-last : (kind : Kind) → HaveLength kind → (front : List ℕ) (byte other : ℕ) → EndsInDigest kind (front ++ byte ∷ [])
+    → EndsInDigest kind (front ++ other ∷ []) → other ≡ byte
 sealed-last kind lens front byte other first second =
     let at = length front + 1 - byte_len_of kind in
     let long = sealed-length kind lens (front ++ byte ∷ []) first in
@@ -63,15 +62,15 @@ sealed-last kind lens front byte other first second =
       long,
       byte_len_of-some kind,
     ) in
-    let digest_is : (last : ℕ) → IsSealed kind (front ++ last ∷ []) → drop at front ++ last ∷ [] ≡ id_bytes (digest kind (take at front)) =
-    λ last is_sealed. sealed-end kind lens (take at front) (drop at front ++ last ∷ []) (len last) (subst (IsSealed kind) (cut last) is_sealed) in
+    let digest_is : (last : ℕ) → EndsInDigest kind (front ++ last ∷ []) → drop at front ++ last ∷ [] ≡ id_bytes (digest kind (take at front)) =
+    λ last is_sealed. sealed-end kind lens (take at front) (drop at front ++ last ∷ []) (len last) (subst (EndsInDigest kind) (cut last) is_sealed) in
     let same = same_parts (drop at front) (other ∷ []) (drop at front) (byte ∷ []) (digest_is other second ∙ sym (digest_is byte first)) refl in
     let last : other ∷ [] ≡ byte ∷ [] = same.1 in
     cc
 
 -- bytes of which as many are held back as a digest has, or all of fewer, are not sealed if those held back are no digest of the others
 pub unsealed : (kind : Kind) → HaveLength kind → (message tail : List ℕ) (total held : ℕ) → length message + held ≡ total
-    → held ≡ min (byte_len_of kind) total → length tail ≡ held → id_bytes (digest kind message) ≢ tail → ¬ IsSealed kind (message ++ tail)
+    → held ≡ min (byte_len_of kind) total → length tail ≡ held → id_bytes (digest kind message) ≢ tail → ¬ EndsInDigest kind (message ++ tail)
 unsealed kind lens message tail total held counted is_held len differ is_sealed =
     let full : length tail ≡ byte_len_of kind =
     omega (arith, counted, is_held, len, length-append message tail, sealed-length kind lens (message ++ tail) is_sealed) in

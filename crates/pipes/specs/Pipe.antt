@@ -1,9 +1,9 @@
 -- What a pipe reads and writes until it ends or stops.
-use Rattle.std.specs.Prelude.{ℕ, Option, List, ◌++◌}
+use Rattle.std.specs.Prelude.{ℕ, Option, List}
 use Rattle.std.specs.Io.KnownBytes.{Appends}
 use Rattle.gix_hash.specs.Digits.{hex_letter}
-use Rattle.gix_hash.specs.Hashing.{digest}
-use Rattle.gix_hash.specs.ObjectId.{id_bytes, id_digits}
+use Rattle.gix_hash.specs.Hashing.{digest, sealed}
+use Rattle.gix_hash.specs.ObjectId.{id_digits}
 use Rattle.gix_hash.specs.declared.Kind.{Kind}
 use Rattle.pipes.specs.Printing.{line_of}
 use Rattle.devices.specs.Source.{Gives, GivesAll, GivesMore}
@@ -14,10 +14,6 @@ use Rattle.pipes.specs.declared.PipeError.TheVariants.{Input, Output, TooMuch}
 -- the line of a message's digest: its lowercase hex digits, and a line feed
 abbrev pub digest_line : Kind → List ℕ → List ℕ
 digest_line kind message = line_of hex_letter (id_digits (digest kind message))
-
--- a message, and the bytes of its digest behind it
-abbrev pub sealed : Kind → List ℕ → List ℕ
-sealed kind message = message ++ id_bytes (digest kind message)
 
 -- where hashing stops: what the source gave before, and what the sink took of the line
 abbrev pub HashingStops : PipeError → Kind → Option (List ℕ) → Option (List ℕ) → Option (List ℕ) → Option (List ℕ) → Type 0

@@ -1,23 +1,19 @@
--- Bytes that end with the digest of all before it, and what checking them reads and writes until it ends or stops.
+-- What checking whether bytes end in the digest of all before it reads and writes until it ends or stops.
 use Rattle.std.specs.Prelude.{◌≡◌, ◌⊎◌, ℕ, Option, Some, None, List}
 use Rattle.std.specs.Io.KnownBytes.{Appends}
-use Rattle.gix_hash.specs.Hashing.{digest}
+use Rattle.gix_hash.specs.Hashing.{digest, sealed, EndsInDigest}
 use Rattle.gix_hash.specs.declared.Kind.{Kind}
 use Rattle.gix_hash.specs.declared.ObjectId.{ObjectId}
 use Rattle.devices.specs.Source.{Gives, GivesAll, GivesMore}
 use Rattle.devices.specs.Writing.{AppendsPart}
-use Rattle.pipes.specs.Pipe.{digest_line, sealed}
+use Rattle.pipes.specs.Pipe.{digest_line}
 use Rattle.pipes.specs.declared.PipeError.{PipeError}
 use Rattle.pipes.specs.declared.PipeError.TheVariants.{Input, Output, TooMuch}
-
--- the bytes are those of some message, sealed
-abbrev pub IsSealed : Kind → List ℕ → Type 0
-IsSealed kind bytes = (message : List ℕ) × (bytes ≡ sealed kind message)
 
 -- the bytes are sealed and end with this digest, or are not sealed
 abbrev pub EndsWith : Kind → List ℕ → Option ObjectId → Type 0
 EndsWith kind bytes (Some id) = (message : List ℕ) × (bytes ≡ sealed kind message) × (id ≡ digest kind message)
-EndsWith kind bytes None = ¬ IsSealed kind bytes
+EndsWith kind bytes None = ¬ EndsInDigest kind bytes
 
 -- the bytes are a sealed message: one is told, and its digest's line was written
 pub record IsFoundSealed (kind : Kind) (bytes : List ℕ) (count : ℕ) (sink sink' : Option (List ℕ)) : Type 0 where
@@ -28,7 +24,7 @@ pub record IsFoundSealed (kind : Kind) (bytes : List ℕ) (count : ℕ) (sink si
 
 -- the bytes are no sealed message, and none is told
 pub record IsFoundUnsealed (kind : Kind) (bytes : List ℕ) (count : ℕ) : Type 0 where
-  pub not_sealed : ¬ IsSealed kind bytes
+  pub not_sealed : ¬ EndsInDigest kind bytes
   pub told : count ≡ 0
 
 -- the answer is right for the bytes

@@ -2,11 +2,9 @@
 //! computes nothing: a call of it brings the law into a caller's proof.
 
 ghost use Rattle.std.specs.Prelude.{◌≡◌, ◌≢◌, ◌↔◌, ◌≤◌, ℕ, List, [], ◌∷◌, ◌++◌, length};
-ghost use Rattle.gix_hash.specs.Hashing.{digest};
+ghost use Rattle.gix_hash.specs.Hashing.{digest, sealed, EndsInDigest};
 ghost use Rattle.gix_hash.specs.Kind.{byte_len_of};
 ghost use Rattle.gix_hash.specs.ObjectId.{id_bytes};
-ghost use Rattle.pipes.specs.Pipe.{sealed};
-ghost use Rattle.pipes.specs.Sealed.{IsSealed};
 
 use gix_hash::Kind;
 use gix_hash::hashing_laws::digests;
@@ -16,12 +14,12 @@ use gix_hash::hashing_laws::digests;
 /// has, are the digest of those before them. So behind any bytes just one digest is right, and where
 /// the last byte of what is right is changed, nothing is.
 pub fn sealed_bytes(kind: Kind)
-    ensures written { (message : List ℕ) → IsSealed kind (sealed kind message) }
-    ensures least { (bytes : List ℕ) → IsSealed kind bytes → byte_len_of kind ≤ length bytes }
+    ensures written { (message : List ℕ) → EndsInDigest kind (sealed kind message) }
+    ensures least { (bytes : List ℕ) → EndsInDigest kind bytes → byte_len_of kind ≤ length bytes }
     ensures told { (front tail : List ℕ) → length tail ≡ byte_len_of kind
-        → IsSealed kind (front ++ tail) ↔ (tail ≡ id_bytes (digest kind front)) }
-    ensures last { (front : List ℕ) (byte other : ℕ) → IsSealed kind (front ++ byte ∷ [])
-        → other ≢ byte → ¬ IsSealed kind (front ++ other ∷ []) }
+        → EndsInDigest kind (front ++ tail) ↔ (tail ≡ id_bytes (digest kind front)) }
+    ensures last { (front : List ℕ) (byte other : ℕ) → EndsInDigest kind (front ++ byte ∷ [])
+        → other ≢ byte → ¬ EndsInDigest kind (front ++ other ∷ []) }
 {
     digests(kind);
 }

@@ -8,8 +8,8 @@ mod printing;
 
 ghost use Rattle.std.specs.Prelude.{◌≡◌, ◌≢◌, ◌↔◌, ℕ, List, false, true, OnOk, IfOk, IfErr, IsErrOf};
 ghost use Rattle.std.specs.Io.KnownBytes.{Appends};
-ghost use Rattle.gix_hash.specs.Hashing.{digest};
-ghost use Rattle.pipes.specs.Pipe.{digest_line, sealed, HashingStops, SealingStops};
+ghost use Rattle.gix_hash.specs.Hashing.{digest, sealed};
+ghost use Rattle.pipes.specs.Pipe.{digest_line, HashingStops, SealingStops};
 ghost use Rattle.devices.specs.Source.{GivesAll};
 
 pub use checking::check;

@@ -1,6 +1,5 @@
 pub mod Commits
 pub mod Names
-pub mod Packs
 pub mod Paths
 pub mod Printed
 pub mod References

@@ -1,5 +1,5 @@
 //! What a tool over Git's object store reads, writes and keeps of ids: paths of loose objects, files
-//! of references, heads of commits, checksums of packs, names that a user types, sets and maps.
+//! of references, heads of commits, names that a user types, sets and maps.
 //!
 //! The pages CALLING.md of `gix_hash`, `id_lookup` and `pack_index` quote it.
 #![tactic(auto)]
@@ -12,8 +12,6 @@ pub mod commits;
 pub mod names;
 /// Places of objects in packs.
 pub mod offsets;
-/// Checksums of packs.
-pub mod packs;
 /// Paths of loose objects.
 pub mod paths;
 /// Ids in texts.

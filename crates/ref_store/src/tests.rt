@@ -2,7 +2,6 @@
 
 use crate::commits::read_head;
 use crate::names::{Resolved, resolve, write_name};
-use crate::packs::has_checksum;
 use crate::paths::{read_loose_path, write_loose_path};
 use crate::printed::{behind, read_line, read_printed};
 use crate::reading::{id_of_digest, is_named, read_again, read_id, short_name};
@@ -66,16 +65,6 @@ static OBJECTS: [&[u8]; 11] = [
     b"b1ea253509c6004817f83cd7659ab4e6c38b2981",
     b"f719efd430d52bcfc8566a43b2eb655688d38871",
 ];
-
-// Packs of one blob, by `git pack-objects`, by SHA-1 and by SHA-256.
-const PACK: &[u8] =
-    b"PACK\x00\x00\x00\x02\x00\x00\x00\x01\x34\x78\x9c\xcb\xcf\x4b\xe5\x02\x00\x03\xde\x01\x4d\
-\x2e\xeb\xbd\x27\x77\x04\x30\x04\x27\x01\xf1\xe0\xdf\x31\x87\x41\x23\xb1\x0d\xcf";
-
-const PACK_256: &[u8] =
-    b"PACK\x00\x00\x00\x02\x00\x00\x00\x01\x34\x78\x9c\xcb\xcf\x4b\xe5\x02\x00\x03\xde\x01\x4d\
-\x67\x66\xf0\x29\x9f\x67\x52\x3f\x52\x7c\x37\xb1\x04\xa5\x4a\xc6\x0b\x1e\x5d\x1e\x64\x21\x2b\x45\x81\x79\x0b\x1b\
-\xf0\xf5\x2c\x31";
 
 // The id that the text is.
 fn id(rt: &impl Abort, text: &[u8]) -> ObjectId {
@@ -185,15 +174,6 @@ fn heads_of_commits(rt: HostRuntime) {
     expect_head(&rt, MERGE, OBJECTS[7], &[OBJECTS[0], OBJECTS[8]]);
     expect_no_head(&rt, Kind::Sha256, MERGE);
     expect_no_head(&rt, Kind::Sha1, &MERGE[1..]);
-}
-
-#[test]
-fn checksums_of_packs(rt: HostRuntime) {
-    assert!(rt; has_checksum(Kind::Sha1, PACK));
-    assert!(rt; has_checksum(Kind::Sha256, PACK_256));
-    assert!(rt; !has_checksum(Kind::Sha1, &PACK[1..]));
-    assert!(rt; !has_checksum(Kind::Sha1, PACK_256));
-    assert!(rt; !has_checksum(Kind::Sha1, b"PACK"));
 }
 
 // The name stands for the ids of these texts.

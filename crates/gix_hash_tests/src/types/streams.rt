@@ -5,7 +5,8 @@ use super::listeners::{Asked, Call, Heard, chunks};
 use super::{BLOB, expect_answer, expect_debug, expect_error, expect_kind, expect_text, id};
 use gix_hash::io::{Never, NoProgress};
 use gix_hash::{
-    Hasher, Kind, ObjectId, bytes, bytes_with_hasher, digest_of, hasher, hashing, hashing_laws, io,
+    Hasher, Kind, ObjectId, bytes, bytes_with_hasher, digest_of, ends_in_digest, hasher, hashing,
+    hashing_laws, io,
 };
 use std::io::ErrorKind::UnexpectedEof;
 use std::process::Abort;
@@ -83,6 +84,32 @@ fn well_known_ids_are_digests() -> Result<(), Fail> {
         if blob != kind.empty_blob() || tree != kind.empty_tree() {
             return Err(Fail::new("a well-known id is another digest"));
         }
+    }
+    Ok(())
+}
+
+// Packs of one blob, by `git pack-objects`, by SHA-1 and by SHA-256.
+const PACK: &[u8] =
+    b"PACK\x00\x00\x00\x02\x00\x00\x00\x01\x34\x78\x9c\xcb\xcf\x4b\xe5\x02\x00\x03\xde\x01\x4d\
+\x2e\xeb\xbd\x27\x77\x04\x30\x04\x27\x01\xf1\xe0\xdf\x31\x87\x41\x23\xb1\x0d\xcf";
+
+const PACK_256: &[u8] =
+    b"PACK\x00\x00\x00\x02\x00\x00\x00\x01\x34\x78\x9c\xcb\xcf\x4b\xe5\x02\x00\x03\xde\x01\x4d\
+\x67\x66\xf0\x29\x9f\x67\x52\x3f\x52\x7c\x37\xb1\x04\xa5\x4a\xc6\x0b\x1e\x5d\x1e\x64\x21\x2b\x45\x81\x79\x0b\x1b\
+\xf0\xf5\x2c\x31";
+
+#[test]
+fn packs_end_in_their_digest() -> Result<(), Fail> {
+    let empty = digest_of(Kind::Sha1, b"");
+    let right = ends_in_digest(Kind::Sha1, PACK)
+        && ends_in_digest(Kind::Sha256, PACK_256)
+        && ends_in_digest(Kind::Sha1, empty.as_slice());
+    let wrong = ends_in_digest(Kind::Sha1, &PACK[1..])
+        || ends_in_digest(Kind::Sha1, PACK_256)
+        || ends_in_digest(Kind::Sha1, b"PACK")
+        || ends_in_digest(Kind::Sha1, b"");
+    if !right || wrong {
+        return Err(Fail::new("another answer for a pack"));
     }
     Ok(())
 }

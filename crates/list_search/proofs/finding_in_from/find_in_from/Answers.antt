@@ -11,7 +11,7 @@ use Rattle.list_search.specs.FindingIn.{in_rising, refusal_of_list_in}
 use Rattle.list_search.specs.Searching.{found_among}
 use Rattle.list_search.proofs.FoundInTexts.{IsOfPlace, among_in, found_texts}
 use Rattle.list_search.proofs.Steps.{no_refusal}
-use Rattle.list_search.proofs.StopLemmas.{search_stops_in, reading_input_in, reading_not_output_in, ids_stop_in, search_error}
+use Rattle.list_search.proofs.StopLemmas.{search_stops_in, reading_input_in, reading_not_output_in, reading_same_kind, ids_stop_in, search_error, search_in}
 use Rattle.list_search.proofs.finding_in_from.find_in_from.Goals as goal
 
 pub returns-in_err-find_in_source : goal.returns-in_err-find_in_source
@@ -22,6 +22,7 @@ returns-in_err-find_in_source g c =
     rw (p.1, p.2) (record {
       found = tt;
       stopped = search_stops_in c.args.kind c.args.prefix.now c.in-Ok.prefix error _ _ _ _ reads c.in_err-find_in_source.ensures.stopped;
+      same_kind = λ other is. reading_same_kind other error is;
       unread = rw reads (λ bad. absurd (false≢true bad));
       untouched = λ _. refl;
       input = reading_input_in error _ c.in_err-find_in_source.ensures.input;
@@ -42,6 +43,7 @@ returns-in_err-ids g c =
       stopped =
           ids_stop_in c.args.kind c.args.prefix.now all.0 error _ _ _ _ all.1
           (found_texts Prefix refusal_of_list_in (in_rising c.args.kind) _ _ _ all.0 _ reads c.new.ensures.sought all.2) of_place;
+      same_kind = λ other is. absurd (subst IsOfPlace (search_in _ _ is) of_place);
       unread = rw reads (λ bad. absurd (false≢true bad));
       untouched = λ _. refl;
       input = (λ is. cc is, λ failed. absurd (false≢true (sym c.in_ok-find_in_source.ensures.stands ∙ failed)));
@@ -65,6 +67,7 @@ returns-in_err-write_ids g c =
           written = said.part;
         },
       );
+      same_kind = λ other is. cc is;
       unread = rw reads (λ bad. absurd (false≢true bad));
       untouched = λ other. absurd (other refl);
       input = (λ is. cc is, λ failed. absurd (false≢true (sym c.in_ok-find_in_source.ensures.stands ∙ failed)));
@@ -88,6 +91,7 @@ returns g c =
         },
       );
       stopped = tt;
+      same_kind = tt;
       unread = rw reads (λ bad. absurd (false≢true bad));
       untouched = tt;
       input = (λ is. absurd (no_refusal _ _ is), λ failed. absurd (false≢true (sym c.in_ok-find_in_source.ensures.stands ∙ failed)));
