@@ -11,8 +11,9 @@ use crate::ids::Id;
 /// It works in place and takes no memory. The order of equal ids is not kept, which nobody can see.
 ///
 /// ```
-/// sort_ids(&mut ids);
-/// let list = SortedIds::try_new(&ids)?;
+/// let mut found = vec![in rt.alloc(); id, expected]?;
+/// sort_ids(&mut found);
+/// let found = SortedIds::try_new(&found)?;
 /// ```
 ///
 /// [`SortedIds::try_new`]: crate::SortedIds::try_new
