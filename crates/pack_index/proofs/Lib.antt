@@ -2,5 +2,6 @@
 mod Counted
 mod Ending
 mod Firsts
+mod Longs
 mod Looked
 mod Refusals

@@ -11,6 +11,7 @@ mod error;
 mod index_file;
 pub mod laws;
 mod names;
+mod offsets;
 mod words;
 
 pub use error::Error;
