@@ -5,3 +5,4 @@ mod Firsts
 mod Longs
 mod Looked
 mod Refusals
+mod Seen

@@ -18,8 +18,8 @@ pub enum Error {
     /// There are fewer bytes than the smallest index of any version has: 1024, and two digests.
     #[error("the bytes are too few for a pack index")]
     TooShort,
-    /// The bytes do not begin with the magic number, and are as many as an index of version 1 has, by
-    /// its last count.
+    /// The bytes do not begin with the magic number, and are as many as an index of version 1 has,
+    /// by its last count.
     #[error("pack indexes of version 1 are not read")]
     Version1,
     /// The bytes do not begin with the magic number, nor are they as long as an index of version 1.
@@ -28,9 +28,9 @@ pub enum Error {
     /// The version after the magic number is this, and not 2.
     #[error("pack indexes of version {0} are not read")]
     BadVersion(u32),
-    /// As many names as are counted do not fit between the counts and the digests, or what they leave
-    /// is no table of long offsets: whole ones of eight bytes, and at least one fewer than names. The
-    /// bytes were cut, or there are too many.
+    /// As many names as are counted do not fit between the counts and the digests, or what they
+    /// leave is no table of long offsets: whole ones of eight bytes, and fewer than names. The bytes
+    /// were cut, or there are too many.
     #[error("the tables of the pack index do not fill its bytes")]
     WrongLength,
     /// The name at this index is the first that is below the one before it.
@@ -40,12 +40,12 @@ pub enum Error {
     /// byte. So if counts fall, one is wrong.
     #[error("the names up to the first byte {0} are counted wrong")]
     WrongCount(u8),
-    /// The name at this index is the first whose offset is in no table: it is long, and its number is
-    /// not below that of the long offsets.
+    /// The name at this index is the first whose offset is in no table: it is long, and there is no
+    /// long offset of its number.
     #[error("the name at place {0} has no offset")]
     NoOffset(usize),
-    /// The name at this index is the first with a long offset that is not the next one: its number is
-    /// not how many names before it have long offsets.
+    /// The name at this index is the first with a long offset that is not the next one: its number
+    /// is not how many names before it have long offsets.
     #[error("the long offset of the name at place {0} is not the next one")]
     LongOutOfOrder(usize),
     /// The long offset of this number, counted from 0, is the first that no name has.

@@ -220,7 +220,7 @@ impl<'a> File<'a> {
     }
 }
 
-// What refuses bytes that are no index of a kind: that they are one of the other kind, or the error.
+// Why bytes that are no index of a kind are refused: as one of the other kind, or by the error.
 fn error_or_other(bytes: &[u8], kind: Kind, error: Error) -> Error
     requires { IsFault kind bytes.now error }
     ensures error { refusal kind bytes.now ≡ Some result }

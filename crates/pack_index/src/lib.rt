@@ -12,6 +12,7 @@ mod index_file;
 pub mod laws;
 mod names;
 mod offsets;
+mod shared;
 mod words;
 
 pub use error::Error;

@@ -44,7 +44,8 @@ pub(crate) fn check_offsets(bytes: &[u8], kind: Kind) -> Result<(), Error>
 // How many names have long offsets, or the first name whose long offset is not the next one.
 fn count_longs(bytes: &[u8], kind: Kind) -> Result<usize, usize>
     requires { HasTables kind bytes.now }
-    ensures count { IfOk result (λ longs. longs ≡ longs_before kind bytes.now (count_in bytes.now)) }
+    ensures count { IfOk result (λ longs. longs
+        ≡ longs_before kind bytes.now (count_in bytes.now)) }
     ensures small { IfOk result (λ longs. longs < 2 ^ 32) }
     ensures order { OnOk result (Each (IsNextLong kind bytes.now) (count_in bytes.now)) }
     ensures err { IfErr result (IsFirstNot (IsNextLong kind bytes.now) (count_in bytes.now)) }
