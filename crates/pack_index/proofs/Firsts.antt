@@ -1,5 +1,5 @@
 -- The first of some numbers that passes a test.
-use Rattle.std.proofs.Common.{◌≡◌, ◌≢◌, ℕ, zero, suc, ◌+◌, ◌<◌, ◌≤◌, Bool, true, false, None, Some, nat_eq, nat_lt, ◌⊎◌, inl, inr, refl, ap, ◌∙◌, arith}
+use Rattle.std.proofs.Common.{◌≡◌, ◌≢◌, ℕ, zero, suc, ◌+◌, ◌<◌, ◌≤◌, Bool, true, false, not, None, Some, nat_eq, nat_lt, ◌⊎◌, inl, inr, refl, ap, ◌∙◌, arith}
 use Rattle.std.specs.Prelude.{nat_le, ◌&&◌}
 use Rattle.std.proofs.lemmas.Bool.{cases_lt, le-leb, lt-leb, le-ltb, lt-ltb}
 use Rattle.std.proofs.lemmas.Bool.Decides.{nat_tests}
@@ -36,6 +36,21 @@ late a b c d wrong = by (cases_lt b a) (cases_lt c d)
     by (inl less) any = absurd (wrong (λ more. absurd (omega arith)))
     by (inr more) (inl behind) = ap (λ (test : Bool). test && nat_lt c d) (le-leb a b more) ∙ lt-ltb c d behind
     by (inr more) (inr before) = absurd (wrong (λ _. before))
+
+-- if a is at most b, then b is c
+pub in_order : (a b c : ℕ) → (a ≤ b → b ≡ c) → (nat_le a b && not (nat_eq b c)) ≡ false
+in_order a b c holds = by (cases_lt b a)
+  where
+    by : ((b < a) ⊎ (a ≤ b)) → (nat_le a b && not (nat_eq b c)) ≡ false
+    by (inl less) = ap (λ (test : Bool). test && not (nat_eq b c)) (lt-leb a b less)
+    by (inr more) = ap (λ (test : Bool). test && not (nat_eq b c)) (le-leb a b more) ∙ ap not (equal b c (holds more))
+
+pub disorder : (a b c : ℕ) → ¬ (a ≤ b → b ≡ c) → (nat_le a b && not (nat_eq b c)) ≡ true
+disorder a b c wrong = by (cases_lt b a)
+  where
+    by : ((b < a) ⊎ (a ≤ b)) → (nat_le a b && not (nat_eq b c)) ≡ true
+    by (inl less) = absurd (wrong (λ more. absurd (omega arith)))
+    by (inr more) = ap (λ (test : Bool). test && not (nat_eq b c)) (le-leb a b more) ∙ ap not (differ b c (λ same. wrong (λ _. same)))
 
 module _ (p : ℕ → Bool) where
   -- none passes

@@ -2,5 +2,7 @@
 mod Counted
 mod Ending
 mod Firsts
+mod Longs
 mod Looked
 mod Refusals
+mod Seen

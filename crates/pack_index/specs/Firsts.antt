@@ -20,6 +20,10 @@ first_cause (Some e ∷ causes) = Some e
 abbrev pub cause_if : {E : Type 0} → Bool → E → Option E
 cause_if test e = if test then Some e else None
 
+-- each number below n is P
+abbrev pub Each : (ℕ → Type 0) → ℕ → Type 0
+Each P n = (k : ℕ) → k < n → P k
+
 -- the number is the first below n that is not P
 abbrev pub IsFirstNot : (ℕ → Type 0) → ℕ → ℕ → Type 0
-IsFirstNot P n at = (at < n) × ((k : ℕ) → k < at → P k) × ¬ P at
+IsFirstNot P n at = (at < n) × Each P at × ¬ P at

@@ -1,7 +1,7 @@
 -- Git's pack index of version 2 (gitformat-pack). Its bytes are: a magic number and the version; for each byte, how many names have at most that
 -- first byte; the names, digests of the index's kind; a CRC of four bytes for each name; an offset of four bytes for each; long offsets of eight bytes;
 -- the digest of the pack; and the digest of all before it. Numbers are written with the highest byte first.
-use Rattle.std.specs.Prelude.{◌≡◌, ℕ, ◌+◌, ◌-◌, ◌*◌, ◌/◌, ◌%◌, ◌<◌, ◌≤◌, nat_lt, if◌then◌else◌, List, [], ◌∷◌, count_by, drop, length, map, slice_index, slice_range, take}
+use Rattle.std.specs.Prelude.{◌≡◌, ℕ, zero, suc, ◌+◌, ◌-◌, ◌*◌, ◌/◌, ◌%◌, ◌^◌, ◌<◌, ◌≤◌, Bool, nat_le, nat_lt, if◌then◌else◌, List, [], ◌∷◌, count_by, drop, length, map, slice_index, slice_range, take}
 use Rattle.std.specs.Int.{from_be_bytes, w32}
 use Rattle.std.specs.Simd.{first_chunks}
 use Rattle.gix_hash.specs.Digits.{digits_of}
@@ -11,6 +11,7 @@ use Rattle.gix_hash.specs.ObjectId.{id_bytes}
 use Rattle.gix_hash.specs.declared.Kind.{Kind}
 use Rattle.id_lookup.specs.FirstBytes.{is_up_to}
 use Rattle.id_lookup.specs.Sorted.{IsSortedIds}
+use Rattle.pack_index.specs.Firsts.{Each}
 
 -- what contracts see of a pack index: the kind of its names, and its bytes
 pub record IndexFile : Type 0 where
@@ -20,6 +21,26 @@ pub record IndexFile : Type 0 where
 -- the number that stands at the front of each index from version 2 on: 255, and 't', 'O', 'c'
 abbrev pub magic_number : ℕ
 magic_number = 4285812579
+
+-- the length of the counts, 256 of four bytes each
+abbrev pub counts_len : ℕ
+counts_len = 1024
+
+-- the length of the smallest index of any version, which is one of version 1 with no names: the counts and two digests
+abbrev pub min_len : Kind → ℕ
+min_len kind = counts_len + 2 * byte_len_of kind
+
+-- where the names begin, after the magic number, the version and the counts
+abbrev pub names_at : ℕ
+names_at = 1032
+
+-- the smallest word that the table of offsets has for a long offset: its highest bit is set
+abbrev pub long_word : ℕ
+long_word = 2147483648
+
+-- the length of a pack's header, after which its first object begins
+abbrev pub pack_header_len : ℕ
+pack_header_len = 12
 
 -- the digits of the digests of a kind that stand in bytes, one behind the other: of as many as are whole
 abbrev pub digests_in : Kind → List ℕ → List (List ℕ)
@@ -35,7 +56,7 @@ count_in bytes = word_at bytes 1028
 
 -- where the CRCs begin, behind the names
 abbrev pub crcs_at : Kind → List ℕ → ℕ
-crcs_at kind bytes = 1032 + byte_len_of kind * count_in bytes
+crcs_at kind bytes = names_at + byte_len_of kind * count_in bytes
 
 -- where the offsets begin
 abbrev pub offsets_at : Kind → List ℕ → ℕ
@@ -55,7 +76,7 @@ digest_at kind bytes = length bytes - byte_len_of kind
 
 -- the names, each as its digits
 abbrev pub names_in : Kind → List ℕ → List (List ℕ)
-names_in kind bytes = digests_in kind (slice_range bytes 1032 (crcs_at kind bytes))
+names_in kind bytes = digests_in kind (slice_range bytes names_at (crcs_at kind bytes))
 
 -- the CRC of the object of the name at a place, as it stands packed
 abbrev pub crc_in : Kind → List ℕ → ℕ → ℕ
@@ -67,42 +88,79 @@ offset_word kind bytes k = word_at bytes (offsets_at kind bytes + 4 * k)
 
 -- where its long offset stands, if it is long
 abbrev pub long_place : Kind → List ℕ → ℕ → ℕ
-long_place kind bytes k = long_at kind bytes + 8 * (offset_word kind bytes k - 2147483648)
+long_place kind bytes k = long_at kind bytes + 8 * (offset_word kind bytes k - long_word)
 
 -- where the object of the name at a place stands in the pack: below 2 ^ 31 the table tells it, and from there on the place of a long offset
 abbrev pub offset_in : Kind → List ℕ → ℕ → ℕ
 offset_in kind bytes k =
-    if nat_lt (offset_word kind bytes k) 2147483648 then offset_word kind bytes k
+    if nat_lt (offset_word kind bytes k) long_word then offset_word kind bytes k
     else 4294967296 * word_at bytes (long_place kind bytes k) + word_at bytes (long_place kind bytes k + 4)
 
--- the bytes have room for an index of no names, and begin as one of version 2
+-- whether the offset of the name at a place is long
+abbrev pub is_long : Kind → List ℕ → ℕ → Bool
+is_long kind bytes k = nat_le long_word (offset_word kind bytes k)
+
+-- how many of the first n names have long offsets
+unfoldable pub longs_before : Kind → List ℕ → ℕ → ℕ
+longs_before kind bytes zero = 0
+longs_before kind bytes (suc n) = if is_long kind bytes n then longs_before kind bytes n + 1 else longs_before kind bytes n
+
+-- the bytes are no fewer than the smallest index, and begin as one of version 2
 pub record HasHead (kind : Kind) (bytes : List ℕ) : Type 0 where
-  pub enough : 1032 + 2 * byte_len_of kind ≤ length bytes
+  pub enough : min_len kind ≤ length bytes
   pub magic : word_at bytes 0 ≡ magic_number
   pub version : word_at bytes 4 ≡ 2
 
--- the tables fill the bytes up to the digests
+-- the tables fill the bytes up to the digests. There is at most one long offset fewer than names, since the object after the pack's header has none
 pub record HasTables (kind : Kind) (bytes : List ℕ) : Type 0 where
   pub fits : long_at kind bytes + 2 * byte_len_of kind ≤ length bytes
   pub whole : (tables_end kind bytes - long_at kind bytes) % 8 ≡ 0
+  pub most : tables_end kind bytes ≤ long_at kind bytes + 8 * (count_in bytes - 1)
 
 -- the count of a byte is that of the names
 abbrev pub HasCount : Kind → List ℕ → ℕ → Type 0
 HasCount kind bytes b = word_at bytes (8 + 4 * b) ≡ count_by (is_up_to b) (names_in kind bytes)
 
--- the offset of the name at a place stands in a table
+-- the offset of the name at a place is in a table
 abbrev pub HasOffset : Kind → List ℕ → ℕ → Type 0
-HasOffset kind bytes k = 2147483648 ≤ offset_word kind bytes k → long_place kind bytes k + 8 ≤ tables_end kind bytes
+HasOffset kind bytes k = long_word ≤ offset_word kind bytes k → long_place kind bytes k + 8 ≤ tables_end kind bytes
+
+-- if it is long, then it is the next one: as many names before have one
+abbrev pub IsNextLong : Kind → List ℕ → ℕ → Type 0
+IsNextLong kind bytes k = long_word ≤ offset_word kind bytes k → offset_word kind bytes k ≡ long_word + longs_before kind bytes k
+
+-- each long offset is a name's
+abbrev pub HasNoSpare : Kind → List ℕ → Type 0
+HasNoSpare kind bytes = tables_end kind bytes ≤ long_at kind bytes + 8 * longs_before kind bytes (count_in bytes)
+
+-- the offset of the name at a place is after the pack's header, and a signed number of 64 bits
+abbrev pub IsPastHeader : Kind → List ℕ → ℕ → Type 0
+IsPastHeader kind bytes k = pack_header_len ≤ offset_in kind bytes k
+
+abbrev pub IsSigned : Kind → List ℕ → ℕ → Type 0
+IsSigned kind bytes k = offset_in kind bytes k < 2 ^ 63
 
 -- the last bytes are the digest of all before them
 abbrev pub HasChecksum : Kind → List ℕ → Type 0
 HasChecksum kind bytes = drop (digest_at kind bytes) bytes ≡ id_bytes (digest kind (take (digest_at kind bytes) bytes))
 
--- the bytes are a pack index whose names are of the kind. No name is below the one before it; one may stand twice
-pub record IsPackIndex (kind : Kind) (bytes : List ℕ) : Type 0 where
+-- the tables have names that are sorted and counted. No name is below the one before it; one may occur twice
+pub record HasNames (kind : Kind) (bytes : List ℕ) : Type 0 where
   pub head : HasHead kind bytes
   pub tables : HasTables kind bytes
-  pub names : IsSortedIds (names_in kind bytes)
-  pub counts : (b : ℕ) → b < 256 → HasCount kind bytes b
-  pub offsets : (k : ℕ) → k < count_in bytes → HasOffset kind bytes k
+  pub sorted : IsSortedIds (names_in kind bytes)
+  pub counts : Each (HasCount kind bytes) 256
+
+-- each name has an offset, and the long ones are used in the order of names
+pub record HasOffsets (kind : Kind) (bytes : List ℕ) : Type 0 where
+  pub in_table : Each (HasOffset kind bytes) (count_in bytes)
+  pub in_order : Each (IsNextLong kind bytes) (count_in bytes)
+  pub no_spare : HasNoSpare kind bytes
+  pub past_header : Each (IsPastHeader kind bytes) (count_in bytes)
+  pub signed : Each (IsSigned kind bytes) (count_in bytes)
+
+-- the bytes are a pack index whose names are of the kind
+pub record IsPackIndex (kind : Kind) (bytes : List ℕ) : Type 0 where
+  pub names : HasNames kind bytes
+  pub offsets : HasOffsets kind bytes
   pub checksum : HasChecksum kind bytes

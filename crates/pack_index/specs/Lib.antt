@@ -3,3 +3,4 @@ pub mod Firsts
 pub mod Format
 pub mod Names
 pub mod Refusal
+pub mod Shared

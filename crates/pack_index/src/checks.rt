@@ -1,11 +1,11 @@
 //! What is checked of the bytes of a pack index.
 
-ghost use Rattle.std.specs.Prelude.{◌≡◌, ◌↔◌, ◌+◌, ◌*◌, ◌<◌, ◌≤◌, ℕ, IfErr, IsTrue, MatchOption, OnOk, length};
+ghost use Rattle.std.specs.Prelude.{◌≡◌, ◌↔◌, ◌+◌, ◌*◌, ◌<◌, ◌≤◌, IfErr, IsTrue, MatchOption, OnOk, length};
 ghost use Rattle.gix_hash.specs.Kind.{byte_len_of};
 ghost use Rattle.id_lookup.specs.FirstBytes.{IsFanOut};
-ghost use Rattle.pack_index.specs.Firsts.{IsFirstNot};
-ghost use Rattle.pack_index.specs.Format.{HasChecksum, HasCount, HasHead, HasOffset, HasTables, count_in, names_in, word_at};
-ghost use Rattle.pack_index.specs.Refusal.{IsRefusal, version_1_len};
+ghost use Rattle.pack_index.specs.Firsts.{Each, IsFirstNot};
+ghost use Rattle.pack_index.specs.Format.{HasChecksum, HasCount, HasHead, HasOffset, HasTables, count_in, min_len, names_at, names_in};
+ghost use Rattle.pack_index.specs.Refusal.{IsFault, version_1_len};
 
 use crate::error::Error;
 use crate::words::{
@@ -18,13 +18,16 @@ const MAGIC: u32 = 0xff74_4f63;
 
 const VERSION: u32 = 2;
 
+// The length of the counts, with which an index of version 1 begins.
+const COUNTS_LEN: usize = 1024;
+
 // Whether the front of the bytes and the lengths of their tables are those of a pack index.
 pub(crate) fn check_tables(bytes: &[u8], kind: Kind) -> Result<(), Error>
     ensures head { OnOk result (HasHead kind bytes.now) }
     ensures tables { OnOk result (HasTables kind bytes.now) }
-    ensures err { IfErr result (IsRefusal kind bytes.now) }
+    ensures err { IfErr result (IsFault kind bytes.now) }
 {
-    if bytes.len() < NAMES_AT + 2 * kind.len_in_bytes() {
+    if bytes.len() < COUNTS_LEN + 2 * kind.len_in_bytes() {
         return Err(Error::TooShort);
     }
     if word_at(bytes, 0) != MAGIC {
@@ -46,7 +49,7 @@ pub(crate) fn check_tables(bytes: &[u8], kind: Kind) -> Result<(), Error>
 
 // How many bytes an index of version 1 has, by its last count.
 fn version_1_len(bytes: &[u8], kind: Kind) -> usize
-    requires { 1032 ≤ length bytes.now }
+    requires { names_at ≤ length bytes.now }
     ensures { result ≡ version_1_len kind bytes.now }
 {
     let count = word_at(bytes, NAMES_AT - 12) as usize;
@@ -54,24 +57,25 @@ fn version_1_len(bytes: &[u8], kind: Kind) -> usize
         Kind::Sha1 => 20 * count,
         Kind::Sha256 => 32 * count,
     };
-    NAMES_AT - 8 + names + 4 * count + 2 * kind.len_in_bytes()
+    COUNTS_LEN + names + 4 * count + 2 * kind.len_in_bytes()
 }
 
 // Whether the tables fill the bytes up to the digests.
 fn has_tables(bytes: &[u8], kind: Kind) -> bool
-    requires { 1032 + 2 * byte_len_of kind ≤ length bytes.now }
+    requires { min_len kind ≤ length bytes.now }
     ensures { IsTrue result ↔ HasTables kind bytes.now }
 {
     let long = long_at(bytes, kind);
     let end = tables_end(bytes, kind);
-    long <= end && (end - long) % 8 == 0
+    let most = (count_in(bytes) as usize).saturating_sub(1);
+    long <= end && (end - long) % 8 == 0 && end <= long + 8 * most
 }
 
 // The first byte whose count is not that of the names.
 pub(crate) fn first_wrong_count(bytes: &[u8], fan_out: &FanOut, kind: Kind) -> Option<u8>
     requires tables { HasTables kind bytes.now }
     requires fan_out { IsFanOut fan_out.now (names_in kind bytes.now) }
-    ensures { MatchOption result ((b : ℕ) → b < 256 → HasCount kind bytes.now b)
+    ensures { MatchOption result (Each (HasCount kind bytes.now) 256)
         (IsFirstNot (HasCount kind bytes.now) 256) }
 {
     for byte in 0..=255 {
@@ -85,7 +89,7 @@ pub(crate) fn first_wrong_count(bytes: &[u8], fan_out: &FanOut, kind: Kind) -> O
 // The first name that has no offset.
 pub(crate) fn first_without_offset(bytes: &[u8], kind: Kind) -> Option<usize>
     requires { HasTables kind bytes.now }
-    ensures { MatchOption result ((k : ℕ) → k < count_in bytes.now → HasOffset kind bytes.now k)
+    ensures { MatchOption result (Each (HasOffset kind bytes.now) (count_in bytes.now))
         (IsFirstNot (HasOffset kind bytes.now) (count_in bytes.now)) }
 {
     for at in 0..count_in(bytes) as usize {

@@ -1,9 +1,10 @@
 //! Why bytes are no pack index.
 
+use gix_hash::Kind;
 use thiserror::Error as ThisError;
 
-/// Why bytes are no pack index of version 2 whose names are of a kind. Of several causes the first
-/// one here is told. Places are counted from 0.
+/// Why bytes are no pack index of version 2 whose names are of a kind. If several causes hold, the
+/// error is the first one in this list. Indexes of names are counted from 0.
 ///
 /// ```
 /// let why = File::try_new(b"PACK", Kind::Sha1);
@@ -11,34 +12,52 @@ use thiserror::Error as ThisError;
 /// ```
 #[derive(Clone, Copy, PartialEq, Eq, Debug, ThisError)]
 pub enum Error {
-    /// There are fewer bytes than an index of no names has: 1032, and two digests.
+    /// The bytes are a pack index of version 2 whose names are of this kind, the other one.
+    #[error("the names of the pack index are of the kind {0}")]
+    OtherKind(Kind),
+    /// There are fewer bytes than the smallest index of any version has: 1024, and two digests.
     #[error("the bytes are too few for a pack index")]
     TooShort,
-    /// There is no magic number in front, and as many bytes as an index of version 1 has, by its last
-    /// count.
+    /// The bytes do not begin with the magic number, and are as many as an index of version 1 has,
+    /// by its last count.
     #[error("pack indexes of version 1 are not read")]
     Version1,
     /// The bytes do not begin with the magic number, nor are they as long as an index of version 1.
     #[error("the bytes do not begin as a pack index")]
     BadMagic,
-    /// The version behind the magic number is this, and not 2.
+    /// The version after the magic number is this, and not 2.
     #[error("pack indexes of version {0} are not read")]
     BadVersion(u32),
-    /// As many names as are counted do not fit between the counts and the digests, or what they leave
-    /// is no table of long offsets: the bytes were cut, or there are too many.
+    /// As many names as are counted do not fit between the counts and the digests, or what they
+    /// leave is no table of long offsets: whole ones of eight bytes, and fewer than names. The bytes
+    /// were cut, or there are too many.
     #[error("the tables of the pack index do not fill its bytes")]
     WrongLength,
-    /// The name at this place is the first that is below the one before it.
+    /// The name at this index is the first that is below the one before it.
     #[error("the name at place {0} is below the one before it")]
     NamesFall(usize),
     /// The count of this byte is the first that is not the number of names with at most that first
-    /// byte. So where counts fall, one is wrong.
+    /// byte. So if counts fall, one is wrong.
     #[error("the names up to the first byte {0} are counted wrong")]
     WrongCount(u8),
-    /// The name at this place is the first whose offset is in no table: it is long, and points behind
-    /// the long offsets.
+    /// The name at this index is the first whose offset is in no table: it is long, and there is no
+    /// long offset of its number.
     #[error("the name at place {0} has no offset")]
     NoOffset(usize),
+    /// The name at this index is the first with a long offset that is not the next one: its number
+    /// is not how many names before it have long offsets.
+    #[error("the long offset of the name at place {0} is not the next one")]
+    LongOutOfOrder(usize),
+    /// The long offset of this number, counted from 0, is the first that no name has.
+    #[error("the long offset at place {0} is of no name")]
+    SpareLong(usize),
+    /// The name at this index is the first whose offset is below 12, in the header of the pack.
+    #[error("the offset of the name at place {0} is in the header of the pack")]
+    OffsetInHeader(usize),
+    /// The name at this index is the first whose offset is 2^63 or more, and no signed number of 64
+    /// bits.
+    #[error("the offset of the name at place {0} is 2^63 or more")]
+    OffsetTooHigh(usize),
     /// The last bytes are not the digest of all before them.
     #[error("the checksum of the pack index is wrong")]
     WrongChecksum,

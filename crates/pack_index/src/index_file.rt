@@ -1,6 +1,6 @@
 //! A pack index over its bytes.
 
-ghost use Rattle.std.specs.Prelude.{◌≡◌, ◌≢◌, ◌↔◌, ◌+◌, ◌<◌, ℕ, [], IfErr, IfOk, IsOk, MatchOption, drop, length, slice_index_or, slice_range, take, IfSome, IsNone, List};
+ghost use Rattle.std.specs.Prelude.{◌≡◌, ◌≢◌, ◌↔◌, ◌+◌, ◌<◌, ℕ, [], Err, IfErr, IfOk, IsOk, MatchOption, drop, length, slice_index_or, slice_range, take, IfSome, IsNone, List, Some};
 ghost use Rattle.std.specs.List.{HoldsAt};
 ghost use Rattle.gix_hash.specs.Hashing.{digest};
 ghost use Rattle.gix_hash.specs.ObjectId.{id_bytes};
@@ -10,11 +10,12 @@ ghost use Rattle.id_lookup.specs.ShortNames.{IsShortestName};
 ghost use Rattle.id_lookup.specs.FoundRun.{IsRun};
 ghost use Rattle.pack_index.specs.Format.{IsPackIndex, crc_in, digest_at, names_in, offset_in, tables_end};
 ghost use Rattle.pack_index.specs.Names.{IsFirstPlace};
-ghost use Rattle.pack_index.specs.Refusal.{IsRefusal, opened};
+ghost use Rattle.pack_index.specs.Refusal.{IsFault, opened, other_than, refusal};
 
-use crate::checks::{check_tables, first_without_offset, first_wrong_count, has_checksum};
+use crate::checks::{check_tables, first_wrong_count, has_checksum};
 use crate::error::Error;
 use crate::names::Names;
+use crate::offsets::check_offsets;
 use crate::words::{NAMES_AT, crc_in, crcs_at, digest_at, offset_in, tables_end};
 use gix_hash::{Kind, Prefix, oid};
 use id_lookup::{Answer, FanOut, Run, laws};
@@ -58,15 +59,20 @@ impl<'a> File<'a> {
         ensures value { result ≡ opened kind bytes.now }
         ensures ok { IfOk result (λ file. file ≡ record { kind = kind; bytes = bytes.now }) }
         ensures accepted { IsOk result ↔ IsPackIndex kind bytes.now }
+        ensures other_kind { result ≡ Err (Error.OtherKind (other_than kind))
+            ↔ ¬ IsPackIndex kind bytes.now × IsPackIndex (other_than kind) bytes.now }
     {
-        File::checked(bytes, kind)
+        match File::checked(bytes, kind) {
+            Ok(file) => Ok(file),
+            Err(error) => Err(error_or_other(bytes, kind, error)),
+        }
     }
 
-    // As `try_new`, told by the causes one by one.
+    // As `try_new`, whatever the bytes are of the other kind.
     fn checked(bytes: &'a [u8], kind: Kind) -> Result<File<'a>, Error>
         ensures ok { IfOk result (λ file. file ≡ record { kind = kind; bytes = bytes.now }) }
         ensures index { IfOk result (λ file. IsPackIndex file.kind file.bytes) }
-        ensures err { IfErr result (IsRefusal kind bytes.now) }
+        ensures err { IfErr result (IsFault kind bytes.now) }
     {
         check_tables(bytes, kind)?;
         let names = match Names::try_new(&bytes[NAMES_AT..crcs_at(bytes, kind)], kind) {
@@ -77,9 +83,7 @@ impl<'a> File<'a> {
         if let Some(byte) = first_wrong_count(bytes, &fan_out, kind) {
             return Err(Error::WrongCount(byte));
         }
-        if let Some(at) = first_without_offset(bytes, kind) {
-            return Err(Error::NoOffset(at));
-        }
+        check_offsets(bytes, kind)?;
         if !has_checksum(bytes, kind) {
             return Err(Error::WrongChecksum);
         }
@@ -213,6 +217,29 @@ impl<'a> File<'a> {
         let kind = self.names.kind();
         let bytes = self.bytes;
         oid::from_bytes_unchecked(&bytes[digest_at(bytes, kind)..])
+    }
+}
+
+// Why bytes that are no index of a kind are refused: as one of the other kind, or by the error.
+fn error_or_other(bytes: &[u8], kind: Kind, error: Error) -> Error
+    requires { IsFault kind bytes.now error }
+    ensures error { refusal kind bytes.now ≡ Some result }
+    ensures other { result ≡ Error.OtherKind (other_than kind)
+        ↔ IsPackIndex (other_than kind) bytes.now }
+{
+    let other = other_than(kind);
+    match File::checked(bytes, other) {
+        Ok(_) => Error::OtherKind(other),
+        Err(_) => error,
+    }
+}
+
+fn other_than(kind: Kind) -> Kind
+    ensures { result ≡ other_than kind }
+{
+    match kind {
+        Kind::Sha1 => Kind::Sha256,
+        Kind::Sha256 => Kind::Sha1,
     }
 }
 

@@ -11,6 +11,8 @@ mod error;
 mod index_file;
 pub mod laws;
 mod names;
+mod offsets;
+mod shared;
 mod words;
 
 pub use error::Error;

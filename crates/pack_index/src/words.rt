@@ -2,14 +2,14 @@
 
 ghost use Rattle.std.specs.Prelude.{◌≡◌, ◌+◌, ◌*◌, ◌<◌, ◌≤◌, ◌^◌, length};
 ghost use Rattle.gix_hash.specs.Kind.{byte_len_of};
-ghost use Rattle.pack_index.specs.Format.{HasOffset, HasTables, count_in, crc_in, crcs_at, digest_at, long_at, offset_in, offset_word, offsets_at, tables_end, word_at};
+ghost use Rattle.pack_index.specs.Format.{HasOffset, HasTables, count_in, crc_in, crcs_at, digest_at, long_at, names_at, offset_in, offset_word, offsets_at, tables_end, word_at};
 
 use gix_hash::Kind;
 
 /// Where the names begin.
 pub(crate) const NAMES_AT: usize = 1032;
 
-/// The least number that the table of offsets has for a long offset.
+/// The smallest word that the table of offsets has for a long offset.
 pub(crate) const LONG: u32 = 0x8000_0000;
 
 // The number that four bytes write from a place on, the highest first.
@@ -23,7 +23,7 @@ pub(crate) fn word_at(bytes: &[u8], at: usize) -> u32
 
 // The number of names.
 pub(crate) fn count_in(bytes: &[u8]) -> u32
-    requires { 1032 ≤ length bytes.now }
+    requires { names_at ≤ length bytes.now }
     ensures { result ≡ count_in bytes.now }
 {
     word_at(bytes, NAMES_AT - 4)
@@ -31,7 +31,7 @@ pub(crate) fn count_in(bytes: &[u8]) -> u32
 
 // Where the CRCs begin, behind the names.
 pub(crate) fn crcs_at(bytes: &[u8], kind: Kind) -> usize
-    requires { 1032 ≤ length bytes.now }
+    requires { names_at ≤ length bytes.now }
     ensures place { result ≡ crcs_at kind bytes.now }
     ensures small { result < 2 ^ 40 }
 {
@@ -45,7 +45,7 @@ pub(crate) fn crcs_at(bytes: &[u8], kind: Kind) -> usize
 
 // Where the offsets begin.
 pub(crate) fn offsets_at(bytes: &[u8], kind: Kind) -> usize
-    requires { 1032 ≤ length bytes.now }
+    requires { names_at ≤ length bytes.now }
     ensures place { result ≡ offsets_at kind bytes.now }
     ensures small { result < 2 ^ 41 }
 {
@@ -54,7 +54,7 @@ pub(crate) fn offsets_at(bytes: &[u8], kind: Kind) -> usize
 
 // Where the long offsets begin.
 pub(crate) fn long_at(bytes: &[u8], kind: Kind) -> usize
-    requires { 1032 ≤ length bytes.now }
+    requires { names_at ≤ length bytes.now }
     ensures place { result ≡ long_at kind bytes.now }
     ensures small { result < 2 ^ 42 }
 {

@@ -5,8 +5,9 @@
 //! come broken copies, each with the cause for which it is refused.
 #![tactic(auto)]
 
-use gix_hash::{Kind, Prefix};
+use gix_hash::{Kind, Prefix, digest_of};
 use pack_index::File;
+use std::alloc::Allocator;
 use std::{fs, io};
 
 // One with a long offset is made by hand from one by Git.
@@ -37,14 +38,41 @@ const BROKEN: [(usize, u8); 8] = [
     (1659, 0),
 ];
 
-// The lengths to which that index is cut: before its last names, and before its last byte.
-const CUT: [usize; 2] = [1071, 1659];
+// The lengths to which that index is cut: one byte less than any index has, one less than one of
+// version 2, and one less than this one has.
+const CUT: [usize; 3] = [1063, 1071, 1659];
 
-// Whole files that are opened as what they are not.
-const OTHERS: [(&str, Kind); 3] = [
+// Bytes of an index of SHA-1 with 4 names, of which all but the second have long offsets, as many as
+// there may be. Each copy has one of them changed, and its checksum made right again.
+const RESEALED: [(usize, u8); 10] = [
+    // The last bytes of the words of the first name and of the third: their numbers are 1 and 0.
+    (1131, 1),
+    (1139, 0),
+    // That of the fourth: its number is 3. Then its word is short, and a long offset is spare.
+    (1143, 3),
+    (1140, 0),
+    // The second name's offset is 11, then 13.
+    (1135, 11),
+    (1135, 13),
+    // The last byte of the first long offset, and the highest of all three.
+    (1151, 11),
+    (1151, 12),
+    (1152, 128),
+    (1152, 127),
+];
+
+// The last byte of its first long offset.
+const FIRST_LONG_END: usize = 1151;
+
+// Whole files that are opened as what they are not, or are no index of version 2 that Git's reader
+// takes: one has as many long offsets as names.
+const OTHERS: [(&str, Kind); 6] = [
     ("sha1.idx", Kind::Sha256),
     ("sha256.idx", Kind::Sha1),
     ("version-1.idx", Kind::Sha1),
+    ("version-1-none.idx", Kind::Sha1),
+    ("all-long.idx", Kind::Sha1),
+    ("none.idx", Kind::Sha1),
 ];
 
 fn main(rt: HostRuntime) -> io::Result<()> {
@@ -53,6 +81,10 @@ fn main(rt: HostRuntime) -> io::Result<()> {
         show(&rt, &fs::read(&rt, name)?, kind)?;
     }
     tell_broken(&rt, &mut fs::read(&rt, "sha1.idx")?)?;
+    let mut longs = fs::read(&rt, "longs.idx")?;
+    tell_resealed(&rt, &mut longs)?;
+    tell_shared(&rt, rt.alloc(), &mut longs, 38)?;
+    tell_shared(&rt, rt.alloc(), &mut longs, 12)?;
     for (name, kind) in OTHERS {
         tell(&rt, &fs::read(&rt, name)?, kind)?;
     }
@@ -114,6 +146,50 @@ fn tell_broken(rt: &impl Print, bytes: &mut [u8]) -> io::Result<()> {
         tell(rt, &bytes[..len.min(bytes.len())], Kind::Sha1)?;
     }
     Ok(())
+}
+
+// The same of an index whose copies end in the digest of what is before it.
+fn tell_resealed(rt: &impl Print, bytes: &mut [u8]) -> io::Result<()> {
+    for (at, changed) in RESEALED {
+        if at < bytes.len() {
+            let good = bytes[at];
+            bytes[at] = changed;
+            seal(bytes);
+            tell(rt, bytes, Kind::Sha1)?;
+            bytes[at] = good;
+        }
+    }
+    Ok(())
+}
+
+// Which names of that index have one offset, where the first long one ends in this byte.
+fn tell_shared<A: Allocator + Clone>(
+    rt: &impl Print,
+    alloc: A,
+    bytes: &mut [u8],
+    last: u8,
+) -> io::Result<()> {
+    if FIRST_LONG_END < bytes.len() {
+        bytes[FIRST_LONG_END] = last;
+    }
+    seal(bytes);
+    let Ok(file) = File::try_new(bytes, Kind::Sha1) else {
+        return tell(rt, bytes, Kind::Sha1);
+    };
+    match file.shared_offset(alloc) {
+        Ok(None) => println!(rt; "no two names have one offset"),
+        Ok(Some((first, second))) => println!(rt; "{first} and {second} have one offset"),
+        Err(_) => println!(rt; "out of memory"),
+    }
+}
+
+// Writes the digest of the bytes before it at their end.
+fn seal(bytes: &mut [u8]) {
+    let end = bytes.len().saturating_sub(20);
+    let digest = digest_of(Kind::Sha1, &bytes[..end]);
+    for (byte, good) in bytes[end..].iter_mut().zip(digest.as_slice()) {
+        *byte = *good;
+    }
 }
 
 // Whether bytes are an index, or why not.

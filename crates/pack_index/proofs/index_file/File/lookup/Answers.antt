@@ -1,7 +1,7 @@
 use Rattle.std.proofs.Common.{length, sym, ap, subst, ◌∙◌}
 use Rattle.gix_hash.specs.Kind.{hex_len_of}
 use Rattle.gix_hash.specs.Prefix.{KindDigits}
-use Rattle.pack_index.specs.Format.{IndexFile, crcs_at, names_in}
+use Rattle.pack_index.specs.Format.{IndexFile, crcs_at, names_at, names_in}
 use Rattle.pack_index.specs.Names.{IsFirstPlace}
 use Rattle.std.specs.Prelude.{slice_range}
 use Rattle.pack_index.proofs.Counted.{length-digests_in_at}
@@ -11,7 +11,7 @@ use Rattle.pack_index.proofs.index_file.File.lookup.Goals as goal
 pub returns-then-ne : goal.returns-then-ne
 returns-then-ne c = λ k inside same.
     let file = c.args.self.now in
-    let long = length-digests_in_at file.kind (slice_range file.bytes 1032 (crcs_at file.kind file.bytes)) k inside in
+    let long = length-digests_in_at file.kind (slice_range file.bytes names_at (crcs_at file.kind file.bytes)) k inside in
     let own = sym (ap (λ (f : IndexFile). f.kind) c.self.view_is) ∙ sym c.kind-2.ensures in
     kinds_differ c.kind.result c.kind-2.result (sym c.ne.ensures ∙ c.if-ne.true)
     (ap hex_len_of c.kind.ensures.value ∙ sym c.kind.ensures.len ∙ sym (ap length same) ∙ long ∙ ap hex_len_of own)
@@ -30,6 +30,6 @@ returns c =
     ∙ kinds_same c.kind.result c.kind-2.result (sym c.ne.ensures ∙ c.if-ne.false) ∙ c.kind-2.ensures ∙ ap (λ (f : IndexFile). f.kind) c.self.view_is in
     subst (λ ds. IsFirstPlace names ds c.find_prefix-run.result.start) digits
     (present c.all_digits-prefix.result names c.find_prefix-run.result c.find_prefix-run.ensures c.beginnings.ensures.digits
-    (λ k inside. length-digests_in_at file.kind (slice_range file.bytes 1032 (crcs_at file.kind file.bytes)) k inside
+    (λ k inside. length-digests_in_at file.kind (slice_range file.bytes names_at (crcs_at file.kind file.bytes)) k inside
     ∙ sym (ap hex_len_of kind) ∙ ap hex_len_of (ap (λ (p : KindDigits). p.kind) c.all_digits-prefix.ensures) ∙ sym c.kind.ensures.len ∙ sym (ap length digits))
     c.if-run.false)

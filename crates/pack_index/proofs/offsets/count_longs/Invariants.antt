@@ -1,0 +1,11 @@
+use Rattle.std.proofs.Common.{◌≡◌, ◌≤◌}
+use Rattle.pack_index.specs.Firsts.{Each}
+use Rattle.pack_index.specs.Format.{IsNextLong, longs_before}
+use Rattle.pack_index.proofs.offsets.count_longs.Given as goal
+
+abbrev pub invariant-loop-at : goal.invariant-loop-at
+invariant-loop-at l = record {
+  counted : l.longs ≡ longs_before l.kind l.bytes l.at;
+  small : l.longs ≤ l.at;
+  order : Each (IsNextLong l.kind l.bytes) l.at;
+}

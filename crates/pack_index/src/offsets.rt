@@ -1,0 +1,94 @@
+//! What is checked of the offsets of a pack index.
+
+ghost use Rattle.std.specs.Prelude.{◌≡◌, ◌+◌, ◌*◌, ◌^◌, ◌<◌, ◌≤◌, IfErr, IfOk, MatchOption, OnOk, length};
+ghost use Rattle.pack_index.specs.Firsts.{Each, IsFirstNot};
+ghost use Rattle.pack_index.specs.Format.{HasNames, HasOffset, HasOffsets, HasTables, IsNextLong, IsPastHeader, IsSigned, count_in, longs_before};
+ghost use Rattle.pack_index.specs.Refusal.{IsFault};
+
+use crate::checks::first_without_offset;
+use crate::error::Error;
+use crate::words::{LONG, count_in, long_at, offset_in, offset_word, tables_end};
+use gix_hash::Kind;
+
+// The length of a pack's header.
+const PACK_HEADER_LEN: u64 = 12;
+
+// The smallest number that is no signed one of 64 bits.
+const UNSIGNED: u64 = 0x8000_0000_0000_0000;
+
+// Whether each name has an offset in the pack, and the long ones are used in the order of names.
+pub(crate) fn check_offsets(bytes: &[u8], kind: Kind) -> Result<(), Error>
+    requires { HasNames kind bytes.now }
+    ensures offsets { OnOk result (HasOffsets kind bytes.now) }
+    ensures err { IfErr result (IsFault kind bytes.now) }
+{
+    if let Some(at) = first_without_offset(bytes, kind) {
+        return Err(Error::NoOffset(at));
+    }
+    let longs = match count_longs(bytes, kind) {
+        Ok(longs) => longs,
+        Err(at) => return Err(Error::LongOutOfOrder(at)),
+    };
+    if long_at(bytes, kind) + 8 * longs < tables_end(bytes, kind) {
+        return Err(Error::SpareLong(longs));
+    }
+    if let Some(at) = first_in_header(bytes, kind) {
+        return Err(Error::OffsetInHeader(at));
+    }
+    if let Some(at) = first_too_high(bytes, kind) {
+        return Err(Error::OffsetTooHigh(at));
+    }
+    Ok(())
+}
+
+// How many names have long offsets, or the first name whose long offset is not the next one.
+fn count_longs(bytes: &[u8], kind: Kind) -> Result<usize, usize>
+    requires { HasTables kind bytes.now }
+    ensures count { IfOk result (λ longs. longs
+        ≡ longs_before kind bytes.now (count_in bytes.now)) }
+    ensures small { IfOk result (λ longs. longs < 2 ^ 32) }
+    ensures order { OnOk result (Each (IsNextLong kind bytes.now) (count_in bytes.now)) }
+    ensures err { IfErr result (IsFirstNot (IsNextLong kind bytes.now) (count_in bytes.now)) }
+{
+    let mut longs = 0;
+    for at in 0..count_in(bytes) as usize {
+        let word = offset_word(bytes, kind, at);
+        if word >= LONG {
+            if (word - LONG) as usize != longs {
+                return Err(at);
+            }
+            longs += 1;
+        }
+    }
+    Ok(longs)
+}
+
+// The first name whose offset is in the header of the pack.
+fn first_in_header(bytes: &[u8], kind: Kind) -> Option<usize>
+    requires tables { HasTables kind bytes.now }
+    requires offsets { Each (HasOffset kind bytes.now) (count_in bytes.now) }
+    ensures { MatchOption result (Each (IsPastHeader kind bytes.now) (count_in bytes.now))
+        (IsFirstNot (IsPastHeader kind bytes.now) (count_in bytes.now)) }
+{
+    for at in 0..count_in(bytes) as usize {
+        if offset_in(bytes, kind, at) < PACK_HEADER_LEN {
+            return Some(at);
+        }
+    }
+    None
+}
+
+// The first name whose offset is no signed number.
+fn first_too_high(bytes: &[u8], kind: Kind) -> Option<usize>
+    requires tables { HasTables kind bytes.now }
+    requires offsets { Each (HasOffset kind bytes.now) (count_in bytes.now) }
+    ensures { MatchOption result (Each (IsSigned kind bytes.now) (count_in bytes.now))
+        (IsFirstNot (IsSigned kind bytes.now) (count_in bytes.now)) }
+{
+    for at in 0..count_in(bytes) as usize {
+        if offset_in(bytes, kind, at) >= UNSIGNED {
+            return Some(at);
+        }
+    }
+    None
+}

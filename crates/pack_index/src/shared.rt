@@ -1,0 +1,32 @@
+//! Names of a pack index with the same offset.
+
+ghost use Rattle.std.specs.Prelude.{IfOk, MatchOption, length};
+ghost use Rattle.pack_index.specs.Format.{names_in};
+ghost use Rattle.pack_index.specs.Shared.{HaveOwnOffsets, IsFirstShared};
+
+use crate::index_file::File;
+use std::alloc::{AllocError, Allocator};
+use std::collections::BTreeMap;
+
+impl<'a> File<'a> {
+    /// The first name whose offset an earlier name has, after that earlier name, each by its index;
+    /// `None` if and only if no two names have the same offset. Then no pack fits the index, as each
+    /// object is stored in a place of its own. It takes memory for all offsets.
+    pub fn shared_offset<A: Allocator + Clone>(
+        &self,
+        alloc: A,
+    ) -> Result<Option<(usize, usize)>, AllocError>
+        ensures { IfOk result (λ found. MatchOption found
+            (HaveOwnOffsets self.now.kind self.now.bytes
+            (length (names_in self.now.kind self.now.bytes)))
+            (λ shared. IsFirstShared self.now.kind self.now.bytes shared.0 shared.1)) }
+    {
+        let mut seen = BTreeMap::new(alloc);
+        for at in 0..self.num_objects() {
+            if let Some(first) = seen.insert(self.pack_offset_at_index(at), at)? {
+                return Ok(Some((first, at)));
+            }
+        }
+        Ok(None)
+    }
+}
