@@ -236,9 +236,9 @@ pub fn compare_reverse_hex_displays<'a>(
         ≡ cut_hash_input first.now }
 {}
 
-/// The order of owned ids is total, and two ids are equal if and only if it ties them, which is only
-/// if they are the same. So after a sort and a `dedup` each id of a list is below the next one, and
-/// the list contains the same ids as before.
+/// The order of owned ids is total. Two ids are equal if and only if it ties them, and then they are
+/// the same. So after a sort and a `dedup` each id of a list is below the next one, and the list
+/// contains the same ids as before.
 pub fn order_of_ids()
     ensures total { IsTotalOrder id_cmp }
     ensures equivalence { IsEquivalence id_eq }

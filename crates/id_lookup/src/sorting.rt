@@ -8,7 +8,7 @@ use crate::ids::Id;
 
 /// Sorts ids by their digits, whatever their kinds, as [`SortedIds::try_new`] takes them.
 ///
-/// It works in place and takes no memory. The order of equal ids is not kept, which nobody can see.
+/// It sorts in place and takes no memory. Ids with the same digits may change places.
 ///
 /// ```
 /// let mut found = vec![in rt.alloc(); id, expected]?;

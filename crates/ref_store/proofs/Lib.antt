@@ -1,1 +1,3 @@
+mod OnlyMatches
 mod SlashedDigits
+mod SortedOnce

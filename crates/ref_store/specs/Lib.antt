@@ -1,5 +1,6 @@
 pub mod Commits
 pub mod Names
+pub mod Offsets
 pub mod Paths
 pub mod Printed
 pub mod References

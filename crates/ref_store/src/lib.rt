@@ -22,6 +22,8 @@ pub mod reading;
 pub mod references;
 /// Runs of a prefix in sorted lists.
 pub mod runs;
+/// Ids in any order, sorted as look-ups take them.
+pub mod sorting;
 /// Sets and maps of ids.
 pub mod sets;
 #[cfg(test)]

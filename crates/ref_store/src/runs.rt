@@ -20,13 +20,14 @@ pub fn run_of(list: &SortedIds<'_>, prefix: &Prefix) -> Option<Run>
     Some(list.find(prefix))
 }
 
-/// How many ids of the list begin with a prefix, and how often the look-up asked for that.
-pub fn count_matches(list: &SortedIds<'_>, prefix: Prefix) -> (usize, u64)
-    requires { length prefix.digits ≤ least_hex_len list.now }
-    ensures matches { result.0 ≡ count_by (λ id. begins_with id prefix) list.now }
-    ensures asked { result.1 ≤ 2 * bits (length list.now) }
+/// How many ids of the list begin with the prefix, by probes that were not asked before. Afterwards
+/// they say how often the look-up asked.
+pub fn count_matches(probes: &mut Probes<'_>) -> usize
+    requires { probes.old.asked ≡ 0 }
+    ensures matches { result ≡ count_by (λ id. begins_with id probes.old.prefix) probes.old.ids }
+    ensures asked { probes.new.asked ≤ 2 * bits (length probes.old.ids) }
+    ensures same { probes.new ≡ record probes.old { asked = probes.new.asked } }
 {
-    let mut probes = Probes::new(list, prefix);
-    let run = lookup(&mut probes);
-    (run.end - run.start, probes.asked())
+    let run = lookup(probes);
+    run.end - run.start
 }

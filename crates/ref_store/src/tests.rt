@@ -8,8 +8,9 @@ use crate::reading::{id_of_digest, is_named, read_again, read_id, short_name};
 use crate::references::{Reference, is_name_byte, read_reference, write_reference};
 use crate::runs::{count_matches, run_of};
 use crate::sets::{mark_seen, offset_of, set_offset, was_seen};
+use crate::sorting::{sort_into_index, sort_into_list};
 use gix_hash::{Kind, ObjectId, Prefix};
-use id_lookup::{IdIndex, SortedIds};
+use id_lookup::{IdIndex, IndexError, Probes, SortedIds};
 use std::collections::{BTreeMap, HashSet};
 use std::process::Abort;
 use std::test::Fail;
@@ -274,8 +275,24 @@ fn runs(rt: HostRuntime) -> Result<(), Fail> {
     assert!(rt; run_of(&list, &too_long).is_none());
     let within = prefix.hex_len() <= list.min_hex_len();
     assert!(rt; within);
-    let (matches, asked) = count_matches(&list, prefix);
-    assert!(rt; matches == 1);
-    assert!(rt; asked <= 4);
+    let mut probes = Probes::new(&list, prefix);
+    assert!(rt; count_matches(&mut probes) == 1);
+    assert!(rt; probes.asked() <= 4);
+    Ok(())
+}
+
+#[test]
+fn sorting(rt: HostRuntime) -> Result<(), Fail> {
+    let (blob, tree) = (ObjectId::from_hex(BLOB)?, ObjectId::from_hex(TREE)?);
+    let mut ids = vec![in rt.alloc(); blob, tree, blob]?;
+    let index = sort_into_index(&mut ids, Kind::Sha1)?;
+    assert!(rt; index.members() == [tree, blob].as_slice());
+    // By its digits it is between the others.
+    let of_sha256 = ObjectId::Sha256([0x90; 32]);
+    ids.push(of_sha256)?;
+    let refused = sort_into_index(&mut ids, Kind::Sha1);
+    assert!(rt; matches!(refused, Err(IndexError::WrongKind { at: 2 })));
+    let list = sort_into_list(&mut ids);
+    assert!(rt; list.members() == [tree, of_sha256, blob].as_slice());
     Ok(())
 }
