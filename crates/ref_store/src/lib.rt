@@ -24,6 +24,8 @@ pub mod references;
 pub mod runs;
 /// Ids in any order, sorted as look-ups take them.
 pub mod sorting;
+/// Ids that begin with what was typed.
+pub mod typed;
 /// Sets and maps of ids.
 pub mod sets;
 #[cfg(test)]
