@@ -6,7 +6,7 @@ mod CommonBeginnings
 mod FrontReading
 mod HexReading
 mod HexSpelling
-mod IdDigits
+pub mod IdDigits
 mod IdFacts
 mod KeptDigits
 mod KindFacts

@@ -1,4 +1,5 @@
 -- Lemmas of several proofs.
+mod Checksums
 mod Counted
 mod Ending
 mod Firsts

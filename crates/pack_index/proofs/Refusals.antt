@@ -7,13 +7,15 @@ use Rattle.std.specs.Cmp.Lexicographic.{slice_cmp}
 use Rattle.std.specs.declared.cmp.Ordering.TheVariants.{Less}
 use Rattle.std.proofs.lemmas.Bool.{and_parts, false≢true, le-leb, le-ltb, lt-leb, lt-ltb, leb-true, eqb-true}
 use Rattle.std.proofs.lemmas.Slice.Eq.{bytes_eq-Decides}
+use Rattle.gix_hash.specs.Hashing.{EndsInDigest}
 use Rattle.gix_hash.specs.declared.Kind.{Kind}
 use Rattle.id_lookup.specs.Sorted.{IsFirstFall, IsSortedIds}
 use Rattle.pack_index.specs.Firsts.{Each, cause_if, first_below, first_cause}
-use Rattle.pack_index.specs.Format.{HasChecksum, HasCount, HasHead, HasNames, HasNoSpare, HasOffset, HasTables, IndexFile, IsNextLong, IsPackIndex, IsPastHeader, IsSigned, count_in, long_at, longs_before, magic_number, min_len, names_in, tables_end, word_at}
+use Rattle.pack_index.specs.Format.{HasCount, HasHead, HasNames, HasNoSpare, HasOffset, HasTables, IndexFile, IsNextLong, IsPackIndex, IsPastHeader, IsSigned, count_in, long_at, longs_before, magic_number, min_len, names_in, tables_end, word_at}
 use Rattle.pack_index.specs.Refusal.{IsFault, fault, fault_or_other, falls, has_checksum, has_spare, has_tables, in_header, is_short, is_version_1, no_offset, opened, opened_by, other_than, out_of_order, refusal, too_high, version_1_len, wrong_count}
 use Rattle.pack_index.specs.declared.error.Error.{Error}
 use Rattle.pack_index.specs.declared.error.Error.TheVariants.{OtherKind, TooShort, Version1, BadMagic, BadVersion, WrongLength, NamesFall, WrongCount, NoOffset, LongOutOfOrder, SpareLong, OffsetInHeader, OffsetTooHigh, WrongChecksum}
+use Rattle.pack_index.proofs.Checksums.{checksum_of, ends_by}
 use Rattle.pack_index.proofs.Firsts.{differ, equal, fails, in_order, in_time, late, disorder, none_below, some_below}
 
 -- a cause that is not there is passed over, and the first that is there is told
@@ -82,8 +84,8 @@ module _ (kind : Kind) (bytes : List ℕ) where
   none_too_high : Each (IsSigned kind bytes) (count_in bytes) → option_map OffsetTooHigh (first_below (too_high kind bytes) (count_in bytes)) ≡ None
   none_too_high signed = ap (option_map OffsetTooHigh) (none_below (too_high kind bytes) (count_in bytes) (λ k high. lt-leb _ _ (signed k high)))
 
-  no_checksum : HasChecksum kind bytes → cause_if (not (has_checksum kind bytes)) WrongChecksum ≡ None
-  no_checksum checksum = test_is _ false WrongChecksum (ap not ((bytes_eq-Decides _ _).1 checksum))
+  no_checksum : EndsInDigest kind bytes → cause_if (not (has_checksum kind bytes)) WrongChecksum ≡ None
+  no_checksum checksum = test_is _ false WrongChecksum (ap not ((bytes_eq-Decides _ _).1 (checksum_of kind bytes checksum)))
 
   -- the tests before the tables
   past_head : (causes : List (Option Error)) (r : Option Error) → HasHead kind bytes → first_cause causes ≡ r → first_cause (
@@ -181,7 +183,7 @@ module _ (kind : Kind) (bytes : List ℕ) where
   faults WrongChecksum (names, offsets, wrong) =
       past_names _ _ names (skip _ _ _ (no_lost offsets.in_table) (skip _ _ _ (no_disorder offsets.in_order) (skip _ _ _ (no_spare offsets.no_spare)
       (skip _ _ _ (none_in_header offsets.past_header) (skip _ _ _ (none_too_high offsets.signed)
-      (here _ _ WrongChecksum (test_is _ true WrongChecksum (ap not (fails _ ((bytes_eq-Decides _ _).0) wrong)))))))))
+      (here _ _ WrongChecksum (test_is _ true WrongChecksum (ap not (fails _ (λ same. ends_by kind bytes ((bytes_eq-Decides _ _).0 same)) wrong)))))))))
 
   abbrev file : IndexFile
   file = record { kind = kind; bytes = bytes }

@@ -1,13 +1,12 @@
 -- Git's pack index of version 2 (gitformat-pack). Its bytes are: a magic number and the version; for each byte, how many names have at most that
 -- first byte; the names, digests of the index's kind; a CRC of four bytes for each name; an offset of four bytes for each; long offsets of eight bytes;
 -- the digest of the pack; and the digest of all before it. Numbers are written with the highest byte first.
-use Rattle.std.specs.Prelude.{◌≡◌, ℕ, zero, suc, ◌+◌, ◌-◌, ◌*◌, ◌/◌, ◌%◌, ◌^◌, ◌<◌, ◌≤◌, Bool, nat_le, nat_lt, if◌then◌else◌, List, [], ◌∷◌, count_by, drop, length, map, slice_index, slice_range, take}
+use Rattle.std.specs.Prelude.{◌≡◌, ℕ, zero, suc, ◌+◌, ◌-◌, ◌*◌, ◌/◌, ◌%◌, ◌^◌, ◌<◌, ◌≤◌, Bool, nat_le, nat_lt, if◌then◌else◌, List, [], ◌∷◌, count_by, length, map, slice_index, slice_range}
 use Rattle.std.specs.Int.{from_be_bytes, w32}
 use Rattle.std.specs.Simd.{first_chunks}
 use Rattle.gix_hash.specs.Digits.{digits_of}
-use Rattle.gix_hash.specs.Hashing.{digest}
+use Rattle.gix_hash.specs.Hashing.{EndsInDigest}
 use Rattle.gix_hash.specs.Kind.{byte_len_of}
-use Rattle.gix_hash.specs.ObjectId.{id_bytes}
 use Rattle.gix_hash.specs.declared.Kind.{Kind}
 use Rattle.id_lookup.specs.FirstBytes.{is_up_to}
 use Rattle.id_lookup.specs.Sorted.{IsSortedIds}
@@ -140,10 +139,6 @@ IsPastHeader kind bytes k = pack_header_len ≤ offset_in kind bytes k
 abbrev pub IsSigned : Kind → List ℕ → ℕ → Type 0
 IsSigned kind bytes k = offset_in kind bytes k < 2 ^ 63
 
--- the last bytes are the digest of all before them
-abbrev pub HasChecksum : Kind → List ℕ → Type 0
-HasChecksum kind bytes = drop (digest_at kind bytes) bytes ≡ id_bytes (digest kind (take (digest_at kind bytes) bytes))
-
 -- the tables have names that are sorted and counted. No name is below the one before it; one may occur twice
 pub record HasNames (kind : Kind) (bytes : List ℕ) : Type 0 where
   pub head : HasHead kind bytes
@@ -159,8 +154,8 @@ pub record HasOffsets (kind : Kind) (bytes : List ℕ) : Type 0 where
   pub past_header : Each (IsPastHeader kind bytes) (count_in bytes)
   pub signed : Each (IsSigned kind bytes) (count_in bytes)
 
--- the bytes are a pack index whose names are of the kind
+-- the bytes are a pack index whose names are of the kind, and end in the digest of all before it
 pub record IsPackIndex (kind : Kind) (bytes : List ℕ) : Type 0 where
   pub names : HasNames kind bytes
   pub offsets : HasOffsets kind bytes
-  pub checksum : HasChecksum kind bytes
+  pub checksum : EndsInDigest kind bytes

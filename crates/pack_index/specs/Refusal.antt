@@ -4,7 +4,7 @@ use Rattle.std.specs.Option.{is_some}
 use Rattle.std.specs.Str.{bytes_eq}
 use Rattle.std.specs.Ordering.{nat_cmp, is_lt}
 use Rattle.std.specs.Cmp.Lexicographic.{slice_cmp}
-use Rattle.gix_hash.specs.Hashing.{digest}
+use Rattle.gix_hash.specs.Hashing.{EndsInDigest, digest}
 use Rattle.gix_hash.specs.Kind.{byte_len_of}
 use Rattle.gix_hash.specs.ObjectId.{id_bytes}
 use Rattle.gix_hash.specs.declared.Kind.{Kind}
@@ -12,7 +12,7 @@ use Rattle.gix_hash.specs.declared.Kind.TheVariants.{Sha1, Sha256}
 use Rattle.id_lookup.specs.FirstBytes.{is_up_to}
 use Rattle.id_lookup.specs.Sorted.{IsFirstFall, IsSortedIds}
 use Rattle.pack_index.specs.Firsts.{Each, IsFirstNot, cause_if, first_below, first_cause}
-use Rattle.pack_index.specs.Format.{HasChecksum, HasCount, HasHead, HasNames, HasNoSpare, HasOffset, HasOffsets, HasTables, IndexFile, IsNextLong, IsPastHeader, IsSigned, count_in, counts_len, digest_at, is_long, long_at, long_place, long_word, longs_before, magic_number, min_len, names_in, offset_in, offset_word, pack_header_len, tables_end, word_at}
+use Rattle.pack_index.specs.Format.{HasCount, HasHead, HasNames, HasNoSpare, HasOffset, HasOffsets, HasTables, IndexFile, IsNextLong, IsPastHeader, IsSigned, count_in, counts_len, digest_at, is_long, long_at, long_place, long_word, longs_before, magic_number, min_len, names_in, offset_in, offset_word, pack_header_len, tables_end, word_at}
 use Rattle.pack_index.specs.declared.error.Error.{Error}
 use Rattle.pack_index.specs.declared.error.Error.TheVariants.{OtherKind, TooShort, Version1, BadMagic, BadVersion, WrongLength, NamesFall, WrongCount, NoOffset, LongOutOfOrder, SpareLong, OffsetInHeader, OffsetTooHigh, WrongChecksum}
 
@@ -121,4 +121,4 @@ IsFault kind bytes (OffsetInHeader at) =
 IsFault kind bytes (OffsetTooHigh at) =
     HasNames kind bytes × Each (HasOffset kind bytes) (count_in bytes) × Each (IsNextLong kind bytes) (count_in bytes) × HasNoSpare kind bytes
     × Each (IsPastHeader kind bytes) (count_in bytes) × IsFirstNot (IsSigned kind bytes) (count_in bytes) at
-IsFault kind bytes WrongChecksum = HasNames kind bytes × HasOffsets kind bytes × ¬ HasChecksum kind bytes
+IsFault kind bytes WrongChecksum = HasNames kind bytes × HasOffsets kind bytes × ¬ EndsInDigest kind bytes

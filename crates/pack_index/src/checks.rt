@@ -4,14 +4,14 @@ ghost use Rattle.std.specs.Prelude.{◌≡◌, ◌↔◌, ◌+◌, ◌*◌, ◌<
 ghost use Rattle.gix_hash.specs.Kind.{byte_len_of};
 ghost use Rattle.id_lookup.specs.FirstBytes.{IsFanOut};
 ghost use Rattle.pack_index.specs.Firsts.{Each, IsFirstNot};
-ghost use Rattle.pack_index.specs.Format.{HasChecksum, HasCount, HasHead, HasOffset, HasTables, count_in, min_len, names_at, names_in};
+ghost use Rattle.pack_index.specs.Format.{HasCount, HasHead, HasOffset, HasTables, count_in, min_len, names_at, names_in};
 ghost use Rattle.pack_index.specs.Refusal.{IsFault, version_1_len};
 
 use crate::error::Error;
 use crate::words::{
-    LONG, NAMES_AT, count_in, digest_at, long_at, offset_word, tables_end, word_at,
+    LONG, NAMES_AT, count_in, long_at, offset_word, tables_end, word_at,
 };
-use gix_hash::{Kind, digest_of};
+use gix_hash::Kind;
 use id_lookup::FanOut;
 
 const MAGIC: u32 = 0xff74_4f63;
@@ -109,13 +109,4 @@ fn has_offset(bytes: &[u8], kind: Kind, at: usize) -> bool
     let word = offset_word(bytes, kind, at);
     let end = tables_end(bytes, kind);
     word < LONG || long_at(bytes, kind) + 8 * (word - LONG) as usize + 8 <= end
-}
-
-// Whether the last bytes are the digest of all before them.
-pub(crate) fn has_checksum(bytes: &[u8], kind: Kind) -> bool
-    requires { byte_len_of kind ≤ length bytes.now }
-    ensures { IsTrue result ↔ HasChecksum kind bytes.now }
-{
-    let (front, checksum) = bytes.split_at(digest_at(bytes, kind));
-    digest_of(kind, front).as_slice() == checksum
 }

@@ -12,12 +12,12 @@ ghost use Rattle.pack_index.specs.Format.{IsPackIndex, crc_in, digest_at, names_
 ghost use Rattle.pack_index.specs.Names.{IsFirstPlace};
 ghost use Rattle.pack_index.specs.Refusal.{IsFault, opened, other_than, refusal};
 
-use crate::checks::{check_tables, first_wrong_count, has_checksum};
+use crate::checks::{check_tables, first_wrong_count};
 use crate::error::Error;
 use crate::names::Names;
 use crate::offsets::check_offsets;
 use crate::words::{NAMES_AT, crc_in, crcs_at, digest_at, offset_in, tables_end};
-use gix_hash::{Kind, Prefix, oid};
+use gix_hash::{Kind, Prefix, ends_in_digest, oid};
 use id_lookup::{Answer, FanOut, Run, laws};
 use std::marker::Model;
 
@@ -84,7 +84,7 @@ impl<'a> File<'a> {
             return Err(Error::WrongCount(byte));
         }
         check_offsets(bytes, kind)?;
-        if !has_checksum(bytes, kind) {
+        if !ends_in_digest(kind, bytes) {
             return Err(Error::WrongChecksum);
         }
         Ok(File {
