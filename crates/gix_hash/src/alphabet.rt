@@ -141,8 +141,9 @@ impl Alphabet {
         }
     }
 
-    // Whether a text of two letters a byte reads as a digest of 20 or 32 bytes, which is then written.
-    // Hex is read by lanes: the crate `hex` takes a letter at a time, and six times as long.
+    // Whether a text of two letters a byte reads as a digest of 20 or 32 bytes, which is then written. Both
+    // alphabets are read by lanes. The crate `hex` takes a letter at a time, and six times as long; and with
+    // its loop in one branch, LLVM copies each id of a list twice more on the stack, also in the other.
     #[inline(always)]
     fn decode_digest(self, text: &[u8], bytes: &mut [u8]) -> bool
         requires digest { IsTrue (is_digest_len (length bytes.old)) }
@@ -154,7 +155,7 @@ impl Alphabet {
             Alphabet::Hex => read_digest(text, bytes),
             Alphabet::Reverse => {
                 let mut letters = Kind::hex_buf();
-                decode_pairs(in_hex(text, &mut letters), bytes)
+                read_digest(in_hex(text, &mut letters), bytes)
             }
         }
     }
