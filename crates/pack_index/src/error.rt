@@ -29,8 +29,8 @@ pub enum Error {
     #[error("pack indexes of version {0} are not read")]
     BadVersion(u32),
     /// As many names as are counted do not fit between the counts and the digests, or what they
-    /// leave is no table of long offsets: whole ones of eight bytes, and fewer than names. The bytes
-    /// were cut, or there are too many.
+    /// leave is no table of long offsets: whole ones of eight bytes, and fewer than names. The
+    /// bytes were cut, or there are too many.
     #[error("the tables of the pack index do not fill its bytes")]
     WrongLength,
     /// The name at this index is the first that is below the one before it.

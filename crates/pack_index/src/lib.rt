@@ -1,9 +1,9 @@
 //! Git's pack indexes of version 2, over their bytes.
 //!
-//! A [`File`] stands on bytes that were checked once: their tables, order, counts and checksum. It
-//! takes no memory and copies no name. Its names are looked up by
-//! [`lookup_in`](id_lookup::lookup_in) where they stand, and it tells where each object stands in the
-//! pack.
+//! A [`File`] stands on bytes that were checked once: their tables, order, counts, offsets and
+//! checksum. Opening takes no memory and copies no name. The names are looked up by
+//! [`lookup_in`](id_lookup::lookup_in) where they are stored, and the index says where each object
+//! begins in the pack.
 #![tactic(auto)]
 
 mod checks;

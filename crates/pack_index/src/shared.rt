@@ -9,9 +9,11 @@ use std::alloc::{AllocError, Allocator};
 use std::collections::BTreeMap;
 
 impl<'a> File<'a> {
-    /// The first name whose offset an earlier name has, after that earlier name, each by its index;
-    /// `None` if and only if no two names have the same offset. Then no pack fits the index, as each
-    /// object is stored in a place of its own. It takes memory for all offsets.
+    /// Two names with the same offset, each by its index: the first name whose offset an earlier
+    /// one has, after that earlier one. `None` if and only if all offsets differ. No pack has an
+    /// index with two such names, since no two of its objects begin in one place.
+    ///
+    /// The call takes memory for all offsets, and fails only if there is not enough.
     pub fn shared_offset<A: Allocator + Clone>(
         &self,
         alloc: A,
