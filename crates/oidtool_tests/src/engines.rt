@@ -11,6 +11,7 @@ mod running;
 mod sealing;
 mod searches;
 mod sources;
+mod starting;
 mod watched;
 
 use crate::expecting::{expect_bytes, expect_printed, expect_shown};
