@@ -7,6 +7,7 @@ mod digests;
 mod faults;
 mod faulty;
 mod finding_in;
+mod packing;
 mod running;
 mod sealing;
 mod searches;
