@@ -37,6 +37,16 @@ const BROKEN: [(usize, u8); 8] = [
     (1659, 0),
 ];
 
+// Further bytes of it, whose refusals have other numbers.
+const OTHER_NUMBERS: [(usize, u8); 4] = [
+    // The highest byte of the version, and the count of byte 254.
+    (4, 1),
+    (1027, 22),
+    // The first byte of the last name, and the highest of the last offset.
+    (1432, 0),
+    (1616, 128),
+];
+
 // The lengths to which that index is cut: before its last names, and before its last byte.
 const CUT: [usize; 2] = [1071, 1659];
 
@@ -52,11 +62,15 @@ fn main(rt: HostRuntime) -> io::Result<()> {
         println!(rt; "{name}")?;
         show(&rt, &fs::read(&rt, name)?, kind)?;
     }
-    tell_broken(&rt, &mut fs::read(&rt, "sha1.idx")?)?;
+    let mut bytes = fs::read(&rt, "sha1.idx")?;
+    tell_broken(&rt, &mut bytes, &BROKEN)?;
+    for len in CUT {
+        tell(&rt, &bytes[..len.min(bytes.len())], Kind::Sha1)?;
+    }
     for (name, kind) in OTHERS {
         tell(&rt, &fs::read(&rt, name)?, kind)?;
     }
-    Ok(())
+    tell_broken(&rt, &mut bytes, &OTHER_NUMBERS)
 }
 
 // What an index has.
@@ -100,18 +114,15 @@ fn show_names(rt: &impl Print, file: &File<'_>) -> io::Result<()> {
     Ok(())
 }
 
-// Why an index with a broken byte is none, and one that is cut.
-fn tell_broken(rt: &impl Print, bytes: &mut [u8]) -> io::Result<()> {
-    for (at, broken) in BROKEN {
+// Why the index with each of these bytes in turn is none.
+fn tell_broken(rt: &impl Print, bytes: &mut [u8], places: &[(usize, u8)]) -> io::Result<()> {
+    for &(at, broken) in places {
         if at < bytes.len() {
             let good = bytes[at];
             bytes[at] = broken;
             tell(rt, bytes, Kind::Sha1)?;
             bytes[at] = good;
         }
-    }
-    for len in CUT {
-        tell(rt, &bytes[..len.min(bytes.len())], Kind::Sha1)?;
     }
     Ok(())
 }
