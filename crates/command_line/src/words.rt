@@ -30,7 +30,8 @@ impl From<AllocError> for WordsError {
     }
 }
 
-/// The words behind the program's name.
+/// The words after the program's name, in their order, or [`WordsError::NotText`] if the name or a
+/// word is no text. No clause says so, since the library's `env::args` has none; it is tested.
 pub fn own_words(rt: &(impl Env + AllocGlobal)) -> Result<Vec<String>, WordsError> {
     match env::args(rt) {
         Ok(args) => Ok(args.skip(1).collect(rt.alloc())?),

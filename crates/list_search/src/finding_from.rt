@@ -201,10 +201,9 @@ fn search_from<A: Allocator, R: Source, W: Sink>(
     Ok(ids.len())
 }
 
-/// A law: [`find_from`] and [`find_change_from`] return `Unsorted` or `PrefixTooLong` if and only if
-/// the source is at its end, and [`find`](crate::finding::find) or
-/// [`find_change`](crate::finding::find_change) does so of all that it gave. Before its end neither is
-/// certain, since a bad line that follows is reported first.
+/// A law of the errors `Unsorted` and `PrefixTooLong` in the clause `stopped` of [`find_from`] and
+/// [`find_change_from`]: the source is at its end, and the error is that of `finding` on all that it
+/// gave. Before its end neither is certain, since a bad line that follows is reported first.
 pub fn unsorted_at_end(alphabet: Alphabet, prefix: &str)
     ensures unsorted { (line : ℕ) (source source' sink sink' : Option (List ℕ))
         → SearchStops (letter_of alphabet) prefix.now (FindFromError.Unsorted line) source source'

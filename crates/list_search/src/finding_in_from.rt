@@ -117,8 +117,8 @@ pub fn find_in_from<A: Allocator, R: Source, W: Sink>(
     Ok(ids.len())
 }
 
-/// A law: [`find_in_from`] returns `WrongKind` or `NotRising` of a line if and only if the source is
-/// at its end, and [`find_in`](crate::finding_in::find_in) does so of all that it gave. Before its end
+/// A law of the errors `WrongKind` and `NotRising` in the clause `stopped` of [`find_in_from`]: the
+/// source is at its end, and the error is that of `finding_in` on all that it gave. Before its end
 /// neither is certain, since a bad line that follows is reported first.
 pub fn not_rising_at_end(kind: Kind, prefix: &str)
     ensures wrong_kind { (line : ℕ) (source source' sink sink' : Option (List ℕ))

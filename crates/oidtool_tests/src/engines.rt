@@ -7,10 +7,12 @@ mod digests;
 mod faults;
 mod faulty;
 mod finding_in;
+mod packing;
 mod running;
 mod sealing;
 mod searches;
 mod sources;
+mod starting;
 mod watched;
 
 use crate::expecting::{expect_bytes, expect_printed, expect_shown};

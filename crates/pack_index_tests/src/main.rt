@@ -23,7 +23,7 @@ const DIGITS: [&str; 16] = [
 ];
 
 // Bytes of an index of SHA-1 with 21 names, by place and by what stands there in a broken copy.
-const BROKEN: [(usize, u8); 8] = [
+const BROKEN: [(usize, u8); 12] = [
     // The magic number, and the version.
     (0, 0),
     (7, 3),
@@ -36,6 +36,12 @@ const BROKEN: [(usize, u8); 8] = [
     // The last byte of the pack's digest, and the last of all.
     (1639, 0),
     (1659, 0),
+    // Others whose refusals have another number: the highest byte of the version, the count of byte
+    // 254, the first byte of the last name, and the highest of the last offset.
+    (4, 1),
+    (1027, 22),
+    (1432, 0),
+    (1616, 128),
 ];
 
 // The lengths to which that index is cut: one byte less than any index has, one less than one of

@@ -7,8 +7,9 @@ use super::start::digest_of;
 use crate::hashing_laws::digests;
 use crate::kind::Kind;
 
-/// Whether the bytes are a message followed by its digest, of 20 or 32 bytes by the kind. Git's packs
-/// are, and so are pack indexes, commit-graphs and multi-pack-indexes. The message may be empty.
+/// Whether the bytes are a message followed by its digest, of 20 or 32 bytes by the kind. Git's
+/// packs are, and so are pack indexes, commit-graphs and multi-pack-indexes. The message may be
+/// empty.
 pub fn ends_in_digest(kind: Kind, bytes: &[u8]) -> bool
     ensures { IsTrue result ↔ EndsInDigest kind bytes.now }
 {
