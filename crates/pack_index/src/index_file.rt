@@ -135,7 +135,8 @@ impl<'a> File<'a> {
     /// The run of the names that begin with a prefix, and of no other, by
     /// [`lookup_in`](id_lookup::lookup_in) over the file's own counts.
     ///
-    /// The prefix has the index's kind. A name that stands twice is two members of the run.
+    /// The prefix has the index's kind. A name that stands twice is two members of the run. No clause
+    /// says how many names are compared.
     pub fn find_prefix(&self, prefix: &Prefix) -> Run
         requires { prefix.now.kind ≡ self.now.kind }
         ensures { IsRun prefix.now (names_in self.now.kind self.now.bytes) result }
@@ -145,7 +146,8 @@ impl<'a> File<'a> {
         self.names.find(&self.fan_out, prefix)
     }
 
-    /// Which names begin with a prefix: none, one, or a run of more, as of [`File::find_prefix`].
+    /// Which names begin with a prefix: none, one, or a run of more, as of [`File::find_prefix`]. No
+    /// clause says how many names are compared.
     pub fn lookup_prefix(&self, prefix: &Prefix) -> Answer
         requires { prefix.now.kind ≡ self.now.kind }
         ensures { IsAnswer prefix.now (names_in self.now.kind self.now.bytes) result }
@@ -158,7 +160,8 @@ impl<'a> File<'a> {
         }
     }
 
-    /// The place of a name, the first one where it stands twice, or `None` where it is not there.
+    /// The place of a name, the first one where it stands twice, or `None` where it is not there. No
+    /// clause says how many names are compared.
     pub fn lookup(&self, id: oid<'_>) -> Option<usize>
         ensures { let names = names_in self.now.kind self.now.bytes in
             MatchOption result ((k : ℕ) → k < length names
