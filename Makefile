@@ -22,7 +22,7 @@ all: $(PROGRAMS)
 
 help:
 	@echo 'make: both programs; make oidtool, make packtool: one of them'
-	@echo 'make test: all proofs, edits and tests; make bench: the speed of the programs'
+	@echo 'make test: all proofs, edits and tests; make bench: the time and the instructions that the programs take'
 	@echo 'make install PREFIX=/usr/local: programs and man pages; make clean: all that was built goes'
 
 $(PROGRAMS): %: crates/%/out/built
@@ -39,6 +39,7 @@ test:
 
 bench: $(PROGRAMS)
 	tools/bench
+	tools/instructions
 
 # A man page is the program's help, laid out.
 MAN = awk -v name=$1 'NR == 1 { printf ".TH %s 1\n.SH NAME\n%s \\- %s\n", toupper(name), name, $$0 } \
