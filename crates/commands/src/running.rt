@@ -13,8 +13,7 @@ use devices::{BufferedSink, PIECE_LEN, Sink, Source, WriteFailed};
 use gix_hash::io::{Never, NoProgress};
 use gix_hash::{Alphabet, Kind, bytes_of_file};
 use list_search::{
-    FindError, FindFromError, FindInError, FindInFromError, find_change_from, find_from,
-    find_in_from,
+    FindFromError, FindInError, FindInFromError, find_change_from, find_from, find_in_from,
 };
 use pipes::{PipeError, hash_all, seal, write_id};
 use std::alloc::Allocator;
@@ -33,12 +32,13 @@ use thiserror::Error as ThisError;
 /// ```
 #[derive(Debug, Drop, ThisError)]
 pub enum CommandError {
-    /// The prefix or the list text is refused.
+    /// The prefix or the list text is refused. The causes that other commands share have variants of
+    /// their own.
     #[error("{0}")]
-    Find(FindError),
+    Find(FindFromError),
     /// The prefix or the list text is refused, for ids of one kind.
     #[error("{0}")]
-    FindIn(FindInError),
+    FindIn(FindInFromError),
     /// Memory ran out.
     #[error("out of memory")]
     Memory,
@@ -75,18 +75,11 @@ impl From<FindFromError> for CommandError {
 
     fn from(error: FindFromError) -> Self {
         match error {
-            FindFromError::Prefix(error) => CommandError::Find(FindError::Prefix(error)),
-            FindFromError::BadLine { line, error } => {
-                CommandError::Find(FindError::BadLine { line, error })
-            }
-            FindFromError::Unsorted { line } => CommandError::Find(FindError::Unsorted { line }),
-            FindFromError::PrefixTooLong { hex_len, min } => {
-                CommandError::Find(FindError::PrefixTooLong { hex_len, min })
-            }
             FindFromError::Memory => CommandError::Memory,
             FindFromError::Output => CommandError::Output,
             FindFromError::Input => CommandError::Input,
             FindFromError::TooMuch => CommandError::TooMuch,
+            error => CommandError::Find(error),
         }
     }
 }
@@ -100,9 +93,9 @@ impl From<FindInFromError> for CommandError {
         match error {
             FindInFromError::Search(FindInError::Memory) => CommandError::Memory,
             FindInFromError::Search(FindInError::Output) => CommandError::Output,
-            FindInFromError::Search(error) => CommandError::FindIn(error),
             FindInFromError::Input => CommandError::Input,
             FindInFromError::TooMuch => CommandError::TooMuch,
+            FindInFromError::Search(error) => CommandError::FindIn(FindInFromError::Search(error)),
         }
     }
 }

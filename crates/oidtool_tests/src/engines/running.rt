@@ -10,7 +10,7 @@ use commands::{Command, CommandError, run_command};
 use devices::{FromSlice, IntoSlice, Plain, Sink};
 use gix_hash::Kind;
 use linked_list_allocator::LocalHeap;
-use list_search::FindError;
+use list_search::FindFromError;
 use std::io::BufWriter;
 use std::process::Abort;
 use std::rt::Files;
@@ -220,7 +220,7 @@ fn tells_memory_that_is_refused(rt: HostRuntime) -> Result<(), Fail> {
 
 #[test]
 fn prints_refusals(rt: HostRuntime) {
-    let unsorted = CommandError::Find(FindError::Unsorted { line: 3 });
+    let unsorted = CommandError::Find(FindFromError::Unsorted { line: 3 });
     let rows = [
         (unsorted, "line 3: below the line before it"),
         (CommandError::Memory, "out of memory"),
