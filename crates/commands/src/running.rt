@@ -31,8 +31,8 @@ use thiserror::Error as ThisError;
 /// ```
 #[derive(Debug, Drop, ThisError)]
 pub enum CommandError {
-    /// The prefix or the list text is refused. The causes that other commands share have variants of
-    /// their own.
+    /// The prefix or the list text is refused. The causes that other commands share are variants of
+    /// this error.
     #[error("{0}")]
     Find(FindFromError),
     /// The prefix or the list text is refused, for ids of one kind.
