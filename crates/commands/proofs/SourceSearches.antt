@@ -6,12 +6,13 @@ use Rattle.gix_hash.specs.Digits.{hex_letter, reverse_letter}
 use Rattle.gix_hash.specs.declared.Kind.{Kind}
 use Rattle.list_search.specs.Finding.{finding}
 use Rattle.list_search.specs.FindingIn.{finding_in}
-use Rattle.list_search.specs.FindingFrom.{GivesTooMuch, IsSettled, SearchStops, SearchStopsIn}
+use Rattle.list_search.specs.FindingFrom.{from_source, GivesTooMuch, IsSettled, SearchStops, SearchStopsIn}
 use Rattle.list_search.specs.Lines.{lines_of, lines_of-nil}
 use Rattle.list_search.specs.ListText.{IsFirstRead}
 use Rattle.commands.specs.Running.{Refuses, refusal_from_source, refusal_in_source}
 use Rattle.commands.specs.declared.command.Command.TheVariants.{Find, FindChange, FindIn}
 use Rattle.list_search.specs.declared.FindError.{FindError}
+use Rattle.list_search.specs.declared.FindError.TheVariants as search
 use Rattle.list_search.specs.declared.FindInError.{FindInError}
 use Rattle.list_search.specs.declared.FindInError.TheVariants as found_in
 use Rattle.list_search.specs.declared.FindFromError.{FindFromError}
@@ -62,15 +63,25 @@ whatever : {P : List ℕ → Type 0} (input : Option (List ℕ)) → ((text : Li
 whatever None all = tt
 whatever (Some text) all = all text
 
+-- a search that fails, by the error of one in what a source gives
+fails_as : (letter : ℕ → ℕ) (prefix : List ℕ) (why : FindError) (a : Option (List ℕ)) → IfSome a (λ text. finding letter prefix text ≡ Err why)
+    → IfSome a (λ text. IsErrAnd (finding letter prefix text) (λ e. from_source why ≡ from_source e))
+fails_as letter prefix why None fails = tt
+fails_as letter prefix why (Some text) fails = rw fails refl
+
 -- where a search in what a source gives stops, the command's error is told as its cause is
 source_told : (Told : CommandError → Type 0) (letter : ℕ → ℕ) (prefix : List ℕ) (error : FindFromError) (a b c d : Option (List ℕ))
-    → ((why : FindError) → IfSome a (λ text. finding letter prefix text ≡ Err why) → Told (command.Find why))
+    → ((why : FindFromError) → IfSome a (λ text. IsErrAnd (finding letter prefix text) (λ e. why ≡ from_source e)) → Told (command.Find why))
     → (IfSome a (λ text. IsFirstRead (lines_of text)) → Told command.Memory) → Told command.Output → Told command.Input
     → (IfSome a (λ text. 2 ^ 61 ≤ length text) → Told command.TooMuch) → SearchStops letter prefix error a b c d → Told (refusal_from_source error)
-source_told Told letter prefix (from.Prefix error) a b c d found memory output input much stops = found _ (whatever a (λ text. rw stops refl))
-source_told Told letter prefix (from.BadLine n error) a b c d found memory output input much stops = found _ (settled_whole _ a b stops)
-source_told Told letter prefix (from.Unsorted n) a b c d found memory output input much stops = found _ (settled_whole _ a b stops)
-source_told Told letter prefix (from.PrefixTooLong hex_len least) a b c d found memory output input much stops = found _ (settled_whole _ a b stops)
+source_told Told letter prefix (from.Prefix error) a b c d found memory output input much stops =
+    found _ (fails_as letter prefix (search.Prefix error) a (whatever a (λ text. rw stops refl)))
+source_told Told letter prefix (from.BadLine n error) a b c d found memory output input much stops =
+    found _ (fails_as letter prefix (search.BadLine n error) a (settled_whole _ a b stops))
+source_told Told letter prefix (from.Unsorted n) a b c d found memory output input much stops =
+    found _ (fails_as letter prefix (search.Unsorted n) a (settled_whole _ a b stops))
+source_told Told letter prefix (from.PrefixTooLong hex_len least) a b c d found memory output input much stops =
+    found _ (fails_as letter prefix (search.PrefixTooLong hex_len least) a (settled_whole _ a b stops))
 source_told Told letter prefix from.Memory a b c d found memory output input much stops = memory (settled_whole _ a b stops.1)
 source_told Told letter prefix from.Output a b c d found memory output input much stops = output
 source_told Told letter prefix from.Input a b c d found memory output input much stops = input
@@ -78,7 +89,7 @@ source_told Told letter prefix from.TooMuch a b c d found memory output input mu
 
 -- so is that of one in ids of a kind
 source_told_in : (Told : CommandError → Type 0) (kind : Kind) (prefix : List ℕ) (error : FindInFromError) (a b c d : Option (List ℕ))
-    → ((why : FindInError) → IfSome a (λ text. finding_in kind prefix text ≡ Err why) → Told (command.FindIn why))
+    → ((why : FindInError) → IfSome a (λ text. finding_in kind prefix text ≡ Err why) → Told (command.FindIn (in_kind.Search why)))
     → (IfSome a (λ text. IsFirstRead (lines_of text)) → Told command.Memory) → Told command.Output → Told command.Input
     → (IfSome a (λ text. 2 ^ 61 ≤ length text) → Told command.TooMuch) → SearchStopsIn kind prefix error a b c d → Told (refusal_in_source error)
 source_told_in Told kind prefix (in_kind.Search (found_in.Prefix error)) a b c d found memory output input much stops =

@@ -1,12 +1,11 @@
 -- What a command does with its input, and what it refuses.
-use Rattle.std.specs.Prelude.{◌≡◌, ℕ, ◌^◌, ◌<◌, ◌≤◌, Bool, true, false, Option, List, ◌++◌, length, IfSome, Result, Ok, Err}
+use Rattle.std.specs.Prelude.{◌≡◌, ℕ, ◌^◌, ◌<◌, ◌≤◌, Bool, true, false, Option, List, ◌++◌, length, IfSome, IsErrAnd, Result, Ok, Err}
 use Rattle.std.specs.Io.KnownBytes.{Appends}
 use Rattle.command_line.specs.Flushed.{AppendsAtMost}
 use Rattle.gix_hash.specs.Digits.{hex_letter, reverse_letter}
 use Rattle.gix_hash.specs.Hashing.{sealed}
 use Rattle.commands.specs.declared.command.Command.{Command}
 use Rattle.commands.specs.declared.command.Command.TheVariants.{Find, FindChange, FindIn, Hash, HashFile, Seal}
-use Rattle.list_search.specs.declared.FindError.TheVariants as found
 use Rattle.list_search.specs.declared.FindFromError.{FindFromError}
 use Rattle.list_search.specs.declared.FindFromError.TheVariants as from
 use Rattle.list_search.specs.declared.FindInError.TheVariants as found_in
@@ -18,6 +17,7 @@ use Rattle.pipes.specs.declared.PipeError.{PipeError}
 use Rattle.pipes.specs.declared.PipeError.TheVariants as pipe
 use Rattle.pipes.specs.Printing.{printed}
 use Rattle.list_search.specs.Finding.{finding, IsFound}
+use Rattle.list_search.specs.FindingFrom.{from_source}
 use Rattle.list_search.specs.FindingIn.{finding_in}
 use Rattle.pipes.specs.Pipe.{digest_line, SealingStops}
 
@@ -29,22 +29,19 @@ refusal_of_pipe pipe.TooMuch = command.TooMuch
 
 -- a refusal of a search in what a source gives, as one of a command
 abbrev pub refusal_from_source : FindFromError → CommandError
-refusal_from_source (from.Prefix error) = command.Find (found.Prefix error)
-refusal_from_source (from.BadLine n error) = command.Find (found.BadLine n error)
-refusal_from_source (from.Unsorted n) = command.Find (found.Unsorted n)
-refusal_from_source (from.PrefixTooLong hex_len least) = command.Find (found.PrefixTooLong hex_len least)
 refusal_from_source from.Memory = command.Memory
 refusal_from_source from.Output = command.Output
 refusal_from_source from.Input = command.Input
 refusal_from_source from.TooMuch = command.TooMuch
+refusal_from_source error = command.Find error
 
 -- a refusal of one in ids of a kind, likewise
 abbrev pub refusal_in_source : FindInFromError → CommandError
 refusal_in_source (in_kind.Search found_in.Memory) = command.Memory
 refusal_in_source (in_kind.Search found_in.Output) = command.Output
-refusal_in_source (in_kind.Search error) = command.FindIn error
 refusal_in_source in_kind.Input = command.Input
 refusal_in_source in_kind.TooMuch = command.TooMuch
+refusal_in_source error = command.FindIn error
 
 -- the answer is ids, of whose lines a beginning was written, or all
 pub record IsFoundAtMost {E : Type 0} (letter : ℕ → ℕ) (answer : Result (List (List ℕ)) E) (old new : Option (List ℕ)) : Type 0 where
@@ -114,9 +111,10 @@ HasTooMuch asked input = IfSome input (λ text. 2 ^ 61 ≤ length text)
 
 -- the cause of an error of a command, where its input decides it
 abbrev pub Refuses : Command → Option (List ℕ) → CommandError → Type 0
-Refuses (Find prefix) input (command.Find error) = IfSome input (λ text. finding hex_letter prefix.now text ≡ Err error)
-Refuses (FindChange letters) input (command.Find error) = IfSome input (λ text. finding reverse_letter letters.now text ≡ Err error)
-Refuses (FindIn kind prefix) input (command.FindIn error) = IfSome input (λ text. finding_in kind prefix.now text ≡ Err error)
+Refuses (Find prefix) input (command.Find error) = IfSome input (λ text. IsErrAnd (finding hex_letter prefix.now text) (λ why. error ≡ from_source why))
+Refuses (FindChange letters) input (command.Find error) =
+    IfSome input (λ text. IsErrAnd (finding reverse_letter letters.now text) (λ why. error ≡ from_source why))
+Refuses (FindIn kind prefix) input (command.FindIn (in_kind.Search error)) = IfSome input (λ text. finding_in kind prefix.now text ≡ Err error)
 Refuses asked input (command.Find error) = ⊥
 Refuses asked input (command.FindIn error) = ⊥
 Refuses asked input command.Memory = TakesMemory asked

@@ -2,7 +2,6 @@
 
 ghost use Rattle.std.specs.Prelude.{◌≡◌, ◌≢◌, ◌↔◌, ◌⊎◌, ℕ, List, [], length, true, false, IfOk, IfErr, IfSome, OnOk, IsErrOf};
 ghost use Rattle.std.specs.Io.KnownBytes.{Appends};
-ghost use Rattle.commands.specs.declared.command.Command.TheVariants.{FindChange, FindIn};
 ghost use Rattle.commands.specs.declared.running.CommandError.{CommandError};
 ghost use Rattle.commands.specs.Running.{Does, DoesAtMost, HasCopied, Refuses, copies, reads_source};
 ghost use Rattle.devices.specs.Writing.{AppendsPart};
@@ -13,8 +12,7 @@ use devices::{BufferedSink, PIECE_LEN, Sink, Source, WriteFailed};
 use gix_hash::io::{Never, NoProgress};
 use gix_hash::{Alphabet, Kind, bytes_of_file};
 use list_search::{
-    FindError, FindFromError, FindInError, FindInFromError, find_change_from, find_from,
-    find_in_from,
+    FindFromError, FindInError, FindInFromError, find_change_from, find_from, find_in_from,
 };
 use pipes::{PipeError, hash_all, seal, write_id};
 use std::alloc::Allocator;
@@ -33,12 +31,13 @@ use thiserror::Error as ThisError;
 /// ```
 #[derive(Debug, Drop, ThisError)]
 pub enum CommandError {
-    /// The prefix or the list text is refused.
+    /// The prefix or the list text is refused. The causes that other commands share are variants of
+    /// this error.
     #[error("{0}")]
-    Find(FindError),
+    Find(FindFromError),
     /// The prefix or the list text is refused, for ids of one kind.
     #[error("{0}")]
-    FindIn(FindInError),
+    FindIn(FindInFromError),
     /// Memory ran out.
     #[error("out of memory")]
     Memory,
@@ -75,18 +74,11 @@ impl From<FindFromError> for CommandError {
 
     fn from(error: FindFromError) -> Self {
         match error {
-            FindFromError::Prefix(error) => CommandError::Find(FindError::Prefix(error)),
-            FindFromError::BadLine { line, error } => {
-                CommandError::Find(FindError::BadLine { line, error })
-            }
-            FindFromError::Unsorted { line } => CommandError::Find(FindError::Unsorted { line }),
-            FindFromError::PrefixTooLong { hex_len, min } => {
-                CommandError::Find(FindError::PrefixTooLong { hex_len, min })
-            }
             FindFromError::Memory => CommandError::Memory,
             FindFromError::Output => CommandError::Output,
             FindFromError::Input => CommandError::Input,
             FindFromError::TooMuch => CommandError::TooMuch,
+            error => CommandError::Find(error),
         }
     }
 }
@@ -100,9 +92,9 @@ impl From<FindInFromError> for CommandError {
         match error {
             FindInFromError::Search(FindInError::Memory) => CommandError::Memory,
             FindInFromError::Search(FindInError::Output) => CommandError::Output,
-            FindInFromError::Search(error) => CommandError::FindIn(error),
             FindInFromError::Input => CommandError::Input,
             FindInFromError::TooMuch => CommandError::TooMuch,
+            FindInFromError::Search(error) => CommandError::FindIn(FindInFromError::Search(error)),
         }
     }
 }
@@ -165,7 +157,8 @@ pub fn run_command<F: Files, A: Allocator + Copy, R: Source, W: BufferedSink>(
     }
 }
 
-// As `run_command`, but for the flush.
+// As `run_command`, but for the flush. `find-change` and `find-in` read the input to its end before
+// they return an error that was found earlier.
 fn run_unflushed<F: Files, A: Allocator + Copy, R: Source, W: Sink>(
     files: &F,
     alloc: A,
@@ -194,8 +187,23 @@ fn run_unflushed<F: Files, A: Allocator + Copy, R: Source, W: Sink>(
 {
     match command {
         Command::Find { prefix } => Ok(find_from(alloc, prefix, input, out)?),
-        Command::FindChange { letters } => find_change_to_end(alloc, letters, input, out),
-        Command::FindIn { kind, prefix } => find_in_to_end(alloc, kind, prefix, input, out),
+        Command::FindChange { letters } => {
+            let changes = find_change_from(alloc, letters, input, out);
+            if let Err(FindFromError::Prefix(_) | FindFromError::BadLine { .. }) = changes {
+                read_on(input)?;
+            }
+            Ok(changes?)
+        }
+        Command::FindIn { kind, prefix } => {
+            let ids = find_in_from(alloc, kind, prefix, input, out);
+            if let Err(
+                FindInFromError::Search(FindInError::Prefix(_) | FindInError::BadLine { .. }),
+            ) = ids
+            {
+                read_on(input)?;
+            }
+            Ok(ids?)
+        }
         Command::Hash { kind } => {
             hash_all(input, out, kind)?;
             Ok(1)
@@ -209,67 +217,6 @@ fn run_unflushed<F: Files, A: Allocator + Copy, R: Source, W: Sink>(
             Ok(1)
         }
     }
-}
-
-// As `run_unflushed`, of `Command::FindChange`. A refusal that was settled before the input's end is told
-// behind that.
-fn find_change_to_end<A: Allocator, R: Source, W: Sink>(
-    alloc: A,
-    letters: &str,
-    input: &mut R,
-    out: &mut W,
-) -> Result<usize, CommandError>
-    requires input { R.has_failed input.old ≡ false }
-    requires output { W.has_failed out.old ≡ false }
-    ensures done { IfOk result (Does (FindChange letters.entry) (R.remaining input.old)
-        (W.taken out.old) (W.taken out.new)) }
-    ensures refused { IfErr result (Refuses (FindChange letters.entry) (R.remaining input.old)) }
-    ensures memory { IsErrOf result CommandError.Memory
-        → IfSome (R.remaining input.old) (λ bytes. bytes ≢ []) }
-    ensures untouched { IfErr result (λ e. e ≢ CommandError.Output → out.new ≡ out.old) }
-    ensures input { IsErrOf result CommandError.Input ↔ (R.has_failed input.new ≡ true) }
-    ensures output { IsErrOf result CommandError.Output ↔ (W.has_failed out.new ≡ true) }
-    ensures part { IsErrOf result CommandError.Output
-        → DoesAtMost (FindChange letters.entry) (R.remaining input.old) (W.taken out.old)
-        (W.taken out.new) }
-{
-    let found = find_change_from(alloc, letters, input, out);
-    if let Err(FindFromError::Prefix(_) | FindFromError::BadLine { .. }) = found {
-        read_on(input)?;
-    }
-    Ok(found?)
-}
-
-// As `find_change_to_end`, of `Command::FindIn`.
-fn find_in_to_end<A: Allocator, R: Source, W: Sink>(
-    alloc: A,
-    kind: Kind,
-    prefix: &str,
-    input: &mut R,
-    out: &mut W,
-) -> Result<usize, CommandError>
-    requires input { R.has_failed input.old ≡ false }
-    requires output { W.has_failed out.old ≡ false }
-    ensures done { IfOk result (Does (FindIn kind prefix.entry) (R.remaining input.old)
-        (W.taken out.old) (W.taken out.new)) }
-    ensures refused { IfErr result (Refuses (FindIn kind prefix.entry) (R.remaining input.old)) }
-    ensures memory { IsErrOf result CommandError.Memory
-        → IfSome (R.remaining input.old) (λ bytes. bytes ≢ []) }
-    ensures untouched { IfErr result (λ e. e ≢ CommandError.Output → out.new ≡ out.old) }
-    ensures input { IsErrOf result CommandError.Input ↔ (R.has_failed input.new ≡ true) }
-    ensures output { IsErrOf result CommandError.Output ↔ (W.has_failed out.new ≡ true) }
-    ensures part { IsErrOf result CommandError.Output
-        → DoesAtMost (FindIn kind prefix.entry) (R.remaining input.old) (W.taken out.old)
-        (W.taken out.new) }
-{
-    let found = find_in_from(alloc, kind, prefix, input, out);
-    if let Err(
-        FindInFromError::Search(FindInError::Prefix(_) | FindInError::BadLine { .. }),
-    ) = found
-    {
-        read_on(input)?;
-    }
-    Ok(found?)
 }
 
 // Writes the digest of the first `count` bytes of a file: the lowercase hex digits and a line feed.

@@ -10,7 +10,7 @@ use commands::{Command, CommandError, run_command};
 use devices::{FromSlice, IntoSlice, Plain, Sink};
 use gix_hash::Kind;
 use linked_list_allocator::LocalHeap;
-use list_search::FindError;
+use list_search::FindFromError;
 use std::io::BufWriter;
 use std::process::Abort;
 use std::rt::Files;
@@ -73,8 +73,8 @@ fn runs_finding_in_a_kind(rt: HostRuntime) {
     let of_sha256 = text_of(&rt, [BLOB_256, TREE_256].as_slice());
     let of_sha256 = of_sha256.as_str();
     let (sha1, sha256) = (Kind::Sha1, Kind::Sha256);
-    let other_kind = "Err(FindIn(WrongKind { line: 1 }))";
-    let too_short = "Err(FindIn(Prefix(TooShort { hex_len: 0 })))";
+    let other_kind = "Err(FindIn(Search(WrongKind { line: 1 })))";
+    let too_short = "Err(FindIn(Search(Prefix(TooShort { hex_len: 0 }))))";
     for (kind, prefix, list, answer, written) in [
         (sha1, "4b82", of_sha1, "Ok(1)", TREE),
         (sha1, "4", of_sha1, "Ok(1)", TREE),
@@ -220,7 +220,7 @@ fn tells_memory_that_is_refused(rt: HostRuntime) -> Result<(), Fail> {
 
 #[test]
 fn prints_refusals(rt: HostRuntime) {
-    let unsorted = CommandError::Find(FindError::Unsorted { line: 3 });
+    let unsorted = CommandError::Find(FindFromError::Unsorted { line: 3 });
     let rows = [
         (unsorted, "line 3: below the line before it"),
         (CommandError::Memory, "out of memory"),

@@ -1,6 +1,6 @@
-use Rattle.gix_hash.specs.Digits.{hex_letter}
+use Rattle.gix_hash.specs.Digits.{hex_letter, reverse_letter}
 use Rattle.commands.specs.Running.{Refuses}
-use Rattle.commands.proofs.SourceSearches.{answered, find_refuses, ran_out, some_input}
+use Rattle.commands.proofs.SourceSearches.{answered, find_change_refuses, find_in_refuses, find_refuses, ran_out, some_input, some_input_in}
 use Rattle.commands.proofs.running.run_unflushed.Goals as goal
 
 pub returns-in_err-find_from-in-Find-clause-memory : goal.returns-in_err-find_from-in-Find-clause-memory
@@ -14,3 +14,27 @@ returns-in_err-find_from-in-Find-clause-refused g c =
     answered (λ e. Refuses c.args.command (g.R.Source.remaining c.args.input.now) e) _ _ c.from_residual.ensures.1
     (rw c.in-Find.is (find_refuses c.in-Find.prefix c.in_err-find_from-in-Find.field-0.0 (g.R.Source.remaining c.args.input.now) (g.R.Source.remaining c.find_from.new.list)
     (g.W.Sink.taken c.args.out.now) (g.W.Sink.taken c.find_from.new.out) c.in_err-find_from-in-Find.ensures.stopped))
+
+pub returns-in_err-changes-in-FindChange-clause-memory : goal.returns-in_err-changes-in-FindChange-clause-memory
+returns-in_err-changes-in-FindChange-clause-memory g c = λ memory.
+    some_input reverse_letter c.in-FindChange.letters.now c.in_err-changes-in-FindChange.field-0.0 (g.R.Source.remaining c.args.input.now) (g.R.Source.remaining c.find_change_from-changes.new.list)
+    (g.W.Sink.taken c.args.out.now) (g.W.Sink.taken c.find_change_from-changes.new.out) c.in_err-changes-in-FindChange.ensures.stopped
+    (ran_out _ _ c.from_residual-in_err-changes-in-FindChange.ensures.1 memory)
+
+pub returns-in_err-changes-in-FindChange-clause-refused : goal.returns-in_err-changes-in-FindChange-clause-refused
+returns-in_err-changes-in-FindChange-clause-refused g c =
+    answered (λ e. Refuses c.args.command (g.R.Source.remaining c.args.input.now) e) _ _ c.from_residual-in_err-changes-in-FindChange.ensures.1
+    (rw c.in-FindChange.is (find_change_refuses c.in-FindChange.letters c.in_err-changes-in-FindChange.field-0.0 (g.R.Source.remaining c.args.input.now) (g.R.Source.remaining c.find_change_from-changes.new.list)
+    (g.W.Sink.taken c.args.out.now) (g.W.Sink.taken c.find_change_from-changes.new.out) c.in_err-changes-in-FindChange.ensures.stopped))
+
+pub returns-in_err-ids-in-FindIn-clause-memory : goal.returns-in_err-ids-in-FindIn-clause-memory
+returns-in_err-ids-in-FindIn-clause-memory g c = λ memory.
+    some_input_in c.in-FindIn.kind c.in-FindIn.prefix.now c.in_err-ids-in-FindIn.field-0.0 (g.R.Source.remaining c.args.input.now) (g.R.Source.remaining c.find_in_from-ids.new.list)
+    (g.W.Sink.taken c.args.out.now) (g.W.Sink.taken c.find_in_from-ids.new.out) c.in_err-ids-in-FindIn.ensures.stopped
+    (ran_out _ _ c.from_residual-in_err-ids-in-FindIn.ensures.1 memory)
+
+pub returns-in_err-ids-in-FindIn-clause-refused : goal.returns-in_err-ids-in-FindIn-clause-refused
+returns-in_err-ids-in-FindIn-clause-refused g c =
+    answered (λ e. Refuses c.args.command (g.R.Source.remaining c.args.input.now) e) _ _ c.from_residual-in_err-ids-in-FindIn.ensures.1
+    (rw c.in-FindIn.is (find_in_refuses c.in-FindIn.kind c.in-FindIn.prefix c.in_err-ids-in-FindIn.field-0.0 (g.R.Source.remaining c.args.input.now) (g.R.Source.remaining c.find_in_from-ids.new.list)
+    (g.W.Sink.taken c.args.out.now) (g.W.Sink.taken c.find_in_from-ids.new.out) c.in_err-ids-in-FindIn.ensures.stopped))
