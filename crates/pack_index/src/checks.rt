@@ -8,9 +8,7 @@ ghost use Rattle.pack_index.specs.Format.{HasCount, HasHead, HasOffset, HasTable
 ghost use Rattle.pack_index.specs.Refusal.{IsFault, version_1_len};
 
 use crate::error::Error;
-use crate::words::{
-    LONG, NAMES_AT, count_in, long_at, offset_word, tables_end, word_at,
-};
+use crate::words::{LONG, NAMES_AT, count_in, long_at, offset_word, tables_end, word_at};
 use gix_hash::Kind;
 use id_lookup::FanOut;
 

@@ -2,10 +2,11 @@
 
 /// The program's name and origin, the answer to `--version`.
 pub(crate) const VERSION: &str =
-    "packtool of Nunbirdstand, a port of the Rust crate gix-hash 0.26.2\n";
+    "packtool 0.3.0 of Nunbirdstand, a port of the Rust crate gix-hash 0.26.2\n";
 
 /// The commands, the answer to `--help`: the same as the file `help` beside the sources.
-pub(crate) const HELP: &str = "packtool of Nunbirdstand, a port of the Rust crate gix-hash 0.26.2
+pub(crate) const HELP: &str =
+    "packtool 0.3.0 of Nunbirdstand, a port of the Rust crate gix-hash 0.26.2
 usage: packtool find KIND PREFIX | names KIND | show KIND | check KIND
 
   find KIND PREFIX  prints the lines of a pack index whose ids begin with the prefix: offset, id and CRC

@@ -7,7 +7,8 @@ ghost use Rattle.gix_hash.specs.Prefix.{KindDigits};
 ghost use Rattle.gix_hash.specs.PrefixReading.{prefix_read_in};
 ghost use Rattle.id_lookup.specs.Runs.{matches};
 
-use gix_hash::{ObjectId, Prefix, prefix::from_hex::Error};
+use gix_hash::prefix::from_hex::Error;
+use gix_hash::{ObjectId, Prefix};
 use id_lookup::IdIndex;
 
 /// The ids of an index that begin with the hex digits that were typed, in order.
