@@ -47,7 +47,7 @@ MAN = awk -v name=$1 'NR == 1 { printf ".TH %s 1\n.SH NAME\n%s \\- %s\n", touppe
 install: $(PROGRAMS)
 	install -d $(DESTDIR)$(PREFIX)/bin $(DESTDIR)$(PREFIX)/share/man/man1
 	install -t $(DESTDIR)$(PREFIX)/bin $(foreach program,$(PROGRAMS),crates/$(program)/out/$(program))
-	$(foreach program,$(PROGRAMS),$(call MAN,$(program)) > $(DESTDIR)$(PREFIX)/share/man/man1/$(program).1;)
+	@$(foreach program,$(PROGRAMS),$(call MAN,$(program)) > $(DESTDIR)$(PREFIX)/share/man/man1/$(program).1;)
 
 clean:
 	rm -rf crates/*/out
