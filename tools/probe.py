@@ -1,56 +1,73 @@
-"""A program over this repository's crates, compiled in a copy of them: what a tool asks the compiler with."""
+"""What the tools share: counts of what passed, and a program that is compiled in a copy of this repository's crates."""
 
+import contextlib
 import os
+import random
 import re
 import shutil
 import subprocess
 import sys
+import tempfile
 from pathlib import Path
 
 ROOT = Path(__file__).resolve().parent.parent
 PROGRAM = "probe"
-# How the compiler names an error: /room/crates/x/src/y.rt:5:7: error[private-field]: ..
+# The compiler's name for an error: /room/crates/x/src/y.rt:5:7: error[private-field]: ..
 ERROR = re.compile(r"^(?P<file>[^:\n]+):\d+:\d+: error\[(?P<name>[^\]\n]+)\]", re.MULTILINE)
 
 
-def make(room, names, sources):
-    """Copies what the compiler reads to the folder, as a repository of its own, with the program. This stands on the
-    crates named, and has these sources, each by its name."""
-    made_by_rt = {crate / "out" for crate in (ROOT / "crates").iterdir()}
-    shutil.copytree(
-        ROOT / "crates",
-        room / "crates",
-        symlinks=True,
-        ignore=lambda folder, names: [name for name in names if Path(folder, name) in made_by_rt],
-    )
-    shutil.copy(ROOT / "HANDLES", room / "HANDLES")
-    listed = (ROOT / "crates.txt").read_text(encoding="utf-8")
-    (room / "crates.txt").write_text(f"{listed}\n{PROGRAM}: {' '.join(names)}\n", encoding="utf-8")
-    folder = room / "crates" / PROGRAM / "src"
-    folder.mkdir(parents=True)
-    for name, text in sources.items():
-        (folder / name).write_text(text, encoding="utf-8")
-    # (a git hook's own variables would lead git to another repository)
-    environment = {name: value for name, value in os.environ.items() if not name.startswith("GIT_")}
-    subprocess.run(["git", "init", "--quiet", str(room)], env=environment, check=True)
+def count(results):
+    """Prints a line for each result, a pair of a text and whether it passed, and then their counts. Returns the status."""
+    passed = failed = 0
+    for text, holds in results:
+        print(text, flush=True)
+        passed += bool(holds)
+        failed += not holds
+    print(f"{passed} passed, {failed} failed", flush=True)
+    return min(failed, 1)
 
 
-def compiled(room):
-    """Compiles the program with all that it stands on, from the sources, and proves nothing. Returns the status, what
-    was written, and the errors in it, each with its file."""
-    ran = subprocess.run(
-        ["rt", "try"],
-        cwd=room / "crates" / PROGRAM,
-        stdin=subprocess.DEVNULL,
-        stdout=subprocess.PIPE,
-        stderr=subprocess.STDOUT,
-        encoding="utf-8",
-        errors="replace",
-    )
+@contextlib.contextmanager
+def room_with(crates, sources):
+    """A temporary folder with a copy of what the compiler reads, as a repository of its own. Its program depends on the
+    crates, and has these sources, each by its name."""
+    with tempfile.TemporaryDirectory(prefix="probe-") as name:
+        room = Path(name).resolve()
+        shutil.copytree(ROOT / "crates", room / "crates", symlinks=True, ignore=shutil.ignore_patterns("out"))
+        shutil.copy(ROOT / "HANDLES", room)
+        listed = (ROOT / "crates.txt").read_text(encoding="utf-8")
+        (room / "crates.txt").write_text(f"{listed}\n{PROGRAM}: {' '.join(sorted(crates))}\n", encoding="utf-8")
+        folder = room / "crates" / PROGRAM / "src"
+        folder.mkdir(parents=True)
+        for file, text in sources.items():
+            (folder / file).write_text(text, encoding="utf-8")
+        # (a git hook's own variables would lead git to another repository)
+        environment = {key: value for key, value in os.environ.items() if not key.startswith("GIT_")}
+        subprocess.run(["git", "init", "--quiet", name], env=environment, check=True)
+        yield room
+
+
+def compiled(room, verb="try"):
+    """Compiles the program with all crates below it, and proves nothing. Returns the status, the output, and its
+    errors, each with its file. The verb `run` also proves and runs it."""
+    words = {"cwd": room / "crates" / PROGRAM, "stdin": subprocess.DEVNULL, "stderr": subprocess.STDOUT}
+    ran = subprocess.run(["rt", verb], stdout=subprocess.PIPE, encoding="utf-8", errors="replace", check=False, **words)
     return ran.returncode, ran.stdout, [(it["file"], it["name"]) for it in ERROR.finditer(ran.stdout)]
 
 
-def tell(said):
-    """Tells the last lines of what was written."""
-    sys.stderr.write("".join(f"    {line}\n" for line in said.splitlines()[-20:]))
-    sys.stderr.flush()
+def print_end(output):
+    """Prints the last lines of an output on standard error."""
+    print(*(f"    {line}" for line in output.splitlines()[-20:]), sep="\n", file=sys.stderr, flush=True)
+
+
+def program(name):
+    """The path of a program, which is proved and built first if it has to be."""
+    subprocess.run([ROOT / name], stdin=subprocess.DEVNULL, stdout=subprocess.DEVNULL, stderr=subprocess.DEVNULL, check=False)
+    return str(ROOT / "crates" / name / "out" / name)
+
+
+def sorted_ids(size, id_lens):
+    """That many random sorted ids in hex, each of one of these numbers of bytes, the same at each run."""
+    rng = random.Random(size + sum(id_lens))
+    for word in sorted(rng.getrandbits(64) for _ in range(size)):
+        yield f"{word:016x}{rng.randbytes(rng.choice(id_lens) - 8).hex()}"

@@ -1,12 +1,12 @@
-//! What the programs share: the words that they are started with, and the status with which they
-//! end.
+//! What the programs share: the arguments they are started with, the errors they end with, and
+//! their exit status.
 //!
-//! [`own_words`] gives the words behind a program's name, and [`told`] tells the answer of what they
-//! ask for.
+//! [`command_line_args`] returns the arguments after a program's name, and [`report`] prints an
+//! error and gives the exit status. A program's error is a [`Failure`].
 #![tactic(auto)]
 
+mod args;
 mod status;
-mod words;
 
-pub use status::{exit_status, told};
-pub use words::{WordsError, own_words};
+pub use args::{WordsError, command_line_args};
+pub use status::{Failure, exit_status, report};

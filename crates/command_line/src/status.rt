@@ -1,4 +1,4 @@
-//! The status with which a program ends.
+//! How a program ends.
 
 ghost use Rattle.std.specs.Prelude.{◌≡◌};
 ghost use Rattle.std.specs.Process.{exit_status as ended_with};
@@ -6,26 +6,47 @@ ghost use Rattle.command_line.specs.Status.{status_of};
 
 use std::fmt;
 use std::process::ExitCode;
+use thiserror::Error as ThisError;
 
-/// The status for an answer that counts what was found or written: 0 where there is some, 1 where
-/// there is none, and 2 for a refusal.
-pub fn exit_status<E>(answer: &Result<usize, E>) -> u8
-    ensures { result ≡ status_of answer.now }
+/// Why a program did not run a command to its end.
+///
+/// ```
+/// let why: Failure<&str, &str> = Failure::Command("out of memory");
+/// println!(rt; "{why}")?;
+/// ```
+#[derive(Debug, Drop, ThisError)]
+pub enum Failure<A: fmt::Display, C: fmt::Display> {
+    /// The arguments are no command.
+    #[error("{0}")]
+    Args(A),
+    /// The command failed.
+    #[error("{0}")]
+    Command(C),
+}
+
+/// The exit status for a result that counts what was found or written: 0 for at least one, 1 for
+/// none, and 2 for an error.
+pub fn exit_status<E>(outcome: &Result<usize, E>) -> u8
+    ensures { result ≡ status_of outcome.now }
 {
-    match answer {
+    match outcome {
         Ok(0) => 1,
         Ok(_) => 0,
         Err(_) => 2,
     }
 }
 
-/// Tells a refusal on standard error, as its text and a line feed, and gives the status of the
-/// answer. Where standard error takes no text, the status is the same.
-pub fn told<E: fmt::Display + Drop>(rt: &impl Eprint, answer: Result<usize, E>) -> ExitCode
-    ensures { ended_with result ≡ status_of answer }
+/// Prints an error on standard error, as the prefix, its text and a line feed, and returns the exit
+/// status. The status is the same if the text cannot be printed.
+pub fn report<E: fmt::Display + Drop>(
+    rt: &impl Eprint,
+    prefix: &str,
+    outcome: Result<usize, E>,
+) -> ExitCode
+    ensures { ended_with result ≡ status_of outcome }
 {
-    if let Err(why) = &answer {
-        let _ = rt.eprintln(why);
+    if let Err(why) = &outcome {
+        let _ = eprintln!(rt; "{prefix}{why}");
     }
-    ExitCode::from(exit_status(&answer))
+    ExitCode::from(exit_status(&outcome))
 }

@@ -13,11 +13,11 @@ length-chunks : (n : ℕ) → length (chunks n) ≡ n / 65535 + min (n % 65535) 
 unfolding chunks
 length-chunks n = rw (length-append, length-replicate, length-last_chunk)
 
--- where bytes are left, a chunk of them is left
+-- if bytes are left, a chunk of them is left
 pub chunk_is_there : (n j : ℕ) → 65535 * j < n → j < length (chunks n)
 chunk_is_there n j left = rw length-chunks (omega arith)
 
--- where no bytes are left, no chunk is
+-- if no bytes are left, no chunk is
 pub chunks_end : (n j : ℕ) → n ≤ 65535 * j → length (chunks n) ≤ j
 chunks_end n j none = rw length-chunks (omega arith)
 
@@ -27,7 +27,7 @@ unfolding last_chunk
 chunk_at q zero j there small = grind (arith, common_steps)
 chunk_at q (suc r) j there small = grind (arith, common_steps)
 
--- the chunk behind the first j is what is left, or 65535 bytes of it
+-- the chunk after the first j is what is left, or 65535 bytes of it
 pub take-chunks : (n j : ℕ) → 65535 * j < n
     → take (j + 1) (chunks n) ≡ take j (chunks n) ++ min (n - 65535 * j) 65535 ∷ []
 unfolding chunks

@@ -1,4 +1,4 @@
--- The beginnings that two lists have in common: as long as the digits that they share, and no longer.
+-- The prefixes that two lists have in common: as long as the digits that they share, and no longer.
 use Rattle.std.proofs.Common.{◌≡◌, ℕ, suc, ◌+◌, ◌≤◌, Bool, true, false, cond, nat_eq, List, [], ◌∷◌, ◌++◌, length, take, drop, refl, sym, ap, ◌∙◌, arith, eqb-true, take-append-drop}
 use Rattle.std.specs.List.{common_prefix_len}
 use Rattle.std.proofs.lemmas.Bool.Decides.{nat_tests}
@@ -10,7 +10,7 @@ use Rattle.gix_hash.specs.CommonDigits.{IsCommonLen}
 abbrev common : List ℕ → List ℕ → ℕ
 common = common_prefix_len nat_eq
 
--- two lists have the same beginning of as many digits as they share
+-- two lists have the same first digits, as many as they share
 take-common : (xs ys : List ℕ) → take (common xs ys) xs ≡ take (common xs ys) ys
 take-common [] ys = refl
 take-common (x ∷ xs) [] = refl
@@ -31,7 +31,7 @@ common-appended (d ∷ digits) xs ys =
 begins_both : (xs ys digits : List ℕ) → BeginsWith xs digits → BeginsWith ys digits → length digits ≤ common xs ys
 begins_both xs ys digits first second = rw (first.1, second.1) (common-appended digits first.0 second.0)
 
--- the number of shared digits, said by beginnings
+-- the number of shared digits, in terms of prefixes
 pub longest_common : (xs ys : List ℕ) (n : ℕ) → n ≡ common xs ys → IsCommonLen xs ys n
 longest_common xs ys n is =
     let fits = common_prefix_len-le nat_eq xs ys in

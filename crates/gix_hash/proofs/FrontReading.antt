@@ -1,16 +1,15 @@
 -- Reading a text into the front of zeros: whole bytes, and the last of an odd number of letters with the letter 0.
-use Rattle.std.proofs.Common.{◌≡◌, ℕ, suc, ◌-◌, ◌*◌, ◌<◌, Bool, true, false, ◌&&◌, List, [], ◌∷◌, ◌++◌, length, take, drop, get_or, slice_set, replicate, refl, sym, ap, ◌∙◌, arith, append_assoc, length-append, drop-cons, Option, Some, None, if◌then◌else◌}
+use Rattle.std.proofs.Common.{◌≡◌, ℕ, suc, ◌*◌, ◌<◌, Bool, true, false, ◌&&◌, List, [], ◌∷◌, ◌++◌, length, take, drop, get_or, slice_set, replicate, refl, sym, ap, ◌∙◌, arith, drop-cons, Option, Some, None, if◌then◌else◌}
 use Rattle.std.specs.Option.{option_map}
-use Rattle.std.proofs.lemmas.List.{drop-replicate, drop_all, set_at, take_all, take-append-drop}
+use Rattle.std.proofs.lemmas.List.{drop_all, take_all, take-append-drop}
 use Rattle.id_digits.specs.Digits.{digits_of, hex_letter}
-use Rattle.id_digits.proofs.Packing.{digits_of-append, digits_of-zeros}
-use Rattle.id_digits.proofs.Places.{length-digits_of}
+use Rattle.id_digits.proofs.Packing.{padded-bytes, padded-half}
 use Rattle.id_digits.proofs.ReadingFacts.{length-digits_read}
 use Rattle.gix_hash.specs.Prefix.{padded}
 use Rattle.gix_hash.specs.Reading.{digit_below, digit_in, digits_read, put_digit}
 use Rattle.gix_hash.proofs.Packing.{take-padded}
 
--- the digits, from the same with zeros behind them
+-- the digits, from the same with zeros after them
 parts : (n : ℕ) (answer : Option (List ℕ)) (whole : List ℕ) → option_map (padded n) answer ≡ Some whole
     → (digits : List ℕ) × (answer ≡ Some digits) × (padded n digits ≡ whole)
 parts n None whole h = cc h
@@ -26,7 +25,7 @@ first_read letter n text whole h =
     sym (take-padded (length text) n read.0 len) ∙ ap (take (length text)) read.2 in
     (read.1 ∙ ap Some first, sym read.2 ∙ ap (padded n) first)
 
--- the digits of two texts, one behind the other
+-- the digits of two texts, one after the other
 abbrev joined : Option (List ℕ) → Option (List ℕ) → Option (List ℕ)
 joined None more = None
 joined (Some ds) None = None
@@ -71,14 +70,6 @@ last_none : (c : ℕ) → digits_read hex_letter (c ∷ 48 ∷ []) ≡ None → 
 unfolding digits_read
 last_none c h = pair_none (digit_in hex_letter c) (rw digit_in-zero at h)
 
--- bytes before zeros have their digits, padded
-before_zeros : (k m : ℕ) (bytes zeros : List ℕ) → length bytes ≡ k → zeros ≡ replicate m 0
-    → padded (2 * m) (digits_of bytes) ≡ digits_of (bytes ++ drop k zeros)
-before_zeros k m bytes zeros long are =
-    let len = length-digits_of bytes in
-    let count : 2 * m - length (digits_of bytes) ≡ 2 * (m - k) = omega arith in
-    rw (count, are, drop-replicate {X = ℕ} k m 0, digits_of-append, digits_of-zeros (m - k)) refl
-
 -- an even number of letters
 pub even_read : (k m : ℕ) (text bytes zeros : List ℕ) (reads : Bool) → length text ≡ 2 * k → length bytes ≡ k → zeros ≡ replicate m 0
     → digits_read hex_letter (take (2 * k) text) ≡ (if reads then Some (digits_of bytes) else None)
@@ -87,30 +78,25 @@ even_read k m text bytes zeros reads two long are h = by reads (rw (take_all (2 
   where
     by : (reads : Bool) → digits_read hex_letter text ≡ (if reads then Some (digits_of bytes) else None)
         → option_map (padded (2 * m)) (digits_read hex_letter text) ≡ (if reads then Some (digits_of (bytes ++ drop k zeros)) else None)
-    by true read = rw read (ap Some (before_zeros k m bytes zeros long are))
+    by true read = rw read (ap Some (padded-bytes k m bytes zeros long are))
     by false read = rw read refl
 
 -- the one letter that is left
 pub one_left : (k : ℕ) (text : List ℕ) → length text ≡ suc k → drop k text ≡ get_or text k 0 ∷ []
 one_left k text long = rw (drop-cons text k 0 (omega arith), drop_all (suc k) text (omega arith)) refl
 
--- an odd number: the last byte is set behind the others
+-- an odd number: the last byte is set after the others
 pub odd_read : (k m c b : ℕ) (text bytes last zeros : List ℕ) (reads last_reads : Bool) → drop (2 * k) text ≡ c ∷ [] → length bytes ≡ k → k < m
     → zeros ≡ replicate m 0 → last ≡ b ∷ []
     → digits_read hex_letter (take (2 * k) text) ≡ (if reads then Some (digits_of bytes) else None)
     → digits_read hex_letter (c ∷ 48 ∷ []) ≡ (if last_reads then Some (digits_of last) else None)
     → option_map (padded (2 * m)) (digits_read hex_letter text)
     ≡ (if reads && last_reads then Some (digits_of (slice_set (bytes ++ drop k zeros) k b)) else None)
-odd_read k m c b text bytes last zeros reads last_reads behind long room are one h g = by reads last_reads h g
+odd_read k m c b text bytes last zeros reads last_reads rest long room are one h g = by reads last_reads h g
   where
     split : digits_read hex_letter text ≡ joined (digits_read hex_letter (take (2 * k) text)) (digits_read hex_letter (c ∷ []))
-    split = ap (digits_read hex_letter) (sym (take-append-drop (2 * k) text) ∙ ap (λ (cs : List ℕ). take (2 * k) text ++ cs) behind)
+    split = ap (digits_read hex_letter) (sym (take-append-drop (2 * k) text) ∙ ap (λ (cs : List ℕ). take (2 * k) text ++ cs) rest)
         ∙ digits_read-append (take (2 * k) text) (c ∷ [])
-
-    set : slice_set (bytes ++ drop k zeros) k b ≡ bytes ++ b ∷ replicate (m - suc k) 0
-    set =
-        let more : m - k ≡ suc (m - suc k) = omega arith in
-        rw (are, drop-replicate {X = ℕ} k m 0, more) (set_at bytes 0 (replicate (m - suc k) 0) b k long)
 
     by : (reads last_reads : Bool) → digits_read hex_letter (take (2 * k) text) ≡ (if reads then Some (digits_of bytes) else None)
         → digits_read hex_letter (c ∷ 48 ∷ []) ≡ (if last_reads then Some (digits_of last) else None)
@@ -120,12 +106,5 @@ odd_read k m c b text bytes last zeros reads last_reads behind long room are one
     by true false h g = rw (split, h, last_none c g) refl
     by true true h g =
         let end = last_read c (digits_of last) g in
-        let d = end.0 in
-        let half : digits_of (b ∷ []) ≡ d ∷ 0 ∷ [] = sym (ap digits_of one) ∙ end.2 in
-        let len = length-digits_of bytes in
-        let count : 2 * m - length (digits_of bytes ++ d ∷ []) ≡ suc (2 * (m - suc k)) = omega (arith, length-append (digits_of bytes) (d ∷ [])) in
-        let whole : digits_of (bytes ++ b ∷ replicate (m - suc k) 0) ≡ digits_of bytes ++ d ∷ 0 ∷ replicate (2 * (m - suc k)) 0 =
-        digits_of-append bytes (b ∷ replicate (m - suc k) 0)
-        ∙ ap (λ (ds : List ℕ). digits_of bytes ++ ds) (digits_of-append (b ∷ []) (replicate (m - suc k) 0)
-        ∙ rw (half, digits_of-zeros (m - suc k)) refl) in
-        rw (split, h, end.1, set, whole, count) (ap Some (append_assoc (digits_of bytes) (d ∷ []) (0 ∷ replicate (2 * (m - suc k)) 0)))
+        let half = sym (ap digits_of one) ∙ end.2 in
+        rw (split, h, end.1) (ap Some (padded-half k m end.0 b bytes zeros long room are half))

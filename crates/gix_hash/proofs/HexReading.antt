@@ -42,7 +42,7 @@ abbrev pub decoded_digits : Result (List ℕ) FromHexError → Option (List ℕ)
 decoded_digits (Ok bytes) = Some (digits_of bytes)
 decoded_digits (Err e) = None
 
--- one byte of two digits, before what is decoded behind it
+-- one byte of two digits, before what is decoded after it
 decoded_pair : (high low : Option ℕ) (more : Result (List ℕ) FromHexError) (a b i : ℕ)
     → ((l : ℕ) → low ≡ Some l → l < 16)
     → decoded_digits ((digit_or_error a i high >>= (λ h. digit_or_error b (i + 1) low >>= (λ l. Ok (h * 16 + l)))) >>= (λ byte. more >>= (λ bytes. Ok (byte ∷ bytes))))
@@ -69,7 +69,7 @@ decoded_digits-decode_pairs i (a ∷ (b ∷ rest)) even =
     let fits = λ (l : ℕ) (h : hex_digit_value b ≡ Some l). (hex_value-letter b l h).digit in
     rw (digit_in-hex a, digit_in-hex b, ← more) (decoded_pair (hex_digit_value a) (hex_digit_value b) (decode_pairs (i + 2) rest) a b i fits)
 
--- the digits that the text reads as, from what `hex` answered and left in `out`
+-- the digits that the text reads as, from what `hex` returned and left in `out`
 pub digits_read-decoded : (text out : List ℕ) (n : ℕ) (answer : Result (Unit {0}) FromHexError) → length text ≡ 2 * n
     → MatchResult (decode_sized text n) (λ bytes. (answer ≡ Ok tt) × (out ≡ bytes)) (λ e. answer ≡ Err e)
     → digits_read hex_letter text ≡ (if is_ok answer then Some (digits_of out) else None)

@@ -7,10 +7,10 @@ use Rattle.std.proofs.lemmas.List.Elements.{All-head, All-tail}
 use Rattle.hex.specs.Hex.{encode_with, encode_lower, lower_digits}
 use Rattle.hex.specs.declared.error.FromHexError.{FromHexError}
 use Rattle.id_digits.specs.Digits.{digits_of, spelling, hex_letter}
-use Rattle.id_digits.proofs.Places.{length-digits_of}
+use Rattle.id_digits.proofs.ByteDigits.{length-digits_of}
 use Rattle.id_digits.proofs.Spellings.{length-spelling}
 
--- a digit's letter stands at the digit's place among the letters
+-- a digit's letter is at the digit's index among the letters
 pub hex_letter-table : (d : ℕ) → d < 16 → slice_index lower_digits d ≡ hex_letter d
 hex_letter-table d h =
     eqb-true (slice_index lower_digits d) (hex_letter d)
@@ -27,17 +27,17 @@ encode_lower-spelling (b ∷ bytes) h =
     let more = encode_lower-spelling bytes (All-tail (λ (x : ℕ). x < 256) b bytes h) in
     rw (hex_letter-table (b / 16) high, hex_letter-table (b % 16) low, more) refl
 
--- and is left in room for just so many letters
+-- and is written to a slice of exactly that length
 pub spelled : (bytes room out : List ℕ) (answer : Result (Unit {0}) FromHexError) → length room ≡ 2 * length bytes
     → (IsOk answer ↔ (length room ≡ 2 * length bytes)) → OnOk answer (out ≡ encode_lower bytes) → All (λ b. b < 256) bytes
     → out ≡ spelling hex_letter (digits_of bytes)
 spelled bytes room out (Ok x) len fits written small = written ∙ encode_lower-spelling bytes small
 spelled bytes room out (Err e) len fits written small = cc (fits.1 len)
 
--- the letters in front of a buffer, and what is behind them
-pub cut_and_behind : (ds bytes buffer : List ℕ) → ds ≡ digits_of bytes
+-- the letters in front of a buffer, and what is after them
+pub cut_and_rest : (ds bytes buffer : List ℕ) → ds ≡ digits_of bytes
     → (take (2 * length bytes) (spelling hex_letter ds ++ drop (2 * length bytes) buffer) ≡ spelling hex_letter ds)
     × (drop (2 * length bytes) (spelling hex_letter ds ++ drop (2 * length bytes) buffer) ≡ drop (2 * length bytes) buffer)
-cut_and_behind ds bytes buffer are =
+cut_and_rest ds bytes buffer are =
     let len = length-spelling hex_letter ds ∙ ap length are ∙ length-digits_of bytes in
     (take_at _ _ (2 * length bytes) len, drop_at _ _ (2 * length bytes) len)

@@ -1,62 +1,43 @@
 -- The digits that ids and digests have.
-use Rattle.std.proofs.Common.{◌≡◌, ◌↔◌, ℕ, zero, suc, ◌<◌, ◌*◌, ◌+◌, ◌/◌, ◌%◌, ◌^◌, List, [], ◌∷◌, length, length-append, refl, ap, subst, mod-lt, arith}
+use Rattle.std.proofs.Common.{◌≡◌, ◌↔◌, ℕ, zero, suc, ◌<◌, ◌*◌, ◌+◌, ◌++◌, ◌/◌, ◌%◌, ◌^◌, List, [], ◌∷◌, length, length-append, refl, ap, subst, mod-lt, arith}
 use Rattle.std.specs.Prelude.{All, slice_index}
 use Rattle.std.specs.Int.{w32, byte_at, bytes_high_first, to_be_bytes}
 use Rattle.std.proofs.lemmas.List.Elements.{All-nil, All-cons, All-head, All-tail, All-append}
 use Rattle.sha1.specs.Sha1 as sha1
 use Rattle.sha2.specs.Sha256 as sha256
-use Rattle.id_digits.proofs.Places.{length-digits_of}
+use Rattle.id_digits.proofs.ByteDigits.{length-digits_of}
 use Rattle.id_digits.proofs.Spellings.{All-digits_of}
 use Rattle.id_digits.specs.Digits.{digits_of}
 use Rattle.gix_hash.specs.Kind.{byte_len_of}
 use Rattle.gix_hash.specs.ObjectId.{id_bytes, id_digits}
-use Rattle.gix_hash.specs.PrefixBytes.{packed, id_of}
 use Rattle.gix_hash.specs.declared.kind.Kind.{Kind}
 use Rattle.gix_hash.specs.declared.kind.Kind.TheVariants.{Sha1, Sha256}
 use Rattle.gix_hash.specs.declared.object_id.ObjectId.{ObjectId}
+use Rattle.gix_hash.specs.declared.object_id.ObjectId.TheVariants as ids
 use Rattle.gix_hash.specs.Hashing.{digest}
 use Rattle.gix_hash.specs.IdDigits.{AreIdDigits, HasDigits}
 
--- bytes made of an even number of digits have these digits
-digits_of-packed : (n : ℕ) (digits : List ℕ) → length digits ≡ 2 * n → All (λ d. d < 16) digits → digits_of (packed digits) ≡ digits
-unfolding digits_of packed
-digits_of-packed n [] len fits = refl
-digits_of-packed n (d ∷ []) len fits = absurd (omega arith)
-digits_of-packed zero (d ∷ (e ∷ digits)) len fits = absurd (omega arith)
-digits_of-packed (suc n) (d ∷ (e ∷ digits)) len fits =
-    let behind = All-tail (λ (x : ℕ). x < 16) d (e ∷ digits) fits in
-    let below : e < 16 = All-head (λ (x : ℕ). x < 16) e digits behind in
+-- digits taken two by two are those of bytes
+bytes_with : (n : ℕ) (digits : List ℕ) → length digits ≡ 2 * n → All (λ d. d < 16) digits
+    → (bytes : List ℕ) × (length bytes ≡ n) × All (λ b. b < 256) bytes × (digits_of bytes ≡ digits)
+unfolding digits_of
+bytes_with zero [] len fits = ([], refl, All-nil (λ (b : ℕ). b < 256), refl)
+bytes_with (suc n) [] len fits = absurd (omega arith)
+bytes_with n (d ∷ []) len fits = absurd (omega arith)
+bytes_with zero (d ∷ (e ∷ digits)) len fits = absurd (omega arith)
+bytes_with (suc n) (d ∷ (e ∷ digits)) len fits =
+    let after = All-tail (λ (x : ℕ). x < 16) d (e ∷ digits) fits in
+    let first : d < 16 = All-head (λ (x : ℕ). x < 16) d (e ∷ digits) fits in
+    let second : e < 16 = All-head (λ (x : ℕ). x < 16) e digits after in
+    let rest = bytes_with n digits (omega arith) (All-tail (λ (x : ℕ). x < 16) e digits after) in
     let high : (16 * d + e) / 16 ≡ d = omega arith in
     let low : (16 * d + e) % 16 ≡ e = omega arith in
-    let rest = digits_of-packed n digits (omega arith) (All-tail (λ (x : ℕ). x < 16) e digits behind) in
-    λ i. high i ∷ low i ∷ rest i
+    ((16 * d + e) ∷ rest.0, ap suc rest.1, All-cons (λ (b : ℕ). b < 256) (16 * d + e) rest.0 (omega arith) rest.2, λ i. high i ∷ low i ∷ rest.3 i)
 
--- there are half as many bytes
-length-packed : (n : ℕ) (digits : List ℕ) → length digits ≡ 2 * n → length (packed digits) ≡ n
-unfolding packed
-length-packed zero [] len = refl
-length-packed (suc n) [] len = absurd (omega arith)
-length-packed n (d ∷ []) len = absurd (omega arith)
-length-packed zero (d ∷ (e ∷ digits)) len = absurd (omega arith)
-length-packed (suc n) (d ∷ (e ∷ digits)) len = ap (λ k. suc k) (length-packed n digits (omega arith))
-
--- and they are bytes
-All-packed : (digits : List ℕ) → All (λ d. d < 16) digits → All (λ b. b < 256) (packed digits)
-unfolding packed
-All-packed [] fits = All-nil (λ (b : ℕ). b < 256)
-All-packed (d ∷ []) fits =
-    let digit : d < 16 = All-head (λ (x : ℕ). x < 16) d [] fits in
-    All-cons (λ (b : ℕ). b < 256) (16 * d) [] (omega arith) (All-nil (λ (b : ℕ). b < 256))
-All-packed (d ∷ (e ∷ digits)) fits =
-    let digit : d < 16 = All-head (λ (x : ℕ). x < 16) d (e ∷ digits) fits in
-    let behind = All-tail (λ (x : ℕ). x < 16) d (e ∷ digits) fits in
-    let next : e < 16 = All-head (λ (x : ℕ). x < 16) e digits behind in
-    All-cons (λ (b : ℕ). b < 256) (16 * d + e) (packed digits) (omega arith) (All-packed digits (All-tail (λ (x : ℕ). x < 16) e digits behind))
-
--- an id that is made of so many digits has them
-made : (kind : Kind) (digits : List ℕ) → AreIdDigits kind digits → HasDigits kind digits (id_of kind (packed digits))
-made Sha1 digits h = (refl, length-packed 20 digits (omega (arith, h.0)), All-packed digits h.1, digits_of-packed 20 digits (omega (arith, h.0)) h.1)
-made Sha256 digits h = (refl, length-packed 32 digits (omega (arith, h.0)), All-packed digits h.1, digits_of-packed 32 digits (omega (arith, h.0)) h.1)
+-- some id has digits of the right number and range
+made : (kind : Kind) (digits : List ℕ) → AreIdDigits kind digits → (id : ObjectId) × HasDigits kind digits id
+made Sha1 digits h = let b = bytes_with 20 digits (omega (arith, h.0)) h.1 in (ids.Sha1 b.0, (refl, b.1, b.2, b.3))
+made Sha256 digits h = let b = bytes_with 32 digits (omega (arith, h.0)) h.1 in (ids.Sha256 b.0, (refl, b.1, b.2, b.3))
 
 -- the digits of bytes, as many as the kind's digests have, are those of an id
 digits_of-bytes : (kind : Kind) (bytes : List ℕ) → length bytes ≡ byte_len_of kind → All (λ b. b < 256) bytes → AreIdDigits kind (digits_of bytes)
@@ -66,7 +47,7 @@ digits_of-bytes Sha256 bytes len fits = (omega (arith, length-digits_of bytes), 
 -- the digits of ids are those that some id has
 pub AreIdDigits-some : (kind : Kind) (digits : List ℕ) → AreIdDigits kind digits ↔ ((id : ObjectId) × HasDigits kind digits id)
 AreIdDigits-some kind digits = (
-  λ h. (id_of kind (packed digits), made kind digits h),
+  made kind digits,
   λ h. subst (AreIdDigits kind) h.1.3 (digits_of-bytes kind (id_bytes h.0) h.1.1 h.1.2),
 )
 
@@ -75,7 +56,7 @@ byte_at-below : (i n : ℕ) → byte_at i n < 256
 byte_at-below zero n = omega arith
 byte_at-below (suc i) n = mod-lt (n / 256 ^ suc i) (omega arith)
 
--- so many bytes of it
+-- the first k bytes of it
 All-bytes : (k n : ℕ) → All (λ b. b < 256) (bytes_high_first k n)
 All-bytes zero n = All-nil (λ (b : ℕ). b < 256)
 All-bytes (suc k) n = All-cons (λ (b : ℕ). b < 256) (byte_at k n) (bytes_high_first k n) (byte_at-below k n) (All-bytes k n)
@@ -84,25 +65,23 @@ All-bytes (suc k) n = All-cons (λ (b : ℕ). b < 256) (byte_at k n) (bytes_high
 word_bytes : (n : ℕ) → (length (to_be_bytes w32 n) ≡ 4) × All (λ b. b < 256) (to_be_bytes w32 n)
 word_bytes n = (refl, All-bytes 4 n)
 
--- the bytes of the words of a SHA-1 digest
+-- the bytes of the first n words of a hash
+bytes_of_words : (bytes : List ℕ → ℕ → List ℕ) (h : List ℕ) → bytes h 0 ≡ [] → ((n : ℕ) → bytes h (suc n) ≡ bytes h n ++ to_be_bytes w32 (slice_index h n))
+    → (n : ℕ) → (length (bytes h n) ≡ 4 * n) × All (λ b. b < 256) (bytes h n)
+bytes_of_words bytes h none more zero = rw none (refl, All-nil (λ (b : ℕ). b < 256))
+bytes_of_words bytes h none more (suc n) =
+    let before = bytes_of_words bytes h none more n in
+    let last = word_bytes (slice_index h n) in
+    let both = length-append (bytes h n) (to_be_bytes w32 (slice_index h n)) in
+    rw (more n) (omega (arith, before.0, last.0, both), All-append (λ (b : ℕ). b < 256) _ _ before.1 last.1)
+
 sha1_bytes : (h : List ℕ) (n : ℕ) → (length (sha1.digest_bytes h n) ≡ 4 * n) × All (λ b. b < 256) (sha1.digest_bytes h n)
 unfolding sha1.digest_bytes
-sha1_bytes h zero = (refl, All-nil (λ (b : ℕ). b < 256))
-sha1_bytes h (suc n) =
-    let before = sha1_bytes h n in
-    let last = word_bytes (slice_index h n) in
-    let both = length-append (sha1.digest_bytes h n) (to_be_bytes w32 (slice_index h n)) in
-    (omega (arith, before.0, last.0, both), All-append (λ (b : ℕ). b < 256) _ _ before.1 last.1)
+sha1_bytes h = bytes_of_words sha1.digest_bytes h refl (λ n. refl)
 
--- and of a SHA-256 digest
 sha256_bytes : (h : List ℕ) (n : ℕ) → (length (sha256.digest_bytes h n) ≡ 4 * n) × All (λ b. b < 256) (sha256.digest_bytes h n)
 unfolding sha256.digest_bytes
-sha256_bytes h zero = (refl, All-nil (λ (b : ℕ). b < 256))
-sha256_bytes h (suc n) =
-    let before = sha256_bytes h n in
-    let last = word_bytes (slice_index h n) in
-    let both = length-append (sha256.digest_bytes h n) (to_be_bytes w32 (slice_index h n)) in
-    (omega (arith, before.0, last.0, both), All-append (λ (b : ℕ). b < 256) _ _ before.1 last.1)
+sha256_bytes h = bytes_of_words sha256.digest_bytes h refl (λ n. refl)
 
 -- the digest of a message is one of the kind
 pub digest-HasDigits : (kind : Kind) (message : List ℕ) → HasDigits kind (id_digits (digest kind message)) (digest kind message)

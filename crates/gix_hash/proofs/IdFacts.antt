@@ -1,4 +1,4 @@
--- What the bytes of an id tell of its digits.
+-- What the bytes of an id say of its digits.
 use Rattle.std.proofs.Common.{◌≡◌, ℕ, ◌<◌, List, length, sym, ap, ◌∙◌, subst, arith}
 use Rattle.std.specs.Prelude.{All}
 use Rattle.gix_hash.specs.Kind.{hex_len_of, byte_len_of}
@@ -7,7 +7,7 @@ use Rattle.gix_hash.specs.Oid.{oid_kind, oid_bytes, oid_digits}
 use Rattle.gix_hash.specs.declared.borrowed.oid.{oid}
 use Rattle.gix_hash.specs.declared.object_id.ObjectId.{ObjectId}
 use Rattle.gix_hash.proofs.KindFacts.{hex_len_of-bytes, hex_len_of-kind}
-use Rattle.id_digits.proofs.Places.{length-digits_of}
+use Rattle.id_digits.proofs.ByteDigits.{length-digits_of}
 use Rattle.id_digits.proofs.Spellings.{All-digits_of}
 
 -- how many they are
@@ -20,7 +20,7 @@ length-known id bytes are len =
 pub digits_in_range-known : (id : ObjectId) (bytes : List ℕ) → bytes ≡ id_bytes id → All (λ b. b < 256) bytes → All (λ d. d < 16) (id_digits id)
 digits_in_range-known id bytes are fits = All-digits_of (id_bytes id) (subst (All (λ b. b < 256)) are fits)
 
--- what the bytes that an id lends tell of its digits
+-- what the bytes that an id lends say of its digits
 pub ruleset digits_of_id = (length-known, digits_in_range-known)
 
 -- a view has as many digits as its kind
@@ -31,5 +31,5 @@ length-oid id = length-digits_of (oid_bytes id) ∙ sym (hex_len_of-kind (length
 pub digits_in_range-oid : (id : oid) → All (λ d. d < 16) (oid_digits id)
 digits_in_range-oid id = All-digits_of (oid_bytes id) id.bytes_in_range
 
--- what a view tells of its digits
+-- what a view says of its digits
 pub ruleset digits_of_view = (length-oid, digits_in_range-oid)

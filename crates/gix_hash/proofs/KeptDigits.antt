@@ -1,12 +1,13 @@
--- What the digits that a prefix keeps are: their number, their range and their order.
+-- The digits that a prefix stores: their number, their range and their order.
 use Rattle.std.proofs.Common.{◌≡◌, ℕ, ◌<◌, ◌≤◌, sym, ap, ◌∙◌, arith, Ordering}
 use Rattle.std.specs.Prelude.{All}
 use Rattle.std.specs.Ordering.{nat_cmp, ordering_then}
 use Rattle.std.specs.Cmp.Lexicographic.{slice_cmp}
 use Rattle.std.proofs.lemmas.List.Elements.{All-take}
 use Rattle.gix_hash.specs.Kind.{hex_len_of}
-use Rattle.gix_hash.specs.ObjectId.{id_kind, id_digits}
-use Rattle.gix_hash.specs.PrefixBytes.{IsPacked, shown, length-shown}
+use Rattle.gix_hash.specs.ObjectId.{id_kind, id_bytes, id_digits}
+use Rattle.gix_hash.specs.Prefix.{padded}
+use Rattle.gix_hash.specs.PrefixBytes.{IsPacked, packed, packed-digits_of, shown, length-shown}
 use Rattle.gix_hash.specs.declared.kind.Kind.{Kind}
 use Rattle.gix_hash.specs.declared.kind.Kind.TheVariants.{Sha1, Sha256}
 use Rattle.gix_hash.specs.declared.prefix.Prefix.TheInside.{Inside}
@@ -25,6 +26,10 @@ length-kept p h = most_digits (id_kind p.bytes) p.hex_len h.within
 pub shown-below : (p : Inside) → IsPacked p → All (λ d. d < 16) (shown p)
 shown-below p h = All-take (λ (d : ℕ). d < 16) p.hex_len (id_digits p.bytes) h.digits_in_range
 
+-- the digits of a prefix, padded and packed, are its bytes
+pub packed-shown : (p : Inside) → IsPacked p → packed (padded (hex_len_of (id_kind p.bytes)) (shown p)) ≡ id_bytes p.bytes
+packed-shown p h = ap packed (sym h.zeros) ∙ packed-digits_of (id_bytes p.bytes)
+
 -- the words of two prefixes, and then their numbers of digits, compare as their digits
 words_order : (p q : Inside) → IsPacked p → IsPacked q
     → ordering_then (ordering_then (nat_cmp p.words.first q.words.first) (nat_cmp p.words.second q.words.second)) (nat_cmp p.hex_len q.hex_len)
@@ -38,8 +43,8 @@ words_order p q h k =
     (λ i. ordering_then (words (h.words i) (k.words i)) (nat_cmp (sym len i) (sym other i)))
     ∙ slice_cmp-words (shown p) (shown q) (shown-below p h) (shown-below q k) (omega arith) (omega arith)
 
--- and so behind another comparison
-pub words_order-behind : (o : Ordering) (p q : Inside) → IsPacked p → IsPacked q
+-- and so after another comparison
+pub words_order-after : (o : Ordering) (p q : Inside) → IsPacked p → IsPacked q
     → ordering_then (ordering_then o (ordering_then (nat_cmp p.words.first q.words.first) (nat_cmp p.words.second q.words.second))) (nat_cmp p.hex_len q.hex_len)
     ≡ ordering_then o (slice_cmp nat_cmp (shown p) (shown q))
-words_order-behind o p q h k = then_assoc o _ _ ∙ ap (ordering_then o) (words_order p q h k)
+words_order-after o p q h k = then_assoc o _ _ ∙ ap (ordering_then o) (words_order p q h k)

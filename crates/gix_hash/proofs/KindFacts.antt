@@ -15,7 +15,7 @@ hex_len_of-bytes Sha256 = refl
 pub hex_len_of-kind : (n : ℕ) → IsTrue (is_digest_len n) → hex_len_of (kind_of_byte_len n) ≡ 2 * n
 hex_len_of-kind n h = grind (arith, nat_tests)
 
--- a kind is told by its number of digits
+-- kinds with one number of digits are the same
 pub kind_by_hex_len : (a b : Kind) → hex_len_of a ≡ hex_len_of b → a ≡ b
 kind_by_hex_len Sha1 Sha1 h = refl
 kind_by_hex_len Sha1 Sha256 h = absurd (omega arith)

@@ -3,6 +3,7 @@ mod Alphabets
 mod BufferEnds
 mod Chunks
 mod CommonBeginnings
+pub mod Equalities
 mod FrontReading
 mod HexReading
 mod HexSpelling

@@ -51,20 +51,20 @@ are-more n (x ∷ lens) are =
       sizes = All-cons IsChunkLen 65535 (x ∷ lens) (omega arith, omega arith) are.sizes;
     }
 
-chunks_are_from : (q r m : ℕ) → m ≡ 65535 * q + r → r < 65535 → AreChunks m (chunks m)
-chunks_are_from zero zero m is small =
+AreChunks-chunks_from : (q r m : ℕ) → m ≡ 65535 * q + r → r < 65535 → AreChunks m (chunks m)
+AreChunks-chunks_from zero zero m is small =
     let none : m ≡ 0 = omega arith in
     rw (none, chunks-zero) are-none
-chunks_are_from zero (suc r) m is small =
+AreChunks-chunks_from zero (suc r) m is small =
     let some : m ≡ suc r = omega arith in
     rw (some, chunks-few r (omega arith)) (are-one (suc r) (omega arith) (omega arith))
-chunks_are_from (suc q) r m is small =
+AreChunks-chunks_from (suc q) r m is small =
     let more : m ≡ 65535 + (65535 * q + r) = omega arith in
-    rw (more, chunks-more) (are-more _ _ (chunks_are_from q r _ refl small))
+    rw (more, chunks-more) (are-more _ _ (AreChunks-chunks_from q r _ refl small))
 
 -- the chunks of n bytes are such numbers
-pub chunks_are : (n : ℕ) → AreChunks n (chunks n)
-chunks_are n = chunks_are_from (n / 65535) (n % 65535) n (omega arith) (omega arith)
+pub AreChunks-chunks : (n : ℕ) → AreChunks n (chunks n)
+AreChunks-chunks n = AreChunks-chunks_from (n / 65535) (n % 65535) n (omega arith) (omega arith)
 
 one_is_chunks : (n x : ℕ) → x ≡ n → IsChunkLen x → (x ≡ 65535) ⊎ (x < 65535) → x ∷ [] ≡ chunks n
 one_is_chunks n zero same size which = absurd (omega arith)
@@ -74,20 +74,20 @@ one_is_chunks n (suc x) same size (inl full) =
 one_is_chunks n (suc x) same size (inr few) = rw (← same, chunks-few x (omega arith))
 
 -- such numbers are the chunks of n bytes
-pub chunks_alone : (n : ℕ) (lens : List ℕ) → AreChunks n lens → lens ≡ chunks n
-chunks_alone n [] are =
+pub chunks-unique : (n : ℕ) (lens : List ℕ) → AreChunks n lens → lens ≡ chunks n
+chunks-unique n [] are =
     let none : n ≡ 0 = omega (arith, are.all) in
     rw (none, chunks-zero)
-chunks_alone n (x ∷ []) are =
+chunks-unique n (x ∷ []) are =
     let size = All-head IsChunkLen x [] are.sizes in
     one_is_chunks n x (omega (arith, are.all)) size (eq-or-lt_of_le size.1)
-chunks_alone n (x ∷ y ∷ lens) are =
+chunks-unique n (x ∷ y ∷ lens) are =
     let before : suc (suc (length lens)) - 1 ≡ suc (length lens) = omega arith in
     let after : suc (length lens) - 1 ≡ length lens = omega arith in
     let full = rw before at are.full in
     let first = All-head IsFull x (take (length lens) (y ∷ lens)) full in
     let total : x + sum (y ∷ lens) ≡ n = rw (← sum_by-cons (λ len. len) x (y ∷ lens)) are.all in
-    let rest = chunks_alone (n - 65535) (y ∷ lens) (record {
+    let rest = chunks-unique (n - 65535) (y ∷ lens) (record {
       all = omega arith;
       full = rw after (All-tail IsFull x (take (length lens) (y ∷ lens)) full);
       sizes = All-tail IsChunkLen x (y ∷ lens) are.sizes;

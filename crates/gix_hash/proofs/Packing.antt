@@ -3,13 +3,17 @@ use Rattle.std.proofs.Common.{◌≡◌, ℕ, ◌-◌, ◌*◌, ◌≤◌, List,
 use Rattle.std.proofs.lemmas.List.{take-take, append-nil, take_at, length-take-le}
 use Rattle.id_digits.specs.Digits.{digits_of}
 use Rattle.gix_hash.specs.Prefix.{padded}
-use Rattle.id_digits.proofs.Places.{length-digits_of, take-digits_of, drop-digits_of}
+use Rattle.id_digits.proofs.ByteDigits.{length-digits_of, take-digits_of, drop-digits_of}
 
 -- as many first digits as were asked for
 pub length-first : (n : ℕ) (front : List ℕ) → n ≤ 2 * length front → length (take n (digits_of front)) ≡ n
 length-first n front within = length-take-le n (digits_of front) (omega (arith, length-digits_of front))
 
--- the digits stand before the zeros
+-- the first digits are those of the first bytes
+pub take-digits_of-take : (n k : ℕ) (bytes : List ℕ) → n ≤ 2 * k → take n (digits_of (take k bytes)) ≡ take n (digits_of bytes)
+take-digits_of-take n k bytes within = rw (← take-digits_of k bytes) (take-take n (2 * k) (digits_of bytes) within)
+
+-- the digits are before the zeros
 pub take-padded : (n room : ℕ) (digits : List ℕ) → length digits ≡ n → take n (padded room digits) ≡ digits
 take-padded n room digits len = take_at digits (replicate (room - length digits) 0) n len
 

@@ -1,4 +1,4 @@
--- The place of a prefix, beginnings, and what two prefixes match.
+-- Prefixes of ids, and what two prefixes match.
 use Rattle.std.proofs.Common.{◌≡◌, ℕ, ◌≤◌, ◌⊎◌, inl, inr, Bool, true, false, List, ◌++◌, length, take, drop, refl, sym, ap, ◌∙◌, arith, Equal}
 use Rattle.std.specs.Prelude.{nat_eq}
 use Rattle.std.specs.Cmp.{tied_itself}
@@ -9,7 +9,7 @@ use Rattle.std.proofs.lemmas.Cmp.{nat_list_cmp_total}
 use Rattle.std.proofs.lemmas.List.{take_at, take-append-drop, take-append-le}
 use Rattle.gix_hash.specs.Prefix.{place, BeginsWith}
 
--- where a prefix is at its place, its digits are the first
+-- if the place of a prefix is Equal, its digits are the first of the id
 pub first_from_place : (p c : List ℕ) → place p c ≡ Equal → p ≡ take (length p) c
 first_from_place p c h = (bytes_decides p (take (length p) c)).0 (texts_ties p (take (length p) c) ∙ ap is_eq h)
 

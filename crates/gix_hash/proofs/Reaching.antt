@@ -1,4 +1,4 @@
--- What a progress hears, and an interruption answers, of one chunk more.
+-- The calls of a progress and of an interruption for one chunk more.
 use Rattle.std.proofs.Common.{◌≡◌, ℕ, ◌+◌, ◌-◌, ◌*◌, ◌<◌, Bool, false, min, List, [], ◌∷◌, ◌++◌, length, refl}
 use Rattle.std.proofs.lemmas.Fn.{FoldsTo-push}
 use Rattle.std.proofs.lemmas.List.{replicate-append-replicate, map-append}
@@ -16,20 +16,20 @@ pub Reaches-more : {V C : Type 0} (step : V → C → V → Type 0) (v u w : V) 
 unfolding Reaches
 Reaches-more step v u w calls call reached last = FoldsTo-push step v calls u call w reached last
 
--- a progress hears of the chunk behind the first j
+-- a progress is called for the chunk after the first j
 pub heard-more : {P : Type 0} (hears : P → ProgressCall → P → Type 0) (p q r : P) (n j count : ℕ)
     → 65535 * j < n → count ≡ min (n - 65535 * j) 65535
     → Reaches hears p (heard n j) q → hears q (IncBy count) r → Reaches hears p (heard n (j + 1)) r
-heard-more hears p q r n j count left size told last =
-    rw (take-chunks n j left, map-append, ← size) (Reaches-more hears p q r (heard n j) (IncBy count) told last)
+heard-more hears p q r n j count left size reported last =
+    rw (take-chunks n j left, map-append, ← size) (Reaches-more hears p q r (heard n j) (IncBy count) reported last)
 
--- one asking more is answered by false
+-- one call more returns false
 pub all_false-more : {I : Type 0} (answers : I → Bool → I → Type 0) (p q r : I) (answer : Bool) (j : ℕ)
     → answer ≡ false → Reaches answers p (all_false j) q → answers q answer r → Reaches answers p (all_false (j + 1)) r
 all_false-more answers p q r answer j is_false asked last =
     rw (← replicate-append-replicate j 1 false) (Reaches-more answers p q r (all_false j) false asked (rw is_false at last))
 
--- where each asking is answered by false, all askings are
+-- if each call returns false, all calls do
 pub always_false : {I : Type 0} (answers : I → Bool → I → Type 0)
     → ((p q : I) (answer : Bool) → answers p answer q → answer ≡ false)
     → (p q : I) (given : List Bool) → Reaches answers p given q → given ≡ all_false (length given)

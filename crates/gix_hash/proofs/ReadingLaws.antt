@@ -1,4 +1,4 @@
--- Which texts the reading calls take, and why they refuse any other.
+-- Which texts the reading calls accept, and why they reject any other.
 use Rattle.std.proofs.Common.{◌≡◌, ◌==◌, ◌↔◌, Option, None, Some, Err, nat_lt, ℕ, ◌<◌, ◌≤◌, ◌⊎◌, inl, inr, Bool, true, false, Ok, List, length, map, refl, sym, ap, ◌∙◌, arith}
 use Rattle.std.specs.Prelude.{All, MatchResult, Result}
 use Rattle.std.specs.Char.{to_ascii_lowercase}
@@ -41,32 +41,32 @@ full_len : (n : ℕ) (kind : Kind) → kind_of_full_len n ≡ Some kind → n �
 full_len n kinds.Sha1 h = grind (arith, nat_tests)
 full_len n kinds.Sha256 h = grind (arith, nat_tests)
 
--- what an answer that is no refusal is made from
-answered : {E : Type 0} (kind : Option Kind) (digits : Option (List ℕ)) (e f : E) (b : KindDigits) → reading_of kind digits e f ≡ Ok b
+-- what a result without an error is made from
+reading_of-ok : {E : Type 0} (kind : Option Kind) (digits : Option (List ℕ)) (e f : E) (b : KindDigits) → reading_of kind digits e f ≡ Ok b
     → (kind ≡ Some b.kind) × (digits ≡ Some b.digits)
-answered None digits e f b h = cc h
-answered (Some k) None e f b h = cc h
-answered (Some k) (Some ds) e f b h =
+reading_of-ok None digits e f b h = cc h
+reading_of-ok (Some k) None e f b h = cc h
+reading_of-ok (Some k) (Some ds) e f b h =
     let is : kind_digits k ds ≡ b = cc h in (ap (λ p. Some p.kind) is, ap (λ p. Some p.digits) is)
 
 -- the texts that read as a full id
-pub full_read-is : (letter : ℕ → ℕ) → IsAlphabet letter → (text : List ℕ) (b : KindDigits)
+pub full_read-ok : (letter : ℕ → ℕ) → IsAlphabet letter → (text : List ℕ) (b : KindDigits)
     → (full_read letter text ≡ Ok b) ↔ IsFullReading letter text b
-full_read-is letter a text b = (
-  λ h. let parts = answered _ _ _ _ b h in
+full_read-ok letter a text b = (
+  λ h. let parts = reading_of-ok _ _ _ _ b h in
       record { kind = full_len (length text) b.kind parts.0; reads = ReadsAs-digits_read letter text b.digits parts.1 },
   λ h. rw (h.kind, full b.kind, digits_read-ReadsAs letter a text b.digits h.reads) refl,
 )
 
 -- the texts that read as a prefix
-pub prefix_read-is : (letter : ℕ → ℕ) → IsAlphabet letter → (least : ℕ) (text : List ℕ) (b : KindDigits)
+pub prefix_read-ok : (letter : ℕ → ℕ) → IsAlphabet letter → (least : ℕ) (text : List ℕ) (b : KindDigits)
     → (prefix_read letter least text ≡ Ok b) ↔ IsPrefixReading letter least text b
-prefix_read-is letter a least text b = by_test (nat_lt (length text) least) refl
+prefix_read-ok letter a least text b = by_test (nat_lt (length text) least) refl
   where
     by_test : (test : Bool) → nat_lt (length text) least ≡ test → (prefix_read letter least text ≡ Ok b) ↔ IsPrefixReading letter least text b
     by_test true e = (λ h. cc (rw e at h), λ h. absurd (omega (arith, h.long_enough, ltb-true)))
     by_test false e = (
-      λ h. let parts = answered _ _ _ _ b (rw e at h) in
+      λ h. let parts = reading_of-ok _ _ _ _ b (rw e at h) in
           record { long_enough = grind (arith, nat_tests); kind = parts.0; reads = ReadsAs-digits_read letter text b.digits parts.1 },
       λ h. rw (e, h.kind, digits_read-ReadsAs letter a text b.digits h.reads) refl,
     )
@@ -76,29 +76,29 @@ pub full_read-printed : (letter : ℕ → ℕ) → IsAlphabet letter → (text :
     → map to_ascii_lowercase text ≡ spelling letter (id_digits id)
     → length (id_digits id) ≡ hex_len_of (id_kind id) → All (λ d. d < 16) (id_digits id) → full_read letter text ≡ Ok (whole_of id)
 full_read-printed letter a text id lowered len fits =
-    let digits = digits_read-ReadsAs letter a text (id_digits id) (ReadsAs-lowered letter text (id_digits id) fits lowered) in
-    let count : length text ≡ hex_len_of (id_kind id) =
-    sym (length-map text to_ascii_lowercase) ∙ ap length lowered ∙ length-map (id_digits id) letter ∙ len
-    in rw (count, full (id_kind id), digits) refl
+    (full_read-ok letter a text (whole_of id)).1 record {
+      kind = sym (length-map text to_ascii_lowercase) ∙ ap length lowered ∙ length-map (id_digits id) letter ∙ len;
+      reads = ReadsAs-lowered letter text (id_digits id) fits lowered;
+    }
 
 -- the spelling of an id's digits reads as these
 pub full_read-spelling : (alphabet : Alphabet) (kind : Kind) (digits : List ℕ) → AreIdDigits kind digits
     → full_read (letter_of alphabet) (spelling (letter_of alphabet) digits) ≡ Ok (kind_digits kind digits)
 full_read-spelling alphabet kind digits h =
     let letter = letter_of alphabet in
-    (full_read-is letter (letter_of-alphabet alphabet) _ (kind_digits kind digits)).1 record {
+    (full_read-ok letter (letter_of-alphabet alphabet) _ (kind_digits kind digits)).1 record {
       kind = length-map digits letter ∙ h.0;
       reads = ReadsAs-lowered letter _ digits h.1 (lowercase_spelling alphabet digits h.1);
     }
 
--- what a refusal is made from
-refused : {E : Type 0} (kind : Option Kind) (digits : Option (List ℕ)) (e f x : E) → reading_of kind digits e f ≡ Err x
+-- what an error is made from
+reading_of-err : {E : Type 0} (kind : Option Kind) (digits : Option (List ℕ)) (e f x : E) → reading_of kind digits e f ≡ Err x
     → ((kind ≡ None) × (x ≡ e)) ⊎ ((k : Kind) × (kind ≡ Some k) × (digits ≡ None) × (x ≡ f))
-refused None digits e f x h = inl (refl, cc h)
-refused (Some k) None e f x h = inr (k, refl, refl, cc h)
-refused (Some k) (Some ds) e f x h = cc h
+reading_of-err None digits e f x h = inl (refl, cc h)
+reading_of-err (Some k) None e f x h = inr (k, refl, refl, cc h)
+reading_of-err (Some k) (Some ds) e f x h = cc h
 
--- no kind has so many digits
+-- no kind has ids of n digits
 no_full_len : (n : ℕ) → kind_of_full_len n ≡ None → ¬ IsFullLen n
 no_full_len n none is = let some : kind_of_full_len n ≡ Some is.0 = rw is.1 (full is.0) in cc
 
@@ -109,39 +109,40 @@ none_full_len n h = by_kind (kind_of_full_len n) refl
     by_kind None e = refl
     by_kind (Some k) e = absurd (h (k, full_len n k e))
 
--- why a text is refused as a full id
-pub full_read-refused : (letter : ℕ → ℕ) → IsAlphabet letter → (text : List ℕ) (error : decode.Error)
+-- why a text is rejected as a full id
+pub full_read-err : (letter : ℕ → ℕ) → IsAlphabet letter → (text : List ℕ) (error : decode.Error)
     → (full_read letter text ≡ Err error) ↔ IsFullRefusal letter text error
-full_read-refused letter a text (full_errors.InvalidHexEncodingLength n) = (
-  λ h. elim (refused _ _ _ _ _ h) [ inl is ↦ (cc is.1, no_full_len (length text) is.0) | inr is ↦ cc is.3 ],
+full_read-err letter a text (full_errors.InvalidHexEncodingLength n) = (
+  λ h. elim (reading_of-err _ _ _ _ _ h) [ inl is ↦ (cc is.1, no_full_len (length text) is.0) | inr is ↦ cc is.3 ],
   λ h. rw (none_full_len (length text) h.1, h.0) refl,
 )
-full_read-refused letter a text full_errors.Invalid = (
-  λ h. elim (refused _ _ _ _ _ h) [
+full_read-err letter a text full_errors.Invalid = (
+  λ h. elim (reading_of-err _ _ _ _ _ h) [
     | inl is ↦ cc is.1
     | inr is ↦ ((is.0, full_len (length text) is.0 is.1), IsUnreadable-digits_read letter a text is.2)
   ],
   λ h. rw (h.0.1, full h.0.0, digits_read-IsUnreadable letter text h.1) refl,
 )
 
+-- what each outcome implies
+each_case : {T E : Type 0} (r : Result T E) (P : T → Type 0) (Q : E → Type 0) → ((x : T) → r ≡ Ok x → P x) → ((e : E) → r ≡ Err e → Q e) → MatchResult r P Q
+each_case (Ok x) P Q ok err = ok x refl
+each_case (Err e) P Q ok err = err e refl
+
 -- either way
 pub full_read-cases : (letter : ℕ → ℕ) → IsAlphabet letter → (text : List ℕ)
     → MatchResult (full_read letter text) (IsFullReading letter text) (IsFullRefusal letter text)
-full_read-cases letter a text = by_answer (full_read letter text) refl
-  where
-    by_answer : (answer : Result KindDigits decode.Error) → full_read letter text ≡ answer
-        → MatchResult answer (IsFullReading letter text) (IsFullRefusal letter text)
-    by_answer (Ok id) e = (full_read-is letter a text id).0 e
-    by_answer (Err error) e = (full_read-refused letter a text error).0 e
+full_read-cases letter a text =
+    each_case (full_read letter text) _ _ (λ id. (full_read-ok letter a text id).0) (λ error. (full_read-err letter a text error).0)
 
--- no id has so many digits
+-- no id has more than 64 digits
 none_hex_len : (n : ℕ) → 64 < n → kind_of_hex_len n ≡ None
 none_hex_len n h = grind (arith, nat_tests)
 
 no_hex_len : (n : ℕ) → kind_of_hex_len n ≡ None → 64 < n
 no_hex_len n h = grind (arith, nat_tests)
 
--- some kind has room for so many
+-- some kind has room for up to 64 digits
 some_hex_len : (n : ℕ) → n ≤ 64 → (kind : Kind) × (kind_of_hex_len n ≡ Some kind)
 some_hex_len n h = by_kind (kind_of_hex_len n) refl
   where
@@ -152,10 +153,10 @@ some_hex_len n h = by_kind (kind_of_hex_len n) refl
 within_hex_len : (n : ℕ) (kind : Kind) → kind_of_hex_len n ≡ Some kind → n ≤ 64
 within_hex_len n kind h = grind (arith, nat_tests)
 
--- why a text is refused as a prefix
-pub prefix_read-refused : (letter : ℕ → ℕ) → IsAlphabet letter → (least : ℕ) (text : List ℕ) (error : from_hex.Error)
+-- why a text is rejected as a prefix
+pub prefix_read-err : (letter : ℕ → ℕ) → IsAlphabet letter → (least : ℕ) (text : List ℕ) (error : from_hex.Error)
     → (prefix_read letter least text ≡ Err error) ↔ IsPrefixRefusal letter least text error
-prefix_read-refused letter a least text error = by_test (nat_lt (length text) least) refl
+prefix_read-err letter a least text error = by_test (nat_lt (length text) least) refl
   where
     too_short : nat_lt (length text) least ≡ true → (x : from_hex.Error) → (prefix_read letter least text ≡ Err x) ↔ IsPrefixRefusal letter least text x
     too_short e (TooShort n) = (λ h. (cc (rw e at h), ltb-true (length text) least e), λ h. rw (e, h.0) refl)
@@ -164,18 +165,18 @@ prefix_read-refused letter a least text error = by_test (nat_lt (length text) le
 
     long_enough : nat_lt (length text) least ≡ false → (x : from_hex.Error) → (prefix_read letter least text ≡ Err x) ↔ IsPrefixRefusal letter least text x
     long_enough e (TooShort n) = (
-      λ h. elim (refused _ _ _ _ _ (rw e at h)) [ inl is ↦ cc is.1 | inr is ↦ cc is.3 ],
+      λ h. elim (reading_of-err _ _ _ _ _ (rw e at h)) [ inl is ↦ cc is.1 | inr is ↦ cc is.3 ],
       λ h. let less = h.1 in grind (arith, nat_tests),
     )
     long_enough e (TooLong n) = (
-      λ h. elim (refused _ _ _ _ _ (rw e at h)) [
+      λ h. elim (reading_of-err _ _ _ _ _ (rw e at h)) [
         | inl is ↦ (cc is.1, grind (arith, nat_tests), no_hex_len (length text) is.0)
         | inr is ↦ cc is.3
       ],
       λ h. rw (e, none_hex_len (length text) h.2, h.0) refl,
     )
     long_enough e Invalid = (
-      λ h. elim (refused _ _ _ _ _ (rw e at h)) [
+      λ h. elim (reading_of-err _ _ _ _ _ (rw e at h)) [
         | inl is ↦ cc is.1
         | inr is ↦ (grind (arith, nat_tests), within_hex_len (length text) is.0 is.1, IsUnreadable-digits_read letter a text is.2)
       ],
@@ -189,14 +190,10 @@ prefix_read-refused letter a least text error = by_test (nat_lt (length text) le
 -- either way
 pub prefix_read-cases : (letter : ℕ → ℕ) → IsAlphabet letter → (least : ℕ) (text : List ℕ)
     → MatchResult (prefix_read letter least text) (IsPrefixReading letter least text) (IsPrefixRefusal letter least text)
-prefix_read-cases letter a least text = by_answer (prefix_read letter least text) refl
-  where
-    by_answer : (answer : Result KindDigits from_hex.Error) → prefix_read letter least text ≡ answer
-        → MatchResult answer (IsPrefixReading letter least text) (IsPrefixRefusal letter least text)
-    by_answer (Ok prefix) e = (prefix_read-is letter a least text prefix).0 e
-    by_answer (Err error) e = (prefix_read-refused letter a least text error).0 e
+prefix_read-cases letter a least text =
+    each_case (prefix_read letter least text) _ _ (λ p. (prefix_read-ok letter a least text p).0) (λ error. (prefix_read-err letter a least text error).0)
 
--- a prefix's spelling, in any letter case, reads as its digits, of the least kind with room for them
+-- a prefix's spelling, in any letter case, reads as its digits, of the kind with the shortest ids that have room for them
 pub prefix_read-printed : (letter : ℕ → ℕ) → IsAlphabet letter → (text : List ℕ) (p : KindDigits)
     → map to_ascii_lowercase text ≡ spelling letter p.digits → 1 ≤ length p.digits → length p.digits ≤ 64 → All (λ d. d < 16) p.digits
     → (kind : Kind) × (kind_of_hex_len (length p.digits) ≡ Some kind) × (prefix_read letter 1 text ≡ Ok (kind_digits kind p.digits))
@@ -208,7 +205,7 @@ prefix_read-printed letter a text p lowered some within fits =
     let enough : nat_lt (length p.digits) 1 ≡ false = grind (arith, nat_tests) in
     (kind.0, kind.1, rw (count, enough, kind.1, digits) refl)
 
--- and so it reads as the prefix just where its kind is that one
+-- and so it reads as the prefix if and only if its kind is that one
 pub prefix_read-same : (letter : ℕ → ℕ) (text : List ℕ) (p : KindDigits)
     → ((kind : Kind) × (kind_of_hex_len (length p.digits) ≡ Some kind) × (prefix_read letter 1 text ≡ Ok (kind_digits kind p.digits)))
     → (prefix_read letter 1 text ≡ Ok p) ↔ (kind_of_hex_len (length p.digits) ≡ Some p.kind)
@@ -220,16 +217,16 @@ prefix_read-same letter text p read = (
 )
 
 -- the texts that read as a prefix in a kind
-pub prefix_read_in-is : (kind : Kind) (letter : ℕ → ℕ) → IsAlphabet letter → (text : List ℕ) (b : KindDigits)
+pub prefix_read_in-ok : (kind : Kind) (letter : ℕ → ℕ) → IsAlphabet letter → (text : List ℕ) (b : KindDigits)
     → (prefix_read_in kind letter text ≡ Ok b) ↔ IsReadingIn kind letter text b
-prefix_read_in-is kind letter a text b = by_tests (nat_lt (hex_len_of kind) (length text)) refl (length text == 0) refl
+prefix_read_in-ok kind letter a text b = by_tests (nat_lt (hex_len_of kind) (length text)) refl (length text == 0) refl
   where
     by_tests : (long : Bool) → nat_lt (hex_len_of kind) (length text) ≡ long → (empty : Bool) → (length text == 0) ≡ empty
         → (prefix_read_in kind letter text ≡ Ok b) ↔ IsReadingIn kind letter text b
     by_tests true e empty f = (λ h. cc (rw e at h), λ h. absurd (omega (arith, h.room, ltb-true)))
     by_tests false e true f = (λ h. cc (rw (e, f) at h), λ h. let some = h.nonempty in grind (arith, nat_tests))
     by_tests false e false f = (
-      λ h. let parts = answered (Some kind) (digits_read letter text) Invalid Invalid b (rw (e, f) at h) in
+      λ h. let parts = reading_of-ok (Some kind) (digits_read letter text) Invalid Invalid b (rw (e, f) at h) in
           record {
             nonempty = grind (arith, nat_tests);
             room = grind (arith, nat_tests);
@@ -240,10 +237,10 @@ prefix_read_in-is kind letter a text b = by_tests (nat_lt (hex_len_of kind) (len
           rw (e, f, digits_read-ReadsAs letter a text b.digits h.reads) (ap Ok is),
     )
 
--- why a text is refused as a prefix in a kind
-pub prefix_read_in-refused : (kind : Kind) (letter : ℕ → ℕ) → IsAlphabet letter → (text : List ℕ) (error : from_hex.Error)
+-- why a text is rejected as a prefix in a kind
+pub prefix_read_in-err : (kind : Kind) (letter : ℕ → ℕ) → IsAlphabet letter → (text : List ℕ) (error : from_hex.Error)
     → (prefix_read_in kind letter text ≡ Err error) ↔ IsRefusalIn kind letter text error
-prefix_read_in-refused kind letter a text error = by_tests (nat_lt (hex_len_of kind) (length text)) refl (length text == 0) refl error
+prefix_read_in-err kind letter a text error = by_tests (nat_lt (hex_len_of kind) (length text)) refl (length text == 0) refl error
   where
     by_tests : (long : Bool) → nat_lt (hex_len_of kind) (length text) ≡ long → (empty : Bool) → (length text == 0) ≡ empty
         → (x : from_hex.Error) → (prefix_read_in kind letter text ≡ Err x) ↔ IsRefusalIn kind letter text x
@@ -254,15 +251,15 @@ prefix_read_in-refused kind letter a text error = by_tests (nat_lt (hex_len_of k
     by_tests false e true f (TooShort n) = (λ h. (cc (rw (e, f) at h), grind (arith, nat_tests)), λ h. rw (e, f, h.0) refl)
     by_tests false e true f Invalid = (λ h. cc (rw (e, f) at h), λ h. let some = h.0 in grind (arith, nat_tests))
     by_tests false e false f (TooLong n) = (
-      λ h. elim (refused (Some kind) (digits_read letter text) Invalid Invalid (TooLong n) (rw (e, f) at h)) [ inl is ↦ cc | inr is ↦ cc is.3 ],
+      λ h. elim (reading_of-err (Some kind) (digits_read letter text) Invalid Invalid (TooLong n) (rw (e, f) at h)) [ inl is ↦ cc | inr is ↦ cc is.3 ],
       λ h. let long = h.1 in grind (arith, nat_tests),
     )
     by_tests false e false f (TooShort n) = (
-      λ h. elim (refused (Some kind) (digits_read letter text) Invalid Invalid (TooShort n) (rw (e, f) at h)) [ inl is ↦ cc | inr is ↦ cc is.3 ],
+      λ h. elim (reading_of-err (Some kind) (digits_read letter text) Invalid Invalid (TooShort n) (rw (e, f) at h)) [ inl is ↦ cc | inr is ↦ cc is.3 ],
       λ h. let none = h.1 in grind (arith, nat_tests),
     )
     by_tests false e false f Invalid = (
-      λ h. elim (refused (Some kind) (digits_read letter text) Invalid Invalid Invalid (rw (e, f) at h)) [
+      λ h. elim (reading_of-err (Some kind) (digits_read letter text) Invalid Invalid Invalid (rw (e, f) at h)) [
         | inl is ↦ cc is.0
         | inr is ↦ (grind (arith, nat_tests), grind (arith, nat_tests), IsUnreadable-digits_read letter a text is.2)
       ],
@@ -274,9 +271,10 @@ pub prefix_read_in-printed : (letter : ℕ → ℕ) → IsAlphabet letter → (t
     → map to_ascii_lowercase text ≡ spelling letter p.digits → 1 ≤ length p.digits → length p.digits ≤ hex_len_of p.kind → All (λ d. d < 16) p.digits
     → prefix_read_in p.kind letter text ≡ Ok p
 prefix_read_in-printed letter a text p lowered some within fits =
-    let digits = digits_read-ReadsAs letter a text p.digits (ReadsAs-lowered letter text p.digits fits lowered) in
-    let count : length text ≡ length p.digits =
-    sym (length-map text to_ascii_lowercase) ∙ ap length lowered ∙ length-map p.digits letter in
-    let short : nat_lt (hex_len_of p.kind) (length p.digits) ≡ false = grind (arith, nat_tests) in
-    let nonempty : (length p.digits == 0) ≡ false = grind (arith, nat_tests) in
-    rw (count, short, nonempty, digits) refl
+    let count : length text ≡ length p.digits = sym (length-map text to_ascii_lowercase) ∙ ap length lowered ∙ length-map p.digits letter in
+    (prefix_read_in-ok p.kind letter a text p).1 record {
+      nonempty = omega arith;
+      room = omega arith;
+      same_kind = refl;
+      reads = ReadsAs-lowered letter text p.digits fits lowered;
+    }

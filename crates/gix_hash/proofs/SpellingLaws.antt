@@ -1,4 +1,4 @@
--- Spellings tell their digits, and their order.
+-- Spellings determine their digits, and the order of spellings.
 use Rattle.std.proofs.Common.{◌≡◌, ◌↔◌, ℕ, ◌<◌, ◌==◌, true, List, [], ◌∷◌, length, map, slice_index, refl, sym, ap, ◌∙◌, arith, eqb-true, Ordering}
 use Rattle.std.specs.Prelude.{All, IsTrue, codes}
 use Rattle.std.specs.Cmp.{tied_itself, nat_cmp_total}
@@ -10,7 +10,7 @@ use Rattle.std.proofs.lemmas.Bool.Decides.{nat_tests}
 use Rattle.std.proofs.lemmas.List.Elements.{All-nil, All-cons, All-head, All-tail}
 use Rattle.gix_hash.specs.Alphabet.{letter_of}
 use Rattle.id_digits.specs.Digits.{hex_letter, reverse_letter, spelling, ReadsAs}
-use Rattle.gix_hash.specs.Equalities.{id_eq-parts, oid_eq-digits, prefix_eq-parts}
+use Rattle.gix_hash.proofs.Equalities.{id_eq-parts, oid_eq-digits, prefix_eq-parts}
 use Rattle.gix_hash.specs.Kind.{hex_len_of, number_of}
 use Rattle.gix_hash.specs.ObjectId.{id_kind, id_digits, id_eq, id_cmp}
 use Rattle.gix_hash.specs.Oid.{oid_kind, oid_digits, oid_eq}
@@ -28,11 +28,11 @@ reverse_letter-table d h =
     eqb-true (reverse_letter d) (slice_index (codes "zyxwvutsrqponmlk") d)
     (agree_below_at (λ k. reverse_letter k == slice_index (codes "zyxwvutsrqponmlk") k) (λ k. true) 16 d refl h)
 
--- a letter tells its digit
+-- a letter determines its digit
 hex_letter-injective : (d e : ℕ) → hex_letter d ≡ hex_letter e → d ≡ e
 hex_letter-injective d e h = grind (arith, nat_tests)
 
--- a spelling tells its digits
+-- a spelling determines its digits
 pub spelling-injective : (ds es : List ℕ) → spelling hex_letter ds ≡ spelling hex_letter es → ds ≡ es
 spelling-injective [] [] h = refl
 spelling-injective [] (e ∷ es) h = cc h
@@ -44,7 +44,7 @@ spelling-injective (d ∷ ds) (e ∷ es) h =
     let digits = spelling-injective ds es rest in
     λ i. digit i ∷ digits i
 
--- `==` of owned ids by their spellings, which tell the kinds by their lengths
+-- `==` of owned ids by their spellings, whose lengths determine the kinds
 pub id_eq-spelling : (a b : ObjectId) → length (id_digits a) ≡ hex_len_of (id_kind a) → length (id_digits b) ≡ hex_len_of (id_kind b)
     → IsTrue (id_eq a b) ↔ (spelling hex_letter (id_digits a) ≡ spelling hex_letter (id_digits b))
 id_eq-spelling a b la lb = (
@@ -117,7 +117,7 @@ lowercase_spelling alphabet (d ∷ ds) fits =
 pub id_cmp-digits : (a b : ObjectId) → id_kind a ≡ id_kind b → id_cmp a b ≡ slice_cmp nat_cmp (id_digits a) (id_digits b)
 id_cmp-digits a b h = rw (h, tied_itself nat_cmp_total (number_of (id_kind b))) refl
 
--- letters fall where digits rise
+-- reverse letters have the opposite order of digits
 opposite_letters : (x y : ℕ) → x < 16 → y < 16 → (o : Ordering)
     → ordering_then (nat_cmp (reverse_letter x) (reverse_letter y)) (ordering_reverse o) ≡ ordering_reverse (ordering_then (nat_cmp x y) o)
 opposite_letters x y h g o = grind (arith, nat_tests)

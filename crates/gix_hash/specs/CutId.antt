@@ -5,15 +5,28 @@ use Rattle.std.specs.declared.cmp.Ordering.{Ordering}
 use Rattle.std.specs.Ordering.{nat_cmp, on, eq_of_both, then_cmp}
 use Rattle.gix_hash.specs.declared.borrowed.oid.{oid}
 use Rattle.gix_hash.specs.declared.display.CutId.{CutId}
-use Rattle.gix_hash.specs.Oid.{oid_digits, oid_eq, oid_cmp, oid_hash_input}
+use Rattle.gix_hash.specs.declared.kind.Kind.{Kind}
+use Rattle.gix_hash.specs.Oid.{oid_digits, oid_kind, oid_eq, oid_cmp, oid_hash_input}
 
--- an id, cut at so many digits
+-- an id, cut at a number of digits
 abbrev pub cut_of : oid → ℕ → CutId
 cut_of id hex_len = record { inner = id; hex_len = hex_len }
 
--- the digits that are printed: all where more were asked for
+-- the digits that are printed: all if more were asked for
 abbrev pub shown_digits : CutId → List ℕ
 shown_digits cut = take cut.hex_len (oid_digits cut.inner)
+
+-- all digits of the id that is cut
+abbrev pub whole_digits : CutId → List ℕ
+whole_digits cut = oid_digits cut.inner
+
+-- its kind
+abbrev pub cut_kind : CutId → Kind
+cut_kind cut = oid_kind cut.inner
+
+-- the number of digits asked for
+abbrev pub asked_len : CutId → ℕ
+asked_len cut = cut.hex_len
 
 -- `==` of displays: their ids are equal, and the numbers of digits asked for
 abbrev pub cut_eq : CutId → CutId → Bool

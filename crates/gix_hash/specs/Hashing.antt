@@ -30,6 +30,6 @@ hasher_kind (hashers.Sha1 h) = kinds.Sha1
 hasher_kind (hashers.Sha256 h) = kinds.Sha256
 
 -- the hasher was fed the message
-abbrev pub StandsFor : Hasher → List ℕ → Type 0
-StandsFor (hashers.Sha1 h) message = Holds h.state message
-StandsFor (hashers.Sha256 h) message = Holds256 h.state message
+abbrev pub WasFed : Hasher → List ℕ → Type 0
+WasFed (hashers.Sha1 h) message = Holds h.state message
+WasFed (hashers.Sha256 h) message = Holds256 h.state message

@@ -3,21 +3,21 @@ use Rattle.std.specs.Prelude.{◌≡◌, ◌++◌, ℕ, List, [], Option, Result
 use Rattle.std.specs.Io.KnownBytes.{Appends}
 use Rattle.std.specs.List.{flat_map}
 use Rattle.std.specs.declared.io.Error.{Error}
-use Rattle.gix_hash.specs.Hashing.{hasher_kind, StandsFor}
+use Rattle.gix_hash.specs.Hashing.{hasher_kind, WasFed}
 use Rattle.gix_hash.specs.declared.io.write.Write.{Write}
 
--- the inner writer took just these bytes, and the hasher was fed them
-pub record Takes {T : Type 0} (contents : T → Option (List ℕ)) (old : Write T) (bytes : List ℕ) (new : Write T) : Type 0 where
+-- the inner writer accepted exactly these bytes, and the hasher was fed them
+pub record WritesAndFeeds {T : Type 0} (contents : T → Option (List ℕ)) (old : Write T) (bytes : List ℕ) (new : Write T) : Type 0 where
   pub kind : hasher_kind new.hash ≡ hasher_kind old.hash
-  pub fed : (message : List ℕ) → StandsFor old.hash message → StandsFor new.hash (message ++ bytes)
+  pub fed : (message : List ℕ) → WasFed old.hash message → WasFed new.hash (message ++ bytes)
   pub gained : Appends (contents old.inner) (contents new.inner) bytes
 
--- a call of a hashing writer: a write of these bytes, with its answer, or a flush
+-- a call of a hashing writer: a write of these bytes, with what it returned, or a flush
 pub data WriterCall : Type 0 where
   Wrote : List ℕ → Result ℕ Error → WriterCall
   Flushed : WriterCall
 
--- what a call accepted: of the bytes that were handed over the first w, where the answer was Ok(w)
+-- what a call accepted: the first w of the bytes, if it returned Ok(w)
 abbrev pub accepted_by : WriterCall → List ℕ
 accepted_by (Wrote bytes (Ok count)) = take count bytes
 accepted_by (Wrote bytes (Err error)) = []
@@ -27,6 +27,6 @@ accepted_by Flushed = []
 abbrev pub accepted : List WriterCall → List ℕ
 accepted calls = flat_map accepted_by calls
 
--- in the call the inner writer took what was accepted, and the hasher was fed that
-abbrev pub Passes : {T : Type 0} → (T → Option (List ℕ)) → Write T → WriterCall → Write T → Type 0
-Passes contents old call new = Takes contents old (accepted_by call) new
+-- in the call the inner writer accepted these bytes, and the hasher was fed them
+abbrev pub WriterStep : {T : Type 0} → (T → Option (List ℕ)) → Write T → WriterCall → Write T → Type 0
+WriterStep contents old call new = WritesAndFeeds contents old (accepted_by call) new

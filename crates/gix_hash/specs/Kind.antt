@@ -10,7 +10,7 @@ abbrev pub number_of : Kind → ℕ
 number_of Sha1 = 1
 number_of Sha256 = 2
 
--- a kind is told by its number
+-- kinds with one number are the same
 pub kind_by_number : (a b : Kind) → number_of a ≡ number_of b → a ≡ b
 kind_by_number Sha1 Sha1 h = refl
 kind_by_number Sha1 Sha256 h = absurd (omega arith)
@@ -27,15 +27,15 @@ abbrev pub byte_len_of : Kind → ℕ
 byte_len_of Sha1 = 20
 byte_len_of Sha256 = 32
 
--- the least kind with room for so many digits
+-- the kind with the shortest ids of at least n digits
 abbrev pub kind_of_hex_len : ℕ → Option Kind
 kind_of_hex_len n = if nat_le n 40 then Some Sha1 else if nat_le n 64 then Some Sha256 else None
 
--- the kind whose ids have just so many digits
+-- the kind whose ids have exactly n digits
 abbrev pub kind_of_full_len : ℕ → Option Kind
 kind_of_full_len n = if n == 40 then Some Sha1 else if n == 64 then Some Sha256 else None
 
--- the ids of some kind have just so many digits
+-- the ids of some kind have exactly n digits
 abbrev pub IsFullLen : ℕ → Type 0
 IsFullLen n = (kind : Kind) × (n ≡ hex_len_of kind)
 

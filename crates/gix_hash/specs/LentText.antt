@@ -1,4 +1,4 @@
--- What a buffer holds once a text that was lent from it is let go.
+-- What a buffer holds once the borrow of a text in it ends.
 use Rattle.std.specs.Prelude.{◌≡◌, ⊤, ℕ, List}
 use Rattle.std.specs.Borrow.{MutBor, Fml, Array, u8, follows_so}
 use mathlib.Core.Option.{none}

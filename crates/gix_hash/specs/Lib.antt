@@ -1,6 +1,5 @@
 -- The model: an id is a kind and a list of digits, and bytes are read two digits a byte. Then hashing.
 pub use Rattle.id_digits.specs.Digits
-pub use Rattle.id_digits.specs.DigitOrder
 pub use Rattle.id_digits.specs.Words
 pub mod Reading
 pub mod Kind
@@ -9,7 +8,6 @@ pub mod ObjectId
 pub mod Prefix
 pub mod PrefixReading
 pub mod PrefixBytes
-pub mod Equalities
 pub mod IdReading
 pub mod CutId
 pub mod WellKnown

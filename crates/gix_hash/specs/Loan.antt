@@ -10,6 +10,6 @@ abbrev pub with_bytes : ObjectId → List ℕ → ObjectId
 with_bytes (Sha1 old) bytes = Sha1 bytes
 with_bytes (Sha256 old) bytes = Sha256 bytes
 
--- what stands in the lent bytes at the end of the loan is the digest afterwards
+-- the lent bytes at the end of the loan are the digest afterwards
 abbrev pub LendsDigest : MutBor ObjectId → MutBor (List ℕ) → Fml
 LendsDigest id lent = Lends the_row (Array u8 0) id lent (with_bytes id.now)

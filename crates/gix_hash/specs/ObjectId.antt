@@ -10,7 +10,7 @@ use Rattle.gix_hash.specs.declared.object_id.ObjectId.TheVariants.{Sha1, Sha256}
 use Rattle.gix_hash.specs.declared.kind.Kind.{Kind}
 use Rattle.gix_hash.specs.declared.kind.Kind.TheVariants as kinds
 use Rattle.id_digits.specs.Digits.{digits_of}
-use Rattle.id_digits.specs.DigitOrder.{same_bytes}
+use Rattle.id_digits.proofs.DigitOrder.{same_bytes}
 use Rattle.gix_hash.specs.Kind.{number_of}
 
 -- the bytes of its digest

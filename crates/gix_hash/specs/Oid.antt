@@ -7,7 +7,7 @@ use Rattle.std.specs.Cmp.Lexicographic.{slice_cmp, pointwise}
 use Rattle.gix_hash.specs.declared.borrowed.oid.{oid}
 use Rattle.gix_hash.specs.declared.kind.Kind.{Kind}
 use Rattle.id_digits.specs.Digits.{digits_of}
-use Rattle.id_digits.specs.DigitOrder.{same_bytes}
+use Rattle.id_digits.proofs.DigitOrder.{same_bytes}
 use Rattle.gix_hash.specs.Kind.{kind_of_byte_len}
 
 -- the bytes of its digest

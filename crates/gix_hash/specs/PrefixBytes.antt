@@ -1,4 +1,4 @@
--- How a prefix is kept: the bytes of its digits with zeros behind, the number of digits, and their two words.
+-- How a prefix is stored: the bytes of its digits with zeros after them, the number of digits, and their two words.
 use Rattle.std.proofs.Common.{◌<◌, ◌≡◌, ℕ, ◌+◌, ◌-◌, ◌*◌, ◌≤◌, List, [], ◌∷◌, length, take, replicate, refl, sym, ap, ◌∙◌, arith, length-append, eqb-true}
 use Rattle.std.specs.Prelude.{IsTrue, All, nat_eq}
 use Rattle.std.specs.Hash as fed
@@ -7,7 +7,7 @@ use Rattle.std.proofs.lemmas.Bool.{and_parts}
 use Rattle.std.proofs.lemmas.List.{length-replicate, length-take-le}
 use Rattle.id_digits.specs.Digits.{digits_of}
 use Rattle.gix_hash.specs.Kind.{hex_len_of, number_of, kind_by_number}
-use Rattle.gix_hash.specs.ObjectId.{id_kind, id_bytes, id_digits}
+use Rattle.gix_hash.specs.ObjectId.{id_kind, id_digits}
 use Rattle.gix_hash.specs.Prefix.{KindDigits, padded, prefix_eq}
 use Rattle.id_digits.specs.Words.{words_of}
 use Rattle.gix_hash.specs.declared.kind.Kind.{Kind}
@@ -16,7 +16,7 @@ use Rattle.gix_hash.specs.declared.object_id.ObjectId.{ObjectId}
 use Rattle.gix_hash.specs.declared.object_id.ObjectId.TheVariants.{Sha1, Sha256}
 use Rattle.gix_hash.specs.declared.prefix.Prefix.TheInside.{Inside}
 
--- the bytes of digits, two a byte; behind an odd number of digits a zero
+-- the bytes of digits, two a byte; an odd number of digits is followed by a zero
 unfoldable pub packed : List ℕ → List ℕ
 packed [] = []
 packed (d ∷ []) = (16 * d) ∷ []
@@ -31,11 +31,11 @@ id_of kinds.Sha256 bytes = Sha256 bytes
 abbrev pub padded_id : Kind → List ℕ → ObjectId
 padded_id kind digits = id_of kind (packed (padded (hex_len_of kind) digits))
 
--- the digits that a prefix shows
+-- the digits of a prefix
 abbrev pub shown : Inside → List ℕ
 shown p = take p.hex_len (id_digits p.bytes)
 
--- bytes and words hold the digits that are shown, with zeros behind them
+-- bytes and words hold the digits that are shown, with zeros after them
 pub record IsPacked (p : Inside) : Type 0 where
   pub within : p.hex_len ≤ hex_len_of (id_kind p.bytes)
   pub zeros : id_digits p.bytes ≡ padded (hex_len_of (id_kind p.bytes)) (shown p)
@@ -57,10 +57,6 @@ id_of-parts (Sha256 bytes) = ap Sha256 (packed-digits_of bytes)
 given_back : (p : Inside) → IsPacked p → padded_id (id_kind p.bytes) (shown p) ≡ p.bytes
 given_back p h = ap (λ (ds : List ℕ). id_of (id_kind p.bytes) (packed ds)) (sym h.zeros) ∙ id_of-parts p.bytes
 
--- what a prefix shows, padded and packed, is its bytes
-pub packed-shown : (p : Inside) → IsPacked p → packed (padded (hex_len_of (id_kind p.bytes)) (shown p)) ≡ id_bytes p.bytes
-packed-shown p h = ap packed (sym h.zeros) ∙ packed-digits_of (id_bytes p.bytes)
-
 -- padding reaches at least the length asked for
 length-padded : (n : ℕ) (digits : List ℕ) → n ≤ length (padded n digits)
 length-padded n digits =
@@ -72,21 +68,21 @@ length-shown p h =
     length-take-le p.hex_len (id_digits p.bytes)
     (omega (arith, h.within, length-padded (hex_len_of (id_kind p.bytes)) (shown p), ap length h.zeros))
 
--- how a prefix of a kind and digits is kept
-abbrev pub kept : KindDigits → Inside
-kept prefix = record {
+-- how a prefix of a kind and digits is stored
+abbrev pub stored : KindDigits → Inside
+stored prefix = record {
   bytes = padded_id prefix.kind prefix.digits;
   hex_len = length prefix.digits;
   words = words_of prefix.digits;
 }
 
--- the prefix that is seen
-abbrev pub seen : Inside → KindDigits
-seen p = record { kind = id_kind p.bytes; digits = shown p }
+-- the prefix that contracts see
+abbrev pub viewed : Inside → KindDigits
+viewed p = record { kind = id_kind p.bytes; digits = shown p }
 
--- what is seen of a prefix tells how it is kept
-pub kept-seen : (p : Inside) → IsPacked p → kept (seen p) ≡ p
-kept-seen p h = λ i. record { bytes = given_back p h i; hex_len = length-shown p h i; words = sym h.words i }
+-- what contracts see of a prefix determines how it is stored
+pub stored-viewed : (p : Inside) → IsPacked p → stored (viewed p) ≡ p
+stored-viewed p h = λ i. record { bytes = given_back p h i; hex_len = length-shown p h i; words = sym h.words i }
 
 -- what a prefix feeds to a hash: its bytes in one write, and then the number of digits
 abbrev pub prefix_hash_input : KindDigits → List (List ℕ)

@@ -10,7 +10,7 @@ use Rattle.gix_hash.specs.declared.kind.Kind.TheVariants.{Sha1, Sha256}
 abbrev pub hex_values : List ℕ → List ℕ
 hex_values text = map (λ c. unwrap_or (digit_in hex_letter c) 0) text
 
--- the id of zero digits alone
+-- the id whose digits are all zero
 abbrev pub null_digits : Kind → List ℕ
 null_digits kind = replicate (hex_len_of kind) 0
 

@@ -36,14 +36,14 @@ pub enum Alphabet {
 }
 
 impl Alphabet {
-    ghost use Rattle.gix_hash.specs.IdReading.{full_read, id_answered, whole_of};
+    ghost use Rattle.gix_hash.specs.IdReading.{full_read, result_digits, whole_of};
     ghost use Rattle.gix_hash.specs.Oid.{oid_digits, oid_kind};
 
-    /// Reads a prefix of 4 to 64 digits. Its kind is the least one whose ids have so many digits.
+    /// Reads a prefix of 4 to 64 digits. Its kind is SHA-1 up to 40 digits, and SHA-256 above.
     ///
-    /// Fewer bytes are refused as [`from_hex::Error::TooShort`], more as
-    /// [`from_hex::Error::TooLong`], both with their number, and else a byte that is no letter as
-    /// [`from_hex::Error::Invalid`].
+    /// Returns [`from_hex::Error::TooShort`] for fewer bytes, [`from_hex::Error::TooLong`] for
+    /// more, both with their number, and otherwise [`from_hex::Error::Invalid`] if some byte is no
+    /// letter.
     pub fn read_prefix(self, text: &str) -> Result<Prefix, from_hex::Error>
         ensures { result ≡ prefix_read (letter_of self) 4 text.now }
     {
@@ -55,7 +55,7 @@ impl Alphabet {
         self.read_prefix_nonempty(text)
     }
 
-    /// As [`Alphabet::read_prefix`], from 1 digit on: of too short texts only the empty one is refused.
+    /// As [`Alphabet::read_prefix`], from 1 digit on: only the empty text is too short.
     pub fn read_prefix_nonempty(self, text: &str) -> Result<Prefix, from_hex::Error>
         ensures { result ≡ prefix_read (letter_of self) 1 text.now }
     {
@@ -70,8 +70,11 @@ impl Alphabet {
         }
     }
 
-    // Reads the beginning of an id of the kind.
-    pub(crate) fn read_beginning(self, kind: Kind, text: &[u8]) -> Result<Prefix, from_hex::Error>
+    /// Reads a prefix of a kind, of any number of digits up to that of the kind's ids, 0 too. The
+    /// only error is [`from_hex::Error::Invalid`], for a byte that is no letter.
+    ///
+    /// The caller must ensure that the text is no longer than the spelling of an id of the kind.
+    pub fn read_beginning(self, kind: Kind, text: &[u8]) -> Result<Prefix, from_hex::Error>
         requires { length text.now ≤ hex_len_of kind }
         ensures { result ≡ ok_or (option_map (kind_digits kind)
             (digits_read (letter_of self) text.now)) from_hex.Error.Invalid }
@@ -98,12 +101,11 @@ impl Alphabet {
 
     /// Reads 40 or 64 digits as an id of SHA-1 or SHA-256.
     ///
-    /// A text of another length is refused as [`decode::Error::InvalidHexEncodingLength`] with its
-    /// length in bytes. A text of such a length with a byte that is no letter is refused as
-    /// [`decode::Error::Invalid`].
+    /// Returns [`decode::Error::InvalidHexEncodingLength`], with the length in bytes, for a text of
+    /// another length, and otherwise [`decode::Error::Invalid`] if some byte is no letter.
     #[inline(always)]
     pub fn read_id(self, text: &[u8]) -> Result<ObjectId, decode::Error>
-        ensures { id_answered result ≡ full_read (letter_of self) text.now }
+        ensures { result_digits result ≡ full_read (letter_of self) text.now }
     {
         match self.find_id(text) {
             Some(id) => Ok(id),
@@ -114,8 +116,8 @@ impl Alphabet {
         }
     }
 
-    /// Reads 40 or 64 digits as [`Alphabet::read_id`] does, and answers `None` for each text that it
-    /// refuses. Lists have an id a line, and an `Option` of it comes in fewer steps than a `Result`.
+    /// Reads 40 or 64 digits as [`Alphabet::read_id`] does, and returns `None` if that fails.
+    /// A list has an id on each line, and an `Option` of it takes fewer steps than a `Result`.
     #[inline(always)]
     pub fn find_id(self, text: &[u8]) -> Option<ObjectId>
         ensures { option_map whole_of result ≡ result_ok (full_read (letter_of self) text.now) }
@@ -141,9 +143,10 @@ impl Alphabet {
         }
     }
 
-    // Whether a text of two letters a byte reads as a digest of 20 or 32 bytes, which is then written. Both
-    // alphabets are read by lanes. The crate `hex` takes a letter at a time, and six times as long; and with
-    // its loop in one branch, LLVM copies each id of a list twice more on the stack, also in the other.
+    // Whether a text of two letters a byte reads as a digest of 20 or 32 bytes, which is then
+    // written. Both alphabets are read by lanes. The crate `hex` takes a letter at a time, and six
+    // times as long; and with its loop in one branch, LLVM copies each id of a list twice more on
+    // the stack, also in the other.
     #[inline(always)]
     fn decode_digest(self, text: &[u8], bytes: &mut [u8]) -> bool
         requires digest { IsTrue (is_digest_len (length bytes.old)) }
@@ -160,8 +163,8 @@ impl Alphabet {
         }
     }
 
-    // Whether each byte of a text is a letter. Then the digits are written into the front of zeros, two a
-    // byte, and the last of an odd number as the high half of one more.
+    // Whether each byte of a text is a letter. Then the digits are written into the front of zeros,
+    // two a byte, and the last of an odd number as the high half of one more.
     #[inline(always)]
     fn decode(self, text: &[u8], zeros: &mut [u8]) -> bool
         requires zeros { zeros.old ≡ replicate (length zeros.old) 0 }
@@ -179,8 +182,8 @@ impl Alphabet {
         }
     }
 
-    /// Spells all digits of an id into the front of `buffer`, as many as its kind's length in digits;
-    /// the bytes behind them stay. The buffer needs room for the digits.
+    /// Spells all digits of an id into the front of `buffer`, as many as its kind's length in
+    /// digits; the bytes after them stay. The caller must ensure that the buffer has room.
     pub fn put_id(self, id: oid<'_>, buffer: &mut [u8])
         requires { hex_len_of (oid_kind id) ≤ length buffer.old }
         ensures value { buffer.new ≡ spelling (letter_of self) (oid_digits id.entry) ++ drop
@@ -225,7 +228,8 @@ fn decode_pairs(text: &[u8], bytes: &mut [u8]) -> bool
     hex::decode_to_slice(text, bytes).is_ok()
 }
 
-// Puts the hex letters for a text in the reverse alphabet into the front of `letters`, and lends them.
+// Puts the hex letters for a text in the reverse alphabet into the front of `letters`, and lends
+// them.
 fn in_hex<'a>(text: &[u8], letters: &'a mut [u8; 64]) -> &'a [u8]
     requires { length text.now ≤ 64 }
     ensures { result.now ≡ map hex_of_reverse text.now }

@@ -1,6 +1,6 @@
 //! Ids that borrow their bytes.
 
-ghost use Rattle.std.specs.Prelude.{IsOk, IfOk, IfErr, OnOk, ◌≡◌, ◌≤◌, ◌<◌, ◌↔◌, ◌++◌, ◌*◌, IsTrue, IsAscii, All, length, take, drop, slice_range, nat_eq};
+ghost use Rattle.std.specs.Prelude.{IsOk, IfOk, IfErr, OnOk, ◌≡◌, ◌≤◌, ◌<◌, ◌↔◌, ◌++◌, ◌*◌, ℕ, List, IsTrue, IsAscii, All, length, drop, slice_range, nat_eq};
 ghost use Rattle.std.proofs.Common.{rules};
 ghost use Rattle.std.specs.Cmp.{partial_order_from_own_ties};
 ghost use Rattle.std.specs.Cmp.Rules.{comparing};
@@ -56,8 +56,8 @@ impl<'a> oid<'a> {
         oid { bytes }
     }
 
-    /// A view of a digest. Other bytes than 20 or 32 are refused as
-    /// [`Error::InvalidByteSliceLength`] with their number.
+    /// A view of a digest. Returns [`Error::InvalidByteSliceLength`], with the number of bytes, if
+    /// that is neither 20 nor 32.
     pub fn try_from_bytes(bytes: &'a [u8]) -> Result<Self, Error>
         ensures ok { IfOk result (λ id. oid_bytes id ≡ bytes.now) }
         ensures accepted { IsOk result ↔ IsTrue (is_digest_len (length bytes.now)) }
@@ -69,7 +69,7 @@ impl<'a> oid<'a> {
         }
     }
 
-    /// The kind of the id, which its length tells.
+    /// The kind of the id, by its length.
     #[tactic(auto, using(crate::proofs::IdFacts::digits_of_view))]
     pub fn kind(&self) -> Kind
         ensures value { result ≡ oid_kind self.now }
@@ -145,7 +145,7 @@ impl<'a> oid<'a> {
         *self == other.as_oid()
     }
 
-    /// Whether `text` is just the lowercase hex digits.
+    /// Whether `text` is exactly the lowercase hex digits.
     pub fn eq_str(&self, text: &str) -> bool
         ensures { IsTrue result ↔ (text.now ≡ spelling hex_letter (oid_digits self.now)) }
     {
@@ -154,7 +154,7 @@ impl<'a> oid<'a> {
     }
 
     /// The number of digits that two ids share: those before the first that differs, or all of the
-    /// shorter id's where none does. Kinds are ignored.
+    /// shorter id's if none does. Kinds are ignored.
     #[tactic(auto, using(crate::proofs::CommonBeginnings::longest_common))]
     pub fn common_hex_len(&self, other: oid<'_>) -> usize
         ensures value { result ≡ common_prefix_len nat_eq (oid_digits self.now)
@@ -172,7 +172,7 @@ impl<'a> oid<'a> {
         HexDisplay::new(*self, self.kind().len_in_hex())
     }
 
-    /// The id for printing its first `hex_len` digits, or all where it has fewer.
+    /// The id for printing its first `hex_len` digits, or all if it has fewer.
     pub fn to_hex_with_len(&self, hex_len: usize) -> HexDisplay<'a>
         ensures { result ≡ cut_of self.now hex_len }
     {
@@ -180,7 +180,7 @@ impl<'a> oid<'a> {
     }
 
     /// Writes the lowercase hex digits to `out`. The error is the writer's; how many digits were
-    /// written then is not said.
+    /// written before it is not specified.
     pub fn write_hex_to<W: io::Write>(&self, out: &mut W) -> io::Result<()>
         ensures { OnOk result (Appends (W.contents out.old) (W.contents out.new)
             (spelling hex_letter (oid_digits self.now))) }
@@ -190,7 +190,7 @@ impl<'a> oid<'a> {
         out.write_all(&buffer[..self.kind().len_in_hex()])
     }
 
-    /// Compares with the id that this one should be. Where they differ, the error holds both.
+    /// Compares with the id that this one should be. If they differ, the error contains both.
     pub fn verify(&self, expected: oid<'_>) -> Result<(), verify::Error>
         ensures equal { IsOk result ↔ (oid_digits self.now ≡ oid_digits expected.entry) }
         ensures actual { IfErr result (λ e. (id_kind e.actual ≡ oid_kind self.now)
@@ -209,7 +209,7 @@ impl<'a> oid<'a> {
     }
 
     /// Writes the lowercase hex digits into the front of `buffer`, as many as the kind's length in
-    /// digits; the bytes behind them stay. The buffer needs room for the digits.
+    /// digits; the bytes after them stay. The caller must ensure that the buffer has room.
     pub fn put_hex(&self, buffer: &mut [u8])
         requires { hex_len_of (oid_kind self.now) ≤ length buffer.old }
         ensures value { buffer.new ≡ spelling hex_letter (oid_digits self.now) ++ drop
@@ -220,11 +220,11 @@ impl<'a> oid<'a> {
     }
 
     /// Writes the lowercase hex digits into the front of `buffer` as [`oid::put_hex`] does, and
-    /// lends them as text. The buffer needs room for the digits.
+    /// lends them as text. The caller must ensure that the buffer has room.
     ///
-    /// The clause `behind` says what the buffer holds once the text is let go. Only a caller that is
-    /// proved by hand learns it: it lends the buffer again for a lifetime of its own, and takes it
-    /// back at what the clause says. [`oid::put_hex`] says the same of the buffer to every caller.
+    /// The starred clause says what the buffer holds once the borrow ends. Only a caller that is
+    /// proved by hand can use it: it reborrows the buffer for a lifetime of its own, and gets it
+    /// back as the clause says. [`oid::put_hex`] says the same of the buffer to every caller.
     pub fn hex_to_buf<'b>(&self, buffer: &'b mut [u8]) -> &'b str
         requires { hex_len_of (oid_kind self.now) ≤ length buffer.old }
         ensures* behind { sem 𝓛 (EndsAs buffer.entry
@@ -243,9 +243,6 @@ impl<'a> oid<'a> {
         ensures same { result.ghost_name ≡ buffer.entry.ghost_name }
         ensures value { result.now ≡ spelling hex_letter (oid_digits self.now) ++ drop
             (hex_len_of (oid_kind self.now)) buffer.old }
-        ensures room { hex_len_of (oid_kind self.now) ≤ length result.now }
-        ensures front { take (hex_len_of (oid_kind self.now)) result.now
-            ≡ spelling hex_letter (oid_digits self.now) }
     {
         self.put_hex(buffer);
         buffer
@@ -253,9 +250,7 @@ impl<'a> oid<'a> {
 
     // The digits in front of a buffer, as text.
     pub(crate) fn front_text<'b>(&self, buffer: &'b [u8]) -> &'b str
-        requires room { hex_len_of (oid_kind self.now) ≤ length buffer.now }
-        requires front { take (hex_len_of (oid_kind self.now)) buffer.now
-            ≡ spelling hex_letter (oid_digits self.now) }
+        requires { (rest : List ℕ) × (buffer.now ≡ spelling hex_letter (oid_digits self.now) ++ rest) }
         ensures text { result.now ≡ spelling hex_letter (oid_digits self.now) }
         ensures ascii { IsAscii result.now }
         ensures len { length result.now ≡ hex_len_of (oid_kind self.now) }
@@ -265,7 +260,7 @@ impl<'a> oid<'a> {
 
     /// The bytes of the range as the beginning of a prefix of the same kind, two digits a byte.
     ///
-    /// The range counts bytes, and has to lie within the digest's.
+    /// The range counts bytes. The caller must ensure that it is within the digest.
     pub fn to_prefix(&self, range: Range<usize>) -> Prefix
         requires ordered { range.start ≤ range.end }
         requires within { range.end ≤ length (oid_bytes self.now) }
@@ -285,7 +280,7 @@ impl PartialEq for oid<'_> {
 
     ghost laws = { Prim.search (comparing, rules) };
 
-    #[tactic(auto, using(id_digits::specs::DigitOrder::to_digits))]
+    #[tactic(auto, using(id_digits::proofs::DigitOrder::to_digits))]
     fn eq(&self, other: &Self) -> bool {
         self.bytes == other.bytes
     }

@@ -1,7 +1,7 @@
 //! Ids in the letters by which Jujutsu spells change ids.
 
 ghost use Rattle.std.specs.Prelude.{◌≡◌, ◌≤◌, ◌<◌, ◌↔◌, ◌++◌, All, IsTrue, length, drop};
-ghost use Rattle.gix_hash.specs.CutId.{shown_digits};
+ghost use Rattle.gix_hash.specs.CutId.{asked_len, cut_kind, shown_digits, whole_digits};
 ghost use Rattle.id_digits.specs.Digits.{reverse_letter, spelling};
 ghost use Rattle.gix_hash.specs.Kind.{hex_len_of, byte_len_of};
 ghost use Rattle.gix_hash.specs.ObjectId.{id_bytes, id_digits, id_kind};
@@ -18,8 +18,8 @@ use std::fmt;
 use std::marker::Model;
 use std::str::FromStr;
 
-/// An id under another spelling: the letters `z` to `k` in place of the hex digits 0 to 15, as
-/// Jujutsu prints change ids. Contracts see the id.
+/// An id in another spelling: the letters `z` to `k` for the digits 0 to 15, as Jujutsu prints
+/// change ids. Contracts see the id.
 ///
 /// ```
 /// let change = ChangeId::from_reverse_hex(text)?;
@@ -39,16 +39,16 @@ impl Model for ChangeId {
 }
 
 impl ChangeId {
-    ghost use Rattle.gix_hash.specs.IdReading.{full_read, id_answered};
+    ghost use Rattle.gix_hash.specs.IdReading.{full_read, result_digits};
     ghost use Rattle.gix_hash.specs.Oid.{oid_kind, oid_digits};
 
     /// Reads 40 or 64 of the letters `z` to `k`, in any letter case, as an id of SHA-1 or SHA-256.
     ///
-    /// A text of another length is refused as [`decode::Error::InvalidHexEncodingLength`] with its
-    /// length in bytes. A text of such a length with another byte is refused as
-    /// [`decode::Error::Invalid`].
+    /// Returns [`decode::Error::InvalidHexEncodingLength`], with the length in bytes, for a text of
+    /// another length, and otherwise [`decode::Error::Invalid`] if some byte is none of the
+    /// letters.
     pub fn from_reverse_hex(text: &[u8]) -> Result<ChangeId, decode::Error>
-        ensures { id_answered result ≡ full_read reverse_letter text.now }
+        ensures { result_digits result ≡ full_read reverse_letter text.now }
     {
         match Alphabet::Reverse.read_id(text) {
             Ok(id) => Ok(ChangeId(id)),
@@ -86,9 +86,9 @@ impl ChangeId {
 
     /// The id for printing in full in hex.
     pub fn to_hex(&self) -> HexDisplay<'_>
-        ensures id { oid_digits result.inner ≡ id_digits self.now }
-        ensures kind { oid_kind result.inner ≡ id_kind self.now }
-        ensures hex_len { result.hex_len ≡ hex_len_of (id_kind self.now) }
+        ensures id { whole_digits result ≡ id_digits self.now }
+        ensures kind { cut_kind result ≡ id_kind self.now }
+        ensures hex_len { asked_len result ≡ hex_len_of (id_kind self.now) }
         ensures shown { shown_digits result ≡ id_digits self.now }
     {
         self.0.to_hex()
@@ -96,26 +96,27 @@ impl ChangeId {
 
     /// The id for printing in full in the letters `z` to `k`.
     pub fn to_reverse_hex(&self) -> ReverseHexDisplay<'_>
-        ensures id { oid_digits result.inner ≡ id_digits self.now }
-        ensures kind { oid_kind result.inner ≡ id_kind self.now }
-        ensures hex_len { result.hex_len ≡ hex_len_of (id_kind self.now) }
+        ensures id { whole_digits result ≡ id_digits self.now }
+        ensures kind { cut_kind result ≡ id_kind self.now }
+        ensures hex_len { asked_len result ≡ hex_len_of (id_kind self.now) }
         ensures shown { shown_digits result ≡ id_digits self.now }
     {
         self.to_reverse_hex_with_len(self.kind().len_in_hex())
     }
 
-    /// The id for printing its first `hex_len` digits in the letters `z` to `k`, or all where it
-    /// has fewer.
+    /// The id for printing its first `hex_len` digits in the letters `z` to `k`, or all if it has
+    /// fewer.
     pub fn to_reverse_hex_with_len(&self, hex_len: usize) -> ReverseHexDisplay<'_>
-        ensures id { oid_digits result.inner ≡ id_digits self.now }
-        ensures kind { oid_kind result.inner ≡ id_kind self.now }
-        ensures hex_len { result.hex_len ≡ hex_len }
+        ensures id { whole_digits result ≡ id_digits self.now }
+        ensures kind { cut_kind result ≡ id_kind self.now }
+        ensures hex_len { asked_len result ≡ hex_len }
     {
         ReverseHexDisplay::new(self.as_oid(), hex_len)
     }
 
-    /// Writes the digits in the letters `z` to `k` into the front of `buffer`, as many as the kind's
-    /// length in digits; the bytes behind them stay. The buffer needs room for the digits.
+    /// Writes the digits in the letters `z` to `k` into the front of `buffer`, as many as the
+    /// kind's length in digits; the bytes after them stay. The caller must ensure that the buffer
+    /// has room.
     pub fn put_reverse_hex(&self, buffer: &mut [u8])
         requires { hex_len_of (id_kind self.now) ≤ length buffer.old }
         ensures value { buffer.new ≡ spelling reverse_letter (id_digits self.now) ++ drop
@@ -125,7 +126,7 @@ impl ChangeId {
         Alphabet::Reverse.put_id(self.as_oid(), buffer);
     }
 
-    /// Whether `text` is just all digits in the letters `z` to `k`, in lowercase.
+    /// Whether `text` is exactly all digits in the letters `z` to `k`, in lowercase.
     pub fn eq_str(&self, text: &str) -> bool
         ensures { IsTrue result ↔ (text.now ≡ spelling reverse_letter (id_digits self.now)) }
     {
@@ -152,11 +153,11 @@ impl fmt::Display for ChangeId {
 impl FromStr for ChangeId {
     ghost use Rattle.std.specs.Prelude.{◌≡◌};
     ghost use Rattle.id_digits.specs.Digits.{reverse_letter};
-    ghost use Rattle.gix_hash.specs.IdReading.{full_read, id_answered};
+    ghost use Rattle.gix_hash.specs.IdReading.{full_read, result_digits};
 
     type Err = decode::Error;
 
-    ghost from_str_gives = { λ text answer. id_answered answer ≡ full_read reverse_letter text };
+    ghost from_str_gives = { λ text answer. result_digits answer ≡ full_read reverse_letter text };
 
     fn from_str(text: &str) -> Result<ChangeId, decode::Error> {
         ChangeId::from_reverse_hex(text.as_bytes())

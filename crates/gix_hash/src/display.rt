@@ -11,7 +11,7 @@ use crate::kind::Kind;
 use std::fmt;
 use std::marker::Model;
 
-/// An id, and how many of its digits are to be printed: all where it has fewer.
+/// An id, and how many of its digits are to be printed: all if it has fewer.
 #[derive(PartialEq, Eq, PartialOrd, Ord, Hash, Drop)]
 pub struct CutId<'a> {
     inner: oid<'a>,
@@ -21,7 +21,7 @@ pub struct CutId<'a> {
 impl<'a> CutId<'a> {
     ghost use Rattle.gix_hash.specs.CutId.{cut_of, shown_digits};
 
-    // So many digits of an id.
+    // The first `hex_len` digits of an id.
     pub(crate) fn new(inner: oid<'a>, hex_len: usize) -> CutId<'a>
         ensures { result ≡ cut_of inner.entry hex_len }
     {
@@ -48,10 +48,10 @@ impl<'a> CutId<'a> {
     }
 }
 
-/// An id that prints its first digits in lowercase hex: as many as were asked for, or all where it
-/// has fewer.
+/// An id that prints its first digits in lowercase hex: as many as were asked for, or all if it has
+/// fewer.
 ///
-/// Two of them are equal where both the ids and the numbers asked for are, and ordered by the ids
+/// Two of them are equal if both the ids and the numbers asked for are, and ordered by the ids
 /// first.
 ///
 /// ```
@@ -74,14 +74,14 @@ impl<'a> Model for HexDisplay<'a> {
 impl<'a> HexDisplay<'a> {
     ghost use Rattle.gix_hash.specs.CutId.{cut_of, shown_digits};
 
-    // A display of so many digits of an id.
+    // A display of the first `hex_len` digits of an id.
     pub(crate) fn new(id: oid<'a>, hex_len: usize) -> HexDisplay<'a>
         ensures { result ≡ cut_of id.entry hex_len }
     {
         HexDisplay(CutId::new(id, hex_len))
     }
 
-    /// Whether `text` is just what is printed.
+    /// Whether `text` is exactly what is printed.
     pub fn eq_str(&self, text: &str) -> bool
         ensures { IsTrue result ↔ (text.now ≡ spelling hex_letter (shown_digits self.now)) }
     {
@@ -107,9 +107,9 @@ impl fmt::Display for HexDisplay<'_> {
 }
 
 /// An id that prints its first digits in the letters `z` to `k`: as many as were asked for, or all
-/// where it has fewer.
+/// if it has fewer.
 ///
-/// Two of them are equal where both the ids and the numbers asked for are, and ordered by the ids
+/// Two of them are equal if both the ids and the numbers asked for are, and ordered by the ids
 /// first.
 ///
 /// ```
@@ -133,15 +133,15 @@ impl<'a> ReverseHexDisplay<'a> {
     ghost use Rattle.gix_hash.specs.CutId.{cut_of, shown_digits};
     ghost use Rattle.id_digits.specs.Digits.{reverse_letter};
 
-    /// The id for printing its first `hex_len` digits in the letters `z` to `k`, or all where it
-    /// has fewer.
+    /// The id for printing its first `hex_len` digits in the letters `z` to `k`, or all if it has
+    /// fewer.
     pub fn new(id: oid<'a>, hex_len: usize) -> ReverseHexDisplay<'a>
         ensures { result ≡ cut_of id.entry hex_len }
     {
         ReverseHexDisplay(CutId::new(id, hex_len))
     }
 
-    /// Whether `text` is just what is printed.
+    /// Whether `text` is exactly what is printed.
     pub fn eq_str(&self, text: &str) -> bool
         ensures { IsTrue result ↔ (text.now ≡ spelling reverse_letter (shown_digits self.now)) }
     {

@@ -7,7 +7,7 @@ pub(crate) mod state;
 use crate::object_id::ObjectId;
 use thiserror::Error as ThisError;
 
-/// Why a hasher gives no digest. No hasher of this crate answers it, since none looks for
+/// Why a hasher gives no digest. No hasher of this crate returns it, since none looks for
 /// collisions.
 ///
 /// ```

@@ -53,8 +53,8 @@ impl Kind {
         }
     }
 
-    /// The least kind whose ids have at least `hex_len` digits: SHA-1 for 0 to 40, SHA-256 for 41
-    /// to 64, both ends included, and `None` above.
+    /// The kind with the shortest ids of at least `hex_len` digits: SHA-1 for 0 to 40, SHA-256 for
+    /// 41 to 64, both ends included, and `None` above.
     pub const fn from_hex_len(hex_len: usize) -> Option<Kind>
         ensures { result ≡ kind_of_hex_len hex_len }
     {
@@ -93,7 +93,7 @@ impl Kind {
         [0; 32]
     }
 
-    /// The id of zero digits alone.
+    /// The id whose digits are all zero.
     pub fn null(&self) -> ObjectId
         ensures kind { id_kind result ≡ self.now }
         ensures digits { id_digits result ≡ null_digits self.now }
@@ -104,7 +104,7 @@ impl Kind {
         }
     }
 
-    /// The id of zero digits alone, as a view.
+    /// The id whose digits are all zero, as a view.
     pub fn null_ref(&self) -> oid<'static>
         ensures kind { oid_kind result ≡ self.now }
         ensures digits { oid_digits result ≡ null_digits self.now }
@@ -145,7 +145,7 @@ impl Kind {
     }
 
     /// Reads the name of a kind: `sha1`, `SHA1`, `SHA-1`, `sha256`, `SHA256` or `SHA-256`. Any
-    /// other text is handed back.
+    /// other text is returned as the error.
     pub fn from_str(name: &str) -> Result<Kind, &str>
         ensures { MatchResult result (IsNameOf name.now)
             (λ refused. (refused.now ≡ name.now) × IsNoName name.now) }

@@ -1,4 +1,4 @@
-//! Laws of digits, ids and prefixes that no single call carries. Each is the contract of a function
+//! Laws of digits, ids and prefixes that hold across calls. Each is the contract of a function
 //! that computes nothing: a call of it brings the law into a caller's proof.
 
 ghost use Rattle.std.specs.Prelude.{◌≡◌, ◌≤◌, ◌<◌, ◌↔◌, ◌⊎◌, ◌+◌, ◌-◌, ◌/◌, ◌%◌, ◌^◌, ℕ, All, List, IsTrue, IsOk, IfOk, Some, None, [], codes, length, slice_index, MatchResult, Contains};
@@ -43,8 +43,8 @@ pub fn letters()
         → reverse_letter d ≡ slice_index (codes "zyxwvutsrqponmlk") d }
 {}
 
-/// A text reads as the digits that `digits_read` gives, and as no others; and where it gives none,
-/// no list of digits reads the text.
+/// A text reads as the digits that `digits_read` gives, and as no others; and if it gives none, the
+/// text reads as no list of digits.
 pub fn readings(alphabet: Alphabet, text: &[u8])
     ensures some { (digits : List ℕ) → (digits_read (letter_of alphabet) text.now ≡ Some digits)
         ↔ ReadsAs (letter_of alphabet) text.now digits }
@@ -52,8 +52,8 @@ pub fn readings(alphabet: Alphabet, text: &[u8])
         ↔ IsUnreadable (letter_of alphabet) text.now }
 {}
 
-/// A text reads as digits just where each of them is below 16 and the text, in lowercase, is their
-/// spelling.
+/// A text reads as digits if and only if each of them is below 16 and the text, in lowercase, is
+/// their spelling.
 pub fn spelled(alphabet: Alphabet, text: &[u8])
     ensures { (digits : List ℕ) → ReadsAs (letter_of alphabet) text.now digits
         ↔ (All (λ d. d < 16) digits
@@ -66,8 +66,8 @@ pub fn digits_of_ids(kind: Kind)
         ↔ ((id : ids.ObjectId) × HasDigits kind digits id) }
 {}
 
-/// What is printed of any id is in lowercase, and reads as the id. So no id is printed as a text that
-/// is refused or that reads as an id which is printed otherwise.
+/// What is printed of any id is in lowercase, and reads as the id. So no id is printed as a text
+/// that is rejected or that reads as another id.
 pub fn printed(alphabet: Alphabet)
     ensures lowercase { (digits : List ℕ) → All (λ d. d < 16) digits
         → str_to_ascii_lowercase (spelling (letter_of alphabet) digits)
@@ -78,7 +78,7 @@ pub fn printed(alphabet: Alphabet)
 {}
 
 /// The texts that read as a full id, which are those of as many bytes as its kind has digits that
-/// read as its digits; and why any other is refused.
+/// read as its digits; and why any other is rejected.
 pub fn full_readings(alphabet: Alphabet, text: &[u8])
     ensures ok { (id : KindDigits) → (full_read (letter_of alphabet) text.now ≡ Ok id)
         ↔ IsFullReading (letter_of alphabet) text.now id }
@@ -90,7 +90,7 @@ pub fn full_readings(alphabet: Alphabet, text: &[u8])
         (IsFullRefusal (letter_of alphabet) text.now) }
 {}
 
-/// The texts that read as a prefix of at least so many digits, and why any other is refused.
+/// The texts that read as a prefix of at least `least` digits, and why any other is rejected.
 pub fn prefix_readings(alphabet: Alphabet, least: usize, text: &str)
     ensures ok { (prefix : KindDigits)
         → (prefix_read (letter_of alphabet) least text.now ≡ Ok prefix)
@@ -103,7 +103,7 @@ pub fn prefix_readings(alphabet: Alphabet, least: usize, text: &str)
         (IsPrefixRefusal (letter_of alphabet) least text.now) }
 {}
 
-/// The texts that read as a prefix in a given kind, and why any other is refused.
+/// The texts that read as a prefix in a given kind, and why any other is rejected.
 pub fn prefix_readings_in(kind: Kind, alphabet: Alphabet, text: &str)
     ensures ok { (prefix : KindDigits)
         → (prefix_read_in kind (letter_of alphabet) text.now ≡ Ok prefix)
@@ -118,7 +118,7 @@ pub fn read_back(id: &ObjectId, text: &[u8])
     requires { str_to_ascii_lowercase text.now ≡ spelling hex_letter (id_digits id.now) }
     ensures { full_read hex_letter text.now ≡ Ok (whole_of id.now) }
 {
-    // The contract of this call tells how many digits there are, and that each is below 16.
+    // The contract of this call says how many digits there are, and that each is below 16.
     let _kind = id.kind();
 }
 
@@ -127,12 +127,13 @@ pub fn read_change_back(change: &ChangeId, text: &[u8])
     requires { str_to_ascii_lowercase text.now ≡ spelling reverse_letter (id_digits change.now) }
     ensures { full_read reverse_letter text.now ≡ Ok (whole_of change.now) }
 {
-    // The contract of this call tells how many digits there are, and that each is below 16.
+    // The contract of this call says how many digits there are, and that each is below 16.
     let _kind = change.kind();
 }
 
-/// A prefix of at least one digit that is printed, and read in any letter case, has the same digits;
-/// it is the same prefix just where its kind is the least one with room for them.
+/// A prefix of at least one digit that is printed, and read in any letter case, has the same
+/// digits; it is the same prefix if and only if its kind is the one with the shortest ids that have
+/// room for them.
 pub fn read_prefix_back(alphabet: Alphabet, prefix: &Prefix, text: &str)
     requires nonempty { 1 ≤ length prefix.now.digits }
     requires printed { str_to_ascii_lowercase text.now
@@ -143,7 +144,7 @@ pub fn read_prefix_back(alphabet: Alphabet, prefix: &Prefix, text: &str)
     ensures same { (prefix_read (letter_of alphabet) 1 text.now ≡ Ok prefix.now)
         ↔ (kind_of_hex_len (length prefix.now.digits) ≡ Some prefix.now.kind) }
 {
-    // The contract of this call tells how many digits there are, and that each is below 16.
+    // The contract of this call says how many digits there are, and that each is below 16.
     let _len = prefix.hex_len();
 }
 
@@ -155,16 +156,16 @@ pub fn read_prefix_back_in_kind(alphabet: Alphabet, prefix: &Prefix, text: &str)
         ≡ spelling (letter_of alphabet) prefix.now.digits }
     ensures { prefix_read_in prefix.now.kind (letter_of alphabet) text.now ≡ Ok prefix.now }
 {
-    // The contract of this call tells how many digits there are, and that each is below 16.
+    // The contract of this call says how many digits there are, and that each is below 16.
     let _len = prefix.hex_len();
 }
 
-/// An id is told by its kind and its digits.
+/// Two ids are the same if and only if their kinds and their digits are.
 pub fn same_id(first: &ObjectId, second: &ObjectId)
     ensures { (first.now ≡ second.now) ↔ (whole_of first.now ≡ whole_of second.now) }
 {}
 
-/// Ids are equal just where they are the same, which is where their kinds and their digits are, or
+/// Ids are equal if and only if they are the same, that is, if their kinds and their digits are, or
 /// their full spellings.
 pub fn equal_ids(first: &ObjectId, second: &ObjectId)
     ensures same { IsTrue (id_eq first.now second.now) ↔ (first.now ≡ second.now) }
@@ -174,19 +175,19 @@ pub fn equal_ids(first: &ObjectId, second: &ObjectId)
     ensures spelling { IsTrue (id_eq first.now second.now)
         ↔ (spelling hex_letter (id_digits first.now) ≡ spelling hex_letter (id_digits second.now)) }
 {
-    // Where the numbers of the digits are told.
+    // The contracts of these calls say how many digits there are.
     let _kinds = (first.kind(), second.kind());
 }
 
-/// A list of ids has one that is equal to an id just where it has the id itself. So a set has the ids
-/// that are its keys.
+/// A list of ids contains one that is equal to an id if and only if it contains the id itself. So a
+/// set contains the ids that are its keys.
 pub fn contains_equal(id: &ObjectId)
     ensures { (ids : List ids.ObjectId)
         → IsTrue (list_any (id_eq id.now) ids) ↔ Contains ids id.now }
 {}
 
-/// Views are equal just where their digits are, or their full spellings, and their kinds are the
-/// same then.
+/// Views are equal if and only if their digits are, or their full spellings, and then their kinds
+/// are the same.
 pub fn equal_views(first: oid<'_>, second: oid<'_>)
     ensures digits { IsTrue (oid_eq first.entry second.entry)
         ↔ (oid_digits first.entry ≡ oid_digits second.entry) }
@@ -197,7 +198,7 @@ pub fn equal_views(first: oid<'_>, second: oid<'_>)
         → oid_kind first.entry ≡ oid_kind second.entry }
 {}
 
-/// Prefixes are equal just where they are the same, which is where their kinds and their spellings
+/// Prefixes are equal if and only if they are the same, that is, if their kinds and their spellings
 /// are.
 pub fn equal_prefixes(first: &Prefix, second: &Prefix)
     ensures same { IsTrue (prefix_eq first.now second.now) ↔ (first.now ≡ second.now) }
@@ -236,9 +237,9 @@ pub fn compare_reverse_hex_displays<'a>(
         ≡ cut_hash_input first.now }
 {}
 
-/// The order of owned ids is total. Two ids are equal if and only if it ties them, and then they are
-/// the same. So after a sort and a `dedup` each id of a list is below the next one, and the list
-/// contains the same ids as before.
+/// The order of owned ids is total. Two ids are equal if and only if it ties them, and then they
+/// are the same. So after a sort and a `dedup` each id of a list is below the next one, and the
+/// list contains the same ids as before.
 pub fn order_of_ids()
     ensures total { IsTotalOrder id_cmp }
     ensures equivalence { IsEquivalence id_eq }
@@ -268,13 +269,13 @@ pub fn opposite_order(first: &ChangeId, second: &ChangeId)
         (spelling reverse_letter (id_digits second.now))
         ≡ ordering_reverse (id_cmp first.now second.now) }
 {
-    // Where the numbers of the digits and their range are told.
+    // The contracts of these calls say how many digits there are, and that each is below 16.
     let _kinds = (first.kind(), second.kind());
 }
 
-/// A prefix is at its place in an id, so that [`Prefix::cmp_oid`] answers Equal, just where the id's
-/// digits begin with the prefix's.
-pub fn equal_where_it_begins(prefix: &Prefix, candidate: oid<'_>)
+/// The place of a prefix against an id is Equal, which [`Prefix::cmp_oid`] returns, if and only if
+/// the id's digits begin with the prefix's.
+pub fn equal_iff_it_begins(prefix: &Prefix, candidate: oid<'_>)
     ensures { (place prefix.now.digits (oid_digits candidate.entry) ≡ Ordering.Equal)
         ↔ BeginsWith (oid_digits candidate.entry) prefix.now.digits }
 {}
@@ -287,9 +288,9 @@ pub fn nested_or_disjoint(first: &Prefix, second: &Prefix)
         ⊎ ((id : List ℕ) → ¬ (BeginsWith id first.now.digits × BeginsWith id second.now.digits)) }
 {}
 
-/// The two words by which a prefix compares hold its digits from the highest four bits on, the first
-/// 32 in the first word and the others in the second. Behind the digits are zeros, as a list gives 0
-/// behind its end.
+/// The two words by which a prefix compares hold its digits from the highest four bits on, the
+/// first 32 in the first word and the others in the second. After the digits are zeros, as
+/// `slice_index` is 0 past the end of a list.
 pub fn digits_in_words(prefix: &Prefix)
     ensures first { (at : ℕ) → at < 32
         → (words_of prefix.now.digits).first / 16 ^ (31 - at) % 16
@@ -298,7 +299,7 @@ pub fn digits_in_words(prefix: &Prefix)
         → (words_of prefix.now.digits).second / 16 ^ (31 - at) % 16
         ≡ slice_index prefix.now.digits (32 + at) }
 {
-    // Where the range of the digits is told.
+    // The contract of this call says that each digit is below 16.
     let _len = prefix.hex_len();
 }
 

@@ -3,7 +3,7 @@
 //! An id is a SHA-1 digest of 20 bytes or a SHA-256 digest of 32 bytes, and contracts see it as a
 //! [`Kind`] and a list of 40 or 64 digits. [`ObjectId`] owns its bytes, [`oid`] borrows them, and a
 //! [`Prefix`] is a beginning of an id's digits. A [`ChangeId`] is an id in Jujutsu's letters. A
-//! [`Hasher`] computes ids from bytes in pieces, [`digest_of`] from one piece, and [`bytes`],
+//! [`Hasher`] computes ids from bytes in chunks, [`digest_of`] from one slice, and [`bytes`],
 //! [`bytes_of_file`] and [`io::Write`] from what is read and written. [`ends_in_digest`] tests the
 //! bytes of a pack or an index.
 #![tactic(auto)]
@@ -19,12 +19,12 @@ mod display;
 mod error;
 /// Computing ids from bytes.
 pub mod hashing;
-/// Laws of hashing that no single call carries.
+/// Laws of hashing that hold across calls.
 pub mod hashing_laws;
 /// Digests of streams and files.
 pub mod io;
 mod kind;
-/// Laws that no single call carries.
+/// Laws that hold across calls.
 pub mod laws;
 mod object_id;
 /// Beginnings of ids.

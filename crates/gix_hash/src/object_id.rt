@@ -30,7 +30,7 @@ pub enum ObjectId {
 }
 
 impl ObjectId {
-    ghost use Rattle.std.specs.Prelude.{◌↔◌, ◌++◌, IsTrue, IsOk, IfErr, OnOk, IsAscii, take, drop};
+    ghost use Rattle.std.specs.Prelude.{◌↔◌, ◌++◌, ℕ, List, IsTrue, IsOk, IfErr, OnOk, IsAscii, drop};
     ghost use Rattle.std.specs.Borrow.{sem};
     ghost use Rattle.gix_hash.specs.LentText.{EndsAs};
     ghost use Rattle.std.specs.Io.KnownBytes.{Appends};
@@ -38,22 +38,21 @@ impl ObjectId {
     ghost use Rattle.std.specs.Prelude.{nat_eq};
     ghost use Rattle.gix_hash.specs.CommonDigits.{IsCommonLen};
     ghost use Rattle.id_digits.specs.Digits.{digits_of, first_byte_of, hex_letter, spelling};
-    ghost use Rattle.gix_hash.specs.CutId.{shown_digits};
+    ghost use Rattle.gix_hash.specs.CutId.{asked_len, cut_kind, shown_digits, whole_digits};
     ghost use Rattle.gix_hash.specs.Loan.{LendsDigest};
     ghost use Rattle.gix_hash.specs.WellKnown.{null_digits, empty_blob_digits, empty_tree_digits};
-    ghost use Rattle.gix_hash.specs.IdReading.{full_read, id_answered};
+    ghost use Rattle.gix_hash.specs.IdReading.{full_read, result_digits};
     ghost use Rattle.gix_hash.specs.Kind.{byte_len_of, hex_len_of, is_digest_len, kind_of_byte_len};
     ghost use Rattle.gix_hash.specs.ObjectId.{id_bytes, id_kind, id_digits};
     ghost use Rattle.gix_hash.specs.Oid.{oid_digits, oid_kind};
 
     /// Reads 40 or 64 hex digits, in any letter case, as an id of SHA-1 or SHA-256.
     ///
-    /// A text of another length is refused as [`decode::Error::InvalidHexEncodingLength`] with its
-    /// length in bytes. A text of such a length with a byte that is no hex digit is refused as
-    /// [`decode::Error::Invalid`].
+    /// Returns [`decode::Error::InvalidHexEncodingLength`], with the length in bytes, for a text of
+    /// another length, and otherwise [`decode::Error::Invalid`] if some byte is no hex digit.
     #[inline(always)]
     pub fn from_hex(text: &[u8]) -> Result<ObjectId, decode::Error>
-        ensures { id_answered result ≡ full_read hex_letter text.now }
+        ensures { result_digits result ≡ full_read hex_letter text.now }
     {
         Alphabet::Hex.read_id(text)
     }
@@ -65,7 +64,7 @@ impl ObjectId {
         ensures len { length (id_digits self.now) ≡ hex_len_of (id_kind self.now) }
         ensures digits_in_range { All (λ d. d < 16) (id_digits self.now) }
     {
-        // Where the digest's length and the range of its bytes are told.
+        // The contract of this call says the digest's length and the range of its bytes.
         let _bytes = self.as_slice();
         match self {
             ObjectId::Sha1(_) => Kind::Sha1,
@@ -73,7 +72,7 @@ impl ObjectId {
         }
     }
 
-    /// The id of zero digits alone, as [`Kind::null`].
+    /// The id whose digits are all zero, as [`Kind::null`].
     pub fn null(kind: Kind) -> ObjectId
         ensures kind { id_kind result ≡ kind }
         ensures digits { id_digits result ≡ null_digits kind }
@@ -147,7 +146,7 @@ impl ObjectId {
         ensures value { result.now ≡ id_bytes self.old }
         ensures len { length result.now ≡ byte_len_of (id_kind self.old) }
     {
-        // Where the digest's length is told.
+        // The contract of this call says the digest's length.
         let _len = self.as_slice().len();
         match self {
             ObjectId::Sha1(bytes) => bytes.as_mut_slice(),
@@ -199,37 +198,36 @@ impl ObjectId {
         self.as_oid().common_hex_len(other)
     }
 
-    /// Whether `text` is just the lowercase hex digits.
+    /// Whether `text` is exactly the lowercase hex digits.
     pub fn eq_str(&self, text: &str) -> bool
         ensures { IsTrue result ↔ (text.now ≡ spelling hex_letter (id_digits self.now)) }
     {
         self.as_oid().eq_str(text)
     }
 
-    /// Whether `text` is just the lowercase hex digits.
+    /// Whether `text` is exactly the lowercase hex digits.
     pub fn eq_bstr(&self, text: &[u8]) -> bool
         ensures { IsTrue result ↔ (text.now ≡ spelling hex_letter (id_digits self.now)) }
     {
         let mut buffer = Kind::hex_buf();
-        let filled = self.filled(&mut buffer);
-        &filled[..self.kind().len_in_hex()] == text
+        self.hex_to_buf(&mut buffer).as_bytes() == text
     }
 
     /// The id for printing in full.
     pub fn to_hex(&self) -> HexDisplay<'_>
-        ensures id { oid_digits result.inner ≡ id_digits self.now }
-        ensures kind { oid_kind result.inner ≡ id_kind self.now }
-        ensures hex_len { result.hex_len ≡ hex_len_of (id_kind self.now) }
+        ensures id { whole_digits result ≡ id_digits self.now }
+        ensures kind { cut_kind result ≡ id_kind self.now }
+        ensures hex_len { asked_len result ≡ hex_len_of (id_kind self.now) }
         ensures shown { shown_digits result ≡ id_digits self.now }
     {
         self.as_oid().to_hex()
     }
 
-    /// The id for printing its first `hex_len` digits, or all where it has fewer.
+    /// The id for printing its first `hex_len` digits, or all if it has fewer.
     pub fn to_hex_with_len(&self, hex_len: usize) -> HexDisplay<'_>
-        ensures id { oid_digits result.inner ≡ id_digits self.now }
-        ensures kind { oid_kind result.inner ≡ id_kind self.now }
-        ensures hex_len { result.hex_len ≡ hex_len }
+        ensures id { whole_digits result ≡ id_digits self.now }
+        ensures kind { cut_kind result ≡ id_kind self.now }
+        ensures hex_len { asked_len result ≡ hex_len }
     {
         self.as_oid().to_hex_with_len(hex_len)
     }
@@ -263,18 +261,13 @@ impl ObjectId {
         ensures same { result.ghost_name ≡ buffer.entry.ghost_name }
         ensures value { result.now ≡ spelling hex_letter (id_digits self.now) ++ drop
             (hex_len_of (id_kind self.now)) buffer.old }
-        ensures room { hex_len_of (id_kind self.now) ≤ length result.now }
-        ensures front { take (hex_len_of (id_kind self.now)) result.now
-            ≡ spelling hex_letter (id_digits self.now) }
     {
         self.as_oid().filled(buffer)
     }
 
     // The digits in front of a buffer, as text.
     fn front_text<'b>(&self, buffer: &'b [u8]) -> &'b str
-        requires room { hex_len_of (id_kind self.now) ≤ length buffer.now }
-        requires front { take (hex_len_of (id_kind self.now)) buffer.now
-            ≡ spelling hex_letter (id_digits self.now) }
+        requires { (rest : List ℕ) × (buffer.now ≡ spelling hex_letter (id_digits self.now) ++ rest) }
         ensures text { result.now ≡ spelling hex_letter (id_digits self.now) }
         ensures ascii { IsAscii result.now }
         ensures len { length result.now ≡ hex_len_of (id_kind self.now) }
@@ -419,11 +412,11 @@ impl Hash for ObjectId {
 impl FromStr for ObjectId {
     ghost use Rattle.std.specs.Prelude.{◌≡◌};
     ghost use Rattle.id_digits.specs.Digits.{hex_letter};
-    ghost use Rattle.gix_hash.specs.IdReading.{full_read, id_answered};
+    ghost use Rattle.gix_hash.specs.IdReading.{full_read, result_digits};
 
     type Err = decode::Error;
 
-    ghost from_str_gives = { λ text answer. id_answered answer ≡ full_read hex_letter text };
+    ghost from_str_gives = { λ text answer. result_digits answer ≡ full_read hex_letter text };
 
     fn from_str(text: &str) -> Result<ObjectId, decode::Error> {
         ObjectId::from_hex(text.as_bytes())
@@ -465,8 +458,8 @@ impl<'a> From<oid<'a>> for ObjectId {
     }
 }
 
-/// Bytes that are neither 20 nor 32 are refused as [`Error::InvalidByteSliceLength`] with their
-/// number.
+/// Returns [`Error::InvalidByteSliceLength`], with the number of bytes, if that is neither 20 nor
+/// 32.
 impl<'a> TryFrom<&'a [u8]> for ObjectId {
     ghost use Rattle.std.specs.Prelude.{◌≡◌, MatchResult, length};
     ghost use Rattle.gix_hash.specs.Kind.{kind_of_byte_len};

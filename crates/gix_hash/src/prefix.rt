@@ -21,7 +21,7 @@ mod order;
 mod packing;
 mod printing;
 
-/// Why an id has no prefix of so many digits.
+/// Why an id has no prefix of the number of digits that was asked for.
 ///
 /// ```
 /// // No id has 65 digits.
@@ -72,8 +72,8 @@ impl error::Error for Error {}
 
 /// A beginning of an id: a kind, and 0 to 40 or 0 to 64 digits.
 ///
-/// It keeps the bytes of its digits with zeros behind them, as many as the kind's digest has, and
-/// beside them the same digits as two numbers of 128 bits, by which it compares.
+/// It stores the bytes of its digits with zeros after them, as many as the kind's digest has, and
+/// the same digits again as two numbers of 128 bits, by which it compares.
 ///
 /// ```
 /// let prefix = Prefix::from_hex("4b825dc")?;
@@ -93,27 +93,27 @@ impl Model for Prefix {
 
     ghost Value = { KindDigits };
 
-    ghost use Rattle.gix_hash.specs.PrefixBytes.{IsPacked, kept, seen, kept-seen};
+    ghost use Rattle.gix_hash.specs.PrefixBytes.{IsPacked, stored, viewed, stored-viewed};
 
-    ghost view = { seen };
+    ghost view = { viewed };
 
     ghost invariant = { IsPacked };
 
-    ghost inverse = { kept };
+    ghost inverse = { stored };
 
-    ghost inverse_ok = { kept-seen };
+    ghost inverse_ok = { stored-viewed };
 }
 
 impl Prefix {
     ghost use Rattle.gix_hash.specs.Oid.{oid_kind, oid_digits};
 
-    /// The least number of digits that [`Prefix::new`] and [`Prefix::from_hex`] take.
+    /// The minimum number of digits for [`Prefix::new`] and [`Prefix::from_hex`].
     pub const MIN_HEX_LEN: usize = 4;
 
     /// The prefix of the first `hex_len` digits of an id, and of the id's kind.
     ///
-    /// More digits than the id has are refused as [`Error::TooLong`], and else fewer than 4 as
-    /// [`Error::TooShort`].
+    /// Returns [`Error::TooLong`] if the id has fewer digits, and otherwise [`Error::TooShort`] if
+    /// `hex_len` is below 4.
     pub fn new(id: oid<'_>, hex_len: usize) -> Result<Prefix, Error>
         ensures too_long { hex_len_of (oid_kind id.entry) < hex_len
             → result ≡ Err (Error.TooLong (oid_kind id.entry) hex_len) }
@@ -139,38 +139,36 @@ impl Prefix {
         Ok(Prefix::packed(object_kind, id.as_bytes(), hex_len))
     }
 
-    /// Reads 4 to 64 hex digits, in any letter case. The kind is the least one whose ids have so
-    /// many digits.
+    /// Reads 4 to 64 hex digits, in any letter case. The kind is SHA-1 up to 40 digits, and SHA-256
+    /// above.
     ///
-    /// Fewer bytes are refused as [`from_hex::Error::TooShort`], more as
-    /// [`from_hex::Error::TooLong`], and else a byte that is no digit as
-    /// [`from_hex::Error::Invalid`].
+    /// Returns [`from_hex::Error::TooShort`] for fewer bytes, [`from_hex::Error::TooLong`] for
+    /// more, and otherwise [`from_hex::Error::Invalid`] if some byte is no digit.
     pub fn from_hex(text: &str) -> Result<Prefix, from_hex::Error>
         ensures { result ≡ prefix_read hex_letter 4 text.now }
     {
         Alphabet::Hex.read_prefix(text)
     }
 
-    /// Reads 1 to 64 hex digits, in any letter case. The kind is the least one whose ids have so
-    /// many digits.
+    /// Reads 1 to 64 hex digits, in any letter case. The kind is SHA-1 up to 40 digits, and SHA-256
+    /// above.
     ///
-    /// An empty text is refused as [`from_hex::Error::TooShort`], one of more bytes as
-    /// [`from_hex::Error::TooLong`], and else a byte that is no digit as
-    /// [`from_hex::Error::Invalid`].
+    /// Returns [`from_hex::Error::TooShort`] for an empty text, [`from_hex::Error::TooLong`] for
+    /// more bytes, and otherwise [`from_hex::Error::Invalid`] if some byte is no digit.
     pub fn from_hex_nonempty(text: &str) -> Result<Prefix, from_hex::Error>
         ensures { result ≡ prefix_read hex_letter 1 text.now }
     {
         Alphabet::Hex.read_prefix_nonempty(text)
     }
 
-    /// As [`Prefix::from_hex`], of the letters `z` to `k` in place of hex digits.
+    /// As [`Prefix::from_hex`], in the letters `z` to `k`.
     pub fn from_reverse_hex(text: &str) -> Result<Prefix, from_hex::Error>
         ensures { result ≡ prefix_read reverse_letter 4 text.now }
     {
         Alphabet::Reverse.read_prefix(text)
     }
 
-    /// As [`Prefix::from_hex_nonempty`], of the letters `z` to `k` in place of hex digits.
+    /// As [`Prefix::from_hex_nonempty`], in the letters `z` to `k`.
     pub fn from_reverse_hex_nonempty(text: &str) -> Result<Prefix, from_hex::Error>
         ensures { result ≡ prefix_read reverse_letter 1 text.now }
     {
@@ -180,9 +178,8 @@ impl Prefix {
     /// Reads 1 hex digit up to as many as ids of the given kind have, in any letter case, as a
     /// prefix of that kind.
     ///
-    /// An empty text is refused as [`from_hex::Error::TooShort`], one of more bytes as
-    /// [`from_hex::Error::TooLong`], and else a byte that is no digit as
-    /// [`from_hex::Error::Invalid`].
+    /// Returns [`from_hex::Error::TooShort`] for an empty text, [`from_hex::Error::TooLong`] for
+    /// more bytes, and otherwise [`from_hex::Error::Invalid`] if some byte is no digit.
     pub fn from_hex_in(kind: Kind, text: &str) -> Result<Prefix, from_hex::Error>
         ensures { result ≡ prefix_read_in kind hex_letter text.now }
     {
@@ -197,7 +194,7 @@ impl Prefix {
         Alphabet::Hex.read_beginning(kind, text.as_bytes())
     }
 
-    /// The digits with zeros behind them, as an id of the prefix's kind.
+    /// The digits with zeros after them, as an id of the prefix's kind.
     pub fn as_oid(&self) -> oid<'_>
         ensures kind { oid_kind result ≡ self.now.kind }
         ensures digits { oid_digits result ≡ padded (hex_len_of self.now.kind) self.now.digits }
@@ -218,7 +215,7 @@ impl Prefix {
     /// The place of this prefix against an id: the dictionary order of its digits against as many
     /// of the candidate's first digits. Kinds are ignored.
     ///
-    /// The candidate needs at least as many digits as the prefix has.
+    /// The caller must ensure that the candidate has at least as many digits as the prefix.
     pub fn cmp_oid(&self, candidate: oid<'_>) -> Ordering
         requires { length self.now.digits ≤ hex_len_of (oid_kind candidate) }
         ensures { result ≡ place self.now.digits (oid_digits candidate.entry) }

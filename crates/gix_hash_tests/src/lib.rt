@@ -1,4 +1,4 @@
-//! Tests of `gix_hash` and `id_lookup` as their users see them: by public calls alone.
+//! Tests of `gix_hash` and `id_lookup` as their users see them: by public calls only.
 #![tactic(auto)]
 
 // As `assert!`, by a single call, and with the row of a table that it is about, where one is given.

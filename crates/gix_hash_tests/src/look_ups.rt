@@ -1,9 +1,8 @@
-//! Runs in lists of the well-known ids and in a list of a thousand, by tables.
+//! Runs in lists of the well-known ids and in a list of a thousand ids.
 
 use crate::types::{BLOB, BLOB_256, TREE, TREE_256, expect_text, id};
 use gix_hash::{Kind, ObjectId, Prefix};
-use id_lookup::{Probes, Run, SortedIds, begins_with, bits_of, laws, lookup};
-use std::cmp::Ordering;
+use id_lookup::{Answer, IdIndex, Probes, Run, SortedIds, lookup};
 use std::process::Abort;
 use std::test::Fail;
 
@@ -31,7 +30,6 @@ fn thousand() -> [ObjectId; 1000] {
     ids
 }
 
-// That so many asks for a prefix are few enough.
 fn expect_at_most(rt: &impl Abort, asked: u64, most: u64, prefix: &Prefix) {
     assert!(rt; asked <= most, "{asked} asks for {prefix}");
 }
@@ -135,45 +133,10 @@ fn not_sorted(rt: HostRuntime) {
         id(&rt, BLOB_256),
         id(&rt, TREE_256),
     ];
-    let refusal = SortedIds::try_new(&ids).err();
-    let refusal = refusal.expect(&rt, "it is taken for sorted");
-    expect!(&rt; refusal.at == 2);
-    expect_text(&rt, refusal, "the id at place 2 is below the one before it");
-}
-
-#[test]
-fn one_ask_at_a_time(rt: HostRuntime) {
-    let ids = well_known();
-    let list = SortedIds::try_new(&ids).expect(&rt, "ids out of order");
-    let prefix = Prefix::from_hex("4b82").expect(&rt, "digits that are no prefix");
-    assert!(rt; prefix.hex_len() <= list.min_hex_len());
-    let mut probes = Probes::new(&list, prefix);
-    expect!(&rt; !probes.is_empty());
-    for (at, place) in [
-        (0, Ordering::Greater),
-        (1, Ordering::Equal),
-        (2, Ordering::Less),
-        (3, Ordering::Less),
-    ] {
-        assert!(rt; at < probes.len() && probes.asked() < 4);
-        expect!(&rt; probes.ask(at) == place, &at);
-    }
-    expect!(&rt; probes.asked() == 4);
-}
-
-#[test]
-fn beginnings(rt: HostRuntime) {
-    for (text, digits, want) in [
-        (BLOB, "e69de2", true),
-        (BLOB, "e69de3", false),
-        (BLOB_256, "473A", true),
-    ] {
-        let id = id(&rt, text);
-        let prefix = Prefix::from_hex(digits).expect(&rt, "digits that are no prefix");
-        assert!(rt; prefix.hex_len() <= id.kind().len_in_hex());
-        laws::beginnings(&prefix);
-        expect!(&rt; begins_with(&id, &prefix) == want, &digits);
-    }
+    let error = SortedIds::try_new(&ids)
+        .err()
+        .expect(&rt, "it is accepted as sorted");
+    expect_text(&rt, error, "the id at place 2 is below the one before it");
 }
 
 // With no runtime there is no memory to take.
@@ -192,23 +155,11 @@ fn without_a_runtime() -> Result<(), Fail> {
             return Err(Fail::new("the run is another"));
         }
     }
-    Ok(())
-}
-
-#[test]
-fn binary_digits(rt: HostRuntime) {
-    for (n, bits) in [
-        (0, 0),
-        (1, 1),
-        (2, 2),
-        (3, 2),
-        (4, 3),
-        (5, 3),
-        (1000, 10),
-        (1023, 10),
-        (1024, 11),
-        (usize::MAX, 64),
-    ] {
-        expect!(&rt; bits_of(n) == bits, &n);
+    let ids = [Kind::Sha1.empty_tree(), Kind::Sha1.empty_blob()];
+    let index = IdIndex::try_new(&ids, Kind::Sha1)?;
+    let prefix = Prefix::from(ids[1]);
+    if prefix.as_oid().kind() != index.kind() || index.find(&prefix) != Answer::One(1) {
+        return Err(Fail::new("the index gives another id"));
     }
+    Ok(())
 }

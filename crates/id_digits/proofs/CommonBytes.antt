@@ -1,4 +1,4 @@
--- The digits that two lists of bytes share: two for each byte, and one more where the next bytes share their high half.
+-- The digits that two lists of bytes share: two for each byte, and one more if the next bytes share their high half.
 use Rattle.std.proofs.Common.{◌≡◌, ◌≢◌, ℕ, suc, ◌+◌, ◌/◌, ◌%◌, ◌<◌, ◌≤◌, cond, nat_eq, List, [], ◌∷◌, length, get_or, min, drop, refl, ◌∙◌, arith, inl, inr, ◌⊎◌, drop-cons}
 use Rattle.std.specs.List.{common_prefix_len}
 use Rattle.std.proofs.lemmas.Bool.Decides.{nat_tests}
@@ -9,7 +9,7 @@ use Rattle.id_digits.specs.Digits.{digits_of}
 abbrev common : List ℕ → List ℕ → ℕ
 common = common_prefix_len nat_eq
 
--- one byte each: both halves, the high half alone, or none
+-- one byte each: both halves, only the high half, or none
 one_byte : (x y n : ℕ) → cond (nat_eq (x / 16) (y / 16)) (1 + cond (nat_eq (x % 16) (y % 16)) (1 + n) 0) 0
     ≡ cond (nat_eq x y) (2 + n) (cond (nat_eq (x / 16) (y / 16)) 1 0)
 one_byte x y n = grind (arith, nat_tests)
@@ -37,12 +37,12 @@ module _ (xs ys : List ℕ) (at : ℕ) (in_first : at < length xs) (in_second : 
       → common (digits_of (drop at xs)) (digits_of (drop at ys)) ≡ 2 + common (digits_of (drop (suc at) xs)) (digits_of (drop (suc at) ys))
   same_byte same = here ∙ pick_same _ _ _ _ same
 
-  -- other bytes share at most their high half, and nothing behind it
+  -- other bytes share at most their high half, and nothing after it
   pub other_byte : get_or xs at 0 ≢ get_or ys at 0
       → common (digits_of (drop at xs)) (digits_of (drop at ys)) ≡ cond (nat_eq (get_or xs at 0 / 16) (get_or ys at 0 / 16)) 1 0
   other_byte other = here ∙ pick_other _ _ _ _ other
 
--- behind the end of one list nothing is shared
+-- after the end of one list nothing is shared
 common-nil : (xs : List ℕ) → common xs [] ≡ 0
 common-nil [] = refl
 common-nil (x ∷ xs) = refl

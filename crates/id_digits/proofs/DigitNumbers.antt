@@ -1,4 +1,4 @@
--- The number that digits write: its parts, its size, where a digit stands in it, and the bytes that make it.
+-- The number that digits write: its parts, its size, the bits of a digit in it, and the bytes that make it.
 use Rattle.std.proofs.Common.{◌≡◌, ℕ, zero, suc, ◌+◌, ◌-◌, ◌*◌, ◌/◌, ◌%◌, ◌^◌, ◌<◌, ◌≤◌, List, [], ◌∷◌, ◌++◌, length, take, drop, get_or, replicate, refl, sym, ap, ◌∙◌, arith}
 use Rattle.std.specs.Prelude.{All}
 use Rattle.std.proofs.Math.Nat.{pow-suc, mul-le-mul_right, add-mul, mul_assoc}
@@ -7,7 +7,7 @@ use Rattle.std.proofs.lemmas.List.{drop_all, drop-replicate, length-take, get_or
 use Rattle.std.proofs.lemmas.List.Elements.{All-head, All-tail, All-drop}
 use Rattle.id_digits.specs.Digits.{digits_of}
 use Rattle.id_digits.specs.Words.{word}
-use Rattle.id_digits.proofs.Places.{length-digits_of}
+use Rattle.id_digits.proofs.ByteDigits.{length-digits_of}
 
 -- digits are below sixteen
 abbrev pub AreDigits : List ℕ → Type 0
@@ -71,7 +71,7 @@ word-take zero ds = omega (arith, word-zero ds, word-zero (take 0 ds))
 word-take (suc n) [] = refl
 word-take (suc n) (d ∷ ds) = rw (word-cons n d ds, word-cons n d (take n ds), word-take n ds) refl
 
--- to keep k digits is to clear those behind them
+-- to keep k digits is to clear the rest
 pub word-cut : (k j : ℕ) (ds : List ℕ) → AreDigits ds → word (k + j) (take k ds) ≡ word (k + j) ds / 16 ^ j * 16 ^ j
 word-cut k j ds h =
     let none : drop k (take k ds) ≡ [] = drop_all k (take k ds) (omega (arith, length-take k ds)) in
@@ -95,7 +95,7 @@ word-zeros zero m = word-zero (replicate m 0)
 word-zeros (suc n) zero = word-nil (suc n)
 word-zeros (suc n) (suc m) = rw (word-cons n 0 (replicate m 0), word-zeros n m) (omega arith)
 
--- zeros behind the digits do not count
+-- zeros after the digits do not count
 pub word-padded : (n m : ℕ) (ds : List ℕ) → word n (ds ++ replicate m 0) ≡ word n ds
 word-padded n m [] = word-zeros n m ∙ sym (word-nil n)
 word-padded zero m (d ∷ ds) = word-zero (d ∷ (ds ++ replicate m 0)) ∙ sym (word-zero (d ∷ ds))
@@ -113,7 +113,7 @@ abbrev pub big_from : ℕ → ℕ → List ℕ → ℕ
 big_from i zero bytes = 0
 big_from i (suc n) bytes = get_or bytes i 0 * 256 ^ n + big_from (suc i) n bytes
 
--- a byte in front moves the places on
+-- a byte in front moves the indices on
 big_from-cons : (i n b : ℕ) (bytes : List ℕ) → big_from (suc i) n (b ∷ bytes) ≡ big_from i n bytes
 big_from-cons i zero b bytes = refl
 big_from-cons i (suc n) b bytes = ap (λ (r : ℕ). get_or bytes i 0 * 256 ^ n + r) (big_from-cons (suc i) n b bytes)
@@ -146,7 +146,7 @@ word-bytes (suc n) (b ∷ bytes) =
     )
     (byte_digits b n (big_from 0 n bytes))
 
--- four bytes, moved to the place of the first eight digits
+-- four bytes, moved to the bits of the first eight digits
 pub word-four : (bytes : List ℕ) (front : ℕ) → AreDigits (digits_of bytes) → length bytes ≡ 4 → front ≡ big_from 0 4 bytes
     → front * 2 ^ 96 % 2 ^ 128 ≡ word 32 (digits_of bytes)
 word-four bytes front h four is =
@@ -164,7 +164,7 @@ head-below : (ds : List ℕ) → AreDigits ds → get_or ds 0 0 < 16
 head-below [] h = omega arith
 head-below (d ∷ ds) h = All-head (λ (x : ℕ). x < 16) d ds h
 
--- the digit with i digits in front of it and j behind it
+-- the digit with i digits before it and j after it
 pub word-digit : (i j : ℕ) (ds : List ℕ) → AreDigits ds → word (i + suc j) ds / 16 ^ j % 16 ≡ get_or ds i 0
 word-digit i j ds h =
     let es : List ℕ = drop i ds in

@@ -40,11 +40,7 @@ abbrev pub twice : ℕ → ℕ
 twice zero = zero
 twice (suc n) = suc (suc (twice n))
 
-pub twice-is : (n : ℕ) → twice n ≡ 2 * n
-twice-is zero = refl
-twice-is (suc n) = let more = twice-is n in omega (arith, more)
-
--- the first bytes are packed of the first values, and those behind them of the others
+-- the first bytes are packed of the first values, and the rest of the others
 pub packed-take : (n : ℕ) (v : List ℕ) → packed (take (twice n) v) ≡ take n (packed v)
 unfolding packed
 packed-take zero v = refl

@@ -1,5 +1,5 @@
 -- A text read as the values of its letters, of which the first are packed, and the last.
-use Rattle.std.proofs.Common.{◌≡◌, ℕ, zero, suc, ◌+◌, ◌-◌, ◌*◌, ◌<◌, ◌≤◌, Bool, true, false, ◌&&◌, ltb, eqb, eqb-true, min, List, [], ◌∷◌, ◌++◌, length, take, drop, Option, Some, None, if◌then◌else◌, refl, sym, ap, ap₂, ◌∙◌, arith, append-nil, append_assoc, length-drop, take-add}
+use Rattle.std.proofs.Common.{◌≡◌, ℕ, zero, suc, ◌+◌, ◌-◌, ◌*◌, ◌≤◌, Bool, true, false, ◌&&◌, ltb, eqb, eqb-true, min, List, [], ◌∷◌, ◌++◌, length, take, drop, Option, Some, None, if◌then◌else◌, refl, sym, ap, ap₂, ◌∙◌, arith, append-nil, append_assoc, length-drop, take-add}
 use Rattle.std.proofs.lemmas.Bool.Decides.{nat_tests}
 use Rattle.std.proofs.lemmas.List.{nil_from_length, length-map, length-take-le, take_all, take_at, drop_at, take-map, drop-map, drop-drop, take-append-drop}
 use Rattle.std.proofs.lemmas.List.Folds.{list_all-append}
@@ -11,16 +11,11 @@ use Rattle.std.specs.Simd.Lanes.{put_chunk}
 use Rattle.id_digits.specs.Digits.{digits_of, hex_letter}
 use Rattle.id_digits.specs.DigestLengths.{is_digest_len}
 use Rattle.id_digits.specs.LetterValues.{lane_of, value_of, values_of, is_digit, packed}
-use Rattle.id_digits.specs.Reading.{digit_below, digit_in, digits_read, put_digit}
+use Rattle.id_digits.specs.Reading.{digit_in, digits_read, put_digit}
+use Rattle.id_digits.proofs.ReadingFacts.{digit_in-letter}
 use Rattle.id_digits.proofs.LanePacking.{length-packed, digits_of-packed, packed-take, packed-drop}
 
--- a digit that is found is below the number of those that were tried
-found_below : (c n d : ℕ) → digit_below hex_letter c n ≡ Some d → d < n
-unfolding digit_below
-found_below c zero d h = cc h
-found_below c (suc n) d h = let more = found_below c n d in grind (arith, nat_tests, more)
-
--- values that are all digits, and none where one is not
+-- values that are all digits, and none if one is not
 abbrev all_digits : List ℕ → Option (List ℕ)
 all_digits values = if list_all is_digit values then Some values else None
 
@@ -31,20 +26,20 @@ put_value c None values h =
     let large : ltb (16 + (lane_of c - 16)) 16 ≡ false = grind (arith, nat_tests) in
     rw (h, large) refl
 put_value c (Some d) values h =
-    let small : ltb d 16 ≡ true = grind (arith, nat_tests, found_below c 16 d h) in
+    let small : ltb d 16 ≡ true = grind (arith, nat_tests, (digit_in-letter hex_letter c d h).digit) in
     rw (h, small) (go (list_all is_digit values))
   where
     go : (b : Bool) → put_digit (Some d) (if b then Some values else None) ≡ (if b then Some (d ∷ values) else None)
     go true = refl
     go false = refl
 
--- a text reads as the values of its letters, where all of them are digits
+-- a text reads as the values of its letters, if all of them are digits
 pub digits_read-values : (text : List ℕ) → digits_read hex_letter text ≡ all_digits (values_of text)
 unfolding digits_read
 digits_read-values [] = refl
 digits_read-values (c ∷ text) = rw (digits_read-values text) (put_value c (digit_in hex_letter c) (values_of text) refl)
 
--- what all of the first pass, and all of the last, all pass, where the two overlap
+-- all pass a test if all of the first do and all of the last, and the two overlap
 absorbed : (p : ℕ → Bool) (n : ℕ) (xs : List ℕ) → (list_all p (take n xs) && list_all p xs) ≡ list_all p xs
 absorbed p zero xs = refl
 absorbed p (suc n) [] = refl
@@ -64,14 +59,14 @@ all-overlapped p (suc m) (suc n) (x ∷ xs) h = step (p x) _ _ _ (all-overlapped
     step true a r s e = e
     step false a r s e = refl
 
--- sixteen bytes stored at a place
+-- sixteen bytes stored at an index
 stored_at : (at : ℕ) (buffer lanes : List ℕ) → length lanes ≡ 16 → at + 16 ≤ length buffer
     → put_chunk at buffer lanes ≡ take at buffer ++ lanes ++ drop (at + 16) buffer
 stored_at at buffer lanes long room =
     put_chunk_is at buffer lanes (omega arith)
     ∙ rw (long, drop-drop 16 at buffer) (sym (append_assoc (take at buffer) lanes (drop (at + 16) buffer)))
 
--- lanes stored behind the first sixteen bytes, from the first of them that has its place there
+-- lanes stored after the first sixteen bytes, without those that the first sixteen hold
 pub rest_stored : (n : ℕ) (old lanes : List ℕ) → length lanes ≡ 16 → length old ≡ n → 16 ≤ n → n ≤ 32
     → take 16 old ++ (take (16 - (32 - n)) (drop (32 - n) lanes) ++ post_of 16 (n - 16) old) ≡ take 16 old ++ drop (32 - n) lanes
 rest_stored n old lanes many long least most =
@@ -89,7 +84,7 @@ pub first_values : (text first second : List ℕ) → first ≡ values_of (take 
 first_values text first second is also =
     ap₂ (λ a b. a ++ b) (is ∙ sixteen 0 text) (also ∙ sixteen 16 text) ∙ sym (take-add 16 16 (values_of text))
 
--- where both of two lists are digits, so are they together
+-- if both of two lists are digits, so are they together
 pub both_digits : (p : ℕ → Bool) (xs ys all : List ℕ) → xs ++ ys ≡ all → (list_all p xs && list_all p ys) ≡ list_all p all
 both_digits p xs ys all is = sym (list_all-append p xs ys) ∙ ap (list_all p) is
 
@@ -97,7 +92,7 @@ once : (b : Bool) → (b && b) ≡ b
 once true = refl
 once false = refl
 
--- a text of 40 letters or 64, of which the first thirty-two were read, and what is behind them: of 40 letters the last sixteen, twice
+-- a text of 40 letters or 64, of which the first thirty-two were read, and then the rest: of 40 letters the last sixteen, twice
 module _ (n : ℕ) (text third last : List ℕ) (digest : IsTrue (is_digest_len n)) (two : length text ≡ 2 * n)
     (of_third : third ≡ values_of (take 16 (drop (min (length text - 16) 32) text))) (of_last : last ≡ values_of (take 16 (drop (length text - 16) text))) where
   abbrev pub values : List ℕ
@@ -120,7 +115,7 @@ module _ (n : ℕ) (text third last : List ℕ) (digest : IsTrue (is_digest_len 
       (of_last ∙ sixteen _ text ∙ ap (λ k. take 16 (drop k values)) end ∙ ap (take 16) (sym (drop-drop 16 32 values)))
       ∙ sym (take-add 16 16 (drop 32 values)) ∙ take_all 32 (drop 32 values) (omega (arith, length-drop 32 values, count))
 
-  -- all are digits where the first thirty-two are and those behind
+  -- all are digits if the first thirty-two are and the rest
   pub tested : (front : Bool) → front ≡ list_all is_digit (take 32 values) → (front && (list_all is_digit third && list_all is_digit last)) ≡ list_all is_digit values
   tested front is = by_len (eqb n 20) refl
     where
@@ -138,9 +133,9 @@ module _ (n : ℕ) (text third last : List ℕ) (digest : IsTrue (is_digest_len 
           ap₂ (λ a b. a && b) is (both_digits is_digit third last (drop 32 values) (last_of_64 long))
           ∙ all-overlapped is_digit 32 32 values (omega arith)
 
-  -- and the last bytes are packed of what is behind them
-  pub packed_behind : drop (32 - n) (packed (third ++ last)) ≡ drop 16 (packed values)
-  packed_behind = by_len (eqb n 20) refl
+  -- and the last bytes are packed of the rest
+  pub packed_rest : drop (32 - n) (packed (third ++ last)) ≡ drop 16 (packed values)
+  packed_rest = by_len (eqb n 20) refl
     where
       by_len : (b : Bool) → eqb n 20 ≡ b → drop (32 - n) (packed (third ++ last)) ≡ drop 16 (packed values)
       by_len true e =
@@ -171,9 +166,9 @@ module _ (n : ℕ) (text third last : List ℕ) (digest : IsTrue (is_digest_len 
       let kept : take 16 (put_chunk 0 old front_bytes) ≡ take 16 whole =
       ap (take 16) (stored_at 0 old front_bytes wide (omega arith)) ∙ take_at front_bytes (drop 16 old) 16 wide ∙ front in
       let shared : 32 - length (put_chunk 0 old front_bytes) ≡ 32 - n = omega (arith, length-put_chunk 0 old front_bytes) in
-      are ∙ ap₂ (λ a b. a ++ b) kept (ap (λ k. drop k (packed (third ++ last))) shared ∙ packed_behind) ∙ take-append-drop 16 whole
+      are ∙ ap₂ (λ a b. a ++ b) kept (ap (λ k. drop k (packed (third ++ last))) shared ∙ packed_rest) ∙ take-append-drop 16 whole
 
--- a text reads as the digits of the bytes that are packed of its values, where all of these are digits
+-- a text reads as the digits of the bytes that are packed of its values, if all of these are digits
 pub read_values : (n : ℕ) (text bytes : List ℕ) (all : Bool) → length text ≡ 2 * n → all ≡ list_all is_digit (values_of text) → bytes ≡ packed (values_of text)
     → digits_read hex_letter text ≡ (if all then Some (digits_of bytes) else None)
 read_values n text bytes all two tests is = digits_read-values text ∙ by (list_all is_digit (values_of text)) refl all tests

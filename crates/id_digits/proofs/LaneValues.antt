@@ -30,7 +30,7 @@ same_lanes f g v p fits all = p ∙ go v fits
     go [] h = refl
     go (x ∷ v) h = ap₂ (λ a r. a ∷ r) (eqb-true _ _ (agree_below_at (λ b. eqb (f b) (g b)) (λ _. true) 256 x all h.0.fits)) (go v h.1)
 
--- a mask of bits is zero where each bit is
+-- a mask of bits is zero if and only if each bit is
 none_set-cons : (b : Bool) (n : ℕ) → eqb (cond b 1 0 + 2 * n) 0 ≡ (not b && eqb n 0)
 none_set-cons true n = grind (arith, nat_tests)
 none_set-cons false n = grind (arith, nat_tests)
@@ -39,7 +39,7 @@ none_set : (p : ℕ → Bool) (v : List ℕ) → eqb (mask_l (map p v)) 0 ≡ li
 none_set p [] = refl
 none_set p (x ∷ v) = none_set-cons (p x) (mask_l (map p v)) ∙ ap (λ r. not (p x) && r) (none_set p v)
 
--- no lane passes a test just where each passes its opposite
+-- no lane passes a test if and only if each passes its opposite
 pub all_clear : (f : ℕ → ℕ) (q : ℕ → Bool) (v : List ℕ) {z : List ℕ} → z ≡ map f v → length v ≤ 64 → Each1 (Fits w8) v
     → agree_below (λ x. not (top 7 (f x))) q 256 ≡ true → nat_eq (mask_l (map (top 7) z) % 2 ^ 64) 0 ≡ list_all q v
 all_clear f q v p few fits all =
@@ -51,7 +51,7 @@ all_clear f q v p few fits all =
     go [] h = refl
     go (x ∷ v) h = ap₂ (λ a r. a && r) (agree_below_at (λ x. not (top 7 (f x))) q 256 x all h.0.fits) (go v h.1)
 
--- the greater of two values is a digit just where both are
+-- the greater of two values is a digit if and only if both are
 greater_digit : (x y : ℕ) → is_digit (cond (ltb x y) y x) ≡ (is_digit x && is_digit y)
 greater_digit x y = by_test (ltb x y) refl
   where

@@ -1,5 +1,6 @@
 mod CommonBytes
 pub mod DigitNumbers
+pub mod DigitOrder
 mod FirstWords
 mod LanePacking
 mod LaneReading
@@ -7,7 +8,7 @@ mod LaneValues
 mod Masks
 pub mod NumberParts
 pub mod Packing
-pub mod Places
+pub mod ByteDigits
 pub mod ReadingFacts
 pub mod ReverseLetters
 pub mod Spellings

@@ -6,7 +6,7 @@ use borrow.Author.Tests.{le-ltb, lt-ltb}
 use Rattle.id_digits.specs.Words.{word}
 use Rattle.id_digits.proofs.DigitNumbers.{AreDigits, pow16, word_lt, word-cut}
 
--- ones in the places of the first d of 32 digits, from a shift that may take all out
+-- ones for the bits of the first d of 32 digits, from a shift that may take all out
 pub front_ones : (d r : ℕ) → d ≤ 32 → r ≡ cond (ltb (128 - 4 * d) 128) ((2 ^ 128 - 1) * 2 ^ (128 - 4 * d) % 2 ^ 128) 0
     → r ≡ 2 ^ 128 - 2 ^ (4 * (32 - d))
 front_ones d r within is =

@@ -3,7 +3,7 @@ use Rattle.std.proofs.Common.{◌≡◌, ℕ, zero, suc, ◌-◌, ◌*◌, ◌/�
 use Rattle.std.proofs.lemmas.List.{append_assoc, drop-replicate, set_at, length-take-le, length-append}
 use Rattle.id_digits.specs.Digits.{digits_of}
 use Rattle.id_digits.specs.Beginnings.{padded}
-use Rattle.id_digits.proofs.Places.{length-digits_of, take-digits_of}
+use Rattle.id_digits.proofs.ByteDigits.{length-digits_of, take-digits_of}
 
 -- digits of bytes joined are the digits joined
 pub digits_of-append : (xs ys : List ℕ) → digits_of (xs ++ ys) ≡ digits_of xs ++ digits_of ys
@@ -29,35 +29,42 @@ take-digits_of-odd (suc k) (b ∷ bytes) h =
     let two : 2 * suc k ≡ suc (suc (2 * k)) = omega arith in
     rw two (ap (λ (ds : List ℕ). (b / 16) ∷ (b % 16) ∷ ds) (take-digits_of-odd k bytes (omega arith)))
 
--- whole bytes before zeros are their digits, padded
-pub padded-even : (n k m : ℕ) (front zeros : List ℕ) → n ≡ 2 * k → k ≤ length front → length front ≤ m → zeros ≡ replicate m 0
+-- bytes before zeros have their digits, padded
+pub padded-bytes : (k m : ℕ) (bytes zeros : List ℕ) → length bytes ≡ k → zeros ≡ replicate m 0
+    → padded (2 * m) (digits_of bytes) ≡ digits_of (bytes ++ drop k zeros)
+padded-bytes k m bytes zeros long are =
+    let len = length-digits_of bytes in
+    let count : 2 * m - length (digits_of bytes) ≡ 2 * (m - k) = omega arith in
+    rw (count, are, drop-replicate {X = ℕ} k m 0, digits_of-append, digits_of-zeros (m - k)) refl
+
+-- and so have bytes followed by a byte of one digit
+pub padded-half : (k m d b : ℕ) (bytes zeros : List ℕ) → length bytes ≡ k → k < m → zeros ≡ replicate m 0 → digits_of (b ∷ []) ≡ d ∷ 0 ∷ []
+    → padded (2 * m) (digits_of bytes ++ d ∷ []) ≡ digits_of (slice_set (bytes ++ drop k zeros) k b)
+padded-half k m d b bytes zeros long room are half =
+    let more : m - k ≡ suc (m - suc k) = omega arith in
+    let set : slice_set (bytes ++ drop k zeros) k b ≡ bytes ++ (b ∷ [] ++ replicate (m - suc k) 0) =
+    rw (are, drop-replicate {X = ℕ} k m 0, more) (set_at bytes 0 (replicate (m - suc k) 0) b k long) in
+    let len = length-digits_of bytes in
+    let count : 2 * m - length (digits_of bytes ++ d ∷ []) ≡ suc (2 * (m - suc k)) = omega (arith, length-append (digits_of bytes) (d ∷ [])) in
+    rw (set, digits_of-append, digits_of-append (b ∷ []) (replicate (m - suc k) 0), half, digits_of-zeros (m - suc k), count)
+    (append_assoc (digits_of bytes) (d ∷ []) (0 ∷ replicate (2 * (m - suc k)) 0))
+
+-- an even number of first digits, copied into zeros
+pub padded-even : (n k m : ℕ) (front zeros : List ℕ) → n ≡ 2 * k → k ≤ length front → zeros ≡ replicate m 0
     → digits_of (take k front ++ drop k zeros) ≡ padded (2 * m) (take n (digits_of front))
-padded-even n k m front zeros two within room are =
-    let len = length-digits_of (take k front) in
-    let cut = length-take-le k front within in
-    let count : 2 * (m - k) ≡ 2 * m - length (digits_of (take k front)) = omega arith in
-    rw (two, take-digits_of k front, are, drop-replicate {X = ℕ} k m 0, digits_of-append, digits_of-zeros (m - k), count) refl
+padded-even n k m front zeros two within are =
+    rw (two, take-digits_of k front) (sym (padded-bytes k m (take k front) zeros (length-take-le k front within) are))
 
--- the digits of a byte whose low half is zero, and of zeros behind it
-digits_of-high : (h n : ℕ) → digits_of ((h * 16) ∷ replicate n 0) ≡ h ∷ replicate (suc (2 * n)) 0
+digits_of-half : (d : ℕ) → digits_of (d * 16 ∷ []) ≡ d ∷ 0 ∷ []
 unfolding digits_of
-digits_of-high h n =
-    let high : h * 16 / 16 ≡ h = omega arith in
-    let low : h * 16 % 16 ≡ 0 = omega arith in
-    rw (high, low, digits_of-zeros n) refl
+digits_of-half d =
+    let high : d * 16 / 16 ≡ d = omega arith in
+    let low : d * 16 % 16 ≡ 0 = omega arith in
+    rw (high, low) refl
 
--- a high half behind whole bytes too
+-- and an odd number
 pub padded-odd : (n k m : ℕ) (front zeros : List ℕ) → n ≡ suc (2 * k) → k < length front → length front ≤ m → zeros ≡ replicate m 0
     → digits_of (slice_set (take k front ++ drop k zeros) k (get_or front k 0 / 16 * 16)) ≡ padded (2 * m) (take n (digits_of front))
 padded-odd n k m front zeros two within room are =
-    let cut = length-take-le k front (omega arith) in
-    let len = length-digits_of (take k front) in
-    let more : m - k ≡ suc (m - suc k) = omega arith in
-    let high = get_or front k 0 / 16 in
-    let set : slice_set (take k front ++ drop k zeros) k (high * 16) ≡ take k front ++ (high * 16) ∷ replicate (m - suc k) 0 =
-    rw (are, drop-replicate {X = ℕ} k m 0, more) (set_at (take k front) 0 (replicate (m - suc k) 0) (high * 16) k cut) in
-    let shown : take n (digits_of front) ≡ digits_of (take k front) ++ high ∷ [] = rw two (take-digits_of-odd k front within) in
-    let behind : 2 * m - length (digits_of (take k front) ++ high ∷ []) ≡ suc (2 * (m - suc k)) =
-    omega (arith, length-append (digits_of (take k front)) (high ∷ [])) in
-    rw (set, digits_of-append, digits_of-high high (m - suc k), shown, behind)
-    (sym (append_assoc (digits_of (take k front)) (high ∷ []) (replicate (suc (2 * (m - suc k))) 0)))
+    rw (two, take-digits_of-odd k front within)
+    (sym (padded-half k m _ _ (take k front) zeros (length-take-le k front (omega arith)) (omega arith) are (digits_of-half (get_or front k 0 / 16))))

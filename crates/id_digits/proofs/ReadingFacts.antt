@@ -84,11 +84,11 @@ digits_read-ReadsAs letter a (c ∷ text) [] h = absurd h
 digits_read-ReadsAs letter a (c ∷ text) (d ∷ ds) h =
     rw (digit_in-is letter a c d h.0, digits_read-ReadsAs letter a text ds h.1) refl
 
--- where the function gives no digits, none read
+-- if the function gives no digits, none read
 pub IsUnreadable-digits_read : (letter : ℕ → ℕ) → IsAlphabet letter → (text : List ℕ) → digits_read letter text ≡ None → IsUnreadable letter text
 IsUnreadable-digits_read letter a text h = λ ds reads. let some = digits_read-ReadsAs letter a text ds reads in cc
 
--- and where none read, it gives none
+-- and if none read, it gives none
 pub digits_read-IsUnreadable : (letter : ℕ → ℕ) (text : List ℕ) → IsUnreadable letter text → digits_read letter text ≡ None
 digits_read-IsUnreadable letter text h = by_answer (digits_read letter text) refl
   where

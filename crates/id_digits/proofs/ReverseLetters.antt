@@ -15,7 +15,7 @@ use Rattle.id_digits.proofs.ReadingFacts.{IsAlphabet, hex_alphabet, digit_in-is,
 pub reverse_alphabet : IsAlphabet reverse_letter
 reverse_alphabet = record { distinct = λ d e h g same. omega arith }
 
--- one step of replacing letters in place
+-- one step of replacing letters
 pub replaced_more : (f : ℕ → ℕ) (xs ys : List ℕ) (i y : ℕ) → i < length xs → i < length ys → ys ≡ map f (take i xs) ++ drop i xs
     → y ≡ f (get_or ys i 0) → slice_set ys i y ≡ map f (take (i + 1) xs) ++ drop (i + 1) xs
 replaced_more f xs ys i y within there inv is =

@@ -1,4 +1,4 @@
--- Spellings: their lengths, letters and beginnings.
+-- Spellings: their lengths, letters and first digits.
 use Rattle.std.proofs.Common.{◌++◌, ◌≤◌, ◌≡◌, ℕ, ◌/◌, ◌%◌, ◌<◌, List, [], ◌∷◌, length, take, min, ap, ◌∙◌, arith}
 use Rattle.std.specs.Prelude.{IsAscii, All}
 use Rattle.std.proofs.lemmas.List.{length-map, take_min, take-map, take-append-le}
@@ -37,10 +37,10 @@ pub IsAscii-hex : (bytes : List ℕ) → All (λ b. b < 256) bytes → IsAscii (
 IsAscii-hex bytes h = IsAscii-hex_digits (digits_of bytes) (All-digits_of bytes h)
 
 -- a spelling in front of other bytes, cut at a number of letters or at its end, spells the first digits
-pub take-spelling : (letter : ℕ → ℕ) (n : ℕ) (ds behind : List ℕ)
-    → take (min n (length ds)) (spelling letter ds ++ behind) ≡ spelling letter (take n ds)
-take-spelling letter n ds behind =
+pub take-spelling : (letter : ℕ → ℕ) (n : ℕ) (ds rest : List ℕ)
+    → take (min n (length ds)) (spelling letter ds ++ rest) ≡ spelling letter (take n ds)
+take-spelling letter n ds rest =
     let len = length-spelling letter ds in
     let within : min n (length ds) ≤ length (spelling letter ds) = omega arith in
-    take-append-le (min n (length ds)) (spelling letter ds) behind within
+    take-append-le (min n (length ds)) (spelling letter ds) rest within
     ∙ take-map letter (min n (length ds)) ds ∙ ap (spelling letter) (take_min n ds)

@@ -1,21 +1,18 @@
 -- Why words and then the number of digits are the dictionary order of digits.
-use Rattle.std.proofs.Common.{◌≡◌, ℕ, zero, suc, ◌+◌, ◌-◌, ◌^◌, ◌<◌, ◌≤◌, List, [], ◌∷◌, length, take, drop, refl, sym, ap, ◌∙◌, arith, inl, inr, Ordering}
+use Rattle.std.proofs.Common.{◌≡◌, ℕ, zero, suc, ◌+◌, ◌-◌, ◌^◌, ◌<◌, ◌≤◌, List, [], ◌∷◌, length, take, drop, refl, sym, ap, ◌∙◌, arith, Equal, Ordering}
 use Rattle.std.specs.Ordering.{nat_cmp, ordering_then}
+use Rattle.std.specs.Cmp.{nat_cmp_is}
 use Rattle.std.specs.Cmp.Lexicographic.{slice_cmp}
-use Rattle.std.proofs.lemmas.Bool.{cases_lt, cases_order}
+use Rattle.std.proofs.lemmas.Bool.Decides.{nat_tests}
 use Rattle.std.proofs.lemmas.List.{drop-take, length-take-le, take-take}
 use Rattle.std.proofs.lemmas.List.Elements.{All-tail, All-drop, All-take}
 use Rattle.id_digits.specs.Words.{word}
 use Rattle.id_digits.specs.Beginnings.{place}
-use Rattle.id_digits.proofs.NumberParts.{less, equal, greater, then_assoc, then_equal, cmp_parts}
+use Rattle.id_digits.proofs.NumberParts.{then_assoc, then_equal, cmp_parts}
 use Rattle.id_digits.proofs.DigitNumbers.{AreDigits, word-nil, word-cons, word_lt, word-split, word-take}
 
 nat_cmp-suc : (a b : ℕ) → nat_cmp (suc a) (suc b) ≡ nat_cmp a b
-nat_cmp-suc a b = elim (cases_order a b) [
-  | inl e ↦ rw (equal a b e, equal (suc a) (suc b) (omega arith)) refl
-  | inr (inl lt) ↦ rw (less a b lt, less (suc a) (suc b) (omega arith)) refl
-  | inr (inr gt) ↦ rw (greater a b gt, greater (suc a) (suc b) (omega arith)) refl
-]
+nat_cmp-suc a b = grind (arith, nat_tests)
 
 -- lists of at most n digits compare as their numbers do, and then as their lengths
 slice_cmp-word : (n : ℕ) (ds es : List ℕ) → AreDigits ds → AreDigits es → length ds ≤ n → length es ≤ n
@@ -23,16 +20,8 @@ slice_cmp-word : (n : ℕ) (ds es : List ℕ) → AreDigits ds → AreDigits es 
 slice_cmp-word n [] [] f g h k = rw word-nil refl
 slice_cmp-word zero [] (e ∷ es) f g h k = absurd (omega arith)
 slice_cmp-word zero (d ∷ ds) es f g h k = absurd (omega arith)
-slice_cmp-word (suc n) [] (e ∷ es) f g h k = elim (cases_lt 0 (word (suc n) (e ∷ es))) [
-  | inl some ↦ rw (word-nil (suc n), less 0 (word (suc n) (e ∷ es)) some) refl
-  | inr none ↦ let zeros : word (suc n) (e ∷ es) ≡ 0 = omega arith in
-      rw (word-nil (suc n), zeros, less 0 (suc (length es)) (omega arith)) refl
-]
-slice_cmp-word (suc n) (d ∷ ds) [] f g h k = elim (cases_lt 0 (word (suc n) (d ∷ ds))) [
-  | inl some ↦ rw (word-nil (suc n), greater (word (suc n) (d ∷ ds)) 0 some) refl
-  | inr none ↦ let zeros : word (suc n) (d ∷ ds) ≡ 0 = omega arith in
-      rw (word-nil (suc n), zeros, greater (suc (length ds)) 0 (omega arith)) refl
-]
+slice_cmp-word (suc n) [] (e ∷ es) f g h k = rw (word-nil (suc n)) (grind (arith, nat_tests))
+slice_cmp-word (suc n) (d ∷ ds) [] f g h k = rw (word-nil (suc n)) (grind (arith, nat_tests))
 slice_cmp-word (suc n) (d ∷ ds) (e ∷ es) f g h k =
     let first = All-tail (λ (x : ℕ). x < 16) d ds f in
     let second = All-tail (λ (x : ℕ). x < 16) e es g in
@@ -60,7 +49,7 @@ pub place-first_word : (n : ℕ) (ds es : List ℕ) → AreDigits ds → AreDigi
 place-first_word n ds es f g is reach within =
     let cut = length-take-le n es reach in
     let whole = slice_cmp-word 32 ds (take n es) f (All-take (λ (x : ℕ). x < 16) n es g) (omega arith) (omega arith) in
-    let ties = equal (length ds) (length (take n es)) (is ∙ sym cut) in
+    let ties = sym (nat_cmp_is (length ds) (length (take n es)) Equal (is ∙ sym cut)) in
     ap (λ (k : ℕ). slice_cmp nat_cmp ds (take k es)) is ∙ sym whole
     ∙ ap (ordering_then (nat_cmp (word 32 ds) (word 32 (take n es)))) ties
     ∙ then_equal (nat_cmp (word 32 ds) (word 32 (take n es)))
@@ -71,7 +60,7 @@ pub place-words : (n : ℕ) (ds es : List ℕ) → AreDigits ds → AreDigits es
 place-words n ds es f g is reach from within =
     let cut = length-take-le n es reach in
     let whole = slice_cmp-words ds (take n es) f (All-take (λ (x : ℕ). x < 16) n es g) (omega arith) (omega arith) in
-    let ties = equal (length ds) (length (take n es)) (is ∙ sym cut) in
+    let ties = sym (nat_cmp_is (length ds) (length (take n es)) Equal (is ∙ sym cut)) in
     let first : word 32 (take n es) ≡ word 32 es =
     sym (word-take 32 (take n es)) ∙ ap (word 32) (take-take 32 n es from) ∙ word-take 32 es in
     let more : 32 + (n - 32) ≡ n = omega arith in

@@ -6,5 +6,3 @@ pub mod ReverseLetters
 pub mod DigestLengths
 pub mod Beginnings
 pub mod Words
-pub mod DigitOrder
-pub mod FirstWord

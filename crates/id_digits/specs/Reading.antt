@@ -11,7 +11,7 @@ digit_below letter c (suc n) = if letter n == to_ascii_lowercase c then Some n e
 abbrev pub digit_in : (ℕ → ℕ) → ℕ → Option ℕ
 digit_in letter c = digit_below letter c 16
 
--- a digit before the digits that follow it, where all of them read
+-- a digit before the digits that follow it, if all of them read
 abbrev pub put_digit : Option ℕ → Option (List ℕ) → Option (List ℕ)
 put_digit None more = None
 put_digit (Some d) None = None

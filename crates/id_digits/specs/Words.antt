@@ -1,8 +1,8 @@
--- Digits as numbers: the first 32 in one word of 128 bits, and those behind them in another.
+-- Digits as numbers: the first 32 in one word of 128 bits, and the rest in another.
 use Rattle.std.specs.Prelude.{ℕ, zero, suc, ◌+◌, ◌*◌, ◌^◌, List, [], ◌∷◌, drop}
 use Rattle.id_digits.specs.declared.words.Words.{Words}
 
--- the number that n digits write in base 16: those of the list, the highest first, and zeros behind them
+-- the number that n digits write in base 16, the highest first: those of the list, and then zeros
 unfoldable pub word : ℕ → List ℕ → ℕ
 word zero digits = 0
 word (suc n) [] = 0

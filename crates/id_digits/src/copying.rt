@@ -1,4 +1,4 @@
-//! Digits packed into bytes, with zeros behind them.
+//! Digits packed into bytes, with zeros after them.
 
 ghost use Rattle.std.specs.Prelude.{◌≡◌, ◌≤◌, ◌*◌, length, take, replicate};
 ghost use Rattle.id_digits.specs.Beginnings.{padded};

@@ -1,9 +1,9 @@
 //! The digits of digests, over their bytes.
 //!
-//! A byte is two digits below 16, the high half first. Their letters are those of hex, or z down to k,
-//! in which Jujutsu spells change ids. Digits are packed with zeros behind them, and compared as
-//! numbers of 128 bits. Digests are ordered by their digits, and the digits that two of them share are
-//! counted.
+//! A byte is two digits below 16, the high half first. Their letters are those of hex, or z down to
+//! k, in which Jujutsu spells change ids. Digits are packed with zeros after them, and compared as
+//! numbers of 128 bits. Digests are ordered by their digits, and the digits that two of them share
+//! are counted.
 #![tactic(auto)]
 
 mod common;

@@ -5,7 +5,7 @@ ghost use Rattle.std.specs.Ordering.{nat_cmp};
 ghost use Rattle.std.specs.Cmp.Lexicographic.{slice_cmp};
 ghost use Rattle.id_digits.specs.Digits.{digits_of};
 ghost use Rattle.id_digits.specs.DigestLengths.{is_digest_len};
-ghost use Rattle.id_digits.specs.FirstWord.{word_from};
+ghost use Rattle.id_digits.specs.Words.{word};
 
 use std::cmp::Ordering;
 
@@ -33,7 +33,7 @@ pub fn digest_cmp(one: &[u8], other: &[u8]) -> Ordering
 #[inline(always)]
 fn first_word(bytes: &[u8]) -> u64
     requires { WORD ≤ length bytes.now }
-    ensures { result ≡ word_from 0 WORD bytes.now }
+    ensures { result ≡ word 16 (digits_of bytes.now) }
 {
     u64::from_be_bytes([
         bytes[0], bytes[1], bytes[2], bytes[3], bytes[4], bytes[5], bytes[6], bytes[7],

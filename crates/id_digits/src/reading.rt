@@ -18,8 +18,8 @@ const BYTES: usize = 16;
 // All bits but the one by which a lowercase letter differs from its capital.
 const CAPITAL: u8 = 0xdf;
 
-/// Whether a text of two hex letters a byte, in either case, reads as a digest of 20 or 32 bytes, which is
-/// then written.
+/// Whether a text of two hex letters a byte, in either case, reads as a digest of 20 or 32 bytes,
+/// which is then written.
 #[inline(always)]
 pub fn read_digest(text: &[u8], bytes: &mut [u8]) -> bool
     requires digest { IsTrue (is_digest_len (length bytes.old)) }
@@ -39,8 +39,9 @@ pub fn read_digest(text: &[u8], bytes: &mut [u8]) -> bool
     are_digits(greater(greater(first, second), greater(third, last)))
 }
 
-// Writes the last sixteen bytes of a digest, but for those of them that are among its first sixteen:
-// each byte is stored once, since a load of bytes that two stores wrote has to wait for both.
+// Writes the last sixteen bytes of a digest, but for those of them that are among its first
+// sixteen: each byte is stored once, since a load of bytes that two stores wrote has to wait for
+// both.
 #[inline(always)]
 fn put_rest(lanes: u8x16, bytes: &mut [u8])
     requires { IsTrue (is_digest_len (length bytes.old)) }
@@ -50,7 +51,7 @@ fn put_rest(lanes: u8x16, bytes: &mut [u8])
     bytes[BYTES..].copy_from_slice(&lanes.to_array()[shared..]);
 }
 
-// The digits of the sixteen letters from this place on.
+// The digits of the sixteen letters from this index on.
 #[inline(always)]
 fn values_at(text: &[u8], at: usize) -> u8x16
     requires { at + LETTERS ≤ length text.now }
@@ -64,8 +65,8 @@ fn values_at(text: &[u8], at: usize) -> u8x16
 fn values_of(letters: u8x16) -> u8x16
     ensures { result ≡ values_of letters }
 {
-    // Ten less than the digit: `0` to `9` stand just below 256, and letters from 0 on. A byte below
-    // `A` is kept from wrapping to 255, where it would be a 9.
+    // Ten less than the digit: 246 to 255 for `0` to `9`, and 0 on for letters. A byte below `A` is
+    // kept from wrapping to 255, where it would be a 9.
     let from_10 = letters - u8x16::splat(b'9' + 1);
     let from_a = (letters & u8x16::splat(CAPITAL)) - u8x16::splat(b'A');
     let within = from_a
@@ -90,7 +91,7 @@ fn are_digits(values: u8x16) -> bool
     values.simd_ge(u8x16::splat(16)).to_bitmask() == 0
 }
 
-// The byte of each two values of two vectors, one behind the other. The first of the two is its high
+// The byte of each two values of two vectors, one after the other. The first of the two is its high
 // half.
 #[inline(always)]
 fn packed(front: u8x16, back: u8x16) -> u8x16

@@ -3,8 +3,8 @@
 ghost use Rattle.std.specs.Prelude.{◌≡◌, map};
 ghost use Rattle.id_digits.specs.ReverseLetters.{hex_of_reverse, reverse_of_hex};
 
-/// Replaces each letter `z` to `k`, in any letter case, by the hex letter of its digit, and any other
-/// byte by one that is no hex letter.
+/// Replaces each letter `z` to `k`, in any letter case, by the hex letter of its digit, and any
+/// other byte by one that is no hex letter.
 pub fn to_hex_letters(text: &mut [u8])
     ensures { text.new ≡ map hex_of_reverse text.old }
 {
@@ -13,7 +13,8 @@ pub fn to_hex_letters(text: &mut [u8])
     }
 }
 
-/// Replaces each lowercase hex letter by the letter `z` to `k` of its digit; other bytes stay.
+/// Replaces each lowercase hex letter by the letter `z` to `k` of its digit; other bytes are left
+/// as they are.
 pub fn to_reverse_letters(text: &mut [u8])
     ensures { text.new ≡ map reverse_of_hex text.old }
 {

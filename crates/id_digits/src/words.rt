@@ -8,11 +8,11 @@ ghost use Rattle.id_digits.specs.Words.{word, words_of};
 
 use std::cmp::Ordering;
 
-/// How many digits stand in a word, four bits each.
+/// The number of digits in a word, four bits each.
 const WORD_DIGITS: usize = 32;
 
-/// Up to 64 digits: the first 32 in one word from its highest four bits on, those behind them in
-/// the other likewise, and zeros behind them all.
+/// Up to 64 digits in two words, each from its highest four bits on: the first 32 digits in one,
+/// the rest in the other, and zeros after the last.
 ///
 /// ```
 /// // Words compare as digits do.
@@ -22,12 +22,12 @@ const WORD_DIGITS: usize = 32;
 pub struct Words {
     /// The first 32 digits.
     pub first: u128,
-    /// The digits behind the first 32.
+    /// The digits after the first 32.
     pub second: u128,
 }
 
 impl Words {
-    /// The digits of a digest of 20 or 32 bytes, those of 20 bytes with 24 zeros behind them.
+    /// The digits of a digest of 20 or 32 bytes, those of 20 bytes with 24 zeros after them.
     pub fn of(bytes: &[u8]) -> Words
         requires { IsTrue (is_digest_len (length bytes.now)) }
         ensures { result ≡ words_of (digits_of bytes.now) }
@@ -38,9 +38,8 @@ impl Words {
         }
     }
 
-    /// The order of these digits, `hex_len` in number, and of as many of the first digits of a digest
-    /// of 20 or 32 bytes, which must have so many: `Greater` where these stand behind. What the digest
-    /// has behind them is masked.
+    /// The dictionary order of these `hex_len` digits against the first `hex_len` digits of a
+    /// digest of 20 or 32 bytes, which must have as many. The digest's further digits are masked.
     pub fn place(&self, hex_len: usize, bytes: &[u8]) -> Ordering
         requires most { hex_len ≤ 64 }
         requires digest { IsTrue (is_digest_len (length bytes.now)) }
@@ -69,11 +68,11 @@ fn second_word(bytes: &[u8]) -> u128
     requires { IsTrue (is_digest_len (length bytes.now)) }
     ensures { result ≡ word 32 (drop 32 (digits_of bytes.now)) }
 {
-    let behind = &bytes[WORD_DIGITS / 2..];
-    if behind.len() == 4 {
-        word_of_4_bytes(behind)
+    let rest = &bytes[WORD_DIGITS / 2..];
+    if rest.len() == 4 {
+        word_of_4_bytes(rest)
     } else {
-        word_of_16_bytes(behind)
+        word_of_16_bytes(rest)
     }
 }
 
@@ -88,7 +87,7 @@ fn word_of_16_bytes(bytes: &[u8]) -> u128
     ])
 }
 
-// The digits of 4 bytes, with zeros behind them.
+// The digits of 4 bytes, with zeros after them.
 fn word_of_4_bytes(bytes: &[u8]) -> u128
     requires { length bytes.now ≡ 4 }
     ensures { result ≡ word 32 (digits_of bytes.now) }
@@ -97,7 +96,7 @@ fn word_of_4_bytes(bytes: &[u8]) -> u128
     (front as u128) << 96
 }
 
-// Ones in the places of a word's first digits, and zeros behind them.
+// Ones for the bits of a word's first digits, and zeros for the rest.
 fn front_mask(digits: usize) -> u128
     requires { digits ≤ 32 }
     ensures { result ≡ 2 ^ 128 - 2 ^ (4 * (32 - digits)) }

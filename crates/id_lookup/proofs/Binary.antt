@@ -1,4 +1,4 @@
--- The number of binary digits is the least b with n < 2 ^ b, and halving takes one away.
+-- The number of binary digits is the smallest b with n < 2 ^ b, and half of a number has one less.
 use Rattle.std.proofs.Common.{◌≡◌, ℕ, zero, suc, ◌+◌, ◌*◌, ◌/◌, ◌^◌, ◌≤◌, ◌<◌, ◌⊎◌, inl, inr, arith}
 use Rattle.std.proofs.Math.Nat.{pow-suc}
 use Rattle.std.proofs.Math.Pow.{pow_mono}

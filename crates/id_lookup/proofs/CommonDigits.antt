@@ -1,6 +1,7 @@
--- How many digits ids of a sorted list share.
+-- How many first digits ids of a sorted list have in common.
 use Rattle.std.proofs.Common.{◌≡◌, ℕ, zero, suc, ◌+◌, ◌<◌, ◌≤◌, true, false, Less, List, [], ◌∷◌, length, take, cond, nat_eq, ◌&&◌, refl, sym, ◌∙◌, arith, true≢false}
 use Rattle.std.specs.List.{common_prefix_len, starts_with}
+use Rattle.std.specs.declared.cmp.Ordering.{Ordering}
 use Rattle.std.specs.Ordering.{nat_cmp, is_lt, ordering_then}
 use Rattle.std.specs.Cmp.Lexicographic.{slice_cmp}
 use Rattle.std.proofs.lemmas.Bool.Decides.{nat_tests}
@@ -18,43 +19,28 @@ cond_no a b n h = grind (arith, nat_tests)
 cond_no' : (a b n : ℕ) → a < b → cond (nat_eq a b) n 0 ≡ 0
 cond_no' a b n h = grind (arith, nat_tests)
 
--- x up to y up to z: z has no more in common with x than with y
-pub common-below : (x y z : List ℕ) → is_lt (slice_cmp nat_cmp y x) ≡ false → is_lt (slice_cmp nat_cmp z y) ≡ false → common z x ≤ common z y
-common-below x y [] h g = omega arith
-common-below [] y (c ∷ zs) h g = omega arith
-common-below (a ∷ xs) [] (c ∷ zs) h g = absurd (true≢false h)
-common-below (a ∷ xs) (b ∷ ys) (c ∷ zs) h g =
-    let rest : is_lt (slice_cmp nat_cmp ys xs) ≡ false → is_lt (slice_cmp nat_cmp zs ys) ≡ false → common zs xs ≤ common zs ys = common-below xs ys zs in
-    by_cmp b a (λ o. is_lt (ordering_then o (slice_cmp nat_cmp ys xs)) ≡ false → cond (nat_eq c a) (1 + common zs xs) 0 ≤ cond (nat_eq c b) (1 + common zs ys) 0)
+-- if x, y and z are in order, x has no more in common with z than with y, nor than y has with z
+pub common-between : (x y z : List ℕ) → is_lt (slice_cmp nat_cmp y x) ≡ false → is_lt (slice_cmp nat_cmp z y) ≡ false
+    → (common x z ≤ common x y) × (common x z ≤ common y z)
+common-between [] y z h g = (omega arith, omega arith)
+common-between (a ∷ xs) [] z h g = absurd (true≢false h)
+common-between (a ∷ xs) (b ∷ ys) [] h g = (omega arith, omega arith)
+common-between (a ∷ xs) (b ∷ ys) (c ∷ zs) h g =
+    let rest : is_lt (slice_cmp nat_cmp ys xs) ≡ false → is_lt (slice_cmp nat_cmp zs ys) ≡ false → (common xs zs ≤ common xs ys) × (common xs zs ≤ common ys zs) =
+    common-between xs ys zs in
+    let goal : Type 0 = (common (a ∷ xs) (c ∷ zs) ≤ common (a ∷ xs) (b ∷ ys)) × (common (a ∷ xs) (c ∷ zs) ≤ common (b ∷ ys) (c ∷ zs)) in
+    let apart : a < c → goal = λ l. rw (cond_no' a c (1 + common xs zs) l) (omega arith, omega arith) in
+    let next : Ordering → Type 0 = λ o. is_lt (ordering_then o (slice_cmp nat_cmp zs ys)) ≡ false → goal in
+    by_cmp b a (λ o. is_lt (ordering_then o (slice_cmp nat_cmp ys xs)) ≡ false → goal)
     (λ l h. absurd (true≢false h))
-    (λ l h. by_cmp c b (λ o. is_lt (ordering_then o (slice_cmp nat_cmp zs ys)) ≡ false → cond (nat_eq c a) (1 + common zs xs) 0 ≤ cond (nat_eq c b) (1 + common zs ys) 0)
+    (λ l h. by_cmp c b next
     (λ m g. absurd (true≢false g))
-    (λ m g. rw (cond_yes c b (1 + common zs ys) m) (rw (cond_yes c a (1 + common zs xs) (m ∙ l)) (omega (arith, rest h g))))
-    (λ m g. rw (cond_no c a (1 + common zs xs) (omega arith)) (omega arith)) g)
-    (λ l h. by_cmp c b (λ o. is_lt (ordering_then o (slice_cmp nat_cmp zs ys)) ≡ false → cond (nat_eq c a) (1 + common zs xs) 0 ≤ cond (nat_eq c b) (1 + common zs ys) 0)
-    (λ m g. absurd (true≢false g))
-    (λ m g. rw (cond_no c a (1 + common zs xs) (omega arith)) (omega arith))
-    (λ m g. rw (cond_no c a (1 + common zs xs) (omega arith)) (omega arith)) g) h
+    (λ m g. rw (cond_yes a c (1 + common xs zs) (sym (m ∙ l)), cond_yes a b (1 + common xs ys) (sym l), cond_yes b c (1 + common ys zs) (sym m))
+    (omega (arith, (rest h g).0), omega (arith, (rest h g).1)))
+    (λ m g. apart (omega arith)) g)
+    (λ l h. by_cmp c b next (λ m g. absurd (true≢false g)) (λ m g. apart (omega arith)) (λ m g. apart (omega arith)) g) h
 
--- and x no more with z than with y
-pub common-above : (x y z : List ℕ) → is_lt (slice_cmp nat_cmp y x) ≡ false → is_lt (slice_cmp nat_cmp z y) ≡ false → common x z ≤ common x y
-common-above [] y z h g = omega arith
-common-above (a ∷ xs) [] z h g = absurd (true≢false h)
-common-above (a ∷ xs) (b ∷ ys) [] h g = omega arith
-common-above (a ∷ xs) (b ∷ ys) (c ∷ zs) h g =
-    let rest : is_lt (slice_cmp nat_cmp ys xs) ≡ false → is_lt (slice_cmp nat_cmp zs ys) ≡ false → common xs zs ≤ common xs ys = common-above xs ys zs in
-    by_cmp b a (λ o. is_lt (ordering_then o (slice_cmp nat_cmp ys xs)) ≡ false → cond (nat_eq a c) (1 + common xs zs) 0 ≤ cond (nat_eq a b) (1 + common xs ys) 0)
-    (λ l h. absurd (true≢false h))
-    (λ l h. by_cmp c b (λ o. is_lt (ordering_then o (slice_cmp nat_cmp zs ys)) ≡ false → cond (nat_eq a c) (1 + common xs zs) 0 ≤ cond (nat_eq a b) (1 + common xs ys) 0)
-    (λ m g. absurd (true≢false g))
-    (λ m g. rw (cond_yes a b (1 + common xs ys) (sym l)) (rw (cond_yes a c (1 + common xs zs) (sym (m ∙ l))) (omega (arith, rest h g))))
-    (λ m g. rw (cond_no' a c (1 + common xs zs) (omega arith)) (omega arith)) g)
-    (λ l h. by_cmp c b (λ o. is_lt (ordering_then o (slice_cmp nat_cmp zs ys)) ≡ false → cond (nat_eq a c) (1 + common xs zs) 0 ≤ cond (nat_eq a b) (1 + common xs ys) 0)
-    (λ m g. absurd (true≢false g))
-    (λ m g. rw (cond_no' a c (1 + common xs zs) (omega arith)) (omega arith))
-    (λ m g. rw (cond_no' a c (1 + common xs zs) (omega arith)) (omega arith)) g) h
-
--- a list begins with another's first n digits exactly where n are common
+-- a list begins with another's first n digits if and only if n are common
 pub begins-common : (n : ℕ) (x y : List ℕ) → n ≤ length x → n ≤ common x y → starts_with nat_eq y (take n x) ≡ true
 begins-common zero x y within few = refl
 begins-common (suc n) [] y within few = absurd (omega arith)

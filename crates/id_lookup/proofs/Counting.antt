@@ -1,4 +1,4 @@
--- In a list where no member that passes a test stands behind one that fails it, the count tells which pass.
+-- If each member that passes a test comes before each that fails it, those that pass are the first ones, by their count.
 use Rattle.std.proofs.Common.{◌≡◌, ℕ, zero, suc, ◌+◌, ◌≤◌, ◌<◌, Bool, true, false, cond, nat_lt, List, [], ◌∷◌, length, get_or, refl, sym, ap, ◌∙◌, arith}
 use Rattle.std.specs.List.{count_by}
 use Rattle.std.specs.List.Sorted.{IsPartitionedBy}
@@ -6,23 +6,23 @@ use Rattle.std.proofs.lemmas.Bool.{false≢true, lt-ltb, le-ltb}
 use Rattle.std.proofs.lemmas.Bool.Decides.{nat_tests}
 use Rattle.std.proofs.lemmas.List.Sums.{sum_by-cons, count_by-le-length}
 
--- two tests of order that mean the same
+-- two tests of order are equal if their conditions imply each other
 same_test : (a b m n : ℕ) → (a < b → m < n) → (m < n → a < b) → nat_lt a b ≡ nat_lt m n
 same_test a b m n f g = grind (arith, nat_tests)
 
 module _ {X : Type 0} (p : X → Bool) where
-  -- the first member counts, and then those behind it
+  -- a count is that of the first member and that of the rest
   pub count_by-cons : (x : X) (xs : List X) → count_by p (x ∷ xs) ≡ cond (p x) 1 0 + count_by p xs
   count_by-cons x xs = sum_by-cons (λ y. cond (p y) 1 0) x xs
 
-  -- what is partitioned is so behind its first member
-  behind_first : (x : X) (xs : List X) → IsPartitionedBy p (x ∷ xs) → IsPartitionedBy p xs
-  behind_first x xs parted i j d h g = parted (suc i) (suc j) d (omega arith) (omega arith)
+  -- the rest of a partitioned list is partitioned
+  partitioned_rest : (x : X) (xs : List X) → IsPartitionedBy p (x ∷ xs) → IsPartitionedBy p xs
+  partitioned_rest x xs parted i j d h g = parted (suc i) (suc j) d (omega arith) (omega arith)
 
-  -- behind a first member that fails, none passes
-  none_behind : (x : X) (xs : List X) → IsPartitionedBy p (x ∷ xs) → p x ≡ false
+  -- after a first member that fails, none passes
+  none_after : (x : X) (xs : List X) → IsPartitionedBy p (x ∷ xs) → p x ≡ false
       → ((d : X) → 0 < length xs → p (get_or xs 0 d) ≡ nat_lt 0 (count_by p xs)) → count_by p xs ≡ 0
-  none_behind x xs parted fails first = by (count_by p xs) refl (count_by-le-length p xs)
+  none_after x xs parted fails first = by (count_by p xs) refl (count_by-le-length p xs)
     where
       by : (n : ℕ) → count_by p xs ≡ n → n ≤ length xs → n ≡ 0
       by zero e h = refl
@@ -30,12 +30,12 @@ module _ {X : Type 0} (p : X → Bool) where
           let second : p (get_or xs 0 x) ≡ true = first x (omega arith) ∙ lt-ltb 0 (count_by p xs) (omega arith) in
           absurd (false≢true (sym fails ∙ parted 0 1 x (omega arith) (omega arith) second))
 
-  -- a member passes exactly if its place is below the count
+  -- a member passes if and only if its index is below the count
   pub passes_below : (xs : List X) → IsPartitionedBy p xs → (k : ℕ) (d : X) → k < length xs → p (get_or xs k d) ≡ nat_lt k (count_by p xs)
   passes_below [] parted k d h = absurd (omega arith)
-  passes_below (x ∷ xs) parted k d h = by (p x) refl (passes_below xs (behind_first x xs parted)) k h
+  passes_below (x ∷ xs) parted k d h = by (p x) refl (passes_below xs (partitioned_rest x xs parted)) k h
     where
-      -- the count behind a first member with this answer
+      -- the count, by the result for the first member
       counted : (b : Bool) → p x ≡ b → count_by p (x ∷ xs) ≡ cond b 1 0 + count_by p xs
       counted b e = count_by-cons x xs ∙ ap (λ (b : Bool). cond b 1 0 + count_by p xs) e
 
@@ -44,15 +44,15 @@ module _ {X : Type 0} (p : X → Bool) where
       by true e rest zero h = let all = counted true e in e ∙ sym (lt-ltb 0 (count_by p (x ∷ xs)) (omega arith))
       by true e rest (suc k) h = rest k d (omega arith) ∙ same_test k (count_by p xs) (suc k) (count_by p (x ∷ xs)) (λ less. let all = counted true e in omega arith) (λ less. let all = counted true e in omega arith)
       by false e rest zero h =
-          let none = none_behind x xs parted e (rest 0) in
+          let none = none_after x xs parted e (rest 0) in
           let all = counted false e in
           e ∙ sym (le-ltb 0 (count_by p (x ∷ xs)) (omega arith))
       by false e rest (suc k) h =
-          let none = none_behind x xs parted e (rest 0) in
+          let none = none_after x xs parted e (rest 0) in
           let all = counted false e in
           rest k d (omega arith) ∙ le-ltb k (count_by p xs) (omega arith) ∙ sym (le-ltb (suc k) (count_by p (x ∷ xs)) (omega arith))
 
--- where one test passes as often as two others together at each member, so does its count
+-- if at each member one test passes as often as two others together, its count is the sum of theirs
 pub count_by-split : {X : Type 0} (p q r : X → Bool) → ((x : X) → cond (p x) 1 0 ≡ cond (q x) 1 0 + cond (r x) 1 0)
     → (xs : List X) → count_by p xs ≡ count_by q xs + count_by r xs
 count_by-split p q r splits [] = refl

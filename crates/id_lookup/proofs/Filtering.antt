@@ -1,4 +1,4 @@
--- Where the elements that pass a test stand together, the filtered list is that part of the list.
+-- If the elements that pass a test are next to each other, the filtered list is that part of the list.
 use Rattle.std.proofs.Common.{◌≡◌, ℕ, suc, ◌+◌, ◌-◌, ◌≤◌, Bool, true, false, List, [], ◌∷◌, ◌++◌, take, drop, filter, refl, sym, ap, ◌∙◌, arith, append-nil, take-append-drop}
 use Rattle.std.specs.List.{All, slice_range}
 use Rattle.std.proofs.lemmas.List.{drop-drop}
@@ -6,24 +6,24 @@ use Rattle.std.proofs.lemmas.List.Elements.{filter-append}
 
 module _ {X : Type 0} (p : X → Bool) where
   -- where no element passes, the filtered list is empty
-  filter_none : (xs : List X) → All (λ x. p x ≡ false) xs → filter p xs ≡ []
+  pub filter_none : (xs : List X) → All (λ x. p x ≡ false) xs → filter p xs ≡ []
   filter_none [] none = refl
   filter_none (x ∷ xs) none = rw (none 0 x (omega arith)) (filter_none xs (λ k d h. none (suc k) d (omega arith)))
 
   -- where each element passes, the filtered list is the list
-  filter_all : (xs : List X) → All (λ x. p x ≡ true) xs → filter p xs ≡ xs
+  pub filter_all : (xs : List X) → All (λ x. p x ≡ true) xs → filter p xs ≡ xs
   filter_all [] each = refl
   filter_all (x ∷ xs) each = rw (each 0 x (omega arith)) (ap (λ found. x ∷ found) (filter_all xs (λ k d h. each (suc k) d (omega arith))))
 
   -- a list up to a place, from there to another, and behind that
-  three_parts : (xs : List X) (start end : ℕ) → start ≤ end → take start xs ++ (slice_range xs start end ++ drop end xs) ≡ xs
+  pub three_parts : (xs : List X) (start end : ℕ) → start ≤ end → take start xs ++ (slice_range xs start end ++ drop end xs) ≡ xs
   three_parts xs start end rise =
       let whole : start + (end - start) ≡ end = omega arith in
       ap (λ (rest : List X). take start xs ++ rest) (ap (λ (rest : List X). slice_range xs start end ++ rest) (sym (drop-drop (end - start) start xs ∙ ap (λ n. drop n xs) whole))
       ∙ take-append-drop (end - start) (drop start xs))
       ∙ take-append-drop start xs
 
-  -- elements pass exactly from one place up to another
+  -- exactly the elements from one index up to another pass
   pub filter_run : (xs : List X) (start end : ℕ) → start ≤ end → All (λ x. p x ≡ false) (take start xs)
       → All (λ x. p x ≡ true) (slice_range xs start end) → All (λ x. p x ≡ false) (drop end xs) → slice_range xs start end ≡ filter p xs
   filter_run xs start end rise before within behind =

@@ -1,19 +1,20 @@
--- Counts of ids by their first byte, and how they hold the run of a prefix between them.
+-- Counts of ids by their first byte, and the run of a prefix between two of them.
 use Rattle.std.proofs.Common.{◌≡◌, ◌≢◌, ℕ, ◌+◌, ◌-◌, ◌<◌, ◌≤◌, Bool, true, false, cond, ltb, leb, nat_eq, List, [], ◌∷◌, length, get_or, set, get_or-set_other, get_or-set_same, below_more, take, eqb-true, refl, sym, ap, ◌∙◌, arith}
 use Rattle.std.specs.List.{All, count_by}
+use Rattle.std.proofs.lemmas.Bool.{le-leb, leb-true, lt-ltb, ltb-true}
 use Rattle.std.proofs.lemmas.Bool.Decides.{nat_tests}
 use Rattle.std.proofs.lemmas.List.Sums.{count_by-le-length, count_by_more_no, count_by_more_yes}
 use Rattle.std.proofs.lemmas.List.Elements.{All-head, All-tail}
 use Rattle.gix_hash.specs.Digits.{first_byte_of}
 use Rattle.gix_hash.specs.Prefix.{KindDigits, place}
-use Rattle.id_lookup.specs.Bounds.{bound_of, stands_before}
+use Rattle.id_lookup.specs.Bounds.{bound_of, is_before_bound}
 use Rattle.id_lookup.specs.Candidates.{AreCandidates}
 use Rattle.id_lookup.specs.FirstBytes.{is_up_to, is_below, has_first_byte}
 use Rattle.id_lookup.specs.Probing.{CanProbe}
 use Rattle.id_lookup.specs.declared.search.Bound.TheVariants.{Start, End}
 use Rattle.id_lookup.specs.declared.search.Run.{Run}
 use Rattle.id_lookup.proofs.Counting.{count_by-cons, count_by-split}
-use Rattle.id_lookup.proofs.FirstByteOrder.{AreDigits, are_digits, behind_lower, not_above_last, lower_behind, last_not_above, last_byte_of, last_byte_of-first}
+use Rattle.id_lookup.proofs.FirstByteOrder.{AreDigits, are_digits, after_if_lower_byte, byte_up_to_last_if_not_before, lower_byte_if_after, not_before_if_byte_up_to_last, last_byte_of, last_byte_of-first}
 
 -- a test that passes wherever another does counts no less
 count_by-le : {X : Type 0} (p q : X → Bool) (xs : List X) → All (λ x. p x ≡ true → q x ≡ true) xs → count_by p xs ≤ count_by q xs
@@ -29,18 +30,6 @@ count_by-le {X} p q (x ∷ xs) more =
     at_most false true h = omega arith
     at_most false false h = omega arith
 
-tests_lt : (a b : ℕ) → ltb a b ≡ true → a < b
-tests_lt a b h = grind (arith, nat_tests)
-
-lt_tests : (a b : ℕ) → a < b → ltb a b ≡ true
-lt_tests a b h = grind (arith, nat_tests)
-
-tests_le : (a b : ℕ) → leb a b ≡ true → a ≤ b
-tests_le a b h = grind (arith, nat_tests)
-
-le_tests : (a b : ℕ) → a ≤ b → leb a b ≡ true
-le_tests a b h = grind (arith, nat_tests)
-
 -- none is below the first byte of all
 pub count_by-below_0 : (ids : List (List ℕ)) → count_by (is_below 0) ids ≡ 0
 count_by-below_0 [] = λ i. 0
@@ -50,7 +39,7 @@ count_by-below_0 (id ∷ ids) = omega (arith, count_by-cons (is_below 0) id ids,
     none n = grind (arith, nat_tests)
 
 -- those up to a byte are those below it and those that have it
-count_by-up_to : (b : ℕ) (ids : List (List ℕ)) → count_by (is_up_to b) ids ≡ count_by (is_below b) ids + count_by (has_first_byte b) ids
+pub count_by-up_to : (b : ℕ) (ids : List (List ℕ)) → count_by (is_up_to b) ids ≡ count_by (is_below b) ids + count_by (has_first_byte b) ids
 count_by-up_to b = count_by-split (is_up_to b) (is_below b) (has_first_byte b) (λ id. split (first_byte_of id) b)
   where
     split : (n m : ℕ) → cond {A = ℕ} (leb n m) 1 0 ≡ cond (ltb n m) 1 0 + cond (nat_eq n m) 1 0
@@ -96,23 +85,23 @@ one_more counts ids i byte len within small is counted b below = by (nat_eq byte
         rw get_or-set_other (counted b below ∙ sym (count_by_more_no (has_first_byte b) ids i [] within no))
 
 module _ (prefix : KindDigits) (ids : List (List ℕ)) (can : CanProbe prefix ids) (small : AreDigits prefix.digits) (each : All (λ id. All (λ d. d < 16) id) ids) where
-  -- both bounds of the run lie between those below the prefix's first byte and those up to its last
+  -- both bounds of the run are between the ids below the prefix's first byte and those up to its last
   start_above : count_by (is_below (first_byte_of prefix.digits)) ids ≤ bound_of Start prefix ids
-  start_above = count_by-le (is_below (first_byte_of prefix.digits)) (λ id. stands_before Start (place prefix.digits id)) ids
-      (λ k d h lower. behind_lower prefix.digits (get_or ids k d) (can.reach k d h) small (are_digits _ (each k d h)) (tests_lt _ _ lower))
+  start_above = count_by-le (is_below (first_byte_of prefix.digits)) (λ id. is_before_bound Start (place prefix.digits id)) ids
+      (λ k d h lower. after_if_lower_byte prefix.digits (get_or ids k d) (can.reach k d h) small (are_digits _ (each k d h)) (ltb-true _ _ lower))
 
   end_below : bound_of End prefix ids ≤ count_by (is_up_to (last_byte_of prefix.digits)) ids
-  end_below = count_by-le (λ id. stands_before End (place prefix.digits id)) (is_up_to (last_byte_of prefix.digits)) ids
-      (λ k d h stands. le_tests _ _ (not_above_last prefix.digits (get_or ids k d) (can.reach k d h) small (are_digits _ (each k d h)) stands))
+  end_below = count_by-le (λ id. is_before_bound End (place prefix.digits id)) (is_up_to (last_byte_of prefix.digits)) ids
+      (λ k d h stands. le-leb _ _ (byte_up_to_last_if_not_before prefix.digits (get_or ids k d) (can.reach k d h) small (are_digits _ (each k d h)) stands))
 
   -- and below two digits they are these
   start_below : length prefix.digits < 2 → bound_of Start prefix ids ≤ count_by (is_below (first_byte_of prefix.digits)) ids
-  start_below short = count_by-le (λ id. stands_before Start (place prefix.digits id)) (is_below (first_byte_of prefix.digits)) ids
-      (λ k d h stands. lt_tests _ _ (lower_behind prefix.digits (get_or ids k d) short (can.reach k d h) (are_digits _ (each k d h)) stands))
+  start_below short = count_by-le (λ id. is_before_bound Start (place prefix.digits id)) (is_below (first_byte_of prefix.digits)) ids
+      (λ k d h stands. lt-ltb _ _ (lower_byte_if_after prefix.digits (get_or ids k d) short (can.reach k d h) (are_digits _ (each k d h)) stands))
 
   end_above : length prefix.digits < 2 → count_by (is_up_to (last_byte_of prefix.digits)) ids ≤ bound_of End prefix ids
-  end_above short = count_by-le (is_up_to (last_byte_of prefix.digits)) (λ id. stands_before End (place prefix.digits id)) ids
-      (λ k d h lower. last_not_above prefix.digits (get_or ids k d) short (can.reach k d h) (tests_le _ _ lower))
+  end_above short = count_by-le (is_up_to (last_byte_of prefix.digits)) (λ id. is_before_bound End (place prefix.digits id)) ids
+      (λ k d h lower. not_before_if_byte_up_to_last prefix.digits (get_or ids k d) short (can.reach k d h) (leb-true _ _ lower))
 
   -- so they are the candidates
   pub are_candidates : (part : Run) → part.start ≡ count_by (is_below (first_byte_of prefix.digits)) ids

@@ -1,4 +1,4 @@
--- What the first byte of an id tells of the place of a prefix against it.
+-- The place of a prefix against an id, by the id's first byte.
 use Rattle.std.proofs.Common.{◌≡◌, ℕ, zero, suc, ◌+◌, ◌-◌, ◌*◌, ◌++◌, replicate, ◌<◌, ◌≤◌, true, List, [], ◌∷◌, length, get_or, slice_index, inl, inr, refl, sym, arith, true≢false}
 use Rattle.std.specs.declared.cmp.Ordering.{Ordering}
 use Rattle.std.specs.declared.cmp.Ordering.TheVariants.{Less, Equal, Greater}
@@ -10,7 +10,7 @@ use Rattle.std.proofs.lemmas.List.{get_or_past}
 use Rattle.gix_hash.specs.Digits.{first_byte_of}
 use Rattle.gix_hash.specs.Prefix.{place, padded}
 
--- each digit is below 16, and what is read behind the last one too
+-- each digit is below 16, and what is read after the last one too
 abbrev pub AreDigits : List ℕ → Type 0
 AreDigits digits = (k : ℕ) → slice_index digits k < 16
 
@@ -21,45 +21,45 @@ are_digits digits small k =
       | inr past ↦ rw (get_or_past digits k 0 past) (omega arith)
     ]
 
--- what holds in each of the three orders of two numbers holds of their comparison
+-- what holds in each of the three orders of two numbers holds for their comparison
 pub by_cmp : (x y : ℕ) (P : Ordering → Type 0) → (x < y → P Less) → (x ≡ y → P Equal) → (y < x → P Greater) → P (nat_cmp x y)
 by_cmp x y P less equal greater =
     elim (nat_cmp x y) as (λ o. MatchOrdering o (x < y) (x ≡ y) (y < x) → P o) [ Less ↦ less | Equal ↦ equal | Greater ↦ greater ] (ranks x y)
 
--- the prefix stands behind an id with a lower first byte
-pub behind_lower : (p id : List ℕ) → length p ≤ length id → AreDigits p → AreDigits id → first_byte_of id < first_byte_of p → is_gt (place p id) ≡ true
-behind_lower [] id reach small small' lower = absurd (omega arith)
-behind_lower (d ∷ ps) [] reach small small' lower = absurd (omega arith)
-behind_lower (d ∷ []) (a ∷ ids) reach small small' lower =
+-- the prefix comes after an id with a lower first byte
+pub after_if_lower_byte : (p id : List ℕ) → length p ≤ length id → AreDigits p → AreDigits id → first_byte_of id < first_byte_of p → is_gt (place p id) ≡ true
+after_if_lower_byte [] id reach small small' lower = absurd (omega arith)
+after_if_lower_byte (d ∷ ps) [] reach small small' lower = absurd (omega arith)
+after_if_lower_byte (d ∷ []) (a ∷ ids) reach small small' lower =
     by_cmp d a (λ o. is_gt (ordering_then o Equal) ≡ true) (λ h. absurd (omega arith)) (λ h. absurd (omega arith)) (λ h. refl)
-behind_lower (d ∷ e ∷ ps) (a ∷ []) reach small small' lower = absurd (omega arith)
-behind_lower (d ∷ e ∷ ps) (a ∷ b ∷ ids) reach small small' lower =
+after_if_lower_byte (d ∷ e ∷ ps) (a ∷ []) reach small small' lower = absurd (omega arith)
+after_if_lower_byte (d ∷ e ∷ ps) (a ∷ b ∷ ids) reach small small' lower =
     let low : e < 16 = small 1 in
     by_cmp d a (λ o. is_gt (ordering_then o (ordering_then (nat_cmp e b) (place ps ids))) ≡ true)
     (λ h. absurd (omega arith))
     (λ h. by_cmp e b (λ o. is_gt (ordering_then o (place ps ids)) ≡ true) (λ g. absurd (omega arith)) (λ g. absurd (omega arith)) (λ g. refl))
     (λ h. refl)
 
--- the last byte that begins with the digits, as far as they reach
+-- the last byte that begins with the first two digits, or the fewer there are
 pub last_byte_of : List ℕ → ℕ
 last_byte_of [] = 255
 last_byte_of (d ∷ []) = 16 * d + 15
 last_byte_of (d ∷ e ∷ ps) = 16 * d + e
 
--- an id before which the prefix does not stand has at most that first byte
-pub not_above_last : (p id : List ℕ) → length p ≤ length id → AreDigits p → AreDigits id → is_ge (place p id) ≡ true → first_byte_of id ≤ last_byte_of p
+-- an id that the prefix does not come before has at most that first byte
+pub byte_up_to_last_if_not_before : (p id : List ℕ) → length p ≤ length id → AreDigits p → AreDigits id → is_ge (place p id) ≡ true → first_byte_of id ≤ last_byte_of p
 unfolding last_byte_of
-not_above_last [] id reach small small' h =
+byte_up_to_last_if_not_before [] id reach small small' h =
     let high : slice_index id 0 < 16 = small' 0 in
     let low : slice_index id 1 < 16 = small' 1 in
     omega arith
-not_above_last (d ∷ ps) [] reach small small' h = absurd (omega arith)
-not_above_last (d ∷ []) (a ∷ ids) reach small small' h =
+byte_up_to_last_if_not_before (d ∷ ps) [] reach small small' h = absurd (omega arith)
+byte_up_to_last_if_not_before (d ∷ []) (a ∷ ids) reach small small' h =
     let low : slice_index (a ∷ ids) 1 < 16 = small' 1 in
     by_cmp d a (λ o. is_ge (ordering_then o Equal) ≡ true → 16 * a + slice_index (a ∷ ids) 1 ≤ 16 * d + 15)
     (λ l g. absurd (true≢false (sym g))) (λ l g. omega arith) (λ l g. omega arith) h
-not_above_last (d ∷ e ∷ ps) (a ∷ []) reach small small' h = absurd (omega arith)
-not_above_last (d ∷ e ∷ ps) (a ∷ b ∷ ids) reach small small' h =
+byte_up_to_last_if_not_before (d ∷ e ∷ ps) (a ∷ []) reach small small' h = absurd (omega arith)
+byte_up_to_last_if_not_before (d ∷ e ∷ ps) (a ∷ b ∷ ids) reach small small' h =
     let low : b < 16 = small' 1 in
     by_cmp d a (λ o. is_ge (ordering_then o (ordering_then (nat_cmp e b) (place ps ids))) ≡ true → 16 * a + b ≤ 16 * d + e)
     (λ l g. absurd (true≢false (sym g)))
@@ -68,24 +68,24 @@ not_above_last (d ∷ e ∷ ps) (a ∷ b ∷ ids) reach small small' h =
     (λ l g. omega arith) h
 
 -- below two digits the first bytes decide
-pub lower_behind : (p id : List ℕ) → length p < 2 → length p ≤ length id → AreDigits id → is_gt (place p id) ≡ true → first_byte_of id < first_byte_of p
-lower_behind [] id short reach small h = absurd (true≢false (sym h))
-lower_behind (d ∷ []) [] short reach small h = absurd (omega arith)
-lower_behind (d ∷ []) (a ∷ ids) short reach small h =
+pub lower_byte_if_after : (p id : List ℕ) → length p < 2 → length p ≤ length id → AreDigits id → is_gt (place p id) ≡ true → first_byte_of id < first_byte_of p
+lower_byte_if_after [] id short reach small h = absurd (true≢false (sym h))
+lower_byte_if_after (d ∷ []) [] short reach small h = absurd (omega arith)
+lower_byte_if_after (d ∷ []) (a ∷ ids) short reach small h =
     let low : slice_index (a ∷ ids) 1 < 16 = small 1 in
     by_cmp d a (λ o. is_gt (ordering_then o Equal) ≡ true → 16 * a + slice_index (a ∷ ids) 1 < 16 * d + 0)
     (λ l g. absurd (true≢false (sym g))) (λ l g. absurd (true≢false (sym g))) (λ l g. omega arith) h
-lower_behind (d ∷ e ∷ ps) id short reach small h = absurd (omega arith)
+lower_byte_if_after (d ∷ e ∷ ps) id short reach small h = absurd (omega arith)
 
-pub last_not_above : (p id : List ℕ) → length p < 2 → length p ≤ length id → first_byte_of id ≤ last_byte_of p → is_ge (place p id) ≡ true
+pub not_before_if_byte_up_to_last : (p id : List ℕ) → length p < 2 → length p ≤ length id → first_byte_of id ≤ last_byte_of p → is_ge (place p id) ≡ true
 unfolding last_byte_of
-last_not_above [] id short reach h = refl
-last_not_above (d ∷ []) [] short reach h = absurd (omega arith)
-last_not_above (d ∷ []) (a ∷ ids) short reach h =
+not_before_if_byte_up_to_last [] id short reach h = refl
+not_before_if_byte_up_to_last (d ∷ []) [] short reach h = absurd (omega arith)
+not_before_if_byte_up_to_last (d ∷ []) (a ∷ ids) short reach h =
     by_cmp d a (λ o. is_ge (ordering_then o Equal) ≡ true) (λ l. absurd (omega arith)) (λ l. refl) (λ l. refl)
-last_not_above (d ∷ e ∷ ps) id short reach h = absurd (omega arith)
+not_before_if_byte_up_to_last (d ∷ e ∷ ps) id short reach h = absurd (omega arith)
 
--- what is said of the last byte by cases of the number of digits
+-- the last byte, by cases of the number of digits
 pub last_byte_is : (p : List ℕ) (n first last : ℕ) → n ≡ length p → first ≡ first_byte_of p
     → (n ≡ 0 → last ≡ 255) → (n ≡ 1 → last ≡ first + 15) → (2 ≤ n → last ≡ first) → last ≡ last_byte_of p
 unfolding last_byte_of
@@ -99,7 +99,7 @@ last_byte_of-first [] h = absurd (omega arith)
 last_byte_of-first (d ∷ []) h = absurd (omega arith)
 last_byte_of-first (d ∷ e ∷ ps) h = refl
 
--- zeros behind digits do not change what is read at a place
+-- zeros after digits do not change what is read at an index
 get_or-zeros : (n k : ℕ) → get_or {A = ℕ} (replicate n 0) k 0 ≡ 0
 get_or-zeros zero k = refl
 get_or-zeros (suc n) zero = refl

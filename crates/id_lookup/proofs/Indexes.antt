@@ -1,4 +1,4 @@
--- Indexes are sorted, so that a prefix of their kind can be asked for, and a run is told by its length.
+-- Indexes are sorted, so a prefix of their kind can be looked up in them.
 use Rattle.std.proofs.Common.{◌≡◌, ℕ, zero, suc, not, nat_eq, ◌+◌, ◌-◌, ◌<◌, ◌≤◌, false, List, [], length, get_or, ◌⊎◌, inl, inr, refl, ap, ◌∙◌, subst, arith}
 use Rattle.std.specs.List.{AllPairs}
 use Rattle.std.specs.Ordering.{nat_cmp, is_lt, ordering_reverse}
@@ -36,7 +36,7 @@ index-pairs kind ids index i (suc j) d low high = by (cases_lt i j) (λ less. in
     by (inl less) earlier = nat_list_cmp_total.trans (get_or ids i d) (get_or ids j d) (get_or ids (suc j) d) (earlier less) last
     by (inr more) earlier = let here : i ≡ j = omega arith in rw here last
 
--- one id more, of the kind and above the one before it
+-- one id more, of the kind and above the previous one
 pub index_more : (kind : Kind) (ids : List (List ℕ)) (at : ℕ) → IsIndexUpTo at kind ids → at < length ids → length (get_or ids at []) ≡ hex_len_of kind
     → (0 < at → slice_cmp nat_cmp (get_or ids (at - 1) []) (get_or ids at []) ≡ Less) → IsIndexUpTo (at + 1) kind ids
 index_more kind ids at before inside long above = record {
@@ -51,7 +51,7 @@ index_more kind ids at before inside long above = record {
         let before_last : k ≡ at - 1 = omega arith in
         rw (last, before_last, get_or_default ids at d [] inside, get_or_default ids (at - 1) d [] (omega arith)) (above (omega arith))
 
--- a prefix of the index's kind can be asked for
+-- a prefix of the index's kind can be looked up
 pub index-can_probe : (kind : Kind) (ids : List (List ℕ)) (prefix : KindDigits) → IsIndex kind ids → length prefix.digits ≤ hex_len_of kind → CanProbe prefix ids
 index-can_probe kind ids prefix index fits = record {
   sorted = index-sorted kind ids index;
@@ -65,7 +65,7 @@ same_kind Sha1 Sha256 h = absurd (omega arith)
 same_kind Sha256 Sha1 h = absurd (omega arith)
 same_kind Sha256 Sha256 h = refl
 
--- and the test for others tells them from no other
+-- and the test for different kinds fails for one kind, and for no two
 pub not_other : (a b : Kind) → a ≡ b → not (nat_eq (number_of a) (number_of b)) ≡ false
 not_other a b same = ap (λ (kind : Kind). not (nat_eq (number_of kind) (number_of b))) same ∙ itself b
   where
@@ -76,7 +76,7 @@ not_other a b same = ap (λ (kind : Kind). not (nat_eq (number_of kind) (number_
 pub no_other : (a b : Kind) → not (nat_eq (number_of a) (number_of b)) ≡ false → a ≡ b
 no_other a b same = kind_by_number a b (grind (arith, nat_tests))
 
--- a run by its end
+-- a run with its end replaced by an equal one
 pub run_ending : (prefix : KindDigits) (ids : List (List ℕ)) (run : Run) (end : ℕ) → IsRun prefix ids run → run.end ≡ end
     → IsRun prefix ids (record { start = run.start; end = end })
 run_ending prefix ids run end is ends = subst (λ (n : ℕ). IsRun prefix ids (record { start = run.start; end = n })) ends is

@@ -1,8 +1,8 @@
--- Asking keeps the list and the prefix.
+-- Comparisons change only the count of probes.
 use Rattle.std.proofs.Common.{◌≡◌, ℕ, sym, ap, ◌∙◌}
 use Rattle.id_lookup.specs.Probing.{Probing}
 
--- what differs from q in its count alone differs so from all that q does
+-- if q differs from p, and r from q, only in the count, then r differs from p only in the count
 pub kept : (p q r : Probing) (n : ℕ) → q ≡ record p { asked = q.asked } → r ≡ record q { asked = n } → r ≡ record p { asked = r.asked }
 kept p q r n first second =
     let count : r.asked ≡ n = ap (λ (x : Probing). x.asked) second in

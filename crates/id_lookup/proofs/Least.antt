@@ -1,4 +1,4 @@
--- The least number of digits in a list of ids.
+-- The smallest number of digits of an id of a list.
 use Rattle.std.proofs.Common.{◌≡◌, ℕ, zero, suc, ◌≤◌, ◌<◌, min, List, [], ◌∷◌, length, get_or, take, refl, arith}
 use Rattle.std.specs.List.{All}
 use Rattle.id_lookup.specs.Sorted.{least_hex_len}
@@ -9,7 +9,7 @@ least_hex_len-le [] k d h = absurd (omega arith)
 least_hex_len-le (id ∷ ids) zero d h = omega arith
 least_hex_len-le (id ∷ ids) (suc k) d h = let more = least_hex_len-le ids k d (omega arith) in omega arith
 
--- with one more member, that one counts as well
+-- with one more member, it is the smaller of that member's and the previous one
 pub least_hex_len-take : (ids : List (List ℕ)) (k : ℕ) (d : List ℕ) → k < length ids
     → least_hex_len (take (suc k) ids) ≡ min (length (get_or ids k d)) (least_hex_len (take k ids))
 least_hex_len-take [] k d h = absurd (omega arith)

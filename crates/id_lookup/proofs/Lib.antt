@@ -1,18 +1,25 @@
+pub mod Beginnings
 mod Binary
 mod CommonDigits
-mod Counting
-mod Filtering
-mod FirstByteCounts
-mod FirstByteOrder
-mod Indexes
+pub mod Counting
+pub mod FilterCounted
+pub mod Filtering
+pub mod Filters
+pub mod FirstByteCounts
+pub mod FirstByteOrder
+pub mod Indexes
 mod Kept
 mod Least
 mod Matched
+pub mod NamesInPart
 mod Neighbours
 mod OneKind
 mod Ordered
 mod Parts
+pub mod PartsInOrder
 mod Placed
 mod Rising
-mod Spelled
+pub mod SameMembers
+mod SortedOnce
+pub mod Spelled
 mod UniqueRun

@@ -7,7 +7,7 @@ use Rattle.id_lookup.specs.FoundRun.{IsRun}
 use Rattle.id_lookup.specs.Runs.{matches}
 use Rattle.id_lookup.specs.declared.search.Run.{Run}
 
--- the ids of the run, told by their digits
+-- the ids of the run, by their digits
 pub run_matches : {I : Type 0} (digits : I → List ℕ) (prefix : KindDigits) (ids : List I) (run : Run) → IsRun prefix (map digits ids) run
     → map digits (slice_range ids run.start run.end) ≡ matches prefix.digits (map digits ids)
 run_matches digits prefix ids run found =

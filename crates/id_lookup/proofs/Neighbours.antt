@@ -1,4 +1,4 @@
--- The two neighbours of an id in a sorted list decide how many digits tell it from all others.
+-- The two neighbours of an id in a sorted list decide how many first digits distinguish it from all others.
 use Rattle.std.proofs.Common.{◌≡◌, ◌≢◌, ℕ, zero, suc, ◌+◌, ◌-◌, ◌<◌, ◌≤◌, true, false, max, List, [], length, get_or, take, nat_eq, inl, inr, sym, ap, ◌∙◌, arith}
 use Rattle.std.specs.List.{starts_with}
 use Rattle.std.specs.Ordering.{nat_cmp, is_lt}
@@ -11,12 +11,12 @@ use Rattle.gix_hash.specs.Kind.{hex_len_of}
 use Rattle.gix_hash.specs.declared.Kind.{Kind}
 use Rattle.gix_hash.specs.declared.Kind.TheVariants.{Sha1, Sha256}
 use Rattle.id_lookup.specs.Index.{IsIndex}
-use Rattle.id_lookup.specs.ShortNames.{IsShortestNameFrom, Parts, common_at}
-use Rattle.id_lookup.proofs.CommonDigits.{common-below, common-above, common-differ, common-symm, begins-common, begins-apart}
+use Rattle.id_lookup.specs.ShortNames.{IsShortestNameFrom, IsUniqueLen, common_at}
+use Rattle.id_lookup.proofs.CommonDigits.{common-between, common-differ, common-symm, begins-common, begins-apart}
 use Rattle.id_lookup.specs.Sorted.{IsSortedIds}
 use Rattle.id_lookup.proofs.Indexes.{index-pairs}
 
--- a kind has the digits of a least name
+-- each kind has at least four digits
 pub four_fits : (kind : Kind) → 4 ≤ hex_len_of kind
 four_fits Sha1 = omega arith
 four_fits Sha256 = omega arith
@@ -27,57 +27,50 @@ module _ (ids : List (List ℕ)) (sorted : IsSortedIds ids) where
   in_order i j =
       sorted_far (λ a b. is_lt (slice_cmp nat_cmp a b)) (ranks_by nat_list_cmp_total (λ (id : List ℕ). id)) ids sorted i j []
 
-  -- the one before tells how many digits part an id from all before it
-  pub parts_before : (at n : ℕ) → 0 < at → at < length ids → n ≡ common_at ids at (at - 1) + 1 → Parts ids at 0 at n
-  parts_before at n some inside is = record {
-    apart = λ k low high.
-        let less = common-below (get_or ids k []) (get_or ids (at - 1) []) (get_or ids at [])
-        (in_order k (at - 1) (omega arith) (omega arith)) (in_order (at - 1) at (omega arith) inside) in
-        omega (arith, less, is);
-    reached = λ _. (at - 1, omega arith, omega arith, sym is);
+  -- as many digits as distinguish an id from both neighbours distinguish it from all others
+  pub unique_by : (at before after : ℕ) → at < length ids → (at ≡ 0 → before ≡ 0) → (0 < at → before ≡ common_at ids at (at - 1) + 1)
+      → (at + 1 ≡ length ids → after ≡ 0) → (at + 1 < length ids → after ≡ common_at ids at (at + 1) + 1) → IsUniqueLen ids at (max before after)
+  unique_by at before after inside first previous last next = record {
+    apart = λ k within other. elim (cases_lt k at) [
+      | inl low ↦
+          let less = common-between (get_or ids k []) (get_or ids (at - 1) []) (get_or ids at [])
+          (in_order k (at - 1) (omega arith) (omega arith)) (in_order (at - 1) at (omega arith) inside) in
+          omega (arith, less.1, previous (omega arith), common-symm (get_or ids k []) (get_or ids at []), common-symm (get_or ids (at - 1) []) (get_or ids at []))
+      | inr high ↦
+          let less = common-between (get_or ids at []) (get_or ids (at + 1) []) (get_or ids k [])
+          (in_order at (at + 1) (omega arith) (omega (arith, other))) (in_order (at + 1) k (omega (arith, other)) within) in
+          omega (arith, less.0, next (omega (arith, other)))
+    ];
+    reached = λ some. elim (cases_lt before after) [
+      | inl lower ↦ elim (cases_lt (at + 1) (length ids)) [
+        | inl more ↦ (at + 1, more, omega arith, omega (arith, next more))
+        | inr none ↦ absurd (omega (arith, last (omega arith)))
+      ]
+      | inr higher ↦ elim (cases_lt 0 at) [
+        | inl more ↦ (at - 1, omega arith, omega arith, omega (arith, previous more))
+        | inr none ↦ absurd (omega (arith, first (omega arith)))
+      ]
+    ];
   }
 
-  -- and the one behind, from all behind it
-  pub parts_behind : (at n : ℕ) → at + 1 < length ids → n ≡ common_at ids at (at + 1) + 1 → Parts ids at (at + 1) (length ids) n
-  parts_behind at n inside is = record {
-    apart = λ k low high.
-        let less = common-above (get_or ids at []) (get_or ids (at + 1) []) (get_or ids k [])
-        (in_order at (at + 1) (omega arith) inside) (in_order (at + 1) k low high) in
-        omega (arith, less, is);
-    reached = λ _. (at + 1, omega arith, inside, sym is);
-  }
-
--- so the more of both, and the fewest that are asked for, make the shortest name
-pub shortest : (ids : List (List ℕ)) (fewest at before behind len : ℕ) (name : List ℕ) → at < length ids → Parts ids at 0 at before → Parts ids at (at + 1) (length ids) behind
-    → len ≡ max (max before behind) fewest → len ≤ length (get_or ids at []) → name ≡ take len (get_or ids at []) → IsShortestNameFrom fewest ids at name
-shortest ids fewest at before behind len name inside front back is enough name_is =
+-- so the larger of them and `fewest` is the length of the shortest name
+pub shortest : (ids : List (List ℕ)) (fewest at unique len : ℕ) (name : List ℕ) → IsUniqueLen ids at unique → len ≡ max unique fewest
+    → len ≤ length (get_or ids at []) → name ≡ take len (get_or ids at []) → IsShortestNameFrom fewest ids at name
+shortest ids fewest at unique len name is_unique is enough name_is =
     let id = get_or ids at [] in
     let len_of : length name ≡ len = ap length name_is ∙ length-take-le len id enough in
-    let shared : (n : ℕ) → n < len → (k : ℕ) → common_at ids at k + 1 ≡ len → starts_with nat_eq (get_or ids k []) (take n name) ≡ true =
-    λ n low k one.
-    let few : n ≤ common_at ids at k = omega arith in
-    let below : n ≤ len = omega arith in
-    rw (name_is, take-take) (begins-common n id (get_or ids k []) (omega arith) few) in
+    let shared : (n k : ℕ) → n ≤ len → n ≤ common_at ids at k → starts_with nat_eq (get_or ids k []) (take n name) ≡ true =
+    λ n k below few. rw (name_is, take-take) (begins-common n id (get_or ids k []) (omega arith) few) in
     record {
       first = name_is ∙ ap (λ n. take n id) (sym len_of);
       long = omega (arith, len_of);
-      alone = λ k within other.
-          let apart : common_at ids at k < len = elim (cases_lt k at) [
-            | inl low ↦ omega (arith, front.apart k (omega arith) low)
-            | inr high ↦ omega (arith, back.apart k (omega (arith, other)) within)
-          ] in
-          rw name_is (begins-apart len id (get_or ids k []) enough apart);
-      least = λ n enough_of low. elim (cases_lt before behind) [
-        | inl lower ↦
-            let r = back.reached (omega arith) in
-            (r.0, r.2, omega (arith, r.1), shared n (omega (arith, len_of)) r.0 (omega (arith, r.3, len_of)))
-        | inr higher ↦
-            let r = front.reached (omega (arith, len_of)) in
-            (r.0, omega (arith, r.2), omega (arith, r.2), shared n (omega (arith, len_of)) r.0 (omega (arith, r.3, len_of)))
-      ];
+      alone = λ k within other. rw name_is (begins-apart len id (get_or ids k []) enough (omega (arith, is_unique.apart k within other)));
+      least = λ n enough_of low.
+          let r = is_unique.reached (omega (arith, len_of)) in
+          (r.0, r.1, r.2, shared n r.0 (omega (arith, len_of)) (omega (arith, r.3, len_of)));
     }
 
--- and where the id has fewer digits, there is none
+-- and if the id has fewer digits, it has none
 module _ (ids : List (List ℕ)) (fewest at : ℕ) (name : List ℕ) (short : IsShortestNameFrom fewest ids at name) where
   within : length name ≤ length (get_or ids at [])
   within = omega (arith, ap length short.first, length-take (length name) (get_or ids at []))
@@ -89,26 +82,14 @@ module _ (ids : List (List ℕ)) (fewest at : ℕ) (name : List ℕ) (short : Is
         ∙ begins-common (length name) (get_or ids at []) (get_or ids k []) within (omega (arith, more, within))))
   ]
 
-  reaches : (low high n : ℕ) → high ≤ length ids → ((k : ℕ) → low ≤ k → k < high → k ≢ at) → Parts ids at low high n → n ≤ length (get_or ids at [])
-  reaches low high zero below others parts = omega arith
-  reaches low high (suc n) below others parts =
-      let r = parts.reached (omega arith) in
-      omega (arith, r.3, shared_by r.0 (omega (arith, r.2)) (others r.0 r.1 r.2))
-
-  pub has_room : (before behind len : ℕ) → at < length ids → Parts ids at 0 at before → Parts ids at (at + 1) (length ids) behind
-      → len ≡ max (max before behind) fewest → len ≤ length (get_or ids at [])
-  has_room before behind len inside front back is =
-      omega (
-        arith,
-        is,
-        within,
-        short.long,
-        reaches 0 at before (omega arith) (λ k low high same. omega arith) front,
-        reaches (at + 1) (length ids) behind (omega arith) (λ k low high same. omega arith) back,
-      )
+  pub has_room : (unique len : ℕ) → IsUniqueLen ids at unique → len ≡ max unique fewest → len ≤ length (get_or ids at [])
+  has_room zero len is_unique is = omega (arith, within, short.long)
+  has_room (suc n) len is_unique is =
+      let r = is_unique.reached (omega arith) in
+      omega (arith, within, short.long, r.3, shared_by r.0 r.1 r.2)
 
 module _ (kind : Kind) (ids : List (List ℕ)) (index : IsIndex kind ids) where
-  -- two ids differ within the digits of their kind
+  -- two ids of an index do not have all digits in common
   differ : (i j : ℕ) → i < j → j < length ids → common_at ids i j < hex_len_of kind
   differ i j low high =
       let here = index.kinds i [] (omega arith) (omega arith) in
@@ -121,21 +102,9 @@ module _ (kind : Kind) (ids : List (List ℕ)) (index : IsIndex kind ids) where
     | inr high ↦ differ at k (omega (arith, other)) other_inside
   ]
 
-  -- so that as many tell an id from others
-  parts_fit : (at low high n : ℕ) → at < length ids → high ≤ length ids → ((k : ℕ) → low ≤ k → k < high → k ≢ at) → Parts ids at low high n → n ≤ hex_len_of kind
-  parts_fit at low high zero inside below others parts = omega arith
-  parts_fit at low high (suc n) inside below others parts =
-      let r = parts.reached (omega arith) in
-      omega (arith, r.3, apart at r.0 inside (omega (arith, r.2)) (others r.0 r.1 r.2))
-
-  -- and the shortest name fits
-  pub name_fits : (fewest at before behind len : ℕ) → at < length ids → fewest ≤ hex_len_of kind → Parts ids at 0 at before → Parts ids at (at + 1) (length ids) behind
-      → len ≡ max (max before behind) fewest → len ≤ hex_len_of kind
-  name_fits fewest at before behind len inside few front back is =
-      omega (
-        arith,
-        is,
-        few,
-        parts_fit at 0 at before inside (omega arith) (λ k low high same. omega arith) front,
-        parts_fit at (at + 1) (length ids) behind inside (omega arith) (λ k low high same. omega arith) back,
-      )
+  -- so the digits of the kind are enough for a name
+  pub name_fits : (fewest at unique len : ℕ) → at < length ids → fewest ≤ hex_len_of kind → IsUniqueLen ids at unique → len ≡ max unique fewest → len ≤ hex_len_of kind
+  name_fits fewest at zero len inside few is_unique is = omega (arith, few)
+  name_fits fewest at (suc n) len inside few is_unique is =
+      let r = is_unique.reached (omega arith) in
+      omega (arith, few, r.3, apart at r.0 inside r.1 r.2)

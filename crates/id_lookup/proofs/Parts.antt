@@ -1,4 +1,4 @@
--- What begins with a prefix in a list of parts is what does in each of them.
+-- The members of a list of parts that begin with a prefix are those of its parts.
 use Rattle.std.proofs.Common.{◌≡◌, ℕ, ◌+◌, Bool, cond, List, [], ◌∷◌, ◌++◌, nat_eq, refl, ap, ◌∙◌, arith}
 use Rattle.std.specs.List.{count_by, flat_map, starts_with}
 use Rattle.std.specs.Ordering.{is_gt}
@@ -19,7 +19,7 @@ matches_parts digits [] = refl
 matches_parts digits (part ∷ parts) =
     matches_two digits part (flat_map (λ part. part) parts) ∙ ap (λ (rest : List (List ℕ)). matches digits part ++ rest) (matches_parts digits parts)
 
--- in two parts as many pass as in both together
+-- a count over two parts is the sum of their counts
 count_by-append : (p : List ℕ → Bool) (first second : List (List ℕ)) → count_by p (first ++ second) ≡ count_by p first + count_by p second
 count_by-append p first second = sum_by-append (λ id. cond (p id) 1 0) first second
 

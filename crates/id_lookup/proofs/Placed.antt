@@ -1,4 +1,4 @@
--- The places of a prefix in a sorted list, told by the two counts of its run.
+-- The place of a prefix against each member of a sorted list, by the two bounds of its run.
 use Rattle.std.proofs.Common.{◌≡◌, ℕ, ◌+◌, ◌-◌, ◌≤◌, ◌<◌, ◌↔◌, Bool, true, cond, nat_eq, nat_lt, IsTrue, List, [], ◌∷◌, length, take, drop, get_or, refl, ap, ◌∙◌, arith}
 use Rattle.std.specs.Prelude.{slice_range}
 use Rattle.std.specs.declared.cmp.Ordering.{Ordering}
@@ -14,15 +14,15 @@ use Rattle.id_lookup.specs.declared.search.Bound.{Bound}
 use Rattle.id_lookup.specs.declared.search.Bound.TheVariants.{Start, End}
 use Rattle.id_lookup.specs.Runs.{begins_with, matches}
 use Rattle.id_lookup.specs.Sorted.{IsSortedIds}
-use Rattle.id_lookup.specs.Bounds.{stands_before, bound_of}
+use Rattle.id_lookup.specs.Bounds.{is_before_bound, bound_of}
 use Rattle.id_lookup.specs.FoundRun.{IsRun}
 use Rattle.id_lookup.specs.declared.search.Run.{Run}
 use Rattle.id_lookup.proofs.Filtering.{filter_run}
 use Rattle.id_lookup.proofs.Counting.{count_by-split, passes_below}
-use Rattle.id_lookup.proofs.Rising.{before_bound}
+use Rattle.id_lookup.proofs.Rising.{bound_partitions}
 use Rattle.id_lookup.proofs.Spelled.{begins_with-place}
 
--- a place that is not Less is Greater, or Equal where the id begins with the prefix
+-- a place that is not Less is Greater, or Equal if the id begins with the prefix
 not_less : (o : Ordering) (member : Bool) → member ≡ is_eq o → cond (is_ge o) 1 0 ≡ cond (is_gt o) 1 0 + cond member 1 0
 not_less Less member e = rw e refl
 not_less Equal member e = rw e refl
@@ -34,26 +34,26 @@ bound_of-end prefix ids =
     count_by-split (λ id. is_ge (place prefix.digits id)) (λ id. is_gt (place prefix.digits id)) (λ id. begins_with id prefix)
     (λ id. not_less (place prefix.digits id) (begins_with id prefix) (begins_with-place prefix id)) ids
 
--- what an answer of the member at a place tells of a bound
-pub told : (bound : Bound) (prefix : KindDigits) (ids : List (List ℕ)) → IsSortedIds ids → (k : ℕ) → k < length ids
-    → (o : Ordering) → HoldsAt (λ id. o ≡ place prefix.digits id) ids k → stands_before bound o ≡ nat_lt k (bound_of bound prefix ids)
-told bound prefix [] sorted k h o answer = absurd (omega arith)
-told bound prefix (id ∷ ids) sorted k h o answer =
-    ap (stands_before bound) (answer id)
-    ∙ passes_below (λ x. stands_before bound (place prefix.digits x)) (id ∷ ids) (before_bound bound prefix (id ∷ ids) sorted) k id h
+-- the member at an index is before a bound if and only if its index is below it
+pub before_bound_at : (bound : Bound) (prefix : KindDigits) (ids : List (List ℕ)) → IsSortedIds ids → (k : ℕ) → k < length ids
+    → (o : Ordering) → HoldsAt (λ id. o ≡ place prefix.digits id) ids k → is_before_bound bound o ≡ nat_lt k (bound_of bound prefix ids)
+before_bound_at bound prefix [] sorted k h o answer = absurd (omega arith)
+before_bound_at bound prefix (id ∷ ids) sorted k h o answer =
+    ap (is_before_bound bound) (answer id)
+    ∙ passes_below (λ x. is_before_bound bound (place prefix.digits x)) (id ∷ ids) (bound_partitions bound prefix (id ∷ ids) sorted) k id h
 
--- Greater exactly below the start of the run, and Less exactly from its end on
+-- Greater if and only if the index is below the start of the run, and Less if and only if it is not below its end
 record IsPlaced (start end k : ℕ) (o : Ordering) : Type 0 where
   pub above : is_gt o ≡ nat_lt k start
   pub not_below : is_ge o ≡ nat_lt k end
 
--- the place of a prefix against each member of a sorted list
+-- the place against each member
 placed : (prefix : KindDigits) (ids : List (List ℕ)) → IsSortedIds ids → (k : ℕ) (d : List ℕ) → k < length ids
     → IsPlaced (bound_of Start prefix ids) (bound_of Start prefix ids + count_by (λ id. begins_with id prefix) ids) k (place prefix.digits (get_or ids k d))
 placed prefix ids sorted k d h = record {
-  above = passes_below (λ id. is_gt (place prefix.digits id)) ids (before_bound Start prefix ids sorted) k d h;
+  above = passes_below (λ id. is_gt (place prefix.digits id)) ids (bound_partitions Start prefix ids sorted) k d h;
   not_below =
-      passes_below (λ id. is_ge (place prefix.digits id)) ids (before_bound End prefix ids sorted) k d h
+      passes_below (λ id. is_ge (place prefix.digits id)) ids (bound_partitions End prefix ids sorted) k d h
       ∙ ap (nat_lt k) (bound_of-end prefix ids);
 }
 
@@ -68,10 +68,10 @@ equal_within start end k Less p h g = absurd (let a = p.not_below in grind (arit
 equal_within start end k Equal p h g = refl
 equal_within start end k Greater p h g = absurd (let a = p.above in grind (arith, nat_tests))
 
-less_behind : (start end k : ℕ) (o : Ordering) → IsPlaced start end k o → start ≤ end → end ≤ k → o ≡ Less
-less_behind start end k Less p h g = refl
-less_behind start end k Equal p h g = absurd (let a = p.not_below in grind (arith, nat_tests))
-less_behind start end k Greater p h g = absurd (let a = p.above in grind (arith, nat_tests))
+less_after : (start end k : ℕ) (o : Ordering) → IsPlaced start end k o → start ≤ end → end ≤ k → o ≡ Less
+less_after start end k Less p h g = refl
+less_after start end k Equal p h g = absurd (let a = p.not_below in grind (arith, nat_tests))
+less_after start end k Greater p h g = absurd (let a = p.above in grind (arith, nat_tests))
 
 is_equal : (start end k : ℕ) (o : Ordering) → start ≤ end → IsPlaced start end k o → (is_eq o ≡ true) ↔ ((start ≤ k) × (k < end))
 is_equal start end k Less h p = (λ e. absurd (let a = p.not_below in cc), λ e. absurd (let a = p.not_below in let b = e.1 in grind (arith, nat_tests)))
@@ -105,17 +105,17 @@ module _ (prefix : KindDigits) (ids : List (List ℕ)) (sorted : IsSortedIds ids
       rw (get_or-take (run.end - run.start) (drop run.start ids) k d (omega arith), get_or-drop run.start ids k d)
       (equal_within run.start run.end (run.start + k) _ (at_place (run.start + k) d (omega arith)) (omega arith) (omega arith))
 
-  run_behind : All (λ id. place prefix.digits id ≡ Less) (drop run.end ids)
-  run_behind k d h =
+  run_after : All (λ id. place prefix.digits id ≡ Less) (drop run.end ids)
+  run_after k d h =
       let left = length-drop run.end ids in
       rw (get_or-drop run.end ids k d)
-      (less_behind run.start run.end (run.end + k) _ (at_place (run.end + k) d (omega arith)) (omega arith) (omega arith))
+      (less_after run.start run.end (run.end + k) _ (at_place (run.end + k) d (omega arith)) (omega arith) (omega arith))
 
   run_found : slice_range ids run.start run.end ≡ matches prefix.digits ids
   run_found = filter_run (λ id. starts_with nat_eq id prefix.digits) ids run.start run.end (omega arith)
       (λ k d h. matches-place prefix _ Greater (run_before k d h))
       (λ k d h. matches-place prefix _ Equal (run_within k d h))
-      (λ k d h. matches-place prefix _ Less (run_behind k d h))
+      (λ k d h. matches-place prefix _ Less (run_after k d h))
 
 -- two bounds are a run
 pub run_is : (prefix : KindDigits) (ids : List (List ℕ)) → IsSortedIds ids → (run : Run)
@@ -130,5 +130,5 @@ run_is prefix ids sorted run starts bound =
       found = run_found prefix ids sorted run starts ends;
       before = run_before prefix ids sorted run starts ends;
       within = run_within prefix ids sorted run starts ends;
-      behind = run_behind prefix ids sorted run starts ends;
+      behind = run_after prefix ids sorted run starts ends;
     }

@@ -1,4 +1,4 @@
--- What is said of lowercase hex spellings is said of digits, since distinct digits have distinct letters.
+-- Lowercase hex spellings are equal if and only if the digits are, since distinct digits have distinct letters.
 use Rattle.std.proofs.Common.{◌≡◌, ℕ, ◌↔◌, true, ◌&&◌, List, [], ◌∷◌, ◌++◌, length, take, drop, nat_eq, refl, sym, ap, ◌∙◌, arith}
 use Rattle.std.specs.Ordering.{is_eq}
 use Rattle.std.specs.declared.cmp.Ordering.{Ordering}
@@ -17,14 +17,14 @@ use Rattle.id_lookup.specs.Runs.{begins_with}
 same_letter : (x y : ℕ) → nat_eq (hex_letter x) (hex_letter y) ≡ nat_eq x y
 same_letter x y = grind (arith, nat_tests)
 
--- spellings are equal where the digits are
+-- spellings are equal if and only if the digits are
 pointwise-spelling : (xs ys : List ℕ) → pointwise nat_eq (spelling hex_letter xs) (spelling hex_letter ys) ≡ pointwise nat_eq xs ys
 pointwise-spelling [] [] = refl
 pointwise-spelling [] (y ∷ ys) = refl
 pointwise-spelling (x ∷ xs) [] = refl
 pointwise-spelling (x ∷ xs) (y ∷ ys) = λ i. same_letter x y i && pointwise-spelling xs ys i
 
--- a spelling begins with another where its digits begin with the other's
+-- a spelling begins with another if and only if its digits begin with the other's
 pub starts_with-spelling : (ds ps : List ℕ)
     → starts_with nat_eq (spelling hex_letter ds) (spelling hex_letter ps) ≡ starts_with nat_eq ds ps
 starts_with-spelling ds ps =
@@ -32,13 +32,13 @@ starts_with-spelling ds ps =
     ∙ ap (pointwise nat_eq (spelling hex_letter ps)) (take-map hex_letter (length ps) ds)
     ∙ pointwise-spelling ps (take (length ps) ds)
 
--- an id begins with a prefix exactly where the place is Equal
+-- an id begins with a prefix if and only if the place is Equal
 pub begins_with-place : (prefix : KindDigits) (id : List ℕ) → begins_with id prefix ≡ is_eq (place prefix.digits id)
 begins_with-place prefix id =
     starts_with-spelling id prefix.digits
     ∙ texts_ties prefix.digits (take (length prefix.digits) id)
 
--- and the test of Equal tells Equal
+-- the test of Equal is true for Equal only
 pub is_eq-Equal : (o : Ordering) → (is_eq o ≡ true) ↔ (o ≡ Equal)
 is_eq-Equal Less = (λ h. cc, λ h. cc)
 is_eq-Equal Equal = (λ h. refl, λ h. refl)
@@ -48,7 +48,7 @@ is_eq-Equal Greater = (λ h. cc, λ h. cc)
 same_list : (xs ys : List ℕ) → Decides (pointwise nat_eq xs ys) (xs ≡ ys)
 same_list = pointwise_decides Decides-eqb
 
--- the test of a beginning finds what follows it, and only there
+-- the test of a beginning is true if and only if something follows the beginning
 pub starts_with-BeginsWith : (whole front : List ℕ) → (starts_with nat_eq whole front ≡ true) ↔ BeginsWith whole front
 starts_with-BeginsWith whole front =
     let first = take (length front) whole in

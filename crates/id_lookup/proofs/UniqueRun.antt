@@ -1,4 +1,4 @@
--- The run of a shortest name is its id alone, and so is the answer on it.
+-- The run of a shortest name contains only its id, and a look-up finds only that id.
 use Rattle.std.proofs.Common.{◌≡◌, ◌≢◌, ℕ, ◌+◌, ◌<◌, ◌≤◌, true, false, List, [], ◌++◌, length, take, drop, get_or, nat_eq, ◌⊎◌, inl, inr, refl, sym, ap, ◌∙◌, arith, take-append-drop}
 use Rattle.std.specs.List.{starts_with}
 use Rattle.std.proofs.lemmas.Bool.{cases_lt, false≢true}
@@ -15,7 +15,7 @@ use Rattle.id_lookup.specs.declared.search.Bound.TheVariants.{Start, End}
 use Rattle.id_lookup.proofs.Placed.{run_is}
 use Rattle.id_lookup.proofs.Spelled.{starts_with-BeginsWith, starts_with-spelling}
 
--- where one id alone begins with the prefix, the run is that id
+-- if only one id begins with the prefix, the run is that id
 unique_run : (prefix : KindDigits) (ids : List (List ℕ)) (at : ℕ) → IsSortedIds ids → at < length ids → begins_with (get_or ids at []) prefix ≡ true
     → ((k : ℕ) → k < length ids → k ≢ at → begins_with (get_or ids k []) prefix ≡ false) → IsRun prefix ids (record { start = at; end = at + 1 })
 unique_run prefix ids at sorted inside begins alone = run_is prefix ids sorted (record { start = at; end = at + 1 }) (starts (cases_lt start at)) (ends (cases_lt (at + 1) end))
@@ -56,7 +56,7 @@ name_run fewest ids at prefix sorted inside name =
     (starts_with-spelling (get_or ids at []) prefix.digits ∙ begins_first (get_or ids at []) prefix.digits name.first)
     (λ k within other. starts_with-spelling (get_or ids k []) prefix.digits ∙ name.alone k within other)
 
--- a run of one id is answered as that id
+-- if the run is one id, that id is found
 pub one_answer : (prefix : KindDigits) (ids : List (List ℕ)) (at : ℕ) (answer : Answer) → IsRun prefix ids (record { start = at; end = at + 1 })
     → IsAnswer prefix ids answer → answer ≡ One at
 one_answer prefix ids at None run is =

@@ -1,4 +1,4 @@
--- The two bounds of a run, as a search sees them: the number of members that stand before each.
+-- The two bounds of a run, each as the number of members before it.
 use Rattle.std.specs.Prelude.{ℕ, Bool, List}
 use Rattle.std.specs.declared.cmp.Ordering.{Ordering}
 use Rattle.std.specs.Ordering.{is_gt, is_ge}
@@ -7,11 +7,11 @@ use Rattle.gix_hash.specs.Prefix.{KindDigits, place}
 use Rattle.id_lookup.specs.declared.search.Bound.{Bound}
 use Rattle.id_lookup.specs.declared.search.Bound.TheVariants.{Start, End}
 
--- whether a member stands before the bound, by the place of the prefix against it
-abbrev pub stands_before : Bound → Ordering → Bool
-stands_before Start place = is_gt place
-stands_before End place = is_ge place
+-- whether a member is before the bound, by the place of the prefix against that member
+abbrev pub is_before_bound : Bound → Ordering → Bool
+is_before_bound Start place = is_gt place
+is_before_bound End place = is_ge place
 
--- the bound: how many members stand before it
+-- the bound: the number of members before it
 abbrev pub bound_of : Bound → KindDigits → List (List ℕ) → ℕ
-bound_of bound prefix ids = count_by (λ id. stands_before bound (place prefix.digits id)) ids
+bound_of bound prefix ids = count_by (λ id. is_before_bound bound (place prefix.digits id)) ids

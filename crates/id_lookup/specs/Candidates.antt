@@ -7,7 +7,7 @@ use Rattle.id_lookup.specs.FirstBytes.{shares_first_byte}
 use Rattle.id_lookup.specs.declared.search.Bound.TheVariants.{Start, End}
 use Rattle.id_lookup.specs.declared.search.Run.{Run}
 
--- both bounds of the prefix's run are there. Below two digits it is the run, and else the members with the prefix's first byte
+-- the part contains both bounds of the prefix's run. It is the run if the prefix has fewer than two digits, and else the members with its first byte
 pub record AreCandidates (prefix : KindDigits) (ids : List (List ℕ)) (part : Run) : Type 0 where
   pub above : part.start ≤ bound_of Start prefix ids
   pub below : bound_of End prefix ids ≤ part.end

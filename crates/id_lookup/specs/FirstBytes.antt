@@ -1,4 +1,4 @@
--- How the ids of a list are parted by their first byte, which is their first two digits.
+-- Counts of the ids of a list by their first byte, which is their first two digits.
 use Rattle.std.specs.Prelude.{◌≡◌, ℕ, ◌<◌, Bool, List, nat_eq, nat_le, nat_lt, slice_index}
 use Rattle.std.specs.List.{All, count_by}
 use Rattle.gix_hash.specs.Digits.{first_byte_of}

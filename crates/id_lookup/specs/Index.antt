@@ -1,4 +1,4 @@
--- Lists of ids of one kind, each above the one before it. An id is told by its digits, whose number tells its kind.
+-- Strictly increasing lists of ids of one kind. An id is given by its digits, whose number determines its kind.
 use Rattle.std.specs.Prelude.{◌≡◌, ◌≢◌, ℕ, ◌+◌, ◌-◌, ◌<◌, List, [], length, slice_index_or}
 use Rattle.std.specs.List.{AllAdjacentBelow, AllWithin}
 use Rattle.std.specs.Ordering.{nat_cmp}
@@ -18,7 +18,7 @@ pub record Index : Type 0 where
   pub kind : Kind
   pub ids : List (List ℕ)
 
--- each of the first n ids has as many digits as the kind, and is above the one before it
+-- each of the first n ids has as many digits as the kind, and is above the previous one
 pub record IsIndexUpTo (n : ℕ) (kind : Kind) (ids : List (List ℕ)) : Type 0 where
   pub kinds : AllWithin (λ id. length id ≡ hex_len_of kind) ids 0 n
   pub rises : AllAdjacentBelow (λ a b. slice_cmp nat_cmp a b ≡ Less) ids n
@@ -27,13 +27,13 @@ pub record IsIndexUpTo (n : ℕ) (kind : Kind) (ids : List (List ℕ)) : Type 0 
 abbrev pub IsIndex : Kind → List (List ℕ) → Type 0
 IsIndex kind ids = IsIndexUpTo (length ids) kind ids
 
--- the ids before the place are an index, and the one there is of another kind
+-- the ids before `at` are an index, and the one there is of another kind
 pub record IsWrongKind (kind : Kind) (ids : List (List ℕ)) (at : ℕ) : Type 0 where
   pub in_range : at < length ids
   pub before : IsIndexUpTo at kind ids
   pub wrong : length (slice_index_or ids at []) ≢ hex_len_of kind
 
--- the ids before the place are an index, and the one there is of the kind and not above the one before it
+-- the ids before `at` are an index, and the one there is of the kind and not above the previous one
 pub record IsNotRising (kind : Kind) (ids : List (List ℕ)) (at : ℕ) : Type 0 where
   pub has_predecessor : 0 < at
   pub in_range : at < length ids
@@ -41,12 +41,12 @@ pub record IsNotRising (kind : Kind) (ids : List (List ℕ)) (at : ℕ) : Type 0
   pub right : length (slice_index_or ids at []) ≡ hex_len_of kind
   pub not_above : slice_cmp nat_cmp (slice_index_or ids (at - 1) []) (slice_index_or ids at []) ≢ Less
 
--- the first place at which the list is no index of the kind, and why
-abbrev pub IsBadPlace : Kind → List (List ℕ) → IndexError → Type 0
-IsBadPlace kind ids (WrongKind at) = IsWrongKind kind ids at
-IsBadPlace kind ids (NotRising at) = IsNotRising kind ids at
+-- the first id at which the list is not an index of the kind, and why
+abbrev pub IsFirstIndexError : Kind → List (List ℕ) → IndexError → Type 0
+IsFirstIndexError kind ids (WrongKind at) = IsWrongKind kind ids at
+IsFirstIndexError kind ids (NotRising at) = IsNotRising kind ids at
 
--- the answer on a prefix, by how many ids begin with it. Where none does, an empty run stands where the prefix would
+-- which ids begin with a prefix: none, one or many. If none does, the run is empty, and `at` is where the prefix would be inserted
 abbrev pub IsAnswer : KindDigits → List (List ℕ) → Answer → Type 0
 IsAnswer prefix ids answers.None = (at : ℕ) × IsRun prefix ids (record { start = at; end = at })
 IsAnswer prefix ids (answers.One at) = IsRun prefix ids (record { start = at; end = at + 1 })

@@ -7,5 +7,6 @@ pub mod Probing
 pub mod FirstBytes
 pub mod Candidates
 pub mod Index
+pub mod IndexOf
 pub mod ShortNames
 pub mod Bits

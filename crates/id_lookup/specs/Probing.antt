@@ -4,7 +4,7 @@ use Rattle.std.specs.List.{All}
 use Rattle.gix_hash.specs.Prefix.{KindDigits}
 use Rattle.id_lookup.specs.Sorted.{IsSortedIds}
 
--- a list of ids by their digits, a prefix, and how many answers were given
+-- a list of ids by their digits, a prefix, and the number of comparisons so far
 pub record Probing : Type 0 where
   pub ids : List (List ℕ)
   pub prefix : KindDigits

@@ -1,4 +1,4 @@
--- Which ids of a list begin with a prefix. An id is told by its digits.
+-- Which ids of a list begin with a prefix. An id is given by its digits.
 use Rattle.std.specs.Prelude.{ℕ, Bool, List, filter, nat_eq}
 use Rattle.std.specs.List.{starts_with}
 use Rattle.gix_hash.specs.Digits.{hex_letter, spelling}
@@ -8,6 +8,6 @@ use Rattle.gix_hash.specs.Prefix.{KindDigits}
 abbrev pub begins_with : List ℕ → KindDigits → Bool
 begins_with id prefix = starts_with nat_eq (spelling hex_letter id) (spelling hex_letter prefix.digits)
 
--- the ids that begin with some digits, in their order
+-- the ids that begin with the digits, in their order
 abbrev pub matches : List ℕ → List (List ℕ) → List (List ℕ)
 matches digits ids = filter (λ id. starts_with nat_eq id digits) ids

@@ -10,11 +10,11 @@ use gix_hash::{ObjectId, oid};
 
 /// An id of a list: an [`ObjectId`], or the bytes of a digest, 20 of SHA-1 or 32 of SHA-256.
 ///
-/// So a table of digests that stand one behind the other, as in Git's pack indexes, is a list of ids
+/// So a table of digests stored one after the other, as in Git's pack indexes, is a list of ids
 /// too, by `as_chunks` of its bytes.
 ///
 /// ```
-/// // The list is where it was: nothing is copied.
+/// // Nothing is copied.
 /// let ids = SortedIds::try_new(table.as_chunks::<20>().0)?;
 /// ```
 pub trait Id {
@@ -54,7 +54,7 @@ impl Id for [u8; 20] {
 
     fn as_oid(&self) -> oid<'_> {
         let id = oid::from_bytes_unchecked(self);
-        // Where the number and the range of its digits are told.
+        // Its contract gives the number and the range of the digits.
         let _kind = id.kind();
         id
     }
@@ -70,13 +70,13 @@ impl Id for [u8; 32] {
 
     fn as_oid(&self) -> oid<'_> {
         let id = oid::from_bytes_unchecked(self);
-        // Where the number and the range of its digits are told.
+        // Its contract gives the number and the range of the digits.
         let _kind = id.kind();
         id
     }
 }
 
-// The id at a place of a list, counted from 0.
+// The id at an index of a list.
 pub(crate) fn id_at<I: Id>(ids: &[I], at: usize) -> oid<'_>
     requires { at < length ids.now }
     ensures kind { HoldsAt (λ id. oid_kind result ≡ I.kind id) ids.now at }

@@ -1,4 +1,4 @@
-//! Lists of ids of one kind, each above the one before it.
+//! Lists of ids of one kind in strictly increasing order.
 
 ghost use Rattle.std.specs.Prelude.{◌≡◌, ◌↔◌, ◌+◌, ◌-◌, ◌<◌, ◌≤◌, [], All, AllPairs, IfOk, IfErr, IsOk, IsTrue, length, map, slice_get, slice_index_or};
 ghost use Rattle.std.specs.Cmp.Lexicographic.{slice_cmp};
@@ -9,21 +9,21 @@ ghost use Rattle.id_lookup.specs.FirstBytes.{IsFanOut};
 ghost use Rattle.id_lookup.specs.FoundRun.{IsRun};
 ghost use Rattle.id_lookup.specs.Runs.{matches};
 ghost use Rattle.id_lookup.specs.ShortNames.{IsShortestName, IsShortestNameFrom};
-ghost use Rattle.id_lookup.specs.Index.{IsAnswer, IsBadPlace, IsIndex};
+ghost use Rattle.id_lookup.specs.Index.{IsAnswer, IsFirstIndexError, IsIndex};
 
 use crate::fan_out::FanOut;
 use crate::ids::{Id, id_at};
 use crate::probes::Probes;
 use crate::search::{Run, lookup_in};
-use crate::short_names::{digits_before, digits_behind};
+use crate::short_names::unique_len;
 use gix_hash::{Kind, ObjectId, Prefix};
 use std::error::Error;
 use std::fmt;
 use std::marker::Model;
 
-/// A list of ids of one kind, each above the one before it, with the counts of its first bytes.
+/// A list of ids of one kind in strictly increasing order, with the counts of its first bytes.
 ///
-/// It takes no memory: the counts are a table of fixed size in it.
+/// It allocates no memory: the counts are a table of fixed size in it.
 ///
 /// ```
 /// let index = IdIndex::try_new(&list, Kind::Sha1)?;
@@ -51,20 +51,20 @@ impl<'a, I: Id> Model for IdIndex<'a, I> {
 }
 
 impl<'a, I: Id> IdIndex<'a, I> {
-    /// The list as an index of a kind, or its first bad place: there [`IndexError::WrongKind`] where
-    /// the id is of the other kind, and else [`IndexError::NotRising`] where it is not above the one
-    /// before it.
+    /// The list as an index of a kind. The error is for the first id that is of the other kind
+    /// ([`IndexError::WrongKind`]), or of the kind but not above the previous one
+    /// ([`IndexError::NotRising`]).
     pub fn try_new(ids: &'a [I], kind: Kind) -> Result<IdIndex<'a, I>, IndexError>
         ensures ok { IfOk result (λ index. index
             ≡ record { kind = kind; ids = map I.digits ids.now }) }
         ensures index { IsOk result ↔ IsIndex kind (map I.digits ids.now) }
-        ensures err { IfErr result (IsBadPlace kind (map I.digits ids.now)) }
+        ensures err { IfErr result (IsFirstIndexError kind (map I.digits ids.now)) }
     {
         for at in 0..ids.len() {
             if id_at(ids, at).kind() != kind {
                 return Err(IndexError::WrongKind { at });
             }
-            if !rises_at(ids, at) {
+            if !is_above_previous(ids, at) {
                 return Err(IndexError::NotRising { at });
             }
         }
@@ -82,7 +82,7 @@ impl<'a, I: Id> IdIndex<'a, I> {
         self.kind
     }
 
-    /// The number of ids. Each of them is above all that stand before it.
+    /// The number of ids. Each is above all before it.
     pub fn len(&self) -> usize
         ensures value { result ≡ length self.now.ids }
         ensures index { IsIndex self.now.kind self.now.ids }
@@ -98,7 +98,7 @@ impl<'a, I: Id> IdIndex<'a, I> {
         self.ids.is_empty()
     }
 
-    /// The id at a place, counted from 0.
+    /// The id at an index.
     pub fn get(&self, at: usize) -> &I
         requires { at < length self.now.ids }
         ensures value { slice_get self.now.ids at ≡ Some (I.digits result.now) }
@@ -123,21 +123,19 @@ impl<'a, I: Id> IdIndex<'a, I> {
         &self.fan_out
     }
 
-    /// Probes of the list by a prefix, of which nothing was asked.
-    ///
-    /// The prefix has the index's kind.
+    /// New probes of the list by a prefix, which must have the index's kind.
     pub fn probes(&self, prefix: &Prefix) -> Probes<'a, I>
         requires { prefix.now.kind ≡ self.now.kind }
         ensures { result ≡ record { ids = self.now.ids; prefix = prefix.now; asked = 0 } }
     {
-        // Where it is told that the prefix has at most as many digits as its kind.
+        // Its contract says that the prefix has at most as many digits as its kind.
         let _hex_len = prefix.hex_len();
         Probes::over(self.ids, *prefix)
     }
 
     /// Which members begin with a prefix: none, one, or a run of more.
     ///
-    /// The prefix has the index's kind.
+    /// The prefix must have the index's kind.
     pub fn find(&self, prefix: &Prefix) -> Answer
         requires { prefix.now.kind ≡ self.now.kind }
         ensures { IsAnswer prefix.now self.now.ids result }
@@ -150,9 +148,9 @@ impl<'a, I: Id> IdIndex<'a, I> {
         }
     }
 
-    /// The members that begin with a prefix, and no other, in the list's order.
+    /// Exactly the members that begin with a prefix, in the list's order.
     ///
-    /// The prefix has the index's kind.
+    /// The prefix must have the index's kind.
     pub fn matches(&self, prefix: &Prefix) -> &'a [I]
         requires { prefix.now.kind ≡ self.now.kind }
         ensures value { map I.digits result.now ≡ matches prefix.now.digits self.now.ids }
@@ -163,8 +161,8 @@ impl<'a, I: Id> IdIndex<'a, I> {
         &ids[run.start..run.end]
     }
 
-    /// The shortest name of the member at a place, counted from 0: its first digits, at least 4 and
-    /// as few as may be, with which no other member begins. Only its two neighbours are looked at.
+    /// The shortest name of the member at an index: its shortest beginning of at least 4 digits
+    /// that no other member begins with. Only its two neighbours are compared with it.
     pub fn abbreviate(&self, at: usize) -> Prefix
         requires { at < length self.now.ids }
         ensures kind { result.kind ≡ self.now.kind }
@@ -174,8 +172,8 @@ impl<'a, I: Id> IdIndex<'a, I> {
         self.abbreviate_from(at, Prefix::MIN_HEX_LEN)
     }
 
-    /// As [`IdIndex::abbreviate`], of at least so many digits in place of 4: at least 4, and at most
-    /// as many as an id of the kind has.
+    /// As [`IdIndex::abbreviate`], but of at least `least` digits. These must be at least 4, and at
+    /// most as many as an id of the kind has.
     pub fn abbreviate_from(&self, at: usize, least: usize) -> Prefix
         requires in_range { at < length self.now.ids }
         requires enough { 4 ≤ least }
@@ -185,13 +183,12 @@ impl<'a, I: Id> IdIndex<'a, I> {
         ensures run { IsRun result self.now.ids (record { start = at; end = at + 1 }) }
     {
         let ids = self.ids;
-        let neighbours = digits_before(ids, at).max(digits_behind(ids, at));
-        Prefix::new(id_at(ids, at), neighbours.max(least)).unwrap()
+        Prefix::new(id_at(ids, at), unique_len(ids, at).max(least)).unwrap()
     }
 }
 
-// Whether the id at a place is above the one before it, if there is one.
-fn rises_at<I: Id>(ids: &[I], at: usize) -> bool
+// Whether the id at an index is above the previous one, if there is one.
+fn is_above_previous<I: Id>(ids: &[I], at: usize) -> bool
     requires { at < length ids.now }
     ensures { let digits = map I.digits ids.now in
         IsTrue result ↔ (0 < at → slice_cmp nat_cmp (slice_index_or digits (at - 1) [])
@@ -200,7 +197,7 @@ fn rises_at<I: Id>(ids: &[I], at: usize) -> bool
     at == 0 || id_at(ids, at - 1) < id_at(ids, at)
 }
 
-/// Why a list is no index of a kind.
+/// Why a list is not an index of a kind.
 ///
 /// ```
 /// // No id is above itself.
@@ -212,12 +209,12 @@ fn rises_at<I: Id>(ids: &[I], at: usize) -> bool
 pub enum IndexError {
     /// An id is of the other kind.
     WrongKind {
-        /// The first bad place, counted from 0.
+        /// The index of that id, the first that is rejected.
         at: usize,
     },
-    /// An id is not above the one before it.
+    /// An id is not above the previous one.
     NotRising {
-        /// The first bad place, counted from 0.
+        /// The index of that id, the first that is rejected.
         at: usize,
     },
 }
@@ -250,7 +247,7 @@ impl Error for IndexError {}
 pub enum Answer {
     /// No member.
     None,
-    /// The member at this place alone, counted from 0.
+    /// Only the member at this index.
     One(usize),
     /// The members of a run of two or more.
     Many(Run),

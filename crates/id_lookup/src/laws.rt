@@ -13,10 +13,11 @@ ghost use Rattle.id_lookup.specs.declared.search.Run.{Run};
 
 use crate::ids::Id;
 use crate::index::{Answer, IdIndex};
+pub use crate::part_laws::{parts, parts_in_order};
 use gix_hash::{Kind, ObjectId, Prefix};
 
-/// The lowercase hex spelling of some digits begins with that of a prefix just where the digits
-/// begin with the prefix's, and just where the prefix's place against them is Equal.
+/// The lowercase hex spelling of an id begins with that of a prefix if and only if the id's digits
+/// begin with the prefix's, and if and only if the prefix's `place` against them is Equal.
 pub fn beginnings(prefix: &Prefix)
     ensures digits { (id : List ℕ) → IsTrue (begins_with id prefix.now)
         ↔ BeginsWith id prefix.now.digits }
@@ -24,11 +25,11 @@ pub fn beginnings(prefix: &Prefix)
         ↔ (place prefix.now.digits id ≡ Ordering.Equal) }
 {}
 
-/// The members that begin with some digits, of a list in parts that stand one behind the other, are
-/// those of the parts, one behind the other.
+/// In a list of parts, one after the other, the members that begin with given digits are those of
+/// the first part, then those of the second, and so on.
 ///
-/// Where a list in two parts is sorted, as many stand before the run of a prefix as in both parts
-/// together, and as many in it.
+/// If a list of two parts is sorted, the start and the end of a prefix's run in it are the sums of
+/// those in the two parts.
 pub fn matches_in_parts()
     ensures two { (digits : List ℕ) (first second : List (List ℕ))
         → matches digits (first ++ second) ≡ matches digits first ++ matches digits second }
@@ -40,7 +41,7 @@ pub fn matches_in_parts()
         (record { start = a.start + b.start; end = a.end + b.end }) }
 {}
 
-/// What an index finds by the shortest name of a member, by its place, is that member alone.
+/// An index finds only the member at an index by the shortest name of that member.
 pub fn find_own_name<I: Id>(index: &IdIndex<'_, I>, at: usize) -> Answer
     requires { at < length index.now.ids }
     ensures { result ≡ Answer.One at }
@@ -48,8 +49,8 @@ pub fn find_own_name<I: Id>(index: &IdIndex<'_, I>, at: usize) -> Answer
     index.find(&index.abbreviate(at))
 }
 
-/// Owned ids of which each is below the next one in their own order, as after a sort and a `dedup`,
-/// are an index of a kind if and only if each of them is of that kind.
+/// Owned ids that are strictly increasing in their own order, as after a sort and a `dedup`, are an
+/// index of a kind if and only if each of them is of that kind.
 pub fn strictly_sorted(kind: Kind, ids: &[ObjectId])
     ensures { IsStrictlySortedBy id_cmp ids.now
         → IsIndex kind (map id_digits ids.now) ↔ All (λ id. id_kind id ≡ kind) ids.now }

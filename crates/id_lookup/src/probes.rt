@@ -1,4 +1,4 @@
-//! The counted answers of a sorted list to a prefix.
+//! Counted comparisons of a prefix with the members of a sorted list.
 
 ghost use Rattle.std.specs.Prelude.{◌≡◌, ◌↔◌, ◌+◌, ◌<◌, ◌≤◌, ◌^◌, IsTrue, length, map};
 ghost use Rattle.std.specs.List.{HoldsAt};
@@ -12,16 +12,16 @@ use gix_hash::{ObjectId, Prefix};
 use std::cmp::Ordering;
 use std::marker::Model;
 
-/// A sorted list and a prefix, of which only answers are to be had: where the prefix stands against
-/// the member at a place. Each answer is counted.
+/// A sorted list and a prefix, which can only be compared with one member at a time
+/// ([`Probes::ask`]). Each comparison is counted.
 ///
-/// It lends no id, and there is no copy of it and no way back to an earlier count, so whoever has
-/// nothing else of the list has asked as often as [`Probes::asked`] says.
+/// Probes lend no id, cannot be copied, and never count down. So a function that gets a list only
+/// by its probes has compared as many ids as [`Probes::asked`] says.
 ///
 /// ```
 /// let mut probes = Probes::new(&ids, prefix);
 /// let run = lookup(&mut probes);
-/// println!(rt; "found by {} answers", probes.asked())?;
+/// println!(rt; "found by {} comparisons", probes.asked())?;
 /// ```
 #[derive(Drop)]
 pub struct Probes<'a, I: Id = ObjectId> {
@@ -46,9 +46,8 @@ impl<'a, I: Id> Model for Probes<'a, I> {
 }
 
 impl<'a, I: Id> Probes<'a, I> {
-    /// Probes of a list by a prefix, of which nothing was asked.
-    ///
-    /// The prefix has at most as many digits as each member: at most `ids.min_hex_len()`.
+    /// New probes of a list by a prefix, which must have at most as many digits as each member: at
+    /// most `ids.min_hex_len()`.
     pub fn new(ids: &SortedIds<'a, I>, prefix: Prefix) -> Self
         requires { length prefix.digits ≤ least_hex_len ids.now }
         ensures { result ≡ record { ids = ids.now; prefix = prefix; asked = 0 } }
@@ -92,18 +91,18 @@ impl<'a, I: Id> Probes<'a, I> {
         self.prefix
     }
 
-    /// How many answers were given.
+    /// The number of comparisons so far.
     pub fn asked(&self) -> u64
         ensures { result ≡ self.now.asked }
     {
         self.asked
     }
 
-    /// How the prefix compares with the member at a place, counted from 0: the answer of
-    /// [`Prefix::cmp_oid`], which is the dictionary order of the prefix's digits against as many
-    /// first digits of the member. `Greater` says that the prefix stands behind the member.
+    /// Compares the prefix with the member at an index, as [`Prefix::cmp_oid`] does: by the
+    /// dictionary order of the prefix's digits and as many first digits of the member. `Greater`
+    /// means that the prefix comes after the member.
     ///
-    /// One more was asked then. The list and the prefix stay as they were.
+    /// The count grows by 1. The list and the prefix stay the same.
     pub fn ask(&mut self, at: usize) -> Ordering
         requires in_range { at < length self.old.ids }
         requires room { self.old.asked + 1 < 2 ^ 64 }

@@ -9,7 +9,7 @@ ghost use Rattle.gix_hash.specs.ObjectId.{id_digits, id_kind};
 ghost use Rattle.gix_hash.specs.Prefix.{BeginsWith, place};
 ghost use Rattle.id_lookup.specs.Runs.{begins_with};
 ghost use Rattle.id_lookup.specs.FoundRun.{IsRun};
-ghost use Rattle.id_lookup.specs.Bounds.{stands_before, bound_of};
+ghost use Rattle.id_lookup.specs.Bounds.{is_before_bound, bound_of};
 ghost use Rattle.id_lookup.specs.Candidates.{AreCandidates};
 ghost use Rattle.id_lookup.specs.FirstBytes.{IsFanOut, shares_first_byte};
 
@@ -21,8 +21,8 @@ use std::cmp::Ordering;
 
 const DIGITS_OF_A_BYTE: usize = 2;
 
-/// A run of places of a list, from `start` up to `end`, both counted from 0. It is empty where the
-/// two are equal.
+/// A run of indexes of a list, from `start` up to but not including `end`. It is empty if the two
+/// are equal.
 ///
 /// ```
 /// let run = lookup(&mut probes);
@@ -30,25 +30,25 @@ const DIGITS_OF_A_BYTE: usize = 2;
 /// ```
 #[derive(Clone, Copy, PartialEq, Eq, Debug)]
 pub struct Run {
-    /// The first place.
+    /// The first index.
     pub start: usize,
-    /// The place behind the last.
+    /// The index after the last.
     pub end: usize,
 }
 
 // A bound of a run.
 #[derive(Clone, Copy)]
-enum Bound {
-    // The place of its first member.
+pub(crate) enum Bound {
+    // The index of its first member.
     Start,
-    // The place behind its last member.
+    // The index after its last member.
     End,
 }
 
 impl Bound {
-    // Whether a member stands before the bound, by the place of the prefix against it.
-    fn is_behind(self, place: Ordering) -> bool
-        ensures { result ≡ stands_before self place }
+    // Whether the bound comes after a member, by the place of the prefix against that member.
+    pub(crate) fn comes_after(self, place: Ordering) -> bool
+        ensures { result ≡ is_before_bound self place }
     {
         match self {
             Bound::Start => place.is_gt(),
@@ -60,14 +60,13 @@ impl Bound {
 /// Finds the run of a prefix in a sorted list: exactly the members whose lowercase hex spelling
 /// begins with the prefix's.
 ///
-/// The list is any of which there are probes: it is sorted, with ids of either kind and repeats, and
-/// each member has at least as many digits as the prefix. For each member before the run
-/// [`Prefix::cmp_oid`] answers `Greater`, which says that the prefix stands behind that member; for
-/// each in the run `Equal`; and for each behind the run `Less`. Where no member begins with the
-/// prefix the run is empty, and stands where the prefix would stand.
+/// The list of the probes is sorted, may contain ids of both kinds and duplicates, and each of its
+/// members has at least as many digits as the prefix. [`Prefix::cmp_oid`] returns `Greater` for
+/// each member before the run, `Equal` for each in it, and `Less` for each after it. If no member
+/// begins with the prefix, the run is empty, at the index where the prefix would be inserted.
 ///
-/// It asks at most twice as often as the number of members has binary digits. Nothing may have been
-/// asked before. The list and the prefix stay as they were.
+/// It calls `ask` at most twice as often as the number of members has binary digits. The probes
+/// must be new. Their list and prefix stay the same.
 pub fn lookup<I: Id>(probes: &mut Probes<'_, I>) -> Run
     requires { probes.old.asked ≡ 0 }
     ensures list { CanProbe probes.old.prefix probes.old.ids }
@@ -79,11 +78,11 @@ pub fn lookup<I: Id>(probes: &mut Probes<'_, I>) -> Run
     find_run(probes, Run { start: 0, end: len })
 }
 
-/// As [`lookup`], among the members that have the prefix's first byte alone.
+/// As [`lookup`], by a search among only the members with the prefix's first byte.
 ///
-/// It asks at most twice as often as the number of those has binary digits, and never for a prefix
-/// of fewer than two digits. Nothing may have been asked before, and the fan-out is that of the
-/// probes' list, as it is where both come from one [`IdIndex`](crate::IdIndex).
+/// It calls `ask` at most twice as often as the number of those has binary digits, and never for a
+/// prefix of fewer than two digits. The probes must be new, and the fan-out that of their list, as
+/// when both are from one [`IdIndex`](crate::IdIndex).
 pub fn lookup_in<I: Id>(fan_out: &FanOut, probes: &mut Probes<'_, I>) -> Run
     requires fresh { probes.old.asked ≡ 0 }
     requires fan_out { IsFanOut fan_out.now probes.old.ids }
@@ -101,7 +100,7 @@ pub fn lookup_in<I: Id>(fan_out: &FanOut, probes: &mut Probes<'_, I>) -> Run
     find_run(probes, part)
 }
 
-// The members that have the digits of the prefix, as far as it has them, in their first byte.
+// The members whose first byte begins with the first two digits of the prefix, or the fewer it has.
 fn candidates<I: Id>(fan_out: &FanOut, probes: &Probes<'_, I>) -> Run
     requires { IsFanOut fan_out.now probes.now.ids }
     ensures part { AreCandidates probes.now.prefix probes.now.ids result }
@@ -116,7 +115,7 @@ fn candidates<I: Id>(fan_out: &FanOut, probes: &Probes<'_, I>) -> Run
     }
 }
 
-// The last byte that begins with so many digits of a byte whose other digits are zero.
+// The last byte that begins with the first `hex_len` digits of a byte whose other digits are zero.
 fn last_byte(first: u8, hex_len: usize) -> u8
     requires none { hex_len ≡ 0 → first ≡ 0 }
     requires one { hex_len ≡ 1 → first ≤ 240 }
@@ -131,7 +130,8 @@ fn last_byte(first: u8, hex_len: usize) -> u8
     }
 }
 
-// The run of the prefix, by a search for each of its bounds in a part of the list that has both.
+// The run of the prefix, by a search for each of its bounds in a part of the list that contains
+// both.
 fn find_run<I: Id>(probes: &mut Probes<'_, I>, part: Run) -> Run
     requires can_probe { CanProbe probes.old.prefix probes.old.ids }
     requires fresh { probes.old.asked ≡ 0 }
@@ -147,7 +147,7 @@ fn find_run<I: Id>(probes: &mut Probes<'_, I>, part: Run) -> Run
     Run { start, end }
 }
 
-// The bound of the run, which is known to be no lower than `low` and no higher than `high`.
+// The bound of the run, which must be from `low` to `high`.
 fn find_bound<I: Id>(
     probes: &mut Probes<'_, I>,
     bound: Bound,
@@ -165,7 +165,7 @@ fn find_bound<I: Id>(
 {
     while low < high {
         let middle = low + (high - low) / 2;
-        if bound.is_behind(probes.ask(middle)) {
+        if bound.comes_after(probes.ask(middle)) {
             low = middle + 1;
         } else {
             high = middle;
@@ -176,8 +176,9 @@ fn find_bound<I: Id>(
 
 /// Whether an id begins with a prefix, whatever their kinds.
 ///
-/// The id must have at least as many digits as the prefix. It begins with the prefix by its lowercase
-/// hex spelling just where it does by its digits, and just where [`Prefix::cmp_oid`] answers `Equal`.
+/// The id must have at least as many digits as the prefix. Its lowercase hex spelling begins with
+/// the prefix's if and only if its digits do, and if and only if [`Prefix::cmp_oid`] returns
+/// `Equal`.
 pub fn begins_with(id: &ObjectId, prefix: &Prefix) -> bool
     requires { length prefix.now.digits ≤ hex_len_of (id_kind id.now) }
     ensures value { result ≡ begins_with (id_digits id.now) prefix.now }
@@ -189,7 +190,7 @@ pub fn begins_with(id: &ObjectId, prefix: &Prefix) -> bool
     prefix.cmp_oid(id.as_oid()).is_eq()
 }
 
-/// The number of binary digits: the least b such that `n` is below the b-th power of two. Where `n`
+/// The number of binary digits: the smallest b such that `n` is below the b-th power of two. If `n`
 /// is not 0, a number of at most half of it has fewer.
 pub fn bits_of(n: usize) -> u32
     ensures value { result ≡ bits n }

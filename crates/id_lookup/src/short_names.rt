@@ -1,16 +1,46 @@
-//! How many first digits tell an id of a sorted list from the others: its two neighbours decide.
+//! The shortest unique names of the ids of a sorted list: the two neighbours of an id decide.
 
-ghost use Rattle.std.specs.Prelude.{◌+◌, ◌<◌, length, map};
-ghost use Rattle.id_lookup.specs.ShortNames.{Parts};
+ghost use Rattle.std.specs.Prelude.{◌≡◌, ◌+◌, ◌-◌, ◌<◌, ◌≤◌, ℕ, [], IfSome, IsNone, List, length, map, slice_index_or};
+ghost use Rattle.gix_hash.specs.Kind.{hex_len_of};
+ghost use Rattle.id_lookup.specs.ShortNames.{IsShortestNameFrom, IsUniqueLen, common_at};
 ghost use Rattle.id_lookup.specs.Sorted.{IsSortedIds};
 
 use crate::ids::{Id, id_at};
+use gix_hash::Prefix;
 
-// How many first digits tell the id at a place from all before it.
-pub(crate) fn digits_before<I: Id>(ids: &[I], at: usize) -> usize
+// The shortest name of the member at an index, if the list is sorted: its shortest beginning of at
+// least `least` digits that no other member begins with. There is none if the member has fewer.
+pub(crate) fn shortest_name<I: Id>(ids: &[I], at: usize, least: usize) -> Option<Prefix>
     requires in_range { at < length ids.now }
-    requires sorted { IsSortedIds (map I.digits ids.now) }
-    ensures { Parts (map I.digits ids.now) at 0 at result }
+    requires enough { 4 ≤ least }
+    ensures kind { IfSome result (λ name. hex_len_of name.kind
+        ≡ length (slice_index_or (map I.digits ids.now) at [])) }
+    ensures name { IfSome result (λ name. IsSortedIds (map I.digits ids.now)
+        → IsShortestNameFrom least (map I.digits ids.now) at name.digits) }
+    ensures none { IsNone result → IsSortedIds (map I.digits ids.now) → (name : List ℕ)
+        → ¬ IsShortestNameFrom least (map I.digits ids.now) at name }
+{
+    let hex_len = unique_len(ids, at).max(least);
+    let id = id_at(ids, at);
+    if hex_len > id.kind().len_in_hex() {
+        return None;
+    }
+    Some(Prefix::new(id, hex_len).unwrap())
+}
+
+// How many first digits distinguish the id at an index from all others, if the list is sorted.
+pub(crate) fn unique_len<I: Id>(ids: &[I], at: usize) -> usize
+    requires { at < length ids.now }
+    ensures { IsSortedIds (map I.digits ids.now) → IsUniqueLen (map I.digits ids.now) at result }
+{
+    digits_before(ids, at).max(digits_after(ids, at))
+}
+
+// How many first digits distinguish the id at an index from the previous one, if there is one.
+fn digits_before<I: Id>(ids: &[I], at: usize) -> usize
+    requires { at < length ids.now }
+    ensures none { at ≡ 0 → result ≡ 0 }
+    ensures some { 0 < at → result ≡ common_at (map I.digits ids.now) at (at - 1) + 1 }
 {
     if at == 0 {
         return 0;
@@ -18,11 +48,12 @@ pub(crate) fn digits_before<I: Id>(ids: &[I], at: usize) -> usize
     id_at(ids, at).common_hex_len(id_at(ids, at - 1)) + 1
 }
 
-// How many first digits tell the id at a place from all behind it.
-pub(crate) fn digits_behind<I: Id>(ids: &[I], at: usize) -> usize
-    requires in_range { at < length ids.now }
-    requires sorted { IsSortedIds (map I.digits ids.now) }
-    ensures { Parts (map I.digits ids.now) at (at + 1) (length ids.now) result }
+// How many first digits distinguish the id at an index from the next one, if there is one.
+fn digits_after<I: Id>(ids: &[I], at: usize) -> usize
+    requires { at < length ids.now }
+    ensures none { at + 1 ≡ length ids.now → result ≡ 0 }
+    ensures some { at + 1 < length ids.now
+        → result ≡ common_at (map I.digits ids.now) at (at + 1) + 1 }
 {
     let len = ids.len();
     if at + 1 == len {

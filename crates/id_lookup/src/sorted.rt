@@ -1,4 +1,4 @@
-//! Lists of ids in order.
+//! Sorted lists of ids.
 
 ghost use Rattle.std.specs.Prelude.{◌≡◌, ◌≢◌, ◌↔◌, ℕ, ◌+◌, ◌-◌, ◌<◌, ◌≤◌, [], All, AllPairs, IfOk, IfErr, IfSome, IsNone, List, IsOk, IsTrue, length, map, slice_get, slice_index_or};
 ghost use Rattle.std.specs.Cmp.Lexicographic.{slice_cmp};
@@ -8,20 +8,20 @@ ghost use Rattle.gix_hash.specs.Kind.{hex_len_of};
 ghost use Rattle.id_lookup.specs.FoundRun.{IsRun};
 ghost use Rattle.id_lookup.specs.Runs.{matches};
 ghost use Rattle.id_lookup.specs.ShortNames.{IsShortestNameFrom};
-ghost use Rattle.id_lookup.specs.Sorted.{IsSortedIds, IsFirstFall, least_hex_len};
+ghost use Rattle.id_lookup.specs.Sorted.{IsSortedIds, IsFirstUnsorted, least_hex_len};
 
 use crate::ids::{Id, id_at};
 use crate::probes::Probes;
 use crate::search::{Run, lookup};
-use crate::short_names::{digits_before, digits_behind};
+use crate::short_names::shortest_name;
 use gix_hash::{ObjectId, Prefix};
 use std::error::Error;
 use std::fmt;
 use std::marker::Model;
 
-/// A list of ids of which none is below the one before it, in dictionary order of their digits.
+/// A list of ids of which none is below the previous one, in dictionary order of their digits.
 ///
-/// Ids of both kinds may be mixed, and an id may stand there more than once.
+/// It may contain ids of both kinds, and duplicates.
 ///
 /// ```
 /// let ids = SortedIds::try_new(&list)?;
@@ -48,15 +48,15 @@ impl<'a, I: Id> Model for SortedIds<'a, I> {
 }
 
 impl<'a, I: Id> SortedIds<'a, I> {
-    /// The list as a sorted one, or the first place whose id is below the one before it.
+    /// The list as a sorted one. The error has the first index whose id is below the previous one.
     pub fn try_new(ids: &'a [I]) -> Result<SortedIds<'a, I>, Unsorted>
         ensures ok { IfOk result (λ list. list ≡ map I.digits ids.now) }
         ensures sorted { IsOk result ↔ IsSortedIds (map I.digits ids.now) }
-        ensures err { IfErr result (λ e. IsFirstFall (map I.digits ids.now) e.at) }
+        ensures err { IfErr result (λ e. IsFirstUnsorted (map I.digits ids.now) e.at) }
     {
         let mut min_hex_len = 64;
         for at in 0..ids.len() {
-            if falls_at(ids, at) {
+            if is_below_previous(ids, at) {
                 return Err(Unsorted { at });
             }
             min_hex_len = id_at(ids, at).kind().len_in_hex().min(min_hex_len);
@@ -64,8 +64,7 @@ impl<'a, I: Id> SortedIds<'a, I> {
         Ok(SortedIds { ids, min_hex_len })
     }
 
-    /// The number of ids. None of them is below one that stands before it, next to it or further
-    /// off.
+    /// The number of ids. None is below any before it.
     pub fn len(&self) -> usize
         ensures value { result ≡ length self.now }
         ensures sorted { IsSortedIds self.now }
@@ -81,7 +80,7 @@ impl<'a, I: Id> SortedIds<'a, I> {
         self.ids.is_empty()
     }
 
-    /// The id at a place, counted from 0.
+    /// The id at an index.
     pub fn get(&self, at: usize) -> &I
         requires { at < length self.now }
         ensures { slice_get self.now at ≡ Some (I.digits result.now) }
@@ -90,7 +89,7 @@ impl<'a, I: Id> SortedIds<'a, I> {
         &ids[at]
     }
 
-    /// The least number of digits of a member, and 64 where there is none.
+    /// The smallest number of digits of a member, or 64 if there is none.
     ///
     /// A prefix can be looked up if it has at most as many.
     pub fn min_hex_len(&self) -> usize
@@ -100,10 +99,10 @@ impl<'a, I: Id> SortedIds<'a, I> {
         self.min_hex_len
     }
 
-    /// The run of the members that begin with a prefix, and of no other.
+    /// The run of exactly the members that begin with a prefix.
     ///
-    /// The prefix has at most as many digits as each member: at most `min_hex_len()`. Where no member
-    /// begins with it, the run is empty and stands where the prefix would stand.
+    /// The prefix must have at most as many digits as each member: at most `min_hex_len()`. If no
+    /// member begins with it, the run is empty, at the index where the prefix would be inserted.
     pub fn find(&self, prefix: &Prefix) -> Run
         requires { length prefix.now.digits ≤ least_hex_len self.now }
         ensures { IsRun prefix.now self.now result }
@@ -111,9 +110,9 @@ impl<'a, I: Id> SortedIds<'a, I> {
         lookup(&mut Probes::new(self, *prefix))
     }
 
-    /// The members that begin with a prefix, and no other, in the list's order.
+    /// Exactly the members that begin with a prefix, in the list's order.
     ///
-    /// The prefix has at most as many digits as each member: at most `min_hex_len()`.
+    /// The prefix must have at most as many digits as each member: at most `min_hex_len()`.
     pub fn matches(&self, prefix: &Prefix) -> &'a [I]
         requires { length prefix.now.digits ≤ least_hex_len self.now }
         ensures { map I.digits result.now ≡ matches prefix.now.digits self.now }
@@ -123,12 +122,11 @@ impl<'a, I: Id> SortedIds<'a, I> {
         &ids[run.start..run.end]
     }
 
-    /// The shortest name of the member at a place, counted from 0: its first digits, at least so many
-    /// and as few as may be, with which no other member begins. It is at least 4 digits.
+    /// The shortest name of the member at an index: its shortest beginning of at least `least`
+    /// digits that no other member begins with. `least` must be at least 4.
     ///
-    /// There is none where all digits of the member are those with which another one begins, as where
-    /// it stands twice, or where it has fewer than were asked for. Only its two neighbours are looked
-    /// at.
+    /// There is none if another member begins with all digits of this one, as a duplicate does, or
+    /// if this one has fewer than `least`. Only its two neighbours are compared with it.
     pub fn abbreviate_from(&self, at: usize, least: usize) -> Option<Prefix>
         requires in_range { at < length self.now }
         requires enough { 4 ≤ least }
@@ -140,14 +138,7 @@ impl<'a, I: Id> SortedIds<'a, I> {
         ensures none { IsNone result → (name : List ℕ)
             → ¬ IsShortestNameFrom least self.now at name }
     {
-        let ids = self.ids;
-        let neighbours = digits_before(ids, at).max(digits_behind(ids, at));
-        let hex_len = neighbours.max(least);
-        let id = id_at(ids, at);
-        if hex_len > id.kind().len_in_hex() {
-            return None;
-        }
-        Some(Prefix::new(id, hex_len).unwrap())
+        shortest_name(self.ids, at, least)
     }
 
     /// The ids, in order.
@@ -159,8 +150,8 @@ impl<'a, I: Id> SortedIds<'a, I> {
     }
 }
 
-// Whether the id at a place is below the one before it.
-fn falls_at<I: Id>(ids: &[I], at: usize) -> bool
+// Whether the id at an index is below the previous one.
+fn is_below_previous<I: Id>(ids: &[I], at: usize) -> bool
     requires { at < length ids.now }
     ensures { let digits = map I.digits ids.now in
         IsTrue result ↔ ((0 < at) × (slice_cmp nat_cmp (slice_index_or digits at [])
@@ -178,7 +169,7 @@ fn falls_at<I: Id>(ids: &[I], at: usize) -> bool
 /// ```
 #[derive(Debug, Drop)]
 pub struct Unsorted {
-    /// The first place whose id is below the one before it, counted from 0.
+    /// The first index whose id is below the previous one.
     pub at: usize,
 }
 

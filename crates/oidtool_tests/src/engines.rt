@@ -16,15 +16,13 @@ mod starting;
 mod watched;
 
 use crate::expecting::{expect_bytes, expect_printed, expect_shown};
-use command_line::exit_status;
-use commands::{ArgError, read_command};
-use devices::IntoSlice;
-use gix_hash::{Alphabet, decode, prefix};
-use list_search::{FindError, find, find_change, finding_means};
+use gix_hash::prefix::from_hex;
+use gix_hash::{Kind, decode};
+use oidtool_search::{FindError, FindFromError, FindInError, find, find_change};
 use std::alloc::{AllocError, Global};
 use std::fmt::Debug;
 use std::process::Abort;
-use std::test::Fail;
+use streams::{IntoSlice, PipeError};
 
 // The empty blob and the empty tree, of SHA-1 and of SHA-256, a line each.
 const BLOB: &str = "e69de29bb2d1d6434b8b29ae775ad8c2e48c5391\n";
@@ -68,7 +66,7 @@ enum Outcome {
     Found(usize),
     NoMemory,
     FailedWrite,
-    Refused,
+    Rejected,
 }
 
 // A search that had memory found one id and wrote its line, and one that had none wrote nothing:
@@ -87,23 +85,22 @@ fn expect_granted<T: Debug>(
     is_granted
 }
 
-// Finds the prefix in the lines, as one text and as what a source gives, and compares the answer's
-// Debug text and what was written.
+// Finds the prefix in the lines, as one text and as what a source gives, and compares the Debug
+// text of the result and what was written.
 fn expect_find(
     rt: &(impl Abort + AllocGlobal),
     prefix: &str,
     lines: &[&str],
-    answer: &str,
+    outcome: &str,
     written: &str,
 ) {
     let list = text_of(rt, lines);
     let mut buf = [0; 256];
     let mut out = IntoSlice::new(&mut buf);
-    finding_means(Alphabet::Hex, prefix, list.as_bytes());
     let found = find(rt.alloc(), prefix, list.as_bytes(), &mut out);
     expect_bytes(rt, out.written(), written.as_bytes(), &prefix);
-    expect_shown(rt, found, answer, &prefix);
-    sources::expect_however_cut(rt, prefix, list.as_bytes(), answer, written)
+    expect_shown(rt, found, outcome, &prefix);
+    sources::expect_however_cut(rt, prefix, list.as_bytes(), outcome, written)
 }
 
 // As `expect_find`, in the letters of change ids.
@@ -111,7 +108,7 @@ fn expect_find_change(
     rt: &(impl Abort + AllocGlobal),
     letters: &str,
     lines: &[&str],
-    answer: &str,
+    outcome: &str,
     written: &str,
 ) {
     let list = text_of(rt, lines);
@@ -119,7 +116,7 @@ fn expect_find_change(
     let mut out = IntoSlice::new(&mut buf);
     let found = find_change(rt.alloc(), letters, list.as_bytes(), &mut out);
     expect_bytes(rt, out.written(), written.as_bytes(), &letters);
-    expect_shown(rt, found, answer, &letters);
+    expect_shown(rt, found, outcome, &letters);
 }
 
 #[test]
@@ -172,7 +169,7 @@ fn finds_in_list_texts(rt: HostRuntime) {
 }
 
 #[test]
-fn refuses_unsorted_lists_and_longer_prefixes(rt: HostRuntime) {
+fn rejects_unsorted_lists_and_longer_prefixes(rt: HostRuntime) {
     let zeros = "00000000000000000000000000000000000000000";
     expect_find(
         &rt,
@@ -198,7 +195,7 @@ fn refuses_unsorted_lists_and_longer_prefixes(rt: HostRuntime) {
 }
 
 #[test]
-fn refuses_bad_lines(rt: HostRuntime) {
+fn rejects_bad_lines(rt: HostRuntime) {
     let first_of_three = "Err(BadLine { line: 3, error: InvalidHexEncodingLength(2) })";
     expect_find(
         &rt,
@@ -207,13 +204,8 @@ fn refuses_bad_lines(rt: HostRuntime) {
         "Err(BadLine { line: 2, error: InvalidHexEncodingLength(2) })",
         NO_MATCH,
     );
-    expect_find(
-        &rt,
-        "4b82",
-        [BLOB, TREE, "zz"].as_slice(),
-        first_of_three,
-        NO_MATCH,
-    );
+    let three = [BLOB, TREE, "zz"];
+    expect_find(&rt, "4b82", three.as_slice(), first_of_three, NO_MATCH);
     expect_find(
         &rt,
         "4b82",
@@ -224,7 +216,7 @@ fn refuses_bad_lines(rt: HostRuntime) {
 }
 
 #[test]
-fn refuses_prefixes_first(rt: HostRuntime) {
+fn rejects_prefixes_first(rt: HostRuntime) {
     let too_short = "Err(Prefix(TooShort { hex_len: 3 }))";
     for list in ["", "zz", TREE] {
         expect_find(&rt, "abc", [list].as_slice(), too_short, NO_MATCH);
@@ -238,26 +230,17 @@ fn refuses_prefixes_first(rt: HostRuntime) {
     }
 }
 
+// The texts of errors that no run of the program shows in `tools/runs.table`, or only in part.
 #[test]
-fn prints_refusals(rt: HostRuntime) {
-    let too_short = prefix::from_hex::Error::TooShort { hex_len: 3 };
-    let invalid = prefix::from_hex::Error::Invalid;
-    let bad_line = FindError::BadLine {
-        line: 2,
-        error: decode::Error::InvalidHexEncodingLength(2),
-    };
-    let too_long = FindError::PrefixTooLong {
-        hex_len: 41,
-        min: 40,
-    };
+fn prints_errors(rt: HostRuntime) {
+    let error = decode::Error::InvalidHexEncodingLength(2);
     let rows = [
         (
-            FindError::Prefix(too_short),
-            "prefix: The minimum hex length of a short object id is 4, got 3",
+            FindError::Prefix(from_hex::Error::Invalid),
+            "prefix: Invalid hex character",
         ),
-        (FindError::Prefix(invalid), "prefix: Invalid hex character"),
         (
-            bad_line,
+            FindError::BadLine { line: 2, error },
             "line 2: A hash sized 2 hexadecimal characters is invalid",
         ),
         (
@@ -265,65 +248,26 @@ fn prints_refusals(rt: HostRuntime) {
             "line 3: below the line before it",
         ),
         (
-            too_long,
+            FindError::PrefixTooLong {
+                hex_len: 41,
+                min: 40,
+            },
             "prefix of 41 digits, but an id of the list has only 40",
         ),
         (FindError::Memory, "out of memory"),
         (FindError::Output, "cannot write"),
     ];
+    let kind = Kind::Sha1;
+    expect_printed(&rt, FindInError::OtherKind { kind }, "prefix of kind sha1");
+    expect_printed(
+        &rt,
+        FindInError::WrongKind { line: 7 },
+        "line 7: an id of the other kind",
+    );
+    expect_printed(&rt, FindFromError::Input, "cannot read");
+    expect_printed(&rt, FindFromError::TooMuch, "too much input");
+    expect_printed(&rt, PipeError::TooMuch, "too much input");
     for (error, text) in rows {
         expect_printed(&rt, error, text);
     }
-}
-
-#[test]
-fn reads_commands(rt: HostRuntime) {
-    let usage =
-        "usage: oidtool find PREFIX | find-change LETTERS | find-in KIND PREFIX | hash KIND | hash-file KIND N PATH | seal KIND";
-    let rows = [
-        ([].as_slice(), "Err(Usage)"),
-        (["find"].as_slice(), "Err(Usage)"),
-        (["find", "4b82"].as_slice(), "Ok(Find { prefix: \"4b82\" })"),
-        (["find", ""].as_slice(), "Ok(Find { prefix: \"\" })"),
-        (["find", "4b82", "ffff"].as_slice(), "Err(Usage)"),
-        (["Find", "4b82"].as_slice(), "Err(Usage)"),
-        (
-            ["find-change", "LTQM"].as_slice(),
-            "Ok(FindChange { letters: \"LTQM\" })",
-        ),
-        (["find-change"].as_slice(), "Err(Usage)"),
-        (["find-change", "zzzz", "zzzz"].as_slice(), "Err(Usage)"),
-        (
-            ["find-in", "sha1", "4"].as_slice(),
-            "Ok(FindIn { kind: Sha1, prefix: \"4\" })",
-        ),
-        (["find-in"].as_slice(), "Err(Usage)"),
-        (["find-in", "sha1"].as_slice(), "Err(Usage)"),
-        (["find-in", "md5", "4", "4"].as_slice(), "Err(Usage)"),
-        (["find-in", "md5", "4"].as_slice(), "Err(BadKind(\"md5\"))"),
-        (["hash", "4b82"].as_slice(), "Err(BadKind(\"4b82\"))"),
-    ];
-    for (words, answer) in rows {
-        expect_shown(&rt, read_command(words), answer, &answer);
-    }
-    expect_printed(&rt, ArgError::Usage, usage);
-    expect_printed(&rt, ArgError::BadKind("md5"), "unknown hash kind: md5");
-    expect_printed(&rt, ArgError::BadNumber("-1"), "bad number: -1");
-}
-
-#[test]
-fn gives_statuses() -> Result<(), Fail> {
-    let answers: [(Result<usize, FindError>, u8); 5] = [
-        (Ok(0), 1),
-        (Ok(1), 0),
-        (Ok(usize::MAX), 0),
-        (Err(FindError::Output), 2),
-        (Err(FindError::Unsorted { line: 2 }), 2),
-    ];
-    for (answer, status) in answers {
-        if exit_status(&answer) != status {
-            return Err(Fail::new("a status is wrong"));
-        }
-    }
-    Ok(())
 }

@@ -1,4 +1,4 @@
-//! Assertions that are calls, and tell their condition in words.
+//! Assertions that are calls, and print their condition.
 
 use std::fmt::{Debug, Display};
 use std::process::Abort;

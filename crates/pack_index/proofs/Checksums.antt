@@ -1,4 +1,4 @@
--- Bytes that end in their digest, split in front of it.
+-- Bytes that end in their digest, split before it.
 use Rattle.std.proofs.Common.{◌≡◌, ℕ, ◌+◌, List, ◌++◌, drop, length, take, refl, sym, ap, ◌∙◌, arith, length-append}
 use Rattle.std.proofs.lemmas.List.{drop_at, take_at, take-append-drop}
 use Rattle.gix_hash.specs.Hashing.{EndsInDigest, digest}

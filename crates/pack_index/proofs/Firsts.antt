@@ -1,78 +1,81 @@
--- The first of some numbers that passes a test.
-use Rattle.std.proofs.Common.{◌≡◌, ◌≢◌, ℕ, zero, suc, ◌+◌, ◌<◌, ◌≤◌, Bool, true, false, not, None, Some, nat_eq, nat_lt, ◌⊎◌, inl, inr, refl, ap, ◌∙◌, arith}
-use Rattle.std.specs.Prelude.{nat_le, ◌&&◌}
-use Rattle.std.proofs.lemmas.Bool.{cases_lt, le-leb, lt-leb, le-ltb, lt-ltb}
-use Rattle.std.proofs.lemmas.Bool.Decides.{nat_tests}
-use Rattle.pack_index.specs.Firsts.{first_below, first_from}
+-- Tests that decide what they test, the first number that passes one, and the first cause that is there.
+use Rattle.std.proofs.Common.{◌≡◌, ◌≢◌, ℕ, zero, suc, ◌+◌, ◌<◌, ◌≤◌, Bool, true, false, not, Option, None, Some, List, [], ◌∷◌, ◌++◌, nat_eq, nat_lt, ◌⊎◌, inl, inr, refl, sym, ap, ◌∙◌, arith}
+use Rattle.std.specs.Prelude.{nat_le, ◌&&◌, option_map}
+use Rattle.std.specs.Bool.{Decides}
+use Rattle.std.proofs.lemmas.Bool.{cases_lt, false≢true, le-leb, leb-true}
+use Rattle.std.proofs.lemmas.Bool.Decides.{Decides-eqb, Decides-ltb, Decides-not}
+use Rattle.pack_index.specs.Firsts.{Each, IsFirstNot, cause_if, first_below, first_cause, first_from}
 
--- equal numbers pass the test of equality, and others do not
-pub equal : (a b : ℕ) → a ≡ b → nat_eq a b ≡ true
-equal a b same = grind (arith, nat_tests)
+fails : {Q : Type 0} (test : Bool) → Decides test Q → ¬ Q → test ≡ false
+fails true is none = absurd (none (is.0 refl))
+fails false is none = refl
 
-pub differ : (a b : ℕ) → a ≢ b → nat_eq a b ≡ false
-differ a b other = by (nat_eq a b) refl
-  where
-    by : (test : Bool) → nat_eq a b ≡ test → nat_eq a b ≡ false
-    by true e = absurd (other (grind (arith, nat_tests)))
-    by false e = e
+pub differs : (a b : ℕ) → Decides (not (nat_eq a b)) (a ≢ b)
+differs a b = Decides-not (nat_eq a b) (Decides-eqb a b)
 
--- a test that would show what does not hold fails
-pub fails : {P : Type 0} (test : Bool) → (test ≡ true → P) → ¬ P → test ≡ false
-fails true shows none = absurd (none (shows refl))
-fails false shows none = refl
+pub at_most : (a b : ℕ) → Decides (nat_le a b) (a ≤ b)
+at_most a b = (leb-true a b, le-leb a b)
 
--- where a is at most b, d is at most c
-pub in_time : (a b c d : ℕ) → (a ≤ b → d ≤ c) → (nat_le a b && nat_lt c d) ≡ false
-in_time a b c d holds = by (cases_lt b a)
-  where
-    by : ((b < a) ⊎ (a ≤ b)) → (nat_le a b && nat_lt c d) ≡ false
-    by (inl less) = ap (λ (test : Bool). test && nat_lt c d) (lt-leb a b less)
-    by (inr more) = ap (λ (test : Bool). test && nat_lt c d) (le-leb a b more) ∙ le-ltb c d (holds more)
+pub below : (a b : ℕ) → Decides (nat_lt a b) (¬ (b ≤ a))
+below a b = (λ e high. absurd (let low = (Decides-ltb a b).0 e in omega arith), λ other. (Decides-ltb a b).1 (omega (arith, other)))
 
-pub late : (a b c d : ℕ) → ¬ (a ≤ b → d ≤ c) → (nat_le a b && nat_lt c d) ≡ true
-late a b c d wrong = by (cases_lt b a) (cases_lt c d)
-  where
-    by : ((b < a) ⊎ (a ≤ b)) → ((c < d) ⊎ (d ≤ c)) → (nat_le a b && nat_lt c d) ≡ true
-    by (inl less) any = absurd (wrong (λ more. absurd (omega arith)))
-    by (inr more) (inl behind) = ap (λ (test : Bool). test && nat_lt c d) (le-leb a b more) ∙ lt-ltb c d behind
-    by (inr more) (inr before) = absurd (wrong (λ _. before))
+pub above : (a b : ℕ) → Decides (nat_le a b) (¬ (b < a))
+above a b = (λ e high. absurd (let low = (at_most a b).0 e in omega arith), λ other. (at_most a b).1 (omega (arith, other)))
 
--- if a is at most b, then b is c
-pub in_order : (a b c : ℕ) → (a ≤ b → b ≡ c) → (nat_le a b && not (nat_eq b c)) ≡ false
-in_order a b c holds = by (cases_lt b a)
-  where
-    by : ((b < a) ⊎ (a ≤ b)) → (nat_le a b && not (nat_eq b c)) ≡ false
-    by (inl less) = ap (λ (test : Bool). test && not (nat_eq b c)) (lt-leb a b less)
-    by (inr more) = ap (λ (test : Bool). test && not (nat_eq b c)) (le-leb a b more) ∙ ap not (equal b c (holds more))
+pub passes : (test : Bool) → Decides test (¬ (test ≡ false))
+passes true = (λ e no. false≢true (sym no), λ no. refl)
+passes false = (λ e no. false≢true e, λ no. absurd (no refl))
 
-pub disorder : (a b c : ℕ) → ¬ (a ≤ b → b ≡ c) → (nat_le a b && not (nat_eq b c)) ≡ true
-disorder a b c wrong = by (cases_lt b a)
-  where
-    by : ((b < a) ⊎ (a ≤ b)) → (nat_le a b && not (nat_eq b c)) ≡ true
-    by (inl less) = absurd (wrong (λ more. absurd (omega arith)))
-    by (inr more) = ap (λ (test : Bool). test && not (nat_eq b c)) (le-leb a b more) ∙ ap not (differ b c (λ same. wrong (λ _. same)))
+pub both : {P Q : Type 0} (a b : Bool) → Decides a P → Decides b Q → Decides (a && b) (P × Q)
+both true b first second = (λ e. (first.0 refl, second.0 e), λ is. second.1 is.1)
+both false b first second = (λ e. absurd (false≢true e), λ is. first.1 is.0)
+
+pub not_implies : {P Q : Type 0} (a b : Bool) → Decides a P → Decides b (¬ Q) → Decides (a && b) (¬ (P → Q))
+not_implies true b first second = (λ e to. second.0 e (to (first.0 refl)), λ no. second.1 (λ q. no (λ _. q)))
+not_implies false b first second = (λ e. absurd (false≢true e), λ no. absurd (no (λ p. absurd (false≢true (first.1 p)))))
 
 module _ (p : ℕ → Bool) where
   -- none passes
-  pub none_from : (n at : ℕ) → ((k : ℕ) → at ≤ k → k < at + n → p k ≡ false) → first_from p n at ≡ None
+  none_from : (n at : ℕ) → ((k : ℕ) → at ≤ k → k < at + n → p k ≡ false) → first_from p n at ≡ None
   unfolding first_from
   none_from zero at each = refl
   none_from (suc n) at each =
       rw (each at (omega arith) (omega arith)) (none_from n (suc at) (λ k low high. each k (omega arith) (omega arith)))
 
   -- this is the first that does
-  pub some_from : (n at k : ℕ) → at ≤ k → k < at + n → ((j : ℕ) → at ≤ j → j < k → p j ≡ false) → p k ≡ true → first_from p n at ≡ Some k
+  some_from : (n at k : ℕ) → at ≤ k → k < at + n → ((j : ℕ) → at ≤ j → j < k → p j ≡ false) → p k ≡ true → first_from p n at ≡ Some k
   unfolding first_from
-  some_from zero at k low high before passes = absurd (omega arith)
-  some_from (suc n) at k low high before passes =
-      by (cases_lt at k) (λ less. some_from n (suc at) k (omega arith) (omega arith) (λ j from to. before j (omega arith) to) passes)
+  some_from zero at k low high before holds = absurd (omega arith)
+  some_from (suc n) at k low high before holds =
+      by (cases_lt at k) (λ less. some_from n (suc at) k (omega arith) (omega arith) (λ j from to. before j (omega arith) to) holds)
     where
       by : ((at < k) ⊎ (k ≤ at)) → (at < k → first_from p n (suc at) ≡ Some k) → first_from p (suc n) at ≡ Some k
-      by (inl less) behind = rw (before at (omega arith) less) (behind less)
-      by (inr more) behind = let here : at ≡ k = omega arith in rw (here, passes) refl
+      by (inl less) rest = rw (before at (omega arith) less) (rest less)
+      by (inr more) rest = let here : at ≡ k = omega arith in rw (here, holds) refl
 
-  pub none_below : (n : ℕ) → ((k : ℕ) → k < n → p k ≡ false) → first_below p n ≡ None
-  none_below n each = none_from n 0 (λ k low high. each k (omega arith))
+-- a cause by a test, and by the first number that passes one
+module _ {E : Type 0} where
+  pub no_cause : {Q : Type 0} (test : Bool) (e : E) → Decides test Q → ¬ Q → cause_if test e ≡ None
+  no_cause test e is none = ap (λ (b : Bool). cause_if b e) (fails test is none)
 
-  pub some_below : (n k : ℕ) → k < n → ((j : ℕ) → j < k → p j ≡ false) → p k ≡ true → first_below p n ≡ Some k
-  some_below n k high before passes = some_from n 0 k (omega arith) (omega arith) (λ j low to. before j to) passes
+  pub cause : {Q : Type 0} (test : Bool) (e : E) → Decides test Q → Q → cause_if test e ≡ Some e
+  cause test e is holds = ap (λ (b : Bool). cause_if b e) (is.1 holds)
+
+  module _ (P : ℕ → Type 0) (p : ℕ → Bool) (f : ℕ → E) (n : ℕ) (is : (k : ℕ) → Decides (p k) (¬ P k)) where
+    pub no_first : Each P n → option_map f (first_below p n) ≡ None
+    no_first each = ap (option_map f) (none_from p n 0 (λ k low high. fails (p k) (is k) (λ wrong. wrong (each k (omega arith)))))
+
+    pub first : (k : ℕ) → IsFirstNot P n k → option_map f (first_below p n) ≡ Some (f k)
+    first k at = ap (option_map f) (some_from p n 0 k (omega arith) (omega (arith, at.0)) (λ j low to. fails (p j) (is j) (λ wrong. wrong (at.1 j to))) ((is k).1 at.2))
+
+  -- a cause that is not there is skipped, and the first that is there is the result
+  pub skip : (o : Option E) (causes : List (Option E)) (r : Option E) → o ≡ None → first_cause causes ≡ r → first_cause (o ∷ causes) ≡ r
+  skip o causes r none rest = ap (λ o. first_cause (o ∷ causes)) none ∙ rest
+
+  pub here : (o : Option E) (causes : List (Option E)) (e : E) → o ≡ Some e → first_cause (o ∷ causes) ≡ Some e
+  here o causes e some = ap (λ o. first_cause (o ∷ causes)) some
+
+  pub skip_all : (front causes : List (Option E)) (r : Option E) → first_cause front ≡ None → first_cause causes ≡ r → first_cause (front ++ causes) ≡ r
+  skip_all [] causes r none rest = rest
+  skip_all (None ∷ front) causes r none rest = skip_all front causes r none rest
+  skip_all (Some e ∷ front) causes r none rest = cc

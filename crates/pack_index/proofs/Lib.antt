@@ -1,8 +1,9 @@
 -- Lemmas of several proofs.
+pub mod Buckets
 mod Checksums
-mod Counted
-mod Ending
+pub mod Counted
 mod Firsts
+mod Heads
 mod Longs
 mod Looked
 mod Refusals

@@ -1,16 +1,16 @@
--- Where an id stands among names of its kind, by the run of all its digits.
-use Rattle.std.proofs.Common.{◌≡◌, ◌≢◌, ℕ, ◌<◌, ◌≤◌, true, false, not, nat_eq, Option, None, Some, List, [], ◌++◌, length, get_or, refl, sym, ap, ◌∙◌, arith, append-nil}
+-- Where an id is among names of its kind, by the run of all its digits.
+use Rattle.std.proofs.Common.{◌≡◌, ◌≢◌, ℕ, ◌<◌, ◌≤◌, true, not, nat_eq, Option, None, Some, List, [], ◌++◌, length, get_or, sym, ap, ◌∙◌, arith, append-nil}
 use Rattle.std.specs.Prelude.{◌↔◌, IfSome, IsTrue}
 use Rattle.std.proofs.lemmas.List.{length-append, nil_from_length}
 use Rattle.std.proofs.lemmas.Bool.{false≢true}
 use Rattle.gix_hash.specs.Kind.{hex_len_of, number_of}
 use Rattle.gix_hash.specs.Prefix.{KindDigits, BeginsWith}
 use Rattle.gix_hash.specs.declared.Kind.{Kind}
-use Rattle.gix_hash.specs.declared.Kind.TheVariants.{Sha1, Sha256}
 use Rattle.id_lookup.specs.FoundRun.{IsRun}
 use Rattle.id_lookup.specs.Runs.{begins_with}
 use Rattle.id_lookup.specs.declared.search.Run.{Run}
-use Rattle.pack_index.specs.Names.{IsFirstPlace}
+use Rattle.id_lookup.proofs.Indexes.{not_other, same_kind}
+use Rattle.pack_index.specs.Names.{IsFirstIndexOf}
 
 -- what begins with a list of its own length is that list
 same_length : (xs ys rest : List ℕ) → xs ≡ ys ++ rest → length xs ≡ length ys → xs ≡ ys
@@ -35,7 +35,7 @@ module _ (prefix : KindDigits) (names : List (List ℕ)) (run : Run) (is : IsRun
   pub absent : run.start ≡ run.end → (k : ℕ) → k < length names → get_or names k [] ≢ prefix.digits
   absent empty k inside same = let here = within_same k inside same in omega (arith, empty, here.0, here.1)
 
-  pub present : run.start ≢ run.end → IsFirstPlace names prefix.digits run.start
+  pub present : run.start ≢ run.end → IsFirstIndexOf names prefix.digits run.start
   present some =
       let end = is.end in
       let reach = is.in_range in
@@ -46,28 +46,12 @@ module _ (prefix : KindDigits) (names : List (List ℕ)) (run : Run) (is : IsRun
         first = λ k low same. let here = within_same k (omega (arith, low, inside)) same in omega (arith, here.0, low);
       }
 
--- kinds that a test tells apart have other numbers of digits, and those that it does not are one
+-- kinds that a test finds different have different numbers of digits
 pub kinds_differ : (a b : Kind) → not (nat_eq (number_of a) (number_of b)) ≡ true → hex_len_of a ≢ hex_len_of b
-kinds_differ Sha1 Sha1 other same = false≢true other
-kinds_differ Sha1 Sha256 other same = absurd (omega arith)
-kinds_differ Sha256 Sha1 other same = absurd (omega arith)
-kinds_differ Sha256 Sha256 other same = false≢true other
+kinds_differ a b other same = false≢true (sym (not_other a b (same_kind a b same)) ∙ other)
 
-pub kinds_same : (a b : Kind) → not (nat_eq (number_of a) (number_of b)) ≡ false → a ≡ b
-kinds_same Sha1 Sha1 same = refl
-kinds_same Sha1 Sha256 same = absurd (false≢true (sym same))
-kinds_same Sha256 Sha1 same = absurd (false≢true (sym same))
-kinds_same Sha256 Sha256 same = refl
-
--- kinds with as many digits are one
-same_hex_len : (a b : Kind) → hex_len_of a ≡ hex_len_of b → a ≡ b
-same_hex_len Sha1 Sha1 same = refl
-same_hex_len Sha1 Sha256 same = absurd (omega arith)
-same_hex_len Sha256 Sha1 same = absurd (omega arith)
-same_hex_len Sha256 Sha256 same = refl
-
--- so the beginning of a name is of the kind of its digits
+-- the beginning of a name is of the kind of its digits
 pub named_kind : (kind : Kind) (names : List (List ℕ)) (at : ℕ) (answer : Option KindDigits) → length (get_or names at []) ≡ hex_len_of kind
     → IfSome answer (λ name. hex_len_of name.kind ≡ length (get_or names at [])) → IfSome answer (λ name. name.kind ≡ kind)
 named_kind kind names at None long is = is
-named_kind kind names at (Some name) long is = same_hex_len name.kind kind (is ∙ long)
+named_kind kind names at (Some name) long is = same_kind name.kind kind (is ∙ long)

@@ -17,7 +17,7 @@ pub record IndexFile : Type 0 where
   pub kind : Kind
   pub bytes : List ℕ
 
--- the number that stands at the front of each index from version 2 on: 255, and 't', 'O', 'c'
+-- the number that each index from version 2 on begins with: 255, and 't', 'O', 'c'
 abbrev pub magic_number : ℕ
 magic_number = 4285812579
 
@@ -41,19 +41,19 @@ long_word = 2147483648
 abbrev pub pack_header_len : ℕ
 pack_header_len = 12
 
--- the digits of the digests of a kind that stand in bytes, one behind the other: of as many as are whole
+-- the digits of the whole digests of a kind that the bytes contain, one after the other
 abbrev pub digests_in : Kind → List ℕ → List (List ℕ)
 digests_in kind bytes = map digits_of (first_chunks (byte_len_of kind) (length bytes / byte_len_of kind) bytes)
 
--- the number that the four bytes from a place on write
+-- the number that is written in the four bytes from an index on
 unfoldable pub word_at : List ℕ → ℕ → ℕ
 word_at bytes at = from_be_bytes w32 (slice_index bytes at ∷ slice_index bytes (at + 1) ∷ slice_index bytes (at + 2) ∷ slice_index bytes (at + 3) ∷ [])
 
 -- the number of names: the last count
 abbrev pub count_in : List ℕ → ℕ
-count_in bytes = word_at bytes 1028
+count_in bytes = word_at bytes (names_at - 4)
 
--- where the CRCs begin, behind the names
+-- where the CRCs begin, after the names
 abbrev pub crcs_at : Kind → List ℕ → ℕ
 crcs_at kind bytes = names_at + byte_len_of kind * count_in bytes
 
@@ -77,25 +77,25 @@ digest_at kind bytes = length bytes - byte_len_of kind
 abbrev pub names_in : Kind → List ℕ → List (List ℕ)
 names_in kind bytes = digests_in kind (slice_range bytes names_at (crcs_at kind bytes))
 
--- the CRC of the object of the name at a place, as it stands packed
+-- the CRC of the packed bytes of the object of the name at an index
 abbrev pub crc_in : Kind → List ℕ → ℕ → ℕ
 crc_in kind bytes k = word_at bytes (crcs_at kind bytes + 4 * k)
 
--- what the table of offsets has for the name at a place
+-- what the table of offsets has for the name at an index
 abbrev pub offset_word : Kind → List ℕ → ℕ → ℕ
 offset_word kind bytes k = word_at bytes (offsets_at kind bytes + 4 * k)
 
--- where its long offset stands, if it is long
+-- where its long offset is, if it has one
 abbrev pub long_place : Kind → List ℕ → ℕ → ℕ
 long_place kind bytes k = long_at kind bytes + 8 * (offset_word kind bytes k - long_word)
 
--- where the object of the name at a place stands in the pack: below 2 ^ 31 the table tells it, and from there on the place of a long offset
+-- the offset in the pack of the object of the name at an index: the word if that is below 2 ^ 31, and else the long offset of its number
 abbrev pub offset_in : Kind → List ℕ → ℕ → ℕ
 offset_in kind bytes k =
     if nat_lt (offset_word kind bytes k) long_word then offset_word kind bytes k
-    else 4294967296 * word_at bytes (long_place kind bytes k) + word_at bytes (long_place kind bytes k + 4)
+    else 2 ^ 32 * word_at bytes (long_place kind bytes k) + word_at bytes (long_place kind bytes k + 4)
 
--- whether the offset of the name at a place is long
+-- whether the offset of the name at an index is long
 abbrev pub is_long : Kind → List ℕ → ℕ → Bool
 is_long kind bytes k = nat_le long_word (offset_word kind bytes k)
 
@@ -120,7 +120,7 @@ pub record HasTables (kind : Kind) (bytes : List ℕ) : Type 0 where
 abbrev pub HasCount : Kind → List ℕ → ℕ → Type 0
 HasCount kind bytes b = word_at bytes (8 + 4 * b) ≡ count_by (is_up_to b) (names_in kind bytes)
 
--- the offset of the name at a place is in a table
+-- the offset of the name at an index is in a table
 abbrev pub HasOffset : Kind → List ℕ → ℕ → Type 0
 HasOffset kind bytes k = long_word ≤ offset_word kind bytes k → long_place kind bytes k + 8 ≤ tables_end kind bytes
 
@@ -132,14 +132,14 @@ IsNextLong kind bytes k = long_word ≤ offset_word kind bytes k → offset_word
 abbrev pub HasNoSpare : Kind → List ℕ → Type 0
 HasNoSpare kind bytes = tables_end kind bytes ≤ long_at kind bytes + 8 * longs_before kind bytes (count_in bytes)
 
--- the offset of the name at a place is after the pack's header, and a signed number of 64 bits
+-- the offset of the name at an index is after the pack's header, and a signed number of 64 bits
 abbrev pub IsPastHeader : Kind → List ℕ → ℕ → Type 0
 IsPastHeader kind bytes k = pack_header_len ≤ offset_in kind bytes k
 
 abbrev pub IsSigned : Kind → List ℕ → ℕ → Type 0
 IsSigned kind bytes k = offset_in kind bytes k < 2 ^ 63
 
--- the tables have names that are sorted and counted. No name is below the one before it; one may occur twice
+-- the tables contain names that are sorted and counted. No name is below the previous one; one may occur twice
 pub record HasNames (kind : Kind) (bytes : List ℕ) : Type 0 where
   pub head : HasHead kind bytes
   pub tables : HasTables kind bytes

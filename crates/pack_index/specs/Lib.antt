@@ -4,3 +4,4 @@ pub mod Format
 pub mod Names
 pub mod Refusal
 pub mod Shared
+pub mod Lazy

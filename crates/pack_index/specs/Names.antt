@@ -14,8 +14,8 @@ abbrev pub kind_of : Names → Kind
 kind_of (Sha1 ids) = kinds.Sha1
 kind_of (Sha256 ids) = kinds.Sha256
 
--- the id of these digits stands at a place, and at none before it
-pub record IsFirstPlace (names : List (List ℕ)) (digits : List ℕ) (at : ℕ) : Type 0 where
+-- the id of these digits is at this index, and at none before it
+pub record IsFirstIndexOf (names : List (List ℕ)) (digits : List ℕ) (at : ℕ) : Type 0 where
   pub in_range : at < length names
   pub same : slice_index_or names at [] ≡ digits
   pub first : (k : ℕ) → k < at → slice_index_or names k [] ≢ digits

@@ -1,5 +1,5 @@
--- Why bytes are no pack index.
-use Rattle.std.specs.Prelude.{◌≡◌, ◌≢◌, ℕ, ◌+◌, ◌-◌, ◌*◌, ◌%◌, ◌^◌, ◌<◌, ◌≤◌, Bool, true, false, not, ◌&&◌, nat_eq, nat_le, nat_lt, Option, None, Some, Result, Ok, Err, List, [], ◌∷◌, count_by, drop, length, option_map, slice_index_or, take}
+-- Why bytes are not a pack index.
+use Rattle.std.specs.Prelude.{◌≡◌, ◌≢◌, ℕ, ◌+◌, ◌-◌, ◌*◌, ◌%◌, ◌^◌, ◌<◌, ◌≤◌, Bool, true, false, not, ◌&&◌, nat_eq, nat_le, nat_lt, Option, None, Some, Result, Ok, Err, List, [], ◌∷◌, ◌++◌, count_by, drop, length, option_map, slice_index_or, take}
 use Rattle.std.specs.Option.{is_some}
 use Rattle.std.specs.Str.{bytes_eq}
 use Rattle.std.specs.Ordering.{nat_cmp, is_lt}
@@ -10,7 +10,7 @@ use Rattle.gix_hash.specs.ObjectId.{id_bytes}
 use Rattle.gix_hash.specs.declared.Kind.{Kind}
 use Rattle.gix_hash.specs.declared.Kind.TheVariants.{Sha1, Sha256}
 use Rattle.id_lookup.specs.FirstBytes.{is_up_to}
-use Rattle.id_lookup.specs.Sorted.{IsFirstFall, IsSortedIds}
+use Rattle.id_lookup.specs.Sorted.{IsFirstUnsorted, IsSortedIds}
 use Rattle.pack_index.specs.Firsts.{Each, IsFirstNot, cause_if, first_below, first_cause}
 use Rattle.pack_index.specs.Format.{HasCount, HasHead, HasNames, HasNoSpare, HasOffset, HasOffsets, HasTables, IndexFile, IsNextLong, IsPastHeader, IsSigned, count_in, counts_len, digest_at, is_long, long_at, long_place, long_word, longs_before, magic_number, min_len, names_in, offset_in, offset_word, pack_header_len, tables_end, word_at}
 use Rattle.pack_index.specs.declared.error.Error.{Error}
@@ -18,9 +18,9 @@ use Rattle.pack_index.specs.declared.error.Error.TheVariants.{OtherKind, TooShor
 
 -- how long an index of version 1 is, which has no magic number: the counts, the names each after an offset of four bytes, and the digests
 abbrev pub version_1_len : Kind → List ℕ → ℕ
-version_1_len kind bytes = counts_len + byte_len_of kind * word_at bytes 1020 + 4 * word_at bytes 1020 + 2 * byte_len_of kind
+version_1_len kind bytes = counts_len + byte_len_of kind * word_at bytes (counts_len - 4) + 4 * word_at bytes (counts_len - 4) + 2 * byte_len_of kind
 
--- the tests by which bytes are refused
+-- the tests by which bytes are rejected
 abbrev pub is_short : Kind → List ℕ → Bool
 is_short kind bytes = nat_lt (length bytes) (min_len kind)
 
@@ -32,7 +32,7 @@ has_tables kind bytes =
     nat_le (long_at kind bytes) (tables_end kind bytes) && (nat_eq ((tables_end kind bytes - long_at kind bytes) % 8) 0
     && nat_le (tables_end kind bytes) (long_at kind bytes + 8 * (count_in bytes - 1)))
 
--- the name after the one at a place is below it
+-- the name after the one at an index is below it
 abbrev pub falls : List (List ℕ) → ℕ → Bool
 falls names k = is_lt (slice_cmp nat_cmp (slice_index_or names (k + 1) []) (slice_index_or names k []))
 
@@ -57,23 +57,35 @@ too_high kind bytes k = nat_le (2 ^ 63) (offset_in kind bytes k)
 abbrev pub has_checksum : Kind → List ℕ → Bool
 has_checksum kind bytes = bytes_eq (drop (digest_at kind bytes) bytes) (id_bytes (digest kind (take (digest_at kind bytes) bytes)))
 
--- why bytes are no pack index of the kind, whatever they are of the other: the first of these causes. Places are counted from 0
-unfoldable pub fault : Kind → List ℕ → Option Error
-fault kind bytes = first_cause (
+-- the causes in the head, in the tables and names, and in the offsets and the digest, each of these in order
+abbrev pub head_causes : Kind → List ℕ → List (Option Error)
+head_causes kind bytes =
     cause_if (is_short kind bytes) TooShort
     ∷ cause_if (is_version_1 kind bytes) Version1
     ∷ cause_if (not (nat_eq (word_at bytes 0) magic_number)) BadMagic
     ∷ cause_if (not (nat_eq (word_at bytes 4) 2)) (BadVersion (word_at bytes 4))
-    ∷ cause_if (not (has_tables kind bytes)) WrongLength
+    ∷ []
+
+abbrev pub name_causes : Kind → List ℕ → List (Option Error)
+name_causes kind bytes =
+    cause_if (not (has_tables kind bytes)) WrongLength
     ∷ option_map (λ k. NamesFall (k + 1)) (first_below (falls (names_in kind bytes)) (length (names_in kind bytes) - 1))
     ∷ option_map WrongCount (first_below (wrong_count kind bytes) 256)
-    ∷ option_map NoOffset (first_below (no_offset kind bytes) (count_in bytes))
+    ∷ []
+
+abbrev pub offset_causes : Kind → List ℕ → List (Option Error)
+offset_causes kind bytes =
+    option_map NoOffset (first_below (no_offset kind bytes) (count_in bytes))
     ∷ option_map LongOutOfOrder (first_below (out_of_order kind bytes) (count_in bytes))
     ∷ cause_if (has_spare kind bytes) (SpareLong (longs_before kind bytes (count_in bytes)))
     ∷ option_map OffsetInHeader (first_below (in_header kind bytes) (count_in bytes))
     ∷ option_map OffsetTooHigh (first_below (too_high kind bytes) (count_in bytes))
     ∷ cause_if (not (has_checksum kind bytes)) WrongChecksum
-    ∷ [])
+    ∷ []
+
+-- why bytes are not a pack index of the kind, whether or not they are one of the other: the first of these causes
+unfoldable pub fault : Kind → List ℕ → Option Error
+fault kind bytes = first_cause (head_causes kind bytes ++ (name_causes kind bytes ++ offset_causes kind bytes))
 
 abbrev pub other_than : Kind → Kind
 other_than Sha1 = Sha256
@@ -85,7 +97,7 @@ fault_or_other None is_other other = None
 fault_or_other (Some e) true other = Some (OtherKind other)
 fault_or_other (Some e) false other = Some e
 
--- why bytes are refused as a pack index of the kind
+-- why bytes are rejected as a pack index of the kind
 abbrev pub refusal : Kind → List ℕ → Option Error
 refusal kind bytes = fault_or_other (fault kind bytes) (not (is_some (fault (other_than kind) bytes))) (other_than kind)
 
@@ -106,7 +118,7 @@ IsFault kind bytes BadMagic = (min_len kind ≤ length bytes) × (word_at bytes 
 IsFault kind bytes (BadVersion version) =
     (min_len kind ≤ length bytes) × (word_at bytes 0 ≡ magic_number) × (version ≡ word_at bytes 4) × (version ≢ 2)
 IsFault kind bytes WrongLength = HasHead kind bytes × ¬ HasTables kind bytes
-IsFault kind bytes (NamesFall at) = HasHead kind bytes × HasTables kind bytes × IsFirstFall (names_in kind bytes) at
+IsFault kind bytes (NamesFall at) = HasHead kind bytes × HasTables kind bytes × IsFirstUnsorted (names_in kind bytes) at
 IsFault kind bytes (WrongCount b) =
     HasHead kind bytes × HasTables kind bytes × IsSortedIds (names_in kind bytes) × IsFirstNot (HasCount kind bytes) 256 b
 IsFault kind bytes (NoOffset at) = HasNames kind bytes × IsFirstNot (HasOffset kind bytes) (count_in bytes) at

@@ -8,19 +8,21 @@ ghost use Rattle.pack_index.specs.Format.{HasCount, HasHead, HasOffset, HasTable
 ghost use Rattle.pack_index.specs.Refusal.{IsFault, version_1_len};
 
 use crate::error::Error;
-use crate::words::{LONG, NAMES_AT, count_in, long_at, offset_word, tables_end, word_at};
+use crate::words::{LONG, NAMES_AT, count_in, long_at, offset_word, tables_end, up_to_in, word_at};
 use gix_hash::Kind;
 use id_lookup::FanOut;
 
-const MAGIC: u32 = 0xff74_4f63;
+pub(crate) const MAGIC: u32 = 0xff74_4f63;
 
-const VERSION: u32 = 2;
+pub(crate) const VERSION: u32 = 2;
 
 // The length of the counts, with which an index of version 1 begins.
-const COUNTS_LEN: usize = 1024;
+pub(crate) const COUNTS_LEN: usize = 1024;
 
-// Whether the front of the bytes and the lengths of their tables are those of a pack index.
-pub(crate) fn check_tables(bytes: &[u8], kind: Kind) -> Result<(), Error>
+/// Checks that the bytes begin as a pack index of version 2, and that its tables fill them.
+/// Otherwise the error is the first one that holds of those from [`Error::TooShort`] to
+/// [`Error::WrongLength`].
+pub fn check_tables(bytes: &[u8], kind: Kind) -> Result<(), Error>
     ensures head { OnOk result (HasHead kind bytes.now) }
     ensures tables { OnOk result (HasTables kind bytes.now) }
     ensures err { IfErr result (IsFault kind bytes.now) }
@@ -77,7 +79,7 @@ pub(crate) fn first_wrong_count(bytes: &[u8], fan_out: &FanOut, kind: Kind) -> O
         (IsFirstNot (HasCount kind bytes.now) 256) }
 {
     for byte in 0..=255 {
-        if word_at(bytes, 8 + 4 * usize::from(byte)) as usize != fan_out.up_to(byte) {
+        if up_to_in(bytes, byte) as usize != fan_out.up_to(byte) {
             return Some(byte);
         }
     }
@@ -98,8 +100,8 @@ pub(crate) fn first_without_offset(bytes: &[u8], kind: Kind) -> Option<usize>
     None
 }
 
-// Whether the name at a place has an offset.
-fn has_offset(bytes: &[u8], kind: Kind, at: usize) -> bool
+/// Whether the offset of the name at an index is in a table.
+pub fn has_offset(bytes: &[u8], kind: Kind, at: usize) -> bool
     requires tables { HasTables kind bytes.now }
     requires in_range { at < count_in bytes.now }
     ensures { IsTrue result ↔ HasOffset kind bytes.now at }

@@ -1,10 +1,10 @@
-//! Why bytes are no pack index.
+//! Why bytes are not a pack index.
 
 use gix_hash::Kind;
 use thiserror::Error as ThisError;
 
-/// Why bytes are no pack index of version 2 whose names are of a kind. If several causes hold, the
-/// error is the first one in this list. Indexes of names are counted from 0.
+/// Why bytes are not a pack index of version 2 whose names are of a kind. If several causes hold,
+/// the error is the first one in this list.
 ///
 /// ```
 /// let why = File::try_new(b"PACK", Kind::Sha1);
@@ -28,34 +28,34 @@ pub enum Error {
     /// The version after the magic number is this, and not 2.
     #[error("pack indexes of version {0} are not read")]
     BadVersion(u32),
-    /// As many names as are counted do not fit between the counts and the digests, or what they
-    /// leave is no table of long offsets: whole ones of eight bytes, and fewer than names. The
-    /// bytes were cut, or there are too many.
+    /// The names that are counted do not fit between the counts and the digests with their CRCs and
+    /// offsets, or the rest is not a table of long offsets, of eight bytes each and fewer than the
+    /// names. The bytes were cut, or there are too many.
     #[error("the tables of the pack index do not fill its bytes")]
     WrongLength,
-    /// The name at this index is the first that is below the one before it.
+    /// The name at this index is the first that is below the previous one.
     #[error("the name at place {0} is below the one before it")]
     NamesFall(usize),
     /// The count of this byte is the first that is not the number of names with at most that first
     /// byte. So if counts fall, one is wrong.
     #[error("the names up to the first byte {0} are counted wrong")]
     WrongCount(u8),
-    /// The name at this index is the first whose offset is in no table: it is long, and there is no
-    /// long offset of its number.
+    /// The name at this index is the first whose offset is in no table: it is long, and its number
+    /// is not below the number of long offsets.
     #[error("the name at place {0} has no offset")]
     NoOffset(usize),
     /// The name at this index is the first with a long offset that is not the next one: its number
-    /// is not how many names before it have long offsets.
+    /// is not the number of names before it with long offsets.
     #[error("the long offset of the name at place {0} is not the next one")]
     LongOutOfOrder(usize),
-    /// The long offset of this number, counted from 0, is the first that no name has.
+    /// The long offset at this index is the first that no name has.
     #[error("the long offset at place {0} is of no name")]
     SpareLong(usize),
     /// The name at this index is the first whose offset is below 12, in the header of the pack.
     #[error("the offset of the name at place {0} is in the header of the pack")]
     OffsetInHeader(usize),
-    /// The name at this index is the first whose offset is 2^63 or more, and no signed number of 64
-    /// bits.
+    /// The name at this index is the first whose offset is 2^63 or more, which no signed number of
+    /// 64 bits is.
     #[error("the offset of the name at place {0} is 2^63 or more")]
     OffsetTooHigh(usize),
     /// The last bytes are not the digest of all before them.

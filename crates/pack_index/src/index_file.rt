@@ -9,7 +9,7 @@ ghost use Rattle.id_lookup.specs.Index.{IsAnswer};
 ghost use Rattle.id_lookup.specs.ShortNames.{IsShortestName};
 ghost use Rattle.id_lookup.specs.FoundRun.{IsRun};
 ghost use Rattle.pack_index.specs.Format.{IsPackIndex, crc_in, digest_at, names_in, offset_in, tables_end};
-ghost use Rattle.pack_index.specs.Names.{IsFirstPlace};
+ghost use Rattle.pack_index.specs.Names.{IsFirstIndexOf};
 ghost use Rattle.pack_index.specs.Refusal.{IsFault, opened, other_than, refusal};
 
 use crate::checks::{check_tables, first_wrong_count};
@@ -21,7 +21,7 @@ use gix_hash::{Kind, Prefix, ends_in_digest, oid};
 use id_lookup::{Answer, FanOut, Run, laws};
 use std::marker::Model;
 
-/// A pack index of Git, of version 2, over its bytes. Places of names are counted from 0.
+/// A pack index of Git, of version 2, over its bytes.
 ///
 /// ```
 /// let file = File::try_new(content, Kind::Sha1)?;
@@ -53,8 +53,8 @@ impl<'a> Model for File<'a> {
 }
 
 impl<'a> File<'a> {
-    /// The bytes as a pack index whose names are of a kind, or the first cause for which they are
-    /// none.
+    /// The bytes as a pack index whose names are of a kind. The error is the first cause for which
+    /// they are not.
     pub fn try_new(bytes: &'a [u8], kind: Kind) -> Result<File<'a>, Error>
         ensures value { result ≡ opened kind bytes.now }
         ensures ok { IfOk result (λ file. file ≡ record { kind = kind; bytes = bytes.now }) }
@@ -68,7 +68,7 @@ impl<'a> File<'a> {
         }
     }
 
-    // As `try_new`, whatever the bytes are of the other kind.
+    // As `try_new`, but without a test of whether the bytes are an index of the other kind.
     fn checked(bytes: &'a [u8], kind: Kind) -> Result<File<'a>, Error>
         ensures ok { IfOk result (λ file. file ≡ record { kind = kind; bytes = bytes.now }) }
         ensures index { IfOk result (λ file. IsPackIndex file.kind file.bytes) }
@@ -109,7 +109,7 @@ impl<'a> File<'a> {
         self.names.len()
     }
 
-    /// The name at a place.
+    /// The name at an index.
     pub fn oid_at_index(&self, at: usize) -> oid<'_>
         requires { at < length (names_in self.now.kind self.now.bytes) }
         ensures { HoldsAt (λ id. oid_digits result ≡ id)
@@ -118,7 +118,7 @@ impl<'a> File<'a> {
         self.names.get(at)
     }
 
-    /// Where the object of the name at a place stands in the pack.
+    /// The offset in the pack of the object of the name at an index.
     pub fn pack_offset_at_index(&self, at: usize) -> u64
         requires { at < length (names_in self.now.kind self.now.bytes) }
         ensures { result ≡ offset_in self.now.kind self.now.bytes at }
@@ -127,7 +127,7 @@ impl<'a> File<'a> {
         offset_in(self.bytes, kind, at)
     }
 
-    /// The CRC-32 of the object of the name at a place, as it stands packed.
+    /// The CRC-32 of the packed bytes of the object of the name at an index.
     pub fn crc32_at_index(&self, at: usize) -> u32
         requires { at < length (names_in self.now.kind self.now.bytes) }
         ensures { result ≡ crc_in self.now.kind self.now.bytes at }
@@ -136,22 +136,22 @@ impl<'a> File<'a> {
         crc_in(self.bytes, kind, at)
     }
 
-    /// The run of the names that begin with a prefix, and of no other, by
+    /// The run of exactly the names that begin with a prefix, by
     /// [`lookup_in`](id_lookup::lookup_in) over the file's own counts.
     ///
-    /// The prefix has the index's kind. A name that stands twice is two members of the run. No clause
-    /// says how many names are compared.
+    /// The prefix must have the index's kind. A name that occurs twice is two members of the run.
+    /// No clause says how many names are compared.
     pub fn find_prefix(&self, prefix: &Prefix) -> Run
         requires { prefix.now.kind ≡ self.now.kind }
         ensures { IsRun prefix.now (names_in self.now.kind self.now.bytes) result }
     {
-        // Where it is told that the prefix has at most as many digits as its kind.
+        // Its contract says that the prefix has at most as many digits as its kind.
         let _hex_len = prefix.hex_len();
         self.names.find(&self.fan_out, prefix)
     }
 
-    /// Which names begin with a prefix: none, one, or a run of more, as of [`File::find_prefix`]. No
-    /// clause says how many names are compared.
+    /// Which names begin with a prefix: none, one, or a run of more, as of [`File::find_prefix`].
+    /// No clause says how many names are compared.
     pub fn lookup_prefix(&self, prefix: &Prefix) -> Answer
         requires { prefix.now.kind ≡ self.now.kind }
         ensures { IsAnswer prefix.now (names_in self.now.kind self.now.bytes) result }
@@ -164,13 +164,13 @@ impl<'a> File<'a> {
         }
     }
 
-    /// The place of a name, the first one where it stands twice, or `None` where it is not there. No
-    /// clause says how many names are compared.
+    /// The index of a name, the first one if it occurs more than once, or `None` if it does not
+    /// occur. No clause says how many names are compared.
     pub fn lookup(&self, id: oid<'_>) -> Option<usize>
         ensures { let names = names_in self.now.kind self.now.bytes in
             MatchOption result ((k : ℕ) → k < length names
             → slice_index_or names k [] ≢ oid_digits id.entry)
-            (IsFirstPlace names (oid_digits id.entry)) }
+            (IsFirstIndexOf names (oid_digits id.entry)) }
     {
         if id.kind() != self.names.kind() {
             return None;
@@ -184,8 +184,8 @@ impl<'a> File<'a> {
         Some(run.start)
     }
 
-    /// The shortest name of the object at a place: its first digits, at least 4 and as few as may be,
-    /// with which no other name of the index begins. A name that stands twice has none.
+    /// The shortest name of the object at an index: the shortest beginning of its name of at least
+    /// 4 digits that no other name begins with. A name that occurs twice has none.
     pub fn abbreviate(&self, at: usize) -> Option<Prefix>
         requires { at < length (names_in self.now.kind self.now.bytes) }
         ensures kind { IfSome result (λ name. name.kind ≡ self.now.kind) }
@@ -199,7 +199,7 @@ impl<'a> File<'a> {
         self.names.abbreviate(at)
     }
 
-    /// The digest of the pack, as the index has it.
+    /// The digest of the pack, as it is stored in the index.
     pub fn pack_checksum(&self) -> oid<'a>
         ensures { oid_bytes result ≡ slice_range self.now.bytes
             (tables_end self.now.kind self.now.bytes) (digest_at self.now.kind self.now.bytes) }
@@ -223,7 +223,8 @@ impl<'a> File<'a> {
     }
 }
 
-// Why bytes that are no index of a kind are refused: as one of the other kind, or by the error.
+// Why bytes that are not an index of a kind are rejected: as one of the other kind, or by the
+// error.
 fn error_or_other(bytes: &[u8], kind: Kind, error: Error) -> Error
     requires { IsFault kind bytes.now error }
     ensures error { refusal kind bytes.now ≡ Some result }

@@ -6,11 +6,11 @@ ghost use Rattle.pack_index.specs.Format.{crcs_at, names_at, names_in};
 
 use crate::index_file::File;
 
-/// The names of a pack index, one behind the other, are the bytes of its table of names.
+/// The names of a pack index, one after the other, are the bytes of its table of names.
 pub fn names_in_a_row(file: &File<'_>)
     ensures { flat_map (λ name. name) (names_in file.now.kind file.now.bytes)
         ≡ digits_of (slice_range file.now.bytes names_at (crcs_at file.now.kind file.now.bytes)) }
 {
-    // Where it is told that the bytes are a pack index.
+    // Its contract says that the bytes are a pack index.
     let _kind = file.object_hash();
 }

@@ -1,19 +1,24 @@
 //! Git's pack indexes of version 2, over their bytes.
 //!
-//! A [`File`] stands on bytes that were checked once: their tables, order, counts, offsets and
-//! checksum. Opening takes no memory and copies no name. The names are looked up by
-//! [`lookup_in`](id_lookup::lookup_in) where they are stored, and the index says where each object
-//! begins in the pack.
+//! A [`File`] is made of bytes that were checked once: their tables, order, counts, offsets and
+//! checksum. Opening allocates no memory and copies no name. The names are looked up by
+//! [`lookup_in`](id_lookup::lookup_in) where they are stored, and the index has the offset of each
+//! object in the pack.
 #![tactic(auto)]
 
 mod checks;
 mod error;
 mod index_file;
 pub mod laws;
+mod lazy;
+mod lazy_error;
 mod names;
 mod offsets;
 mod shared;
+pub mod tables;
 mod words;
 
 pub use error::Error;
 pub use index_file::File;
+pub use lazy::LazyFile;
+pub use lazy_error::LazyError;

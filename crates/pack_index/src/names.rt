@@ -7,7 +7,7 @@ ghost use Rattle.gix_hash.specs.Oid.{oid_digits};
 ghost use Rattle.id_lookup.specs.FirstBytes.{IsFanOut};
 ghost use Rattle.id_lookup.specs.FoundRun.{IsRun};
 ghost use Rattle.id_lookup.specs.ShortNames.{IsShortestName};
-ghost use Rattle.id_lookup.specs.Sorted.{IsFirstFall, IsSortedIds, least_hex_len};
+ghost use Rattle.id_lookup.specs.Sorted.{IsFirstUnsorted, IsSortedIds, least_hex_len};
 ghost use Rattle.pack_index.specs.Format.{digests_in};
 ghost use Rattle.pack_index.specs.Names.{kind_of, list_of};
 
@@ -22,12 +22,12 @@ pub(crate) enum Names<'a> {
 }
 
 impl<'a> Names<'a> {
-    // The digests of a kind that stand in some bytes, one behind the other.
+    // The digests of a kind that the bytes contain, one after the other.
     pub(crate) fn try_new(bytes: &'a [u8], kind: Kind) -> Result<Names<'a>, Unsorted>
         ensures kind { IfOk result (λ names. kind_of names ≡ kind) }
         ensures list { IfOk result (λ names. list_of names ≡ digests_in kind bytes.now) }
         ensures sorted { IsOk result ↔ IsSortedIds (digests_in kind bytes.now) }
-        ensures err { IfErr result (λ e. IsFirstFall (digests_in kind bytes.now) e.at) }
+        ensures err { IfErr result (λ e. IsFirstUnsorted (digests_in kind bytes.now) e.at) }
     {
         match kind {
             Kind::Sha1 => match SortedIds::try_new(bytes.as_chunks().0) {
@@ -78,7 +78,7 @@ impl<'a> Names<'a> {
         }
     }
 
-    // The shortest name of the member at a place, if it has one.
+    // The shortest name of the member at an index, if it has one.
     pub(crate) fn abbreviate(&self, at: usize) -> Option<Prefix>
         requires { at < length (list_of self.now) }
         ensures kind { IfSome result (λ name. hex_len_of name.kind

@@ -13,7 +13,7 @@ use gix_hash::Kind;
 // The length of a pack's header.
 const PACK_HEADER_LEN: u64 = 12;
 
-// The smallest number that is no signed one of 64 bits.
+// The smallest number that is not a signed one of 64 bits.
 const UNSIGNED: u64 = 0x8000_0000_0000_0000;
 
 // Whether each name has an offset in the pack, and the long ones are used in the order of names.
@@ -78,7 +78,7 @@ fn first_in_header(bytes: &[u8], kind: Kind) -> Option<usize>
     None
 }
 
-// The first name whose offset is no signed number.
+// The first name whose offset is not a signed number.
 fn first_too_high(bytes: &[u8], kind: Kind) -> Option<usize>
     requires tables { HasTables kind bytes.now }
     requires offsets { Each (HasOffset kind bytes.now) (count_in bytes.now) }

@@ -11,7 +11,7 @@ use std::collections::BTreeMap;
 impl<'a> File<'a> {
     /// Two names with the same offset, each by its index: the first name whose offset an earlier
     /// one has, after that earlier one. `None` if and only if all offsets differ. No pack has an
-    /// index with two such names, since no two of its objects begin in one place.
+    /// index with two such names, since no two of its objects begin at one offset.
     ///
     /// The call takes memory for all offsets, and fails only if there is not enough.
     pub fn shared_offset<A: Allocator + Clone>(

@@ -7,12 +7,12 @@ ghost use Rattle.pack_index.specs.Format.{HasOffset, HasTables, count_in, crc_in
 use gix_hash::Kind;
 
 /// Where the names begin.
-pub(crate) const NAMES_AT: usize = 1032;
+pub const NAMES_AT: usize = 1032;
 
 /// The smallest word that the table of offsets has for a long offset.
 pub(crate) const LONG: u32 = 0x8000_0000;
 
-// The number that four bytes write from a place on, the highest first.
+// The number that is written in the four bytes from an index on, the highest first.
 #[tactic(auto, unfolding(crate::specs::Format::word_at))]
 pub(crate) fn word_at(bytes: &[u8], at: usize) -> u32
     requires { at + 4 ≤ length bytes.now }
@@ -21,16 +21,24 @@ pub(crate) fn word_at(bytes: &[u8], at: usize) -> u32
     u32::from_be_bytes([bytes[at], bytes[at + 1], bytes[at + 2], bytes[at + 3]])
 }
 
-// The number of names.
-pub(crate) fn count_in(bytes: &[u8]) -> u32
+/// The number of names.
+pub fn count_in(bytes: &[u8]) -> u32
     requires { names_at ≤ length bytes.now }
     ensures { result ≡ count_in bytes.now }
 {
     word_at(bytes, NAMES_AT - 4)
 }
 
-// Where the CRCs begin, behind the names.
-pub(crate) fn crcs_at(bytes: &[u8], kind: Kind) -> usize
+/// The number of names with at most a first byte, as the index counts them.
+pub fn up_to_in(bytes: &[u8], byte: u8) -> u32
+    requires { names_at ≤ length bytes.now }
+    ensures { result ≡ word_at bytes.now (8 + 4 * byte) }
+{
+    word_at(bytes, 8 + 4 * usize::from(byte))
+}
+
+/// Where the CRCs begin, after the names.
+pub fn crcs_at(bytes: &[u8], kind: Kind) -> usize
     requires { names_at ≤ length bytes.now }
     ensures place { result ≡ crcs_at kind bytes.now }
     ensures small { result < 2 ^ 40 }
@@ -77,8 +85,8 @@ pub(crate) fn digest_at(bytes: &[u8], kind: Kind) -> usize
     bytes.len() - kind.len_in_bytes()
 }
 
-// The CRC of the object of the name at a place.
-pub(crate) fn crc_in(bytes: &[u8], kind: Kind, at: usize) -> u32
+/// The CRC of the object of the name at an index.
+pub fn crc_in(bytes: &[u8], kind: Kind, at: usize) -> u32
     requires tables { HasTables kind bytes.now }
     requires in_range { at < count_in bytes.now }
     ensures { result ≡ crc_in kind bytes.now at }
@@ -86,7 +94,7 @@ pub(crate) fn crc_in(bytes: &[u8], kind: Kind, at: usize) -> u32
     word_at(bytes, crcs_at(bytes, kind) + 4 * at)
 }
 
-// What the table of offsets has for the name at a place.
+// The word that the table of offsets has for the name at an index.
 pub(crate) fn offset_word(bytes: &[u8], kind: Kind, at: usize) -> u32
     requires tables { HasTables kind bytes.now }
     requires in_range { at < count_in bytes.now }
@@ -95,8 +103,8 @@ pub(crate) fn offset_word(bytes: &[u8], kind: Kind, at: usize) -> u32
     word_at(bytes, offsets_at(bytes, kind) + 4 * at)
 }
 
-// Where the object of the name at a place stands in the pack.
-pub(crate) fn offset_in(bytes: &[u8], kind: Kind, at: usize) -> u64
+/// Where the object of the name at an index begins in the pack.
+pub fn offset_in(bytes: &[u8], kind: Kind, at: usize) -> u64
     requires tables { HasTables kind bytes.now }
     requires in_range { at < count_in bytes.now }
     requires has { HasOffset kind bytes.now at }

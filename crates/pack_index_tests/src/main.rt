@@ -1,8 +1,8 @@
-//! Opens pack indexes that Git wrote and tells what they have, as `git show-index` does.
+//! Opens pack indexes that Git wrote and prints what they have, as `git show-index` does.
 //!
-//! Behind each index stand the runs of the sixteen prefixes of one digit; of each name the place at
-//! which it is found and its shortest name, or a dash where it stands twice; and both checksums. Then
-//! come broken copies, each with the cause for which it is refused.
+//! After each index come the runs of the sixteen prefixes of one digit; of each name the index at
+//! which it is found and its shortest name, or a dash if it occurs twice; and both checksums. Then
+//! come broken copies, each with the cause for which it is rejected.
 #![tactic(auto)]
 
 use gix_hash::{Kind, Prefix, digest_of};
@@ -22,7 +22,7 @@ const DIGITS: [&str; 16] = [
     "0", "1", "2", "3", "4", "5", "6", "7", "8", "9", "a", "b", "c", "d", "e", "f",
 ];
 
-// Bytes of an index of SHA-1 with 21 names, by place and by what stands there in a broken copy.
+// Bytes of an index of SHA-1 with 21 names: their positions, and their values in a broken copy.
 const BROKEN: [(usize, u8); 12] = [
     // The magic number, and the version.
     (0, 0),
@@ -36,7 +36,7 @@ const BROKEN: [(usize, u8); 12] = [
     // The last byte of the pack's digest, and the last of all.
     (1639, 0),
     (1659, 0),
-    // Others whose refusals have another number: the highest byte of the version, the count of byte
+    // Others whose errors have another number: the highest byte of the version, the count of byte
     // 254, the first byte of the last name, and the highest of the last offset.
     (4, 1),
     (1027, 22),
@@ -48,8 +48,8 @@ const BROKEN: [(usize, u8); 12] = [
 // version 2, and one less than this one has.
 const CUT: [usize; 3] = [1063, 1071, 1659];
 
-// Bytes of an index of SHA-1 with 4 names, of which all but the second have long offsets, as many as
-// there may be. Each copy has one of them changed, and its checksum made right again.
+// Bytes of an index of SHA-1 with 4 names, of which all but the second have long offsets, as many
+// as there may be. Each copy has one of them changed, and its checksum made right again.
 const RESEALED: [(usize, u8); 10] = [
     // The last bytes of the words of the first name and of the third: their numbers are 1 and 0.
     (1131, 1),
@@ -86,13 +86,13 @@ fn main(rt: HostRuntime) -> io::Result<()> {
         println!(rt; "{name}")?;
         show(&rt, &fs::read(&rt, name)?, kind)?;
     }
-    tell_broken(&rt, &mut fs::read(&rt, "sha1.idx")?)?;
+    print_broken(&rt, &mut fs::read(&rt, "sha1.idx")?)?;
     let mut longs = fs::read(&rt, "longs.idx")?;
-    tell_resealed(&rt, &mut longs)?;
-    tell_shared(&rt, rt.alloc(), &mut longs, 38)?;
-    tell_shared(&rt, rt.alloc(), &mut longs, 12)?;
+    print_resealed(&rt, &mut longs)?;
+    print_shared(&rt, rt.alloc(), &mut longs, 38)?;
+    print_shared(&rt, rt.alloc(), &mut longs, 12)?;
     for (name, kind) in OTHERS {
-        tell(&rt, &fs::read(&rt, name)?, kind)?;
+        print_cause(&rt, &fs::read(&rt, name)?, kind)?;
     }
     Ok(())
 }
@@ -100,7 +100,7 @@ fn main(rt: HostRuntime) -> io::Result<()> {
 // What an index has.
 fn show(rt: &impl Print, bytes: &[u8], kind: Kind) -> io::Result<()> {
     let Ok(file) = File::try_new(bytes, kind) else {
-        return tell(rt, bytes, kind);
+        return print_cause(rt, bytes, kind);
     };
     show_objects(rt, &file)?;
     show_runs(rt, &file)?;
@@ -139,29 +139,29 @@ fn show_names(rt: &impl Print, file: &File<'_>) -> io::Result<()> {
 }
 
 // Why an index with a broken byte is none, and one that is cut.
-fn tell_broken(rt: &impl Print, bytes: &mut [u8]) -> io::Result<()> {
+fn print_broken(rt: &impl Print, bytes: &mut [u8]) -> io::Result<()> {
     for (at, broken) in BROKEN {
         if at < bytes.len() {
             let good = bytes[at];
             bytes[at] = broken;
-            tell(rt, bytes, Kind::Sha1)?;
+            print_cause(rt, bytes, Kind::Sha1)?;
             bytes[at] = good;
         }
     }
     for len in CUT {
-        tell(rt, &bytes[..len.min(bytes.len())], Kind::Sha1)?;
+        print_cause(rt, &bytes[..len.min(bytes.len())], Kind::Sha1)?;
     }
     Ok(())
 }
 
 // The same of an index whose copies end in the digest of what is before it.
-fn tell_resealed(rt: &impl Print, bytes: &mut [u8]) -> io::Result<()> {
+fn print_resealed(rt: &impl Print, bytes: &mut [u8]) -> io::Result<()> {
     for (at, changed) in RESEALED {
         if at < bytes.len() {
             let good = bytes[at];
             bytes[at] = changed;
             seal(bytes);
-            tell(rt, bytes, Kind::Sha1)?;
+            print_cause(rt, bytes, Kind::Sha1)?;
             bytes[at] = good;
         }
     }
@@ -169,7 +169,7 @@ fn tell_resealed(rt: &impl Print, bytes: &mut [u8]) -> io::Result<()> {
 }
 
 // Which names of that index have one offset, where the first long one ends in this byte.
-fn tell_shared<A: Allocator + Clone>(
+fn print_shared<A: Allocator + Clone>(
     rt: &impl Print,
     alloc: A,
     bytes: &mut [u8],
@@ -180,7 +180,7 @@ fn tell_shared<A: Allocator + Clone>(
     }
     seal(bytes);
     let Ok(file) = File::try_new(bytes, Kind::Sha1) else {
-        return tell(rt, bytes, Kind::Sha1);
+        return print_cause(rt, bytes, Kind::Sha1);
     };
     match file.shared_offset(alloc) {
         Ok(None) => println!(rt; "no two names have one offset"),
@@ -199,7 +199,7 @@ fn seal(bytes: &mut [u8]) {
 }
 
 // Whether bytes are an index, or why not.
-fn tell(rt: &impl Print, bytes: &[u8], kind: Kind) -> io::Result<()> {
+fn print_cause(rt: &impl Print, bytes: &[u8], kind: Kind) -> io::Result<()> {
     match File::try_new(bytes, kind) {
         Ok(_) => println!(rt; "a pack index"),
         Err(error) => println!(rt; "{error}"),

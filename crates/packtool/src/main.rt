@@ -1,89 +1,58 @@
 //! `packtool` reads Git's pack indexes, and checks files that end with their own digest.
 //!
-//! It reads one on standard input and writes to standard output. Its status is 0 where it wrote a
-//! line, 1 where it wrote none, and 2 for a refusal, which is told on standard error.
+//! It reads one from standard input and writes to standard output. Its status is 0 if it wrote a
+//! line, 1 if it wrote none, and 2 for an error, which is printed on standard error.
 #![tactic(auto)]
-
-ghost use Rattle.std.specs.Prelude.{◌≡◌};
-ghost use Rattle.packtool.specs.declared.Failure.TheVariants as failure;
-ghost use Rattle.command_line.specs.declared.WordsError.TheVariants as words;
-ghost use Rattle.pack_commands.specs.declared.ArgError.TheVariants as arg;
-ghost use Rattle.pack_commands.specs.declared.CommandError.TheVariants as error;
 
 mod help;
 
-use command_line::{WordsError, own_words, told};
-use devices::Plain;
-use pack_commands::{ArgError, CommandError, read_command, run_command};
+use command_line::{Failure, WordsError, command_line_args, report};
+use packtool_commands::{ArgError, CommandError, read_command, run_command};
 use std::alloc::AllocError;
 use std::io;
 use std::io::BufWriter;
 use std::process::ExitCode;
-use thiserror::Error as ThisError;
+use streams::Plain;
 
 fn main(rt: HostRuntime) -> ExitCode {
-    match own_words(&rt) {
-        Ok(words) => told(&rt, run(&rt, &words)),
-        Err(why) => told(&rt, Err(Failure::from(why))),
-    }
-}
-
-/// Why the program did not run a command to its end.
-#[derive(Debug, Drop, ThisError)]
-enum Failure<'a> {
-    #[error("packtool: {0}")]
-    Words(ArgError<'a>),
-    #[error("packtool: {0}")]
-    Command(CommandError),
-}
-
-impl From<CommandError> for Failure<'_> {
-    ghost from_gives = { λ why made. made ≡ failure.Command why };
-
-    fn from(error: CommandError) -> Self {
-        Failure::Command(error)
-    }
-}
-
-// Words that are no text are refused as no command.
-impl From<WordsError> for Failure<'_> {
-    ghost from_gives = { λ why made. (why ≡ words.NotText → made ≡ failure.Words arg.Usage)
-        × (why ≡ words.Memory → made ≡ failure.Command error.Memory) };
-
-    fn from(error: WordsError) -> Self {
-        match error {
-            WordsError::NotText => Failure::Words(ArgError::Usage),
-            WordsError::Memory => Failure::Command(CommandError::Memory),
-        }
-    }
-}
-
-impl From<AllocError> for Failure<'_> {
-    ghost from_gives = { λ _ made. made ≡ failure.Command error.Memory };
-
-    fn from(_error: AllocError) -> Self {
-        Failure::Command(CommandError::Memory)
-    }
+    let outcome = match command_line_args(&rt) {
+        Ok(words) => return report(&rt, "packtool: ", run(&rt, &words)),
+        Err(WordsError::NotText) => Failure::Args(ArgError::Usage),
+        Err(WordsError::Memory) => Failure::Command(CommandError::Memory),
+    };
+    report(&rt, "packtool: ", Err(outcome))
 }
 
 /// Runs the command that the words ask for over standard input and standard output, or prints what
-/// they ask to know of the program. Nothing is read where the words are refused.
+/// they ask to know of the program. Nothing is read if the words are rejected.
 fn run<'a>(
     rt: &(impl Input + Print + AllocGlobal),
     words: &'a [String],
-) -> Result<usize, Failure<'a>> {
-    let words: Vec<&str> = words.iter().map(|word| word.as_str()).collect(rt.alloc())?;
+) -> Result<usize, Failure<ArgError<'a>, CommandError>> {
+    let Ok(words): Result<Vec<&str>, AllocError> = words
+        .iter()
+        .map(|word| word.as_str())
+        .collect(rt.alloc())
+    else {
+        return Err(Failure::Command(CommandError::Memory));
+    };
     if let Some(text) = help::asked_text(&words) {
         return match rt.print(text) {
             Ok(()) => Ok(1),
             Err(_) => Err(Failure::Command(CommandError::Output)),
         };
     }
-    let command = read_command(&words).map_err(Failure::Words)?;
+    let command = match read_command(&words) {
+        Ok(command) => command,
+        Err(why) => return Err(Failure::Args(why)),
+    };
     let Ok(writer) = BufWriter::new(rt.alloc(), io::writer(rt)) else {
         return Err(Failure::Command(CommandError::Memory));
     };
     let mut input = Plain::new(rt.reader());
     let mut out = Plain::new(writer);
-    Ok(run_command(rt.alloc(), command, &mut input, &mut out)?)
+    match run_command(rt.alloc(), command, &mut input, &mut out) {
+        Ok(count) => Ok(count),
+        Err(why) => Err(Failure::Command(why)),
+    }
 }

@@ -1,4 +1,4 @@
--- Where an answer on a prefix is none or many, there is no position of an only match.
+-- If a prefix has no match or many, no member is its only match.
 use Rattle.std.proofs.Common.{◌≡◌, ◌+◌, ℕ, ◌⊎◌, inl, inr, List, subst, arith}
 use Rattle.gix_hash.specs.Prefix.{KindDigits}
 use Rattle.id_lookup.specs.FoundRun.{IsRun}

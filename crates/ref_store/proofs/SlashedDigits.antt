@@ -11,7 +11,7 @@ use Rattle.gix_hash.specs.declared.ObjectId.{ObjectId}
 use Rattle.ref_store.specs.Paths.{loose_path}
 use Rattle.ref_store.specs.Printed.{IsPrinted, IsNotPrinted}
 
--- a slash behind the first two letters makes the path of the spelling
+-- a slash after the first two letters of a spelling makes its path
 slash : (front rest digits : List ℕ) → length front ≡ 2 → (front ++ 47 ∷ rest ≡ loose_path digits) ↔ (front ++ rest ≡ spelling hex_letter digits)
 slash [] rest digits two = absurd (omega arith)
 slash (a ∷ []) rest digits two = absurd (omega arith)
@@ -29,13 +29,13 @@ read_without_slash kind path text front rest None two cut joined none = λ digit
 read_without_slash kind path text front rest (Some id) two cut joined is = (is.0, cut ∙ (slash front rest (id_digits id) two).1 (sym joined ∙ is.1))
 
 -- the front of the digits, a slash and the rest of them are the path
-pub path_in_pieces : (digits buffer behind : List ℕ) (len : ℕ) → buffer ≡ spelling hex_letter digits ++ behind → length digits ≡ len → 2 ≤ len
+pub path_in_pieces : (digits buffer rest : List ℕ) (len : ℕ) → buffer ≡ spelling hex_letter digits ++ rest → length digits ≡ len → 2 ≤ len
     → (take 2 buffer ++ 47 ∷ []) ++ take (len - 2) (drop 2 buffer) ≡ loose_path digits
-path_in_pieces [] buffer behind len is long two = absurd (omega (arith, long, two))
-path_in_pieces (a ∷ []) buffer behind len is long two = absurd (omega (arith, long, two))
-path_in_pieces (a ∷ (b ∷ more)) buffer behind len is long two =
+path_in_pieces [] buffer rest len is long two = absurd (omega (arith, long, two))
+path_in_pieces (a ∷ []) buffer rest len is long two = absurd (omega (arith, long, two))
+path_in_pieces (a ∷ (b ∷ more)) buffer rest len is long two =
     let mapped = length-map more hex_letter in
     let left : len - 2 ≡ length (spelling hex_letter more) = omega (arith, long, mapped) in
     ap (λ xs. (take 2 xs ++ 47 ∷ []) ++ take (len - 2) (drop 2 xs)) is
     ∙ ap (λ xs. hex_letter a ∷ (hex_letter b ∷ (47 ∷ xs)))
-    (ap (λ n. take n (spelling hex_letter more ++ behind)) left ∙ take-append_seam (spelling hex_letter more) behind)
+    (ap (λ n. take n (spelling hex_letter more ++ rest)) left ∙ take-append_seam (spelling hex_letter more) rest)

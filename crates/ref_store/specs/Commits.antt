@@ -7,7 +7,7 @@ use Rattle.gix_hash.specs.declared.Kind.{Kind}
 use Rattle.gix_hash.specs.declared.ObjectId.{ObjectId}
 use Rattle.ref_store.specs.Printed.{line_then}
 
--- a line of a key and digits, and what is behind it
+-- a line of a key and digits, and the rest after it
 abbrev pub keyed_then : List ℕ → List ℕ → List ℕ → List ℕ
 keyed_then key digits rest = key ++ line_then digits rest
 

@@ -1,4 +1,4 @@
--- Where a loose object lies.
+-- The path of a loose object.
 use Rattle.std.specs.Prelude.{◌++◌, ◌∷◌, ℕ, List, take, drop}
 use Rattle.gix_hash.specs.Digits.{hex_letter, spelling}
 

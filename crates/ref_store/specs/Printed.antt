@@ -14,7 +14,7 @@ IsPrinted kind text id = (id_kind id ≡ kind) × (text ≡ spelling hex_letter 
 abbrev pub IsNotPrinted : Kind → List ℕ → Type 0
 IsNotPrinted kind text = (digits : List ℕ) → AreIdDigits kind digits → text ≢ spelling hex_letter digits
 
--- a line of digits, and what is behind it
+-- a line of digits, and the rest after it
 abbrev pub line_then : List ℕ → List ℕ → List ℕ
 line_then digits rest = spelling hex_letter digits ++ 10 ∷ rest
 
@@ -22,7 +22,7 @@ line_then digits rest = spelling hex_letter digits ++ 10 ∷ rest
 abbrev pub HasNoLine : Kind → List ℕ → Type 0
 HasNoLine kind text = (digits rest : List ℕ) → AreIdDigits kind digits → text ≢ line_then digits rest
 
--- the text begins with a line of that id of the kind, and this is all that can be behind it
+-- the text begins with a line of that id of the kind, and the rest after the line is determined
 pub record HasLine (kind : Kind) (text : List ℕ) (id : ObjectId) (rest : List ℕ) : Type 0 where
   pub same_kind : id_kind id ≡ kind
   pub line : text ≡ line_then (id_digits id) rest

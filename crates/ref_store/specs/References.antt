@@ -12,7 +12,7 @@ use Rattle.ref_store.specs.declared.references.Reference.TheVariants.{Id, Symbol
 abbrev pub is_name_byte : ℕ → Bool
 is_name_byte byte = nat_lt 32 byte && not (byte == 127) && not (list_any (nat_eq byte) (codes "~^:?*[" ++ 92 ∷ []))
 
--- the bytes are a name: some, which names may have
+-- the bytes are a name: at least one, and only bytes that names may have
 abbrev pub IsName : List ℕ → Type 0
 IsName name = (1 ≤ length name) × IsTrue (list_all is_name_byte name)
 

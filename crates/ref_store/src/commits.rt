@@ -4,7 +4,7 @@ ghost use Rattle.std.specs.Prelude.{◌≡◌, IfOk, MatchOption};
 ghost use Rattle.gix_hash.specs.ObjectId.{id_digits, id_kind};
 ghost use Rattle.ref_store.specs.Commits.{keyed_then, HasNoKeyed, IsHead};
 
-use crate::printed::{behind, read_line};
+use crate::printed::{after_key, read_line};
 use gix_hash::{Kind, ObjectId};
 use std::alloc::{AllocError, Global};
 
@@ -12,7 +12,7 @@ const TREE: &[u8] = b"tree ";
 
 const PARENT: &[u8] = b"parent ";
 
-/// The tree and the parents of a commit, and what is behind them.
+/// The tree and the parents of a commit, and the bytes after them.
 ///
 /// ```
 /// if let Some(head) = read_head(rt.alloc(), Kind::Sha1, text)? {
@@ -25,13 +25,13 @@ pub struct Head<'a> {
     pub tree: ObjectId,
     /// The parents, in order.
     pub parents: Vec<ObjectId>,
-    /// The bytes behind the parents, from the author on.
+    /// The bytes after the parents, from the author on.
     pub rest: &'a [u8],
 }
 
-/// Reads the head of a commit's content, or `None` where it begins with no tree of the kind.
+/// Reads the head of a commit's content, or returns `None` if it begins with no tree of the kind.
 ///
-/// The lines of parents are all that stand behind the tree's.
+/// It reads all lines of parents after the tree's.
 pub fn read_head(alloc: Global, kind: Kind, text: &[u8]) -> Result<Option<Head<'_>>, AllocError>
     ensures { IfOk result (λ found. MatchOption found (HasNoKeyed kind TREE.now text.now)
         (λ head. IsHead kind text.now head.tree head.parents.items head.rest.now)) }
@@ -40,9 +40,9 @@ pub fn read_head(alloc: Global, kind: Kind, text: &[u8]) -> Result<Option<Head<'
         return Ok(None);
     };
     let mut parents = Vec::new(alloc);
-    while let Some((parent, behind_it)) = read_keyed(kind, PARENT, rest) {
+    while let Some((parent, after)) = read_keyed(kind, PARENT, rest) {
         parents.push(parent)?;
-        rest = behind_it;
+        rest = after;
     }
     Ok(Some(Head {
         tree,
@@ -51,13 +51,13 @@ pub fn read_head(alloc: Global, kind: Kind, text: &[u8]) -> Result<Option<Head<'
     }))
 }
 
-// Reads a line of a key and an id, and tells what is behind it.
+// Reads a line of a key and an id, and returns the id and the bytes after the line.
 #[tactic(auto, using(std::proofs::lemmas::List::append_cancel_left))]
 fn read_keyed<'a>(kind: Kind, key: &[u8], text: &'a [u8]) -> Option<(ObjectId, &'a [u8])>
     ensures { MatchOption result (HasNoKeyed kind key.now text.now)
         (λ line. (id_kind line.0 ≡ kind)
         × (text.now ≡ keyed_then key.now (id_digits line.0) line.1.now)) }
 {
-    let line = read_line(kind, behind(key, text)?)?;
+    let line = read_line(kind, after_key(key, text)?)?;
     Some((line.id, line.rest))
 }

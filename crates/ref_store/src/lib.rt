@@ -1,5 +1,5 @@
-//! What a tool over Git's object store reads, writes and keeps of ids: paths of loose objects, files
-//! of references, heads of commits, names that a user types, sets and maps.
+//! What a tool over Git's object store reads, writes and keeps of ids: paths of loose objects,
+//! files of references, heads of commits, names that a user types, sets and maps.
 //!
 //! The pages CALLING.md of `gix_hash`, `id_lookup` and `pack_index` quote it.
 #![tactic(auto)]
@@ -10,7 +10,7 @@ pub mod checking;
 pub mod commits;
 /// Names that a user types and is shown.
 pub mod names;
-/// Places of objects in packs.
+/// Offsets of objects in packs.
 pub mod offsets;
 /// Paths of loose objects.
 pub mod paths;

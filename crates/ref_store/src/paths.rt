@@ -1,5 +1,5 @@
-//! Where loose objects lie below the folder `objects` (gitrepository-layout): in a folder of their first
-//! two digits.
+//! Where loose objects lie below the folder `objects` (gitrepository-layout): in a folder of their
+//! first two digits.
 
 ghost use Rattle.std.specs.Prelude.{◌≡◌, ◌≢◌, ◌≤◌, ◌+◌, ◌++◌, take, ℕ, List, OnOk, MatchOption, length};
 ghost use Rattle.std.specs.Io.KnownBytes.{Appends};
@@ -7,7 +7,7 @@ ghost use Rattle.gix_hash.specs.IdDigits.{AreIdDigits};
 ghost use Rattle.gix_hash.specs.ObjectId.{id_digits, id_kind};
 ghost use Rattle.ref_store.specs.Paths.{loose_path};
 
-use crate::printed::{behind, read_printed};
+use crate::printed::{after_key, read_printed};
 use gix_hash::{Kind, ObjectId};
 use std::io;
 
@@ -24,7 +24,7 @@ pub fn write_loose_path<W: io::Write>(id: &ObjectId, out: &mut W) -> io::Result<
     Ok(())
 }
 
-/// The id of the loose object at a path, or `None` where the path is that of no id of the kind.
+/// The id of the loose object at a path, or `None` if the path is that of no id of the kind.
 pub fn read_loose_path(kind: Kind, path: &[u8]) -> Option<ObjectId>
     ensures { MatchOption result ((digits : List ℕ) → AreIdDigits kind digits
         → path.now ≢ loose_path digits)
@@ -34,13 +34,13 @@ pub fn read_loose_path(kind: Kind, path: &[u8]) -> Option<ObjectId>
         return None;
     }
     let (folder, rest) = path.split_at(2);
-    let file = behind(b"/", rest)?;
+    let file = after_key(b"/", rest)?;
     let mut digits = [0; 64];
     put_both(folder, file, &mut digits);
     read_printed(kind, &digits[..folder.len() + file.len()])
 }
 
-// Writes two pieces into the front of a buffer, one behind the other.
+// Writes two slices to the front of a buffer, one after the other.
 fn put_both(first: &[u8], second: &[u8], buffer: &mut [u8])
     requires { length first.now + length second.now ≤ length buffer.old }
     ensures { take (length first.now + length second.now) buffer.new ≡ first.now ++ second.now }

@@ -5,7 +5,7 @@ ghost use Rattle.ref_store.specs.Printed.{IsPrinted, IsNotPrinted, HasLine, HasN
 
 use gix_hash::{Alphabet, Kind, ObjectId, laws};
 
-/// The id of the kind that the text is, or `None` where it is none.
+/// The id of the kind that the text is, or `None` if it is not one.
 pub fn read_printed(kind: Kind, text: &[u8]) -> Option<ObjectId>
     ensures { MatchOption result (IsNotPrinted kind text.now) (IsPrinted kind text.now) }
 {
@@ -20,7 +20,7 @@ pub fn read_printed(kind: Kind, text: &[u8]) -> Option<ObjectId>
     }
 }
 
-/// A line of an id, and what is behind it.
+/// A line of an id, and the bytes after it.
 ///
 /// ```
 /// if let Some(Line { id, rest }) = read_line(Kind::Sha1, text) {
@@ -31,11 +31,11 @@ pub fn read_printed(kind: Kind, text: &[u8]) -> Option<ObjectId>
 pub struct Line<'a> {
     /// The id.
     pub id: ObjectId,
-    /// The bytes behind the line feed.
+    /// The bytes after the line feed.
     pub rest: &'a [u8],
 }
 
-/// Reads a line of an id of the kind from the front of a text, or `None` where there is none.
+/// Reads a line of an id of the kind from the front of a text, or returns `None` if there is none.
 pub fn read_line(kind: Kind, text: &[u8]) -> Option<Line<'_>>
     ensures { MatchOption result (HasNoLine kind text.now)
         (λ line. HasLine kind text.now line.id line.rest.now) }
@@ -51,8 +51,8 @@ pub fn read_line(kind: Kind, text: &[u8]) -> Option<Line<'_>>
     })
 }
 
-/// What is behind a key, or `None` where the text does not begin with it.
-pub fn behind<'a>(key: &[u8], text: &'a [u8]) -> Option<&'a [u8]>
+/// The bytes after a key, or `None` if the text does not begin with it.
+pub fn after_key<'a>(key: &[u8], text: &'a [u8]) -> Option<&'a [u8]>
     ensures { MatchOption result ((rest : List ℕ) → text.now ≢ key.now ++ rest)
         (λ rest. text.now ≡ key.now ++ rest.now) }
 {

@@ -1,12 +1,12 @@
-//! What the file of a reference says: an id, or `ref: ` and the name of another reference, and a line
-//! feed (gitrepository-layout, git-symbolic-ref).
+//! What the file of a reference says: an id, or `ref: ` and the name of another reference, and a
+//! line feed (gitrepository-layout, git-symbolic-ref).
 
 ghost use Rattle.std.specs.Prelude.{◌≡◌, ◌≢◌, ◌++◌, ◌∷◌, ◌↔◌, [], ℕ, List, IsTrue, MatchOption, OnOk};
 ghost use Rattle.std.specs.Io.KnownBytes.{Appends};
 ghost use Rattle.std.specs.List.{list_all};
 ghost use Rattle.ref_store.specs.References.{is_name_byte, reference_text, IsName, IsReference, IsNoReference};
 
-use crate::printed::{Line, behind, read_line};
+use crate::printed::{Line, after_key, read_line};
 use gix_hash::{Kind, ObjectId};
 use std::io;
 
@@ -25,17 +25,17 @@ pub enum Reference<'a> {
     Symbolic(&'a [u8]),
 }
 
-/// Reads the file of a reference, or `None` where it is none that Git writes.
+/// Reads the file of a reference, or returns `None` if it is not one that Git writes.
 ///
 /// Of the rules on names (git-check-ref-format) those on single bytes are tested, by
-/// [`is_name_byte`], and that a name has some byte.
+/// [`is_name_byte`], and that a name is not empty.
 pub fn read_reference(kind: Kind, text: &[u8]) -> Option<Reference<'_>>
     ensures { MatchOption result (IsNoReference kind text.now) (IsReference kind text.now) }
 {
     if let Some(Line { id, rest: [] }) = read_line(kind, text) {
         return Some(Reference::Id(id));
     }
-    let name = line_in(behind(b"ref: ", text)?)?;
+    let name = line_in(after_key(b"ref: ", text)?)?;
     if is_name(name) {
         Some(Reference::Symbolic(name))
     } else {
@@ -81,7 +81,7 @@ fn has_name_bytes(name: &[u8]) -> bool
     name.iter().all(|byte| is_name_byte(*byte))
 }
 
-// A line without its line feed, where the text ends in one.
+// A line without its line feed, if the text ends in one.
 fn line_in(text: &[u8]) -> Option<&[u8]>
     ensures { MatchOption result ((line : List ℕ) → text.now ≢ line ++ 10 ∷ [])
         (λ line. text.now ≡ line.now ++ 10 ∷ []) }

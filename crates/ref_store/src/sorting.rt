@@ -9,8 +9,8 @@ ghost use Rattle.id_lookup.specs.Sorted.{IsSortedIds};
 use gix_hash::{Kind, ObjectId};
 use id_lookup::{IdIndex, IndexError, SortedIds, sort_ids};
 
-/// Sorts ids of one kind, removes duplicates, and returns the index of them. It fails if and only if
-/// some id is of the other kind.
+/// Sorts ids of one kind, removes duplicates, and returns the index of them. It fails if and only
+/// if some id is of the other kind.
 pub fn sort_into_index(ids: &mut Vec<ObjectId>, kind: Kind) -> Result<IdIndex<'_>, IndexError>
     ensures accepted { IsOk result ↔ All (λ id. id_kind id ≡ kind) ids.old.items }
     ensures kind { IfOk result (λ index. index.kind ≡ kind) }

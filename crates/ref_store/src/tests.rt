@@ -3,7 +3,7 @@
 use crate::commits::read_head;
 use crate::names::{Resolved, resolve, write_name};
 use crate::paths::{read_loose_path, write_loose_path};
-use crate::printed::{behind, read_line, read_printed};
+use crate::printed::{after_key, read_line, read_printed};
 use crate::reading::{id_of_digest, is_named, read_again, read_id, short_name};
 use crate::references::{Reference, is_name_byte, read_reference, write_reference};
 use crate::runs::{count_matches, run_of};
@@ -99,8 +99,8 @@ fn loose_objects(rt: HostRuntime) {
     expect_no_path(&rt, b"81/13e80d2ee4e9c0413244886184bfe73b08c6d");
     expect_no_path(&rt, b"81-13e80d2ee4e9c0413244886184bfe73b08c6d4");
     expect_no_path(&rt, b"81");
-    assert!(rt; behind(b"objects/", b"objects/81") == Some(b"81".as_slice()));
-    assert!(rt; behind(b"objects/", b"object").is_none());
+    assert!(rt; after_key(b"objects/", b"objects/81") == Some(b"81".as_slice()));
+    assert!(rt; after_key(b"objects/", b"object").is_none());
 }
 
 // The file is read as a reference, which is written as the file.
@@ -139,7 +139,7 @@ fn reference_files(rt: HostRuntime) {
     expect_no_file(&rt, b"");
 }
 
-// What `git check-ref-format` takes and refuses in a name, a byte each.
+// What `git check-ref-format` takes and rejects in a name, a byte each.
 #[test]
 fn bytes_of_names(rt: HostRuntime) {
     for byte in b"!./@{}-_a0\x80\xff" {
@@ -150,7 +150,7 @@ fn bytes_of_names(rt: HostRuntime) {
     }
 }
 
-// The commit has the tree and the parents, and the author stands behind them.
+// The commit has the tree and the parents, and the author follows them.
 fn expect_head(rt: &(impl Abort + AllocGlobal), commit: &[u8], tree: &[u8], parents: &[&[u8]]) {
     let head = read_head(rt.alloc(), Kind::Sha1, commit)
         .expect(rt, "no memory for parents")

@@ -1,7 +1,7 @@
 //! The hash functions, at work on a message.
 
 ghost use Rattle.std.specs.Prelude.{◌≡◌, ◌++◌, ℕ, List, [], Ok, IsOk};
-ghost use Rattle.gix_hash.specs.Hashing.{digest, hasher_kind, StandsFor};
+ghost use Rattle.gix_hash.specs.Hashing.{digest, hasher_kind, WasFed};
 
 use super::Error;
 use crate::kind::Kind;
@@ -20,8 +20,8 @@ pub struct Sha256State {
     state: sha2::Sha256,
 }
 
-/// A hash function at work on a message that it is fed in pieces, of any lengths. What it was fed
-/// so far, one piece behind the other, is the message that it stands for.
+/// A hash function at work on a message that it is fed in chunks, of any lengths. The message is
+/// the concatenation of the chunks so far.
 ///
 /// [`hasher`](crate::hasher) makes one.
 ///
@@ -43,7 +43,7 @@ impl Hasher {
     // A hasher of that kind which was fed nothing.
     pub(crate) fn of_kind(kind: Kind) -> Hasher
         ensures kind { hasher_kind result ≡ kind }
-        ensures empty { StandsFor result [] }
+        ensures empty { WasFed result [] }
     {
         match kind {
             Kind::Sha1 => Hasher::Sha1(Sha1State {
@@ -55,12 +55,11 @@ impl Hasher {
         }
     }
 
-    /// Feeds `bytes`, which stand behind all that was fed before. An empty slice leaves the message as
-    /// it is.
+    /// Appends `bytes` to the message. An empty slice leaves the message as it is.
     pub fn update(&mut self, bytes: &[u8])
         ensures kind { hasher_kind self.new ≡ hasher_kind self.old }
-        ensures fed { (message : List ℕ) → StandsFor self.old message
-            → StandsFor self.new (message ++ bytes.now) }
+        ensures fed { (message : List ℕ) → WasFed self.old message
+            → WasFed self.new (message ++ bytes.now) }
     {
         match self {
             Hasher::Sha1(hasher) => hasher.state.update(bytes),
@@ -68,14 +67,14 @@ impl Hasher {
         }
     }
 
-    /// The digest of all that was fed, of 20 or 32 bytes by the hasher's kind. No error is
-    /// answered.
+    /// The digest of all that was fed, of 20 or 32 bytes by the hasher's kind. It never returns an
+    /// error.
     ///
     /// FIPS 180-4 defines the digests of messages below 2^61 bytes. Beyond that every call still
     /// returns.
     pub fn try_finalize(self) -> Result<ObjectId, Error>
         ensures ok { IsOk result }
-        ensures digest { (message : List ℕ) → StandsFor self message
+        ensures digest { (message : List ℕ) → WasFed self message
             → result ≡ Ok (digest (hasher_kind self) message) }
     {
         match self {

@@ -17,10 +17,10 @@ pub enum Error {
     /// A file could not be opened, or a reader failed or ended too early.
     #[error(transparent)]
     Io(#[from] std::io::Error),
-    /// The hasher gave no digest. No call of this crate answers it, as no hasher refuses.
+    /// The hasher gave no digest. No call of this crate returns it, since its hashers never fail.
     #[error("Failed to hash data")]
     Hasher(#[from] hashing::Error),
-    /// The interruption that was asked answered that it is time to stop.
+    /// `should_interrupt` returned true.
     #[error("Interrupted")]
     Interrupted,
 }

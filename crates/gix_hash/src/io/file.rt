@@ -3,7 +3,7 @@
 ghost use Rattle.std.specs.Prelude.{◌≡◌, ℕ, List, length, IfOk, OnOk, IfErr};
 ghost use Rattle.gix_hash.specs.Hashing.{digest};
 ghost use Rattle.gix_hash.specs.ObjectId.{id_kind};
-ghost use Rattle.gix_hash.specs.Streams.{Reaches, StopsInFile, chunks, heard_all, all_false};
+ghost use Rattle.gix_hash.specs.Streams.{Reaches, FileStopsWith, chunks, heard_all, all_false};
 
 use super::stream::bytes;
 use super::{Error, Interrupt, Progress};
@@ -16,8 +16,9 @@ use std::rt::Files;
 /// The digest of the first `num_bytes_from_start` bytes of the file at `path`, which are read as
 /// [`bytes`](crate::bytes) reads them.
 ///
-/// The file is opened first. Where that fails, nothing is heard or asked, and the answer is
-/// [`Error::Io`], as it is where the file has fewer bytes or can't be read. Opening may take memory.
+/// The file is opened first. If that fails, neither `progress` nor `should_interrupt` is called,
+/// and [`Error::Io`] is returned, as it is if the file has fewer bytes or can't be read. Opening
+/// may allocate.
 pub fn bytes_of_file<F: Files, P: Progress, I: Interrupt>(
     rt: &F,
     path: Path<'_>,
@@ -33,7 +34,7 @@ pub fn bytes_of_file<F: Files, P: Progress, I: Interrupt>(
         (heard_all num_bytes_from_start) progress.new) }
     ensures asked { OnOk result (Reaches I.answers should_interrupt.old
         (all_false (length (chunks num_bytes_from_start))) should_interrupt.new) }
-    ensures err { IfErr result (λ e. StopsInFile e num_bytes_from_start
+    ensures err { IfErr result (λ e. FileStopsWith e num_bytes_from_start
         (λ calls. Reaches P.hears progress.old calls progress.new)
         (λ answers. Reaches I.answers should_interrupt.old answers should_interrupt.new)) }
 {

@@ -4,8 +4,8 @@ ghost use Rattle.std.specs.Prelude.{◌≡◌, Bool, false};
 
 /// What is asked, after each chunk of a stream, whether to stop there.
 ///
-/// An implementation says what an asking makes of it by `answers`: a relation of its value before
-/// the asking, the answer, and its value after it.
+/// An implementation specifies the call by `answers`: a relation of its value before the call, the
+/// returned `bool`, and its value after the call.
 ///
 /// ```
 /// struct AtOnce;
@@ -26,7 +26,7 @@ pub trait Interrupt {
         ensures { answers self.old result self.new };
 }
 
-/// An interruption that never comes: it answers false at every asking, and stays as it is.
+/// An interruption that never comes: each call returns false and leaves it as it was.
 ///
 /// ```
 /// let id = bytes(&mut reader, 41, Kind::Sha1, &mut NoProgress, &mut Never)?;

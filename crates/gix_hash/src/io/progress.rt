@@ -1,12 +1,12 @@
-//! Telling how far the reading of a stream has come.
+//! Reporting how far the reading of a stream has come.
 
 ghost use Rattle.std.specs.Prelude.{◌≡◌};
 ghost use Rattle.gix_hash.specs.Streams.{ProgressCall, Init, IncBy, ShowThroughput};
 
-/// What hears how far the reading of a stream has come, in bytes.
+/// What is called with how far the reading of a stream has come, in bytes.
 ///
-/// An implementation says what each call makes of it by `hears`: a relation of its value before the
-/// call, the call, and its value after it.
+/// An implementation specifies its calls by `hears`: a relation of its value before a call, the
+/// call, and its value after the call.
 ///
 /// ```
 /// struct Total(u64);
@@ -26,7 +26,7 @@ ghost use Rattle.gix_hash.specs.Streams.{ProgressCall, Init, IncBy, ShowThroughp
 pub trait Progress {
     ghost hears: { Self → ProgressCall → Self → Type 0 };
 
-    /// The reading begins, of `max` bytes in all where that is known.
+    /// The reading begins, of `max` bytes in all if that is known.
     fn init(&mut self, max: Option<u64>)
         ensures { hears self.old (Init max) self.new };
 

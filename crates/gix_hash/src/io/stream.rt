@@ -1,8 +1,8 @@
 //! The digest of the next bytes of a reader.
 
 ghost use Rattle.std.specs.Prelude.{◌≡◌, ◌++◌, ℕ, List, length, IfOk, OnOk, IfErr};
-ghost use Rattle.gix_hash.specs.Hashing.{digest, hasher_kind, StandsFor};
-ghost use Rattle.gix_hash.specs.Streams.{Reaches, GivesNext, Stops, chunks, heard_all, all_false};
+ghost use Rattle.gix_hash.specs.Hashing.{digest, hasher_kind, WasFed};
+ghost use Rattle.gix_hash.specs.Streams.{Reaches, ReadsNext, StopsWith, chunks, heard_all, all_false};
 
 use super::{Error, Interrupt, Progress};
 use crate::hashing::start::hasher;
@@ -17,15 +17,15 @@ const CHUNK_LEN: usize = 65535;
 /// The digest of all that `hasher` was fed and then of the next `num_bytes_from_start` bytes of
 /// `read`, whose further bytes stay unread.
 ///
-/// The bytes are read in chunks of 65535 bytes, the last of 1 to 65535; where there are none,
-/// nothing is read. `progress` hears of all bytes by [`Progress::init`], of each chunk that was read
-/// by [`Progress::inc_by`], and by [`Progress::show_throughput`] that there are no more.
-/// `should_interrupt` is asked once after each chunk.
+/// The bytes are read in chunks of 65535 bytes, the last of 1 to 65535; if there are none, nothing
+/// is read. [`Progress::init`] is called first with the number of all bytes, [`Progress::inc_by`]
+/// after each chunk with its length, and [`Progress::show_throughput`] at the end.
+/// `should_interrupt` is called once after each chunk.
 ///
-/// [`Error::Io`] comes where a chunk can't be read, because the reader fails or ends. The chunks
-/// before it were heard of, and how much of it the reader gave is not said. [`Error::Interrupted`]
-/// comes where `should_interrupt` answers true: just the chunks until then were read, and all of
-/// them were heard of. Under an error `show_throughput` is not called.
+/// [`Error::Io`] is returned if a chunk can't be read, because the reader fails or ends. The chunks
+/// before it were reported to `progress`; how many of its bytes were read is not specified.
+/// [`Error::Interrupted`] is returned if `should_interrupt` returns true: exactly the chunks until
+/// then were read, and all of them were reported. After an error `show_throughput` is not called.
 pub fn bytes_with_hasher<R: Read, P: Progress, I: Interrupt>(
     read: &mut R,
     num_bytes_from_start: u64,
@@ -34,14 +34,14 @@ pub fn bytes_with_hasher<R: Read, P: Progress, I: Interrupt>(
     should_interrupt: &mut I,
 ) -> Result<ObjectId, Error>
     ensures digest { IfOk result (λ id. (bytes : List ℕ)
-        × GivesNext (R.remaining read.old) (R.remaining read.new) num_bytes_from_start bytes
-        × ((message : List ℕ) → StandsFor hasher message
+        × ReadsNext (R.remaining read.old) (R.remaining read.new) num_bytes_from_start bytes
+        × ((message : List ℕ) → WasFed hasher message
         → id ≡ digest (hasher_kind hasher) (message ++ bytes))) }
     ensures heard { OnOk result (Reaches P.hears progress.old
         (heard_all num_bytes_from_start) progress.new) }
     ensures asked { OnOk result (Reaches I.answers should_interrupt.old
         (all_false (length (chunks num_bytes_from_start))) should_interrupt.new) }
-    ensures err { IfErr result (λ e. Stops e num_bytes_from_start
+    ensures err { IfErr result (λ e. StopsWith e num_bytes_from_start
         (λ calls. Reaches P.hears progress.old calls progress.new)
         (λ answers. Reaches I.answers should_interrupt.old answers should_interrupt.new)
         (R.remaining read.old) (R.remaining read.new)) }
@@ -75,13 +75,13 @@ pub fn bytes<R: Read, P: Progress, I: Interrupt>(
     should_interrupt: &mut I,
 ) -> Result<ObjectId, Error>
     ensures digest { IfOk result (λ id. (bytes : List ℕ)
-        × GivesNext (R.remaining read.old) (R.remaining read.new) num_bytes_from_start bytes
+        × ReadsNext (R.remaining read.old) (R.remaining read.new) num_bytes_from_start bytes
         × (id ≡ digest kind bytes)) }
     ensures heard { OnOk result (Reaches P.hears progress.old
         (heard_all num_bytes_from_start) progress.new) }
     ensures asked { OnOk result (Reaches I.answers should_interrupt.old
         (all_false (length (chunks num_bytes_from_start))) should_interrupt.new) }
-    ensures err { IfErr result (λ e. Stops e num_bytes_from_start
+    ensures err { IfErr result (λ e. StopsWith e num_bytes_from_start
         (λ calls. Reaches P.hears progress.old calls progress.new)
         (λ answers. Reaches I.answers should_interrupt.old answers should_interrupt.new)
         (R.remaining read.old) (R.remaining read.new)) }

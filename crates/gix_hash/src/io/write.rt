@@ -3,18 +3,19 @@
 ghost use Rattle.std.specs.Prelude.{◌≡◌, [], OnErr};
 ghost use Rattle.std.specs.Io.{WritesAtMost};
 ghost use Rattle.std.specs.Io.KnownBytes.{Keeps, WriteAppends};
-ghost use Rattle.gix_hash.specs.Hashing.{hasher_kind, StandsFor};
-ghost use Rattle.gix_hash.specs.HashingWriter.{Passes, Wrote, Flushed};
+ghost use Rattle.gix_hash.specs.Hashing.{hasher_kind, WasFed};
+ghost use Rattle.gix_hash.specs.HashingWriter.{WriterStep, Wrote, Flushed};
 
 use crate::hashing::start::hasher;
 use crate::hashing::state::Hasher;
 use crate::kind::Kind;
 use std::io;
 
-/// A writer that hands what is written to an inner writer, and hashes what that takes of it.
+/// A writer that passes what is written on to an inner writer, and hashes the bytes that the inner
+/// writer accepts.
 ///
-/// One that is fresh, and whose fields are only read, stands for all that its inner writer took
-/// since.
+/// If it is fresh and its fields are only read, its hasher was fed all that the inner writer
+/// accepted since.
 ///
 /// ```
 /// let mut out = Write::new(file, Kind::Sha1);
@@ -23,7 +24,7 @@ use std::io;
 /// ```
 #[derive(Drop)]
 pub struct Write<T> {
-    /// The hasher, which was fed all that the inner writer took.
+    /// The hasher, which was fed all that the inner writer accepted.
     pub hash: Hasher,
     /// The inner writer.
     pub inner: T,
@@ -34,7 +35,7 @@ impl<T: io::Write> Write<T> {
     /// nothing.
     pub fn new(inner: T, object_hash: Kind) -> Self
         ensures kind { hasher_kind result.hash ≡ object_hash }
-        ensures empty { StandsFor result.hash [] }
+        ensures empty { WasFed result.hash [] }
         ensures inner { result.inner ≡ inner }
     {
         Write {
@@ -43,12 +44,11 @@ impl<T: io::Write> Write<T> {
         }
     }
 
-    /// Hands `buf` to the inner writer in one call of its `write`, and answers what that answers.
-    /// Of the bytes handed over the hasher is fed those that were taken, the first `w` where the
-    /// answer is `Ok(w)`. An error leaves the hasher as it was.
+    /// Calls the inner writer's `write` once with `buf`, and returns what it returns. If that is
+    /// `Ok(w)`, the hasher is fed the first `w` bytes. An error leaves the hasher as it was.
     pub fn write(&mut self, buf: &[u8]) -> io::Result<usize>
         ensures bound { WritesAtMost result buf.now }
-        ensures passes { Passes T.contents self.old (Wrote buf.now result) self.new }
+        ensures passes { WriterStep T.contents self.old (Wrote buf.now result) self.new }
         ensures err { OnErr result ((self.new.hash ≡ self.old.hash)
             × Keeps (T.contents self.old.inner) (T.contents self.new.inner)) }
     {
@@ -57,9 +57,9 @@ impl<T: io::Write> Write<T> {
         Ok(written)
     }
 
-    /// Flushes the inner writer, and answers what that answers. The hasher stays as it was.
+    /// Flushes the inner writer, and returns what it returns. The hasher stays as it was.
     pub fn flush(&mut self) -> io::Result<()>
-        ensures passes { Passes T.contents self.old Flushed self.new }
+        ensures passes { WriterStep T.contents self.old Flushed self.new }
         ensures hash { self.new.hash ≡ self.old.hash }
         ensures bytes { Keeps (T.contents self.old.inner) (T.contents self.new.inner) }
     {
@@ -75,7 +75,7 @@ impl<T: io::Write> io::Write for Write<T> {
         ensures bound { WritesAtMost result buf.now }
         ensures bytes { WriteAppends (T.contents self.old.inner)
             (T.contents self.new.inner) result buf.now }
-        ensures passes { Passes T.contents self.old (Wrote buf.now result) self.new }
+        ensures passes { WriterStep T.contents self.old (Wrote buf.now result) self.new }
         ensures err { OnErr result ((self.new.hash ≡ self.old.hash)
             × Keeps (T.contents self.old.inner) (T.contents self.new.inner)) }
     {
@@ -84,7 +84,7 @@ impl<T: io::Write> io::Write for Write<T> {
 
     fn flush(&mut self) -> io::Result<()>
         ensures bytes { Keeps (T.contents self.old.inner) (T.contents self.new.inner) }
-        ensures passes { Passes T.contents self.old Flushed self.new }
+        ensures passes { WriterStep T.contents self.old Flushed self.new }
         ensures hash { self.new.hash ≡ self.old.hash }
     {
         self.flush()

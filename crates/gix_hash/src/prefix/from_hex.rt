@@ -12,8 +12,8 @@ use std::{error, fmt};
 /// ```
 #[derive(Debug, PartialEq, Eq, Drop)]
 pub enum Error {
-    /// The text has fewer bytes than the call takes: fewer than 4, or none at all where a call takes
-    /// any text but the empty one.
+    /// The text has fewer bytes than the call accepts: fewer than 4, or none if the call accepts
+    /// 1 digit.
     TooShort {
         /// The length of the text, in bytes.
         hex_len: usize,

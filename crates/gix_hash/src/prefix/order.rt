@@ -42,7 +42,7 @@ impl PartialOrd for Prefix {
     }
 }
 
-/// By kind, and then in the dictionary order of the digits, a beginning before what it begins.
+/// By kind, and then in the dictionary order of the digits, a prefix before what it begins.
 impl Ord for Prefix {
     ghost use Rattle.std.proofs.Common.{rules};
     ghost use Rattle.std.specs.Cmp.Rules.{comparing};
@@ -63,8 +63,8 @@ impl Ord for Prefix {
     }
 }
 
-/// Feeds the bytes that hold the digits, with zeros behind them, in one write, and then the number of
-/// digits.
+/// Feeds the bytes that hold the digits, with zeros after them, in one write, and then the number
+/// of digits.
 impl Hash for Prefix {
     ghost use Rattle.gix_hash.specs.PrefixBytes.{prefix_hash_input, same_hash_input};
 

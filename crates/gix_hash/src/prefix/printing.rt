@@ -1,13 +1,12 @@
 //! Prefixes as text.
 
-ghost use Rattle.std.specs.Prelude.{◌≡◌, ◌≤◌, ◌↔◌, ◌++◌, length, take, drop, IsTrue, IsAscii, OnOk};
+ghost use Rattle.std.specs.Prelude.{◌≡◌, ◌≤◌, ◌↔◌, ◌++◌, ℕ, List, length, drop, IsTrue, IsAscii, OnOk};
 ghost use Rattle.std.specs.Borrow.{sem};
 ghost use Rattle.std.specs.Io.KnownBytes.{Appends};
-ghost use Rattle.gix_hash.specs.CutId.{shown_digits};
+ghost use Rattle.gix_hash.specs.CutId.{asked_len, cut_kind, shown_digits, whole_digits};
 ghost use Rattle.id_digits.specs.Digits.{hex_letter, spelling};
 ghost use Rattle.gix_hash.specs.Kind.{hex_len_of};
 ghost use Rattle.gix_hash.specs.LentText.{EndsAs};
-ghost use Rattle.gix_hash.specs.Oid.{oid_kind, oid_digits};
 ghost use Rattle.gix_hash.specs.Prefix.{padded};
 
 use super::Prefix;
@@ -25,8 +24,8 @@ impl Prefix {
         CutId::new(self.as_oid(), self.hex_len)
     }
 
-    /// Writes the lowercase hex digits into the front of `buffer`; the bytes behind them stay. The
-    /// buffer needs room for the digits.
+    /// Writes the lowercase hex digits into the front of `buffer`; the bytes after them stay. The
+    /// caller must ensure that the buffer has room.
     pub fn put_hex(&self, buffer: &mut [u8])
         requires { length self.now.digits ≤ length buffer.old }
         ensures { buffer.new ≡ spelling hex_letter self.now.digits ++ drop
@@ -39,11 +38,11 @@ impl Prefix {
     }
 
     /// Writes the lowercase hex digits into the front of `buffer` as [`Prefix::put_hex`] does, and
-    /// lends them as text. The buffer needs room for the digits.
+    /// lends them as text. The caller must ensure that the buffer has room.
     ///
-    /// The clause `behind` says what the buffer holds once the text is let go. Only a caller that is
-    /// proved by hand learns it: it lends the buffer again for a lifetime of its own, and takes it
-    /// back at what the clause says. [`Prefix::put_hex`] says the same of the buffer to every caller.
+    /// The starred clause says what the buffer holds once the borrow ends. Only a caller that is
+    /// proved by hand can use it: it reborrows the buffer for a lifetime of its own, and gets it
+    /// back as the clause says. [`Prefix::put_hex`] says the same of the buffer to every caller.
     pub fn hex_to_buf<'b>(&self, buffer: &'b mut [u8]) -> &'b str
         requires { length self.now.digits ≤ length buffer.old }
         ensures* behind { sem 𝓛 (EndsAs buffer.entry
@@ -61,9 +60,6 @@ impl Prefix {
         ensures same { result.ghost_name ≡ buffer.entry.ghost_name }
         ensures value { result.now ≡ spelling hex_letter self.now.digits ++ drop
             (length self.now.digits) buffer.old }
-        ensures room { length self.now.digits ≤ length result.now }
-        ensures front { take (length self.now.digits) result.now
-            ≡ spelling hex_letter self.now.digits }
     {
         self.put_hex(buffer);
         buffer
@@ -71,9 +67,7 @@ impl Prefix {
 
     // The digits in front of a buffer, as text.
     fn front_text<'b>(&self, buffer: &'b [u8]) -> &'b str
-        requires room { length self.now.digits ≤ length buffer.now }
-        requires front { take (length self.now.digits) buffer.now
-            ≡ spelling hex_letter self.now.digits }
+        requires { (rest : List ℕ) × (buffer.now ≡ spelling hex_letter self.now.digits ++ rest) }
         ensures text { result.now ≡ spelling hex_letter self.now.digits }
         ensures ascii { IsAscii result.now }
         ensures len { length result.now ≡ length self.now.digits }
@@ -82,7 +76,7 @@ impl Prefix {
     }
 
     /// Writes the lowercase hex digits to `out`. The error is the writer's; how many digits were
-    /// written then is not said.
+    /// written before it is not specified.
     pub fn write_hex_to<W: io::Write>(&self, out: &mut W) -> io::Result<()>
         ensures { OnOk result (Appends (W.contents out.old) (W.contents out.new)
             (spelling hex_letter self.now.digits)) }
@@ -93,15 +87,15 @@ impl Prefix {
 
     /// The prefix for printing in the letters `z` to `k`.
     pub fn to_reverse_hex(&self) -> ReverseHexDisplay<'_>
-        ensures id { oid_digits result.inner ≡ padded (hex_len_of self.now.kind) self.now.digits }
-        ensures kind { oid_kind result.inner ≡ self.now.kind }
-        ensures hex_len { result.hex_len ≡ length self.now.digits }
+        ensures id { whole_digits result ≡ padded (hex_len_of self.now.kind) self.now.digits }
+        ensures kind { cut_kind result ≡ self.now.kind }
+        ensures hex_len { asked_len result ≡ length self.now.digits }
         ensures shown { shown_digits result ≡ self.now.digits }
     {
         ReverseHexDisplay::new(self.as_oid(), self.hex_len)
     }
 
-    /// Whether `text` is just the lowercase hex digits.
+    /// Whether `text` is exactly the lowercase hex digits.
     pub fn eq_str(&self, text: &str) -> bool
         ensures { IsTrue result ↔ (text.now ≡ spelling hex_letter self.now.digits) }
     {

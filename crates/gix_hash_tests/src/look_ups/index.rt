@@ -1,17 +1,11 @@
-//! Indexes of the well-known ids and of a thousand, by tables.
+//! Indexes of the well-known ids and of a thousand ids.
 
 use super::{expect_at_most, thousand};
 use crate::types::{BLOB, BLOB_256, TREE, TREE_256, expect_text, id};
 use gix_hash::{Kind, ObjectId, Prefix};
-use id_lookup::laws::{find_own_name, matches_in_parts};
-use id_lookup::{Answer, FanOut, Id, IdIndex, IndexError, Run, SortedIds, lookup_in};
+use id_lookup::laws::find_own_name;
+use id_lookup::{Answer, Id, IdIndex, Run, lookup_in};
 use std::process::Abort;
-use std::test::Fail;
-
-fn refusal(rt: &impl Abort, ids: &[ObjectId], kind: Kind) -> IndexError {
-    let refusal = IdIndex::try_new(ids, kind).err();
-    refusal.expect(rt, "it is taken for an index")
-}
 
 // The run that probes find, by at most `most` asks. The index and the prefix stay.
 fn expect_probed<I: Id>(
@@ -39,62 +33,33 @@ fn answer_of(run: Run) -> Answer {
     }
 }
 
-fn expect_answer<I: Id>(rt: &impl Abort, index: &IdIndex<'_, I>, prefix: &Prefix, want: Answer) {
+fn expect_found_by<I: Id>(rt: &impl Abort, index: &IdIndex<'_, I>, prefix: &Prefix, want: Answer) {
     assert!(rt; prefix.as_oid().kind() == index.kind());
     expect!(rt; index.find(prefix) == want, prefix);
 }
 
-// What an index answers on a prefix, by the look-up and by probes with at most `most` asks.
+// What an index finds by a prefix, directly and by probes with at most `most` asks.
 fn expect_found<I: Id>(rt: &impl Abort, index: &IdIndex<'_, I>, digits: &str, run: Run, most: u64) {
     let prefix = Prefix::from_hex_nonempty(digits).expect(rt, "digits that are no prefix");
     expect_probed(rt, index, &prefix, run, most);
-    expect_answer(rt, index, &prefix, answer_of(run));
+    expect_found_by(rt, index, &prefix, answer_of(run));
 }
 
 #[test]
 fn no_index(rt: HostRuntime) {
-    let tree = id(&rt, TREE);
-    let blob = id(&rt, BLOB);
-    let tree_256 = id(&rt, TREE_256);
-    let blob_256 = id(&rt, BLOB_256);
-    let rows: [(&[ObjectId], Kind, IndexError); 6] = [
-        (
-            &[blob_256, tree, tree_256, blob],
-            Kind::Sha1,
-            IndexError::WrongKind { at: 0 },
-        ),
-        (&[tree, tree], Kind::Sha1, IndexError::NotRising { at: 1 }),
-        (&[blob, tree], Kind::Sha1, IndexError::NotRising { at: 1 }),
-        (
-            &[tree, blob_256],
-            Kind::Sha1,
-            IndexError::WrongKind { at: 1 },
-        ),
-        (&[tree], Kind::Sha256, IndexError::WrongKind { at: 0 }),
-        (
-            &[blob_256, tree_256, tree_256, tree],
-            Kind::Sha256,
-            IndexError::NotRising { at: 2 },
-        ),
+    let (tree, blob) = (id(&rt, TREE), id(&rt, BLOB));
+    let (blob_256, tree_256) = (id(&rt, BLOB_256), id(&rt, TREE_256));
+    let other_kind = "the id at place 0 is of the other kind";
+    let not_above = "the id at place 1 is not above the one before it";
+    let rows: [(&[ObjectId], &str); 4] = [
+        (&[blob_256, tree, tree_256, blob], other_kind),
+        (&[tree, tree], not_above),
+        (&[blob, tree], not_above),
+        (&[tree, blob_256], "the id at place 1 is of the other kind"),
     ];
-    for (ids, kind, want) in rows {
-        expect!(&rt; refusal(&rt, ids, kind) == want, &want);
-    }
-}
-
-#[test]
-fn index_errors(rt: HostRuntime) {
-    for (error, want) in [
-        (
-            IndexError::WrongKind { at: 3 },
-            "the id at place 3 is of the other kind",
-        ),
-        (
-            IndexError::NotRising { at: 1 },
-            "the id at place 1 is not above the one before it",
-        ),
-    ] {
-        expect_text(&rt, error, want);
+    for (ids, want) in rows {
+        let error = IdIndex::try_new(ids, Kind::Sha1).err();
+        expect_text(&rt, error.expect(&rt, "it is accepted as an index"), want);
     }
 }
 
@@ -118,7 +83,7 @@ fn first_bytes_of_two(rt: HostRuntime) {
     expect_found(&rt, &index, "4b82", Run { start: 0, end: 1 }, 2);
 }
 
-// Digests that stand one behind the other in some bytes are a list of ids.
+// A table of digests, one after the other, is a list of ids.
 #[test]
 fn tables_of_digests(rt: HostRuntime) {
     let mut table = [0; 60];
@@ -128,14 +93,6 @@ fn tables_of_digests(rt: HostRuntime) {
     let digests = table.as_chunks::<20>().0;
     let index = IdIndex::try_new(digests, Kind::Sha1).expect(&rt, "digests of no index");
     expect_found(&rt, &index, "4b82", Run { start: 1, end: 2 }, 2);
-    let refusal = IdIndex::try_new(digests, Kind::Sha256).err();
-    expect!(&rt; refusal == Some(IndexError::WrongKind { at: 0 }));
-    let mut table = [0; 64];
-    table[32] = 0x48;
-    let digests = table.as_chunks::<32>().0;
-    let index = IdIndex::try_new(digests, Kind::Sha256).expect(&rt, "digests of no index");
-    let digits = BLOB_256.get(..41).expect(&rt, "the id has fewer digits");
-    expect_found(&rt, &index, digits, Run { start: 1, end: 1 }, 0);
 }
 
 #[test]
@@ -147,20 +104,10 @@ fn index_of_a_thousand(rt: HostRuntime) {
         ("0200", 512, 513, 18),
         ("03", 768, 1000, 16),
         ("0", 0, 1000, 0),
-        ("1", 1000, 1000, 0),
         ("04", 1000, 1000, 0),
     ] {
         expect_found(&rt, &index, digits, Run { start, end }, most);
     }
-}
-
-#[test]
-fn index_of_sha256(rt: HostRuntime) {
-    let ids = [id(&rt, BLOB_256), id(&rt, TREE_256)];
-    let index = IdIndex::try_new(&ids, Kind::Sha256).expect(&rt, "ids of no index");
-    let beginning = TREE_256.get(..41).expect(&rt, "the id has fewer digits");
-    expect_found(&rt, &index, beginning, Run { start: 1, end: 2 }, 2);
-    expect_found(&rt, &index, BLOB_256, Run { start: 0, end: 1 }, 2)
 }
 
 // Two ids that share four digits, and a third.
@@ -181,16 +128,14 @@ fn none_one_and_many(rt: HostRuntime) {
     }
 }
 
-// The member at a place has its name, which prints and reads back, and by that it is found alone.
+// The member at an index has its name, which prints and reads back, and finds only that member.
 fn expect_name(rt: &(impl Abort + AllocGlobal), index: &IdIndex<'_>, at: usize, want: &str) {
     assert!(rt; at < index.len());
     let name = index.abbreviate(at);
     expect_text(rt, name, want);
-    expect!(rt; name.eq_str(want), &want);
-    expect!(rt; name.as_oid().kind() == index.kind(), &want);
     let read = Prefix::from_hex_in(index.kind(), want).expect(rt, "a name that is no prefix");
     expect!(rt; read == name, &want);
-    expect_answer(rt, index, &read, Answer::One(at));
+    expect_found_by(rt, index, &read, Answer::One(at));
     expect!(rt; find_own_name(index, at) == Answer::One(at), &want);
 }
 
@@ -213,80 +158,4 @@ fn shortest_names(rt: HostRuntime) {
         &[zeros, last_one],
     );
     expect_names(&rt, &two_alike(&rt), &["abcd0", "abcd1", "ffff"]);
-    expect_names(&rt, &[id(&rt, TREE), id(&rt, BLOB)], &["4b82", "e69d"]);
-    expect_names(
-        &rt,
-        &[
-            id(&rt, "12340000000000000000000000000000000000ff"),
-            id(&rt, "1234567800000000000000000000000000000000"),
-            id(&rt, "1234567900000000000000000000000000000000"),
-            id(&rt, "1235000000000000000000000000000000000000"),
-        ],
-        &["12340", "12345678", "12345679", "1235"],
-    )
-}
-
-#[test]
-fn names_from_more_digits(rt: HostRuntime) {
-    let ids = two_alike(&rt);
-    let index = IdIndex::try_new(&ids, Kind::Sha1).expect(&rt, "ids of no index");
-    let sorted = SortedIds::try_new(&ids).expect(&rt, "ids that are not sorted");
-    assert!(&rt; index.len() == 3);
-    assert!(&rt; sorted.len() == 3);
-    for (least, names) in [
-        (4, ["abcd0", "abcd1", "ffff"]),
-        (5, ["abcd0", "abcd1", "ffff0"]),
-        (7, ["abcd000", "abcd100", "ffff000"]),
-    ] {
-        for (at, want) in names.into_iter().enumerate() {
-            assert!(&rt; at < 3);
-            expect_text(&rt, index.abbreviate_from(at, least), want);
-            let name = sorted.abbreviate_from(at, least);
-            expect!(&rt; name == Some(index.abbreviate_from(at, least)), &want);
-        }
-    }
-    let twice = [ids[0], ids[0]];
-    let sorted = SortedIds::try_new(&twice).expect(&rt, "ids that are not sorted");
-    assert!(&rt; sorted.len() == 2);
-    expect!(&rt; sorted.abbreviate_from(0, 4).is_none());
-}
-
-#[test]
-fn members_that_match(rt: HostRuntime) {
-    matches_in_parts();
-    let ids = two_alike(&rt);
-    let index = IdIndex::try_new(&ids, Kind::Sha1).expect(&rt, "ids of no index");
-    let sorted = SortedIds::try_new(&ids).expect(&rt, "ids that are not sorted");
-    expect!(&rt; index.members() == ids.as_slice());
-    expect!(&rt; sorted.members() == ids.as_slice());
-    expect!(&rt; FanOut::of(&ids).up_to(0xab) == 2);
-    assert!(&rt; index.len() == 3);
-    expect!(&rt; *index.get(2) == ids[2]);
-    for (digits, from, to) in [
-        ("abcd", 0, 2),
-        ("abcd1", 1, 2),
-        ("abce", 0, 0),
-        ("ffff", 2, 3),
-    ] {
-        let prefix = Prefix::from_hex(digits).expect(&rt, "no prefix");
-        assert!(&rt; prefix.as_oid().kind() == index.kind());
-        assert!(&rt; prefix.hex_len() <= sorted.min_hex_len());
-        expect!(&rt; index.matches(&prefix) == &ids[from..to], &digits);
-        expect!(&rt; sorted.matches(&prefix) == &ids[from..to], &digits);
-    }
-}
-
-// With no runtime there is no memory to take.
-#[test]
-fn index_without_a_runtime() -> Result<(), Fail> {
-    let ids = [Kind::Sha1.empty_tree(), Kind::Sha1.empty_blob()];
-    let index = IdIndex::try_new(&ids, Kind::Sha1)?;
-    let prefix = Prefix::from(ids[1]);
-    if prefix.as_oid().kind() != index.kind() {
-        return Err(Fail::new("the prefix is of the other kind"));
-    }
-    if index.find(&prefix) != Answer::One(1) {
-        return Err(Fail::new("the answer is another"));
-    }
-    Ok(())
 }

@@ -5,7 +5,7 @@ use std::io;
 /// The text of a device's error.
 pub const FAILED: &str = "the device failed";
 
-/// Every kind of error that a device may answer.
+/// Every kind of error that a device may return.
 pub const KINDS: [io::ErrorKind; 42] = [
     io::ErrorKind::NotFound,
     io::ErrorKind::PermissionDenied,
@@ -51,7 +51,7 @@ pub const KINDS: [io::ErrorKind; 42] = [
     io::ErrorKind::Uncategorized,
 ];
 
-/// When a device answers an error.
+/// When a device returns an error.
 #[derive(Clone, Copy)]
 pub enum Fault {
     /// Never.
@@ -60,7 +60,7 @@ pub enum Fault {
     AtCall(usize),
     /// As `AtCall`, with the error that the library's own loops try again after.
     InterruptedAt(usize),
-    /// At each call once so many bytes have passed.
+    /// At each call after that many bytes have passed.
     AfterBytes(usize),
     /// At each call, and at each flush of a writer, with an error of that kind.
     Always(io::ErrorKind),
@@ -77,7 +77,7 @@ impl Fault {
         }
     }
 
-    /// The error that it answers.
+    /// The error that it returns.
     fn error(self) -> io::Error {
         match self {
             Fault::InterruptedAt(_) => io::Error::from(io::ErrorKind::Interrupted),
@@ -94,28 +94,28 @@ impl Fault {
         }
     }
 
-    /// Whether it lies behind a call that is the device's `calls`-th.
+    /// Whether the device's `calls`-th call comes after it.
     fn is_over(self, calls: usize) -> bool {
         matches!(self, Fault::AtCall(at) if at < calls)
     }
 }
 
-/// A reader that gives at most `piece` bytes a call.
+/// A reader that gives at most `chunk` bytes a call.
 #[derive(Drop)]
 pub struct Reader<'a> {
     pub rest: &'a [u8],
     pub calls: usize,
-    piece: usize,
+    chunk: usize,
     fault: Fault,
     given: usize,
 }
 
 impl<'a> Reader<'a> {
-    pub fn new(bytes: &'a [u8], piece: usize, fault: Fault) -> Self {
+    pub fn new(bytes: &'a [u8], chunk: usize, fault: Fault) -> Self {
         Reader {
             rest: bytes,
             calls: 0,
-            piece,
+            chunk,
             fault,
             given: 0,
         }
@@ -128,7 +128,7 @@ impl io::Read for Reader<'_> {
         if self.fault.strikes(self.calls, self.given) {
             return Err(self.fault.error());
         }
-        let room = self.piece.min(self.fault.room(self.given));
+        let room = self.chunk.min(self.fault.room(self.given));
         let count = buf.len().min(self.rest.len()).min(room);
         buf[..count].copy_from_slice(&self.rest[..count]);
         self.rest = &self.rest[count..];
@@ -137,25 +137,25 @@ impl io::Read for Reader<'_> {
     }
 }
 
-/// A writer that takes at most `piece` bytes a call, none at 0, and keeps them.
+/// A writer that takes at most `chunk` bytes a call, none at 0, and keeps them.
 #[derive(Drop)]
 pub struct Writer {
     pub bytes: Vec<u8>,
     pub calls: usize,
     pub flushes: usize,
     pub flush_fails: bool,
-    piece: usize,
+    chunk: usize,
     fault: Fault,
 }
 
 impl Writer {
-    pub fn new(bytes: Vec<u8>, piece: usize, fault: Fault) -> Self {
+    pub fn new(bytes: Vec<u8>, chunk: usize, fault: Fault) -> Self {
         Writer {
             bytes,
             calls: 0,
             flushes: 0,
             flush_fails: false,
-            piece,
+            chunk,
             fault,
         }
     }
@@ -170,7 +170,7 @@ impl io::Write for Writer {
         }
         let mut count = buf.len();
         if !self.fault.is_over(self.calls) {
-            count = count.min(self.piece).min(self.fault.room(len));
+            count = count.min(self.chunk).min(self.fault.room(len));
         }
         self.bytes.extend_from_slice(&buf[..count])?;
         Ok(count)

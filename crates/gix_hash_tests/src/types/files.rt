@@ -4,7 +4,7 @@ use super::devices::KINDS;
 use super::listeners::{Asked, Call, Heard};
 use super::opening::Opening;
 use super::streams::{ABC, ABC_256, EMPTY};
-use super::{expect_answer, expect_kind};
+use super::{expect_kind, expect_outcome};
 use gix_hash::{Kind, bytes_of_file, io};
 use std::fs;
 use std::io::ErrorKind;
@@ -29,7 +29,7 @@ fn first_bytes_of_a_file(rt: HostRuntime) -> Result<(), Fail> {
         let (mut heard, mut asked) = (Heard::new(), Asked::stopping_at(0));
         let files = Opening::new(&rt);
         let id = bytes_of_file(&files, path, num_bytes, kind, &mut heard, &mut asked);
-        expect_answer(&rt, id, want);
+        expect_outcome(&rt, id, want);
         expect!(&rt; files.times() == 1);
         let chunk = [
             Call::Init(Some(num_bytes)),
@@ -64,15 +64,15 @@ fn expect_failure<F: Files>(
     expect!(rt; files.times() == 1, &name);
 }
 
-// Where opening fails, the answer is its error, of whatever kind and however few bytes are asked for.
+// If opening fails, its error is returned, of whatever kind and however few bytes are asked for.
 #[test]
 fn files_that_cannot_be_opened(rt: HostRuntime) -> Result<(), Fail> {
     let name = "not_a_folder";
     fs::write(&rt, name, b"abc")?;
     for num_bytes in [0, 3] {
         for kind in KINDS {
-            let refusing = Opening::refused(&rt, kind);
-            expect_failure(&rt, &refusing, name, num_bytes, kind, &[]);
+            let failing = Opening::failing(&rt, kind);
+            expect_failure(&rt, &failing, name, num_bytes, kind, &[]);
         }
         for (name, kind) in [
             ("no_file_of_that_name", ErrorKind::NotFound),
@@ -102,8 +102,8 @@ fn files_that_give_no_digest(rt: HostRuntime) -> Result<(), Fail> {
     }
     let (mut heard, mut asked) = (Heard::new(), Asked::stopping_at(1));
     let path = Path::new(name);
-    let answer = bytes_of_file(&rt, path, 3, Kind::Sha1, &mut heard, &mut asked);
-    expect_answer(&rt, answer, "Interrupted");
+    let outcome = bytes_of_file(&rt, path, 3, Kind::Sha1, &mut heard, &mut asked);
+    expect_outcome(&rt, outcome, "Interrupted");
     heard.expect(&rt, &[Call::Init(Some(3)), Call::IncBy(3)]);
     fs::remove_file(&rt, name)?;
     Ok(())

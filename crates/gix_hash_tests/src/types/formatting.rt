@@ -39,22 +39,22 @@ impl Named<'_> {
     }
 }
 
-// Writes to a writer that takes at most `piece` bytes a call, and compares the answer, what was
-// written, and how often was asked.
+// Writes to a writer that takes at most `chunk` bytes a call, and compares the result, what was
+// written, and the number of calls.
 fn expect_written(
     rt: &(impl Abort + AllocGlobal),
     named: &Named<'_>,
     writer: (usize, Fault),
-    answer: Result<(), &str>,
+    outcome: Result<(), &str>,
     written: &[u8],
     calls: usize,
 ) {
-    let (piece, fault) = writer;
-    let mut out = Writer::new(Vec::new(rt.alloc()), piece, fault);
-    match (named.write_hex_to(&mut out), answer) {
+    let (chunk, fault) = writer;
+    let mut out = Writer::new(Vec::new(rt.alloc()), chunk, fault);
+    match (named.write_hex_to(&mut out), outcome) {
         (Ok(()), Ok(())) => {}
         (Err(error), Err(text)) => expect_text(rt, error, text),
-        _ => panic!(rt; "another answer, behind {calls} calls"),
+        _ => panic!(rt; "another result than that of {calls} calls"),
     }
     expect!(rt; out.bytes.as_slice() == written, &calls);
     expect!(rt; (out.calls, out.flushes) == (calls, 0), &calls);

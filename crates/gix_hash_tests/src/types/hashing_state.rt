@@ -64,7 +64,7 @@ pub fn fed<T: Hash>(value: &T) -> Writes {
     state.writes.get()
 }
 
-/// The value feeds just these writes.
+/// The value feeds exactly these writes.
 pub fn expect_fed<T: Hash>(rt: &impl Abort, value: &T, writes: &[&[u8]]) {
     let mut want = NOTHING;
     for &write in writes {

@@ -2,7 +2,7 @@
 
 use super::devices::{FAILED, Fault, KINDS, Writer};
 use super::streams::{ABC, EMPTY, THREE_CHUNKS};
-use super::{BLOB, expect_answer, expect_kind, expect_text};
+use super::{BLOB, expect_kind, expect_outcome, expect_text};
 use gix_hash::io::{Never, NoProgress};
 use gix_hash::{Kind, bytes, io, oid, verify};
 use std::io::Write;
@@ -21,40 +21,40 @@ fn flushed<W: Write>(out: &mut W) -> std::io::Result<()> {
 fn hashed_as_far_as_it_was_taken(rt: HostRuntime) {
     let inner = Writer::new(Vec::new(rt.alloc()), 1, Fault::AtCall(2));
     let mut out = io::Write::new(inner, Kind::Sha1);
-    expect_answer(&rt, out.write(b"blob 0\0"), "1");
-    expect_answer(&rt, out.write(b"lob 0\0"), FAILED);
-    expect_answer(&rt, out.write(b"lob 0\0"), "6");
+    expect_outcome(&rt, out.write(b"blob 0\0"), "1");
+    expect_outcome(&rt, out.write(b"lob 0\0"), FAILED);
+    expect_outcome(&rt, out.write(b"lob 0\0"), "6");
     expect!(&rt; out.inner.calls == 3);
     expect!(&rt; out.inner.bytes.as_slice() == b"blob 0\0".as_slice());
-    expect_answer(&rt, out.hash.try_finalize(), BLOB);
+    expect_outcome(&rt, out.hash.try_finalize(), BLOB);
 }
 
 // By the method and by the library's trait.
 #[test]
 fn inner_writer_called_once(rt: HostRuntime) {
-    for (piece, taken, digest) in [
+    for (chunk, taken, digest) in [
         (0, "0", EMPTY),
         (2, "2", "da23614e02469a0d7c7bd1bdab5c9c474b1904dc"),
         (3, "3", ABC),
         (9, "3", ABC),
     ] {
         for by_trait in [false, true] {
-            let inner = Writer::new(Vec::new(rt.alloc()), piece, Fault::Never);
+            let inner = Writer::new(Vec::new(rt.alloc()), chunk, Fault::Never);
             let mut out = io::Write::new(inner, Kind::Sha1);
-            let answer = if by_trait {
+            let outcome = if by_trait {
                 written(&mut out, b"abc")
             } else {
                 out.write(b"abc")
             };
-            expect_answer(&rt, answer, taken);
+            expect_outcome(&rt, outcome, taken);
             expect!(&rt; out.inner.calls == 1);
-            expect!(&rt; out.inner.bytes.as_slice() == &b"abc"[..piece.min(3)]);
-            expect_answer(&rt, out.hash.try_finalize(), digest);
+            expect!(&rt; out.inner.bytes.as_slice() == &b"abc"[..chunk.min(3)]);
+            expect_outcome(&rt, out.hash.try_finalize(), digest);
         }
     }
 }
 
-// The inner writer answers an error of each kind, which is handed on as it is. It is asked once.
+// The inner writer returns an error of each kind, which is passed on as it is. It is called once.
 #[test]
 fn errors_are_the_inner_writers(rt: HostRuntime) {
     for kind in KINDS {
@@ -69,31 +69,31 @@ fn errors_are_the_inner_writers(rt: HostRuntime) {
             expect_kind(&rt, write, kind);
             expect_kind(&rt, flush, kind);
             expect!(&rt; (out.inner.calls, out.inner.flushes) == (1, 1), &kind);
-            expect_answer(&rt, out.hash.try_finalize(), EMPTY);
+            expect_outcome(&rt, out.hash.try_finalize(), EMPTY);
         }
     }
 }
 
-// What is written is handed on in one piece, however long it is.
+// What is written is passed on in one call, however long it is.
 #[test]
-fn pieces_are_handed_on_whole(rt: HostRuntime) {
+fn chunks_are_passed_on_whole(rt: HostRuntime) {
     let zeros = [0; 131071];
-    for (piece, taken, digest) in [
+    for (chunk, taken, digest) in [
         (b"".as_slice(), "0", EMPTY),
         (&zeros, "131071", THREE_CHUNKS),
     ] {
         for by_trait in [false, true] {
             let inner = Writer::new(Vec::new(rt.alloc()), usize::MAX, Fault::Never);
             let mut out = io::Write::new(inner, Kind::Sha1);
-            let answer = if by_trait {
-                written(&mut out, piece)
+            let outcome = if by_trait {
+                written(&mut out, chunk)
             } else {
-                out.write(piece)
+                out.write(chunk)
             };
-            expect_answer(&rt, answer, taken);
+            expect_outcome(&rt, outcome, taken);
             expect!(&rt; out.inner.calls == 1, &taken);
-            expect!(&rt; out.inner.bytes.as_slice() == piece, &taken);
-            expect_answer(&rt, out.hash.try_finalize(), digest);
+            expect!(&rt; out.inner.bytes.as_slice() == chunk, &taken);
+            expect_outcome(&rt, out.hash.try_finalize(), digest);
         }
     }
 }
@@ -105,8 +105,8 @@ fn flushes_leave_the_hasher(rt: HostRuntime) -> Result<(), Fail> {
         let mut out = io::Write::new(inner, Kind::Sha1);
         out.inner.flush_fails = flush_fails;
         out.write_all(b"abc")?;
-        for answer in [out.flush(), flushed(&mut out)] {
-            match answer {
+        for outcome in [out.flush(), flushed(&mut out)] {
+            match outcome {
                 Ok(()) => expect!(&rt; !flush_fails),
                 Err(error) => {
                     expect!(&rt; flush_fails);
@@ -115,31 +115,7 @@ fn flushes_leave_the_hasher(rt: HostRuntime) -> Result<(), Fail> {
             }
         }
         expect!(&rt; (out.inner.flushes, out.inner.calls) == (2, 1));
-        expect_answer(&rt, out.hash.try_finalize(), ABC);
+        expect_outcome(&rt, out.hash.try_finalize(), ABC);
     }
-    Ok(())
-}
-
-// A stream that ends in the digest of what is before it.
-#[test]
-fn trailing_digest_verified(rt: HostRuntime) -> Result<(), Fail> {
-    let mut out = io::Write::new(Vec::new(rt.alloc()), Kind::Sha1);
-    out.write_all(b"abc")?;
-    let io::Write { hash, mut inner } = out;
-    inner.extend_from_slice(hash.try_finalize()?.as_slice())?;
-    assert!(rt; inner.len() == 23);
-    let last = oid::try_from_bytes(&inner[3..])?;
-    let mut input = inner.as_slice();
-    let id = bytes(&mut input, 3, Kind::Sha1, &mut NoProgress, &mut Never)?;
-    id.verify(last)?;
-    let mut changed: &[u8] = b"bbc";
-    let id = bytes(&mut changed, 3, Kind::Sha1, &mut NoProgress, &mut Never)?;
-    let refusal: verify::Error = id.verify(last).err().ok_or("a changed stream is verified")?;
-    expect_text(
-        &rt,
-        refusal.actual,
-        "0fbe2a58568b4590569588e52ed6a7da4e91b6ab",
-    );
-    expect_text(&rt, refusal.expected, ABC);
     Ok(())
 }

@@ -2,26 +2,26 @@
 
 use super::hashing_state::expect_fed;
 use super::{
-    BLOB, BLOB_256, BLOB_256_BYTES, BLOB_BYTES, TREE, ZEROS_65, converted, expect_answer,
-    expect_below, expect_debug, expect_error, expect_same, expect_text, id, parsed, tried,
+    BLOB, BLOB_256, BLOB_256_BYTES, BLOB_BYTES, TREE, converted, expect_below, expect_debug,
+    expect_error, expect_outcome, expect_same, expect_text, id, parsed, tried,
 };
-use gix_hash::{Error, Kind, ObjectId, Prefix, decode, oid, verify};
+use gix_hash::{Kind, ObjectId, Prefix, decode, oid, verify};
 use std::process::Abort;
 use std::test::Fail;
 
 // Reads by each of the calls that read an id.
 fn expect_read(rt: &(impl Abort + AllocGlobal), rows: &[(&str, &str)]) {
     for &(text, want) in rows {
-        expect_answer(rt, ObjectId::from_hex(text.as_bytes()), want);
-        expect_answer(rt, parsed::<ObjectId>(text), want);
+        expect_outcome(rt, ObjectId::from_hex(text.as_bytes()), want);
+        expect_outcome(rt, parsed::<ObjectId>(text), want);
     }
 }
 
-// Makes ids of so many bytes, by each of the calls that test the length.
+// Makes ids of the bytes, by each of the calls that test the length.
 fn expect_made(rt: &(impl Abort + AllocGlobal), bytes: &[u8], want: &str) {
-    expect_answer(rt, oid::try_from_bytes(bytes), want);
-    expect_answer(rt, tried::<&[u8], oid<'_>>(bytes), want);
-    expect_answer(rt, tried::<&[u8], ObjectId>(bytes), want)
+    expect_outcome(rt, oid::try_from_bytes(bytes), want);
+    expect_outcome(rt, tried::<&[u8], oid<'_>>(bytes), want);
+    expect_outcome(rt, tried::<&[u8], ObjectId>(bytes), want)
 }
 
 #[test]
@@ -41,8 +41,8 @@ fn documented_example(rt: HostRuntime) -> Result<(), Fail> {
     Ok(())
 }
 
-// Texts, and what the id prints as, or why there is none.
-const TEXTS: [(&str, &str); 12] = [
+// Texts, and what the id prints as, or the error.
+const TEXTS: [(&str, &str); 8] = [
     (BLOB, BLOB),
     ("E69DE29BB2D1D6434B8B29AE775AD8C2E48C5391", BLOB),
     ("e69DE29bb2d1d6434B8B29ae775ad8c2E48C5391", BLOB),
@@ -50,16 +50,6 @@ const TEXTS: [(&str, &str); 12] = [
     (
         "473A0F4C3BE8A93681A267E3B1E9A7DCDA1185436FE141F7749120A303721813",
         BLOB_256,
-    ),
-    ("", "A hash sized 0 hexadecimal characters is invalid"),
-    ("zzz", "A hash sized 3 hexadecimal characters is invalid"),
-    (
-        "e69de29bb2d1d6434b8b29ae775ad8c2e48c53910",
-        "A hash sized 41 hexadecimal characters is invalid",
-    ),
-    (
-        ZEROS_65,
-        "A hash sized 65 hexadecimal characters is invalid",
     ),
     (
         "g69de29bb2d1d6434b8b29ae775ad8c2e48c5391",
@@ -89,17 +79,13 @@ fn read_from_text(rt: HostRuntime) {
 #[test]
 fn compared_with_text(rt: HostRuntime) {
     let blob = id(&rt, BLOB);
-    let uppercase = "E69DE29BB2D1D6434B8B29AE775AD8C2E48C5391";
     for (text, same) in [
         (BLOB, true),
-        (uppercase, false),
+        ("E69DE29BB2D1D6434B8B29AE775AD8C2E48C5391", false),
         (TREE, false),
         ("e69de29", false),
     ] {
         expect!(&rt; blob.eq_str(text) == same, &text);
-        expect!(&rt; blob.as_oid().eq_str(text) == same, &text);
-        expect!(&rt; blob.eq_bstr(text.as_bytes()) == same, &text);
-        expect!(&rt; blob.to_hex().eq_str(text) == same, &text);
     }
 }
 
@@ -117,43 +103,24 @@ fn made_from_bytes(rt: HostRuntime) {
         &[0; 33],
         "Cannot instantiate git hash from a digest of length 33",
     );
-    expect_made(
-        &rt,
-        &[],
-        "Cannot instantiate git hash from a digest of length 0",
-    );
-    expect_error(
-        &rt,
-        Error::InvalidByteSliceLength(21),
-        "Cannot instantiate git hash from a digest of length 21",
-    );
 }
 
 #[test]
 fn converted_from_bytes(rt: HostRuntime) {
-    let view = oid::from_bytes_unchecked(&BLOB_BYTES);
-    for blob in [
+    let blob: ObjectId = converted(BLOB_BYTES);
+    let view: oid<'_> = converted(&BLOB_BYTES);
+    for id in [
+        blob,
         ObjectId::from_bytes_or_panic(&BLOB_BYTES),
-        converted(BLOB_BYTES),
         converted(view),
         view.to_owned(),
     ] {
-        expect!(&rt; blob == id(&rt, BLOB));
-        expect!(&rt; blob.as_slice() == BLOB_BYTES.as_slice());
-        expect!(&rt; blob.as_bytes() == BLOB_BYTES.as_slice());
-        expect!(&rt; blob.first_byte() == 0xe6);
+        expect_text(&rt, id, BLOB);
     }
     let wide: ObjectId = converted(BLOB_256_BYTES);
-    expect_text(&rt, wide, BLOB_256);
-    expect!(&rt; wide.kind() == Kind::Sha256);
-    let view: oid<'_> = converted(&BLOB_BYTES);
     let wide_view: oid<'_> = converted(&BLOB_256_BYTES);
-    expect!(&rt; view.kind() == Kind::Sha1);
-    expect!(&rt; wide_view.kind() == Kind::Sha256);
-    expect!(&rt; view.as_bytes() == BLOB_BYTES.as_slice());
-    expect!(&rt; wide_view.first_byte() == 0x47);
-    expect!(&rt; wide.eq_oid(wide_view) && wide_view.eq_oid(&wide));
-    expect!(&rt; !wide.eq_oid(view) && !view.eq_oid(&wide));
+    expect_text(&rt, wide, BLOB_256);
+    expect!(&rt; wide.eq_oid(wide_view) && !wide.eq_oid(view));
 }
 
 #[test]
@@ -169,7 +136,7 @@ fn written_digest(rt: HostRuntime) {
 #[test]
 fn order(rt: HostRuntime) {
     let (tree, wide) = (id(&rt, TREE), id(&rt, BLOB_256));
-    // Views go by digits alone, owned ids by kind first.
+    // Views are ordered by digits only, owned ids by kind first.
     expect_below(&rt, &wide.as_oid(), &tree.as_oid());
     expect_below(&rt, &tree, &wide);
     expect_below(&rt, &tree, &id(&rt, BLOB));
@@ -195,71 +162,59 @@ fn fed_to_a_hash(rt: HostRuntime) {
 #[test]
 fn printed(rt: HostRuntime) {
     let (blob, wide) = (id(&rt, BLOB), id(&rt, BLOB_256));
-    expect_text(&rt, blob.as_oid(), BLOB);
-    expect_debug(
-        &rt,
-        blob.as_oid(),
-        "Sha1(e69de29bb2d1d6434b8b29ae775ad8c2e48c5391)",
-    );
     let shown = "Sha256(473a0f4c3be8a93681a267e3b1e9a7dcda1185436fe141f7749120a303721813)";
     expect_debug(&rt, wide, shown);
     expect_debug(&rt, wide.as_oid(), shown);
-    for (hex_len, want) in [
-        (0, ""),
-        (1, "e"),
-        (7, "e69de29"),
-        (40, BLOB),
-        (50, BLOB),
-        (100, BLOB),
-    ] {
+    for (hex_len, want) in [(0, ""), (1, "e"), (7, "e69de29"), (50, BLOB), (100, BLOB)] {
         expect_text(&rt, blob.to_hex_with_len(hex_len), want);
-        expect!(&rt; blob.as_oid().to_hex_with_len(hex_len).eq_str(want));
     }
-    expect_text(&rt, blob.to_hex(), BLOB);
-    expect_text(&rt, wide.as_oid().to_hex(), BLOB_256);
+}
+
+// How many digits two ids share.
+#[test]
+fn shared_digits(rt: HostRuntime) {
+    let (blob, tree, wide) = (id(&rt, BLOB), id(&rt, TREE), id(&rt, BLOB_256));
+    let (null, wide_null) = (Kind::Sha1.null(), Kind::Sha256.null());
+    for (one, other, want) in [
+        (blob, blob, 40),
+        (tree, blob, 0),
+        (wide, tree, 1),
+        (null, wide_null, 40),
+    ] {
+        expect!(&rt; one.common_hex_len(other.as_oid()) == want, &one);
+    }
 }
 
 #[test]
 fn displays_compared(rt: HostRuntime) {
     let (blob, tree) = (id(&rt, BLOB), id(&rt, TREE));
-    // What was asked for counts, not what is printed.
+    // The number of digits asked for counts, not that of the digits printed.
     expect_below(&rt, &blob.to_hex_with_len(50), &blob.to_hex_with_len(100));
     expect_below(&rt, &tree.to_hex_with_len(100), &blob.to_hex_with_len(50));
     expect_same(&rt, &blob.to_hex(), &blob.as_oid().to_hex_with_len(40));
 }
 
 #[test]
-fn written_into_buffers(rt: HostRuntime) {
+fn written_into_a_buffer(rt: HostRuntime) {
     let blob = id(&rt, BLOB);
     assert!(rt; blob.kind().len_in_hex() == 40);
-    let mut buffers = [[b'#'; 64]; 4];
-    let view = blob.as_oid();
-    assert!(rt; view.kind().len_in_hex() == 40);
-    expect!(&rt; blob.hex_to_buf(&mut buffers[0]) == BLOB);
-    expect!(&rt; view.hex_to_buf(&mut buffers[1]) == BLOB);
-    blob.put_hex(&mut buffers[2]);
-    view.put_hex(&mut buffers[3]);
-    for buffer in buffers {
-        expect!(&rt; &buffer == b"e69de29bb2d1d6434b8b29ae775ad8c2e48c5391########################");
-    }
+    let mut buffer = [b'#'; 64];
+    expect!(&rt; blob.hex_to_buf(&mut buffer) == BLOB);
+    expect!(&rt; &buffer == b"e69de29bb2d1d6434b8b29ae775ad8c2e48c5391########################");
 }
 
 #[test]
 fn verified(rt: HostRuntime) -> Result<(), Fail> {
     let (blob, tree) = (id(&rt, BLOB), id(&rt, TREE));
     blob.verify(blob.as_oid())?;
-    tree.as_oid().verify(tree.as_oid())?;
-    for answer in [
-        blob.verify(tree.as_oid()),
-        blob.as_oid().verify(tree.as_oid()),
-    ] {
-        let refusal: verify::Error = answer.err().ok_or("another id is verified")?;
-        expect!(&rt; refusal.actual == blob && refusal.expected == tree);
-        expect_error(
-            &rt,
-            refusal,
-            "Hash was e69de29bb2d1d6434b8b29ae775ad8c2e48c5391, but should have been 4b825dc642cb6eb9a060e54bf8d69288fbee4904",
-        );
-    }
+    let error: verify::Error = blob
+        .verify(tree.as_oid())
+        .err()
+        .ok_or("another id is verified")?;
+    expect_error(
+        &rt,
+        error,
+        "Hash was e69de29bb2d1d6434b8b29ae775ad8c2e48c5391, but should have been 4b825dc642cb6eb9a060e54bf8d69288fbee4904",
+    );
     Ok(())
 }

@@ -1,4 +1,4 @@
-//! A progress and an interruption that keep what they were told and asked.
+//! A progress and an interruption that keep the calls made to them.
 
 ghost use Rattle.std.specs.Prelude.{⊤};
 
@@ -13,7 +13,7 @@ pub enum Call {
     ShowThroughput,
 }
 
-/// How many of the calls tell of a chunk.
+/// How many of the calls report a chunk.
 pub fn chunks(calls: &[Call]) -> usize {
     calls
         .iter()
@@ -43,7 +43,7 @@ impl Heard {
         self.len = self.len.saturating_add(1);
     }
 
-    /// It heard just these calls.
+    /// It heard exactly these calls.
     pub fn expect(&self, rt: &impl Abort, calls: &[Call]) {
         expect!(rt; self.len == calls.len());
         expect!(rt; &self.calls[..self.len.min(20)] == calls);
@@ -66,7 +66,7 @@ impl Progress for Heard {
     }
 }
 
-/// An interruption that counts how often it was asked, and answers true at the asking with the
+/// An interruption that counts how often it was asked, and returns true at the call with the
 /// number `stops_at`, counted from 1.
 #[derive(Drop)]
 pub struct Asked {

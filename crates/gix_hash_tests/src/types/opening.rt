@@ -6,12 +6,12 @@ use std::fs::{Metadata, OpenOptions};
 use std::io;
 use std::rt::Files;
 
-/// Files by which nothing can be done but open one. Opening answers an error where one is chosen,
+/// Files that can only be opened. Opening returns an error if one is chosen,
 /// else the host opens the file.
 #[derive(Drop)]
 pub struct Opening<'a, F> {
     host: &'a F,
-    refusal: Option<io::ErrorKind>,
+    error: Option<io::ErrorKind>,
     times: Cell<usize>,
 }
 
@@ -19,21 +19,21 @@ impl<'a, F> Opening<'a, F> {
     pub fn new(host: &'a F) -> Self {
         Opening {
             host,
-            refusal: None,
+            error: None,
             times: Cell::new(0),
         }
     }
 
     /// Files of which none can be opened, for an error of that kind.
-    pub fn refused(host: &'a F, kind: io::ErrorKind) -> Self {
+    pub fn failing(host: &'a F, kind: io::ErrorKind) -> Self {
         Opening {
             host,
-            refusal: Some(kind),
+            error: Some(kind),
             times: Cell::new(0),
         }
     }
 
-    /// How often a file was opened, or refused.
+    /// How often a file was to be opened.
     pub fn times(&self) -> usize {
         self.times.get()
     }
@@ -50,7 +50,7 @@ impl<F: Files> Files for Opening<'_, F> {
 
     fn open_file(&self, how: &OpenOptions, path: &str) -> io::Result<F::File> {
         self.times.set(self.times.get().saturating_add(1));
-        match self.refusal {
+        match self.error {
             Some(kind) => Err(io::Error::from(kind)),
             None => self.host.open_file(how, path),
         }

@@ -3,33 +3,36 @@
 use super::faulty::{Fault, Reader, Writer};
 use super::sealing::{ABC, sealed};
 use crate::expecting::{expect_bytes, expect_shown};
-use commands::{Command, read_command, run_command};
-use devices::{FromSlice, IntoSlice, Plain};
 use gix_hash::Kind;
 use linked_list_allocator::LocalHeap;
+use oidtool_commands::{Command, read_command, run_command};
 use std::fs;
 use std::io::BufWriter;
 use std::process::Abort;
 use std::rt::Files;
 use std::test::Fail;
+use streams::{FromSlice, IntoSlice, Plain};
 
 // Words, and the Debug text of what they read as.
-const WORDS: [(&[&str], &str); 10] = [
+const WORDS: [(&[&str], &str); 8] = [
+    (&[], "Err(Usage)"),
+    (&["find", "4b82"], "Ok(Find { prefix: \"4b82\" })"),
+    (
+        &["find-change", "LTQM"],
+        "Ok(FindChange { letters: \"LTQM\" })",
+    ),
+    (
+        &["find-in", "sha1", "4"],
+        "Ok(FindIn { kind: Sha1, prefix: \"4\" })",
+    ),
     (&["hash", "sha1"], "Ok(Hash { kind: Sha1 })"),
     (&["seal", "SHA-256"], "Ok(Seal { kind: Sha256 })"),
-    (&["hash", "sha-1"], "Err(BadKind(\"sha-1\"))"),
-    (&["seal", ""], "Err(BadKind(\"\"))"),
-    (&["hash"], "Err(Usage)"),
-    (&["seal", "sha1", "sha1"], "Err(Usage)"),
-    (&["hash-file", "md5", "3"], "Err(Usage)"),
-    (&["hash-file", "sha1", "3", "p", "p"], "Err(Usage)"),
-    (&["hash", "sha1", "3", "p"], "Err(Usage)"),
+    (&["hash", "md5"], "Err(BadKind(\"md5\"))"),
     (&["hash-file", "md5", "x", "p"], "Err(BadKind(\"md5\"))"),
 ];
 
-const NUMBERS: [(&str, &str); 10] = [
+const NUMBERS: [(&str, &str); 6] = [
     ("+3", "Ok(HashFile { kind: Sha1, count: 3, path: \"p\" })"),
-    ("007", "Ok(HashFile { kind: Sha1, count: 7, path: \"p\" })"),
     (
         "18446744073709551615",
         "Ok(HashFile { kind: Sha1, count: 18446744073709551615, path: \"p\" })",
@@ -41,39 +44,36 @@ const NUMBERS: [(&str, &str); 10] = [
     ("-1", "Err(BadNumber(\"-1\"))"),
     ("+", "Err(BadNumber(\"+\"))"),
     ("", "Err(BadNumber(\"\"))"),
-    ("++3", "Err(BadNumber(\"++3\"))"),
-    (" 3", "Err(BadNumber(\" 3\"))"),
-    ("0x3", "Err(BadNumber(\"0x3\"))"),
 ];
 
 #[test]
 fn reads_kinds_and_numbers(rt: HostRuntime) {
-    for &(words, answer) in &WORDS {
-        expect_shown(&rt, read_command(words), answer, &answer);
+    for &(words, outcome) in &WORDS {
+        expect_shown(&rt, read_command(words), outcome, &outcome);
     }
-    for &(number, answer) in &NUMBERS {
+    for &(number, outcome) in &NUMBERS {
         let words = ["hash-file", "sha1", number, "p"];
-        expect_shown(&rt, read_command(words.as_slice()), answer, &number);
+        expect_shown(&rt, read_command(words.as_slice()), outcome, &number);
     }
 }
 
-// Runs the command over `abc`, a byte a read, and compares the answer's Debug text, what was written,
-// and how often the input was read.
+// Runs the command over `abc`, a byte a read, and compares the Debug text of the result, what was
+// written, and how often the input was read.
 fn expect_run(
     rt: &(impl Abort + Files + AllocGlobal),
     command: Command<'_>,
     fault: Fault,
-    answer: &str,
+    outcome: &str,
     written: &[u8],
     reads: usize,
 ) {
     let mut input = Plain::new(Reader::new(b"abc", 1, fault));
     let mut buf = [0; 80];
     let mut out = IntoSlice::new(&mut buf);
-    let answered = run_command(rt, rt.alloc(), command, &mut input, &mut out);
+    let ended = run_command(rt, rt.alloc(), command, &mut input, &mut out);
     expect_bytes(rt, out.written(), written, &command);
     expect!(rt; input.into_inner().calls() == reads, &command);
-    expect_shown(rt, answered, answer, &command);
+    expect_shown(rt, ended, outcome, &command);
 }
 
 #[test]
@@ -97,22 +97,22 @@ fn expect_failed_flush(
     let writer = Writer::failing_at_flush(Vec::new(rt.alloc()));
     let buffered = BufWriter::new(rt.alloc(), writer).expect(rt, "no memory for a buffer");
     let mut out = Plain::new(buffered);
-    let answered = run_command(rt, rt.alloc(), command, &mut input, &mut out);
+    let ended = run_command(rt, rt.alloc(), command, &mut input, &mut out);
     expect!(rt; out.failed(), &command);
     let (writer, _) = out.into_inner().into_parts();
     expect_bytes(rt, writer.taken(), taken, &command);
-    expect_shown(rt, answered, "Err(Output)", &command);
+    expect_shown(rt, ended, "Err(Output)", &command);
 }
 
 #[test]
-fn tells_a_flush_that_fails(rt: HostRuntime) {
+fn reports_a_flush_that_fails(rt: HostRuntime) {
     let kind = Kind::Sha1;
     let whole = sealed(&rt, b"abc", ABC);
     expect_failed_flush(&rt, Command::Hash { kind }, ABC.as_bytes());
     expect_failed_flush(&rt, Command::Seal { kind }, &whole);
 }
 
-// With an allocator that has no room for the piece that is read, nor for a digest's line.
+// With an allocator that has no room for the chunk that is read, nor for a digest's line.
 #[test]
 fn hashes_without_memory(rt: HostRuntime) -> Result<(), Fail> {
     let kind = Kind::Sha1;
@@ -125,8 +125,8 @@ fn hashes_without_memory(rt: HostRuntime) -> Result<(), Fail> {
     ] {
         let mut buf = [0; 80];
         let mut out = IntoSlice::new(&mut buf);
-        let answer = run_command(&rt, &heap, command, &mut FromSlice::new(b"abc"), &mut out);
-        expect!(&rt; matches!(answer, Ok(1)), &command);
+        let outcome = run_command(&rt, &heap, command, &mut FromSlice::new(b"abc"), &mut out);
+        expect!(&rt; matches!(outcome, Ok(1)), &command);
         expect_bytes(&rt, out.written(), written, &command);
     }
     Ok(())

@@ -2,7 +2,7 @@
 
 use std::io;
 
-/// When a device answers an error.
+/// When a device returns an error.
 #[derive(Clone, Copy)]
 pub enum Fault {
     /// Never.
@@ -11,7 +11,7 @@ pub enum Fault {
     AtCall(usize),
     /// As `AtCall`, with the error that the library's own loops try again after.
     InterruptedAt(usize),
-    /// At each call once so many bytes have passed.
+    /// At each call after that many bytes have passed.
     AfterBytes(usize),
 }
 
@@ -25,7 +25,7 @@ impl Fault {
         }
     }
 
-    /// The error that it answers.
+    /// The error that it returns.
     fn error(self) -> io::Error {
         match self {
             Fault::InterruptedAt(_) => io::Error::from(io::ErrorKind::Interrupted),
@@ -46,7 +46,7 @@ impl Fault {
 #[derive(Drop)]
 pub struct Writer {
     bytes: Vec<u8>,
-    piece: usize,
+    chunk: usize,
     fault: Fault,
     fails_at_flush: bool,
     calls: usize,
@@ -54,11 +54,11 @@ pub struct Writer {
 }
 
 impl Writer {
-    /// A writer that takes at most `piece` bytes a call: none at 0.
-    pub fn new(bytes: Vec<u8>, piece: usize, fault: Fault) -> Self {
+    /// A writer that takes at most `chunk` bytes a call: none at 0.
+    pub fn new(bytes: Vec<u8>, chunk: usize, fault: Fault) -> Self {
         Writer {
             bytes,
-            piece,
+            chunk,
             fault,
             fails_at_flush: false,
             calls: 0,
@@ -96,7 +96,7 @@ impl io::Write for Writer {
         if self.fault.strikes(self.calls, len) {
             return Err(self.fault.error());
         }
-        let count = buf.len().min(self.piece).min(self.fault.room(len));
+        let count = buf.len().min(self.chunk).min(self.fault.room(len));
         self.bytes.extend_from_slice(&buf[..count])?;
         Ok(count)
     }
@@ -114,18 +114,18 @@ impl io::Write for Writer {
 #[derive(Drop)]
 pub struct Reader<'a> {
     rest: &'a [u8],
-    piece: usize,
+    chunk: usize,
     fault: Fault,
     given: usize,
     calls: usize,
 }
 
 impl<'a> Reader<'a> {
-    /// A reader that gives at most `piece` bytes a call.
-    pub fn new(bytes: &'a [u8], piece: usize, fault: Fault) -> Self {
+    /// A reader that gives at most `chunk` bytes a call.
+    pub fn new(bytes: &'a [u8], chunk: usize, fault: Fault) -> Self {
         Reader {
             rest: bytes,
-            piece,
+            chunk,
             fault,
             given: 0,
             calls: 0,
@@ -144,7 +144,7 @@ impl io::Read for Reader<'_> {
         if self.fault.strikes(self.calls, self.given) {
             return Err(self.fault.error());
         }
-        let room = buf.len().min(self.piece).min(self.fault.room(self.given));
+        let room = buf.len().min(self.chunk).min(self.fault.room(self.given));
         let count = self.rest.len().min(room);
         buf[..count].copy_from_slice(&self.rest[..count]);
         self.rest = &self.rest[count..];

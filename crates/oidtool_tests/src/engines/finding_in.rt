@@ -1,32 +1,31 @@
 //! Finding among ids of one kind.
 
 use super::{BLOB, BLOB_256, NO_MATCH, TREE, TREE_256, text_of};
-use crate::expecting::{expect_bytes, expect_printed, expect_shown};
-use devices::IntoSlice;
-use gix_hash::{Kind, decode, prefix};
-use list_search::{FindInError, find_in, finding_in_means};
+use crate::expecting::{expect_bytes, expect_shown};
+use gix_hash::Kind;
+use oidtool_search::find_in;
 use std::process::Abort;
+use streams::IntoSlice;
 
-// Finds the prefix in the lines, and compares the answer's Debug text and what was written.
+// Finds the prefix in the lines, and compares the Debug text of the result and what was written.
 fn expect_find_in(
     rt: &(impl Abort + AllocGlobal),
     kind: Kind,
     prefix: &str,
     lines: &[&str],
-    answer: &str,
+    outcome: &str,
     written: &str,
 ) {
     let list = text_of(rt, lines);
     let mut buf = [0; 256];
     let mut out = IntoSlice::new(&mut buf);
-    finding_in_means(kind, prefix, list.as_bytes());
     let found = find_in(rt.alloc(), kind, prefix, list.as_bytes(), &mut out);
     let row = (prefix, kind);
     expect_bytes(rt, out.written(), written.as_bytes(), &row);
-    expect_shown(rt, found, answer, &row);
+    expect_shown(rt, found, outcome, &row);
 }
 
-// Kinds, prefixes and lists, and what is answered and written.
+// Kinds, prefixes and lists, and what is returned and written.
 const FOUND: [(Kind, &str, &[&str], &str, &str); 10] = [
     (Kind::Sha1, "4b82", &[TREE, BLOB], "Ok(1)", TREE),
     (Kind::Sha1, "4", &[TREE, BLOB], "Ok(1)", TREE),
@@ -78,13 +77,13 @@ const FOUND: [(Kind, &str, &[&str], &str, &str); 10] = [
 
 #[test]
 fn finds_in_a_kind(rt: HostRuntime) {
-    for &(kind, prefix, lines, answer, written) in &FOUND {
-        expect_find_in(&rt, kind, prefix, lines, answer, written);
+    for &(kind, prefix, lines, outcome, written) in &FOUND {
+        expect_find_in(&rt, kind, prefix, lines, outcome, written);
     }
 }
 
 #[test]
-fn refuses_a_list_of_no_index(rt: HostRuntime) {
+fn rejects_a_list_of_no_index(rt: HostRuntime) {
     let rows: [(&[&str], &str); 6] = [
         (
             &[BLOB_256, TREE, TREE_256, BLOB],
@@ -99,41 +98,7 @@ fn refuses_a_list_of_no_index(rt: HostRuntime) {
             "Err(BadLine { line: 3, error: InvalidHexEncodingLength(2) })",
         ),
     ];
-    for (lines, answer) in rows {
-        expect_find_in(&rt, Kind::Sha1, "4b82", lines, answer, NO_MATCH);
-    }
-}
-
-#[test]
-fn tells_refusals_of_a_kind(rt: HostRuntime) {
-    let rows = [
-        (
-            FindInError::Prefix(prefix::from_hex::Error::TooLong { hex_len: 41 }),
-            "prefix: An id cannot be larger than 64 chars in hex, but 41 was requested",
-        ),
-        (
-            FindInError::OtherKind { kind: Kind::Sha1 },
-            "prefix of kind sha1",
-        ),
-        (
-            FindInError::BadLine {
-                line: 2,
-                error: decode::Error::Invalid,
-            },
-            "line 2: Invalid character encountered",
-        ),
-        (
-            FindInError::WrongKind { line: 7 },
-            "line 7: an id of the other kind",
-        ),
-        (
-            FindInError::NotRising { line: 3 },
-            "line 3: not above the line before it",
-        ),
-        (FindInError::Memory, "out of memory"),
-        (FindInError::Output, "cannot write"),
-    ];
-    for (error, text) in rows {
-        expect_printed(&rt, error, text);
+    for (lines, outcome) in rows {
+        expect_find_in(&rt, Kind::Sha1, "4b82", lines, outcome, NO_MATCH);
     }
 }

@@ -1,16 +1,17 @@
 //! Commands over pack indexes, with devices and memory that fail.
 
+use super::asking::course_of;
 use super::faulty::{Fault, Reader, Writer};
 use super::watched::{Course, Watch, Watched};
 use crate::expecting::{expect_bytes, expect_shown};
-use devices::{FromSlice, IntoSlice, Plain};
 use gix_hash::{Kind, digest_of};
 use linked_list_allocator::LocalHeap;
-use pack_commands::{Command, CommandError, run_command};
+use packtool_commands::{Command, CommandError, run_command};
 use std::alloc::{AllocError, Global};
 use std::io::BufWriter;
 use std::process::Abort;
 use std::test::Fail;
+use streams::{FromSlice, IntoSlice, Plain};
 
 const KIND: Kind = Kind::Sha1;
 
@@ -73,18 +74,9 @@ fn expect_course(
         "no memory for a buffer",
     );
     let mut out = Plain::new(buffered);
-    let answer = run_command(rt.alloc(), command, &mut input, &mut out);
+    let outcome = run_command(rt.alloc(), command, &mut input, &mut out);
     expect!(rt; watch.course() == want, &command);
-    expect!(rt; answer.is_ok() == (want == Course::Fine), &command);
-}
-
-// How devices fare of which the n-th call would fail, where there are so many.
-fn course_of(n: usize, calls: usize) -> Course {
-    if n <= calls {
-        Course::Failed
-    } else {
-        Course::Fine
-    }
+    expect!(rt; outcome.is_ok() == (want == Course::Fine), &command);
 }
 
 #[test]
@@ -126,34 +118,34 @@ fn read_long_inputs(rt: HostRuntime) -> Result<(), Fail> {
         let mut input = FromSlice::new(&zeros);
         let mut buf = [0; 8];
         let mut out = IntoSlice::new(&mut buf);
-        let answer = run_command(rt.alloc(), command, &mut input, &mut out);
-        expect_shown(&rt, answer, "Err(Index(BadMagic))", &command);
+        let outcome = run_command(rt.alloc(), command, &mut input, &mut out);
+        expect_shown(&rt, outcome, "Err(Index(BadMagic))", &command);
     }
     Ok(())
 }
 
-// Each growth is refused in turn, until a run meets none.
+// The growths fail one after the other, until a run has enough memory.
 #[test]
-fn tell_memory_that_is_refused(rt: HostRuntime) -> Result<(), Fail> {
+fn report_too_little_memory(rt: HostRuntime) -> Result<(), Fail> {
     let index = index_of_one(rt.alloc())?;
     let command = Command::Show { kind: KIND };
-    let mut refused = 0;
+    let mut failed_at = 0;
     for units in 0..300usize {
         let heap = LocalHeap::new(rt.alloc(), 16 * units)?;
         let mut input = Plain::new(Reader::new(&index, READ, Fault::Never));
         let mut buf = [0; 64];
         let mut out = IntoSlice::new(&mut buf);
-        let answer = run_command(&heap, command, &mut input, &mut out);
-        if answer.is_ok() {
+        let outcome = run_command(&heap, command, &mut input, &mut out);
+        if outcome.is_ok() {
             expect_bytes(&rt, out.written(), LINE, &units);
-            expect!(&rt; refused > 1);
+            expect!(&rt; failed_at > 1);
             return Ok(());
         }
-        expect!(&rt; matches!(answer, Err(CommandError::Memory)), &units);
+        expect!(&rt; matches!(outcome, Err(CommandError::Memory)), &units);
         expect_bytes(&rt, out.written(), b"", &units);
         // All is given back.
         expect!(&rt; heap.used() == 0, &units);
-        refused = units;
+        failed_at = units;
     }
-    Err(Fail::new("each run met a refusal"))
+    Err(Fail::new("no run had enough memory"))
 }

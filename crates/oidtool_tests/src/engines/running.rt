@@ -1,38 +1,36 @@
-//! Commands over readers and writers that give and take odd pieces, or fail.
+//! Commands over readers and writers that give and take odd chunks, or fail.
 
 use super::faulty::{Fault, Reader, Writer};
 use super::{
-    BLOB, BLOB_256, BLOB_LETTERS, NO_MATCH, Outcome, TREE, TREE_256, expect_granted, text_of,
-    well_known_list,
+    BLOB, BLOB_LETTERS, NO_MATCH, Outcome, TREE, expect_granted, text_of, well_known_list,
 };
-use crate::expecting::{expect_bytes, expect_printed, expect_shown};
-use commands::{Command, CommandError, run_command};
-use devices::{FromSlice, IntoSlice, Plain, Sink};
+use crate::expecting::{expect_bytes, expect_shown};
 use gix_hash::Kind;
 use linked_list_allocator::LocalHeap;
-use list_search::FindFromError;
+use oidtool_commands::{Command, CommandError, run_command};
 use std::io::BufWriter;
 use std::process::Abort;
 use std::rt::Files;
 use std::test::Fail;
+use streams::{FromSlice, IntoSlice, Plain, Sink};
 
-// Runs the command over a list text in pieces of so many bytes, and compares the answer's Debug text
-// and what was written.
+// Runs the command over a list text in chunks of that length, and compares the Debug text of the
+// result and what was written.
 fn expect_run(
     rt: &(impl Abort + Files + AllocGlobal),
     command: Command<'_>,
     list: &str,
     reader: (usize, Fault),
-    answer: &str,
+    outcome: &str,
     written: &str,
 ) {
-    let (piece, fault) = reader;
-    let mut input = Plain::new(Reader::new(list.as_bytes(), piece, fault));
+    let (chunk, fault) = reader;
+    let mut input = Plain::new(Reader::new(list.as_bytes(), chunk, fault));
     let mut buf = [0; 256];
     let mut out = IntoSlice::new(&mut buf);
-    let answered = run_command(rt, rt.alloc(), command, &mut input, &mut out);
+    let ended = run_command(rt, rt.alloc(), command, &mut input, &mut out);
     expect_bytes(rt, out.written(), written.as_bytes(), &command);
-    expect_shown(rt, answered, answer, &command);
+    expect_shown(rt, ended, outcome, &command);
 }
 
 #[test]
@@ -42,57 +40,18 @@ fn runs_commands(rt: HostRuntime) {
     let no_hex = "Err(Find(Prefix(Invalid)))";
     let find = |prefix| Command::Find { prefix };
     let find_change = |letters| Command::FindChange { letters };
-    for piece in [1, 7, 41, 1000] {
-        let reader = (piece, Fault::Never);
+    for chunk in [1, 41, 1000] {
+        let reader = (chunk, Fault::Never);
         expect_run(&rt, find("4b82"), list, reader, "Ok(1)", TREE);
-        expect_run(&rt, find("ffff"), list, reader, "Ok(0)", NO_MATCH);
         expect_run(&rt, find("ltqm"), list, reader, no_hex, NO_MATCH);
-        expect_run(
-            &rt,
-            find_change("ltqm"),
-            list,
-            reader,
-            "Ok(1)",
-            BLOB_LETTERS,
-        );
-        expect_run(&rt, find_change("zzzz"), list, reader, "Ok(0)", NO_MATCH);
+        let found = BLOB_LETTERS;
+        expect_run(&rt, find_change("ltqm"), list, reader, "Ok(1)", found);
         expect_run(&rt, find_change("4b82"), list, reader, no_hex, NO_MATCH);
     }
-    let twice = text_of(&rt, [TREE, TREE].as_slice());
-    let twice = twice.as_str();
-    expect_run(&rt, find("4b82"), twice, (7, Fault::Never), "Ok(2)", twice);
-    expect_run(&rt, find("4b82"), "", (1, Fault::Never), "Ok(0)", NO_MATCH)
 }
 
 #[test]
-fn runs_finding_in_a_kind(rt: HostRuntime) {
-    let mixed = well_known_list(&rt);
-    let mixed = mixed.as_str();
-    let of_sha1 = text_of(&rt, [TREE, BLOB].as_slice());
-    let of_sha1 = of_sha1.as_str();
-    let of_sha256 = text_of(&rt, [BLOB_256, TREE_256].as_slice());
-    let of_sha256 = of_sha256.as_str();
-    let (sha1, sha256) = (Kind::Sha1, Kind::Sha256);
-    let other_kind = "Err(FindIn(Search(WrongKind { line: 1 })))";
-    let too_short = "Err(FindIn(Search(Prefix(TooShort { hex_len: 0 }))))";
-    for (kind, prefix, list, answer, written) in [
-        (sha1, "4b82", of_sha1, "Ok(1)", TREE),
-        (sha1, "4", of_sha1, "Ok(1)", TREE),
-        (sha256, "473a0f", of_sha256, "Ok(1)", BLOB_256),
-        (sha256, "4b82", of_sha256, "Ok(0)", NO_MATCH),
-        (sha1, "4b82", "", "Ok(0)", NO_MATCH),
-        (sha1, "4b82", mixed, other_kind, NO_MATCH),
-        (sha1, "", of_sha1, too_short, NO_MATCH),
-    ] {
-        let find_in = Command::FindIn { kind, prefix };
-        for piece in [1, 1000] {
-            expect_run(&rt, find_in, list, (piece, Fault::Never), answer, written);
-        }
-    }
-}
-
-#[test]
-fn tells_a_read_that_fails(rt: HostRuntime) {
+fn reports_a_read_that_fails(rt: HostRuntime) {
     let list = well_known_list(&rt);
     let list = list.as_str();
     let find = Command::Find { prefix: "4b82" };
@@ -113,7 +72,7 @@ fn tells_a_read_that_fails(rt: HostRuntime) {
         expect_run(&rt, find_change, list, (41, fault), "Err(Input)", NO_MATCH);
         expect_run(&rt, find_in, list, (41, fault), "Err(Input)", NO_MATCH);
     }
-    // Behind a bad line `find` reads no more, and the others read on.
+    // After a bad line `find` reads no more, and the others read on.
     let bad_line = "Err(Find(BadLine { line: 1, error: InvalidHexEncodingLength(5) }))";
     let reader = (6, Fault::AtCall(2));
     expect_run(&rt, find, "no id\n", reader, bad_line, NO_MATCH);
@@ -134,13 +93,13 @@ const SEARCHES: [(Command<'_>, &str); 3] = [
     ),
 ];
 
-// Runs a search with a buffered writer, and compares the answer's Debug text, and what the writer
-// took and how often it was flushed.
+// Runs a search with a buffered writer, and compares the Debug text of the result, and what the
+// writer took and how often it was flushed.
 fn expect_flushed(
     rt: &(impl Abort + Files + AllocGlobal),
     command: Command<'_>,
     writer: Writer,
-    answer: &str,
+    outcome: &str,
     taken: &[u8],
     flushes: usize,
 ) {
@@ -148,42 +107,42 @@ fn expect_flushed(
     let mut input = FromSlice::new(list.as_bytes());
     let buffered = BufWriter::new(rt.alloc(), writer).expect(rt, "no memory for a buffer");
     let mut out = Plain::new(buffered);
-    let answered = run_command(rt, rt.alloc(), command, &mut input, &mut out);
-    let row = (command, answer, flushes);
-    expect!(rt; out.failed() == answered.is_err(), &row);
+    let ended = run_command(rt, rt.alloc(), command, &mut input, &mut out);
+    let row = (command, outcome, flushes);
+    expect!(rt; out.failed() == ended.is_err(), &row);
     let (writer, _) = out.into_inner().into_parts();
     expect_bytes(rt, writer.taken(), taken, &row);
     expect!(rt; writer.flushes() == flushes, &row);
-    expect_shown(rt, answered, answer, &row);
+    expect_shown(rt, ended, outcome, &row);
 }
 
 #[test]
 fn flushes_at_the_end(rt: HostRuntime) {
-    let writer = |piece, fault| Writer::new(Vec::new(rt.alloc()), piece, fault);
+    let writer = |chunk, fault| Writer::new(Vec::new(rt.alloc()), chunk, fault);
     for (command, line) in SEARCHES {
         let output = "Err(Output)";
         let line = line.as_bytes();
         assert!(&rt; line.len() >= 10);
-        for (piece, fault, answer, taken, flushes) in [
+        for (chunk, fault, outcome, taken, flushes) in [
             (1000, Fault::Never, "Ok(1)", line, 1),
             (1, Fault::Never, "Ok(1)", line, 1),
             (0, Fault::Never, output, b"", 0),
             (1000, Fault::AtCall(1), output, b"", 0),
             (4, Fault::AfterBytes(10), output, &line[..10], 0),
         ] {
-            expect_flushed(&rt, command, writer(piece, fault), answer, taken, flushes);
+            expect_flushed(&rt, command, writer(chunk, fault), outcome, taken, flushes);
         }
         let failing = Writer::failing_at_flush(Vec::new(rt.alloc()));
         expect_flushed(&rt, command, failing, output, line, 1);
     }
 }
 
-fn came_of(answer: Result<usize, CommandError>) -> Outcome {
-    match answer {
+fn came_of(outcome: Result<usize, CommandError>) -> Outcome {
+    match outcome {
         Ok(count) => Outcome::Found(count),
         Err(CommandError::Memory) => Outcome::NoMemory,
         Err(CommandError::Output) => Outcome::FailedWrite,
-        Err(_) => Outcome::Refused,
+        Err(_) => Outcome::Rejected,
     }
 }
 
@@ -206,29 +165,14 @@ fn least_heap(
         // All is given back.
         expect!(rt; heap.used() == 0, &units);
     }
-    Err(Fail::new("each run met a refusal"))
+    Err(Fail::new("no run had enough memory"))
 }
 
 #[test]
-fn tells_memory_that_is_refused(rt: HostRuntime) -> Result<(), Fail> {
+fn reports_too_little_memory(rt: HostRuntime) -> Result<(), Fail> {
     for search in SEARCHES {
         // The list text needs memory.
         expect!(&rt; least_heap(&rt, search)? > 0, &search);
     }
     Ok(())
-}
-
-#[test]
-fn prints_refusals(rt: HostRuntime) {
-    let unsorted = CommandError::Find(FindFromError::Unsorted { line: 3 });
-    let rows = [
-        (unsorted, "line 3: below the line before it"),
-        (CommandError::Memory, "out of memory"),
-        (CommandError::Input, "cannot read"),
-        (CommandError::Output, "cannot write"),
-        (CommandError::TooMuch, "too much input"),
-    ];
-    for (error, text) in rows {
-        expect_printed(&rt, error, text);
-    }
 }

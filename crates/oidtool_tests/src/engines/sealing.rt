@@ -3,14 +3,13 @@
 ghost use Rattle.std.specs.Prelude.{◌≡◌, false};
 
 use super::faulty::{Fault, Reader, Writer};
-use crate::expecting::{expect_bytes, expect_printed};
-use devices::{FromSlice, IntoSlice, Plain, Sink, Source};
+use crate::expecting::expect_bytes;
 use gix_hash::io::{Never, NoProgress};
 use gix_hash::{Kind, ObjectId, bytes, oid, verify};
-use pipes::{PipeError, hash_all, seal};
 use std::alloc::{AllocError, Global};
 use std::process::Abort;
 use std::test::Fail;
+use streams::{FromSlice, IntoSlice, PipeError, Plain, Sink, Source, hash_all, seal};
 
 // The digests of `abc` and of nothing, in FIPS 180-4's own examples.
 pub const ABC: &str = "a9993e364706816aba3e25717850c26c9cd0d89d\n";
@@ -31,7 +30,7 @@ const BBC: &str = "0fbe2a58568b4590569588e52ed6a7da4e91b6ab\n";
 
 const BBC_256: &str = "77e6f78af45f649c5f3b8ebe484a91a144eb203a34a89c8dc5b1c4ca87bc6f71\n";
 
-/// What stands between a source and a sink.
+/// What connects a source and a sink.
 #[derive(Clone, Copy, Debug, PartialEq, Eq)]
 enum Pipe {
     Hash,
@@ -70,20 +69,20 @@ fn joined(alloc: Global, message: &[u8], digest: &[u8]) -> Result<Vec<u8>, Alloc
     Ok(bytes)
 }
 
-// Hashes the message in whole pieces, and compares with the digest's line.
+// Hashes the message in whole chunks, and compares with the digest's line.
 fn expect_digest(rt: &impl Abort, kind: Kind, message: &[u8], line: &str) {
     let mut buf = [0; 80];
     let mut hashed = IntoSlice::new(&mut buf);
-    let answer = hash_all(&mut FromSlice::new(message), &mut hashed, kind);
-    expect!(rt; answer.is_ok(), &line);
+    let outcome = hash_all(&mut FromSlice::new(message), &mut hashed, kind);
+    expect!(rt; outcome.is_ok(), &line);
     expect_bytes(rt, hashed.written(), line.as_bytes(), &line);
 }
 
-// Seals the message in whole pieces, and compares with the digest's line.
+// Seals the message in whole chunks, and compares with the digest's line.
 fn expect_sealed(rt: &(impl Abort + AllocGlobal), kind: Kind, message: &[u8], line: &str) {
     let mut out = Plain::new(Vec::new(rt.alloc()));
-    let answer = seal(&mut FromSlice::new(message), &mut out, kind);
-    expect!(rt; answer.is_ok(), &line);
+    let outcome = seal(&mut FromSlice::new(message), &mut out, kind);
+    expect!(rt; outcome.is_ok(), &line);
     let whole = sealed(rt, message, line);
     expect!(rt; out.into_inner() == whole, &line);
 }
@@ -105,8 +104,8 @@ fn hashes_and_seals(rt: HostRuntime) {
     }
 }
 
-// Compares the digest at the end of a sealed message with that of all before it, as who reads a pack
-// does.
+// Compares the digest at the end of a sealed message with that of all before it, as who reads a
+// pack does.
 fn verified(sealed: &[u8], kind: Kind) -> Result<Result<(), verify::Error>, Fail> {
     let Some(len) = sealed.len().checked_sub(kind.len_in_bytes()) else {
         return Err(Fail::new("a sealed message is too short"));
@@ -146,22 +145,22 @@ struct Run<'a> {
     read: (usize, Fault),
     /// The most bytes a write, and the fault.
     write: (usize, Fault),
-    answer: Result<(), PipeError>,
+    outcome: Result<(), PipeError>,
     taken: &'a [u8],
     /// How often the devices are called.
     calls: (usize, usize),
 }
 
 fn expect_run(rt: &(impl Abort + AllocGlobal), run: &Run<'_>) {
-    let (piece, fault) = run.read;
-    let mut input = Plain::new(Reader::new(b"abc", piece, fault));
-    let (piece, fault) = run.write;
-    let mut out = Plain::new(Writer::new(Vec::new(rt.alloc()), piece, fault));
-    let answer = run.pipe.run(&mut input, &mut out, Kind::Sha1);
+    let (chunk, fault) = run.read;
+    let mut input = Plain::new(Reader::new(b"abc", chunk, fault));
+    let (chunk, fault) = run.write;
+    let mut out = Plain::new(Writer::new(Vec::new(rt.alloc()), chunk, fault));
+    let outcome = run.pipe.run(&mut input, &mut out, Kind::Sha1);
     let row = (run.pipe, run.calls);
-    expect!(rt; answer == run.answer, &row);
-    expect!(rt; input.failed() == (answer == Err(PipeError::Input)), &row);
-    expect!(rt; out.failed() == (answer == Err(PipeError::Output)), &row);
+    expect!(rt; outcome == run.outcome, &row);
+    expect!(rt; input.failed() == (outcome == Err(PipeError::Input)), &row);
+    expect!(rt; out.failed() == (outcome == Err(PipeError::Output)), &row);
     let (reads, writes) = run.calls;
     expect!(rt; input.into_inner().calls() == reads, &row);
     let writer = out.into_inner();
@@ -195,7 +194,7 @@ fn ends_over_devices(rt: HostRuntime) {
             pipe,
             read,
             write,
-            answer: Ok(()),
+            outcome: Ok(()),
             taken: &whole,
             calls,
         };
@@ -211,7 +210,7 @@ fn expect_failed_read(rt: &(impl Abort + AllocGlobal), n: usize, fault: Fault) {
         pipe: Pipe::Hash,
         read: (1, fault),
         write: (usize::MAX, Fault::Never),
-        answer: Err(PipeError::Input),
+        outcome: Err(PipeError::Input),
         taken: b"",
         calls: (n, 0),
     };
@@ -226,7 +225,7 @@ fn expect_failed_read(rt: &(impl Abort + AllocGlobal), n: usize, fault: Fault) {
 }
 
 #[test]
-fn tells_a_read_that_fails(rt: HostRuntime) {
+fn reports_a_read_that_fails(rt: HostRuntime) {
     for n in 1..=4 {
         expect_failed_read(&rt, n, Fault::AtCall(n));
         expect_failed_read(&rt, n, Fault::InterruptedAt(n));
@@ -252,7 +251,7 @@ fn expect_failed_write(
         pipe,
         read: (1, Fault::Never),
         write,
-        answer: Err(PipeError::Output),
+        outcome: Err(PipeError::Output),
         taken: &whole[..n - 1],
         calls: (reads, n),
     };
@@ -260,7 +259,7 @@ fn expect_failed_write(
 }
 
 #[test]
-fn tells_a_write_that_fails(rt: HostRuntime) {
+fn reports_a_write_that_fails(rt: HostRuntime) {
     for n in 1..=41 {
         expect_failed_write(&rt, Pipe::Hash, n, (1, Fault::AtCall(n)));
         expect_failed_write(&rt, Pipe::Hash, n, (1, Fault::InterruptedAt(n)));
@@ -274,9 +273,9 @@ fn tells_a_write_that_fails(rt: HostRuntime) {
     }
 }
 
-// Writers with room for some bytes, and writers that take all behind their error.
+// Writers with room for a few bytes, and writers that take all after their error.
 #[test]
-fn tells_a_write_of_more_bytes_that_fails(rt: HostRuntime) {
+fn reports_a_write_of_more_bytes_that_fails(rt: HostRuntime) {
     let whole = usize::MAX;
     for (pipe, fault, taken, calls) in [
         (
@@ -295,36 +294,10 @@ fn tells_a_write_of_more_bytes_that_fails(rt: HostRuntime) {
             pipe,
             read: (whole, Fault::Never),
             write: (whole, fault),
-            answer: Err(PipeError::Output),
+            outcome: Err(PipeError::Output),
             taken,
             calls,
         };
         expect_run(&rt, &run);
-    }
-}
-
-#[test]
-fn keeps_a_failed_read(rt: HostRuntime) {
-    let mut input = Plain::new(Reader::new(b"abcdef", 4, Fault::AtCall(2)));
-    let mut buf = [b'#'; 6];
-    expect!(&rt; matches!(input.read(&mut buf), Ok(4)));
-    expect!(&rt; !input.failed());
-    expect!(&rt; input.read(&mut buf).is_err());
-    expect!(&rt; input.failed());
-    expect!(&rt; matches!(input.read(&mut buf), Ok(2)));
-    expect!(&rt; input.failed());
-    expect!(&rt; buf == *b"efcd##");
-    expect!(&rt; input.into_inner().calls() == 3);
-}
-
-#[test]
-fn prints_why_a_pipe_stopped(rt: HostRuntime) {
-    let rows = [
-        (PipeError::Input, "cannot read"),
-        (PipeError::Output, "cannot write"),
-        (PipeError::TooMuch, "too much input"),
-    ];
-    for (error, text) in rows {
-        expect_printed(&rt, error, text);
     }
 }

@@ -1,20 +1,20 @@
-//! Each of the searches with writers that fail, and with memory that is refused.
+//! Each of the searches with writers that fail, and with too little memory.
 
 ghost use Rattle.std.specs.Prelude.{◌≡◌, false};
 
 use super::faulty::{Fault, Writer};
 use super::{BLOB, BLOB_256, BLOB_LETTERS, Outcome, TREE, TREE_256, expect_granted, text_of};
 use crate::expecting::expect_bytes;
-use devices::{FromSlice, IntoSlice, Plain, Sink};
 use gix_hash::Kind;
 use linked_list_allocator::LocalHeap;
-use list_search::{
+use oidtool_search::{
     FindError, FindFromError, FindInError, FindInFromError, find, find_change, find_change_from,
     find_from, find_in, find_in_from,
 };
 use std::alloc::{AllocError, Allocator, Global};
 use std::process::Abort;
 use std::test::Fail;
+use streams::{FromSlice, IntoSlice, Plain, Sink};
 
 // The ids one above the empty tree and the empty blob of SHA-1, and the latter in letters.
 const NEXT_TREE: &str = "4b825dc642cb6eb9a060e54bf8d69288fbee4905\n";
@@ -60,7 +60,7 @@ impl Search {
                 match find_in_from(alloc, Kind::Sha1, "4b82", &mut source, out) {
                     Ok(count) => Outcome::Found(count),
                     Err(FindInFromError::Search(error)) => came_of_kind(Err(error)),
-                    Err(_) => Outcome::Refused,
+                    Err(_) => Outcome::Rejected,
                 }
             }
         }
@@ -85,7 +85,7 @@ impl Search {
         }
     }
 
-    /// The line that it writes behind that, where the list has the next id too.
+    /// The line that it writes after that, if the list has the next id too.
     fn next_line(self) -> &'static str {
         if self.is_in_letters() {
             NEXT_BLOB_LETTERS
@@ -103,8 +103,8 @@ impl Search {
         }
     }
 
-    /// A list of so many lines, and of four at least, in which it finds one: of four and for another
-    /// search than that in a kind, the empty blobs and trees of both kinds.
+    /// A list of that many lines, at least four, in which it finds one. Four lines, for a search
+    /// that is not in a kind, are the empty blobs and trees of both kinds.
     fn list(self, alloc: Global, lines: usize) -> Result<String, AllocError> {
         let mut text = String::new(alloc);
         for n in 3..lines.max(4) {
@@ -125,30 +125,30 @@ impl Search {
     }
 }
 
-fn came_of(answer: Result<usize, FindError>) -> Outcome {
-    match answer {
+fn came_of(outcome: Result<usize, FindError>) -> Outcome {
+    match outcome {
         Ok(count) => Outcome::Found(count),
         Err(FindError::Memory) => Outcome::NoMemory,
         Err(FindError::Output) => Outcome::FailedWrite,
-        Err(_) => Outcome::Refused,
+        Err(_) => Outcome::Rejected,
     }
 }
 
-fn came_of_source(answer: Result<usize, FindFromError>) -> Outcome {
-    match answer {
+fn came_of_source(outcome: Result<usize, FindFromError>) -> Outcome {
+    match outcome {
         Ok(count) => Outcome::Found(count),
         Err(FindFromError::Memory) => Outcome::NoMemory,
         Err(FindFromError::Output) => Outcome::FailedWrite,
-        Err(_) => Outcome::Refused,
+        Err(_) => Outcome::Rejected,
     }
 }
 
-fn came_of_kind(answer: Result<usize, FindInError>) -> Outcome {
-    match answer {
+fn came_of_kind(outcome: Result<usize, FindInError>) -> Outcome {
+    match outcome {
         Ok(count) => Outcome::Found(count),
         Err(FindInError::Memory) => Outcome::NoMemory,
         Err(FindInError::Output) => Outcome::FailedWrite,
-        Err(_) => Outcome::Refused,
+        Err(_) => Outcome::Rejected,
     }
 }
 
@@ -182,7 +182,7 @@ fn expect_taken(
     expect!(rt; writer.flushes() == 0, &row);
 }
 
-// Writers that fail at each call and behind each byte, of two lines of 41 bytes.
+// Writers that fail at each call and after each byte, of two lines of 41 bytes.
 fn expect_each_failed(rt: &(impl Abort + AllocGlobal), searched: &Searched<'_>) {
     let bytes = || Vec::new(rt.alloc());
     let failed = Outcome::FailedWrite;
@@ -201,7 +201,7 @@ fn expect_each_failed(rt: &(impl Abort + AllocGlobal), searched: &Searched<'_>) 
 }
 
 #[test]
-fn tell_each_write_that_fails(rt: HostRuntime) {
+fn report_each_write_that_fails(rt: HostRuntime) {
     let bytes = || Vec::new(rt.alloc());
     let (found, failed, whole) = (Outcome::Found(2), Outcome::FailedWrite, usize::MAX);
     for search in SEARCHES {
@@ -215,8 +215,8 @@ fn tell_each_write_that_fails(rt: HostRuntime) {
         expect_each_failed(&rt, &searched);
         let flushing = Writer::failing_at_flush(bytes());
         expect_taken(&rt, &searched, flushing, found, 82, 2);
-        // Those that take a byte a call, none, all behind their error, and as much as there is room.
-        for (piece, fault, outcome, len, calls) in [
+        // Those that take a byte a call, none, all after their error, and as much as there is room.
+        for (chunk, fault, outcome, len, calls) in [
             (1, Fault::Never, found, 82, 82),
             (0, Fault::Never, failed, 0, 1),
             (7, Fault::AfterBytes(82), found, 82, 12),
@@ -227,14 +227,14 @@ fn tell_each_write_that_fails(rt: HostRuntime) {
             (whole, Fault::AfterBytes(41), failed, 41, 2),
             (whole, Fault::AfterBytes(82), found, 82, 2),
         ] {
-            let writer = Writer::new(bytes(), piece, fault);
+            let writer = Writer::new(bytes(), chunk, fault);
             expect_taken(&rt, &searched, writer, outcome, len, calls);
         }
     }
 }
 
 #[test]
-fn write_nothing_where_none_is_found(rt: HostRuntime) {
+fn write_nothing_if_none_is_found(rt: HostRuntime) {
     for search in SEARCHES {
         let searched = Searched {
             search,
@@ -246,7 +246,7 @@ fn write_nothing_where_none_is_found(rt: HostRuntime) {
     }
 }
 
-// In how many of the lists it finds in a heap of so many units of 16 bytes.
+// How many of the lists it can search in a heap of that many units of 16 bytes.
 fn granted_within(
     rt: &(impl Abort + AllocGlobal),
     search: Search,
@@ -270,8 +270,8 @@ fn granted_within(
     Ok(granted)
 }
 
-// As the heap grows, each growth is in turn the first that is refused, until none is.
-fn expect_each_refused(rt: &(impl Abort + AllocGlobal), search: Search) -> Result<(), Fail> {
+// As the heap grows, each growth is once the first that fails, until none does.
+fn expect_each_failed_growth(rt: &(impl Abort + AllocGlobal), search: Search) -> Result<(), Fail> {
     let mut lists = Vec::new(rt.alloc());
     for lines in [4, 8, 9] {
         lists.push(search.list(rt.alloc(), lines)?)?;
@@ -287,14 +287,15 @@ fn expect_each_refused(rt: &(impl Abort + AllocGlobal), search: Search) -> Resul
         }
         before = granted;
     }
-    Err(Fail::new("some growth was refused each time"))
+    Err(Fail::new("a growth failed each time"))
 }
 
-// Lists of 4, 8 and 9 lines make one growth, two and three for their ids, and one for what is found.
+// Lists of 4, 8 and 9 lines need one growth, two and three for their ids, and one for what is
+// found.
 #[test]
-fn tell_each_growth_that_is_refused(rt: HostRuntime) -> Result<(), Fail> {
+fn report_each_growth_that_fails(rt: HostRuntime) -> Result<(), Fail> {
     for search in SEARCHES {
-        expect_each_refused(&rt, search)?;
+        expect_each_failed_growth(&rt, search)?;
     }
     Ok(())
 }

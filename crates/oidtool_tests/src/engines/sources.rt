@@ -1,15 +1,13 @@
-//! Finding in what a source gives: cut into pieces, ended early, and with devices that fail.
+//! Searches in sources: cut into chunks, ended early, and with devices that fail.
 
 use super::faulty::{Fault, Reader};
-use super::{BLOB, BLOB_256, NO_MATCH, TREE, TREE_LETTERS, text_of, well_known_list};
-use crate::expecting::{expect_bytes, expect_printed, expect_shown};
-use devices::{IntoSlice, Plain};
-use gix_hash::{Kind, decode, prefix};
-use list_search::{
-    FindFromError, FindInError, FindInFromError, find_change_from, find_from, find_in_from,
-};
+use super::{BLOB, BLOB_256, NO_MATCH, TREE, TREE_LETTERS, text_of};
+use crate::expecting::{expect_bytes, expect_shown};
+use gix_hash::Kind;
+use oidtool_search::{FindFromError, FindInFromError, find_change_from, find_from, find_in_from};
 use std::process::Abort;
 use std::test::Fail;
+use streams::{IntoSlice, Plain};
 
 /// A search in what a source gives: in hex, in the letters of change ids, or among ids of SHA-1.
 #[derive(Clone, Copy, Debug)]
@@ -21,8 +19,8 @@ enum By {
 
 const EACH: [By; 3] = [By::Hex, By::Letters, By::Sha1];
 
-// Finds the prefix in what the reader gives in pieces of so many bytes, and compares the answer's
-// Debug text, what was written, and whether the reader failed. Answers how often it was called.
+// Finds the prefix in what the reader gives in chunks of that length, and compares the Debug text
+// of the result, what was written, and whether the reader failed. Returns how often it was called.
 fn expect_by(
     rt: &(impl Abort + AllocGlobal),
     by: By,
@@ -31,30 +29,30 @@ fn expect_by(
     reader: (usize, Fault),
     want: (&str, &str),
 ) -> usize {
-    let (piece, fault) = reader;
-    let (answer, written) = want;
-    let mut input = Plain::new(Reader::new(list, piece, fault));
+    let (chunk, fault) = reader;
+    let (outcome, written) = want;
+    let mut input = Plain::new(Reader::new(list, chunk, fault));
     let mut buf = [0; 256];
     let mut out = IntoSlice::new(&mut buf);
-    let row = (by, prefix, piece);
-    let is_told = match by {
+    let row = (by, prefix, chunk);
+    let is_reported = match by {
         By::Sha1 => {
             let found = find_in_from(rt.alloc(), Kind::Sha1, prefix, &mut input, &mut out);
-            let is_told = matches!(found, Err(FindInFromError::Input));
-            expect_shown(rt, found, answer, &row);
-            is_told
+            let is_reported = matches!(found, Err(FindInFromError::Input));
+            expect_shown(rt, found, outcome, &row);
+            is_reported
         }
         By::Hex | By::Letters => {
             let found = match by {
                 By::Letters => find_change_from(rt.alloc(), prefix, &mut input, &mut out),
                 _ => find_from(rt.alloc(), prefix, &mut input, &mut out),
             };
-            let is_told = matches!(found, Err(FindFromError::Input));
-            expect_shown(rt, found, answer, &row);
-            is_told
+            let is_reported = matches!(found, Err(FindFromError::Input));
+            expect_shown(rt, found, outcome, &row);
+            is_reported
         }
     };
-    expect!(rt; is_told == input.failed(), &row);
+    expect!(rt; is_reported == input.failed(), &row);
     expect_bytes(rt, out.written(), written.as_bytes(), &row);
     input.into_inner().calls()
 }
@@ -65,35 +63,23 @@ fn expect_from(
     prefix: &str,
     list: &[u8],
     reader: (usize, Fault),
-    answer: &str,
+    outcome: &str,
     written: &str,
 ) -> usize {
-    expect_by(rt, By::Hex, prefix, list, reader, (answer, written))
+    expect_by(rt, By::Hex, prefix, list, reader, (outcome, written))
 }
 
-/// As `expect_from`, of a reader that does not fail, in pieces of 1, of 7 and of 41 bytes, and whole.
+/// As `expect_from`, of a reader that does not fail, in chunks of 1, of 7 and of 41 bytes, and
+/// whole.
 pub fn expect_however_cut(
     rt: &(impl Abort + AllocGlobal),
     prefix: &str,
     list: &[u8],
-    answer: &str,
+    outcome: &str,
     written: &str,
 ) {
-    for piece in [1, 7, 41, usize::MAX] {
-        expect_from(rt, prefix, list, (piece, Fault::Never), answer, written);
-    }
-}
-
-#[test]
-fn finds_however_it_is_cut(rt: HostRuntime) {
-    let all = well_known_list(&rt);
-    let all = all.as_bytes();
-    assert!(&rt; !all.is_empty());
-    for list in [all, &all[..all.len() - 1]] {
-        expect_however_cut(&rt, "4b82", list, "Ok(1)", TREE);
-        expect_however_cut(&rt, "473a0f", list, "Ok(1)", BLOB_256);
-        expect_however_cut(&rt, "e69d", list, "Ok(1)", BLOB);
-        expect_however_cut(&rt, "ffff", list, "Ok(0)", NO_MATCH);
+    for chunk in [1, 7, 41, usize::MAX] {
+        expect_from(rt, prefix, list, (chunk, Fault::Never), outcome, written);
     }
 }
 
@@ -133,30 +119,30 @@ fn finds_by_letters_and_in_a_kind_however_it_is_cut(rt: HostRuntime) {
         ),
     ];
     for (by, prefix, list, want) in rows {
-        for piece in [1, 7, 41, 42, usize::MAX] {
-            expect_by(&rt, by, prefix, list, (piece, Fault::Never), want);
+        for chunk in [1, 7, 41, 42, usize::MAX] {
+            expect_by(&rt, by, prefix, list, (chunk, Fault::Never), want);
         }
     }
 }
 
 #[test]
-fn tells_the_whole_length_of_a_bad_line(rt: HostRuntime) -> Result<(), Fail> {
+fn reports_the_whole_length_of_a_bad_line(rt: HostRuntime) -> Result<(), Fail> {
     let zeros = vec![in rt.alloc(); b'0'; 70_000]?;
-    let told = "Err(BadLine { line: 1, error: InvalidHexEncodingLength(70000) })";
-    for piece in [4096, 65_536, usize::MAX] {
-        let reader = (piece, Fault::Never);
-        expect_from(&rt, "4b82", &zeros, reader, told, NO_MATCH);
+    let want = "Err(BadLine { line: 1, error: InvalidHexEncodingLength(70000) })";
+    for chunk in [4096, 65_536, usize::MAX] {
+        let reader = (chunk, Fault::Never);
+        expect_from(&rt, "4b82", &zeros, reader, want, NO_MATCH);
     }
     Ok(())
 }
 
 #[test]
-fn reads_no_piece_behind_a_bad_line(rt: HostRuntime) {
+fn reads_nothing_after_a_bad_line(rt: HostRuntime) {
     let bad_line = "Err(BadLine { line: 1, error: InvalidHexEncodingLength(2) })";
     let too_short = "Err(Prefix(TooShort { hex_len: 3 }))";
     let ended = text_of(&rt, ["zz\n", TREE].as_slice());
     let ended = ended.as_bytes();
-    let failing = |piece, after| (piece, Fault::AfterBytes(after));
+    let failing = |chunk, after| (chunk, Fault::AfterBytes(after));
     let rows = [
         ("4b82", TREE.as_bytes(), failing(41, 41), "Err(Input)", 2),
         ("4b82", b"zz\n", failing(1, 3), bad_line, 3),
@@ -164,14 +150,14 @@ fn reads_no_piece_behind_a_bad_line(rt: HostRuntime) {
         ("4b82", ended, failing(1, 1000), bad_line, 3),
         ("abc", ended, failing(1, 0), too_short, 0),
     ];
-    for (prefix, list, reader, answer, calls) in rows {
-        let called = expect_from(&rt, prefix, list, reader, answer, NO_MATCH);
-        expect!(&rt; called == calls, &answer);
+    for (prefix, list, reader, outcome, calls) in rows {
+        let called = expect_from(&rt, prefix, list, reader, outcome, NO_MATCH);
+        expect!(&rt; called == calls, &outcome);
     }
 }
 
 #[test]
-fn tells_each_read_that_fails(rt: HostRuntime) {
+fn reports_each_read_that_fails(rt: HostRuntime) {
     let list = text_of(&rt, [TREE, BLOB].as_slice());
     let list = list.as_bytes();
     for by in EACH {
@@ -179,12 +165,12 @@ fn tells_each_read_that_fails(rt: HostRuntime) {
             By::Letters => ("vorx", TREE_LETTERS),
             _ => ("4b82", TREE),
         };
-        // 82 bytes in pieces of 7, and the read that meets the end.
+        // 82 bytes in chunks of 7, and the read that meets the end.
         for at in 1..=13 {
             for fault in [Fault::AtCall(at), Fault::InterruptedAt(at)] {
                 let failed = ("Err(Input)", NO_MATCH);
                 let calls = expect_by(&rt, by, prefix, list, (7, fault), failed);
-                // Nothing is read behind a failure.
+                // Nothing is read after a failure.
                 expect!(&rt; calls == at, &at);
             }
         }
@@ -196,52 +182,5 @@ fn tells_each_read_that_fails(rt: HostRuntime) {
             (7, Fault::AtCall(14)),
             ("Ok(1)", line),
         );
-    }
-}
-
-#[test]
-fn prints_refusals(rt: HostRuntime) {
-    let error = decode::Error::InvalidHexEncodingLength(2);
-    let min = 40;
-    let rows = [
-        (
-            FindFromError::Prefix(prefix::from_hex::Error::Invalid),
-            "prefix: Invalid hex character",
-        ),
-        (
-            FindFromError::BadLine { line: 2, error },
-            "line 2: A hash sized 2 hexadecimal characters is invalid",
-        ),
-        (
-            FindFromError::Unsorted { line: 3 },
-            "line 3: below the line before it",
-        ),
-        (
-            FindFromError::PrefixTooLong { hex_len: 41, min },
-            "prefix of 41 digits, but an id of the list has only 40",
-        ),
-        (FindFromError::Memory, "out of memory"),
-        (FindFromError::Output, "cannot write"),
-        (FindFromError::Input, "cannot read"),
-        (FindFromError::TooMuch, "too much input"),
-    ];
-    for (error, text) in rows {
-        expect_printed(&rt, error, text);
-    }
-}
-
-#[test]
-fn prints_refusals_in_a_kind(rt: HostRuntime) {
-    let rows = [
-        (
-            FindInFromError::Search(FindInError::NotRising { line: 3 }),
-            "line 3: not above the line before it",
-        ),
-        (FindInFromError::Search(FindInError::Output), "cannot write"),
-        (FindInFromError::Input, "cannot read"),
-        (FindInFromError::TooMuch, "too much input"),
-    ];
-    for (error, text) in rows {
-        expect_printed(&rt, error, text);
     }
 }

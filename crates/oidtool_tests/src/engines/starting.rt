@@ -1,7 +1,7 @@
-//! The words that a program is started with, and what it tells at its end.
+//! The words that a program is started with, and what it reports at its end.
 
-use command_line::{WordsError, own_words, told};
-use list_search::FindError;
+use command_line::{WordsError, command_line_args, report};
+use oidtool_search::FindError;
 use std::alloc::Global;
 use std::cell::Cell;
 use std::env::FillError;
@@ -56,7 +56,9 @@ const STARTED: [&[u8]; 9] = [
 
 // The words after the name are these, in order.
 fn expect_words(rt: &(impl Abort + AllocGlobal), started: &[&'static [u8]]) {
-    let words = own_words(&(Started { words: &*started }, rt.alloc())).expect(rt, "no words");
+    let words = command_line_args(&(Started { words: &*started }, rt.alloc())).expect(
+        rt, "no words",
+    );
     let mut want = started.iter();
     want.next();
     expect!(rt; words.len() == want.len(), &started.len());
@@ -73,16 +75,16 @@ fn gives_each_word_after_the_name(rt: HostRuntime) {
 }
 
 #[test]
-fn refuses_words_that_are_no_text(rt: HostRuntime) {
+fn rejects_words_that_are_no_text(rt: HostRuntime) {
     for at in 0..4 {
         let mut words: [&'static [u8]; 4] = [b"name", b"find", b"4b82", b""];
         words[at] = b"\xff";
-        let answer = own_words(&(Started { words: &words }, rt.alloc()));
-        expect!(&rt; matches!(answer, Err(WordsError::NotText)), &at);
+        let outcome = command_line_args(&(Started { words: &words }, rt.alloc()));
+        expect!(&rt; matches!(outcome, Err(WordsError::NotText)), &at);
     }
 }
 
-// What is to be told, and how often it was, and whether something else was.
+// The text that is to be reported, how often it was, and whether another was.
 #[derive(Drop)]
 struct Listener<'a> {
     alloc: Global,
@@ -111,8 +113,13 @@ impl Eprint for Listener<'_> {
     }
 }
 
-// Of the answer this text is told, so many times, and nothing else.
-fn expect_told(rt: &(impl Abort + AllocGlobal), count: Option<usize>, want: &str, times: usize) {
+// This text is reported that many times, and no other.
+fn expect_reported(
+    rt: &(impl Abort + AllocGlobal),
+    count: Option<usize>,
+    want: &str,
+    times: usize,
+) {
     for is_closed in [false, true] {
         let listener = Listener {
             alloc: rt.alloc(),
@@ -121,16 +128,16 @@ fn expect_told(rt: &(impl Abort + AllocGlobal), count: Option<usize>, want: &str
             times: Cell::new(0),
             is_other: Cell::new(false),
         };
-        let answer = count.ok_or(FindError::Unsorted { line: 3 });
-        let _status = told(&listener, answer);
+        let outcome = count.ok_or(FindError::Unsorted { line: 3 });
+        let _status = report(&listener, "", outcome);
         expect!(rt; listener.times.get() == times, &count);
         expect!(rt; !listener.is_other.get(), &count);
     }
 }
 
 #[test]
-fn tells_a_refusal_once(rt: HostRuntime) {
-    expect_told(&rt, None, "line 3: below the line before it", 1);
-    expect_told(&rt, Some(0), "", 0);
-    expect_told(&rt, Some(2), "", 0)
+fn reports_an_error_once(rt: HostRuntime) {
+    expect_reported(&rt, None, "line 3: below the line before it", 1);
+    expect_reported(&rt, Some(0), "", 0);
+    expect_reported(&rt, Some(2), "", 0)
 }

@@ -1,4 +1,4 @@
-//! Devices of which it is known whether one was asked behind a failure.
+//! Devices of which it is known whether one was called after a failure.
 
 use std::cell::Cell;
 use std::io;
@@ -8,13 +8,13 @@ use std::io;
 pub enum Course {
     /// None failed.
     Fine,
-    /// One failed, and none was asked behind that.
+    /// One failed, and none was called after that.
     Failed,
-    /// One was asked behind the failure of it or of another.
+    /// One was called after the failure of it or of another.
     AskedAgain,
 }
 
-/// What the devices of a run tell of their calls.
+/// What the devices of a run report of their calls.
 #[derive(Drop)]
 pub struct Watch {
     course: Cell<Course>,
@@ -41,7 +41,7 @@ impl Watch {
     }
 }
 
-/// A reader or a writer that tells of its calls.
+/// A reader or a writer that reports its calls.
 #[derive(Drop)]
 pub struct Watched<'a, T> {
     inner: T,
@@ -56,25 +56,25 @@ impl<'a, T> Watched<'a, T> {
 
 impl<T: io::Read> io::Read for Watched<'_, T> {
     fn read(&mut self, buf: &mut [u8]) -> io::Result<usize> {
-        let answer = self.inner.read(buf);
-        self.watch.note(answer.is_err());
-        answer
+        let outcome = self.inner.read(buf);
+        self.watch.note(outcome.is_err());
+        outcome
     }
 }
 
 impl<T: io::Write> io::Write for Watched<'_, T> {
     fn write(&mut self, buf: &[u8]) -> io::Result<usize> {
-        let answer = self.inner.write(buf);
-        self.watch.note(match &answer {
+        let outcome = self.inner.write(buf);
+        self.watch.note(match &outcome {
             Ok(count) => *count == 0 && !buf.is_empty(),
             Err(_) => true,
         });
-        answer
+        outcome
     }
 
     fn flush(&mut self) -> io::Result<()> {
-        let answer = self.inner.flush();
-        self.watch.note(answer.is_err());
-        answer
+        let outcome = self.inner.flush();
+        self.watch.note(outcome.is_err());
+        outcome
     }
 }

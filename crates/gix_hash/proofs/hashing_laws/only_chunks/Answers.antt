@@ -1,7 +1,7 @@
 use Rattle.std.proofs.Common.{sym, subst}
 use Rattle.gix_hash.specs.Streams.{AreChunks}
-use Rattle.gix_hash.proofs.OnlyChunks.{chunks_are, chunks_alone}
+use Rattle.gix_hash.proofs.OnlyChunks.{AreChunks-chunks, chunks-unique}
 use Rattle.gix_hash.proofs.hashing_laws.only_chunks.Goals as goal
 
 pub returns : goal.returns
-returns c lens = (λ same. subst (AreChunks c.args.num_bytes) (sym same) (chunks_are c.args.num_bytes), chunks_alone c.args.num_bytes lens)
+returns c lens = (λ same. subst (AreChunks c.args.num_bytes) (sym same) (AreChunks-chunks c.args.num_bytes), chunks-unique c.args.num_bytes lens)

@@ -1,4 +1,4 @@
-use Rattle.gix_hash.specs.Equalities.{Contains-id_eq}
+use Rattle.gix_hash.proofs.Equalities.{Contains-id_eq}
 use Rattle.gix_hash.proofs.laws.contains_equal.Goals as goal
 
 pub returns : goal.returns

@@ -1,4 +1,4 @@
-use Rattle.gix_hash.specs.Equalities.{id_eq-parts, id_eq-same}
+use Rattle.gix_hash.proofs.Equalities.{id_eq-parts, id_eq-same}
 use Rattle.gix_hash.proofs.SpellingLaws.{id_eq-spelling}
 use Rattle.gix_hash.proofs.laws.equal_ids.Goals as goal
 

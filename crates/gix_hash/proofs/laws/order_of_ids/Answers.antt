@@ -1,6 +1,6 @@
 use Rattle.std.proofs.Common.{rules}
 use Rattle.std.specs.Cmp.Rules.{comparing}
-use Rattle.gix_hash.specs.Equalities.{id_eq-same}
+use Rattle.gix_hash.proofs.Equalities.{id_eq-same}
 use Rattle.gix_hash.proofs.laws.order_of_ids.Goals as goal
 
 pub returns-clause-total : goal.returns-clause-total

@@ -1,5 +1,5 @@
 use Rattle.std.proofs.Common.{ap}
-use Rattle.gix_hash.specs.Equalities.{same_id}
+use Rattle.gix_hash.proofs.Equalities.{same_id}
 use Rattle.gix_hash.specs.IdReading.{whole_of}
 use Rattle.gix_hash.proofs.laws.same_id.Goals as goal
 

@@ -14,4 +14,4 @@ returns-else-hex_len-eq1 c =
     let even : c.args.hex_len ≡ 2 * (c.args.hex_len / 2) = omega arith in
     let within : c.args.hex_len / 2 ≤ length c.args.front.now = omega arith in
     rw c.copy_from_slice.ensures.after
-    (padded-even c.args.hex_len (c.args.hex_len / 2) _ c.args.front.now c.args.zeros.now even within c.requires.room c.requires.zeros)
+    (padded-even c.args.hex_len (c.args.hex_len / 2) _ c.args.front.now c.args.zeros.now even within c.requires.zeros)

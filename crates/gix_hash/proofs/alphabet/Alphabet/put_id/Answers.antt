@@ -3,10 +3,10 @@ use Rattle.std.proofs.lemmas.List.{length-take-le}
 use Rattle.id_digits.specs.Digits.{digits_of, hex_letter, spelling}
 use Rattle.gix_hash.specs.Oid.{oid_bytes}
 use Rattle.id_digits.proofs.ReverseLetters.{spelling-reverse_of_hex}
-use Rattle.gix_hash.proofs.HexSpelling.{spelled, cut_and_behind}
+use Rattle.gix_hash.proofs.HexSpelling.{spelled, cut_and_rest}
 use Rattle.gix_hash.proofs.KindFacts.{hex_len_of-kind}
 use Rattle.id_digits.proofs.Spellings.{All-digits_of}
-use Rattle.gix_hash.proofs.Spellings.{length-oid_digits}
+use Rattle.gix_hash.proofs.IdFacts.{length-oid}
 use Rattle.gix_hash.proofs.alphabet.Alphabet.put_id.Goals as goal
 
 pub returns-in-Reverse-clause-value : goal.returns-in-Reverse-clause-value
@@ -18,7 +18,7 @@ returns-in-Reverse-clause-value c =
     let room = length-take-le (2 * length bytes) buffer (rw (two, ← c.as_bytes-bytes.ensures.value) at c.requires) in
     let letters : c.encode_to_slice.new.output ≡ spelling hex_letter (digits_of bytes) =
     spelled bytes _ _ _ room c.encode_to_slice.ensures.fits c.encode_to_slice.ensures.written small in
-    let ends = cut_and_behind (digits_of bytes) bytes buffer refl in
+    let ends = cut_and_rest (digits_of bytes) bytes buffer refl in
     rw (
       c.in-Reverse.is,
       two,
@@ -41,7 +41,7 @@ returns-in_default-clause-value c =
     rw (c.in_default.is, two, ← c.as_bytes-bytes.ensures.value, letters) refl
 
 pub returns-in-Reverse-clause-len : goal.returns-in-Reverse-clause-len
-returns-in-Reverse-clause-len c = length-oid_digits c.args.id
+returns-in-Reverse-clause-len c = length-oid c.args.id
 
 pub returns-in_default-clause-len : goal.returns-in_default-clause-len
-returns-in_default-clause-len c = length-oid_digits c.args.id
+returns-in_default-clause-len c = length-oid c.args.id

@@ -1,4 +1,4 @@
-use Rattle.id_digits.proofs.Places.{first_byte-digits_of}
+use Rattle.id_digits.proofs.ByteDigits.{first_byte-digits_of}
 use Rattle.gix_hash.proofs.borrowed.oid.first_byte.Goals as goal
 
 pub returns : goal.returns

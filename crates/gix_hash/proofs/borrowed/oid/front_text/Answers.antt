@@ -1,11 +1,10 @@
-use Rattle.std.proofs.Common.{take, subst, sym, ap, ◌∙◌}
-use Rattle.std.specs.Prelude.{IsAscii}
+use Rattle.std.proofs.Common.{sym, ap, ◌∙◌}
 use Rattle.gix_hash.specs.Kind.{hex_len_of}
-use Rattle.id_digits.proofs.Spellings.{IsAscii-hex}
+use Rattle.gix_hash.specs.Oid.{oid_digits}
+use Rattle.gix_hash.proofs.Spellings.{IsAscii-front}
 use Rattle.gix_hash.proofs.borrowed.oid.front_text.Goals as goal
 
--- the text stands in the front of the buffer
 pub ascii_text-requires : goal.ascii_text-requires
 ascii_text-requires c =
-    let len = c.len_in_hex.ensures ∙ ap hex_len_of c.kind.ensures.value in
-    subst IsAscii (sym (ap (λ n. take n c.args.buffer.now) len ∙ c.requires.front)) (IsAscii-hex c.args.self.now.bytes.now c.args.self.now.bytes_in_range)
+    let len = c.kind.ensures.len ∙ sym (c.len_in_hex.ensures ∙ ap hex_len_of c.kind.ensures.value) in
+    IsAscii-front (oid_digits c.args.self.now) _ _ _ c.requires.1 len c.kind.ensures.digits_in_range

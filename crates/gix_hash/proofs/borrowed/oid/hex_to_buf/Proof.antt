@@ -1,5 +1,5 @@
--- By hand, since the borrow checker follows a loan out of a function's first parameter alone. The buffer is filled, shared for all the time that it was lent for, and its name then ends at what it holds. Assumes `Logic`.
-use Rattle.std.proofs.Common.{◌≡◌, ℕ, ◌≤◌, List, [], ◌∷◌, ◌++◌, Bor, MutBor, length, take, drop, refl, ap, w8}
+-- By hand, since the borrow checker follows a loan only out of a function's first parameter. The buffer is filled, shared for all the time that it was lent for, and its name then ends at what it holds. Assumes `Logic`.
+use Rattle.std.proofs.Common.{◌≡◌, ℕ, ◌≤◌, List, [], ◌∷◌, ◌++◌, Bor, MutBor, length, drop, refl, ap, w8}
 use Rattle.std.specs.Prelude.{IsAscii}
 use Rattle.std.proofs.raw_atomic.Walks.{proved, leaves}
 use Rattle.gix_hash.specs.LentText.{EndsAs}
@@ -12,8 +12,7 @@ use Rattle.gix_hash.proofs.borrowed.oid.TheLaws as id_laws
 use Rattle.gix_hash.proofs.BufferEnds.{ends}
 use mir.Syntax.{named, erased}
 use mir.Val.{Val}
-use base.Stored.{coded_list}
-use base.Fml.{GName, ftrue, flft, fres}
+use base.Fml.{ftrue, flft}
 use base.Logic.{id⊢, emp}
 use contract.Monad.{fact, fact_i}
 use contract.Running.{tables}
@@ -23,7 +22,6 @@ use types.Run.{enter, addr, from, fld, hop, stop, no_more, and_then, returns}
 use types.ByLocal.{alloc_all, pass_all, free_all, look_at, look_in_at, get, get_in, sets, lands_as}
 use denote.Builtin.{u8}
 use denote.Exit.{yes, no}
-use denote.FollowSlice.{finally-res}
 use denote.Laws.{Is, shows}
 use denote.Plain.{uint_row_laws}
 use denote.RattleType.{RattleType}
@@ -87,13 +85,13 @@ hex_to_buf_spec 𝓤 𝓛 𝓜 𝓡 wired =
     sets ! (agg ! (and_then ! (get ! refl) (and_then ! (get_in ! (fld ! refl (stop !)) (sub ! 1 refl (whole !))) (no_more !)))) refl (tt, (tt, (record { fits = are.1.0.0.1.0 }, tt))) $
     calls_at ! fm Fill (filled.met 𝓤 𝓛 𝓜 𝓡 (code.calls-gix_hash::borrowed::oid::filled 𝓡.env wired)) z (and_then ! (get ! refl) (and_then ! (get ! refl) (no_more !))) (λ v.
     use1 𝓛 (later (some (λ (r : MutBor (List ℕ)). (toks ⊛ ‵ ((MutSlice (named 2) κ u8).own_val r (v ∷ []))) ⊛
-    some (λ (ws : Lasts fill.ended κs a). ‵ (lasts fill.ended κs a ws) ⊛ raw (fact 𝓤 (r.ghost_name ≡ b.ghost_name)) ⊛ raw (fact 𝓤 (r.now ≡ text id.now ++ drop (count id.now) b.now)) ⊛ raw (fact 𝓤 (count id.now ≤ length r.now)) ⊛ raw (fact 𝓤 (take (count id.now) r.now ≡ text id.now)))))) (id⊢ 𝓤 _) $
-    await ! tt $ pick ! (λ r. split ! $ split ! $ move ! (2 ∷ []) $ pick ! (λ ws. split ! $ let_go ! $ split ! $ heard ! (r.ghost_name ≡ b.ghost_name) (λ same. split ! $ heard ! (r.now ≡ text id.now ++ drop (count id.now) b.now) (λ value. split ! $ heard ! (count id.now ≤ length r.now) (λ wide. heard ! (take (count id.now) r.now ≡ text id.now) (λ spelling_first.
+    some (λ (ws : Lasts fill.ended κs a). ‵ (lasts fill.ended κs a ws) ⊛ raw (fact 𝓤 (r.ghost_name ≡ b.ghost_name)) ⊛ raw (fact 𝓤 (r.now ≡ text id.now ++ drop (count id.now) b.now)))))) (id⊢ 𝓤 _) $
+    await ! tt $ pick ! (λ r. split ! $ split ! $ move ! (2 ∷ []) $ pick ! (λ ws. split ! $ let_go ! $ split ! $ heard ! (r.ghost_name ≡ b.ghost_name) (λ same. heard ! (r.now ≡ text id.now ++ drop (count id.now) b.now) (λ value.
     -- [the tokens; the filled buffer; me]
-    move ! (1 ∷ []) $ peeks ! (MutSlice (named 2) κ u8) (Is (MutSlice (named 2) κ u8)) (shows 𝓛 (MutSlice (named 2) κ u8)) r (v ∷ []) (λ told.
-    lands_as ! (ap only told.0.0) refl (tt, (tt, (record { fits = told.0.1.0 }, tt))) $
+    move ! (1 ∷ []) $ peeks ! (MutSlice (named 2) κ u8) (Is (MutSlice (named 2) κ u8)) (shows 𝓛 (MutSlice (named 2) κ u8)) r (v ∷ []) (λ filled_at.
+    lands_as ! (ap only filled_at.0.0) refl (tt, (tt, (record { fits = filled_at.0.1.0 }, tt))) $
     sets ! (addr ! (from ! (fld ! refl (hop ! (look_in_at ! 3 (sub ! 0 refl (whole !))) (stop !))))) refl (tt, tt) $
-    sets ! (agg ! (and_then ! (get ! refl) (and_then ! (get_in ! (fld ! refl (stop !)) (sub ! 1 refl (whole !))) (no_more !)))) refl (tt, (tt, (record { fits = told.0.1.0 }, tt))) $
+    sets ! (agg ! (and_then ! (get ! refl) (and_then ! (get_in ! (fld ! refl (stop !)) (sub ! 1 refl (whole !))) (no_more !)))) refl (tt, (tt, (record { fits = filled_at.0.1.0 }, tt))) $
     fsplit ! $ fsplit ! $ feq_l ! (λ _. fjoin ! $
     -- [what the buffer owns; the tokens; me]
     move ! (1 ∷ []) $ split ! $ move ! (1 ∷ []) $ split ! $ move ! (1 ∷ []) $ split ! $ move ! (1 ∷ []) $ let_go ! $
@@ -101,18 +99,15 @@ hex_to_buf_spec 𝓤 𝓛 𝓜 𝓡 wired =
     move ! (3 ∷ 0 ∷ []) $
     use2 𝓛 (later (‵ ((own.ShrSlice erased κ u8).own_val (record { ref_ptr = r.ref_ptr; now = r.now })) ⊛ (‵ (finally u8 r.ghost_name r.now) ⊛ ‵ (flft κ q))))
     (sl_Share 𝓛 u8 r.ref_ptr.0 r.ref_ptr.1 r.ghost_name r.now (uint_row_laws w8) κ q (Shares-copy 𝓛 (c_rf (f_int w8)) κ)) $ await ! tt $ split ! $ move ! (1 ∷ []) $ split ! $
-    use1 𝓛 (‵ (fres r.ghost_name ((coded_list u8.coded).code r.now))) (finally-res 𝓛 u8 r.ghost_name r.now) $
-    rewrite ! 0 (λ (γ : GName). ‵ (fres γ ((coded_list u8.coded).code r.now))) same refl $
-    rewrite ! 0 (λ (xs : List ℕ). ‵ (fres b.ghost_name ((coded_list u8.coded).code xs))) value refl $
-    use1 𝓛 (‵ (EndsAs b (text id.now ++ drop (count id.now) b.now))) (ends 𝓛 b (text id.now ++ drop (count id.now) b.now)) $
+    use1 𝓛 (‵ (EndsAs b (text id.now ++ drop (count id.now) b.now))) (ends 𝓛 r b (text id.now ++ drop (count id.now) b.now) same value) $
     -- [how the buffer ends; the token of 'b; what the shared buffer owns; the token of 'a; of the reference to me; me]
     let x : Bor (List ℕ) = record { ref_ptr = r.ref_ptr; now = r.now } in
     let a' : Args front.signature κs = (id, (x, tt)) in
     let z' : Front.Ghost = ((κs, qs, bounds, a', (shr_vals id, (shr_slice_vals x, tt))), tt) in
-    let Room' = count id.now ≤ length r.now in let Front' = take (count id.now) r.now ≡ text id.now in
+    let Front' = (rest : List ℕ) × (r.now ≡ text id.now ++ rest) in
     move ! (2 ∷ []) $ fsplit ! $ feq_i ! (List Val) (shr_slice_vals x) (shr_slice_vals x) refl $ fjoin ! $ fjoin ! $ nothing ! $ move ! (1 ∷ 0 ∷ []) $ join ! $ move ! (5 ∷ 0 ∷ []) $ join ! $
     nothing ! $ move ! (3 ∷ 0 ∷ []) $ join ! $ move ! (3 ∷ 0 ∷ []) $ join ! $ move ! (3 ∷ 0 ∷ []) $ join ! $ join ! $
-    use0 𝓛 (raw (fact 𝓤 Front')) (fact_i 𝓤 Front' (emp 𝓤) spelling_first) $ use0 𝓛 (raw (fact 𝓤 Room')) (fact_i 𝓤 Room' (emp 𝓤) wide) $ join ! $ move ! (1 ∷ 0 ∷ []) $ join ! $
+    use0 𝓛 (raw (fact 𝓤 Front')) (fact_i 𝓤 Front' (emp 𝓤) (drop (count id.now) b.now, value)) $ move ! (1 ∷ 0 ∷ []) $ join ! $
     use1 𝓛 (raw (Front.pre z')) (id⊢ 𝓤 _) $
     calls_at ! fm Front (front_text.met 𝓤 𝓛 𝓜 𝓡 (code.calls-gix_hash::borrowed::oid::front_text 𝓡.env wired)) z' (and_then ! (get ! refl) (and_then ! (get ! refl) (no_more !))) (λ v'.
     use1 𝓛 (later (some (λ (t : Bor (List ℕ)). (toks ⊛ ‵ (Str.own_val t (v' ∷ []))) ⊛
@@ -129,4 +124,4 @@ hex_to_buf_spec 𝓤 𝓛 𝓜 𝓡 wired =
     -- [the `ensures`; the text; the tokens]
     nothing ! $ nothing ! $ fjoin ! $ nothing ! $ fjoin ! $ move ! (3 ∷ 0 ∷ 2 ∷ 1 ∷ []) $
     by ! (leaves 𝓛 f.ended stayed c y (slice_val t.ref_ptr (length t.now)) t (tt, (tt, tt)) (tt, (tt, tt)))
-    )))))))))))))))))))
+    )))))))))))))))))

@@ -11,7 +11,7 @@ use Rattle.id_digits.proofs.Spellings.{All-digits_of, IsAscii-spelling}
 use Rattle.gix_hash.proofs.Spellings.{take-put_id}
 use Rattle.gix_hash.proofs.display.CutId.letters.Goals as goal
 
--- the digits that are shown stand in the front of the buffer
+-- the front of the buffer holds the digits that are shown
 spelled : (c : goal.After-min) → take c.min.result c.put_id.new.buffer ≡ spelling (letter_of c.args.alphabet) (shown_digits c.args.self.now)
 spelled c =
     let cut = c.args.self.now in

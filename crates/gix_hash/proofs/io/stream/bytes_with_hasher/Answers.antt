@@ -16,7 +16,7 @@ loop-left-init g c = (
   record {
     counted = omega arith;
     rest = omega arith;
-    told = Reaches-more _ c.args.progress.now _ _ [] _ (Reaches-none _ _) c.init.ensures;
+    reported = Reaches-more _ c.args.progress.now _ _ [] _ (Reaches-none _ _) c.init.ensures;
     asked = Reaches-none _ _;
     read = (omega arith, Consumes-nil _);
     kind = refl;
@@ -35,7 +35,7 @@ loop-left-preserved g c =
       record {
         counted = omega arith;
         rest = omega arith;
-        told = heard-more _ _ _ _ _ _ _ left (omega arith) known.told c.inc_by.ensures;
+        reported = heard-more _ _ _ _ _ _ _ left (omega arith) known.reported c.inc_by.ensures;
         asked = all_false-more _ _ _ _ _ _ c.if-should_interrupt.false known.asked c.should_interrupt.ensures;
         read = (
           rw length-append (omega (arith, known.read.0, c.read_exact.auto.buf, length-take c.min-count.result c.loop-left.buf)),
@@ -57,7 +57,7 @@ returns-in_err-map_err-clause-err g c =
     rw (given.1, given.2, is_io) (
       c.loop-left.invariant.0,
       chunk_is_there _ _ left,
-      known.told,
+      known.reported,
       known.asked,
       (_, c.loop-left.invariant.1, (many, known.read.1)),
     )
@@ -69,7 +69,7 @@ returns-then-should_interrupt-clause-err g c =
     let taken = ok-kept _ _ _ c.map_err.ensures.variant c.in_ok-map_err.was c.read_exact.ensures.bytes in (
       c.loop-left.invariant.0,
       chunk_is_there _ _ left,
-      heard-more _ _ _ _ _ _ _ left (omega arith) known.told c.inc_by.ensures,
+      heard-more _ _ _ _ _ _ _ left (omega arith) known.reported c.inc_by.ensures,
       Reaches-more _ _ _ _ _ _ known.asked (rw c.if-should_interrupt.true at c.should_interrupt.ensures),
       (
         c.loop-left.invariant.1 ++ c.read_exact.new.buf,
@@ -85,7 +85,7 @@ returns-clause-heard g c =
     let known = c.loop-left.invariant.2 in
     let all : length (chunks c.args.num_bytes_from_start) ≡ c.loop-left.invariant.0 =
     omega (arith, chunks_end c.args.num_bytes_from_start c.loop-left.invariant.0 (omega arith)) in
-    rw all (Reaches-more _ _ _ _ _ _ known.told c.show_throughput.ensures)
+    rw all (Reaches-more _ _ _ _ _ _ known.reported c.show_throughput.ensures)
 
 pub returns-clause-asked : goal.returns-clause-asked
 returns-clause-asked g c =

@@ -1,18 +1,18 @@
 use Rattle.std.proofs.Common.{◌≡◌, ℕ, List, ◌++◌, length, ◌-◌, ◌*◌, ◌≤◌}
-use Rattle.gix_hash.specs.Hashing.{hasher_kind, StandsFor}
-use Rattle.gix_hash.specs.Streams.{Reaches, GivesNext, chunks, heard, all_false}
+use Rattle.gix_hash.specs.Hashing.{hasher_kind, WasFed}
+use Rattle.gix_hash.specs.Streams.{Reaches, ReadsNext, chunks, heard, all_false}
 use Rattle.gix_hash.proofs.io.stream.bytes_with_hasher.Given as goal
 
--- j chunks were read, heard of, fed and asked after, and these are their bytes
+-- j chunks were read, reported, fed to the hasher and followed by a call of the interruption; these are their bytes
 abbrev pub invariant-loop-left : goal.invariant-loop-left
 invariant-loop-left g l = (j : ℕ) × (bytes : List ℕ) × record {
   counted : j ≤ length (chunks l.num_bytes_from_start);
   rest : l.left ≡ l.num_bytes_from_start - 65535 * j;
-  told : Reaches g.P.Progress.hears l.fn.progress (heard l.num_bytes_from_start j) l.progress;
+  reported : Reaches g.P.Progress.hears l.fn.progress (heard l.num_bytes_from_start j) l.progress;
   asked : Reaches g.I.Interrupt.answers l.fn.should_interrupt (all_false j) l.should_interrupt;
-  read : GivesNext (g.R.Read.remaining l.fn.read) (g.R.Read.remaining l.read) (l.num_bytes_from_start - l.left) bytes;
+  read : ReadsNext (g.R.Read.remaining l.fn.read) (g.R.Read.remaining l.read) (l.num_bytes_from_start - l.left) bytes;
   kind : hasher_kind l.hasher ≡ hasher_kind l.fn.hasher;
-  fed : (message : List ℕ) → StandsFor l.fn.hasher message → StandsFor l.hasher (message ++ bytes);
+  fed : (message : List ℕ) → WasFed l.fn.hasher message → WasFed l.hasher (message ++ bytes);
 }
 
 abbrev pub decreases-loop-left : goal.decreases-loop-left

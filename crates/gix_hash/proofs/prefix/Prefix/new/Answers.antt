@@ -4,7 +4,7 @@ use Rattle.std.proofs.lemmas.Cmp.{tied_itself, nat_list_cmp_total}
 use Rattle.gix_hash.specs.Prefix.{place}
 use Rattle.gix_hash.proofs.prefix.Prefix.new.Goals as goal
 
--- the first digits of an id are at their place in it
+-- the place of the first digits of an id is Equal
 place-first : (n : ℕ) (digits : List ℕ) → place (take n digits) digits ≡ Equal
 place-first n digits =
     let len = length-take n digits in

@@ -5,7 +5,7 @@ use Rattle.gix_hash.specs.Prefix.{kind_digits}
 use Rattle.gix_hash.proofs.Packing.{length-first, take-padded}
 use Rattle.gix_hash.proofs.prefix.Prefix.packed.Goals as goal
 
--- the digits in front of the zeros are those that were asked for
+-- the digits before the zeros are those that were asked for
 pub returns : goal.returns
 returns c =
     let kind = c.padded_bytes.ensures.kind in

@@ -8,7 +8,7 @@ use Rattle.id_digits.proofs.DigitNumbers.{word-padded, word-padded_from}
 use Rattle.id_digits.proofs.Spellings.{All-digits_of}
 use Rattle.gix_hash.proofs.prefix.Prefix.padded.Goals as goal
 
--- zeros behind the digits leave their words
+-- zeros after the digits do not change their words
 words_of-padded : (n : ℕ) (digits : List ℕ) → words_of (padded n digits) ≡ words_of digits
 words_of-padded n digits =
     let first = word-padded 32 (n - length digits) digits in

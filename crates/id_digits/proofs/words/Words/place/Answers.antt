@@ -1,24 +1,19 @@
-use Rattle.std.proofs.Common.{◌≡◌, ◌<◌, ◌≤◌, ◌-◌, ◌*◌, ℕ, List, length, drop, take, refl, sym, ap, ◌∙◌, arith, Ordering, Less, Equal, Greater}
+use Rattle.std.proofs.Common.{◌≡◌, ◌<◌, ◌≤◌, ◌-◌, ◌*◌, ℕ, List, length, drop, take, sym, ap, ◌∙◌, arith, Ordering, Equal}
 use Rattle.std.specs.Ordering.{nat_cmp, ordering_then}
 use Rattle.std.proofs.lemmas.List.Elements.{All-drop, All-from_get_or}
 use Rattle.id_digits.specs.Digits.{digits_of}
 use Rattle.id_digits.specs.Words.{word}
 use Rattle.id_digits.specs.declared.words.Words.{Words}
 use Rattle.id_digits.proofs.Masks.{word-masked}
-use Rattle.id_digits.proofs.Places.{length-digits_of}
+use Rattle.id_digits.proofs.NumberParts.{then_decided}
+use Rattle.id_digits.proofs.ByteDigits.{length-digits_of}
 use Rattle.id_digits.proofs.Spellings.{All-digits_of}
 use Rattle.id_digits.proofs.WordOrder.{place-first_word, place-words}
 use Rattle.id_digits.proofs.words.Words.place.Goals as goal
 
--- so many digits are among those of the bytes
+-- n digits are among those of the bytes
 among : (n : ℕ) (bytes : List ℕ) → n ≤ 2 * length bytes → n ≤ length (digits_of bytes)
 among n bytes h = omega (arith, length-digits_of bytes)
-
--- of two comparisons the second does not count where the first decides
-decided : (a b : Ordering) → (a ≡ Equal → ⊥) → ordering_then a b ≡ a
-decided Less b not = refl
-decided Equal b not = absurd (not refl)
-decided Greater b not = refl
 
 pub returns-then-hex_len-le-WORD_DIGITS : goal.returns-then-hex_len-le-WORD_DIGITS
 returns-then-hex_len-le-WORD_DIGITS c = λ digits below words is reach.
@@ -56,5 +51,5 @@ returns-in_default c = λ digits below words is reach.
     let first = c.cmp-else-hex_len-le-WORD_DIGITS.ensures
     ∙ (λ i. nat_cmp (ap (λ (w : Words). w.first) words i) (c.word_of_16_bytes-else-hex_len-le-WORD_DIGITS.ensures i)) in
     let second = nat_cmp (word 32 (drop 32 digits)) (word 32 (take (n - 32) (drop 32 es))) in
-    first ∙ sym (decided (nat_cmp (word 32 digits) (word 32 es)) second (λ ties. c.in_default.not-Equal (first ∙ ties)))
+    first ∙ sym (then_decided (nat_cmp (word 32 digits) (word 32 es)) second (λ ties. c.in_default.not-Equal (first ∙ ties)))
     ∙ sym (place-words n digits es below theirs is (among n bytes reach) (omega arith) c.requires.most)

@@ -2,10 +2,11 @@ use Rattle.std.proofs.Common.{length, sym, ap, subst, ◌∙◌}
 use Rattle.gix_hash.specs.Kind.{hex_len_of}
 use Rattle.gix_hash.specs.Prefix.{KindDigits}
 use Rattle.pack_index.specs.Format.{IndexFile, crcs_at, names_at, names_in}
-use Rattle.pack_index.specs.Names.{IsFirstPlace}
+use Rattle.pack_index.specs.Names.{IsFirstIndexOf}
 use Rattle.std.specs.Prelude.{slice_range}
+use Rattle.id_lookup.proofs.Indexes.{no_other}
 use Rattle.pack_index.proofs.Counted.{length-digests_in_at}
-use Rattle.pack_index.proofs.Looked.{kinds_differ, kinds_same, present}
+use Rattle.pack_index.proofs.Looked.{kinds_differ, present}
 use Rattle.pack_index.proofs.index_file.File.lookup.Goals as goal
 
 pub returns-then-ne : goal.returns-then-ne
@@ -19,7 +20,7 @@ returns-then-ne c = λ k inside same.
 pub find_prefix-run-requires : goal.find_prefix-run-requires
 find_prefix-run-requires c =
     ap (λ (p : KindDigits). p.kind) c.all_digits-prefix.ensures ∙ sym c.kind.ensures.value
-    ∙ kinds_same c.kind.result c.kind-2.result (sym c.ne.ensures ∙ c.if-ne.false) ∙ c.kind-2.ensures ∙ ap (λ (f : IndexFile). f.kind) c.self.view_is
+    ∙ no_other c.kind.result c.kind-2.result (sym c.ne.ensures ∙ c.if-ne.false) ∙ c.kind-2.ensures ∙ ap (λ (f : IndexFile). f.kind) c.self.view_is
 
 pub returns : goal.returns
 returns c =
@@ -27,8 +28,8 @@ returns c =
     let names = names_in file.kind file.bytes in
     let digits = ap (λ (p : KindDigits). p.digits) c.all_digits-prefix.ensures in
     let kind = ap (λ (p : KindDigits). p.kind) c.all_digits-prefix.ensures ∙ sym c.kind.ensures.value
-    ∙ kinds_same c.kind.result c.kind-2.result (sym c.ne.ensures ∙ c.if-ne.false) ∙ c.kind-2.ensures ∙ ap (λ (f : IndexFile). f.kind) c.self.view_is in
-    subst (λ ds. IsFirstPlace names ds c.find_prefix-run.result.start) digits
+    ∙ no_other c.kind.result c.kind-2.result (sym c.ne.ensures ∙ c.if-ne.false) ∙ c.kind-2.ensures ∙ ap (λ (f : IndexFile). f.kind) c.self.view_is in
+    subst (λ ds. IsFirstIndexOf names ds c.find_prefix-run.result.start) digits
     (present c.all_digits-prefix.result names c.find_prefix-run.result c.find_prefix-run.ensures c.beginnings.ensures.digits
     (λ k inside. length-digests_in_at file.kind (slice_range file.bytes names_at (crcs_at file.kind file.bytes)) k inside
     ∙ sym (ap hex_len_of kind) ∙ ap hex_len_of (ap (λ (p : KindDigits). p.kind) c.all_digits-prefix.ensures) ∙ sym c.kind.ensures.len ∙ sym (ap length digits))

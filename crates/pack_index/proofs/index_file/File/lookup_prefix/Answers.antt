@@ -1,5 +1,5 @@
 use Rattle.std.proofs.Common.{arith}
-use Rattle.pack_index.proofs.Ending.{run_ending}
+use Rattle.id_lookup.proofs.Indexes.{run_ending}
 use Rattle.pack_index.proofs.index_file.File.lookup_prefix.Goals as goal
 
 pub returns-in-0 : goal.returns-in-0

@@ -1,4 +1,5 @@
-use Rattle.gix_hash.specs.PrefixBytes.{packed-shown, length-shown}
+use Rattle.gix_hash.specs.PrefixBytes.{length-shown}
+use Rattle.gix_hash.proofs.KeptDigits.{packed-shown}
 use Rattle.gix_hash.proofs.prefix.order.PrefixHash.hash.Goals as goal
 
 pub returns : goal.returns

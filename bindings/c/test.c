@@ -1,0 +1,212 @@
+/* Tests of gix_hash.h: test FOLDER, where the folder has pack indexes. Expected values are those of FIPS 180-4,
+   of `git show-index`, and of strcmp and strncmp over hex digits. The last line is 'N passed, M failed'. */
+#define _POSIX_C_SOURCE 200809L
+#include "gix_hash.h"
+#include <stdio.h>
+#include <stdlib.h>
+#include <string.h>
+
+#define ROWS(table) (sizeof table / sizeof *table)
+#define CHECK(row, holds) check(__LINE__, (long)(row), holds)
+#define EMPTY "e3b0c44298fc1c149afbf4c8996fb92427ae41e4649b934ca495991b7852b855"
+
+static int passed, failed;
+
+static void check(int line, long row, int holds) {
+    passed += holds, failed += !holds;
+    if (!holds) printf("test.c:%d: row %ld\n", line, row);
+}
+
+static const uint8_t *bytes_of(const char *text) { return (const uint8_t *)text; }
+
+static int sign(int n) { return (n > 0) - (n < 0); }
+
+static gix_hash_id id_of(const char *hex) {
+    gix_hash_id id = {0};
+    gix_hash_id_from_hex(bytes_of(hex), strlen(hex), &id);
+    return id;
+}
+
+static gix_hash_prefix prefix_of(const char *hex, size_t len) {
+    gix_hash_prefix prefix = {0};
+    gix_hash_prefix_from_hex(bytes_of(hex), len, &prefix);
+    return prefix;
+}
+
+/* The digits of an id, or an empty text. */
+static const char *hex_of(const gix_hash_id *id) {
+    static char digits[65];
+    memset(digits, 0, sizeof digits);
+    gix_hash_id_to_hex(id, (uint8_t *)digits, 64);
+    return digits;
+}
+
+static const struct { uint32_t kind; const char *text, *hex; } digests[] = {
+    {GIX_HASH_SHA1, "", "da39a3ee5e6b4b0d3255bfef95601890afd80709"},
+    {GIX_HASH_SHA1, "abc", "a9993e364706816aba3e25717850c26c9cd0d89d"},
+    {GIX_HASH_SHA1, "abcdbcdecdefdefgefghfghighijhijkijkljklmklmnlmnomnopnopq",
+     "84983e441c3bd26ebaae4aa1f95129e5e54670f1"},
+    {GIX_HASH_SHA256, "", EMPTY},
+    {GIX_HASH_SHA256, "abc", "ba7816bf8f01cfea414140de5dae2223b00361a396177a9cb410ff61f20015ad"},
+    {GIX_HASH_SHA256, "abcdbcdecdefdefgefghfghighijhijkijkljklmklmnlmnomnopnopq",
+     "248d6a61d20638b8e5c026930c3e6039a33ce45964ff2167f6ecedd419db06c1"},
+};
+
+static void test_digests(void) {
+    for (size_t i = 0; i < ROWS(digests); i++) {
+        gix_hash_id id = {0}, read = id_of(digests[i].hex);
+        CHECK(i, !gix_hash_digest(digests[i].kind, bytes_of(digests[i].text), strlen(digests[i].text), &id));
+        CHECK(i, id.kind == digests[i].kind && !strcmp(hex_of(&id), digests[i].hex));
+        CHECK(i, !memcmp(&id, &read, sizeof id)); /* zeros after the digest, too */
+        for (size_t j = 0; j < ROWS(digests); j++) {
+            gix_hash_id other = id_of(digests[j].hex);
+            int order = id.kind == other.kind ? strcmp(digests[i].hex, digests[j].hex) : (int)id.kind - (int)other.kind;
+            CHECK(i, gix_hash_id_cmp(&id, &other) == sign(order));
+            for (size_t len = 1; len <= strlen(digests[j].hex); len++) {
+                gix_hash_prefix prefix = prefix_of(digests[j].hex, len);
+                order = len > strlen(digests[i].hex) ? GIX_HASH_NO_ORDER : sign(strncmp(digests[j].hex, digests[i].hex, len));
+                CHECK(i, prefix.hex_len == len && gix_hash_prefix_cmp_id(&prefix, &id) == order);
+            }
+        }
+    }
+}
+
+/* Texts with the codes of reading their first len bytes as an id and as a prefix. */
+static const struct { const char *text; size_t len; uint32_t id, prefix; } texts[] = {
+    {EMPTY, 0, GIX_HASH_BAD_LENGTH, GIX_HASH_BAD_LENGTH}, {EMPTY, 1, GIX_HASH_BAD_LENGTH, GIX_HASH_OK},
+    {EMPTY, 39, GIX_HASH_BAD_LENGTH, GIX_HASH_OK},        {EMPTY, 40, GIX_HASH_OK, GIX_HASH_OK},
+    {EMPTY, 41, GIX_HASH_BAD_LENGTH, GIX_HASH_OK},        {EMPTY, 64, GIX_HASH_OK, GIX_HASH_OK},
+    {EMPTY "0", 65, GIX_HASH_BAD_LENGTH, GIX_HASH_BAD_LENGTH},
+    {"E69DE29BB2D1D6434B8B29AE775AD8C2E48C5391", 40, GIX_HASH_OK, GIX_HASH_OK},
+    {"e69de29bb2d1d6434b8b29ae775ad8c2e48c539g", 40, GIX_HASH_BAD_DIGIT, GIX_HASH_BAD_DIGIT},
+    {"g", 1, GIX_HASH_BAD_LENGTH, GIX_HASH_BAD_DIGIT},
+};
+
+static void test_texts(void) {
+    for (size_t i = 0; i < ROWS(texts); i++) {
+        gix_hash_id id, old_id;
+        gix_hash_prefix prefix, old_prefix;
+        memset(&old_id, 7, sizeof id), id = old_id;
+        memset(&old_prefix, 7, sizeof prefix), prefix = old_prefix;
+        CHECK(i, gix_hash_id_from_hex(bytes_of(texts[i].text), texts[i].len, &id) == texts[i].id);
+        CHECK(i, !memcmp(&id, &old_id, sizeof id) == (texts[i].id != GIX_HASH_OK));
+        CHECK(i, gix_hash_prefix_from_hex(bytes_of(texts[i].text), texts[i].len, &prefix) == texts[i].prefix);
+        CHECK(i, !memcmp(&prefix, &old_prefix, sizeof prefix) == (texts[i].prefix != GIX_HASH_OK));
+    }
+}
+
+/* What a caller can get wrong, and what stays. */
+static void test_errors(void) {
+    gix_hash_id id = id_of(EMPTY), none = id, old = id;
+    gix_hash_prefix prefix = prefix_of(EMPTY, 41), empty = {0};
+    gix_hash_run run = {3, 4};
+    gix_hash_entry entry = {.offset = 5};
+    size_t number = 6;
+    uint64_t detail = 7;
+    uint8_t buffer[64] = "kept", fall[60] = {1, [20] = 2, [40] = 1};
+    none.kind = 3;
+    CHECK(0, gix_hash_id_to_hex(&none, buffer, 64) == GIX_HASH_BAD_KIND);
+    CHECK(0, gix_hash_id_to_hex(&id, buffer, 63) == GIX_HASH_NO_ROOM && !strcmp((char *)buffer, "kept"));
+    CHECK(0, gix_hash_id_cmp(&id, &none) == GIX_HASH_NO_ORDER && gix_hash_prefix_cmp_id(&prefix, &none) == GIX_HASH_NO_ORDER);
+    CHECK(0, gix_hash_prefix_cmp_id(&empty, &id) == GIX_HASH_NO_ORDER);
+    CHECK(0, gix_hash_find(1, fall, 40, &prefix, &run) == GIX_HASH_TOO_LONG);
+    CHECK(0, gix_hash_find(1, fall, 40, &empty, &run) == GIX_HASH_BAD_LENGTH);
+    CHECK(0, gix_hash_pack_find(1, fall, 60, &prefix, &run) == GIX_HASH_TOO_LONG);
+    CHECK(0, gix_hash_pack_find(1, fall, 60, &empty, &run) == GIX_HASH_BAD_LENGTH);
+    for (uint32_t kind = 0; kind < 4; kind++) {
+        uint32_t code = kind == 1 || kind == 2 ? GIX_HASH_TOO_SHORT : GIX_HASH_BAD_KIND;
+        CHECK(kind, gix_hash_pack_check(kind, fall, 60, &detail) == code && detail == 7);
+        CHECK(kind, gix_hash_pack_count(kind, fall, 60, &number) == code);
+        CHECK(kind, gix_hash_pack_entry(kind, fall, 60, 0, &entry) == code && entry.offset == 5);
+        CHECK(kind, gix_hash_pack_abbreviate(kind, fall, 60, 0, &number) == code && number == 6);
+    }
+    CHECK(0, gix_hash_digest(0, fall, 60, &id) == GIX_HASH_BAD_KIND && !memcmp(&id, &old, sizeof id));
+    CHECK(0, gix_hash_find(0, fall, 60, &empty, &run) == GIX_HASH_BAD_KIND && run.start == 3 && run.end == 4);
+    CHECK(0, gix_hash_check_sorted(3, fall, 60, &number) == GIX_HASH_BAD_KIND && number == 6);
+    CHECK(0, gix_hash_check_sorted(1, fall, 59, &number) == GIX_HASH_OK && number == 6);
+    CHECK(0, gix_hash_check_sorted(1, fall, 60, &number) == GIX_HASH_UNSORTED && number == 2);
+}
+
+/* Copies of an index with one byte changed, and of another length, with the code and the detail. */
+static const struct { size_t at; uint8_t byte; long cut; uint32_t code; uint64_t detail; } broken[] = {
+    {0, 0, 0, GIX_HASH_BAD_MAGIC, 7},           {7, 3, 0, GIX_HASH_BAD_VERSION, 3},
+    {0, 0xff, 1, GIX_HASH_WRONG_LENGTH, 7},     {0, 0xff, 900, GIX_HASH_TOO_SHORT, 7},
+    {1032, 0xff, 0, GIX_HASH_NAMES_FALL, 1},    {11, 9, 0, GIX_HASH_WRONG_COUNT, 0},
+};
+
+static uint8_t bytes[1 << 16];
+static char names[1000][65];
+
+static void test_broken(uint32_t kind, size_t len) {
+    uint64_t detail = 7;
+    uint32_t last = GIX_HASH_WRONG_CHECKSUM;
+    for (size_t i = 0; i < ROWS(broken); i++) {
+        uint8_t good = bytes[broken[i].at];
+        bytes[broken[i].at] = broken[i].byte, detail = 7;
+        CHECK(i, gix_hash_pack_check(kind, bytes, len - (size_t)broken[i].cut, &detail) == broken[i].code);
+        CHECK(i, detail == broken[i].detail);
+        bytes[broken[i].at] = good;
+    }
+    detail = 7, bytes[len - 1] ^= 1;
+    CHECK(0, gix_hash_pack_check(kind, bytes, len, &detail) == last && detail == 7);
+    bytes[len - 1] ^= 1;
+    CHECK(0, gix_hash_pack_check(3 - kind, bytes, len, &detail) == GIX_HASH_OTHER_KIND && detail == kind);
+}
+
+/* The runs of the first 1 to 5 digits of a text, by all names. */
+static void test_runs(uint32_t kind, size_t len, size_t count, const char *digits) {
+    for (size_t hex_len = 1; hex_len < 6; hex_len++) {
+        gix_hash_prefix prefix = prefix_of(digits, hex_len);
+        gix_hash_run run = {0}, table = {0};
+        size_t start = 0, end = 0;
+        for (size_t k = 0; k < count; k++) {
+            int order = strncmp(names[k], digits, hex_len);
+            start += order < 0, end += order <= 0;
+        }
+        CHECK(hex_len, !gix_hash_pack_find(kind, bytes, len, &prefix, &run) && run.start == start && run.end == end);
+        CHECK(hex_len, !gix_hash_find(kind, bytes + 1032, (kind == 1 ? 20 : 32) * count, &prefix, &table));
+        CHECK(hex_len, table.start == start && table.end == end);
+    }
+}
+
+/* All that an index has, as Git lists it. */
+static void test_index(const char *folder, const char *name, uint32_t kind) {
+    char path[4096], command[8192], line[200], ours[200];
+    snprintf(path, sizeof path, "%s/%s", folder, name);
+    snprintf(command, sizeof command, "git show-index --object-format=%s < '%s'", kind == 1 ? "sha1" : "sha256", path);
+    FILE *file = fopen(path, "rb"), *git = popen(command, "r");
+    size_t len = file ? fread(bytes, 1, sizeof bytes, file) : 0, count = 0, at = 0;
+    uint64_t detail = 7;
+    CHECK(0, !gix_hash_pack_check(kind, bytes, len, &detail) && detail == 7);
+    CHECK(0, !gix_hash_pack_count(kind, bytes, len, &count) && count > 0 && count < 1000);
+    for (; git && fgets(line, sizeof line, git); at++) {
+        gix_hash_entry entry = {0};
+        CHECK(at, !gix_hash_pack_entry(kind, bytes, len, at, &entry));
+        strcpy(names[at], hex_of(&entry.id));
+        snprintf(ours, sizeof ours, "%llu %s (%08x)\n", (unsigned long long)entry.offset, names[at], (unsigned)entry.crc);
+        CHECK(at, !strcmp(ours, line));
+    }
+    gix_hash_entry entry = {.offset = 5};
+    CHECK(at, at == count && gix_hash_pack_entry(kind, bytes, len, at, &entry) == GIX_HASH_OUT_OF_RANGE && entry.offset == 5);
+    for (at = 0; at < count; at++) {
+        size_t hex_len = 0, shared = 3;
+        for (size_t k = 0; k < count; k++)
+            while (k != at && shared < strlen(names[at]) && !strncmp(names[k], names[at], shared + 1)) shared++;
+        uint32_t code = gix_hash_pack_abbreviate(kind, bytes, len, at, &hex_len);
+        CHECK(at, shared == strlen(names[at]) ? code == GIX_HASH_NOT_UNIQUE && !hex_len : !code && hex_len == shared + 1);
+        test_runs(kind, len, count, names[at]);
+    }
+    test_runs(kind, len, count, "00000"), test_runs(kind, len, count, "fffff"), test_runs(kind, len, count, "80808");
+    test_broken(kind, len);
+    if (file) fclose(file);
+    if (git) pclose(git);
+}
+
+int main(int count, char **words) {
+    const char *folder = count > 1 ? words[1] : ".";
+    test_digests(), test_texts(), test_errors();
+    test_index(folder, "sha1.idx", GIX_HASH_SHA1), test_index(folder, "sha256.idx", GIX_HASH_SHA256);
+    test_index(folder, "longs.idx", GIX_HASH_SHA1);
+    printf("%d passed, %d failed\n", passed, failed);
+    return failed > 0;
+}

@@ -1,0 +1,82 @@
+//! Why a call failed.
+
+use std::fmt;
+
+macro_rules! codes {
+    ($($name:ident = $code:literal, $text:literal;)*) => {
+        /// What failed, by the numbers of `gix_hash.h`.
+        #[derive(Debug, Clone, Copy, PartialEq, Eq)]
+        #[repr(u32)]
+        #[non_exhaustive]
+        pub enum Code {
+            $(#[doc = $text] $name = $code,)*
+        }
+
+        impl Code {
+            fn of(number: u32) -> Code {
+                match number {
+                    $($code => Code::$name,)*
+                    _ => unreachable!("gix_hash.h has no code {number}"),
+                }
+            }
+
+            fn text(self) -> &'static str {
+                match self {
+                    $(Code::$name => $text,)*
+                }
+            }
+        }
+    };
+}
+
+codes! {
+    BadLength = 1, "no id or prefix has this number of digits";
+    BadDigit = 2, "a byte of the text is not a hex digit";
+    BadKind = 3, "the kind is neither SHA-1 nor SHA-256";
+    NoRoom = 4, "the buffer is too short";
+    TooLong = 5, "the prefix has more digits than ids of the kind";
+    OutOfRange = 6, "the index is not below the number of names";
+    Unsorted = 7, "the digest at index `detail` is below the one before it";
+    NotUnique = 8, "another name is the same";
+    TooShort = 16, "the bytes are too few for a pack index";
+    Version1 = 17, "the pack index has version 1";
+    BadMagic = 18, "the bytes do not begin as a pack index";
+    BadVersion = 19, "the pack index has version `detail`, not 2";
+    WrongLength = 20, "the tables of the pack index do not fill its bytes";
+    NamesFall = 21, "the name at index `detail` is below the one before it";
+    WrongCount = 22, "the names up to the first byte `detail` are counted wrong";
+    NoOffset = 23, "the name at index `detail` has no offset";
+    LongOutOfOrder = 24, "the long offset of the name at index `detail` is not the next one";
+    SpareLong = 25, "the long offset number `detail` is of no name";
+    OffsetInHeader = 26, "the offset of the name at index `detail` is in the header of the pack";
+    OffsetTooHigh = 27, "the offset of the name at index `detail` is 2^63 or more";
+    WrongChecksum = 28, "the checksum of the pack index is wrong";
+    OtherKind = 29, "the names of the pack index are of kind `detail`, the other one";
+}
+
+/// Why a call failed.
+#[derive(Debug, Clone, Copy, PartialEq, Eq)]
+pub struct Error {
+    /// What failed.
+    pub code: Code,
+    /// The number that the text of the code speaks of, else 0.
+    pub detail: u64,
+}
+
+impl Error {
+    /// Ok for the code 0, and else its error.
+    pub(crate) fn check(number: u32, detail: u64) -> Result<(), Error> {
+        match number {
+            0 => Ok(()),
+            _ => Err(Error { code: Code::of(number), detail }),
+        }
+    }
+}
+
+impl fmt::Display for Error {
+    fn fmt(&self, f: &mut fmt::Formatter<'_>) -> fmt::Result {
+        f.write_str(&self.code.text().replace("`detail`", &self.detail.to_string()))
+    }
+}
+
+impl std::error::Error for Error {}

@@ -1,0 +1,154 @@
+//! Ids and prefixes.
+
+use crate::{raw, Error};
+use std::cmp::Ordering;
+use std::fmt;
+use std::str::FromStr;
+
+/// The hash function of an id.
+#[derive(Debug, Clone, Copy, PartialEq, Eq, PartialOrd, Ord, Hash)]
+#[repr(u32)]
+pub enum Kind {
+    /// 20 bytes, 40 hex digits.
+    Sha1 = 1,
+    /// 32 bytes, 64 hex digits.
+    Sha256 = 2,
+}
+
+impl Kind {
+    /// The number of bytes of a digest.
+    pub fn len_in_bytes(self) -> usize {
+        match self {
+            Kind::Sha1 => 20,
+            Kind::Sha256 => 32,
+        }
+    }
+}
+
+fn order(number: i32) -> Option<Ordering> {
+    match number {
+        -1 => Some(Ordering::Less),
+        0 => Some(Ordering::Equal),
+        1 => Some(Ordering::Greater),
+        _ => None,
+    }
+}
+
+/// An id, ordered by kind and then by digits.
+///
+/// ```
+/// # use nunbirdstand::{Id, Kind};
+/// let id: Id = "e69de29bb2d1d6434b8b29ae775ad8c2e48c5391".parse()?;
+/// assert_eq!(id, Id::digest(Kind::Sha1, b"blob 0\0"));
+/// # Ok::<(), nunbirdstand::Error>(())
+/// ```
+// The bytes after a digest of SHA-1 are zeros.
+#[derive(Debug, Clone, Copy, PartialEq, Eq, Hash)]
+pub struct Id(pub(crate) raw::Id);
+
+impl Id {
+    /// The digest of bytes.
+    pub fn digest(kind: Kind, bytes: &[u8]) -> Id {
+        let mut id = raw::Id::default();
+        // SAFETY: the slice is valid for its length, and a kind is a good one.
+        unsafe { raw::gix_hash_digest(kind as u32, bytes.as_ptr(), bytes.len(), &mut id) };
+        Id(id)
+    }
+
+    /// The id with a digest of 20 or 32 bytes, or `None` for another length.
+    pub fn from_bytes(digest: &[u8]) -> Option<Id> {
+        let kind = [Kind::Sha1, Kind::Sha256].into_iter().find(|kind| kind.len_in_bytes() == digest.len())?;
+        let mut bytes = [0; 32];
+        bytes[..digest.len()].copy_from_slice(digest);
+        Some(Id(raw::Id { kind: kind as u32, bytes }))
+    }
+
+    /// The kind.
+    pub fn kind(&self) -> Kind {
+        if self.0.kind == 1 {
+            Kind::Sha1
+        } else {
+            Kind::Sha256
+        }
+    }
+
+    /// The 20 or 32 bytes of the digest.
+    pub fn as_bytes(&self) -> &[u8] {
+        &self.0.bytes[..self.kind().len_in_bytes()]
+    }
+}
+
+/// Reads 40 or 64 hex digits in either case.
+impl FromStr for Id {
+    type Err = Error;
+
+    fn from_str(text: &str) -> Result<Id, Error> {
+        let mut id = raw::Id::default();
+        // SAFETY: the text is valid for its length.
+        Error::check(unsafe { raw::gix_hash_id_from_hex(text.as_ptr(), text.len(), &mut id) }, 0)?;
+        Ok(Id(id))
+    }
+}
+
+/// The lowercase hex digits.
+impl fmt::Display for Id {
+    fn fmt(&self, f: &mut fmt::Formatter<'_>) -> fmt::Result {
+        let mut digits = [0; 64];
+        // SAFETY: the buffer is valid for its length, which is enough for each kind.
+        unsafe { raw::gix_hash_id_to_hex(&self.0, digits.as_mut_ptr(), digits.len()) };
+        let digits = &digits[..2 * self.kind().len_in_bytes()];
+        f.pad(std::str::from_utf8(digits).map_err(|_| fmt::Error)?)
+    }
+}
+
+impl Ord for Id {
+    fn cmp(&self, other: &Id) -> Ordering {
+        // SAFETY: both are structs. Their kinds are good, so there is an order.
+        order(unsafe { raw::gix_hash_id_cmp(&self.0, &other.0) }).unwrap_or(Ordering::Equal)
+    }
+}
+
+impl PartialOrd for Id {
+    fn partial_cmp(&self, other: &Id) -> Option<Ordering> {
+        Some(self.cmp(other))
+    }
+}
+
+/// A prefix of 1 to 64 hex digits.
+///
+/// ```
+/// # use nunbirdstand::{Id, Kind, Prefix};
+/// # use std::cmp::Ordering;
+/// let prefix: Prefix = "e69".parse()?;
+/// assert_eq!(prefix.cmp_id(&Id::digest(Kind::Sha1, b"blob 0\0")), Some(Ordering::Equal));
+/// # Ok::<(), nunbirdstand::Error>(())
+/// ```
+// The bits after the digits are zeros.
+#[derive(Debug, Clone, Copy, PartialEq, Eq, Hash)]
+pub struct Prefix(pub(crate) raw::Prefix);
+
+impl Prefix {
+    /// The number of digits.
+    pub fn hex_len(&self) -> usize {
+        self.0.hex_len as usize
+    }
+
+    /// The order of the prefix and as many first digits of an id: `Equal` if and only if the id begins
+    /// with the prefix. `None` if the id has fewer digits.
+    pub fn cmp_id(&self, id: &Id) -> Option<Ordering> {
+        // SAFETY: both are structs.
+        order(unsafe { raw::gix_hash_prefix_cmp_id(&self.0, &id.0) })
+    }
+}
+
+/// Reads 1 to 64 hex digits in either case.
+impl FromStr for Prefix {
+    type Err = Error;
+
+    fn from_str(text: &str) -> Result<Prefix, Error> {
+        let mut prefix = raw::Prefix::default();
+        // SAFETY: the text is valid for its length.
+        Error::check(unsafe { raw::gix_hash_prefix_from_hex(text.as_ptr(), text.len(), &mut prefix) }, 0)?;
+        Ok(Prefix(prefix))
+    }
+}

@@ -1,0 +1,16 @@
+//! Git's object ids over `libgix_hash`, whose calls are proved; this crate is only tested.
+//!
+//! Set `GIX_HASH_LIB` to the folder of `libgix_hash.a`, unless it is installed.
+//!
+//! ```
+#![doc = include_str!("../examples/find.rs")]
+//! ```
+
+mod error;
+mod ids;
+mod raw;
+mod tables;
+
+pub use error::{Code, Error};
+pub use ids::{Id, Kind, Prefix};
+pub use tables::{Entry, PackIndex, SortedDigests};

@@ -1,0 +1,64 @@
+//! The declarations of `include/gix_hash.h`.
+
+#[repr(C)]
+#[derive(Debug, Clone, Copy, Default, PartialEq, Eq, Hash)]
+pub struct Id {
+    pub kind: u32,
+    pub bytes: [u8; 32],
+}
+
+#[repr(C)]
+#[derive(Debug, Clone, Copy, Default, PartialEq, Eq, Hash)]
+pub struct Prefix {
+    pub hex_len: u32,
+    pub bytes: [u8; 32],
+}
+
+#[repr(C)]
+#[derive(Default)]
+pub struct Run {
+    pub start: usize,
+    pub end: usize,
+}
+
+#[repr(C)]
+#[derive(Default)]
+pub struct Entry {
+    pub offset: u64,
+    pub crc: u32,
+    pub id: Id,
+}
+
+extern "C" {
+    pub fn gix_hash_id_from_hex(text: *const u8, len: usize, id: *mut Id) -> u32;
+    pub fn gix_hash_id_to_hex(id: *const Id, buffer: *mut u8, len: usize) -> u32;
+    pub fn gix_hash_id_cmp(one: *const Id, other: *const Id) -> i32;
+    pub fn gix_hash_prefix_from_hex(text: *const u8, len: usize, prefix: *mut Prefix) -> u32;
+    pub fn gix_hash_prefix_cmp_id(prefix: *const Prefix, id: *const Id) -> i32;
+    pub fn gix_hash_digest(kind: u32, bytes: *const u8, len: usize, id: *mut Id) -> u32;
+    pub fn gix_hash_check_sorted(kind: u32, table: *const u8, len: usize, at: *mut usize) -> u32;
+    pub fn gix_hash_find(
+        kind: u32,
+        table: *const u8,
+        len: usize,
+        prefix: *const Prefix,
+        run: *mut Run,
+    ) -> u32;
+    pub fn gix_hash_pack_check(kind: u32, bytes: *const u8, len: usize, detail: *mut u64) -> u32;
+    pub fn gix_hash_pack_count(kind: u32, bytes: *const u8, len: usize, count: *mut usize) -> u32;
+    pub fn gix_hash_pack_entry(kind: u32, bytes: *const u8, len: usize, at: usize, entry: *mut Entry) -> u32;
+    pub fn gix_hash_pack_find(
+        kind: u32,
+        bytes: *const u8,
+        len: usize,
+        prefix: *const Prefix,
+        run: *mut Run,
+    ) -> u32;
+    pub fn gix_hash_pack_abbreviate(
+        kind: u32,
+        bytes: *const u8,
+        len: usize,
+        at: usize,
+        hex_len: *mut usize,
+    ) -> u32;
+}

@@ -1,0 +1,4 @@
+-- Lemmas of several proofs.
+mod Reading
+mod Runs
+mod Zeros

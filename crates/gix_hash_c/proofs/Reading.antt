@@ -1,0 +1,46 @@
+-- What reading a prefix's text gives in a struct.
+use Rattle.std.proofs.Common.{◌≡◌, ℕ, ◌≤◌, Bool, true, false, nat_lt, Option, Some, None, Ok, List, length, refl, sym, ap, ◌∙◌, arith}
+use Rattle.std.specs.Prelude.{nat_le}
+use Rattle.std.specs.Option.{ok_or, option_map}
+use Rattle.std.proofs.lemmas.Bool.Decides.{nat_tests}
+use Rattle.id_digits.specs.Digits.{digits_of, hex_letter}
+use Rattle.gix_hash.specs.Kind.{hex_len_of, kind_of_hex_len}
+use Rattle.gix_hash.specs.Prefix.{KindDigits, kind_digits, padded}
+use Rattle.gix_hash.specs.PrefixReading.{prefix_read}
+use Rattle.gix_hash.specs.Reading.{digits_read}
+use Rattle.gix_hash.specs.declared.kind.Kind.{Kind}
+use Rattle.gix_hash.specs.declared.kind.Kind.TheVariants.{Sha1, Sha256}
+use Rattle.gix_hash.specs.declared.prefix.from_hex.Error.TheVariants.{Invalid}
+use Rattle.id_digits.proofs.ReadingFacts.{length-digits_read}
+use Rattle.gix_hash_c.specs.Face.{PrefixAnswer}
+use Rattle.gix_hash_c.specs.declared.prefixes.Prefix.{Prefix}
+
+-- up to 64 digits some kind has room
+some_kind : (n : ℕ) → n ≤ 64 → (kind : Kind) × (kind_of_hex_len n ≡ Some kind)
+some_kind n most = by (nat_le n 40) refl
+  where
+    by : (test : Bool) → nat_le n 40 ≡ test → (kind : Kind) × (kind_of_hex_len n ≡ Some kind)
+    by true e = (Sha1, rw e refl)
+    by false e = let room : nat_le n 64 ≡ true = grind (arith, nat_tests) in (Sha256, rw (e, room) refl)
+
+-- the digits that a text reads as, with zeros after them
+pub read_answer : (text bytes : List ℕ) (old : Prefix) (read : KindDigits) → 1 ≤ length text → length text ≤ 64
+    → Ok read ≡ ok_or (option_map (kind_digits Sha256) (digits_read hex_letter text)) Invalid
+    → digits_of bytes ≡ padded (hex_len_of read.kind) read.digits
+    → PrefixAnswer (prefix_read hex_letter 1 text) 0 old (record { hex_len = length text; bytes = bytes })
+read_answer text bytes old read some most is pads = by (digits_read hex_letter text) refl is
+  where
+    by : (digits : Option (List ℕ)) → digits_read hex_letter text ≡ digits → Ok read ≡ ok_or (option_map (kind_digits Sha256) digits) Invalid
+        → PrefixAnswer (prefix_read hex_letter 1 text) 0 old (record { hex_len = length text; bytes = bytes })
+    by None e reads = cc reads
+    by (Some digits) e reads =
+        let kind = some_kind (length text) most in
+        let enough : nat_lt (length text) 1 ≡ false = grind (arith, nat_tests) in
+        let same : read ≡ kind_digits Sha256 digits = cc reads in
+        rw (enough, kind.1, e) (
+          refl,
+          record {
+            hex_len = sym (length-digits_read hex_letter text digits e);
+            bytes = pads ∙ ap (λ (p : KindDigits). padded (hex_len_of p.kind) p.digits) same;
+          },
+        )

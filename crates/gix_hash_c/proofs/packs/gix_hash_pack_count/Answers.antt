@@ -1,0 +1,12 @@
+use Rattle.std.proofs.Common.{inl, refl, sym, ◌∙◌}
+use Rattle.pack_index.proofs.Counted.{length-names_in}
+use Rattle.gix_hash_c.proofs.packs.gix_hash_pack_count.Goals as goal
+
+pub returns-in-Ok : goal.returns-in-Ok
+returns-in-Ok c =
+    rw (sym c.in-Some.ensures) (inl (
+      refl,
+      c.in-Ok.ensures.head,
+      c.in-Ok.ensures.tables,
+      c.count_in.ensures ∙ sym (length-names_in c.in-Some.kind c.args.bytes.now c.in-Ok.ensures.tables),
+    ))

@@ -1,0 +1,22 @@
+use Rattle.std.proofs.Common.{◌<◌, inl, inr, refl, sym, ◌∙◌, arith}
+use Rattle.std.proofs.lemmas.Bool.{false≢true}
+use Rattle.pack_index.specs.Format.{count_in}
+use Rattle.pack_index.proofs.Counted.{length-names_in}
+use Rattle.gix_hash_c.proofs.packs.gix_hash_pack_entry.Goals as goal
+
+pub returns-then-not-has_offset : goal.returns-then-not-has_offset
+returns-then-not-has_offset c =
+    let inside : c.args.at < count_in c.args.bytes.now = omega (arith, c.if-at-count_in.false, c.count_in.ensures) in
+    rw (sym c.in-Some.ensures) (inr (
+      refl,
+      inr (inl (
+        refl,
+        c.in_default-tables.ensures.tables,
+        inside,
+        λ has. false≢true (sym c.if-not-has_offset.true ∙ c.has_offset.ensures.1 has),
+      )),
+    ))
+
+pub name_at-requires : goal.name_at-requires
+name_at-requires c =
+    rw c.names.ensures (omega (arith, c.if-at-count_in.false, c.count_in.ensures, length-names_in c.in-Some.kind c.args.bytes.now c.in_default-tables.ensures.tables))

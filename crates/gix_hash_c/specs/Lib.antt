@@ -1,0 +1,3 @@
+pub mod Face
+pub mod Found
+pub mod Packs

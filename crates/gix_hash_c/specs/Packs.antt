@@ -1,0 +1,114 @@
+-- What is returned for the bytes of a pack index. All calls but the whole check test only the head and the lengths of the tables.
+use Rattle.std.specs.Prelude.{◌≡◌, ℕ, ◌<◌, ◌≤◌, ◌⊎◌, List, [], Option, Some, None, Result, Ok, Err, length, slice_index_or, take}
+use Rattle.gix_hash.specs.Kind.{hex_len_of, number_of}
+use Rattle.gix_hash.specs.Prefix.{kind_digits}
+use Rattle.gix_hash.specs.declared.kind.Kind.{Kind}
+use Rattle.id_lookup.specs.ShortNames.{IsShortestName}
+use Rattle.id_lookup.specs.Sorted.{IsSortedIds}
+use Rattle.pack_index.specs.Format.{HasHead, HasOffset, HasTables, IndexFile, count_in, crc_in, names_in, offset_in}
+use Rattle.pack_index.specs.Refusal.{IsFault, opened}
+use Rattle.pack_index.specs.declared.error.Error.{Error}
+use Rattle.pack_index.specs.declared.error.Error.TheVariants.{OtherKind, TooShort, Version1, BadMagic, BadVersion, WrongLength, NamesFall, WrongCount, NoOffset, LongOutOfOrder, SpareLong, OffsetInHeader, OffsetTooHigh, WrongChecksum}
+use Rattle.gix_hash_c.specs.Face.{Holds, bad_kind, bad_length, ok, not_unique, no_offset, out_of_range, too_long}
+use Rattle.gix_hash_c.specs.Found.{IsFound}
+use Rattle.gix_hash_c.specs.declared.look_up.Run.{Run}
+use Rattle.gix_hash_c.specs.declared.packs.Entry.{Entry}
+
+-- the number of a cause for which bytes are no pack index
+abbrev pub cause_number : Error → ℕ
+cause_number TooShort = 16
+cause_number Version1 = 17
+cause_number BadMagic = 18
+cause_number (BadVersion version) = 19
+cause_number WrongLength = 20
+cause_number (NamesFall at) = 21
+cause_number (WrongCount byte) = 22
+cause_number (NoOffset at) = 23
+cause_number (LongOutOfOrder at) = 24
+cause_number (SpareLong number) = 25
+cause_number (OffsetInHeader at) = 26
+cause_number (OffsetTooHigh at) = 27
+cause_number WrongChecksum = 28
+cause_number (OtherKind other) = 29
+
+-- and its detail, if it has one
+abbrev pub detail_of : Error → ℕ → ℕ
+detail_of TooShort old = old
+detail_of Version1 old = old
+detail_of BadMagic old = old
+detail_of (BadVersion version) old = version
+detail_of WrongLength old = old
+detail_of (NamesFall at) old = at
+detail_of (WrongCount byte) old = byte
+detail_of (NoOffset at) old = at
+detail_of (LongOutOfOrder at) old = at
+detail_of (SpareLong number) old = number
+detail_of (OffsetInHeader at) old = at
+detail_of (OffsetTooHigh at) old = at
+detail_of WrongChecksum old = old
+detail_of (OtherKind other) old = number_of other
+
+-- what the whole check returns, and leaves
+abbrev pub CheckedBy : Result IndexFile Error → ℕ → ℕ → ℕ → Type 0
+CheckedBy (Ok file) code old new = (code ≡ ok) × (new ≡ old)
+CheckedBy (Err e) code old new = (code ≡ cause_number e) × (new ≡ detail_of e old)
+
+abbrev pub CheckAnswer : Option Kind → List ℕ → ℕ → ℕ → ℕ → Type 0
+CheckAnswer None bytes code old new = (code ≡ bad_kind) × (new ≡ old)
+CheckAnswer (Some kind) bytes code old new = CheckedBy (opened kind bytes) code old new
+
+-- the number of a cause for which the bytes are no pack index
+abbrev pub IsCause : Kind → List ℕ → ℕ → Type 0
+IsCause kind bytes code = (e : Error) × IsFault kind bytes e × (code ≡ cause_number e)
+
+-- how many names there are
+abbrev pub LenAnswer : Option Kind → List ℕ → ℕ → ℕ → ℕ → Type 0
+LenAnswer None bytes code old new = (code ≡ bad_kind) × (new ≡ old)
+LenAnswer (Some kind) bytes code old new =
+    ((code ≡ ok) × HasHead kind bytes × HasTables kind bytes × (new ≡ length (names_in kind bytes)))
+    ⊎ ((new ≡ old) × IsCause kind bytes code)
+
+-- what the tables contain at an index
+pub record IsEntry (kind : Kind) (bytes : List ℕ) (at : ℕ) (entry : Entry) : Type 0 where
+  pub offset : entry.offset ≡ offset_in kind bytes at
+  pub crc : entry.crc ≡ crc_in kind bytes at
+  pub id : Holds (kind_digits kind (slice_index_or (names_in kind bytes) at [])) entry.id
+
+-- why there is none
+abbrev pub IsNoEntry : Kind → List ℕ → ℕ → ℕ → Type 0
+IsNoEntry kind bytes at code =
+    ((code ≡ out_of_range) × HasTables kind bytes × (count_in bytes ≤ at))
+    ⊎ (((code ≡ no_offset) × HasTables kind bytes × (at < count_in bytes) × (¬ HasOffset kind bytes at)) ⊎ IsCause kind bytes code)
+
+abbrev pub EntryAnswer : Option Kind → List ℕ → ℕ → ℕ → Entry → Entry → Type 0
+EntryAnswer None bytes at code old new = (code ≡ bad_kind) × (new ≡ old)
+EntryAnswer (Some kind) bytes at code old new =
+    ((code ≡ ok) × HasTables kind bytes × (at < count_in bytes) × HasOffset kind bytes at × IsEntry kind bytes at new)
+    ⊎ ((new ≡ old) × IsNoEntry kind bytes at code)
+
+-- the run of a prefix
+abbrev pub PackFindAnswer : Option Kind → List ℕ → Option (List ℕ) → ℕ → Run → Run → Type 0
+PackFindAnswer None bytes prefix code old new = (code ≡ bad_kind) × (new ≡ old)
+PackFindAnswer (Some kind) bytes None code old new = (code ≡ bad_length) × (new ≡ old)
+PackFindAnswer (Some kind) bytes (Some digits) code old new =
+    ((code ≡ too_long) × (hex_len_of kind < length digits) × (new ≡ old))
+    ⊎ ((length digits ≤ hex_len_of kind) × (((code ≡ ok) × HasTables kind bytes × IsFound digits (names_in kind bytes) new)
+    ⊎ ((new ≡ old) × IsCause kind bytes code)))
+
+-- as many first digits are the shortest name at an index, if the names are sorted
+abbrev pub IsShortest : Kind → List ℕ → ℕ → ℕ → Type 0
+IsShortest kind bytes at hex_len =
+    IsSortedIds (names_in kind bytes) → IsShortestName (names_in kind bytes) at (take hex_len (slice_index_or (names_in kind bytes) at []))
+
+-- why there is none
+abbrev pub IsNameless : Kind → List ℕ → ℕ → ℕ → Type 0
+IsNameless kind bytes at code =
+    ((code ≡ not_unique) × HasTables kind bytes × (at < count_in bytes)
+    × (IsSortedIds (names_in kind bytes) → (name : List ℕ) → ¬ IsShortestName (names_in kind bytes) at name))
+    ⊎ (((code ≡ out_of_range) × HasTables kind bytes × (count_in bytes ≤ at)) ⊎ IsCause kind bytes code)
+
+abbrev pub ShortestAnswer : Option Kind → List ℕ → ℕ → ℕ → ℕ → ℕ → Type 0
+ShortestAnswer None bytes at code old new = (code ≡ bad_kind) × (new ≡ old)
+ShortestAnswer (Some kind) bytes at code old new =
+    ((code ≡ ok) × HasTables kind bytes × (at < count_in bytes) × IsShortest kind bytes at new)
+    ⊎ ((new ≡ old) × IsNameless kind bytes at code)

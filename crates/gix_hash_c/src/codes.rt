@@ -1,0 +1,51 @@
+//! The codes that functions return.
+
+ghost use Rattle.std.specs.Prelude.{◌≡◌};
+ghost use Rattle.gix_hash_c.specs.Face.{kind_of_number, order_number};
+
+use gix_hash::Kind;
+use std::cmp::Ordering;
+
+pub(crate) const OK: u32 = 0;
+
+pub(crate) const BAD_LENGTH: u32 = 1;
+
+pub(crate) const BAD_DIGIT: u32 = 2;
+
+pub(crate) const BAD_KIND: u32 = 3;
+
+pub(crate) const NO_ROOM: u32 = 4;
+
+pub(crate) const TOO_LONG: u32 = 5;
+
+pub(crate) const OUT_OF_RANGE: u32 = 6;
+
+pub(crate) const UNSORTED: u32 = 7;
+
+pub(crate) const NOT_UNIQUE: u32 = 8;
+
+pub(crate) const NO_OFFSET: u32 = 23;
+
+pub(crate) const NO_ORDER: i32 = 2;
+
+// The kind that a number names.
+pub(crate) fn kind_of(number: u32) -> Option<Kind>
+    ensures { result ≡ kind_of_number number }
+{
+    match number {
+        1 => Some(Kind::Sha1),
+        2 => Some(Kind::Sha256),
+        _ => None,
+    }
+}
+
+// The number of an order.
+pub(crate) fn order_of(order: Ordering) -> i32
+    ensures { result ≡ order_number order }
+{
+    match order {
+        Ordering::Less => -1,
+        Ordering::Equal => 0,
+        Ordering::Greater => 1,
+    }
+}

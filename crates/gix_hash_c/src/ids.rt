@@ -1,0 +1,97 @@
+//! Ids for C.
+
+ghost use Rattle.std.specs.Prelude.{◌≡◌, MatchOption, Some, None, take};
+ghost use Rattle.id_digits.specs.Digits.{digits_of, hex_letter};
+ghost use Rattle.gix_hash.specs.IdReading.{full_read, whole_of};
+ghost use Rattle.gix_hash.specs.Kind.{byte_len_of};
+ghost use Rattle.gix_hash.specs.Oid.{oid_digits, oid_kind};
+ghost use Rattle.gix_hash_c.specs.Face.{Holds, HexAnswer, IdAnswer, id_in, ids_order};
+
+use crate::codes::{BAD_DIGIT, BAD_KIND, BAD_LENGTH, NO_ORDER, NO_ROOM, OK, kind_of, order_of};
+use gix_hash::{ObjectId, decode, oid};
+
+/// An id.
+#[repr(C)]
+#[derive(Clone, Copy)]
+pub struct Id {
+    /// 1 for SHA-1, and 2 for SHA-256.
+    pub kind: u32,
+    /// The digest, 20 or 32 bytes. The bytes after the 20 of SHA-1 are not read, and are written as
+    /// zeros.
+    pub bytes: [u8; 32],
+}
+
+/// Reads 40 or 64 hex digits, in any letter case. An error leaves `id` as it was: `BAD_LENGTH`, or
+/// else `BAD_DIGIT`.
+#[unsafe(no_mangle)]
+pub extern "C" fn gix_hash_id_from_hex(text: &[u8], id: &mut Id) -> u32
+    ensures { IdAnswer (full_read hex_letter text.now) result id.old id.new }
+{
+    match ObjectId::from_hex(text) {
+        Ok(read) => {
+            *id = to_c(&read);
+            OK
+        }
+        Err(decode::Error::InvalidHexEncodingLength(_)) => BAD_LENGTH,
+        Err(decode::Error::Invalid) => BAD_DIGIT,
+    }
+}
+
+/// Writes the 40 or 64 lowercase hex digits of an id into the front of a buffer, whose rest stays.
+/// An error leaves the buffer as it was: `BAD_KIND`, or else `NO_ROOM`.
+#[unsafe(no_mangle)]
+pub extern "C" fn gix_hash_id_to_hex(id: &Id, buffer: &mut [u8]) -> u32
+    ensures { HexAnswer (id_in id.now) result buffer.old buffer.new }
+{
+    match of_c(id) {
+        None => BAD_KIND,
+        Some(id) => {
+            if buffer.len() < id.kind().len_in_hex() {
+                return NO_ROOM;
+            }
+            id.put_hex(buffer);
+            OK
+        }
+    }
+}
+
+/// The order of two ids, by kind and then by digits: -1, 0 or 1, and 2 if a kind is bad.
+#[unsafe(no_mangle)]
+pub extern "C" fn gix_hash_id_cmp(one: &Id, other: &Id) -> i32
+    ensures { result ≡ ids_order (id_in one.now) (id_in other.now) }
+{
+    match (of_c(one), of_c(other)) {
+        (Some(one), Some(other)) => order_of(one.kind().cmp(&other.kind()).then(one.cmp(&other))),
+        _ => NO_ORDER,
+    }
+}
+
+// The struct for an id.
+#[inline(always)]
+pub(crate) fn to_c(id: &ObjectId) -> Id
+    ensures { Holds (whole_of id.now) result }
+{
+    // The contract of this call says how long the digest is.
+    let _bytes = id.as_slice();
+    match id {
+        ObjectId::Sha1(digest) => {
+            let mut bytes = [0; 32];
+            bytes[..20].copy_from_slice(digest);
+            Id { kind: 1, bytes }
+        }
+        ObjectId::Sha256(bytes) => Id {
+            kind: 2,
+            bytes: *bytes,
+        },
+    }
+}
+
+// The id in a struct.
+#[inline(always)]
+pub(crate) fn of_c(id: &Id) -> Option<oid<'_>>
+    ensures { MatchOption result (id_in id.now ≡ None)
+        (λ view. id_in id.now ≡ Some (record { kind = oid_kind view; digits = oid_digits view })) }
+{
+    let kind = kind_of(id.kind)?;
+    Some(oid::from_bytes_unchecked(&id.bytes[..kind.len_in_bytes()]))
+}

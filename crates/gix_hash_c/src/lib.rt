@@ -1,0 +1,12 @@
+//! `gix_hash`, `id_lookup` and `pack_index` for C.
+//!
+//! Each function is total: what a caller can get wrong, it tests, and returns a code for it. The
+//! caller must ensure that each pointer is valid for its length.
+#![tactic(auto)]
+
+mod codes;
+mod digests;
+mod ids;
+mod look_up;
+mod packs;
+mod prefixes;

@@ -1,0 +1,254 @@
+//! Pack indexes over their bytes. C keeps only the bytes, so each call tests again the head and the
+//! lengths of the tables. So none reads outside of the bytes, whatever they are.
+
+ghost use Rattle.std.specs.Prelude.{◌≡◌, ◌<◌, ◌≤◌, [], IfErr, IfSome, IsNone, OnOk, ℕ, List, length, slice_index_or, slice_range, take};
+ghost use Rattle.gix_hash.specs.Kind.{hex_len_of};
+ghost use Rattle.gix_hash.specs.Prefix.{kind_digits};
+ghost use Rattle.id_lookup.specs.ShortNames.{IsShortestName};
+ghost use Rattle.id_lookup.specs.Sorted.{IsSortedIds};
+ghost use Rattle.pack_index.specs.Format.{HasHead, HasTables, crcs_at, digests_in, names_at, names_in};
+ghost use Rattle.gix_hash_c.specs.Face.{Holds, kind_of_number, prefix_in};
+ghost use Rattle.gix_hash_c.specs.Packs.{CheckAnswer, EntryAnswer, IsCause, LenAnswer, PackFindAnswer, ShortestAnswer, cause_number};
+
+use crate::codes::{
+    BAD_KIND, BAD_LENGTH, NO_OFFSET, NOT_UNIQUE, OK, OUT_OF_RANGE, TOO_LONG, kind_of,
+};
+use crate::ids::{Id, to_c};
+use crate::look_up::{Run, find_in};
+use crate::prefixes::{Prefix, prefix_of};
+use gix_hash::{Kind, ObjectId};
+use id_lookup::abbreviate_if_sorted;
+use pack_index::tables::{
+    NAMES_AT, check_tables, count_in, crc_in, crcs_at, has_offset, offset_in, up_to_in,
+};
+use pack_index::{Error, File};
+
+/// What an index contains about an object.
+#[repr(C)]
+#[derive(Clone, Copy)]
+pub struct Entry {
+    /// Where it begins in the pack.
+    pub offset: u64,
+    /// The CRC-32 of the packed object.
+    pub crc: u32,
+    /// Its name.
+    pub id: Id,
+}
+
+/// Checks a whole pack index: tables, order, counts, offsets and checksum. An error is `BAD_KIND`,
+/// or the number of the cause, with its detail if it has one. Otherwise `detail` stays as it was.
+#[unsafe(no_mangle)]
+pub extern "C" fn gix_hash_pack_check(kind: u32, bytes: &[u8], detail: &mut u64) -> u32
+    ensures { CheckAnswer (kind_of_number kind) bytes.now result detail.old detail.new }
+{
+    match kind_of(kind) {
+        Some(kind) => match File::try_new(bytes, kind) {
+            Ok(_) => OK,
+            Err(error) => {
+                match error {
+                    Error::OtherKind(Kind::Sha1) => *detail = 1,
+                    Error::OtherKind(Kind::Sha256) => *detail = 2,
+                    Error::BadVersion(version) => *detail = u64::from(version),
+                    Error::WrongCount(byte) => *detail = u64::from(byte),
+                    Error::NamesFall(at)
+                    | Error::NoOffset(at)
+                    | Error::LongOutOfOrder(at)
+                    | Error::SpareLong(at)
+                    | Error::OffsetInHeader(at)
+                    | Error::OffsetTooHigh(at) => *detail = at as u64,
+                    _ => {}
+                }
+                cause_of(error)
+            }
+        },
+        None => BAD_KIND,
+    }
+}
+
+/// The number of names. An error leaves `count` as it was.
+#[unsafe(no_mangle)]
+pub extern "C" fn gix_hash_pack_count(kind: u32, bytes: &[u8], count: &mut usize) -> u32
+    ensures { LenAnswer (kind_of_number kind) bytes.now result count.old count.new }
+{
+    match kind_of(kind) {
+        Some(kind) => match tables(kind, bytes) {
+            Ok(()) => {
+                *count = count_in(bytes) as usize;
+                OK
+            }
+            Err(cause) => cause,
+        },
+        None => BAD_KIND,
+    }
+}
+
+/// What an index contains about the object at an index. An error leaves `entry` as it was.
+#[unsafe(no_mangle)]
+pub extern "C" fn gix_hash_pack_entry(kind: u32, bytes: &[u8], at: usize, entry: &mut Entry) -> u32
+    ensures { EntryAnswer (kind_of_number kind) bytes.now at result entry.old entry.new }
+{
+    let Some(kind) = kind_of(kind) else {
+        return BAD_KIND;
+    };
+    if let Err(cause) = tables(kind, bytes) {
+        return cause;
+    }
+    if at >= count_in(bytes) as usize {
+        return OUT_OF_RANGE;
+    }
+    if !has_offset(bytes, kind, at) {
+        return NO_OFFSET;
+    }
+    *entry = Entry {
+        offset: offset_in(bytes, kind, at),
+        crc: crc_in(bytes, kind, at),
+        id: name_at(kind, names(kind, bytes), at),
+    };
+    OK
+}
+
+/// The run of a prefix among the names. An error leaves `run` as it was.
+#[unsafe(no_mangle)]
+pub extern "C" fn gix_hash_pack_find(kind: u32, bytes: &[u8], prefix: &Prefix, run: &mut Run) -> u32
+    ensures { PackFindAnswer (kind_of_number kind) bytes.now (prefix_in prefix.now) result
+        run.old run.new }
+{
+    let Some(kind) = kind_of(kind) else {
+        return BAD_KIND;
+    };
+    let Some(prefix) = prefix_of(prefix) else {
+        return BAD_LENGTH;
+    };
+    if prefix.hex_len() > kind.len_in_hex() {
+        return TOO_LONG;
+    }
+    if let Err(cause) = tables(kind, bytes) {
+        return cause;
+    }
+    let guess = run_by_counts(bytes, &prefix);
+    *run = find_in(kind, names(kind, bytes), &prefix, guess);
+    OK
+}
+
+/// The number of first digits, at least 4, with which no other name begins. An error leaves
+/// `hex_len` as it was.
+#[unsafe(no_mangle)]
+pub extern "C" fn gix_hash_pack_abbreviate(
+    kind: u32,
+    bytes: &[u8],
+    at: usize,
+    hex_len: &mut usize,
+) -> u32
+    ensures { ShortestAnswer (kind_of_number kind) bytes.now at result hex_len.old hex_len.new }
+{
+    let Some(kind) = kind_of(kind) else {
+        return BAD_KIND;
+    };
+    if let Err(cause) = tables(kind, bytes) {
+        return cause;
+    }
+    if at >= count_in(bytes) as usize {
+        return OUT_OF_RANGE;
+    }
+    match shortest_at(kind, names(kind, bytes), at) {
+        Some(len) => {
+            *hex_len = len;
+            OK
+        }
+        None => NOT_UNIQUE,
+    }
+}
+
+// The number of a cause.
+fn cause_of(error: Error) -> u32
+    ensures { result ≡ cause_number error }
+{
+    match error {
+        Error::TooShort => 16,
+        Error::Version1 => 17,
+        Error::BadMagic => 18,
+        Error::BadVersion(_) => 19,
+        Error::WrongLength => 20,
+        Error::NamesFall(_) => 21,
+        Error::WrongCount(_) => 22,
+        Error::NoOffset(_) => 23,
+        Error::LongOutOfOrder(_) => 24,
+        Error::SpareLong(_) => 25,
+        Error::OffsetInHeader(_) => 26,
+        Error::OffsetTooHigh(_) => 27,
+        Error::WrongChecksum => 28,
+        Error::OtherKind(_) => 29,
+    }
+}
+
+// Whether the bytes have the head and the tables of an index.
+fn tables(kind: Kind, bytes: &[u8]) -> Result<(), u32>
+    ensures head { OnOk result (HasHead kind bytes.now) }
+    ensures tables { OnOk result (HasTables kind bytes.now) }
+    ensures err { IfErr result (IsCause kind bytes.now) }
+{
+    match check_tables(bytes, kind) {
+        Ok(()) => Ok(()),
+        Err(error) => Err(cause_of(error)),
+    }
+}
+
+// The bytes of the names.
+fn names(kind: Kind, bytes: &[u8]) -> &[u8]
+    requires { HasTables kind bytes.now }
+    ensures { result.now ≡ slice_range bytes.now names_at (crcs_at kind bytes.now) }
+{
+    &bytes[NAMES_AT..crcs_at(bytes, kind)]
+}
+
+// Where the names with the prefix's first byte are by the counts. These may be wrong, so this is a
+// guess, which changes no result.
+fn run_by_counts(bytes: &[u8], prefix: &gix_hash::Prefix) -> id_lookup::Run
+    requires { names_at ≤ length bytes.now }
+{
+    let first = prefix.as_oid().first_byte();
+    let last = if prefix.hex_len() == 1 {
+        first | 15
+    } else {
+        first
+    };
+    let start = if first == 0 {
+        0
+    } else {
+        up_to_in(bytes, first - 1)
+    };
+    id_lookup::Run {
+        start: start as usize,
+        end: up_to_in(bytes, last) as usize,
+    }
+}
+
+// The name at an index of a table.
+fn name_at(kind: Kind, table: &[u8], at: usize) -> Id
+    requires { at < length (digests_in kind table.now) }
+    ensures { Holds (kind_digits kind (slice_index_or (digests_in kind table.now) at [])) result }
+{
+    match kind {
+        Kind::Sha1 => to_c(&ObjectId::Sha1(table.as_chunks().0[at])),
+        Kind::Sha256 => to_c(&ObjectId::Sha256(table.as_chunks().0[at])),
+    }
+}
+
+// The length of the shortest name at an index of a table.
+fn shortest_at(kind: Kind, table: &[u8], at: usize) -> Option<usize>
+    requires { at < length (digests_in kind table.now) }
+    ensures name { IfSome result (λ hex_len. IsSortedIds (digests_in kind table.now)
+        → IsShortestName (digests_in kind table.now) at
+        (take hex_len (slice_index_or (digests_in kind table.now) at []))) }
+    ensures none { IsNone result → IsSortedIds (digests_in kind table.now)
+        → (name : List ℕ) → ¬ IsShortestName (digests_in kind table.now) at name }
+{
+    let name = match kind {
+        Kind::Sha1 => abbreviate_if_sorted::<[u8; 20]>(table.as_chunks().0, at),
+        Kind::Sha256 => abbreviate_if_sorted::<[u8; 32]>(table.as_chunks().0, at),
+    };
+    match name {
+        Some(name) => Some(name.hex_len()),
+        None => None,
+    }
+}

@@ -1,0 +1,75 @@
+//! Prefixes for C.
+
+ghost use Rattle.std.specs.Prelude.{◌≡◌, ◌≤◌, MatchOption, Some, None, take};
+ghost use Rattle.id_digits.specs.Digits.{digits_of, hex_letter};
+ghost use Rattle.gix_hash.specs.PrefixReading.{prefix_read};
+ghost use Rattle.gix_hash_c.specs.Face.{PrefixAnswer, id_in, place_number, prefix_in};
+
+use crate::codes::{BAD_DIGIT, BAD_LENGTH, NO_ORDER, OK, order_of};
+use crate::ids::{Id, of_c};
+use gix_hash::{Alphabet, Kind};
+
+/// A prefix of 1 to 64 digits.
+#[repr(C)]
+#[derive(Clone, Copy)]
+pub struct Prefix {
+    /// The number of digits.
+    pub hex_len: u32,
+    /// The digits, two a byte, the high half first. The bits after them are not read, and are
+    /// written as zeros.
+    pub bytes: [u8; 32],
+}
+
+/// Reads 1 to 64 hex digits, in any letter case. An error leaves `prefix` as it was: `BAD_LENGTH`,
+/// or else `BAD_DIGIT`.
+#[unsafe(no_mangle)]
+pub extern "C" fn gix_hash_prefix_from_hex(text: &[u8], prefix: &mut Prefix) -> u32
+    ensures { PrefixAnswer (prefix_read hex_letter 1 text.now) result prefix.old prefix.new }
+{
+    let len = text.len();
+    if len == 0 || len > 64 {
+        return BAD_LENGTH;
+    }
+    match Alphabet::Hex.read_beginning(Kind::Sha256, text) {
+        Ok(read) => {
+            let mut bytes = [0; 32];
+            bytes.copy_from_slice(read.as_oid().as_bytes());
+            *prefix = Prefix {
+                hex_len: len as u32,
+                bytes,
+            };
+            OK
+        }
+        Err(_) => BAD_DIGIT,
+    }
+}
+
+/// The order of a prefix and as many first digits of an id: 0 if and only if the id begins with the
+/// prefix. 2 if the kind or the length is bad, or the id has fewer digits.
+#[unsafe(no_mangle)]
+pub extern "C" fn gix_hash_prefix_cmp_id(prefix: &Prefix, id: &Id) -> i32
+    ensures { result ≡ place_number (prefix_in prefix.now) (id_in id.now) }
+{
+    let Some(prefix) = prefix_of(prefix) else {
+        return NO_ORDER;
+    };
+    let Some(id) = of_c(id) else {
+        return NO_ORDER;
+    };
+    if prefix.hex_len() > id.kind().len_in_hex() {
+        return NO_ORDER;
+    }
+    order_of(prefix.cmp_oid(id))
+}
+
+// The prefix in a struct.
+#[inline(always)]
+pub(crate) fn prefix_of(prefix: &Prefix) -> Option<gix_hash::Prefix>
+    ensures { MatchOption result (prefix_in prefix.now ≡ None)
+        (λ made. prefix_in prefix.now ≡ Some made.digits) }
+{
+    if prefix.hex_len == 0 {
+        return None;
+    }
+    gix_hash::Prefix::from_packed_digits(Kind::Sha256, &prefix.bytes, prefix.hex_len as usize)
+}

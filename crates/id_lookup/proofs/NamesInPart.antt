@@ -1,0 +1,67 @@
+-- A member's shortest name is decided among the members that begin as the name has to.
+use Rattle.std.proofs.Common.{◌≡◌, ◌≢◌, ℕ, ◌<◌, ◌≤◌, Bool, true, false, nat_eq, List, [], ◌++◌, length, filter, get_or, take, drop, refl, sym, ap, ◌∙◌, subst, append_assoc, take-append-drop}
+use Rattle.std.specs.List.{starts_with}
+use Rattle.std.proofs.lemmas.Bool.{false≢true}
+use Rattle.std.proofs.lemmas.List.{get_or_default, take-take}
+use Rattle.std.proofs.lemmas.List.Elements.{Contains-get_or}
+use Rattle.gix_hash.specs.declared.Kind.{Kind}
+use Rattle.id_lookup.specs.Index.{IsIndex}
+use Rattle.id_lookup.specs.ShortNames.{IsShortestNameFrom}
+use Rattle.id_lookup.proofs.Spelled.{starts_with-BeginsWith}
+use Rattle.id_lookup.proofs.Filters.{contains_kept, contains_had}
+use Rattle.id_lookup.proofs.SameMembers.{index-filter, one_place}
+
+-- what begins with some first digits of an id begins with fewer of them
+begins_fewer : (id member name : List ℕ) (n : ℕ) → name ≡ take (length name) member → n ≤ length name → starts_with nat_eq id name ≡ true
+    → starts_with nat_eq id (take n member) ≡ true
+begins_fewer id member name n first few begins =
+    let is = (starts_with-BeginsWith id name).0 begins in
+    let rest = drop n name ++ is.0 in
+    let front : take n name ≡ take n member = ap (take n) first ∙ take-take n (length name) member few in
+    (starts_with-BeginsWith id (take n member)).1 (
+      rest,
+      is.1
+          ∙ ap (λ (whole : List ℕ). whole ++ is.0) (sym (take-append-drop n name)) ∙ append_assoc (take n name) (drop n name) is.0
+          ∙ ap (λ (whole : List ℕ). whole ++ rest) front,
+    )
+
+module _ (kind : Kind) (p : List ℕ → Bool) (fewest : ℕ) (whole : List (List ℕ)) (at place : ℕ) (name : List ℕ) (index : IsIndex kind whole)
+    (decides : (id : List ℕ) → starts_with nat_eq id (take fewest (get_or whole place [])) ≡ true → p id ≡ true)
+    (within : at < length (filter p whole)) (inside : place < length whole) (same : get_or whole place [] ≡ get_or (filter p whole) at [])
+    (short : IsShortestNameFrom fewest (filter p whole) at name) where
+  first : name ≡ take (length name) (get_or whole place [])
+  first = short.first ∙ ap (take (length name)) (sym same)
+
+  -- what fails the test begins otherwise
+  other_part : (id : List ℕ) → p id ≡ false → starts_with nat_eq id name ≡ false
+  other_part id fails = elim (starts_with nat_eq id name) as (λ t. starts_with nat_eq id name ≡ t → t ≡ false) [
+    | true ↦ λ begins. absurd (false≢true (sym fails ∙ decides id (begins_fewer id (get_or whole place []) name fewest first short.long begins)))
+    | false ↦ λ begins. refl
+  ] refl
+
+  -- and so does another member that passes
+  same_part : (k : ℕ) → k < length whole → k ≢ place → p (get_or whole k []) ≡ true → starts_with nat_eq (get_or whole k []) name ≡ false
+  same_part k low other here =
+      let c = contains_kept p whole (get_or whole k []) (Contains-get_or whole k [] low) here in
+      let there : get_or (filter p whole) c.0 [] ≡ get_or whole k [] = sym (get_or_default (filter p whole) c.0 (get_or whole k []) [] c.1) ∙ c.2 in
+      let apart : c.0 ≢ at = λ e. other (one_place kind whole index k place low inside (sym there ∙ ap (λ n. get_or (filter p whole) n []) e ∙ sym same)) in
+      subst (λ (id : List ℕ). starts_with nat_eq id name ≡ false) there (short.alone c.0 c.1 apart)
+
+  -- so the name among those that pass is that in the whole
+  pub name-whole : IsShortestNameFrom fewest whole place name
+  name-whole = record {
+    first = first;
+    long = short.long;
+    alone = λ k low other. elim (p (get_or whole k [])) as (λ t. p (get_or whole k []) ≡ t → starts_with nat_eq (get_or whole k []) name ≡ false) [
+      | true ↦ λ here. same_part k low other here
+      | false ↦ λ here. other_part (get_or whole k []) here
+    ] refl;
+    least = λ n few low.
+        let r = short.least n few low in
+        let id = get_or (filter p whole) r.0 [] in
+        let c = contains_had p whole id (Contains-get_or (filter p whole) r.0 [] r.1) in
+        let there : get_or whole c.0 [] ≡ id = sym (get_or_default whole c.0 id [] c.1) ∙ c.2 in
+        let apart : c.0 ≢ place = λ e. r.2 (one_place kind (filter p whole) (index-filter kind p whole index) r.0 at r.1 within
+        (sym there ∙ ap (λ n. get_or whole n []) e ∙ same)) in
+        (c.0, c.1, apart, subst (λ (x : List ℕ). starts_with nat_eq x (take n name) ≡ true) (sym there) r.3);
+  }

@@ -1,0 +1,69 @@
+-- Ids of one kind that were sorted, and of which each was kept once, are the index of them.
+use Rattle.std.proofs.Common.{◌≡◌, zero, suc, List, [], ◌∷◌, length, get_or, map, refl, sym, ap, ◌∙◌, subst, arith, rules}
+use Rattle.std.specs.Cmp.{IsTotalOrder, IsEquivalence}
+use Rattle.std.specs.Cmp.Rules.{comparing}
+use Rattle.std.specs.List.{All, Contains, dedup}
+use Rattle.std.specs.List.Sorted.{IsSorted, IsStrictlySortedBy, IsPermutation}
+use Rattle.std.specs.Ordering.{eq_by_cmp}
+use Rattle.std.proofs.lemmas.List.{get_or-map, length-map}
+use Rattle.std.proofs.lemmas.List.Elements.{All-contains, Contains-get_or}
+use Rattle.std.proofs.lemmas.List.Kept.{Contains-dedup, Contains-from_dedup, IsStrictlySortedBy-dedup}
+use Rattle.std.proofs.lemmas.List.Sorted.{Contains-permutation, IsPermutation-sym}
+use Rattle.gix_hash.proofs.Equalities.{id_eq-same}
+use Rattle.gix_hash.specs.Kind.{hex_len_of}
+use Rattle.gix_hash.specs.ObjectId.{id_cmp, id_digits, id_eq, id_kind}
+use Rattle.gix_hash.specs.declared.Kind.{Kind}
+use Rattle.gix_hash.specs.declared.ObjectId.{ObjectId}
+use Rattle.id_lookup.proofs.OneKind.{index-of_kind}
+use Rattle.id_lookup.specs.IndexOf.{IsIndexOf}
+
+-- the order of ids is total, and the ids that are equal are those that it ties
+id_cmp_total : IsTotalOrder id_cmp
+id_cmp_total = search (comparing, rules)
+
+id_eq_equiv : IsEquivalence id_eq
+id_eq_equiv = search (comparing, rules)
+
+id_eq_ties : (x y : ObjectId) → id_eq x y ≡ eq_by_cmp id_cmp x y
+id_eq_ties x y = search (comparing, rules)
+
+-- the members of a mapped list are those of the list, mapped
+contains_map : {X Y : Type 0} (f : X → Y) (xs : List X) (x : X) → Contains xs x → Contains (map f xs) (f x)
+contains_map f xs x c = (c.0, omega (arith, c.1, length-map xs f), get_or-map f xs c.0 x (f x) c.1 ∙ ap f c.2)
+
+contains_from_map : {X Y : Type 0} (f : X → Y) (xs : List X) (y : Y) → Contains (map f xs) y → (x : X) × Contains xs x × (f x ≡ y)
+contains_from_map f [] y c = let none = c.1 in absurd (omega arith)
+contains_from_map f (x ∷ xs) y (zero, within, is) = (x, (zero, omega arith, refl), is)
+contains_from_map f (x ∷ xs) y (suc k, within, is) =
+    let r = contains_from_map f xs y (k, omega arith, is) in
+    (r.0, (suc r.1.0, omega (arith, r.1.1), r.1.2), r.2)
+
+module _ (kind : Kind) (ids sorted kept : List ObjectId) (of_kind : All (λ id. id_kind id ≡ kind) ids) (moved : IsPermutation ids sorted)
+    (is_sorted : IsSorted id_cmp sorted) (is : kept ≡ dedup id_eq sorted) where
+  -- nothing comes and nothing goes
+  kept_from : (id : ObjectId) → Contains kept id → Contains ids id
+  kept_from id c = Contains-permutation sorted ids id (IsPermutation-sym ids sorted moved) (Contains-from_dedup id_eq sorted id (subst (λ (xs : List ObjectId). Contains xs id) is c))
+
+  from_kept : (id : ObjectId) → Contains ids id → Contains kept id
+  from_kept id c =
+      subst (λ (xs : List ObjectId). Contains xs id) (sym is)
+      (Contains-dedup id_eq_equiv (λ x y. (id_eq-same x y).0) sorted id (Contains-permutation ids sorted id moved c))
+
+  pub kept_kinds : All (λ id. id_kind id ≡ kind) kept
+  kept_kinds k d low = All-contains (λ id. id_kind id ≡ kind) ids (get_or kept k d) of_kind (kept_from (get_or kept k d) (Contains-get_or kept k d low))
+
+  strict : IsStrictlySortedBy id_cmp kept
+  strict = subst (IsStrictlySortedBy id_cmp) (sym is) (IsStrictlySortedBy-dedup id_cmp_total id_eq_ties sorted is_sorted)
+
+  pub index_of_sorted : All (λ id. length (id_digits id) ≡ hex_len_of (id_kind id)) kept → IsIndexOf kind (map id_digits ids) (map id_digits kept)
+  index_of_sorted long = record {
+    index = index-of_kind kind kept long strict kept_kinds;
+    members = λ digits. (
+      λ c.
+          let from = contains_from_map id_digits kept digits c in
+          subst (Contains (map id_digits ids)) from.2 (contains_map id_digits ids from.0 (kept_from from.0 from.1)),
+      λ c.
+          let from = contains_from_map id_digits ids digits c in
+          subst (Contains (map id_digits kept)) from.2 (contains_map id_digits kept from.0 (from_kept from.0 from.1)),
+    );
+  }

@@ -1,0 +1,14 @@
+use Rattle.std.proofs.Common.{map, arith}
+use Rattle.id_lookup.proofs.Placed.{bound_of-end, run_is}
+use Rattle.id_lookup.proofs.if_sorted.find_if_sorted_near.Goals as goal
+
+pub returns-clause-run : goal.returns-clause-run
+returns-clause-run g c sorted =
+    let ids = map g.I.Id.digits c.args.ids.now in
+    let prefix = c.args.prefix.now in
+    let above = c.part_if_sorted-part.ensures.above sorted in
+    let below = c.part_if_sorted-part.ensures.below sorted in
+    let ends = bound_of-end prefix ids in
+    let start = c.bound_if_sorted-start.ensures.place sorted above (omega arith) in
+    let end = c.bound_if_sorted-end.ensures.place sorted (omega (arith, start, ends)) below in
+    run_is prefix ids sorted _ start end

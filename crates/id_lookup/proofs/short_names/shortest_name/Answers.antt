@@ -1,0 +1,23 @@
+use Rattle.std.proofs.Common.{◌≡◌, ◌≤◌, [], length, map, take, ap, ◌∙◌, arith}
+use Rattle.gix_hash.specs.Kind.{hex_len_of}
+use Rattle.gix_hash.specs.Oid.{oid_digits, oid_kind}
+use Rattle.gix_hash.specs.Prefix.{KindDigits}
+use Rattle.id_lookup.proofs.Neighbours.{has_room, shortest}
+use Rattle.id_lookup.proofs.short_names.shortest_name.Goals as goal
+
+pub returns-then-hex_len-len_in_hex-clause-none : goal.returns-then-hex_len-len_in_hex-clause-none
+returns-then-hex_len-len_in_hex-clause-none g c = λ _ sorted name short.
+    let ids = map g.I.Id.digits c.args.ids.now in
+    let room = has_room ids c.args.least c.args.at name short c.unique_len.result c.max-hex_len.result (c.unique_len.ensures sorted) c.max-hex_len.ensures in
+    omega (arith, room, c.if-hex_len-len_in_hex.true, c.len_in_hex.ensures, ap hex_len_of c.kind.ensures.value, c.id_at-id.ensures.len, ap length (c.id_at-id.ensures.digits []))
+
+pub returns-clause-name : goal.returns-clause-name
+returns-clause-name g c sorted =
+    let enough : 4 ≤ c.max-hex_len.result = omega (arith, c.requires.enough, c.max-hex_len.ensures) in
+    let few : c.max-hex_len.result ≤ hex_len_of (oid_kind c.id_at-id.result) =
+    omega (arith, c.if-hex_len-len_in_hex.false, c.len_in_hex.ensures, ap hex_len_of c.kind.ensures.value) in
+    let made : c.unwrap.result ≡ record { kind = oid_kind c.id_at-id.result; digits = take c.max-hex_len.result (oid_digits c.id_at-id.result) } =
+    (let answer = c.new.ensures.ok enough few in let unwrapped = c.unwrap.ensures in cc) in
+    shortest (map g.I.Id.digits c.args.ids.now) c.args.least c.args.at c.unique_len.result c.max-hex_len.result c.unwrap.result.digits
+    (c.unique_len.ensures sorted) c.max-hex_len.ensures (omega (arith, few, c.id_at-id.ensures.len, ap length (c.id_at-id.ensures.digits [])))
+    (ap (λ (prefix : KindDigits). prefix.digits) made ∙ ap (take c.max-hex_len.result) (c.id_at-id.ensures.digits []))

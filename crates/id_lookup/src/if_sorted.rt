@@ -1,0 +1,136 @@
+//! Look-ups in lists that were not checked to be sorted. They are safe for any list, and for a
+//! sorted one return what [`SortedIds`](crate::SortedIds) returns.
+
+ghost use Rattle.std.specs.Prelude.{◌≡◌, ◌+◌, ◌<◌, ◌≤◌, ℕ, List, IfSome, IsNone, length, map, nat_lt};
+ghost use Rattle.id_lookup.specs.Bounds.{bound_of};
+ghost use Rattle.id_lookup.specs.FoundRun.{IsRun};
+ghost use Rattle.id_lookup.specs.ShortNames.{IsShortestName};
+ghost use Rattle.id_lookup.specs.Sorted.{IsSortedIds, least_hex_len};
+
+use crate::ids::{Id, id_at};
+use crate::search::{Bound, Run};
+use crate::short_names::shortest_name;
+use gix_hash::Prefix;
+
+/// The run of the members that begin with a prefix, if the list is sorted: that of
+/// [`SortedIds::find`](crate::SortedIds::find). For another list it is some run of its indexes.
+///
+/// The caller must ensure that the prefix has at most as many digits as each member.
+///
+/// ```
+/// // The table was checked when it was made.
+/// let run = find_if_sorted(table.as_chunks::<20>().0, &prefix);
+/// ```
+pub fn find_if_sorted<I: Id>(ids: &[I], prefix: &Prefix) -> Run
+    requires { length prefix.now.digits ≤ least_hex_len (map I.digits ids.now) }
+    ensures rises { result.start ≤ result.end }
+    ensures in_range { result.end ≤ length ids.now }
+    ensures run { IsSortedIds (map I.digits ids.now)
+        → IsRun prefix.now (map I.digits ids.now) result }
+{
+    let end = ids.len();
+    find_if_sorted_near(ids, prefix, Run { start: 0, end })
+}
+
+/// As [`find_if_sorted`], but it searches first among the indexes of a guess. A guess that contains
+/// the run spares comparisons, and no guess changes the result.
+///
+/// The caller must ensure that the prefix has at most as many digits as each member.
+///
+/// ```
+/// // By the counts of the table, only these digests have the prefix's first byte.
+/// let guess = Run { start: 270, end: 290 };
+/// let run = find_if_sorted_near(table.as_chunks::<20>().0, &prefix, guess);
+/// ```
+pub fn find_if_sorted_near<I: Id>(ids: &[I], prefix: &Prefix, guess: Run) -> Run
+    requires { length prefix.now.digits ≤ least_hex_len (map I.digits ids.now) }
+    ensures rises { result.start ≤ result.end }
+    ensures in_range { result.end ≤ length ids.now }
+    ensures run { IsSortedIds (map I.digits ids.now)
+        → IsRun prefix.now (map I.digits ids.now) result }
+{
+    let part = part_if_sorted(ids, prefix, guess);
+    let start = bound_if_sorted(ids, prefix, Bound::Start, part.start, part.end);
+    let end = bound_if_sorted(ids, prefix, Bound::End, start, part.end);
+    Run { start, end }
+}
+
+// The guess, or the whole list, whichever has both bounds of the run, if the list is sorted.
+fn part_if_sorted<I: Id>(ids: &[I], prefix: &Prefix, guess: Run) -> Run
+    requires { length prefix.now.digits ≤ least_hex_len (map I.digits ids.now) }
+    ensures rises { result.start ≤ result.end }
+    ensures in_range { result.end ≤ length ids.now }
+    ensures above { IsSortedIds (map I.digits ids.now)
+        → result.start ≤ bound_of Bound.Start prefix.now (map I.digits ids.now) }
+    ensures below { IsSortedIds (map I.digits ids.now)
+        → bound_of Bound.End prefix.now (map I.digits ids.now) ≤ result.end }
+{
+    let len = ids.len();
+    let all = Run { start: 0, end: len };
+    if guess.start > guess.end || guess.end > len {
+        return all;
+    }
+    if guess.start > 0 && !is_after(ids, prefix, Bound::Start, guess.start - 1) {
+        return all;
+    }
+    if guess.end < len && is_after(ids, prefix, Bound::End, guess.end) {
+        return all;
+    }
+    guess
+}
+
+// Whether the bound of the run is after the member at an index, if the list is sorted.
+fn is_after<I: Id>(ids: &[I], prefix: &Prefix, bound: Bound, at: usize) -> bool
+    requires reach { length prefix.now.digits ≤ least_hex_len (map I.digits ids.now) }
+    requires in_range { at < length ids.now }
+    ensures { IsSortedIds (map I.digits ids.now)
+        → result ≡ nat_lt at (bound_of bound prefix.now (map I.digits ids.now)) }
+{
+    bound.comes_after(prefix.cmp_oid(id_at(ids, at)))
+}
+
+// The bound of the run, if the list is sorted and the bound is from `low` to `high`.
+fn bound_if_sorted<I: Id>(
+    ids: &[I],
+    prefix: &Prefix,
+    bound: Bound,
+    mut low: usize,
+    mut high: usize,
+) -> usize
+    requires reach { length prefix.now.digits ≤ least_hex_len (map I.digits ids.now) }
+    requires rises { low ≤ high }
+    requires in_range { high ≤ length ids.now }
+    ensures above { low ≤ result }
+    ensures below { result ≤ high }
+    ensures place { IsSortedIds (map I.digits ids.now)
+        → low ≤ bound_of bound prefix.now (map I.digits ids.now)
+        → bound_of bound prefix.now (map I.digits ids.now) ≤ high
+        → result ≡ bound_of bound prefix.now (map I.digits ids.now) }
+{
+    while low < high {
+        let middle = low + (high - low) / 2;
+        if is_after(ids, prefix, bound, middle) {
+            low = middle + 1;
+        } else {
+            high = middle;
+        }
+    }
+    low
+}
+
+/// The shortest name of the member at an index, if the list is sorted: that of
+/// [`SortedIds::abbreviate_from`](crate::SortedIds::abbreviate_from), of at least 4 digits. For
+/// another list it is one that neither of its neighbours begins with.
+///
+/// ```
+/// let name = abbreviate_if_sorted(list, 0);
+/// ```
+pub fn abbreviate_if_sorted<I: Id>(ids: &[I], at: usize) -> Option<Prefix>
+    requires { at < length ids.now }
+    ensures name { IfSome result (λ name. IsSortedIds (map I.digits ids.now)
+        → IsShortestName (map I.digits ids.now) at name.digits) }
+    ensures none { IsNone result → IsSortedIds (map I.digits ids.now) → (name : List ℕ)
+        → ¬ IsShortestName (map I.digits ids.now) at name }
+{
+    shortest_name(ids, at, Prefix::MIN_HEX_LEN)
+}

@@ -1,0 +1,41 @@
+//! Sorting ids, and keeping each of them once.
+
+ghost use Rattle.std.specs.Prelude.{◌≡◌, All, length, map};
+ghost use Rattle.gix_hash.specs.Kind.{hex_len_of};
+ghost use Rattle.gix_hash.specs.ObjectId.{id_digits, id_kind};
+ghost use Rattle.gix_hash.specs.declared.kind.Kind as kinds;
+ghost use Rattle.id_lookup.specs.IndexOf.{IsIndexOf};
+
+use gix_hash::ObjectId;
+use std::alloc::Allocator;
+
+/// Sorts ids, and removes all but one of those that are equal. It takes no memory.
+///
+/// If the ids are of one kind, then the result is an index of that kind, and
+/// [`IdIndex::try_new`](crate::IdIndex::try_new) accepts it.
+///
+/// ```
+/// let mut found = vec![in rt.alloc(); id, expected, id]?;
+/// sort_unique(&mut found);
+/// assert!(rt; found.len() <= 2);
+/// ```
+pub fn sort_unique<A: Allocator>(ids: &mut Vec<ObjectId, A>)
+    ensures index { (kind : kinds.Kind) → All (λ id. id_kind id ≡ kind) ids.old.items
+        → IsIndexOf kind (map id_digits ids.old.items) (map id_digits ids.new.items) }
+    ensures kinds { (kind : kinds.Kind) → All (λ id. id_kind id ≡ kind) ids.old.items
+        → All (λ id. id_kind id ≡ kind) ids.new.items }
+{
+    ids.sort_unstable();
+    ids.dedup();
+    note_lengths(ids);
+}
+
+// Each id has as many digits as its kind.
+fn note_lengths(ids: &[ObjectId])
+    ensures { All (λ id. length (id_digits id) ≡ hex_len_of (id_kind id)) ids.now }
+{
+    for id in ids {
+        // The contract of this call says how many digits the id has.
+        let _kind = id.kind();
+    }
+}

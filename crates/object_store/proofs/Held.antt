@@ -1,0 +1,92 @@
+-- What is gathered of a store is what passes of the index of all its ids.
+use Rattle.std.proofs.Common.{◌≡◌, ℕ, zero, suc, ◌+◌, ◌<◌, ◌≤◌, Bool, Option, Some, List, [], ◌∷◌, ◌++◌, length, get_or, map, filter, take, refl, sym, ap, ◌∙◌, subst, arith, append-nil, append_assoc}
+use Rattle.std.specs.List.{All, flat_map}
+use Rattle.std.proofs.lemmas.Option.{get_or_from_slice_get, slice_get_within}
+use Rattle.std.proofs.lemmas.List.{get_or-map, length-map}
+use Rattle.std.proofs.lemmas.List.Elements.{filter-append}
+use Rattle.gix_hash.specs.declared.Kind.{Kind}
+use Rattle.id_lookup.proofs.SameMembers.{part_is}
+use Rattle.id_lookup.specs.IndexOf.{IsIndexOf, part_of}
+use Rattle.object_store.specs.Stores.{Holds, IsElsewhere, IsOutside, IsStoreFault}
+use Rattle.object_store.specs.Wanted.{passes, wanted_byte, wanted_len}
+use Rattle.object_store.specs.declared.error.Error.{Error}
+use Rattle.object_store.specs.declared.error.Error.TheVariants.{Index, Loose, Memory}
+use Rattle.object_store.specs.declared.wanted.Wanted.{Wanted}
+use Rattle.object_store.proofs.Asked.{filter-part}
+use Rattle.pack_index.specs.Firsts.{Each}
+use Rattle.pack_index.proofs.Buckets.{no_fault}
+use Rattle.pack_index.specs.Format.{HasCount, IsPackIndex, digests_in, names_in}
+use Rattle.pack_index.specs.Lazy.{LazyIndex}
+
+filter-flat_map : {A X : Type 0} (p : X → Bool) (f : A → List X) (xs : List A) → filter p (flat_map f xs) ≡ flat_map (λ a. filter p (f a)) xs
+filter-flat_map p f [] = refl
+filter-flat_map {A} {X} p f (x ∷ xs) = filter-append p (f x) (flat_map f xs) ∙ ap (λ (rest : List X). filter p (f x) ++ rest) (filter-flat_map p f xs)
+
+-- one list more
+pub flat_map-take : {A X : Type 0} (f : A → List X) (xs : List A) (i : ℕ) (d : A) → i < length xs → flat_map f (take (i + 1) xs) ≡ flat_map f (take i xs) ++ f (get_or xs i d)
+flat_map-take f [] i d low = absurd (omega arith)
+flat_map-take f (x ∷ xs) zero d low = append-nil (f x)
+flat_map-take {A} {X} f (x ∷ xs) (suc i) d low =
+    let next : suc i + 1 ≡ suc (i + 1) = omega arith in
+    ap (λ n. flat_map f (take n (x ∷ xs))) next ∙ ap (λ (rest : List X). f x ++ rest) (flat_map-take f xs i d (omega arith))
+    ∙ sym (append_assoc (f x) (flat_map f (take i xs)) (f (get_or xs i d)))
+
+-- the bytes of the pack index at a position
+pub known_at : {S : Type 0} (content : S → Option (List ℕ)) (packs : List S) (indexes : List (List ℕ)) → map content packs ≡ map Some indexes
+    → (i : ℕ) (d : S) → i < length packs → content (get_or packs i d) ≡ Some (get_or indexes i [])
+known_at content packs indexes same i d low =
+    let long : length packs ≡ length indexes = sym (length-map packs content) ∙ ap length same ∙ length-map indexes Some in
+    sym (get_or-map content packs i d (Some []) low) ∙ ap (λ xs. get_or xs i (Some [])) same ∙ get_or-map Some indexes i [] (Some []) (omega (arith, long))
+
+pub as_many : {S : Type 0} (content : S → Option (List ℕ)) (packs : List S) (indexes : List (List ℕ)) → map content packs ≡ map Some indexes → length packs ≡ length indexes
+as_many content packs indexes same = sym (length-map packs content) ∙ ap length same ∙ length-map indexes Some
+
+-- one pack index more
+pub packed_more : (kind k : Kind) (packs : List LazyIndex) (wanted : Wanted) (byte at : ℕ) (pack : LazyIndex) (old new : List (List ℕ)) (table : List ℕ) (indexes : List (List ℕ))
+    → byte ≡ wanted_byte wanted → 2 ≤ wanted_len wanted → map (λ (p : LazyIndex). p.content) packs ≡ map Some indexes → All (IsPackIndex kind) indexes
+    → at < length packs → pack ≡ get_or packs at pack → All (λ (p : LazyIndex). p.kind ≡ kind) packs → k ≡ pack.kind
+    → ((bytes : List ℕ) → pack.content ≡ Some bytes → Each (HasCount pack.kind bytes) 256 → digests_in pack.kind table ≡ part_of byte (names_in pack.kind bytes))
+    → old ≡ flat_map (λ bytes. filter (passes wanted) (names_in kind bytes)) (take at indexes)
+    → new ≡ old ++ filter (passes wanted) (digests_in k table)
+    → new ≡ flat_map (λ bytes. filter (passes wanted) (names_in kind bytes)) (take (at + 1) indexes)
+packed_more kind k packs wanted byte at pack old new table indexes is_byte long same each low is kinds k_is part before all =
+    let bytes = get_or indexes at [] in
+    let inside : at < length indexes = omega (arith, low, as_many (λ (p : LazyIndex). p.content) packs indexes same) in
+    let known : pack.content ≡ Some bytes = ap (λ (p : LazyIndex). p.content) is ∙ known_at (λ (p : LazyIndex). p.content) packs indexes same at pack low in
+    let pack_kind : pack.kind ≡ kind = ap (λ (p : LazyIndex). p.kind) is ∙ kinds at pack low in
+    let counts : Each (HasCount pack.kind bytes) 256 = subst (λ (n : Kind). Each (HasCount n bytes) 256) (sym pack_kind) (each at [] inside).names.counts in
+    let bucket : digests_in k table ≡ part_of (wanted_byte wanted) (names_in kind bytes) =
+    ap (λ (n : Kind). digests_in n table) k_is ∙ part bytes known counts ∙ (λ i. part_of (is_byte i) (names_in (pack_kind i) bytes)) in
+    let found : filter (passes wanted) (digests_in k table) ≡ filter (passes wanted) (names_in kind bytes) =
+    ap (filter (passes wanted)) bucket ∙ filter-part wanted (names_in kind bytes) long in
+    all ∙ (λ i. before i ++ found i) ∙ sym (flat_map-take (λ bytes. filter (passes wanted) (names_in kind bytes)) indexes at [] inside)
+
+-- where no pack index is at fault, nothing is said of them
+pub elsewhere : (kind : Kind) (packs : List LazyIndex) (e : Error) → IsElsewhere e → IsStoreFault kind packs e
+elsewhere kind packs (Index at error) is = absurd is
+elsewhere kind packs (Loose error) is = tt
+elsewhere kind packs (Memory error) is = tt
+
+-- what was gathered, sorted and kept once
+pub held : (kind : Kind) (packs : List LazyIndex) (loose : Option (List (List ℕ))) (whole : List (List ℕ)) (p : List ℕ → Bool) (packed gathered part : List (List ℕ))
+    → (h : Holds kind packs loose whole) → packed ≡ flat_map (λ bytes. filter p (names_in kind bytes)) h.indexes → gathered ≡ packed ++ filter p h.loose_ids
+    → IsIndexOf kind gathered part → part ≡ filter p whole
+held kind packs loose whole p packed gathered part h from_packs all index =
+    let names = flat_map (names_in kind) h.indexes in
+    let here : gathered ≡ filter p (names ++ h.loose_ids) =
+    all ∙ ap (λ (front : List (List ℕ)). front ++ filter p h.loose_ids) (from_packs ∙ sym (filter-flat_map p (names_in kind) h.indexes)) ∙ sym (filter-append p names h.loose_ids) in
+    part_is kind p (names ++ h.loose_ids) whole part h.all (subst (λ (ids : List (List ℕ)). IsIndexOf kind ids part) here index)
+
+-- a store whose pack indexes are ones has no fault
+pub no_store_fault : (kind : Kind) (packs : List LazyIndex) (loose : Option (List (List ℕ))) (whole : List (List ℕ)) (e : Error) → Holds kind packs loose whole
+    → IsStoreFault kind packs e → IsOutside e
+no_store_fault kind packs loose whole (Index at error) h fault =
+    let content : LazyIndex → Option (List ℕ) = λ p. p.content in
+    let pack = fault.0 in
+    let low : at < length packs = slice_get_within packs at pack fault.1 in
+    let inside : at < length h.indexes = omega (arith, low, as_many content packs h.indexes h.known) in
+    let known = known_at content packs h.indexes h.known at pack low in
+    no_fault kind (get_or h.indexes at []) error (h.are_indexes at [] inside)
+    (fault.2 (get_or h.indexes at []) (ap content (sym (get_or_from_slice_get packs at pack pack fault.1)) ∙ known))
+no_store_fault kind packs loose whole (Loose error) h fault = tt
+no_store_fault kind packs loose whole (Memory error) h fault = tt

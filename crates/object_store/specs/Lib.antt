@@ -1,0 +1,3 @@
+-- Object stores and the ids that they hold.
+pub mod Wanted
+pub mod Stores

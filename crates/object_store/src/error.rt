@@ -1,0 +1,43 @@
+//! Why a store does not give what was asked.
+
+ghost use Rattle.object_store.specs.Stores.{IsElsewhere};
+
+use pack_index::LazyError;
+use std::alloc::AllocError;
+use std::io;
+use thiserror::Error as ThisError;
+
+/// Why a look-up in a store fails. Nothing of its answer is known then.
+///
+/// ```
+/// match lookup_prefix(rt.alloc(), &store, &prefix) {
+///     Ok(found) => println!(rt; "{} ids", found.len())?,
+///     Err(Error::Index { at, error }) => println!(rt; "pack index {at}: {error}")?,
+///     Err(error) => println!(rt; "{error}")?,
+/// }
+/// ```
+#[derive(Debug, Drop, ThisError)]
+pub enum Error {
+    /// A pack index cannot be read, or is damaged where it was read.
+    #[error("pack index {at}: {error}")]
+    Index {
+        /// Its index among those of the store, from 0.
+        at: usize,
+        /// Why.
+        error: LazyError,
+    },
+    /// The loose objects cannot be listed.
+    #[error("the loose objects cannot be listed: {0}")]
+    Loose(io::Error),
+    /// There is not enough memory.
+    #[error("out of memory")]
+    Memory(AllocError),
+}
+
+impl From<AllocError> for Error {
+    ghost from_gives = { λ _ made. IsElsewhere made };
+
+    fn from(error: AllocError) -> Self {
+        Error::Memory(error)
+    }
+}

@@ -1,0 +1,160 @@
+//! Shortest names in a whole store.
+
+ghost use Rattle.std.specs.Prelude.{◌≡◌, ◌≢◌, ◌≤◌, ◌<◌, ◌↔◌, ℕ, [], All, Contains, List, IfErr, IfOk, IsTrue, MatchOption, Some, length, map, slice_get, slice_index_or};
+ghost use Rattle.gix_hash.specs.Kind.{hex_len_of};
+ghost use Rattle.gix_hash.specs.ObjectId.{id_digits, id_kind};
+ghost use Rattle.id_lookup.specs.Index.{IsIndex};
+ghost use Rattle.id_lookup.specs.IndexOf.{part_of};
+ghost use Rattle.id_lookup.specs.ShortNames.{IsShortestNameFrom};
+ghost use Rattle.object_store.specs.Stores.{Holds, IsNameIn, IsStoreFault};
+
+use crate::error::Error;
+use crate::gathering::gather;
+use crate::store::Store;
+use crate::wanted::Wanted;
+use gix_hash::{Kind, ObjectId, Prefix};
+use id_lookup::IdIndex;
+use std::alloc::{AllocError, Allocator};
+
+/// An id with its shortest name.
+///
+/// ```
+/// for named in names(rt.alloc(), &store, 0x4b, 4)?.iter() {
+///     println!(rt; "{} {}", named.name, named.id)?;
+/// }
+/// ```
+#[derive(Clone, Copy, Debug)]
+pub struct NamedId {
+    /// The id.
+    pub id: ObjectId,
+    /// Its first digits, with which no other id of the store begins.
+    pub name: Prefix,
+}
+
+/// The ids of a store with a first byte, each once, in order, with their shortest names in the
+/// whole store: of at least so many digits, from 4 up to all of the kind.
+///
+/// No other id begins with a name, and a name is as short as that allows. The calls for all 256
+/// bytes give all ids of the store, in order.
+///
+/// ```
+/// for byte in 0..=255 {
+///     let named = names(rt.alloc(), &store, byte, 4)?;
+///     println!(rt; "{} ids", named.len())?;
+/// }
+/// ```
+pub fn names<S: Store, A: Allocator + Copy>(
+    alloc: A,
+    store: &S,
+    byte: u8,
+    least: usize,
+) -> Result<Vec<NamedId, A>, Error>
+    requires enough { 4 ≤ least }
+    requires fits { least ≤ hex_len_of (S.kind store.now) }
+    ensures ids { IfOk result (λ named. (whole : List (List ℕ))
+        → Holds (S.kind store.now) (S.packs store.now) (S.loose store.now) whole
+        → map (λ (n : NamedId). id_digits n.id) named.items ≡ part_of byte whole) }
+    ensures names { IfOk result (λ named. (whole : List (List ℕ))
+        → Holds (S.kind store.now) (S.packs store.now) (S.loose store.now) whole
+        → All (λ (n : NamedId). IsNameIn least whole (id_digits n.id) n.name.digits) named.items) }
+    ensures err { IfErr result (IsStoreFault (S.kind store.now) (S.packs store.now)) }
+{
+    let ids = gather(alloc, store, &Wanted::FirstByte(byte))?;
+    Ok(name_all(alloc, &ids, store.object_hash(), least)?)
+}
+
+/// The shortest name of an id in a store, of at least so many digits, from 4 up to all of the kind;
+/// or `None` if the store does not have the id. The id has the store's kind.
+///
+/// Of each pack index only the names with the id's first byte are read.
+///
+/// ```
+/// if let Some(name) = abbreviate(rt.alloc(), &store, &id, 7)? {
+///     println!(rt; "{name}")?;
+/// }
+/// ```
+pub fn abbreviate<S: Store, A: Allocator + Copy>(
+    alloc: A,
+    store: &S,
+    id: &ObjectId,
+    least: usize,
+) -> Result<Option<Prefix>, Error>
+    requires kind { id_kind id.now ≡ S.kind store.now }
+    requires enough { 4 ≤ least }
+    requires fits { least ≤ hex_len_of (S.kind store.now) }
+    ensures name { IfOk result (λ name. (whole : List (List ℕ))
+        → Holds (S.kind store.now) (S.packs store.now) (S.loose store.now) whole
+        → MatchOption name (¬ Contains whole (id_digits id.now))
+        (λ name. IsNameIn least whole (id_digits id.now) name.digits)) }
+    ensures err { IfErr result (IsStoreFault (S.kind store.now) (S.packs store.now)) }
+{
+    let front = Prefix::new(id.as_oid(), least).unwrap();
+    let ids = gather(alloc, store, &Wanted::BeginsWith(front))?;
+    Ok(name_in(&ids, id, least))
+}
+
+// Each id of an index with its shortest name there.
+fn name_all<A: Allocator>(
+    alloc: A,
+    ids: &[ObjectId],
+    kind: Kind,
+    least: usize,
+) -> Result<Vec<NamedId, A>, AllocError>
+    requires index { IsIndex kind (map id_digits ids.now) }
+    requires enough { 4 ≤ least }
+    requires fits { least ≤ hex_len_of kind }
+    ensures ids { IfOk result (λ named. map (λ (n : NamedId). n.id) named.items ≡ ids.now) }
+    ensures names { IfOk result (λ named. (k : ℕ) (d : NamedId) → k < length named.items
+        → IsShortestNameFrom least (map id_digits ids.now) k
+        (slice_index_or named.items k d).name.digits) }
+{
+    let index = IdIndex::try_new(ids, kind).unwrap();
+    let mut named = Vec::with_capacity(alloc, ids.len())?;
+    for at in 0..ids.len() {
+        named.push(name_at(ids, &index, at, least))?;
+    }
+    Ok(named)
+}
+
+// The id at a position of an index with its shortest name there.
+fn name_at(ids: &[ObjectId], index: &IdIndex<'_>, at: usize, least: usize) -> NamedId
+    requires in_range { at < length ids.now }
+    requires index { index.now.ids ≡ map id_digits ids.now }
+    requires enough { 4 ≤ least }
+    requires fits { least ≤ hex_len_of index.now.kind }
+    ensures id { slice_get ids.now at ≡ Some result.id }
+    ensures name { IsShortestNameFrom least (map id_digits ids.now) at result.name.digits }
+{
+    NamedId {
+        id: ids[at],
+        name: index.abbreviate_from(at, least),
+    }
+}
+
+// The shortest name of an id in an index of its kind, if the index has it.
+fn name_in(ids: &[ObjectId], id: &ObjectId, least: usize) -> Option<Prefix>
+    requires index { IsIndex (id_kind id.now) (map id_digits ids.now) }
+    requires enough { 4 ≤ least }
+    requires fits { least ≤ hex_len_of (id_kind id.now) }
+    ensures { MatchOption result ((k : ℕ) → k < length (map id_digits ids.now)
+        → slice_index_or (map id_digits ids.now) k [] ≢ id_digits id.now)
+        (λ name. (at : ℕ) × (at < length (map id_digits ids.now))
+        × (slice_index_or (map id_digits ids.now) at [] ≡ id_digits id.now)
+        × IsShortestNameFrom least (map id_digits ids.now) at name.digits) }
+{
+    let index = IdIndex::try_new(ids, id.kind()).unwrap();
+    for at in 0..index.len() {
+        if is_at(&index, at, id) {
+            return Some(index.abbreviate_from(at, least));
+        }
+    }
+    None
+}
+
+// Whether the member at a position of an index is the id.
+fn is_at(index: &IdIndex<'_>, at: usize, id: &ObjectId) -> bool
+    requires { at < length index.now.ids }
+    ensures { IsTrue result ↔ (slice_index_or index.now.ids at [] ≡ id_digits id.now) }
+{
+    id.eq_oid(index.get(at).as_oid())
+}

@@ -1,0 +1,51 @@
+//! What an object store is to a look-up.
+
+use gix_hash::{Kind, ObjectId};
+use pack_index::LazyFile;
+use std::alloc::Allocator;
+use std::io;
+use streams::ReadAt;
+
+/// An object store: pack indexes and loose objects, whose ids are of one kind.
+///
+/// ```
+/// for pack in store.indexes() {
+///     println!(rt; "{} names", pack.num_objects())?;
+/// }
+/// let loose = store.loose_ids(rt.alloc(), 0x4b)?;
+/// println!(rt; "{} loose ids begin with 4b", loose.len())?;
+/// ```
+pub trait Store {
+    ghost use Rattle.std.specs.Prelude.{◌≡◌, ℕ, All, IfOk, List, Option, Some, map};
+    ghost use Rattle.gix_hash.specs.ObjectId.{id_digits, id_kind};
+    ghost use Rattle.gix_hash.specs.declared.Kind.{Kind as IdKind};
+    ghost use Rattle.id_lookup.specs.IndexOf.{part_of};
+    ghost use Rattle.pack_index.specs.Lazy.{LazyIndex};
+
+    /// What the bytes of a pack index are read from.
+    type Source: ReadAt + Drop;
+
+    /// The kind of all ids.
+    ghost kind: { Self → IdKind };
+
+    /// The pack indexes.
+    ghost packs: { Self → List LazyIndex };
+
+    /// The ids of all loose objects, or `None`, which claims nothing.
+    ghost loose: { Self → Option (List (List ℕ)) };
+
+    /// The kind of all ids.
+    fn object_hash(&self) -> Kind
+        ensures { result ≡ kind self.now };
+
+    /// The pack indexes.
+    fn indexes(&self) -> &[LazyFile<Self::Source>]
+        ensures value { result.now ≡ packs self.now }
+        ensures kinds { All (λ pack. pack.kind ≡ kind self.now) (packs self.now) };
+
+    /// The ids of the loose objects with a first byte.
+    fn loose_ids<A: Allocator>(&self, alloc: A, byte: u8) -> io::Result<Vec<ObjectId, A>>
+        ensures ids { IfOk result (λ ids. (all : List (List ℕ)) → loose self.now ≡ Some all
+            → map id_digits ids.items ≡ part_of byte all) }
+        ensures kinds { IfOk result (λ ids. All (λ id. id_kind id ≡ kind self.now) ids.items) };
+}

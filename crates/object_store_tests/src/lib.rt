@@ -1,0 +1,7 @@
+//! Tests of look-ups in whole object stores: in memory, where reads and memory fail in turn.
+#![tactic(auto)]
+
+#[cfg(test)]
+mod look_ups;
+#[cfg(test)]
+mod memory;

@@ -1,0 +1,64 @@
+-- The errors of a search among ids.
+use Rattle.std.proofs.Common.{◌≡◌, ◌⊎◌, inl, inr, ℕ, nat_lt, if◌then◌else◌, Bool, true, false, Option, Some, None, List, length, Result, Ok, Err, refl, subst, sym, ◌∙◌}
+use Rattle.std.specs.Option.{option_or}
+use Rattle.gix_hash.specs.declared.Kind.{Kind}
+use Rattle.id_lookup.specs.Runs.{matches}
+use Rattle.id_lookup.specs.Sorted.{least_hex_len}
+use Rattle.id_lookup.specs.declared.index.IndexError.{IndexError}
+use Rattle.id_lookup.specs.declared.index.IndexError.TheVariants as index
+use Rattle.oidtool_search.specs.Finding.{in_sorted, length_error, refusal_of_list}
+use Rattle.oidtool_search.specs.FindingIn.{in_index, refusal_of_list_in}
+use Rattle.gix_hash.specs.Prefix.{KindDigits}
+use Rattle.oidtool_search.specs.Lines.{lines_of}
+use Rattle.oidtool_search.specs.ListText.{list_read, IsFirstRead, RefusesList}
+use Rattle.oidtool_search.specs.Searching.{Query, first_refused, error_or, found_among, found_from, IsFoundAmong}
+use Rattle.oidtool_search.specs.declared.finding.FindError.{FindError}
+use Rattle.oidtool_search.specs.declared.finding.FindError.TheVariants as search
+use Rattle.oidtool_search.specs.declared.finding_in.FindInError.{FindInError}
+use Rattle.oidtool_search.specs.declared.finding_in.FindInError.TheVariants.{BadLine, WrongKind, NotRising, Memory}
+use Rattle.oidtool_search.specs.declared.list.ListError.{ListError}
+use Rattle.oidtool_search.specs.declared.list.ListError.TheVariants as list
+use Rattle.oidtool_search.proofs.IndexOrder as index_order
+use Rattle.oidtool_search.proofs.SortedOrder.{IsOrderOf, order_is}
+
+-- an error of the list
+abbrev pub IsListError : FindInError → Type 0
+IsListError (BadLine n error) = Unit {0}
+IsListError Memory = Unit {0}
+IsListError error = ⊥
+
+pub list_error : (error : ListError) → IsListError (refusal_of_list_in error)
+list_error (list.BadLine n error) = tt
+list_error list.Memory = tt
+
+-- if the error is that memory ran out, it is the list's
+pub memory_of_list : (error : ListError) → refusal_of_list_in error ≡ Memory → error ≡ list.Memory
+memory_of_list (list.BadLine n error) is = cc is
+memory_of_list list.Memory is = refl
+
+-- what is found among the ids of a list text is found in the texts
+pub found_texts : {E P : Type 0} (of_prefix : P → E) (of_list : ListError → E) (query : List ℕ → Query E) (read : Result KindDigits P) (start : KindDigits)
+    (of_ids : Query E) (text : List ℕ) (found : Result (List (List ℕ)) E) → read ≡ Ok start → of_ids ≡ query start.digits → IsFoundAmong of_ids text found
+    → found_from of_prefix of_list query read (list_read text) ≡ found
+found_texts of_prefix of_list query read start of_ids text found reads same h = rw (reads, h.read, ← same) h.found_there
+
+-- an error of the list is the search's, or memory ran out
+pub list_refused : {E P : Type 0} (of_prefix : P → E) (of_list : ListError → E) (query : List ℕ → Query E) (read : Result KindDigits P) (start : KindDigits)
+    (text : List ℕ) (error : ListError) → read ≡ Ok start → RefusesList text error
+    → (found_from of_prefix of_list query read (list_read text) ≡ Err (of_list error)) ⊎ (error ≡ list.Memory)
+list_refused of_prefix of_list query read start text (list.BadLine n e) reads refused = inl (rw (reads, refused) refl)
+list_refused of_prefix of_list query read start text list.Memory reads refused = inr refl
+
+-- memory runs out only after a first line that reads
+pub memory_first : (text : List ℕ) (error : ListError) → RefusesList text error → error ≡ list.Memory → IsFirstRead (lines_of text)
+memory_first text (list.BadLine n e) refused is = cc is
+memory_first text list.Memory refused is = refused
+
+-- the error of a search is that memory ran out only if the list's is
+pub memory_of : (error : ListError) → refusal_of_list error ≡ search.Memory → error ≡ list.Memory
+memory_of (list.BadLine n error) is = cc is
+memory_of list.Memory is = refl
+
+pub not_output : (error : ListError) → refusal_of_list error ≡ search.Output → ⊥
+not_output (list.BadLine n error) is = cc is
+not_output list.Memory is = cc is

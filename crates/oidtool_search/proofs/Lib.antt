@@ -1,0 +1,12 @@
+mod AtTheEnd
+mod FoundInTexts
+mod FirstRefused
+mod IndexOrder
+mod LineLemmas
+mod Results
+mod SortedOrder
+mod FinderLemmas
+mod ChunkLemmas
+mod SourceReads
+mod Steps
+mod StopLemmas

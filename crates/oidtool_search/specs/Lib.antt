@@ -1,0 +1,8 @@
+-- List texts as lines and ids, and the results of searches in them.
+pub mod Lines
+pub mod ListText
+pub mod ListChunks
+pub mod Searching
+pub mod Finding
+pub mod FindingIn
+pub mod FindingFrom

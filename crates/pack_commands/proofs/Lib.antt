@@ -1,5 +1,0 @@
-mod CommandLemmas
-mod LineLemmas
-mod Places
-mod ShortNames
-mod RunningLemmas

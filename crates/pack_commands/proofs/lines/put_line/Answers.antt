@@ -1,7 +1,0 @@
-use Rattle.std.proofs.Common.{[], ◌∙◌}
-use Rattle.pack_commands.proofs.LineLemmas.{same_line}
-use Rattle.pack_commands.proofs.lines.put_line.Goals as goal
-
-pub returns-clause-text : goal.returns-clause-text
-returns-clause-text c =
-    c.put_name.ensures.text ∙ same_line _ _ _ _ _ _ c.pack_offset_at_index-offset.ensures (c.oid_at_index-id.ensures []) c.crc32_at_index-crc.ensures

@@ -1,0 +1,64 @@
+//! Why a pack index that is read at positions does not give what was asked.
+
+ghost use Rattle.pack_index.specs.Lazy.{IsOutside};
+
+use std::alloc::AllocError;
+use std::io;
+use thiserror::Error as ThisError;
+
+/// Why a [`LazyFile`](crate::LazyFile) is not opened, or does not give what was asked. Indexes of
+/// names are counted from 0.
+///
+/// ```
+/// let why = LazyFile::open(&b"PACK"[..], Kind::Sha1);
+/// assert!(rt; matches!(why, Err(LazyError::TooShort)));
+/// ```
+#[derive(Debug, Drop, ThisError)]
+pub enum LazyError {
+    /// A read failed.
+    #[error("the pack index cannot be read: {0}")]
+    Read(io::Error),
+    /// There is not enough memory.
+    #[error("out of memory")]
+    Memory(AllocError),
+    /// There are fewer bytes than the smallest index of any version has: 1024, and two digests.
+    #[error("the bytes are too few for a pack index")]
+    TooShort,
+    /// The bytes do not begin with the magic number of version 2 and later.
+    #[error("the bytes do not begin as a pack index of version 2")]
+    BadMagic,
+    /// The version after the magic number is this, and not 2.
+    #[error("pack indexes of version {0} are not read")]
+    BadVersion(u32),
+    /// The tables of as many names as are counted do not fill the bytes up to the digests.
+    #[error("the tables of the pack index do not fill its bytes")]
+    WrongLength,
+    /// The count of this byte is below that of the byte before it.
+    #[error("the count of the first byte {0} is below the one before it")]
+    CountsFall(u8),
+    /// The count of this byte is above the number of names.
+    #[error("the count of the first byte {0} is above the number of names")]
+    CountTooHigh(u8),
+    /// A name that is counted with this first byte has another.
+    #[error("a name that is counted with the first byte {0} has another")]
+    WrongCount(u8),
+    /// The name at this index has a long offset, and there is none of its number.
+    #[error("the name at place {0} has no offset")]
+    NoOffset(usize),
+}
+
+impl From<io::Error> for LazyError {
+    ghost from_gives = { λ _ made. IsOutside made };
+
+    fn from(error: io::Error) -> Self {
+        LazyError::Read(error)
+    }
+}
+
+impl From<AllocError> for LazyError {
+    ghost from_gives = { λ _ made. IsOutside made };
+
+    fn from(error: AllocError) -> Self {
+        LazyError::Memory(error)
+    }
+}

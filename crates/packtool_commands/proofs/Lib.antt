@@ -1,0 +1,5 @@
+mod CommandLemmas
+mod LineLemmas
+mod LineRanges
+mod ShortNames
+mod RunningLemmas

@@ -1,0 +1,39 @@
+-- The lines of a pack index, as `git show-index` prints them.
+use Rattle.std.specs.Prelude.{ℕ, ◌-◌, List, [], ◌∷◌, ◌++◌, decimal, filter, flat_map, length, slice_index_or}
+use Rattle.std.specs.Int.{to_be_bytes, w32}
+use Rattle.std.specs.List.{range_with_len}
+use Rattle.gix_hash.specs.Digits.{hex_letter, spelling}
+use Rattle.gix_hash.specs.Prefix.{KindDigits}
+use Rattle.gix_hash.specs.declared.Kind.{Kind}
+use Rattle.hex.specs.Hex.{encode_lower}
+use Rattle.id_lookup.specs.Runs.{begins_with}
+use Rattle.pack_index.specs.Format.{crc_in, names_in, offset_in}
+
+-- the digits of the name at an index
+abbrev pub name_at : Kind → List ℕ → ℕ → List ℕ
+name_at kind bytes k = slice_index_or (names_in kind bytes) k []
+
+-- a CRC in eight hex digits
+unfoldable pub crc_text : ℕ → List ℕ
+crc_text crc = encode_lower (to_be_bytes w32 crc)
+
+-- the texts of an offset, an id and a CRC in a line: blanks between them, brackets around the CRC, and a line feed
+unfoldable pub line_of : List ℕ → List ℕ → List ℕ → List ℕ
+line_of offset id crc = offset ++ 32 ∷ id ++ 32 ∷ 40 ∷ crc ++ 41 ∷ 10 ∷ []
+
+-- the line of the name at an index: its offset in decimal, its id in hex, and its CRC
+abbrev pub index_line : Kind → List ℕ → ℕ → List ℕ
+index_line kind bytes k = line_of (decimal (offset_in kind bytes k)) (spelling hex_letter (name_at kind bytes k)) (crc_text (crc_in kind bytes k))
+
+-- the lines at the indexes from `start` up to `end`, one after the other
+abbrev pub lines_of : (ℕ → List ℕ) → ℕ → ℕ → List ℕ
+lines_of line start end = flat_map line (range_with_len start (end - start))
+
+-- the lines of all names
+abbrev pub shown : Kind → List ℕ → List ℕ
+shown kind bytes = lines_of (index_line kind bytes) 0 (length (names_in kind bytes))
+
+-- those of the names that begin with a prefix
+abbrev pub found : KindDigits → Kind → List ℕ → List ℕ
+found prefix kind bytes =
+    flat_map (index_line kind bytes) (filter (λ k. begins_with (name_at kind bytes k) prefix) (range_with_len 0 (length (names_in kind bytes))))

@@ -1,0 +1,108 @@
+//! Lines of a pack index, put together in a buffer.
+
+ghost use Rattle.std.specs.Prelude.{◌≡◌, ◌+◌, ◌<◌, ◌≤◌, ◌++◌, decimal, length, take};
+ghost use Rattle.gix_hash.specs.Digits.{hex_letter, spelling};
+ghost use Rattle.gix_hash.specs.Oid.{oid_digits};
+ghost use Rattle.pack_index.specs.Format.{names_in};
+ghost use Rattle.packtool_commands.specs.Lines.{crc_text, index_line, line_of};
+ghost use Rattle.packtool_commands.specs.Names.{line_of_name};
+
+use gix_hash::{Alphabet, oid};
+use hex::encode_to_slice;
+use itoa::Buffer;
+use pack_index::File;
+
+/// The length of the longest line: an offset of 20 digits, an id of 64, a CRC of 8, and five bytes
+/// between and after them.
+pub(crate) const MAX_LINE_LEN: usize = 97;
+
+/// The length of the longest line of a name and its id: 64 digits of each, a blank and a line feed.
+pub(crate) const MAX_NAMES_LEN: usize = 130;
+
+// The most digits of an id.
+const MAX_ID_LEN: usize = 64;
+
+// The digits of a CRC.
+const CRC_LEN: usize = 8;
+
+/// Writes the line of the name at an index to the start of the buffer, and returns its length.
+pub(crate) fn put_index_line(file: &File<'_>, at: usize, line: &mut [u8]) -> usize
+    requires place { at < length (names_in file.now.kind file.now.bytes) }
+    requires room { length line.old ≡ MAX_LINE_LEN }
+    ensures len { result ≤ MAX_LINE_LEN }
+    ensures text { take result line.new ≡ index_line file.now.kind file.now.bytes at }
+{
+    let offset = file.pack_offset_at_index(at);
+    let id = file.oid_at_index(at);
+    let crc = file.crc32_at_index(at);
+    put_offset_id_crc(offset, id, crc, line)
+}
+
+// Writes a line of these parts to the start of the buffer, and returns its length.
+fn put_offset_id_crc(offset: u64, id: oid<'_>, crc: u32, line: &mut [u8]) -> usize
+    requires { length line.old ≡ MAX_LINE_LEN }
+    ensures len { result ≤ MAX_LINE_LEN }
+    ensures text { take result line.new
+        ≡ line_of (decimal offset) (spelling hex_letter (oid_digits id.entry)) (crc_text crc) }
+{
+    let mut number = Buffer::new();
+    let offset = number.format(offset).as_bytes();
+    let offset_end = put(line, 0, offset);
+    let id_at = put(line, offset_end, b" ");
+    let id_end = put_id(line, id_at, id);
+    let crc_at = put(line, id_end, b" (");
+    let crc_end = put_crc(line, crc_at, crc);
+    put(line, crc_end, b")\n")
+}
+
+/// Writes the first digits of an id, a blank, the id and a line feed to the start of the buffer,
+/// and returns how many bytes these are.
+pub(crate) fn put_name_and_id(id: oid<'_>, len: usize, line: &mut [u8]) -> usize
+    requires digits { len ≤ length (oid_digits id) }
+    requires room { length line.old ≡ MAX_NAMES_LEN }
+    ensures len { result ≤ MAX_NAMES_LEN }
+    ensures text { take result line.new
+        ≡ line_of_name (spelling hex_letter (take len (oid_digits id.entry)))
+        (spelling hex_letter (oid_digits id.entry)) }
+{
+    // The blank overwrites the digit after the first ones, and the id the rest.
+    put_id(line, 0, id);
+    let id_at = put(line, len, b" ");
+    let id_end = put_id(line, id_at, id);
+    put(line, id_end, b"\n")
+}
+
+// Copies bytes into the buffer at a position, and returns where they end.
+fn put(line: &mut [u8], at: usize, bytes: &[u8]) -> usize
+    requires { at + length bytes.now ≤ length line.old }
+    ensures end { result ≡ at + length bytes.now }
+    ensures text { take result line.new ≡ take at line.old ++ bytes.now }
+{
+    let end = at + bytes.len();
+    line[at..end].copy_from_slice(bytes);
+    end
+}
+
+// Writes an id's digits in hex into the buffer at a position, and returns where they end.
+fn put_id(line: &mut [u8], at: usize, id: oid<'_>) -> usize
+    requires { at + MAX_ID_LEN ≤ length line.old }
+    ensures end { result ≡ at + length (oid_digits id.entry) }
+    ensures most { result ≤ at + MAX_ID_LEN }
+    ensures text { take result line.new
+        ≡ take at line.old ++ spelling hex_letter (oid_digits id.entry) }
+{
+    Alphabet::Hex.put_id(id, &mut line[at..]);
+    at + id.kind().len_in_hex()
+}
+
+// Writes a CRC's eight hex digits into the buffer at a position, and returns where they end.
+#[tactic(auto, unfolding(crate::specs::Lines::crc_text))]
+fn put_crc(line: &mut [u8], at: usize, crc: u32) -> usize
+    requires { at + CRC_LEN ≤ length line.old }
+    ensures end { result ≡ at + CRC_LEN }
+    ensures text { take result line.new ≡ take at line.old ++ crc_text crc }
+{
+    let end = at + CRC_LEN;
+    encode_to_slice(crc.to_be_bytes(), &mut line[at..end]).unwrap();
+    end
+}

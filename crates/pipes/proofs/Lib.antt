@@ -1,3 +1,0 @@
-mod PipeLemmas
-mod PrintLemmas
-mod SealedLemmas

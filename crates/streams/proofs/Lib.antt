@@ -1,0 +1,5 @@
+pub mod WritingLemmas
+mod Taking
+mod PipeLemmas
+mod PrintLemmas
+mod SealedLemmas

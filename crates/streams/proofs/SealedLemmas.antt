@@ -1,0 +1,135 @@
+-- Which bytes are sealed, and what is held back of those that were read.
+use Rattle.std.proofs.Common.{◌≡◌, ◌≢◌, ◌≤◌, ◌+◌, ◌-◌, ℕ, List, [], ◌∷◌, ◌++◌, length, take, drop, refl, sym, ap, subst, ◌∙◌, arith, append_assoc, take-append-drop, length-append, length-drop}
+use Rattle.std.specs.Prelude.{min}
+use Rattle.std.specs.List.{copy_within}
+use Rattle.std.proofs.Math.Seq.{take-add, take-append-add, take-append_seam, drop-append_seam}
+use Rattle.std.proofs.lemmas.List.{length-take, take-append-le}
+use Rattle.std.proofs.lemmas.List.Edits.{take-paste}
+use borrow.Rule.Slice.PartMut.{put_mid, post_of}
+use Rattle.gix_hash.specs.Hashing.{digest, EndsInDigest}
+use Rattle.gix_hash.specs.Kind.{byte_len_of}
+use Rattle.gix_hash.specs.ObjectId.{id_bytes}
+use Rattle.gix_hash.specs.declared.Kind.{Kind}
+use Rattle.gix_hash.specs.declared.Kind.TheVariants.{Sha1, Sha256}
+
+-- the two parts of a list are determined by the length of the second
+same_parts : (a b c d : List ℕ) → a ++ b ≡ c ++ d → length b ≡ length d → (a ≡ c) × (b ≡ d)
+same_parts a b c d same len =
+    let front : length a ≡ length c = omega (arith, length-append a b, length-append c d, ap length same, len) in (
+      sym (take-append_seam a b) ∙ ap (take (length a)) same ∙ ap (λ (n : ℕ). take n (c ++ d)) front ∙ take-append_seam c d,
+      sym (drop-append_seam a b) ∙ ap (drop (length a)) same ∙ ap (λ (n : ℕ). drop n (c ++ d)) front ∙ drop-append_seam c d,
+    )
+
+-- every digest of the kind has its length
+abbrev pub HaveLength : Kind → Type 0
+HaveLength kind = (message : List ℕ) → length (id_bytes (digest kind message)) ≡ byte_len_of kind
+
+-- of sealed bytes, the last, as many as a digest has, are the digest of those before them
+pub sealed-end : (kind : Kind) → HaveLength kind → (front tail : List ℕ) → length tail ≡ byte_len_of kind → EndsInDigest kind (front ++ tail)
+    → tail ≡ id_bytes (digest kind front)
+sealed-end kind lens front tail len is_sealed =
+    let message = is_sealed.0 in
+    let same = same_parts front tail message (id_bytes (digest kind message)) is_sealed.1 (len ∙ sym (lens message)) in
+    same.1 ∙ ap (λ (m : List ℕ). id_bytes (digest kind m)) (sym same.0)
+
+-- sealed bytes are no fewer than those of a digest
+pub sealed-length : (kind : Kind) → HaveLength kind → (bytes : List ℕ) → EndsInDigest kind bytes → byte_len_of kind ≤ length bytes
+sealed-length kind lens bytes is_sealed =
+    let message = is_sealed.0 in
+    omega (arith, ap length is_sealed.1, length-append message (id_bytes (digest kind message)), lens message)
+
+-- every digest has at least one byte
+byte_len_of-some : (kind : Kind) → 1 ≤ byte_len_of kind
+byte_len_of-some Sha1 = omega arith
+byte_len_of-some Sha256 = omega arith
+
+-- of lists of bytes that differ only in the last byte, at most one is sealed
+pub sealed-last : (kind : Kind) → HaveLength kind → (front : List ℕ) (byte other : ℕ) → EndsInDigest kind (front ++ byte ∷ [])
+    → EndsInDigest kind (front ++ other ∷ []) → other ≡ byte
+sealed-last kind lens front byte other first second =
+    let at = length front + 1 - byte_len_of kind in
+    let long = sealed-length kind lens (front ++ byte ∷ []) first in
+    let cut : (last : ℕ) → front ++ last ∷ [] ≡ take at front ++ (drop at front ++ last ∷ []) =
+    λ last. ap (λ (l : List ℕ). l ++ last ∷ []) (sym (take-append-drop at front)) ∙ append_assoc (take at front) (drop at front) (last ∷ []) in
+    let len : (last : ℕ) → length (drop at front ++ last ∷ []) ≡ byte_len_of kind =
+    λ last. omega (
+      arith,
+      length-append (drop at front) (last ∷ []),
+      length-append front (byte ∷ []),
+      length-drop at front,
+      long,
+      byte_len_of-some kind,
+    ) in
+    let digest_is : (last : ℕ) → EndsInDigest kind (front ++ last ∷ []) → drop at front ++ last ∷ [] ≡ id_bytes (digest kind (take at front)) =
+    λ last is_sealed. sealed-end kind lens (take at front) (drop at front ++ last ∷ []) (len last) (subst (EndsInDigest kind) (cut last) is_sealed) in
+    let same = same_parts (drop at front) (other ∷ []) (drop at front) (byte ∷ []) (digest_is other second ∙ sym (digest_is byte first)) refl in
+    let last : other ∷ [] ≡ byte ∷ [] = same.1 in
+    cc
+
+-- bytes of which as many are held back as a digest has, or all of fewer, are not sealed if those held back are no digest of the others
+pub unsealed : (kind : Kind) → HaveLength kind → (message tail : List ℕ) (total held : ℕ) → length message + held ≡ total
+    → held ≡ min (byte_len_of kind) total → length tail ≡ held → id_bytes (digest kind message) ≢ tail → ¬ EndsInDigest kind (message ++ tail)
+unsealed kind lens message tail total held counted is_held len differ is_sealed =
+    let full : length tail ≡ byte_len_of kind =
+    omega (arith, counted, is_held, len, length-append message tail, sealed-length kind lens (message ++ tail) is_sealed) in
+    differ (sym (sealed-end kind lens message tail full is_sealed))
+
+-- no digest of a kind has more than 32 bytes
+pub byte_len_of-most : (kind : Kind) → byte_len_of kind ≤ 32
+byte_len_of-most Sha1 = omega arith
+byte_len_of-most Sha256 = omega arith
+
+-- what is held back has as many bytes as it is said to
+pub length-held : (message buf : List ℕ) (held : ℕ) → held ≤ length buf → length (message ++ take held buf) ≡ length message + held
+length-held message buf held room = omega (arith, length-append message (take held buf), length-take held buf)
+
+-- a chunk that was read after what is held back
+pub take-read : (held k count : ℕ) (buf chunk : List ℕ) → held ≤ length buf → count ≤ length chunk
+    → take (held + count) (put_mid held k buf chunk) ≡ take held buf ++ take count chunk
+take-read held k count buf chunk room within =
+    let len : held ≡ length (take held buf) = omega (arith, length-take held buf) in
+    let after = post_of held k buf in
+    ap (λ (n : ℕ). take (n + count) (take held buf ++ (chunk ++ after))) len
+    ∙ take-append-add (take held buf) (chunk ++ after) count
+    ∙ ap (λ (l : List ℕ). take held buf ++ l) (take-append-le count chunk after within)
+
+-- the buffer contains what is held back and the chunk
+pub length-read : (held k count : ℕ) (buf chunk : List ℕ) → held ≤ length buf → count ≤ length chunk
+    → held + count ≤ length (put_mid held k buf chunk)
+length-read held k count buf chunk room within =
+    let all = put_mid held k buf chunk in
+    omega (
+      arith,
+      ap length (take-read held k count buf chunk room within),
+      length-take (held + count) all,
+      length-append (take held buf) (take count chunk),
+      length-take held buf,
+      length-take count chunk,
+    )
+
+-- the first bytes of a list, and then those after them, which were copied to its front
+before_held : (bytes : List ℕ) (fed end : ℕ) → fed ≤ end → end ≤ length bytes
+    → take fed bytes ++ take (end - fed) (copy_within bytes fed end 0) ≡ take end bytes
+before_held bytes fed end ordered within =
+    let held = take-paste bytes 0 (drop fed bytes) (end - fed) (omega arith) (omega (arith, length-drop fed bytes)) in
+    let front : 0 + (end - fed) ≡ end - fed = omega arith in
+    let all : fed + (end - fed) ≡ end = omega arith in
+    ap (λ (n : ℕ). take fed bytes ++ take n (copy_within bytes fed end 0)) (sym front)
+    ∙ ap (λ (l : List ℕ). take fed bytes ++ l) held
+    ∙ sym (take-add fed (end - fed) bytes)
+    ∙ ap (λ (n : ℕ). take n bytes) all
+
+-- what was fed and is held back after a chunk is what was before it, and the chunk
+pub fed_and_held : (message buf chunk : List ℕ) (held k count fed : ℕ) → held ≤ length buf → count ≤ length chunk → fed ≤ held + count
+    → (message ++ take fed (put_mid held k buf chunk))
+    ++ take (held + count - fed) (copy_within (put_mid held k buf chunk) fed (held + count) 0) ≡ (message ++ take held buf) ++ take count chunk
+fed_and_held message buf chunk held k count fed room within ordered =
+    let all = put_mid held k buf chunk in
+    append_assoc message (take fed all) _
+    ∙ ap (λ (l : List ℕ). message ++ l) (before_held all fed (held + count) ordered (length-read held k count buf chunk room within)
+    ∙ take-read held k count buf chunk room within)
+    ∙ sym (append_assoc message (take held buf) (take count chunk))
+
+-- as many bytes are held back again as a digest has, or all of fewer
+pub held_again : (len total held count fed : ℕ) → held ≡ min len total → fed ≡ held + count - len → held + count - fed ≡ min len (total + count)
+held_again len total held count fed was is_fed = omega arith

@@ -1,0 +1,11 @@
+use Rattle.std.proofs.Common.{◌≡◌, false, map, take}
+use Rattle.std.specs.Io.KnownBytes.{Appends}
+use Rattle.gix_hash.specs.ObjectId.{id_digits}
+use Rattle.streams.specs.Printing.{printed}
+use Rattle.gix_hash.specs.Alphabet.{letter_of}
+use Rattle.streams.proofs.printing.write_ids.Given as goal
+
+abbrev pub invariant-loop-id : goal.invariant-loop-id
+invariant-loop-id g l =
+    Appends (g.W.Sink.taken l.fn.out) (g.W.Sink.taken l.out) (printed (letter_of l.fn.alphabet) (map id_digits (take l.id-index l.ids)))
+    × (g.W.Sink.has_failed l.out ≡ false)

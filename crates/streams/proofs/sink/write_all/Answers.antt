@@ -1,0 +1,18 @@
+use Rattle.std.proofs.Common.{arith}
+use Rattle.streams.proofs.Taking.{Appends-chunk, AppendsPart-take, AppendsPart-none, not_failed}
+use Rattle.streams.proofs.sink.write_all.Goals as goal
+
+pub loop-at-preserved : goal.loop-at-preserved
+loop-at-preserved g c = (
+  omega (arith, c.in-Ok.ensures.bound),
+  Appends-chunk _ _ _ c.loop-at.at c.in-Ok.count c.args.bytes.now c.loop-at.invariant.1 c.in-Ok.ensures.bytes,
+  not_failed c.in-Ok.count _ _ _ c.if-count-eq0.false c.loop-at.invariant.2 c.in-Ok.ensures.failed,
+)
+
+pub returns-then-count-eq0-clause-part : goal.returns-then-count-eq0-clause-part
+returns-then-count-eq0-clause-part g c =
+    AppendsPart-none _ _ _ c.loop-at.at c.in-Ok.count c.args.bytes.now c.if-count-eq0.true c.loop-at-test.true c.loop-at.invariant.1 c.in-Ok.ensures.bytes
+
+pub returns-in_default-clause-part : goal.returns-in_default-clause-part
+returns-in_default-clause-part g c =
+    AppendsPart-take _ _ _ c.loop-at.at c.args.bytes.now c.loop-at-test.true c.loop-at.invariant.1 c.in_default.ensures.bytes

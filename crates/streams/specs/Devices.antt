@@ -1,0 +1,29 @@
+-- What contracts see of the devices over slices and over readers and writers of the standard library.
+use Rattle.std.specs.Prelude.{◌-◌, ℕ, Bool, List, take, length}
+use Rattle.streams.specs.declared.from_slice.FromSlice.{FromSlice}
+use Rattle.streams.specs.declared.into_slice.IntoSlice.{IntoSlice}
+use Rattle.streams.specs.declared.plain.Plain.{Plain}
+
+-- the remaining bytes of a source over a slice
+abbrev pub slice_rest : FromSlice → List ℕ
+slice_rest source = source.rest.now
+
+-- the bytes written so far to a sink over a slice
+abbrev pub slice_taken : IntoSlice → List ℕ
+slice_taken sink = take sink.len sink.buf.now
+
+-- whether it failed
+abbrev pub slice_failed : IntoSlice → Bool
+slice_failed sink = sink.failed
+
+-- how many more bytes it can take
+abbrev pub room_in : IntoSlice → ℕ
+room_in sink = length sink.buf.now - sink.len
+
+-- the reader or writer of a device
+abbrev pub plain_inner : {T : Type 0} → Plain T → T
+plain_inner sink = sink.inner
+
+-- whether it failed
+abbrev pub plain_failed : {T : Type 0} → Plain T → Bool
+plain_failed sink = sink.failed

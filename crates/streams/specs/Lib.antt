@@ -1,0 +1,8 @@
+-- What is read and written: by devices, as lines of ids, and by hashing, sealing and checking.
+pub mod Writing
+pub mod Devices
+pub mod Source
+pub mod Printing
+pub mod Pipe
+pub mod Sealed
+pub mod ReadAt

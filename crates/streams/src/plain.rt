@@ -1,0 +1,123 @@
+//! Devices over the library's readers and writers.
+
+ghost use Rattle.std.specs.Prelude.{◌≡◌, ◌||◌, false, is_err};
+ghost use Rattle.std.specs.Io.{ReadsAtMost, WritesAtMost};
+ghost use Rattle.std.specs.Io.KnownBytes.{ReadConsumes, WriteAppends};
+ghost use Rattle.streams.specs.Writing.{write_fails};
+
+use crate::sink::{BufferedSink, Sink};
+use crate::source::Source;
+use std::alloc::Allocator;
+use std::io::{self, BufWriter, Write};
+
+/// A source over a reader of the standard library, or a sink over a writer. The bytes that remain,
+/// and those that were taken, are what the reader or writer says of them.
+///
+/// ```
+/// let mut input = Plain::new(rt.reader());
+/// hash_all(&mut input, &mut out, Kind::Sha1)?;
+/// ```
+#[derive(Drop)]
+pub struct Plain<T> {
+    inner: T,
+    failed: bool,
+}
+
+impl<T> Plain<T> {
+    ghost use Rattle.streams.specs.Devices.{plain_inner, plain_failed};
+
+    /// A device that has not failed.
+    pub fn new(inner: T) -> Self
+        ensures stands { plain_failed result ≡ false }
+        ensures inner { plain_inner result ≡ inner }
+    {
+        Plain {
+            inner,
+            failed: false,
+        }
+    }
+
+    /// Whether a call failed: a read or a write returned an error, or a write took none of at least
+    /// one byte.
+    pub fn failed(&self) -> bool
+        ensures { result ≡ plain_failed self.now }
+    {
+        let Plain { failed, .. } = self;
+        *failed
+    }
+
+    /// The reader or writer that it was made with.
+    pub fn into_inner(self) -> T
+        ensures { result ≡ plain_inner self }
+    {
+        let Plain { inner, .. } = self;
+        inner
+    }
+}
+
+impl<T: io::Read> Source for Plain<T> {
+    ghost use Rattle.streams.specs.Devices.{plain_failed, plain_inner};
+
+    ghost remaining = { λ s. T.remaining (plain_inner s) };
+
+    ghost has_failed = { plain_failed };
+
+    /// Reads once from the reader.
+    fn read(&mut self, buf: &mut [u8]) -> io::Result<usize>
+        ensures bound { ReadsAtMost result buf.new }
+        ensures bytes { ReadConsumes (T.remaining (plain_inner self.old))
+            (T.remaining (plain_inner self.new)) result buf.new }
+        ensures failed { plain_failed self.new ≡ (plain_failed self.old || is_err result) }
+    {
+        let count = self.inner.read(buf);
+        self.failed = self.failed || count.is_err();
+        count
+    }
+
+    fn failed(&self) -> bool {
+        Plain::failed(self)
+    }
+}
+
+impl<T: io::Write> Sink for Plain<T> {
+    ghost use Rattle.streams.specs.Devices.{plain_failed, plain_inner};
+
+    ghost taken = { λ s. T.contents (plain_inner s) };
+
+    ghost has_failed = { plain_failed };
+
+    /// Writes once to the writer.
+    fn write(&mut self, bytes: &[u8]) -> io::Result<usize>
+        ensures bound { WritesAtMost result bytes.now }
+        ensures bytes { WriteAppends (T.contents (plain_inner self.old))
+            (T.contents (plain_inner self.new)) result bytes.now }
+        ensures failed { plain_failed self.new
+            ≡ (plain_failed self.old || write_fails result bytes.now) }
+    {
+        let count = self.inner.write(bytes);
+        let fails = match &count {
+            Ok(count) => *count == 0 && !bytes.is_empty(),
+            Err(_) => true,
+        };
+        self.failed = self.failed || fails;
+        count
+    }
+
+    fn failed(&self) -> bool {
+        Plain::failed(self)
+    }
+}
+
+impl<W: io::Write + Drop, A: Allocator> BufferedSink for Plain<BufWriter<W, A>> {
+    ghost use Rattle.std.specs.Io.Buffered.{writer_buffer};
+    ghost use Rattle.streams.specs.Devices.{plain_inner};
+
+    ghost kept_back = { λ s. writer_buffer (plain_inner s) };
+
+    /// Flushes the writer.
+    fn flush(&mut self) -> io::Result<()> {
+        let flushed = self.inner.flush();
+        self.failed = self.failed || flushed.is_err();
+        flushed
+    }
+}

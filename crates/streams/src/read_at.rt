@@ -1,0 +1,69 @@
+//! Readers at a position.
+
+use std::fs::File;
+use std::io;
+use std::os::unix::fs::FileExt;
+
+/// A reader at a position, such as a file. No read changes it.
+///
+/// ```
+/// let mut magic = [0; 4];
+/// idx.read_exact_at(&mut magic, 0)?;
+/// println!(rt; "{} bytes", idx.len()?)?;
+/// ```
+pub trait ReadAt {
+    ghost use Rattle.std.specs.Prelude.{◌≡◌, ℕ, List, Option, Some, OnOk, IfOk, length};
+    ghost use Rattle.streams.specs.ReadAt.{IsReadAt};
+
+    /// All bytes, or `None`, which claims nothing.
+    ghost content: { Self → Option (List ℕ) };
+
+    /// The number of bytes.
+    fn len(&self) -> io::Result<u64>
+        ensures { IfOk result (λ len. (bytes : List ℕ) → content self.now ≡ Some bytes
+            → len ≡ length bytes) };
+
+    /// Fills the buffer with the bytes from a position on.
+    fn read_exact_at(&self, buf: &mut [u8], at: u64) -> io::Result<()>
+        ensures { OnOk result ((bytes : List ℕ) → content self.now ≡ Some bytes
+            → IsReadAt bytes at buf.new) };
+}
+
+/// What a file contains is not known.
+impl ReadAt for File {
+    ghost use Rattle.std.specs.Prelude.{None};
+
+    ghost content = { λ _. None };
+
+    fn len(&self) -> io::Result<u64> {
+        Ok(self.metadata()?.len())
+    }
+
+    fn read_exact_at(&self, buf: &mut [u8], at: u64) -> io::Result<()> {
+        FileExt::read_exact_at(self, buf, at)
+    }
+}
+
+/// A read of a slice fails only if it goes past the end.
+impl ReadAt for &[u8] {
+    ghost use Rattle.std.specs.Prelude.{Some};
+
+    ghost content = { λ slice. Some slice.now };
+
+    fn len(&self) -> io::Result<u64> {
+        Ok(<[u8]>::len(self) as u64)
+    }
+
+    fn read_exact_at(&self, buf: &mut [u8], at: u64) -> io::Result<()> {
+        let bytes = *self;
+        let Ok(at) = usize::try_from(at) else {
+            return Err(io::ErrorKind::UnexpectedEof.into());
+        };
+        if at > bytes.len() || bytes.len() - at < buf.len() {
+            return Err(io::ErrorKind::UnexpectedEof.into());
+        }
+        let end = at + buf.len();
+        buf.copy_from_slice(&bytes[at..end]);
+        Ok(())
+    }
+}

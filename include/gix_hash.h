@@ -1,0 +1,166 @@
+/*
+ * Git's object ids for C: SHA-1 and SHA-256 ids, prefixes of their hex digits, digests of bytes,
+ * look-ups in sorted tables of digests, and pack indexes. Link libgix_hash; docs/BINDINGS.md says how.
+ *
+ * A len is a number of bytes, a hex_len a number of hex digits, of which a byte has two. Indexes
+ * count from 0.
+ *
+ * No function allocates memory or keeps anything between calls, so any thread may call any function at
+ * any time. Every call is safe and returns, whatever the values are, if the caller ensures that
+ *
+ * - no pointer is null, even if its len is 0, each pointer is aligned, and each len is below 2^63;
+ * - a pointer with a len points to len initialised bytes, and any other to one initialised struct or
+ *   number. Initialise also what a function writes, for example to zeros;
+ * - nobody changes these bytes during the call, and what a function writes does not overlap anything
+ *   else that is passed to it.
+ *
+ * A function that returns a code returns GIX_HASH_OK if it succeeds. Otherwise it returns the first code
+ * in its list that applies, and writes nothing. The two exceptions are *at of gix_hash_check_sorted and
+ * *detail of gix_hash_pack_check, which say more about the code.
+ *
+ * Streaming hashers are left out: the state of a hasher is private to the crates that compute digests,
+ * so C could hold it only on the heap, and nothing here allocates.
+ */
+#ifndef GIX_HASH_H
+#define GIX_HASH_H
+
+#include <stddef.h>
+#include <stdint.h>
+
+#ifdef __cplusplus
+extern "C" {
+#endif
+
+#define GIX_HASH_VERSION "0.4.0"
+
+/* Kinds. */
+#define GIX_HASH_SHA1 1   /* 20 bytes, 40 digits */
+#define GIX_HASH_SHA256 2 /* 32 bytes, 64 digits */
+
+/* Codes. */
+#define GIX_HASH_OK 0
+#define GIX_HASH_BAD_LENGTH 1   /* no id or prefix has this number of digits */
+#define GIX_HASH_BAD_DIGIT 2    /* a byte of the text is not a hex digit */
+#define GIX_HASH_BAD_KIND 3     /* the kind is neither GIX_HASH_SHA1 nor GIX_HASH_SHA256 */
+#define GIX_HASH_NO_ROOM 4      /* the buffer is too short */
+#define GIX_HASH_TOO_LONG 5     /* the prefix has more digits than ids of the kind */
+#define GIX_HASH_OUT_OF_RANGE 6 /* the index is not below the number of names */
+#define GIX_HASH_UNSORTED 7     /* a digest is below the one before it */
+#define GIX_HASH_NOT_UNIQUE 8   /* another name is the same, so no beginning of this one is unique */
+
+/* Why bytes are not a pack index, with the detail of those that have one. */
+#define GIX_HASH_TOO_SHORT 16         /* fewer bytes than any index has */
+#define GIX_HASH_VERSION_1 17         /* an index of version 1, by its length */
+#define GIX_HASH_BAD_MAGIC 18         /* the magic number is missing */
+#define GIX_HASH_BAD_VERSION 19       /* detail: the version, which is not 2 */
+#define GIX_HASH_WRONG_LENGTH 20      /* the tables do not fill the bytes */
+#define GIX_HASH_NAMES_FALL 21        /* detail: the first index whose name is below the one before it */
+#define GIX_HASH_WRONG_COUNT 22       /* detail: the first byte, 0 to 255, whose names are counted wrong */
+#define GIX_HASH_NO_OFFSET 23         /* detail: the first index whose offset is in no table */
+#define GIX_HASH_LONG_OUT_OF_ORDER 24 /* detail: the first index whose long offset is not the next one */
+#define GIX_HASH_SPARE_LONG 25        /* detail: the number of the first long offset that no name has */
+#define GIX_HASH_OFFSET_IN_HEADER 26  /* detail: the first index whose offset is below 12 */
+#define GIX_HASH_OFFSET_TOO_HIGH 27   /* detail: the first index whose offset is 2^63 or more */
+#define GIX_HASH_WRONG_CHECKSUM 28    /* the last bytes are not the digest of those before them */
+#define GIX_HASH_OTHER_KIND 29        /* detail: the kind of which the bytes are a pack index */
+
+/* No order, where -1, 0 and 1 are orders. */
+#define GIX_HASH_NO_ORDER 2
+
+/* An id. The 12 bytes after a digest of SHA-1 are not read, and are written as zeros. */
+typedef struct gix_hash_id {
+    uint32_t kind;
+    uint8_t bytes[32];
+} gix_hash_id;
+
+/* A prefix of 1 to 64 digits, two a byte, the high half first. The bits after them are not read, and
+ * are written as zeros. */
+typedef struct gix_hash_prefix {
+    uint32_t hex_len;
+    uint8_t bytes[32];
+} gix_hash_prefix;
+
+/* The indexes from start up to end, without end. The run is empty if they are equal. */
+typedef struct gix_hash_run {
+    size_t start;
+    size_t end;
+} gix_hash_run;
+
+/* What a pack index contains about an object: the byte of the pack at which it begins, the CRC-32 of
+ * the packed object, and its name. */
+typedef struct gix_hash_entry {
+    uint64_t offset;
+    uint32_t crc;
+    gix_hash_id id;
+} gix_hash_entry;
+
+/* Reads an id from a text of 40 or 64 hex digits in either case.
+ * Returns GIX_HASH_OK, GIX_HASH_BAD_LENGTH or GIX_HASH_BAD_DIGIT. */
+uint32_t gix_hash_id_from_hex(const uint8_t *text, size_t len, gix_hash_id *id);
+
+/* Writes the 40 or 64 lowercase hex digits of an id to the front of a buffer. The bytes after them stay
+ * as they were, so no zero ends the digits.
+ * Returns GIX_HASH_OK, GIX_HASH_BAD_KIND or GIX_HASH_NO_ROOM. */
+uint32_t gix_hash_id_to_hex(const gix_hash_id *id, uint8_t *buffer, size_t len);
+
+/* Returns the order of two ids, by kind and then by digits: -1 if one is below other, 0 if they are
+ * equal, 1 if one is above other; GIX_HASH_NO_ORDER if a kind is bad. */
+int32_t gix_hash_id_cmp(const gix_hash_id *one, const gix_hash_id *other);
+
+/* Reads a prefix from a text of 1 to 64 hex digits in either case.
+ * Returns GIX_HASH_OK, GIX_HASH_BAD_LENGTH or GIX_HASH_BAD_DIGIT. */
+uint32_t gix_hash_prefix_from_hex(const uint8_t *text, size_t len, gix_hash_prefix *prefix);
+
+/* Returns the order of a prefix and as many first digits of an id: 0 if and only if the id begins with
+ * the prefix, -1 if the prefix is below them, 1 if it is above; GIX_HASH_NO_ORDER if the hex_len or
+ * the kind is bad, or the id has fewer digits than the prefix. */
+int32_t gix_hash_prefix_cmp_id(const gix_hash_prefix *prefix, const gix_hash_id *id);
+
+/* Computes the digest of bytes.
+ * Returns GIX_HASH_OK or GIX_HASH_BAD_KIND. */
+uint32_t gix_hash_digest(uint32_t kind, const uint8_t *bytes, size_t len, gix_hash_id *id);
+
+/* Tests whether a table of digests of a kind, one after the other, is sorted. Duplicates are fine, and a
+ * part of a digest at the end is not read. Takes time proportional to len.
+ * Returns GIX_HASH_OK, GIX_HASH_BAD_KIND, or GIX_HASH_UNSORTED with the first index whose digest is
+ * below the one before it in *at. */
+uint32_t gix_hash_check_sorted(uint32_t kind, const uint8_t *table, size_t len, size_t *at);
+
+/* Finds the digests of a sorted table that begin with a prefix. If none does, the run is empty, at the
+ * index where the prefix would be. If the table is not sorted, the run is some run of its indexes.
+ * Returns GIX_HASH_OK, GIX_HASH_BAD_KIND, GIX_HASH_BAD_LENGTH or GIX_HASH_TOO_LONG. */
+uint32_t gix_hash_find(uint32_t kind, const uint8_t *table, size_t len, const gix_hash_prefix *prefix, gix_hash_run *run);
+
+/* Checks whether bytes are a pack index of version 2 with names of a kind, as Git reads it: tables,
+ * order, counts, offsets and checksum. Takes time proportional to len.
+ * Returns GIX_HASH_OK, GIX_HASH_BAD_KIND, GIX_HASH_OTHER_KIND, or the first of the codes from
+ * GIX_HASH_TOO_SHORT to GIX_HASH_WRONG_CHECKSUM that applies, with its detail, if it has one, in
+ * *detail.
+ *
+ * The functions below are for bytes that this one accepted, and say what the index contains. They test
+ * only the kind, the magic number, the version and the lengths of the tables, in constant time, and
+ * return GIX_HASH_BAD_KIND, or a code from GIX_HASH_TOO_SHORT to GIX_HASH_WRONG_LENGTH. They are safe
+ * for any bytes, so it is no danger if the bytes changed since the check. */
+uint32_t gix_hash_pack_check(uint32_t kind, const uint8_t *bytes, size_t len, uint64_t *detail);
+
+/* Gets the number of names. */
+uint32_t gix_hash_pack_count(uint32_t kind, const uint8_t *bytes, size_t len, size_t *count);
+
+/* Gets the offset, the CRC-32 and the name at an index.
+ * Also returns GIX_HASH_OUT_OF_RANGE or GIX_HASH_NO_OFFSET, after the codes above. */
+uint32_t gix_hash_pack_entry(uint32_t kind, const uint8_t *bytes, size_t len, size_t at, gix_hash_entry *entry);
+
+/* Finds the names that begin with a prefix, as gix_hash_find does.
+ * Also returns GIX_HASH_BAD_LENGTH or GIX_HASH_TOO_LONG, right after GIX_HASH_BAD_KIND. */
+uint32_t gix_hash_pack_find(uint32_t kind, const uint8_t *bytes, size_t len, const gix_hash_prefix *prefix, gix_hash_run *run);
+
+/* Gets the number of digits of the shortest unique name of the object at an index: the smallest number,
+ * at least 4, of its first digits with which no other name begins.
+ * Also returns GIX_HASH_OUT_OF_RANGE or GIX_HASH_NOT_UNIQUE, after the codes above. */
+uint32_t gix_hash_pack_abbreviate(uint32_t kind, const uint8_t *bytes, size_t len, size_t at, size_t *hex_len);
+
+#ifdef __cplusplus
+}
+#endif
+
+#endif
