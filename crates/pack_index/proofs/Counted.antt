@@ -25,7 +25,7 @@ length-first_chunks : (n k : ℕ) (bytes : List ℕ) → length (first_chunks n 
 length-first_chunks n zero bytes = refl
 length-first_chunks n (suc k) bytes = ap suc (length-first_chunks n k (drop n bytes))
 
-length-digests_in : (kind : Kind) (bytes : List ℕ) → length (digests_in kind bytes) ≡ length bytes / byte_len_of kind
+pub length-digests_in : (kind : Kind) (bytes : List ℕ) → length (digests_in kind bytes) ≡ length bytes / byte_len_of kind
 length-digests_in kind bytes =
     length-map (first_chunks (byte_len_of kind) (length bytes / byte_len_of kind) bytes) digits_of ∙ length-first_chunks (byte_len_of kind) (length bytes / byte_len_of kind) bytes
 

@@ -2,9 +2,11 @@
 pub mod Buckets
 mod Checksums
 pub mod Counted
-mod Firsts
+pub mod Firsts
 mod Heads
 mod Longs
 mod Looked
+mod LookedUp
+mod ReadOffsets
 mod Refusals
 mod Seen

@@ -1,18 +1,20 @@
 //! Pack indexes that are read at positions, and not whole.
 
-ghost use Rattle.std.specs.Prelude.{◌≡◌, ◌↔◌, ◌+◌, ◌-◌, ◌*◌, ◌<◌, ◌≤◌, ℕ, All, IfErr, IfOk, IsTrue, List, OnOk, Some, length};
+ghost use Rattle.std.specs.Prelude.{◌≡◌, ◌≢◌, ◌↔◌, ◌+◌, ◌-◌, ◌*◌, ◌<◌, ◌≤◌, ℕ, [], All, IfErr, IfOk, IfSome, IsTrue, List, MatchOption, OnOk, Some, length, map, slice_index_or};
 ghost use Rattle.gix_hash.specs.Kind.{byte_len_of};
+ghost use Rattle.gix_hash.specs.Oid.{oid_digits};
 ghost use Rattle.id_lookup.specs.FirstBytes.{has_first_byte};
 ghost use Rattle.id_lookup.specs.IndexOf.{part_of};
 ghost use Rattle.pack_index.specs.Firsts.{Each};
-ghost use Rattle.pack_index.specs.Format.{HasCount, HasHead, HasTables, count_in, digests_in, min_len, names_in, offset_in};
+ghost use Rattle.pack_index.specs.Format.{HasCount, HasHead, HasOffset, HasTables, count_in, digests_in, min_len, names_in, offset_in, offset_word};
 ghost use Rattle.pack_index.specs.Lazy.{FillsBytes, HaveFirstByte, IsLazyFault, IsOutside, bucket_end, bucket_start, counted_with};
+ghost use Rattle.pack_index.specs.Names.{IsFirstIndexOf};
 ghost use Rattle.streams.specs.ReadAt.{IsReadAt};
 
 use crate::checks::{COUNTS_LEN, MAGIC, VERSION};
 use crate::lazy_error::LazyError;
-use crate::words::{LONG, NAMES_AT, count_in, long_at, offsets_at, word_at};
-use gix_hash::Kind;
+use crate::words::{LONG, NAMES_AT, count_in, long_at, long_word_at, offsets_at, word_at};
+use gix_hash::{Kind, oid};
 use id_lookup::{Id, Run};
 use std::alloc::Allocator;
 use std::marker::Model;
@@ -24,8 +26,9 @@ use streams::ReadAt;
 ///
 /// ```
 /// let index = LazyFile::open(idx, Kind::Sha1)?;
-/// let bucket = index.bucket(rt.alloc(), 0x4b)?;
-/// println!(rt; "{} names begin with 4b", bucket.len() / 20)?;
+/// if let Some(at) = index.lookup(rt.alloc(), id.as_oid())? {
+///     println!(rt; "at byte {} of the pack", index.pack_offset_at_index(at)?)?;
+/// }
 /// ```
 #[derive(Drop)]
 pub struct LazyFile<S: ReadAt> {
@@ -33,11 +36,13 @@ pub struct LazyFile<S: ReadAt> {
     kind: Kind,
     // The magic number, the version and the counts.
     head: [u8; NAMES_AT],
+    // Where the long offsets end.
+    end: u64,
 }
 
 impl<S: ReadAt> Model for LazyFile<S> {
     ghost use Rattle.std.specs.Prelude.{◌≡◌, ℕ, List, Some};
-    ghost use Rattle.pack_index.specs.Format.{HasHead, HasTables, count_in};
+    ghost use Rattle.pack_index.specs.Format.{HasHead, HasTables, count_in, tables_end};
     ghost use Rattle.pack_index.specs.Lazy.{LazyIndex};
     ghost use Rattle.streams.specs.ReadAt.{IsReadAt};
 
@@ -50,7 +55,8 @@ impl<S: ReadAt> Model for LazyFile<S> {
     } };
 
     ghost invariant = { λ file. (bytes : List ℕ) → S.content file.source ≡ Some bytes
-        → IsReadAt bytes 0 file.head × HasTables file.kind bytes };
+        → IsReadAt bytes 0 file.head × HasTables file.kind bytes
+        × (file.end ≡ tables_end file.kind bytes) };
 }
 
 impl<S: ReadAt + Drop> LazyFile<S> {
@@ -71,7 +77,13 @@ impl<S: ReadAt + Drop> LazyFile<S> {
         let mut head = [0; NAMES_AT];
         source.read_exact_at(&mut head, 0)?;
         check_head(&head, kind, len)?;
-        Ok(LazyFile { source, kind, head })
+        let end = len - 2 * kind.len_in_bytes() as u64;
+        Ok(LazyFile {
+            source,
+            kind,
+            head,
+            end,
+        })
     }
 
     /// The kind of the names.
@@ -108,15 +120,74 @@ impl<S: ReadAt + Drop> LazyFile<S> {
         ensures err { IfErr result (λ e. (bytes : List ℕ) → self.now.content ≡ Some bytes
             → IsLazyFault self.now.kind bytes e) }
     {
+        // Its contract says how many names there are.
+        let _count = self.num_objects();
+        let run = self.run_of(byte)?;
+        self.read_bucket(alloc, byte, &run)
+    }
+
+    /// The index of a name, the first one if it occurs more than once, or `None` if it does not
+    /// occur. Only the names with its first byte are read, and all of them are compared.
+    pub fn lookup<A: Allocator>(&self, alloc: A, id: oid<'_>) -> Result<Option<u32>, LazyError>
+        ensures in_range { IfOk result (λ found. IfSome found (λ at. at < self.now.count)) }
+        ensures name { IfOk result (λ found. IfSome found (λ at. (bytes : List ℕ)
+            → self.now.content ≡ Some bytes
+            → slice_index_or (names_in self.now.kind bytes) at [] ≡ oid_digits id.entry)) }
+        ensures found { IfOk result (λ found. (bytes : List ℕ) → self.now.content ≡ Some bytes
+            → Each (HasCount self.now.kind bytes) 256
+            → let names = names_in self.now.kind bytes in
+            MatchOption found ((k : ℕ) → k < length names
+            → slice_index_or names k [] ≢ oid_digits id.entry)
+            (IsFirstIndexOf names (oid_digits id.entry))) }
+        ensures err { IfErr result (λ e. (bytes : List ℕ) → self.now.content ≡ Some bytes
+            → IsLazyFault self.now.kind bytes e) }
+    {
         // The contracts of these calls say how many names there are, and of which kind.
         let _count = self.num_objects();
         let kind = self.object_hash();
+        let byte = id.first_byte();
         let run = self.run_of(byte)?;
-        let table = self.read_names(alloc, &run)?;
-        if !have_first_byte(&table, kind, byte) {
-            return Err(LazyError::WrongCount(byte));
+        let table = self.read_bucket(alloc, byte, &run)?;
+        match first_digest(&table, kind, id) {
+            Some(at) => Ok(Some((run.start + at) as u32)),
+            None => Ok(None),
         }
-        Ok(table)
+    }
+
+    /// The offset in the pack of the object of the name at an index. One number is read, and a
+    /// second one if the offset is long.
+    pub fn pack_offset_at_index(&self, at: u32) -> Result<u64, LazyError>
+        requires { at < self.now.count }
+        ensures has { IfOk result (λ _. (bytes : List ℕ) → self.now.content ≡ Some bytes
+            → HasOffset self.now.kind bytes at) }
+        ensures offset { IfOk result (λ offset. (bytes : List ℕ) → self.now.content ≡ Some bytes
+            → offset ≡ offset_in self.now.kind bytes at) }
+        ensures err { IfErr result (λ e. (bytes : List ℕ) → self.now.content ≡ Some bytes
+            → IsLazyFault self.now.kind bytes e) }
+    {
+        let word = self.read_offset_word(at)?;
+        if word < LONG {
+            return Ok(u64::from(word));
+        }
+        let start = long_at(&self.head, self.kind) as u64 + 8 * u64::from(word - LONG);
+        if start + 8 > self.end {
+            return Err(LazyError::NoOffset(at as usize));
+        }
+        let mut long = [0; 8];
+        self.source.read_exact_at(&mut long, start)?;
+        Ok(long_word_at(&long, 0))
+    }
+
+    // What the table of offsets has for the name at an index.
+    fn read_offset_word(&self, at: u32) -> Result<u32, LazyError>
+        ensures word { IfOk result (λ word. (bytes : List ℕ) → self.now.content ≡ Some bytes
+            → word ≡ offset_word self.now.kind bytes at) }
+        ensures err { IfErr result IsOutside }
+    {
+        let mut word = [0; 4];
+        let start = offsets_at(&self.head, self.kind) + 4 * at as usize;
+        self.source.read_exact_at(&mut word, start as u64)?;
+        Ok(word_at(&word, 0))
     }
 
     // The indexes of the names that are counted with a first byte.
@@ -139,6 +210,41 @@ impl<S: ReadAt + Drop> LazyFile<S> {
             return Err(LazyError::CountTooHigh(byte));
         }
         Ok(run)
+    }
+
+    // The names of the run of a first byte, one after the other, if all of them have that byte.
+    fn read_bucket<A: Allocator>(
+        &self,
+        alloc: A,
+        byte: u8,
+        run: &Run,
+    ) -> Result<Vec<u8, A>, LazyError>
+        requires in_order { run.now.start ≤ run.now.end }
+        requires inside { run.now.end ≤ self.now.count }
+        requires start { (bytes : List ℕ) → self.now.content ≡ Some bytes
+            → run.now.start ≡ bucket_start bytes byte }
+        requires end { (bytes : List ℕ) → self.now.content ≡ Some bytes
+            → run.now.end ≡ bucket_end bytes byte }
+        ensures names { IfOk result (λ table. (bytes : List ℕ) → self.now.content ≡ Some bytes
+            → digests_in self.now.kind table.items ≡ counted_with self.now.kind bytes byte) }
+        ensures part { IfOk result (λ table. (bytes : List ℕ) → self.now.content ≡ Some bytes
+            → Each (HasCount self.now.kind bytes) 256
+            → digests_in self.now.kind table.items ≡ part_of byte (names_in self.now.kind bytes)) }
+        ensures len { IfOk result (λ table. length (digests_in self.now.kind table.items)
+            ≡ run.now.end - run.now.start) }
+        ensures first { IfOk result (λ table.
+            HaveFirstByte byte (digests_in self.now.kind table.items)) }
+        ensures err { IfErr result (λ e. (bytes : List ℕ) → self.now.content ≡ Some bytes
+            → IsLazyFault self.now.kind bytes e) }
+    {
+        // The contracts of these calls say how many names there are, and of which kind.
+        let _count = self.num_objects();
+        let kind = self.object_hash();
+        let table = self.read_names(alloc, run)?;
+        if !have_first_byte(&table, kind, byte) {
+            return Err(LazyError::WrongCount(byte));
+        }
+        Ok(table)
     }
 
     // The names of a run, one after the other.
@@ -238,4 +344,41 @@ fn all_have_first_byte<I: Id>(ids: &[I], byte: u8) -> bool
         }
     }
     true
+}
+
+// The first index of an id among the digests of a kind in the bytes.
+fn first_digest(bytes: &[u8], kind: Kind, id: oid<'_>) -> Option<usize>
+    ensures { let names = digests_in kind bytes.now in
+        MatchOption result ((k : ℕ) → k < length names
+        → slice_index_or names k [] ≢ oid_digits id.entry)
+        (IsFirstIndexOf names (oid_digits id.entry)) }
+{
+    match kind {
+        Kind::Sha1 => first_index::<[u8; 20]>(bytes.as_chunks().0, id),
+        Kind::Sha256 => first_index::<[u8; 32]>(bytes.as_chunks().0, id),
+    }
+}
+
+// The first index of an id in a list.
+fn first_index<I: Id>(ids: &[I], id: oid<'_>) -> Option<usize>
+    ensures { let names = map I.digits ids.now in
+        MatchOption result ((k : ℕ) → k < length names
+        → slice_index_or names k [] ≢ oid_digits id.entry)
+        (IsFirstIndexOf names (oid_digits id.entry)) }
+{
+    for at in 0..ids.len() {
+        if is_at(ids, at, id) {
+            return Some(at);
+        }
+    }
+    None
+}
+
+// Whether the id at an index of a list is this one.
+fn is_at<I: Id>(ids: &[I], at: usize, id: oid<'_>) -> bool
+    requires { at < length ids.now }
+    ensures { IsTrue result
+        ↔ (slice_index_or (map I.digits ids.now) at [] ≡ oid_digits id.entry) }
+{
+    ids[at].as_oid() == id
 }

@@ -21,6 +21,14 @@ pub(crate) fn word_at(bytes: &[u8], at: usize) -> u32
     u32::from_be_bytes([bytes[at], bytes[at + 1], bytes[at + 2], bytes[at + 3]])
 }
 
+// The number that is written in the eight bytes from an index on.
+pub(crate) fn long_word_at(bytes: &[u8], at: usize) -> u64
+    requires { at + 8 ≤ length bytes.now }
+    ensures { result ≡ 2 ^ 32 * word_at bytes.now at + word_at bytes.now (at + 4) }
+{
+    0x1_0000_0000 * u64::from(word_at(bytes, at)) + u64::from(word_at(bytes, at + 4))
+}
+
 /// The number of names.
 pub fn count_in(bytes: &[u8]) -> u32
     requires { names_at ≤ length bytes.now }
@@ -114,6 +122,5 @@ pub fn offset_in(bytes: &[u8], kind: Kind, at: usize) -> u64
     if word < LONG {
         return u64::from(word);
     }
-    let place = long_at(bytes, kind) + 8 * (word - LONG) as usize;
-    0x1_0000_0000 * u64::from(word_at(bytes, place)) + u64::from(word_at(bytes, place + 4))
+    long_word_at(bytes, long_at(bytes, kind) + 8 * (word - LONG) as usize)
 }

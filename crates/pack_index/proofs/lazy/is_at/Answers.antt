@@ -1,0 +1,12 @@
+use Rattle.std.proofs.Common.{◌≡◌, ◌∙◌, [], get_or, map, sym, ap}
+use Rattle.std.specs.Cmp.Lexicographic.{bytes_decides}
+use Rattle.std.proofs.lemmas.List.{get_or-map}
+use Rattle.gix_hash.specs.Oid.{oid_digits}
+use Rattle.pack_index.proofs.lazy.is_at.Goals as goal
+
+pub returns : goal.returns
+returns g c =
+    let digits : get_or (map g.I.Id.digits c.args.ids.now) c.args.at [] ≡ oid_digits c.as_oid.result =
+    get_or-map g.I.Id.digits c.args.ids.now c.args.at c.index-ids-at.result [] c.requires ∙ ap g.I.Id.digits (sym c.index-ids-at.is) ∙ sym c.as_oid.ensures.digits in
+    let decides = bytes_decides (oid_digits c.as_oid.result) (oid_digits c.args.id) in
+    (λ h. digits ∙ decides.0 (sym c.eq.ensures ∙ h), λ same. c.eq.ensures ∙ decides.1 (sym digits ∙ same))
