@@ -1,6 +1,5 @@
 -- The ids that are asked for have the first byte that is asked for.
-use Rattle.std.proofs.Common.{◌≡◌, ℕ, ◌≤◌, Bool, true, nat_eq, List, [], ◌∷◌, ◌++◌, filter, length, refl, sym, ap, ◌∙◌, arith}
-use Rattle.std.specs.List.{starts_with}
+use Rattle.std.proofs.Common.{◌≡◌, ℕ, ◌≤◌, true, List, filter}
 use Rattle.id_lookup.specs.FirstBytes.{has_first_byte}
 use Rattle.id_lookup.specs.IndexOf.{part_of}
 use Rattle.id_lookup.proofs.Beginnings.{first_byte_of-begins, same_test}

@@ -1,3 +1,4 @@
 -- Object stores and the ids that they hold.
 pub mod Wanted
 pub mod Stores
+pub mod Places

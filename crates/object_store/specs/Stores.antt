@@ -1,5 +1,5 @@
 -- What an object store holds. Each id is given by its digits.
-use Rattle.std.specs.Prelude.{◌≡◌, ℕ, ◌<◌, ◌++◌, All, Contains, List, [], Option, Some, flat_map, length, map, slice_get, slice_index_or}
+use Rattle.std.specs.Prelude.{◌≡◌, ℕ, ◌<◌, ◌++◌, All, List, [], Option, Some, flat_map, length, map, slice_get, slice_index_or}
 use Rattle.gix_hash.specs.declared.Kind.{Kind}
 use Rattle.id_lookup.specs.IndexOf.{IsIndexOf}
 use Rattle.id_lookup.specs.ShortNames.{IsShortestNameFrom}

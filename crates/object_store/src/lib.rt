@@ -11,10 +11,12 @@ mod error;
 mod gathering;
 pub mod laws;
 mod naming;
+mod places;
 mod store;
 mod wanted;
 
 pub use error::Error;
 pub use gathering::lookup_prefix;
 pub use naming::{NamedId, abbreviate, names};
+pub use places::{Place, locate};
 pub use store::Store;

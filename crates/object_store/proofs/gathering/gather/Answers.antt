@@ -1,5 +1,4 @@
 use Rattle.std.proofs.Common.{map}
-use Rattle.std.proofs.lemmas.Result.{IfErr-weaker}
 use Rattle.gix_hash.specs.ObjectId.{id_digits}
 use Rattle.object_store.specs.Wanted.{passes}
 use Rattle.object_store.proofs.Held.{held}

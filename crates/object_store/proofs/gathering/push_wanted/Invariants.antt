@@ -1,4 +1,4 @@
-use Rattle.std.proofs.Common.{◌≡◌, ◌++◌, List, map, filter, take}
+use Rattle.std.proofs.Common.{◌≡◌, ◌++◌, map, filter, take}
 use Rattle.std.specs.List.{All}
 use Rattle.gix_hash.specs.ObjectId.{id_digits, id_kind}
 use Rattle.object_store.specs.Wanted.{passes}

@@ -1,7 +1,5 @@
-use Rattle.std.proofs.Common.{◌≡◌, ◌∙◌, List, map, sym, ap, subst}
+use Rattle.std.proofs.Common.{◌∙◌, map, ap}
 use Rattle.gix_hash.specs.ObjectId.{id_digits}
-use Rattle.gix_hash.specs.declared.ObjectId.{ObjectId}
-use Rattle.id_lookup.specs.IndexOf.{part_of}
 use Rattle.object_store.proofs.Named.{named_digits, names_in_part}
 use Rattle.object_store.proofs.naming.names.Goals as goal
 

@@ -1,0 +1,90 @@
+-- What was found in each pack index and among the loose ids are the places of the object.
+use Rattle.std.proofs.Common.{◌≡◌, ◌≢◌, ℕ, suc, ◌+◌, ◌<◌, true, false, cond, ◌&&◌, ◌||◌, nat_eq, Bool, Option, None, Some, List, [], ◌∷◌, ◌++◌, length, get_or, map, filter, refl, sym, ap, ◌∙◌, subst, arith, eq-eqb}
+use Rattle.std.specs.Bool.{Decides}
+use Rattle.std.specs.Cmp.Lexicographic.{bytes_decides}
+use Rattle.std.specs.List.{All, list_any}
+use Rattle.std.specs.Str.{bytes_eq}
+use Rattle.std.proofs.lemmas.Bool.{false≢true, true_from_ne_false}
+use Rattle.gix_hash.specs.Digits.{first_byte_of}
+use Rattle.gix_hash.specs.Kind.{number_of}
+use Rattle.gix_hash.specs.ObjectId.{id_digits, id_eq, id_kind}
+use Rattle.gix_hash.specs.declared.Kind.{Kind}
+use Rattle.gix_hash.specs.declared.ObjectId.{ObjectId}
+use Rattle.id_lookup.specs.FirstBytes.{has_first_byte}
+use Rattle.id_lookup.specs.IndexOf.{part_of}
+use Rattle.object_store.specs.Places.{offset_of, packed_at, packed_places}
+use Rattle.object_store.specs.declared.places.Place.{Place}
+use Rattle.object_store.proofs.Held.{as_many, known_at}
+use Rattle.pack_index.specs.Firsts.{Each}
+use Rattle.pack_index.specs.Format.{HasCount, IsPackIndex, names_in, offset_in}
+use Rattle.pack_index.specs.Lazy.{LazyIndex}
+use Rattle.pack_index.specs.Names.{IsFirstIndexOf}
+use Rattle.pack_index.proofs.Firsts.{first, no_first}
+
+is_name : (names : List (List ℕ)) (id : List ℕ) (k : ℕ) → Decides (bytes_eq (get_or names k []) id) (¬ (get_or names k [] ≢ id))
+is_name names id k =
+    let decides = bytes_decides (get_or names k []) id in (
+      λ is differs. differs (decides.0 is),
+      λ no. true_from_ne_false (bytes_eq (get_or names k []) id) (λ is. no (λ same. false≢true (sym is ∙ decides.1 same))),
+    )
+
+pub offset_none : (kind : Kind) (bytes id : List ℕ) → ((k : ℕ) → k < length (names_in kind bytes) → get_or (names_in kind bytes) k [] ≢ id) → None ≡ offset_of kind bytes id
+offset_none kind bytes id none =
+    let names = names_in kind bytes in
+    sym (no_first (λ k. get_or names k [] ≢ id) (λ k. bytes_eq (get_or names k []) id) (offset_in kind bytes) (length names) (is_name names id) none)
+
+pub offset_some : (kind : Kind) (bytes id : List ℕ) (at offset : ℕ) → IsFirstIndexOf (names_in kind bytes) id at → offset ≡ offset_in kind bytes at
+    → Some offset ≡ offset_of kind bytes id
+offset_some kind bytes id at offset found is =
+    let names = names_in kind bytes in
+    ap Some is ∙ sym (first (λ k. get_or names k [] ≢ id) (λ k. bytes_eq (get_or names k []) id) (offset_in kind bytes) (length names) (is_name names id) at
+    (found.in_range, found.first, λ differs. differs found.same))
+
+-- one pack more
+pub place_more : (kind : Kind) (packs : List LazyIndex) (id : List ℕ) (at : ℕ) (pack : LazyIndex) (offset : Option ℕ) (old new : List Place) (indexes : List (List ℕ))
+    → map (λ (p : LazyIndex). p.content) packs ≡ map Some indexes → All (IsPackIndex kind) indexes → at < length packs → pack ≡ get_or packs at pack
+    → All (λ (p : LazyIndex). p.kind ≡ kind) packs
+    → ((bytes : List ℕ) → pack.content ≡ Some bytes → Each (HasCount pack.kind bytes) 256 → offset ≡ offset_of pack.kind bytes id)
+    → old ≡ packed_places kind id indexes at → new ≡ old ++ packed_at at offset → new ≡ packed_places kind id indexes (at + 1)
+unfolding packed_places
+place_more kind packs id at pack offset old new indexes same each low is kinds found before all =
+    let content : LazyIndex → Option (List ℕ) = λ p. p.content in
+    let bytes = get_or indexes at [] in
+    let inside : at < length indexes = omega (arith, low, as_many content packs indexes same) in
+    let known : pack.content ≡ Some bytes = ap content is ∙ known_at content packs indexes same at pack low in
+    let pack_kind : pack.kind ≡ kind = ap (λ (p : LazyIndex). p.kind) is ∙ kinds at pack low in
+    let counts : Each (HasCount pack.kind bytes) 256 = subst (λ (n : Kind). Each (HasCount n bytes) 256) (sym pack_kind) (each at [] inside).names.counts in
+    let there : offset ≡ offset_of kind bytes id = found bytes known counts ∙ ap (λ (n : Kind). offset_of n bytes id) pack_kind in
+    let next : suc at ≡ at + 1 = omega arith in
+    all ∙ (λ i. before i ++ packed_at at (there i)) ∙ ap (packed_places kind id indexes) next
+
+-- where a test passes only what another passes, the other need not be made
+any_within : {X : Type 0} (p q : X → Bool) → ((x : X) → q x ≡ true → p x ≡ true) → (xs : List X) → list_any q (filter p xs) ≡ list_any q xs
+any_within p q less [] = refl
+any_within {X} p q less (x ∷ xs) =
+    let rest = any_within p q less xs in
+    elim (p x) as (λ s. (q x ≡ true → s ≡ true) → list_any q (cond s (x ∷ filter p xs) (filter p xs)) ≡ (q x || list_any q xs)) [
+      | true ↦ λ h. ap (λ b. q x || b) rest
+      | false ↦ λ h. elim (q x) as (λ t. (t ≡ true → false ≡ true) → list_any q (filter p xs) ≡ (t || list_any q xs)) [
+        | true ↦ λ g. absurd (false≢true (g refl))
+        | false ↦ λ g. rest
+      ] h
+    ] (less x)
+
+-- ids of one kind are equal if their digits are
+any_digits : (kind : Kind) (id : ObjectId) → id_kind id ≡ kind → (ids : List ObjectId) → All (λ other. id_kind other ≡ kind) ids
+    → list_any (λ other. id_eq other id) ids ≡ list_any (λ other. bytes_eq other (id_digits id)) (map id_digits ids)
+any_digits kind id is [] each = refl
+any_digits kind id is (other ∷ ids) each =
+    let same : nat_eq (number_of (id_kind other)) (number_of (id_kind id)) ≡ true = eq-eqb _ _ (ap number_of (each 0 other (omega arith) ∙ sym is)) in
+    let rest = any_digits kind id is ids (λ k d low. each (suc k) d (omega arith)) in
+    (λ i. (same i && bytes_eq (id_digits other) (id_digits id)) || rest i)
+
+-- so the loose ids with the first byte decide
+pub any_loose : (kind : Kind) (id : ObjectId) (byte : ℕ) (ids : List ObjectId) (all : List (List ℕ)) → id_kind id ≡ kind → byte ≡ first_byte_of (id_digits id)
+    → All (λ other. id_kind other ≡ kind) ids → map id_digits ids ≡ part_of byte all
+    → list_any (λ other. id_eq other id) ids ≡ list_any (λ other. bytes_eq other (id_digits id)) all
+any_loose kind id byte ids all is first kinds same =
+    let q : List ℕ → Bool = λ other. bytes_eq other (id_digits id) in
+    any_digits kind id is ids kinds ∙ ap (list_any q) same
+    ∙ any_within (has_first_byte byte) q (λ other eq. eq-eqb (first_byte_of other) byte (ap first_byte_of ((bytes_decides other (id_digits id)).0 eq) ∙ sym first)) all

@@ -1,0 +1,28 @@
+-- Where an object store has an object. Ids and names are given by their digits.
+use Rattle.std.specs.Prelude.{ℕ, zero, suc, if◌then◌else◌, List, [], ◌∷◌, ◌++◌, Option, None, Some, length, option_map, slice_index_or}
+use Rattle.std.specs.List.{list_any}
+use Rattle.std.specs.Str.{bytes_eq}
+use Rattle.gix_hash.specs.declared.Kind.{Kind}
+use Rattle.pack_index.specs.Firsts.{first_below}
+use Rattle.pack_index.specs.Format.{names_in, offset_in}
+use Rattle.object_store.specs.declared.places.Place.{Place}
+use Rattle.object_store.specs.declared.places.Place.TheVariants.{Packed, Loose}
+
+-- the offset in the pack of the object of an id: that of the first name that is the id, if there is one
+abbrev pub offset_of : Kind → List ℕ → List ℕ → Option ℕ
+offset_of kind bytes id = option_map (offset_in kind bytes) (first_below (λ k. bytes_eq (slice_index_or (names_in kind bytes) k []) id) (length (names_in kind bytes)))
+
+-- the place at an offset in the pack of this number
+abbrev pub packed_at : ℕ → Option ℕ → List Place
+packed_at pack None = []
+packed_at pack (Some offset) = Packed pack offset ∷ []
+
+-- the places in the first n packs, in order
+unfoldable pub packed_places : Kind → List ℕ → List (List ℕ) → ℕ → List Place
+packed_places kind id indexes zero = []
+packed_places kind id indexes (suc n) = packed_places kind id indexes n ++ packed_at n (offset_of kind (slice_index_or indexes n []) id)
+
+-- the places in all packs, and the last one if the object is loose
+abbrev pub places_of : Kind → List ℕ → List (List ℕ) → List (List ℕ) → List Place
+places_of kind id indexes loose_ids =
+    packed_places kind id indexes (length indexes) ++ (if list_any (λ loose. bytes_eq loose id) loose_ids then Loose ∷ [] else [])

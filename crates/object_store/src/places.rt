@@ -1,0 +1,148 @@
+//! Where an object store has an object.
+
+ghost use Rattle.std.specs.Prelude.{◌≡◌, ℕ, [], ◌∷◌, ◌++◌, All, IfErr, IfOk, List, OnOk, Some, length, map};
+ghost use Rattle.std.specs.List.{list_any};
+ghost use Rattle.std.specs.Str.{bytes_eq};
+ghost use Rattle.gix_hash.specs.ObjectId.{id_digits, id_kind};
+ghost use Rattle.object_store.specs.Places.{offset_of, packed_at, packed_places, places_of};
+ghost use Rattle.object_store.specs.Stores.{Holds, IsElsewhere, IsStoreFault};
+ghost use Rattle.pack_index.specs.Firsts.{Each};
+ghost use Rattle.pack_index.specs.Format.{HasCount, IsPackIndex};
+ghost use Rattle.pack_index.specs.Lazy.{IsLazyFault, LazyIndex};
+
+use crate::error::Error;
+use crate::store::Store;
+use gix_hash::ObjectId;
+use pack_index::{LazyError, LazyFile};
+use std::alloc::{AllocError, Allocator};
+use streams::ReadAt;
+
+/// A place of an object in a store.
+///
+/// ```
+/// for place in locate(rt.alloc(), &store, &id)?.iter() {
+///     match place {
+///         Place::Packed { pack, offset } => println!(rt; "pack {pack}, at byte {offset}")?,
+///         Place::Loose => println!(rt; "loose")?,
+///     }
+/// }
+/// ```
+#[derive(Clone, Copy, PartialEq, Eq, Debug)]
+pub enum Place {
+    /// In a pack.
+    Packed {
+        /// The position of its pack index among those of the store, from 0.
+        pack: usize,
+        /// The offset in the pack, in bytes.
+        offset: u64,
+    },
+    /// Among the loose objects.
+    Loose,
+}
+
+/// All places of an object: one in each pack whose index has its name, in the order of
+/// [`Store::indexes`], and last [`Place::Loose`] if it is a loose object. The id has the store's
+/// kind.
+///
+/// If a pack index has the name more than once, the offset is that of the first. Of each pack index
+/// only the names with the id's first byte are read, and the offset.
+///
+/// ```
+/// let places = locate(rt.alloc(), &store, &id)?;
+/// println!(rt; "{} copies", places.len())?;
+/// ```
+pub fn locate<S: Store, A: Allocator + Copy>(
+    alloc: A,
+    store: &S,
+    id: &ObjectId,
+) -> Result<Vec<Place, A>, Error>
+    requires { id_kind id.now ≡ S.kind store.now }
+    ensures places { IfOk result (λ places. (whole : List (List ℕ))
+        → (h : Holds (S.kind store.now) (S.packs store.now) (S.loose store.now) whole)
+        → places.items
+        ≡ places_of (S.kind store.now) (id_digits id.now) h.indexes h.loose_ids) }
+    ensures err { IfErr result (IsStoreFault (S.kind store.now) (S.packs store.now)) }
+{
+    let mut places = packed_places(alloc, store, id)?;
+    if is_loose(alloc, store, id)? {
+        push(&mut places, Place::Loose)?;
+    }
+    Ok(places)
+}
+
+// The places of an object in packs, in order.
+fn packed_places<S: Store, A: Allocator + Copy>(
+    alloc: A,
+    store: &S,
+    id: &ObjectId,
+) -> Result<Vec<Place, A>, Error>
+    ensures places { IfOk result (λ places. (indexes : List (List ℕ))
+        → map (λ (pack : LazyIndex). pack.content) (S.packs store.now) ≡ map Some indexes
+        → All (IsPackIndex (S.kind store.now)) indexes
+        → places.items
+        ≡ packed_places (S.kind store.now) (id_digits id.now) indexes (length indexes)) }
+    ensures err { IfErr result (IsStoreFault (S.kind store.now) (S.packs store.now)) }
+{
+    let mut places = Vec::new(alloc);
+    let packs = store.indexes();
+    for pack in 0..packs.len() {
+        let offset = match packed_offset(alloc, &packs[pack], id) {
+            Ok(offset) => offset,
+            Err(error) => return Err(Error::Index { at: pack, error }),
+        };
+        push_packed(&mut places, pack, offset)?;
+    }
+    Ok(places)
+}
+
+// Adds the place at an offset in a pack, if there is one.
+fn push_packed<A: Allocator>(
+    places: &mut Vec<Place, A>,
+    pack: usize,
+    offset: Option<u64>,
+) -> Result<(), AllocError>
+    ensures { OnOk result (places.new.items ≡ places.old.items ++ packed_at pack offset) }
+{
+    match offset {
+        Some(offset) => push(places, Place::Packed { pack, offset }),
+        None => Ok(()),
+    }
+}
+
+// Adds a place.
+fn push<A: Allocator>(places: &mut Vec<Place, A>, place: Place) -> Result<(), AllocError>
+    ensures { OnOk result (places.new.items ≡ places.old.items ++ place ∷ []) }
+{
+    Ok(places.push(place)?)
+}
+
+// The offset in its pack of the object of an id, if the pack index has its name.
+fn packed_offset<S: ReadAt + Drop, A: Allocator>(
+    alloc: A,
+    index: &LazyFile<S>,
+    id: &ObjectId,
+) -> Result<Option<u64>, LazyError>
+    ensures offset { IfOk result (λ offset. (bytes : List ℕ) → index.now.content ≡ Some bytes
+        → Each (HasCount index.now.kind bytes) 256
+        → offset ≡ offset_of index.now.kind bytes (id_digits id.now)) }
+    ensures err { IfErr result (λ e. (bytes : List ℕ) → index.now.content ≡ Some bytes
+        → IsLazyFault index.now.kind bytes e) }
+{
+    match index.lookup(alloc, id.as_oid())? {
+        Some(at) => Ok(Some(index.pack_offset_at_index(at)?)),
+        None => Ok(None),
+    }
+}
+
+// Whether an object is loose.
+fn is_loose<S: Store, A: Allocator>(alloc: A, store: &S, id: &ObjectId) -> Result<bool, Error>
+    requires { id_kind id.now ≡ S.kind store.now }
+    ensures loose { IfOk result (λ loose. (all : List (List ℕ)) → S.loose store.now ≡ Some all
+        → loose ≡ list_any (λ other. bytes_eq other (id_digits id.now)) all) }
+    ensures err { IfErr result IsElsewhere }
+{
+    match store.loose_ids(alloc, id.first_byte()) {
+        Ok(ids) => Ok(ids.contains(id)),
+        Err(error) => Err(Error::Loose(error)),
+    }
+}
