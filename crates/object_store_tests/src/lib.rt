@@ -5,3 +5,5 @@
 mod look_ups;
 #[cfg(test)]
 mod memory;
+#[cfg(test)]
+mod places;

@@ -25,6 +25,9 @@ const SECOND: [&str; 3] = [
     "4b90000000000000000000000000000000000000",
 ];
 
+// The long offsets of the second pack, of its first two names.
+const LONGS: [u64; 2] = [0x1_0000_000c, 0x7fff_ffff_ffff_ffff];
+
 const LOOSE: [&str; 3] = [
     "e69de29c00000000000000000000000000000000",
     "4b825dc642cb6eb9a060e54bf8d69288fbee4904",
@@ -84,23 +87,23 @@ fn expect_ids(rt: &impl Abort, found: &[ObjectId], want: &[(&str, &str)]) {
 
 // The bytes of both pack indexes, and the loose ids.
 #[derive(Drop)]
-struct Content {
-    first: Vec<u8>,
-    second: Vec<u8>,
+pub struct Content {
+    pub first: Vec<u8>,
+    pub second: Vec<u8>,
     loose: Vec<ObjectId>,
 }
 
 impl Content {
-    fn new(rt: &(impl Abort + AllocGlobal)) -> Result<Content, Fail> {
+    pub fn new(rt: &(impl Abort + AllocGlobal)) -> Result<Content, Fail> {
         let (first, second) = (ids_of(rt, &FIRST)?, ids_of(rt, &SECOND)?);
         Ok(Content {
-            first: index_of(rt.alloc(), Kind::Sha1, &first)?,
-            second: index_of(rt.alloc(), Kind::Sha1, &second)?,
+            first: index_of(rt.alloc(), Kind::Sha1, &first, &[])?,
+            second: index_of(rt.alloc(), Kind::Sha1, &second, &LONGS)?,
             loose: ids_of(rt, &LOOSE)?,
         })
     }
 
-    fn open<'a>(&'a self, alloc: Global, reads: &'a Reads) -> Result<Memory<'a>, LazyError> {
+    pub fn open<'a>(&'a self, alloc: Global, reads: &'a Reads) -> Result<Memory<'a>, LazyError> {
         let Content {
             first,
             second,
@@ -187,7 +190,7 @@ fn each_read_fails_in_turn(rt: HostRuntime) -> Result<(), Fail> {
     Ok(())
 }
 
-fn expect_text<T: Display + Drop>(
+pub fn expect_text<T: Display + Drop>(
     rt: &(impl Abort + AllocGlobal),
     value: T,
     want: &str,
@@ -272,25 +275,29 @@ fn memory_is_refused(rt: HostRuntime) -> Result<(), Fail> {
                 expect_ids(&rt, &found, &NAMED[1..4]);
                 is_granted = true;
             }
-            Err(Error::Memory(_))
-            | Err(
-                Error::Index {
-                    error: LazyError::Memory(_),
-                    ..
-                },
-            ) => {
+            Err(error) => {
                 assert!(rt; !is_granted, "{units}");
+                expect_no_memory(&rt, error)?;
                 was_refused = true;
             }
-            Err(Error::Loose(error)) => {
-                assert!(rt; error.kind() == io::ErrorKind::OutOfMemory, "{error}");
-                assert!(rt; !is_granted, "{units}");
-                was_refused = true;
-            }
-            Err(error) => expect_text(&rt, error, "out of memory")?,
         }
         assert!(rt; heap.used() == 0, "{units}");
     }
     assert!(rt; was_refused && is_granted);
     Ok(())
+}
+
+// The error says that there is too little memory.
+pub fn expect_no_memory(rt: &(impl Abort + AllocGlobal), error: Error) -> Result<(), Fail> {
+    match error {
+        Error::Index {
+            error: LazyError::Memory(_),
+            ..
+        } => Ok(()),
+        Error::Loose(error) => {
+            assert!(rt; error.kind() == io::ErrorKind::OutOfMemory, "{error}");
+            Ok(())
+        }
+        error => expect_text(rt, error, "out of memory"),
+    }
 }
