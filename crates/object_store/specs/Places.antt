@@ -8,9 +8,13 @@ use Rattle.pack_index.specs.Format.{names_in, offset_in}
 use Rattle.object_store.specs.declared.places.Place.{Place}
 use Rattle.object_store.specs.declared.places.Place.TheVariants.{Packed, Loose}
 
--- the offset in the pack of the object of an id: that of the first name that is the id, if there is one
+-- the first index of an id among names
+abbrev pub index_of : List (List ℕ) → List ℕ → Option ℕ
+index_of names id = first_below (λ k. bytes_eq (slice_index_or names k []) id) (length names)
+
+-- the offset in the pack of the object of an id, if the pack index has its name
 abbrev pub offset_of : Kind → List ℕ → List ℕ → Option ℕ
-offset_of kind bytes id = option_map (offset_in kind bytes) (first_below (λ k. bytes_eq (slice_index_or (names_in kind bytes) k []) id) (length (names_in kind bytes)))
+offset_of kind bytes id = option_map (offset_in kind bytes) (index_of (names_in kind bytes) id)
 
 -- the place at an offset in the pack of this number
 abbrev pub packed_at : ℕ → Option ℕ → List Place

@@ -200,8 +200,8 @@ pub fn expect_text<T: Display + Drop>(
     Ok(())
 }
 
-// Positions of bytes of the first index, their values in a damaged copy, and the error of its look-up
-// of `4b`.
+// Positions of bytes of the first index, their values in a damaged copy, and the error of its
+// look-up of `4b`.
 const DAMAGED: [(usize, u8, &str); 7] = [
     (0, 0, "the bytes do not begin as a pack index of version 2"),
     (7, 3, "pack indexes of version 3 are not read"),
