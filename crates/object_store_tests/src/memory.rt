@@ -162,7 +162,11 @@ pub fn index_of(
     for at in 0..ids.len() {
         let low = u8::try_from(at).unwrap_or(0);
         let is_long = at < longs.len();
-        bytes.extend_from_slice(&if is_long { [0x80, 0, 0, low] } else { [0, 0, 12, low] })?;
+        bytes.extend_from_slice(&if is_long {
+            [0x80, 0, 0, low]
+        } else {
+            [0, 0, 12, low]
+        })?;
     }
     for long in longs {
         bytes.extend_from_slice(&long.to_be_bytes())?;

@@ -52,10 +52,22 @@ fn places_are_those_of_all_packs(rt: HostRuntime) -> Result<(), Fail> {
     let store = content.open(rt.alloc(), &reads)?;
     let cases: [(&str, &[Place]); 7] = [
         (EVERYWHERE, &PLACES),
-        ("0000000000000000000000000000000000000000", &[packed(1, 0x1_0000_000c)]),
-        ("4b825d0000000000000000000000000000000000", &[packed(0, 3072)]),
-        ("4b90000000000000000000000000000000000000", &[packed(1, 3074)]),
-        ("e69de29bb2d1d6434b8b29ae775ad8c2e48c5391", &[packed(0, 3074), Place::Loose]),
+        (
+            "0000000000000000000000000000000000000000",
+            &[packed(1, 0x1_0000_000c)],
+        ),
+        (
+            "4b825d0000000000000000000000000000000000",
+            &[packed(0, 3072)],
+        ),
+        (
+            "4b90000000000000000000000000000000000000",
+            &[packed(1, 3074)],
+        ),
+        (
+            "e69de29bb2d1d6434b8b29ae775ad8c2e48c5391",
+            &[packed(0, 3074), Place::Loose],
+        ),
         ("e69de29c00000000000000000000000000000000", &[Place::Loose]),
         ("4b825dc642cb6eb9a060e54bf8d69288fbee4905", &[]),
     ];
@@ -88,7 +100,11 @@ fn each_read_fails_in_turn(rt: HostRuntime) -> Result<(), Fail> {
     }
     let reads = Reads::new(10);
     let store = content.open(rt.alloc(), &reads)?;
-    expect_places(&rt, &places_of(&rt, rt.alloc(), &store, EVERYWHERE)?, &PLACES);
+    expect_places(
+        &rt,
+        &places_of(&rt, rt.alloc(), &store, EVERYWHERE)?,
+        &PLACES,
+    );
     Ok(())
 }
 
