@@ -1,0 +1,74 @@
+//! Why a store in folders cannot be found, opened or read.
+
+use pack_index::LazyError;
+use std::alloc::{AllocError, Global};
+use std::io;
+use thiserror::Error as ThisError;
+
+/// Why a store in folders is not found or opened, or a look-up in it fails. Each error of a folder
+/// or file begins with its path.
+///
+/// ```
+/// if let Err(error) = FolderStore::open(rt, ".git/objects", None) {
+///     println!(rt; "{error}")?;
+/// }
+/// ```
+#[derive(Debug, Drop, ThisError)]
+pub enum Error {
+    /// A folder or file cannot be read.
+    #[error("{path}: {error}")]
+    File {
+        /// Its path.
+        path: String,
+        /// Why.
+        error: io::Error,
+    },
+    /// A pack index cannot be read, or is damaged where it was read.
+    #[error("{path}: {error}")]
+    Index {
+        /// Its path.
+        path: String,
+        /// Why.
+        error: LazyError,
+    },
+    /// A file of the repository does not say what it is to say.
+    #[error("{path}: {why}")]
+    Text {
+        /// Its path.
+        path: String,
+        /// What is wrong.
+        why: &'static str,
+    },
+    /// Neither the current folder nor one above it has a repository.
+    #[error("no git repository in this folder or above it")]
+    NoRepository,
+    /// There is not enough memory.
+    #[error("out of memory")]
+    Memory(#[from(alloc)] AllocError),
+}
+
+impl Error {
+    // A folder or file cannot be read.
+    pub(crate) fn file(alloc: Global, path: &str, error: io::Error) -> Error {
+        match String::from_str(alloc, path) {
+            Ok(path) if error.kind() != io::ErrorKind::OutOfMemory => Error::File { path, error },
+            _ => Error::Memory(AllocError),
+        }
+    }
+
+    // A pack index cannot be read, or is damaged.
+    pub(crate) fn index(alloc: Global, path: &str, error: LazyError) -> Error {
+        match (String::from_str(alloc, path), error) {
+            (_, LazyError::Memory(error)) | (Err(error), _) => Error::Memory(error),
+            (Ok(path), error) => Error::Index { path, error },
+        }
+    }
+
+    // A file does not say what it is to say.
+    pub(crate) fn text(alloc: Global, path: &str, why: &'static str) -> Error {
+        match String::from_str(alloc, path) {
+            Ok(path) => Error::Text { path, why },
+            Err(error) => Error::Memory(error),
+        }
+    }
+}
