@@ -35,7 +35,8 @@ fn names_folder(line: &str) -> bool
 
 /// The bytes of the path that such a line names. A line in quotation marks is unquoted, as Git
 /// quotes paths (C's escapes, with bytes as three octal digits). If it is not quoted right, it is
-/// the path itself.
+/// the path itself. Git also takes a quoted line feed, and text after the quotation marks, but
+/// writes neither.
 ///
 /// ```
 /// let path = alternate_path(rt.alloc(), "\"../caf\\303\\251\"")?;

@@ -3,6 +3,7 @@
 use crate::making::{index_of, make_store, write};
 use gix_hash::{Kind, ObjectId, Prefix};
 use object_store::{Store, lookup_prefix};
+use std::fs::File;
 use std::process::Abort;
 use std::rt::Files;
 use std::test::Fail;
@@ -138,6 +139,46 @@ fn errors_have_paths(rt: HostRuntime) -> Result<(), Fail> {
         "{text}"
     );
     fs::remove_dir_all(&rt, top)?;
+    Ok(())
+}
+
+// The text of the error of a look-up, with its path.
+fn look_up_error<R: Abort + Files<File = File> + AllocGlobal + Clone + Drop>(
+    rt: &R,
+    objects: &str,
+    prefix: &str,
+) -> Result<String, Fail> {
+    let store = FolderStore::open(rt, objects, None)?;
+    match find(rt, &store, prefix) {
+        Ok(_) => Err("ids are found".into()),
+        Err(error) => Ok(format!(in rt.alloc(); "{}", store.with_path(error))?),
+    }
+}
+
+#[test]
+fn errors_of_look_ups_have_paths(rt: HostRuntime) -> Result<(), Fail> {
+    let objects = "store_with_faults/objects";
+    make_store(&rt, objects, &[PACKED], &["22"])?;
+    // The count of the first byte 16 in a pack index of one id.
+    let mut index = index_of(&rt, &[PACKED])?;
+    if let Some(count) = index.get_mut(8 + 4 * 16 + 3) {
+        *count = 1;
+    }
+    write(&rt, "store_with_faults/objects/pack/pack-1.idx", &index)?;
+    for (prefix, want) in [
+        (
+            "11",
+            "store_with_faults/objects/pack/pack-1.idx: the count of the first byte 17 is below the one before it",
+        ),
+        (
+            "22",
+            "store_with_faults/objects: Not a directory (os error 20)",
+        ),
+    ] {
+        let text = look_up_error(&rt, objects, prefix)?;
+        assert!(rt; text.as_str() == want, "{text}");
+    }
+    fs::remove_dir_all(&rt, "store_with_faults")?;
     Ok(())
 }
 
