@@ -55,7 +55,7 @@ bench: $(PROGRAMS)
 	tools/bench
 	tools/instructions
 
-# A man page is the program's help, laid out.
+# The man page of oidtool is its help, laid out.
 MAN = awk -v name=$1 'NR == 1 { printf ".TH %s 1\n.SH NAME\n%s \\- %s\n", toupper(name), name, $$0 } \
     NR == 2 { sub("^usage: ", ""); printf ".SH SYNOPSIS\n%s\n.SH DESCRIPTION\n.nf\n", $$0 } NR > 2' crates/$1/help
 LINES = prefix=$(PREFIX) 'Name: gix_hash' 'Description: Git object ids, proved' 'Version: $(VERSION)' \
@@ -63,7 +63,8 @@ LINES = prefix=$(PREFIX) 'Name: gix_hash' 'Description: Git object ids, proved' 
 install: $(PROGRAMS) lib
 	install -d $(addprefix $(DESTDIR)$(PREFIX)/,bin share/man/man1 include lib/pkgconfig)
 	install -t $(DESTDIR)$(PREFIX)/bin $(foreach program,$(PROGRAMS),crates/$(program)/out/$(program))
-	@$(foreach program,$(PROGRAMS),$(call MAN,$(program)) > $(DESTDIR)$(PREFIX)/share/man/man1/$(program).1;)
+	@$(call MAN,oidtool) > $(DESTDIR)$(PREFIX)/share/man/man1/oidtool.1
+	install -m 644 -t $(DESTDIR)$(PREFIX)/share/man/man1 crates/packtool/packtool.1
 	install -m 644 -t $(DESTDIR)$(PREFIX)/include include/gix_hash.h
 	install -m 644 -t $(DESTDIR)$(PREFIX)/lib out/libgix_hash.a
 	install out/libgix_hash.so $(DESTDIR)$(PREFIX)/lib/$(SONAME)

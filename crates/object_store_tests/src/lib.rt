@@ -7,3 +7,5 @@ mod look_ups;
 mod memory;
 #[cfg(test)]
 mod places;
+#[cfg(test)]
+mod printing;

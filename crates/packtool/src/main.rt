@@ -1,58 +1,135 @@
-//! `packtool` reads Git's pack indexes, and checks files that end with their own digest.
+//! `packtool` looks ids up in a Git object store, and reads pack indexes.
 //!
-//! It reads one from standard input and writes to standard output. Its status is 0 if it wrote a
-//! line, 1 if it wrote none, and 2 for an error, which is printed on standard error.
+//! Its status is 0 if something was found and all is right, 1 if nothing was found or a file is
+//! wrong, and 2 for an error, which is printed on standard error. If nobody reads its output any
+//! more, it ends in silence.
 #![tactic(auto)]
 
-mod help;
+mod arguments;
+mod failure;
+mod files;
+mod noted;
+mod stores;
 
-use command_line::{Failure, WordsError, command_line_args, report};
-use packtool_commands::{ArgError, CommandError, read_command, run_command};
-use std::alloc::AllocError;
-use std::io;
-use std::io::BufWriter;
+ghost use Rattle.std.specs.Prelude.{◌≡◌, false};
+
+use clap::ArgMatches;
+use command_line::command_line_args;
+use failure::Failure;
+use noted::{Note, Output};
+use std::io::{BufWriter, ErrorKind};
 use std::process::ExitCode;
-use streams::Plain;
+use streams::{BufferedSink, Plain, Sink};
+
+// The statuses, a worse one above a better.
+const FOUND: u8 = 0;
+
+const NOTHING: u8 = 1;
+
+const FAILED: u8 = 2;
 
 fn main(rt: HostRuntime) -> ExitCode {
-    let outcome = match command_line_args(&rt) {
-        Ok(words) => return report(&rt, "packtool: ", run(&rt, &words)),
-        Err(WordsError::NotText) => Failure::Args(ArgError::Usage),
-        Err(WordsError::Memory) => Failure::Command(CommandError::Memory),
-    };
-    report(&rt, "packtool: ", Err(outcome))
+    match command_line_args(&rt) {
+        Ok(words) => end(&rt, run(&rt, &words)),
+        Err(error) => end(&rt, Err(Failure::from(error))),
+    }
 }
 
-/// Runs the command that the words ask for over standard input and standard output, or prints what
-/// they ask to know of the program. Nothing is read if the words are rejected.
-fn run<'a>(
-    rt: &(impl Input + Print + AllocGlobal),
-    words: &'a [String],
-) -> Result<usize, Failure<ArgError<'a>, CommandError>> {
-    let Ok(words): Result<Vec<&str>, AllocError> = words
-        .iter()
-        .map(|word| word.as_str())
-        .collect(rt.alloc())
-    else {
-        return Err(Failure::Command(CommandError::Memory));
-    };
-    if let Some(text) = help::asked_text(&words) {
-        return match rt.print(text) {
-            Ok(()) => Ok(1),
-            Err(_) => Err(Failure::Command(CommandError::Output)),
-        };
+// Prints the failure, if it is one, but for that of a pipe that was closed, and returns the status.
+fn end(rt: &HostRuntime, outcome: Result<u8, Failure<'_>>) -> ExitCode {
+    match outcome {
+        Ok(status) => ExitCode::from(status),
+        Err(failure) if is_closed_pipe(&failure) => ExitCode::SUCCESS,
+        Err(failure) => {
+            report(rt, &failure);
+            ExitCode::from(FAILED)
+        }
     }
-    let command = match read_command(&words) {
-        Ok(command) => command,
-        Err(why) => return Err(Failure::Args(why)),
+}
+
+// Whether nobody reads the output any more.
+fn is_closed_pipe(failure: &Failure<'_>) -> bool {
+    match failure {
+        Failure::Output(kind) => *kind == ErrorKind::BrokenPipe,
+        _ => false,
+    }
+}
+
+// Prints a failure. If that fails too, the status still says it.
+fn report(rt: &HostRuntime, failure: &Failure<'_>) {
+    let _ = eprintln!(rt; "packtool: {failure}");
+}
+
+// Runs the command that the words ask for over standard output, and returns the status.
+fn run<'a>(rt: &HostRuntime, words: &'a [String]) -> Result<u8, Failure<'a>> {
+    let matches = match arguments::command(rt.alloc())?.try_get_matches_from(words) {
+        Ok(matches) => matches,
+        Err(error) => {
+            return match error.print(rt) {
+                Ok(()) if error.use_stderr() => Ok(FAILED),
+                Ok(()) => Ok(FOUND),
+                Err(why) => Err(Failure::Output(why.kind())),
+            };
+        }
     };
-    let Ok(writer) = BufWriter::new(rt.alloc(), io::writer(rt)) else {
-        return Err(Failure::Command(CommandError::Memory));
+    let note = Note::new();
+    let Ok(writer) = BufWriter::new(rt.alloc(), Output::new(rt, &note)) else {
+        return Err(Failure::Memory);
     };
-    let mut input = Plain::new(rt.reader());
     let mut out = Plain::new(writer);
-    match run_command(rt.alloc(), command, &mut input, &mut out) {
-        Ok(count) => Ok(count),
-        Err(why) => Err(Failure::Command(why)),
+    let status = run_command(rt, &matches, &mut out, &note)?;
+    match out.flush() {
+        Ok(()) => Ok(status),
+        Err(error) => Err(Failure::Output(error.kind())),
     }
+}
+
+// Runs the command that was read.
+fn run_command<'a, W: Sink>(
+    rt: &HostRuntime,
+    matches: &ArgMatches<'a>,
+    out: &mut W,
+    note: &Note,
+) -> Result<u8, Failure<'a>>
+    requires { W.has_failed out.old ≡ false }
+{
+    let any = match matches.subcommand() {
+        Some(("find", matches)) => stores::find(rt, matches, out, note)?,
+        Some(("where", matches)) => stores::locate(rt, matches, out, note)?,
+        Some(("names", matches)) => stores::names(rt, matches, out, note)?,
+        Some((name, matches)) => return run_over_files(rt, name, matches, out, note),
+        None => return Ok(FAILED),
+    };
+    Ok(if any { FOUND } else { NOTHING })
+}
+
+// Runs `show` or `check` over each file, also after one that cannot be read.
+fn run_over_files<'a, W: Sink>(
+    rt: &HostRuntime,
+    name: &str,
+    matches: &ArgMatches<'a>,
+    out: &mut W,
+    note: &Note,
+) -> Result<u8, Failure<'a>> {
+    let kind = arguments::kind(matches);
+    let mut status = FOUND;
+    for path in matches.get_strs("files").unwrap_or(&[]) {
+        if out.failed() {
+            return Err(Failure::Output(note.kind()));
+        }
+        let outcome = match name {
+            "show" => files::show(rt, path, kind, out, note),
+            _ => files::check(rt, path, kind, out, note),
+        };
+        match outcome {
+            Ok(true) => {}
+            Ok(false) => status = status.max(NOTHING),
+            Err(Failure::File { path, why }) => {
+                report(rt, &Failure::File { path, why });
+                status = FAILED;
+            }
+            Err(failure) => return Err(failure),
+        }
+    }
+    Ok(status)
 }

@@ -1,5 +1,4 @@
-mod CommandLemmas
 mod LineLemmas
 mod LineRanges
-mod ShortNames
-mod RunningLemmas
+mod ShownLemmas
+mod NamedLemmas

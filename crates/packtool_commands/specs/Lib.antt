@@ -1,5 +1,7 @@
--- What the words of a command ask for, and what the commands over pack indexes print.
-pub mod Command
+-- What the commands print, and what they reject.
+pub mod Ending
+pub mod Finding
 pub mod Lines
 pub mod Names
-pub mod Running
+pub mod Places
+pub mod Showing

@@ -1,12 +1,10 @@
 -- The lines of a pack index, as `git show-index` prints them.
-use Rattle.std.specs.Prelude.{ℕ, ◌-◌, List, [], ◌∷◌, ◌++◌, decimal, filter, flat_map, length, slice_index_or}
+use Rattle.std.specs.Prelude.{ℕ, ◌-◌, List, [], ◌∷◌, ◌++◌, decimal, flat_map, length, slice_index_or}
 use Rattle.std.specs.Int.{to_be_bytes, w32}
 use Rattle.std.specs.List.{range_with_len}
 use Rattle.gix_hash.specs.Digits.{hex_letter, spelling}
-use Rattle.gix_hash.specs.Prefix.{KindDigits}
 use Rattle.gix_hash.specs.declared.Kind.{Kind}
 use Rattle.hex.specs.Hex.{encode_lower}
-use Rattle.id_lookup.specs.Runs.{begins_with}
 use Rattle.pack_index.specs.Format.{crc_in, names_in, offset_in}
 
 -- the digits of the name at an index
@@ -32,8 +30,3 @@ lines_of line start end = flat_map line (range_with_len start (end - start))
 -- the lines of all names
 abbrev pub shown : Kind → List ℕ → List ℕ
 shown kind bytes = lines_of (index_line kind bytes) 0 (length (names_in kind bytes))
-
--- those of the names that begin with a prefix
-abbrev pub found : KindDigits → Kind → List ℕ → List ℕ
-found prefix kind bytes =
-    flat_map (index_line kind bytes) (filter (λ k. begins_with (name_at kind bytes k) prefix) (range_with_len 0 (length (names_in kind bytes))))

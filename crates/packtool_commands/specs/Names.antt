@@ -1,37 +1,41 @@
--- The shortest names of the ids of a list, as digits, and their lines.
-use Rattle.std.specs.Prelude.{ℕ, ◌-◌, Bool, nat_eq, Option, None, Some, List, [], ◌∷◌, ◌++◌, length, slice_index_or, take}
-use Rattle.std.specs.List.{count_by, starts_with}
+-- The lines of the ids of a store, each with its shortest name.
+use Rattle.std.specs.Prelude.{◌≡◌, ◌≢◌, ◌↔◌, ℕ, Bool, Option, List, [], ◌∷◌, ◌++◌, All, IsTrue, flat_map, map}
+use Rattle.std.specs.Io.KnownBytes.{Appends}
+use Rattle.std.specs.List.{range_with_len}
+use Rattle.command_line.specs.Flushed.{AppendsAtMost}
 use Rattle.gix_hash.specs.Digits.{hex_letter, spelling}
-use Rattle.gix_hash.specs.declared.Kind.{Kind}
-use Rattle.pack_index.specs.Firsts.{first_from}
-use Rattle.pack_index.specs.Format.{names_in}
-use Rattle.packtool_commands.specs.Lines.{lines_of}
-
--- whether only one id begins with the first n digits of an id of the list
-abbrev pub is_name : List (List ℕ) → List ℕ → ℕ → Bool
-is_name ids id n = nat_eq (count_by (λ other. starts_with nat_eq other (take n id)) ids) 1
-
--- the smallest such number of digits, from four on
-abbrev pub short_len : List (List ℕ) → List ℕ → Option ℕ
-short_len ids id = first_from (is_name ids id) (length id - 3) 4
-
--- the first n digits, or all for no number
-abbrev pub cut_to : List ℕ → Option ℕ → List ℕ
-cut_to id None = id
-cut_to id (Some n) = take n id
-
--- the shortest name of an id of the list, and all its digits if it is a duplicate
-abbrev pub short_name : List (List ℕ) → List ℕ → List ℕ
-short_name ids id = cut_to id (short_len ids id)
+use Rattle.gix_hash.specs.ObjectId.{id_digits}
+use Rattle.id_lookup.specs.IndexOf.{part_of}
+use Rattle.object_store.specs.Stores.{IsNameIn}
+use Rattle.object_store.specs.declared.naming.NamedId.{NamedId}
 
 -- the texts of a name and an id in a line: a blank between them, and a line feed
 unfoldable pub line_of_name : List ℕ → List ℕ → List ℕ
 line_of_name name id = name ++ 32 ∷ id ++ 10 ∷ []
 
--- the line of the id at an index: its shortest name and the id, both in hex
-abbrev pub name_line : List (List ℕ) → ℕ → List ℕ
-name_line ids k = line_of_name (spelling hex_letter (short_name ids (slice_index_or ids k []))) (spelling hex_letter (slice_index_or ids k []))
+-- the line of an id: its name and the id, both in hex
+abbrev pub name_line : NamedId → List ℕ
+name_line n = line_of_name (spelling hex_letter n.name.digits) (spelling hex_letter (id_digits n.id))
 
--- the lines of all ids
-abbrev pub named : Kind → List ℕ → List ℕ
-named kind bytes = lines_of (name_line (names_in kind bytes)) 0 (length (names_in kind bytes))
+-- the ids whose first byte is below n, a byte after the other
+abbrev pub parts_below : ℕ → List (List ℕ) → List (List ℕ)
+parts_below n ids = flat_map (λ byte. part_of byte ids) (range_with_len 0 n)
+
+-- these are the ids of the whole store whose first byte is below n, each with its shortest name there
+pub record AreNamedBelow (n least : ℕ) (whole : List (List ℕ)) (named : List NamedId) : Type 0 where
+  pub ids : map (λ (m : NamedId). id_digits m.id) named ≡ parts_below n whole
+  pub names : All (λ (m : NamedId). IsNameIn least whole (id_digits m.id) m.name.digits) named
+
+-- their lines were written, and whether there is one is this
+pub record HasNamedBelow (n least : ℕ) (whole : List (List ℕ)) (any : Bool) (old new : Option (List ℕ)) : Type 0 where
+  pub named : List NamedId
+  pub are_named : AreNamedBelow n least whole named
+  pub found : IsTrue any ↔ (named ≢ [])
+  pub written : Appends old new (flat_map name_line named)
+
+-- a beginning of such lines was written, or all
+pub record HasNamedAtMost (least : ℕ) (whole : List (List ℕ)) (old new : Option (List ℕ)) : Type 0 where
+  pub n : ℕ
+  pub named : List NamedId
+  pub are_named : AreNamedBelow n least whole named
+  pub written : AppendsAtMost old new (flat_map name_line named)

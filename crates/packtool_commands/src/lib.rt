@@ -1,19 +1,21 @@
-//! The commands of `packtool`, over any reader, writer and allocator, and what they print of a pack
-//! index.
+//! The commands of `packtool`, over any store, reader, writer and allocator.
 //!
-//! [`read_command`] reads the words of a command line, and [`run_command`] does what they ask for.
-//! [`show`] writes a line for each name of an index as `git show-index` does, and [`find`] those of
-//! the names that begin with a prefix. [`names`] writes the shortest name of each.
+//! [`find`] writes the ids of a store that begin with a prefix, and [`names`] all of them after
+//! their shortest names. [`write_place`] writes where an object is. [`show`] writes the lines of a pack index as `git show-index` does, and
+//! [`write_ending`] whether a file ends with its digest.
 #![tactic(auto)]
 
-mod command;
-pub mod laws;
+mod ending;
+mod error;
+mod finding;
 mod lines;
 mod naming;
-mod running;
+mod placing;
 mod showing;
 
-pub use command::{ArgError, Command, read_command};
+pub use ending::write_ending;
+pub use error::{FileError, StoreError};
+pub use finding::find;
 pub use naming::names;
-pub use running::{CommandError, run_command};
-pub use showing::{find, show};
+pub use placing::write_place;
+pub use showing::show;

@@ -1,16 +1,21 @@
-//! Lines of a pack index, put together in a buffer.
+//! Lines, put together in a buffer.
 
-ghost use Rattle.std.specs.Prelude.{◌≡◌, ◌+◌, ◌<◌, ◌≤◌, ◌++◌, decimal, length, take};
+ghost use Rattle.std.specs.Prelude.{◌≡◌, ◌+◌, ◌<◌, ◌≤◌, [], ◌∷◌, ◌++◌, Some, decimal, length, take};
 ghost use Rattle.gix_hash.specs.Digits.{hex_letter, spelling};
+ghost use Rattle.gix_hash.specs.ObjectId.{id_digits};
 ghost use Rattle.gix_hash.specs.Oid.{oid_digits};
 ghost use Rattle.pack_index.specs.Format.{names_in};
+ghost use Rattle.packtool_commands.specs.Ending.{verdict};
 ghost use Rattle.packtool_commands.specs.Lines.{crc_text, index_line, line_of};
-ghost use Rattle.packtool_commands.specs.Names.{line_of_name};
+ghost use Rattle.packtool_commands.specs.Names.{name_line};
+ghost use Rattle.packtool_commands.specs.Places.{place_end};
 
-use gix_hash::{Alphabet, oid};
+use gix_hash::{Alphabet, ObjectId, oid};
 use hex::encode_to_slice;
 use itoa::Buffer;
+use object_store::NamedId;
 use pack_index::File;
+use streams::Ending;
 
 /// The length of the longest line: an offset of 20 digits, an id of 64, a CRC of 8, and five bytes
 /// between and after them.
@@ -18,6 +23,15 @@ pub(crate) const MAX_LINE_LEN: usize = 97;
 
 /// The length of the longest line of a name and its id: 64 digits of each, a blank and a line feed.
 pub(crate) const MAX_NAMES_LEN: usize = 130;
+
+/// The length of the longest verdict: two ids of 64 digits, and 55 bytes around them.
+pub(crate) const MAX_VERDICT_LEN: usize = 183;
+
+/// The lengths of the longest parts of the line of a place before the path and after it: an id and
+/// a blank, and a blank, an offset of 20 digits and a line feed.
+pub(crate) const MAX_START_LEN: usize = 65;
+
+pub(crate) const MAX_END_LEN: usize = 22;
 
 // The most digits of an id.
 const MAX_ID_LEN: usize = 64;
@@ -55,21 +69,75 @@ fn put_offset_id_crc(offset: u64, id: oid<'_>, crc: u32, line: &mut [u8]) -> usi
     put(line, crc_end, b")\n")
 }
 
-/// Writes the first digits of an id, a blank, the id and a line feed to the start of the buffer,
-/// and returns how many bytes these are.
-pub(crate) fn put_name_and_id(id: oid<'_>, len: usize, line: &mut [u8]) -> usize
-    requires digits { len ≤ length (oid_digits id) }
-    requires room { length line.old ≡ MAX_NAMES_LEN }
+/// Writes the line of an id and its name to the start of the buffer, and returns its length.
+pub(crate) fn put_name_line(named: &NamedId, line: &mut [u8]) -> usize
+    requires { length line.old ≡ MAX_NAMES_LEN }
     ensures len { result ≤ MAX_NAMES_LEN }
-    ensures text { take result line.new
-        ≡ line_of_name (spelling hex_letter (take len (oid_digits id.entry)))
-        (spelling hex_letter (oid_digits id.entry)) }
+    ensures text { take result line.new ≡ name_line named.now }
 {
-    // The blank overwrites the digit after the first ones, and the id the rest.
-    put_id(line, 0, id);
-    let id_at = put(line, len, b" ");
-    let id_end = put_id(line, id_at, id);
+    // The blank overwrites what is after the digits of the name, and the id the rest.
+    put_id(line, 0, named.name.as_oid());
+    let id_at = put(line, named.name.hex_len(), b" ");
+    let id_end = put_id(line, id_at, named.id.as_oid());
     put(line, id_end, b"\n")
+}
+
+/// Writes what is said of a checked file after its name to the start of the buffer, and returns its
+/// length.
+pub(crate) fn put_verdict(ending: &Ending, line: &mut [u8]) -> usize
+    requires { length line.old ≡ MAX_VERDICT_LEN }
+    ensures len { result ≤ MAX_VERDICT_LEN }
+    ensures text { take result line.new ≡ verdict ending.now }
+{
+    match ending {
+        Ending::Sealed(_) => put(line, 0, b": OK\n"),
+        Ending::Unsealed {
+            digest,
+            last: Some(last),
+        } => put_digests(last, digest, line),
+        Ending::Unsealed { last: None, .. } => {
+            put(line, 0, b": FAILED: it is shorter than a digest\n")
+        }
+    }
+}
+
+// Writes what is said of a file with these last bytes that are not this digest of the others.
+fn put_digests(last: &ObjectId, digest: &ObjectId, line: &mut [u8]) -> usize
+    requires { length line.old ≡ MAX_VERDICT_LEN }
+    ensures len { result ≤ MAX_VERDICT_LEN }
+    ensures text { take result line.new ≡ verdict (Ending.Unsealed digest.now (Some last.now)) }
+{
+    let last_at = put(line, 0, b": FAILED: it ends in ");
+    let last_end = put_id(line, last_at, last.as_oid());
+    let digest_at = put(line, last_end, b", and the digest of the rest is ");
+    let digest_end = put_id(line, digest_at, digest.as_oid());
+    put(line, digest_end, b"\n")
+}
+
+/// Writes an id and a blank to the start of the buffer, and returns their length.
+pub(crate) fn put_place_start(id: &ObjectId, line: &mut [u8]) -> usize
+    requires { length line.old ≡ MAX_START_LEN }
+    ensures len { result ≤ MAX_START_LEN }
+    ensures text { take result line.new ≡ spelling hex_letter (id_digits id.now) ++ 32 ∷ [] }
+{
+    let id_end = put_id(line, 0, id.as_oid());
+    put(line, id_end, b" ")
+}
+
+/// Writes what is after the path of a place to the start of the buffer, and returns its length.
+pub(crate) fn put_place_end(offset: Option<u64>, line: &mut [u8]) -> usize
+    requires { length line.old ≡ MAX_END_LEN }
+    ensures len { result ≤ MAX_END_LEN }
+    ensures text { take result line.new ≡ place_end offset }
+{
+    let Some(offset) = offset else {
+        return put(line, 0, b"\n");
+    };
+    let mut number = Buffer::new();
+    let number = number.format(offset).as_bytes();
+    let number_at = put(line, 0, b" ");
+    let number_end = put(line, number_at, number);
+    put(line, number_end, b"\n")
 }
 
 // Copies bytes into the buffer at a position, and returns where they end.

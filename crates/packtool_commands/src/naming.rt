@@ -1,60 +1,84 @@
-//! The shortest names of a pack index.
+//! The ids of a store after their shortest names.
 
-ghost use Rattle.std.specs.Prelude.{◌≡◌, ◌≤◌, ◌<◌, [], false, true, length, take, slice_index_or, IfOk, OnOk, OnErr};
+ghost use Rattle.std.specs.Prelude.{◌≡◌, ◌≢◌, ◌↔◌, ◌⊎◌, ◌≤◌, ℕ, List, [], false, true, flat_map, IfErr, IfOk, IsErrOf, IsTrue, OnOk, OnErr};
 ghost use Rattle.std.specs.Io.KnownBytes.{Appends};
+ghost use Rattle.gix_hash.specs.Kind.{hex_len_of};
+ghost use Rattle.object_store.specs.Stores.{Holds};
+ghost use Rattle.packtool_commands.specs.Finding.{IsFault};
+ghost use Rattle.packtool_commands.specs.Names.{HasNamedAtMost, HasNamedBelow, name_line};
+ghost use Rattle.packtool_commands.specs.declared.error.StoreError.{StoreError};
 ghost use Rattle.streams.specs.Writing.{AppendsPart};
-ghost use Rattle.pack_index.specs.Format.{names_in};
-ghost use Rattle.packtool_commands.specs.Names.{name_line, named, short_name};
 
-use crate::lines::{MAX_NAMES_LEN, put_name_and_id};
-use pack_index::File;
+use crate::error::StoreError;
+use crate::lines::{MAX_NAMES_LEN, put_name_line};
+use object_store::{NamedId, Store};
+use std::alloc::Allocator;
 use streams::{Sink, WriteFailed, write_all};
 
-/// Writes a line for each name of the index, in their order: the shortest name, a blank, the id and
-/// a line feed. Returns the number of lines.
+// The number of first bytes.
+const BYTES: usize = 256;
+
+/// Writes a line for each id of a store, in order: its shortest unique name in the whole store, of
+/// at least so many digits, from 4 up to all of the kind; a blank; the id; and a line feed. Returns
+/// whether there is one.
 ///
-/// The shortest name is the fewest digits, at least 4, with which no other id of the index begins.
-/// A duplicate has none, and all its digits are written instead. It stops at the first write that
-/// fails, with a proper beginning of the lines written. The sink must not have failed before.
-pub fn names<W: Sink>(file: &File<'_>, out: &mut W) -> Result<usize, WriteFailed>
+/// The ids with a first byte are written before those with the next are read. Under an error a
+/// beginning of the right lines was written. [`StoreError::Output`] is returned if and only if a
+/// write fails. The sink must not have failed before.
+///
+/// ```
+/// if !names(rt.alloc(), &store, 7, &mut out)? {
+///     println!(rt; "the store is empty")?;
+/// }
+/// ```
+pub fn names<S: Store, A: Allocator + Copy, W: Sink>(
+    alloc: A,
+    store: &S,
+    least: usize,
+    out: &mut W,
+) -> Result<bool, StoreError>
+    requires enough { 4 ≤ least }
+    requires fits { least ≤ hex_len_of (S.kind store.now) }
+    requires output { W.has_failed out.old ≡ false }
+    ensures named { IfOk result (λ any. (whole : List (List ℕ))
+        → Holds (S.kind store.now) (S.packs store.now) (S.loose store.now) whole
+        → HasNamedBelow BYTES least whole any (W.taken out.old) (W.taken out.new)) }
+    ensures refused { IfErr result (IsFault (S.kind store.now) (S.packs store.now)) }
+    ensures output { IsErrOf result StoreError.Output ↔ (W.has_failed out.new ≡ true) }
+    ensures part { IfErr result (λ _. (whole : List (List ℕ))
+        → Holds (S.kind store.now) (S.packs store.now) (S.loose store.now) whole
+        → HasNamedAtMost least whole (W.taken out.old) (W.taken out.new)) }
+{
+    let mut any = false;
+    for byte in 0..BYTES {
+        let named = object_store::names(alloc, store, byte as u8, least)?;
+        write_names(&named, out)?;
+        any = is_any(any, &named);
+    }
+    Ok(any)
+}
+
+// Whether there is one of these ids or of those before.
+fn is_any(before: bool, named: &[NamedId]) -> bool
+    ensures { IsTrue result ↔ (IsTrue before ⊎ (named.now ≢ [])) }
+{
+    before || !named.is_empty()
+}
+
+// Writes the lines of ids with their names.
+fn write_names<W: Sink>(named: &[NamedId], out: &mut W) -> Result<(), WriteFailed>
     requires { W.has_failed out.old ≡ false }
-    ensures count { IfOk result (λ count. count ≡ length (names_in file.now.kind file.now.bytes)) }
     ensures written { OnOk result (Appends (W.taken out.old) (W.taken out.new)
-        (named file.now.kind file.now.bytes)) }
+        (flat_map name_line named.now)) }
     ensures stands { OnOk result (W.has_failed out.new ≡ false) }
     ensures part { OnErr result (AppendsPart (W.taken out.old) (W.taken out.new)
-        (named file.now.kind file.now.bytes)) }
+        (flat_map name_line named.now)) }
     ensures failed { OnErr result (W.has_failed out.new ≡ true) }
 {
-    let count = file.num_objects();
     let mut line = [0; MAX_NAMES_LEN];
-    for at in 0..count {
-        let len = put_name_line(file, at, &mut line);
+    for id in named {
+        let len = put_name_line(id, &mut line);
         write_all(out, &line[..len])?;
     }
-    Ok(count)
-}
-
-// Writes the line of the name at an index to the start of the buffer, and returns its length.
-fn put_name_line(file: &File<'_>, at: usize, line: &mut [u8]) -> usize
-    requires place { at < length (names_in file.now.kind file.now.bytes) }
-    requires room { length line.old ≡ MAX_NAMES_LEN }
-    ensures len { result ≤ MAX_NAMES_LEN }
-    ensures text { take result line.new ≡ name_line (names_in file.now.kind file.now.bytes) at }
-{
-    let len = short_len(file, at);
-    put_name_and_id(file.oid_at_index(at), len, line)
-}
-
-// The number of digits of an id's shortest name, or of all its digits if it is a duplicate.
-fn short_len(file: &File<'_>, at: usize) -> usize
-    requires { at < length (names_in file.now.kind file.now.bytes) }
-    ensures most { result ≤ length (slice_index_or (names_in file.now.kind file.now.bytes) at []) }
-    ensures name { let names = names_in file.now.kind file.now.bytes in
-        take result (slice_index_or names at []) ≡ short_name names (slice_index_or names at []) }
-{
-    match file.abbreviate(at) {
-        Some(name) => name.hex_len(),
-        None => file.oid_at_index(at).kind().len_in_hex(),
-    }
+    Ok(())
 }

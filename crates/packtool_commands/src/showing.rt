@@ -1,81 +1,117 @@
 //! The lines of a pack index, as `git show-index` prints them.
 
-ghost use Rattle.std.specs.Prelude.{◌≡◌, ◌-◌, ◌≤◌, false, true, length, IfOk, OnOk, OnErr};
-ghost use Rattle.std.specs.List.{count_by};
-ghost use Rattle.std.specs.Io.KnownBytes.{Appends};
+ghost use Rattle.std.specs.Prelude.{◌≡◌, ◌≢◌, ◌↔◌, ◌⊎◌, [], false, true, IfErr, IfOk, IfSome, IsErrOf, IsTrue, OnOk, OnErr};
+ghost use Rattle.std.specs.Io.KnownBytes.{Appends, Consumes, IsAtEnd};
 ghost use Rattle.streams.specs.Writing.{AppendsPart};
-ghost use Rattle.id_lookup.specs.Runs.{begins_with};
 ghost use Rattle.pack_index.specs.Format.{names_in};
-ghost use Rattle.packtool_commands.specs.Lines.{found, index_line, lines_of, shown};
+ghost use Rattle.packtool_commands.specs.Lines.{shown};
+ghost use Rattle.packtool_commands.specs.Showing.{HasShown, HasShownPart, Refuses, opened_as};
+ghost use Rattle.packtool_commands.specs.declared.error.FileError.{FileError};
 
+use crate::error::FileError;
 use crate::lines::{MAX_LINE_LEN, put_index_line};
-use gix_hash::Prefix;
-use id_lookup::Run;
+use gix_hash::Kind;
 use pack_index::File;
-use streams::{Sink, WriteFailed, write_all};
+use std::alloc::Allocator;
+use streams::{CHUNK_LEN, Sink, Source, WriteFailed, write_all};
 
-/// Writes a line for each name of the index, in their order, as `git show-index` does: the object's
-/// offset in the pack, in decimal; a blank; the id in hex; a blank; the CRC-32 of the packed object
-/// as eight hex digits in brackets; and a line feed. Returns the number of lines.
+/// Reads a pack index of version 2 to its end, and writes a line for each of its names, in their
+/// order, as `git show-index` does: the object's offset in the pack, in decimal; a blank; the id in
+/// hex; a blank; the CRC-32 of the packed object as eight hex digits in brackets; and a line feed.
+/// Returns whether there is one. With no kind, the names may be of either.
 ///
-/// It stops at the first write that fails, with a proper beginning of the lines written. The sink
-/// must not have failed before.
-pub fn show<W: Sink>(file: &File<'_>, out: &mut W) -> Result<usize, WriteFailed>
-    requires { W.has_failed out.old ≡ false }
-    ensures count { IfOk result (λ count. count ≡ length (names_in file.now.kind file.now.bytes)) }
-    ensures written { OnOk result (Appends (W.taken out.old) (W.taken out.new)
-        (shown file.now.kind file.now.bytes)) }
-    ensures stands { OnOk result (W.has_failed out.new ≡ false) }
-    ensures part { OnErr result (AppendsPart (W.taken out.old) (W.taken out.new)
-        (shown file.now.kind file.now.bytes)) }
-    ensures failed { OnErr result (W.has_failed out.new ≡ true) }
-{
-    show_run(file, 0, file.num_objects(), out)
-}
-
-/// Writes those lines of [`show`] whose ids begin with a prefix, in their order, and returns their
-/// number. The prefix has the index's kind.
+/// Nothing is written before the input is known to be an index. [`FileError::Input`] is returned if
+/// and only if a read fails, and [`FileError::Output`] if and only if a write fails, after a proper
+/// beginning of the lines. Input and sink must not have failed before.
 ///
-/// It stops at the first write that fails, with a proper beginning of the lines written. The sink
-/// must not have failed before.
-pub fn find<W: Sink>(file: &File<'_>, prefix: &Prefix, out: &mut W) -> Result<usize, WriteFailed>
-    requires kind { prefix.now.kind ≡ file.now.kind }
-    requires output { W.has_failed out.old ≡ false }
-    ensures count { IfOk result (λ count. count
-        ≡ count_by (λ id. begins_with id prefix.now) (names_in file.now.kind file.now.bytes)) }
-    ensures written { OnOk result (Appends (W.taken out.old) (W.taken out.new)
-        (found prefix.now file.now.kind file.now.bytes)) }
-    ensures stands { OnOk result (W.has_failed out.new ≡ false) }
-    ensures part { OnErr result (AppendsPart (W.taken out.old) (W.taken out.new)
-        (found prefix.now file.now.kind file.now.bytes)) }
-    ensures failed { OnErr result (W.has_failed out.new ≡ true) }
-{
-    let run = file.find_prefix(prefix);
-    show_run(file, run.start, run.end, out)
-}
-
-// Writes the lines at the indexes from `start` up to `end`, and returns their number.
-fn show_run<W: Sink>(
-    file: &File<'_>,
-    start: usize,
-    end: usize,
+/// ```
+/// let any = show(rt.alloc(), None, &mut input, &mut out)?;
+/// println!(rt; "{any}")?;
+/// ```
+pub fn show<A: Allocator, R: Source, W: Sink>(
+    alloc: A,
+    kind: Option<Kind>,
+    input: &mut R,
     out: &mut W,
-) -> Result<usize, WriteFailed>
-    requires order { start ≤ end }
-    requires in_range { end ≤ length (names_in file.now.kind file.now.bytes) }
+) -> Result<bool, FileError>
+    requires input { R.has_failed input.old ≡ false }
     requires output { W.has_failed out.old ≡ false }
-    ensures count { IfOk result (λ count. count ≡ end - start) }
+    ensures shown { IfOk result (λ any. IfSome (R.remaining input.old) (λ bytes.
+        HasShown kind bytes any (W.taken out.old) (W.taken out.new))) }
+    ensures refused { IfErr result (λ e. IfSome (R.remaining input.old) (λ bytes.
+        Refuses kind bytes e)) }
+    ensures untouched { IfErr result (λ e. e ≢ FileError.Output → out.new ≡ out.old) }
+    ensures input { IsErrOf result FileError.Input ↔ (R.has_failed input.new ≡ true) }
+    ensures output { IsErrOf result FileError.Output ↔ (W.has_failed out.new ≡ true) }
+    ensures part { IsErrOf result FileError.Output → IfSome (R.remaining input.old) (λ bytes.
+        HasShownPart kind bytes (W.taken out.old) (W.taken out.new)) }
+{
+    let bytes = read_all(alloc, input)?;
+    let file = open(&bytes, kind)?;
+    write_lines(&file, out)?;
+    Ok(has_names(&file))
+}
+
+// Whether an index has a name.
+fn has_names(file: &File<'_>) -> bool
+    ensures { IsTrue result ↔ (names_in file.now.kind file.now.bytes ≢ []) }
+{
+    file.num_objects() > 0
+}
+
+// The index that the bytes are, of the kind, or with no kind of either.
+fn open(bytes: &[u8], kind: Option<Kind>) -> Result<File<'_>, pack_index::Error>
+    ensures { result ≡ opened_as kind bytes.now }
+{
+    match kind {
+        Some(kind) => File::try_new(bytes, kind),
+        None => match File::try_new(bytes, Kind::Sha1) {
+            Err(pack_index::Error::OtherKind(kind)) => File::try_new(bytes, kind),
+            opened => opened,
+        },
+    }
+}
+
+// Writes the lines of an index.
+fn write_lines<W: Sink>(file: &File<'_>, out: &mut W) -> Result<(), WriteFailed>
+    requires { W.has_failed out.old ≡ false }
     ensures written { OnOk result (Appends (W.taken out.old) (W.taken out.new)
-        (lines_of (index_line file.now.kind file.now.bytes) start end)) }
+        (shown file.now.kind file.now.bytes)) }
     ensures stands { OnOk result (W.has_failed out.new ≡ false) }
     ensures part { OnErr result (AppendsPart (W.taken out.old) (W.taken out.new)
-        (lines_of (index_line file.now.kind file.now.bytes) start end)) }
+        (shown file.now.kind file.now.bytes)) }
     ensures failed { OnErr result (W.has_failed out.new ≡ true) }
 {
     let mut line = [0; MAX_LINE_LEN];
-    for at in start..end {
+    let count = file.num_objects();
+    for at in 0..count {
         let len = put_index_line(file, at, &mut line);
         write_all(out, &line[..len])?;
     }
-    Ok(end - start)
+    Ok(())
+}
+
+// Reads the source to its end. Not inlined, so that the chunk is on the stack only while this runs.
+#[inline(never)]
+fn read_all<A: Allocator, R: Source>(alloc: A, input: &mut R) -> Result<Vec<u8, A>, FileError>
+    requires { R.has_failed input.old ≡ false }
+    ensures all { IfOk result (λ text. Consumes (R.remaining input.old)
+        (R.remaining input.new) text.items) }
+    ensures end { OnOk result (IsAtEnd (R.remaining input.new)) }
+    ensures refused { IfErr result (λ e. (e ≡ FileError.Memory) ⊎ (e ≡ FileError.Input)) }
+    ensures memory { IsErrOf result FileError.Memory
+        → IfSome (R.remaining input.old) (λ bytes. bytes ≢ []) }
+    ensures input { IsErrOf result FileError.Input ↔ (R.has_failed input.new ≡ true) }
+{
+    let mut text = Vec::new(alloc);
+    let mut chunk = [0; CHUNK_LEN];
+    'chunks: loop {
+        let Ok(count) = input.read(&mut chunk) else {
+            return Err(FileError::Input);
+        };
+        if count == 0 {
+            return Ok(text);
+        }
+        text.extend_from_slice(&chunk[..count])?;
+    }
 }

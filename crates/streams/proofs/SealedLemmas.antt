@@ -11,6 +11,10 @@ use Rattle.gix_hash.specs.Kind.{byte_len_of}
 use Rattle.gix_hash.specs.ObjectId.{id_bytes}
 use Rattle.gix_hash.specs.declared.Kind.{Kind}
 use Rattle.gix_hash.specs.declared.Kind.TheVariants.{Sha1, Sha256}
+use Rattle.gix_hash.specs.declared.ObjectId.{ObjectId}
+use Rattle.streams.specs.Sealed.{EndsAs, IsEnding}
+use Rattle.streams.specs.declared.checking.Ending.{Ending}
+use Rattle.streams.specs.declared.checking.Ending.TheVariants.{Sealed, Unsealed}
 
 -- the two parts of a list are determined by the length of the second
 same_parts : (a b c d : List ℕ) → a ++ b ≡ c ++ d → length b ≡ length d → (a ≡ c) × (b ≡ d)
@@ -73,6 +77,21 @@ unsealed kind lens message tail total held counted is_held len differ is_sealed 
     let full : length tail ≡ byte_len_of kind =
     omega (arith, counted, is_held, len, length-append message tail, sealed-length kind lens (message ++ tail) is_sealed) in
     differ (sym (sealed-end kind lens message tail full is_sealed))
+
+-- how the bytes end whose last are held back
+pub ends_as : (kind : Kind) → HaveLength kind → (message last : List ℕ) (total held : ℕ) → length message + held ≡ total
+    → held ≡ min (byte_len_of kind) total → length last ≡ held → (id : ObjectId) → id ≡ digest kind message → (ending : Ending)
+    → IsEnding kind id last ending → EndsAs kind (message ++ last) ending
+ends_as kind lens message last total held counted is_held len id digest_is (Sealed found) is =
+    (message, ap (λ (tail : List ℕ). message ++ tail) (sym is.1 ∙ ap id_bytes digest_is), is.0 ∙ digest_is)
+ends_as kind lens message last total held counted is_held len id digest_is (Unsealed other found) is = record {
+  message = message;
+  last = last;
+  parts = refl;
+  not_sealed = unsealed kind lens message last total held counted is_held len (λ same. is.1 (ap id_bytes digest_is ∙ same));
+  digest_is = is.0 ∙ digest_is;
+  last_is = is.2;
+}
 
 -- no digest of a kind has more than 32 bytes
 pub byte_len_of-most : (kind : Kind) → byte_len_of kind ≤ 32

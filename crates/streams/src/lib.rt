@@ -20,7 +20,7 @@ mod read_at;
 mod sink;
 mod source;
 
-pub use checking::check;
+pub use checking::{Ending, check};
 pub use chunks::next_chunk;
 pub use from_slice::FromSlice;
 pub use into_slice::IntoSlice;

@@ -1,12 +1,12 @@
 //! Checking what ends with the digest of all before it: digests from outside, and devices that
 //! fail.
 
-use super::faulty::{Fault, Reader, Writer};
+use super::faulty::{Fault, Reader};
 use super::sealing::{ABC, ABC_256, EMPTY, EMPTY_256, MILLION, MILLION_256, sealed};
-use crate::expecting::expect_bytes;
+use crate::expecting::expect_printed;
 use gix_hash::Kind;
 use std::process::Abort;
-use streams::{FromSlice, IntoSlice, PipeError, Plain, Sink, Source, check};
+use streams::{Ending, PipeError, Plain, Source, check};
 
 // The digests of that many letters `a`, by the programs `sha1sum` and `sha256sum`. A source is read
 // in chunks of 65536 bytes: a sealed message ends with a chunk, or its digest is in the next one.
@@ -34,16 +34,28 @@ const NO_OBJECTS: &[u8] =
 const NO_OBJECTS_256: &[u8] =
     b"PACK\0\0\0\x02\0\0\0\0\x7e\xd8\x90\xd8\xa4\x57\x60\xf3\xee\xcf\x73\x04\x5b\x1d\x10\x47\x08\x5a\xf4\x77\x6d\xc6\x83\xd7\x8e\xac\x82\x20\x3d\xf1\x99\x3f";
 
-// Checks the bytes, at most `chunk` a read, and compares the result and what is written: the line
-// if it is given, and nothing otherwise.
-fn expect_check(rt: &impl Abort, kind: Kind, bytes: &[u8], chunk: usize, line: Option<&str>) {
+// Checks the bytes, at most `chunk` a read: they end with the digest of the line if it is given, and
+// otherwise with other bytes, which are as many as a digest has unless there are fewer.
+fn expect_check(
+    rt: &(impl Abort + AllocGlobal),
+    kind: Kind,
+    bytes: &[u8],
+    chunk: usize,
+    line: Option<&str>,
+) {
     let mut input = Plain::new(Reader::new(bytes, chunk, Fault::Never));
-    let mut buf = [0; 80];
-    let mut out = IntoSlice::new(&mut buf);
     let row = (kind, bytes.len(), chunk, line);
-    let found = check(&mut input, &mut out, kind);
-    expect!(rt; found == Ok(usize::from(line.is_some())), &row);
-    expect_bytes(rt, out.written(), line.unwrap_or("").as_bytes(), &row);
+    match check(&mut input, kind) {
+        Ok(Ending::Sealed(id)) => {
+            let text = format!(in rt.alloc(); "{id}\n").expect(rt, "no memory for a text");
+            expect!(rt; line == Some(text.as_str()), &row);
+        }
+        Ok(Ending::Unsealed { last, .. }) => {
+            expect!(rt; line.is_none(), &row);
+            expect!(rt; last.is_some() == (bytes.len() >= kind.len_in_bytes()), &row);
+        }
+        Err(_) => expect!(rt; false, &row),
+    }
 }
 
 #[test]
@@ -110,57 +122,34 @@ fn finds_what_is_not_sealed(rt: HostRuntime) {
     }
 }
 
-// Checks `abc` and its digest in SHA-1, a byte a read, between two devices, and compares the
-// result, what is written, and how often the devices are called.
-fn expect_stop(
-    rt: &(impl Abort + AllocGlobal),
-    read: Fault,
-    write: (usize, Fault),
-    error: PipeError,
-    taken: &[u8],
-    calls: (usize, usize),
-) {
-    let whole = sealed(rt, b"abc", ABC);
-    let mut input = Plain::new(Reader::new(&whole, 1, read));
-    let (chunk, fault) = write;
-    let mut out = Plain::new(Writer::new(Vec::new(rt.alloc()), chunk, fault));
-    let outcome = check(&mut input, &mut out, Kind::Sha1);
-    expect!(rt; outcome == Err(error), &calls);
-    expect!(rt; input.failed() == (error == PipeError::Input), &calls);
-    expect!(rt; out.failed() == (error == PipeError::Output), &calls);
-    let (reads, writes) = calls;
-    expect!(rt; input.into_inner().calls() == reads, &calls);
-    let writer = out.into_inner();
-    expect!(rt; writer.calls() == writes, &calls);
-    expect_bytes(rt, writer.taken(), taken, &calls);
+// The last bytes, and the digest of the rest, by the program `sha1sum`.
+#[test]
+fn gives_both_digests(rt: HostRuntime) {
+    let mut input = Plain::new(Reader::new(b"abc0123456789abcdefghij", 5, Fault::Never));
+    match check(&mut input, Kind::Sha1) {
+        Ok(
+            Ending::Unsealed {
+                digest,
+                last: Some(last),
+            },
+        ) => {
+            expect_printed(&rt, digest, "a9993e364706816aba3e25717850c26c9cd0d89d");
+            expect_printed(&rt, last, "303132333435363738396162636465666768696a");
+        }
+        _ => expect!(&rt; false),
+    }
 }
 
 // The 24th read is the one that finds the end.
 #[test]
 fn reports_a_read_that_fails(rt: HostRuntime) {
-    let whole = (usize::MAX, Fault::Never);
+    let whole = sealed(&rt, b"abc", ABC);
     for n in 1..=24 {
         for fault in [Fault::AtCall(n), Fault::InterruptedAt(n)] {
-            expect_stop(&rt, fault, whole, PipeError::Input, b"", (n, 0));
+            let mut input = Plain::new(Reader::new(&whole, 1, fault));
+            expect!(&rt; matches!(check(&mut input, Kind::Sha1), Err(PipeError::Input)), &n);
+            expect!(&rt; input.failed(), &n);
+            expect!(&rt; input.into_inner().calls() == n, &n);
         }
-    }
-}
-
-#[test]
-fn reports_a_write_that_fails(rt: HostRuntime) {
-    let line = ABC.as_bytes();
-    for n in 1..=line.len() {
-        for fault in [Fault::AtCall(n), Fault::InterruptedAt(n)] {
-            let write = (1, fault);
-            let taken = &line[..n - 1];
-            expect_stop(&rt, Fault::Never, write, PipeError::Output, taken, (24, n));
-        }
-    }
-    for (write, taken, writes) in [
-        ((0, Fault::Never), b"".as_slice(), 1),
-        ((usize::MAX, Fault::AfterBytes(5)), b"a9993", 2),
-    ] {
-        let calls = (24, writes);
-        expect_stop(&rt, Fault::Never, write, PipeError::Output, taken, calls);
     }
 }

@@ -1,4 +1,4 @@
-//! Commands over pack indexes, with devices and memory that fail.
+//! What is printed of files, with devices and memory that fail.
 
 use super::asking::course_of;
 use super::faulty::{Fault, Reader, Writer};
@@ -6,35 +6,23 @@ use super::watched::{Course, Watch, Watched};
 use crate::expecting::{expect_bytes, expect_shown};
 use gix_hash::{Kind, digest_of};
 use linked_list_allocator::LocalHeap;
-use packtool_commands::{Command, CommandError, run_command};
+use packtool_commands::{FileError, show, write_ending, write_place};
 use std::alloc::{AllocError, Global};
-use std::io::BufWriter;
 use std::process::Abort;
 use std::test::Fail;
-use streams::{FromSlice, IntoSlice, Plain};
+use streams::{Ending, FromSlice, IntoSlice, Plain};
 
 const KIND: Kind = Kind::Sha1;
-
-// The commands over the index of one name, and how often each reads and writes where nothing fails.
-// It has 1100 bytes.
-const COMMANDS: [(Command<'_>, usize, usize); 4] = [
-    (
-        Command::Find {
-            kind: KIND,
-            prefix: "4b",
-        },
-        12,
-        8,
-    ),
-    (Command::Names { kind: KIND }, 12, 7),
-    (Command::Show { kind: KIND }, 12, 8),
-    (Command::Check { kind: KIND }, 12, 6),
-];
 
 // How many bytes a reader gives and a writer takes in a call.
 const READ: usize = 100;
 
 const WRITTEN: usize = 7;
+
+// How often `show` reads the index of one name, which has 1100 bytes, and writes its line.
+const READS: usize = 12;
+
+const WRITES: usize = 8;
 
 // What `show` prints of the index.
 const LINE: &[u8] = b"12 4b825dc642cb6eb9a060e54bf8d69288fbee4904 (00000000)\n";
@@ -56,96 +44,129 @@ fn index_of_one(alloc: Global) -> Result<Vec<u8>, AllocError> {
     Ok(bytes)
 }
 
-// Runs the command over devices with these faults, and compares how they fared. The writer has a
-// buffer that is too small for a line.
-fn expect_course(
-    rt: &(impl Abort + AllocGlobal),
-    command: Command<'_>,
-    read: Fault,
-    writer: Writer,
-    want: Course,
-) {
+// Shows the index over devices with these faults, and compares how they fared.
+fn expect_course(rt: &(impl Abort + AllocGlobal), read: Fault, writer: Writer, want: Course) {
     let index = index_of_one(rt.alloc()).expect(rt, "no memory for an index");
     let watch = Watch::new();
     let mut input = Plain::new(Watched::new(Reader::new(&index, READ, read), &watch));
-    let writer = Watched::new(writer, &watch);
-    let buffered = BufWriter::with_capacity(rt.alloc(), 4, writer).expect(
-        rt,
-        "no memory for a buffer",
-    );
-    let mut out = Plain::new(buffered);
-    let outcome = run_command(rt.alloc(), command, &mut input, &mut out);
-    expect!(rt; watch.course() == want, &command);
-    expect!(rt; outcome.is_ok() == (want == Course::Fine), &command);
+    let mut out = Plain::new(Watched::new(writer, &watch));
+    let outcome = show(rt.alloc(), None, &mut input, &mut out);
+    expect!(rt; watch.course() == want, &want);
+    expect!(rt; outcome.is_ok() == (want == Course::Fine), &want);
 }
 
 #[test]
-fn stop_at_a_failure(rt: HostRuntime) {
+fn stops_at_a_failure(rt: HostRuntime) {
     let bytes = || Vec::new(rt.alloc());
     let never = Fault::Never;
-    for (command, reads, writes) in COMMANDS {
-        for n in 1..=13 {
-            for fault in [Fault::AtCall(n), Fault::InterruptedAt(n)] {
-                let writer = Writer::new(bytes(), WRITTEN, never);
-                let want = course_of(n, reads);
-                expect_course(&rt, command, fault, writer, want);
-                let writer = Writer::new(bytes(), WRITTEN, fault);
-                let want = course_of(n, writes);
-                expect_course(&rt, command, never, writer, want);
-            }
-        }
-        for writer in [
-            Writer::new(bytes(), 0, never),
-            Writer::failing_at_flush(bytes()),
-        ] {
-            expect_course(&rt, command, never, writer, Course::Failed);
+    for n in 1..=13 {
+        for fault in [Fault::AtCall(n), Fault::InterruptedAt(n)] {
+            let writer = Writer::new(bytes(), WRITTEN, never);
+            expect_course(&rt, fault, writer, course_of(n, READS));
+            let writer = Writer::new(bytes(), WRITTEN, fault);
+            expect_course(&rt, never, writer, course_of(n, WRITES));
         }
     }
+    let writer = Writer::new(bytes(), 0, never);
+    expect_course(&rt, never, writer, Course::Failed);
 }
 
 // With ample memory more than a mebibyte is read.
 #[test]
-fn read_long_inputs(rt: HostRuntime) -> Result<(), Fail> {
+fn reads_long_inputs(rt: HostRuntime) -> Result<(), Fail> {
     let zeros = vec![in rt.alloc(); 0u8; 1_100_000]?;
-    for command in [
-        Command::Find {
-            kind: KIND,
-            prefix: "4b",
-        },
-        Command::Names { kind: KIND },
-        Command::Show { kind: KIND },
-    ] {
+    for kind in [None, Some(Kind::Sha1), Some(Kind::Sha256)] {
         let mut input = FromSlice::new(&zeros);
         let mut buf = [0; 8];
         let mut out = IntoSlice::new(&mut buf);
-        let outcome = run_command(rt.alloc(), command, &mut input, &mut out);
-        expect_shown(&rt, outcome, "Err(Index(BadMagic))", &command);
+        let outcome = show(rt.alloc(), kind, &mut input, &mut out);
+        expect_shown(&rt, outcome, "Err(Index(BadMagic))", &kind);
     }
     Ok(())
 }
 
 // The growths fail one after the other, until a run has enough memory.
 #[test]
-fn report_too_little_memory(rt: HostRuntime) -> Result<(), Fail> {
+fn reports_too_little_memory(rt: HostRuntime) -> Result<(), Fail> {
     let index = index_of_one(rt.alloc())?;
-    let command = Command::Show { kind: KIND };
     let mut failed_at = 0;
     for units in 0..300usize {
         let heap = LocalHeap::new(rt.alloc(), 16 * units)?;
         let mut input = Plain::new(Reader::new(&index, READ, Fault::Never));
         let mut buf = [0; 64];
         let mut out = IntoSlice::new(&mut buf);
-        let outcome = run_command(&heap, command, &mut input, &mut out);
+        let outcome = show(&heap, Some(KIND), &mut input, &mut out);
         if outcome.is_ok() {
             expect_bytes(&rt, out.written(), LINE, &units);
             expect!(&rt; failed_at > 1);
             return Ok(());
         }
-        expect!(&rt; matches!(outcome, Err(CommandError::Memory)), &units);
+        expect!(&rt; matches!(outcome, Err(FileError::Memory)), &units);
         expect_bytes(&rt, out.written(), b"", &units);
         // All is given back.
         expect!(&rt; heap.used() == 0, &units);
         failed_at = units;
     }
     Err(Fail::new("no run had enough memory"))
+}
+
+// A line of a file.
+#[derive(Clone, Copy, Debug)]
+enum Line {
+    Ending(Ending),
+    Place(Option<u64>),
+}
+
+// A writer takes as much of the line as it has room for, and the result says whether that is all.
+fn expect_line(rt: &impl Abort, line: Line, want: &str) {
+    let id = KIND.empty_tree();
+    for room in 0..=want.len() {
+        let mut buf = [0; 240];
+        let Some(buf) = buf.get_mut(..room) else {
+            return expect!(rt; false, &room);
+        };
+        let mut out = IntoSlice::new(buf);
+        let written = match line {
+            Line::Ending(ending) => write_ending("a.idx", &ending, &mut out),
+            Line::Place(offset) => write_place(&id, "a b.pack", offset, &mut out),
+        };
+        expect!(rt; written.is_ok() == (room == want.len()), &room);
+        let taken = want.as_bytes().get(..room).unwrap_or(b"");
+        expect_bytes(rt, out.written(), taken, &room);
+    }
+}
+
+#[test]
+fn writes_lines_of_files(rt: HostRuntime) {
+    let (digest, id) = (KIND.empty_tree(), KIND.empty_blob());
+    let long = Kind::Sha256.empty_blob();
+    expect_line(&rt, Line::Ending(Ending::Sealed(digest)), "a.idx: OK\n");
+    let last = None;
+    expect_line(
+        &rt,
+        Line::Ending(Ending::Unsealed { digest, last }),
+        "a.idx: FAILED: it is shorter than a digest\n",
+    );
+    let last = Some(id);
+    expect_line(
+        &rt,
+        Line::Ending(Ending::Unsealed { digest, last }),
+        "a.idx: FAILED: it ends in e69de29bb2d1d6434b8b29ae775ad8c2e48c5391, and the digest of the rest is 4b825dc642cb6eb9a060e54bf8d69288fbee4904\n",
+    );
+    let last = Some(long);
+    expect_line(
+        &rt,
+        Line::Ending(Ending::Unsealed { digest: long, last }),
+        "a.idx: FAILED: it ends in 473a0f4c3be8a93681a267e3b1e9a7dcda1185436fe141f7749120a303721813, and the digest of the rest is 473a0f4c3be8a93681a267e3b1e9a7dcda1185436fe141f7749120a303721813\n",
+    );
+    expect_line(
+        &rt,
+        Line::Place(None),
+        "4b825dc642cb6eb9a060e54bf8d69288fbee4904 a b.pack\n",
+    );
+    expect_line(
+        &rt,
+        Line::Place(Some(u64::MAX)),
+        "4b825dc642cb6eb9a060e54bf8d69288fbee4904 a b.pack 18446744073709551615\n",
+    );
 }

@@ -1,22 +1,43 @@
-use Rattle.std.proofs.Common.{length, subst, arith}
+use Rattle.std.proofs.Common.{◌≡◌, ◌≢◌, ◌↔◌, ◌⊎◌, ℕ, List, [], subst, arith, flat_map, IsTrue}
 use Rattle.std.specs.Io.KnownBytes.{Appends}
 use Rattle.streams.specs.Writing.{AppendsPart}
-use Rattle.streams.proofs.WritingLemmas.{OnErr-of}
-use Rattle.pack_index.specs.Format.{names_in}
-use Rattle.packtool_commands.specs.Names.{name_line}
-use Rattle.packtool_commands.proofs.LineRanges.{Appends-line, AppendsPart-line}
+use Rattle.object_store.specs.Stores.{Holds}
+use Rattle.object_store.specs.declared.naming.NamedId.{NamedId}
+use Rattle.packtool_commands.specs.Names.{HasNamedAtMost, HasNamedBelow, name_line}
+use Rattle.packtool_commands.proofs.NamedLemmas.{has_named_more, if_err_of, named_at_most, named_part}
 use Rattle.packtool_commands.proofs.naming.names.Goals as goal
 
-pub loop-at-preserved : goal.loop-at-preserved
-loop-at-preserved g c = (
-  Appends-line _ _ _ (name_line (names_in c.args.file.now.kind c.args.file.now.bytes)) 0 c.loop-at.at (omega arith) c.loop-at.invariant.0
-      (subst (Appends _ _) c.put_name_line-len.ensures.text c.in_ok-write_all.ensures.written),
-  c.in_ok-write_all.ensures.stands,
+pub returns-in_err-named-clause-part : goal.returns-in_err-named-clause-part
+returns-in_err-named-clause-part g c =
+    if_err_of c.from_residual.result
+    (λ error. (whole : List (List ℕ)) → Holds (g.S.Store.kind c.args.store.now) (g.S.Store.packs c.args.store.now) (g.S.Store.loose c.args.store.now) whole
+    → HasNamedAtMost c.args.least whole (g.W.Sink.taken c.args.out.now) (g.W.Sink.taken c.loop-byte.out))
+    (λ error whole h. named_at_most c.loop-byte.byte c.args.least whole c.loop-byte.any _ _ (c.loop-byte.invariant.0 whole h))
+
+pub returns-in_err-write_names-clause-part : goal.returns-in_err-write_names-clause-part
+returns-in_err-write_names-clause-part g c =
+    if_err_of c.from_residual-in_err-write_names.result
+    (λ error. (whole : List (List ℕ)) → Holds (g.S.Store.kind c.args.store.now) (g.S.Store.packs c.args.store.now) (g.S.Store.loose c.args.store.now) whole
+    → HasNamedAtMost c.args.least whole (g.W.Sink.taken c.args.out.now) (g.W.Sink.taken c.write_names.new.out))
+    (λ error whole h.
+    named_part c.loop-byte.byte c.args.least whole c.loop-byte.any _ _ _ c.in_ok-named.named.items (c.loop-byte.invariant.0 whole h)
+    (c.in_ok-named.ensures.ids whole h) (c.in_ok-named.ensures.names whole h)
+    (subst (λ (ids : List NamedId). AppendsPart (g.W.Sink.taken c.loop-byte.out) (g.W.Sink.taken c.write_names.new.out) (flat_map name_line ids))
+    c.deref.ensures.value c.in_err-write_names.ensures.part))
+
+pub loop-byte-preserved : goal.loop-byte-preserved
+loop-byte-preserved g c = (
+  λ whole h.
+      has_named_more c.loop-byte.byte c.args.least whole c.loop-byte.any c.is_any-any.result _ _ _ c.in_ok-named.named.items (c.loop-byte.invariant.0 whole h)
+      (c.in_ok-named.ensures.ids whole h) (c.in_ok-named.ensures.names whole h)
+      (subst (λ (ids : List NamedId). IsTrue c.is_any-any.result ↔ (IsTrue c.loop-byte.any ⊎ (ids ≢ []))) c.deref-in-loop-byte.ensures.value c.is_any-any.ensures)
+      (subst (λ (ids : List NamedId). Appends (g.W.Sink.taken c.loop-byte.out) (g.W.Sink.taken c.write_names.new.out) (flat_map name_line ids))
+      c.deref.ensures.value c.in_ok-write_names.ensures.written),
+  c.in_ok-write_names.ensures.stands,
 )
 
-pub returns-in_err-write_all-clause-part : goal.returns-in_err-write_all-clause-part
-returns-in_err-write_all-clause-part g c =
-    let names = names_in c.args.file.now.kind c.args.file.now.bytes in
-    let count = c.num_objects-count.ensures in
-    OnErr-of _ _ (AppendsPart-line _ _ _ (name_line names) 0 c.loop-at.at (length names) (omega arith)
-    (omega (arith, c.loop-at-test.true, count)) c.loop-at.invariant.0 (subst (AppendsPart _ _) c.put_name_line-len.ensures.text c.in_err-write_all.ensures.part))
+pub returns-clause-named : goal.returns-clause-named
+returns-clause-named g c = λ whole h.
+    let last : c.loop-byte.byte ≡ 256 = omega arith in
+    subst (λ n. HasNamedBelow n c.args.least whole c.loop-byte.any (g.W.Sink.taken c.args.out.now) (g.W.Sink.taken c.loop-byte.out)) last
+    (c.loop-byte.invariant.0 whole h)

@@ -1,11 +1,10 @@
-use Rattle.std.proofs.Common.{◌≡◌, false}
-use Rattle.std.specs.Io.KnownBytes.{Appends}
-use Rattle.pack_index.specs.Format.{names_in}
-use Rattle.packtool_commands.specs.Lines.{lines_of}
-use Rattle.packtool_commands.specs.Names.{name_line}
+use Rattle.std.proofs.Common.{◌≡◌, false, List, ℕ}
+use Rattle.object_store.specs.Stores.{Holds}
+use Rattle.packtool_commands.specs.Names.{HasNamedBelow}
 use Rattle.packtool_commands.proofs.naming.names.Given as goal
 
-abbrev pub invariant-loop-at : goal.invariant-loop-at
-invariant-loop-at g l =
-    Appends (g.W.Sink.taken l.fn.out) (g.W.Sink.taken l.out) (lines_of (name_line (names_in l.file.kind l.file.bytes)) 0 l.at)
+abbrev pub invariant-loop-byte : goal.invariant-loop-byte
+invariant-loop-byte g l =
+    ((whole : List (List ℕ)) → Holds (g.S.Store.kind l.store) (g.S.Store.packs l.store) (g.S.Store.loose l.store) whole
+    → HasNamedBelow l.byte l.fn.least whole l.any (g.W.Sink.taken l.fn.out) (g.W.Sink.taken l.out))
     × (g.W.Sink.has_failed l.out ≡ false)

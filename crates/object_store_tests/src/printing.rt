@@ -1,0 +1,111 @@
+//! What `packtool` prints of a store, where writes and reads fail in turn.
+
+use crate::look_ups::Content;
+use crate::memory::{Memory, Reads};
+use gix_hash::Prefix;
+use object_store::Store;
+use packtool_commands::{StoreError, find, names};
+use std::process::Abort;
+use std::test::Fail;
+use streams::{IntoSlice, Sink};
+
+const FOUND: &str =
+    "4b825d0000000000000000000000000000000000\n4b825dc642cb6eb9a060e54bf8d69288fbee4904\n";
+
+const NAMED: &str = "000000 0000000000000000000000000000000000000000
+4b825d0 4b825d0000000000000000000000000000000000
+4b825dc 4b825dc642cb6eb9a060e54bf8d69288fbee4904
+4b9000 4b90000000000000000000000000000000000000
+e69de29b e69de29bb2d1d6434b8b29ae775ad8c2e48c5391
+e69de29c e69de29c00000000000000000000000000000000
+ffffff ffffffffffffffffffffffffffffffffffffffff
+";
+
+// More than are made when a store is opened and all of it is read.
+const AMPLE: usize = 10_000;
+
+// What is asked for.
+#[derive(Clone, Copy, Debug)]
+enum Asked {
+    Find(&'static str),
+    Names,
+}
+
+// Does what is asked for over the store.
+fn run(
+    rt: &(impl Abort + AllocGlobal),
+    asked: Asked,
+    store: &Memory<'_>,
+    out: &mut IntoSlice<'_>,
+) -> Result<bool, StoreError> {
+    match asked {
+        Asked::Find(prefix) => {
+            let prefix = Prefix::from_hex_in(store.object_hash(), prefix).expect(rt, "no prefix");
+            assert!(rt; prefix.hex_len() >= 2);
+            assert!(rt; prefix.as_oid().kind() == store.object_hash());
+            assert!(rt; !out.failed());
+            find(rt.alloc(), store, &prefix, out)
+        }
+        Asked::Names => {
+            assert!(rt; store.object_hash().len_in_hex() >= 6);
+            assert!(rt; !out.failed());
+            names(rt.alloc(), store, 6, out)
+        }
+    }
+}
+
+// With so many reads and so much room, what is written is a beginning of the text, and all of it if
+// nothing fails.
+fn expect_written(
+    rt: &(impl Abort + AllocGlobal),
+    asked: Asked,
+    text: &str,
+    left: usize,
+    room: usize,
+) -> Result<(), Fail> {
+    let content = Content::new(rt)?;
+    let reads = Reads::new(left);
+    let store = content.open(rt.alloc(), &reads)?;
+    let mut buf = [0; 512];
+    let mut out = IntoSlice::new(buf.get_mut(..room).ok_or("no room")?);
+    let outcome = run(rt, asked, &store, &mut out);
+    let taken = out.written();
+    let row = (asked, left, room);
+    assert!(rt; text.as_bytes().starts_with(taken), "{row:?}");
+    match outcome {
+        Ok(any) => {
+            assert!(rt;
+                any != text.is_empty() && taken.len() == text.len(),
+                "{row:?}"
+            );
+            assert!(rt; left > 7, "{row:?}");
+        }
+        Err(StoreError::Output) => assert!(rt; taken.len() == room && room < text.len(), "{row:?}"),
+        Err(StoreError::Store(_)) => assert!(rt; left < AMPLE, "{row:?}"),
+    }
+    Ok(())
+}
+
+#[test]
+fn writes_fail_in_turn(rt: HostRuntime) -> Result<(), Fail> {
+    for room in 0..=FOUND.len() {
+        expect_written(&rt, Asked::Find("4B8"), FOUND, AMPLE, room)?;
+    }
+    for room in [0, 1, 47, 48, 49, 100, NAMED.len() - 1, NAMED.len(), 512] {
+        expect_written(&rt, Asked::Names, NAMED, AMPLE, room)?;
+    }
+    expect_written(&rt, Asked::Find("fe"), "", AMPLE, 0)
+}
+
+// Four reads open the store. Nothing is found in part, and names are written until a read fails.
+#[test]
+fn reads_fail_in_turn(rt: HostRuntime) -> Result<(), Fail> {
+    for left in 4..7 {
+        // With no room a write would fail.
+        expect_written(&rt, Asked::Find("4b8"), FOUND, left, 0)?;
+    }
+    for left in [4, 5, 6, 7, 60, 200, 300, 500, 700] {
+        expect_written(&rt, Asked::Names, NAMED, left, 512)?;
+    }
+    Ok(())
+}

@@ -1,0 +1,77 @@
+//! Why the program stops.
+
+use command_line::WordsError;
+use gix_hash::Kind;
+use std::alloc::AllocError;
+use std::io;
+use thiserror::Error as ThisError;
+
+/// Why a command stops.
+#[derive(Debug, Drop, ThisError)]
+pub enum Failure<'a> {
+    /// The store cannot be read.
+    #[error("{0}")]
+    Store(store_folders::Error),
+    /// This file cannot be read, or is not what it should be.
+    #[error("{path}: {why}")]
+    File {
+        /// Its path.
+        path: &'a str,
+        /// Why.
+        why: FileWhy,
+    },
+    /// This text is no prefix.
+    #[error("{text}: no 2 to {most} hex digits, with which an id of kind {kind} begins")]
+    Prefix {
+        /// The text.
+        text: &'a str,
+        /// The kind of ids.
+        kind: Kind,
+        /// How many digits they have.
+        most: usize,
+    },
+    /// An argument is not UTF-8.
+    #[error("an argument is not UTF-8")]
+    NotText,
+    /// Standard output cannot be written.
+    #[error("standard output: {0}")]
+    Output(io::ErrorKind),
+    /// Memory ran out.
+    #[error("out of memory")]
+    Memory,
+}
+
+/// Why a file is not shown or checked.
+#[derive(Debug, Drop, ThisError)]
+pub enum FileWhy {
+    /// It cannot be read.
+    #[error("{0}")]
+    Read(io::ErrorKind),
+    /// It is no pack index.
+    #[error("{0}")]
+    Index(pack_index::Error),
+    /// It has 2^61 bytes or more.
+    #[error("too long")]
+    TooMuch,
+}
+
+impl From<store_folders::Error> for Failure<'_> {
+    fn from(error: store_folders::Error) -> Self {
+        Failure::Store(error)
+    }
+}
+
+impl From<AllocError> for Failure<'_> {
+    fn from(_error: AllocError) -> Self {
+        Failure::Memory
+    }
+}
+
+impl From<WordsError> for Failure<'_> {
+    fn from(error: WordsError) -> Self {
+        match error {
+            WordsError::NotText => Failure::NotText,
+            WordsError::Memory => Failure::Memory,
+        }
+    }
+}

@@ -1,0 +1,109 @@
+-- The lines of the ids of a store with their names, a part after the other.
+use Rattle.std.proofs.Common.{◌≡◌, ◌≢◌, ℕ, ◌+◌, ◌<◌, Bool, Option, List, [], ◌∷◌, ◌++◌, length, get_or, map, take, drop, refl, sym, ap, subst, ◌∙◌, ◌⊎◌, inl, inr, arith, append-nil, take-append-drop, add-one}
+use Rattle.std.specs.Prelude.{◌↔◌, IsTrue, Result, Ok, Err, IfErr}
+use Rattle.std.specs.List.{All, flat_map, range_with_len}
+use Rattle.std.specs.Io.KnownBytes.{Appends}
+use Rattle.std.proofs.KnownBytes.{Appends-trans}
+use Rattle.std.proofs.Math.Seq.{drop-cons}
+use Rattle.std.proofs.lemmas.Grind.{flat_map-append}
+use Rattle.std.proofs.lemmas.List.{map-append}
+use Rattle.std.proofs.lemmas.List.Elements.{All-append}
+use Rattle.command_line.specs.Flushed.{AppendsAtMost}
+use Rattle.command_line.proofs.Flushed.{part_written}
+use Rattle.gix_hash.specs.ObjectId.{id_digits}
+use Rattle.id_lookup.specs.IndexOf.{part_of}
+use Rattle.object_store.proofs.Held.{flat_map-take}
+use Rattle.object_store.specs.Stores.{IsNameIn}
+use Rattle.object_store.specs.declared.naming.NamedId.{NamedId}
+use Rattle.packtool_commands.specs.Names.{AreNamedBelow, HasNamedAtMost, HasNamedBelow, name_line, parts_below}
+use Rattle.packtool_commands.proofs.LineRanges.{range-split}
+use Rattle.streams.specs.Writing.{AppendsPart}
+use Rattle.streams.proofs.WritingLemmas.{AppendsPart-after, AppendsPart-more}
+
+-- one line more
+pub Appends-item : {X : Type 0} (a b c : Option (List ℕ)) (line : X → List ℕ) (xs : List X) (k : ℕ) (d : X) → k < length xs
+    → Appends a b (flat_map line (take k xs)) → Appends b c (line (get_or xs k d)) → Appends a c (flat_map line (take (k + 1) xs))
+Appends-item a b c line xs k d within before last =
+    subst (Appends a c) (sym (flat_map-take line xs k d within)) (Appends-trans a b c (flat_map line (take k xs)) (line (get_or xs k d)) before last)
+
+-- a part of one line, after the lines before it, is a part of all the lines
+pub AppendsPart-item : {X : Type 0} (a b c : Option (List ℕ)) (line : X → List ℕ) (xs : List X) (k : ℕ) (d : X) → k < length xs
+    → Appends a b (flat_map line (take k xs)) → AppendsPart b c (line (get_or xs k d)) → AppendsPart a c (flat_map line xs)
+AppendsPart-item {X} a b c line xs k d within before last =
+    let front = flat_map line (take k xs) in
+    let one = line (get_or xs k d) in
+    let after = flat_map line (drop (k + 1) xs) in
+    let parts : xs ≡ take k xs ++ get_or xs k d ∷ drop (k + 1) xs =
+    sym (take-append-drop k xs)
+    ∙ ap (λ (rest : List X). take k xs ++ rest) (drop-cons xs k d within ∙ ap (λ j. get_or xs k d ∷ drop j xs) (sym (add-one k))) in
+    subst (AppendsPart a c) (sym (ap (flat_map line) parts ∙ flat_map-append line (take k xs) (get_or xs k d ∷ drop (k + 1) xs)))
+    (AppendsPart-after a b c front (one ++ after) before (AppendsPart-more b c one after last))
+
+-- one first byte more
+parts-more : (n : ℕ) (ids : List (List ℕ)) → parts_below (n + 1) ids ≡ parts_below n ids ++ part_of n ids
+parts-more n ids =
+    let part : ℕ → List (List ℕ) = λ byte. part_of byte ids in
+    let here : 0 + n ≡ n = omega arith in
+    ap (flat_map part) (range-split 0 n 1) ∙ flat_map-append part (range_with_len 0 n) (range_with_len (0 + n) 1)
+    ∙ ap (λ (last : List (List ℕ)). parts_below n ids ++ last) (append-nil (part (0 + n)) ∙ ap part here)
+
+-- the ids with one first byte more have their names
+pub named_below_more : (n least : ℕ) (whole : List (List ℕ)) (named more : List NamedId) → AreNamedBelow n least whole named
+    → map (λ (m : NamedId). id_digits m.id) more ≡ part_of n whole → All (λ (m : NamedId). IsNameIn least whole (id_digits m.id) m.name.digits) more
+    → AreNamedBelow (n + 1) least whole (named ++ more)
+named_below_more n least whole named more before ids names = record {
+  ids = map-append (λ (m : NamedId). id_digits m.id) named more ∙ ap (λ (front : List (List ℕ)). front ++ map (λ (m : NamedId). id_digits m.id) more) before.ids
+      ∙ ap (λ (last : List (List ℕ)). parts_below n whole ++ last) ids ∙ sym (parts-more n whole);
+  names = All-append (λ (m : NamedId). IsNameIn least whole (id_digits m.id) m.name.digits) named more before.names names;
+}
+
+some_of : {X : Type 0} (xs ys : List X) → (xs ++ ys ≢ []) ↔ ((xs ≢ []) ⊎ (ys ≢ []))
+some_of [] ys = (λ some. inr some, λ some. elim some [ inl none ↦ absurd (none refl) | inr some ↦ some ])
+some_of (x ∷ xs) ys = (λ some. inl (λ none. cc), λ some none. cc)
+
+-- their lines were written
+pub has_named_more : (n least : ℕ) (whole : List (List ℕ)) (any any' : Bool) (a b c : Option (List ℕ)) (more : List NamedId) → HasNamedBelow n least whole any a b
+    → map (λ (m : NamedId). id_digits m.id) more ≡ part_of n whole → All (λ (m : NamedId). IsNameIn least whole (id_digits m.id) m.name.digits) more
+    → (IsTrue any' ↔ (IsTrue any ⊎ (more ≢ []))) → Appends b c (flat_map name_line more) → HasNamedBelow (n + 1) least whole any' a c
+has_named_more n least whole any any' a b c more before ids names some written = record {
+  named = before.named ++ more;
+  are_named = named_below_more n least whole before.named more before.are_named ids names;
+  found = (
+    λ is. (some_of before.named more).1 (elim (some.0 is) [ inl was ↦ inl (before.found.0 was) | inr is ↦ inr is ]),
+    λ is. some.1 (elim ((some_of before.named more).0 is) [ inl was ↦ inl (before.found.1 was) | inr is ↦ inr is ]),
+  );
+  written = subst (Appends a c) (sym (flat_map-append name_line before.named more))
+      (Appends-trans a b c (flat_map name_line before.named) (flat_map name_line more) before.written written);
+}
+
+-- all of the lines so far are a beginning
+pub named_at_most : (n least : ℕ) (whole : List (List ℕ)) (any : Bool) (a b : Option (List ℕ)) → HasNamedBelow n least whole any a b → HasNamedAtMost least whole a b
+named_at_most n least whole any a b before = record {
+  n = n;
+  named = before.named;
+  are_named = before.are_named;
+  written = record {
+    part = flat_map name_line before.named;
+    rest = [];
+    is_beginning = sym (append-nil (flat_map name_line before.named));
+    written = before.written;
+  };
+}
+
+-- and a part of the next lines after them
+pub named_part : (n least : ℕ) (whole : List (List ℕ)) (any : Bool) (a b c : Option (List ℕ)) (more : List NamedId) → HasNamedBelow n least whole any a b
+    → map (λ (m : NamedId). id_digits m.id) more ≡ part_of n whole → All (λ (m : NamedId). IsNameIn least whole (id_digits m.id) m.name.digits) more
+    → AppendsPart b c (flat_map name_line more) → HasNamedAtMost least whole a c
+named_part n least whole any a b c more before ids names part = record {
+  n = n + 1;
+  named = before.named ++ more;
+  are_named = named_below_more n least whole before.named more before.are_named ids names;
+  written = subst (AppendsAtMost a c) (sym (flat_map-append name_line before.named more))
+      (part_written a c (flat_map name_line before.named ++ flat_map name_line more)
+      (AppendsPart-after a b c (flat_map name_line before.named) (flat_map name_line more) before.written part));
+}
+
+-- a fact of every error
+pub if_err_of : {T E : Type 0} (r : Result T E) (P : E → Type 0) → ((error : E) → P error) → IfErr r P
+if_err_of (Ok x) P each = tt
+if_err_of (Err error) P each = each error

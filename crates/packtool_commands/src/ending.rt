@@ -1,0 +1,34 @@
+//! The lines of checked files.
+
+ghost use Rattle.std.specs.Prelude.{◌≡◌, ◌++◌, false, true, OnOk, OnErr};
+ghost use Rattle.std.specs.Io.KnownBytes.{Appends};
+ghost use Rattle.packtool_commands.specs.Ending.{verdict};
+ghost use Rattle.streams.specs.Writing.{AppendsPart};
+
+use crate::lines::{MAX_VERDICT_LEN, put_verdict};
+use crate::placing::write_both;
+use streams::{Ending, Sink, WriteFailed};
+
+/// Writes the line of a file with this name whose bytes end so: `NAME: OK`, or `NAME: FAILED` and
+/// why, with both digests.
+///
+/// It stops at the first write that fails, after a proper beginning of the line. The sink must not
+/// have failed before.
+///
+/// ```
+/// let ending = check(&mut input, Kind::Sha1)?;
+/// write_ending("pack-1.idx", &ending, &mut out)?;
+/// ```
+pub fn write_ending<W: Sink>(name: &str, ending: &Ending, out: &mut W) -> Result<(), WriteFailed>
+    requires { W.has_failed out.old ≡ false }
+    ensures written { OnOk result (Appends (W.taken out.old) (W.taken out.new)
+        (name.now ++ verdict ending.now)) }
+    ensures stands { OnOk result (W.has_failed out.new ≡ false) }
+    ensures part { OnErr result (AppendsPart (W.taken out.old) (W.taken out.new)
+        (name.now ++ verdict ending.now)) }
+    ensures failed { OnErr result (W.has_failed out.new ≡ true) }
+{
+    let mut line = [0; MAX_VERDICT_LEN];
+    let len = put_verdict(ending, &mut line);
+    write_both(name.as_bytes(), &line[..len], out)
+}

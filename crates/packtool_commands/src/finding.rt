@@ -1,0 +1,53 @@
+//! The ids of a store that begin with a prefix.
+
+ghost use Rattle.std.specs.Prelude.{◌≡◌, ◌≢◌, ◌↔◌, ◌≤◌, ℕ, List, false, true, length, IfErr, IfOk, IsErrOf};
+ghost use Rattle.gix_hash.specs.Digits.{hex_letter};
+ghost use Rattle.id_lookup.specs.Runs.{matches};
+ghost use Rattle.object_store.specs.Stores.{Holds};
+ghost use Rattle.packtool_commands.specs.Finding.{HasPrinted, IsFault};
+ghost use Rattle.packtool_commands.specs.declared.error.StoreError.{StoreError};
+ghost use Rattle.streams.specs.Printing.{printed};
+ghost use Rattle.streams.specs.Writing.{AppendsPart};
+
+use crate::error::StoreError;
+use gix_hash::{Alphabet, Prefix};
+use object_store::{Store, lookup_prefix};
+use std::alloc::Allocator;
+use streams::{Sink, write_ids};
+
+/// Writes a line for each id of a store that begins with a prefix, in order, each once. Returns
+/// whether there is one.
+///
+/// The prefix has 2 digits or more, and the store's kind. Nothing is written before all ids are
+/// found. [`StoreError::Output`] is returned if and only if a write fails, after a proper
+/// beginning of the lines. The sink must not have failed before.
+///
+/// ```
+/// if !find(rt.alloc(), &store, &prefix, &mut out)? {
+///     println!(rt; "no id begins with {prefix}")?;
+/// }
+/// ```
+pub fn find<S: Store, A: Allocator + Copy, W: Sink>(
+    alloc: A,
+    store: &S,
+    prefix: &Prefix,
+    out: &mut W,
+) -> Result<bool, StoreError>
+    requires enough { 2 ≤ length prefix.now.digits }
+    requires kind { prefix.now.kind ≡ S.kind store.now }
+    requires output { W.has_failed out.old ≡ false }
+    ensures found { IfOk result (λ any. (whole : List (List ℕ))
+        → Holds (S.kind store.now) (S.packs store.now) (S.loose store.now) whole
+        → HasPrinted (matches prefix.now.digits whole) any (W.taken out.old) (W.taken out.new)) }
+    ensures refused { IfErr result (IsFault (S.kind store.now) (S.packs store.now)) }
+    ensures untouched { IfErr result (λ e. e ≢ StoreError.Output → out.new ≡ out.old) }
+    ensures output { IsErrOf result StoreError.Output ↔ (W.has_failed out.new ≡ true) }
+    ensures part { IsErrOf result StoreError.Output → (whole : List (List ℕ))
+        → Holds (S.kind store.now) (S.packs store.now) (S.loose store.now) whole
+        → AppendsPart (W.taken out.old) (W.taken out.new)
+        (printed hex_letter (matches prefix.now.digits whole)) }
+{
+    let ids = lookup_prefix(alloc, store, prefix)?;
+    write_ids(Alphabet::Hex, &ids, out)?;
+    Ok(!ids.is_empty())
+}
