@@ -42,7 +42,7 @@ pub fn names<S: Store, A: Allocator + Copy, W: Sink>(
     requires output { W.has_failed out.old ≡ false }
     ensures named { IfOk result (λ any. (whole : List (List ℕ))
         → Holds (S.kind store.now) (S.packs store.now) (S.loose store.now) whole
-        → HasNamedBelow BYTES least whole any (W.taken out.old) (W.taken out.new)) }
+        → HasNamedBelow 256 least whole any (W.taken out.old) (W.taken out.new)) }
     ensures refused { IfErr result (IsFault (S.kind store.now) (S.packs store.now)) }
     ensures output { IsErrOf result StoreError.Output ↔ (W.has_failed out.new ≡ true) }
     ensures part { IfErr result (λ _. (whole : List (List ℕ))
