@@ -1,6 +1,7 @@
 //! Stores that are opened, looked up in, and found.
 
 use crate::making::{index_of, make_store, write};
+use crate::resolving::resolve;
 use gix_hash::{Kind, ObjectId, Prefix};
 use object_store::{Store, lookup_prefix};
 use std::fs::File;
@@ -219,6 +220,7 @@ fn found_in_and_above_the_current_folder(rt: HostRuntime) -> Result<(), Fail> {
         b"[extensions]\n\tobjectformat = sha256\n",
     )?;
     make_repository(&rt, "found/bare", b"[core]\n\tbare = true\n")?;
+    make_store(&rt, "found/bare/objects", &[PACKED, BOTH], &[])?;
     fs::create_dir_all(&rt, "found/r/sub/deep")?;
     write(&rt, "found/w/.git", b"gitdir: ../r/.git/worktrees/w\n")?;
     write(&rt, "found/r/.git/worktrees/w/HEAD", b"ref: refs/heads/w\n")?;
@@ -234,6 +236,15 @@ fn found_in_and_above_the_current_folder(rt: HostRuntime) -> Result<(), Fail> {
             Err(error) => (format!(in rt.alloc(); "{error}")?, None),
         };
         assert!(rt; text.ends_with(want) && found == kind, "{folder}: {text}");
+    }
+    env::set_current_dir(&rt, here.as_path().join(rt.alloc(), "found/bare")?)?;
+    for typed in ["4B82", PACKED] {
+        let id = resolve(&rt, typed).expect(&rt, "an error");
+        assert!(rt; id.is_some_and(|id| id.eq_str(PACKED)), "{typed}");
+    }
+    for typed in ["4b", "4c", "4", "4g"] {
+        let id = resolve(&rt, typed).expect(&rt, "an error");
+        assert!(rt; id.is_none(), "{typed}");
     }
     env::set_current_dir(&rt, here.as_path())?;
     fs::remove_dir_all(&rt, "found")?;
