@@ -16,8 +16,10 @@ use streams::{Ending, Sink, WriteFailed};
 /// have failed before.
 ///
 /// ```
-/// let ending = check(&mut input, Kind::Sha1)?;
-/// write_ending("pack-1.idx", &ending, &mut out)?;
+/// let ending = streams::check(&mut input, Kind::Sha1)?;
+/// if write_ending("pack-1.idx", &ending, &mut out).is_err() {
+///     println!(rt; "the line is not written whole")?;
+/// }
 /// ```
 pub fn write_ending<W: Sink>(name: &str, ending: &Ending, out: &mut W) -> Result<(), WriteFailed>
     requires { W.has_failed out.old ≡ false }

@@ -17,7 +17,9 @@ use streams::{Sink, WriteFailed, write_all};
 /// have failed before.
 ///
 /// ```
-/// write_place(&id, "objects/pack/pack-1.pack", Some(12), &mut out)?;
+/// if write_place(&id, "objects/pack/pack-1.pack", Some(12), &mut out).is_err() {
+///     println!(rt; "the line is not written whole")?;
+/// }
 /// ```
 pub fn write_place<W: Sink>(
     id: &ObjectId,
