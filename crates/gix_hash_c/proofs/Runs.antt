@@ -22,7 +22,7 @@ same_run prefix kind ids run r = record {
   behind = r.behind;
 }
 
--- what was found in digests that stand one after the other is found among their ids
+-- what was found in digests one after the other is found among their ids
 pub found_in : (prefix : KindDigits) (chunks ids : List (List ℕ)) (run : Run) → map digits_of chunks ≡ ids → run.start ≤ run.end → run.end ≤ length chunks
     → (IsSortedIds (map digits_of chunks) → IsRun prefix (map digits_of chunks) (run_in run)) → IsFound prefix.digits ids run
 found_in prefix chunks ids run same rises within is =

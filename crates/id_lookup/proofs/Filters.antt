@@ -23,7 +23,7 @@ module _ {X : Type 0} (p : X → Bool) where
   pub kept_passes : (xs : List X) (x : X) → Contains (filter p xs) x → p x ≡ true
   kept_passes xs x c = All-contains (λ y. p y ≡ true) (filter p xs) x (filter_passes p xs) c
 
-  -- a filter of several lists that stand one behind the other
+  -- a filter of several lists, one after the other
   pub filter-flat : (lists : List (List X)) → filter p (flat_map (λ list. list) lists) ≡ flat_map (filter p) lists
   filter-flat [] = refl
   filter-flat (list ∷ lists) =

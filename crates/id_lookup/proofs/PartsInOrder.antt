@@ -70,7 +70,7 @@ module _ (ids : List (List ℕ)) (sorted : IsSortedIds ids) (small : All (λ id.
   below-partitioned b i j d rise inside passes =
       lt_tests (first_byte_of (get_or ids i d)) b (omega (arith, in_order i j d rise inside, tests_lt (first_byte_of (get_or ids j d)) b passes))
 
-  -- those with a byte stand where they are counted
+  -- those with a byte are where they are counted
   pub counted_have : (b k : ℕ) (d : List ℕ) → count_by (is_below b) ids ≤ k → k < count_by (is_up_to b) ids → has_first_byte b (get_or ids k d) ≡ true
   counted_have b k d low high =
       let inside : k < length ids = omega (arith, high, count_by-le-length (is_up_to b) ids) in

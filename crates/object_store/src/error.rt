@@ -7,7 +7,7 @@ use std::alloc::AllocError;
 use std::io;
 use thiserror::Error as ThisError;
 
-/// Why a look-up in a store fails. Nothing of its answer is known then.
+/// Why a look-up in a store fails. Nothing of its result is known then.
 ///
 /// ```
 /// match lookup_prefix(rt.alloc(), &store, &prefix) {

@@ -32,7 +32,7 @@ pub struct NamedId {
 }
 
 /// The ids of a store with a first byte, each once, in order, with their shortest names in the
-/// whole store: of at least so many digits, from 4 up to all of the kind.
+/// whole store: of at least `least` digits, from 4 up to all of the kind.
 ///
 /// No other id begins with a name, and a name is as short as that allows. The calls for all 256
 /// bytes give all ids of the store, in order.
@@ -63,7 +63,7 @@ pub fn names<S: Store, A: Allocator + Copy>(
     Ok(name_all(alloc, &ids, store.object_hash(), least)?)
 }
 
-/// The shortest name of an id in a store, of at least so many digits, from 4 up to all of the kind;
+/// The shortest name of an id in a store, of at least `least` digits, from 4 up to all of the kind;
 /// or `None` if the store does not have the id. The id has the store's kind.
 ///
 /// Of each pack index only the names with the id's first byte are read.

@@ -54,8 +54,8 @@ fn run(
     }
 }
 
-// With so many reads and so much room, what is written is a beginning of the text, and all of it if
-// nothing fails.
+// With this many reads and this much room, what is written is a beginning of the text, and all of
+// it if nothing fails.
 fn expect_written(
     rt: &(impl Abort + AllocGlobal),
     asked: Asked,

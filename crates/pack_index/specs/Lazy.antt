@@ -13,7 +13,7 @@ pub record LazyIndex : Type 0 where
   pub count : ℕ
   pub content : Option (List ℕ)
 
--- the tables of so many names fill so many bytes up to the digests
+-- the tables of `count` names fill `len` bytes up to the digests
 pub record FillsBytes (kind : Kind) (count len : ℕ) : Type 0 where
   pub fits : names_at + byte_len_of kind * count + 4 * count + 4 * count + 2 * byte_len_of kind ≤ len
   pub whole : (len - 2 * byte_len_of kind - (names_at + byte_len_of kind * count + 4 * count + 4 * count)) % 8 ≡ 0

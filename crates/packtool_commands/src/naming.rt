@@ -19,7 +19,7 @@ use streams::{Sink, WriteFailed, write_all};
 const BYTES: usize = 256;
 
 /// Writes a line for each id of a store, in order: its shortest unique name in the whole store, of
-/// at least so many digits, from 4 up to all of the kind; a blank; the id; and a line feed. Returns
+/// at least `least` digits, from 4 up to all of the kind; a blank; the id; and a line feed. Returns
 /// whether there is one.
 ///
 /// The ids with a first byte are written before those with the next are read. Under an error a

@@ -1,4 +1,4 @@
--- What a typed name stands for.
+-- What a typed name means.
 use Rattle.std.specs.Prelude.{◌≡◌, ◌≤◌, ℕ, List, [], ◌∷◌, Ok, length, map}
 use Rattle.gix_hash.specs.Digits.{hex_letter}
 use Rattle.gix_hash.specs.ObjectId.{id_digits, id_kind}

@@ -11,7 +11,7 @@ use gix_hash::{ObjectId, Prefix, prefix};
 use id_lookup::IdIndex;
 use std::io;
 
-/// What a typed name stands for.
+/// What a typed name means.
 ///
 /// ```
 /// match resolve(&index, "4b82")? {
@@ -24,13 +24,13 @@ use std::io;
 pub enum Resolved<'a> {
     /// No id begins with it.
     Unknown,
-    /// This id alone begins with it.
+    /// Only this id begins with it.
     Id(ObjectId),
-    /// These ids, two or more, begin with it; they stand in order.
+    /// These ids, two or more, begin with it, in order.
     Ambiguous(&'a [ObjectId]),
 }
 
-/// What a typed name stands for among the ids of an index: a prefix in the index's kind, of 1 digit
+/// What a typed name means among the ids of an index: a prefix in the index's kind, of 1 digit
 /// or more in any letter case. What is no such prefix is refused as [`Prefix::from_hex_in`] refuses
 /// it.
 pub fn resolve<'a>(index: &IdIndex<'a>, name: &str) -> Result<Resolved<'a>, prefix::from_hex::Error>

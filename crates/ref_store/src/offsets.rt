@@ -1,4 +1,4 @@
-//! What a name that was typed stands for in a pack.
+//! What a name that was typed means in a pack.
 
 ghost use Rattle.std.specs.Prelude.{◌≡◌, ◌↔◌, ℕ, IfSome, IsNone};
 ghost use Rattle.pack_index.specs.Format.{offset_in};

@@ -50,7 +50,7 @@ pub fn read_again(id: &ObjectId, text: &[u8]) -> Result<ObjectId, decode::Error>
     }
 }
 
-/// The id of a digest, or `None` where no kind has digests of so many bytes.
+/// The id of a digest, or `None` if no kind has digests of that length.
 pub fn id_of_digest(bytes: &[u8]) -> Option<ObjectId>
     ensures { MatchOption result (¬ IsTrue (is_digest_len (length bytes.now)))
         (λ id. (id_digits id ≡ digits_of bytes.now)

@@ -177,7 +177,7 @@ fn heads_of_commits(rt: HostRuntime) {
     expect_no_head(&rt, Kind::Sha1, &MERGE[1..]);
 }
 
-// The name stands for the ids of these texts.
+// The name means the ids of these texts.
 fn expect_resolved(rt: &impl Abort, index: &IdIndex<'_>, name: &str, texts: &[&[u8]]) {
     match resolve(index, name).expect(rt, "no prefix") {
         Resolved::Unknown => assert!(rt; texts.is_empty()),

@@ -26,7 +26,7 @@ pub(crate) fn with_alternates<R: Files + AllocGlobal>(
     Ok(folders)
 }
 
-// Adds the alternates of a folder that are not there yet, and up to so many times their own. Those
+// Adds the alternates of a folder that are not there yet, and their own down to that depth. Those
 // that are no folders are passed over.
 fn push_alternates<R: Files + AllocGlobal>(
     rt: &R,

@@ -40,7 +40,7 @@ impl<R: Files<File = File> + AllocGlobal + Clone + Drop> FolderStore<R> {
 
     /// Opens the store of an objects folder.
     ///
-    /// With no kind, it is the one that `extensions.objectformat` says in the file `config` beside
+    /// With no kind, it is the one that `extensions.objectformat` says in the file `config` next to
     /// the folder, as Git does, or else SHA-1.
     ///
     /// The folder's alternates are read as by Git: each once, nested up to 5 times, and passed over

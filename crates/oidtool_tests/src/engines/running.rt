@@ -146,7 +146,7 @@ fn came_of(outcome: Result<usize, CommandError>) -> Outcome {
     }
 }
 
-// The least heap in which the search runs, in units of 16 bytes.
+// The smallest heap in which the search runs, in units of 16 bytes.
 fn least_heap(
     rt: &(impl Abort + Files + AllocGlobal),
     search: (Command<'_>, &str),

@@ -20,7 +20,7 @@ pub const EMPTY: &str = "da39a3ee5e6b4b0d3255bfef95601890afd80709\n";
 
 pub const EMPTY_256: &str = "e3b0c44298fc1c149afbf4c8996fb92427ae41e4649b934ca495991b7852b855\n";
 
-// Those of a million letters `a`, likewise.
+// Those of a million letters `a`, too.
 pub const MILLION: &str = "34aa973cd4c4daa4f61eeb2bdbad27316534016f\n";
 
 pub const MILLION_256: &str = "cdc76e5c9914fb9281a1c7e284d73e67f1809a48a497200e046d39ccc7112cd0\n";
