@@ -1,3 +1,4 @@
+pub mod Alternates
 pub mod Commits
 pub mod Names
 pub mod Offsets

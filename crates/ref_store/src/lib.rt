@@ -4,10 +4,14 @@
 //! The pages CALLING.md of `gix_hash`, `id_lookup` and `pack_index` quote it.
 #![tactic(auto)]
 
+/// Lists of alternates.
+pub mod alternates;
 /// Ids that are compared, verified and printed, and kinds by their names.
 pub mod checking;
 /// The head of a commit.
 pub mod commits;
+/// What a repository's config says of its ids.
+pub mod config;
 /// Names that a user types and is shown.
 pub mod names;
 /// Offsets of objects in packs.

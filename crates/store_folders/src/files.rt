@@ -1,8 +1,8 @@
 //! Paths, and texts of files.
 
-use crate::config::kind_in_config;
 use crate::error::Error;
 use gix_hash::Kind;
+use ref_store::config::kind_in_config;
 use std::alloc::AllocError;
 use std::fs::ReadDir;
 use std::path::Path;

@@ -1,8 +1,8 @@
 //! An objects folder and its alternates.
 
-use crate::alternates::{alternate_lines, alternate_path};
 use crate::error::Error;
 use crate::files::{is_missing, join, read_text, real_folder};
+use ref_store::alternates::{alternate_lines, alternate_path};
 use std::rt::Files;
 
 // How deep alternates of alternates are nested at most, as in Git: the list of the folder itself,

@@ -5,8 +5,6 @@
 //! repository that a program runs in.
 #![tactic(auto)]
 
-mod alternates;
-mod config;
 mod error;
 mod files;
 mod finding;
@@ -15,9 +13,6 @@ mod loose;
 mod packs;
 mod store;
 
-pub use alternates::{alternate_lines, alternate_path};
-pub use config::kind_in_config;
 pub use error::Error;
 pub use finding::{ObjectsFolder, find_objects};
-pub use loose::loose_id;
 pub use store::FolderStore;

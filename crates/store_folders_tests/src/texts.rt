@@ -1,81 +1,9 @@
-//! Names of files, lists of alternates, and configs.
+//! Lists of alternates, and configs.
 
 use gix_hash::Kind;
+use ref_store::alternates::{alternate_lines, alternate_path};
+use ref_store::config::kind_in_config;
 use std::test::Fail;
-use store_folders::{alternate_lines, alternate_path, kind_in_config, loose_id};
-
-// A kind, the name of a folder, names of files in it, and whether they are loose objects'.
-const NAMES: [(Kind, &str, &str, bool); 10] = [
-    (
-        Kind::Sha1,
-        "4b",
-        "825dc642cb6eb9a060e54bf8d69288fbee4904",
-        true,
-    ),
-    (
-        Kind::Sha1,
-        "00",
-        "00000000000000000000000000000000000000",
-        true,
-    ),
-    (
-        Kind::Sha1,
-        "ff",
-        "ffffffffffffffffffffffffffffffffffffff",
-        true,
-    ),
-    (
-        Kind::Sha1,
-        "4b",
-        "825Dc642cb6eb9a060e54bf8d69288fbee4904",
-        false,
-    ),
-    (
-        Kind::Sha1,
-        "4b",
-        "825dc642cb6eb9a060e54bf8d69288fbee490",
-        false,
-    ),
-    (
-        Kind::Sha1,
-        "4b",
-        "825dc642cb6eb9a060e54bf8d69288fbee4904a",
-        false,
-    ),
-    (
-        Kind::Sha1,
-        "4b",
-        "825gc642cb6eb9a060e54bf8d69288fbee4904",
-        false,
-    ),
-    (Kind::Sha1, "4b", "tmp_obj_f0K1Cz", false),
-    (
-        Kind::Sha256,
-        "4b",
-        "825dc642cb6eb9a060e54bf8d69288fbee4904",
-        false,
-    ),
-    (
-        Kind::Sha256,
-        "6e",
-        "f19b41225c5369f1c104d45d8d85efa9b057b53b14b4b9b939dd74decc5321",
-        true,
-    ),
-];
-
-#[test]
-fn names_of_loose_objects(rt: HostRuntime) -> Result<(), Fail> {
-    for (kind, folder, name, is_loose) in NAMES {
-        let byte = u8::from_str_radix(folder, 16)?;
-        let id = loose_id(kind, byte, name.as_bytes());
-        assert!(rt; id.is_some() == is_loose, "{name}");
-        if let Some(id) = id {
-            let text = format!(in rt.alloc(); "{folder}{name}")?;
-            assert!(rt; id.kind() == kind && id.eq_str(&text), "{name}");
-        }
-    }
-    Ok(())
-}
 
 // Texts of `info/alternates`, and the paths that Git 2.39 takes from them.
 const ALTERNATES: [(&str, &[&str]); 12] = [

@@ -1,5 +1,5 @@
 use Rattle.std.proofs.Common.{length}
-use Rattle.store_folders.proofs.alternates.unquote.Given as goal
+use Rattle.ref_store.proofs.alternates.unquote.Given as goal
 
 abbrev pub decreases-loop-left : goal.decreases-loop-left
 decreases-loop-left g l = length l.left

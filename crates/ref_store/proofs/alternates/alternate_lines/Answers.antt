@@ -1,8 +1,8 @@
 use Rattle.std.proofs.Common.{rules, lit<}
 use Rattle.std.proofs.lemmas.Iterator.Consumers.{YieldsList-at, YieldsList-from_filter, map_from_collect}
 use Rattle.std.proofs.lemmas.Iterator.Splits.{YieldsList-from_str_split}
-use Rattle.store_folders.specs.Alternates.{names_folder}
-use Rattle.store_folders.proofs.alternates.alternate_lines.Goals as goal
+use Rattle.ref_store.specs.Alternates.{names_folder}
+use Rattle.ref_store.proofs.alternates.alternate_lines.Goals as goal
 
 pub returns : goal.returns
 returns g c =

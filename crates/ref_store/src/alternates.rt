@@ -2,7 +2,7 @@
 
 ghost use Rattle.std.specs.Prelude.{◌≡◌, ◌==◌, ◌<◌, IfOk, IfSome, filter, length, map};
 ghost use Rattle.std.specs.List.{slice_split};
-ghost use Rattle.store_folders.specs.Alternates.{names_folder};
+ghost use Rattle.ref_store.specs.Alternates.{names_folder};
 
 use std::alloc::{AllocError, Allocator};
 
