@@ -1,22 +1,26 @@
 -- What is gathered of a store is what passes of the index of all its ids.
 use Rattle.std.proofs.Common.{◌≡◌, ℕ, zero, suc, ◌+◌, ◌<◌, ◌≤◌, Bool, Option, Some, List, [], ◌∷◌, ◌++◌, length, get_or, map, filter, take, refl, sym, ap, ◌∙◌, subst, arith, append-nil, append_assoc}
 use Rattle.std.specs.List.{All, flat_map}
-use Rattle.std.proofs.lemmas.Option.{get_or_from_slice_get, slice_get_within}
-use Rattle.std.proofs.lemmas.List.{get_or-map, length-map}
-use Rattle.std.proofs.lemmas.List.Elements.{filter-append}
+use Rattle.std.proofs.lemmas.Option.{get_or_from_slice_get, slice_get-get_or, slice_get_within}
+use Rattle.std.proofs.lemmas.List.{get_or-map, length-map, take_all}
+use Rattle.std.proofs.lemmas.List.Elements.{All-more, filter-append}
+use Rattle.gix_hash.specs.Digits.{first_byte_of}
 use Rattle.gix_hash.specs.declared.Kind.{Kind}
 use Rattle.id_lookup.proofs.SameMembers.{part_is}
 use Rattle.id_lookup.specs.IndexOf.{IsIndexOf, part_of}
-use Rattle.object_store.specs.Stores.{Holds, IsElsewhere, IsOutside, IsStoreFault}
+use Rattle.object_store.specs.Stores.{HasPlace, Holds, IfKnown, IsElsewhere, IsFirstFault, IsLocateFault, IsOutside, IsPlaceFault, IsStoreFault}
 use Rattle.object_store.specs.Wanted.{passes, wanted_byte, wanted_len}
 use Rattle.object_store.specs.declared.error.Error.{Error}
 use Rattle.object_store.specs.declared.error.Error.TheVariants.{Index, Loose, Memory}
 use Rattle.object_store.specs.declared.wanted.Wanted.{Wanted}
 use Rattle.object_store.proofs.Asked.{filter-part}
 use Rattle.pack_index.specs.Firsts.{Each}
-use Rattle.pack_index.proofs.Buckets.{no_fault}
+use Rattle.pack_index.proofs.Buckets.{no_bucket_fault}
 use Rattle.pack_index.specs.Format.{HasCount, IsPackIndex, digests_in, names_in}
-use Rattle.pack_index.specs.Lazy.{LazyIndex}
+use Rattle.pack_index.specs.Lazy as lazy
+use Rattle.pack_index.specs.Lazy.{HasBucket, IsBucketFault, LazyIndex}
+use Rattle.pack_index.specs.declared.lazy_error.LazyError.{LazyError}
+use Rattle.pack_index.specs.declared.lazy_error.LazyError.TheVariants.{NoOffset}
 
 filter-flat_map : {A X : Type 0} (p : X → Bool) (f : A → List X) (xs : List A) → filter p (flat_map f xs) ≡ flat_map (λ a. filter p (f a)) xs
 filter-flat_map p f [] = refl
@@ -61,11 +65,35 @@ packed_more kind k packs wanted byte at pack old new table indexes is_byte long 
     ap (filter (passes wanted)) bucket ∙ filter-part wanted (names_in kind bytes) long in
     all ∙ (λ i. before i ++ found i) ∙ sym (flat_map-take (λ bytes. filter (passes wanted) (names_in kind bytes)) indexes at [] inside)
 
--- where no pack index is at fault, nothing is said of them
-pub elsewhere : (kind : Kind) (packs : List LazyIndex) (e : Error) → IsElsewhere e → IsStoreFault kind packs e
-elsewhere kind packs (Index at error) is = absurd is
-elsewhere kind packs (Loose error) is = tt
-elsewhere kind packs (Memory error) is = tt
+-- the pack index at a position has what is asked for, as those before it, or is the first that has not
+module _ (Has : Kind → List ℕ → Type 0) (HasFault : Kind → List ℕ → LazyError → Type 0) (kind : Kind) (packs : List LazyIndex) (at : ℕ) (pack : LazyIndex)
+    (low : at < length packs) (is : pack ≡ get_or packs at pack) (kinds : All (λ (p : LazyIndex). p.kind ≡ kind) packs) (before : All (IfKnown (Has kind)) (take at packs)) where
+  of_kind : pack.kind ≡ kind
+  of_kind = ap (λ (p : LazyIndex). p.kind) is ∙ kinds at pack low
+
+  pub have_more : IfKnown (Has pack.kind) pack → All (IfKnown (Has kind)) (take (at + 1) packs)
+  have_more here =
+      All-more (IfKnown (Has kind)) packs at pack low before
+      (subst (IfKnown (Has kind)) is (λ bytes known. subst (λ (k : Kind). Has k bytes) of_kind (here bytes known)))
+
+  pub fault_at : (e : LazyError) → IfKnown (λ bytes. HasFault pack.kind bytes e) pack → IsFirstFault (Has kind) (HasFault kind) packs (Index at e)
+  fault_at e here = (
+    pack,
+    slice_get-get_or packs at pack low ∙ ap Some (sym is),
+    before,
+    λ bytes known. subst (λ (k : Kind). HasFault k bytes e) of_kind (here bytes known),
+  )
+
+-- all of them have it
+pub have_all : (Has : List ℕ → Type 0) (packs : List LazyIndex) (at : ℕ) → length packs ≤ at → All (IfKnown Has) (take at packs) → All (IfKnown Has) packs
+have_all Has packs at all have = subst (All (IfKnown Has)) (take_all at packs all) have
+
+-- where no pack index is at fault, each has what is asked for
+pub elsewhere : (Has : List ℕ → Type 0) (HasFault : List ℕ → LazyError → Type 0) (packs : List LazyIndex) (e : Error) → All (IfKnown Has) packs → IsElsewhere e
+    → IsFirstFault Has HasFault packs e
+elsewhere Has HasFault packs (Index at error) have is = absurd is
+elsewhere Has HasFault packs (Loose error) have is = have
+elsewhere Has HasFault packs (Memory error) have is = tt
 
 -- what was gathered, sorted and kept once
 pub held : (kind : Kind) (packs : List LazyIndex) (loose : Option (List (List ℕ))) (whole : List (List ℕ)) (p : List ℕ → Bool) (packed gathered part : List (List ℕ))
@@ -78,15 +106,32 @@ held kind packs loose whole p packed gathered part h from_packs all index =
     part_is kind p (names ++ h.loose_ids) whole part h.all (subst (λ (ids : List (List ℕ)). IsIndexOf kind ids part) here index)
 
 -- a store whose pack indexes are ones has no fault
-pub no_store_fault : (kind : Kind) (packs : List LazyIndex) (loose : Option (List (List ℕ))) (whole : List (List ℕ)) (e : Error) → Holds kind packs loose whole
-    → IsStoreFault kind packs e → IsOutside e
-no_store_fault kind packs loose whole (Index at error) h fault =
+no_first_fault : (Has : List ℕ → Type 0) (HasFault : List ℕ → LazyError → Type 0) (kind : Kind) (packs : List LazyIndex) (loose : Option (List (List ℕ)))
+    (whole : List (List ℕ)) (e : Error) → ((bytes : List ℕ) (why : LazyError) → IsPackIndex kind bytes → HasFault bytes why → lazy.IsOutside why)
+    → Holds kind packs loose whole → IsFirstFault Has HasFault packs e → IsOutside e
+no_first_fault Has HasFault kind packs loose whole (Index at error) no_fault h fault =
     let content : LazyIndex → Option (List ℕ) = λ p. p.content in
     let pack = fault.0 in
     let low : at < length packs = slice_get_within packs at pack fault.1 in
     let inside : at < length h.indexes = omega (arith, low, as_many content packs h.indexes h.known) in
     let known = known_at content packs h.indexes h.known at pack low in
-    no_fault kind (get_or h.indexes at []) error (h.are_indexes at [] inside)
-    (fault.2 (get_or h.indexes at []) (ap content (sym (get_or_from_slice_get packs at pack pack fault.1)) ∙ known))
-no_store_fault kind packs loose whole (Loose error) h fault = tt
-no_store_fault kind packs loose whole (Memory error) h fault = tt
+    no_fault (get_or h.indexes at []) error (h.are_indexes at [] inside)
+    (fault.3 (get_or h.indexes at []) (ap content (sym (get_or_from_slice_get packs at pack pack fault.1)) ∙ known))
+no_first_fault Has HasFault kind packs loose whole (Loose error) no_fault h fault = tt
+no_first_fault Has HasFault kind packs loose whole (Memory error) no_fault h fault = tt
+
+pub no_store_fault : (kind : Kind) (packs : List LazyIndex) (loose : Option (List (List ℕ))) (whole : List (List ℕ)) (byte : ℕ) (e : Error)
+    → Holds kind packs loose whole → IsStoreFault kind packs byte e → IsOutside e
+no_store_fault kind packs loose whole byte e =
+    no_first_fault (λ bytes. HasBucket kind bytes byte) (λ bytes why. IsBucketFault kind bytes byte why) kind packs loose whole e
+    (λ bytes. no_bucket_fault kind bytes byte)
+
+no_place_fault : (kind : Kind) (bytes digits : List ℕ) (e : LazyError) → IsPackIndex kind bytes → IsPlaceFault kind bytes digits e → lazy.IsOutside e
+no_place_fault kind bytes digits (NoOffset at) index fault = fault.2 (index.offsets.in_table at (omega (arith, fault.0.inside, fault.1.to)))
+no_place_fault kind bytes digits e index fault = no_bucket_fault kind bytes (first_byte_of digits) e index fault
+
+pub no_locate_fault : (kind : Kind) (packs : List LazyIndex) (loose : Option (List (List ℕ))) (whole : List (List ℕ)) (digits : List ℕ) (e : Error)
+    → Holds kind packs loose whole → IsLocateFault kind packs digits e → IsOutside e
+no_locate_fault kind packs loose whole digits e =
+    no_first_fault (λ bytes. HasPlace kind bytes digits) (λ bytes why. IsPlaceFault kind bytes digits why) kind packs loose whole e
+    (λ bytes. no_place_fault kind bytes digits)

@@ -1,5 +1,6 @@
 -- What was found in each pack index and among the loose ids are the places of the object.
 use Rattle.std.proofs.Common.{◌≡◌, ◌≢◌, ℕ, suc, ◌+◌, ◌<◌, true, false, cond, ◌&&◌, ◌||◌, nat_eq, Bool, Option, None, Some, List, [], ◌∷◌, ◌++◌, length, get_or, map, filter, refl, sym, ap, ◌∙◌, subst, arith, eq-eqb}
+use Rattle.std.specs.Prelude.{◌↔◌}
 use Rattle.std.specs.Bool.{Decides}
 use Rattle.std.specs.Cmp.Lexicographic.{bytes_decides}
 use Rattle.std.specs.List.{All, list_any}
@@ -13,11 +14,14 @@ use Rattle.gix_hash.specs.declared.ObjectId.{ObjectId}
 use Rattle.id_lookup.specs.FirstBytes.{has_first_byte}
 use Rattle.id_lookup.specs.IndexOf.{part_of}
 use Rattle.object_store.specs.Places.{offset_of, packed_at, packed_places}
+use Rattle.object_store.specs.Stores.{HasPlace, IsPlaceFault}
 use Rattle.object_store.specs.declared.places.Place.{Place}
 use Rattle.object_store.proofs.Held.{as_many, known_at}
 use Rattle.pack_index.specs.Firsts.{Each}
-use Rattle.pack_index.specs.Format.{HasCount, IsPackIndex, names_in, offset_in}
-use Rattle.pack_index.specs.Lazy.{LazyIndex}
+use Rattle.pack_index.specs.Format.{HasCount, HasOffset, IsPackIndex, names_in, offset_in}
+use Rattle.pack_index.specs.Lazy.{HasBucket, IsBucketFault, IsFirstCounted, IsOffsetFault, LazyIndex}
+use Rattle.pack_index.specs.declared.lazy_error.LazyError.{LazyError}
+use Rattle.pack_index.specs.declared.lazy_error.LazyError.TheVariants.{NoOffset, Read}
 use Rattle.pack_index.specs.Names.{IsFirstIndexOf}
 use Rattle.pack_index.proofs.Firsts.{first, no_first}
 
@@ -39,6 +43,31 @@ offset_some kind bytes id at offset found is =
     let names = names_in kind bytes in
     ap Some is ∙ sym (first (λ k. get_or names k [] ≢ id) (λ k. bytes_eq (get_or names k []) id) (offset_in kind bytes) (length names) (is_name names id) at
     (found.in_range, found.first, λ differs. differs found.same))
+
+-- what an index has of an id that it was asked for
+module _ (kind : Kind) (bytes id : List ℕ) (bucket : HasBucket kind bytes (first_byte_of id)) where
+  pub place_none : ((n : ℕ) → (None ≡ Some n) ↔ IsFirstCounted kind bytes id n) → HasPlace kind bytes id
+  place_none counted = record { bucket = bucket; offset = λ n there. let same = (counted n).1 there in absurd cc }
+
+  module _ (at : ℕ) (counted : (n : ℕ) → (Some at ≡ Some n) ↔ IsFirstCounted kind bytes id n) where
+    pub place_some : HasOffset kind bytes at → HasPlace kind bytes id
+    place_some has = record {
+      bucket = bucket;
+      offset = λ n there. let same = (counted n).1 there in let at_n : at ≡ n = cc in subst (HasOffset kind bytes) at_n has;
+    }
+
+    pub offset_fault : (e : LazyError) → IsOffsetFault kind bytes at e → IsPlaceFault kind bytes id e
+    offset_fault (Read e) fault = tt
+    offset_fault (NoOffset k) fault = (
+      bucket,
+      (counted k).0 (ap Some (sym fault.0)),
+      subst (λ n. ¬ HasOffset kind bytes n) (sym fault.0) fault.2,
+    )
+    offset_fault _ fault = absurd fault
+
+pub bucket_fault : (kind : Kind) (bytes id : List ℕ) (e : LazyError) → IsBucketFault kind bytes (first_byte_of id) e → IsPlaceFault kind bytes id e
+bucket_fault kind bytes id (NoOffset k) fault = absurd fault
+bucket_fault kind bytes id e fault = fault
 
 -- one pack more
 pub place_more : (kind : Kind) (packs : List LazyIndex) (id : List ℕ) (at : ℕ) (pack : LazyIndex) (offset : Option ℕ) (old new : List Place) (indexes : List (List ℕ))

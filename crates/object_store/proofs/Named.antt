@@ -30,6 +30,10 @@ use Rattle.object_store.specs.declared.naming.NamedId.{NamedId}
 begins_itself : (id : List ℕ) (n : ℕ) → starts_with nat_eq id (take n id) ≡ true
 begins_itself id n = (starts_with-BeginsWith id (take n id)).1 (drop n id, sym (take-append-drop n id))
 
+pub front_byte : (id front : List ℕ) (least : ℕ) → front ≡ take least id → 2 ≤ least → least ≤ length id → first_byte_of front ≡ first_byte_of id
+front_byte id front least is two fits =
+    ap first_byte_of is ∙ sym (first_byte_of-begins id (take least id) (omega (arith, two, length-take-le least id fits)) (begins_itself id least))
+
 -- of an id, among those that begin as it does
 pub name_of_id : (kind : Kind) (least : ℕ) (id : List ℕ) (whole part : List (List ℕ)) (name : Option KindDigits) → IsIndex kind whole
     → part ≡ matches (take least id) whole

@@ -1,11 +1,14 @@
 -- What an object store holds. Each id is given by its digits.
-use Rattle.std.specs.Prelude.{◌≡◌, ℕ, ◌<◌, ◌++◌, All, List, [], Option, Some, flat_map, length, map, slice_get, slice_index_or}
+use Rattle.std.specs.Prelude.{◌≡◌, ℕ, ◌<◌, ◌++◌, All, List, [], Option, Some, flat_map, length, map, slice_get, slice_index_or, take}
+use Rattle.gix_hash.specs.Digits.{first_byte_of}
 use Rattle.gix_hash.specs.declared.Kind.{Kind}
 use Rattle.id_lookup.specs.IndexOf.{IsIndexOf}
 use Rattle.id_lookup.specs.ShortNames.{IsShortestNameFrom}
-use Rattle.pack_index.specs.Format.{IsPackIndex, names_in}
+use Rattle.pack_index.specs.Format.{HasOffset, IsPackIndex, names_in}
 use Rattle.pack_index.specs.Lazy as lazy
-use Rattle.pack_index.specs.Lazy.{IsLazyFault, LazyIndex}
+use Rattle.pack_index.specs.Lazy.{HasBucket, IsBucketFault, IsFirstCounted, LazyIndex}
+use Rattle.pack_index.specs.declared.lazy_error.LazyError.{LazyError}
+use Rattle.pack_index.specs.declared.lazy_error.LazyError.TheVariants.{NoOffset}
 use Rattle.object_store.specs.declared.error.Error.{Error}
 use Rattle.object_store.specs.declared.error.Error.TheVariants.{Index, Loose, Memory}
 
@@ -22,12 +25,43 @@ pub record Holds (kind : Kind) (packs : List LazyIndex) (loose : Option (List (L
 abbrev pub IsNameIn : ℕ → List (List ℕ) → List ℕ → List ℕ → Type 0
 IsNameIn least whole id name = (place : ℕ) → place < length whole → slice_index_or whole place [] ≡ id → IsShortestNameFrom least whole place name
 
--- what an error says of the pack indexes: the one at the index has the fault, if its bytes are known
-abbrev pub IsStoreFault : Kind → List LazyIndex → Error → Type 0
-IsStoreFault kind packs (Index at error) =
-    (pack : LazyIndex) × (slice_get packs at ≡ Some pack) × ((bytes : List ℕ) → pack.content ≡ Some bytes → IsLazyFault kind bytes error)
-IsStoreFault kind packs (Loose error) = Unit {0}
-IsStoreFault kind packs (Memory error) = Unit {0}
+-- a fact of the bytes of a pack index, if they are known
+abbrev pub IfKnown : (List ℕ → Type 0) → LazyIndex → Type 0
+IfKnown P pack = (bytes : List ℕ) → pack.content ≡ Some bytes → P bytes
+
+-- why a look-up fails that asks the pack indexes in order, and then for the loose ids: the one at the index has the fault, and those before it have
+-- what is asked for
+abbrev pub IsFirstFault : (List ℕ → Type 0) → (List ℕ → LazyError → Type 0) → List LazyIndex → Error → Type 0
+IsFirstFault Has HasFault packs (Index at error) =
+    (pack : LazyIndex) × (slice_get packs at ≡ Some pack) × All (IfKnown Has) (take at packs) × IfKnown (λ bytes. HasFault bytes error) pack
+IsFirstFault Has HasFault packs (Loose error) = All (IfKnown Has) packs
+IsFirstFault Has HasFault packs (Memory error) = Unit {0}
+
+-- the pack indexes have the names that are counted with a first byte
+abbrev pub HaveBuckets : Kind → List LazyIndex → ℕ → Type 0
+HaveBuckets kind packs byte = All (IfKnown (λ bytes. HasBucket kind bytes byte)) packs
+
+-- why they are not read, or the loose ids with the byte are not listed
+abbrev pub IsStoreFault : Kind → List LazyIndex → ℕ → Error → Type 0
+IsStoreFault kind packs byte error = IsFirstFault (λ bytes. HasBucket kind bytes byte) (λ bytes why. IsBucketFault kind bytes byte why) packs error
+
+-- a pack index has the names that are counted with the first byte of the id of these digits, and an offset if the id is one of them
+pub record HasPlace (kind : Kind) (bytes digits : List ℕ) : Type 0 where
+  pub bucket : HasBucket kind bytes (first_byte_of digits)
+  pub offset : (at : ℕ) → IsFirstCounted kind bytes digits at → HasOffset kind bytes at
+
+-- why they are not read
+abbrev pub IsPlaceFault : Kind → List ℕ → List ℕ → LazyError → Type 0
+IsPlaceFault kind bytes digits (NoOffset at) =
+    HasBucket kind bytes (first_byte_of digits) × IsFirstCounted kind bytes digits at × ¬ HasOffset kind bytes at
+IsPlaceFault kind bytes digits error = IsBucketFault kind bytes (first_byte_of digits) error
+
+-- the same of all pack indexes, as for a first byte
+abbrev pub HavePlaces : Kind → List LazyIndex → List ℕ → Type 0
+HavePlaces kind packs digits = All (IfKnown (λ bytes. HasPlace kind bytes digits)) packs
+
+abbrev pub IsLocateFault : Kind → List LazyIndex → List ℕ → Error → Type 0
+IsLocateFault kind packs digits error = IsFirstFault (λ bytes. HasPlace kind bytes digits) (λ bytes why. IsPlaceFault kind bytes digits why) packs error
 
 -- no pack index is at fault
 abbrev pub IsElsewhere : Error → Type 0

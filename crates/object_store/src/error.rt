@@ -1,6 +1,7 @@
 //! Why a store does not give what was asked.
 
-ghost use Rattle.object_store.specs.Stores.{IsElsewhere};
+ghost use Rattle.std.specs.Prelude.{◌≡◌};
+ghost use Rattle.object_store.specs.declared.error.Error.TheVariants as errors;
 
 use pack_index::LazyError;
 use std::alloc::AllocError;
@@ -18,7 +19,7 @@ use thiserror::Error as ThisError;
 /// ```
 #[derive(Debug, Drop, ThisError)]
 pub enum Error {
-    /// A pack index cannot be read, or is damaged where it was read.
+    /// A pack index cannot be read, or is damaged where it was read, and none before it is.
     #[error("pack index {at}: {error}")]
     Index {
         /// Its index among those of the store, from 0.
@@ -26,7 +27,7 @@ pub enum Error {
         /// Why.
         error: LazyError,
     },
-    /// The loose objects cannot be listed.
+    /// The loose objects cannot be listed, which is done after all pack indexes were read.
     #[error("the loose objects cannot be listed: {0}")]
     Loose(io::Error),
     /// There is not enough memory.
@@ -35,7 +36,7 @@ pub enum Error {
 }
 
 impl From<AllocError> for Error {
-    ghost from_gives = { λ _ made. IsElsewhere made };
+    ghost from_gives = { λ error made. made ≡ errors.Memory error };
 
     fn from(error: AllocError) -> Self {
         Error::Memory(error)

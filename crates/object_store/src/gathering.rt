@@ -1,13 +1,14 @@
 //! The ids of a store with a first byte, or that begin with a prefix.
 
 ghost use Rattle.std.specs.Prelude.{◌≡◌, ◌≤◌, ℕ, [], ◌++◌, All, IfErr, IfOk, List, OnOk, Some, filter, flat_map, length, map};
+ghost use Rattle.gix_hash.specs.Digits.{first_byte_of};
 ghost use Rattle.gix_hash.specs.Kind.{hex_len_of};
 ghost use Rattle.gix_hash.specs.ObjectId.{id_digits, id_kind};
 ghost use Rattle.gix_hash.specs.declared.Kind.{Kind as IdKind};
 ghost use Rattle.id_lookup.specs.FirstBytes.{has_first_byte};
 ghost use Rattle.id_lookup.specs.Index.{IsIndex};
 ghost use Rattle.id_lookup.specs.Runs.{matches};
-ghost use Rattle.object_store.specs.Stores.{Holds, IsElsewhere, IsStoreFault};
+ghost use Rattle.object_store.specs.Stores.{HaveBuckets, Holds, IsElsewhere, IsStoreFault};
 ghost use Rattle.object_store.specs.Wanted.{passes, wanted_byte, wanted_len};
 ghost use Rattle.pack_index.specs.Format.{IsPackIndex, digests_in, names_in};
 ghost use Rattle.pack_index.specs.Lazy.{LazyIndex};
@@ -42,7 +43,10 @@ pub fn lookup_prefix<S: Store, A: Allocator + Copy>(
         → map id_digits ids.items ≡ matches prefix.now.digits whole) }
     ensures index { IfOk result (λ ids. IsIndex (S.kind store.now) (map id_digits ids.items)) }
     ensures kinds { IfOk result (λ ids. All (λ id. id_kind id ≡ S.kind store.now) ids.items) }
-    ensures err { IfErr result (IsStoreFault (S.kind store.now) (S.packs store.now)) }
+    ensures right { IfOk result (λ _. HaveBuckets (S.kind store.now) (S.packs store.now)
+        (first_byte_of prefix.now.digits)) }
+    ensures err { IfErr result (IsStoreFault (S.kind store.now) (S.packs store.now)
+        (first_byte_of prefix.now.digits)) }
 {
     // The contract of this call says that the prefix has at most as many digits as its kind.
     let _hex_len = prefix.hex_len();
@@ -62,7 +66,10 @@ pub(crate) fn gather<S: Store, A: Allocator + Copy>(
         → map id_digits ids.items ≡ filter (passes wanted.now) whole) }
     ensures index { IfOk result (λ ids. IsIndex (S.kind store.now) (map id_digits ids.items)) }
     ensures kinds { IfOk result (λ ids. All (λ id. id_kind id ≡ S.kind store.now) ids.items) }
-    ensures err { IfErr result (IsStoreFault (S.kind store.now) (S.packs store.now)) }
+    ensures right { IfOk result (λ _. HaveBuckets (S.kind store.now) (S.packs store.now)
+        (wanted_byte wanted.now)) }
+    ensures err { IfErr result (IsStoreFault (S.kind store.now) (S.packs store.now)
+        (wanted_byte wanted.now)) }
 {
     let mut ids = Vec::new(alloc);
     push_packed(alloc, store, wanted, &mut ids)?;
@@ -88,7 +95,10 @@ fn push_packed<S: Store, A: Allocator + Copy>(
         ≡ flat_map (λ bytes. filter (passes wanted.now) (names_in (S.kind store.now) bytes))
         indexes) }
     ensures kinds { OnOk result (All (λ id. id_kind id ≡ S.kind store.now) ids.new.items) }
-    ensures err { IfErr result (IsStoreFault (S.kind store.now) (S.packs store.now)) }
+    ensures right { OnOk result (HaveBuckets (S.kind store.now) (S.packs store.now)
+        (wanted_byte wanted.now)) }
+    ensures err { IfErr result (IsStoreFault (S.kind store.now) (S.packs store.now)
+        (wanted_byte wanted.now)) }
 {
     let byte = wanted.first_byte();
     let packs = store.indexes();

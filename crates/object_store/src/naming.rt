@@ -1,12 +1,13 @@
 //! Shortest names in a whole store.
 
-ghost use Rattle.std.specs.Prelude.{◌≡◌, ◌≢◌, ◌≤◌, ◌<◌, ◌↔◌, ℕ, [], All, Contains, List, IfErr, IfOk, IsTrue, MatchOption, Some, length, map, slice_get, slice_index_or};
+ghost use Rattle.std.specs.Prelude.{◌≡◌, ◌≢◌, ◌≤◌, ◌<◌, ◌↔◌, ℕ, [], All, Contains, List, IfErr, IfOk, IsTrue, MatchOption, Some, length, map, slice_get, slice_index_or, take};
+ghost use Rattle.gix_hash.specs.Digits.{first_byte_of};
 ghost use Rattle.gix_hash.specs.Kind.{hex_len_of};
 ghost use Rattle.gix_hash.specs.ObjectId.{id_digits, id_kind};
 ghost use Rattle.id_lookup.specs.Index.{IsIndex};
 ghost use Rattle.id_lookup.specs.IndexOf.{part_of};
 ghost use Rattle.id_lookup.specs.ShortNames.{IsShortestNameFrom};
-ghost use Rattle.object_store.specs.Stores.{Holds, IsNameIn, IsStoreFault};
+ghost use Rattle.object_store.specs.Stores.{HaveBuckets, Holds, IsNameIn, IsStoreFault};
 
 use crate::error::Error;
 use crate::gathering::gather;
@@ -57,7 +58,8 @@ pub fn names<S: Store, A: Allocator + Copy>(
     ensures names { IfOk result (λ named. (whole : List (List ℕ))
         → Holds (S.kind store.now) (S.packs store.now) (S.loose store.now) whole
         → All (λ (n : NamedId). IsNameIn least whole (id_digits n.id) n.name.digits) named.items) }
-    ensures err { IfErr result (IsStoreFault (S.kind store.now) (S.packs store.now)) }
+    ensures right { IfOk result (λ _. HaveBuckets (S.kind store.now) (S.packs store.now) byte) }
+    ensures err { IfErr result (IsStoreFault (S.kind store.now) (S.packs store.now) byte) }
 {
     let ids = gather(alloc, store, &Wanted::FirstByte(byte))?;
     Ok(name_all(alloc, &ids, store.object_hash(), least)?)
@@ -86,11 +88,25 @@ pub fn abbreviate<S: Store, A: Allocator + Copy>(
         → Holds (S.kind store.now) (S.packs store.now) (S.loose store.now) whole
         → MatchOption name (¬ Contains whole (id_digits id.now))
         (λ name. IsNameIn least whole (id_digits id.now) name.digits)) }
-    ensures err { IfErr result (IsStoreFault (S.kind store.now) (S.packs store.now)) }
+    ensures right { IfOk result (λ _. HaveBuckets (S.kind store.now) (S.packs store.now)
+        (first_byte_of (id_digits id.now))) }
+    ensures err { IfErr result (IsStoreFault (S.kind store.now) (S.packs store.now)
+        (first_byte_of (id_digits id.now))) }
 {
-    let front = Prefix::new(id.as_oid(), least).unwrap();
+    let front = front_of(id, least);
     let ids = gather(alloc, store, &Wanted::BeginsWith(front))?;
     Ok(name_in(&ids, id, least))
+}
+
+// The first digits of an id.
+fn front_of(id: &ObjectId, least: usize) -> Prefix
+    requires enough { 4 ≤ least }
+    requires fits { least ≤ hex_len_of (id_kind id.now) }
+    ensures digits { result.digits ≡ take least (id_digits id.now) }
+    ensures len { length result.digits ≡ least }
+    ensures byte { first_byte_of result.digits ≡ first_byte_of (id_digits id.now) }
+{
+    Prefix::new(id.as_oid(), least).unwrap()
 }
 
 // Each id of an index with its shortest name there.

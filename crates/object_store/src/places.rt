@@ -5,10 +5,10 @@ ghost use Rattle.std.specs.List.{list_any};
 ghost use Rattle.std.specs.Str.{bytes_eq};
 ghost use Rattle.gix_hash.specs.ObjectId.{id_digits, id_kind};
 ghost use Rattle.object_store.specs.Places.{offset_of, packed_at, packed_places, places_of};
-ghost use Rattle.object_store.specs.Stores.{Holds, IsElsewhere, IsStoreFault};
+ghost use Rattle.object_store.specs.Stores.{HasPlace, HavePlaces, Holds, IsElsewhere, IsLocateFault, IsPlaceFault};
 ghost use Rattle.pack_index.specs.Firsts.{Each};
 ghost use Rattle.pack_index.specs.Format.{HasCount, IsPackIndex};
-ghost use Rattle.pack_index.specs.Lazy.{IsLazyFault, LazyIndex};
+ghost use Rattle.pack_index.specs.Lazy.{LazyIndex};
 
 use crate::error::Error;
 use crate::store::Store;
@@ -61,7 +61,10 @@ pub fn locate<S: Store, A: Allocator + Copy>(
         → (h : Holds (S.kind store.now) (S.packs store.now) (S.loose store.now) whole)
         → places.items
         ≡ places_of (S.kind store.now) (id_digits id.now) h.indexes h.loose_ids) }
-    ensures err { IfErr result (IsStoreFault (S.kind store.now) (S.packs store.now)) }
+    ensures right { IfOk result (λ _. HavePlaces (S.kind store.now) (S.packs store.now)
+        (id_digits id.now)) }
+    ensures err { IfErr result (IsLocateFault (S.kind store.now) (S.packs store.now)
+        (id_digits id.now)) }
 {
     let mut places = packed_places(alloc, store, id)?;
     if is_loose(alloc, store, id)? {
@@ -81,7 +84,10 @@ fn packed_places<S: Store, A: Allocator + Copy>(
         → All (IsPackIndex (S.kind store.now)) indexes
         → places.items
         ≡ packed_places (S.kind store.now) (id_digits id.now) indexes (length indexes)) }
-    ensures err { IfErr result (IsStoreFault (S.kind store.now) (S.packs store.now)) }
+    ensures right { IfOk result (λ _. HavePlaces (S.kind store.now) (S.packs store.now)
+        (id_digits id.now)) }
+    ensures err { IfErr result (IsLocateFault (S.kind store.now) (S.packs store.now)
+        (id_digits id.now)) }
 {
     let mut places = Vec::new(alloc);
     let packs = store.indexes();
@@ -125,8 +131,10 @@ fn packed_offset<S: ReadAt + Drop, A: Allocator>(
     ensures offset { IfOk result (λ offset. (bytes : List ℕ) → index.now.content ≡ Some bytes
         → Each (HasCount index.now.kind bytes) 256
         → offset ≡ offset_of index.now.kind bytes (id_digits id.now)) }
+    ensures right { IfOk result (λ _. (bytes : List ℕ) → index.now.content ≡ Some bytes
+        → HasPlace index.now.kind bytes (id_digits id.now)) }
     ensures err { IfErr result (λ e. (bytes : List ℕ) → index.now.content ≡ Some bytes
-        → IsLazyFault index.now.kind bytes e) }
+        → IsPlaceFault index.now.kind bytes (id_digits id.now) e) }
 {
     match index.lookup(alloc, id.as_oid())? {
         Some(at) => Ok(Some(index.pack_offset_at_index(at)?)),

@@ -16,9 +16,9 @@ use Rattle.id_lookup.proofs.FirstByteCounts.{count_by-below_0, count_by-up_to, u
 use Rattle.id_lookup.proofs.PartsInOrder.{below-next, part-run}
 use Rattle.pack_index.specs.Firsts.{Each}
 use Rattle.pack_index.specs.Format.{HasCount, HasTables, IsPackIndex, count_in, crcs_at, digests_in, names_in}
-use Rattle.pack_index.specs.Lazy.{HaveFirstByte, IsLazyFault, IsOutside, bucket_end, bucket_start, counted_with}
+use Rattle.pack_index.specs.Lazy.{HaveFirstByte, IsBucketFault, IsOutside, bucket_end, bucket_start, counted_with}
 use Rattle.pack_index.specs.declared.lazy_error.LazyError.{LazyError}
-use Rattle.pack_index.specs.declared.lazy_error.LazyError.TheVariants.{Read, Memory, TooShort, BadMagic, BadVersion, WrongLength, CountsFall, CountTooHigh, WrongCount, NoOffset}
+use Rattle.pack_index.specs.declared.lazy_error.LazyError.TheVariants.{Read, Memory, CountsFall, CountTooHigh, WrongCount}
 use Rattle.pack_index.proofs.Counted.{length-names_in, length-table, as_many}
 use Rattle.streams.specs.ReadAt.{IsReadAt}
 
@@ -162,14 +162,10 @@ module _ (kind : Kind) (bytes : List ℕ) (byte : ℕ) (index : IsPackIndex kind
       subst (λ (ids : List (List ℕ)). All (λ id. has_first_byte byte id ≡ true) ids) is (filter_passes (has_first_byte byte) (names_in kind bytes))
 
 -- a pack index has no fault
-pub no_fault : (kind : Kind) (bytes : List ℕ) (e : LazyError) → IsPackIndex kind bytes → IsLazyFault kind bytes e → IsOutside e
-no_fault kind bytes (Read e) index fault = tt
-no_fault kind bytes (Memory e) index fault = tt
-no_fault kind bytes TooShort index fault = omega (arith, index.names.head.enough, fault)
-no_fault kind bytes BadMagic index fault = fault index.names.head.magic
-no_fault kind bytes (BadVersion version) index fault = fault.1 (fault.0 ∙ index.names.head.version)
-no_fault kind bytes WrongLength index fault = fault index.names.tables
-no_fault kind bytes (CountsFall byte) index fault = omega (arith, counts_rise kind bytes byte index fault.0, fault.1)
-no_fault kind bytes (CountTooHigh byte) index fault = omega (arith, counts_inside kind bytes byte index fault.0, fault.1)
-no_fault kind bytes (WrongCount byte) index fault = fault.1 (have_byte kind bytes byte index fault.0)
-no_fault kind bytes (NoOffset at) index fault = fault.1 (index.offsets.in_table at fault.0)
+pub no_bucket_fault : (kind : Kind) (bytes : List ℕ) (byte : ℕ) (e : LazyError) → IsPackIndex kind bytes → IsBucketFault kind bytes byte e → IsOutside e
+no_bucket_fault kind bytes byte (Read e) index fault = tt
+no_bucket_fault kind bytes byte (Memory e) index fault = tt
+no_bucket_fault kind bytes byte (CountsFall b) index fault = omega (arith, counts_rise kind bytes byte index fault.1, fault.2)
+no_bucket_fault kind bytes byte (CountTooHigh b) index fault = omega (arith, counts_inside kind bytes byte index fault.1, fault.3)
+no_bucket_fault kind bytes byte (WrongCount b) index fault = fault.4 (have_byte kind bytes byte index fault.1)
+no_bucket_fault kind bytes byte _ index fault = absurd fault

@@ -4,7 +4,7 @@ use Rattle.std.specs.Int.{from_be_bytes, w32}
 use Rattle.std.proofs.lemmas.List.{get_or-take, get_or-drop}
 use Rattle.gix_hash.specs.Kind.{byte_len_of}
 use Rattle.gix_hash.specs.declared.Kind.{Kind}
-use Rattle.pack_index.specs.Format.{HasTables, count_in, long_at, names_at, offsets_at, word_at}
+use Rattle.pack_index.specs.Format.{HasHead, HasTables, count_in, long_at, magic_number, min_len, names_at, offsets_at, word_at}
 use Rattle.pack_index.specs.Lazy.{FillsBytes, bucket_start, bucket_end}
 use Rattle.streams.specs.ReadAt.{IsReadAt}
 
@@ -36,6 +36,13 @@ module _ (bytes head : List ℕ) (front : IsReadAt bytes 0 head) (long : length 
 
   pub end_in_head : (byte : ℕ) → byte < 256 → bucket_end head byte ≡ bucket_end bytes byte
   end_in_head byte low = head_word (8 + 4 * byte) (omega arith)
+
+  pub has_head : (kind : Kind) (len : ℕ) → len ≡ length bytes → min_len kind ≤ len → word_at head 0 ≡ magic_number → word_at head 4 ≡ 2 → HasHead kind bytes
+  has_head kind len same enough magic version = record {
+    enough = omega (arith, same, enough);
+    magic = sym (head_word 0 (omega arith)) ∙ magic;
+    version = sym (head_word 4 (omega arith)) ∙ version;
+  }
 
   -- where the offsets and the long offsets begin
   pub offsets_in_head : (kind : Kind) → offsets_at kind head ≡ offsets_at kind bytes

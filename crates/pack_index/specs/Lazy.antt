@@ -1,9 +1,10 @@
 -- Pack indexes that are read at positions, and not whole.
-use Rattle.std.specs.Prelude.{◌≡◌, ◌≢◌, ℕ, zero, suc, ◌+◌, ◌-◌, ◌*◌, ◌%◌, ◌<◌, ◌≤◌, IsTrue, Option, List, All, length, slice_range}
+use Rattle.std.specs.Prelude.{◌≡◌, ◌≢◌, ℕ, zero, suc, ◌+◌, ◌-◌, ◌*◌, ◌%◌, ◌<◌, ◌≤◌, IsTrue, Option, List, [], All, length, slice_index_or, slice_range}
+use Rattle.gix_hash.specs.Digits.{first_byte_of}
 use Rattle.gix_hash.specs.Kind.{byte_len_of}
 use Rattle.gix_hash.specs.declared.Kind.{Kind}
 use Rattle.id_lookup.specs.FirstBytes.{has_first_byte}
-use Rattle.pack_index.specs.Format.{HasOffset, HasTables, count_in, magic_number, min_len, names_at, names_in, word_at}
+use Rattle.pack_index.specs.Format.{HasHead, HasOffset, HasTables, count_in, magic_number, min_len, names_at, names_in, word_at}
 use Rattle.pack_index.specs.declared.lazy_error.LazyError.{LazyError}
 use Rattle.pack_index.specs.declared.lazy_error.LazyError.TheVariants.{Read, Memory, TooShort, BadMagic, BadVersion, WrongLength, CountsFall, CountTooHigh, WrongCount, NoOffset}
 
@@ -36,28 +37,54 @@ counted_with kind bytes byte = slice_range (names_in kind bytes) (bucket_start b
 abbrev pub HaveFirstByte : ℕ → List (List ℕ) → Type 0
 HaveFirstByte byte ids = All (λ id. IsTrue (has_first_byte byte id)) ids
 
+-- the counts of a first byte are in order and at most the number of names, and each name that is counted with it has it
+pub record HasBucket (kind : Kind) (bytes : List ℕ) (byte : ℕ) : Type 0 where
+  pub in_order : bucket_start bytes byte ≤ bucket_end bytes byte
+  pub inside : bucket_end bytes byte ≤ count_in bytes
+  pub first : HaveFirstByte byte (counted_with kind bytes byte)
+
+-- the id of these digits is at this index, and at none before it of the names that are counted with its first byte
+pub record IsFirstCounted (kind : Kind) (bytes digits : List ℕ) (at : ℕ) : Type 0 where
+  pub from : bucket_start bytes (first_byte_of digits) ≤ at
+  pub to : at < bucket_end bytes (first_byte_of digits)
+  pub same : slice_index_or (names_in kind bytes) at [] ≡ digits
+  pub first : (k : ℕ) → bucket_start bytes (first_byte_of digits) ≤ k → k < at → slice_index_or (names_in kind bytes) k [] ≢ digits
+
+-- a read failed
+abbrev pub IsRead : LazyError → Type 0
+IsRead (Read e) = Unit {0}
+IsRead _ = ⊥
+
 -- a read failed, or memory ran out
 abbrev pub IsOutside : LazyError → Type 0
 IsOutside (Read e) = Unit {0}
 IsOutside (Memory e) = Unit {0}
-IsOutside TooShort = ⊥
-IsOutside BadMagic = ⊥
-IsOutside (BadVersion version) = ⊥
-IsOutside WrongLength = ⊥
-IsOutside (CountsFall byte) = ⊥
-IsOutside (CountTooHigh byte) = ⊥
-IsOutside (WrongCount byte) = ⊥
-IsOutside (NoOffset at) = ⊥
+IsOutside _ = ⊥
 
--- what an error says of the bytes
-abbrev pub IsLazyFault : Kind → List ℕ → LazyError → Type 0
-IsLazyFault kind bytes (Read e) = Unit {0}
-IsLazyFault kind bytes (Memory e) = Unit {0}
-IsLazyFault kind bytes TooShort = length bytes < min_len kind
-IsLazyFault kind bytes BadMagic = word_at bytes 0 ≢ magic_number
-IsLazyFault kind bytes (BadVersion version) = (version ≡ word_at bytes 4) × (version ≢ 2)
-IsLazyFault kind bytes WrongLength = ¬ HasTables kind bytes
-IsLazyFault kind bytes (CountsFall byte) = (byte < 256) × (bucket_end bytes byte < bucket_start bytes byte)
-IsLazyFault kind bytes (CountTooHigh byte) = (byte < 256) × (count_in bytes < bucket_end bytes byte)
-IsLazyFault kind bytes (WrongCount byte) = (byte < 256) × ¬ HaveFirstByte byte (counted_with kind bytes byte)
-IsLazyFault kind bytes (NoOffset at) = (at < count_in bytes) × ¬ HasOffset kind bytes at
+-- why bytes are not opened: the cause holds, and none before it
+abbrev pub IsHeadFault : Kind → List ℕ → LazyError → Type 0
+IsHeadFault kind bytes (Read e) = Unit {0}
+IsHeadFault kind bytes TooShort = length bytes < min_len kind
+IsHeadFault kind bytes BadMagic = (min_len kind ≤ length bytes) × (word_at bytes 0 ≢ magic_number)
+IsHeadFault kind bytes (BadVersion version) =
+    (min_len kind ≤ length bytes) × (word_at bytes 0 ≡ magic_number) × (version ≡ word_at bytes 4) × (version ≢ 2)
+IsHeadFault kind bytes WrongLength = HasHead kind bytes × ¬ HasTables kind bytes
+IsHeadFault kind bytes _ = ⊥
+
+-- why the names that are counted with a first byte are not read: the cause holds of that byte, and none before it
+abbrev pub IsBucketFault : Kind → List ℕ → ℕ → LazyError → Type 0
+IsBucketFault kind bytes byte (Read e) = Unit {0}
+IsBucketFault kind bytes byte (Memory e) = Unit {0}
+IsBucketFault kind bytes byte (CountsFall b) = (b ≡ byte) × (byte < 256) × (bucket_end bytes byte < bucket_start bytes byte)
+IsBucketFault kind bytes byte (CountTooHigh b) =
+    (b ≡ byte) × (byte < 256) × (bucket_start bytes byte ≤ bucket_end bytes byte) × (count_in bytes < bucket_end bytes byte)
+IsBucketFault kind bytes byte (WrongCount b) =
+    (b ≡ byte) × (byte < 256) × (bucket_start bytes byte ≤ bucket_end bytes byte) × (bucket_end bytes byte ≤ count_in bytes)
+    × ¬ HaveFirstByte byte (counted_with kind bytes byte)
+IsBucketFault kind bytes byte _ = ⊥
+
+-- why the offset of the name at an index is not read
+abbrev pub IsOffsetFault : Kind → List ℕ → ℕ → LazyError → Type 0
+IsOffsetFault kind bytes at (Read e) = Unit {0}
+IsOffsetFault kind bytes at (NoOffset k) = (k ≡ at) × (at < count_in bytes) × ¬ HasOffset kind bytes at
+IsOffsetFault kind bytes at _ = ⊥

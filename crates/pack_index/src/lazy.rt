@@ -1,13 +1,14 @@
 //! Pack indexes that are read at positions, and not whole.
 
 ghost use Rattle.std.specs.Prelude.{◌≡◌, ◌≢◌, ◌↔◌, ◌+◌, ◌-◌, ◌*◌, ◌<◌, ◌≤◌, ℕ, [], All, IfErr, IfOk, IfSome, IsTrue, List, MatchOption, OnOk, Some, length, map, slice_index_or};
+ghost use Rattle.gix_hash.specs.Digits.{first_byte_of};
 ghost use Rattle.gix_hash.specs.Kind.{byte_len_of};
 ghost use Rattle.gix_hash.specs.Oid.{oid_digits};
 ghost use Rattle.id_lookup.specs.FirstBytes.{has_first_byte};
 ghost use Rattle.id_lookup.specs.IndexOf.{part_of};
 ghost use Rattle.pack_index.specs.Firsts.{Each};
 ghost use Rattle.pack_index.specs.Format.{HasCount, HasHead, HasOffset, HasTables, count_in, digests_in, min_len, names_in, offset_in, offset_word};
-ghost use Rattle.pack_index.specs.Lazy.{FillsBytes, HaveFirstByte, IsLazyFault, IsOutside, bucket_end, bucket_start, counted_with};
+ghost use Rattle.pack_index.specs.Lazy.{FillsBytes, HasBucket, HaveFirstByte, IsBucketFault, IsFirstCounted, IsHeadFault, IsOffsetFault, IsOutside, IsRead, bucket_end, bucket_start, counted_with};
 ghost use Rattle.pack_index.specs.Names.{IsFirstIndexOf};
 ghost use Rattle.streams.specs.ReadAt.{IsReadAt};
 
@@ -68,7 +69,7 @@ impl<S: ReadAt + Drop> LazyFile<S> {
         ensures head { IfOk result (λ file. (bytes : List ℕ) → S.content source ≡ Some bytes
             → HasHead kind bytes) }
         ensures err { IfErr result (λ e. (bytes : List ℕ) → S.content source ≡ Some bytes
-            → IsLazyFault kind bytes e) }
+            → IsHeadFault kind bytes e) }
     {
         let len = source.len()?;
         if len < (COUNTS_LEN + 2 * kind.len_in_bytes()) as u64 {
@@ -117,8 +118,10 @@ impl<S: ReadAt + Drop> LazyFile<S> {
             → digests_in self.now.kind table.items ≡ part_of byte (names_in self.now.kind bytes)) }
         ensures first { IfOk result (λ table.
             HaveFirstByte byte (digests_in self.now.kind table.items)) }
+        ensures right { IfOk result (λ _. (bytes : List ℕ) → self.now.content ≡ Some bytes
+            → HasBucket self.now.kind bytes byte) }
         ensures err { IfErr result (λ e. (bytes : List ℕ) → self.now.content ≡ Some bytes
-            → IsLazyFault self.now.kind bytes e) }
+            → IsBucketFault self.now.kind bytes byte e) }
     {
         // Its contract says how many names there are.
         let _count = self.num_objects();
@@ -139,8 +142,13 @@ impl<S: ReadAt + Drop> LazyFile<S> {
             MatchOption found ((k : ℕ) → k < length names
             → slice_index_or names k [] ≢ oid_digits id.entry)
             (IsFirstIndexOf names (oid_digits id.entry))) }
+        ensures counted { IfOk result (λ found. (bytes : List ℕ) → self.now.content ≡ Some bytes
+            → (at : ℕ) → (found ≡ Some at)
+            ↔ IsFirstCounted self.now.kind bytes (oid_digits id.entry) at) }
+        ensures right { IfOk result (λ _. (bytes : List ℕ) → self.now.content ≡ Some bytes
+            → HasBucket self.now.kind bytes (first_byte_of (oid_digits id.entry))) }
         ensures err { IfErr result (λ e. (bytes : List ℕ) → self.now.content ≡ Some bytes
-            → IsLazyFault self.now.kind bytes e) }
+            → IsBucketFault self.now.kind bytes (first_byte_of (oid_digits id.entry)) e) }
     {
         // The contracts of these calls say how many names there are, and of which kind.
         let _count = self.num_objects();
@@ -163,7 +171,7 @@ impl<S: ReadAt + Drop> LazyFile<S> {
         ensures offset { IfOk result (λ offset. (bytes : List ℕ) → self.now.content ≡ Some bytes
             → offset ≡ offset_in self.now.kind bytes at) }
         ensures err { IfErr result (λ e. (bytes : List ℕ) → self.now.content ≡ Some bytes
-            → IsLazyFault self.now.kind bytes e) }
+            → IsOffsetFault self.now.kind bytes at e) }
     {
         let word = self.read_offset_word(at)?;
         if word < LONG {
@@ -182,7 +190,7 @@ impl<S: ReadAt + Drop> LazyFile<S> {
     fn read_offset_word(&self, at: u32) -> Result<u32, LazyError>
         ensures word { IfOk result (λ word. (bytes : List ℕ) → self.now.content ≡ Some bytes
             → word ≡ offset_word self.now.kind bytes at) }
-        ensures err { IfErr result IsOutside }
+        ensures err { IfErr result IsRead }
     {
         let mut word = [0; 4];
         let start = offsets_at(&self.head, self.kind) + 4 * at as usize;
@@ -199,7 +207,7 @@ impl<S: ReadAt + Drop> LazyFile<S> {
         ensures in_order { IfOk result (λ run. run.start ≤ run.end) }
         ensures inside { IfOk result (λ run. run.end ≤ self.now.count) }
         ensures err { IfErr result (λ e. (bytes : List ℕ) → self.now.content ≡ Some bytes
-            → IsLazyFault self.now.kind bytes e) }
+            → IsBucketFault self.now.kind bytes byte e) }
     {
         let run = counted_in(&self.head, byte);
         if run.end < run.start {
@@ -234,8 +242,10 @@ impl<S: ReadAt + Drop> LazyFile<S> {
             ≡ run.now.end - run.now.start) }
         ensures first { IfOk result (λ table.
             HaveFirstByte byte (digests_in self.now.kind table.items)) }
+        ensures right { IfOk result (λ _. (bytes : List ℕ) → self.now.content ≡ Some bytes
+            → HasBucket self.now.kind bytes byte) }
         ensures err { IfErr result (λ e. (bytes : List ℕ) → self.now.content ≡ Some bytes
-            → IsLazyFault self.now.kind bytes e) }
+            → IsBucketFault self.now.kind bytes byte e) }
     {
         // The contracts of these calls say how many names there are, and of which kind.
         let _count = self.num_objects();
@@ -278,7 +288,7 @@ fn check_head(head: &[u8], kind: Kind, len: u64) -> Result<(), LazyError>
     ensures tables { OnOk result ((bytes : List ℕ) → IsReadAt bytes 0 head.now
         → len ≡ length bytes → HasTables kind bytes) }
     ensures err { IfErr result (λ e. (bytes : List ℕ) → IsReadAt bytes 0 head.now
-        → len ≡ length bytes → IsLazyFault kind bytes e) }
+        → len ≡ length bytes → IsHeadFault kind bytes e) }
 {
     let magic = word_at(head, 0);
     if magic != MAGIC {

@@ -1,13 +1,14 @@
 //! Why a pack index that is read at positions does not give what was asked.
 
-ghost use Rattle.pack_index.specs.Lazy.{IsOutside};
+ghost use Rattle.pack_index.specs.Lazy.{IsOutside, IsRead};
 
 use std::alloc::AllocError;
 use std::io;
 use thiserror::Error as ThisError;
 
-/// Why a [`LazyFile`](crate::LazyFile) is not opened, or does not give what was asked. Indexes of
-/// names are counted from 0.
+/// Why a [`LazyFile`](crate::LazyFile) is not opened, or does not give what was asked. Of several
+/// causes in the bytes the first in the order of the variants is reported. Indexes of names are
+/// counted from 0.
 ///
 /// ```
 /// let why = LazyFile::open(&b"PACK"[..], Kind::Sha1);
@@ -48,7 +49,7 @@ pub enum LazyError {
 }
 
 impl From<io::Error> for LazyError {
-    ghost from_gives = { λ _ made. IsOutside made };
+    ghost from_gives = { λ _ made. IsRead made };
 
     fn from(error: io::Error) -> Self {
         LazyError::Read(error)

@@ -1,9 +1,11 @@
 -- What is printed of the ids of a store, and why that fails.
-use Rattle.std.specs.Prelude.{◌≢◌, ◌↔◌, ℕ, Bool, Option, List, [], IsTrue}
+use Rattle.std.specs.Prelude.{◌≢◌, ◌↔◌, ℕ, ◌<◌, Bool, Option, List, [], IsTrue}
 use Rattle.std.specs.Io.KnownBytes.{Appends}
 use Rattle.gix_hash.specs.Digits.{hex_letter}
 use Rattle.gix_hash.specs.declared.Kind.{Kind}
-use Rattle.object_store.specs.Stores.{IsStoreFault}
+use Rattle.object_store.specs.Stores.{HaveBuckets, IsStoreFault}
+use Rattle.object_store.specs.declared.error.Error.{Error}
+use Rattle.pack_index.specs.Firsts.{Each}
 use Rattle.pack_index.specs.Lazy.{LazyIndex}
 use Rattle.packtool_commands.specs.declared.error.StoreError.{StoreError}
 use Rattle.packtool_commands.specs.declared.error.StoreError.TheVariants.{Store, Output}
@@ -14,7 +16,11 @@ pub record HasPrinted (ids : List (List ℕ)) (any : Bool) (old new : Option (Li
   pub found : IsTrue any ↔ (ids ≢ [])
   pub written : Appends old new (printed hex_letter ids)
 
--- what an error says of the pack indexes of a store
-abbrev pub IsFault : Kind → List LazyIndex → StoreError → Type 0
-IsFault kind packs (Store error) = IsStoreFault kind packs error
-IsFault kind packs Output = Unit {0}
+-- what an error says of a store: what its own error does, and a failed write nothing
+abbrev pub IsFault : (Error → Type 0) → StoreError → Type 0
+IsFault IsItsFault (Store error) = IsItsFault error
+IsFault IsItsFault Output = Unit {0}
+
+-- why a walk over the first bytes fails: a look-up with one of them does, and those with the lower ones do not
+abbrev pub IsWalkFault : Kind → List LazyIndex → Error → Type 0
+IsWalkFault kind packs error = (byte : ℕ) × (byte < 256) × Each (HaveBuckets kind packs) byte × IsStoreFault kind packs byte error

@@ -1,9 +1,9 @@
 //! The ids of a store that begin with a prefix.
 
 ghost use Rattle.std.specs.Prelude.{◌≡◌, ◌≢◌, ◌↔◌, ◌≤◌, ℕ, List, false, true, length, IfErr, IfOk, IsErrOf};
-ghost use Rattle.gix_hash.specs.Digits.{hex_letter};
+ghost use Rattle.gix_hash.specs.Digits.{first_byte_of, hex_letter};
 ghost use Rattle.id_lookup.specs.Runs.{matches};
-ghost use Rattle.object_store.specs.Stores.{Holds};
+ghost use Rattle.object_store.specs.Stores.{HaveBuckets, Holds, IsStoreFault};
 ghost use Rattle.packtool_commands.specs.Finding.{HasPrinted, IsFault};
 ghost use Rattle.packtool_commands.specs.declared.error.StoreError.{StoreError};
 ghost use Rattle.streams.specs.Printing.{printed};
@@ -39,7 +39,10 @@ pub fn find<S: Store, A: Allocator + Copy, W: Sink>(
     ensures found { IfOk result (λ any. (whole : List (List ℕ))
         → Holds (S.kind store.now) (S.packs store.now) (S.loose store.now) whole
         → HasPrinted (matches prefix.now.digits whole) any (W.taken out.old) (W.taken out.new)) }
-    ensures refused { IfErr result (IsFault (S.kind store.now) (S.packs store.now)) }
+    ensures right { IfOk result (λ _. HaveBuckets (S.kind store.now) (S.packs store.now)
+        (first_byte_of prefix.now.digits)) }
+    ensures refused { IfErr result (IsFault (IsStoreFault (S.kind store.now) (S.packs store.now)
+        (first_byte_of prefix.now.digits))) }
     ensures untouched { IfErr result (λ e. e ≢ StoreError.Output → out.new ≡ out.old) }
     ensures output { IsErrOf result StoreError.Output ↔ (W.has_failed out.new ≡ true) }
     ensures part { IsErrOf result StoreError.Output → (whole : List (List ℕ))

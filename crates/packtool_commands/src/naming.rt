@@ -3,8 +3,9 @@
 ghost use Rattle.std.specs.Prelude.{◌≡◌, ◌≢◌, ◌↔◌, ◌⊎◌, ◌≤◌, ℕ, List, [], false, true, flat_map, IfErr, IfOk, IsErrOf, IsTrue, OnOk, OnErr};
 ghost use Rattle.std.specs.Io.KnownBytes.{Appends};
 ghost use Rattle.gix_hash.specs.Kind.{hex_len_of};
-ghost use Rattle.object_store.specs.Stores.{Holds};
-ghost use Rattle.packtool_commands.specs.Finding.{IsFault};
+ghost use Rattle.object_store.specs.Stores.{HaveBuckets, Holds};
+ghost use Rattle.pack_index.specs.Firsts.{Each};
+ghost use Rattle.packtool_commands.specs.Finding.{IsFault, IsWalkFault};
 ghost use Rattle.packtool_commands.specs.Names.{HasNamedAtMost, HasNamedBelow, name_line};
 ghost use Rattle.packtool_commands.specs.declared.error.StoreError.{StoreError};
 ghost use Rattle.streams.specs.Writing.{AppendsPart};
@@ -43,7 +44,9 @@ pub fn names<S: Store, A: Allocator + Copy, W: Sink>(
     ensures named { IfOk result (λ any. (whole : List (List ℕ))
         → Holds (S.kind store.now) (S.packs store.now) (S.loose store.now) whole
         → HasNamedBelow 256 least whole any (W.taken out.old) (W.taken out.new)) }
-    ensures refused { IfErr result (IsFault (S.kind store.now) (S.packs store.now)) }
+    ensures right { IfOk result (λ _. Each (HaveBuckets (S.kind store.now) (S.packs store.now))
+        256) }
+    ensures refused { IfErr result (IsFault (IsWalkFault (S.kind store.now) (S.packs store.now))) }
     ensures output { IsErrOf result StoreError.Output ↔ (W.has_failed out.new ≡ true) }
     ensures part { IfErr result (λ _. (whole : List (List ℕ))
         → Holds (S.kind store.now) (S.packs store.now) (S.loose store.now) whole

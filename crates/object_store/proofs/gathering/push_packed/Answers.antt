@@ -1,19 +1,31 @@
-use Rattle.std.proofs.Common.{◌≡◌, ◌∙◌, ◌<◌, length, map, get_or, sym, ap, subst}
+use Rattle.std.proofs.Common.{◌≡◌, ◌∙◌, ◌<◌, ◌≤◌, length, map, get_or, sym, ap, subst}
 use Rattle.std.specs.List.{All}
-use Rattle.std.proofs.lemmas.Result.{err_from_is_err_and}
 use Rattle.gix_hash.specs.ObjectId.{id_digits, id_kind}
 use Rattle.gix_hash.specs.declared.Kind.{Kind}
 use Rattle.gix_hash.specs.declared.ObjectId.{ObjectId}
 use Rattle.std.proofs.Common.{List}
-use Rattle.object_store.proofs.Held.{elsewhere, packed_more}
+use Rattle.object_store.specs.Wanted.{wanted_byte}
+use Rattle.object_store.proofs.Held.{fault_at, have_all, have_more, packed_more}
 use Rattle.pack_index.specs.Format.{digests_in}
-use Rattle.pack_index.specs.Lazy.{LazyIndex}
+use Rattle.pack_index.specs.Lazy.{HasBucket, IsBucketFault, LazyIndex}
 use Rattle.object_store.proofs.gathering.push_packed.Goals as goal
 
-pub returns-in_err-push_names-clause-err : goal.returns-in_err-push_names-clause-err
-returns-in_err-push_names-clause-err g c =
-    let p = err_from_is_err_and c.from_residual.result c.from_residual.ensures.1 in
-    rw p.1 (elsewhere (g.S.Store.kind c.args.store.now) (g.S.Store.packs c.args.store.now) _ p.2)
+pub returns-in-Err-clause-err : goal.returns-in-Err-clause-err
+returns-in-Err-clause-err g c =
+    let kind = g.S.Store.kind c.args.store.now in
+    let packs = g.S.Store.packs c.args.store.now in
+    let pack = c.index-packs-at.result in
+    let all_packs = c.indexes-packs.ensures.value in
+    let low : c.loop-at.at < length packs = subst (λ (ps : List LazyIndex). c.loop-at.at < length ps) all_packs c.loop-at-test.true in
+    let is : pack ≡ get_or packs c.loop-at.at pack = c.index-packs-at.is ∙ ap (λ (ps : List LazyIndex). get_or ps c.loop-at.at pack) all_packs in
+    fault_at (λ k bytes. HasBucket k bytes (wanted_byte c.args.wanted.now)) (λ k bytes why. IsBucketFault k bytes (wanted_byte c.args.wanted.now) why)
+    kind packs c.loop-at.at pack low is c.indexes-packs.ensures.kinds c.loop-at.invariant.2 c.in-Err.error
+    (λ bytes known. subst (λ b. IsBucketFault pack.kind bytes b c.in-Err.error) c.first_byte-byte.ensures (c.in-Err.ensures.err bytes known))
+
+pub returns-clause-right : goal.returns-clause-right
+returns-clause-right g c =
+    have_all (λ bytes. HasBucket (g.S.Store.kind c.args.store.now) bytes (wanted_byte c.args.wanted.now)) (g.S.Store.packs c.args.store.now) c.loop-at.at
+    (subst (λ (ps : List LazyIndex). length ps ≤ c.loop-at.at) c.indexes-packs.ensures.value c.loop-at-test.false) c.loop-at.invariant.2
 
 pub loop-at-preserved : goal.loop-at-preserved
 loop-at-preserved g c =
@@ -31,4 +43,7 @@ loop-at-preserved g c =
           (c.loop-at.invariant.0 indexes same each) c.in_ok-push_names.ensures.digits,
       subst (λ (k : Kind). All (λ (id : ObjectId). id_kind id ≡ k) c.push_names.new.ids.items) of_kind
           (c.in_ok-push_names.ensures.kinds (subst (λ (k : Kind). All (λ (id : ObjectId). id_kind id ≡ k) c.loop-at.ids.items) (sym of_kind) c.loop-at.invariant.1)),
+      have_more (λ k bytes. HasBucket k bytes (wanted_byte c.args.wanted.now)) (λ k bytes why. IsBucketFault k bytes (wanted_byte c.args.wanted.now) why)
+          kind packs c.loop-at.at pack low is c.indexes-packs.ensures.kinds c.loop-at.invariant.2
+          (λ bytes known. subst (HasBucket pack.kind bytes) c.first_byte-byte.ensures (c.in-Ok.ensures.right bytes known)),
     )

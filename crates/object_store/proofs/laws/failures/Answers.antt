@@ -1,5 +1,8 @@
-use Rattle.object_store.proofs.Held.{no_store_fault}
+use Rattle.object_store.proofs.Held.{no_locate_fault, no_store_fault}
 use Rattle.object_store.proofs.laws.failures.Goals as goal
 
-pub returns : goal.returns
-returns c = no_store_fault
+pub returns-clause-buckets : goal.returns-clause-buckets
+returns-clause-buckets c = no_store_fault
+
+pub returns-clause-places : goal.returns-clause-places
+returns-clause-places c = no_locate_fault

@@ -1,20 +1,23 @@
-use Rattle.std.proofs.Common.{◌≡◌, ◌∙◌, ◌≤◌, ℕ, List, map, take, sym, ap, subst}
-use Rattle.gix_hash.specs.Kind.{hex_len_of}
+use Rattle.std.proofs.Common.{◌∙◌, List, ℕ, map, ap, subst}
+use Rattle.std.proofs.lemmas.Result.{err_from_is_err_and}
 use Rattle.gix_hash.specs.ObjectId.{id_digits}
-use Rattle.gix_hash.specs.Oid.{oid_digits, oid_kind}
-use Rattle.gix_hash.specs.Prefix.{KindDigits}
-use Rattle.gix_hash.specs.declared.Kind.{Kind}
 use Rattle.id_lookup.specs.Runs.{matches}
+use Rattle.object_store.specs.Stores.{HaveBuckets, IsStoreFault}
 use Rattle.object_store.proofs.Named.{name_of_id}
 use Rattle.object_store.proofs.naming.abbreviate.Goals as goal
 
 pub returns-clause-name : goal.returns-clause-name
 returns-clause-name g c = λ whole h.
-    let own : oid_kind c.as_oid.result ≡ g.S.Store.kind c.args.store.now = c.as_oid.ensures.kind ∙ c.requires.kind in
-    let few : c.args.least ≤ hex_len_of (oid_kind c.as_oid.result) = subst (λ (k : Kind). c.args.least ≤ hex_len_of k) (sym own) c.requires.fits in
-    let made : c.unwrap-front.result ≡ record { kind = oid_kind c.as_oid.result; digits = take c.args.least (oid_digits c.as_oid.result) } =
-    let front = c.new.ensures.ok c.requires.enough few in let unwrapped = c.unwrap-front.ensures in cc in
-    let digits : c.unwrap-front.result.digits ≡ take c.args.least (id_digits c.args.id.now) =
-    ap (λ (p : KindDigits). p.digits) made ∙ ap (take c.args.least) c.as_oid.ensures.digits in
     name_of_id (g.S.Store.kind c.args.store.now) c.args.least (id_digits c.args.id.now) whole (map id_digits c.deref.result.now) c.name_in.result h.all.index
-    (ap (map id_digits) c.deref.ensures.value ∙ c.in_ok-ids.ensures.ids whole h ∙ ap (λ (ds : List ℕ). matches ds whole) digits) c.name_in.ensures
+    (ap (map id_digits) c.deref.ensures.value ∙ c.in_ok-ids.ensures.ids whole h ∙ ap (λ (ds : List ℕ). matches ds whole) c.front_of-front.ensures.digits) c.name_in.ensures
+
+pub returns-in_err-ids-clause-err : goal.returns-in_err-ids-clause-err
+returns-in_err-ids-clause-err g c =
+    let p = err_from_is_err_and c.from_residual.result c.from_residual.ensures.1 in
+    rw (p.1, p.2)
+    (subst (λ byte. IsStoreFault (g.S.Store.kind c.args.store.now) (g.S.Store.packs c.args.store.now) byte c.in_err-ids.field-0.0) c.front_of-front.ensures.byte
+    c.in_err-ids.ensures.err)
+
+pub returns-clause-right : goal.returns-clause-right
+returns-clause-right g c =
+    subst (HaveBuckets (g.S.Store.kind c.args.store.now) (g.S.Store.packs c.args.store.now)) c.front_of-front.ensures.byte c.in_ok-ids.ensures.right

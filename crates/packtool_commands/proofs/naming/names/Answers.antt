@@ -1,7 +1,9 @@
-use Rattle.std.proofs.Common.{◌≡◌, ◌≢◌, ◌↔◌, ◌⊎◌, ℕ, List, [], subst, arith, flat_map, IsTrue}
+use Rattle.std.proofs.Common.{◌≡◌, ◌≢◌, ◌↔◌, ◌⊎◌, ℕ, List, [], subst, arith, flat_map, IsTrue, below_more}
+use Rattle.std.proofs.lemmas.Result.{err_from_is_err_and}
 use Rattle.std.specs.Io.KnownBytes.{Appends}
 use Rattle.streams.specs.Writing.{AppendsPart}
-use Rattle.object_store.specs.Stores.{Holds}
+use Rattle.object_store.specs.Stores.{HaveBuckets, Holds}
+use Rattle.pack_index.specs.Firsts.{Each}
 use Rattle.object_store.specs.declared.naming.NamedId.{NamedId}
 use Rattle.packtool_commands.specs.Names.{HasNamedAtMost, HasNamedBelow, name_line}
 use Rattle.packtool_commands.proofs.NamedLemmas.{has_named_more, if_err_of, named_at_most, named_part}
@@ -34,7 +36,18 @@ loop-byte-preserved g c = (
       (subst (λ (ids : List NamedId). Appends (g.W.Sink.taken c.loop-byte.out) (g.W.Sink.taken c.write_names.new.out) (flat_map name_line ids))
       c.deref.ensures.value c.in_ok-write_names.ensures.written),
   c.in_ok-write_names.ensures.stands,
+  below_more _ _ c.loop-byte.invariant.2 c.in_ok-named.ensures.right,
 )
+
+pub returns-in_err-named-clause-refused : goal.returns-in_err-named-clause-refused
+returns-in_err-named-clause-refused g c =
+    let p = err_from_is_err_and c.from_residual.result c.from_residual.ensures.1 in
+    rw (p.1, p.2) (c.loop-byte.byte, c.loop-byte-test.true, c.loop-byte.invariant.2, c.in_err-named.ensures.err)
+
+pub returns-clause-right : goal.returns-clause-right
+returns-clause-right g c =
+    let last : c.loop-byte.byte ≡ 256 = omega arith in
+    subst (Each (HaveBuckets (g.S.Store.kind c.args.store.now) (g.S.Store.packs c.args.store.now))) last c.loop-byte.invariant.2
 
 pub returns-clause-named : goal.returns-clause-named
 returns-clause-named g c = λ whole h.

@@ -1,5 +1,6 @@
 use Rattle.std.proofs.Common.{◌≡◌, false, List, ℕ}
-use Rattle.object_store.specs.Stores.{Holds}
+use Rattle.object_store.specs.Stores.{HaveBuckets, Holds}
+use Rattle.pack_index.specs.Firsts.{Each}
 use Rattle.packtool_commands.specs.Names.{HasNamedBelow}
 use Rattle.packtool_commands.proofs.naming.names.Given as goal
 
@@ -8,3 +9,4 @@ invariant-loop-byte g l =
     ((whole : List (List ℕ)) → Holds (g.S.Store.kind l.store) (g.S.Store.packs l.store) (g.S.Store.loose l.store) whole
     → HasNamedBelow l.byte l.fn.least whole l.any (g.W.Sink.taken l.fn.out) (g.W.Sink.taken l.out))
     × (g.W.Sink.has_failed l.out ≡ false)
+    × Each (HaveBuckets (g.S.Store.kind l.store) (g.S.Store.packs l.store)) l.byte

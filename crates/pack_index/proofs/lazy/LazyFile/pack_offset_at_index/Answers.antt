@@ -1,4 +1,4 @@
-use Rattle.std.proofs.Common.{◌≡◌, ◌∙◌, ◌+◌, ◌*◌, length, ap, arith, rules}
+use Rattle.std.proofs.Common.{◌≡◌, ◌∙◌, ◌+◌, ◌*◌, length, refl, ap, arith, rules}
 use Rattle.gix_hash.specs.declared.Kind.{Kind}
 use Rattle.pack_index.specs.Format.{long_at, tables_end}
 use Rattle.pack_index.specs.Lazy.{LazyIndex}
@@ -18,6 +18,7 @@ returns-then-start-self-clause-err g c = λ bytes is.
     let kind : c.self.inside.kind ≡ c.args.self.now.kind = ap (λ (f : LazyIndex). f.kind) c.self.view_is in
     let whole : length c.self.inside.head ≡ 1032 = first_of (search rules, omega arith) in
     let starts = c.long_at.ensures.place ∙ long_in_head bytes c.self.inside.head inv.0 whole c.self.inside.kind ∙ ap (λ (k : Kind). long_at k bytes) kind in (
+      refl,
       omega (arith, c.requires, ap (λ (f : LazyIndex). f.count) c.self.view_is, head_count bytes c.self.inside.head inv.0 whole),
       no_long c.args.self.now.kind bytes c.args.at c.in_ok-word.word (c.in_ok-word.ensures.word bytes is) c.if-word-lt-LONG.false (c.long_at.result + 8 * c.from-2.result)
           (omega (arith, starts, c.from-2.ensures)) c.self.inside.end (inv.2 ∙ ap (λ (k : Kind). tables_end k bytes) kind) c.if-start-self.true,

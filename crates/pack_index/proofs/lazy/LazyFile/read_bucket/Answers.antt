@@ -1,8 +1,8 @@
-use Rattle.std.proofs.Common.{◌≡◌, ◌∙◌, ◌-◌, ◌*◌, ◌/◌, ◌≤◌, length, sym, ap, subst, arith}
+use Rattle.std.proofs.Common.{◌≡◌, ◌∙◌, ◌-◌, ◌*◌, ◌/◌, ◌≤◌, length, refl, sym, ap, subst, arith}
 use Rattle.std.proofs.lemmas.Bool.{false≢true}
 use Rattle.gix_hash.specs.Kind.{byte_len_of}
 use Rattle.pack_index.specs.Format.{count_in, digests_in}
-use Rattle.pack_index.specs.Lazy.{HaveFirstByte, counted_with}
+use Rattle.pack_index.specs.Lazy.{HasBucket, HaveFirstByte, counted_with}
 use Rattle.pack_index.proofs.Buckets.{counted_all, read_names}
 use Rattle.pack_index.proofs.Counted.{as_many, length-digests_in}
 use Rattle.pack_index.proofs.lazy.LazyFile.read_bucket.Goals as goal
@@ -14,18 +14,24 @@ returns-clause-names g c = λ bytes is.
     (c.num_objects-count.ensures.tables bytes is) (c.requires.start bytes is) (c.requires.end bytes is) c.requires.in_order inside (c.in_ok-table.ensures.names bytes is)
     c.in_ok-table.ensures.len
 
-pub returns-clause-part : goal.returns-clause-part
-returns-clause-part g c = λ bytes is counts.
+pub returns-clause-right : goal.returns-clause-right
+returns-clause-right g c = λ bytes is.
     let inside : c.args.run.now.end ≤ count_in bytes = omega (arith, c.requires.inside, c.num_objects-count.ensures.count, c.num_objects-count.ensures.bytes bytes is) in
     let start = c.requires.start bytes is in
     let end = c.requires.end bytes is in
-    let names = returns-clause-names g c bytes is in
-    let same : digests_in c.object_hash-kind.result c.deref.result.now ≡ digests_in c.args.self.now.kind c.in_ok-table.table.items =
-    λ i. digests_in (c.object_hash-kind.ensures i) (c.deref.ensures.value i) in
-    let first : HaveFirstByte c.args.byte (digests_in c.args.self.now.kind c.in_ok-table.table.items) =
-    subst (HaveFirstByte c.args.byte) same (c.have_first_byte.ensures.0 c.if-not-have_first_byte.false) in
-    names ∙ counted_all c.args.self.now.kind c.args.byte bytes (c.num_objects-count.ensures.tables bytes is) counts c.ranges.byte.fits
-    (omega (arith, start, end, c.requires.in_order)) (omega (arith, inside, end)) (subst (HaveFirstByte c.args.byte) names first)
+    let same : digests_in c.object_hash-kind.result c.deref.result.now ≡ counted_with c.args.self.now.kind bytes c.args.byte =
+    (λ i. digests_in (c.object_hash-kind.ensures i) (c.deref.ensures.value i)) ∙ returns-clause-names g c bytes is in
+    record {
+      in_order = omega (arith, start, end, c.requires.in_order);
+      inside = omega (arith, inside, end);
+      first = subst (HaveFirstByte c.args.byte) same (c.have_first_byte.ensures.0 c.if-not-have_first_byte.false);
+    }
+
+pub returns-clause-part : goal.returns-clause-part
+returns-clause-part g c = λ bytes is counts.
+    let right : HasBucket c.args.self.now.kind bytes c.args.byte = returns-clause-right g c bytes is in
+    returns-clause-names g c bytes is
+    ∙ counted_all c.args.self.now.kind c.args.byte bytes (c.num_objects-count.ensures.tables bytes is) counts c.ranges.byte.fits right.in_order right.inside right.first
 
 pub returns-clause-len : goal.returns-clause-len
 returns-clause-len g c =
@@ -38,8 +44,13 @@ returns-then-not-have_first_byte-clause-err g c = λ bytes is.
     let inside : c.args.run.now.end ≤ count_in bytes = omega (arith, c.requires.inside, c.num_objects-count.ensures.count, c.num_objects-count.ensures.bytes bytes is) in
     let names = read_names c.args.self.now.kind c.args.byte bytes c.in_ok-table.table.items c.args.run.now.start c.args.run.now.end
     (c.num_objects-count.ensures.tables bytes is) (c.requires.start bytes is) (c.requires.end bytes is) c.requires.in_order inside (c.in_ok-table.ensures.names bytes is)
-    c.in_ok-table.ensures.len in (
+    c.in_ok-table.ensures.len in
+    let start = c.requires.start bytes is in
+    let end = c.requires.end bytes is in (
+      refl,
       c.ranges.byte.fits,
+      omega (arith, start, end, c.requires.in_order),
+      omega (arith, inside, end),
       λ all. let same : digests_in c.object_hash-kind.result c.deref.result.now ≡ counted_with c.args.self.now.kind bytes c.args.byte =
           (λ i. digests_in (c.object_hash-kind.ensures i) (c.deref.ensures.value i)) ∙ names in
           let each = c.have_first_byte.ensures.1 (subst (HaveFirstByte c.args.byte) (sym same) all) in
