@@ -1,12 +1,12 @@
 -- What is returned for the bytes of a pack index. All calls but the whole check test only the head and the lengths of the tables.
-use Rattle.std.specs.Prelude.{◌≡◌, ℕ, ◌<◌, ◌≤◌, ◌⊎◌, List, [], Option, Some, None, Result, Ok, Err, length, slice_index_or, take}
+use Rattle.std.specs.Prelude.{◌≡◌, ℕ, ◌<◌, ◌≤◌, ◌⊎◌, List, [], Option, Some, None, length, slice_index_or, take}
 use Rattle.gix_hash.specs.Kind.{hex_len_of, number_of}
 use Rattle.gix_hash.specs.Prefix.{kind_digits}
 use Rattle.gix_hash.specs.declared.kind.Kind.{Kind}
 use Rattle.id_lookup.specs.ShortNames.{IsShortestName}
 use Rattle.id_lookup.specs.Sorted.{IsSortedIds}
-use Rattle.pack_index.specs.Format.{HasHead, HasOffset, HasTables, IndexFile, count_in, crc_in, names_in, offset_in}
-use Rattle.pack_index.specs.Refusal.{IsFault, opened}
+use Rattle.pack_index.specs.Format.{HasHead, HasOffset, HasTables, IsPackIndex, count_in, crc_in, names_in, offset_in}
+use Rattle.pack_index.specs.Refusal.{IsFault, IsRefusal}
 use Rattle.pack_index.specs.declared.error.Error.{Error}
 use Rattle.pack_index.specs.declared.error.Error.TheVariants.{OtherKind, TooShort, Version1, BadMagic, BadVersion, WrongLength, NamesFall, WrongCount, NoOffset, LongOutOfOrder, SpareLong, OffsetInHeader, OffsetTooHigh, WrongChecksum}
 use Rattle.gix_hash_c.specs.Face.{Holds, bad_kind, bad_length, ok, not_unique, no_offset, out_of_range, too_long}
@@ -33,11 +33,7 @@ cause_number (OtherKind other) = 29
 
 -- and its detail, if it has one
 abbrev pub detail_of : Error → ℕ → ℕ
-detail_of TooShort old = old
-detail_of Version1 old = old
-detail_of BadMagic old = old
 detail_of (BadVersion version) old = version
-detail_of WrongLength old = old
 detail_of (NamesFall at) old = at
 detail_of (WrongCount byte) old = byte
 detail_of (NoOffset at) old = at
@@ -45,17 +41,15 @@ detail_of (LongOutOfOrder at) old = at
 detail_of (SpareLong number) old = number
 detail_of (OffsetInHeader at) old = at
 detail_of (OffsetTooHigh at) old = at
-detail_of WrongChecksum old = old
 detail_of (OtherKind other) old = number_of other
+detail_of _ old = old
 
 -- what the whole check returns, and leaves
-abbrev pub CheckedBy : Result IndexFile Error → ℕ → ℕ → ℕ → Type 0
-CheckedBy (Ok file) code old new = (code ≡ ok) × (new ≡ old)
-CheckedBy (Err e) code old new = (code ≡ cause_number e) × (new ≡ detail_of e old)
-
 abbrev pub CheckAnswer : Option Kind → List ℕ → ℕ → ℕ → ℕ → Type 0
 CheckAnswer None bytes code old new = (code ≡ bad_kind) × (new ≡ old)
-CheckAnswer (Some kind) bytes code old new = CheckedBy (opened kind bytes) code old new
+CheckAnswer (Some kind) bytes code old new =
+    ((code ≡ ok) × IsPackIndex kind bytes × (new ≡ old))
+    ⊎ ((e : Error) × IsRefusal kind bytes e × (code ≡ cause_number e) × (new ≡ detail_of e old))
 
 -- the number of a cause for which the bytes are no pack index
 abbrev pub IsCause : Kind → List ℕ → ℕ → Type 0

@@ -8,7 +8,7 @@ ghost use Rattle.id_lookup.specs.ShortNames.{IsShortestName};
 ghost use Rattle.id_lookup.specs.Sorted.{IsSortedIds};
 ghost use Rattle.pack_index.specs.Format.{HasHead, HasTables, crcs_at, digests_in, names_at, names_in};
 ghost use Rattle.gix_hash_c.specs.Face.{Holds, kind_of_number, prefix_in};
-ghost use Rattle.gix_hash_c.specs.Packs.{CheckAnswer, EntryAnswer, IsCause, LenAnswer, PackFindAnswer, ShortestAnswer, cause_number};
+ghost use Rattle.gix_hash_c.specs.Packs.{CheckAnswer, EntryAnswer, IsCause, LenAnswer, PackFindAnswer, ShortestAnswer, cause_number, detail_of};
 
 use crate::codes::{
     BAD_KIND, BAD_LENGTH, NO_OFFSET, NOT_UNIQUE, OK, OUT_OF_RANGE, TOO_LONG, kind_of,
@@ -45,19 +45,7 @@ pub extern "C" fn gix_hash_pack_check(kind: u32, bytes: &[u8], detail: &mut u64)
         Some(kind) => match File::try_new(bytes, kind) {
             Ok(_) => OK,
             Err(error) => {
-                match error {
-                    Error::OtherKind(Kind::Sha1) => *detail = 1,
-                    Error::OtherKind(Kind::Sha256) => *detail = 2,
-                    Error::BadVersion(version) => *detail = u64::from(version),
-                    Error::WrongCount(byte) => *detail = u64::from(byte),
-                    Error::NamesFall(at)
-                    | Error::NoOffset(at)
-                    | Error::LongOutOfOrder(at)
-                    | Error::SpareLong(at)
-                    | Error::OffsetInHeader(at)
-                    | Error::OffsetTooHigh(at) => *detail = at as u64,
-                    _ => {}
-                }
+                *detail = detail_of(error, *detail);
                 cause_of(error)
             }
         },
@@ -178,6 +166,25 @@ fn cause_of(error: Error) -> u32
         Error::OffsetTooHigh(_) => 27,
         Error::WrongChecksum => 28,
         Error::OtherKind(_) => 29,
+    }
+}
+
+// The detail of a cause, or what was there if it has none.
+fn detail_of(error: Error, old: u64) -> u64
+    ensures { result ≡ detail_of error old }
+{
+    match error {
+        Error::BadVersion(version) => u64::from(version),
+        Error::WrongCount(byte) => u64::from(byte),
+        Error::NamesFall(at)
+        | Error::NoOffset(at)
+        | Error::LongOutOfOrder(at)
+        | Error::SpareLong(at)
+        | Error::OffsetInHeader(at)
+        | Error::OffsetTooHigh(at) => at as u64,
+        Error::OtherKind(Kind::Sha1) => 1,
+        Error::OtherKind(Kind::Sha256) => 2,
+        _ => old,
     }
 }
 

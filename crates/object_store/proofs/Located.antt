@@ -1,11 +1,12 @@
 -- What was found in each pack index and among the loose ids are the places of the object.
-use Rattle.std.proofs.Common.{◌≡◌, ◌≢◌, ℕ, suc, ◌+◌, ◌<◌, true, false, cond, ◌&&◌, ◌||◌, nat_eq, Bool, Option, None, Some, List, [], ◌∷◌, ◌++◌, length, get_or, map, filter, refl, sym, ap, ◌∙◌, subst, arith, eq-eqb}
+use Rattle.std.proofs.Common.{◌≡◌, ◌≢◌, ℕ, suc, ◌+◌, ◌<◌, ◌≤◌, true, false, cond, ◌&&◌, ◌||◌, nat_eq, Bool, Option, None, Some, List, [], ◌∷◌, ◌++◌, length, get_or, map, filter, refl, sym, ap, ◌∙◌, subst, arith, eq-eqb}
 use Rattle.std.specs.Prelude.{◌↔◌}
 use Rattle.std.specs.Bool.{Decides}
 use Rattle.std.specs.Cmp.Lexicographic.{bytes_decides}
-use Rattle.std.specs.List.{All, list_any}
+use Rattle.std.specs.List.{All, list_any, position_or_len}
 use Rattle.std.specs.Str.{bytes_eq}
-use Rattle.std.proofs.lemmas.Bool.{false≢true, true_from_ne_false}
+use Rattle.std.proofs.lemmas.Bool.{false_from_ne_true, false≢true, le-ltb, lt-ltb}
+use Rattle.std.proofs.lemmas.List.Sums.{position_or_len_is}
 use Rattle.gix_hash.specs.Digits.{first_byte_of}
 use Rattle.gix_hash.specs.Kind.{number_of}
 use Rattle.gix_hash.specs.ObjectId.{id_digits, id_eq, id_kind}
@@ -23,26 +24,25 @@ use Rattle.pack_index.specs.Lazy.{HasBucket, IsBucketFault, IsFirstCounted, IsOf
 use Rattle.pack_index.specs.declared.lazy_error.LazyError.{LazyError}
 use Rattle.pack_index.specs.declared.lazy_error.LazyError.TheVariants.{NoOffset, Read}
 use Rattle.pack_index.specs.Names.{IsFirstIndexOf}
-use Rattle.pack_index.proofs.Firsts.{first, no_first}
 
-is_name : (names : List (List ℕ)) (id : List ℕ) (k : ℕ) → Decides (bytes_eq (get_or names k []) id) (¬ (get_or names k [] ≢ id))
-is_name names id k =
-    let decides = bytes_decides (get_or names k []) id in (
-      λ is differs. differs (decides.0 is),
-      λ no. true_from_ne_false (bytes_eq (get_or names k []) id) (λ is. no (λ same. false≢true (sym is ∙ decides.1 same))),
-    )
+-- the first name that is the id
+name_at : (names : List (List ℕ)) (id : List ℕ) (at : ℕ) → at ≤ length names → ((k : ℕ) → k < at → get_or names k [] ≢ id)
+    → (at < length names → get_or names at [] ≡ id) → position_or_len (λ name. bytes_eq name id) names ≡ at
+name_at names id at inside before here =
+    position_or_len_is (λ name. bytes_eq name id) names at [] inside
+    (λ k low. false_from_ne_true _ (λ is. before k low ((bytes_decides (get_or names k []) id).0 is))) (λ low. (bytes_decides (get_or names at []) id).1 (here low))
 
 pub offset_none : (kind : Kind) (bytes id : List ℕ) → ((k : ℕ) → k < length (names_in kind bytes) → get_or (names_in kind bytes) k [] ≢ id) → None ≡ offset_of kind bytes id
 offset_none kind bytes id none =
-    let names = names_in kind bytes in
-    sym (no_first (λ k. get_or names k [] ≢ id) (λ k. bytes_eq (get_or names k []) id) (offset_in kind bytes) (length names) (is_name names id) none)
+    let size = length (names_in kind bytes) in
+    rw (name_at (names_in kind bytes) id size (omega arith) none (λ low. absurd (omega arith)), le-ltb size size (omega arith)) refl
 
 pub offset_some : (kind : Kind) (bytes id : List ℕ) (at offset : ℕ) → IsFirstIndexOf (names_in kind bytes) id at → offset ≡ offset_in kind bytes at
     → Some offset ≡ offset_of kind bytes id
 offset_some kind bytes id at offset found is =
-    let names = names_in kind bytes in
-    ap Some is ∙ sym (first (λ k. get_or names k [] ≢ id) (λ k. bytes_eq (get_or names k []) id) (offset_in kind bytes) (length names) (is_name names id) at
-    (found.in_range, found.first, λ differs. differs found.same))
+    let size = length (names_in kind bytes) in
+    let inside = found.in_range in
+    rw (name_at (names_in kind bytes) id at (omega arith) found.first (λ low. found.same), lt-ltb at size inside) (ap Some is)
 
 -- what an index has of an id that it was asked for
 module _ (kind : Kind) (bytes id : List ℕ) (bucket : HasBucket kind bytes (first_byte_of id)) where

@@ -1,20 +1,15 @@
 -- Where an object store has an object. Ids and names are given by their digits.
 use Rattle.std.specs.Prelude.{ℕ, zero, suc, if◌then◌else◌, List, [], ◌∷◌, ◌++◌, Option, None, Some, length, option_map, slice_index_or}
-use Rattle.std.specs.List.{list_any}
+use Rattle.std.specs.List.{list_any, position}
 use Rattle.std.specs.Str.{bytes_eq}
 use Rattle.gix_hash.specs.declared.Kind.{Kind}
-use Rattle.pack_index.specs.Firsts.{first_below}
 use Rattle.pack_index.specs.Format.{names_in, offset_in}
 use Rattle.object_store.specs.declared.places.Place.{Place}
 use Rattle.object_store.specs.declared.places.Place.TheVariants.{Packed, Loose}
 
--- the first index of an id among names
-abbrev pub index_of : List (List ℕ) → List ℕ → Option ℕ
-index_of names id = first_below (λ k. bytes_eq (slice_index_or names k []) id) (length names)
-
--- the offset in the pack of the object of an id, if the pack index has its name
+-- the offset in the pack of the object of an id, by the first index of its name, if the pack index has it
 abbrev pub offset_of : Kind → List ℕ → List ℕ → Option ℕ
-offset_of kind bytes id = option_map (offset_in kind bytes) (index_of (names_in kind bytes) id)
+offset_of kind bytes id = option_map (offset_in kind bytes) (position (λ name. bytes_eq name id) (names_in kind bytes))
 
 -- the place at an offset in the pack of this number
 abbrev pub packed_at : ℕ → Option ℕ → List Place

@@ -1,6 +1,6 @@
 -- Bytes that end in their digest, split before it.
-use Rattle.std.proofs.Common.{◌≡◌, ℕ, ◌+◌, List, ◌++◌, drop, length, take, refl, sym, ap, ◌∙◌, arith, length-append}
-use Rattle.std.proofs.lemmas.List.{drop_at, take_at, take-append-drop}
+use Rattle.std.proofs.Common.{◌≡◌, ℕ, ◌+◌, List, drop, length, take, refl, sym, ap, ◌∙◌, arith, length-append}
+use Rattle.std.proofs.lemmas.List.{drop_at, take_at}
 use Rattle.gix_hash.specs.Hashing.{EndsInDigest, digest}
 use Rattle.gix_hash.specs.ObjectId.{id_bytes}
 use Rattle.gix_hash.specs.declared.Kind.{Kind}
@@ -20,9 +20,3 @@ checksum_of kind bytes (message, is) =
     let back : drop (digest_at kind bytes) bytes ≡ last =
     ap (λ n. drop n bytes) at ∙ ap (drop (length message)) is ∙ drop_at message last (length message) refl in
     back ∙ ap (λ (m : List ℕ). id_bytes (digest kind m)) (sym front)
-
--- and bytes of which that holds end in their digest
-pub ends_by : (kind : Kind) (bytes : List ℕ) → drop (digest_at kind bytes) bytes ≡ id_bytes (digest kind (take (digest_at kind bytes) bytes))
-    → EndsInDigest kind bytes
-ends_by kind bytes same =
-    (take (digest_at kind bytes) bytes, sym (take-append-drop (digest_at kind bytes) bytes) ∙ ap (λ (l : List ℕ). take (digest_at kind bytes) bytes ++ l) same)

@@ -2,7 +2,6 @@
 pub mod Buckets
 mod Checksums
 pub mod Counted
-pub mod Firsts
 mod Heads
 mod Longs
 mod Looked

@@ -1,6 +1,6 @@
 //! A pack index over its bytes.
 
-ghost use Rattle.std.specs.Prelude.{◌≡◌, ◌≢◌, ◌↔◌, ◌+◌, ◌<◌, ℕ, [], Err, IfErr, IfOk, IsOk, MatchOption, drop, length, slice_index_or, slice_range, take, IfSome, IsNone, List, Some};
+ghost use Rattle.std.specs.Prelude.{◌≡◌, ◌≢◌, ◌↔◌, ◌+◌, ◌<◌, ℕ, [], Err, IfErr, IfOk, IsOk, MatchOption, drop, length, slice_index_or, slice_range, take, IfSome, IsNone, List, OnOk};
 ghost use Rattle.std.specs.List.{HoldsAt};
 ghost use Rattle.gix_hash.specs.Hashing.{digest};
 ghost use Rattle.gix_hash.specs.ObjectId.{id_bytes};
@@ -10,7 +10,7 @@ ghost use Rattle.id_lookup.specs.ShortNames.{IsShortestName};
 ghost use Rattle.id_lookup.specs.FoundRun.{IsRun};
 ghost use Rattle.pack_index.specs.Format.{IsPackIndex, crc_in, digest_at, names_in, offset_in, tables_end};
 ghost use Rattle.pack_index.specs.Names.{IsFirstIndexOf};
-ghost use Rattle.pack_index.specs.Refusal.{IsFault, opened, other_than, refusal};
+ghost use Rattle.pack_index.specs.Refusal.{IsFault, IsRefusal, other_than};
 
 use crate::checks::{check_tables, first_wrong_count};
 use crate::error::Error;
@@ -56,11 +56,11 @@ impl<'a> File<'a> {
     /// The bytes as a pack index whose names are of a kind. The error is the first cause for which
     /// they are not.
     pub fn try_new(bytes: &'a [u8], kind: Kind) -> Result<File<'a>, Error>
-        ensures value { result ≡ opened kind bytes.now }
         ensures ok { IfOk result (λ file. file ≡ record { kind = kind; bytes = bytes.now }) }
         ensures accepted { IsOk result ↔ IsPackIndex kind bytes.now }
         ensures other_kind { result ≡ Err (Error.OtherKind (other_than kind))
             ↔ ¬ IsPackIndex kind bytes.now × IsPackIndex (other_than kind) bytes.now }
+        ensures err { IfErr result (IsRefusal kind bytes.now) }
     {
         match File::checked(bytes, kind) {
             Ok(file) => Ok(file),
@@ -71,7 +71,7 @@ impl<'a> File<'a> {
     // As `try_new`, but without a test of whether the bytes are an index of the other kind.
     fn checked(bytes: &'a [u8], kind: Kind) -> Result<File<'a>, Error>
         ensures ok { IfOk result (λ file. file ≡ record { kind = kind; bytes = bytes.now }) }
-        ensures index { IfOk result (λ file. IsPackIndex file.kind file.bytes) }
+        ensures index { OnOk result (IsPackIndex kind bytes.now) }
         ensures err { IfErr result (IsFault kind bytes.now) }
     {
         check_tables(bytes, kind)?;
@@ -227,9 +227,7 @@ impl<'a> File<'a> {
 // error.
 fn error_or_other(bytes: &[u8], kind: Kind, error: Error) -> Error
     requires { IsFault kind bytes.now error }
-    ensures error { refusal kind bytes.now ≡ Some result }
-    ensures other { result ≡ Error.OtherKind (other_than kind)
-        ↔ IsPackIndex (other_than kind) bytes.now }
+    ensures { IsRefusal kind bytes.now result }
 {
     let other = other_than(kind);
     match File::checked(bytes, other) {

@@ -1,5 +1,5 @@
 -- What was read of an input, and what was printed of all of it.
-use Rattle.std.proofs.Common.{◌≡◌, ◌≢◌, ℕ, Option, Some, None, List, [], length, length-append, ap, append-nil, arith, IfSome}
+use Rattle.std.proofs.Common.{◌≢◌, ℕ, Option, Some, None, List, [], length, length-append, ap, append-nil, arith, IfSome}
 use Rattle.std.proofs.lemmas.List.{nil_from_length}
 use Rattle.std.specs.Io.KnownBytes.{Consumes, IsAtEnd}
 

@@ -5,7 +5,7 @@ ghost use Rattle.std.specs.Io.KnownBytes.{Appends, Consumes, IsAtEnd};
 ghost use Rattle.streams.specs.Writing.{AppendsPart};
 ghost use Rattle.pack_index.specs.Format.{names_in};
 ghost use Rattle.packtool_commands.specs.Lines.{shown};
-ghost use Rattle.packtool_commands.specs.Showing.{HasShown, HasShownPart, Refuses, opened_as};
+ghost use Rattle.packtool_commands.specs.Showing.{HasShown, HasShownPart, IsOpenedAs, IsRefusalAs, Refuses};
 ghost use Rattle.packtool_commands.specs.declared.error.FileError.{FileError};
 
 use crate::error::FileError;
@@ -61,7 +61,8 @@ fn has_names(file: &File<'_>) -> bool
 
 // The index that the bytes are, of the kind, or with no kind of either.
 fn open(bytes: &[u8], kind: Option<Kind>) -> Result<File<'_>, pack_index::Error>
-    ensures { result ≡ opened_as kind bytes.now }
+    ensures ok { IfOk result (IsOpenedAs kind bytes.now) }
+    ensures err { IfErr result (IsRefusalAs kind bytes.now) }
 {
     match kind {
         Some(kind) => File::try_new(bytes, kind),

@@ -1,5 +1,5 @@
-use Rattle.std.proofs.Common.{sym, ap, ◌∙◌}
-use Rattle.packtool_commands.specs.Showing.{HasShown, HasShownPart, opened_as}
+use Rattle.std.proofs.Common.{ℕ, List, subst}
+use Rattle.packtool_commands.specs.Showing.{HasShown, HasShownPart, IsOpenedAs}
 use Rattle.packtool_commands.proofs.ShownLemmas.{read_whole}
 use Rattle.packtool_commands.proofs.showing.show.Goals as goal
 
@@ -9,7 +9,7 @@ returns-in_err-write_lines-clause-part g c = λ _.
     (g.R.Source.remaining c.args.input.now) (g.R.Source.remaining c.read_all.new.input) c.in_ok-bytes.bytes.items c.in_ok-bytes.ensures.all c.in_ok-bytes.ensures.end
     (record {
       file = c.in_ok-file.file;
-      is_opened = ap (opened_as c.args.kind) (sym c.deref.ensures.value) ∙ sym c.open.ensures ∙ c.in_ok-file.was;
+      is_opened = subst (λ (bytes : List ℕ). IsOpenedAs c.args.kind bytes c.in_ok-file.file) c.deref.ensures.value c.in_ok-file.ensures.ok;
       written = c.in_err-write_lines.ensures.part;
     })
 
@@ -19,7 +19,7 @@ returns-clause-shown g c =
     (g.R.Source.remaining c.args.input.now) (g.R.Source.remaining c.read_all.new.input) c.in_ok-bytes.bytes.items c.in_ok-bytes.ensures.all c.in_ok-bytes.ensures.end
     (record {
       file = c.in_ok-file.file;
-      is_opened = ap (opened_as c.args.kind) (sym c.deref.ensures.value) ∙ sym c.open.ensures ∙ c.in_ok-file.was;
+      is_opened = subst (λ (bytes : List ℕ). IsOpenedAs c.args.kind bytes c.in_ok-file.file) c.deref.ensures.value c.in_ok-file.ensures.ok;
       found = c.has_names.ensures;
       written = c.in_ok-write_lines.ensures.written;
     })
