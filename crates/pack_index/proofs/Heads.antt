@@ -1,11 +1,11 @@
 -- The numbers in the head of a pack index are those of all its bytes.
-use Rattle.std.proofs.Common.{◌≡◌, ℕ, zero, suc, ◌+◌, ◌-◌, ◌*◌, ◌<◌, ◌≤◌, List, [], ◌∷◌, length, get_or, take, drop, refl, sym, ap, ◌∙◌, subst, arith, zero-add}
+use Rattle.std.proofs.Common.{◌≡◌, ℕ, zero, suc, ◌+◌, ◌-◌, ◌*◌, ◌<◌, ◌≤◌, List, [], ◌∷◌, length, get_or, take, drop, refl, ap, ◌∙◌, arith, zero-add}
 use Rattle.std.specs.Int.{from_be_bytes, w32}
 use Rattle.std.proofs.lemmas.List.{get_or-take, get_or-drop}
 use Rattle.gix_hash.specs.Kind.{byte_len_of}
 use Rattle.gix_hash.specs.declared.Kind.{Kind}
-use Rattle.pack_index.specs.Format.{HasHead, HasTables, count_in, long_at, magic_number, min_len, names_at, offsets_at, word_at}
-use Rattle.pack_index.specs.Lazy.{FillsBytes, bucket_start, bucket_end}
+use Rattle.pack_index.specs.Format.{FillsBytes, HasHead, HasTables, count_in, long_at, magic_number, min_len, names_at, offsets_at, word_at}
+use Rattle.pack_index.specs.Lazy.{bucket_start, bucket_end}
 use Rattle.streams.specs.ReadAt.{IsReadAt}
 
 -- a number in bytes that were read
@@ -53,12 +53,7 @@ module _ (bytes head : List ℕ) (front : IsReadAt bytes 0 head) (long : length 
 
   -- the head and the length say whether the tables fill the bytes
   pub tables_by_head : (kind : Kind) (len : ℕ) → len ≡ length bytes → FillsBytes kind (count_in head) len → HasTables kind bytes
-  tables_by_head kind len same fills =
-      let here : FillsBytes kind (count_in bytes) (length bytes) =
-      subst (λ n. FillsBytes kind n (length bytes)) head_count (subst (λ n. FillsBytes kind (count_in head) n) same fills) in
-      record { fits = here.fits; whole = here.whole; most = here.most }
+  tables_by_head kind len same fills = rw (← same, ← head_count) fills
 
   pub head_by_tables : (kind : Kind) (len : ℕ) → len ≡ length bytes → HasTables kind bytes → FillsBytes kind (count_in head) len
-  head_by_tables kind len same tables =
-      let here : FillsBytes kind (count_in bytes) (length bytes) = record { fits = tables.fits; whole = tables.whole; most = tables.most } in
-      subst (λ n. FillsBytes kind (count_in head) n) (sym same) (subst (λ n. FillsBytes kind n (length bytes)) (sym head_count) here)
+  head_by_tables kind len same tables = rw (same, head_count) tables

@@ -61,9 +61,12 @@ crcs_at kind bytes = names_at + byte_len_of kind * count_in bytes
 abbrev pub offsets_at : Kind → List ℕ → ℕ
 offsets_at kind bytes = crcs_at kind bytes + 4 * count_in bytes
 
--- where the long offsets begin
+-- where the long offsets begin, after the offsets of `count` names
+abbrev pub long_start : Kind → ℕ → ℕ
+long_start kind count = names_at + byte_len_of kind * count + 4 * count + 4 * count
+
 abbrev pub long_at : Kind → List ℕ → ℕ
-long_at kind bytes = offsets_at kind bytes + 4 * count_in bytes
+long_at kind bytes = long_start kind (count_in bytes)
 
 -- where the long offsets end, and the digest of the pack begins
 abbrev pub tables_end : Kind → List ℕ → ℕ
@@ -110,11 +113,15 @@ pub record HasHead (kind : Kind) (bytes : List ℕ) : Type 0 where
   pub magic : word_at bytes 0 ≡ magic_number
   pub version : word_at bytes 4 ≡ 2
 
--- the tables fill the bytes up to the digests. There is at most one long offset fewer than names, since the object after the pack's header has none
-pub record HasTables (kind : Kind) (bytes : List ℕ) : Type 0 where
-  pub fits : long_at kind bytes + 2 * byte_len_of kind ≤ length bytes
-  pub whole : (tables_end kind bytes - long_at kind bytes) % 8 ≡ 0
-  pub most : tables_end kind bytes ≤ long_at kind bytes + 8 * (count_in bytes - 1)
+-- the tables of `count` names fill `len` bytes up to the digests. There is at most one long offset fewer than names, since the object after the pack's
+-- header has none
+pub record FillsBytes (kind : Kind) (count len : ℕ) : Type 0 where
+  pub fits : long_start kind count + 2 * byte_len_of kind ≤ len
+  pub whole : (len - 2 * byte_len_of kind - long_start kind count) % 8 ≡ 0
+  pub most : len - 2 * byte_len_of kind ≤ long_start kind count + 8 * (count - 1)
+
+abbrev pub HasTables : Kind → List ℕ → Type 0
+HasTables kind bytes = FillsBytes kind (count_in bytes) (length bytes)
 
 -- the count of a byte is that of the names
 abbrev pub HasCount : Kind → List ℕ → ℕ → Type 0

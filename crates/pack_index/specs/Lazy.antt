@@ -1,10 +1,9 @@
 -- Pack indexes that are read at positions, and not whole.
-use Rattle.std.specs.Prelude.{◌≡◌, ◌≢◌, ℕ, zero, suc, ◌+◌, ◌-◌, ◌*◌, ◌%◌, ◌<◌, ◌≤◌, IsTrue, Option, List, [], All, length, slice_index_or, slice_range}
+use Rattle.std.specs.Prelude.{◌≡◌, ◌≢◌, ℕ, zero, suc, ◌+◌, ◌*◌, ◌<◌, ◌≤◌, IsTrue, Option, List, [], All, length, slice_index_or, slice_range}
 use Rattle.gix_hash.specs.Digits.{first_byte_of}
-use Rattle.gix_hash.specs.Kind.{byte_len_of}
 use Rattle.gix_hash.specs.declared.Kind.{Kind}
 use Rattle.id_lookup.specs.FirstBytes.{has_first_byte}
-use Rattle.pack_index.specs.Format.{HasHead, HasOffset, HasTables, count_in, magic_number, min_len, names_at, names_in, word_at}
+use Rattle.pack_index.specs.Format.{HasHead, HasOffset, HasTables, count_in, magic_number, min_len, names_in, word_at}
 use Rattle.pack_index.specs.declared.lazy_error.LazyError.{LazyError}
 use Rattle.pack_index.specs.declared.lazy_error.LazyError.TheVariants.{Read, Memory, TooShort, BadMagic, BadVersion, WrongLength, CountsFall, CountTooHigh, WrongCount, NoOffset}
 
@@ -13,12 +12,6 @@ pub record LazyIndex : Type 0 where
   pub kind : Kind
   pub count : ℕ
   pub content : Option (List ℕ)
-
--- the tables of `count` names fill `len` bytes up to the digests
-pub record FillsBytes (kind : Kind) (count len : ℕ) : Type 0 where
-  pub fits : names_at + byte_len_of kind * count + 4 * count + 4 * count + 2 * byte_len_of kind ≤ len
-  pub whole : (len - 2 * byte_len_of kind - (names_at + byte_len_of kind * count + 4 * count + 4 * count)) % 8 ≡ 0
-  pub most : len - 2 * byte_len_of kind ≤ names_at + byte_len_of kind * count + 4 * count + 4 * count + 8 * (count - 1)
 
 -- how many names are counted before those with the first byte
 abbrev pub bucket_start : List ℕ → ℕ → ℕ

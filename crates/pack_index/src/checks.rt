@@ -4,7 +4,7 @@ ghost use Rattle.std.specs.Prelude.{◌≡◌, ◌↔◌, ◌+◌, ◌*◌, ◌<
 ghost use Rattle.gix_hash.specs.Kind.{byte_len_of};
 ghost use Rattle.id_lookup.specs.FirstBytes.{IsFanOut};
 ghost use Rattle.pack_index.specs.Firsts.{Each, IsFirstNot};
-ghost use Rattle.pack_index.specs.Format.{HasCount, HasHead, HasOffset, HasTables, count_in, min_len, names_at, names_in};
+ghost use Rattle.pack_index.specs.Format.{FillsBytes, HasCount, HasHead, HasOffset, HasTables, count_in, min_len, names_at, names_in};
 ghost use Rattle.pack_index.specs.Refusal.{IsFault, version_1_len};
 
 use crate::error::Error;
@@ -41,7 +41,7 @@ pub fn check_tables(bytes: &[u8], kind: Kind) -> Result<(), Error>
     if version != VERSION {
         return Err(Error::BadVersion(version));
     }
-    if !has_tables(bytes, kind) {
+    if !fills_bytes(bytes, kind, bytes.len() as u64) {
         return Err(Error::WrongLength);
     }
     Ok(())
@@ -60,14 +60,15 @@ fn version_1_len(bytes: &[u8], kind: Kind) -> usize
     COUNTS_LEN + names + 4 * count + 2 * kind.len_in_bytes()
 }
 
-// Whether the tables fill the bytes up to the digests.
-fn has_tables(bytes: &[u8], kind: Kind) -> bool
-    requires { min_len kind ≤ length bytes.now }
-    ensures { IsTrue result ↔ HasTables kind bytes.now }
+// Whether the tables of as many names as the head counts fill `len` bytes up to the digests.
+pub(crate) fn fills_bytes(head: &[u8], kind: Kind, len: u64) -> bool
+    requires head { names_at ≤ length head.now }
+    requires enough { min_len kind ≤ len }
+    ensures { IsTrue result ↔ FillsBytes kind (count_in head.now) len }
 {
-    let long = long_at(bytes, kind);
-    let end = tables_end(bytes, kind);
-    let most = (count_in(bytes) as usize).saturating_sub(1);
+    let long = long_at(head, kind) as u64;
+    let end = len - 2 * kind.len_in_bytes() as u64;
+    let most = u64::from(count_in(head)).saturating_sub(1);
     long <= end && (end - long) % 8 == 0 && end <= long + 8 * most
 }
 

@@ -8,11 +8,11 @@ ghost use Rattle.id_lookup.specs.FirstBytes.{has_first_byte};
 ghost use Rattle.id_lookup.specs.IndexOf.{part_of};
 ghost use Rattle.pack_index.specs.Firsts.{Each};
 ghost use Rattle.pack_index.specs.Format.{HasCount, HasHead, HasOffset, HasTables, count_in, digests_in, min_len, names_in, offset_in, offset_word};
-ghost use Rattle.pack_index.specs.Lazy.{FillsBytes, HasBucket, HaveFirstByte, IsBucketFault, IsFirstCounted, IsHeadFault, IsOffsetFault, IsOutside, IsRead, bucket_end, bucket_start, counted_with};
+ghost use Rattle.pack_index.specs.Lazy.{HasBucket, HaveFirstByte, IsBucketFault, IsFirstCounted, IsHeadFault, IsOffsetFault, IsOutside, IsRead, bucket_end, bucket_start, counted_with};
 ghost use Rattle.pack_index.specs.Names.{IsFirstIndexOf};
 ghost use Rattle.streams.specs.ReadAt.{IsReadAt};
 
-use crate::checks::{COUNTS_LEN, MAGIC, VERSION};
+use crate::checks::{COUNTS_LEN, MAGIC, VERSION, fills_bytes};
 use crate::lazy_error::LazyError;
 use crate::words::{LONG, NAMES_AT, count_in, long_at, long_word_at, offsets_at, word_at};
 use gix_hash::{Kind, oid};
@@ -302,18 +302,6 @@ fn check_head(head: &[u8], kind: Kind, len: u64) -> Result<(), LazyError>
         return Err(LazyError::WrongLength);
     }
     Ok(())
-}
-
-// Whether the tables of the counted names fill the bytes up to the digests.
-fn fills_bytes(head: &[u8], kind: Kind, len: u64) -> bool
-    requires head { length head.now ≡ 1032 }
-    requires enough { min_len kind ≤ len }
-    ensures { IsTrue result ↔ FillsBytes kind (count_in head.now) len }
-{
-    let long = long_at(head, kind) as u64;
-    let end = len - 2 * kind.len_in_bytes() as u64;
-    let most = u64::from(count_in(head)).saturating_sub(1);
-    long <= end && (end - long) % 8 == 0 && end <= long + 8 * most
 }
 
 // The indexes of the names that are counted with a first byte, in the head of a pack index.
