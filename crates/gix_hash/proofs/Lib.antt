@@ -11,6 +11,7 @@ pub mod IdDigits
 mod IdFacts
 mod KeptDigits
 mod KindFacts
+mod LentTexts
 mod Made
 mod OnlyChunks
 mod Packing
