@@ -89,7 +89,7 @@ module _ {M : Type 1} {𝓤 : Ura M} (𝓛 : Logic 𝓤) (𝓜 : Model 𝓤 𝓛
         (sep 𝓤 (sem 𝓛 (EndsAs b (text ++ after))) (sep 𝓤 (fact 𝓤 (t.now ≡ text)) (sep 𝓤 (fact 𝓤 (IsAscii t.now)) (fact 𝓤 (length t.now ≡ len)))))))
 
     pub lends : (n : ℕ) (outlives : List (ℕ × ℕ)) (referent : Ty) (filled front_text : Callee) {L : Type 0} (said : L → Fml) {L' : Bor (List ℕ) → Type 0} (said' : (x : Bor (List ℕ)) → L' x → Fml)
-        → (others : SProp 𝓤) → ent 𝓤 toks (sep 𝓤 others (sem 𝓛 (flft κ q))) → ent 𝓤 (sep 𝓤 others (sem 𝓛 (flft κ q))) toks
+        → (others : SProp 𝓤) → ent 𝓤 toks (sep 𝓤 others (sem 𝓛 (fsep (flft κ q) ftrue))) → ent 𝓤 (sep 𝓤 others (sem 𝓛 (fsep (flft κ q) ftrue))) toks
         → ent 𝓤 (sem 𝓛 me) (sep 𝓤 (sem 𝓛 me) (sem 𝓛 me)) → Room u8 (length b.now)
         → Triple 𝓤 (𝓣.C filled) (Fills said) → ((x : Bor (List ℕ)) → Triple 𝓤 (𝓣.C front_text) (Fronts x (said' x)))
         → (post : Val → SProp 𝓤) → ((t : Bor (List ℕ)) → ent 𝓤 (Ended t) (post (slice_val t.ref_ptr (length t.now))))
@@ -116,7 +116,7 @@ module _ {M : Type 1} {𝓤 : Ura M} (𝓛 : Logic 𝓤) (𝓜 : Model 𝓤 𝓛
         sets ! (agg ! (and_then ! (get ! refl) (and_then ! (get_in ! (fld ! refl (stop !)) (sub ! 1 refl (whole !))) (no_more !)))) refl (tt, (tt, (record { fits = filled_at.0.1.0 }, tt))) $
         fsplit ! $ fsplit ! $ feq_l ! (λ _. fjoin ! $
         -- [what the buffer owns; the tokens; me]
-        move ! (1 ∷ []) $ use1 𝓛 (raw others ⊛ ‵ (flft κ q)) out $ split ! $ move ! (2 ∷ 1 ∷ []) $
+        move ! (1 ∷ []) $ use1 𝓛 (raw others ⊛ ‵ (fsep (flft κ q) ftrue)) out $ split ! $ move ! (1 ∷ []) $ fsplit ! $ move ! (1 ∷ []) $ let_go ! $ move ! (2 ∷ 0 ∷ []) $
         use2 𝓛 (later (‵ ((own.ShrSlice erased κ u8).own_val (record { ref_ptr = r.ref_ptr; now = r.now })) ⊛ (‵ (finally u8 r.ghost_name r.now) ⊛ ‵ (flft κ q))))
         (sl_Share 𝓛 u8 r.ref_ptr.0 r.ref_ptr.1 r.ghost_name r.now (uint_row_laws w8) κ q (Shares-copy 𝓛 (c_rf (f_int w8)) κ)) $ await ! tt $ split ! $ move ! (1 ∷ []) $ split ! $
         use1 𝓛 (‵ (EndsAs b (text ++ after))) (ends 𝓛 r b (text ++ after) same value) $
@@ -124,7 +124,7 @@ module _ {M : Type 1} {𝓤 : Ura M} (𝓛 : Logic 𝓤) (𝓜 : Model 𝓤 𝓛
         let x : Bor (List ℕ) = record { ref_ptr = r.ref_ptr; now = r.now } in
         let Front = (rest : List ℕ) × (r.now ≡ text ++ rest) in
         move ! (2 ∷ []) $ fsplit ! $ feq_i ! (List Val) (shr_slice_vals x) (shr_slice_vals x) refl $ fjoin ! $ fjoin ! $ nothing ! $ move ! (1 ∷ 0 ∷ []) $ join ! $ move ! (4 ∷ 0 ∷ []) $ join ! $
-        move ! (3 ∷ 2 ∷ []) $ use2 𝓛 (raw toks) back $ join ! $
+        nothing ! $ move ! (3 ∷ 0 ∷ []) $ fjoin ! $ move ! (3 ∷ 0 ∷ []) $ use2 𝓛 (raw toks) back $ join ! $
         use0 𝓛 (raw (fact 𝓤 Front)) (fact_i 𝓤 Front (emp 𝓤) (after, value)) $ move ! (1 ∷ 0 ∷ []) $ join ! $
         use1 𝓛 (raw ((Fronts x (said' x)).pre tt)) (id⊢ 𝓤 _) $
         calls_at ! fm (Fronts x (said' x)) (fronts x) tt (and_then ! (get ! refl) (and_then ! (get ! refl) (no_more !))) (λ v'.

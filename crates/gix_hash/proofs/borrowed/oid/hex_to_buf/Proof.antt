@@ -9,14 +9,13 @@ use Rattle.gix_hash.proofs.borrowed.oid.TheLaws as id_laws
 use Rattle.gix_hash.proofs.LentTexts.{lends}
 use mir.Syntax.{named}
 use base.Fml.{ftrue, flft, fsep}
-use types.Kit.{‵, ◌⊛◌, ◌∵◌, ◌$◌, !, qed, split, join, move, frame, drop as let_go, done}
+use base.Logic.{sep, assoc∗, assoc'}
 use types.Logic.{sem}
 use denote.Builtin.{u8}
 use denote.Exit.{yes, no}
 use denote.Ref.{ShrRef, shr_vals, shr_Tells, shr_copy}
 use denote.Signature.{plain, named_lft, mut_slice_of, shr_ref_to}
 use denote.Slice.{slice_val, mut_slice_vals, mut_slice_Tells, shr_slice_vals}
-use denote.Steps.{nothing}
 use denote.Triple.Entry.{alive}
 use denote.Triple.Clauses.{lasts}
 use denote.Triple.Walked.{Stays, walk_of, stay_dropped, Goes-dropped, Goes-spent_slice}
@@ -39,14 +38,12 @@ hex_to_buf_spec 𝓤 𝓛 𝓜 𝓡 wired =
     (λ κs. (shr_vals, (mut_slice_vals, tt)))
     (λ κs. (shr_Tells (named 0) κs.0 (id_type.the_row (named_lft 3 1 tt κs)), (mut_slice_Tells (named 2) κs.1.1.0 u8, tt))) (λ κs qs bounds a _ are.
     let κ' = named_lft 3 1 tt κs in let id = a.0 in let b = a.1.0 in let count = hex_len_of (oid_kind id.now) in
-    let toks = ‵ (flft κs.0 qs.0) ⊛ ‵ (flft κs.1.0 qs.1.0) ⊛ ‵ (flft κs.1.1.0 qs.1.1.0) ⊛ ‵ ftrue in let others = ‵ (flft κs.0 qs.0) ⊛ ‵ (flft κs.1.0 qs.1.0) in
+    let α = sem 𝓛 (flft κs.0 qs.0) in let β = sem 𝓛 (flft κs.1.0 qs.1.0) in let γ = sem 𝓛 (fsep (flft κs.1.1.0 qs.1.1.0) ftrue) in
     let y : W.Ghost = ((κs, qs, bounds, a, (shr_vals id, (mut_slice_vals b, tt))), tt) in
     lends 𝓛 𝓜 𝓡 (named 2) κs.1.1.0 qs.1.1.0 (alive 𝓛 f.signature κs qs) id ((ShrRef (named 0) κs.0 (id_type.the_row κ')).own_val id (shr_vals id))
     b (spelling hex_letter (oid_digits id.now)) count (drop count b.now)
     _ _ _ _ _ (lasts fill.ended κs a) (λ x. lasts front.ended κs (id, (x, tt)))
-    (sem 𝓛 (fsep (flft κs.0 qs.0) (flft κs.1.0 qs.1.0)))
-    (qed 𝓛 (toks ∷ []) ∵ split ! $ move ! (1 ∷ []) $ split ! $ move ! (1 ∷ []) $ split ! $ move ! (3 ∷ 2 ∷ []) $ join ! $ frame ! $ move ! (1 ∷ []) $ let_go ! $ done !)
-    (qed 𝓛 (others ∷ ‵ (flft κs.1.1.0 qs.1.1.0) ∷ []) ∵ split ! $ nothing ! $ move ! (1 ∷ 2 ∷ 3 ∷ 0 ∷ []) $ done !)
+    (sep 𝓤 α β) (assoc' 𝓤 α β γ) (assoc∗ 𝓤 α β γ)
     ((shr_copy 𝓛 (named 0) κs.0 (id_type.the_row κ') (id_laws.the_row_laws κ').shr_laws).twice id (shr_vals id)) are.1.0.0.1
     (λ _. filled.met 𝓤 𝓛 𝓜 𝓡 (code.calls-gix_hash::borrowed::oid::filled 𝓡.env wired) y)
     (λ x u. front_text.met 𝓤 𝓛 𝓜 𝓡 (code.calls-gix_hash::borrowed::oid::front_text 𝓡.env wired) ((κs, qs, bounds, (id, (x, tt)), (shr_vals id, (shr_slice_vals x, tt))), tt))

@@ -6,15 +6,14 @@ use Rattle.gix_hash.specs.contracts.prefix.Prefix as id_type
 use Rattle.gix_hash.proofs.prefix.Prefix.TheLaws as id_laws
 use Rattle.gix_hash.proofs.LentTexts.{lends}
 use mir.Syntax.{named}
-use base.Fml.{ftrue, flft}
-use types.Kit.{‵, ◌⊛◌, ◌∵◌, ◌$◌, !, qed, split, move, frame, drop as let_go, done}
+use base.Fml.{flft}
+use base.Logic.{id⊢}
 use types.Logic.{sem}
 use denote.Builtin.{u8}
 use denote.Exit.{yes, no}
 use denote.Ref.{ShrRef, shr_vals, shr_Tells, shr_copy}
 use denote.Signature.{plain, mut_slice_of, shr_ref_to}
 use denote.Slice.{slice_val, mut_slice_vals, mut_slice_Tells, shr_slice_vals}
-use denote.Steps.{nothing}
 use denote.Triple.Entry.{alive}
 use denote.Triple.Clauses.{lasts}
 use denote.Triple.Walked.{Stays, walk_of, stay_dropped, Goes-dropped, Goes-spent_slice}
@@ -37,14 +36,11 @@ hex_to_buf_spec 𝓤 𝓛 𝓜 𝓡 wired =
     (λ κs. (shr_vals, (mut_slice_vals, tt)))
     (λ κs. (shr_Tells (named 0) κs.0 id_type.the_row, (mut_slice_Tells (named 1) κs.1.0 u8, tt))) (λ κs qs bounds a _ are.
     let id = a.0 in let b = a.1.0 in let count = length id.now.digits in
-    let toks = ‵ (flft κs.0 qs.0) ⊛ ‵ (flft κs.1.0 qs.1.0) ⊛ ‵ ftrue in
     let y : W.Ghost = ((κs, qs, bounds, a, (shr_vals id, (mut_slice_vals b, tt))), tt) in
     lends 𝓛 𝓜 𝓡 (named 1) κs.1.0 qs.1.0 (alive 𝓛 f.signature κs qs) id ((ShrRef (named 0) κs.0 id_type.the_row).own_val id (shr_vals id))
     b (spelling hex_letter id.now.digits) count (drop count b.now)
     _ _ _ _ _ (lasts fill.ended κs a) (λ x. lasts front.ended κs (id, (x, tt)))
-    (sem 𝓛 (flft κs.0 qs.0))
-    (qed 𝓛 (toks ∷ []) ∵ split ! $ move ! (1 ∷ []) $ split ! $ move ! (2 ∷ 0 ∷ []) $ frame ! $ move ! (1 ∷ []) $ let_go ! $ done !)
-    (qed 𝓛 (‵ (flft κs.0 qs.0) ∷ ‵ (flft κs.1.0 qs.1.0) ∷ []) ∵ nothing ! $ move ! (1 ∷ 2 ∷ 0 ∷ []) $ done !)
+    (sem 𝓛 (flft κs.0 qs.0)) (id⊢ 𝓤 _) (id⊢ 𝓤 _)
     ((shr_copy 𝓛 (named 0) κs.0 id_type.the_row id_laws.the_row_laws.shr_laws).twice id (shr_vals id)) are.1.0.0.1
     (λ _. filled.met 𝓤 𝓛 𝓜 𝓡 (code.calls-gix_hash::prefix::Prefix::filled 𝓡.env wired) y)
     (λ x u. front_text.met 𝓤 𝓛 𝓜 𝓡 (code.calls-gix_hash::prefix::Prefix::front_text 𝓡.env wired) ((κs, qs, bounds, (id, (x, tt)), (shr_vals id, (shr_slice_vals x, tt))), tt))
