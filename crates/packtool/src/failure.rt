@@ -16,7 +16,7 @@ pub enum Failure<'a> {
     #[error("{path}: {why}")]
     File {
         /// Its path.
-        path: &'a str,
+        path: String,
         /// Why.
         why: FileWhy,
     },
@@ -35,7 +35,7 @@ pub enum Failure<'a> {
     NotText,
     /// Standard output cannot be written.
     #[error("standard output: {0}")]
-    Output(io::ErrorKind),
+    Output(io::Error),
     /// Memory ran out.
     #[error("out of memory")]
     Memory,
@@ -46,7 +46,7 @@ pub enum Failure<'a> {
 pub enum FileWhy {
     /// It cannot be read.
     #[error("{0}")]
-    Read(io::ErrorKind),
+    Read(io::Error),
     /// It is no pack index.
     #[error("{0}")]
     Index(pack_index::Error),

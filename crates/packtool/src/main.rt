@@ -16,7 +16,7 @@ ghost use Rattle.std.specs.Prelude.{◌≡◌, false};
 use clap::ArgMatches;
 use command_line::command_line_args;
 use failure::Failure;
-use noted::{Note, Output};
+use noted::{Note, Noted};
 use std::io::{BufWriter, ErrorKind};
 use std::process::ExitCode;
 use streams::{BufferedSink, Plain, Sink};
@@ -50,7 +50,7 @@ fn end(rt: &HostRuntime, outcome: Result<u8, Failure<'_>>) -> ExitCode {
 // Whether nobody reads the output any more.
 fn is_closed_pipe(failure: &Failure<'_>) -> bool {
     match failure {
-        Failure::Output(kind) => *kind == ErrorKind::BrokenPipe,
+        Failure::Output(error) => error.kind() == ErrorKind::BrokenPipe,
         _ => false,
     }
 }
@@ -68,19 +68,19 @@ fn run<'a>(rt: &HostRuntime, words: &'a [String]) -> Result<u8, Failure<'a>> {
             return match error.print(rt) {
                 Ok(()) if error.use_stderr() => Ok(FAILED),
                 Ok(()) => Ok(FOUND),
-                Err(why) => Err(Failure::Output(why.kind())),
+                Err(why) => Err(Failure::Output(why)),
             };
         }
     };
     let note = Note::new();
-    let Ok(writer) = BufWriter::new(rt.alloc(), Output::new(rt, &note)) else {
+    let Ok(writer) = BufWriter::new(rt.alloc(), Noted::new(rt.stdout(), &note)) else {
         return Err(Failure::Memory);
     };
     let mut out = Plain::new(writer);
     let status = run_command(rt, &matches, &mut out, &note)?;
     match out.flush() {
         Ok(()) => Ok(status),
-        Err(error) => Err(Failure::Output(error.kind())),
+        Err(error) => Err(Failure::Output(error)),
     }
 }
 
@@ -115,7 +115,7 @@ fn run_over_files<'a, W: Sink>(
     let mut status = FOUND;
     for path in matches.get_strs("files").unwrap_or(&[]) {
         if out.failed() {
-            return Err(Failure::Output(note.kind()));
+            return Err(Failure::Output(note.error()));
         }
         let outcome = match name {
             "show" => files::show(rt, path, kind, out, note),

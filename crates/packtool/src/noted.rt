@@ -8,19 +8,19 @@ use std::io;
 /// Why a device failed, if it did.
 #[derive(Drop)]
 pub struct Note {
-    kind: Cell<Option<io::ErrorKind>>,
+    error: Cell<Option<io::Error>>,
 }
 
 impl Note {
     pub fn new() -> Self {
         Note {
-            kind: Cell::new(None),
+            error: Cell::new(None),
         }
     }
 
-    /// The kind of the last error.
-    pub fn kind(&self) -> io::ErrorKind {
-        self.kind.get().unwrap_or(io::ErrorKind::WriteZero)
+    /// The last error. A write that takes nothing has none.
+    pub fn error(&self) -> io::Error {
+        self.error.get().unwrap_or(io::ErrorKind::WriteZero.into())
     }
 
     // The outcome of a call, whose error is noted.
@@ -28,13 +28,13 @@ impl Note {
         ensures { result ≡ outcome }
     {
         if let Err(error) = &outcome {
-            self.kind.set(Some(error.kind()));
+            self.error.set(Some(*error));
         }
         outcome
     }
 }
 
-/// A reader whose errors are noted.
+/// A reader or a writer whose errors are noted.
 #[derive(Drop)]
 pub struct Noted<'a, T> {
     inner: T,
@@ -53,25 +53,12 @@ impl<T: io::Read> io::Read for Noted<'_, T> {
     }
 }
 
-/// Standard output, whose errors are noted.
-#[derive(Drop)]
-pub struct Output<'a> {
-    rt: &'a HostRuntime,
-    note: &'a Note,
-}
-
-impl<'a> Output<'a> {
-    pub fn new(rt: &'a HostRuntime, note: &'a Note) -> Self {
-        Output { rt, note }
-    }
-}
-
-impl io::Write for Output<'_> {
+impl<T: io::Write> io::Write for Noted<'_, T> {
     fn write(&mut self, buf: &[u8]) -> io::Result<usize> {
-        self.note.note(io::writer(self.rt).write(buf))
+        self.note.note(self.inner.write(buf))
     }
 
     fn flush(&mut self) -> io::Result<()> {
-        Ok(())
+        self.note.note(self.inner.flush())
     }
 }

@@ -91,7 +91,7 @@ fn write_line<W: Sink>(
     note: &Note,
 ) -> Result<(), Failure<'static>> {
     if out.failed() || write_place(id, path, offset, out).is_err() {
-        return Err(Failure::Output(note.kind()));
+        return Err(Failure::Output(note.error()));
     }
     Ok(())
 }
@@ -149,6 +149,6 @@ fn read_prefix<'a>(matches: &ArgMatches<'a>, kind: Kind) -> Result<Prefix, Failu
 fn failure(store: &FolderStore<HostRuntime>, error: StoreError, note: &Note) -> Failure<'static> {
     match error {
         StoreError::Store(error) => Failure::Store(store.with_path(error)),
-        StoreError::Output => Failure::Output(note.kind()),
+        StoreError::Output => Failure::Output(note.error()),
     }
 }

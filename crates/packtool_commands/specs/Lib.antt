@@ -3,5 +3,6 @@ pub mod Ending
 pub mod Finding
 pub mod Lines
 pub mod Names
+pub mod Pairing
 pub mod Places
 pub mod Showing

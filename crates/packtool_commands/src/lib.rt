@@ -1,8 +1,9 @@
 //! The commands of `packtool`, over any store, reader, writer and allocator.
 //!
 //! [`find`] writes the ids of a store that begin with a prefix, and [`names`] all of them after
-//! their shortest names. [`write_place`] writes where an object is. [`show`] writes the lines of a pack index as `git show-index` does, and
-//! [`write_ending`] whether a file ends with its digest.
+//! their shortest names. [`write_place`] writes where an object is. [`show`] writes the lines of a
+//! pack index as `git show-index` does, [`write_ending`] whether a file ends with its digest, and
+//! [`write_pairing`] whether a pack index belongs to the pack beside it, as [`pair`] finds.
 #![tactic(auto)]
 
 mod ending;
@@ -10,6 +11,7 @@ mod error;
 mod finding;
 mod lines;
 mod naming;
+mod pairing;
 mod placing;
 mod showing;
 
@@ -17,5 +19,6 @@ pub use ending::write_ending;
 pub use error::{FileError, StoreError};
 pub use finding::find;
 pub use naming::names;
+pub use pairing::{Pairing, PairingError, pair, write_pairing};
 pub use placing::write_place;
 pub use showing::show;

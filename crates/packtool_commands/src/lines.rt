@@ -5,11 +5,13 @@ ghost use Rattle.gix_hash.specs.Digits.{hex_letter, spelling};
 ghost use Rattle.gix_hash.specs.ObjectId.{id_digits};
 ghost use Rattle.gix_hash.specs.Oid.{oid_digits};
 ghost use Rattle.pack_index.specs.Format.{names_in};
-ghost use Rattle.packtool_commands.specs.Ending.{verdict};
+ghost use Rattle.packtool_commands.specs.Ending.{hex_of, verdict};
 ghost use Rattle.packtool_commands.specs.Lines.{crc_text, index_line, line_of};
 ghost use Rattle.packtool_commands.specs.Names.{name_line};
+ghost use Rattle.packtool_commands.specs.Pairing.{pairing_verdict};
 ghost use Rattle.packtool_commands.specs.Places.{place_end};
 
+use crate::pairing::Pairing;
 use gix_hash::{Alphabet, ObjectId, oid};
 use hex::encode_to_slice;
 use itoa::Buffer;
@@ -24,8 +26,8 @@ pub(crate) const MAX_LINE_LEN: usize = 97;
 /// The length of the longest line of a name and its id: 64 digits of each, a blank and a line feed.
 pub(crate) const MAX_NAMES_LEN: usize = 130;
 
-/// The length of the longest verdict: two ids of 64 digits, and 55 bytes around them.
-pub(crate) const MAX_VERDICT_LEN: usize = 183;
+/// The length of the longest verdict: two ids of 64 digits, and 61 bytes around them.
+pub(crate) const MAX_VERDICT_LEN: usize = 189;
 
 /// The lengths of the longest parts of the line of a place before the path and after it: an id and
 /// a blank, and a blank, an offset of 20 digits and a line feed.
@@ -94,24 +96,77 @@ pub(crate) fn put_verdict(ending: &Ending, line: &mut [u8]) -> usize
         Ending::Unsealed {
             digest,
             last: Some(last),
-        } => put_digests(last, digest, line),
+        } => put_digests(
+            b": FAILED: it ends in ",
+            last,
+            b", and the digest of the rest is ",
+            digest,
+            line,
+        ),
         Ending::Unsealed { last: None, .. } => {
             put(line, 0, b": FAILED: it is shorter than a digest\n")
         }
     }
 }
 
-// Writes what is said of a file with these last bytes that are not this digest of the others.
-fn put_digests(last: &ObjectId, digest: &ObjectId, line: &mut [u8]) -> usize
+/// Writes what is said of a pack index and the pack beside it after its name to the start of the
+/// buffer, and returns its length.
+pub(crate) fn put_pairing(pairing: &Pairing, line: &mut [u8]) -> usize
     requires { length line.old ≡ MAX_VERDICT_LEN }
     ensures len { result ≤ MAX_VERDICT_LEN }
-    ensures text { take result line.new ≡ verdict (Ending.Unsealed digest.now (Some last.now)) }
+    ensures text { take result line.new ≡ pairing_verdict pairing.now }
 {
-    let last_at = put(line, 0, b": FAILED: it ends in ");
-    let last_end = put_id(line, last_at, last.as_oid());
-    let digest_at = put(line, last_end, b", and the digest of the rest is ");
-    let digest_end = put_id(line, digest_at, digest.as_oid());
-    put(line, digest_end, b"\n")
+    let before = b": FAILED: its pack ends in ";
+    match pairing {
+        Pairing::Same => put(line, 0, b": OK\n"),
+        Pairing::Other {
+            named,
+            found: Some(found),
+        } => put_digests(
+            before,
+            named,
+            b", and the pack beside it ends in ",
+            found,
+            line,
+        ),
+        Pairing::Other { named, found: None } => {
+            let after = b", and the pack beside it is shorter than a digest";
+            let end = put_digest(before, named, after, line);
+            put(line, end, b"\n")
+        }
+        Pairing::Unnamed => put(line, 0, b": FAILED: it is shorter than two digests\n"),
+    }
+}
+
+// Writes two ids, each after a text, and a line feed to the start of the buffer, and returns their
+// length.
+fn put_digests(
+    before: &[u8],
+    first: &ObjectId,
+    between: &[u8],
+    second: &ObjectId,
+    line: &mut [u8],
+) -> usize
+    requires line { length line.old ≡ MAX_VERDICT_LEN }
+    requires texts { length before.now + length between.now ≤ 60 }
+    ensures len { result ≤ MAX_VERDICT_LEN }
+    ensures text { take result line.new ≡ before.now ++ hex_of first.now
+        ++ between.now ++ hex_of second.now ++ 10 ∷ [] }
+{
+    let second_at = put_digest(before, first, between, line);
+    let second_end = put_id(line, second_at, second.as_oid());
+    put(line, second_end, b"\n")
+}
+
+// Writes an id between two texts to the start of the buffer, and returns their length.
+fn put_digest(before: &[u8], id: &ObjectId, after: &[u8], line: &mut [u8]) -> usize
+    requires { length before.now + MAX_ID_LEN + length after.now ≤ length line.old }
+    ensures len { result ≤ length before.now + MAX_ID_LEN + length after.now }
+    ensures text { take result line.new ≡ before.now ++ hex_of id.now ++ after.now }
+{
+    let id_at = put(line, 0, before);
+    let id_end = put_id(line, id_at, id.as_oid());
+    put(line, id_end, after)
 }
 
 /// Writes an id and a blank to the start of the buffer, and returns their length.

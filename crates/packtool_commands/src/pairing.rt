@@ -1,0 +1,133 @@
+//! Pack indexes and the packs beside them.
+
+ghost use Rattle.std.specs.Prelude.{◌≡◌, ◌≤◌, ◌++◌, ℕ, List, Some, false, true, IfOk, OnOk, OnErr};
+ghost use Rattle.std.specs.Io.KnownBytes.{Appends};
+ghost use Rattle.gix_hash.specs.declared.Kind.{Kind};
+ghost use Rattle.packtool_commands.specs.Pairing.{IsDigest, IsPairing, last_digest_but, pairing_verdict};
+ghost use Rattle.streams.specs.Writing.{AppendsPart};
+
+use crate::lines::{MAX_VERDICT_LEN, put_pairing};
+use crate::placing::write_both;
+use gix_hash::{Kind, ObjectId};
+use std::io;
+use streams::{ReadAt, Sink, WriteFailed};
+use thiserror::Error as ThisError;
+
+/// Whether a pack index belongs to a pack.
+///
+/// ```
+/// if let Pairing::Other { named, .. } = pair(&idx, &pack, Kind::Sha1)? {
+///     println!(rt; "its pack ends in {named}")?;
+/// }
+/// ```
+#[derive(Clone, Copy, Debug)]
+pub enum Pairing {
+    /// The index has the digest in which the pack ends.
+    Same,
+    /// The index has another digest.
+    Other {
+        /// The digest of its pack that the index has.
+        named: ObjectId,
+        /// The last bytes of the pack, as many as a digest has, or `None` if there are fewer.
+        found: Option<ObjectId>,
+    },
+    /// The index has none: it is shorter than two digests.
+    Unnamed,
+}
+
+/// Which file could not be read.
+///
+/// ```
+/// if let Err(PairingError::Pack(error)) = pair(&idx, &pack, Kind::Sha1) {
+///     println!(rt; "{error}")?;
+/// }
+/// ```
+#[derive(Debug, Drop, ThisError)]
+pub enum PairingError {
+    /// The pack index.
+    #[error("{0}")]
+    Index(io::Error),
+    /// The pack.
+    #[error("{0}")]
+    Pack(io::Error),
+}
+
+/// Whether a pack index of a kind belongs to a pack: whether the last digest but one of the index,
+/// which is that of its pack, is the one in which the pack ends.
+///
+/// Nothing else is read, and neither digest is checked. An error is returned only if a read fails.
+///
+/// ```
+/// let pairing = pair(&idx, &pack, Kind::Sha1)?;
+/// println!(rt; "{}", matches!(pairing, Pairing::Same))?;
+/// ```
+pub fn pair<I: ReadAt, P: ReadAt>(index: &I, pack: &P, kind: Kind) -> Result<Pairing, PairingError>
+    ensures { IfOk result (λ pairing. (of_index of_pack : List ℕ)
+        → I.content index.now ≡ Some of_index → P.content pack.now ≡ Some of_pack
+        → IsPairing kind (last_digest_but 1 kind of_index) (last_digest_but 0 kind of_pack)
+        pairing) }
+{
+    match (
+        last_digest_but(1, index, kind),
+        last_digest_but(0, pack, kind),
+    ) {
+        (Ok(named), Ok(found)) => Ok(compared(named, found)),
+        (Err(error), _) => Err(PairingError::Index(error)),
+        (_, Err(error)) => Err(PairingError::Pack(error)),
+    }
+}
+
+// Whether an index has the digest in which a pack ends.
+fn compared(named: Option<ObjectId>, found: Option<ObjectId>) -> Pairing
+    ensures { (kind : Kind) (of_index of_pack : List ℕ) → IsDigest kind of_index named
+        → IsDigest kind of_pack found → IsPairing kind of_index of_pack result }
+{
+    match (named, found) {
+        (None, _) => Pairing::Unnamed,
+        (Some(named), Some(found)) if named.as_slice() == found.as_slice() => Pairing::Same,
+        (Some(named), found) => Pairing::Other { named, found },
+    }
+}
+
+// The last digest of a source but for the n after it, or `None` if it has fewer bytes.
+fn last_digest_but<S: ReadAt>(n: usize, source: &S, kind: Kind) -> io::Result<Option<ObjectId>>
+    requires { n ≤ 1 }
+    ensures { IfOk result (λ found. (bytes : List ℕ) → S.content source.now ≡ Some bytes
+        → IsDigest kind (last_digest_but n kind bytes) found) }
+{
+    let mut id = kind.null();
+    let Some(at) = source
+        .len()?
+        .checked_sub(((n + 1) * kind.len_in_bytes()) as u64)
+    else {
+        return Ok(None);
+    };
+    source.read_exact_at(id.as_mut_slice(), at)?;
+    Ok(Some(id))
+}
+
+/// Writes the line of a pack index with this name, which is this for the pack beside it: `NAME:
+/// OK`, or `NAME: FAILED` and why, with both digests.
+///
+/// It stops at the first write that fails, after a proper beginning of the line. The sink must not
+/// have failed before.
+///
+/// ```
+/// let pairing = pair(&idx, &pack, Kind::Sha1)?;
+/// if write_pairing("pack-1.idx", &pairing, &mut out).is_err() {
+///     println!(rt; "the line is not written whole")?;
+/// }
+/// ```
+pub fn write_pairing<W: Sink>(name: &str, pairing: &Pairing, out: &mut W) -> Result<(), WriteFailed>
+    requires { W.has_failed out.old ≡ false }
+    ensures written { OnOk result (Appends (W.taken out.old) (W.taken out.new)
+        (name.now ++ pairing_verdict pairing.now)) }
+    ensures stands { OnOk result (W.has_failed out.new ≡ false) }
+    ensures part { OnErr result (AppendsPart (W.taken out.old) (W.taken out.new)
+        (name.now ++ pairing_verdict pairing.now)) }
+    ensures failed { OnErr result (W.has_failed out.new ≡ true) }
+{
+    let mut line = [0; MAX_VERDICT_LEN];
+    let len = put_pairing(pairing, &mut line);
+    write_both(name.as_bytes(), &line[..len], out)
+}
