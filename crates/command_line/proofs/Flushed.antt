@@ -1,19 +1,13 @@
 -- What a buffered writer took, as a beginning of what was to be written.
 use Rattle.std.specs.Prelude.{ℕ, Option, List, []}
-use Rattle.std.specs.Io.KnownBytes.{Appends, Keeps}
+use Rattle.std.specs.Io.KnownBytes.{Appends}
 use Rattle.std.proofs.Common.{sym, append-nil}
 use Rattle.command_line.specs.Flushed.{AppendsAtMost}
 use Rattle.streams.specs.Writing.{AppendsPart}
-use Rattle.streams.proofs.WritingLemmas.{Appends-kept}
 
--- all of the bytes, if the flush kept them
-pub all_written : (a b c : Option (List ℕ)) (bytes : List ℕ) → Appends a b bytes → Keeps b c → AppendsAtMost a c bytes
-all_written a b c bytes written kept = record {
-  part = bytes;
-  rest = [];
-  is_beginning = sym (append-nil bytes);
-  written = Appends-kept a b c bytes written kept;
-}
+-- all of the bytes
+pub all_written : (a b : Option (List ℕ)) (bytes : List ℕ) → Appends a b bytes → AppendsAtMost a b bytes
+all_written a b bytes written = record { part = bytes; rest = []; is_beginning = sym (append-nil bytes); written = written }
 
 -- a proper beginning
 pub part_written : (a b : Option (List ℕ)) (bytes : List ℕ) → AppendsPart a b bytes → AppendsAtMost a b bytes

@@ -6,7 +6,7 @@ use gix_hash::decode;
 use std::alloc::AllocFailed;
 
 /// Why a text is no list of ids.
-#[derive(Debug, Drop)]
+#[derive(Drop)]
 pub enum ListError {
     /// A line does not read as an id; the first such line.
     BadLine {

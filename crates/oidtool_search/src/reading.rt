@@ -18,7 +18,7 @@ use std::alloc::Allocator;
 use streams::{CHUNK_LEN, MAX_LEN, Source};
 
 /// Why a source has no list of ids.
-#[derive(Debug, Drop)]
+#[derive(Drop)]
 pub enum ReadError {
     /// Its bytes are no list text, or memory ran out.
     Refused(ListError),
