@@ -2,3 +2,4 @@ pub mod Asked
 pub mod Held
 pub mod Located
 pub mod Named
+pub mod PlaceMembers

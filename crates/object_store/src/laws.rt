@@ -1,9 +1,11 @@
 //! Laws of stores that no single call carries. Each is the contract of a function.
 
-ghost use Rattle.std.specs.Prelude.{ℕ, List, Option};
+ghost use Rattle.std.specs.Prelude.{◌↔◌, ℕ, ◌<◌, Contains, List, [], Option, length, slice_index_or};
 ghost use Rattle.gix_hash.specs.declared.Kind.{Kind};
+ghost use Rattle.object_store.specs.Places.{HasOffset, places_of};
 ghost use Rattle.object_store.specs.Stores.{Holds, IsLocateFault, IsOutside, IsStoreFault};
 ghost use Rattle.object_store.specs.declared.error.Error.{Error as StoreError};
+ghost use Rattle.object_store.specs.declared.places.Place.TheVariants.{Packed, Loose};
 ghost use Rattle.pack_index.specs.Lazy.{LazyIndex};
 
 /// If the bytes of a store are known and are those of pack indexes, then a look-up fails only
@@ -16,4 +18,15 @@ pub fn failures()
         (whole : List (List ℕ)) (digits : List ℕ) (error : StoreError)
         → Holds kind packs loose whole → IsLocateFault kind packs digits error
         → IsOutside error }
+{}
+
+/// `locate` adds no place and leaves none out: an object is at an offset in a pack if and only if
+/// the pack index has its name, the first of which has that offset; and it is a loose object if and
+/// only if its id is one of the loose ids.
+pub fn places()
+    ensures packed { (kind : Kind) (id : List ℕ) (indexes loose_ids : List (List ℕ))
+        (pack offset : ℕ) → Contains (places_of kind id indexes loose_ids) (Packed pack offset)
+        ↔ ((pack < length indexes) × HasOffset kind (slice_index_or indexes pack []) id offset) }
+    ensures loose { (kind : Kind) (id : List ℕ) (indexes loose_ids : List (List ℕ))
+        → Contains (places_of kind id indexes loose_ids) Loose ↔ Contains loose_ids id }
 {}
