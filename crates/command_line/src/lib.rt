@@ -9,4 +9,4 @@ mod args;
 mod status;
 
 pub use args::{WordsError, command_line_args};
-pub use status::{Failure, report};
+pub use status::{Failure, exit_status, report};

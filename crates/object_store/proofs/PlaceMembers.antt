@@ -2,48 +2,34 @@
 use Rattle.std.proofs.Common.{◌≡◌, ℕ, zero, suc, ◌+◌, ◌<◌, ◌≤◌, inl, inr, Bool, true, false, cond, Option, None, Some, List, [], ◌∷◌, length, get_or, refl, sym, ap, ◌∙◌, subst, arith}
 use Rattle.std.specs.Prelude.{◌↔◌, option_map}
 use Rattle.std.specs.Cmp.Lexicographic.{bytes_decides}
-use Rattle.std.specs.List.{Contains, list_any}
+use Rattle.std.specs.List.{Contains, list_any, position}
 use Rattle.std.specs.Str.{bytes_eq}
 use Rattle.std.proofs.lemmas.Bool.{cases_lt, false≢true}
 use Rattle.std.proofs.lemmas.List.Elements.{Contains-append_cases, Contains-append_left, Contains-append_right}
 use Rattle.std.proofs.lemmas.List.Folds.{Any-from_list_any, list_any-from_Any}
+use Rattle.std.proofs.lemmas.List.Quantifiers.{position-Some}
 use Rattle.std.proofs.lemmas.Option.{none-some, same_Some}
 use Rattle.gix_hash.specs.declared.Kind.{Kind}
-use Rattle.object_store.specs.Places.{HasOffset, offset_of, packed_at, packed_places, places_of}
+use Rattle.object_store.specs.Places.{HasObjectAt, offset_of, packed_at, packed_places, places_of}
 use Rattle.object_store.specs.declared.places.Place.{Place}
 use Rattle.object_store.specs.declared.places.Place.TheVariants.{Packed, Loose}
 use Rattle.object_store.proofs.Located.{offset_some}
-use Rattle.pack_index.specs.Firsts.{first_below, first_from}
 use Rattle.pack_index.specs.Format.{names_in, offset_in}
 
--- the number that is found is the first that passes
-first_is : (p : ℕ → Bool) (n at k : ℕ) → first_from p n at ≡ Some k → (k < at + n) × (p k ≡ true) × ((j : ℕ) → at ≤ j → j < k → p j ≡ false)
-unfolding first_from
-first_is p zero at k found = absurd (none-some k found)
-first_is p (suc n) at k found =
-    elim (p at) as (λ b. p at ≡ b → cond b (Some at) (first_from p n (suc at)) ≡ Some k → (k < at + suc n) × (p k ≡ true) × ((j : ℕ) → at ≤ j → j < k → p j ≡ false)) [
-      | true ↦ λ passes is.
-          let here : at ≡ k = same_Some at k is in
-          (omega (arith, here), ap p (sym here) ∙ passes, λ j low high. absurd (let none : ⊥ = omega (arith, here) in none))
-      | false ↦ λ no is.
-          let rest = first_is p n (suc at) k is in
-          (omega (arith, rest.0), rest.1, λ j low high. elim (cases_lt at j) [ inl later ↦ rest.2 j (omega arith) high | inr first ↦ let same : j ≡ at = omega arith in ap p same ∙ no ])
-    ] refl found
-
 -- the offset that is found is that of the first index of the name
-has_offset : (kind : Kind) (bytes id : List ℕ) (offset : ℕ) → offset_of kind bytes id ≡ Some offset → HasOffset kind bytes id offset
+has_offset : (kind : Kind) (bytes id : List ℕ) (offset : ℕ) → offset_of kind bytes id ≡ Some offset → HasObjectAt kind bytes id offset
 has_offset kind bytes id offset found =
     let names = names_in kind bytes in
-    let same : ℕ → Bool = λ k. bytes_eq (get_or names k []) id in
-    elim (first_below same (length names)) as (λ o. first_below same (length names) ≡ o → option_map (offset_in kind bytes) o ≡ Some offset → HasOffset kind bytes id offset) [
+    let same : List ℕ → Bool = λ name. bytes_eq name id in
+    elim (position same names) as (λ o. position same names ≡ o → option_map (offset_in kind bytes) o ≡ Some offset → HasObjectAt kind bytes id offset) [
       | None ↦ λ was none. absurd (none-some offset none)
       | Some at ↦ λ was some.
-          let is = first_is same (length names) 0 at was in (
+          let is = position-Some same names at [] was in (
             at,
             record {
-              in_range = omega (arith, is.0);
+              in_range = is.0;
               same = (bytes_decides (get_or names at []) id).0 is.1;
-              first = λ k low equal. false≢true (sym (is.2 k (omega arith) low) ∙ (bytes_decides (get_or names k []) id).1 equal);
+              first = λ k low equal. false≢true (sym (is.2 k low) ∙ (bytes_decides (get_or names k []) id).1 equal);
             },
             sym (same_Some _ offset some),
           )
@@ -111,7 +97,7 @@ module _ (kind : Kind) (id : List ℕ) (indexes loose_ids : List (List ℕ)) whe
     | false ↦ λ has. absurd (contains_none place has)
   ]
 
-  pub packed_place : (pack offset : ℕ) → Contains (places_of kind id indexes loose_ids) (Packed pack offset) ↔ ((pack < length indexes) × HasOffset kind (get_or indexes pack []) id offset)
+  pub packed_place : (pack offset : ℕ) → Contains (places_of kind id indexes loose_ids) (Packed pack offset) ↔ ((pack < length indexes) × HasObjectAt kind (get_or indexes pack []) id offset)
   packed_place pack offset = (
     λ has. elim (Contains-append_cases front last (Packed pack offset) has) [
       | inl packed ↦

@@ -13,8 +13,8 @@ abbrev pub offset_of : Kind → List ℕ → List ℕ → Option ℕ
 offset_of kind bytes id = option_map (offset_in kind bytes) (position (λ name. bytes_eq name id) (names_in kind bytes))
 
 -- the pack index has the name of the id, whose first index has this offset
-abbrev pub HasOffset : Kind → List ℕ → List ℕ → ℕ → Type 0
-HasOffset kind bytes id offset = (at : ℕ) × IsFirstIndexOf (names_in kind bytes) id at × (offset ≡ offset_in kind bytes at)
+abbrev pub HasObjectAt : Kind → List ℕ → List ℕ → ℕ → Type 0
+HasObjectAt kind bytes id offset = (at : ℕ) × IsFirstIndexOf (names_in kind bytes) id at × (offset ≡ offset_in kind bytes at)
 
 -- the place at an offset in the pack of this number
 abbrev pub packed_at : ℕ → Option ℕ → List Place

@@ -2,7 +2,7 @@
 
 ghost use Rattle.std.specs.Prelude.{◌↔◌, ℕ, ◌<◌, Contains, List, [], Option, length, slice_index_or};
 ghost use Rattle.gix_hash.specs.declared.Kind.{Kind};
-ghost use Rattle.object_store.specs.Places.{HasOffset, places_of};
+ghost use Rattle.object_store.specs.Places.{HasObjectAt, places_of};
 ghost use Rattle.object_store.specs.Stores.{Holds, IsLocateFault, IsOutside, IsStoreFault};
 ghost use Rattle.object_store.specs.declared.error.Error.{Error as StoreError};
 ghost use Rattle.object_store.specs.declared.places.Place.TheVariants.{Packed, Loose};
@@ -26,7 +26,7 @@ pub fn failures()
 pub fn places()
     ensures packed { (kind : Kind) (id : List ℕ) (indexes loose_ids : List (List ℕ))
         (pack offset : ℕ) → Contains (places_of kind id indexes loose_ids) (Packed pack offset)
-        ↔ ((pack < length indexes) × HasOffset kind (slice_index_or indexes pack []) id offset) }
+        ↔ ((pack < length indexes) × HasObjectAt kind (slice_index_or indexes pack []) id offset) }
     ensures loose { (kind : Kind) (id : List ℕ) (indexes loose_ids : List (List ℕ))
         → Contains (places_of kind id indexes loose_ids) Loose ↔ Contains loose_ids id }
 {}
