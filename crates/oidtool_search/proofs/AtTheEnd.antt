@@ -6,9 +6,9 @@ use Rattle.std.proofs.lemmas.List.Splits.{slice_split-cons_yes, slice_split-cons
 use Rattle.gix_hash.specs.declared.Kind.{Kind}
 use Rattle.oidtool_search.specs.Lines.{lines_of, is_line_feed, without_empty_last}
 use Rattle.oidtool_search.specs.ListText.{IsLineOf}
-use Rattle.oidtool_search.specs.Finding.{finding, ResultHolds}
+use Rattle.oidtool_search.specs.Finding.{finding}
 use Rattle.oidtool_search.specs.FindingFrom.{IsSettled, HoldsOfAll}
-use Rattle.oidtool_search.specs.FindingIn.{finding_in, ResultHoldsIn}
+use Rattle.oidtool_search.specs.FindingIn.{finding_in}
 use Rattle.oidtool_search.specs.declared.finding.FindError.TheVariants.{Unsorted, PrefixTooLong}
 use Rattle.oidtool_search.specs.declared.finding_in.FindInError.TheVariants.{WrongKind, NotRising}
 use Rattle.oidtool_search.proofs.LineLemmas.{slice_split-some, without_empty_last-cons}

@@ -1,5 +1,5 @@
 -- What a list reader has taken, line by line.
-use Rattle.std.proofs.Common.{◌≡◌, ◌≢◌, ℕ, suc, ◌+◌, ◌-◌, ◌<◌, ◌≤◌, Bool, true, false, Option, Some, None, eqb-true, List, [], ◌∷◌, ◌++◌, length, take, drop, map, get_or, set, refl, arith, sym, ap, ◌∙◌, subst, append_assoc, append-nil, drop-cons, take-append-drop, length-drop, length-take, get_or-drop, take-add, Result, Ok, Err}
+use Rattle.std.proofs.Common.{◌≡◌, ◌≢◌, ℕ, suc, ◌+◌, ◌-◌, ◌<◌, ◌≤◌, Bool, true, false, Option, Some, None, eqb-true, List, [], ◌∷◌, ◌++◌, length, take, drop, map, get_or, set, refl, arith, sym, ap, ◌∙◌, subst, append_assoc, append-nil, drop-cons, length-drop, length-take, get_or-drop, take-add, Result, Ok, Err}
 use Rattle.std.proofs.lemmas.Bool.Decides.{nat_tests}
 use Rattle.std.proofs.lemmas.List.{map-append, length-append, take_more_set, take_more, take_all, take-append-le, drop-drop}
 use Rattle.std.proofs.lemmas.List.Elements.{All-push, All-head, All-tail, All-nil, All-cons}

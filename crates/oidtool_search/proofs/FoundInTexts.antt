@@ -1,25 +1,16 @@
 -- The errors of a search among ids.
-use Rattle.std.proofs.Common.{◌≡◌, ◌⊎◌, inl, inr, ℕ, nat_lt, if◌then◌else◌, Bool, true, false, Option, Some, None, List, length, Result, Ok, Err, refl, subst, sym, ◌∙◌}
-use Rattle.std.specs.Option.{option_or}
-use Rattle.gix_hash.specs.declared.Kind.{Kind}
-use Rattle.id_lookup.specs.Runs.{matches}
-use Rattle.id_lookup.specs.Sorted.{least_hex_len}
-use Rattle.id_lookup.specs.declared.index.IndexError.{IndexError}
-use Rattle.id_lookup.specs.declared.index.IndexError.TheVariants as index
-use Rattle.oidtool_search.specs.Finding.{in_sorted, length_error, refusal_of_list}
-use Rattle.oidtool_search.specs.FindingIn.{in_index, refusal_of_list_in}
+use Rattle.std.proofs.Common.{◌≡◌, ◌⊎◌, inl, inr, ℕ, List, Result, Ok, Err, refl}
+use Rattle.oidtool_search.specs.Finding.{refusal_of_list}
+use Rattle.oidtool_search.specs.FindingIn.{refusal_of_list_in}
 use Rattle.gix_hash.specs.Prefix.{KindDigits}
 use Rattle.oidtool_search.specs.Lines.{lines_of}
 use Rattle.oidtool_search.specs.ListText.{list_read, IsFirstRead, RefusesList}
-use Rattle.oidtool_search.specs.Searching.{Query, first_refused, error_or, found_among, found_from, IsFoundAmong}
-use Rattle.oidtool_search.specs.declared.finding.FindError.{FindError}
+use Rattle.oidtool_search.specs.Searching.{Query, found_from, IsFoundAmong}
 use Rattle.oidtool_search.specs.declared.finding.FindError.TheVariants as search
 use Rattle.oidtool_search.specs.declared.finding_in.FindInError.{FindInError}
-use Rattle.oidtool_search.specs.declared.finding_in.FindInError.TheVariants.{BadLine, WrongKind, NotRising, Memory}
+use Rattle.oidtool_search.specs.declared.finding_in.FindInError.TheVariants.{BadLine, Memory}
 use Rattle.oidtool_search.specs.declared.list.ListError.{ListError}
 use Rattle.oidtool_search.specs.declared.list.ListError.TheVariants as list
-use Rattle.oidtool_search.proofs.IndexOrder as index_order
-use Rattle.oidtool_search.proofs.SortedOrder.{IsOrderOf, order_is}
 
 -- an error of the list
 abbrev pub IsListError : FindInError → Type 0

@@ -1,5 +1,5 @@
 -- Each exit says where the search stops, or what is found in all that the source gave.
-use Rattle.std.proofs.Common.{◌≡◌, Ok, Err, map, length, ap, subst, sym, ◌∙◌, refl}
+use Rattle.std.proofs.Common.{◌≡◌, Ok, map, length, ap, sym, ◌∙◌, refl}
 use Rattle.std.proofs.lemmas.Result.{err_from_is_err_and}
 use Rattle.std.proofs.lemmas.List.{length-map}
 use Rattle.std.proofs.lemmas.Bool.{false≢true}

@@ -1,4 +1,4 @@
-use Rattle.std.proofs.Common.{◌≡◌, ◌+◌, ◌++◌, ◌∷◌, [], ap, length-append, length, append_assoc, arith, refl, rules, sym, ◌∙◌}
+use Rattle.std.proofs.Common.{◌++◌, ◌∷◌, [], ap, length-append, length, append_assoc, arith, refl, sym, ◌∙◌}
 use Rattle.std.proofs.lemmas.Result.{err_from_is_err_and}
 use Rattle.oidtool_search.proofs.ChunkLemmas.{ended_taken, refused_line, first_read-taken}
 use Rattle.oidtool_search.proofs.list_reader.ListReader.end_line.Goals as goal

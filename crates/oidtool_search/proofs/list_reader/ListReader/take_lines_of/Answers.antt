@@ -1,4 +1,4 @@
-use Rattle.std.proofs.Common.{◌≡◌, ◌+◌, ◌++◌, ◌∷◌, [], ap, append_assoc, arith, length, length-append, length-take, length-drop, refl, sym, ◌∙◌}
+use Rattle.std.proofs.Common.{◌++◌, ◌∷◌, [], ap, append_assoc, arith, length, length-append, refl, sym, ◌∙◌}
 use Rattle.oidtool_search.proofs.ChunkLemmas.{line_pushed, takes_more, takes_none, range_none, range_parts, length-range}
 use Rattle.oidtool_search.proofs.list_reader.ListReader.take_lines_of.Goals as goal
 

@@ -1,4 +1,4 @@
-use Rattle.std.proofs.Common.{◌≡◌, ◌-◌, ◌+◌, ◌++◌, ◌∷◌, [], append-nil, suc, take, drop, get_or, drop-cons, subst, refl, sym, ap, ◌∙◌, arith}
+use Rattle.std.proofs.Common.{◌≡◌, ◌++◌, append-nil, suc, drop, drop-cons, subst, sym, ◌∙◌, arith}
 use Rattle.std.proofs.lemmas.Result.{err_from_is_err_and}
 use Rattle.oidtool_search.specs.ListText.{RefusesList}
 use Rattle.oidtool_search.proofs.ChunkLemmas.{takes_more, range_one, range_none}
