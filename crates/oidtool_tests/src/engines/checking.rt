@@ -2,7 +2,7 @@
 //! fail.
 
 use super::faulty::{Fault, Reader};
-use super::sealing::{ABC, ABC_256, EMPTY, EMPTY_256, MILLION, MILLION_256, sealed};
+use super::sealing::{ABC, ABC_256, EMPTY, EMPTY_256, sealed};
 use crate::expecting::expect_printed;
 use gix_hash::Kind;
 use std::process::Abort;
@@ -98,8 +98,6 @@ fn finds_across_chunks(rt: HostRuntime) {
     for (count, line) in LETTERS_256 {
         expect_letters(&rt, Kind::Sha256, count, line);
     }
-    expect_letters(&rt, Kind::Sha1, 1_000_000, MILLION);
-    expect_letters(&rt, Kind::Sha256, 1_000_000, MILLION_256);
 }
 
 #[test]

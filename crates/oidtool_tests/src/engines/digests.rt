@@ -1,17 +1,13 @@
 //! The commands that compute digests: their words, and their runs.
 
-use super::faulty::{Fault, Reader, Writer};
+use super::faulty::{Fault, Writer};
+use super::running::{expect_flushed, expect_run};
 use super::sealing::{ABC, sealed};
-use crate::expecting::{expect_bytes, expect_shown};
+use crate::expecting::expect_shown;
 use gix_hash::Kind;
-use linked_list_allocator::LocalHeap;
-use oidtool_commands::{Command, read_command, run_command};
+use oidtool_commands::{Command, read_command};
 use std::fs;
-use std::io::BufWriter;
-use std::process::Abort;
-use std::rt::Files;
 use std::test::Fail;
-use streams::{FromSlice, IntoSlice, Plain};
 
 // Words, and the Debug text of what they read as.
 const WORDS: [(&[&str], &str); 8] = [
@@ -57,94 +53,42 @@ fn reads_kinds_and_numbers(rt: HostRuntime) {
     }
 }
 
-// Runs the command over `abc`, a byte a read, and compares the Debug text of the result, what was
-// written, and how often the input was read.
-fn expect_run(
-    rt: &(impl Abort + Files + AllocGlobal),
-    command: Command<'_>,
-    fault: Fault,
-    outcome: &str,
-    written: &[u8],
-    reads: usize,
-) {
-    let mut input = Plain::new(Reader::new(b"abc", 1, fault));
-    let mut buf = [0; 80];
-    let mut out = IntoSlice::new(&mut buf);
-    let ended = run_command(rt, rt.alloc(), command, &mut input, &mut out);
-    expect_bytes(rt, out.written(), written, &command);
-    expect!(rt; input.into_inner().calls() == reads, &command);
-    expect_shown(rt, ended, outcome, &command);
-}
-
+// Over `abc`, a byte a read.
 #[test]
 fn runs_pipes(rt: HostRuntime) {
     let kind = Kind::Sha1;
     let (hash, seal) = (Command::Hash { kind }, Command::Seal { kind });
     let whole = sealed(&rt, b"abc", ABC);
-    expect_run(&rt, hash, Fault::Never, "Ok(1)", ABC.as_bytes(), 4);
-    expect_run(&rt, seal, Fault::Never, "Ok(1)", &whole, 4);
-    expect_run(&rt, hash, Fault::AtCall(3), "Err(Input)", b"", 3);
-    expect_run(&rt, seal, Fault::AtCall(3), "Err(Input)", b"ab", 3);
-}
-
-// Runs the command over `abc` with a buffered writer that fails at a flush.
-fn expect_failed_flush(
-    rt: &(impl Abort + Files + AllocGlobal),
-    command: Command<'_>,
-    taken: &[u8],
-) {
-    let mut input = FromSlice::new(b"abc");
-    let writer = Writer::failing_at_flush(Vec::new(rt.alloc()));
-    let buffered = BufWriter::new(rt.alloc(), writer).expect(rt, "no memory for a buffer");
-    let mut out = Plain::new(buffered);
-    let ended = run_command(rt, rt.alloc(), command, &mut input, &mut out);
-    expect!(rt; out.failed(), &command);
-    let (writer, _) = out.into_inner().into_parts();
-    expect_bytes(rt, writer.taken(), taken, &command);
-    expect_shown(rt, ended, "Err(Output)", &command);
-}
-
-#[test]
-fn reports_a_flush_that_fails(rt: HostRuntime) {
-    let kind = Kind::Sha1;
-    let whole = sealed(&rt, b"abc", ABC);
-    expect_failed_flush(&rt, Command::Hash { kind }, ABC.as_bytes());
-    expect_failed_flush(&rt, Command::Seal { kind }, &whole);
-}
-
-// With an allocator that has no room for the chunk that is read, nor for a digest's line.
-#[test]
-fn hashes_without_memory(rt: HostRuntime) -> Result<(), Fail> {
-    let kind = Kind::Sha1;
-    let whole = sealed(&rt, b"abc", ABC);
-    let heap = LocalHeap::new(rt.alloc(), 0)?;
-    expect!(&rt; Vec::<u8, _>::with_capacity(&heap, 41).is_err());
-    for (command, written) in [
-        (Command::Hash { kind }, ABC.as_bytes()),
-        (Command::Seal { kind }, &whole),
+    for (command, fault, outcome, written, reads) in [
+        (hash, Fault::Never, "Ok(1)", ABC.as_bytes(), 4),
+        (seal, Fault::Never, "Ok(1)", &whole, 4),
+        (hash, Fault::AtCall(3), "Err(Input)", b"", 3),
+        (seal, Fault::AtCall(3), "Err(Input)", b"ab", 3),
     ] {
-        let mut buf = [0; 80];
-        let mut out = IntoSlice::new(&mut buf);
-        let outcome = run_command(&rt, &heap, command, &mut FromSlice::new(b"abc"), &mut out);
-        expect!(&rt; matches!(outcome, Ok(1)), &command);
-        expect_bytes(&rt, out.written(), written, &command);
+        let called = expect_run(&rt, command, b"abc", (1, fault), outcome, written);
+        expect!(&rt; called == reads, &command);
     }
-    Ok(())
+    for (command, written) in [(hash, ABC.as_bytes()), (seal, &whole)] {
+        let failing = Writer::failing_at_flush(Vec::new(rt.alloc()));
+        expect_flushed(&rt, command, b"abc", failing, "Err(Output)", written, 1);
+    }
 }
 
 #[test]
 fn hashes_files(rt: HostRuntime) -> Result<(), Fail> {
     let path = "oidtool-hashes-files";
     fs::write(&rt, path, b"abcdef")?;
-    let hash_file = |count, path| Command::HashFile {
+    let hash_file = |count| Command::HashFile {
         kind: Kind::Sha1,
         count,
         path,
     };
-    let never = Fault::Never;
-    expect_run(&rt, hash_file(3, path), never, "Ok(1)", ABC.as_bytes(), 0);
-    expect_run(&rt, hash_file(7, path), never, "Err(Input)", b"", 0);
+    let whole = (usize::MAX, Fault::Never);
+    for (count, outcome, written) in [(3, "Ok(1)", ABC.as_bytes()), (7, "Err(Input)", b"")] {
+        let reads = expect_run(&rt, hash_file(count), b"", whole, outcome, written);
+        expect!(&rt; reads == 0, &count);
+    }
     fs::remove_file(&rt, path)?;
-    expect_run(&rt, hash_file(3, path), never, "Err(Input)", b"", 0);
+    expect_run(&rt, hash_file(3), b"", whole, "Err(Input)", b"");
     Ok(())
 }

@@ -1,20 +1,14 @@
 //! Each of the searches with writers that fail, and with too little memory.
 
-ghost use Rattle.std.specs.Prelude.{◌≡◌, false};
-
+use super::by::{By, SEARCHES, Search, run};
 use super::faulty::{Fault, Writer};
-use super::{BLOB, BLOB_256, BLOB_LETTERS, Outcome, TREE, TREE_256, expect_granted, text_of};
-use crate::expecting::expect_bytes;
-use gix_hash::Kind;
+use super::{BLOB, BLOB_256, TREE, TREE_256, expect_granted, text_of};
+use crate::expecting::{expect_bytes, expect_text};
 use linked_list_allocator::LocalHeap;
-use oidtool_search::{
-    FindError, FindFromError, FindInError, FindInFromError, find, find_change, find_change_from,
-    find_from, find_in, find_in_from,
-};
-use std::alloc::{AllocError, Allocator, Global};
+use std::alloc::{AllocError, Global};
 use std::process::Abort;
 use std::test::Fail;
-use streams::{FromSlice, IntoSlice, Plain, Sink};
+use streams::{IntoSlice, Plain};
 
 // The ids one above the empty tree and the empty blob of SHA-1, and the latter in letters.
 const NEXT_TREE: &str = "4b825dc642cb6eb9a060e54bf8d69288fbee4905\n";
@@ -23,133 +17,28 @@ const NEXT_BLOB: &str = "e69de29bb2d1d6434b8b29ae775ad8c2e48c5392\n";
 
 const NEXT_BLOB_LETTERS: &str = "ltqmlxqooxmymtvwvoroxqplssupmrnxlvrnuwqx\n";
 
-/// A search for the empty tree of SHA-1, or in the letters of change ids for the empty blob.
-#[derive(Clone, Copy, Debug, PartialEq, Eq)]
-enum Search {
-    Find,
-    FindChange,
-    FindIn,
-    FindFrom,
-    FindChangeFrom,
-    FindInFrom,
-}
+const FAILED: &str = "Err(Output)";
 
-const SEARCHES: [Search; 6] = [
-    Search::Find,
-    Search::FindChange,
-    Search::FindIn,
-    Search::FindFrom,
-    Search::FindChangeFrom,
-    Search::FindInFrom,
-];
-
-impl Search {
-    fn run<A: Allocator, W: Sink>(self, alloc: A, list: &[u8], out: &mut W) -> Outcome
-        requires { W.has_failed out.old ≡ false }
-    {
-        let mut source = FromSlice::new(list);
-        match self {
-            Search::Find => came_of(find(alloc, "4b82", list, out)),
-            Search::FindChange => came_of(find_change(alloc, "LTQM", list, out)),
-            Search::FindIn => came_of_kind(find_in(alloc, Kind::Sha1, "4b82", list, out)),
-            Search::FindFrom => came_of_source(find_from(alloc, "4b82", &mut source, out)),
-            Search::FindChangeFrom => {
-                came_of_source(find_change_from(alloc, "LTQM", &mut source, out))
-            }
-            Search::FindInFrom => {
-                match find_in_from(alloc, Kind::Sha1, "4b82", &mut source, out) {
-                    Ok(count) => Outcome::Found(count),
-                    Err(FindInFromError::Search(error)) => came_of_kind(Err(error)),
-                    Err(_) => Outcome::Rejected,
-                }
-            }
-        }
-    }
-
-    /// Whether it looks for the empty blob, in the letters of change ids.
-    fn is_in_letters(self) -> bool {
-        matches!(self, Search::FindChange | Search::FindChangeFrom)
-    }
-
-    /// Whether it searches ids of one kind.
-    fn is_in_kind(self) -> bool {
-        matches!(self, Search::FindIn | Search::FindInFrom)
-    }
-
-    /// The line that it writes.
-    fn line(self) -> &'static str {
-        if self.is_in_letters() {
-            BLOB_LETTERS
+// A list of that many lines, at least four, in which a search finds one. Four lines, for a search
+// that is not in a kind, are the empty blobs and trees of both kinds.
+fn list_of(by: By, alloc: Global, lines: usize) -> Result<String, AllocError> {
+    let is_in_kind = matches!(by, By::In(_));
+    let mut text = String::new(alloc);
+    for n in 3..lines.max(4) {
+        if is_in_kind {
+            text.push_str(format!(in alloc; "{n:040}\n")?.as_str())?;
         } else {
-            TREE
+            text.push_str(BLOB_256)?;
         }
     }
-
-    /// The line that it writes after that, if the list has the next id too.
-    fn next_line(self) -> &'static str {
-        if self.is_in_letters() {
-            NEXT_BLOB_LETTERS
-        } else {
-            NEXT_TREE
-        }
-    }
-
-    /// A list in which it finds two ids.
-    fn list_of_two(self) -> &'static [&'static str] {
-        if self.is_in_kind() {
-            &[TREE, NEXT_TREE, BLOB, NEXT_BLOB]
-        } else {
-            &[BLOB_256, TREE, NEXT_TREE, TREE_256, BLOB, NEXT_BLOB]
-        }
-    }
-
-    /// A list of that many lines, at least four, in which it finds one. Four lines, for a search
-    /// that is not in a kind, are the empty blobs and trees of both kinds.
-    fn list(self, alloc: Global, lines: usize) -> Result<String, AllocError> {
-        let mut text = String::new(alloc);
-        for n in 3..lines.max(4) {
-            if self.is_in_kind() {
-                text.push_str(format!(in alloc; "{n:040}\n")?.as_str())?;
-            } else {
-                text.push_str(BLOB_256)?;
-            }
-        }
-        text.push_str(TREE)?;
-        text.push_str(if self.is_in_kind() {
-            "5000000000000000000000000000000000000000\n"
-        } else {
-            TREE_256
-        })?;
-        text.push_str(BLOB)?;
-        Ok(text)
-    }
-}
-
-fn came_of(outcome: Result<usize, FindError>) -> Outcome {
-    match outcome {
-        Ok(count) => Outcome::Found(count),
-        Err(FindError::Memory) => Outcome::NoMemory,
-        Err(FindError::Output) => Outcome::FailedWrite,
-        Err(_) => Outcome::Rejected,
-    }
-}
-
-fn came_of_source(outcome: Result<usize, FindFromError>) -> Outcome {
-    match outcome {
-        Ok(count) => Outcome::Found(count),
-        Err(FindFromError::Memory) => Outcome::NoMemory,
-        Err(FindFromError::Output) => Outcome::FailedWrite,
-        Err(_) => Outcome::Rejected,
-    }
-}
-
-fn came_of_kind(outcome: Result<usize, FindInError>) -> Outcome {
-    match outcome {
-        Ok(count) => Outcome::Found(count),
-        Err(FindInError::Memory) => Outcome::NoMemory,
-        Err(FindInError::Output) => Outcome::FailedWrite,
-        Err(_) => Outcome::Rejected,
-    }
+    text.push_str(TREE)?;
+    text.push_str(if is_in_kind {
+        "5000000000000000000000000000000000000000\n"
+    } else {
+        TREE_256
+    })?;
+    text.push_str(BLOB)?;
+    Ok(text)
 }
 
 /// A search of a list, and the lines that it writes.
@@ -160,53 +49,63 @@ struct Searched<'a> {
     lines: &'a [u8],
 }
 
-// Searches with this writer, and compares the outcome, how many bytes of the lines the writer took,
-// and how often it was called. No search flushes.
+// Searches with this writer, and compares the Debug text of the result, how many bytes of the lines
+// the writer took, and how often it was called. No search flushes.
 fn expect_taken(
     rt: &(impl Abort + AllocGlobal),
     searched: &Searched<'_>,
     writer: Writer,
-    want: Outcome,
+    want: &str,
     len: usize,
     calls: usize,
 ) {
     let mut out = Plain::new(writer);
-    let came = searched.search.run(rt.alloc(), searched.list, &mut out);
+    let found = run(rt, searched.search, rt.alloc(), searched.list, &mut out);
     let row = (searched.search, len, calls);
-    expect!(rt; came == want, &row);
-    expect!(rt; out.failed() == (want == Outcome::FailedWrite), &row);
+    expect_text(rt, found.as_str(), want, &row);
     let writer = out.into_inner();
-    assert!(rt; len <= searched.lines.len());
-    expect_bytes(rt, writer.taken(), &searched.lines[..len], &row);
-    expect!(rt; writer.calls() == calls, &row);
-    expect!(rt; writer.flushes() == 0, &row);
+    expect_bytes(
+        rt,
+        writer.taken(),
+        searched.lines.get(..len).unwrap_or(b""),
+        &row,
+    );
+    expect!(rt; (writer.calls(), writer.flushes()) == (calls, 0), &row);
+}
+
+// The line that a search writes after its first, if the list has the next id too.
+fn next_line(by: By) -> &'static str {
+    match by {
+        By::Letters => NEXT_BLOB_LETTERS,
+        _ => NEXT_TREE,
+    }
 }
 
 // Writers that fail at each call and after each byte, of two lines of 41 bytes.
 fn expect_each_failed(rt: &(impl Abort + AllocGlobal), searched: &Searched<'_>) {
     let bytes = || Vec::new(rt.alloc());
-    let failed = Outcome::FailedWrite;
     for n in 1..=82 {
         for fault in [Fault::AtCall(n), Fault::InterruptedAt(n)] {
             let writer = Writer::new(bytes(), 1, fault);
-            expect_taken(rt, searched, writer, failed, n - 1, n);
+            expect_taken(rt, searched, writer, FAILED, n - 1, n);
         }
     }
     for most in 0..82 {
         let writer = Writer::new(bytes(), 7, Fault::AfterBytes(most));
         // The calls that take some of each line, and the one that fails.
         let calls = most.min(41).div_ceil(7) + most.saturating_sub(41).div_ceil(7) + 1;
-        expect_taken(rt, searched, writer, failed, most, calls);
+        expect_taken(rt, searched, writer, FAILED, most, calls);
     }
 }
 
 #[test]
 fn report_each_write_that_fails(rt: HostRuntime) {
     let bytes = || Vec::new(rt.alloc());
-    let (found, failed, whole) = (Outcome::Found(2), Outcome::FailedWrite, usize::MAX);
+    let (found, whole) = ("Ok(2)", usize::MAX);
+    let list = text_of(&rt, &[TREE, NEXT_TREE, BLOB, NEXT_BLOB]);
     for search in SEARCHES {
-        let list = text_of(&rt, search.list_of_two());
-        let lines = text_of(&rt, &[search.line(), search.next_line()]);
+        let (by, _) = search;
+        let lines = text_of(&rt, &[by.line(), next_line(by)]);
         let searched = Searched {
             search,
             list: list.as_bytes(),
@@ -218,13 +117,13 @@ fn report_each_write_that_fails(rt: HostRuntime) {
         // Those that take a byte a call, none, all after their error, and as much as there is room.
         for (chunk, fault, outcome, len, calls) in [
             (1, Fault::Never, found, 82, 82),
-            (0, Fault::Never, failed, 0, 1),
+            (0, Fault::Never, FAILED, 0, 1),
             (7, Fault::AfterBytes(82), found, 82, 12),
-            (whole, Fault::AtCall(1), failed, 0, 1),
-            (whole, Fault::AtCall(2), failed, 41, 2),
-            (whole, Fault::AfterBytes(10), failed, 10, 2),
-            (whole, Fault::AfterBytes(40), failed, 40, 2),
-            (whole, Fault::AfterBytes(41), failed, 41, 2),
+            (whole, Fault::AtCall(1), FAILED, 0, 1),
+            (whole, Fault::AtCall(2), FAILED, 41, 2),
+            (whole, Fault::AfterBytes(10), FAILED, 10, 2),
+            (whole, Fault::AfterBytes(40), FAILED, 40, 2),
+            (whole, Fault::AfterBytes(41), FAILED, 41, 2),
             (whole, Fault::AfterBytes(82), found, 82, 2),
         ] {
             let writer = Writer::new(bytes(), chunk, fault);
@@ -242,7 +141,7 @@ fn write_nothing_if_none_is_found(rt: HostRuntime) {
             lines: b"",
         };
         let writer = Writer::new(Vec::new(rt.alloc()), 0, Fault::AtCall(1));
-        expect_taken(&rt, &searched, writer, Outcome::Found(0), 0, 0);
+        expect_taken(&rt, &searched, writer, "Ok(0)", 0, 0);
     }
 }
 
@@ -258,8 +157,14 @@ fn granted_within(
     for (n, list) in lists.iter().enumerate() {
         let mut buf = [0; 64];
         let mut out = IntoSlice::new(&mut buf);
-        let came = search.run(&heap, list.as_bytes(), &mut out);
-        let is_granted = expect_granted(rt, came, out.written(), search.line(), &search);
+        let found = run(rt, search, &heap, list.as_bytes(), &mut out);
+        let is_granted = expect_granted(
+            rt,
+            found.as_str(),
+            out.written(),
+            search.0.line(),
+            &search,
+        );
         // All is given back, and where a list is granted, each shorter one is.
         expect!(rt; heap.used() == 0, &(search, units));
         if is_granted {
@@ -274,7 +179,7 @@ fn granted_within(
 fn expect_each_failed_growth(rt: &(impl Abort + AllocGlobal), search: Search) -> Result<(), Fail> {
     let mut lists = Vec::new(rt.alloc());
     for lines in [4, 8, 9] {
-        lists.push(search.list(rt.alloc(), lines)?)?;
+        lists.push(list_of(search.0, rt.alloc(), lines)?)?;
     }
     let mut before = 0;
     for units in 0..1000 {
