@@ -19,4 +19,4 @@ pub use error::Error;
 pub use gathering::lookup_prefix;
 pub use naming::{NamedId, abbreviate, names};
 pub use places::{Place, locate};
-pub use store::Store;
+pub use store::{Store, StorePaths};

@@ -49,3 +49,32 @@ pub trait Store {
             → map id_digits ids.items ≡ part_of byte all) }
         ensures kinds { IfOk result (λ ids. All (λ id. id_kind id ≡ kind self.now) ids.items) };
 }
+
+/// A store whose places have paths.
+///
+/// ```
+/// println!(rt; "{}", store.pack_path(0))?;
+/// for path in &store.loose_paths(&id)? {
+///     println!(rt; "{path}")?;
+/// }
+/// ```
+pub trait StorePaths: Store {
+    ghost use Rattle.std.specs.Prelude.{◌≡◌, ℕ, IfOk, List, Option, Some, map, string_bytes};
+    ghost use Rattle.gix_hash.specs.ObjectId.{id_digits};
+
+    /// The path of each pack, by the position of its pack index.
+    ghost pack_path: { Self → ℕ → List ℕ };
+
+    /// The paths of the files of each loose object, by its digits, or `None`, which claims nothing.
+    ghost loose_paths: { Self → Option (List ℕ → List (List ℕ)) };
+
+    /// The path of the pack whose pack index is at a position among [`Store::indexes`], from 0.
+    fn pack_path(&self, pack: usize) -> &str
+        ensures { result.now ≡ pack_path self.now pack };
+
+    /// The paths of the files of a loose object; none if it is not loose.
+    fn loose_paths(&self, id: &ObjectId) -> io::Result<Vec<String>>
+        ensures { IfOk result (λ paths. (all : List ℕ → List (List ℕ))
+            → loose_paths self.now ≡ Some all
+            → map string_bytes paths.items ≡ all (id_digits id.now)) };
+}

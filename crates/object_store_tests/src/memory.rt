@@ -3,7 +3,7 @@
 ghost use Rattle.std.specs.Prelude.{◌≡◌, [], ◌∷◌, All, IfOk};
 
 use gix_hash::{Kind, ObjectId};
-use object_store::Store;
+use object_store::{Store, StorePaths};
 use pack_index::{LazyError, LazyFile};
 use std::alloc::{AllocError, Allocator, Global};
 use std::cell::Cell;
@@ -60,6 +60,7 @@ impl ReadAt for Counted<'_> {
 /// Two pack indexes and some loose ids.
 #[derive(Drop)]
 pub struct Memory<'a> {
+    alloc: Global,
     kind: Kind,
     packs: Vec<LazyFile<Counted<'a>>>,
     loose: &'a [ObjectId],
@@ -100,6 +101,7 @@ impl<'a> Memory<'a> {
             LazyFile::open(second, kind)?,
         )?;
         Ok(Memory {
+            alloc,
             kind,
             packs,
             loose,
@@ -136,6 +138,28 @@ impl<'a> Store for Memory<'a> {
             }
         }
         Ok(ids)
+    }
+}
+
+impl StorePaths for Memory<'_> {
+    ghost use Rattle.std.specs.Prelude.{None, ◌==◌, codes, if◌then◌else◌};
+
+    ghost pack_path = { λ _ pack. if pack == 0 then codes "1.pack" else codes "2.pack" };
+
+    ghost loose_paths = { λ _. None };
+
+    fn pack_path(&self, pack: usize) -> &str {
+        if pack == 0 { "1.pack" } else { "2.pack" }
+    }
+
+    // A file in each of two folders.
+    fn loose_paths(&self, id: &ObjectId) -> io::Result<Vec<String>> {
+        self.reads.read()?;
+        let mut paths = Vec::new(self.alloc);
+        for folder in ["a", "b"] {
+            paths.push(format!(in self.alloc; "{folder}/{id}")?)?;
+        }
+        Ok(paths)
     }
 }
 

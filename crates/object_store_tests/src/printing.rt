@@ -4,13 +4,21 @@ use crate::look_ups::Content;
 use crate::memory::{Memory, Reads};
 use gix_hash::Prefix;
 use object_store::Store;
-use packtool_commands::{StoreError, find, names};
+use packtool_commands::{StoreError, find, locate, names};
 use std::process::Abort;
 use std::test::Fail;
 use streams::{IntoSlice, Sink};
 
 const FOUND: &str =
     "4b825d0000000000000000000000000000000000\n4b825dc642cb6eb9a060e54bf8d69288fbee4904\n";
+
+// The second id has a long offset in the second pack, and two loose files.
+const LOCATED: &str = "4b825d0000000000000000000000000000000000 1.pack 3072
+4b825dc642cb6eb9a060e54bf8d69288fbee4904 1.pack 3073
+4b825dc642cb6eb9a060e54bf8d69288fbee4904 2.pack 9223372036854775807
+4b825dc642cb6eb9a060e54bf8d69288fbee4904 a/4b825dc642cb6eb9a060e54bf8d69288fbee4904
+4b825dc642cb6eb9a060e54bf8d69288fbee4904 b/4b825dc642cb6eb9a060e54bf8d69288fbee4904
+";
 
 const NAMED: &str = "000000 0000000000000000000000000000000000000000
 4b825d0 4b825d0000000000000000000000000000000000
@@ -28,6 +36,7 @@ const AMPLE: usize = 10_000;
 #[derive(Clone, Copy, Debug)]
 enum Asked {
     Find(&'static str),
+    Locate(&'static str),
     Names,
 }
 
@@ -39,12 +48,16 @@ fn run(
     out: &mut IntoSlice<'_>,
 ) -> Result<bool, StoreError> {
     match asked {
-        Asked::Find(prefix) => {
+        Asked::Find(prefix) | Asked::Locate(prefix) => {
             let prefix = Prefix::from_hex_in(store.object_hash(), prefix).expect(rt, "no prefix");
             assert!(rt; prefix.hex_len() >= 2);
             assert!(rt; prefix.as_oid().kind() == store.object_hash());
             assert!(rt; !out.failed());
-            find(rt.alloc(), store, &prefix, out)
+            if matches!(asked, Asked::Find(_)) {
+                find(rt.alloc(), store, &prefix, out)
+            } else {
+                locate(rt.alloc(), store, &prefix, out)
+            }
         }
         Asked::Names => {
             assert!(rt; store.object_hash().len_in_hex() >= 6);
@@ -91,18 +104,26 @@ fn writes_fail_in_turn(rt: HostRuntime) -> Result<(), Fail> {
     for room in 0..=FOUND.len() {
         expect_written(&rt, Asked::Find("4B8"), FOUND, AMPLE, room)?;
     }
+    for room in 0..=LOCATED.len() {
+        expect_written(&rt, Asked::Locate("4B8"), LOCATED, AMPLE, room)?;
+    }
     for room in [0, 1, 47, 48, 49, 100, NAMED.len() - 1, NAMED.len(), 512] {
         expect_written(&rt, Asked::Names, NAMED, AMPLE, room)?;
     }
+    expect_written(&rt, Asked::Locate("fe"), "", AMPLE, 0)?;
     expect_written(&rt, Asked::Find("fe"), "", AMPLE, 0)
 }
 
-// Four reads open the store. Nothing is found in part, and names are written until a read fails.
+// Four reads open the store. Nothing is found in part, and places and names are written until a
+// read fails. Three find the ids, and eleven their places and files.
 #[test]
 fn reads_fail_in_turn(rt: HostRuntime) -> Result<(), Fail> {
     for left in 4..7 {
         // With no room a write would fail.
         expect_written(&rt, Asked::Find("4b8"), FOUND, left, 0)?;
+    }
+    for left in 4..=18 {
+        expect_written(&rt, Asked::Locate("4b8"), LOCATED, left, 512)?;
     }
     for left in [4, 5, 6, 7, 60, 200, 300, 500, 700] {
         expect_written(&rt, Asked::Names, NAMED, left, 512)?;

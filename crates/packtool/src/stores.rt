@@ -6,9 +6,9 @@ use crate::arguments;
 use crate::failure::Failure;
 use crate::noted::Note;
 use clap::ArgMatches;
-use gix_hash::{Kind, ObjectId, Prefix};
-use object_store::{Place, Store, lookup_prefix};
-use packtool_commands::{StoreError, write_place};
+use gix_hash::{Kind, Prefix};
+use object_store::Store;
+use packtool_commands::StoreError;
 use store_folders::{FolderStore, find_objects};
 use streams::Sink;
 
@@ -36,64 +36,15 @@ pub fn locate<'a, W: Sink>(
     matches: &ArgMatches<'a>,
     out: &mut W,
     note: &Note,
-) -> Result<bool, Failure<'a>> {
+) -> Result<bool, Failure<'a>>
+    requires { W.has_failed out.old ≡ false }
+{
     let store = open(rt, matches)?;
     let prefix = read_prefix(matches, store.object_hash())?;
-    let ids = match lookup_prefix(rt.alloc(), &store, &prefix) {
-        Ok(ids) => ids,
-        Err(error) => return Err(Failure::Store(store.with_path(error))),
-    };
-    for id in &ids {
-        write_places(rt, &store, id, out, note)?;
+    match packtool_commands::locate(rt.alloc(), &store, &prefix, out) {
+        Ok(any) => Ok(any),
+        Err(error) => Err(failure(&store, error, note)),
     }
-    Ok(!ids.is_empty())
-}
-
-// Prints every place that has an object.
-fn write_places<W: Sink>(
-    rt: &HostRuntime,
-    store: &FolderStore<HostRuntime>,
-    id: &ObjectId,
-    out: &mut W,
-    note: &Note,
-) -> Result<(), Failure<'static>> {
-    // By the contract of `lookup_prefix` it has.
-    if id.kind() != store.object_hash() {
-        return Ok(());
-    }
-    let places = match object_store::locate(rt.alloc(), store, id) {
-        Ok(places) => places,
-        Err(error) => return Err(Failure::Store(store.with_path(error))),
-    };
-    for place in &places {
-        match place {
-            Place::Packed { pack, offset } => {
-                if let Some(path) = store.pack_path(*pack)? {
-                    write_line(id, path.as_str(), Some(*offset), out, note)?;
-                }
-            }
-            Place::Loose => {
-                for path in &store.loose_paths(id)? {
-                    write_line(id, path.as_str(), None, out, note)?;
-                }
-            }
-        }
-    }
-    Ok(())
-}
-
-// Prints the line of a place, if no write has failed.
-fn write_line<W: Sink>(
-    id: &ObjectId,
-    path: &str,
-    offset: Option<u64>,
-    out: &mut W,
-    note: &Note,
-) -> Result<(), Failure<'static>> {
-    if out.failed() || write_place(id, path, offset, out).is_err() {
-        return Err(Failure::Output(note.error()));
-    }
-    Ok(())
 }
 
 /// Prints all ids after their names, and returns whether there is one.

@@ -2,3 +2,4 @@ mod LineLemmas
 mod LineRanges
 mod ShownLemmas
 mod NamedLemmas
+mod PlaceLemmas

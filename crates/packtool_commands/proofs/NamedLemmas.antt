@@ -26,17 +26,23 @@ pub Appends-item : {X : Type 0} (a b c : Option (List ℕ)) (line : X → List �
 Appends-item a b c line xs k d within before last =
     subst (Appends a c) (sym (flat_map-take line xs k d within)) (Appends-trans a b c (flat_map line (take k xs)) (line (get_or xs k d)) before last)
 
--- a part of one line, after the lines before it, is a part of all the lines
-pub AppendsPart-item : {X : Type 0} (a b c : Option (List ℕ)) (line : X → List ℕ) (xs : List X) (k : ℕ) (d : X) → k < length xs
-    → Appends a b (flat_map line (take k xs)) → AppendsPart b c (line (get_or xs k d)) → AppendsPart a c (flat_map line xs)
-AppendsPart-item {X} a b c line xs k d within before last =
-    let front = flat_map line (take k xs) in
-    let one = line (get_or xs k d) in
-    let after = flat_map line (drop (k + 1) xs) in
+-- the lines before one, that line, and those after it
+pub lines_around : {X : Type 0} (line : X → List ℕ) (xs : List X) (k : ℕ) (d : X) → k < length xs
+    → flat_map line xs ≡ flat_map line (take k xs) ++ (line (get_or xs k d) ++ flat_map line (drop (k + 1) xs))
+lines_around {X} line xs k d within =
     let parts : xs ≡ take k xs ++ get_or xs k d ∷ drop (k + 1) xs =
     sym (take-append-drop k xs)
     ∙ ap (λ (rest : List X). take k xs ++ rest) (drop-cons xs k d within ∙ ap (λ j. get_or xs k d ∷ drop j xs) (sym (add-one k))) in
-    subst (AppendsPart a c) (sym (ap (flat_map line) parts ∙ flat_map-append line (take k xs) (get_or xs k d ∷ drop (k + 1) xs)))
+    ap (flat_map line) parts ∙ flat_map-append line (take k xs) (get_or xs k d ∷ drop (k + 1) xs)
+
+-- a part of one line, after the lines before it, is a part of all the lines
+pub AppendsPart-item : {X : Type 0} (a b c : Option (List ℕ)) (line : X → List ℕ) (xs : List X) (k : ℕ) (d : X) → k < length xs
+    → Appends a b (flat_map line (take k xs)) → AppendsPart b c (line (get_or xs k d)) → AppendsPart a c (flat_map line xs)
+AppendsPart-item a b c line xs k d within before last =
+    let front = flat_map line (take k xs) in
+    let one = line (get_or xs k d) in
+    let after = flat_map line (drop (k + 1) xs) in
+    subst (AppendsPart a c) (sym (lines_around line xs k d within))
     (AppendsPart-after a b c front (one ++ after) before (AppendsPart-more b c one after last))
 
 -- one first byte more

@@ -1,6 +1,11 @@
--- The line of an object's place.
-use Rattle.std.specs.Prelude.{ℕ, Option, Some, None, List, [], ◌∷◌, ◌++◌, decimal}
+-- The lines of the places of objects.
+use Rattle.std.specs.Prelude.{◌≢◌, ◌↔◌, ℕ, Bool, Option, Some, None, List, [], ◌∷◌, ◌++◌, IsTrue, decimal, flat_map}
+use Rattle.std.specs.Io.KnownBytes.{Appends}
 use Rattle.gix_hash.specs.Digits.{hex_letter, spelling}
+use Rattle.gix_hash.specs.declared.Kind.{Kind}
+use Rattle.object_store.specs.Places.{places_of}
+use Rattle.object_store.specs.declared.places.Place.{Place}
+use Rattle.object_store.specs.declared.places.Place.TheVariants.{Packed, Loose}
 
 -- what is after the path: the offset in a pack after a blank, if there is one, and a line feed
 abbrev pub place_end : Option ℕ → List ℕ
@@ -10,3 +15,17 @@ place_end None = 10 ∷ []
 -- the id in hex, a blank, the path of the file, and the offset
 abbrev pub place_line : List ℕ → List ℕ → Option ℕ → List ℕ
 place_line id path offset = (spelling hex_letter id ++ 32 ∷ []) ++ (path ++ place_end offset)
+
+-- the lines of a place: one of a pack, and one of each file of a loose object
+abbrev pub lines_at : (ℕ → List ℕ) → (List ℕ → List (List ℕ)) → List ℕ → Place → List ℕ
+lines_at pack_path loose_paths id (Packed pack offset) = place_line id (pack_path pack) (Some offset)
+lines_at pack_path loose_paths id Loose = flat_map (λ path. place_line id path None) (loose_paths id)
+
+-- the lines of all places of an object, in a store with these paths, pack indexes and loose ids
+abbrev pub lines_of_places : (ℕ → List ℕ) → (List ℕ → List (List ℕ)) → Kind → List (List ℕ) → List (List ℕ) → List ℕ → List ℕ
+lines_of_places pack_path loose_paths kind indexes loose_ids id = flat_map (lines_at pack_path loose_paths id) (places_of kind id indexes loose_ids)
+
+-- the lines of each of the ids were written, and whether there is one was returned
+pub record HasLocated (lines : List ℕ → List ℕ) (ids : List (List ℕ)) (any : Bool) (old new : Option (List ℕ)) : Type 0 where
+  pub found : IsTrue any ↔ (ids ≢ [])
+  pub written : Appends old new (flat_map lines ids)

@@ -1,14 +1,144 @@
-//! The lines of objects' places.
+//! The places of the objects of a store, a line for each.
 
-ghost use Rattle.std.specs.Prelude.{◌≡◌, ◌++◌, false, true, OnOk, OnErr};
+ghost use Rattle.std.specs.Prelude.{◌≡◌, ◌↔◌, ◌≤◌, ◌++◌, ℕ, List, None, Some, false, true, flat_map, length, string_bytes, IfErr, IfOk, IsErrOf, OnOk, OnErr};
 ghost use Rattle.std.specs.Io.KnownBytes.{Appends};
-ghost use Rattle.gix_hash.specs.ObjectId.{id_digits};
-ghost use Rattle.packtool_commands.specs.Places.{place_line};
+ghost use Rattle.command_line.specs.Flushed.{AppendsAtMost};
+ghost use Rattle.gix_hash.specs.ObjectId.{id_digits, id_kind};
+ghost use Rattle.id_lookup.specs.Runs.{matches};
+ghost use Rattle.object_store.specs.Stores.{Holds};
+ghost use Rattle.packtool_commands.specs.Finding.{IsFault};
+ghost use Rattle.packtool_commands.specs.Places.{HasLocated, lines_at, lines_of_places, place_line};
+ghost use Rattle.packtool_commands.specs.declared.error.StoreError.{StoreError};
 ghost use Rattle.streams.specs.Writing.{AppendsPart};
 
+use crate::error::StoreError;
 use crate::lines::{MAX_END_LEN, MAX_START_LEN, put_place_end, put_place_start};
-use gix_hash::ObjectId;
+use gix_hash::{ObjectId, Prefix};
+use object_store::{Error, Place, StorePaths, lookup_prefix};
+use std::alloc::Allocator;
 use streams::{Sink, WriteFailed, write_all};
+
+/// Writes a line for each place of each id of a store that begins with a prefix: the ids in order,
+/// each once; the places of one in the order of [`object_store::locate`]; and of a loose object a
+/// line for each file. Returns whether there is such an id.
+///
+/// The prefix has 2 digits or more, and the store's kind. The lines of an id are written before the
+/// places of the next are looked up. Under an error a beginning of the right lines was written.
+/// [`StoreError::Output`] is returned if and only if a write fails. The sink must not have failed
+/// before.
+///
+/// ```
+/// if !locate(rt.alloc(), &store, &prefix, &mut out)? {
+///     println!(rt; "no id begins with {prefix}")?;
+/// }
+/// ```
+pub fn locate<S: StorePaths, A: Allocator + Copy, W: Sink>(
+    alloc: A,
+    store: &S,
+    prefix: &Prefix,
+    out: &mut W,
+) -> Result<bool, StoreError>
+    requires enough { 2 ≤ length prefix.now.digits }
+    requires kind { prefix.now.kind ≡ S.kind store.now }
+    requires output { W.has_failed out.old ≡ false }
+    ensures located { IfOk result (λ any. (whole : List (List ℕ))
+        → (h : Holds (S.kind store.now) (S.packs store.now) (S.loose store.now) whole)
+        → (paths : List ℕ → List (List ℕ)) → S.loose_paths store.now ≡ Some paths
+        → HasLocated (lines_of_places (S.pack_path store.now) paths (S.kind store.now) h.indexes
+        h.loose_ids) (matches prefix.now.digits whole) any (W.taken out.old) (W.taken out.new)) }
+    ensures refused { IfErr result (IsFault (S.kind store.now) (S.packs store.now)) }
+    ensures output { IsErrOf result StoreError.Output ↔ (W.has_failed out.new ≡ true) }
+    ensures part { (whole : List (List ℕ))
+        → (h : Holds (S.kind store.now) (S.packs store.now) (S.loose store.now) whole)
+        → (paths : List ℕ → List (List ℕ)) → S.loose_paths store.now ≡ Some paths
+        → OnErr result (AppendsAtMost (W.taken out.old) (W.taken out.new) (flat_map
+        (lines_of_places (S.pack_path store.now) paths (S.kind store.now) h.indexes h.loose_ids)
+        (matches prefix.now.digits whole))) }
+{
+    let ids = lookup_prefix(alloc, store, prefix)?;
+    for id in &ids {
+        write_places(alloc, store, id, out)?;
+    }
+    Ok(!ids.is_empty())
+}
+
+// Writes the lines of all places of an object.
+fn write_places<S: StorePaths, A: Allocator + Copy, W: Sink>(
+    alloc: A,
+    store: &S,
+    id: &ObjectId,
+    out: &mut W,
+) -> Result<(), StoreError>
+    requires kind { id_kind id.now ≡ S.kind store.now }
+    requires output { W.has_failed out.old ≡ false }
+    ensures written { (whole : List (List ℕ))
+        → (h : Holds (S.kind store.now) (S.packs store.now) (S.loose store.now) whole)
+        → (paths : List ℕ → List (List ℕ)) → S.loose_paths store.now ≡ Some paths
+        → OnOk result (Appends (W.taken out.old) (W.taken out.new)
+        (lines_of_places (S.pack_path store.now) paths (S.kind store.now) h.indexes h.loose_ids
+        (id_digits id.now))) }
+    ensures stands { OnOk result (W.has_failed out.new ≡ false) }
+    ensures refused { IfErr result (IsFault (S.kind store.now) (S.packs store.now)) }
+    ensures output { IsErrOf result StoreError.Output ↔ (W.has_failed out.new ≡ true) }
+    ensures part { (whole : List (List ℕ))
+        → (h : Holds (S.kind store.now) (S.packs store.now) (S.loose store.now) whole)
+        → (paths : List ℕ → List (List ℕ)) → S.loose_paths store.now ≡ Some paths
+        → OnErr result (AppendsAtMost (W.taken out.old) (W.taken out.new)
+        (lines_of_places (S.pack_path store.now) paths (S.kind store.now) h.indexes h.loose_ids
+        (id_digits id.now))) }
+{
+    let places = object_store::locate(alloc, store, id)?;
+    for place in &places {
+        write_lines_at(store, id, *place, out)?;
+    }
+    Ok(())
+}
+
+// Writes the lines of one place of an object.
+fn write_lines_at<S: StorePaths, W: Sink>(
+    store: &S,
+    id: &ObjectId,
+    place: Place,
+    out: &mut W,
+) -> Result<(), StoreError>
+    requires { W.has_failed out.old ≡ false }
+    ensures written { (paths : List ℕ → List (List ℕ)) → S.loose_paths store.now ≡ Some paths
+        → OnOk result (Appends (W.taken out.old) (W.taken out.new)
+        (lines_at (S.pack_path store.now) paths (id_digits id.now) place)) }
+    ensures stands { OnOk result (W.has_failed out.new ≡ false) }
+    ensures refused { IfErr result (IsFault (S.kind store.now) (S.packs store.now)) }
+    ensures output { IsErrOf result StoreError.Output ↔ (W.has_failed out.new ≡ true) }
+    ensures part { (paths : List ℕ → List (List ℕ)) → S.loose_paths store.now ≡ Some paths
+        → OnErr result (AppendsAtMost (W.taken out.old) (W.taken out.new)
+        (lines_at (S.pack_path store.now) paths (id_digits id.now) place)) }
+{
+    match place {
+        Place::Packed { pack, offset } => {
+            write_place(id, store.pack_path(pack), Some(offset), out)?;
+        }
+        Place::Loose => match store.loose_paths(id) {
+            Ok(paths) => write_loose(id, &paths, out)?,
+            Err(error) => return Err(StoreError::Store(Error::Loose(error))),
+        },
+    }
+    Ok(())
+}
+
+// Writes the lines of the files of a loose object.
+fn write_loose<W: Sink>(id: &ObjectId, paths: &[String], out: &mut W) -> Result<(), WriteFailed>
+    requires { W.has_failed out.old ≡ false }
+    ensures written { OnOk result (Appends (W.taken out.old) (W.taken out.new)
+        (flat_map (λ path. place_line (id_digits id.now) (string_bytes path) None) paths.now)) }
+    ensures stands { OnOk result (W.has_failed out.new ≡ false) }
+    ensures part { OnErr result (AppendsPart (W.taken out.old) (W.taken out.new)
+        (flat_map (λ path. place_line (id_digits id.now) (string_bytes path) None) paths.now)) }
+    ensures failed { OnErr result (W.has_failed out.new ≡ true) }
+{
+    for path in paths {
+        write_place(id, path.as_str(), None, out)?;
+    }
+    Ok(())
+}
 
 /// Writes the line of an object's place: the id, a blank, the path of the file that has it, and, of
 /// a pack, a blank and the offset there.

@@ -6,9 +6,16 @@ ghost use Rattle.gix_hash.specs.ObjectId.{id_kind};
 use crate::files::entries_of;
 use gix_hash::{Kind, ObjectId};
 use ref_store::paths::read_loose_path;
-use std::alloc::Allocator;
+use std::alloc::{AllocError, Allocator, Global};
 use std::io;
 use std::rt::Files;
+
+// The path of the file of a loose object in an objects folder.
+pub(crate) fn loose_path(alloc: Global, folder: &str, id: &ObjectId) -> Result<String, AllocError> {
+    let digits = format!(in alloc; "{id}")?;
+    let (first, others) = digits.split_at_checked(2).unwrap_or(("", ""));
+    format!(in alloc; "{folder}/{first}/{others}")
+}
 
 // Adds the ids of the loose objects in an objects folder that have a first byte. Names that are no
 // loose object's are passed over, as those of temporary files and names in capitals.

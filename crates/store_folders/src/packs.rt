@@ -59,6 +59,17 @@ pub(crate) fn pack_of(alloc: Global, path: &str) -> Result<Option<String>, Alloc
     }
 }
 
+// The paths of the packs of pack indexes.
+pub(crate) fn pack_paths(alloc: Global, indexes: &[String]) -> Result<Vec<String>, AllocError> {
+    let mut packs = Vec::with_capacity(alloc, indexes.len())?;
+    for path in indexes {
+        if let Some(pack) = pack_of(alloc, path)? {
+            packs.push(pack)?;
+        }
+    }
+    Ok(packs)
+}
+
 // Opens pack indexes whose names are of a kind.
 pub(crate) fn open_indexes<R: Files<File = File> + AllocGlobal>(
     rt: &R,

@@ -5,10 +5,10 @@ ghost use Rattle.std.specs.Prelude.{◌≡◌, All};
 use crate::error::Error;
 use crate::files::{join, kind_by_config};
 use crate::folders::with_alternates;
-use crate::loose::push_loose;
-use crate::packs::{index_paths, open_indexes, pack_of};
+use crate::loose::{loose_path, push_loose};
+use crate::packs::{index_paths, open_indexes, pack_paths};
 use gix_hash::{Kind, ObjectId};
-use object_store::Store;
+use object_store::{Store, StorePaths};
 use pack_index::LazyFile;
 use std::alloc::{AllocError, Allocator};
 use std::cell::Cell;
@@ -29,9 +29,11 @@ pub struct FolderStore<R> {
     kind: Kind,
     folders: Vec<String>,
     paths: Vec<String>,
+    packs: Vec<String>,
     indexes: Vec<LazyFile<File>>,
-    // The folder whose loose objects were listed last.
-    listed: Cell<usize>,
+    // The folder whose loose objects were listed last, or in which the file of this one was looked
+    // for.
+    listed: Cell<(usize, Option<ObjectId>)>,
     ghost of_kind: { All (λ index. index.kind ≡ kind) indexes.items },
 }
 
@@ -55,14 +57,16 @@ impl<R: Files<File = File> + AllocGlobal + Clone + Drop> FolderStore<R> {
         };
         let folders = with_alternates(rt, objects)?;
         let paths = index_paths(rt, &folders)?;
+        let packs = pack_paths(rt.alloc(), &paths)?;
         let indexes = open_indexes(rt, &paths, kind)?;
         Ok(FolderStore {
             rt: rt.clone()?,
             kind,
             folders,
             paths,
+            packs,
             indexes,
-            listed: Cell::new(0),
+            listed: Cell::new((0, None)),
         })
     }
 
@@ -76,45 +80,33 @@ impl<R: Files<File = File> + AllocGlobal + Clone + Drop> FolderStore<R> {
         self.paths.get(at).map(|path| path.as_str())
     }
 
-    /// The path of its pack.
-    pub fn pack_path(&self, at: usize) -> Result<Option<String>, AllocError> {
-        match self.index_path(at) {
-            Some(path) => pack_of(self.rt.alloc(), path),
-            None => Ok(None),
-        }
-    }
-
-    /// The paths of the files of a loose object, in the order of the folders; none if it is not
-    /// loose.
-    pub fn loose_paths(&self, id: &ObjectId) -> Result<Vec<String>, Error> {
-        let alloc = self.rt.alloc();
-        let digits = format!(in alloc; "{id}")?;
-        let (first, others) = digits.split_at_checked(2).unwrap_or(("", ""));
-        let mut paths = Vec::new(alloc);
-        for folder in &self.folders {
-            let path = format!(in alloc; "{folder}/{first}/{others}")?;
-            match fs::exists(&self.rt, path.as_str()) {
-                Ok(true) => paths.push(path)?,
-                Ok(false) => {}
-                Err(error) => return Err(Error::file(alloc, &path, error)),
-            }
-        }
-        Ok(paths)
-    }
-
     /// The error of a look-up in this store, with the path of the pack index, or of the objects
-    /// folder whose loose objects cannot be listed. It is the error of the last look-up.
+    /// folder whose loose objects cannot be listed, or of the loose object. It is the error of the
+    /// last look-up.
     pub fn with_path(&self, error: object_store::Error) -> Error {
         let alloc = self.rt.alloc();
         match error {
             object_store::Error::Index { at, error } => {
                 Error::index(alloc, self.index_path(at).unwrap_or("pack index"), error)
             }
-            object_store::Error::Loose(error) => {
-                let folder = self.folders.get(self.listed.get());
-                Error::file(alloc, folder.map_or("objects", |f| f.as_str()), error)
-            }
+            object_store::Error::Loose(error) => match self.listed_path() {
+                Ok(path) => Error::file(alloc, &path, error),
+                Err(error) => Error::Memory(error),
+            },
             object_store::Error::Memory(error) => Error::Memory(error),
+        }
+    }
+
+    // The path of the folder or the loose object that was read last.
+    fn listed_path(&self) -> Result<String, AllocError> {
+        let (at, id) = self.listed.get();
+        let folder = self
+            .folders
+            .get(at)
+            .map_or("objects", |folder| folder.as_str());
+        match id {
+            Some(id) => loose_path(self.rt.alloc(), folder, &id),
+            None => String::from_str(self.rt.alloc(), folder),
         }
     }
 }
@@ -142,9 +134,38 @@ impl<R: Files<File = File> + AllocGlobal + Clone + Drop> Store for FolderStore<R
     fn loose_ids<A: Allocator>(&self, alloc: A, byte: u8) -> io::Result<Vec<ObjectId, A>> {
         let mut ids = Vec::new(alloc);
         for (at, folder) in self.folders.iter().enumerate() {
-            self.listed.set(at);
+            self.listed.set((at, None));
             push_loose(&self.rt, folder, self.kind, byte, &mut ids)?;
         }
         Ok(ids)
+    }
+}
+
+/// Which loose objects have files is not known.
+impl<R: Files<File = File> + AllocGlobal + Clone + Drop> StorePaths for FolderStore<R> {
+    ghost use Rattle.std.specs.Prelude.{None, [], map, slice_index_or, string_bytes};
+
+    ghost pack_path = { λ store pack. slice_index_or (map string_bytes store.packs.items) pack [] };
+
+    ghost loose_paths = { λ _. None };
+
+    fn pack_path(&self, pack: usize) -> &str {
+        match self.packs.get(pack) {
+            Some(path) => path.as_str(),
+            None => "",
+        }
+    }
+
+    // In the order of the folders.
+    fn loose_paths(&self, id: &ObjectId) -> io::Result<Vec<String>> {
+        let mut paths = Vec::new(self.rt.alloc());
+        for (at, folder) in self.folders.iter().enumerate() {
+            self.listed.set((at, Some(*id)));
+            let path = loose_path(self.rt.alloc(), folder, id)?;
+            if fs::exists(&self.rt, path.as_str())? {
+                paths.push(path)?;
+            }
+        }
+        Ok(paths)
     }
 }

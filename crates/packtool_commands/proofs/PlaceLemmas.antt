@@ -1,0 +1,40 @@
+-- The lines of places, one after the other.
+use Rattle.std.proofs.Common.{◌≡◌, ◌≢◌, ℕ, ◌+◌, ◌<◌, Bool, true, false, not, Option, List, [], ◌∷◌, ◌++◌, length, get_or, map, take, drop, refl, sym, ap, ◌∙◌, append_assoc, arith}
+use Rattle.std.specs.Prelude.{◌↔◌, IsTrue, nat_eq}
+use Rattle.std.specs.List.{flat_map}
+use Rattle.std.specs.Io.KnownBytes.{Appends}
+use Rattle.std.proofs.KnownBytes.{Appends-trans}
+use Rattle.std.proofs.lemmas.Bool.{eq-eqb, false≢true, ne_eqb}
+use Rattle.command_line.specs.Flushed.{AppendsAtMost}
+use Rattle.packtool_commands.proofs.NamedLemmas.{lines_around}
+
+-- the lines of texts are those of what has these texts
+pub same_lines : {X : Type 0} (line : List ℕ → List ℕ) (text : X → List ℕ) (xs : List X) (all : List (List ℕ)) → map text xs ≡ all
+    → flat_map (λ x. line (text x)) xs ≡ flat_map line all
+same_lines line text [] all is = ap (flat_map line) is
+same_lines line text (x ∷ xs) all is =
+    ap (λ (rest : List ℕ). line (text x) ++ rest) (same_lines line text xs (map text xs) refl) ∙ ap (flat_map line) is
+
+-- whether there are texts, by the number of what has them
+pub has_texts : {X : Type 0} (text : X → List ℕ) (xs : List X) (all : List (List ℕ)) (n : ℕ) (empty : Bool) → map text xs ≡ all → length xs ≡ n → empty ≡ nat_eq n 0
+    → IsTrue (not empty) ↔ (all ≢ [])
+has_texts text [] all n empty is len was =
+    let none : not empty ≡ false = ap not (was ∙ eq-eqb n 0 (sym len)) in
+    (λ some. absurd (false≢true (sym none ∙ some)), λ some. absurd (some (sym is)))
+has_texts text (x ∷ xs) all n empty is len was =
+    let is_some : not empty ≡ true = ap not (was ∙ ne_eqb n 0 (λ zero. omega (arith, zero, len))) in
+    (λ some none. let bad : text x ∷ map text xs ≡ [] = is ∙ none in cc, λ some. is_some)
+
+-- a beginning of one line, after the lines before it, is a beginning of all the lines
+pub AppendsAtMost-item : {X : Type 0} (a b c : Option (List ℕ)) (line : X → List ℕ) (xs : List X) (k : ℕ) (d : X) → k < length xs
+    → Appends a b (flat_map line (take k xs)) → AppendsAtMost b c (line (get_or xs k d)) → AppendsAtMost a c (flat_map line xs)
+AppendsAtMost-item a b c line xs k d within before last =
+    let front = flat_map line (take k xs) in
+    let after = flat_map line (drop (k + 1) xs) in
+    record {
+      part = front ++ last.part;
+      rest = last.rest ++ after;
+      is_beginning = lines_around line xs k d within ∙ ap (λ (one : List ℕ). front ++ (one ++ after)) last.is_beginning
+          ∙ ap (λ (more : List ℕ). front ++ more) (append_assoc last.part last.rest after) ∙ sym (append_assoc front last.part (last.rest ++ after));
+      written = Appends-trans a b c front last.part before last.written;
+    }

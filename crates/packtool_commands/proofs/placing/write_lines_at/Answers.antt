@@ -1,0 +1,36 @@
+use Rattle.std.proofs.Common.{List, ℕ, Some, None, ap, subst, ◌∙◌}
+use Rattle.std.specs.Prelude.{string_bytes}
+use Rattle.std.specs.List.{flat_map}
+use Rattle.std.specs.Io.KnownBytes.{Appends}
+use Rattle.command_line.proofs.Flushed.{part_written}
+use Rattle.gix_hash.specs.ObjectId.{id_digits}
+use Rattle.streams.specs.Writing.{AppendsPart}
+use Rattle.streams.proofs.WritingLemmas.{OnErr-of}
+use Rattle.packtool_commands.specs.Places.{place_line}
+use Rattle.packtool_commands.proofs.PlaceLemmas.{same_lines}
+use Rattle.packtool_commands.proofs.placing.write_lines_at.Goals as goal
+
+pub returns-in_err-write_place-in-Packed-clause-part : goal.returns-in_err-write_place-in-Packed-clause-part
+returns-in_err-write_place-in-Packed-clause-part g c = λ paths known.
+    rw c.in-Packed.is
+    (OnErr-of _ _ (part_written _ _ _
+    (subst
+    (λ (path : List ℕ). AppendsPart (g.W.Sink.taken c.args.out.now) (g.W.Sink.taken c.write_place.new.out)
+    (place_line (id_digits c.args.id.now) path (Some c.in-Packed.offset))) c.pack_path.ensures c.in_err-write_place-in-Packed.ensures.part)))
+
+pub returns-in_err-write_loose-in-Ok-clause-part : goal.returns-in_err-write_loose-in-Ok-clause-part
+returns-in_err-write_loose-in-Ok-clause-part g c = λ paths known.
+    let line : List ℕ → List ℕ = λ path. place_line (id_digits c.args.id.now) path None in
+    rw c.in-Loose.is
+    (OnErr-of _ _ (part_written _ _ _
+    (subst (AppendsPart (g.W.Sink.taken c.args.out.now) (g.W.Sink.taken c.write_loose.new.out))
+    (ap (flat_map (λ path. line (string_bytes path))) c.deref.ensures.value
+    ∙ same_lines line string_bytes c.in-Ok.paths.items (paths (id_digits c.args.id.now)) (c.in-Ok.ensures paths known)) c.in_err-write_loose-in-Ok.ensures.part)))
+
+pub returns-in_ok-write_loose-in-Ok-clause-written : goal.returns-in_ok-write_loose-in-Ok-clause-written
+returns-in_ok-write_loose-in-Ok-clause-written g c = λ paths known.
+    let line : List ℕ → List ℕ = λ path. place_line (id_digits c.args.id.now) path None in
+    rw c.in-Loose.is
+    (subst (Appends (g.W.Sink.taken c.args.out.now) (g.W.Sink.taken c.write_loose.new.out))
+    (ap (flat_map (λ path. line (string_bytes path))) c.deref.ensures.value
+    ∙ same_lines line string_bytes c.in-Ok.paths.items (paths (id_digits c.args.id.now)) (c.in-Ok.ensures paths known)) c.in_ok-write_loose-in-Ok.ensures.written)
