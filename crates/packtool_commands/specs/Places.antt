@@ -1,11 +1,14 @@
 -- The lines of the places of objects.
-use Rattle.std.specs.Prelude.{◌≢◌, ◌↔◌, ℕ, Bool, Option, Some, None, List, [], ◌∷◌, ◌++◌, IsTrue, decimal, flat_map}
+use Rattle.std.specs.Prelude.{◌≢◌, ◌↔◌, ◌⊎◌, ℕ, Bool, Option, Some, None, List, [], ◌∷◌, ◌++◌, IsTrue, decimal, flat_map}
 use Rattle.std.specs.Io.KnownBytes.{Appends}
 use Rattle.gix_hash.specs.Digits.{hex_letter, spelling}
 use Rattle.gix_hash.specs.declared.Kind.{Kind}
 use Rattle.object_store.specs.Places.{places_of}
+use Rattle.object_store.specs.Stores.{IsLocateFault, IsStoreFault}
+use Rattle.object_store.specs.declared.error.Error.{Error}
 use Rattle.object_store.specs.declared.places.Place.{Place}
 use Rattle.object_store.specs.declared.places.Place.TheVariants.{Packed, Loose}
+use Rattle.pack_index.specs.Lazy.{LazyIndex}
 
 -- what is after the path: the offset in a pack after a blank, if there is one, and a line feed
 abbrev pub place_end : Option ℕ → List ℕ
@@ -29,3 +32,7 @@ lines_of_places pack_path loose_paths kind indexes loose_ids id = flat_map (line
 pub record HasLocated (lines : List ℕ → List ℕ) (ids : List (List ℕ)) (any : Bool) (old new : Option (List ℕ)) : Type 0 where
   pub found : IsTrue any ↔ (ids ≢ [])
   pub written : Appends old new (flat_map lines ids)
+
+-- why the places of ids with a first byte are not found: a look-up of the ids fails, or that of the places of one of them
+abbrev pub IsPlacesFault : Kind → List LazyIndex → ℕ → Error → Type 0
+IsPlacesFault kind packs byte error = IsStoreFault kind packs byte error ⊎ ((id : List ℕ) × IsLocateFault kind packs id error)

@@ -3,11 +3,12 @@
 ghost use Rattle.std.specs.Prelude.{◌≡◌, ◌↔◌, ◌≤◌, ◌++◌, ℕ, List, None, Some, false, true, flat_map, length, string_bytes, IfErr, IfOk, IsErrOf, OnOk, OnErr};
 ghost use Rattle.std.specs.Io.KnownBytes.{Appends};
 ghost use Rattle.command_line.specs.Flushed.{AppendsAtMost};
+ghost use Rattle.gix_hash.specs.Digits.{first_byte_of};
 ghost use Rattle.gix_hash.specs.ObjectId.{id_digits, id_kind};
 ghost use Rattle.id_lookup.specs.Runs.{matches};
-ghost use Rattle.object_store.specs.Stores.{Holds};
+ghost use Rattle.object_store.specs.Stores.{HaveBuckets, Holds, IsElsewhere, IsLocateFault};
 ghost use Rattle.packtool_commands.specs.Finding.{IsFault};
-ghost use Rattle.packtool_commands.specs.Places.{HasLocated, lines_at, lines_of_places, place_line};
+ghost use Rattle.packtool_commands.specs.Places.{HasLocated, IsPlacesFault, lines_at, lines_of_places, place_line};
 ghost use Rattle.packtool_commands.specs.declared.error.StoreError.{StoreError};
 ghost use Rattle.streams.specs.Writing.{AppendsPart};
 
@@ -46,7 +47,10 @@ pub fn locate<S: StorePaths, A: Allocator + Copy, W: Sink>(
         → (paths : List ℕ → List (List ℕ)) → S.loose_paths store.now ≡ Some paths
         → HasLocated (lines_of_places (S.pack_path store.now) paths (S.kind store.now) h.indexes
         h.loose_ids) (matches prefix.now.digits whole) any (W.taken out.old) (W.taken out.new)) }
-    ensures refused { IfErr result (IsFault (S.kind store.now) (S.packs store.now)) }
+    ensures right { IfOk result (λ _. HaveBuckets (S.kind store.now) (S.packs store.now)
+        (first_byte_of prefix.now.digits)) }
+    ensures refused { IfErr result (IsFault (IsPlacesFault (S.kind store.now) (S.packs store.now)
+        (first_byte_of prefix.now.digits))) }
     ensures output { IsErrOf result StoreError.Output ↔ (W.has_failed out.new ≡ true) }
     ensures part { (whole : List (List ℕ))
         → (h : Holds (S.kind store.now) (S.packs store.now) (S.loose store.now) whole)
@@ -78,7 +82,8 @@ fn write_places<S: StorePaths, A: Allocator + Copy, W: Sink>(
         (lines_of_places (S.pack_path store.now) paths (S.kind store.now) h.indexes h.loose_ids
         (id_digits id.now))) }
     ensures stands { OnOk result (W.has_failed out.new ≡ false) }
-    ensures refused { IfErr result (IsFault (S.kind store.now) (S.packs store.now)) }
+    ensures refused { IfErr result (IsFault (IsLocateFault (S.kind store.now) (S.packs store.now)
+        (id_digits id.now))) }
     ensures output { IsErrOf result StoreError.Output ↔ (W.has_failed out.new ≡ true) }
     ensures part { (whole : List (List ℕ))
         → (h : Holds (S.kind store.now) (S.packs store.now) (S.loose store.now) whole)
@@ -106,7 +111,7 @@ fn write_lines_at<S: StorePaths, W: Sink>(
         → OnOk result (Appends (W.taken out.old) (W.taken out.new)
         (lines_at (S.pack_path store.now) paths (id_digits id.now) place)) }
     ensures stands { OnOk result (W.has_failed out.new ≡ false) }
-    ensures refused { IfErr result (IsFault (S.kind store.now) (S.packs store.now)) }
+    ensures refused { IfErr result (IsFault IsElsewhere) }
     ensures output { IsErrOf result StoreError.Output ↔ (W.has_failed out.new ≡ true) }
     ensures part { (paths : List ℕ → List (List ℕ)) → S.loose_paths store.now ≡ Some paths
         → OnErr result (AppendsAtMost (W.taken out.old) (W.taken out.new)
