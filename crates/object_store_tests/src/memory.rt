@@ -37,8 +37,8 @@ impl Reads {
 /// Bytes whose reads are counted.
 #[derive(Clone, Copy)]
 pub struct Counted<'a> {
-    bytes: &'a [u8],
-    reads: &'a Reads,
+    pub bytes: &'a [u8],
+    pub reads: &'a Reads,
 }
 
 impl ReadAt for Counted<'_> {

@@ -1,0 +1,57 @@
+//! Pack indexes and packs, whose reads fail in turn.
+
+use crate::memory::{Counted, Reads};
+use gix_hash::{Kind, ObjectId};
+use packtool_commands::{Pairing, PairingError, pair};
+use std::alloc::{AllocError, Global};
+use std::test::Fail;
+
+// A few bytes, and after them those of ids.
+fn ending_in(alloc: Global, ids: &[ObjectId]) -> Result<Vec<u8>, AllocError> {
+    let mut bytes = Vec::new(alloc);
+    bytes.extend_from_slice(b"few")?;
+    for id in ids {
+        bytes.extend_from_slice(id.as_slice())?;
+    }
+    Ok(bytes)
+}
+
+#[test]
+fn compares_an_index_with_a_pack(rt: HostRuntime) -> Result<(), Fail> {
+    for kind in [Kind::Sha1, Kind::Sha256] {
+        let (tree, blob) = (kind.empty_tree(), kind.empty_blob());
+        let index = ending_in(rt.alloc(), &[tree, blob])?;
+        let pack = ending_in(rt.alloc(), &[blob, tree])?;
+        let (index, pack, short) = (&index[..], &pack[..], &b"few"[..]);
+        let same = pair(&index, &pack, kind);
+        assert!(rt; matches!(same, Ok(Pairing::Same)));
+        let other = pair(&pack, &pack, kind);
+        let Ok(Pairing::Other { named, found }) = other else {
+            return Err(Fail::new("they belong together"));
+        };
+        assert!(rt; named == blob && found == Some(tree));
+        let other = pair(&index, &short, kind);
+        assert!(rt; matches!(other, Ok(Pairing::Other { found: None, .. })));
+        let unnamed = pair(&index.get(4..).unwrap_or(b""), &pack, kind);
+        assert!(rt; matches!(unnamed, Ok(Pairing::Unnamed)));
+    }
+    Ok(())
+}
+
+// The length and then the digest are read of each.
+#[test]
+fn says_which_cannot_be_read(rt: HostRuntime) -> Result<(), Fail> {
+    let (tree, blob) = (Kind::Sha1.empty_tree(), Kind::Sha1.empty_blob());
+    let index = ending_in(rt.alloc(), &[tree, blob])?;
+    for left in 0..5 {
+        let reads = Reads::new(left);
+        let counted = Counted {
+            bytes: &index,
+            reads: &reads,
+        };
+        let outcome = pair(&counted, &counted, Kind::Sha1);
+        let of_index = matches!(outcome, Err(PairingError::Index(_)));
+        assert!(rt; of_index == (left < 2) && outcome.is_ok() == (left == 4));
+    }
+    Ok(())
+}
