@@ -6,7 +6,7 @@ use super::watched::{Course, Watch, Watched};
 use crate::expecting::{expect_bytes, expect_shown};
 use gix_hash::{Kind, digest_of};
 use linked_list_allocator::LocalHeap;
-use packtool_commands::{FileError, show, write_ending, write_place};
+use packtool_commands::{FileError, Pairing, show, write_ending, write_pairing, write_place};
 use std::alloc::{AllocError, Global};
 use std::process::Abort;
 use std::test::Fail;
@@ -114,6 +114,7 @@ fn reports_too_little_memory(rt: HostRuntime) -> Result<(), Fail> {
 #[derive(Clone, Copy, Debug)]
 enum Line {
     Ending(Ending),
+    Pairing(Pairing),
     Place(Option<u64>),
 }
 
@@ -128,6 +129,7 @@ fn expect_line(rt: &impl Abort, line: Line, want: &str) {
         let mut out = IntoSlice::new(buf);
         let written = match line {
             Line::Ending(ending) => write_ending("a.idx", &ending, &mut out),
+            Line::Pairing(pairing) => write_pairing("a.idx", &pairing, &mut out),
             Line::Place(offset) => write_place(&id, "a b.pack", offset, &mut out),
         };
         expect!(rt; written.is_ok() == (room == want.len()), &room);
@@ -158,6 +160,24 @@ fn writes_lines_of_files(rt: HostRuntime) {
         &rt,
         Line::Ending(Ending::Unsealed { digest: long, last }),
         "a.idx: FAILED: it ends in 473a0f4c3be8a93681a267e3b1e9a7dcda1185436fe141f7749120a303721813, and the digest of the rest is 473a0f4c3be8a93681a267e3b1e9a7dcda1185436fe141f7749120a303721813\n",
+    );
+    expect_line(&rt, Line::Pairing(Pairing::Same), "a.idx: OK\n");
+    expect_line(
+        &rt,
+        Line::Pairing(Pairing::Unnamed),
+        "a.idx: FAILED: it is shorter than two digests\n",
+    );
+    let (named, found) = (digest, None);
+    expect_line(
+        &rt,
+        Line::Pairing(Pairing::Other { named, found }),
+        "a.idx: FAILED: its pack ends in 4b825dc642cb6eb9a060e54bf8d69288fbee4904, and the pack beside it is shorter than a digest\n",
+    );
+    let (named, found) = (long, Some(long));
+    expect_line(
+        &rt,
+        Line::Pairing(Pairing::Other { named, found }),
+        "a.idx: FAILED: its pack ends in 473a0f4c3be8a93681a267e3b1e9a7dcda1185436fe141f7749120a303721813, and the pack beside it ends in 473a0f4c3be8a93681a267e3b1e9a7dcda1185436fe141f7749120a303721813\n",
     );
     expect_line(
         &rt,
