@@ -3,7 +3,6 @@
 
 mod bad_texts;
 mod change_ids;
-mod devices;
 mod files;
 mod formatting;
 mod hashing_state;

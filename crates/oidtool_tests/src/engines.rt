@@ -5,7 +5,6 @@ mod by;
 mod checking;
 mod digests;
 mod faults;
-mod faulty;
 mod lists;
 mod packing;
 mod running;

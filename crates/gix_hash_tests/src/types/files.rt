@@ -1,6 +1,5 @@
 //! Digests of files.
 
-use super::devices::KINDS;
 use super::listeners::{Asked, Call, Heard};
 use super::opening::Opening;
 use super::streams::{ABC, ABC_256, EMPTY};
@@ -12,6 +11,7 @@ use std::path::Path;
 use std::process::Abort;
 use std::rt::Files;
 use std::test::Fail;
+use test_devices::KINDS;
 
 const FILE: &str = "six_bytes_to_be_hashed";
 

@@ -1,11 +1,11 @@
 //! What printing and writing do with the options of a format and with a writer that fails.
 
-use super::devices::{FAILED, Fault, KINDS, Writer};
 use super::{BLOB, BLOB_256, BLOB_LETTERS, expect_kind, expect_text, expect_whole, id};
 use gix_hash::{ChangeId, Kind, ObjectId, Prefix, oid};
 use std::io::{self, Write};
 use std::process::Abort;
 use std::test::Fail;
+use test_devices::{FAILED, Fault, KINDS, Writer};
 
 #[test]
 fn options_have_no_effect(rt: HostRuntime) -> Result<(), Fail> {

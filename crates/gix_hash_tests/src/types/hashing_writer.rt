@@ -1,12 +1,12 @@
 //! What is written through a hashing writer.
 
-use super::devices::{FAILED, Fault, KINDS, Writer};
 use super::streams::{ABC, EMPTY, THREE_CHUNKS};
 use super::{BLOB, expect_kind, expect_outcome, expect_text};
 use gix_hash::io::{Never, NoProgress};
 use gix_hash::{Kind, bytes, io, oid, verify};
 use std::io::Write;
 use std::test::Fail;
+use test_devices::{FAILED, Fault, KINDS, Writer};
 
 fn written<W: Write>(out: &mut W, bytes: &[u8]) -> std::io::Result<usize> {
     out.write(bytes)
@@ -16,13 +16,14 @@ fn flushed<W: Write>(out: &mut W) -> std::io::Result<()> {
     out.flush()
 }
 
-// The inner writer takes one byte, then fails, then takes all.
+// The inner writer takes one byte, then fails, and then takes all.
 #[test]
 fn hashed_as_far_as_it_was_taken(rt: HostRuntime) {
     let inner = Writer::new(Vec::new(rt.alloc()), 1, Fault::AtCall(2));
     let mut out = io::Write::new(inner, Kind::Sha1);
     expect_outcome(&rt, out.write(b"blob 0\0"), "1");
     expect_outcome(&rt, out.write(b"lob 0\0"), FAILED);
+    out.inner.chunk = 9;
     expect_outcome(&rt, out.write(b"lob 0\0"), "6");
     expect!(&rt; out.inner.calls == 3);
     expect!(&rt; out.inner.bytes.as_slice() == b"blob 0\0".as_slice());

@@ -1,6 +1,5 @@
 //! Hashers, and digests of what readers give.
 
-use super::devices::{FAILED, Fault, Reader};
 use super::listeners::{Asked, Call, Heard, chunks};
 use super::{BLOB, expect_debug, expect_error, expect_kind, expect_outcome, expect_text, id};
 use gix_hash::io::{Never, NoProgress};
@@ -11,6 +10,7 @@ use gix_hash::{
 use std::io::ErrorKind::UnexpectedEof;
 use std::process::Abort;
 use std::test::Fail;
+use test_devices::{FAILED, Fault, Reader};
 
 /// The digests of `abc`, as FIPS 180-4's examples have them.
 pub const ABC: &str = "a9993e364706816aba3e25717850c26c9cd0d89d";

@@ -1,6 +1,5 @@
 //! No device is called after a failure of it or of another.
 
-use super::faulty::{Fault, Reader, Writer};
 use super::watched::{Course, Watch, Watched};
 use gix_hash::Kind;
 use oidtool_commands::{Command, run_command};
@@ -10,6 +9,7 @@ use std::process::Abort;
 use std::rt::Files;
 use std::test::Fail;
 use streams::{BufferedSink, Plain, Sink, Source};
+use test_devices::{Fault, Reader, Writer};
 
 // The empty tree and the empty blob of SHA-1.
 const LIST: &str =
@@ -119,11 +119,11 @@ fn devices_ask_once(rt: HostRuntime) -> Result<(), Fail> {
         let mut buf = [0; 3];
         let outcome = input.read(&mut buf);
         expect!(&rt; matches!(outcome, Err(error) if error.kind() == kind));
-        expect!(&rt; input.into_inner().calls() == 1);
+        expect!(&rt; input.into_inner().calls == 1);
         let mut out = Plain::new(Writer::new(Vec::new(rt.alloc()), 3, fault));
         let outcome = out.write(b"abc");
         expect!(&rt; matches!(outcome, Err(error) if error.kind() == kind));
-        expect!(&rt; out.into_inner().calls() == 1);
+        expect!(&rt; out.into_inner().calls == 1);
     }
     Ok(())
 }
@@ -140,8 +140,8 @@ fn flushes_reach_the_writer(rt: HostRuntime) -> Result<(), Fail> {
             expect!(&rt; out.flush().is_err() == fails);
             expect!(&rt; out.failed() == fails);
             let (writer, _) = out.into_inner().into_parts();
-            expect!(&rt; writer.flushes() == 1);
-            expect!(&rt; writer.taken() == chunk);
+            expect!(&rt; writer.flushes == 1);
+            expect!(&rt; writer.bytes.as_slice() == chunk);
         }
     }
     Ok(())

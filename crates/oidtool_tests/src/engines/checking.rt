@@ -1,12 +1,12 @@
 //! Checking what ends with the digest of all before it: digests from outside, and devices that
 //! fail.
 
-use super::faulty::{Fault, Reader};
 use super::sealing::{ABC, ABC_256, EMPTY, EMPTY_256, sealed};
 use crate::expecting::expect_printed;
 use gix_hash::Kind;
 use std::process::Abort;
 use streams::{Ending, PipeError, Plain, Source, check};
+use test_devices::{Fault, Reader};
 
 // The digests of that many letters `a`, by the programs `sha1sum` and `sha256sum`. A source is read
 // in chunks of 65536 bytes: a sealed message ends with a chunk, or its digest is in the next one.
@@ -147,7 +147,7 @@ fn reports_a_read_that_fails(rt: HostRuntime) {
             let mut input = Plain::new(Reader::new(&whole, 1, fault));
             expect!(&rt; matches!(check(&mut input, Kind::Sha1), Err(PipeError::Input)), &n);
             expect!(&rt; input.failed(), &n);
-            expect!(&rt; input.into_inner().calls() == n, &n);
+            expect!(&rt; input.into_inner().calls == n, &n);
         }
     }
 }

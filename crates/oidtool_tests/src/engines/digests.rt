@@ -1,6 +1,5 @@
 //! The commands that compute digests: their words, and their runs.
 
-use super::faulty::{Fault, Writer};
 use super::running::{expect_flushed, expect_run};
 use super::sealing::{ABC, sealed};
 use crate::expecting::expect_shown;
@@ -8,6 +7,7 @@ use gix_hash::Kind;
 use oidtool_commands::{Command, read_command};
 use std::fs;
 use std::test::Fail;
+use test_devices::{Fault, Writer};
 
 // Words, and the Debug text of what they read as.
 const WORDS: [(&[&str], &str); 8] = [

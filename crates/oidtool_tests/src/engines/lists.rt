@@ -2,13 +2,13 @@
 //! which error is returned.
 
 use super::by::{By, EACH};
-use super::faulty::{Fault, Reader};
 use super::{BLOB, BLOB_256, BLOB_LETTERS, NO_MATCH, TREE, TREE_256, TREE_LETTERS, text_of};
 use crate::expecting::{expect_bytes, expect_text};
 use gix_hash::Kind;
 use std::process::Abort;
 use std::test::Fail;
 use streams::{IntoSlice, Plain};
+use test_devices::{Fault, Reader};
 
 // A prefix, the parts of a list, the Debug text of the result, and what is written.
 type Row = (
@@ -168,7 +168,7 @@ fn expect_from(
     let row = (by, prefix, chunk);
     expect_text(rt, found.as_str(), want.0, &row);
     expect_bytes(rt, out.written(), want.1.as_bytes(), &row);
-    input.into_inner().calls()
+    input.into_inner().calls
 }
 
 // Searches in the list as one text, and cut into chunks, with the same result.

@@ -1,7 +1,6 @@
 //! What is printed of files, with devices and memory that fail.
 
 use super::asking::course_of;
-use super::faulty::{Fault, Reader, Writer};
 use super::watched::{Course, Watch, Watched};
 use crate::expecting::{expect_bytes, expect_shown};
 use gix_hash::{Kind, digest_of};
@@ -11,6 +10,7 @@ use std::alloc::{AllocError, Global};
 use std::process::Abort;
 use std::test::Fail;
 use streams::{Ending, FromSlice, IntoSlice, Plain};
+use test_devices::{Fault, Reader, Writer};
 
 const KIND: Kind = Kind::Sha1;
 

@@ -1,6 +1,5 @@
 //! Commands over readers and writers that give and take odd chunks, or fail.
 
-use super::faulty::{Fault, Reader, Writer};
 use super::{BLOB, BLOB_LETTERS, NO_MATCH, TREE, WELL_KNOWN, expect_granted, text_of};
 use crate::expecting::{expect_bytes, expect_shown, shown};
 use gix_hash::Kind;
@@ -11,6 +10,7 @@ use std::process::Abort;
 use std::rt::Files;
 use std::test::Fail;
 use streams::{FromSlice, IntoSlice, Plain};
+use test_devices::{Fault, Reader, Writer};
 
 // Runs the command over the text in chunks of that length, and compares the result and what was
 // written. Returns how often the input was read.
@@ -29,7 +29,7 @@ pub fn expect_run(
     let ended = run_command(rt, rt.alloc(), command, &mut input, &mut out);
     expect_bytes(rt, out.written(), written, &command);
     expect_shown(rt, ended, outcome, &command);
-    input.into_inner().calls()
+    input.into_inner().calls
 }
 
 #[test]
@@ -93,8 +93,8 @@ pub fn expect_flushed(
     let ended = run_command(rt, rt.alloc(), command, &mut input, &mut out);
     let row = (command, outcome, flushes);
     let (writer, _) = out.into_inner().into_parts();
-    expect_bytes(rt, writer.taken(), taken, &row);
-    expect!(rt; writer.flushes() == flushes, &row);
+    expect_bytes(rt, &writer.bytes, taken, &row);
+    expect!(rt; writer.flushes == flushes, &row);
     expect_shown(rt, ended, outcome, &row);
 }
 

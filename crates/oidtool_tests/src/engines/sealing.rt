@@ -2,7 +2,6 @@
 
 ghost use Rattle.std.specs.Prelude.{◌≡◌, false};
 
-use super::faulty::{Fault, Reader, Writer};
 use crate::expecting::expect_bytes;
 use gix_hash::io::{Never, NoProgress};
 use gix_hash::{Kind, ObjectId, bytes, oid, verify};
@@ -10,6 +9,7 @@ use std::alloc::{AllocError, Global};
 use std::process::Abort;
 use std::test::Fail;
 use streams::{FromSlice, IntoSlice, PipeError, Plain, Sink, Source, hash_all, seal};
+use test_devices::{Fault, Reader, Writer};
 
 // The digests of `abc` and of nothing, in FIPS 180-4's own examples.
 pub const ABC: &str = "a9993e364706816aba3e25717850c26c9cd0d89d\n";
@@ -160,10 +160,10 @@ fn expect_run(rt: &(impl Abort + AllocGlobal), run: &Run<'_>) {
     let row = (run.pipe, run.calls);
     expect!(rt; outcome == run.outcome, &row);
     let (reads, writes) = run.calls;
-    expect!(rt; input.into_inner().calls() == reads, &row);
+    expect!(rt; input.into_inner().calls == reads, &row);
     let writer = out.into_inner();
-    expect!(rt; writer.calls() == writes, &row);
-    expect_bytes(rt, writer.taken(), run.taken, &row);
+    expect!(rt; writer.calls == writes, &row);
+    expect_bytes(rt, &writer.bytes, run.taken, &row);
 }
 
 // What is right of `abc`, hashed and sealed.

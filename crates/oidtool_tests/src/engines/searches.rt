@@ -1,7 +1,6 @@
 //! Each of the searches with writers that fail, and with too little memory.
 
 use super::by::{By, SEARCHES, Search, run};
-use super::faulty::{Fault, Writer};
 use super::{BLOB, BLOB_256, TREE, TREE_256, expect_granted, text_of};
 use crate::expecting::{expect_bytes, expect_text};
 use linked_list_allocator::LocalHeap;
@@ -9,6 +8,7 @@ use std::alloc::{AllocError, Global};
 use std::process::Abort;
 use std::test::Fail;
 use streams::{IntoSlice, Plain};
+use test_devices::{Fault, Writer};
 
 // The ids one above the empty tree and the empty blob of SHA-1, and the latter in letters.
 const NEXT_TREE: &str = "4b825dc642cb6eb9a060e54bf8d69288fbee4905\n";
@@ -66,11 +66,11 @@ fn expect_taken(
     let writer = out.into_inner();
     expect_bytes(
         rt,
-        writer.taken(),
+        &writer.bytes,
         searched.lines.get(..len).unwrap_or(b""),
         &row,
     );
-    expect!(rt; (writer.calls(), writer.flushes()) == (calls, 0), &row);
+    expect!(rt; (writer.calls, writer.flushes) == (calls, 0), &row);
 }
 
 // The line that a search writes after its first, if the list has the next id too.

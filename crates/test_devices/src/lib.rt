@@ -1,4 +1,5 @@
-//! A reader and a writer whose faults are chosen. They claim nothing of their bytes.
+//! A reader and a writer for tests, whose faults are chosen. They claim nothing of their bytes.
+#![tactic(auto)]
 
 use std::io;
 
@@ -56,7 +57,7 @@ pub const KINDS: [io::ErrorKind; 42] = [
 pub enum Fault {
     /// Never.
     Never,
-    /// At the call with this number, counted from 1. A writer takes all from then on.
+    /// At the call with this number, counted from 1, and at no other.
     AtCall(usize),
     /// As `AtCall`, with the error that the library's own loops try again after.
     InterruptedAt(usize),
@@ -93,17 +94,14 @@ impl Fault {
             _ => usize::MAX,
         }
     }
-
-    /// Whether the device's `calls`-th call comes after it.
-    fn is_over(self, calls: usize) -> bool {
-        matches!(self, Fault::AtCall(at) if at < calls)
-    }
 }
 
-/// A reader that gives at most `chunk` bytes a call.
+/// A reader of a slice.
 #[derive(Drop)]
 pub struct Reader<'a> {
+    /// What it has not given yet.
     pub rest: &'a [u8],
+    /// How often it was called.
     pub calls: usize,
     chunk: usize,
     fault: Fault,
@@ -111,6 +109,7 @@ pub struct Reader<'a> {
 }
 
 impl<'a> Reader<'a> {
+    /// A reader that gives at most `chunk` bytes a call.
     pub fn new(bytes: &'a [u8], chunk: usize, fault: Fault) -> Self {
         Reader {
             rest: bytes,
@@ -137,27 +136,40 @@ impl io::Read for Reader<'_> {
     }
 }
 
-/// A writer that takes at most `chunk` bytes a call, none at 0, and keeps them.
+/// A writer that keeps what it took.
 #[derive(Drop)]
 pub struct Writer {
+    /// What it took.
     pub bytes: Vec<u8>,
+    /// How often it was asked to write.
     pub calls: usize,
+    /// How often it was asked to flush.
     pub flushes: usize,
+    /// The most bytes that it takes at a call.
+    pub chunk: usize,
+    /// Whether each flush fails.
     pub flush_fails: bool,
-    chunk: usize,
     fault: Fault,
 }
 
 impl Writer {
+    /// A writer that takes at most `chunk` bytes a call: none at 0.
     pub fn new(bytes: Vec<u8>, chunk: usize, fault: Fault) -> Self {
         Writer {
             bytes,
             calls: 0,
             flushes: 0,
-            flush_fails: false,
             chunk,
+            flush_fails: false,
             fault,
         }
+    }
+
+    /// A writer that takes all, and fails at each flush.
+    pub fn failing_at_flush(bytes: Vec<u8>) -> Self {
+        let mut writer = Writer::new(bytes, usize::MAX, Fault::Never);
+        writer.flush_fails = true;
+        writer
     }
 }
 
@@ -168,10 +180,7 @@ impl io::Write for Writer {
         if self.fault.strikes(self.calls, len) {
             return Err(self.fault.error());
         }
-        let mut count = buf.len();
-        if !self.fault.is_over(self.calls) {
-            count = count.min(self.chunk).min(self.fault.room(len));
-        }
+        let count = buf.len().min(self.chunk).min(self.fault.room(len));
         self.bytes.extend_from_slice(&buf[..count])?;
         Ok(count)
     }
