@@ -93,14 +93,14 @@ fn run_command<'a, W: Sink>(
 ) -> Result<u8, Failure<'a>>
     requires { W.has_failed out.old ≡ false }
 {
-    let any = match matches.subcommand() {
-        Some(("find", matches)) => stores::find(rt, matches, out, note)?,
-        Some(("where", matches)) => stores::locate(rt, matches, out, note)?,
-        Some(("names", matches)) => stores::names(rt, matches, out, note)?,
-        Some((name, matches)) => return run_over_files(rt, name, matches, out, note),
-        None => return Ok(FAILED),
-    };
-    Ok(if any { FOUND } else { NOTHING })
+    match matches.subcommand() {
+        Some((name @ ("show" | "check"), matches)) => run_over_files(rt, name, matches, out, note),
+        Some((name, matches)) => match stores::run(rt, name, matches, out, note)? {
+            true => Ok(FOUND),
+            false => Ok(NOTHING),
+        },
+        None => Ok(FAILED),
+    }
 }
 
 // Runs `show` or `check` over each file, also after one that cannot be read.

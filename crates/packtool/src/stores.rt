@@ -1,6 +1,7 @@
 //! Commands over a store.
 
 ghost use Rattle.std.specs.Prelude.{◌≡◌, ◌≤◌, false, length, IfOk};
+ghost use Rattle.gix_hash.specs.Kind.{hex_len_of};
 
 use crate::arguments;
 use crate::failure::Failure;
@@ -8,13 +9,14 @@ use crate::noted::Note;
 use clap::ArgMatches;
 use gix_hash::{Kind, Prefix};
 use object_store::Store;
-use packtool_commands::StoreError;
+use packtool_commands::{StoreError, find, locate, names};
 use store_folders::{FolderStore, find_objects};
 use streams::Sink;
 
-/// Prints the ids that begin with a prefix, and returns whether there is one.
-pub fn find<'a, W: Sink>(
+/// Runs `find`, `where` or `names`, and returns whether there is an id to print.
+pub fn run<'a, W: Sink>(
     rt: &HostRuntime,
+    name: &str,
     matches: &ArgMatches<'a>,
     out: &mut W,
     note: &Note,
@@ -22,46 +24,24 @@ pub fn find<'a, W: Sink>(
     requires { W.has_failed out.old ≡ false }
 {
     let store = open(rt, matches)?;
-    let prefix = read_prefix(matches, store.object_hash())?;
-    match packtool_commands::find(rt.alloc(), &store, &prefix, out) {
+    let ran = if name == "names" {
+        names(
+            rt.alloc(),
+            &store,
+            read_least(matches, store.object_hash()),
+            out,
+        )
+    } else {
+        let prefix = read_prefix(matches, store.object_hash())?;
+        match name {
+            "find" => find(rt.alloc(), &store, &prefix, out),
+            _ => locate(rt.alloc(), &store, &prefix, out),
+        }
+    };
+    match ran {
         Ok(any) => Ok(any),
-        Err(error) => Err(failure(&store, error, note)),
-    }
-}
-
-/// Prints the ids that begin with a prefix, each with every place that has it, and returns whether
-/// there is one.
-pub fn locate<'a, W: Sink>(
-    rt: &HostRuntime,
-    matches: &ArgMatches<'a>,
-    out: &mut W,
-    note: &Note,
-) -> Result<bool, Failure<'a>>
-    requires { W.has_failed out.old ≡ false }
-{
-    let store = open(rt, matches)?;
-    let prefix = read_prefix(matches, store.object_hash())?;
-    match packtool_commands::locate(rt.alloc(), &store, &prefix, out) {
-        Ok(any) => Ok(any),
-        Err(error) => Err(failure(&store, error, note)),
-    }
-}
-
-/// Prints all ids after their names, and returns whether there is one.
-pub fn names<'a, W: Sink>(
-    rt: &HostRuntime,
-    matches: &ArgMatches<'a>,
-    out: &mut W,
-    note: &Note,
-) -> Result<bool, Failure<'a>>
-    requires { W.has_failed out.old ≡ false }
-{
-    let store = open(rt, matches)?;
-    let most = store.object_hash().len_in_hex();
-    let least = usize::from(matches.get_one::<u8>("least").unwrap_or(4)).clamp(4, most);
-    match packtool_commands::names(rt.alloc(), &store, least, out) {
-        Ok(any) => Ok(any),
-        Err(error) => Err(failure(&store, error, note)),
+        Err(StoreError::Store(error)) => Err(Failure::Store(store.with_path(error))),
+        Err(StoreError::Output) => Err(Failure::Output(note.error())),
     }
 }
 
@@ -80,6 +60,14 @@ fn open<'a>(
     }
 }
 
+// The fewest digits of a name that were asked for.
+fn read_least(matches: &ArgMatches<'_>, kind: Kind) -> usize
+    ensures least { 4 ≤ result }
+    ensures most { result ≤ hex_len_of kind }
+{
+    usize::from(matches.get_one::<u8>("least").unwrap_or(4)).clamp(4, kind.len_in_hex())
+}
+
 // The prefix that was asked for.
 fn read_prefix<'a>(matches: &ArgMatches<'a>, kind: Kind) -> Result<Prefix, Failure<'a>>
     ensures enough { IfOk result (λ prefix. 2 ≤ length prefix.digits) }
@@ -94,12 +82,4 @@ fn read_prefix<'a>(matches: &ArgMatches<'a>, kind: Kind) -> Result<Prefix, Failu
     }
     let most = kind.len_in_hex();
     Err(Failure::Prefix { text, kind, most })
-}
-
-// The error of a command, with the path at fault.
-fn failure(store: &FolderStore<HostRuntime>, error: StoreError, note: &Note) -> Failure<'static> {
-    match error {
-        StoreError::Store(error) => Failure::Store(store.with_path(error)),
-        StoreError::Output => Failure::Output(note.error()),
-    }
 }
