@@ -1,9 +1,11 @@
 //! Running a command over a reader and a writer.
 
-ghost use Rattle.std.specs.Prelude.{◌≡◌, ◌≢◌, ◌↔◌, ◌⊎◌, ℕ, List, [], length, true, false, IfOk, IfErr, IfSome, OnOk, IsErrOf};
+ghost use Rattle.std.specs.Prelude.{◌≡◌, ◌≢◌, ◌↔◌, ◌⊎◌, ℕ, List, [], length, true, false, IfOk, IfErr, IfSome, OnOk, IsErrAnd, IsErrOf, IsTrue};
 ghost use Rattle.std.specs.Io.KnownBytes.{Appends};
 ghost use Rattle.oidtool_commands.specs.declared.running.CommandError.{CommandError};
-ghost use Rattle.oidtool_commands.specs.Running.{Does, DoesAtMost, HasCopied, Refuses, copies, reads_source};
+ghost use Rattle.oidtool_search.specs.declared.FindFromError.{FindFromError};
+ghost use Rattle.oidtool_search.specs.declared.FindInFromError.{FindInFromError};
+ghost use Rattle.oidtool_commands.specs.Running.{Does, DoesAtMost, HasCopied, Refuses, copies, reads_source, refusal_from_source, refusal_in_source};
 ghost use Rattle.streams.specs.Writing.{AppendsPart};
 ghost use Rattle.streams.specs.Pipe.{digest_line};
 
@@ -156,17 +158,14 @@ pub fn run_command<F: Files, A: Allocator + Copy, R: Source, W: BufferedSink>(
         Command::Find { prefix } => find_from(alloc, prefix, input, out)?,
         Command::FindChange { letters } => {
             let changes = find_change_from(alloc, letters, input, out);
-            if let Err(FindFromError::Prefix(_) | FindFromError::BadLine { .. }) = changes {
+            if is_early(&changes) {
                 drain(input)?;
             }
             changes?
         }
         Command::FindIn { kind, prefix } => {
             let ids = find_in_from(alloc, kind, prefix, input, out);
-            if let Err(
-                FindInFromError::Search(FindInError::Prefix(_) | FindInError::BadLine { .. }),
-            ) = ids
-            {
+            if is_early_in(&ids) {
                 drain(input)?;
             }
             ids?
@@ -188,6 +187,31 @@ pub fn run_command<F: Files, A: Allocator + Copy, R: Source, W: BufferedSink>(
         Ok(()) => Ok(count),
         Err(_) => Err(CommandError::Output),
     }
+}
+
+// Whether a search ended with an error before its list did, and nothing failed.
+fn is_early(found: &Result<usize, FindFromError>) -> bool
+    ensures read { IsTrue result → IsErrOf found.now FindFromError.Input → ⊥ }
+    ensures kept { IsTrue result → IsErrAnd found.now (λ e. refusal_from_source e
+        ≡ CommandError.Find e) }
+{
+    matches!(
+        found,
+        Err(FindFromError::Prefix(_) | FindFromError::BadLine { .. })
+    )
+}
+
+// The same of a search for ids of one kind.
+fn is_early_in(found: &Result<usize, FindInFromError>) -> bool
+    ensures read { IsTrue result → IsErrOf found.now FindInFromError.Input → ⊥ }
+    ensures kept { IsTrue result → IsErrAnd found.now (λ e. refusal_in_source e
+        ≡ CommandError.FindIn e) }
+{
+    use FindInError::{BadLine, Prefix};
+    matches!(
+        found,
+        Err(FindInFromError::Search(Prefix(_) | BadLine { .. }))
+    )
 }
 
 // Writes the digest of the first `count` bytes of a file: the lowercase hex digits and a line feed.
