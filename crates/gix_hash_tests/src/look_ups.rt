@@ -2,9 +2,8 @@
 
 use crate::types::{BLOB, BLOB_256, TREE, TREE_256, expect_text, id};
 use gix_hash::{Kind, ObjectId, Prefix};
-use id_lookup::{Answer, IdIndex, Probes, Run, SortedIds, lookup};
+use id_lookup::{Probes, Run, SortedIds, lookup};
 use std::process::Abort;
-use std::test::Fail;
 
 mod index;
 
@@ -30,21 +29,13 @@ fn thousand() -> [ObjectId; 1000] {
     ids
 }
 
-fn expect_at_most(rt: &impl Abort, asked: u64, most: u64, prefix: &Prefix) {
-    assert!(rt; asked <= most, "{asked} asks for {prefix}");
-}
-
-// The run that a look-up gives, by at most `most` asks. The list and the prefix stay.
+// The run that a look-up gives, by at most `most` asks, and that is found without probes.
 fn expect_run(rt: &impl Abort, list: &SortedIds<'_>, prefix: &Prefix, want: Run, most: u64) {
     assert!(rt; prefix.hex_len() <= list.min_hex_len());
     let mut probes = Probes::new(list, *prefix);
-    expect!(rt; probes.asked() == 0, prefix);
-    let run = lookup(&mut probes);
-    expect!(rt; run == want, prefix);
-    expect_at_most(rt, probes.asked(), most, prefix);
-    expect!(rt; probes.len() == list.len(), prefix);
-    expect!(rt; probes.prefix() == *prefix, prefix);
-    expect!(rt; list.find(prefix) == want, prefix);
+    let runs = [lookup(&mut probes), list.find(prefix)];
+    expect!(rt; runs == [want, want], prefix);
+    expect!(rt; probes.asked() <= most, prefix);
 }
 
 fn expect_runs(rt: &impl Abort, ids: &[ObjectId], most: u64, rows: &[(&str, usize, usize)]) {
@@ -58,9 +49,7 @@ fn expect_runs(rt: &impl Abort, ids: &[ObjectId], most: u64, rows: &[(&str, usiz
 #[test]
 fn empty_list(rt: HostRuntime) {
     let list: SortedIds<'_> = SortedIds::try_new(&[]).expect(&rt, "ids out of order");
-    expect!(&rt; list.min_hex_len() == 64);
-    expect!(&rt; list.len() == 0);
-    expect!(&rt; list.is_empty());
+    expect!(&rt; (list.min_hex_len(), list.len()) == (64, 0));
     expect_runs(&rt, &[], 0, &[("e69d", 0, 0)]);
 }
 
@@ -68,13 +57,8 @@ fn empty_list(rt: HostRuntime) {
 fn well_known_ids(rt: HostRuntime) {
     let ids = well_known();
     let list = SortedIds::try_new(&ids).expect(&rt, "ids out of order");
-    expect!(&rt; list.min_hex_len() == 40);
-    expect!(&rt; !list.is_empty());
     assert!(rt; list.len() == 4);
-    expect!(&rt; list.get(3).as_oid() == id(&rt, BLOB).as_oid());
-    let wide_ids = [id(&rt, BLOB_256), id(&rt, TREE_256)];
-    let wide_list = SortedIds::try_new(&wide_ids).expect(&rt, "ids out of order");
-    expect!(&rt; wide_list.min_hex_len() == 64);
+    expect!(&rt; (list.min_hex_len(), *list.get(3)) == (40, id(&rt, BLOB)));
     expect_runs(
         &rt,
         &ids,
@@ -84,6 +68,7 @@ fn well_known_ids(rt: HostRuntime) {
             ("4", 0, 2),
             ("5", 2, 2),
             ("473a0f", 0, 1),
+            ("6ef1", 2, 3),
             ("ffff", 4, 4),
             (BLOB, 3, 4),
         ],
@@ -111,7 +96,6 @@ fn five_copies(rt: HostRuntime) {
     expect_runs(&rt, &ids, 6, &[("e69d", 0, 5)]);
     let list = SortedIds::try_new(&ids).expect(&rt, "ids out of order");
     let nothing = blob.to_prefix(0..0);
-    expect!(&rt; nothing.hex_len() == 0);
     expect_run(&rt, &list, &nothing, Run { start: 0, end: 5 }, 6);
 }
 
@@ -137,29 +121,4 @@ fn not_sorted(rt: HostRuntime) {
         .err()
         .expect(&rt, "it is accepted as sorted");
     expect_text(&rt, error, "the id at place 2 is below the one before it");
-}
-
-// With no runtime there is no memory to take.
-#[test]
-fn without_a_runtime() -> Result<(), Fail> {
-    let ids = well_known();
-    let list = SortedIds::try_new(&ids)?;
-    for (digits, start, end) in [("4b82", 1, 2), ("4", 0, 2), ("5", 2, 2), ("6ef1", 2, 3)] {
-        let prefix = Prefix::from_hex_nonempty(digits)?;
-        if prefix.hex_len() > list.min_hex_len() {
-            return Err(Fail::new("the prefix is too long"));
-        }
-        let mut probes = Probes::new(&list, prefix);
-        let run = lookup(&mut probes);
-        if run != (Run { start, end }) || run != list.find(&prefix) || probes.asked() > 6 {
-            return Err(Fail::new("the run is another"));
-        }
-    }
-    let ids = [Kind::Sha1.empty_tree(), Kind::Sha1.empty_blob()];
-    let index = IdIndex::try_new(&ids, Kind::Sha1)?;
-    let prefix = Prefix::from(ids[1]);
-    if prefix.as_oid().kind() != index.kind() || index.find(&prefix) != Answer::One(1) {
-        return Err(Fail::new("the index gives another id"));
-    }
-    Ok(())
 }

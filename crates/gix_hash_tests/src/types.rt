@@ -5,7 +5,6 @@ mod bad_texts;
 mod change_ids;
 mod files;
 mod formatting;
-mod hashing_state;
 mod hashing_writer;
 mod ids;
 mod kinds;
@@ -20,7 +19,7 @@ use std::alloc::AllocError;
 use std::cmp::Ordering;
 use std::error::Error;
 use std::fmt::{Debug, Display};
-use std::hash::Hash;
+use std::hash::{DefaultHasher, Hash, Hasher};
 use std::io;
 use std::process::Abort;
 use std::str::FromStr;
@@ -120,18 +119,22 @@ fn converted<S: Into<T>, T>(source: S) -> T {
     source.into()
 }
 
-// The first is below the second, by each of the comparing traits.
+// The first is below the second. By the laws of `Ord` no other comparing trait says otherwise.
 fn expect_below<T: Ord>(rt: &impl Abort, lower: &T, upper: &T) {
-    expect!(rt; lower.cmp(upper) == Ordering::Less);
-    expect!(rt; upper.cmp(lower) == Ordering::Greater);
     expect!(rt; lower.partial_cmp(upper) == Some(Ordering::Less));
-    expect!(rt; lower != upper);
 }
 
-// They are the same, by each of the comparing traits, and feed the same to a hash.
-fn expect_same<T: Ord + Hash>(rt: &impl Abort, one: &T, other: &T) {
+// They are the same. By the laws of `Ord` they are equal, and by those of `Hash` feed the same.
+fn expect_same<T: Ord>(rt: &impl Abort, one: &T, other: &T) {
     expect!(rt; one.cmp(other) == Ordering::Equal);
-    expect!(rt; one.partial_cmp(other) == Some(Ordering::Equal));
-    expect!(rt; one == other);
-    expect!(rt; hashing_state::fed(one) == hashing_state::fed(other));
+}
+
+// The value feeds these bytes to a hash. Its clause says by which writes.
+fn expect_fed<T: Hash>(rt: &impl Abort, value: &T, writes: &[&[u8]]) {
+    let (mut fed, mut want) = (DefaultHasher::new(), DefaultHasher::new());
+    value.hash(&mut fed);
+    for write in writes {
+        want.write(write);
+    }
+    expect!(rt; fed.finish() == want.finish());
 }

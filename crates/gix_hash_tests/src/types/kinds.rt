@@ -10,31 +10,39 @@ const NULL_256: &str = "00000000000000000000000000000000000000000000000000000000
 
 fn expect_well_known(rt: &(impl Abort + AllocGlobal), kind: Kind, texts: [&str; 3]) {
     let [null, blob, tree] = texts;
-    expect_text(rt, kind.null(), null);
-    expect_text(rt, kind.null_ref(), null);
-    expect_text(rt, kind.empty_blob(), blob);
-    expect_text(rt, kind.empty_tree(), tree);
-    let [null, blob, tree] = [
-        ObjectId::null(kind),
-        ObjectId::empty_blob(kind),
-        ObjectId::empty_tree(kind),
-    ];
-    expect!(rt; null.is_null() && blob.is_empty_blob() && tree.is_empty_tree());
+    for (id, want) in [
+        (kind.null(), null),
+        (kind.null_ref().to_owned(), null),
+        (kind.empty_blob(), blob),
+        (kind.empty_tree(), tree),
+        (ObjectId::null(kind), null),
+        (ObjectId::empty_blob(kind), blob),
+        (ObjectId::empty_tree(kind), tree),
+    ] {
+        expect_text(rt, id, want);
+        let tests = [id.is_null(), id.is_empty_blob(), id.is_empty_tree()];
+        expect!(rt; tests == [want == null, want == blob, want == tree], &want);
+    }
 }
 
 #[test]
 fn names_and_numbers(rt: HostRuntime) {
     let (sha1, sha256) = (Kind::Sha1, Kind::Sha256);
-    for (names, kind) in [
-        (["sha1", "SHA1", "SHA-1"], Ok(sha1)),
-        (["sha256", "SHA256", "SHA-256"], Ok(sha256)),
+    for (name, kind) in [
+        ("sha1", Ok(sha1)),
+        ("SHA1", Ok(sha1)),
+        ("SHA-1", Ok(sha1)),
+        ("sha256", Ok(sha256)),
+        ("SHA256", Ok(sha256)),
+        ("SHA-256", Ok(sha256)),
+        ("sha-1", Err("sha-1")),
+        ("Sha1", Err("Sha1")),
+        ("md5", Err("md5")),
+        ("", Err("")),
+        ("sha1 ", Err("sha1 ")),
+        ("SHA-2560", Err("SHA-2560")),
     ] {
-        for name in names {
-            expect!(&rt; Kind::from_str(name) == kind, &name);
-        }
-    }
-    for name in ["sha-1", "Sha1", "md5", "", "sha1 ", "SHA-2560"] {
-        expect!(&rt; Kind::from_str(name) == Err(name), &name);
+        expect!(&rt; Kind::from_str(name) == kind, &name);
     }
     for (number, kind) in [(0, Err(0)), (1, Ok(sha1)), (2, Ok(sha256)), (3, Err(3))] {
         expect!(&rt; tried(number) == kind, &number);

@@ -9,7 +9,6 @@ use gix_hash::{
 };
 use std::io::ErrorKind::UnexpectedEof;
 use std::process::Abort;
-use std::test::Fail;
 use test_devices::{FAILED, Fault, Reader};
 
 /// The digests of `abc`, as FIPS 180-4's examples have them.
@@ -21,6 +20,10 @@ pub const ABC_256: &str = "ba7816bf8f01cfea414140de5dae2223b00361a396177a9cb410f
 pub const EMPTY: &str = "da39a3ee5e6b4b0d3255bfef95601890afd80709";
 
 const EMPTY_256: &str = "e3b0c44298fc1c149afbf4c8996fb92427ae41e4649b934ca495991b7852b855";
+
+const TWO_BLOCKS: &str = "84983e441c3bd26ebaae4aa1f95129e5e54670f1";
+
+const TWO_BLOCKS_256: &str = "248d6a61d20638b8e5c026930c3e6039a33ce45964ff2167f6ecedd419db06c1";
 
 // The digests of 65535 and of 131071 zero bytes, by sha1sum.
 const FULL_CHUNK: &str = "391edab7225a1de662ebc3a1a670a20d8e6a226b";
@@ -46,22 +49,22 @@ fn expect_digest(rt: &(impl Abort + AllocGlobal), kind: Kind, parts: &[&[u8]], w
 #[test]
 fn parts_are_one_message(rt: HostRuntime) {
     let two_blocks: &[u8] = b"abcdbcdecdefdefgefghfghighijhijkijkljklmklmnlmnomnopnopq";
-    expect_digest(&rt, Kind::Sha1, &[], EMPTY);
-    expect_digest(&rt, Kind::Sha256, &[], EMPTY_256);
-    expect_digest(&rt, Kind::Sha1, &[b"ab", b"", b"c"], ABC);
-    expect_digest(&rt, Kind::Sha256, &[b"abc"], ABC_256);
-    expect_digest(
-        &rt,
-        Kind::Sha1,
-        &[two_blocks],
-        "84983e441c3bd26ebaae4aa1f95129e5e54670f1",
-    );
-    expect_digest(
-        &rt,
-        Kind::Sha256,
-        &[&two_blocks[..3], &two_blocks[3..]],
-        "248d6a61d20638b8e5c026930c3e6039a33ce45964ff2167f6ecedd419db06c1",
-    );
+    let (sha1, sha256) = (Kind::Sha1, Kind::Sha256);
+    let rows: [(Kind, &[&[u8]], &str); 6] = [
+        (sha1, &[], EMPTY),
+        (sha256, &[], EMPTY_256),
+        (sha1, &[b"ab", b"", b"c"], ABC),
+        (sha256, &[b"abc"], ABC_256),
+        (sha1, &[two_blocks], TWO_BLOCKS),
+        (
+            sha256,
+            &[&two_blocks[..3], &two_blocks[3..]],
+            TWO_BLOCKS_256,
+        ),
+    ];
+    for (kind, parts, want) in rows {
+        expect_digest(&rt, kind, parts, want);
+    }
 }
 
 // The digest of the 20 bytes of the empty blob's id, by sha1sum.
@@ -75,19 +78,6 @@ fn an_id_is_hashed_by_its_bytes(rt: HostRuntime) {
     );
 }
 
-// The objects by whose digests Git names the empty blob and the empty tree.
-#[test]
-fn well_known_ids_are_digests() -> Result<(), Fail> {
-    for &kind in Kind::all() {
-        let blob = digest_of(kind, b"blob 0\0");
-        let tree = digest_of(kind, b"tree 0\0");
-        if blob != kind.empty_blob() || tree != kind.empty_tree() {
-            return Err(Fail::new("a well-known id is another digest"));
-        }
-    }
-    Ok(())
-}
-
 // Packs of one blob, by `git pack-objects`, by SHA-1 and by SHA-256.
 const PACK: &[u8] =
     b"PACK\x00\x00\x00\x02\x00\x00\x00\x01\x34\x78\x9c\xcb\xcf\x4b\xe5\x02\x00\x03\xde\x01\x4d\
@@ -99,19 +89,19 @@ const PACK_256: &[u8] =
 \xf0\xf5\x2c\x31";
 
 #[test]
-fn packs_end_in_their_digest() -> Result<(), Fail> {
+fn packs_end_in_their_digest(rt: HostRuntime) {
     let empty = digest_of(Kind::Sha1, b"");
-    let right = ends_in_digest(Kind::Sha1, PACK)
-        && ends_in_digest(Kind::Sha256, PACK_256)
-        && ends_in_digest(Kind::Sha1, empty.as_slice());
-    let wrong = ends_in_digest(Kind::Sha1, &PACK[1..])
-        || ends_in_digest(Kind::Sha1, PACK_256)
-        || ends_in_digest(Kind::Sha1, b"PACK")
-        || ends_in_digest(Kind::Sha1, b"");
-    if !right || wrong {
-        return Err(Fail::new("another result for a pack"));
+    for (kind, bytes, ends) in [
+        (Kind::Sha1, PACK, true),
+        (Kind::Sha256, PACK_256, true),
+        (Kind::Sha1, empty.as_slice(), true),
+        (Kind::Sha1, &PACK[1..], false),
+        (Kind::Sha1, PACK_256, false),
+        (Kind::Sha1, b"PACK", false),
+        (Kind::Sha1, b"", false),
+    ] {
+        expect!(&rt; ends_in_digest(kind, bytes) == ends, &bytes.len());
     }
-    Ok(())
 }
 
 #[test]
@@ -130,22 +120,6 @@ fn only_the_next_bytes_are_read(rt: HostRuntime) {
     }
 }
 
-// No allocator is in reach.
-#[test]
-fn hashed_without_memory() -> Result<(), Fail> {
-    let abc = ObjectId::from_hex(ABC.as_bytes())?;
-    let mut input: &[u8] = b"abcdef";
-    let read = bytes(&mut input, 3, Kind::Sha1, &mut NoProgress, &mut Never)?;
-    let mut input: &[u8] = b"bcX";
-    let fed = hasher_fed(Kind::Sha1, &[b"a"]);
-    let read_on = bytes_with_hasher(&mut input, 2, fed, &mut NoProgress, &mut Never)?;
-    let wide = digest_of(Kind::Sha256, b"abc");
-    if read != abc || read_on != abc || wide != ObjectId::from_hex(ABC_256.as_bytes())? {
-        return Err(Fail::new("another digest without memory"));
-    }
-    Ok(())
-}
-
 // What is heard about 131071 bytes.
 const THREE_CHUNKS_HEARD: [Call; 5] = [
     Call::Init(Some(131071)),
@@ -157,7 +131,6 @@ const THREE_CHUNKS_HEARD: [Call; 5] = [
 
 // A run that reads from 131071 zero bytes, is interrupted at the call with that number, or never at
 // 0, and what it returns.
-#[derive(Clone, Copy)]
 struct Run {
     num_bytes: u64,
     stops_at: usize,
@@ -239,28 +212,18 @@ fn expect_run(rt: &(impl Abort + AllocGlobal), zeros: &[u8], run: &Run) {
     let len = run.num_bytes;
     let outcome = bytes(&mut input, len, Kind::Sha1, &mut heard, &mut asked);
     heard.expect(rt, run.heard);
-    expect!(rt; asked.times == chunks(run.heard), &run.outcome);
-    expect!(rt; input.len() == run.unread, &run.outcome);
+    let counts = (asked.times, input.len());
+    expect!(rt; counts == (chunks(run.heard), run.unread), &run.outcome);
     expect_outcome(rt, outcome, run.outcome);
 }
 
 #[test]
 fn chunks_are_heard_and_asked_after(rt: HostRuntime) {
     let zeros = [0; 131071];
-    for run in RUNS {
-        expect_run(&rt, &zeros, &run);
+    for run in &RUNS {
+        expect_run(&rt, &zeros, run);
     }
     expect_text(&rt, digest_of(Kind::Sha1, &zeros), THREE_CHUNKS);
-}
-
-#[test]
-fn a_hasher_goes_on_from_what_it_was_fed(rt: HostRuntime) {
-    let mut heard = Heard::new();
-    let fed = hasher_fed(Kind::Sha1, &[b"abc"]);
-    let mut input: &[u8] = b"d";
-    let id = bytes_with_hasher(&mut input, 0, fed, &mut heard, &mut Never);
-    expect_outcome(&rt, id, ABC);
-    heard.expect(&rt, &[Call::Init(Some(0)), Call::ShowThroughput]);
 }
 
 // FIPS 180-4's long example: a million times the letter a.
@@ -305,45 +268,59 @@ fn a_reader_that_ends_too_early(rt: HostRuntime) {
 #[test]
 fn each_read_fails_in_turn(rt: HostRuntime) {
     let zeros = [0; 131071];
-    let all = THREE_CHUNKS_HEARD;
-    for at in 1..=8 {
+    for at in 1..=7 {
         let mut input = Reader::new(&zeros, 30000, Fault::AtCall(at));
         let (mut heard, mut asked) = (Heard::new(), Asked::stopping_at(0));
         let outcome = bytes(&mut input, 131071, Kind::Sha1, &mut heard, &mut asked);
-        if at == 8 {
-            expect_outcome(&rt, outcome, THREE_CHUNKS);
-            heard.expect(&rt, &all);
-        } else {
-            expect!(&rt; matches!(outcome, Err(io::Error::Io(_))), &at);
-            expect_outcome(&rt, outcome, FAILED);
-            let chunks = (at - 1) / 3;
-            heard.expect(&rt, &all[..1 + chunks]);
-            expect!(&rt; asked.times == chunks, &at);
-            expect!(&rt; input.calls == at);
-        }
+        expect_outcome(&rt, outcome, FAILED);
+        let chunks = (at - 1) / 3;
+        heard.expect(&rt, &THREE_CHUNKS_HEARD[..1 + chunks]);
+        expect!(&rt; (asked.times, input.calls) == (chunks, at), &at);
     }
-    // The error that a reader returns after its bytes.
-    let mut input = Reader::new(b"abc", 2, Fault::AfterBytes(3));
-    let outcome = bytes(&mut input, 4, Kind::Sha1, &mut NoProgress, &mut Never);
-    expect_outcome(&rt, outcome, FAILED);
+}
+
+// By a reader that fails at an eighth read, and by one that returns its error after its bytes.
+#[test]
+fn readers_that_fail_at_the_end(rt: HostRuntime) {
+    let zeros = [0; 131071];
+    for (given, chunk, fault, num_bytes, want) in [
+        (
+            zeros.as_slice(),
+            30000,
+            Fault::AtCall(8),
+            131071,
+            THREE_CHUNKS,
+        ),
+        (b"abc", 2, Fault::AfterBytes(3), 4, FAILED),
+    ] {
+        let mut input = Reader::new(given, chunk, fault);
+        let id = bytes(
+            &mut input,
+            num_bytes,
+            Kind::Sha1,
+            &mut NoProgress,
+            &mut Never,
+        );
+        expect_outcome(&rt, id, want);
+    }
+}
+
+fn collision() -> hashing::Error {
+    hashing::Error::CollisionAttack {
+        digest: ObjectId::null(Kind::Sha1),
+    }
 }
 
 #[test]
 fn error_texts(rt: HostRuntime) {
-    let collision = || hashing::Error::CollisionAttack {
-        digest: ObjectId::null(Kind::Sha1),
-    };
     expect_error(
         &rt,
         collision(),
         "Detected SHA-1 collision attack with digest 0000000000000000000000000000000000000000",
     );
     let failed = io::Error::from(std::io::Error::new(std::io::ErrorKind::Other, FAILED));
-    expect!(&rt; matches!(failed, io::Error::Io(_)));
     expect_error(&rt, failed, FAILED);
-    let failed_hash = io::Error::from(collision());
-    expect!(&rt; matches!(failed_hash, io::Error::Hasher(_)));
-    expect_error(&rt, failed_hash, "Failed to hash data");
+    expect_error(&rt, io::Error::from(collision()), "Failed to hash data");
     expect_error(&rt, io::Error::Interrupted, "Interrupted");
     expect_debug(&rt, (NoProgress, Never), "(NoProgress, Never)");
 }
