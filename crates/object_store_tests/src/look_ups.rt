@@ -1,49 +1,50 @@
-//! Look-ups and names in stores whose ids and names are known.
+//! Look-ups of ids, their names and their places.
 
-use crate::memory::{Memory, Reads, index_of};
-use gix_hash::{Kind, ObjectId, Prefix};
+use crate::content::{Content, EVERYWHERE, NAMED, PLACES};
+use crate::expecting::{expect_text, text_of};
+use crate::memory::{Memory, Reads};
+use gix_hash::{ObjectId, Prefix};
 use linked_list_allocator::LocalHeap;
-use object_store::{Error, NamedId, Store, abbreviate, lookup_prefix, names};
-use pack_index::LazyError;
-use std::alloc::{Allocator, Global};
-use std::fmt::Display;
-use std::io;
+use object_store::{Error, NamedId, Place, Store, abbreviate, locate, lookup_prefix, names};
+use std::alloc::Allocator;
 use std::process::Abort;
 use std::test::Fail;
 
-// The ids of each pack, and the loose ones. Some occur twice or three times.
-const FIRST: [&str; 4] = [
-    "4b825d0000000000000000000000000000000000",
-    "4b825dc642cb6eb9a060e54bf8d69288fbee4904",
-    "e69de29bb2d1d6434b8b29ae775ad8c2e48c5391",
-    "ffffffffffffffffffffffffffffffffffffffff",
-];
+// The ids of the store that begin with the prefix.
+fn find<S: Store, A: Allocator + Copy>(
+    rt: &impl Abort,
+    alloc: A,
+    store: &S,
+    prefix: &str,
+) -> Result<Vec<ObjectId, A>, Error> {
+    let kind = store.object_hash();
+    let prefix = Prefix::from_hex_in(kind, prefix).expect(rt, "no prefix");
+    assert!(rt; prefix.hex_len() >= 2 && prefix.as_oid().kind() == kind);
+    lookup_prefix(alloc, store, &prefix)
+}
 
-const SECOND: [&str; 3] = [
-    "0000000000000000000000000000000000000000",
-    "4b825dc642cb6eb9a060e54bf8d69288fbee4904",
-    "4b90000000000000000000000000000000000000",
-];
+fn expect_ids(rt: &impl Abort, found: &[ObjectId], want: &[(&str, &str)]) {
+    expect!(rt; found.len() == want.len());
+    for (id, (text, _)) in found.iter().zip(want) {
+        expect!(rt; id.eq_str(text), text);
+    }
+}
 
-// The long offsets of the second pack, of its first two names.
-const LONGS: [u64; 2] = [0x1_0000_000c, 0x7fff_ffff_ffff_ffff];
+// The places of an object in a store of the id's kind.
+fn places_of<S: Store, A: Allocator + Copy>(
+    rt: &impl Abort,
+    alloc: A,
+    store: &S,
+    id: &str,
+) -> Result<Vec<Place, A>, Error> {
+    let id = ObjectId::from_hex(id.as_bytes()).expect(rt, "no id");
+    assert!(rt; id.kind() == store.object_hash());
+    locate(alloc, store, &id)
+}
 
-const LOOSE: [&str; 3] = [
-    "e69de29c00000000000000000000000000000000",
-    "4b825dc642cb6eb9a060e54bf8d69288fbee4904",
-    "e69de29bb2d1d6434b8b29ae775ad8c2e48c5391",
-];
-
-// Every id of the store, each once, in order, and its shortest name of 4 digits or more.
-const NAMED: [(&str, &str); 7] = [
-    ("0000000000000000000000000000000000000000", "0000"),
-    ("4b825d0000000000000000000000000000000000", "4b825d0"),
-    ("4b825dc642cb6eb9a060e54bf8d69288fbee4904", "4b825dc"),
-    ("4b90000000000000000000000000000000000000", "4b90"),
-    ("e69de29bb2d1d6434b8b29ae775ad8c2e48c5391", "e69de29b"),
-    ("e69de29c00000000000000000000000000000000", "e69de29c"),
-    ("ffffffffffffffffffffffffffffffffffffffff", "ffff"),
-];
+fn expect_places(rt: &impl Abort, found: &[Place], want: &[Place]) {
+    expect!(rt; *found == *want);
+}
 
 // Prefixes, and how many ids are before those that begin with them, and how many begin with them.
 const PREFIXES: [(&str, usize, usize); 8] = [
@@ -56,62 +57,6 @@ const PREFIXES: [(&str, usize, usize); 8] = [
     ("ff", 6, 1),
     ("fe", 6, 0),
 ];
-
-fn ids_of(rt: &(impl Abort + AllocGlobal), texts: &[&str]) -> Result<Vec<ObjectId>, Fail> {
-    let mut ids = Vec::new(rt.alloc());
-    for text in texts {
-        ids.push(ObjectId::from_hex(text.as_bytes())?)?;
-    }
-    Ok(ids)
-}
-
-// The ids of the store that begin with the prefix.
-fn find<S: Store, A: Allocator + Copy>(
-    rt: &impl Abort,
-    alloc: A,
-    store: &S,
-    prefix: &str,
-) -> Result<Vec<ObjectId, A>, Error> {
-    let prefix = Prefix::from_hex_in(store.object_hash(), prefix).expect(rt, "no prefix");
-    assert!(rt; prefix.hex_len() >= 2);
-    assert!(rt; prefix.as_oid().kind() == store.object_hash());
-    lookup_prefix(alloc, store, &prefix)
-}
-
-fn expect_ids(rt: &impl Abort, found: &[ObjectId], want: &[(&str, &str)]) {
-    assert!(rt; found.len() == want.len(), "{found:?}");
-    for (id, (text, _)) in found.iter().zip(want) {
-        assert!(rt; id.eq_str(text), "{id} and not {text}");
-    }
-}
-
-// The bytes of both pack indexes, and the loose ids.
-#[derive(Drop)]
-pub struct Content {
-    pub first: Vec<u8>,
-    pub second: Vec<u8>,
-    loose: Vec<ObjectId>,
-}
-
-impl Content {
-    pub fn new(rt: &(impl Abort + AllocGlobal)) -> Result<Content, Fail> {
-        let (first, second) = (ids_of(rt, &FIRST)?, ids_of(rt, &SECOND)?);
-        Ok(Content {
-            first: index_of(rt.alloc(), Kind::Sha1, &first, &[])?,
-            second: index_of(rt.alloc(), Kind::Sha1, &second, &LONGS)?,
-            loose: ids_of(rt, &LOOSE)?,
-        })
-    }
-
-    pub fn open<'a>(&'a self, alloc: Global, reads: &'a Reads) -> Result<Memory<'a>, LazyError> {
-        let Content {
-            first,
-            second,
-            loose,
-        } = self;
-        Memory::open(alloc, Kind::Sha1, first, second, loose, reads)
-    }
-}
 
 #[test]
 fn prefixes_are_found_once_and_in_order(rt: HostRuntime) -> Result<(), Fail> {
@@ -126,14 +71,58 @@ fn prefixes_are_found_once_and_in_order(rt: HostRuntime) -> Result<(), Fail> {
     Ok(())
 }
 
+#[test]
+fn places_are_those_of_all_packs(rt: HostRuntime) -> Result<(), Fail> {
+    let content = Content::new(&rt)?;
+    let reads = Reads::new(1000);
+    let store = content.open(rt.alloc(), &reads)?;
+    let packed = |pack, offset| Place::Packed { pack, offset };
+    let cases: [(&str, &[Place]); 7] = [
+        (EVERYWHERE, &PLACES),
+        (
+            "0000000000000000000000000000000000000000",
+            &[packed(1, 0x1_0000_000c)],
+        ),
+        (
+            "4b825d0000000000000000000000000000000000",
+            &[packed(0, 3072)],
+        ),
+        (
+            "4b90000000000000000000000000000000000000",
+            &[packed(1, 3074)],
+        ),
+        (
+            "e69de29bb2d1d6434b8b29ae775ad8c2e48c5391",
+            &[packed(0, 3074), Place::Loose],
+        ),
+        ("e69de29c00000000000000000000000000000000", &[Place::Loose]),
+        ("4b825dc642cb6eb9a060e54bf8d69288fbee4905", &[]),
+    ];
+    for (id, want) in cases {
+        expect_places(&rt, &places_of(&rt, rt.alloc(), &store, id)?, want);
+    }
+    Ok(())
+}
+
 // The shortest name of an id of the store's kind, of 4 digits or more.
 fn name_of<S: Store>(
     rt: &(impl Abort + AllocGlobal),
     store: &S,
     id: &ObjectId,
 ) -> Result<Option<Prefix>, Error> {
-    assert!(rt; id.kind() == store.object_hash() && id.kind().len_in_hex() >= 4);
+    let kind = store.object_hash();
+    assert!(rt; id.kind() == kind && kind.len_in_hex() >= 4);
     abbreviate(rt.alloc(), store, id, 4)
+}
+
+// The ids of all first bytes, and their names.
+fn all_names<S: Store>(rt: &(impl Abort + AllocGlobal), store: &S) -> Result<Vec<NamedId>, Error> {
+    assert!(rt; store.object_hash().len_in_hex() >= 4);
+    let mut all = Vec::new(rt.alloc());
+    for byte in 0..=255 {
+        all.extend_from_slice(&names(rt.alloc(), store, byte, 4)?)?;
+    }
+    Ok(all)
 }
 
 #[test]
@@ -141,62 +130,90 @@ fn names_are_shortest_in_the_whole_store(rt: HostRuntime) -> Result<(), Fail> {
     let content = Content::new(&rt)?;
     let reads = Reads::new(10_000);
     let store = content.open(rt.alloc(), &reads)?;
-    assert!(rt; store.object_hash().len_in_hex() >= 4);
-    let mut all: Vec<NamedId> = Vec::new(rt.alloc());
-    for byte in 0..=255 {
-        all.extend_from_slice(&names(rt.alloc(), &store, byte, 4)?)?;
-    }
-    assert!(rt; all.len() == NAMED.len());
+    let all = all_names(&rt, &store)?;
+    expect!(&rt; all.len() == NAMED.len());
     for (named, (id, name)) in all.iter().zip(&NAMED) {
-        assert!(rt; named.id.eq_str(id), "{named:?}");
-        assert!(rt; named.name.eq_str(name), "{named:?}");
-        let one = name_of(&rt, &store, &named.id)?.ok_or("no name")?;
-        assert!(rt; one.eq_str(name), "{one:?}");
+        expect!(&rt; named.id.eq_str(id) && named.name.eq_str(name), id);
+        let one = name_of(&rt, &store, &named.id)?;
+        expect!(&rt; one.is_some_and(|one| one.eq_str(name)), id);
     }
     let absent = ObjectId::from_hex(b"4b825dd000000000000000000000000000000000")?;
-    assert!(rt; name_of(&rt, &store, &absent)?.is_none());
+    expect!(&rt; name_of(&rt, &store, &absent)?.is_none());
     Ok(())
 }
 
-// Which device fails at each read of a look-up in turn, and what is found once none fails.
+// A look-up of the ids that begin with `4b`, or of the places of the id that is everywhere.
+#[derive(Clone, Copy)]
+enum Asked {
+    Ids,
+    Places,
+}
+
+// Finds what is asked for, or nothing.
+fn look_up<S: Store, A: Allocator + Copy>(
+    rt: &impl Abort,
+    alloc: A,
+    store: &S,
+    asked: Asked,
+) -> Result<(), Error> {
+    match asked {
+        Asked::Ids => expect_ids(rt, &find(rt, alloc, store, "4b")?, &NAMED[1..4]),
+        Asked::Places => expect_places(rt, &places_of(rt, alloc, store, EVERYWHERE)?, &PLACES),
+    }
+    Ok(())
+}
+
+// Opens the store and looks up with this many reads: the text of the error, if any.
+fn outcome(
+    rt: &(impl Abort + AllocGlobal),
+    content: &Content,
+    left: usize,
+    asked: Asked,
+) -> Result<String, Fail> {
+    let reads = Reads::new(left);
+    let store = match content.open(rt.alloc(), &reads) {
+        Ok(store) => store,
+        Err(error) => return text_of(rt, error),
+    };
+    match look_up(rt, rt.alloc(), &store, asked) {
+        Ok(()) => text_of(rt, "found"),
+        Err(error) => text_of(rt, error),
+    }
+}
+
+// What is found with so many reads. Two open an index, for its length and its head. A look-up of
+// ids reads the names of each index and lists the loose ids.
+const IDS: [&str; 8] = [
+    "the pack index cannot be read: permission denied",
+    "the pack index cannot be read: permission denied",
+    "the pack index cannot be read: permission denied",
+    "the pack index cannot be read: permission denied",
+    "pack index 0: the pack index cannot be read: permission denied",
+    "pack index 1: the pack index cannot be read: permission denied",
+    "the loose objects cannot be listed: permission denied",
+    "found",
+];
+
+// One of places also reads an offset of each index, and a long one.
+const LOCATED: [&str; 7] = [
+    "pack index 0: the pack index cannot be read: permission denied",
+    "pack index 0: the pack index cannot be read: permission denied",
+    "pack index 1: the pack index cannot be read: permission denied",
+    "pack index 1: the pack index cannot be read: permission denied",
+    "pack index 1: the pack index cannot be read: permission denied",
+    "the loose objects cannot be listed: permission denied",
+    "found",
+];
+
 #[test]
 fn each_read_fails_in_turn(rt: HostRuntime) -> Result<(), Fail> {
     let content = Content::new(&rt)?;
-    // Two reads open an index: its length and its head.
-    for left in 0..4 {
-        let reads = Reads::new(left);
-        assert!(rt;
-            matches!(content.open(rt.alloc(), &reads), Err(LazyError::Read(_))),
-            "{left}"
-        );
+    for (left, want) in IDS.iter().enumerate() {
+        expect_text(&rt, &outcome(&rt, &content, left, Asked::Ids)?, want);
     }
-    // Then a look-up reads the names of each index, and lists the loose ids.
-    let causes = [
-        "pack index 0: the pack index cannot be read: permission denied",
-        "pack index 1: the pack index cannot be read: permission denied",
-        "the loose objects cannot be listed: permission denied",
-    ];
-    for (done, cause) in causes.iter().enumerate() {
-        let reads = Reads::new(4 + done);
-        let store = content.open(rt.alloc(), &reads)?;
-        match find(&rt, rt.alloc(), &store, "4b") {
-            Ok(found) => assert!(rt; false, "{found:?}"),
-            Err(error) => expect_text(&rt, error, cause)?,
-        }
+    for (done, want) in LOCATED.iter().enumerate() {
+        expect_text(&rt, &outcome(&rt, &content, 4 + done, Asked::Places)?, want);
     }
-    let reads = Reads::new(7);
-    let store = content.open(rt.alloc(), &reads)?;
-    assert!(rt; find(&rt, rt.alloc(), &store, "4b")?.len() == 3);
-    Ok(())
-}
-
-pub fn expect_text<T: Display + Drop>(
-    rt: &(impl Abort + AllocGlobal),
-    value: T,
-    want: &str,
-) -> Result<(), Fail> {
-    let text = format!(in rt.alloc(); "{value}")?;
-    assert!(rt; text.as_str() == want, "{text}");
     Ok(())
 }
 
@@ -214,90 +231,82 @@ const DAMAGED: [(usize, u8, &str); 7] = [
     (
         307,
         3,
-        "the count of the first byte 75 is below the one before it",
+        "pack index 0: the count of the first byte 75 is below the one before it",
     ),
     (
         311,
         5,
-        "the count of the first byte 75 is above the number of names",
+        "pack index 0: the count of the first byte 75 is above the number of names",
     ),
     (
         311,
         3,
-        "a name that is counted with the first byte 75 has another",
+        "pack index 0: a name that is counted with the first byte 75 has another",
     ),
     (
         1032,
         0,
-        "a name that is counted with the first byte 75 has another",
+        "pack index 0: a name that is counted with the first byte 75 has another",
     ),
 ];
 
+fn set(bytes: &mut [u8], at: usize, value: u8) {
+    if let Some(byte) = bytes.get_mut(at) {
+        *byte = value;
+    }
+}
+
 #[test]
 fn damage_is_reported(rt: HostRuntime) -> Result<(), Fail> {
-    let mut content = Content::new(&rt)?;
     for (at, value, want) in DAMAGED {
-        assert!(rt; at < content.first.len());
-        let before = content.first[at];
-        content.first[at] = value;
-        let reads = Reads::new(100);
-        match content.open(rt.alloc(), &reads) {
-            Err(error) => expect_text(&rt, error, want)?,
-            Ok(store) => match find(&rt, rt.alloc(), &store, "4b") {
-                Err(Error::Index { at: 0, error }) => expect_text(&rt, error, want)?,
-                other => assert!(rt; false, "{other:?}"),
-            },
-        }
-        content.first[at] = before;
+        let mut content = Content::new(&rt)?;
+        set(&mut content.first, at, value);
+        expect_text(&rt, &outcome(&rt, &content, 100, Asked::Ids)?, want);
     }
-    let reads = Reads::new(100);
-    let cut = content.first.get(..1063).ok_or("no index")?;
-    let cut = Memory::open(rt.alloc(), Kind::Sha1, cut, &content.second, &[], &reads);
-    match cut {
-        Err(error) => expect_text(&rt, error, "the bytes are too few for a pack index")?,
-        Ok(_) => assert!(rt; false),
-    }
+    let mut content = Content::new(&rt)?;
+    content.first.truncate(1063);
+    let want = "the bytes are too few for a pack index";
+    expect_text(&rt, &outcome(&rt, &content, 100, Asked::Ids)?, want);
+    // The second name of the second index has the third long offset of two.
+    let mut content = Content::new(&rt)?;
+    set(&mut content.second, 1032 + 3 * (20 + 4) + 4 + 3, 2);
+    let want = "pack index 1: the name at place 1 has no offset";
+    expect_text(&rt, &outcome(&rt, &content, 100, Asked::Places)?, want);
     Ok(())
 }
 
-// With little memory a look-up finds all, or reports that there is too little and gives all back.
+// Whether this much memory is enough for a look-up. If not, the error says so. All is given back.
+fn is_enough(
+    rt: &(impl Abort + AllocGlobal),
+    store: &Memory<'_>,
+    units: usize,
+    asked: Asked,
+) -> Result<bool, Fail> {
+    let heap = LocalHeap::new(rt.alloc(), units.saturating_mul(16))?;
+    let outcome = look_up(rt, &heap, store, asked);
+    expect!(rt; heap.used() == 0, &units);
+    let Err(error) = outcome else {
+        return Ok(true);
+    };
+    let text = text_of(rt, error)?;
+    expect!(rt; text.ends_with("out of memory") && !text.contains("read"), &text);
+    Ok(false)
+}
+
+// Memory is too little at first, and then enough.
 #[test]
 fn memory_is_refused(rt: HostRuntime) -> Result<(), Fail> {
     let content = Content::new(&rt)?;
     let reads = Reads::new(100_000);
     let store = content.open(rt.alloc(), &reads)?;
-    // Whether there was too little, and then enough.
-    let (mut was_refused, mut is_granted) = (false, false);
-    for units in 0..64usize {
-        let heap = LocalHeap::new(rt.alloc(), 16 * units)?;
-        match find(&rt, &heap, &store, "4b") {
-            Ok(found) => {
-                expect_ids(&rt, &found, &NAMED[1..4]);
-                is_granted = true;
-            }
-            Err(error) => {
-                assert!(rt; !is_granted, "{units}");
-                expect_no_memory(&rt, error)?;
-                was_refused = true;
-            }
+    for asked in [Asked::Ids, Asked::Places] {
+        let mut before = false;
+        for units in 0..64 {
+            let is_enough = is_enough(&rt, &store, units, asked)?;
+            expect!(&rt; is_enough >= before && !(is_enough && units == 0), &units);
+            before = is_enough;
         }
-        assert!(rt; heap.used() == 0, "{units}");
+        expect!(&rt; before);
     }
-    assert!(rt; was_refused && is_granted);
     Ok(())
-}
-
-// The error says that there is too little memory.
-pub fn expect_no_memory(rt: &(impl Abort + AllocGlobal), error: Error) -> Result<(), Fail> {
-    match error {
-        Error::Index {
-            error: LazyError::Memory(_),
-            ..
-        } => Ok(()),
-        Error::Loose(error) => {
-            assert!(rt; error.kind() == io::ErrorKind::OutOfMemory, "{error}");
-            Ok(())
-        }
-        error => expect_text(rt, error, "out of memory"),
-    }
 }

@@ -24,16 +24,15 @@ fn compares_an_index_with_a_pack(rt: HostRuntime) -> Result<(), Fail> {
         let pack = ending_in(rt.alloc(), &[blob, tree])?;
         let (index, pack, short) = (&index[..], &pack[..], &b"few"[..]);
         let same = pair(&index, &pack, kind);
-        assert!(rt; matches!(same, Ok(Pairing::Same)));
-        let other = pair(&pack, &pack, kind);
-        let Ok(Pairing::Other { named, found }) = other else {
+        expect!(&rt; matches!(same, Ok(Pairing::Same)));
+        let Ok(Pairing::Other { named, found }) = pair(&pack, &pack, kind) else {
             return Err(Fail::new("they belong together"));
         };
-        assert!(rt; named == blob && found == Some(tree));
+        expect!(&rt; named == blob && found == Some(tree));
         let other = pair(&index, &short, kind);
-        assert!(rt; matches!(other, Ok(Pairing::Other { found: None, .. })));
-        let unnamed = pair(&index.get(4..).unwrap_or(b""), &pack, kind);
-        assert!(rt; matches!(unnamed, Ok(Pairing::Unnamed)));
+        expect!(&rt; matches!(other, Ok(Pairing::Other { found: None, .. })));
+        let unnamed = pair(&short, &pack, kind);
+        expect!(&rt; matches!(unnamed, Ok(Pairing::Unnamed)));
     }
     Ok(())
 }
@@ -51,7 +50,7 @@ fn says_which_cannot_be_read(rt: HostRuntime) -> Result<(), Fail> {
         };
         let outcome = pair(&counted, &counted, Kind::Sha1);
         let of_index = matches!(outcome, Err(PairingError::Index(_)));
-        assert!(rt; of_index == (left < 2) && outcome.is_ok() == (left == 4));
+        expect!(&rt; of_index == (left < 2) && outcome.is_ok() == (left == 4));
     }
     Ok(())
 }

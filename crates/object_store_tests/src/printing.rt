@@ -1,6 +1,6 @@
 //! What `packtool` prints of a store, where writes and reads fail in turn.
 
-use crate::look_ups::Content;
+use crate::content::Content;
 use crate::memory::{Memory, Reads};
 use gix_hash::Prefix;
 use object_store::Store;
@@ -33,7 +33,7 @@ ffffff ffffffffffffffffffffffffffffffffffffffff
 const AMPLE: usize = 10_000;
 
 // What is asked for.
-#[derive(Clone, Copy, Debug)]
+#[derive(Clone, Copy)]
 enum Asked {
     Find(&'static str),
     Locate(&'static str),
@@ -47,23 +47,33 @@ fn run(
     store: &Memory<'_>,
     out: &mut IntoSlice<'_>,
 ) -> Result<bool, StoreError> {
+    let kind = store.object_hash();
+    assert!(rt; !out.failed());
+    let (Asked::Find(prefix) | Asked::Locate(prefix)) = asked else {
+        assert!(rt; kind.len_in_hex() >= 6);
+        return names(rt.alloc(), store, 6, out);
+    };
+    let prefix = Prefix::from_hex_in(kind, prefix).expect(rt, "no prefix");
+    assert!(rt; prefix.hex_len() >= 2 && prefix.as_oid().kind() == kind);
     match asked {
-        Asked::Find(prefix) | Asked::Locate(prefix) => {
-            let prefix = Prefix::from_hex_in(store.object_hash(), prefix).expect(rt, "no prefix");
-            assert!(rt; prefix.hex_len() >= 2);
-            assert!(rt; prefix.as_oid().kind() == store.object_hash());
-            assert!(rt; !out.failed());
-            if matches!(asked, Asked::Find(_)) {
-                find(rt.alloc(), store, &prefix, out)
-            } else {
-                locate(rt.alloc(), store, &prefix, out)
-            }
-        }
-        Asked::Names => {
-            assert!(rt; store.object_hash().len_in_hex() >= 6);
-            assert!(rt; !out.failed());
-            names(rt.alloc(), store, 6, out)
-        }
+        Asked::Find(_) => find(rt.alloc(), store, &prefix, out),
+        _ => locate(rt.alloc(), store, &prefix, out),
+    }
+}
+
+// Whether as much of the text is taken as the outcome says, with this many reads and this much
+// room.
+fn is_right(
+    outcome: &Result<bool, StoreError>,
+    text: &str,
+    taken: usize,
+    left: usize,
+    room: usize,
+) -> bool {
+    match outcome {
+        Ok(any) => *any != text.is_empty() && taken == text.len() && left > 7,
+        Err(StoreError::Output) => taken == room && room < text.len(),
+        Err(StoreError::Store(_)) => left < AMPLE,
     }
 }
 
@@ -83,19 +93,8 @@ fn expect_written(
     let mut out = IntoSlice::new(buf.get_mut(..room).ok_or("no room")?);
     let outcome = run(rt, asked, &store, &mut out);
     let taken = out.written();
-    let row = (asked, left, room);
-    assert!(rt; text.as_bytes().starts_with(taken), "{row:?}");
-    match outcome {
-        Ok(any) => {
-            assert!(rt;
-                any != text.is_empty() && taken.len() == text.len(),
-                "{row:?}"
-            );
-            assert!(rt; left > 7, "{row:?}");
-        }
-        Err(StoreError::Output) => assert!(rt; taken.len() == room && room < text.len(), "{row:?}"),
-        Err(StoreError::Store(_)) => assert!(rt; left < AMPLE, "{row:?}"),
-    }
+    let is_right = is_right(&outcome, text, taken.len(), left, room);
+    expect!(rt; is_right && text.as_bytes().starts_with(taken), &(left, room));
     Ok(())
 }
 

@@ -1,0 +1,94 @@
+//! A store of two packs and loose objects, whose ids, names and places are known.
+
+use crate::memory::{Memory, Reads, index_of};
+use gix_hash::{Kind, ObjectId};
+use object_store::Place;
+use pack_index::LazyError;
+use std::alloc::Global;
+use std::test::Fail;
+
+// The ids of each pack, and the loose ones. Some occur twice or three times.
+const FIRST: [&str; 4] = [
+    "4b825d0000000000000000000000000000000000",
+    "4b825dc642cb6eb9a060e54bf8d69288fbee4904",
+    "e69de29bb2d1d6434b8b29ae775ad8c2e48c5391",
+    "ffffffffffffffffffffffffffffffffffffffff",
+];
+
+const SECOND: [&str; 3] = [
+    "0000000000000000000000000000000000000000",
+    "4b825dc642cb6eb9a060e54bf8d69288fbee4904",
+    "4b90000000000000000000000000000000000000",
+];
+
+// The long offsets of the second pack, of its first two names.
+const LONGS: [u64; 2] = [0x1_0000_000c, 0x7fff_ffff_ffff_ffff];
+
+const LOOSE: [&str; 3] = [
+    "e69de29c00000000000000000000000000000000",
+    "4b825dc642cb6eb9a060e54bf8d69288fbee4904",
+    "e69de29bb2d1d6434b8b29ae775ad8c2e48c5391",
+];
+
+/// Every id of the store, each once, in order, and its shortest name of 4 digits or more.
+pub const NAMED: [(&str, &str); 7] = [
+    ("0000000000000000000000000000000000000000", "0000"),
+    ("4b825d0000000000000000000000000000000000", "4b825d0"),
+    ("4b825dc642cb6eb9a060e54bf8d69288fbee4904", "4b825dc"),
+    ("4b90000000000000000000000000000000000000", "4b90"),
+    ("e69de29bb2d1d6434b8b29ae775ad8c2e48c5391", "e69de29b"),
+    ("e69de29c00000000000000000000000000000000", "e69de29c"),
+    ("ffffffffffffffffffffffffffffffffffffffff", "ffff"),
+];
+
+/// An id that is in both packs and loose.
+pub const EVERYWHERE: &str = "4b825dc642cb6eb9a060e54bf8d69288fbee4904";
+
+/// Its places. Its offset in the second pack is a long one.
+pub const PLACES: [Place; 3] = [
+    Place::Packed {
+        pack: 0,
+        offset: 3073,
+    },
+    Place::Packed {
+        pack: 1,
+        offset: 0x7fff_ffff_ffff_ffff,
+    },
+    Place::Loose,
+];
+
+/// The bytes of both pack indexes, and the loose ids.
+#[derive(Drop)]
+pub struct Content {
+    pub first: Vec<u8>,
+    pub second: Vec<u8>,
+    loose: Vec<ObjectId>,
+}
+
+impl Content {
+    pub fn new(rt: &impl AllocGlobal) -> Result<Content, Fail> {
+        let (first, second) = (ids_of(rt, &FIRST)?, ids_of(rt, &SECOND)?);
+        Ok(Content {
+            first: index_of(rt.alloc(), Kind::Sha1, &first, &[])?,
+            second: index_of(rt.alloc(), Kind::Sha1, &second, &LONGS)?,
+            loose: ids_of(rt, &LOOSE)?,
+        })
+    }
+
+    pub fn open<'a>(&'a self, alloc: Global, reads: &'a Reads) -> Result<Memory<'a>, LazyError> {
+        let Content {
+            first,
+            second,
+            loose,
+        } = self;
+        Memory::open(alloc, Kind::Sha1, first, second, loose, reads)
+    }
+}
+
+fn ids_of(rt: &impl AllocGlobal, texts: &[&str]) -> Result<Vec<ObjectId>, Fail> {
+    let mut ids = Vec::new(rt.alloc());
+    for text in texts {
+        ids.push(ObjectId::from_hex(text.as_bytes())?)?;
+    }
+    Ok(ids)
+}

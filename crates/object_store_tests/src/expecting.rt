@@ -1,0 +1,24 @@
+//! Assertions that are calls, and texts.
+
+use std::fmt::{Debug, Display};
+use std::process::Abort;
+use std::test::Fail;
+
+pub fn expect(rt: &impl Abort, holds: bool, condition: &str) {
+    assert!(rt; holds, "assertion failed: {condition}");
+}
+
+/// As `expect`, of a row of a table.
+pub fn expect_of<T: Debug>(rt: &impl Abort, holds: bool, condition: &str, row: &T) {
+    assert!(rt; holds, "assertion failed for {row:?}: {condition}");
+}
+
+/// The text is this one.
+pub fn expect_text(rt: &impl Abort, text: &str, want: &str) {
+    assert!(rt; text == want, "{text} and not {want}");
+}
+
+/// What a value prints.
+pub fn text_of<T: Display + Drop>(rt: &impl AllocGlobal, value: T) -> Result<String, Fail> {
+    Ok(format!(in rt.alloc(); "{value}")?)
+}
