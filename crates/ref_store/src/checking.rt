@@ -72,6 +72,3 @@ pub fn fan_out_entry(id: &ObjectId) -> usize
 {
     usize::from(id.first_byte())
 }
-
-#[cfg(test)]
-mod tests;

@@ -32,5 +32,3 @@ pub mod sorting;
 pub mod typed;
 /// Sets and maps of ids.
 pub mod sets;
-#[cfg(test)]
-mod tests;
