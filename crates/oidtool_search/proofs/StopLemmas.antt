@@ -143,9 +143,3 @@ reading_same_kind other read.Input is = cc is
 reading_same_kind other read.TooMuch is = cc is
 reading_same_kind other (read.Refused (list.BadLine n e)) is = cc is
 reading_same_kind other (read.Refused list.Memory) is = cc is
-
-pub search_in : (d e : FindInError) → in_kind.Search d ≡ in_kind.Search e → d ≡ e
-search_in d e is = cc is
-
-pub search_error : {U : Type 0} (d e : FindInError) → ◌≡◌ {A = Result U FindInFromError} (Err (in_kind.Search d)) (Err (in_kind.Search e)) → d ≡ e
-search_error d e is = cc is

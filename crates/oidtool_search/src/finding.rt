@@ -9,12 +9,13 @@ ghost use Rattle.oidtool_search.specs.Finding.{finding, IsFound, IsFoundInPart, 
 ghost use Rattle.oidtool_search.specs.Lines.{lines_of};
 ghost use Rattle.oidtool_search.specs.ListText.{IsFirstRead};
 
+use crate::found::write_found;
 use crate::list::ListError;
 use crate::order::Sorted;
 use crate::reading::find_in_text;
 use gix_hash::{Alphabet, decode, prefix};
 use std::alloc::Allocator;
-use streams::{Sink, WriteFailed, write_ids};
+use streams::{Sink, WriteFailed};
 use thiserror::Error as ThisError;
 
 /// Why a search in a list text failed.
@@ -164,8 +165,7 @@ fn search<A: Allocator, W: Sink>(
 {
     let prefix = alphabet.read_prefix(prefix).map_err(FindError::Prefix)?;
     let ids = find_in_text(&alloc, Sorted::new(prefix), list)??;
-    write_ids(alphabet, &ids, out)?;
-    Ok(ids.len())
+    Ok(write_found(alphabet, ids, out)?)
 }
 
 /// A law: a result is what is found if and only if what it says of the two texts holds.

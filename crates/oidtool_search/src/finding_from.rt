@@ -11,11 +11,12 @@ ghost use Rattle.oidtool_search.specs.declared.finding.FindError.{FindError};
 ghost use Rattle.oidtool_search.specs.declared.finding_from.FindFromError.{FindFromError};
 
 use crate::finding::FindError;
+use crate::found::write_found;
 use crate::order::Sorted;
 use crate::reading::{ReadError, find_in_source};
 use gix_hash::{Alphabet, decode, prefix};
 use std::alloc::Allocator;
-use streams::{Sink, Source, WriteFailed, write_ids};
+use streams::{Sink, Source, WriteFailed};
 use thiserror::Error as ThisError;
 
 /// Why a search in the list text of a source failed.
@@ -197,8 +198,7 @@ fn search_from<A: Allocator, R: Source, W: Sink>(
 {
     let prefix = alphabet.read_prefix(prefix).map_err(FindFromError::Prefix)?;
     let ids = find_in_source(&alloc, Sorted::new(prefix), list)??;
-    write_ids(alphabet, &ids, out)?;
-    Ok(ids.len())
+    Ok(write_found(alphabet, ids, out)?)
 }
 
 /// A law of the errors `Unsorted` and `PrefixTooLong` in the clause `stopped` of [`find_from`] and

@@ -9,12 +9,13 @@ ghost use Rattle.oidtool_search.specs.FindingIn.{finding_in, ResultHoldsIn};
 ghost use Rattle.oidtool_search.specs.Lines.{lines_of};
 ghost use Rattle.oidtool_search.specs.ListText.{IsFirstRead};
 
+use crate::found::write_found;
 use crate::list::ListError;
 use crate::order::OfKind;
 use crate::reading::find_in_text;
 use gix_hash::{Alphabet, Kind, Prefix, decode, prefix};
 use std::alloc::Allocator;
-use streams::{Sink, WriteFailed, write_ids};
+use streams::{Sink, WriteFailed};
 use thiserror::Error as ThisError;
 
 /// Why a search in a list text of ids of one kind failed.
@@ -125,8 +126,7 @@ pub fn find_in<A: Allocator, W: Sink>(
 {
     let prefix = Prefix::from_hex_in(kind, prefix).map_err(FindInError::Prefix)?;
     let ids = find_in_text(&alloc, OfKind::new(kind, prefix), list)??;
-    write_ids(Alphabet::Hex, &ids, out)?;
-    Ok(ids.len())
+    Ok(write_found(Alphabet::Hex, ids, out)?)
 }
 
 /// A law: a result is what is found in ids of one kind if and only if what it says of the two texts

@@ -11,11 +11,12 @@ ghost use Rattle.oidtool_search.specs.declared.finding_in.FindInError.{FindInErr
 ghost use Rattle.oidtool_search.specs.declared.finding_in_from.FindInFromError.{FindInFromError};
 
 use crate::finding_in::FindInError;
+use crate::found::write_found;
 use crate::order::OfKind;
 use crate::reading::{ReadError, find_in_source};
 use gix_hash::{Alphabet, Kind, Prefix};
 use std::alloc::Allocator;
-use streams::{Sink, Source, WriteFailed, write_ids};
+use streams::{Sink, Source, WriteFailed};
 use thiserror::Error as ThisError;
 
 /// Why a search among the ids of one kind of a source failed.
@@ -111,8 +112,7 @@ pub fn find_in_from<A: Allocator, R: Source, W: Sink>(
         Err(error) => return Err(FindInFromError::Search(FindInError::Prefix(error))),
     };
     let ids = find_in_source(&alloc, OfKind::new(kind, prefix), list)??;
-    write_ids(Alphabet::Hex, &ids, out)?;
-    Ok(ids.len())
+    Ok(write_found(Alphabet::Hex, ids, out)?)
 }
 
 /// A law of the errors `WrongKind` and `NotRising` in the clause `stopped` of [`find_in_from`]: the

@@ -11,6 +11,7 @@ mod finding;
 mod finding_from;
 mod finding_in;
 mod finding_in_from;
+mod found;
 mod list;
 mod list_reader;
 mod order;

@@ -1,14 +1,12 @@
 -- Each exit is a case of what is found in the two texts.
-use Rattle.std.proofs.Common.{◌≡◌, inl, inr, Ok, Err, map, length, ap, subst, sym, ◌∙◌, refl}
+use Rattle.std.proofs.Common.{◌≡◌, inl, inr, Ok, ap, sym, ◌∙◌, refl}
 use Rattle.std.proofs.lemmas.Result.{err_from_is_err_and}
-use Rattle.std.proofs.lemmas.List.{length-map}
 use Rattle.std.proofs.lemmas.Bool.{false≢true}
 use Rattle.gix_hash.specs.Alphabet.{letter_of}
-use Rattle.gix_hash.specs.ObjectId.{id_digits}
 use Rattle.gix_hash.specs.PrefixReading.{prefix_read}
-use Rattle.oidtool_search.specs.declared.finding.FindError.TheVariants.{Prefix}
-use Rattle.oidtool_search.specs.Finding.{in_sorted, refusal_of_list, ResultHolds}
-use Rattle.oidtool_search.proofs.FoundInTexts.{found_texts, list_refused, memory_first, memory_of, not_output}
+use Rattle.oidtool_search.specs.declared.finding.FindError.TheVariants.{Prefix, Memory, Output}
+use Rattle.oidtool_search.specs.Finding.{in_sorted, refusal_of_list}
+use Rattle.oidtool_search.proofs.FoundInTexts.{found_texts, found_whole, found_in_part, list_refused, memory_first, memory_of, not_output}
 use Rattle.oidtool_search.proofs.Results.{error_holds}
 use Rattle.oidtool_search.proofs.Steps.{step_gave, no_error, same_error}
 use Rattle.oidtool_search.proofs.finding.search.Goals as goal
@@ -31,52 +29,42 @@ returns-in_err-find_in_text g c =
 pub returns-in_err-ids : goal.returns-in_err-ids
 returns-in_err-ids g c =
     let p = err_from_is_err_and c.from_residual-in_err-ids.result c.from_residual-in_err-ids.ensures.1 in
-    let error = c.in_err-ids.field-0.0 in
     let reads : prefix_read (letter_of c.args.alphabet) 4 c.args.prefix.now ≡ Ok c.in_ok-prefix.prefix = step_gave _ _ _ _ c.read_prefix.ensures c.in_ok-prefix.ensures.cases in
     let found = rw c.in_err-ids.was at c.in_ok-find_in_text.ensures.found in
     let is = found_texts Prefix refusal_of_list in_sorted _ _ _ c.args.list.now _ reads c.new.ensures.query found in
-    let holds = error_holds (letter_of c.args.alphabet) c.args.prefix.now c.args.list.now error is in
-    let other = ResultHolds (letter_of c.args.alphabet) c.args.prefix.now c.args.list.now in
+    let never = error_holds (letter_of c.args.alphabet) c.args.prefix.now c.args.list.now in
     rw (p.1, p.2) (record {
       found = tt;
       refused = inl is;
-      memory = λ e. absurd (subst (λ x. other (Err x)) (same_error _ _ e) holds);
+      memory = λ e. absurd (never Memory (cc (is, e)));
       untouched = λ _. refl;
-      output = (λ e. absurd (subst (λ x. other (Err x)) (same_error _ _ e) holds), λ failed. absurd (false≢true (sym c.requires ∙ failed)));
-      part = λ e. absurd (subst (λ x. other (Err x)) (same_error _ _ e) holds);
+      output = (λ e. absurd (never Output (cc (is, e))), λ failed. absurd (false≢true (sym c.requires ∙ failed)));
+      part = λ e. absurd (never Output (cc (is, e)));
     })
 
-pub returns-in_err-write_ids : goal.returns-in_err-write_ids
-returns-in_err-write_ids g c =
-    let p = err_from_is_err_and c.from_residual-in_err-write_ids.result c.from_residual-in_err-write_ids.ensures.1 in
+pub returns-in_err-write_found : goal.returns-in_err-write_found
+returns-in_err-write_found g c =
+    let p = err_from_is_err_and c.from_residual-in_err-write_found.result c.from_residual-in_err-write_found.ensures.1 in
     let reads : prefix_read (letter_of c.args.alphabet) 4 c.args.prefix.now ≡ Ok c.in_ok-prefix.prefix = step_gave _ _ _ _ c.read_prefix.ensures c.in_ok-prefix.ensures.cases in
-    let found = rw (c.in_ok-ids.was, ← c.deref.ensures.value) at c.in_ok-find_in_text.ensures.found in
-    let said = c.in_err-write_ids.ensures in
+    let found = rw c.in_ok-ids.was at c.in_ok-find_in_text.ensures.found in
+    let is = found_texts Prefix refusal_of_list in_sorted _ _ _ c.args.list.now _ reads c.new.ensures.query found in
     rw (p.1, p.2) (record {
       found = tt;
       refused = inr (inr refl);
       memory = λ is. cc is;
       untouched = λ other. absurd (other refl);
-      output = (λ _. said.failed, λ _. refl);
-      part = λ _. record {
-        ids = map id_digits c.deref.result.now;
-        found = found_texts Prefix refusal_of_list in_sorted _ _ _ c.args.list.now _ reads c.new.ensures.query found;
-        written = said.part;
-      };
+      output = (λ _. c.in_err-write_found.ensures.failed, λ _. refl);
+      part = λ _. found_in_part _ _ _ _ _ is c.in_err-write_found.ensures.part;
     })
 
 pub returns : goal.returns
 returns g c =
     let reads : prefix_read (letter_of c.args.alphabet) 4 c.args.prefix.now ≡ Ok c.in_ok-prefix.prefix = step_gave _ _ _ _ c.read_prefix.ensures c.in_ok-prefix.ensures.cases in
-    let found = rw (c.in_ok-ids.was, ← c.deref.ensures.value) at c.in_ok-find_in_text.ensures.found in
-    let said = c.in_ok-write_ids.ensures in
+    let found = rw c.in_ok-ids.was at c.in_ok-find_in_text.ensures.found in
+    let is = found_texts Prefix refusal_of_list in_sorted _ _ _ c.args.list.now _ reads c.new.ensures.query found in
+    let said = c.in_ok-write_found.ensures in
     record {
-      found = record {
-        ids = map id_digits c.deref.result.now;
-        found = found_texts Prefix refusal_of_list in_sorted _ _ _ c.args.list.now _ reads c.new.ensures.query found;
-        counted = c.len.ensures ∙ c.in_ok-ids.ids.ok.0 ∙ ap length (sym c.deref.ensures.value) ∙ sym (length-map c.deref.result.now id_digits);
-        written = said.written;
-      };
+      found = found_whole _ _ _ _ _ _ is said.counted said.written;
       refused = tt;
       memory = λ is. absurd (no_error _ _ is);
       untouched = tt;

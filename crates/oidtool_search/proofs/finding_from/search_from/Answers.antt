@@ -1,14 +1,12 @@
 -- Each exit says where the search stops, or what is found in all that the source gave.
-use Rattle.std.proofs.Common.{◌≡◌, Ok, map, length, ap, sym, ◌∙◌, refl}
+use Rattle.std.proofs.Common.{◌≡◌, Ok, sym, ◌∙◌, refl}
 use Rattle.std.proofs.lemmas.Result.{err_from_is_err_and}
-use Rattle.std.proofs.lemmas.List.{length-map}
 use Rattle.std.proofs.lemmas.Bool.{false≢true}
 use Rattle.gix_hash.specs.Alphabet.{letter_of}
-use Rattle.gix_hash.specs.ObjectId.{id_digits}
 use Rattle.gix_hash.specs.PrefixReading.{prefix_read}
 use Rattle.oidtool_search.specs.declared.finding.FindError.TheVariants.{Prefix}
 use Rattle.oidtool_search.specs.Finding.{in_sorted, refusal_of_list}
-use Rattle.oidtool_search.proofs.FoundInTexts.{found_texts}
+use Rattle.oidtool_search.proofs.FoundInTexts.{found_texts, found_whole, found_in_part}
 use Rattle.oidtool_search.proofs.Steps.{step_gave, no_error}
 use Rattle.oidtool_search.proofs.StopLemmas.{search_stops, reading_input, reading_not_output, ids_stop, ids_not_input, ids_not_output}
 use Rattle.oidtool_search.proofs.finding_from.search_from.Goals as goal
@@ -46,45 +44,29 @@ returns-in_err-ids g c =
       output = (λ e. absurd (ids_not_output (letter_of c.args.alphabet) c.args.prefix.now all.0 error is e), λ failed. absurd (false≢true (sym c.requires.output ∙ failed)));
     })
 
-pub returns-in_err-write_ids : goal.returns-in_err-write_ids
-returns-in_err-write_ids g c =
-    let p = err_from_is_err_and c.from_residual-in_err-write_ids.result c.from_residual-in_err-write_ids.ensures.1 in
+pub returns-in_err-write_found : goal.returns-in_err-write_found
+returns-in_err-write_found g c =
+    let p = err_from_is_err_and c.from_residual-in_err-write_found.result c.from_residual-in_err-write_found.ensures.1 in
     let reads : prefix_read (letter_of c.args.alphabet) 4 c.args.prefix.now ≡ Ok c.in_ok-prefix.prefix = step_gave _ _ _ _ c.read_prefix.ensures c.in_ok-prefix.ensures.cases in
-    let all = rw (c.in_ok-ids.was, ← c.deref.ensures.value) at c.in_ok-find_in_source.ensures.found in
-    let said = c.in_err-write_ids.ensures in
+    let all = rw c.in_ok-ids.was at c.in_ok-find_in_source.ensures.found in
+    let is = found_texts Prefix refusal_of_list in_sorted _ _ _ all.0 _ reads c.new.ensures.query all.2 in
     rw (p.1, p.2) (record {
       found = tt;
-      stopped = (
-        all.0,
-        all.1,
-        record {
-          ids = map id_digits c.deref.result.now;
-          found = found_texts Prefix refusal_of_list in_sorted _ _ _ all.0 _ reads c.new.ensures.query all.2;
-          written = said.part;
-        },
-      );
+      stopped = (all.0, all.1, found_in_part _ _ _ _ _ is c.in_err-write_found.ensures.part);
       unread = rw reads (λ bad. absurd (false≢true bad));
       untouched = λ other. absurd (other refl);
       input = (λ is. cc is, λ failed. absurd (false≢true (sym c.in_ok-find_in_source.ensures.stands ∙ failed)));
-      output = (λ _. said.failed, λ _. refl);
+      output = (λ _. c.in_err-write_found.ensures.failed, λ _. refl);
     })
 
 pub returns : goal.returns
 returns g c =
     let reads : prefix_read (letter_of c.args.alphabet) 4 c.args.prefix.now ≡ Ok c.in_ok-prefix.prefix = step_gave _ _ _ _ c.read_prefix.ensures c.in_ok-prefix.ensures.cases in
-    let all = rw (c.in_ok-ids.was, ← c.deref.ensures.value) at c.in_ok-find_in_source.ensures.found in
-    let said = c.in_ok-write_ids.ensures in
+    let all = rw c.in_ok-ids.was at c.in_ok-find_in_source.ensures.found in
+    let is = found_texts Prefix refusal_of_list in_sorted _ _ _ all.0 _ reads c.new.ensures.query all.2 in
+    let said = c.in_ok-write_found.ensures in
     record {
-      found = (
-        all.0,
-        all.1,
-        record {
-          ids = map id_digits c.deref.result.now;
-          found = found_texts Prefix refusal_of_list in_sorted _ _ _ all.0 _ reads c.new.ensures.query all.2;
-          counted = c.len.ensures ∙ c.in_ok-ids.ids.ok.0 ∙ ap length (sym c.deref.ensures.value) ∙ sym (length-map c.deref.result.now id_digits);
-          written = said.written;
-        },
-      );
+      found = (all.0, all.1, found_whole _ _ _ _ _ _ is said.counted said.written);
       stopped = tt;
       unread = rw reads (λ bad. absurd (false≢true bad));
       untouched = tt;

@@ -1,17 +1,15 @@
 -- Each exit says where the search stops, or what is found in all that the source gave.
-use Rattle.std.proofs.Common.{◌≡◌, Ok, Err, map, length, ap, subst, sym, ◌∙◌, refl}
+use Rattle.std.proofs.Common.{◌≡◌, Ok, sym, ◌∙◌, refl}
 use Rattle.std.proofs.lemmas.Result.{err_from_is_err_and}
-use Rattle.std.proofs.lemmas.List.{length-map}
 use Rattle.std.proofs.lemmas.Bool.{false≢true}
 use Rattle.gix_hash.specs.Digits.{hex_letter}
-use Rattle.gix_hash.specs.ObjectId.{id_digits}
 use Rattle.gix_hash.specs.PrefixReading.{prefix_read_in}
-use Rattle.oidtool_search.specs.declared.finding_in.FindInError.TheVariants.{Prefix}
-use Rattle.oidtool_search.specs.FindingIn.{in_index, refusal_of_list_in, ResultHoldsIn}
-use Rattle.oidtool_search.proofs.FoundInTexts.{found_texts}
+use Rattle.oidtool_search.specs.declared.finding_in.FindInError.TheVariants.{Prefix, OtherKind, Output}
+use Rattle.oidtool_search.specs.FindingIn.{in_index, refusal_of_list_in}
+use Rattle.oidtool_search.proofs.FoundInTexts.{found_texts, found_whole, found_in_part}
 use Rattle.oidtool_search.proofs.Results.{error_holds_in}
 use Rattle.oidtool_search.proofs.Steps.{no_error}
-use Rattle.oidtool_search.proofs.StopLemmas.{search_stops_in, reading_input_in, reading_not_output_in, reading_same_kind, ids_stop_in, search_error, search_in}
+use Rattle.oidtool_search.proofs.StopLemmas.{search_stops_in, reading_input_in, reading_not_output_in, reading_same_kind, ids_stop_in}
 use Rattle.oidtool_search.proofs.finding_in_from.find_in_from.Goals as goal
 
 pub returns-in_err-find_in_source : goal.returns-in_err-find_in_source
@@ -36,58 +34,41 @@ returns-in_err-ids g c =
     let reads : prefix_read_in c.args.kind hex_letter c.args.prefix.now ≡ Ok c.in-Ok.prefix = sym c.in-Ok.ensures in
     let all = rw c.in_err-ids.was at c.in_ok-find_in_source.ensures.found in
     let is = found_texts Prefix refusal_of_list_in (in_index c.args.kind) _ _ _ all.0 _ reads c.new.ensures.query all.2 in
-    let holds = error_holds_in c.args.kind c.args.prefix.now all.0 error is in
-    let other = ResultHoldsIn c.args.kind c.args.prefix.now all.0 in
+    let never = error_holds_in c.args.kind c.args.prefix.now all.0 in
     rw (p.1, p.2) (record {
       found = tt;
       stopped = ids_stop_in c.args.kind c.args.prefix.now all.0 error _ _ _ _ all.1 is;
-      same_kind = λ kind e. absurd (subst (λ x. other (Err x)) (search_in _ _ e) holds);
+      same_kind = λ kind e. absurd (never (OtherKind kind) (cc (is, e)));
       unread = rw reads (λ bad. absurd (false≢true bad));
       untouched = λ _. refl;
       input = (λ e. cc e, λ failed. absurd (false≢true (sym c.in_ok-find_in_source.ensures.stands ∙ failed)));
-      output = (λ e. absurd (subst (λ x. other (Err x)) (search_error _ _ e) holds), λ failed. absurd (false≢true (sym c.requires.output ∙ failed)));
+      output = (λ e. absurd (never Output (cc (is, e))), λ failed. absurd (false≢true (sym c.requires.output ∙ failed)));
     })
 
-pub returns-in_err-write_ids : goal.returns-in_err-write_ids
-returns-in_err-write_ids g c =
-    let p = err_from_is_err_and c.from_residual-in_err-write_ids.result c.from_residual-in_err-write_ids.ensures.1 in
+pub returns-in_err-write_found : goal.returns-in_err-write_found
+returns-in_err-write_found g c =
+    let p = err_from_is_err_and c.from_residual-in_err-write_found.result c.from_residual-in_err-write_found.ensures.1 in
     let reads : prefix_read_in c.args.kind hex_letter c.args.prefix.now ≡ Ok c.in-Ok.prefix = sym c.in-Ok.ensures in
-    let all = rw (c.in_ok-ids.was, ← c.deref.ensures.value) at c.in_ok-find_in_source.ensures.found in
-    let said = c.in_err-write_ids.ensures in
+    let all = rw c.in_ok-ids.was at c.in_ok-find_in_source.ensures.found in
+    let is = found_texts Prefix refusal_of_list_in (in_index c.args.kind) _ _ _ all.0 _ reads c.new.ensures.query all.2 in
     rw (p.1, p.2) (record {
       found = tt;
-      stopped = (
-        all.0,
-        all.1,
-        record {
-          ids = map id_digits c.deref.result.now;
-          found = found_texts Prefix refusal_of_list_in (in_index c.args.kind) _ _ _ all.0 _ reads c.new.ensures.query all.2;
-          written = said.part;
-        },
-      );
+      stopped = (all.0, all.1, found_in_part _ _ _ _ _ is c.in_err-write_found.ensures.part);
       same_kind = λ other is. cc is;
       unread = rw reads (λ bad. absurd (false≢true bad));
       untouched = λ other. absurd (other refl);
       input = (λ is. cc is, λ failed. absurd (false≢true (sym c.in_ok-find_in_source.ensures.stands ∙ failed)));
-      output = (λ _. said.failed, λ _. refl);
+      output = (λ _. c.in_err-write_found.ensures.failed, λ _. refl);
     })
 
 pub returns : goal.returns
 returns g c =
     let reads : prefix_read_in c.args.kind hex_letter c.args.prefix.now ≡ Ok c.in-Ok.prefix = sym c.in-Ok.ensures in
-    let all = rw (c.in_ok-ids.was, ← c.deref.ensures.value) at c.in_ok-find_in_source.ensures.found in
-    let said = c.in_ok-write_ids.ensures in
+    let all = rw c.in_ok-ids.was at c.in_ok-find_in_source.ensures.found in
+    let is = found_texts Prefix refusal_of_list_in (in_index c.args.kind) _ _ _ all.0 _ reads c.new.ensures.query all.2 in
+    let said = c.in_ok-write_found.ensures in
     record {
-      found = (
-        all.0,
-        all.1,
-        record {
-          ids = map id_digits c.deref.result.now;
-          found = found_texts Prefix refusal_of_list_in (in_index c.args.kind) _ _ _ all.0 _ reads c.new.ensures.query all.2;
-          counted = c.len.ensures ∙ c.in_ok-ids.ids.ok.0 ∙ ap length (sym c.deref.ensures.value) ∙ sym (length-map c.deref.result.now id_digits);
-          written = said.written;
-        },
-      );
+      found = (all.0, all.1, found_whole _ _ _ _ _ _ is said.counted said.written);
       stopped = tt;
       same_kind = tt;
       unread = rw reads (λ bad. absurd (false≢true bad));
