@@ -31,19 +31,19 @@ memory_of_list (list.BadLine n error) is = cc is
 memory_of_list list.Memory is = refl
 
 -- what is found among the ids of a list text is found in the texts
-pub found_texts : {E P : Type 0} (of_prefix : P → E) (of_list : ListError → E) (query : List ℕ → Query E) (read : Result KindDigits P) (start : KindDigits)
-    (of_ids : Query E) (text : List ℕ) (found : Result (List (List ℕ)) E) → read ≡ Ok start → of_ids ≡ query start.digits → IsFoundAmong of_ids text found
+pub found_texts : {E P : Type 0} (of_prefix : P → E) (of_list : ListError → E) (query : List ℕ → Query E) (text : List ℕ) {read : Result KindDigits P}
+    {start : KindDigits} {of_ids : Query E} {found : Result (List (List ℕ)) E} → read ≡ Ok start → of_ids ≡ query start.digits → IsFoundAmong of_ids text found
     → found_from of_prefix of_list query read (list_read text) ≡ found
-found_texts of_prefix of_list query read start of_ids text found reads same h = rw (reads, h.read, ← same) h.found_there
+found_texts of_prefix of_list query text reads same h = rw (reads, h.read, ← same) h.found_there
 
 -- and if they are ids, their lines were written, or a proper beginning of them
-pub found_whole : {E : Type 0} (letter : ℕ → ℕ) (answer : Result (List (List ℕ)) E) (ids : List (List ℕ)) (old new : Option (List ℕ)) (count : ℕ)
+pub found_whole : {E : Type 0} {letter : ℕ → ℕ} {answer : Result (List (List ℕ)) E} {ids : List (List ℕ)} {old new : Option (List ℕ)} {count : ℕ}
     → answer ≡ Ok ids → count ≡ length ids → Appends old new (printed letter ids) → IsFound letter answer old new count
-found_whole letter answer ids old new count is counted written = record { ids = ids; found = is; counted = counted; written = written; }
+found_whole {ids = ids} is counted written = record { ids = ids; found = is; counted = counted; written = written }
 
-pub found_in_part : {E : Type 0} (letter : ℕ → ℕ) (answer : Result (List (List ℕ)) E) (ids : List (List ℕ)) (old new : Option (List ℕ))
+pub found_in_part : {E : Type 0} {letter : ℕ → ℕ} {answer : Result (List (List ℕ)) E} {ids : List (List ℕ)} {old new : Option (List ℕ)}
     → answer ≡ Ok ids → AppendsPart old new (printed letter ids) → IsFoundInPart letter answer old new
-found_in_part letter answer ids old new is written = record { ids = ids; found = is; written = written; }
+found_in_part {ids = ids} is written = record { ids = ids; found = is; written = written }
 
 -- an error of the list is the search's, or memory ran out
 pub list_refused : {E P : Type 0} (of_prefix : P → E) (of_list : ListError → E) (query : List ℕ → Query E) (read : Result KindDigits P) (start : KindDigits)

@@ -3,10 +3,10 @@ use Rattle.std.proofs.Common.{◌≡◌, Result, Ok, Err}
 use Rattle.std.specs.Result.{MatchResult}
 
 -- a step that went well gave the value
-pub step_gave : {T E : Type 0} (D : Type 0) (given source : Result T E) (x : T) → given ≡ source
+pub step_gave : {T E : Type 0} {given source : Result T E} {x : T} (D : Type 0) → given ≡ source
     → MatchResult given (λ y. ◌≡◌ {A = Result T D} (Ok x) (Ok y)) (λ _. ⊥) → source ≡ Ok x
-step_gave D (Ok y) source x is went = cc (is, went)
-step_gave D (Err e) source x is went = absurd went
+step_gave {given = Ok y} D is went = cc (is, went)
+step_gave {given = Err e} D is went = absurd went
 
 -- a value is no error
 pub no_error : {T E : Type 0} (x : T) (e : E) → ◌≡◌ {A = Result T E} (Ok x) (Err e) → ⊥

@@ -107,10 +107,7 @@ pub fn find_in_from<A: Allocator, R: Source, W: Sink>(
     ensures output { IsErrOf result (FindInFromError.Search FindInError.Output)
         ↔ (W.has_failed out.new ≡ true) }
 {
-    let prefix = match Prefix::from_hex_in(kind, prefix) {
-        Ok(prefix) => prefix,
-        Err(error) => return Err(FindInFromError::Search(FindInError::Prefix(error))),
-    };
+    let prefix = Prefix::from_hex_in(kind, prefix).map_err(FindInError::Prefix)?;
     let ids = find_in_source(&alloc, OfKind::new(kind, prefix), list)??;
     Ok(write_found(Alphabet::Hex, ids, out)?)
 }

@@ -16,7 +16,7 @@ returns-in_err-find_in_text g c =
     let p = err_from_is_err_and c.from_residual-in_err-find_in_text.result c.from_residual-in_err-find_in_text.ensures.1 in
     let error = c.in_err-find_in_text.field-0.0 in
     let refused = c.in_err-find_in_text.ensures.refused in
-    let reads : prefix_read (letter_of c.args.alphabet) 4 c.args.prefix.now ≡ Ok c.in_ok-prefix.prefix = step_gave _ _ _ _ c.read_prefix.ensures c.in_ok-prefix.ensures.cases in
+    let reads = step_gave _ c.read_prefix.ensures c.in_ok-prefix.ensures.cases in
     rw (p.1, p.2) (record {
       found = tt;
       refused = elim (list_refused Prefix refusal_of_list in_sorted _ _ c.args.list.now error reads refused) [ inl is ↦ inl is | inr memory ↦ inr (inl (ap refusal_of_list memory)) ];
@@ -29,9 +29,8 @@ returns-in_err-find_in_text g c =
 pub returns-in_err-ids : goal.returns-in_err-ids
 returns-in_err-ids g c =
     let p = err_from_is_err_and c.from_residual-in_err-ids.result c.from_residual-in_err-ids.ensures.1 in
-    let reads : prefix_read (letter_of c.args.alphabet) 4 c.args.prefix.now ≡ Ok c.in_ok-prefix.prefix = step_gave _ _ _ _ c.read_prefix.ensures c.in_ok-prefix.ensures.cases in
-    let found = rw c.in_err-ids.was at c.in_ok-find_in_text.ensures.found in
-    let is = found_texts Prefix refusal_of_list in_sorted _ _ _ c.args.list.now _ reads c.new.ensures.query found in
+    let reads = step_gave _ c.read_prefix.ensures c.in_ok-prefix.ensures.cases in
+    let is = found_texts Prefix refusal_of_list in_sorted c.args.list.now reads c.new.ensures.query (rw c.in_err-ids.was at c.in_ok-find_in_text.ensures.found) in
     let never = error_holds (letter_of c.args.alphabet) c.args.prefix.now c.args.list.now in
     rw (p.1, p.2) (record {
       found = tt;
@@ -45,26 +44,24 @@ returns-in_err-ids g c =
 pub returns-in_err-write_found : goal.returns-in_err-write_found
 returns-in_err-write_found g c =
     let p = err_from_is_err_and c.from_residual-in_err-write_found.result c.from_residual-in_err-write_found.ensures.1 in
-    let reads : prefix_read (letter_of c.args.alphabet) 4 c.args.prefix.now ≡ Ok c.in_ok-prefix.prefix = step_gave _ _ _ _ c.read_prefix.ensures c.in_ok-prefix.ensures.cases in
-    let found = rw c.in_ok-ids.was at c.in_ok-find_in_text.ensures.found in
-    let is = found_texts Prefix refusal_of_list in_sorted _ _ _ c.args.list.now _ reads c.new.ensures.query found in
+    let reads = step_gave _ c.read_prefix.ensures c.in_ok-prefix.ensures.cases in
+    let is = found_texts Prefix refusal_of_list in_sorted c.args.list.now reads c.new.ensures.query (rw c.in_ok-ids.was at c.in_ok-find_in_text.ensures.found) in
     rw (p.1, p.2) (record {
       found = tt;
       refused = inr (inr refl);
       memory = λ is. cc is;
       untouched = λ other. absurd (other refl);
       output = (λ _. c.in_err-write_found.ensures.failed, λ _. refl);
-      part = λ _. found_in_part _ _ _ _ _ is c.in_err-write_found.ensures.part;
+      part = λ _. found_in_part is c.in_err-write_found.ensures.part;
     })
 
 pub returns : goal.returns
 returns g c =
-    let reads : prefix_read (letter_of c.args.alphabet) 4 c.args.prefix.now ≡ Ok c.in_ok-prefix.prefix = step_gave _ _ _ _ c.read_prefix.ensures c.in_ok-prefix.ensures.cases in
-    let found = rw c.in_ok-ids.was at c.in_ok-find_in_text.ensures.found in
-    let is = found_texts Prefix refusal_of_list in_sorted _ _ _ c.args.list.now _ reads c.new.ensures.query found in
+    let reads = step_gave _ c.read_prefix.ensures c.in_ok-prefix.ensures.cases in
+    let is = found_texts Prefix refusal_of_list in_sorted c.args.list.now reads c.new.ensures.query (rw c.in_ok-ids.was at c.in_ok-find_in_text.ensures.found) in
     let said = c.in_ok-write_found.ensures in
     record {
-      found = found_whole _ _ _ _ _ _ is said.counted said.written;
+      found = found_whole is said.counted said.written;
       refused = tt;
       memory = λ is. absurd (no_error _ _ is);
       untouched = tt;

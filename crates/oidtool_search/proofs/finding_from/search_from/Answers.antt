@@ -18,7 +18,7 @@ pub returns-in_err-find_in_source : goal.returns-in_err-find_in_source
 returns-in_err-find_in_source g c =
     let p = err_from_is_err_and c.from_residual-in_err-find_in_source.result c.from_residual-in_err-find_in_source.ensures.1 in
     let error = c.in_err-find_in_source.field-0.0 in
-    let reads : prefix_read (letter_of c.args.alphabet) 4 c.args.prefix.now ≡ Ok c.in_ok-prefix.prefix = step_gave _ _ _ _ c.read_prefix.ensures c.in_ok-prefix.ensures.cases in
+    let reads = step_gave _ c.read_prefix.ensures c.in_ok-prefix.ensures.cases in
     rw (p.1, p.2) (record {
       found = tt;
       stopped = search_stops (letter_of c.args.alphabet) c.args.prefix.now c.in_ok-prefix.prefix error _ _ _ _ reads c.in_err-find_in_source.ensures.stopped;
@@ -32,9 +32,9 @@ pub returns-in_err-ids : goal.returns-in_err-ids
 returns-in_err-ids g c =
     let p = err_from_is_err_and c.from_residual-in_err-ids.result c.from_residual-in_err-ids.ensures.1 in
     let error = c.in_err-ids.field-0.0 in
-    let reads : prefix_read (letter_of c.args.alphabet) 4 c.args.prefix.now ≡ Ok c.in_ok-prefix.prefix = step_gave _ _ _ _ c.read_prefix.ensures c.in_ok-prefix.ensures.cases in
+    let reads = step_gave _ c.read_prefix.ensures c.in_ok-prefix.ensures.cases in
     let all = rw c.in_err-ids.was at c.in_ok-find_in_source.ensures.found in
-    let is = found_texts Prefix refusal_of_list in_sorted _ _ _ all.0 _ reads c.new.ensures.query all.2 in
+    let is = found_texts Prefix refusal_of_list in_sorted all.0 reads c.new.ensures.query all.2 in
     rw (p.1, p.2) (record {
       found = tt;
       stopped = ids_stop (letter_of c.args.alphabet) c.args.prefix.now all.0 error _ _ _ _ all.1 is;
@@ -47,12 +47,12 @@ returns-in_err-ids g c =
 pub returns-in_err-write_found : goal.returns-in_err-write_found
 returns-in_err-write_found g c =
     let p = err_from_is_err_and c.from_residual-in_err-write_found.result c.from_residual-in_err-write_found.ensures.1 in
-    let reads : prefix_read (letter_of c.args.alphabet) 4 c.args.prefix.now ≡ Ok c.in_ok-prefix.prefix = step_gave _ _ _ _ c.read_prefix.ensures c.in_ok-prefix.ensures.cases in
+    let reads = step_gave _ c.read_prefix.ensures c.in_ok-prefix.ensures.cases in
     let all = rw c.in_ok-ids.was at c.in_ok-find_in_source.ensures.found in
-    let is = found_texts Prefix refusal_of_list in_sorted _ _ _ all.0 _ reads c.new.ensures.query all.2 in
+    let is = found_texts Prefix refusal_of_list in_sorted all.0 reads c.new.ensures.query all.2 in
     rw (p.1, p.2) (record {
       found = tt;
-      stopped = (all.0, all.1, found_in_part _ _ _ _ _ is c.in_err-write_found.ensures.part);
+      stopped = (all.0, all.1, found_in_part is c.in_err-write_found.ensures.part);
       unread = rw reads (λ bad. absurd (false≢true bad));
       untouched = λ other. absurd (other refl);
       input = (λ is. cc is, λ failed. absurd (false≢true (sym c.in_ok-find_in_source.ensures.stands ∙ failed)));
@@ -61,12 +61,12 @@ returns-in_err-write_found g c =
 
 pub returns : goal.returns
 returns g c =
-    let reads : prefix_read (letter_of c.args.alphabet) 4 c.args.prefix.now ≡ Ok c.in_ok-prefix.prefix = step_gave _ _ _ _ c.read_prefix.ensures c.in_ok-prefix.ensures.cases in
+    let reads = step_gave _ c.read_prefix.ensures c.in_ok-prefix.ensures.cases in
     let all = rw c.in_ok-ids.was at c.in_ok-find_in_source.ensures.found in
-    let is = found_texts Prefix refusal_of_list in_sorted _ _ _ all.0 _ reads c.new.ensures.query all.2 in
+    let is = found_texts Prefix refusal_of_list in_sorted all.0 reads c.new.ensures.query all.2 in
     let said = c.in_ok-write_found.ensures in
     record {
-      found = (all.0, all.1, found_whole _ _ _ _ _ _ is said.counted said.written);
+      found = (all.0, all.1, found_whole is said.counted said.written);
       stopped = tt;
       unread = rw reads (λ bad. absurd (false≢true bad));
       untouched = tt;

@@ -8,18 +8,18 @@ use Rattle.oidtool_search.specs.declared.finding_in.FindInError.TheVariants.{Pre
 use Rattle.oidtool_search.specs.FindingIn.{in_index, refusal_of_list_in}
 use Rattle.oidtool_search.proofs.FoundInTexts.{found_texts, found_whole, found_in_part}
 use Rattle.oidtool_search.proofs.Results.{error_holds_in}
-use Rattle.oidtool_search.proofs.Steps.{no_error}
+use Rattle.oidtool_search.proofs.Steps.{step_gave, no_error}
 use Rattle.oidtool_search.proofs.StopLemmas.{search_stops_in, reading_input_in, reading_not_output_in, reading_same_kind, ids_stop_in}
 use Rattle.oidtool_search.proofs.finding_in_from.find_in_from.Goals as goal
 
 pub returns-in_err-find_in_source : goal.returns-in_err-find_in_source
 returns-in_err-find_in_source g c =
-    let p = err_from_is_err_and c.from_residual.result c.from_residual.ensures.1 in
+    let p = err_from_is_err_and c.from_residual-in_err-find_in_source.result c.from_residual-in_err-find_in_source.ensures.1 in
     let error = c.in_err-find_in_source.field-0.0 in
-    let reads : prefix_read_in c.args.kind hex_letter c.args.prefix.now ≡ Ok c.in-Ok.prefix = sym c.in-Ok.ensures in
+    let reads = step_gave _ c.from_hex_in.ensures c.in_ok-prefix.ensures.cases in
     rw (p.1, p.2) (record {
       found = tt;
-      stopped = search_stops_in c.args.kind c.args.prefix.now c.in-Ok.prefix error _ _ _ _ reads c.in_err-find_in_source.ensures.stopped;
+      stopped = search_stops_in c.args.kind c.args.prefix.now c.in_ok-prefix.prefix error _ _ _ _ reads c.in_err-find_in_source.ensures.stopped;
       same_kind = λ other is. reading_same_kind other error is;
       unread = rw reads (λ bad. absurd (false≢true bad));
       untouched = λ _. refl;
@@ -31,9 +31,9 @@ pub returns-in_err-ids : goal.returns-in_err-ids
 returns-in_err-ids g c =
     let p = err_from_is_err_and c.from_residual-in_err-ids.result c.from_residual-in_err-ids.ensures.1 in
     let error = c.in_err-ids.field-0.0 in
-    let reads : prefix_read_in c.args.kind hex_letter c.args.prefix.now ≡ Ok c.in-Ok.prefix = sym c.in-Ok.ensures in
+    let reads = step_gave _ c.from_hex_in.ensures c.in_ok-prefix.ensures.cases in
     let all = rw c.in_err-ids.was at c.in_ok-find_in_source.ensures.found in
-    let is = found_texts Prefix refusal_of_list_in (in_index c.args.kind) _ _ _ all.0 _ reads c.new.ensures.query all.2 in
+    let is = found_texts Prefix refusal_of_list_in (in_index c.args.kind) all.0 reads c.new.ensures.query all.2 in
     let never = error_holds_in c.args.kind c.args.prefix.now all.0 in
     rw (p.1, p.2) (record {
       found = tt;
@@ -48,12 +48,12 @@ returns-in_err-ids g c =
 pub returns-in_err-write_found : goal.returns-in_err-write_found
 returns-in_err-write_found g c =
     let p = err_from_is_err_and c.from_residual-in_err-write_found.result c.from_residual-in_err-write_found.ensures.1 in
-    let reads : prefix_read_in c.args.kind hex_letter c.args.prefix.now ≡ Ok c.in-Ok.prefix = sym c.in-Ok.ensures in
+    let reads = step_gave _ c.from_hex_in.ensures c.in_ok-prefix.ensures.cases in
     let all = rw c.in_ok-ids.was at c.in_ok-find_in_source.ensures.found in
-    let is = found_texts Prefix refusal_of_list_in (in_index c.args.kind) _ _ _ all.0 _ reads c.new.ensures.query all.2 in
+    let is = found_texts Prefix refusal_of_list_in (in_index c.args.kind) all.0 reads c.new.ensures.query all.2 in
     rw (p.1, p.2) (record {
       found = tt;
-      stopped = (all.0, all.1, found_in_part _ _ _ _ _ is c.in_err-write_found.ensures.part);
+      stopped = (all.0, all.1, found_in_part is c.in_err-write_found.ensures.part);
       same_kind = λ other is. cc is;
       unread = rw reads (λ bad. absurd (false≢true bad));
       untouched = λ other. absurd (other refl);
@@ -63,12 +63,12 @@ returns-in_err-write_found g c =
 
 pub returns : goal.returns
 returns g c =
-    let reads : prefix_read_in c.args.kind hex_letter c.args.prefix.now ≡ Ok c.in-Ok.prefix = sym c.in-Ok.ensures in
+    let reads = step_gave _ c.from_hex_in.ensures c.in_ok-prefix.ensures.cases in
     let all = rw c.in_ok-ids.was at c.in_ok-find_in_source.ensures.found in
-    let is = found_texts Prefix refusal_of_list_in (in_index c.args.kind) _ _ _ all.0 _ reads c.new.ensures.query all.2 in
+    let is = found_texts Prefix refusal_of_list_in (in_index c.args.kind) all.0 reads c.new.ensures.query all.2 in
     let said = c.in_ok-write_found.ensures in
     record {
-      found = (all.0, all.1, found_whole _ _ _ _ _ _ is said.counted said.written);
+      found = (all.0, all.1, found_whole is said.counted said.written);
       stopped = tt;
       same_kind = tt;
       unread = rw reads (λ bad. absurd (false≢true bad));
