@@ -11,21 +11,6 @@ use Rattle.oidtool_search.proofs.Results.{error_holds}
 use Rattle.oidtool_search.proofs.Steps.{step_gave, no_error, same_error}
 use Rattle.oidtool_search.proofs.finding.search.Goals as goal
 
-pub returns-in_err-find_in_text : goal.returns-in_err-find_in_text
-returns-in_err-find_in_text g c =
-    let p = err_from_is_err_and c.from_residual-in_err-find_in_text.result c.from_residual-in_err-find_in_text.ensures.1 in
-    let error = c.in_err-find_in_text.field-0.0 in
-    let refused = c.in_err-find_in_text.ensures.refused in
-    let reads = step_gave _ c.read_prefix.ensures c.in_ok-prefix.ensures.cases in
-    rw (p.1, p.2) (record {
-      found = tt;
-      refused = elim (list_refused Prefix refusal_of_list in_sorted _ _ c.args.list.now error reads refused) [ inl is ↦ inl is | inr memory ↦ inr (inl (ap refusal_of_list memory)) ];
-      memory = λ is. (rw reads refl, memory_first c.args.list.now error refused (memory_of error (same_error _ _ is)));
-      untouched = λ _. refl;
-      output = (λ is. absurd (not_output error (same_error _ _ is)), λ failed. absurd (false≢true (sym c.requires ∙ failed)));
-      part = λ is. absurd (not_output error (same_error _ _ is));
-    })
-
 pub returns-in_err-ids : goal.returns-in_err-ids
 returns-in_err-ids g c =
     let p = err_from_is_err_and c.from_residual-in_err-ids.result c.from_residual-in_err-ids.ensures.1 in
@@ -41,30 +26,8 @@ returns-in_err-ids g c =
       part = λ e. absurd (never Output (cc (is, e)));
     })
 
-pub returns-in_err-write_found : goal.returns-in_err-write_found
-returns-in_err-write_found g c =
-    let p = err_from_is_err_and c.from_residual-in_err-write_found.result c.from_residual-in_err-write_found.ensures.1 in
+pub returns-clause-found : goal.returns-clause-found
+returns-clause-found g c =
     let reads = step_gave _ c.read_prefix.ensures c.in_ok-prefix.ensures.cases in
     let is = found_texts Prefix refusal_of_list in_sorted c.args.list.now reads c.new.ensures.query (rw c.in_ok-ids.was at c.in_ok-find_in_text.ensures.found) in
-    rw (p.1, p.2) (record {
-      found = tt;
-      refused = inr (inr refl);
-      memory = λ is. cc is;
-      untouched = λ other. absurd (other refl);
-      output = (λ _. c.in_err-write_found.ensures.failed, λ _. refl);
-      part = λ _. found_in_part is c.in_err-write_found.ensures.part;
-    })
-
-pub returns : goal.returns
-returns g c =
-    let reads = step_gave _ c.read_prefix.ensures c.in_ok-prefix.ensures.cases in
-    let is = found_texts Prefix refusal_of_list in_sorted c.args.list.now reads c.new.ensures.query (rw c.in_ok-ids.was at c.in_ok-find_in_text.ensures.found) in
-    let said = c.in_ok-write_found.ensures in
-    record {
-      found = found_whole is said.counted said.written;
-      refused = tt;
-      memory = λ is. absurd (no_error _ _ is);
-      untouched = tt;
-      output = (λ is. absurd (no_error _ _ is), λ failed. absurd (false≢true (sym said.stands ∙ failed)));
-      part = λ is. absurd (no_error _ _ is);
-    }
+    found_whole is c.in_ok-write_found.ensures.counted c.in_ok-write_found.ensures.written

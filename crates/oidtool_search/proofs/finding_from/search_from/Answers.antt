@@ -14,19 +14,11 @@ use Rattle.oidtool_search.proofs.finding_from.search_from.Goals as goal
 pub returns-in_err-prefix-clause-unread : goal.returns-in_err-prefix-clause-unread
 returns-in_err-prefix-clause-unread g c = λ _. refl
 
-pub returns-in_err-find_in_source : goal.returns-in_err-find_in_source
-returns-in_err-find_in_source g c =
+pub returns-in_err-find_in_source-clause-stopped : goal.returns-in_err-find_in_source-clause-stopped
+returns-in_err-find_in_source-clause-stopped g c =
     let p = err_from_is_err_and c.from_residual-in_err-find_in_source.result c.from_residual-in_err-find_in_source.ensures.1 in
-    let error = c.in_err-find_in_source.field-0.0 in
     let reads = step_gave _ c.read_prefix.ensures c.in_ok-prefix.ensures.cases in
-    rw (p.1, p.2) (record {
-      found = tt;
-      stopped = search_stops (letter_of c.args.alphabet) c.args.prefix.now c.in_ok-prefix.prefix error _ _ _ _ reads c.in_err-find_in_source.ensures.stopped;
-      unread = rw reads (λ bad. absurd (false≢true bad));
-      untouched = λ _. refl;
-      input = reading_input error _ c.in_err-find_in_source.ensures.input;
-      output = (λ is. absurd (reading_not_output error is), λ failed. absurd (false≢true (sym c.requires.output ∙ failed)));
-    })
+    rw (p.1, p.2) (search_stops (letter_of c.args.alphabet) c.args.prefix.now c.in_ok-prefix.prefix c.in_err-find_in_source.field-0.0 _ _ _ _ reads c.in_err-find_in_source.ensures.stopped)
 
 pub returns-in_err-ids : goal.returns-in_err-ids
 returns-in_err-ids g c =
@@ -44,32 +36,9 @@ returns-in_err-ids g c =
       output = (λ e. absurd (ids_not_output (letter_of c.args.alphabet) c.args.prefix.now all.0 error is e), λ failed. absurd (false≢true (sym c.requires.output ∙ failed)));
     })
 
-pub returns-in_err-write_found : goal.returns-in_err-write_found
-returns-in_err-write_found g c =
-    let p = err_from_is_err_and c.from_residual-in_err-write_found.result c.from_residual-in_err-write_found.ensures.1 in
+pub returns-clause-found : goal.returns-clause-found
+returns-clause-found g c =
     let reads = step_gave _ c.read_prefix.ensures c.in_ok-prefix.ensures.cases in
     let all = rw c.in_ok-ids.was at c.in_ok-find_in_source.ensures.found in
     let is = found_texts Prefix refusal_of_list in_sorted all.0 reads c.new.ensures.query all.2 in
-    rw (p.1, p.2) (record {
-      found = tt;
-      stopped = (all.0, all.1, found_in_part is c.in_err-write_found.ensures.part);
-      unread = rw reads (λ bad. absurd (false≢true bad));
-      untouched = λ other. absurd (other refl);
-      input = (λ is. cc is, λ failed. absurd (false≢true (sym c.in_ok-find_in_source.ensures.stands ∙ failed)));
-      output = (λ _. c.in_err-write_found.ensures.failed, λ _. refl);
-    })
-
-pub returns : goal.returns
-returns g c =
-    let reads = step_gave _ c.read_prefix.ensures c.in_ok-prefix.ensures.cases in
-    let all = rw c.in_ok-ids.was at c.in_ok-find_in_source.ensures.found in
-    let is = found_texts Prefix refusal_of_list in_sorted all.0 reads c.new.ensures.query all.2 in
-    let said = c.in_ok-write_found.ensures in
-    record {
-      found = (all.0, all.1, found_whole is said.counted said.written);
-      stopped = tt;
-      unread = rw reads (λ bad. absurd (false≢true bad));
-      untouched = tt;
-      input = (λ is. absurd (no_error _ _ is), λ failed. absurd (false≢true (sym c.in_ok-find_in_source.ensures.stands ∙ failed)));
-      output = (λ is. absurd (no_error _ _ is), λ failed. absurd (false≢true (sym said.stands ∙ failed)));
-    }
+    (all.0, all.1, found_whole is c.in_ok-write_found.ensures.counted c.in_ok-write_found.ensures.written)
