@@ -83,19 +83,6 @@ all_read (line ∷ lines) (id ∷ ids) reads =
     let others : ReadAs lines ids = cc reads in
     All-cons (λ l. IsOk (full_read hex_letter l)) line lines (rw first refl) (all_read lines ids others)
 
--- nothing was taken
-pub taken_nothing : (ids : List ObjectId) (kept : List ℕ) → ids ≡ [] → HasTaken ids kept 0 []
-taken_nothing ids kept none = record {
-  lines = [];
-  last = [];
-  text_is = refl;
-  each_a_line = All-nil IsLine;
-  not_ended = All-nil (λ b. is_line_feed b ≡ false);
-  read = rw none refl;
-  last_len = refl;
-  last_kept = refl;
-}
-
 -- what was taken, of a reader with these parts
 module _ (ids : List ObjectId) (kept : List ℕ) (len : ℕ) (text : List ℕ) (h : HasTaken ids kept len text) where
   -- the lines of what was taken, then a line feed, and then more
@@ -241,14 +228,6 @@ takes_more old mid new x y z first second is = record {
       (second.taken earlier (text ++ x) (first.taken earlier text h));
   dropped = second.dropped ∙ first.dropped;
   short = omega (arith, first.short, second.short, ap length is, length-append x y);
-}
-
--- no step
-pub takes_none : {A : Type 0} (state : ListReader A) (bytes : List ℕ) → bytes ≡ [] → Takes state state bytes
-takes_none state bytes none = record {
-  taken = λ earlier text h. subst (HasTaken (earlier ++ state.ids.items) state.line state.len) (sym (append-nil text) ∙ ap (λ l. text ++ l) (sym none)) h;
-  dropped = refl;
-  short = omega arith;
 }
 
 -- a range of a chunk, in two parts

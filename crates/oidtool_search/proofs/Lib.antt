@@ -8,5 +8,4 @@ mod SortedOrder
 mod FinderLemmas
 mod ChunkLemmas
 mod SourceReads
-mod Steps
 mod StopLemmas

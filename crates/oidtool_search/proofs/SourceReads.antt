@@ -1,16 +1,13 @@
 -- The bytes of a source that a list reader has taken, read by read.
-use Rattle.std.proofs.Common.{◌≡◌, ◌≢◌, ◌↔◌, ◌||◌, Bool, true, false, ℕ, ◌+◌, ◌^◌, ◌<◌, ◌≤◌, inl, inr, Option, List, [], ◌∷◌, ◌++◌, length, take, drop, refl, sym, ap, ◌∙◌, subst, arith, append_assoc, length-append, length-take, length-drop, take-append-drop, append-nil, Result, Err}
-use Rattle.std.proofs.lemmas.Bool.{false≢true}
+use Rattle.std.proofs.Common.{◌≡◌, ◌≢◌, ◌||◌, Bool, false, ℕ, ◌+◌, ◌^◌, ◌<◌, ◌≤◌, inl, inr, Option, List, [], ◌∷◌, ◌++◌, length, take, drop, refl, sym, ap, ◌∙◌, subst, arith, append_assoc, length-append, length-take, length-drop, take-append-drop, append-nil}
 use Rattle.std.proofs.lemmas.List.{take-take}
-use Rattle.std.proofs.KnownBytes.{Consumes-nil, Consumes-trans, Consumes-kept}
+use Rattle.std.proofs.KnownBytes.{Consumes-trans, Consumes-kept}
 use Rattle.std.specs.Io.KnownBytes.{Consumes, Keeps, IsAtEnd}
 use Rattle.streams.specs.Source.{HasReadAll, max_len}
 use Rattle.std.proofs.Math.Seq.{take-append_seam}
 use Rattle.gix_hash.specs.declared.ObjectId.{ObjectId}
 use Rattle.oidtool_search.specs.FindingFrom.{IsSettled, GivesGoodLines, GivesTooMuch}
 use Rattle.oidtool_search.specs.ListChunks.{HasTaken, NoBadLineEnded}
-use Rattle.oidtool_search.specs.declared.reading.ReadError.{ReadError}
-use Rattle.oidtool_search.specs.declared.reading.ReadError.TheVariants.{Input}
 use Rattle.oidtool_search.proofs.ChunkLemmas.{no_bad_line}
 
 -- the reader has taken all bytes read so far, and `room` bytes more are within the limit
@@ -19,16 +16,6 @@ pub record IsTaken (ids : List ObjectId) (kept : List ℕ) (len room : ℕ) (old
   pub gives : Consumes old now text
   pub taken : HasTaken ids kept len text
   pub limit : length text + room + 1 ≡ 2 ^ 61
-
--- before the first read
-pub taken_none : (ids : List ObjectId) (kept : List ℕ) (len room : ℕ) (old : Option (List ℕ)) → HasTaken ids kept len [] → room + 1 ≡ 2 ^ 61
-    → IsTaken ids kept len room old old
-taken_none ids kept len room old taken limit = record {
-  text = [];
-  gives = Consumes-nil old;
-  taken = taken;
-  limit = omega (arith, limit);
-}
 
 some_length : (bytes : List ℕ) → bytes ≢ [] → 0 < length bytes
 some_length [] some = absurd (some refl)
@@ -120,8 +107,3 @@ bytes_left room count buf less within none =
 -- a source that had not failed has not failed after a read that gave bytes
 pub not_failed : (before after : Bool) → before ≡ false → after ≡ (before || false) → after ≡ false
 not_failed before after stood same = same ∙ ap (λ b. b || false) stood
-
--- so another error is returned only if the source has not failed
-pub not_of_input : {T : Type 0} (error : ReadError) (before after : Bool) → before ≡ false → after ≡ (before || false) → (error ≡ Input → ⊥)
-    → (◌≡◌ {A = Result T ReadError} (Err error) (Err Input)) ↔ (after ≡ true)
-not_of_input error before after stood same other = (λ is. absurd (other (cc is)), λ failed. absurd (false≢true (sym (not_failed before after stood same) ∙ failed)))

@@ -1,5 +1,5 @@
 -- A search in a source stops where the reading stops, or at the end of the source.
-use Rattle.std.proofs.Common.{◌≡◌, ◌↔◌, ℕ, inl, inr, Option, List, [], ◌++◌, refl, sym, append-nil, subst, Result, Ok, Err}
+use Rattle.std.proofs.Common.{◌≡◌, ℕ, inl, inr, Option, List, [], ◌++◌, refl, sym, append-nil, subst, Result, Ok, Err}
 use Rattle.gix_hash.specs.Digits.{hex_letter}
 use Rattle.gix_hash.specs.Prefix.{KindDigits}
 use Rattle.gix_hash.specs.PrefixReading.{prefix_read, prefix_read_in}
@@ -16,7 +16,6 @@ use Rattle.oidtool_search.specs.declared.finding_from.FindFromError.{FindFromErr
 use Rattle.oidtool_search.specs.declared.finding_from.FindFromError.TheVariants.{Input, Output}
 use Rattle.oidtool_search.specs.declared.finding_in.FindInError.{FindInError}
 use Rattle.oidtool_search.specs.declared.finding_in.FindInError.TheVariants as found
-use Rattle.oidtool_search.specs.declared.finding_in_from.FindInFromError.{FindInFromError}
 use Rattle.oidtool_search.specs.declared.finding_in_from.FindInFromError.TheVariants as in_kind
 use Rattle.oidtool_search.specs.declared.list.ListError.TheVariants as list
 use Rattle.oidtool_search.specs.declared.reading.ReadError.{ReadError}
@@ -87,20 +86,6 @@ ids_not_output letter prefix text (search.PrefixTooLong hex_len least) found is 
 ids_not_output letter prefix text search.Memory found is = cc is
 ids_not_output letter prefix text search.Output found is = error_holds letter prefix text search.Output found
 
--- an error of the reading is `Input` if and only if it was before, and never `Output`
-pub reading_input : {T U : Type 0} (error : ReadError) (failed : Type 0) → (◌≡◌ {A = Result T ReadError} (Err error) (Err read.Input)) ↔ failed
-    → (◌≡◌ {A = Result U FindFromError} (Err (from_reading error)) (Err Input)) ↔ failed
-reading_input read.Input failed same = (λ _. same.0 refl, λ f. refl)
-reading_input read.TooMuch failed same = (λ is. cc is, λ f. cc (same.1 f))
-reading_input (read.Refused (list.BadLine n e)) failed same = (λ is. cc is, λ f. cc (same.1 f))
-reading_input (read.Refused list.Memory) failed same = (λ is. cc is, λ f. cc (same.1 f))
-
-pub reading_not_output : {U : Type 0} (error : ReadError) → ◌≡◌ {A = Result U FindFromError} (Err (from_reading error)) (Err Output) → ⊥
-reading_not_output read.Input is = cc is
-reading_not_output read.TooMuch is = cc is
-reading_not_output (read.Refused (list.BadLine n e)) is = cc is
-reading_not_output (read.Refused list.Memory) is = cc is
-
 -- the same of a search in ids of one kind
 pub search_stops_in : (kind : Kind) (prefix : List ℕ) (start : KindDigits) (error : ReadError) (source source' sink sink' : Option (List ℕ))
     → prefix_read_in kind hex_letter prefix ≡ Ok start → ReadingStops error source source' → SearchStopsIn kind prefix (from_reading_in error) source source' sink sink'
@@ -123,23 +108,3 @@ ids_stop_in kind prefix text (found.NotRising n) source source' sink sink' gives
     settled_all (λ t. finding_in kind prefix t ≡ Err (found.NotRising n)) source source' text gives is
 ids_stop_in kind prefix text found.Memory source source' sink sink' gives is = absurd (error_holds_in kind prefix text found.Memory is)
 ids_stop_in kind prefix text found.Output source source' sink sink' gives is = absurd (error_holds_in kind prefix text found.Output is)
-
-pub reading_input_in : {T U : Type 0} (error : ReadError) (failed : Type 0) → (◌≡◌ {A = Result T ReadError} (Err error) (Err read.Input)) ↔ failed
-    → (◌≡◌ {A = Result U FindInFromError} (Err (from_reading_in error)) (Err in_kind.Input)) ↔ failed
-reading_input_in read.Input failed same = (λ _. same.0 refl, λ f. refl)
-reading_input_in read.TooMuch failed same = (λ is. cc is, λ f. cc (same.1 f))
-reading_input_in (read.Refused error) failed same = (λ is. cc is, λ f. cc (same.1 f))
-
-pub reading_not_output_in : {U : Type 0} (error : ReadError) → ◌≡◌ {A = Result U FindInFromError} (Err (from_reading_in error)) (Err (in_kind.Search found.Output)) → ⊥
-reading_not_output_in read.Input is = cc is
-reading_not_output_in read.TooMuch is = cc is
-reading_not_output_in (read.Refused (list.BadLine n e)) is = cc is
-reading_not_output_in (read.Refused list.Memory) is = cc is
-
--- nor for another kind
-pub reading_same_kind : (other : Kind) (error : ReadError)
-    → ◌≡◌ {A = FindInFromError} (from_reading_in error) (in_kind.Search (found.OtherKind other)) → ⊥
-reading_same_kind other read.Input is = cc is
-reading_same_kind other read.TooMuch is = cc is
-reading_same_kind other (read.Refused (list.BadLine n e)) is = cc is
-reading_same_kind other (read.Refused list.Memory) is = cc is

@@ -1,14 +1,12 @@
 -- Each exit is a case of what is found in the two texts.
-use Rattle.std.proofs.Common.{◌≡◌, inl, inr, Ok, ap, sym, ◌∙◌, refl}
+use Rattle.std.proofs.Common.{inl, sym, ◌∙◌, refl}
 use Rattle.std.proofs.lemmas.Result.{err_from_is_err_and}
 use Rattle.std.proofs.lemmas.Bool.{false≢true}
 use Rattle.gix_hash.specs.Alphabet.{letter_of}
-use Rattle.gix_hash.specs.PrefixReading.{prefix_read}
 use Rattle.oidtool_search.specs.declared.finding.FindError.TheVariants.{Prefix, Memory, Output}
 use Rattle.oidtool_search.specs.Finding.{in_sorted, refusal_of_list}
-use Rattle.oidtool_search.proofs.FoundInTexts.{found_texts, found_whole, found_in_part, list_refused, memory_first, memory_of, not_output}
+use Rattle.oidtool_search.proofs.FoundInTexts.{step_gave, found_texts}
 use Rattle.oidtool_search.proofs.Results.{error_holds}
-use Rattle.oidtool_search.proofs.Steps.{step_gave, no_error, same_error}
 use Rattle.oidtool_search.proofs.finding.search.Goals as goal
 
 pub returns-in_err-ids : goal.returns-in_err-ids
@@ -25,9 +23,3 @@ returns-in_err-ids g c =
       output = (λ e. absurd (never Output (cc (is, e))), λ failed. absurd (false≢true (sym c.requires ∙ failed)));
       part = λ e. absurd (never Output (cc (is, e)));
     })
-
-pub returns-clause-found : goal.returns-clause-found
-returns-clause-found g c =
-    let reads = step_gave _ c.read_prefix.ensures c.in_ok-prefix.ensures.cases in
-    let is = found_texts Prefix refusal_of_list in_sorted c.args.list.now reads c.new.ensures.query (rw c.in_ok-ids.was at c.in_ok-find_in_text.ensures.found) in
-    found_whole is c.in_ok-write_found.ensures.counted c.in_ok-write_found.ensures.written

@@ -1,18 +1,13 @@
 -- Each exit says where the search stops, or what is found in all that the source gave.
-use Rattle.std.proofs.Common.{◌≡◌, Ok, sym, ◌∙◌, refl}
+use Rattle.std.proofs.Common.{sym, ◌∙◌, refl}
 use Rattle.std.proofs.lemmas.Result.{err_from_is_err_and}
 use Rattle.std.proofs.lemmas.Bool.{false≢true}
 use Rattle.gix_hash.specs.Alphabet.{letter_of}
-use Rattle.gix_hash.specs.PrefixReading.{prefix_read}
 use Rattle.oidtool_search.specs.declared.finding.FindError.TheVariants.{Prefix}
 use Rattle.oidtool_search.specs.Finding.{in_sorted, refusal_of_list}
-use Rattle.oidtool_search.proofs.FoundInTexts.{found_texts, found_whole, found_in_part}
-use Rattle.oidtool_search.proofs.Steps.{step_gave, no_error}
-use Rattle.oidtool_search.proofs.StopLemmas.{search_stops, reading_input, reading_not_output, ids_stop, ids_not_input, ids_not_output}
+use Rattle.oidtool_search.proofs.FoundInTexts.{step_gave, found_texts}
+use Rattle.oidtool_search.proofs.StopLemmas.{search_stops, ids_stop, ids_not_input, ids_not_output}
 use Rattle.oidtool_search.proofs.finding_from.search_from.Goals as goal
-
-pub returns-in_err-prefix-clause-unread : goal.returns-in_err-prefix-clause-unread
-returns-in_err-prefix-clause-unread g c = λ _. refl
 
 pub returns-in_err-find_in_source-clause-stopped : goal.returns-in_err-find_in_source-clause-stopped
 returns-in_err-find_in_source-clause-stopped g c =
@@ -35,10 +30,3 @@ returns-in_err-ids g c =
       input = (λ e. absurd (ids_not_input error e), λ failed. absurd (false≢true (sym c.in_ok-find_in_source.ensures.stands ∙ failed)));
       output = (λ e. absurd (ids_not_output (letter_of c.args.alphabet) c.args.prefix.now all.0 error is e), λ failed. absurd (false≢true (sym c.requires.output ∙ failed)));
     })
-
-pub returns-clause-found : goal.returns-clause-found
-returns-clause-found g c =
-    let reads = step_gave _ c.read_prefix.ensures c.in_ok-prefix.ensures.cases in
-    let all = rw c.in_ok-ids.was at c.in_ok-find_in_source.ensures.found in
-    let is = found_texts Prefix refusal_of_list in_sorted all.0 reads c.new.ensures.query all.2 in
-    (all.0, all.1, found_whole is c.in_ok-write_found.ensures.counted c.in_ok-write_found.ensures.written)

@@ -1,15 +1,12 @@
 -- Each exit says where the search stops, or what is found in all that the source gave.
-use Rattle.std.proofs.Common.{◌≡◌, Ok, sym, ◌∙◌, refl}
+use Rattle.std.proofs.Common.{sym, ◌∙◌, refl}
 use Rattle.std.proofs.lemmas.Result.{err_from_is_err_and}
 use Rattle.std.proofs.lemmas.Bool.{false≢true}
-use Rattle.gix_hash.specs.Digits.{hex_letter}
-use Rattle.gix_hash.specs.PrefixReading.{prefix_read_in}
 use Rattle.oidtool_search.specs.declared.finding_in.FindInError.TheVariants.{Prefix, OtherKind, Output}
 use Rattle.oidtool_search.specs.FindingIn.{in_index, refusal_of_list_in}
-use Rattle.oidtool_search.proofs.FoundInTexts.{found_texts, found_whole, found_in_part}
+use Rattle.oidtool_search.proofs.FoundInTexts.{step_gave, found_texts}
 use Rattle.oidtool_search.proofs.Results.{error_holds_in}
-use Rattle.oidtool_search.proofs.Steps.{step_gave, no_error}
-use Rattle.oidtool_search.proofs.StopLemmas.{search_stops_in, reading_input_in, reading_not_output_in, reading_same_kind, ids_stop_in}
+use Rattle.oidtool_search.proofs.StopLemmas.{search_stops_in, ids_stop_in}
 use Rattle.oidtool_search.proofs.finding_in_from.find_in_from.Goals as goal
 
 pub returns-in_err-find_in_source-clause-stopped : goal.returns-in_err-find_in_source-clause-stopped
@@ -35,10 +32,3 @@ returns-in_err-ids g c =
       input = (λ e. cc e, λ failed. absurd (false≢true (sym c.in_ok-find_in_source.ensures.stands ∙ failed)));
       output = (λ e. absurd (never Output (cc (is, e))), λ failed. absurd (false≢true (sym c.requires.output ∙ failed)));
     })
-
-pub returns-clause-found : goal.returns-clause-found
-returns-clause-found g c =
-    let reads = step_gave _ c.from_hex_in.ensures c.in_ok-prefix.ensures.cases in
-    let all = rw c.in_ok-ids.was at c.in_ok-find_in_source.ensures.found in
-    let is = found_texts Prefix refusal_of_list_in (in_index c.args.kind) all.0 reads c.new.ensures.query all.2 in
-    (all.0, all.1, found_whole is c.in_ok-write_found.ensures.counted c.in_ok-write_found.ensures.written)

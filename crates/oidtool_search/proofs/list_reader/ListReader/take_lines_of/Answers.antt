@@ -1,14 +1,6 @@
 use Rattle.std.proofs.Common.{◌++◌, ◌∷◌, [], ap, append_assoc, arith, length, length-append, refl, sym, ◌∙◌}
-use Rattle.oidtool_search.proofs.ChunkLemmas.{line_pushed, takes_more, takes_none, range_none, range_parts, length-range}
+use Rattle.oidtool_search.proofs.ChunkLemmas.{line_pushed, takes_more, range_parts, length-range}
 use Rattle.oidtool_search.proofs.list_reader.ListReader.take_lines_of.Goals as goal
-
-pub loop-kind-init : goal.loop-kind-init
-loop-kind-init g c = record {
-  ok = takes_none _ _ (range_none c.args.chunk.now c.args.at);
-  begun = c.requires.begun;
-  onward = omega arith;
-  in_chunk = c.requires.in_chunk;
-}
 
 pub loop-kind-preserved : goal.loop-kind-preserved
 loop-kind-preserved g c =
