@@ -18,9 +18,9 @@ pub fn write_found<A: Allocator, W: Sink>(
     out: &mut W,
 ) -> Result<usize, WriteFailed>
     requires { W.has_failed out.old ≡ false }
-    ensures counted { IfOk result (λ count. count ≡ length (map id_digits ids.items)) }
     ensures written { OnOk result (Appends (W.taken out.old) (W.taken out.new)
         (printed (letter_of alphabet) (map id_digits ids.items))) }
+    ensures counted { IfOk result (λ count. count ≡ length (map id_digits ids.items)) }
     ensures stands { OnOk result (W.has_failed out.new ≡ false) }
     ensures part { OnErr result (AppendsPart (W.taken out.old) (W.taken out.new)
         (printed (letter_of alphabet) (map id_digits ids.items))) }

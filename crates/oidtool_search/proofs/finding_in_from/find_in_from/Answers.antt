@@ -18,14 +18,13 @@ returns-in_err-find_in_source-clause-stopped g c =
 pub returns-in_err-ids : goal.returns-in_err-ids
 returns-in_err-ids g c =
     let p = err_from_is_err_and c.from_residual-in_err-ids.result c.from_residual-in_err-ids.ensures.1 in
-    let error = c.in_err-ids.field-0.0 in
     let reads = step_gave _ c.from_hex_in.ensures c.in_ok-prefix.ensures.cases in
     let all = rw c.in_err-ids.was at c.in_ok-find_in_source.ensures.found in
     let is = found_texts Prefix refusal_of_list_in (in_index c.args.kind) all.0 reads c.new.ensures.query all.2 in
     let never = error_holds_in c.args.kind c.args.prefix.now all.0 in
     rw (p.1, p.2) (record {
       found = tt;
-      stopped = ids_stop_in c.args.kind c.args.prefix.now all.0 error _ _ _ _ all.1 is;
+      stopped = ids_stop_in c.args.kind c.args.prefix.now all.0 _ _ _ _ _ all.1 is;
       same_kind = λ kind e. absurd (never (OtherKind kind) (cc (is, e)));
       unread = rw reads (λ bad. absurd (false≢true bad));
       untouched = λ _. refl;
