@@ -1,10 +1,10 @@
 -- Comparing bytes is comparing digits: the laws by which equality and order speak only of digits.
-use Rattle.std.proofs.Common.{◌∙◌, sym, ◌≡◌, ℕ, ◌/◌, ◌%◌, Bool, ◌&&◌, List, [], ◌∷◌, refl, arith}
+use Rattle.std.proofs.Common.{◌∙◌, sym, ap, ◌≡◌, ℕ, ◌/◌, ◌%◌, List, [], ◌∷◌, refl, arith}
 use Rattle.std.proofs.lemmas.Bool.Decides.{nat_tests}
 use Rattle.std.specs.Prelude.{IsTrue, nat_eq}
 use Rattle.std.specs.declared.cmp.Ordering.{Ordering}
-use Rattle.std.specs.Ordering.{nat_cmp, ordering_then}
-use Rattle.std.specs.Cmp.Lexicographic.{slice_cmp, pointwise, bytes_decides}
+use Rattle.std.specs.Ordering.{is_eq, nat_cmp, ordering_then}
+use Rattle.std.specs.Cmp.Lexicographic.{slice_cmp, pointwise, bytes_decides, texts_ties}
 use Rattle.id_digits.specs.Digits.{digits_of}
 
 -- two numbers compare as their halves do
@@ -20,18 +20,9 @@ slice_cmp-digits_of [] (y ∷ ys) = refl
 slice_cmp-digits_of (x ∷ xs) [] = refl
 slice_cmp-digits_of (x ∷ xs) (y ∷ ys) = rw (slice_cmp-digits_of xs ys) (nat_cmp-halves x y (slice_cmp nat_cmp xs ys))
 
--- two numbers are equal if and only if their halves are
-nat_eq-halves : (x y : ℕ) (rest : Bool)
-    → (nat_eq (x / 16) (y / 16) && (nat_eq (x % 16) (y % 16) && rest)) ≡ (nat_eq x y && rest)
-nat_eq-halves x y rest = grind (arith, nat_tests)
-
 -- two lists of bytes are equal if and only if their digits are
 pub pointwise-digits_of : (xs ys : List ℕ) → pointwise nat_eq (digits_of xs) (digits_of ys) ≡ pointwise nat_eq xs ys
-unfolding digits_of
-pointwise-digits_of [] [] = refl
-pointwise-digits_of [] (y ∷ ys) = refl
-pointwise-digits_of (x ∷ xs) [] = refl
-pointwise-digits_of (x ∷ xs) (y ∷ ys) = rw (pointwise-digits_of xs ys) (nat_eq-halves x y (pointwise nat_eq xs ys))
+pointwise-digits_of xs ys = texts_ties (digits_of xs) (digits_of ys) ∙ ap is_eq (slice_cmp-digits_of xs ys) ∙ sym (texts_ties xs ys)
 
 -- bytes whose digits are equal are equal
 pub same_bytes : (xs ys : List ℕ) → IsTrue (pointwise nat_eq (digits_of xs) (digits_of ys)) → xs ≡ ys
