@@ -1,14 +1,13 @@
 //! The alphabets in which digits are spelled and read.
 
-ghost use Rattle.std.specs.Prelude.{◌≡◌, ◌≤◌, ◌*◌, ◌++◌, Some, None, IsTrue, if◌then◌else◌, length, drop, map, replicate};
+ghost use Rattle.std.specs.Prelude.{◌≡◌, ◌≤◌, ◌*◌, ◌++◌, Some, None, IsTrue, if◌then◌else◌, length, drop, replicate};
 ghost use Rattle.std.specs.Option.{ok_or, option_map};
 ghost use Rattle.std.specs.Result.{result_ok};
-ghost use Rattle.id_digits.specs.Digits.{digits_of, spelling, hex_letter};
+ghost use Rattle.id_digits.specs.Digits.{digits_of, spelling, hex_letter, reverse_letter};
 ghost use Rattle.gix_hash.specs.Kind.{hex_len_of, is_digest_len};
 ghost use Rattle.gix_hash.specs.Prefix.{kind_digits, padded};
 ghost use Rattle.gix_hash.specs.PrefixReading.{prefix_read};
 ghost use Rattle.gix_hash.specs.Reading.{digits_read};
-ghost use Rattle.id_digits.specs.ReverseLetters.{hex_of_reverse};
 ghost use Rattle.gix_hash.specs.Alphabet.{letter_of};
 ghost use Rattle.gix_hash.specs.declared.decode.Error as decode;
 ghost use Rattle.gix_hash.specs.declared.prefix.from_hex.Error as from_hex;
@@ -230,9 +229,11 @@ fn decode_pairs(text: &[u8], bytes: &mut [u8]) -> bool
 
 // Puts the hex letters for a text in the reverse alphabet into the front of `letters`, and lends
 // them.
+#[tactic(auto, using(id_digits::proofs::ReverseLetters::digits_of_reverse))]
 fn in_hex<'a>(text: &[u8], letters: &'a mut [u8; 64]) -> &'a [u8]
     requires { length text.now ≤ 64 }
-    ensures { result.now ≡ map hex_of_reverse text.now }
+    ensures len { length result.now ≡ length text.now }
+    ensures digits { digits_read hex_letter result.now ≡ digits_read reverse_letter text.now }
 {
     let letters = &mut letters[..text.len()];
     letters.copy_from_slice(text);

@@ -45,11 +45,11 @@ found_in_hex c None h = unfound (digit_in hex_letter (hex_of_reverse c)) refl
         let there = digit_in-is reverse_letter reverse_alphabet c d (record { digit = is.digit; same_letter = sym back }) in cc
 
 -- the hex letters for reverse letters read as the same digits
-pub digits_read-hex_of_reverse : (text : List ℕ) → digits_read hex_letter (map hex_of_reverse text) ≡ digits_read reverse_letter text
+pub digits_of_reverse : (text : List ℕ) → digits_read hex_letter (map hex_of_reverse text) ≡ digits_read reverse_letter text
 unfolding digits_read
-digits_read-hex_of_reverse [] = refl
-digits_read-hex_of_reverse (c ∷ text) =
-    rw (found_in_hex c (digit_in reverse_letter c) refl, digits_read-hex_of_reverse text) refl
+digits_of_reverse [] = refl
+digits_of_reverse (c ∷ text) =
+    rw (found_in_hex c (digit_in reverse_letter c) refl, digits_of_reverse text) refl
 
 -- the reverse letter for a digit's hex letter is the digit's
 letter_for : (d : ℕ) → d < 16 → reverse_of_hex (hex_letter d) ≡ reverse_letter d
