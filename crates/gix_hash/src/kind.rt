@@ -29,10 +29,6 @@ pub enum Kind {
 }
 
 impl Kind {
-    ghost use Rattle.gix_hash.specs.ObjectId.{id_kind, id_digits};
-    ghost use Rattle.gix_hash.specs.Oid.{oid_kind, oid_digits};
-    ghost use Rattle.gix_hash.specs.WellKnown.{null_digits, empty_blob_digits, empty_tree_digits};
-
     /// The number of hex digits of an id of this kind: 40 or 64.
     pub const fn len_in_hex(&self) -> usize
         ensures { result ≡ hex_len_of self.now }
@@ -93,6 +89,34 @@ impl Kind {
         [0; 32]
     }
 
+    /// Every kind, the shortest first.
+    pub fn all() -> &'static [Kind]
+        ensures { result.now ≡ Kind.Sha1 ∷ Kind.Sha256 ∷ [] }
+    {
+        &[Kind::Sha1, Kind::Sha256]
+    }
+
+    /// Reads the name of a kind: `sha1`, `SHA1`, `SHA-1`, `sha256`, `SHA256` or `SHA-256`. Any
+    /// other text is returned as the error.
+    pub fn from_str(name: &str) -> Result<Kind, &str>
+        ensures { MatchResult result (IsNameOf name.now)
+            (λ refused. (refused.now ≡ name.now) × IsNoName name.now) }
+    {
+        match name {
+            "sha1" | "SHA1" | "SHA-1" => Ok(Kind::Sha1),
+            "sha256" | "SHA256" | "SHA-256" => Ok(Kind::Sha256),
+            _ => Err(name),
+        }
+    }
+}
+
+// The ids that Git names without an object at hand. The check computes their digits.
+#[tactic(auto, unfolding(crate::specs::Reading::digit_below, id_digits::specs::Digits::digits_of))]
+impl Kind {
+    ghost use Rattle.gix_hash.specs.ObjectId.{id_kind, id_digits};
+    ghost use Rattle.gix_hash.specs.Oid.{oid_kind, oid_digits};
+    ghost use Rattle.gix_hash.specs.WellKnown.{null_digits, empty_blob_digits, empty_tree_digits};
+
     /// The id whose digits are all zero.
     pub fn null(&self) -> ObjectId
         ensures kind { id_kind result ≡ self.now }
@@ -134,26 +158,6 @@ impl Kind {
         match self {
             Kind::Sha1 => ObjectId::Sha1(EMPTY_TREE_SHA1),
             Kind::Sha256 => ObjectId::Sha256(EMPTY_TREE_SHA256),
-        }
-    }
-
-    /// Every kind, the shortest first.
-    pub fn all() -> &'static [Kind]
-        ensures { result.now ≡ Kind.Sha1 ∷ Kind.Sha256 ∷ [] }
-    {
-        &[Kind::Sha1, Kind::Sha256]
-    }
-
-    /// Reads the name of a kind: `sha1`, `SHA1`, `SHA-1`, `sha256`, `SHA256` or `SHA-256`. Any
-    /// other text is returned as the error.
-    pub fn from_str(name: &str) -> Result<Kind, &str>
-        ensures { MatchResult result (IsNameOf name.now)
-            (λ refused. (refused.now ≡ name.now) × IsNoName name.now) }
-    {
-        match name {
-            "sha1" | "SHA1" | "SHA-1" => Ok(Kind::Sha1),
-            "sha256" | "SHA256" | "SHA-256" => Ok(Kind::Sha256),
-            _ => Err(name),
         }
     }
 }

@@ -1,8 +1,0 @@
-use Rattle.id_digits.proofs.Packing.{digits_of-zeros}
-use Rattle.gix_hash.proofs.kind.Kind.null_ref.Goals as goal
-
-pub returns-in-Sha1-clause-digits : goal.returns-in-Sha1-clause-digits
-returns-in-Sha1-clause-digits c = rw (c.in-Sha1.is, c.from_bytes_unchecked.ensures) (digits_of-zeros 20)
-
-pub returns-in-Sha256-clause-digits : goal.returns-in-Sha256-clause-digits
-returns-in-Sha256-clause-digits c = rw (c.in-Sha256.is, c.from_bytes_unchecked-in-Sha256.ensures) (digits_of-zeros 32)
