@@ -16,8 +16,5 @@ pub hex_len_of-kind : (n : ℕ) → IsTrue (is_digest_len n) → hex_len_of (kin
 hex_len_of-kind n h = grind (arith, nat_tests)
 
 -- kinds with one number of digits are the same
-pub kind_by_hex_len : (a b : Kind) → hex_len_of a ≡ hex_len_of b → a ≡ b
-kind_by_hex_len Sha1 Sha1 h = refl
-kind_by_hex_len Sha1 Sha256 h = absurd (omega arith)
-kind_by_hex_len Sha256 Sha1 h = absurd (omega arith)
-kind_by_hex_len Sha256 Sha256 h = refl
+pub same_kind : (a b : Kind) → hex_len_of a ≡ hex_len_of b → a ≡ b
+same_kind a b h = grind arith

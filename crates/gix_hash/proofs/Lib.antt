@@ -10,7 +10,7 @@ mod HexSpelling
 pub mod IdDigits
 mod IdFacts
 mod KeptDigits
-mod KindFacts
+pub mod KindFacts
 mod LentTexts
 mod Made
 mod OnlyChunks

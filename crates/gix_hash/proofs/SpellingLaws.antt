@@ -20,7 +20,7 @@ use Rattle.gix_hash.specs.declared.alphabet.Alphabet.TheVariants.{Hex, Reverse}
 use Rattle.gix_hash.specs.declared.borrowed.oid.{oid}
 use Rattle.gix_hash.specs.declared.object_id.ObjectId.{ObjectId}
 use Rattle.gix_hash.proofs.IdFacts.{length-oid}
-use Rattle.gix_hash.proofs.KindFacts.{kind_by_hex_len}
+use Rattle.gix_hash.proofs.KindFacts.{same_kind}
 
 -- the reverse letters by their table
 pub reverse_letter-table : (d : ℕ) → d < 16 → reverse_letter d ≡ slice_index (codes "zyxwvutsrqponmlk") d
@@ -50,7 +50,7 @@ pub id_eq-spelling : (a b : ObjectId) → length (id_digits a) ≡ hex_len_of (i
 id_eq-spelling a b la lb = (
   λ h. ap (spelling hex_letter) ((id_eq-parts a b).0 h).1,
   λ h. (let digits = spelling-injective (id_digits a) (id_digits b) h in
-      (id_eq-parts a b).1 (kind_by_hex_len (id_kind a) (id_kind b) (sym la ∙ ap length digits ∙ lb), digits)),
+      (id_eq-parts a b).1 (same_kind (id_kind a) (id_kind b) (sym la ∙ ap length digits ∙ lb), digits)),
 )
 
 -- `==` of views by their spellings
@@ -63,7 +63,7 @@ oid_eq-spelling a b = (
 -- equal views have one kind
 pub oid_eq-kind : (a b : oid) → IsTrue (oid_eq a b) → oid_kind a ≡ oid_kind b
 oid_eq-kind a b h =
-    kind_by_hex_len (oid_kind a) (oid_kind b) (sym (length-oid a) ∙ ap length ((oid_eq-digits a b).0 h) ∙ length-oid b)
+    same_kind (oid_kind a) (oid_kind b) (sym (length-oid a) ∙ ap length ((oid_eq-digits a b).0 h) ∙ length-oid b)
 
 -- `==` of prefixes by their kinds and their spellings
 pub prefix_eq-spelling : (a b : KindDigits)

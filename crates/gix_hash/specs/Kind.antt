@@ -1,6 +1,6 @@
 -- The kinds of digest, with their numbers and lengths.
 pub use Rattle.id_digits.specs.DigestLengths.{is_digest_len}
-use Rattle.std.proofs.Common.{◌≡◌, refl, arith}
+use Rattle.std.proofs.Common.{◌≡◌, arith}
 use Rattle.std.specs.Prelude.{ℕ, nat_le, ◌==◌, if◌then◌else◌, Option, Some, None, List, [], ◌∷◌, ◌≢◌, Contains, codes}
 use Rattle.gix_hash.specs.declared.kind.Kind.{Kind}
 use Rattle.gix_hash.specs.declared.kind.Kind.TheVariants.{Sha1, Sha256}
@@ -12,10 +12,7 @@ number_of Sha256 = 2
 
 -- kinds with one number are the same
 pub kind_by_number : (a b : Kind) → number_of a ≡ number_of b → a ≡ b
-kind_by_number Sha1 Sha1 h = refl
-kind_by_number Sha1 Sha256 h = absurd (omega arith)
-kind_by_number Sha256 Sha1 h = absurd (omega arith)
-kind_by_number Sha256 Sha256 h = refl
+kind_by_number a b h = grind arith
 
 -- how many digits an id of the kind has
 abbrev pub hex_len_of : Kind → ℕ

@@ -1,5 +1,5 @@
 -- Indexes are sorted, so a prefix of their kind can be looked up in them.
-use Rattle.std.proofs.Common.{◌≡◌, ℕ, zero, suc, not, nat_eq, ◌+◌, ◌-◌, ◌<◌, ◌≤◌, false, List, [], length, get_or, ◌⊎◌, inl, inr, refl, ap, ◌∙◌, subst, arith}
+use Rattle.std.proofs.Common.{◌≡◌, ℕ, zero, suc, not, nat_eq, ◌+◌, ◌-◌, ◌<◌, ◌≤◌, false, List, [], length, get_or, ◌⊎◌, inl, inr, ap, ◌∙◌, subst, arith}
 use Rattle.std.specs.List.{AllPairs}
 use Rattle.std.specs.Ordering.{nat_cmp, is_lt, ordering_reverse}
 use Rattle.std.specs.Cmp.Lexicographic.{slice_cmp}
@@ -9,10 +9,10 @@ use Rattle.std.proofs.lemmas.Bool.Decides.{nat_tests}
 use Rattle.std.proofs.lemmas.Cmp.{nat_list_cmp_total}
 use Rattle.std.proofs.lemmas.List.{get_or_default}
 use Rattle.std.proofs.lemmas.List.Elements.{AllWithin-more}
+pub use Rattle.gix_hash.proofs.KindFacts.{same_kind}
 use Rattle.gix_hash.specs.Kind.{hex_len_of, kind_by_number, number_of}
 use Rattle.gix_hash.specs.Prefix.{KindDigits}
 use Rattle.gix_hash.specs.declared.Kind.{Kind}
-use Rattle.gix_hash.specs.declared.Kind.TheVariants.{Sha1, Sha256}
 use Rattle.id_lookup.specs.FoundRun.{IsRun}
 use Rattle.id_lookup.specs.declared.search.Run.{Run}
 use Rattle.id_lookup.specs.Index.{IsIndex, IsIndexUpTo}
@@ -58,20 +58,9 @@ index-can_probe kind ids prefix index fits = record {
   reach = λ k d inside. omega (arith, fits, index.kinds k d (omega arith) inside);
 }
 
--- kinds with as many digits are one
-pub same_kind : (a b : Kind) → hex_len_of a ≡ hex_len_of b → a ≡ b
-same_kind Sha1 Sha1 h = refl
-same_kind Sha1 Sha256 h = absurd (omega arith)
-same_kind Sha256 Sha1 h = absurd (omega arith)
-same_kind Sha256 Sha256 h = refl
-
--- and the test for different kinds fails for one kind, and for no two
+-- the test for different kinds fails for one kind, and for no two
 pub not_other : (a b : Kind) → a ≡ b → not (nat_eq (number_of a) (number_of b)) ≡ false
-not_other a b same = ap (λ (kind : Kind). not (nat_eq (number_of kind) (number_of b))) same ∙ itself b
-  where
-    itself : (b : Kind) → not (nat_eq (number_of b) (number_of b)) ≡ false
-    itself Sha1 = refl
-    itself Sha256 = refl
+not_other a b same = grind (arith, nat_tests)
 
 pub no_other : (a b : Kind) → not (nat_eq (number_of a) (number_of b)) ≡ false → a ≡ b
 no_other a b same = kind_by_number a b (grind (arith, nat_tests))
