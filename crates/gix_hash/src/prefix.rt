@@ -14,7 +14,7 @@ use crate::object_id::ObjectId;
 use id_digits::Words;
 use std::cmp::Ordering;
 use std::marker::Model;
-use std::{error, fmt};
+use thiserror::Error as ThisError;
 
 pub mod from_hex;
 mod order;
@@ -28,14 +28,16 @@ mod printing;
 /// let why = Prefix::new(id.as_oid(), 65);
 /// assert!(rt; matches!(why, Err(prefix::Error::TooLong { .. })));
 /// ```
-#[derive(Debug, Drop)]
+#[derive(Debug, Drop, ThisError)]
 pub enum Error {
     /// Fewer than 4 digits were asked for.
+    #[error("The minimum hex length of a short object id is 4, got {hex_len}")]
     TooShort {
         /// The number of digits that was asked for.
         hex_len: usize,
     },
     /// More digits were asked for than the id has.
+    #[error("An object of kind {object_kind} cannot be larger than {most} in hex, but {hex_len} was requested", most = .object_kind.len_in_hex())]
     TooLong {
         /// The kind of the id.
         object_kind: Kind,
@@ -43,32 +45,6 @@ pub enum Error {
         hex_len: usize,
     },
 }
-
-impl fmt::Display for Error {
-    fn fmt<W: fmt::Write>(&self, f: &mut fmt::Formatter<W>) -> fmt::Result {
-        match *self {
-            Error::TooShort { hex_len } => {
-                let least = Prefix::MIN_HEX_LEN;
-                write!(
-                    f,
-                    "The minimum hex length of a short object id is {least}, got {hex_len}"
-                )
-            }
-            Error::TooLong {
-                object_kind,
-                hex_len,
-            } => {
-                let most = object_kind.len_in_hex();
-                write!(
-                    f,
-                    "An object of kind {object_kind} cannot be larger than {most} in hex, but {hex_len} was requested"
-                )
-            }
-        }
-    }
-}
-
-impl error::Error for Error {}
 
 /// A beginning of an id: a kind, and 0 to 40 or 0 to 64 digits.
 ///
