@@ -20,4 +20,3 @@ mod Reaching
 mod ReadingLaws
 mod SpellingLaws
 mod Spellings
-mod WellKnownDigests
