@@ -15,7 +15,7 @@ use crate::fan_out::FanOut;
 use crate::ids::{Id, id_at};
 use crate::probes::Probes;
 use crate::search::{Run, lookup_in};
-use crate::short_names::unique_len;
+use crate::short_names::shortest_name;
 use gix_hash::{Kind, ObjectId, Prefix};
 use std::error::Error;
 use std::fmt;
@@ -182,8 +182,7 @@ impl<'a, I: Id> IdIndex<'a, I> {
         ensures name { IsShortestNameFrom least self.now.ids at result.digits }
         ensures run { IsRun result self.now.ids (record { start = at; end = at + 1 }) }
     {
-        let ids = self.ids;
-        Prefix::new(id_at(ids, at), unique_len(ids, at).max(least)).unwrap()
+        shortest_name(self.ids, at, least).unwrap()
     }
 }
 

@@ -1,6 +1,6 @@
 //! The shortest unique names of the ids of a sorted list: the two neighbours of an id decide.
 
-ghost use Rattle.std.specs.Prelude.{◌≡◌, ◌+◌, ◌-◌, ◌<◌, ◌≤◌, ℕ, [], IfSome, IsNone, List, length, map, slice_index_or};
+ghost use Rattle.std.specs.Prelude.{◌≡◌, ◌+◌, ◌-◌, ◌<◌, ◌≤◌, ℕ, [], IfSome, IsNone, List, length, map, slice_index_or, max};
 ghost use Rattle.gix_hash.specs.Kind.{hex_len_of};
 ghost use Rattle.id_lookup.specs.ShortNames.{IsShortestNameFrom, IsUniqueLen, common_at};
 ghost use Rattle.id_lookup.specs.Sorted.{IsSortedIds};
@@ -19,6 +19,9 @@ pub(crate) fn shortest_name<I: Id>(ids: &[I], at: usize, least: usize) -> Option
         → IsShortestNameFrom least (map I.digits ids.now) at name.digits) }
     ensures none { IsNone result → IsSortedIds (map I.digits ids.now) → (name : List ℕ)
         → ¬ IsShortestNameFrom least (map I.digits ids.now) at name }
+    ensures lacks { IsNone result → IsSortedIds (map I.digits ids.now)
+        → (len : ℕ) × IsUniqueLen (map I.digits ids.now) at len
+        × (length (slice_index_or (map I.digits ids.now) at []) < max len least) }
 {
     let hex_len = unique_len(ids, at).max(least);
     let id = id_at(ids, at);
@@ -29,7 +32,7 @@ pub(crate) fn shortest_name<I: Id>(ids: &[I], at: usize, least: usize) -> Option
 }
 
 // How many first digits distinguish the id at an index from all others, if the list is sorted.
-pub(crate) fn unique_len<I: Id>(ids: &[I], at: usize) -> usize
+fn unique_len<I: Id>(ids: &[I], at: usize) -> usize
     requires { at < length ids.now }
     ensures { IsSortedIds (map I.digits ids.now) → IsUniqueLen (map I.digits ids.now) at result }
 {

@@ -1,15 +1,21 @@
-use Rattle.std.proofs.Common.{◌≡◌, ◌≤◌, [], length, map, take, ap, ◌∙◌, arith}
+use Rattle.std.proofs.Common.{◌≡◌, ◌≤◌, [], length, map, max, refl, take, ap, ◌∙◌, arith}
 use Rattle.gix_hash.specs.Kind.{hex_len_of}
 use Rattle.gix_hash.specs.Oid.{oid_digits, oid_kind}
 use Rattle.gix_hash.specs.Prefix.{KindDigits}
 use Rattle.id_lookup.proofs.Neighbours.{has_room, shortest}
 use Rattle.id_lookup.proofs.short_names.shortest_name.Goals as goal
 
+pub returns-then-hex_len-len_in_hex-clause-lacks : goal.returns-then-hex_len-len_in_hex-clause-lacks
+returns-then-hex_len-len_in_hex-clause-lacks g c = λ _ sorted. (
+  c.unique_len.result,
+  c.unique_len.ensures sorted,
+  omega (arith, c.max-hex_len.ensures, c.if-hex_len-len_in_hex.true, c.len_in_hex.ensures, ap hex_len_of c.kind.ensures.value, c.id_at-id.ensures.len, ap length (c.id_at-id.ensures.digits [])),
+)
+
 pub returns-then-hex_len-len_in_hex-clause-none : goal.returns-then-hex_len-len_in_hex-clause-none
-returns-then-hex_len-len_in_hex-clause-none g c = λ _ sorted name short.
-    let ids = map g.I.Id.digits c.args.ids.now in
-    let room = has_room ids c.args.least c.args.at name short c.unique_len.result c.max-hex_len.result (c.unique_len.ensures sorted) c.max-hex_len.ensures in
-    omega (arith, room, c.if-hex_len-len_in_hex.true, c.len_in_hex.ensures, ap hex_len_of c.kind.ensures.value, c.id_at-id.ensures.len, ap length (c.id_at-id.ensures.digits []))
+returns-then-hex_len-len_in_hex-clause-none g c = λ is sorted name short.
+    let lacks = returns-then-hex_len-len_in_hex-clause-lacks g c is sorted in
+    omega (arith, lacks.2, has_room (map g.I.Id.digits c.args.ids.now) c.args.least c.args.at name short lacks.0 (max lacks.0 c.args.least) lacks.1 refl)
 
 pub returns-clause-name : goal.returns-clause-name
 returns-clause-name g c sorted =
