@@ -1,6 +1,6 @@
 -- The first digits of bytes, copied into zeros.
 use Rattle.std.proofs.Common.{◌≡◌, ℕ, ◌-◌, ◌*◌, ◌≤◌, List, length, take, drop, replicate, slice_range, arith}
-use Rattle.std.proofs.lemmas.List.{take-take, append-nil, take_at, length-take-le}
+use Rattle.std.proofs.lemmas.List.{take-take, take_at, length-take-le}
 use Rattle.id_digits.specs.Digits.{digits_of}
 use Rattle.gix_hash.specs.Prefix.{padded}
 use Rattle.id_digits.proofs.ByteDigits.{length-digits_of, take-digits_of, drop-digits_of}
@@ -16,10 +16,6 @@ take-digits_of-take n k bytes within = rw (← take-digits_of k bytes) (take-tak
 -- the digits are before the zeros
 pub take-padded : (n room : ℕ) (digits : List ℕ) → length digits ≡ n → take n (padded room digits) ≡ digits
 take-padded n room digits len = take_at digits (replicate (room - length digits) 0) n len
-
--- as many digits as asked for need no zeros
-pub padded-full : (n : ℕ) (digits : List ℕ) → length digits ≡ n → padded n digits ≡ digits
-padded-full n digits len = let none : n - length digits ≡ 0 = omega arith in rw none (append-nil digits)
 
 -- the digits of a range of bytes
 pub digits_of-range : (start end : ℕ) (bytes : List ℕ)

@@ -1,7 +1,7 @@
 -- Spellings of ids.
-use Rattle.std.proofs.Common.{◌++◌, ◌≡◌, ◌<◌, ℕ, List, length, take, min, subst, sym, ap, ◌∙◌, arith}
+use Rattle.std.proofs.Common.{◌++◌, ◌≡◌, ◌<◌, ℕ, List, length, take, min, subst, sym, ap, ◌∙◌}
 use Rattle.std.specs.Prelude.{All, IsAscii}
-use Rattle.std.proofs.lemmas.List.{take_all, take_at}
+use Rattle.std.proofs.lemmas.List.{take_at}
 use Rattle.id_digits.specs.Digits.{spelling, hex_letter}
 use Rattle.gix_hash.specs.Kind.{hex_len_of}
 use Rattle.gix_hash.specs.Oid.{oid_digits, oid_kind}
@@ -22,7 +22,3 @@ pub take-put_id : (letter : ℕ → ℕ) (n cut : ℕ) (id : oid) (buffer rest :
 take-put_id letter n cut id buffer rest put is =
     let most : cut ≡ min n (length (oid_digits id)) = is ∙ ap (min n) (sym (length-oid id)) in
     rw (put, most) (take-spelling letter n (oid_digits id) rest)
-
--- all digits of an id are shown if as many were asked for
-pub all_shown : (id : oid) (n : ℕ) → n ≡ hex_len_of (oid_kind id) → take n (oid_digits id) ≡ oid_digits id
-all_shown id n is = let len = length-oid id in take_all n (oid_digits id) (omega arith)

@@ -1,9 +1,6 @@
 use Rattle.gix_hash.proofs.IdDigits.{digest-HasDigits, digest-AreIdDigits}
 use Rattle.gix_hash.proofs.hashing_laws.digests.Goals as goal
 
-pub returns-clause-kind : goal.returns-clause-kind
-returns-clause-kind c message = (digest-HasDigits c.args.kind message).0
-
 pub returns-clause-len : goal.returns-clause-len
 returns-clause-len c message = (digest-HasDigits c.args.kind message).1
 
