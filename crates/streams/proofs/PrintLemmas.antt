@@ -1,9 +1,8 @@
 -- Writing the lines of ids, one after another.
-use Rattle.std.proofs.Common.{◌≡◌, ℕ, ◌+◌, ◌<◌, Option, List, [], ◌∷◌, ◌++◌, map, take, drop, length, get_or, sym, ap, ◌∙◌, take-append-drop, append-nil, add-one}
-use Rattle.std.proofs.lemmas.List.{map-append, take_more}
+use Rattle.std.proofs.Common.{◌≡◌, ℕ, ◌+◌, ◌<◌, Option, List, ◌∷◌, ◌++◌, map, take, drop, length, get_or, sym, ap, ◌∙◌, take-append-drop, add-one}
+use Rattle.std.proofs.lemmas.List.{map-append}
 use Rattle.std.proofs.lemmas.Grind.{flat_map-append}
 use Rattle.std.proofs.Math.Seq.{drop-cons}
-use Rattle.std.proofs.KnownBytes.{Appends-trans}
 use Rattle.std.specs.Io.KnownBytes.{Appends}
 use Rattle.gix_hash.specs.ObjectId.{id_digits}
 use Rattle.gix_hash.specs.declared.ObjectId.{ObjectId}
@@ -25,16 +24,6 @@ printed-at letter ids k e within =
     ap (λ (all : List ObjectId). printed letter (map id_digits all)) (parts-at ids k e within)
     ∙ ap (printed letter) (map-append id_digits (take k ids) (get_or ids k e ∷ drop (k + 1) ids))
     ∙ flat_map-append (line_of letter) (map id_digits (take k ids)) (id_digits (get_or ids k e) ∷ map id_digits (drop (k + 1) ids))
-
--- one line more
-pub Appends-id : (a b c : Option (List ℕ)) (letter : ℕ → ℕ) (ids : List ObjectId) (k : ℕ) (e : ObjectId) → k < length ids
-    → Appends a b (printed letter (map id_digits (take k ids))) → Appends b c (line_of letter (id_digits (get_or ids k e)))
-    → Appends a c (printed letter (map id_digits (take (k + 1) ids)))
-Appends-id a b c letter ids k e within before line =
-    let front = map id_digits (take k ids) in
-    let id = id_digits (get_or ids k e) in
-    rw (take_more ids k e within, map-append id_digits (take k ids) (get_or ids k e ∷ []), flat_map-append (line_of letter) front (id ∷ []), append-nil (line_of letter id))
-    (Appends-trans a b c (printed letter front) (line_of letter id) before line)
 
 -- a part of one line, after the lines before it, is a part of all the lines
 pub AppendsPart-id : (a b c : Option (List ℕ)) (letter : ℕ → ℕ) (ids : List ObjectId) (k : ℕ) (e : ObjectId) → k < length ids

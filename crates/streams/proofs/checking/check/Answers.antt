@@ -9,12 +9,6 @@ use Rattle.streams.specs.Source.{HasReadCounted}
 use Rattle.streams.proofs.SealedLemmas.{byte_len_of-most, ends_as, length-held, length-read, fed_and_held, held_again}
 use Rattle.streams.proofs.checking.check.Goals as goal
 
-pub compared-requires : goal.compared-requires
-compared-requires g c =
-    let before = c.chunks.invariant.1 in
-    let all = put_mid c.chunks.held (c.chunks.held + 65536 - c.chunks.held) c.chunks.buf c.next_chunk.new.buf in
-    omega (arith, before.held, length-take c.chunks.held all)
-
 pub returns-then-len-eq0-clause-checked : goal.returns-then-len-eq0-clause-checked
 returns-then-len-eq0-clause-checked g c =
     let message = c.chunks.invariant.0 in

@@ -1,12 +1,6 @@
-use Rattle.std.proofs.Common.{List, ℕ, ◌++◌, refl, ap}
-use Rattle.streams.proofs.SealedLemmas.{sealed-end, sealed-length, sealed-last}
+use Rattle.std.proofs.Common.{List, ℕ, ◌++◌, ap}
+use Rattle.streams.proofs.SealedLemmas.{sealed-end, sealed-last}
 use Rattle.streams.proofs.laws.sealed_bytes.Goals as goal
-
-pub returns-clause-written : goal.returns-clause-written
-returns-clause-written c message = (message, refl)
-
-pub returns-clause-least : goal.returns-clause-least
-returns-clause-least c = sealed-length c.args.kind c.digests.ensures.len
 
 pub returns-clause-told : goal.returns-clause-told
 returns-clause-told c front tail len = (

@@ -1,16 +1,8 @@
 use Rattle.std.proofs.Common.{ap, ◌∙◌}
-use Rattle.std.proofs.KnownBytes.{Appends-trans}
 use Rattle.std.proofs.lemmas.Result.{err_from_is_err_and}
 use Rattle.gix_hash.specs.ObjectId.{id_bytes}
 use Rattle.streams.proofs.WritingLemmas.{AppendsPart-after}
 use Rattle.streams.proofs.pipe.seal.Goals as goal
-
-pub returns-clause-sealed : goal.returns-clause-sealed
-returns-clause-sealed g c =
-    let copied = c.in_ok-id.ensures.copied in
-    let digest_bytes = c.as_slice.ensures.value ∙ ap id_bytes copied.3 in
-    let taken = Appends-trans _ _ _ copied.0 c.as_slice.result.now copied.2 c.in_ok-write_all.ensures.written in
-    (copied.0, copied.1, rw (← digest_bytes) taken)
 
 pub returns-in_err-write_all-clause-stopped : goal.returns-in_err-write_all-clause-stopped
 returns-in_err-write_all-clause-stopped g c =
