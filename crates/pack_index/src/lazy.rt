@@ -213,7 +213,7 @@ impl<S: ReadAt + Drop> LazyFile<S> {
         if run.end < run.start {
             return Err(LazyError::CountsFall(byte));
         }
-        let count = count_in(&self.head) as usize;
+        let count = self.num_objects() as usize;
         if run.end > count {
             return Err(LazyError::CountTooHigh(byte));
         }
@@ -336,12 +336,7 @@ fn have_first_byte(bytes: &[u8], kind: Kind, byte: u8) -> bool
 fn all_have_first_byte<I: Id>(ids: &[I], byte: u8) -> bool
     ensures { IsTrue result ↔ All (λ id. IsTrue (has_first_byte byte (I.digits id))) ids.now }
 {
-    for id in ids {
-        if id.as_oid().first_byte() != byte {
-            return false;
-        }
-    }
-    true
+    ids.iter().all(|id| id.as_oid().first_byte() == byte)
 }
 
 // The first index of an id among the digests of a kind in the bytes.

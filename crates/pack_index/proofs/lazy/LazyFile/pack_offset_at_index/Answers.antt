@@ -1,10 +1,23 @@
-use Rattle.std.proofs.Common.{◌≡◌, ◌∙◌, ◌+◌, ◌*◌, length, refl, ap, arith, rules}
+use Rattle.std.proofs.Common.{◌≡◌, ◌∙◌, ℕ, ◌+◌, ◌-◌, ◌*◌, List, Some, length, refl, ap, arith, rules}
 use Rattle.gix_hash.specs.declared.Kind.{Kind}
-use Rattle.pack_index.specs.Format.{long_at, tables_end}
+use Rattle.pack_index.specs.Format.{long_at, long_word, tables_end}
 use Rattle.pack_index.specs.Lazy.{LazyIndex}
 use Rattle.pack_index.proofs.Heads.{head_count, long_in_head}
 use Rattle.pack_index.proofs.ReadOffsets.{has_long, has_short, long_offset, no_long, short_offset}
+use Rattle.pack_index.proofs.lazy.LazyFile.pack_offset_at_index.Given.{Over}
+use Rattle.pack_index.proofs.lazy.LazyFile.pack_offset_at_index.Goals.{After-from-2}
 use Rattle.pack_index.proofs.lazy.LazyFile.pack_offset_at_index.Goals as goal
+
+-- where the long offset is, and where all of them end
+placed : (g : Over) (c : After-from-2 g) (bytes : List ℕ) → c.args.self.now.content ≡ Some bytes
+    → (c.long_at.result + 8 * c.from-2.result ≡ long_at c.args.self.now.kind bytes + 8 * (c.in_ok-word.word - long_word))
+    × (c.self.inside.end ≡ tables_end c.args.self.now.kind bytes)
+placed g c bytes is =
+    let inv = c.self.invariant bytes (rw (← c.self.view_is) at is) in
+    let kind : c.self.inside.kind ≡ c.args.self.now.kind = ap (λ (f : LazyIndex). f.kind) c.self.view_is in
+    let whole : length c.self.inside.head ≡ 1032 = first_of (search rules, omega arith) in
+    let starts = c.long_at.ensures.place ∙ long_in_head bytes c.self.inside.head inv.0 whole c.self.inside.kind ∙ ap (λ (k : Kind). long_at k bytes) kind in
+    (omega (arith, starts, c.from-2.ensures), inv.2 ∙ ap (λ (k : Kind). tables_end k bytes) kind)
 
 pub returns-then-word-lt-LONG-clause-has : goal.returns-then-word-lt-LONG-clause-has
 returns-then-word-lt-LONG-clause-has g c = λ bytes is. has_short _ bytes c.args.at _ (c.in_ok-word.ensures.word bytes is) c.if-word-lt-LONG.true
@@ -14,32 +27,20 @@ returns-then-word-lt-LONG-clause-offset g c = λ bytes is. c.from.ensures ∙ sh
 
 pub returns-then-start-self-clause-err : goal.returns-then-start-self-clause-err
 returns-then-start-self-clause-err g c = λ bytes is.
-    let inv = c.self.invariant bytes (rw (← c.self.view_is) at is) in
-    let kind : c.self.inside.kind ≡ c.args.self.now.kind = ap (λ (f : LazyIndex). f.kind) c.self.view_is in
-    let whole : length c.self.inside.head ≡ 1032 = first_of (search rules, omega arith) in
-    let starts = c.long_at.ensures.place ∙ long_in_head bytes c.self.inside.head inv.0 whole c.self.inside.kind ∙ ap (λ (k : Kind). long_at k bytes) kind in (
+    let place = placed g (goal.at.returns-then-start-self-clause-err g c).After-from-2 bytes is in
+    let inv = c.self.invariant bytes (rw (← c.self.view_is) at is) in (
       refl,
-      omega (arith, c.requires, ap (λ (f : LazyIndex). f.count) c.self.view_is, head_count bytes c.self.inside.head inv.0 whole),
-      no_long c.args.self.now.kind bytes c.args.at c.in_ok-word.word (c.in_ok-word.ensures.word bytes is) c.if-word-lt-LONG.false (c.long_at.result + 8 * c.from-2.result)
-          (omega (arith, starts, c.from-2.ensures)) c.self.inside.end (inv.2 ∙ ap (λ (k : Kind). tables_end k bytes) kind) c.if-start-self.true,
+      omega (arith, c.requires, ap (λ (f : LazyIndex). f.count) c.self.view_is, head_count bytes c.self.inside.head inv.0 (first_of (search rules, omega arith))),
+      no_long _ bytes c.args.at _ (c.in_ok-word.ensures.word bytes is) c.if-word-lt-LONG.false _ place.0 _ place.1 c.if-start-self.true,
     )
 
 pub returns-clause-has : goal.returns-clause-has
 returns-clause-has g c = λ bytes is.
-    let inv = c.self.invariant bytes (rw (← c.self.view_is) at is) in
-    let kind : c.self.inside.kind ≡ c.args.self.now.kind = ap (λ (f : LazyIndex). f.kind) c.self.view_is in
-    let whole : length c.self.inside.head ≡ 1032 = first_of (search rules, omega arith) in
-    let starts = c.long_at.ensures.place ∙ long_in_head bytes c.self.inside.head inv.0 whole c.self.inside.kind ∙ ap (λ (k : Kind). long_at k bytes) kind in
-    has_long c.args.self.now.kind bytes c.args.at c.in_ok-word.word (c.in_ok-word.ensures.word bytes is) c.if-word-lt-LONG.false (c.long_at.result + 8 * c.from-2.result)
-    (omega (arith, starts, c.from-2.ensures)) c.self.inside.end (inv.2 ∙ ap (λ (k : Kind). tables_end k bytes) kind) c.if-start-self.false
+    let place = placed g (goal.at.returns-clause-has g c).After-from-2 bytes is in
+    has_long _ bytes c.args.at _ (c.in_ok-word.ensures.word bytes is) c.if-word-lt-LONG.false _ place.0 _ place.1 c.if-start-self.false
 
 pub returns-clause-offset : goal.returns-clause-offset
 returns-clause-offset g c = λ bytes is.
-    let known = rw (← c.self.view_is) at is in
-    let inv = c.self.invariant bytes known in
-    let kind : c.self.inside.kind ≡ c.args.self.now.kind = ap (λ (f : LazyIndex). f.kind) c.self.view_is in
-    let whole : length c.self.inside.head ≡ 1032 = first_of (search rules, omega arith) in
-    let starts = c.long_at.ensures.place ∙ long_in_head bytes c.self.inside.head inv.0 whole c.self.inside.kind ∙ ap (λ (k : Kind). long_at k bytes) kind in
-    long_offset c.args.self.now.kind bytes c.args.at c.in_ok-word.word (c.in_ok-word.ensures.word bytes is) c.if-word-lt-LONG.false (c.long_at.result + 8 * c.from-2.result)
-    (omega (arith, starts, c.from-2.ensures)) c.long_word_at.result c.read_exact_at.new.buf (c.in_ok-read_exact_at.ensures bytes known) (first_of (search rules, omega arith))
-    c.long_word_at.ensures
+    let place = placed g (goal.at.returns-clause-offset g c).After-from-2 bytes is in
+    long_offset _ bytes c.args.at _ (c.in_ok-word.ensures.word bytes is) c.if-word-lt-LONG.false _ place.0 c.long_word_at.result c.read_exact_at.new.buf
+    (c.in_ok-read_exact_at.ensures bytes (rw (← c.self.view_is) at is)) (first_of (search rules, omega arith)) c.long_word_at.ensures
