@@ -45,48 +45,58 @@ known_at content packs indexes same i d low =
 pub as_many : {S : Type 0} (content : S → Option (List ℕ)) (packs : List S) (indexes : List (List ℕ)) → map content packs ≡ map Some indexes → length packs ≡ length indexes
 as_many content packs indexes same = sym (length-map packs content) ∙ ap length same ∙ length-map indexes Some
 
+-- the pack index that a store has at a position
+pub record IsPackAt (kind : Kind) (packs : List LazyIndex) (at : ℕ) (pack : LazyIndex) : Type 0 where
+  pub low : at < length packs
+  pub is : pack ≡ get_or packs at pack
+  pub of_kind : pack.kind ≡ kind
+
+-- as a loop over the pack indexes has it
+pub pack_at : {kind : Kind} {packs given : List LazyIndex} {at : ℕ} {pack : LazyIndex} → given ≡ packs → All (λ (p : LazyIndex). p.kind ≡ kind) packs
+    → at < length given → pack ≡ get_or given at pack → IsPackAt kind packs at pack
+pack_at {kind} {packs} {given} {at} {pack} value kinds less here =
+    let low : at < length packs = subst (λ (ps : List LazyIndex). at < length ps) value less in
+    let is : pack ≡ get_or packs at pack = here ∙ ap (λ (ps : List LazyIndex). get_or ps at pack) value in
+    record { low = low; is = is; of_kind = ap (λ (p : LazyIndex). p.kind) is ∙ kinds at pack low }
+
 -- one pack index more
 pub packed_more : (kind k : Kind) (packs : List LazyIndex) (wanted : Wanted) (byte at : ℕ) (pack : LazyIndex) (old new : List (List ℕ)) (table : List ℕ) (indexes : List (List ℕ))
     → byte ≡ wanted_byte wanted → 2 ≤ wanted_len wanted → map (λ (p : LazyIndex). p.content) packs ≡ map Some indexes → All (IsPackIndex kind) indexes
-    → at < length packs → pack ≡ get_or packs at pack → All (λ (p : LazyIndex). p.kind ≡ kind) packs → k ≡ pack.kind
+    → IsPackAt kind packs at pack → k ≡ pack.kind
     → ((bytes : List ℕ) → pack.content ≡ Some bytes → Each (HasCount pack.kind bytes) 256 → digests_in pack.kind table ≡ part_of byte (names_in pack.kind bytes))
     → old ≡ flat_map (λ bytes. filter (passes wanted) (names_in kind bytes)) (take at indexes)
     → new ≡ old ++ filter (passes wanted) (digests_in k table)
     → new ≡ flat_map (λ bytes. filter (passes wanted) (names_in kind bytes)) (take (at + 1) indexes)
-packed_more kind k packs wanted byte at pack old new table indexes is_byte long same each low is kinds k_is part before all =
+packed_more kind k packs wanted byte at pack old new table indexes is_byte long same each here k_is part before all =
     let bytes = get_or indexes at [] in
-    let inside : at < length indexes = omega (arith, low, as_many (λ (p : LazyIndex). p.content) packs indexes same) in
-    let known : pack.content ≡ Some bytes = ap (λ (p : LazyIndex). p.content) is ∙ known_at (λ (p : LazyIndex). p.content) packs indexes same at pack low in
-    let pack_kind : pack.kind ≡ kind = ap (λ (p : LazyIndex). p.kind) is ∙ kinds at pack low in
-    let counts : Each (HasCount pack.kind bytes) 256 = subst (λ (n : Kind). Each (HasCount n bytes) 256) (sym pack_kind) (each at [] inside).names.counts in
+    let inside : at < length indexes = omega (arith, here.low, as_many (λ (p : LazyIndex). p.content) packs indexes same) in
+    let known : pack.content ≡ Some bytes = ap (λ (p : LazyIndex). p.content) here.is ∙ known_at (λ (p : LazyIndex). p.content) packs indexes same at pack here.low in
+    let counts : Each (HasCount pack.kind bytes) 256 = subst (λ (n : Kind). Each (HasCount n bytes) 256) (sym here.of_kind) (each at [] inside).names.counts in
     let bucket : digests_in k table ≡ part_of (wanted_byte wanted) (names_in kind bytes) =
-    ap (λ (n : Kind). digests_in n table) k_is ∙ part bytes known counts ∙ (λ i. part_of (is_byte i) (names_in (pack_kind i) bytes)) in
+    ap (λ (n : Kind). digests_in n table) k_is ∙ part bytes known counts ∙ (λ i. part_of (is_byte i) (names_in (here.of_kind i) bytes)) in
     let found : filter (passes wanted) (digests_in k table) ≡ filter (passes wanted) (names_in kind bytes) =
     ap (filter (passes wanted)) bucket ∙ filter-part wanted (names_in kind bytes) long in
     all ∙ (λ i. before i ++ found i) ∙ sym (flat_map-take (λ bytes. filter (passes wanted) (names_in kind bytes)) indexes at [] inside)
 
 -- the pack index at a position has what is asked for, as those before it, or is the first that has not
-module _ (Has : Kind → List ℕ → Type 0) (HasFault : Kind → List ℕ → LazyError → Type 0) (kind : Kind) (packs : List LazyIndex) (at : ℕ) (pack : LazyIndex)
-    (low : at < length packs) (is : pack ≡ get_or packs at pack) (kinds : All (λ (p : LazyIndex). p.kind ≡ kind) packs) (before : All (IfKnown (Has kind)) (take at packs)) where
-  of_kind : pack.kind ≡ kind
-  of_kind = ap (λ (p : LazyIndex). p.kind) is ∙ kinds at pack low
-
+module _ (Has : Kind → List ℕ → Type 0) (HasFault : Kind → List ℕ → LazyError → Type 0) {kind : Kind} {packs : List LazyIndex} {at : ℕ} {pack : LazyIndex}
+    (here : IsPackAt kind packs at pack) (before : All (IfKnown (Has kind)) (take at packs)) where
   pub have_more : IfKnown (Has pack.kind) pack → All (IfKnown (Has kind)) (take (at + 1) packs)
-  have_more here =
-      All-more (IfKnown (Has kind)) packs at pack low before
-      (subst (IfKnown (Has kind)) is (λ bytes known. subst (λ (k : Kind). Has k bytes) of_kind (here bytes known)))
+  have_more has =
+      All-more (IfKnown (Has kind)) packs at pack here.low before
+      (subst (IfKnown (Has kind)) here.is (λ bytes known. subst (λ (k : Kind). Has k bytes) here.of_kind (has bytes known)))
 
   pub fault_at : (e : LazyError) → IfKnown (λ bytes. HasFault pack.kind bytes e) pack → IsFirstFault (Has kind) (HasFault kind) packs (Index at e)
-  fault_at e here = (
+  fault_at e why = (
     pack,
-    slice_get-get_or packs at pack low ∙ ap Some (sym is),
+    slice_get-get_or packs at pack here.low ∙ ap Some (sym here.is),
     before,
-    λ bytes known. subst (λ (k : Kind). HasFault k bytes e) of_kind (here bytes known),
+    λ bytes known. subst (λ (k : Kind). HasFault k bytes e) here.of_kind (why bytes known),
   )
 
 -- all of them have it
-pub have_all : (Has : List ℕ → Type 0) (packs : List LazyIndex) (at : ℕ) → length packs ≤ at → All (IfKnown Has) (take at packs) → All (IfKnown Has) packs
-have_all Has packs at all have = subst (All (IfKnown Has)) (take_all at packs all) have
+pub have_all : (Has : List ℕ → Type 0) {packs given : List LazyIndex} {at : ℕ} → given ≡ packs → length given ≤ at → All (IfKnown Has) (take at packs) → All (IfKnown Has) packs
+have_all Has {packs} {given} {at} value all have = subst (All (IfKnown Has)) (take_all at packs (subst (λ (ps : List LazyIndex). length ps ≤ at) value all)) have
 
 -- where no pack index is at fault, each has what is asked for
 pub elsewhere : (Has : List ℕ → Type 0) (HasFault : List ℕ → LazyError → Type 0) (packs : List LazyIndex) (e : Error) → All (IfKnown Has) packs → IsElsewhere e

@@ -16,7 +16,7 @@ use Rattle.id_lookup.specs.IndexOf.{part_of}
 use Rattle.object_store.specs.Places.{offset_of, packed_at, packed_places}
 use Rattle.object_store.specs.Stores.{HasPlace, IsPlaceFault}
 use Rattle.object_store.specs.declared.places.Place.{Place}
-use Rattle.object_store.proofs.Held.{as_many, known_at}
+use Rattle.object_store.proofs.Held.{IsPackAt, as_many, known_at}
 use Rattle.pack_index.specs.Firsts.{Each}
 use Rattle.pack_index.specs.Format.{HasCount, HasOffset, IsPackIndex, names_in, offset_in}
 use Rattle.pack_index.specs.Lazy.{HasBucket, IsBucketFault, IsFirstCounted, IsOffsetFault, LazyIndex}
@@ -70,19 +70,17 @@ bucket_fault kind bytes id e fault = fault
 
 -- one pack more
 pub place_more : (kind : Kind) (packs : List LazyIndex) (id : List ℕ) (at : ℕ) (pack : LazyIndex) (offset : Option ℕ) (old new : List Place) (indexes : List (List ℕ))
-    → map (λ (p : LazyIndex). p.content) packs ≡ map Some indexes → All (IsPackIndex kind) indexes → at < length packs → pack ≡ get_or packs at pack
-    → All (λ (p : LazyIndex). p.kind ≡ kind) packs
+    → map (λ (p : LazyIndex). p.content) packs ≡ map Some indexes → All (IsPackIndex kind) indexes → IsPackAt kind packs at pack
     → ((bytes : List ℕ) → pack.content ≡ Some bytes → Each (HasCount pack.kind bytes) 256 → offset ≡ offset_of pack.kind bytes id)
     → old ≡ packed_places kind id indexes at → new ≡ old ++ packed_at at offset → new ≡ packed_places kind id indexes (at + 1)
 unfolding packed_places
-place_more kind packs id at pack offset old new indexes same each low is kinds found before all =
+place_more kind packs id at pack offset old new indexes same each here found before all =
     let content : LazyIndex → Option (List ℕ) = λ p. p.content in
     let bytes = get_or indexes at [] in
-    let inside : at < length indexes = omega (arith, low, as_many content packs indexes same) in
-    let known : pack.content ≡ Some bytes = ap content is ∙ known_at content packs indexes same at pack low in
-    let pack_kind : pack.kind ≡ kind = ap (λ (p : LazyIndex). p.kind) is ∙ kinds at pack low in
-    let counts : Each (HasCount pack.kind bytes) 256 = subst (λ (n : Kind). Each (HasCount n bytes) 256) (sym pack_kind) (each at [] inside).names.counts in
-    let there : offset ≡ offset_of kind bytes id = found bytes known counts ∙ ap (λ (n : Kind). offset_of n bytes id) pack_kind in
+    let inside : at < length indexes = omega (arith, here.low, as_many content packs indexes same) in
+    let known : pack.content ≡ Some bytes = ap content here.is ∙ known_at content packs indexes same at pack here.low in
+    let counts : Each (HasCount pack.kind bytes) 256 = subst (λ (n : Kind). Each (HasCount n bytes) 256) (sym here.of_kind) (each at [] inside).names.counts in
+    let there : offset ≡ offset_of kind bytes id = found bytes known counts ∙ ap (λ (n : Kind). offset_of n bytes id) here.of_kind in
     let next : suc at ≡ at + 1 = omega arith in
     all ∙ (λ i. before i ++ packed_at at (there i)) ∙ ap (packed_places kind id indexes) next
 

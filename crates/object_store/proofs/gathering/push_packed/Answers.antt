@@ -1,49 +1,38 @@
-use Rattle.std.proofs.Common.{◌≡◌, ◌∙◌, ◌<◌, ◌≤◌, length, map, get_or, sym, ap, subst}
+use Rattle.std.proofs.Common.{◌≡◌, ◌∙◌, map, sym, ap, subst}
 use Rattle.std.specs.List.{All}
 use Rattle.gix_hash.specs.ObjectId.{id_digits, id_kind}
 use Rattle.gix_hash.specs.declared.Kind.{Kind}
 use Rattle.gix_hash.specs.declared.ObjectId.{ObjectId}
-use Rattle.std.proofs.Common.{List}
 use Rattle.object_store.specs.Wanted.{wanted_byte}
-use Rattle.object_store.proofs.Held.{fault_at, have_all, have_more, packed_more}
+use Rattle.object_store.proofs.Held.{fault_at, have_all, have_more, pack_at, packed_more}
 use Rattle.pack_index.specs.Format.{digests_in}
-use Rattle.pack_index.specs.Lazy.{HasBucket, IsBucketFault, LazyIndex}
+use Rattle.pack_index.specs.Lazy.{HasBucket, IsBucketFault}
 use Rattle.object_store.proofs.gathering.push_packed.Goals as goal
 
 pub returns-in-Err-clause-err : goal.returns-in-Err-clause-err
 returns-in-Err-clause-err g c =
-    let kind = g.S.Store.kind c.args.store.now in
-    let packs = g.S.Store.packs c.args.store.now in
-    let pack = c.index-packs-at.result in
-    let all_packs = c.indexes-packs.ensures.value in
-    let low : c.loop-at.at < length packs = subst (λ (ps : List LazyIndex). c.loop-at.at < length ps) all_packs c.loop-at-test.true in
-    let is : pack ≡ get_or packs c.loop-at.at pack = c.index-packs-at.is ∙ ap (λ (ps : List LazyIndex). get_or ps c.loop-at.at pack) all_packs in
+    let here = pack_at c.indexes-packs.ensures.value c.indexes-packs.ensures.kinds c.loop-at-test.true c.index-packs-at.is in
     fault_at (λ k bytes. HasBucket k bytes (wanted_byte c.args.wanted.now)) (λ k bytes why. IsBucketFault k bytes (wanted_byte c.args.wanted.now) why)
-    kind packs c.loop-at.at pack low is c.indexes-packs.ensures.kinds c.loop-at.invariant.2 c.in-Err.error
-    (λ bytes known. subst (λ b. IsBucketFault pack.kind bytes b c.in-Err.error) c.first_byte-byte.ensures (c.in-Err.ensures.err bytes known))
+    here c.loop-at.invariant.2 c.in-Err.error
+    (λ bytes known. subst (λ b. IsBucketFault c.index-packs-at.result.kind bytes b c.in-Err.error) c.first_byte-byte.ensures (c.in-Err.ensures.err bytes known))
 
 pub returns-clause-right : goal.returns-clause-right
 returns-clause-right g c =
-    have_all (λ bytes. HasBucket (g.S.Store.kind c.args.store.now) bytes (wanted_byte c.args.wanted.now)) (g.S.Store.packs c.args.store.now) c.loop-at.at
-    (subst (λ (ps : List LazyIndex). length ps ≤ c.loop-at.at) c.indexes-packs.ensures.value c.loop-at-test.false) c.loop-at.invariant.2
+    have_all (λ bytes. HasBucket (g.S.Store.kind c.args.store.now) bytes (wanted_byte c.args.wanted.now)) c.indexes-packs.ensures.value c.loop-at-test.false c.loop-at.invariant.2
 
 pub loop-at-preserved : goal.loop-at-preserved
 loop-at-preserved g c =
     let kind = g.S.Store.kind c.args.store.now in
-    let packs = g.S.Store.packs c.args.store.now in
     let pack = c.index-packs-at.result in
-    let all_packs = c.indexes-packs.ensures.value in
-    let low : c.loop-at.at < length packs = subst (λ (ps : List LazyIndex). c.loop-at.at < length ps) all_packs c.loop-at-test.true in
-    let is : pack ≡ get_or packs c.loop-at.at pack = c.index-packs-at.is ∙ ap (λ (ps : List LazyIndex). get_or ps c.loop-at.at pack) all_packs in
-    let of_kind : c.object_hash.result ≡ kind = c.object_hash.ensures ∙ ap (λ (p : LazyIndex). p.kind) is ∙ c.indexes-packs.ensures.kinds c.loop-at.at pack low in (
+    let here = pack_at c.indexes-packs.ensures.value c.indexes-packs.ensures.kinds c.loop-at-test.true c.index-packs-at.is in
+    let of_kind : c.object_hash.result ≡ kind = c.object_hash.ensures ∙ here.of_kind in (
       λ indexes same each.
-          packed_more kind c.object_hash.result packs c.args.wanted.now c.first_byte-byte.result c.loop-at.at pack (map id_digits c.loop-at.ids.items)
-          (map id_digits c.push_names.new.ids.items) c.deref.result.now indexes c.first_byte-byte.ensures c.requires.enough same each low is c.indexes-packs.ensures.kinds
-          c.object_hash.ensures (λ bytes known counts. ap (digests_in pack.kind) c.deref.ensures.value ∙ c.in-Ok.ensures.part bytes known counts)
-          (c.loop-at.invariant.0 indexes same each) c.in_ok-push_names.ensures.digits,
+          packed_more kind c.object_hash.result (g.S.Store.packs c.args.store.now) c.args.wanted.now c.first_byte-byte.result c.loop-at.at pack (map id_digits c.loop-at.ids.items)
+          (map id_digits c.push_names.new.ids.items) c.deref.result.now indexes c.first_byte-byte.ensures c.requires.enough same each here c.object_hash.ensures
+          (λ bytes known counts. ap (digests_in pack.kind) c.deref.ensures.value ∙ c.in-Ok.ensures.part bytes known counts) (c.loop-at.invariant.0 indexes same each)
+          c.in_ok-push_names.ensures.digits,
       subst (λ (k : Kind). All (λ (id : ObjectId). id_kind id ≡ k) c.push_names.new.ids.items) of_kind
           (c.in_ok-push_names.ensures.kinds (subst (λ (k : Kind). All (λ (id : ObjectId). id_kind id ≡ k) c.loop-at.ids.items) (sym of_kind) c.loop-at.invariant.1)),
       have_more (λ k bytes. HasBucket k bytes (wanted_byte c.args.wanted.now)) (λ k bytes why. IsBucketFault k bytes (wanted_byte c.args.wanted.now) why)
-          kind packs c.loop-at.at pack low is c.indexes-packs.ensures.kinds c.loop-at.invariant.2
-          (λ bytes known. subst (HasBucket pack.kind bytes) c.first_byte-byte.ensures (c.in-Ok.ensures.right bytes known)),
+          here c.loop-at.invariant.2 (λ bytes known. subst (HasBucket pack.kind bytes) c.first_byte-byte.ensures (c.in-Ok.ensures.right bytes known)),
     )
