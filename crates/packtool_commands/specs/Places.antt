@@ -33,6 +33,6 @@ pub record HasLocated (lines : List ℕ → List ℕ) (ids : List (List ℕ)) (a
   pub found : IsTrue any ↔ (ids ≢ [])
   pub written : Appends old new (flat_map lines ids)
 
--- why the places of ids with a first byte are not found: a look-up of the ids fails, or that of the places of one of them
+-- why the places of ids with a first byte are not found: a look-up of the ids fails, or that of the places of some id
 abbrev pub IsPlacesFault : Kind → List LazyIndex → ℕ → Error → Type 0
 IsPlacesFault kind packs byte error = IsStoreFault kind packs byte error ⊎ ((id : List ℕ) × IsLocateFault kind packs id error)

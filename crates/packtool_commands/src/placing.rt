@@ -75,22 +75,17 @@ fn write_places<S: StorePaths, A: Allocator + Copy, W: Sink>(
 ) -> Result<(), StoreError>
     requires kind { id_kind id.now ≡ S.kind store.now }
     requires output { W.has_failed out.old ≡ false }
-    ensures written { (whole : List (List ℕ))
+    ensures lines { (whole : List (List ℕ))
         → (h : Holds (S.kind store.now) (S.packs store.now) (S.loose store.now) whole)
         → (paths : List ℕ → List (List ℕ)) → S.loose_paths store.now ≡ Some paths
-        → OnOk result (Appends (W.taken out.old) (W.taken out.new)
-        (lines_of_places (S.pack_path store.now) paths (S.kind store.now) h.indexes h.loose_ids
-        (id_digits id.now))) }
+        → let lines = lines_of_places (S.pack_path store.now) paths (S.kind store.now)
+        h.indexes h.loose_ids (id_digits id.now) in
+        OnOk result (Appends (W.taken out.old) (W.taken out.new) lines)
+        × OnErr result (AppendsAtMost (W.taken out.old) (W.taken out.new) lines) }
     ensures stands { OnOk result (W.has_failed out.new ≡ false) }
     ensures refused { IfErr result (IsFault (IsLocateFault (S.kind store.now) (S.packs store.now)
         (id_digits id.now))) }
     ensures output { IsErrOf result StoreError.Output ↔ (W.has_failed out.new ≡ true) }
-    ensures part { (whole : List (List ℕ))
-        → (h : Holds (S.kind store.now) (S.packs store.now) (S.loose store.now) whole)
-        → (paths : List ℕ → List (List ℕ)) → S.loose_paths store.now ≡ Some paths
-        → OnErr result (AppendsAtMost (W.taken out.old) (W.taken out.new)
-        (lines_of_places (S.pack_path store.now) paths (S.kind store.now) h.indexes h.loose_ids
-        (id_digits id.now))) }
 {
     let places = object_store::locate(alloc, store, id)?;
     for place in &places {

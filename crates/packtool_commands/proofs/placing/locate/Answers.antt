@@ -20,14 +20,14 @@ returns-in_err-write_places-clause-part g c = λ whole h paths known.
     OnErr-of _ _ (subst (AppendsAtMost (g.W.Sink.taken c.args.out.now) (g.W.Sink.taken c.write_places.new.out))
     (same_lines lines id_digits ids (matches c.args.prefix.now.digits whole) found)
     (AppendsAtMost-item _ _ _ (λ id. lines (id_digits id)) ids c.loop-id.id-index _ c.loop-id-test.true (c.loop-id.invariant.0 whole h paths known)
-    (c.in_err-write_places.ensures.part whole h paths known)))
+    (c.in_err-write_places.ensures.lines whole h paths known).1))
 
 pub loop-id-preserved : goal.loop-id-preserved
 loop-id-preserved g c = (
   λ whole h paths known.
       Appends-item _ _ _
       (λ id. lines_of_places (g.S.StorePaths.pack_path c.args.store.now) paths (g.S.Store.kind c.args.store.now) h.indexes h.loose_ids (id_digits id))
-      c.deref-id-items.result.now c.loop-id.id-index _ c.loop-id-test.true (c.loop-id.invariant.0 whole h paths known) (c.in_ok-write_places.ensures.written whole h paths known),
+      c.deref-id-items.result.now c.loop-id.id-index _ c.loop-id-test.true (c.loop-id.invariant.0 whole h paths known) (c.in_ok-write_places.ensures.lines whole h paths known).0,
   c.in_ok-write_places.ensures.stands,
 )
 

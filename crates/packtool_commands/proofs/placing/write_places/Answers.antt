@@ -1,4 +1,4 @@
-use Rattle.std.proofs.Common.{List, ℕ, subst, ◌∙◌}
+use Rattle.std.proofs.Common.{List, ℕ, subst, ◌∙◌, rules}
 use Rattle.std.specs.List.{flat_map}
 use Rattle.std.specs.Io.KnownBytes.{Appends}
 use Rattle.std.proofs.lemmas.List.{take_all}
@@ -11,13 +11,15 @@ use Rattle.packtool_commands.proofs.NamedLemmas.{Appends-item}
 use Rattle.packtool_commands.proofs.PlaceLemmas.{AppendsAtMost-item}
 use Rattle.packtool_commands.proofs.placing.write_places.Goals as goal
 
-pub returns-in_err-write_lines_at-clause-part : goal.returns-in_err-write_lines_at-clause-part
-returns-in_err-write_lines_at-clause-part g c = λ whole h paths known.
-    let line : Place → List ℕ = lines_at (g.S.StorePaths.pack_path c.args.store.now) paths (id_digits c.args.id.now) in
-    OnErr-of _ _ (subst (λ (places : List Place). AppendsAtMost (g.W.Sink.taken c.args.out.now) (g.W.Sink.taken c.write_lines_at.new.out) (flat_map line places))
-    (c.deref-place-items.ensures.value ∙ c.in_ok-places.ensures.places whole h)
-    (AppendsAtMost-item _ _ _ line c.deref-place-items.result.now c.loop-place.place-index _ c.loop-place-test.true (c.loop-place.invariant.0 paths known)
-    (c.in_err-write_lines_at.ensures.part paths known)))
+pub returns-in_err-write_lines_at-clause-lines : goal.returns-in_err-write_lines_at-clause-lines
+returns-in_err-write_lines_at-clause-lines g c = λ whole h paths known.
+    let line : Place → List ℕ = lines_at (g.S.StorePaths.pack_path c.args.store.now) paths (id_digits c.args.id.now) in (
+      search rules,
+      OnErr-of _ _ (subst (λ (places : List Place). AppendsAtMost (g.W.Sink.taken c.args.out.now) (g.W.Sink.taken c.write_lines_at.new.out) (flat_map line places))
+          (c.deref-place-items.ensures.value ∙ c.in_ok-places.ensures.places whole h)
+          (AppendsAtMost-item _ _ _ line c.deref-place-items.result.now c.loop-place.place-index _ c.loop-place-test.true (c.loop-place.invariant.0 paths known)
+          (c.in_err-write_lines_at.ensures.part paths known))),
+    )
 
 pub loop-place-preserved : goal.loop-place-preserved
 loop-place-preserved g c = (
@@ -27,9 +29,11 @@ loop-place-preserved g c = (
   c.in_ok-write_lines_at.ensures.stands,
 )
 
-pub returns-clause-written : goal.returns-clause-written
-returns-clause-written g c = λ whole h paths known.
-    let line : Place → List ℕ = lines_at (g.S.StorePaths.pack_path c.args.store.now) paths (id_digits c.args.id.now) in
-    subst (λ (places : List Place). Appends (g.W.Sink.taken c.args.out.now) (g.W.Sink.taken c.loop-place.out) (flat_map line places))
-    (take_all c.loop-place.place-index c.deref-place-items.result.now c.loop-place-test.false ∙ c.deref-place-items.ensures.value ∙ c.in_ok-places.ensures.places whole h)
-    (c.loop-place.invariant.0 paths known)
+pub returns-clause-lines : goal.returns-clause-lines
+returns-clause-lines g c = λ whole h paths known.
+    let line : Place → List ℕ = lines_at (g.S.StorePaths.pack_path c.args.store.now) paths (id_digits c.args.id.now) in (
+      subst (λ (places : List Place). Appends (g.W.Sink.taken c.args.out.now) (g.W.Sink.taken c.loop-place.out) (flat_map line places))
+          (take_all c.loop-place.place-index c.deref-place-items.result.now c.loop-place-test.false ∙ c.deref-place-items.ensures.value ∙ c.in_ok-places.ensures.places whole h)
+          (c.loop-place.invariant.0 paths known),
+      tt,
+    )
