@@ -1,6 +1,6 @@
 -- The lines of the ids of a store with their names, a part after the other.
 use Rattle.std.proofs.Common.{◌≡◌, ◌≢◌, ℕ, ◌+◌, ◌<◌, Bool, Option, List, [], ◌∷◌, ◌++◌, length, get_or, map, take, drop, refl, sym, ap, subst, ◌∙◌, ◌⊎◌, inl, inr, arith, append-nil, take-append-drop, add-one}
-use Rattle.std.specs.Prelude.{◌↔◌, IsTrue, Result, Ok, Err, IfErr}
+use Rattle.std.specs.Prelude.{◌↔◌, IsTrue}
 use Rattle.std.specs.List.{All, flat_map, range_with_len}
 use Rattle.std.specs.Io.KnownBytes.{Appends}
 use Rattle.std.proofs.KnownBytes.{Appends-trans}
@@ -108,8 +108,3 @@ named_part n least whole any a b c more before ids names part = record {
       (part_written a c (flat_map name_line before.named ++ flat_map name_line more)
       (AppendsPart-after a b c (flat_map name_line before.named) (flat_map name_line more) before.written part));
 }
-
--- a fact of every error
-pub if_err_of : {T E : Type 0} (r : Result T E) (P : E → Type 0) → ((error : E) → P error) → IfErr r P
-if_err_of (Ok x) P each = tt
-if_err_of (Err error) P each = each error

@@ -1,27 +1,22 @@
-use Rattle.std.proofs.Common.{◌≡◌, ◌≢◌, ◌↔◌, ◌⊎◌, ℕ, List, [], subst, arith, flat_map, IsTrue, below_more}
+use Rattle.std.proofs.Common.{◌≡◌, ◌≢◌, ◌↔◌, ◌⊎◌, List, [], subst, arith, flat_map, IsTrue, below_more}
 use Rattle.std.proofs.lemmas.Result.{err_from_is_err_and}
 use Rattle.std.specs.Io.KnownBytes.{Appends}
 use Rattle.streams.specs.Writing.{AppendsPart}
-use Rattle.object_store.specs.Stores.{HaveBuckets, Holds}
+use Rattle.object_store.specs.Stores.{HaveBuckets}
 use Rattle.pack_index.specs.Firsts.{Each}
 use Rattle.object_store.specs.declared.naming.NamedId.{NamedId}
-use Rattle.packtool_commands.specs.Names.{HasNamedAtMost, HasNamedBelow, name_line}
-use Rattle.packtool_commands.proofs.NamedLemmas.{has_named_more, if_err_of, named_at_most, named_part}
+use Rattle.packtool_commands.specs.Names.{HasNamedBelow, name_line}
+use Rattle.packtool_commands.proofs.NamedLemmas.{has_named_more, named_at_most, named_part}
 use Rattle.packtool_commands.proofs.naming.names.Goals as goal
 
 pub returns-in_err-named-clause-part : goal.returns-in_err-named-clause-part
 returns-in_err-named-clause-part g c =
-    if_err_of c.from_residual.result
-    (λ error. (whole : List (List ℕ)) → Holds (g.S.Store.kind c.args.store.now) (g.S.Store.packs c.args.store.now) (g.S.Store.loose c.args.store.now) whole
-    → HasNamedAtMost c.args.least whole (g.W.Sink.taken c.args.out.now) (g.W.Sink.taken c.loop-byte.out))
-    (λ error whole h. named_at_most c.loop-byte.byte c.args.least whole c.loop-byte.any _ _ (c.loop-byte.invariant.0 whole h))
+    rw (err_from_is_err_and c.from_residual.result c.from_residual.ensures.1).1 (λ whole h.
+    named_at_most c.loop-byte.byte c.args.least whole c.loop-byte.any _ _ (c.loop-byte.invariant.0 whole h))
 
 pub returns-in_err-write_names-clause-part : goal.returns-in_err-write_names-clause-part
 returns-in_err-write_names-clause-part g c =
-    if_err_of c.from_residual-in_err-write_names.result
-    (λ error. (whole : List (List ℕ)) → Holds (g.S.Store.kind c.args.store.now) (g.S.Store.packs c.args.store.now) (g.S.Store.loose c.args.store.now) whole
-    → HasNamedAtMost c.args.least whole (g.W.Sink.taken c.args.out.now) (g.W.Sink.taken c.write_names.new.out))
-    (λ error whole h.
+    rw (err_from_is_err_and c.from_residual-in_err-write_names.result c.from_residual-in_err-write_names.ensures.1).1 (λ whole h.
     named_part c.loop-byte.byte c.args.least whole c.loop-byte.any _ _ _ c.in_ok-named.named.items (c.loop-byte.invariant.0 whole h)
     (c.in_ok-named.ensures.ids whole h) (c.in_ok-named.ensures.names whole h)
     (subst (λ (ids : List NamedId). AppendsPart (g.W.Sink.taken c.loop-byte.out) (g.W.Sink.taken c.write_names.new.out) (flat_map name_line ids))
