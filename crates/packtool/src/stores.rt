@@ -24,19 +24,11 @@ pub fn run<'a, W: Sink>(
     requires { W.has_failed out.old ≡ false }
 {
     let store = open(rt, matches)?;
-    let ran = if name == "names" {
-        names(
-            rt.alloc(),
-            &store,
-            read_least(matches, store.object_hash()),
-            out,
-        )
-    } else {
-        let prefix = read_prefix(matches, store.object_hash())?;
-        match name {
-            "find" => find(rt.alloc(), &store, &prefix, out),
-            _ => locate(rt.alloc(), &store, &prefix, out),
-        }
+    let kind = store.object_hash();
+    let ran = match name {
+        "find" => find(rt.alloc(), &store, &read_prefix(matches, kind)?, out),
+        "where" => locate(rt.alloc(), &store, &read_prefix(matches, kind)?, out),
+        _ => names(rt.alloc(), &store, read_least(matches, kind), out),
     };
     match ran {
         Ok(any) => Ok(any),
