@@ -9,17 +9,11 @@ use Rattle.std.proofs.lemmas.List.{length-take, length-take-le, take-take}
 use Rattle.std.proofs.lemmas.List.Sorted.{sorted_far, ranks_by}
 use Rattle.gix_hash.specs.Kind.{hex_len_of}
 use Rattle.gix_hash.specs.declared.Kind.{Kind}
-use Rattle.gix_hash.specs.declared.Kind.TheVariants.{Sha1, Sha256}
 use Rattle.id_lookup.specs.Index.{IsIndex}
 use Rattle.id_lookup.specs.ShortNames.{IsShortestNameFrom, IsUniqueLen, common_at}
 use Rattle.id_lookup.proofs.CommonDigits.{common-between, common-differ, common-symm, begins-common, begins-apart}
 use Rattle.id_lookup.specs.Sorted.{IsSortedIds}
 use Rattle.id_lookup.proofs.Indexes.{index-pairs}
-
--- each kind has at least four digits
-pub four_fits : (kind : Kind) → 4 ≤ hex_len_of kind
-four_fits Sha1 = omega arith
-four_fits Sha256 = omega arith
 
 module _ (ids : List (List ℕ)) (sorted : IsSortedIds ids) where
   -- no id is below one before it

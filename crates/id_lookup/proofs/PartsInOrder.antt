@@ -31,9 +31,6 @@ tests_lt a b h = grind (arith, nat_tests)
 lt_tests : (a b : ℕ) → a < b → ltb a b ≡ true
 lt_tests a b h = grind (arith, nat_tests)
 
-fails_lt : (a b : ℕ) → ltb a b ≡ false → b ≤ a
-fails_lt a b h = grind (arith, nat_tests)
-
 not_lt : (a b : ℕ) → b ≤ a → ltb a b ≡ false
 not_lt a b h = grind (arith, nat_tests)
 
@@ -96,10 +93,6 @@ module _ (ids : List (List ℕ)) (sorted : IsSortedIds ids) (small : All (λ id.
 take-nil : (n : ℕ) → take {A = List ℕ} n [] ≡ []
 take-nil zero = refl
 take-nil (suc n) = refl
-
-drop-nil : (n : ℕ) → drop {A = List ℕ} n [] ≡ []
-drop-nil zero = refl
-drop-nil (suc n) = refl
 
 take-two : (i j : ℕ) (xs : List (List ℕ)) → take i xs ++ take j (drop i xs) ≡ take (i + j) xs
 take-two zero j xs = let same : j ≡ 0 + j = omega arith in ap (λ n. take n xs) same

@@ -5,12 +5,9 @@ use Rattle.std.proofs.lemmas.Bool.{cases_lt, false≢true}
 use Rattle.gix_hash.specs.Prefix.{KindDigits}
 use Rattle.id_lookup.specs.Bounds.{bound_of}
 use Rattle.id_lookup.specs.FoundRun.{IsRun}
-use Rattle.id_lookup.specs.Index.{IsAnswer}
 use Rattle.id_lookup.specs.Runs.{begins_with}
 use Rattle.id_lookup.specs.ShortNames.{IsShortestNameFrom}
 use Rattle.id_lookup.specs.Sorted.{IsSortedIds}
-use Rattle.id_lookup.specs.declared.index.Answer.{Answer}
-use Rattle.id_lookup.specs.declared.index.Answer.TheVariants.{None, One, Many}
 use Rattle.id_lookup.specs.declared.search.Bound.TheVariants.{Start, End}
 use Rattle.id_lookup.proofs.Placed.{run_is}
 use Rattle.id_lookup.proofs.Spelled.{starts_with-BeginsWith, starts_with-spelling}
@@ -55,21 +52,3 @@ name_run fewest ids at prefix sorted inside name =
     unique_run prefix ids at sorted inside
     (starts_with-spelling (get_or ids at []) prefix.digits ∙ begins_first (get_or ids at []) prefix.digits name.first)
     (λ k within other. starts_with-spelling (get_or ids k []) prefix.digits ∙ name.alone k within other)
-
--- if the run is one id, that id is found
-pub one_answer : (prefix : KindDigits) (ids : List (List ℕ)) (at : ℕ) (answer : Answer) → IsRun prefix ids (record { start = at; end = at + 1 })
-    → IsAnswer prefix ids answer → answer ≡ One at
-one_answer prefix ids at None run is =
-    let end = run.end in
-    let none = is.1.end in
-    absurd (omega (arith, end, none))
-one_answer prefix ids at (One k) run is =
-    let here = run.start in
-    let there = is.start in
-    let same : k ≡ at = omega (arith, here, there) in ap One same
-one_answer prefix ids at (Many other) run is =
-    let here = run.start in
-    let end = run.end in
-    let there = is.0.start in
-    let stop = is.0.end in
-    absurd (omega (arith, here, end, there, stop, is.1))

@@ -5,9 +5,6 @@ use Rattle.gix_hash.specs.ObjectId.{id_digits}
 use Rattle.id_lookup.proofs.Spelled.{begins_with-place, starts_with-spelling, starts_with-BeginsWith}
 use Rattle.id_lookup.proofs.search.begins_with.Goals as goal
 
-pub cmp_oid-requires : goal.cmp_oid-requires
-cmp_oid-requires c = rw c.as_oid.ensures.kind c.requires
-
 pub returns-clause-value : goal.returns-clause-value
 returns-clause-value c =
     c.is_eq.ensures ∙ ap is_eq c.cmp_oid.ensures

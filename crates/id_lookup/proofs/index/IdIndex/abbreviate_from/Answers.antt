@@ -1,8 +1,8 @@
-use Rattle.std.proofs.Common.{◌≡◌, ◌<◌, ◌≤◌, Bool, true, false, [], length, map, max, refl, ◌∙◌, arith}
+use Rattle.std.proofs.Common.{◌≡◌, ◌<◌, ◌≤◌, Bool, true, false, [], length, map, max, refl, arith}
 use Rattle.std.specs.Prelude.{is_some}
 use Rattle.gix_hash.specs.Kind.{hex_len_of}
 use Rattle.id_lookup.specs.Sorted.{IsSortedIds}
-use Rattle.id_lookup.proofs.Indexes.{index-sorted, same_kind}
+use Rattle.id_lookup.proofs.Indexes.{index-sorted}
 use Rattle.id_lookup.proofs.Neighbours.{name_fits}
 use Rattle.id_lookup.proofs.UniqueRun.{name_run}
 use Rattle.id_lookup.proofs.index.IdIndex.abbreviate_from.Goals as goal
@@ -20,12 +20,6 @@ unwrap-requires g c = by (is_some c.shortest_name.result) refl
         let lacks = c.shortest_name.ensures.lacks e (index-sorted _ _ index) in
         let fits = name_fits c.self.inside.kind ids index c.args.least c.args.at lacks.0 (max lacks.0 c.args.least) inside few lacks.1 refl in
         absurd (omega (arith, lacks.2, fits, index.kinds c.args.at [] (omega arith) inside))
-
-pub returns-clause-kind : goal.returns-clause-kind
-returns-clause-kind g c =
-    let inside : c.args.at < length (map g.I.Id.digits c.self.inside.ids.now) = rw (← c.self.view_is) at c.requires.in_range in
-    let long = c.self.invariant.0.kinds c.args.at [] (omega arith) inside in
-    rw (← c.self.view_is) (same_kind _ _ ((rw c.unwrap.ensures at c.shortest_name.ensures.kind) ∙ long))
 
 pub returns-clause-name : goal.returns-clause-name
 returns-clause-name g c =

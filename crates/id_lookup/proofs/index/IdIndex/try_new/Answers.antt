@@ -1,20 +1,9 @@
 use Rattle.std.proofs.Common.{◌≡◌, [], length, map, sym, ap, ◌∙◌, arith}
-use Rattle.std.proofs.lemmas.Bool.{false≢true}
 use Rattle.std.proofs.lemmas.List.{length-map}
 use Rattle.std.proofs.lemmas.List.Elements.{AllWithin-more}
 use Rattle.gix_hash.specs.Kind.{hex_len_of}
-use Rattle.id_lookup.proofs.Indexes.{index_more, same_kind, not_other, no_other}
+use Rattle.id_lookup.proofs.Indexes.{index_more, no_other}
 use Rattle.id_lookup.proofs.index.IdIndex.try_new.Goals as goal
-
-pub returns-then-ne-clause-index : goal.returns-then-ne-clause-index
-returns-then-ne-clause-index g c = (
-  λ e. absurd (false≢true e),
-  λ index.
-      let all = length-map c.args.ids.now g.I.Id.digits in
-      let right = index.kinds c.loop-at.at [] (omega arith) (omega arith) in
-      let same = same_kind _ _ (sym c.kind.ensures.len ∙ ap length (c.id_at.ensures.digits []) ∙ right) in
-      sym (c.ne.ensures ∙ not_other _ _ (c.kind.ensures.value ∙ same)) ∙ c.if-ne.true,
-)
 
 pub loop-at-preserved : goal.loop-at-preserved
 loop-at-preserved g c =
