@@ -1,13 +1,12 @@
 -- Words by their number, and words that are rejected.
-use Rattle.std.proofs.Common.{◌≡◌, ℕ, ◌≤◌, ◌<◌, ◌⊎◌, inl, inr, List, [], ◌∷◌, length, get_or, refl, ap, arith}
-use Rattle.std.proofs.lemmas.List.{length-map}
+use Rattle.std.proofs.Common.{◌≡◌, ℕ, ◌≤◌, ◌<◌, List, [], ◌∷◌, length, get_or, refl, ap, arith}
 use Rattle.std.specs.Prelude.{codes}
 use denote.Ref.{Bor}
 use Rattle.gix_hash.specs.Kind.{IsNameOf}
 use Rattle.gix_hash.specs.declared.Kind.{Kind}
 use Rattle.oidtool_commands.specs.declared.command.ArgError.{ArgError}
 use Rattle.oidtool_commands.specs.declared.command.ArgError.TheVariants.{Usage, BadKind, BadNumber}
-use Rattle.oidtool_commands.specs.Command.{IsNoCommand, TakesKind, RefusesKind, RefusesNumber, RefusesWords, texts_of}
+use Rattle.oidtool_commands.specs.Command.{TakesKind, RefusesKind, RefusesNumber, RefusesWords, texts_of}
 
 -- a word that is rejected as a kind, in the words of its command
 pub refuses_kind : (words : List (List ℕ)) (word : List ℕ) (e : ArgError) → TakesKind words word → RefusesKind word e → RefusesWords words e
@@ -34,25 +33,3 @@ pub three_texts : (words : List (Bor (List ℕ))) (d e f : Bor (List ℕ)) → 3
     → texts_of words ≡ (get_or words 0 d).now ∷ (get_or words 1 e).now ∷ (get_or words 2 f).now ∷ []
 three_texts [] d e f least below = absurd (omega (arith, least))
 three_texts (a ∷ words) d e f least below = ap (λ (rest : List (List ℕ)). a.now ∷ rest) (two_texts words e f (omega (arith, least)) (omega (arith, below)))
-
-pub four_texts : (words : List (Bor (List ℕ))) (d e f g : Bor (List ℕ)) → 4 ≤ length words → length words < 5
-    → texts_of words ≡ (get_or words 0 d).now ∷ (get_or words 1 e).now ∷ (get_or words 2 f).now ∷ (get_or words 3 g).now ∷ []
-four_texts [] d e f g least below = absurd (omega (arith, least))
-four_texts (a ∷ words) d e f g least below = ap (λ (rest : List (List ℕ)). a.now ∷ rest) (three_texts words e f g (omega (arith, least)) (omega (arith, below)))
-
--- fewer words than two, or more than four, are no command
-pub no_command : (words : List (Bor (List ℕ))) → (length words < 2) ⊎ (5 ≤ length words) → IsNoCommand (texts_of words)
-no_command words out = record {
-  no_find = λ prefix is. other 2 (ap length is) (omega arith) (omega arith);
-  no_find_change = λ letters is. other 2 (ap length is) (omega arith) (omega arith);
-  no_find_in = λ kind prefix is. other 3 (ap length is) (omega arith) (omega arith);
-  no_hash = λ kind is. other 2 (ap length is) (omega arith) (omega arith);
-  no_hash_file = λ kind count path is. other 4 (ap length is) (omega arith) (omega arith);
-  no_seal = λ kind is. other 2 (ap length is) (omega arith) (omega arith);
-}
-  where
-    other : (n : ℕ) → length (texts_of words) ≡ n → 2 ≤ n → n ≤ 4 → ⊥
-    other n len least most = elim out [
-      | inl few ↦ omega (arith, few, least, len, length-map words (λ (word : Bor (List ℕ)). word.now))
-      | inr many ↦ omega (arith, many, most, len, length-map words (λ (word : Bor (List ℕ)). word.now))
-    ]
