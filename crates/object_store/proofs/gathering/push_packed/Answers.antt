@@ -4,17 +4,10 @@ use Rattle.gix_hash.specs.ObjectId.{id_digits, id_kind}
 use Rattle.gix_hash.specs.declared.Kind.{Kind}
 use Rattle.gix_hash.specs.declared.ObjectId.{ObjectId}
 use Rattle.object_store.specs.Wanted.{wanted_byte}
-use Rattle.object_store.proofs.Held.{fault_at, have_all, have_more, pack_at, packed_more}
+use Rattle.object_store.proofs.Held.{have_all, have_more, pack_at, packed_more}
 use Rattle.pack_index.specs.Format.{digests_in}
 use Rattle.pack_index.specs.Lazy.{HasBucket, IsBucketFault}
 use Rattle.object_store.proofs.gathering.push_packed.Goals as goal
-
-pub returns-in-Err-clause-err : goal.returns-in-Err-clause-err
-returns-in-Err-clause-err g c =
-    let here = pack_at c.indexes-packs.ensures.value c.indexes-packs.ensures.kinds c.loop-at-test.true c.index-packs-at.is in
-    fault_at (λ k bytes. HasBucket k bytes (wanted_byte c.args.wanted.now)) (λ k bytes why. IsBucketFault k bytes (wanted_byte c.args.wanted.now) why)
-    here c.loop-at.invariant.2 c.in-Err.error
-    (λ bytes known. subst (λ b. IsBucketFault c.index-packs-at.result.kind bytes b c.in-Err.error) c.first_byte-byte.ensures (c.in-Err.ensures.err bytes known))
 
 pub returns-clause-right : goal.returns-clause-right
 returns-clause-right g c =

@@ -1,8 +1,7 @@
 use Rattle.std.proofs.Common.{◌∙◌, List, ℕ, map, ap, subst}
-use Rattle.std.proofs.lemmas.Result.{err_from_is_err_and}
 use Rattle.gix_hash.specs.ObjectId.{id_digits}
 use Rattle.id_lookup.specs.Runs.{matches}
-use Rattle.object_store.specs.Stores.{HaveBuckets, IsStoreFault}
+use Rattle.object_store.specs.Stores.{HaveBuckets}
 use Rattle.object_store.proofs.Named.{name_of_id}
 use Rattle.object_store.proofs.naming.abbreviate.Goals as goal
 
@@ -10,13 +9,6 @@ pub returns-clause-name : goal.returns-clause-name
 returns-clause-name g c = λ whole h.
     name_of_id (g.S.Store.kind c.args.store.now) c.args.least (id_digits c.args.id.now) whole (map id_digits c.deref.result.now) c.name_in.result h.all.index
     (ap (map id_digits) c.deref.ensures.value ∙ c.in_ok-ids.ensures.ids whole h ∙ ap (λ (ds : List ℕ). matches ds whole) c.front_of-front.ensures.digits) c.name_in.ensures
-
-pub returns-in_err-ids-clause-err : goal.returns-in_err-ids-clause-err
-returns-in_err-ids-clause-err g c =
-    let p = err_from_is_err_and c.from_residual.result c.from_residual.ensures.1 in
-    rw (p.1, p.2)
-    (subst (λ byte. IsStoreFault (g.S.Store.kind c.args.store.now) (g.S.Store.packs c.args.store.now) byte c.in_err-ids.field-0.0) c.front_of-front.ensures.byte
-    c.in_err-ids.ensures.err)
 
 pub returns-clause-right : goal.returns-clause-right
 returns-clause-right g c =
