@@ -1,13 +1,8 @@
-use Rattle.std.proofs.Common.{inl, inr, ap, subst}
+use Rattle.std.proofs.Common.{inr, subst}
 use Rattle.gix_hash.specs.declared.Kind.{Kind}
 use Rattle.pack_index.specs.Format.{IsPackIndex}
-use Rattle.pack_index.specs.declared.error.Error.TheVariants.{OtherKind}
 use Rattle.pack_index.proofs.Refusals.{no_index}
 use Rattle.pack_index.proofs.index_file.error_or_other.Goals as goal
-
-pub returns-in-Ok : goal.returns-in-Ok
-returns-in-Ok c =
-    inl (ap OtherKind c.other_than-other.ensures, subst (λ (kind : Kind). IsPackIndex kind c.args.bytes.now) c.other_than-other.ensures c.in-Ok.ensures.index, no_index _ _ _ c.requires)
 
 pub returns-in-Err : goal.returns-in-Err
 returns-in-Err c =

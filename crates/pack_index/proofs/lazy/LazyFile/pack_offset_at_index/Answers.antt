@@ -3,7 +3,7 @@ use Rattle.gix_hash.specs.declared.Kind.{Kind}
 use Rattle.pack_index.specs.Format.{long_at, long_word, tables_end}
 use Rattle.pack_index.specs.Lazy.{LazyIndex}
 use Rattle.pack_index.proofs.Heads.{head_count, long_in_head}
-use Rattle.pack_index.proofs.ReadOffsets.{has_long, has_short, long_offset, no_long, short_offset}
+use Rattle.pack_index.proofs.ReadOffsets.{has_long, long_offset, no_long}
 use Rattle.pack_index.proofs.lazy.LazyFile.pack_offset_at_index.Given.{Over}
 use Rattle.pack_index.proofs.lazy.LazyFile.pack_offset_at_index.Goals.{After-from-2}
 use Rattle.pack_index.proofs.lazy.LazyFile.pack_offset_at_index.Goals as goal
@@ -18,12 +18,6 @@ placed g c bytes is =
     let whole : length c.self.inside.head ≡ 1032 = first_of (search rules, omega arith) in
     let starts = c.long_at.ensures.place ∙ long_in_head bytes c.self.inside.head inv.0 whole c.self.inside.kind ∙ ap (λ (k : Kind). long_at k bytes) kind in
     (omega (arith, starts, c.from-2.ensures), inv.2 ∙ ap (λ (k : Kind). tables_end k bytes) kind)
-
-pub returns-then-word-lt-LONG-clause-has : goal.returns-then-word-lt-LONG-clause-has
-returns-then-word-lt-LONG-clause-has g c = λ bytes is. has_short _ bytes c.args.at _ (c.in_ok-word.ensures.word bytes is) c.if-word-lt-LONG.true
-
-pub returns-then-word-lt-LONG-clause-offset : goal.returns-then-word-lt-LONG-clause-offset
-returns-then-word-lt-LONG-clause-offset g c = λ bytes is. c.from.ensures ∙ short_offset _ bytes c.args.at _ (c.in_ok-word.ensures.word bytes is) c.if-word-lt-LONG.true
 
 pub returns-then-start-self-clause-err : goal.returns-then-start-self-clause-err
 returns-then-start-self-clause-err g c = λ bytes is.
