@@ -34,11 +34,6 @@ loop-byte-preserved g c = (
   below_more _ _ c.loop-byte.invariant.2 c.in_ok-named.ensures.right,
 )
 
-pub returns-in_err-named-clause-refused : goal.returns-in_err-named-clause-refused
-returns-in_err-named-clause-refused g c =
-    let p = err_from_is_err_and c.from_residual.result c.from_residual.ensures.1 in
-    rw (p.1, p.2) (c.loop-byte.byte, c.loop-byte-test.true, c.loop-byte.invariant.2, c.in_err-named.ensures.err)
-
 pub returns-clause-right : goal.returns-clause-right
 returns-clause-right g c =
     let last : c.loop-byte.byte ≡ 256 = omega arith in

@@ -1,18 +1,9 @@
 use Rattle.std.proofs.Common.{List, ℕ, ap, subst, ◌∙◌}
-use Rattle.std.specs.Io.KnownBytes.{Appends}
 use Rattle.streams.specs.Writing.{AppendsPart}
 use Rattle.streams.proofs.WritingLemmas.{OnErr-of}
 use Rattle.packtool_commands.specs.Names.{name_line}
-use Rattle.packtool_commands.proofs.NamedLemmas.{Appends-item, AppendsPart-item}
+use Rattle.packtool_commands.proofs.NamedLemmas.{AppendsPart-item}
 use Rattle.packtool_commands.proofs.naming.write_names.Goals as goal
-
-pub loop-id-preserved : goal.loop-id-preserved
-loop-id-preserved g c = (
-  Appends-item _ _ _ name_line c.args.named.now c.loop-id.id-index c.id-item.result c.loop-id-test.true c.loop-id.invariant.0
-      (subst (λ (text : List ℕ). Appends (g.W.Sink.taken c.loop-id.out) (g.W.Sink.taken c.write_all.new.out) text)
-      (c.put_name_line-len.ensures.text ∙ ap name_line c.id-item.is) c.in_ok-write_all.ensures.written),
-  c.in_ok-write_all.ensures.stands,
-)
 
 pub returns-in_err-write_all-clause-part : goal.returns-in_err-write_all-clause-part
 returns-in_err-write_all-clause-part g c =
