@@ -1,5 +1,5 @@
 -- The lines at a range of indexes, one after the other.
-use Rattle.std.proofs.Common.{◌≡◌, ℕ, zero, suc, ◌+◌, ◌-◌, ◌<◌, ◌≤◌, Option, List, [], ◌∷◌, ◌++◌, sym, ap, ◌∙◌, subst, arith, zero-add, append-nil}
+use Rattle.std.proofs.Common.{◌≡◌, ℕ, zero, suc, ◌+◌, ◌-◌, ◌<◌, ◌≤◌, Option, List, ◌∷◌, ◌++◌, sym, ap, ◌∙◌, subst, arith, zero-add, append-nil}
 use Rattle.std.specs.Prelude.{flat_map}
 use Rattle.std.specs.List.{range_with_len}
 use Rattle.std.specs.Io.KnownBytes.{Appends}
@@ -34,12 +34,6 @@ lines-one : (line : ℕ → List ℕ) (at : ℕ) → lines_of line at (at + 1) �
 lines-one line at =
     let one : at + 1 - at ≡ 1 = omega arith in
     ap (λ n. flat_map line (range_with_len at n)) one ∙ append-nil (line at)
-
--- an empty range has no lines
-pub lines-none : (line : ℕ → List ℕ) (at : ℕ) → lines_of line at at ≡ []
-lines-none line at =
-    let none : at - at ≡ 0 = omega arith in
-    ap (λ n. flat_map line (range_with_len at n)) none
 
 -- one line more
 pub Appends-line : (a b c : Option (List ℕ)) (line : ℕ → List ℕ) (start at : ℕ) → start ≤ at → Appends a b (lines_of line start at) → Appends b c (line at)

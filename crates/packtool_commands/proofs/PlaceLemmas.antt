@@ -1,19 +1,11 @@
 -- The lines of places, one after the other.
-use Rattle.std.proofs.Common.{◌≡◌, ◌≢◌, ℕ, ◌+◌, ◌<◌, inr, Bool, true, false, not, Option, List, [], ◌∷◌, ◌++◌, length, get_or, map, take, drop, refl, sym, ap, ◌∙◌, append_assoc, arith}
+use Rattle.std.proofs.Common.{◌≡◌, ◌≢◌, ℕ, ◌+◌, ◌<◌, Bool, true, false, not, Option, List, [], ◌∷◌, ◌++◌, length, get_or, map, take, drop, refl, sym, ap, ◌∙◌, append_assoc, arith}
 use Rattle.std.specs.Prelude.{◌↔◌, IsTrue, nat_eq}
 use Rattle.std.specs.List.{flat_map}
 use Rattle.std.specs.Io.KnownBytes.{Appends}
 use Rattle.std.proofs.KnownBytes.{Appends-trans}
 use Rattle.std.proofs.lemmas.Bool.{eq-eqb, false≢true, ne_eqb}
 use Rattle.command_line.specs.Flushed.{AppendsAtMost}
-use Rattle.gix_hash.specs.declared.Kind.{Kind}
-use Rattle.object_store.specs.Stores.{HavePlaces, IsElsewhere, IsLocateFault}
-use Rattle.object_store.specs.declared.error.Error.TheVariants.{Index, Loose, Memory}
-use Rattle.pack_index.specs.Lazy.{LazyIndex}
-use Rattle.packtool_commands.specs.Finding.{IsFault}
-use Rattle.packtool_commands.specs.Places.{IsPlacesFault}
-use Rattle.packtool_commands.specs.declared.error.StoreError.{StoreError}
-use Rattle.packtool_commands.specs.declared.error.StoreError.TheVariants.{Store, Output}
 use Rattle.packtool_commands.proofs.NamedLemmas.{lines_around}
 
 -- the lines of texts are those of what has these texts
@@ -46,17 +38,3 @@ AppendsAtMost-item a b c line xs k d within before last =
           ∙ ap (λ (more : List ℕ). front ++ more) (append_assoc last.part last.rest after) ∙ sym (append_assoc front last.part (last.rest ++ after));
       written = Appends-trans a b c front last.part before last.written;
     }
-
--- what is elsewhere is a fault of the places, if the pack indexes have them
-pub elsewhere_located : (kind : Kind) (packs : List LazyIndex) (id : List ℕ) (e : StoreError) → HavePlaces kind packs id → IsFault IsElsewhere e
-    → IsFault (IsLocateFault kind packs id) e
-elsewhere_located kind packs id (Store (Index at why)) have fault = absurd fault
-elsewhere_located kind packs id (Store (Loose why)) have fault = have
-elsewhere_located kind packs id (Store (Memory why)) have fault = tt
-elsewhere_located kind packs id Output have fault = tt
-
--- and that of the places of one id
-pub located_among : (kind : Kind) (packs : List LazyIndex) (byte : ℕ) (id : List ℕ) (e : StoreError) → IsFault (IsLocateFault kind packs id) e
-    → IsFault (IsPlacesFault kind packs byte) e
-located_among kind packs byte id (Store why) fault = inr (id, fault)
-located_among kind packs byte id Output fault = tt
