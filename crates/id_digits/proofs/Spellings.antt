@@ -32,10 +32,6 @@ IsAscii-spelling letter ascii (d ∷ ds) h =
 pub IsAscii-hex_digits : (ds : List ℕ) → All (λ d. d < 16) ds → IsAscii (spelling hex_letter ds)
 IsAscii-hex_digits ds h = IsAscii-spelling hex_letter (λ d lt. grind (arith, nat_tests)) ds h
 
--- and so is that of bytes
-pub IsAscii-hex : (bytes : List ℕ) → All (λ b. b < 256) bytes → IsAscii (spelling hex_letter (digits_of bytes))
-IsAscii-hex bytes h = IsAscii-hex_digits (digits_of bytes) (All-digits_of bytes h)
-
 -- a spelling in front of other bytes, cut at a number of letters or at its end, spells the first digits
 pub take-spelling : (letter : ℕ → ℕ) (n : ℕ) (ds rest : List ℕ)
     → take (min n (length ds)) (spelling letter ds ++ rest) ≡ spelling letter (take n ds)
