@@ -86,11 +86,16 @@ fn main(rt: HostRuntime) -> io::Result<()> {
         println!(rt; "{name}")?;
         show(&rt, &fs::read(&rt, name)?, kind)?;
     }
-    print_broken(&rt, &mut fs::read(&rt, "sha1.idx")?)?;
+    let mut whole = fs::read(&rt, "sha1.idx")?;
+    print_changed(&rt, &mut whole, &BROKEN, false)?;
+    for len in CUT {
+        print_cause(&rt, &whole[..len.min(whole.len())], Kind::Sha1)?;
+    }
     let mut longs = fs::read(&rt, "longs.idx")?;
-    print_resealed(&rt, &mut longs)?;
-    print_shared(&rt, rt.alloc(), &mut longs, 38)?;
-    print_shared(&rt, rt.alloc(), &mut longs, 12)?;
+    print_changed(&rt, &mut longs, &RESEALED, true)?;
+    for last in [38, 12] {
+        print_shared(&rt, rt.alloc(), &mut longs, last)?;
+    }
     for (name, kind) in OTHERS {
         print_cause(&rt, &fs::read(&rt, name)?, kind)?;
     }
@@ -138,29 +143,21 @@ fn show_names(rt: &impl Print, file: &File<'_>) -> io::Result<()> {
     Ok(())
 }
 
-// Why an index with a broken byte is none, and one that is cut.
-fn print_broken(rt: &impl Print, bytes: &mut [u8]) -> io::Result<()> {
-    for (at, broken) in BROKEN {
-        if at < bytes.len() {
-            let good = bytes[at];
-            bytes[at] = broken;
-            print_cause(rt, bytes, Kind::Sha1)?;
-            bytes[at] = good;
-        }
-    }
-    for len in CUT {
-        print_cause(rt, &bytes[..len.min(bytes.len())], Kind::Sha1)?;
-    }
-    Ok(())
-}
-
-// The same of an index whose copies end in the digest of what is before it.
-fn print_resealed(rt: &impl Print, bytes: &mut [u8]) -> io::Result<()> {
-    for (at, changed) in RESEALED {
+// Why an index with a changed byte is none, for each of the changes. If `is_sealed`, a copy ends in
+// the digest of what is before it.
+fn print_changed(
+    rt: &impl Print,
+    bytes: &mut [u8],
+    changes: &[(usize, u8)],
+    is_sealed: bool,
+) -> io::Result<()> {
+    for &(at, changed) in changes {
         if at < bytes.len() {
             let good = bytes[at];
             bytes[at] = changed;
-            seal(bytes);
+            if is_sealed {
+                seal(bytes);
+            }
             print_cause(rt, bytes, Kind::Sha1)?;
             bytes[at] = good;
         }
