@@ -38,10 +38,14 @@ fn expect_run(rt: &impl Abort, list: &SortedIds<'_>, prefix: &Prefix, want: Run,
     expect!(rt; probes.asked() <= most, prefix);
 }
 
+// Rows of digits and runs, by at most `most` asks. No digits make the prefix of all ids.
 fn expect_runs(rt: &impl Abort, ids: &[ObjectId], most: u64, rows: &[(&str, usize, usize)]) {
     let list = SortedIds::try_new(ids).expect(rt, "ids out of order");
     for &(digits, start, end) in rows {
-        let prefix = Prefix::from_hex_nonempty(digits).expect(rt, "digits that are no prefix");
+        let prefix = match digits {
+            "" => Kind::Sha1.null().to_prefix(0..0),
+            _ => Prefix::from_hex_nonempty(digits).expect(rt, "digits that are no prefix"),
+        };
         expect_run(rt, &list, &prefix, Run { start, end }, most);
     }
 }
@@ -59,48 +63,30 @@ fn well_known_ids(rt: HostRuntime) {
     let list = SortedIds::try_new(&ids).expect(&rt, "ids out of order");
     assert!(rt; list.len() == 4);
     expect!(&rt; (list.min_hex_len(), *list.get(3)) == (40, id(&rt, BLOB)));
+}
+
+// Also by the beginnings of one id, of each number of digits.
+#[test]
+fn runs_of_lists(rt: HostRuntime) {
     expect_runs(
         &rt,
-        &ids,
+        &well_known(),
         6,
         &[
+            ("", 0, 4),
             ("4b82", 1, 2),
             ("4", 0, 2),
             ("5", 2, 2),
             ("473a0f", 0, 1),
             ("6ef1", 2, 3),
             ("ffff", 4, 4),
-            (BLOB, 3, 4),
         ],
     );
-}
-
-// The beginnings of one id of four, of each number of digits.
-#[test]
-fn each_number_of_digits(rt: HostRuntime) {
-    let ids = well_known();
-    let list = SortedIds::try_new(&ids).expect(&rt, "ids out of order");
-    let nothing = id(&rt, BLOB).to_prefix(0..0);
-    expect_run(&rt, &list, &nothing, Run { start: 0, end: 4 }, 6);
     for hex_len in 1..=40 {
         let digits = BLOB.get(..hex_len).expect(&rt, "the id has fewer digits");
-        let prefix = Prefix::from_hex_nonempty(digits).expect(&rt, "digits that are no prefix");
-        expect_run(&rt, &list, &prefix, Run { start: 3, end: 4 }, 6);
+        expect_runs(&rt, &well_known(), 6, &[(digits, 3, 4)]);
     }
-}
-
-#[test]
-fn five_copies(rt: HostRuntime) {
-    let blob = id(&rt, BLOB);
-    let ids = [blob; 5];
-    expect_runs(&rt, &ids, 6, &[("e69d", 0, 5)]);
-    let list = SortedIds::try_new(&ids).expect(&rt, "ids out of order");
-    let nothing = blob.to_prefix(0..0);
-    expect_run(&rt, &list, &nothing, Run { start: 0, end: 5 }, 6);
-}
-
-#[test]
-fn thousand_ids(rt: HostRuntime) {
+    expect_runs(&rt, &[id(&rt, BLOB); 5], 6, &[("e69d", 0, 5), ("", 0, 5)]);
     expect_runs(
         &rt,
         &thousand(),

@@ -55,7 +55,7 @@ pub fn id(rt: &impl Abort, text: &str) -> ObjectId {
 // The text was made, and is this one.
 fn expect_made(rt: &impl Abort, text: Result<String, AllocError>, want: &str) {
     let text = text.expect(rt, "no memory for a text");
-    expect!(rt; text.as_str() == want, &want);
+    expect!(rt; text.as_str() == want, want);
 }
 
 // The value's text.
@@ -91,7 +91,7 @@ fn expect_error<E: Error + Drop>(rt: &(impl Abort + AllocGlobal), error: E, want
 fn expect_kind<T: Drop>(rt: &impl Abort, outcome: io::Result<T>, kind: io::ErrorKind) {
     match outcome {
         Ok(_) => panic!(rt; "no error where one of {kind} is wanted"),
-        Err(error) => expect!(rt; error.kind() == kind, &kind),
+        Err(error) => expect!(rt; error.kind() == kind, kind),
     }
 }
 

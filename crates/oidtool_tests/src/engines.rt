@@ -4,7 +4,6 @@ mod asking;
 mod by;
 mod checking;
 mod digests;
-mod faults;
 mod lists;
 mod packing;
 mod running;

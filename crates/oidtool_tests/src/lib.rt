@@ -3,11 +3,8 @@
 
 // As `assert!`, by a single call, and with the row of a table that it is about, where one is given.
 macro_rules! expect {
-    ($rt:expr; $condition:expr) => {
-        $crate::expecting::expect($rt, $condition, stringify!($condition))
-    };
-    ($rt:expr; $condition:expr, $row:expr) => {
-        $crate::expecting::expect_of($rt, $condition, stringify!($condition), $row)
+    ($rt:expr; $condition:expr $(, $row:expr)?) => {
+        $crate::expecting::expect($rt, $condition, stringify!($condition), &($($row)?))
     };
 }
 

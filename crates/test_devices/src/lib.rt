@@ -1,7 +1,11 @@
-//! A reader and a writer for tests, whose faults are chosen. They claim nothing of their bytes.
+//! What tests share: ids, and a reader and a writer whose faults are chosen. These claim nothing of
+//! their bytes.
 #![tactic(auto)]
 
+use std::alloc::Global;
 use std::io;
+
+pub mod ids;
 
 /// The text of a device's error.
 pub const FAILED: &str = "the device failed";
@@ -63,6 +67,8 @@ pub enum Fault {
     InterruptedAt(usize),
     /// At each call after that many bytes have passed.
     AfterBytes(usize),
+    /// At each flush of a writer, and at no other call.
+    AtFlush,
     /// At each call, and at each flush of a writer, with an error of that kind.
     Always(io::ErrorKind),
 }
@@ -71,7 +77,7 @@ impl Fault {
     /// Whether a call fails that is the device's `calls`-th, when `len` bytes have passed before.
     fn strikes(self, calls: usize, len: usize) -> bool {
         match self {
-            Fault::Never => false,
+            Fault::Never | Fault::AtFlush => false,
             Fault::AtCall(at) | Fault::InterruptedAt(at) => calls == at,
             Fault::AfterBytes(most) => len >= most,
             Fault::Always(_) => true,
@@ -147,29 +153,20 @@ pub struct Writer {
     pub flushes: usize,
     /// The most bytes that it takes at a call.
     pub chunk: usize,
-    /// Whether each flush fails.
-    pub flush_fails: bool,
-    fault: Fault,
+    /// When it fails.
+    pub fault: Fault,
 }
 
 impl Writer {
     /// A writer that takes at most `chunk` bytes a call: none at 0.
-    pub fn new(bytes: Vec<u8>, chunk: usize, fault: Fault) -> Self {
+    pub fn new(alloc: Global, chunk: usize, fault: Fault) -> Self {
         Writer {
-            bytes,
+            bytes: Vec::new(alloc),
             calls: 0,
             flushes: 0,
             chunk,
-            flush_fails: false,
             fault,
         }
-    }
-
-    /// A writer that takes all, and fails at each flush.
-    pub fn failing_at_flush(bytes: Vec<u8>) -> Self {
-        let mut writer = Writer::new(bytes, usize::MAX, Fault::Never);
-        writer.flush_fails = true;
-        writer
     }
 }
 
@@ -187,7 +184,7 @@ impl io::Write for Writer {
 
     fn flush(&mut self) -> io::Result<()> {
         self.flushes = self.flushes.saturating_add(1);
-        if self.flush_fails || matches!(self.fault, Fault::Always(_)) {
+        if matches!(self.fault, Fault::AtFlush | Fault::Always(_)) {
             return Err(self.fault.error());
         }
         Ok(())

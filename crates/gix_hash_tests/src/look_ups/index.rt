@@ -27,8 +27,8 @@ fn expect_found<I: Id>(
     assert!(rt; prefix.as_oid().kind() == index.kind());
     let mut probes = index.probes(&prefix);
     let run = lookup_in(index.fan_out(), &mut probes);
-    expect!(rt; (run, index.find(&prefix)) == (want, answer_of(want)), &prefix);
-    expect!(rt; probes.asked() <= most, &prefix);
+    expect!(rt; (run, index.find(&prefix)) == (want, answer_of(want)), prefix);
+    expect!(rt; probes.asked() <= most, prefix);
 }
 
 #[test]
@@ -49,10 +49,12 @@ fn no_index(rt: HostRuntime) {
     }
 }
 
-#[test]
-fn empty_index(rt: HostRuntime) {
-    let index: IdIndex<'_> = IdIndex::try_new(&[], Kind::Sha1).expect(&rt, "ids of no index");
-    expect_found(&rt, &index, "4b82", Run { start: 0, end: 0 }, 0);
+// Rows of digits and what is found by them in an index of these ids.
+fn expect_each_found<I: Id>(rt: &impl Abort, ids: &[I], rows: &[(&str, usize, usize, u64)]) {
+    let index = IdIndex::try_new(ids, Kind::Sha1).expect(rt, "ids of no index");
+    for &(digits, start, end, most) in rows {
+        expect_found(rt, &index, digits, Run { start, end }, most);
+    }
 }
 
 #[test]
@@ -60,34 +62,7 @@ fn first_bytes_of_two(rt: HostRuntime) {
     let ids = [id(&rt, TREE), id(&rt, BLOB)];
     let index = IdIndex::try_new(&ids, Kind::Sha1).expect(&rt, "ids of no index");
     for (byte, want) in [(0x4a, 0), (0x4b, 1), (0xe5, 1), (0xe6, 2), (0xff, 2)] {
-        expect!(&rt; index.fan_out().up_to(byte) == want, &byte);
-    }
-    expect_found(&rt, &index, "4b82", Run { start: 0, end: 1 }, 2);
-}
-
-// A table of digests, one after the other, is a list of ids.
-#[test]
-fn tables_of_digests(rt: HostRuntime) {
-    let mut table = [0; 60];
-    table[20] = 0x4b;
-    table[21] = 0x82;
-    table[40] = 0xe6;
-    let digests = table.as_chunks::<20>().0;
-    let index = IdIndex::try_new(digests, Kind::Sha1).expect(&rt, "digests of no index");
-    expect_found(&rt, &index, "4b82", Run { start: 1, end: 2 }, 2);
-}
-
-#[test]
-fn index_of_a_thousand(rt: HostRuntime) {
-    let ids = thousand();
-    let index = IdIndex::try_new(&ids, Kind::Sha1).expect(&rt, "ids of no index");
-    for (digits, start, end, most) in [
-        ("0200", 512, 513, 18),
-        ("03", 768, 1000, 16),
-        ("0", 0, 1000, 0),
-        ("04", 1000, 1000, 0),
-    ] {
-        expect_found(&rt, &index, digits, Run { start, end }, most);
+        expect!(&rt; index.fan_out().up_to(byte) == want, byte);
     }
 }
 
@@ -102,11 +77,24 @@ fn two_alike(rt: &impl Abort) -> [ObjectId; 3] {
 
 #[test]
 fn none_one_and_many(rt: HostRuntime) {
-    let ids = two_alike(&rt);
-    let index = IdIndex::try_new(&ids, Kind::Sha1).expect(&rt, "ids of no index");
-    for (digits, start, end) in [("abcd", 0, 2), ("abcd1", 1, 2), ("abce", 2, 2)] {
-        expect_found(&rt, &index, digits, Run { start, end }, 4);
-    }
+    let none: [ObjectId; 0] = [];
+    expect_each_found(&rt, &none, &[("4b82", 0, 0, 0)]);
+    expect_each_found(&rt, &[id(&rt, TREE), id(&rt, BLOB)], &[("4b82", 0, 1, 2)]);
+    let rows = [("abcd", 0, 2, 4), ("abcd1", 1, 2, 4), ("abce", 2, 2, 4)];
+    expect_each_found(&rt, &two_alike(&rt), &rows);
+    let rows = [
+        ("0200", 512, 513, 18),
+        ("03", 768, 1000, 16),
+        ("0", 0, 1000, 0),
+        ("04", 1000, 1000, 0),
+    ];
+    expect_each_found(&rt, &thousand(), &rows);
+    // A table of digests, one after the other, is a list of ids.
+    let mut table = [0; 60];
+    table[20] = 0x4b;
+    table[21] = 0x82;
+    table[40] = 0xe6;
+    expect_each_found(&rt, table.as_chunks::<20>().0, &[("4b82", 1, 2, 2)]);
 }
 
 // The member at an index has its name, which prints and reads back, and finds only that member.
@@ -115,7 +103,7 @@ fn expect_name(rt: &(impl Abort + AllocGlobal), index: &IdIndex<'_>, at: usize, 
     let name = index.abbreviate(at);
     expect_text(rt, name, want);
     let read = Prefix::from_hex_in(index.kind(), want).expect(rt, "a name that is no prefix");
-    expect!(rt; (read, find_own_name(index, at)) == (name, Answer::One(at)), &want);
+    expect!(rt; (read, find_own_name(index, at)) == (name, Answer::One(at)), want);
 }
 
 fn expect_names(rt: &(impl Abort + AllocGlobal), ids: &[ObjectId], names: &[&str]) {

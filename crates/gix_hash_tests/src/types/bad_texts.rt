@@ -72,7 +72,7 @@ fn text_of(rt: &(impl Abort + AllocGlobal), letter: char, len: usize) -> String 
 fn expect_id(rt: &impl Abort, reading: Result<ObjectId, decode::Error>, len: usize, want: Reading) {
     let read = match reading {
         Ok(id) => {
-            expect!(rt; id.is_null(), &len);
+            expect!(rt; id.is_null(), len);
             (Zeros(id.kind()), id.kind().len_in_hex())
         }
         Err(decode::Error::InvalidHexEncodingLength(found)) => (BadLength, found),
@@ -90,7 +90,7 @@ fn expect_prefix(
 ) {
     let read = match reading {
         Ok(prefix) => {
-            expect!(rt; prefix.as_oid().is_null(), &len);
+            expect!(rt; prefix.as_oid().is_null(), len);
             (Zeros(prefix.as_oid().kind()), prefix.hex_len())
         }
         Err(from_hex::Error::TooShort { hex_len }) => (TooShort, hex_len),
@@ -112,8 +112,11 @@ fn expect_hex(rt: &impl Abort, text: &str, [id, prefix, nonempty]: [Reading; 3])
 // The calls that read the letters `z` to `k`.
 fn expect_reverse(rt: &impl Abort, text: &str, [id, prefix, nonempty]: [Reading; 3]) {
     let len = text.len();
-    let change = ChangeId::from_reverse_hex(text.as_bytes());
-    expect_id(rt, change.map(ObjectId::from), len, id);
+    let read = match ChangeId::from_reverse_hex(text.as_bytes()) {
+        Ok(change) => Ok(ObjectId::from(change)),
+        Err(error) => Err(error),
+    };
+    expect_id(rt, read, len, id);
     expect_prefix(rt, Prefix::from_reverse_hex(text), len, prefix);
     expect_prefix(rt, Prefix::from_reverse_hex_nonempty(text), len, nonempty);
 }
@@ -167,7 +170,7 @@ fn prefixes_of_a_given_kind(rt: HostRuntime) {
         (Kind::Sha256, BLOB_256, Prefix::from(blob), true),
     ] {
         let read = Prefix::from_hex_in(kind, text).expect(&rt, "a text that is no prefix");
-        expect!(&rt; (read == prefix) == is_same, &text);
+        expect!(&rt; (read == prefix) == is_same, text);
     }
     let g_41 = text_of(&rt, 'g', 41);
     for (kind, text, len, want) in [

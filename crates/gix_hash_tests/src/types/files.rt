@@ -30,7 +30,7 @@ fn first_bytes_of_a_file(rt: HostRuntime) -> Result<(), Fail> {
         let files = Opening::new(&rt);
         let id = bytes_of_file(&files, path, num_bytes, kind, &mut NoProgress, &mut Never);
         expect_outcome(&rt, id, want);
-        expect!(&rt; files.times() == 1, &num_bytes);
+        expect!(&rt; files.times() == 1, num_bytes);
     }
     fs::remove_file(&rt, FILE)?;
     Ok(())
@@ -52,7 +52,7 @@ fn expect_failure<F: Files>(
         _ => panic!(rt; "no error of {name}"),
     }
     heard.expect(rt, calls);
-    expect!(rt; (asked.times, files.times()) == (0, 1), &name);
+    expect!(rt; (asked.times, files.times()) == (0, 1), name);
 }
 
 // If opening fails, its error is returned, of whatever kind and however few bytes are asked for.

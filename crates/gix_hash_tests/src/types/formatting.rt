@@ -38,18 +38,18 @@ impl Named<'_> {
 fn expect_written(
     rt: &(impl Abort + AllocGlobal),
     named: &Named<'_>,
-    writer: (usize, Fault),
+    (chunk, fault): (usize, Fault),
     error: &str,
     written: &[u8],
     calls: usize,
 ) {
-    let mut out = Writer::new(Vec::new(rt.alloc()), writer.0, writer.1);
+    let mut out = Writer::new(rt.alloc(), chunk, fault);
     match named.write_hex_to(&mut out) {
-        Ok(()) => expect!(rt; error.is_empty(), &calls),
+        Ok(()) => expect!(rt; error.is_empty(), calls),
         Err(found) => expect_text(rt, found, error),
     }
-    expect!(rt; out.bytes.as_slice() == written, &calls);
-    expect!(rt; (out.calls, out.flushes) == (calls, 0), &calls);
+    expect!(rt; out.bytes.as_slice() == written, calls);
+    expect!(rt; (out.calls, out.flushes) == (calls, 0), calls);
 }
 
 // The digits are written by `write_all`: in one write where there is room, else in several, with
@@ -69,9 +69,9 @@ fn expect_all_written(rt: &(impl Abort + AllocGlobal), named: &Named<'_>, text: 
     }
     for kind in KINDS {
         if kind != io::ErrorKind::Interrupted {
-            let mut out = Writer::new(Vec::new(rt.alloc()), 9, Fault::Always(kind));
+            let mut out = Writer::new(rt.alloc(), 9, Fault::Always(kind));
             expect_kind(rt, named.write_hex_to(&mut out), kind);
-            expect!(rt; (out.calls, out.flushes) == (1, 0), &kind);
+            expect!(rt; (out.calls, out.flushes) == (1, 0), kind);
         }
     }
 }

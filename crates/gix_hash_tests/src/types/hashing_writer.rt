@@ -18,7 +18,7 @@ fn flushed<W: Write>(out: &mut W) -> std::io::Result<()> {
 
 // A hashing writer whose inner writer takes at most `chunk` bytes a call.
 fn over(rt: &impl AllocGlobal, chunk: usize, fault: Fault) -> io::Write<Writer> {
-    io::Write::new(Writer::new(Vec::new(rt.alloc()), chunk, fault), Kind::Sha1)
+    io::Write::new(Writer::new(rt.alloc(), chunk, fault), Kind::Sha1)
 }
 
 // The inner writer takes one byte, then fails, and then takes all.
@@ -48,8 +48,8 @@ fn expect_one_write(rt: &(impl Abort + AllocGlobal), bytes: &[u8], chunk: usize,
         } else {
             out.write(bytes)
         };
-        expect!(rt; (outcome.ok(), out.inner.calls) == (Some(taken), 1), &digest);
-        expect!(rt; out.inner.bytes.as_slice() == &bytes[..taken], &digest);
+        expect!(rt; (outcome.ok(), out.inner.calls) == (Some(taken), 1), digest);
+        expect!(rt; out.inner.bytes.as_slice() == &bytes[..taken], digest);
         expect_outcome(rt, out.hash.try_finalize(), digest);
     }
 }
@@ -82,7 +82,7 @@ fn errors_are_the_inner_writers(rt: HostRuntime) {
         for outcome in [out.flush(), flushed(&mut out)] {
             expect_kind(&rt, outcome, kind);
         }
-        expect!(&rt; (out.inner.calls, out.inner.flushes) == (2, 2), &kind);
+        expect!(&rt; (out.inner.calls, out.inner.flushes) == (2, 2), kind);
         expect_outcome(&rt, out.hash.try_finalize(), EMPTY);
     }
 }
@@ -93,7 +93,7 @@ fn flushes_leave_the_hasher(rt: HostRuntime) -> Result<(), Fail> {
     out.write_all(b"abc")?;
     out.flush()?;
     flushed(&mut out)?;
-    out.inner.flush_fails = true;
+    out.inner.fault = Fault::AtFlush;
     for outcome in [out.flush(), flushed(&mut out)] {
         let error = outcome.err().expect(&rt, "a failed flush returns Ok");
         expect_text(&rt, error, FAILED);

@@ -81,7 +81,7 @@ fn compared_with_text(rt: HostRuntime) {
         (TREE, false),
         ("e69de29", false),
     ] {
-        expect!(&rt; blob.eq_str(text) == same, &text);
+        expect!(&rt; blob.eq_str(text) == same, text);
     }
 }
 
@@ -176,7 +176,7 @@ fn shared_digits(rt: HostRuntime) {
         (wide, tree, 1),
         (null, wide_null, 40),
     ] {
-        expect!(&rt; one.common_hex_len(other.as_oid()) == want, &one);
+        expect!(&rt; one.common_hex_len(other.as_oid()) == want, one);
     }
 }
 

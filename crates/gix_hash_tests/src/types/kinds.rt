@@ -21,7 +21,7 @@ fn expect_well_known(rt: &(impl Abort + AllocGlobal), kind: Kind, texts: [&str; 
     ] {
         expect_text(rt, id, want);
         let tests = [id.is_null(), id.is_empty_blob(), id.is_empty_tree()];
-        expect!(rt; tests == [want == null, want == blob, want == tree], &want);
+        expect!(rt; tests == [want == null, want == blob, want == tree], want);
     }
 }
 
@@ -42,10 +42,10 @@ fn names_and_numbers(rt: HostRuntime) {
         ("sha1 ", Err("sha1 ")),
         ("SHA-2560", Err("SHA-2560")),
     ] {
-        expect!(&rt; Kind::from_str(name) == kind, &name);
+        expect!(&rt; Kind::from_str(name) == kind, name);
     }
     for (number, kind) in [(0, Err(0)), (1, Ok(sha1)), (2, Ok(sha256)), (3, Err(3))] {
-        expect!(&rt; tried(number) == kind, &number);
+        expect!(&rt; tried(number) == kind, number);
     }
     expect_text(&rt, sha1, "sha1");
     expect_text(&rt, sha256, "sha256");
@@ -61,7 +61,7 @@ fn lengths(rt: HostRuntime) {
         (64, sha256),
         (65, None),
     ] {
-        expect!(&rt; Kind::from_hex_len(hex_len) == kind, &hex_len);
+        expect!(&rt; Kind::from_hex_len(hex_len) == kind, hex_len);
     }
 }
 

@@ -145,7 +145,7 @@ fn places_against_ids(rt: HostRuntime) {
     for (digits, text, place) in PLACES {
         let (prefix, candidate) = (read(&rt, digits), id(&rt, text));
         assert!(rt; prefix.hex_len() <= candidate.kind().len_in_hex());
-        expect!(&rt; prefix.cmp_oid(candidate.as_oid()) == place, &digits);
+        expect!(&rt; prefix.cmp_oid(candidate.as_oid()) == place, digits);
     }
 }
 

@@ -100,7 +100,7 @@ fn packs_end_in_their_digest(rt: HostRuntime) {
         (Kind::Sha1, b"PACK", false),
         (Kind::Sha1, b"", false),
     ] {
-        expect!(&rt; ends_in_digest(kind, bytes) == ends, &bytes.len());
+        expect!(&rt; ends_in_digest(kind, bytes) == ends, bytes.len());
     }
 }
 
@@ -213,7 +213,7 @@ fn expect_run(rt: &(impl Abort + AllocGlobal), zeros: &[u8], run: &Run) {
     let outcome = bytes(&mut input, len, Kind::Sha1, &mut heard, &mut asked);
     heard.expect(rt, run.heard);
     let counts = (asked.times, input.len());
-    expect!(rt; counts == (chunks(run.heard), run.unread), &run.outcome);
+    expect!(rt; counts == (chunks(run.heard), run.unread), run.outcome);
     expect_outcome(rt, outcome, run.outcome);
 }
 
@@ -275,7 +275,7 @@ fn each_read_fails_in_turn(rt: HostRuntime) {
         expect_outcome(&rt, outcome, FAILED);
         let chunks = (at - 1) / 3;
         heard.expect(&rt, &THREE_CHUNKS_HEARD[..1 + chunks]);
-        expect!(&rt; (asked.times, input.calls) == (chunks, at), &at);
+        expect!(&rt; (asked.times, input.calls) == (chunks, at), at);
     }
 }
 

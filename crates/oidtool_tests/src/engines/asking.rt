@@ -64,43 +64,37 @@ fn expect_course_of_command(
     rt: &(impl Abort + Files + AllocGlobal),
     command: Command<'_>,
     read: Fault,
-    writer: Writer,
+    (chunk, write): (usize, Fault),
     want: Course,
 ) {
     let watch = Watch::new();
     let reader = Reader::new(LIST.as_bytes(), READ, read);
     let mut input = Plain::new(Watched::new(reader, &watch));
-    let writer = Watched::new(writer, &watch);
+    let writer = Watched::new(Writer::new(rt.alloc(), chunk, write), &watch);
     let buffered = BufWriter::with_capacity(rt.alloc(), 4, writer).expect(
         rt,
         "no memory for a buffer",
     );
     let mut out = Plain::new(buffered);
     let outcome = run_command(rt, rt.alloc(), command, &mut input, &mut out);
-    expect!(rt; watch.course() == want, &command);
-    expect!(rt; outcome.is_ok() == (want == Course::Fine), &command);
+    expect!(rt; watch.course() == want, command);
+    expect!(rt; outcome.is_ok() == (want == Course::Fine), command);
 }
 
 #[test]
 fn commands_stop_at_a_failure(rt: HostRuntime) -> Result<(), Fail> {
     fs::write(&rt, FILE, b"abc")?;
-    let bytes = || Vec::new(rt.alloc());
     let never = Fault::Never;
     for (command, reads, writes) in COMMANDS {
         for n in 1..=16 {
             for fault in [Fault::AtCall(n), Fault::InterruptedAt(n)] {
-                let writer = Writer::new(bytes(), WRITTEN, never);
                 let want = course_of(n, reads);
-                expect_course_of_command(&rt, command, fault, writer, want);
-                let writer = Writer::new(bytes(), WRITTEN, fault);
+                expect_course_of_command(&rt, command, fault, (WRITTEN, never), want);
                 let want = course_of(n, writes);
-                expect_course_of_command(&rt, command, never, writer, want);
+                expect_course_of_command(&rt, command, never, (WRITTEN, fault), want);
             }
         }
-        for writer in [
-            Writer::new(bytes(), 0, never),
-            Writer::failing_at_flush(bytes()),
-        ] {
+        for writer in [(0, never), (usize::MAX, Fault::AtFlush)] {
             expect_course_of_command(&rt, command, never, writer, Course::Failed);
         }
     }
@@ -120,7 +114,7 @@ fn devices_ask_once(rt: HostRuntime) -> Result<(), Fail> {
         let outcome = input.read(&mut buf);
         expect!(&rt; matches!(outcome, Err(error) if error.kind() == kind));
         expect!(&rt; input.into_inner().calls == 1);
-        let mut out = Plain::new(Writer::new(Vec::new(rt.alloc()), 3, fault));
+        let mut out = Plain::new(Writer::new(rt.alloc(), 3, fault));
         let outcome = out.write(b"abc");
         expect!(&rt; matches!(outcome, Err(error) if error.kind() == kind));
         expect!(&rt; out.into_inner().calls == 1);
@@ -132,9 +126,8 @@ fn devices_ask_once(rt: HostRuntime) -> Result<(), Fail> {
 #[test]
 fn flushes_reach_the_writer(rt: HostRuntime) -> Result<(), Fail> {
     for chunk in [b"".as_slice(), b"abc"] {
-        let never_failing = Writer::new(Vec::new(rt.alloc()), 3, Fault::Never);
-        let failing = Writer::failing_at_flush(Vec::new(rt.alloc()));
-        for (writer, fails) in [(never_failing, false), (failing, true)] {
+        for (fault, fails) in [(Fault::Never, false), (Fault::AtFlush, true)] {
+            let writer = Writer::new(rt.alloc(), 3, fault);
             let mut out = Plain::new(BufWriter::new(rt.alloc(), writer)?);
             expect!(&rt; out.write(chunk).is_ok());
             expect!(&rt; out.flush().is_err() == fails);

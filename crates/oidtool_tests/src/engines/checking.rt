@@ -48,13 +48,13 @@ fn expect_check(
     match check(&mut input, kind) {
         Ok(Ending::Sealed(id)) => {
             let text = format!(in rt.alloc(); "{id}\n").expect(rt, "no memory for a text");
-            expect!(rt; line == Some(text.as_str()), &row);
+            expect!(rt; line == Some(text.as_str()), row);
         }
         Ok(Ending::Unsealed { last, .. }) => {
-            expect!(rt; line.is_none(), &row);
-            expect!(rt; last.is_some() == (bytes.len() >= kind.len_in_bytes()), &row);
+            expect!(rt; line.is_none(), row);
+            expect!(rt; last.is_some() == (bytes.len() >= kind.len_in_bytes()), row);
         }
-        Err(_) => expect!(rt; false, &row),
+        Err(_) => expect!(rt; false, row),
     }
 }
 
@@ -145,9 +145,9 @@ fn reports_a_read_that_fails(rt: HostRuntime) {
     for n in 1..=24 {
         for fault in [Fault::AtCall(n), Fault::InterruptedAt(n)] {
             let mut input = Plain::new(Reader::new(&whole, 1, fault));
-            expect!(&rt; matches!(check(&mut input, Kind::Sha1), Err(PipeError::Input)), &n);
-            expect!(&rt; input.failed(), &n);
-            expect!(&rt; input.into_inner().calls == n, &n);
+            expect!(&rt; matches!(check(&mut input, Kind::Sha1), Err(PipeError::Input)), n);
+            expect!(&rt; input.failed(), n);
+            expect!(&rt; input.into_inner().calls == n, n);
         }
     }
 }

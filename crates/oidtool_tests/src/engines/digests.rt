@@ -7,7 +7,7 @@ use gix_hash::Kind;
 use oidtool_commands::{Command, read_command};
 use std::fs;
 use std::test::Fail;
-use test_devices::{Fault, Writer};
+use test_devices::Fault;
 
 // Words, and the Debug text of what they read as.
 const WORDS: [(&[&str], &str); 8] = [
@@ -66,29 +66,29 @@ fn runs_pipes(rt: HostRuntime) {
         (seal, Fault::AtCall(3), "Err(Input)", b"ab", 3),
     ] {
         let called = expect_run(&rt, command, b"abc", (1, fault), outcome, written);
-        expect!(&rt; called == reads, &command);
+        expect!(&rt; called == reads, command);
     }
     for (command, written) in [(hash, ABC.as_bytes()), (seal, &whole)] {
-        let failing = Writer::failing_at_flush(Vec::new(rt.alloc()));
+        let failing = (1000, Fault::AtFlush);
         expect_flushed(&rt, command, b"abc", failing, "Err(Output)", written, 1);
     }
 }
 
+// The last is no file.
 #[test]
 fn hashes_files(rt: HostRuntime) -> Result<(), Fail> {
-    let path = "oidtool-hashes-files";
-    fs::write(&rt, path, b"abcdef")?;
-    let hash_file = |count| Command::HashFile {
-        kind: Kind::Sha1,
-        count,
-        path,
-    };
-    let whole = (usize::MAX, Fault::Never);
-    for (count, outcome, written) in [(3, "Ok(1)", ABC.as_bytes()), (7, "Err(Input)", b"")] {
-        let reads = expect_run(&rt, hash_file(count), b"", whole, outcome, written);
-        expect!(&rt; reads == 0, &count);
+    let (kind, file) = (Kind::Sha1, "oidtool-hashes-files");
+    fs::write(&rt, file, b"abcdef")?;
+    for (path, count, outcome, written) in [
+        (file, 3, "Ok(1)", ABC.as_bytes()),
+        (file, 7, "Err(Input)", b""),
+        ("oidtool-hashes-no-file", 3, "Err(Input)", b""),
+    ] {
+        let command = Command::HashFile { kind, count, path };
+        let whole = (usize::MAX, Fault::Never);
+        let reads = expect_run(&rt, command, b"", whole, outcome, written);
+        expect!(&rt; reads == 0, command);
     }
-    fs::remove_file(&rt, path)?;
-    expect_run(&rt, hash_file(3), b"", whole, "Err(Input)", b"");
+    fs::remove_file(&rt, file)?;
     Ok(())
 }

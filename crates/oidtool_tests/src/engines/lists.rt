@@ -5,9 +5,11 @@ use super::by::{By, EACH};
 use super::{BLOB, BLOB_256, BLOB_LETTERS, NO_MATCH, TREE, TREE_256, TREE_LETTERS, text_of};
 use crate::expecting::{expect_bytes, expect_text};
 use gix_hash::Kind;
+use oidtool_search::find_in_from;
+use std::alloc::{AllocError, Global};
 use std::process::Abort;
 use std::test::Fail;
-use streams::{IntoSlice, Plain};
+use streams::{FromSlice, IntoSlice, Plain};
 use test_devices::{Fault, Reader};
 
 // A prefix, the parts of a list, the Debug text of the result, and what is written.
@@ -286,7 +288,7 @@ fn reads_nothing_after_a_bad_line(rt: HostRuntime) {
     for (prefix, list, (chunk, after), outcome, calls) in rows {
         let reader = (chunk, Fault::AfterBytes(after));
         let called = expect_from(&rt, By::Hex, prefix, list, reader, (outcome, NO_MATCH));
-        expect!(&rt; called == calls, &outcome);
+        expect!(&rt; called == calls, outcome);
     }
 }
 
@@ -304,8 +306,44 @@ fn reports_each_read_that_fails(rt: HostRuntime) {
             for fault in [Fault::AtCall(at), Fault::InterruptedAt(at)] {
                 let reader = (7, fault);
                 let calls = expect_from(&rt, by, by.prefix(), list.as_bytes(), reader, want);
-                expect!(&rt; calls == at.min(13), &(by, at));
+                expect!(&rt; calls == at.min(13), (by, at));
             }
         }
+    }
+}
+
+// Ids of SHA-1, each the number of its line.
+fn numbers(alloc: Global, lines: usize) -> Result<String, AllocError> {
+    let mut text = String::new(alloc);
+    for n in 0..lines {
+        text.push_str(format!(in alloc; "{n:040x}\n")?.as_str())?;
+    }
+    Ok(text)
+}
+
+// Lists that are longer than what is read at once: a source is read in chunks of 65536 bytes, which
+// are 1598 lines of 41 bytes and a part of one.
+#[test]
+fn finds_across_parts(rt: HostRuntime) {
+    let mut list = numbers(rt.alloc(), 4000).expect(&rt, "no memory for a list");
+    for (prefix, count) in [
+        ("0000000000000000000000000000000000000", 4000),
+        ("00000000000000000000000000000000000006", 256),
+    ] {
+        let mut input = FromSlice::new(list.as_bytes());
+        let mut out = Plain::new(Vec::new(rt.alloc()));
+        let found = find_in_from(rt.alloc(), Kind::Sha1, prefix, &mut input, &mut out);
+        expect!(&rt; matches!(found, Ok(n) if n == count), prefix);
+        expect!(&rt; out.into_inner().len() == count * 41, prefix);
+    }
+    for id in [TREE, BLOB, TREE] {
+        list.push_str(id).expect(&rt, "no memory for a list");
+    }
+    for (by, outcome) in [
+        (By::In(Kind::Sha1), "Err(NotRising { line: 4003 })"),
+        (By::Hex, "Err(Unsorted { line: 4003 })"),
+    ] {
+        let whole = (usize::MAX, Fault::Never);
+        expect_from(&rt, by, "4b82", list.as_bytes(), whole, (outcome, NO_MATCH));
     }
 }

@@ -3,13 +3,14 @@
 use super::asking::course_of;
 use super::watched::{Course, Watch, Watched};
 use crate::expecting::{expect_bytes, expect_shown};
-use gix_hash::{Kind, digest_of};
+use gix_hash::{Kind, ObjectId};
 use linked_list_allocator::LocalHeap;
 use packtool_commands::{FileError, Pairing, show, write_ending, write_pairing, write_place};
 use std::alloc::{AllocError, Global};
 use std::process::Abort;
 use std::test::Fail;
 use streams::{Ending, FromSlice, IntoSlice, Plain};
+use test_devices::ids::pack_index;
 use test_devices::{Fault, Reader, Writer};
 
 const KIND: Kind = Kind::Sha1;
@@ -22,53 +23,42 @@ const WRITTEN: usize = 7;
 // How often `show` reads the index of one name, which has 1100 bytes, and writes its line.
 const READS: usize = 12;
 
-const WRITES: usize = 8;
+const WRITES: usize = 9;
 
 // What `show` prints of the index.
-const LINE: &[u8] = b"12 4b825dc642cb6eb9a060e54bf8d69288fbee4904 (00000000)\n";
+const LINE: &[u8] = b"3072 4b825dc642cb6eb9a060e54bf8d69288fbee4904 (00000000)\n";
 
-// The index of a pack that has the empty tree at its byte 12. The pack's digest and the CRC are
-// zeros.
+// The index of a pack that has the empty tree at its byte 3072.
 fn index_of_one(alloc: Global) -> Result<Vec<u8>, AllocError> {
-    let tree = KIND.empty_tree();
-    let mut bytes = Vec::new(alloc);
-    bytes.extend_from_slice(b"\xfftOc\0\0\0\x02")?;
-    for byte in 0..256usize {
-        bytes.extend_from_slice(&[0, 0, 0, u8::from(byte >= 0x4b)])?;
-    }
-    bytes.extend_from_slice(tree.as_slice())?;
-    bytes.extend_from_slice(&[0, 0, 0, 0, 0, 0, 0, 12])?;
-    bytes.extend_from_slice(&[0; 20])?;
-    let digest = digest_of(KIND, &bytes);
-    bytes.extend_from_slice(digest.as_slice())?;
-    Ok(bytes)
+    pack_index(alloc, KIND, &[KIND.empty_tree()], &[])
 }
 
 // Shows the index over devices with these faults, and compares how they fared.
-fn expect_course(rt: &(impl Abort + AllocGlobal), read: Fault, writer: Writer, want: Course) {
+fn expect_course(
+    rt: &(impl Abort + AllocGlobal),
+    read: Fault,
+    (chunk, write): (usize, Fault),
+    want: Course,
+) {
     let index = index_of_one(rt.alloc()).expect(rt, "no memory for an index");
     let watch = Watch::new();
     let mut input = Plain::new(Watched::new(Reader::new(&index, READ, read), &watch));
-    let mut out = Plain::new(Watched::new(writer, &watch));
+    let mut out = Plain::new(Watched::new(Writer::new(rt.alloc(), chunk, write), &watch));
     let outcome = show(rt.alloc(), None, &mut input, &mut out);
-    expect!(rt; watch.course() == want, &want);
-    expect!(rt; outcome.is_ok() == (want == Course::Fine), &want);
+    expect!(rt; watch.course() == want, want);
+    expect!(rt; outcome.is_ok() == (want == Course::Fine), want);
 }
 
 #[test]
 fn stops_at_a_failure(rt: HostRuntime) {
-    let bytes = || Vec::new(rt.alloc());
     let never = Fault::Never;
     for n in 1..=13 {
         for fault in [Fault::AtCall(n), Fault::InterruptedAt(n)] {
-            let writer = Writer::new(bytes(), WRITTEN, never);
-            expect_course(&rt, fault, writer, course_of(n, READS));
-            let writer = Writer::new(bytes(), WRITTEN, fault);
-            expect_course(&rt, never, writer, course_of(n, WRITES));
+            expect_course(&rt, fault, (WRITTEN, never), course_of(n, READS));
+            expect_course(&rt, never, (WRITTEN, fault), course_of(n, WRITES));
         }
     }
-    let writer = Writer::new(bytes(), 0, never);
-    expect_course(&rt, never, writer, Course::Failed);
+    expect_course(&rt, never, (0, never), Course::Failed);
 }
 
 // With ample memory more than a mebibyte is read.
@@ -101,10 +91,10 @@ fn reports_too_little_memory(rt: HostRuntime) -> Result<(), Fail> {
             expect!(&rt; failed_at > 1);
             return Ok(());
         }
-        expect!(&rt; matches!(outcome, Err(FileError::Memory)), &units);
+        expect!(&rt; matches!(outcome, Err(FileError::Memory)), units);
         expect_bytes(&rt, out.written(), b"", &units);
         // All is given back.
-        expect!(&rt; heap.used() == 0, &units);
+        expect!(&rt; heap.used() == 0, units);
         failed_at = units;
     }
     Err(Fail::new("no run had enough memory"))
@@ -124,7 +114,7 @@ fn expect_line(rt: &impl Abort, line: Line, want: &str) {
     for room in 0..=want.len() {
         let mut buf = [0; 240];
         let Some(buf) = buf.get_mut(..room) else {
-            return expect!(rt; false, &room);
+            return expect!(rt; false, room);
         };
         let mut out = IntoSlice::new(buf);
         let written = match line {
@@ -132,61 +122,60 @@ fn expect_line(rt: &impl Abort, line: Line, want: &str) {
             Line::Pairing(pairing) => write_pairing("a.idx", &pairing, &mut out),
             Line::Place(offset) => write_place(&id, "a b.pack", offset, &mut out),
         };
-        expect!(rt; written.is_ok() == (room == want.len()), &room);
+        expect!(rt; written.is_ok() == (room == want.len()), room);
         let taken = want.as_bytes().get(..room).unwrap_or(b"");
         expect_bytes(rt, out.written(), taken, &room);
     }
 }
 
+fn ended(digest: ObjectId, last: Option<ObjectId>) -> Line {
+    Line::Ending(Ending::Unsealed { digest, last })
+}
+
+fn paired(named: ObjectId, found: Option<ObjectId>) -> Line {
+    Line::Pairing(Pairing::Other { named, found })
+}
+
 #[test]
 fn writes_lines_of_files(rt: HostRuntime) {
-    let (digest, id) = (KIND.empty_tree(), KIND.empty_blob());
+    let (tree, blob) = (KIND.empty_tree(), KIND.empty_blob());
     let long = Kind::Sha256.empty_blob();
-    expect_line(&rt, Line::Ending(Ending::Sealed(digest)), "a.idx: OK\n");
-    let last = None;
-    expect_line(
-        &rt,
-        Line::Ending(Ending::Unsealed { digest, last }),
-        "a.idx: FAILED: it is shorter than a digest\n",
-    );
-    let last = Some(id);
-    expect_line(
-        &rt,
-        Line::Ending(Ending::Unsealed { digest, last }),
-        "a.idx: FAILED: it ends in e69de29bb2d1d6434b8b29ae775ad8c2e48c5391, and the digest of the rest is 4b825dc642cb6eb9a060e54bf8d69288fbee4904\n",
-    );
-    let last = Some(long);
-    expect_line(
-        &rt,
-        Line::Ending(Ending::Unsealed { digest: long, last }),
-        "a.idx: FAILED: it ends in 473a0f4c3be8a93681a267e3b1e9a7dcda1185436fe141f7749120a303721813, and the digest of the rest is 473a0f4c3be8a93681a267e3b1e9a7dcda1185436fe141f7749120a303721813\n",
-    );
-    expect_line(&rt, Line::Pairing(Pairing::Same), "a.idx: OK\n");
-    expect_line(
-        &rt,
-        Line::Pairing(Pairing::Unnamed),
-        "a.idx: FAILED: it is shorter than two digests\n",
-    );
-    let (named, found) = (digest, None);
-    expect_line(
-        &rt,
-        Line::Pairing(Pairing::Other { named, found }),
-        "a.idx: FAILED: its pack ends in 4b825dc642cb6eb9a060e54bf8d69288fbee4904, and the pack beside it is shorter than a digest\n",
-    );
-    let (named, found) = (long, Some(long));
-    expect_line(
-        &rt,
-        Line::Pairing(Pairing::Other { named, found }),
-        "a.idx: FAILED: its pack ends in 473a0f4c3be8a93681a267e3b1e9a7dcda1185436fe141f7749120a303721813, and the pack beside it ends in 473a0f4c3be8a93681a267e3b1e9a7dcda1185436fe141f7749120a303721813\n",
-    );
-    expect_line(
-        &rt,
-        Line::Place(None),
-        "4b825dc642cb6eb9a060e54bf8d69288fbee4904 a b.pack\n",
-    );
-    expect_line(
-        &rt,
-        Line::Place(Some(u64::MAX)),
-        "4b825dc642cb6eb9a060e54bf8d69288fbee4904 a b.pack 18446744073709551615\n",
-    );
+    for (line, want) in [
+        (Line::Ending(Ending::Sealed(tree)), "a.idx: OK\n"),
+        (
+            ended(tree, None),
+            "a.idx: FAILED: it is shorter than a digest\n",
+        ),
+        (
+            ended(tree, Some(blob)),
+            "a.idx: FAILED: it ends in e69de29bb2d1d6434b8b29ae775ad8c2e48c5391, and the digest of the rest is 4b825dc642cb6eb9a060e54bf8d69288fbee4904\n",
+        ),
+        (
+            ended(long, Some(long)),
+            "a.idx: FAILED: it ends in 473a0f4c3be8a93681a267e3b1e9a7dcda1185436fe141f7749120a303721813, and the digest of the rest is 473a0f4c3be8a93681a267e3b1e9a7dcda1185436fe141f7749120a303721813\n",
+        ),
+        (Line::Pairing(Pairing::Same), "a.idx: OK\n"),
+        (
+            Line::Pairing(Pairing::Unnamed),
+            "a.idx: FAILED: it is shorter than two digests\n",
+        ),
+        (
+            paired(tree, None),
+            "a.idx: FAILED: its pack ends in 4b825dc642cb6eb9a060e54bf8d69288fbee4904, and the pack beside it is shorter than a digest\n",
+        ),
+        (
+            paired(long, Some(long)),
+            "a.idx: FAILED: its pack ends in 473a0f4c3be8a93681a267e3b1e9a7dcda1185436fe141f7749120a303721813, and the pack beside it ends in 473a0f4c3be8a93681a267e3b1e9a7dcda1185436fe141f7749120a303721813\n",
+        ),
+        (
+            Line::Place(None),
+            "4b825dc642cb6eb9a060e54bf8d69288fbee4904 a b.pack\n",
+        ),
+        (
+            Line::Place(Some(u64::MAX)),
+            "4b825dc642cb6eb9a060e54bf8d69288fbee4904 a b.pack 18446744073709551615\n",
+        ),
+    ] {
+        expect_line(&rt, line, want);
+    }
 }

@@ -37,13 +37,15 @@ fn runs_commands(rt: HostRuntime) {
     let list = text_of(&rt, &WELL_KNOWN);
     let list = list.as_bytes();
     let no_hex = "Err(Find(Prefix(Invalid)))";
-    let find = |prefix| Command::Find { prefix };
-    let find_change = |letters| Command::FindChange { letters };
     for (command, outcome, written) in [
-        (find("4b82"), "Ok(1)", TREE),
-        (find("ltqm"), no_hex, NO_MATCH),
-        (find_change("ltqm"), "Ok(1)", BLOB_LETTERS),
-        (find_change("4b82"), no_hex, NO_MATCH),
+        (Command::Find { prefix: "4b82" }, "Ok(1)", TREE),
+        (Command::Find { prefix: "ltqm" }, no_hex, NO_MATCH),
+        (
+            Command::FindChange { letters: "ltqm" },
+            "Ok(1)",
+            BLOB_LETTERS,
+        ),
+        (Command::FindChange { letters: "4b82" }, no_hex, NO_MATCH),
     ] {
         for chunk in [1, 41, 1000] {
             let reader = (chunk, Fault::Never);
@@ -82,19 +84,20 @@ pub fn expect_flushed(
     rt: &(impl Abort + Files + AllocGlobal),
     command: Command<'_>,
     text: &[u8],
-    writer: Writer,
+    (chunk, fault): (usize, Fault),
     outcome: &str,
     taken: &[u8],
     flushes: usize,
 ) {
     let mut input = FromSlice::new(text);
+    let writer = Writer::new(rt.alloc(), chunk, fault);
     let buffered = BufWriter::new(rt.alloc(), writer).expect(rt, "no memory for a buffer");
     let mut out = Plain::new(buffered);
     let ended = run_command(rt, rt.alloc(), command, &mut input, &mut out);
     let row = (command, outcome, flushes);
     let (writer, _) = out.into_inner().into_parts();
     expect_bytes(rt, &writer.bytes, taken, &row);
-    expect!(rt; writer.flushes == flushes, &row);
+    expect!(rt; writer.flushes == flushes, row);
     expect_shown(rt, ended, outcome, &row);
 }
 
@@ -112,12 +115,11 @@ fn flushes_at_the_end(rt: HostRuntime) {
             (0, Fault::Never, output, b"", 0),
             (1000, Fault::AtCall(1), output, b"", 0),
             (4, Fault::AfterBytes(10), output, &line[..10], 0),
+            (1000, Fault::AtFlush, output, line, 1),
         ] {
-            let writer = Writer::new(Vec::new(rt.alloc()), chunk, fault);
+            let writer = (chunk, fault);
             expect_flushed(&rt, command, list, writer, outcome, taken, flushes);
         }
-        let failing = Writer::failing_at_flush(Vec::new(rt.alloc()));
-        expect_flushed(&rt, command, list, failing, output, line, 1);
     }
 }
 
@@ -138,7 +140,7 @@ fn least_heap(
             return Ok(units);
         }
         // All is given back.
-        expect!(rt; heap.used() == 0, &units);
+        expect!(rt; heap.used() == 0, units);
     }
     Err(Fail::new("no run had enough memory"))
 }
@@ -147,7 +149,7 @@ fn least_heap(
 fn reports_too_little_memory(rt: HostRuntime) -> Result<(), Fail> {
     for search in SEARCHES {
         // The list text needs memory.
-        expect!(&rt; least_heap(&rt, search)? > 0, &search);
+        expect!(&rt; least_heap(&rt, search)? > 0, search);
     }
     Ok(())
 }

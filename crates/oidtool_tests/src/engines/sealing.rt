@@ -74,7 +74,7 @@ fn expect_digest(rt: &impl Abort, kind: Kind, message: &[u8], line: &str) {
     let mut buf = [0; 80];
     let mut hashed = IntoSlice::new(&mut buf);
     let outcome = hash_all(&mut FromSlice::new(message), &mut hashed, kind);
-    expect!(rt; outcome.is_ok(), &line);
+    expect!(rt; outcome.is_ok(), line);
     expect_bytes(rt, hashed.written(), line.as_bytes(), &line);
 }
 
@@ -82,9 +82,9 @@ fn expect_digest(rt: &impl Abort, kind: Kind, message: &[u8], line: &str) {
 fn expect_sealed(rt: &(impl Abort + AllocGlobal), kind: Kind, message: &[u8], line: &str) {
     let mut out = Plain::new(Vec::new(rt.alloc()));
     let outcome = seal(&mut FromSlice::new(message), &mut out, kind);
-    expect!(rt; outcome.is_ok(), &line);
+    expect!(rt; outcome.is_ok(), line);
     let whole = sealed(rt, message, line);
-    expect!(rt; out.into_inner() == whole, &line);
+    expect!(rt; out.into_inner() == whole, line);
 }
 
 #[test]
@@ -123,14 +123,14 @@ fn seals_verifiably(rt: HostRuntime) -> Result<(), Fail> {
         seal(&mut FromSlice::new(b"abc"), &mut out, kind)?;
         let mut sealed = Vec::new(rt.alloc());
         sealed.extend_from_slice(out.written())?;
-        expect!(&rt; verified(&sealed, kind)?.is_ok(), &abc);
+        expect!(&rt; verified(&sealed, kind)?.is_ok(), abc);
         assert!(&rt; !sealed.is_empty());
         sealed[0] = b'b';
         match verified(&sealed, kind)? {
             Ok(()) => return Err(Fail::new("another message is verified")),
             Err(verify::Error { actual, expected }) => {
-                expect!(&rt; actual.eq_str(bbc.trim_end()), &bbc);
-                expect!(&rt; expected.eq_str(abc.trim_end()), &abc);
+                expect!(&rt; actual.eq_str(bbc.trim_end()), bbc);
+                expect!(&rt; expected.eq_str(abc.trim_end()), abc);
             }
         }
     }
@@ -155,14 +155,14 @@ fn expect_run(rt: &(impl Abort + AllocGlobal), run: &Run<'_>) {
     let (chunk, fault) = run.read;
     let mut input = Plain::new(Reader::new(b"abc", chunk, fault));
     let (chunk, fault) = run.write;
-    let mut out = Plain::new(Writer::new(Vec::new(rt.alloc()), chunk, fault));
+    let mut out = Plain::new(Writer::new(rt.alloc(), chunk, fault));
     let outcome = run.pipe.run(&mut input, &mut out, Kind::Sha1);
     let row = (run.pipe, run.calls);
-    expect!(rt; outcome == run.outcome, &row);
+    expect!(rt; outcome == run.outcome, row);
     let (reads, writes) = run.calls;
-    expect!(rt; input.into_inner().calls == reads, &row);
+    expect!(rt; input.into_inner().calls == reads, row);
     let writer = out.into_inner();
-    expect!(rt; writer.calls == writes, &row);
+    expect!(rt; writer.calls == writes, row);
     expect_bytes(rt, &writer.bytes, run.taken, &row);
 }
 

@@ -54,12 +54,12 @@ struct Searched<'a> {
 fn expect_taken(
     rt: &(impl Abort + AllocGlobal),
     searched: &Searched<'_>,
-    writer: Writer,
+    (chunk, fault): (usize, Fault),
     want: &str,
     len: usize,
     calls: usize,
 ) {
-    let mut out = Plain::new(writer);
+    let mut out = Plain::new(Writer::new(rt.alloc(), chunk, fault));
     let found = run(rt, searched.search, rt.alloc(), searched.list, &mut out);
     let row = (searched.search, len, calls);
     expect_text(rt, found.as_str(), want, &row);
@@ -70,7 +70,7 @@ fn expect_taken(
         searched.lines.get(..len).unwrap_or(b""),
         &row,
     );
-    expect!(rt; (writer.calls, writer.flushes) == (calls, 0), &row);
+    expect!(rt; (writer.calls, writer.flushes) == (calls, 0), row);
 }
 
 // The line that a search writes after its first, if the list has the next id too.
@@ -83,15 +83,13 @@ fn next_line(by: By) -> &'static str {
 
 // Writers that fail at each call and after each byte, of two lines of 41 bytes.
 fn expect_each_failed(rt: &(impl Abort + AllocGlobal), searched: &Searched<'_>) {
-    let bytes = || Vec::new(rt.alloc());
     for n in 1..=82 {
         for fault in [Fault::AtCall(n), Fault::InterruptedAt(n)] {
-            let writer = Writer::new(bytes(), 1, fault);
-            expect_taken(rt, searched, writer, FAILED, n - 1, n);
+            expect_taken(rt, searched, (1, fault), FAILED, n - 1, n);
         }
     }
     for most in 0..82 {
-        let writer = Writer::new(bytes(), 7, Fault::AfterBytes(most));
+        let writer = (7, Fault::AfterBytes(most));
         // The calls that take some of each line, and the one that fails.
         let calls = most.min(41).div_ceil(7) + most.saturating_sub(41).div_ceil(7) + 1;
         expect_taken(rt, searched, writer, FAILED, most, calls);
@@ -100,7 +98,6 @@ fn expect_each_failed(rt: &(impl Abort + AllocGlobal), searched: &Searched<'_>) 
 
 #[test]
 fn report_each_write_that_fails(rt: HostRuntime) {
-    let bytes = || Vec::new(rt.alloc());
     let (found, whole) = ("Ok(2)", usize::MAX);
     let list = text_of(&rt, &[TREE, NEXT_TREE, BLOB, NEXT_BLOB]);
     for search in SEARCHES {
@@ -112,8 +109,6 @@ fn report_each_write_that_fails(rt: HostRuntime) {
             lines: lines.as_bytes(),
         };
         expect_each_failed(&rt, &searched);
-        let flushing = Writer::failing_at_flush(bytes());
-        expect_taken(&rt, &searched, flushing, found, 82, 2);
         // Those that take a byte a call, none, all after their error, and as much as there is room.
         for (chunk, fault, outcome, len, calls) in [
             (1, Fault::Never, found, 82, 82),
@@ -125,9 +120,9 @@ fn report_each_write_that_fails(rt: HostRuntime) {
             (whole, Fault::AfterBytes(40), FAILED, 40, 2),
             (whole, Fault::AfterBytes(41), FAILED, 41, 2),
             (whole, Fault::AfterBytes(82), found, 82, 2),
+            (whole, Fault::AtFlush, found, 82, 2),
         ] {
-            let writer = Writer::new(bytes(), chunk, fault);
-            expect_taken(&rt, &searched, writer, outcome, len, calls);
+            expect_taken(&rt, &searched, (chunk, fault), outcome, len, calls);
         }
     }
 }
@@ -140,8 +135,7 @@ fn write_nothing_if_none_is_found(rt: HostRuntime) {
             list: b"5000000000000000000000000000000000000000\n",
             lines: b"",
         };
-        let writer = Writer::new(Vec::new(rt.alloc()), 0, Fault::AtCall(1));
-        expect_taken(&rt, &searched, writer, "Ok(0)", 0, 0);
+        expect_taken(&rt, &searched, (0, Fault::AtCall(1)), "Ok(0)", 0, 0);
     }
 }
 
@@ -166,9 +160,9 @@ fn granted_within(
             &search,
         );
         // All is given back, and where a list is granted, each shorter one is.
-        expect!(rt; heap.used() == 0, &(search, units));
+        expect!(rt; heap.used() == 0, (search, units));
         if is_granted {
-            expect!(rt; granted == n, &(search, units));
+            expect!(rt; granted == n, (search, units));
             granted = n + 1;
         }
     }
@@ -186,7 +180,7 @@ fn expect_each_failed_growth(rt: &(impl Abort + AllocGlobal), search: Search) ->
         let granted = granted_within(rt, search, &lists, units)?;
         let steps = granted.abs_diff(before);
         // No growth is passed over.
-        expect!(rt; steps <= 1, &(search, units));
+        expect!(rt; steps <= 1, (search, units));
         if granted == 3 {
             return Ok(());
         }

@@ -61,9 +61,9 @@ fn expect_words(rt: &(impl Abort + AllocGlobal), started: &[&'static [u8]]) {
     );
     let mut want = started.iter();
     want.next();
-    expect!(rt; words.len() == want.len(), &started.len());
+    expect!(rt; words.len() == want.len(), started.len());
     for (word, want) in words.iter().zip(want) {
-        expect!(rt; word.as_bytes() == *want, &started.len());
+        expect!(rt; word.as_bytes() == *want, started.len());
     }
 }
 
@@ -80,7 +80,7 @@ fn rejects_words_that_are_no_text(rt: HostRuntime) {
         let mut words: [&'static [u8]; 4] = [b"name", b"find", b"4b82", b""];
         words[at] = b"\xff";
         let outcome = command_line_args(&(Started { words: &words }, rt.alloc()));
-        expect!(&rt; matches!(outcome, Err(WordsError::NotText)), &at);
+        expect!(&rt; matches!(outcome, Err(WordsError::NotText)), at);
     }
 }
 
@@ -130,8 +130,8 @@ fn expect_reported(
         };
         let outcome = count.ok_or(FindError::Unsorted { line: 3 });
         let _status = report(&listener, "", outcome);
-        expect!(rt; listener.times.get() == times, &count);
-        expect!(rt; !listener.is_other.get(), &count);
+        expect!(rt; listener.times.get() == times, count);
+        expect!(rt; !listener.is_other.get(), count);
     }
 }
 
