@@ -1,11 +1,12 @@
 //! A store of two packs and loose objects, whose ids, names and places are known.
 
-use crate::memory::{Memory, Reads, index_of};
+use crate::memory::{Memory, Reads};
 use gix_hash::{Kind, ObjectId};
 use object_store::Place;
 use pack_index::LazyError;
 use std::alloc::Global;
 use std::test::Fail;
+use test_devices::ids::{ids_of, pack_index};
 
 // The ids of each pack, and the loose ones. Some occur twice or three times.
 const FIRST: [&str; 4] = [
@@ -30,15 +31,20 @@ const LOOSE: [&str; 3] = [
     "e69de29bb2d1d6434b8b29ae775ad8c2e48c5391",
 ];
 
-/// Every id of the store, each once, in order, and its shortest name of 4 digits or more.
-pub const NAMED: [(&str, &str); 7] = [
-    ("0000000000000000000000000000000000000000", "0000"),
-    ("4b825d0000000000000000000000000000000000", "4b825d0"),
-    ("4b825dc642cb6eb9a060e54bf8d69288fbee4904", "4b825dc"),
-    ("4b90000000000000000000000000000000000000", "4b90"),
-    ("e69de29bb2d1d6434b8b29ae775ad8c2e48c5391", "e69de29b"),
-    ("e69de29c00000000000000000000000000000000", "e69de29c"),
-    ("ffffffffffffffffffffffffffffffffffffffff", "ffff"),
+/// Every id of the store, each once, in order.
+pub const ALL: [&str; 7] = [
+    "0000000000000000000000000000000000000000",
+    "4b825d0000000000000000000000000000000000",
+    "4b825dc642cb6eb9a060e54bf8d69288fbee4904",
+    "4b90000000000000000000000000000000000000",
+    "e69de29bb2d1d6434b8b29ae775ad8c2e48c5391",
+    "e69de29c00000000000000000000000000000000",
+    "ffffffffffffffffffffffffffffffffffffffff",
+];
+
+/// Their shortest names of 4 digits or more.
+pub const NAMES: [&str; 7] = [
+    "0000", "4b825d0", "4b825dc", "4b90", "e69de29b", "e69de29c", "ffff",
 ];
 
 /// An id that is in both packs and loose.
@@ -69,8 +75,8 @@ impl Content {
     pub fn new(rt: &impl AllocGlobal) -> Result<Content, Fail> {
         let (first, second) = (ids_of(rt, &FIRST)?, ids_of(rt, &SECOND)?);
         Ok(Content {
-            first: index_of(rt.alloc(), Kind::Sha1, &first, &[])?,
-            second: index_of(rt.alloc(), Kind::Sha1, &second, &LONGS)?,
+            first: pack_index(rt.alloc(), Kind::Sha1, &first, &[])?,
+            second: pack_index(rt.alloc(), Kind::Sha1, &second, &LONGS)?,
             loose: ids_of(rt, &LOOSE)?,
         })
     }
@@ -83,12 +89,4 @@ impl Content {
         } = self;
         Memory::open(alloc, Kind::Sha1, first, second, loose, reads)
     }
-}
-
-fn ids_of(rt: &impl AllocGlobal, texts: &[&str]) -> Result<Vec<ObjectId>, Fail> {
-    let mut ids = Vec::new(rt.alloc());
-    for text in texts {
-        ids.push(ObjectId::from_hex(text.as_bytes())?)?;
-    }
-    Ok(ids)
 }

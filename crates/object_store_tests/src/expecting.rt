@@ -4,12 +4,8 @@ use std::fmt::{Debug, Display};
 use std::process::Abort;
 use std::test::Fail;
 
-pub fn expect(rt: &impl Abort, holds: bool, condition: &str) {
-    assert!(rt; holds, "assertion failed: {condition}");
-}
-
-/// As `expect`, of a row of a table.
-pub fn expect_of<T: Debug>(rt: &impl Abort, holds: bool, condition: &str, row: &T) {
+/// The condition holds, for the row of a table, or for `()`.
+pub fn expect<T: Debug>(rt: &impl Abort, holds: bool, condition: &str, row: &T) {
     assert!(rt; holds, "assertion failed for {row:?}: {condition}");
 }
 

@@ -1,14 +1,11 @@
-//! Tests of look-ups in whole object stores, and of pack indexes and packs: in memory, where reads
-//! and memory fail in turn.
+//! Tests of object stores, in memory, where reads and memory fail in turn, and in folders, and of what
+//! is around them: pack indexes, packs, and files and ids of repositories that Git made; and a caller.
 #![tactic(auto)]
 
 // As `assert!`, by a single call, and with the row of a table that it is about, where one is given.
 macro_rules! expect {
-    ($rt:expr; $condition:expr) => {
-        $crate::expecting::expect($rt, $condition, stringify!($condition))
-    };
-    ($rt:expr; $condition:expr, $row:expr) => {
-        $crate::expecting::expect_of($rt, $condition, stringify!($condition), $row)
+    ($rt:expr; $condition:expr $(, $row:expr)?) => {
+        $crate::expecting::expect($rt, $condition, stringify!($condition), &($($row)?))
     };
 }
 
@@ -17,6 +14,12 @@ mod content;
 #[cfg(test)]
 mod expecting;
 #[cfg(test)]
+mod files;
+#[cfg(test)]
+mod folders;
+#[cfg(test)]
+mod ids;
+#[cfg(test)]
 mod look_ups;
 #[cfg(test)]
 mod memory;
@@ -24,3 +27,6 @@ mod memory;
 mod pairing;
 #[cfg(test)]
 mod printing;
+pub mod resolving;
+#[cfg(test)]
+mod texts;

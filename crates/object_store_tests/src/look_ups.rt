@@ -1,6 +1,6 @@
 //! Look-ups of ids, their names and their places.
 
-use crate::content::{Content, EVERYWHERE, NAMED, PLACES};
+use crate::content::{ALL, Content, EVERYWHERE, NAMES, PLACES};
 use crate::expecting::{expect_text, text_of};
 use crate::memory::{Memory, Reads};
 use gix_hash::{ObjectId, Prefix};
@@ -10,8 +10,8 @@ use std::alloc::Allocator;
 use std::process::Abort;
 use std::test::Fail;
 
-// The ids of the store that begin with the prefix.
-fn find<S: Store, A: Allocator + Copy>(
+/// The ids of the store that begin with the prefix.
+pub fn find<S: Store, A: Allocator + Copy>(
     rt: &impl Abort,
     alloc: A,
     store: &S,
@@ -23,9 +23,9 @@ fn find<S: Store, A: Allocator + Copy>(
     lookup_prefix(alloc, store, &prefix)
 }
 
-fn expect_ids(rt: &impl Abort, found: &[ObjectId], want: &[(&str, &str)]) {
+pub fn expect_ids(rt: &impl Abort, found: &[ObjectId], want: &[&str]) {
     expect!(rt; found.len() == want.len());
-    for (id, (text, _)) in found.iter().zip(want) {
+    for (id, text) in found.iter().zip(want) {
         expect!(rt; id.eq_str(text), text);
     }
 }
@@ -65,10 +65,14 @@ fn prefixes_are_found_once_and_in_order(rt: HostRuntime) -> Result<(), Fail> {
     let store = content.open(rt.alloc(), &reads)?;
     for (prefix, start, len) in PREFIXES {
         let found = find(&rt, rt.alloc(), &store, prefix)?;
-        assert!(rt; start + len <= NAMED.len());
-        expect_ids(&rt, &found, &NAMED[start..start + len]);
+        assert!(rt; start + len <= ALL.len());
+        expect_ids(&rt, &found, &ALL[start..start + len]);
     }
     Ok(())
+}
+
+fn packed(pack: usize, offset: u64) -> Place {
+    Place::Packed { pack, offset }
 }
 
 #[test]
@@ -76,7 +80,6 @@ fn places_are_those_of_all_packs(rt: HostRuntime) -> Result<(), Fail> {
     let content = Content::new(&rt)?;
     let reads = Reads::new(1000);
     let store = content.open(rt.alloc(), &reads)?;
-    let packed = |pack, offset| Place::Packed { pack, offset };
     let cases: [(&str, &[Place]); 7] = [
         (EVERYWHERE, &PLACES),
         (
@@ -131,8 +134,8 @@ fn names_are_shortest_in_the_whole_store(rt: HostRuntime) -> Result<(), Fail> {
     let reads = Reads::new(10_000);
     let store = content.open(rt.alloc(), &reads)?;
     let all = all_names(&rt, &store)?;
-    expect!(&rt; all.len() == NAMED.len());
-    for (named, (id, name)) in all.iter().zip(&NAMED) {
+    expect!(&rt; all.len() == ALL.len());
+    for ((named, id), name) in all.iter().zip(&ALL).zip(&NAMES) {
         expect!(&rt; named.id.eq_str(id) && named.name.eq_str(name), id);
         let one = name_of(&rt, &store, &named.id)?;
         expect!(&rt; one.is_some_and(|one| one.eq_str(name)), id);
@@ -157,7 +160,7 @@ fn look_up<S: Store, A: Allocator + Copy>(
     asked: Asked,
 ) -> Result<(), Error> {
     match asked {
-        Asked::Ids => expect_ids(rt, &find(rt, alloc, store, "4b")?, &NAMED[1..4]),
+        Asked::Ids => expect_ids(rt, &find(rt, alloc, store, "4b")?, &ALL[1..4]),
         Asked::Places => expect_places(rt, &places_of(rt, alloc, store, EVERYWHERE)?, &PLACES),
     }
     Ok(())
@@ -250,7 +253,7 @@ const DAMAGED: [(usize, u8, &str); 7] = [
     ),
 ];
 
-fn set(bytes: &mut [u8], at: usize, value: u8) {
+pub fn set(bytes: &mut [u8], at: usize, value: u8) {
     if let Some(byte) = bytes.get_mut(at) {
         *byte = value;
     }
@@ -284,12 +287,12 @@ fn is_enough(
 ) -> Result<bool, Fail> {
     let heap = LocalHeap::new(rt.alloc(), units.saturating_mul(16))?;
     let outcome = look_up(rt, &heap, store, asked);
-    expect!(rt; heap.used() == 0, &units);
+    expect!(rt; heap.used() == 0, units);
     let Err(error) = outcome else {
         return Ok(true);
     };
     let text = text_of(rt, error)?;
-    expect!(rt; text.ends_with("out of memory") && !text.contains("read"), &text);
+    expect!(rt; text.ends_with("out of memory") && !text.contains("read"), text);
     Ok(false)
 }
 
@@ -303,7 +306,7 @@ fn memory_is_refused(rt: HostRuntime) -> Result<(), Fail> {
         let mut before = false;
         for units in 0..64 {
             let is_enough = is_enough(&rt, &store, units, asked)?;
-            expect!(&rt; is_enough >= before && !(is_enough && units == 0), &units);
+            expect!(&rt; is_enough >= before && !(is_enough && units == 0), units);
             before = is_enough;
         }
         expect!(&rt; before);

@@ -162,39 +162,3 @@ impl StorePaths for Memory<'_> {
         Ok(paths)
     }
 }
-
-/// The bytes of a pack index of these sorted ids, whose checksums are zeros. The first offsets are
-/// long ones, and each other one is 3072 and the index of its name.
-pub fn index_of(
-    alloc: Global,
-    kind: Kind,
-    ids: &[ObjectId],
-    longs: &[u64],
-) -> Result<Vec<u8>, AllocError> {
-    let mut bytes = Vec::new(alloc);
-    bytes.extend_from_slice(b"\xfftOc\0\0\0\x02")?;
-    for byte in 0..=255 {
-        let count = ids.iter().filter(|id| id.first_byte() <= byte).count();
-        bytes.extend_from_slice(&[0, 0, 0, u8::try_from(count).unwrap_or(0)])?;
-    }
-    for id in ids {
-        bytes.extend_from_slice(id.as_slice())?;
-    }
-    for _ in ids {
-        bytes.extend_from_slice(&[0; 4])?;
-    }
-    for at in 0..ids.len() {
-        let low = u8::try_from(at).unwrap_or(0);
-        let is_long = at < longs.len();
-        bytes.extend_from_slice(&if is_long {
-            [0x80, 0, 0, low]
-        } else {
-            [0, 0, 12, low]
-        })?;
-    }
-    for long in longs {
-        bytes.extend_from_slice(&long.to_be_bytes())?;
-    }
-    bytes.extend_from_slice(&[0; 64][..2 * kind.len_in_bytes()])?;
-    Ok(bytes)
-}

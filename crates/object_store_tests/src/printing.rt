@@ -94,7 +94,7 @@ fn expect_written(
     let outcome = run(rt, asked, &store, &mut out);
     let taken = out.written();
     let is_right = is_right(&outcome, text, taken.len(), left, room);
-    expect!(rt; is_right && text.as_bytes().starts_with(taken), &(left, room));
+    expect!(rt; is_right && text.as_bytes().starts_with(taken), (left, room));
     Ok(())
 }
 

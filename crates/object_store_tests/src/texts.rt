@@ -38,10 +38,10 @@ const ALTERNATES: [(&str, &[&str]); 12] = [
 fn lists_of_alternates(rt: HostRuntime) -> Result<(), Fail> {
     for (text, want) in ALTERNATES {
         let lines = alternate_lines(rt.alloc(), text)?;
-        assert!(rt; lines.len() == want.len(), "{text}: {lines:?}");
+        expect!(&rt; lines.len() == want.len(), text);
         for (line, want) in lines.iter().zip(want) {
             let path = alternate_path(rt.alloc(), line)?;
-            assert!(rt; path.as_slice() == want.as_bytes(), "{line}: {path:?}");
+            expect!(&rt; path.as_slice() == want.as_bytes(), line);
         }
     }
     Ok(())
@@ -71,7 +71,7 @@ const CONFIGS: [(&str, Result<Kind, &str>); 8] = [
 #[test]
 fn kinds_in_configs(rt: HostRuntime) -> Result<(), Fail> {
     for (text, want) in CONFIGS {
-        assert!(rt; kind_in_config(text) == want, "{text}");
+        expect!(&rt; kind_in_config(text) == want, text);
     }
     Ok(())
 }

@@ -9,6 +9,7 @@ use ref_store::sorting::sort_into_index;
 use std::collections::{BTreeMap, HashSet};
 use std::process::Abort;
 use std::test::Fail;
+use test_devices::ids::ids_of;
 
 #[test]
 fn printed(rt: HostRuntime) -> Result<(), Fail> {
@@ -50,18 +51,10 @@ fn expect_resolved(rt: &impl Abort, index: &IdIndex<'_>) {
     }
 }
 
-fn objects(rt: &impl AllocGlobal) -> Result<Vec<ObjectId>, Fail> {
-    let mut ids = Vec::new(rt.alloc());
-    for text in OBJECTS {
-        ids.push(ObjectId::from_hex(text.as_bytes())?)?;
-    }
-    Ok(ids)
-}
-
 // The short name is by `git rev-parse --short=4`.
 #[test]
 fn typed_names(rt: HostRuntime) -> Result<(), Fail> {
-    let mut ids = objects(&rt)?;
+    let mut ids = ids_of(&rt, &OBJECTS)?;
     let index = sort_into_index(&mut ids, Kind::Sha1)?;
     expect_resolved(&rt, &index);
     let mut out = Vec::new(rt.alloc());
@@ -75,7 +68,7 @@ fn typed_names(rt: HostRuntime) -> Result<(), Fail> {
 // An id of SHA-256 comes last, though by its digits it is between the others.
 #[test]
 fn of_another_kind(rt: HostRuntime) -> Result<(), Fail> {
-    let mut ids = objects(&rt)?;
+    let mut ids = ids_of(&rt, &OBJECTS)?;
     ids.push(ObjectId::Sha256([0x90; 32]))?;
     let refused = sort_into_index(&mut ids, Kind::Sha1);
     expect!(&rt; matches!(refused, Err(IndexError::WrongKind { at: 11 })));
