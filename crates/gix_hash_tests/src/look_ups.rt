@@ -1,5 +1,6 @@
 //! Runs in lists of the well-known ids and in a list of a thousand ids.
 
+use crate::expecting::expect;
 use crate::types::{BLOB, BLOB_256, TREE, TREE_256, expect_text, id};
 use gix_hash::{Kind, ObjectId, Prefix};
 use id_lookup::{Probes, Run, SortedIds, lookup};

@@ -14,6 +14,7 @@ mod opening;
 mod prefixes;
 mod streams;
 
+use crate::expecting::expect;
 use gix_hash::ObjectId;
 use std::alloc::AllocError;
 use std::cmp::Ordering;

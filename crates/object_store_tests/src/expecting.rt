@@ -3,6 +3,7 @@
 use std::fmt::{Debug, Display};
 use std::process::Abort;
 use std::test::Fail;
+pub use test_devices::expect;
 
 /// The condition holds, for the row of a table, or for `()`.
 pub fn expect<T: Debug>(rt: &impl Abort, holds: bool, condition: &str, row: &T) {

@@ -1,5 +1,6 @@
 //! Paths of loose objects, files of references, and commits, of repositories that Git made.
 
+use crate::expecting::expect;
 use gix_hash::Kind;
 use ref_store::commits::read_head;
 use ref_store::paths::{read_loose_path, write_loose_path};

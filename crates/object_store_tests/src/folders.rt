@@ -1,6 +1,6 @@
 //! Stores in folders, which are made where the tests run: looked up in, and found.
 
-use crate::expecting::{expect_text, text_of};
+use crate::expecting::{expect, expect_text, text_of};
 use crate::look_ups::{expect_ids, find, set};
 use crate::resolving::resolve;
 use gix_hash::{Kind, ObjectId};

@@ -1,5 +1,6 @@
 //! Ids that are printed, found by typed names, kept in sets and maps, and sorted.
 
+use crate::expecting::expect;
 use gix_hash::{Kind, ObjectId};
 use id_lookup::{IdIndex, IndexError};
 use ref_store::checking::{pack_name, write_line};

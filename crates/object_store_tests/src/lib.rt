@@ -2,13 +2,6 @@
 //! is around them: pack indexes, packs, and files and ids of repositories that Git made; and a caller.
 #![tactic(auto)]
 
-// As `assert!`, by a single call, and with the row of a table that it is about, where one is given.
-macro_rules! expect {
-    ($rt:expr; $condition:expr $(, $row:expr)?) => {
-        $crate::expecting::expect($rt, $condition, stringify!($condition), &($($row)?))
-    };
-}
-
 #[cfg(test)]
 mod content;
 #[cfg(test)]

@@ -1,7 +1,7 @@
 //! Look-ups of ids, their names and their places.
 
 use crate::content::{ALL, Content, EVERYWHERE, NAMES, PLACES};
-use crate::expecting::{expect_text, text_of};
+use crate::expecting::{expect, expect_text, text_of};
 use crate::memory::{Memory, Reads};
 use gix_hash::{ObjectId, Prefix};
 use linked_list_allocator::LocalHeap;

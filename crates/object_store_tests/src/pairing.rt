@@ -1,5 +1,6 @@
 //! Pack indexes and packs, whose reads fail in turn.
 
+use crate::expecting::expect;
 use crate::memory::{Counted, Reads};
 use gix_hash::{Kind, ObjectId};
 use packtool_commands::{Pairing, PairingError, pair};

@@ -1,6 +1,7 @@
 //! What `packtool` prints of a store, where writes and reads fail in turn.
 
 use crate::content::Content;
+use crate::expecting::expect;
 use crate::memory::{Memory, Reads};
 use gix_hash::Prefix;
 use object_store::Store;

@@ -1,5 +1,6 @@
 //! Lists of alternates, and configs.
 
+use crate::expecting::expect;
 use gix_hash::Kind;
 use ref_store::alternates::{alternate_lines, alternate_path};
 use ref_store::config::kind_in_config;

@@ -12,7 +12,7 @@ mod searches;
 mod starting;
 mod watched;
 
-use crate::expecting::{expect_bytes, expect_printed};
+use crate::expecting::{expect, expect_bytes, expect_printed};
 use gix_hash::prefix::from_hex;
 use gix_hash::{Kind, decode};
 use oidtool_search::{FindError, FindFromError, FindInError};

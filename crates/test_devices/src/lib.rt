@@ -1,11 +1,20 @@
-//! What tests share: ids, and a reader and a writer whose faults are chosen. These claim nothing of
-//! their bytes.
+//! What tests share: ids, a reader and a writer whose faults are chosen, and `expect!`. The reader
+//! and the writer claim nothing of their bytes.
 #![tactic(auto)]
 
 use std::alloc::Global;
 use std::io;
 
 pub mod ids;
+
+/// As `assert!`, by a single call of `expecting::expect` of the crate that calls it, and with the
+/// row of a table that it is about, where one is given.
+#[macro_export]
+macro_rules! expect {
+    ($rt:expr; $condition:expr $(, $row:expr)?) => {
+        crate::expecting::expect($rt, $condition, stringify!($condition), &($($row)?))
+    };
+}
 
 /// The text of a device's error.
 pub const FAILED: &str = "the device failed";

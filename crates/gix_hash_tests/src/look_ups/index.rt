@@ -1,6 +1,7 @@
 //! Indexes of the well-known ids and of a thousand ids.
 
 use super::thousand;
+use crate::expecting::expect;
 use crate::types::{BLOB, BLOB_256, TREE, TREE_256, expect_text, id};
 use gix_hash::{Kind, ObjectId, Prefix};
 use id_lookup::laws::find_own_name;

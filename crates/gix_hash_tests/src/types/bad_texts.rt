@@ -2,6 +2,7 @@
 //! that are no digits.
 
 use super::{BLOB_256, id, tried};
+use crate::expecting::expect;
 use gix_hash::prefix::from_hex;
 use gix_hash::{ChangeId, Kind, ObjectId, Prefix, decode};
 use std::alloc::{AllocError, Global};

@@ -4,6 +4,7 @@ use super::{
     BLOB, BLOB_256, BLOB_BYTES, BLOB_LETTERS, TREE, converted, expect_below, expect_fed,
     expect_outcome, expect_same, expect_text, id, parsed,
 };
+use crate::expecting::expect;
 use gix_hash::{ChangeId, ObjectId, Prefix};
 use std::process::Abort;
 use std::test::Fail;

@@ -4,6 +4,7 @@ use super::listeners::{Asked, Call, Heard};
 use super::opening::Opening;
 use super::streams::{ABC, ABC_256, EMPTY};
 use super::{expect_kind, expect_outcome};
+use crate::expecting::expect;
 use gix_hash::io::{Never, NoProgress};
 use gix_hash::{Kind, bytes_of_file, io};
 use std::fs;

@@ -1,6 +1,7 @@
 //! What printing and writing do with the options of a format and with a writer that fails.
 
 use super::{BLOB, BLOB_256, expect_kind, expect_text, expect_whole, id};
+use crate::expecting::expect;
 use gix_hash::{Kind, ObjectId, Prefix, oid};
 use std::io::{self, Write};
 use std::process::Abort;

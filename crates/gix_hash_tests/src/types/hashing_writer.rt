@@ -2,6 +2,7 @@
 
 use super::streams::{ABC, EMPTY, THREE_CHUNKS};
 use super::{BLOB, expect_kind, expect_outcome, expect_text};
+use crate::expecting::expect;
 use gix_hash::{Kind, io};
 use std::io::Write;
 use std::process::Abort;

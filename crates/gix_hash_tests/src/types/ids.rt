@@ -4,6 +4,7 @@ use super::{
     BLOB, BLOB_256, BLOB_256_BYTES, BLOB_BYTES, TREE, converted, expect_below, expect_debug,
     expect_error, expect_fed, expect_outcome, expect_same, expect_text, id, parsed, tried,
 };
+use crate::expecting::expect;
 use gix_hash::{Kind, ObjectId, Prefix, decode, oid, verify};
 use std::process::Abort;
 use std::test::Fail;

@@ -1,6 +1,7 @@
 //! Kinds: their names, numbers, lengths and well-known ids.
 
 use super::{BLOB, BLOB_256, TREE, TREE_256, expect_below, expect_same, expect_text, tried};
+use crate::expecting::expect;
 use gix_hash::{Kind, ObjectId};
 use std::process::Abort;
 

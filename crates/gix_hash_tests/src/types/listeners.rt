@@ -2,6 +2,7 @@
 
 ghost use Rattle.std.specs.Prelude.{⊤};
 
+use crate::expecting::expect;
 use gix_hash::io::{Interrupt, Progress};
 use std::process::Abort;
 

@@ -4,6 +4,7 @@ use super::{
     BLOB, BLOB_256, TREE, converted, expect_below, expect_error, expect_fed, expect_outcome,
     expect_same, expect_text, id,
 };
+use crate::expecting::expect;
 use gix_hash::prefix::{self, from_hex};
 use gix_hash::{Kind, Prefix};
 use std::cmp::Ordering;

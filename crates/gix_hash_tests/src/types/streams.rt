@@ -2,6 +2,7 @@
 
 use super::listeners::{Asked, Call, Heard, chunks};
 use super::{BLOB, expect_debug, expect_error, expect_kind, expect_outcome, expect_text, id};
+use crate::expecting::expect;
 use gix_hash::io::{Never, NoProgress};
 use gix_hash::{
     Hasher, Kind, ObjectId, bytes, bytes_with_hasher, digest_of, ends_in_digest, hasher, hashing,

@@ -1,6 +1,7 @@
 //! No device is called after a failure of it or of another.
 
 use super::watched::{Course, Watch, Watched};
+use crate::expecting::expect;
 use gix_hash::Kind;
 use oidtool_commands::{Command, run_command};
 use std::fs;

@@ -2,7 +2,7 @@
 //! fail.
 
 use super::sealing::{ABC, ABC_256, EMPTY, EMPTY_256, sealed};
-use crate::expecting::expect_printed;
+use crate::expecting::{expect, expect_printed};
 use gix_hash::Kind;
 use std::process::Abort;
 use streams::{Ending, PipeError, Plain, Source, check};

@@ -2,7 +2,7 @@
 
 use super::running::{expect_flushed, expect_run};
 use super::sealing::{ABC, sealed};
-use crate::expecting::expect_shown;
+use crate::expecting::{expect, expect_shown};
 use gix_hash::Kind;
 use oidtool_commands::{Command, read_command};
 use std::fs;

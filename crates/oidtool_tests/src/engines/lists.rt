@@ -3,7 +3,7 @@
 
 use super::by::{By, EACH};
 use super::{BLOB, BLOB_256, BLOB_LETTERS, NO_MATCH, TREE, TREE_256, TREE_LETTERS, text_of};
-use crate::expecting::{expect_bytes, expect_text};
+use crate::expecting::{expect, expect_bytes, expect_text};
 use gix_hash::Kind;
 use oidtool_search::find_in_from;
 use std::alloc::{AllocError, Global};

@@ -2,7 +2,7 @@
 
 use super::asking::course_of;
 use super::watched::{Course, Watch, Watched};
-use crate::expecting::{expect_bytes, expect_shown};
+use crate::expecting::{expect, expect_bytes, expect_shown};
 use gix_hash::{Kind, ObjectId};
 use linked_list_allocator::LocalHeap;
 use packtool_commands::{FileError, Pairing, show, write_ending, write_pairing, write_place};

@@ -1,7 +1,7 @@
 //! Commands over readers and writers that give and take odd chunks, or fail.
 
 use super::{BLOB, BLOB_LETTERS, NO_MATCH, TREE, WELL_KNOWN, expect_granted, text_of};
-use crate::expecting::{expect_bytes, expect_shown, shown};
+use crate::expecting::{expect, expect_bytes, expect_shown, shown};
 use gix_hash::Kind;
 use linked_list_allocator::LocalHeap;
 use oidtool_commands::{Command, run_command};

@@ -2,7 +2,7 @@
 
 ghost use Rattle.std.specs.Prelude.{◌≡◌, false};
 
-use crate::expecting::expect_bytes;
+use crate::expecting::{expect, expect_bytes};
 use gix_hash::io::{Never, NoProgress};
 use gix_hash::{Kind, ObjectId, bytes, oid, verify};
 use std::alloc::{AllocError, Global};

@@ -2,7 +2,7 @@
 
 use super::by::{By, SEARCHES, Search, run};
 use super::{BLOB, BLOB_256, TREE, TREE_256, expect_granted, text_of};
-use crate::expecting::{expect_bytes, expect_text};
+use crate::expecting::{expect, expect_bytes, expect_text};
 use linked_list_allocator::LocalHeap;
 use std::alloc::{AllocError, Global};
 use std::process::Abort;

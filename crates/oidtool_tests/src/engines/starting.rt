@@ -1,5 +1,6 @@
 //! The words that a program is started with, and what it reports at its end.
 
+use crate::expecting::expect;
 use command_line::{WordsError, command_line_args, report};
 use oidtool_search::FindError;
 use std::alloc::Global;
