@@ -87,15 +87,6 @@ ids_not_output letter prefix text search.Memory found is = cc is
 ids_not_output letter prefix text search.Output found is = error_holds letter prefix text search.Output found
 
 -- the same of a search in ids of one kind
-pub search_stops_in : (kind : Kind) (prefix : List ℕ) (start : KindDigits) (error : ReadError) (source source' sink sink' : Option (List ℕ))
-    → prefix_read_in kind hex_letter prefix ≡ Ok start → ReadingStops error source source' → SearchStopsIn kind prefix (from_reading_in error) source source' sink sink'
-search_stops_in kind prefix start (read.Refused (list.BadLine n error)) source source' sink sink' reads stops =
-    settled_map (λ text. list_read text ≡ Err (list.BadLine n error)) (λ text. finding_in kind prefix text ≡ Err (found.BadLine n error)) source source'
-    (λ text refused. rw (reads, refused) refl) stops
-search_stops_in kind prefix start (read.Refused list.Memory) source source' sink sink' reads stops = (rw reads refl, stops)
-search_stops_in kind prefix start read.Input source source' sink sink' reads stops = (rw reads refl, stops)
-search_stops_in kind prefix start read.TooMuch source source' sink sink' reads stops = (rw reads refl, stops)
-
 pub ids_stop_in : (kind : Kind) (prefix text : List ℕ) (error : FindInError) (source source' sink sink' : Option (List ℕ)) → HasReadAll source source' text
     → finding_in kind prefix text ≡ Err error → SearchStopsIn kind prefix (in_kind.Search error) source source' sink sink'
 ids_stop_in kind prefix text (found.Prefix e) source source' sink sink' gives is = error_holds_in kind prefix text (found.Prefix e) is
@@ -108,3 +99,12 @@ ids_stop_in kind prefix text (found.NotRising n) source source' sink sink' gives
     settled_all (λ t. finding_in kind prefix t ≡ Err (found.NotRising n)) source source' text gives is
 ids_stop_in kind prefix text found.Memory source source' sink sink' gives is = absurd (error_holds_in kind prefix text found.Memory is)
 ids_stop_in kind prefix text found.Output source source' sink sink' gives is = absurd (error_holds_in kind prefix text found.Output is)
+
+pub search_stops_in : (kind : Kind) (prefix : List ℕ) (start : KindDigits) (error : ReadError) (source source' sink sink' : Option (List ℕ))
+    → prefix_read_in kind hex_letter prefix ≡ Ok start → ReadingStops error source source' → SearchStopsIn kind prefix (from_reading_in error) source source' sink sink'
+search_stops_in kind prefix start (read.Refused (list.BadLine n error)) source source' sink sink' reads stops =
+    settled_map (λ text. list_read text ≡ Err (list.BadLine n error)) (λ text. finding_in kind prefix text ≡ Err (found.BadLine n error)) source source'
+    (λ text refused. rw (reads, refused) refl) stops
+search_stops_in kind prefix start (read.Refused list.Memory) source source' sink sink' reads stops = (rw reads refl, stops)
+search_stops_in kind prefix start read.Input source source' sink sink' reads stops = (rw reads refl, stops)
+search_stops_in kind prefix start read.TooMuch source source' sink sink' reads stops = (rw reads refl, stops)

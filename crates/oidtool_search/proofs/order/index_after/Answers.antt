@@ -1,4 +1,4 @@
-use Rattle.std.proofs.Common.{◌≡◌, ◌+◌, ◌∙◌, sym, ap, refl, None, Some, arith}
+use Rattle.std.proofs.Common.{◌∙◌, sym, ap, refl, None, arith}
 use Rattle.id_lookup.specs.declared.index.IndexError.TheVariants as index
 use Rattle.oidtool_search.specs.declared.finding_in.FindInError.TheVariants.{WrongKind, NotRising}
 use Rattle.oidtool_search.proofs.IndexOrder.{first_not_above, by_itself, is_order}
@@ -14,16 +14,12 @@ returns-in-Ok-clause-index c digits =
 
 pub returns-in-Err-WrongKind-clause-bad : goal.returns-in-Err-WrongKind-clause-bad
 returns-in-Err-WrongKind-clause-bad c digits =
-    let at = c.in-Err-WrongKind.at in
-    let line : c.args.before + at + 1 ≡ c.args.before + 1 + at = omega arith in
     by_itself c.args.kind digits _ _ _ (sym c.starts_not_above.ensures ∙ c.if-starts_not_above.false)
-    ∙ is_order c.args.kind digits _ _ (Some (WrongKind (c.args.before + at + 1)))
-    (index.WrongKind at, ap WrongKind line, rw c.in-Err-WrongKind.field-0-is at c.in-Err-WrongKind.ensures.err)
+    ∙ is_order c.args.kind digits _ _ _
+    (index.WrongKind c.in-Err-WrongKind.at, ap WrongKind (omega arith), rw c.in-Err-WrongKind.field-0-is at c.in-Err-WrongKind.ensures.err)
 
 pub returns-in-Err-NotRising-clause-bad : goal.returns-in-Err-NotRising-clause-bad
 returns-in-Err-NotRising-clause-bad c digits =
-    let at = c.in-Err-NotRising.at in
-    let line : c.args.before + at + 1 ≡ c.args.before + 1 + at = omega arith in
     by_itself c.args.kind digits _ _ _ (sym c.starts_not_above.ensures ∙ c.if-starts_not_above.false)
-    ∙ is_order c.args.kind digits _ _ (Some (NotRising (c.args.before + at + 1)))
-    (index.NotRising at, ap NotRising line, rw c.in-Err-NotRising.field-0-is at c.in-Err-NotRising.ensures.err)
+    ∙ is_order c.args.kind digits _ _ _
+    (index.NotRising c.in-Err-NotRising.at, ap NotRising (omega arith), rw c.in-Err-NotRising.field-0-is at c.in-Err-NotRising.ensures.err)
