@@ -8,7 +8,6 @@ use Rattle.std.specs.Io.KnownBytes.{Consumes}
 use Rattle.oidtool_search.specs.Finding.{finding}
 use Rattle.oidtool_search.specs.FindingFrom.{IsSettled, ReadingStops, SearchFails, SearchStopsIn, from_source, from_reading, from_reading_in}
 use Rattle.oidtool_search.specs.FindingIn.{finding_in}
-use Rattle.oidtool_search.specs.ListText.{list_read}
 use Rattle.streams.specs.Source.{HasReadAll}
 use Rattle.oidtool_search.specs.declared.finding.FindError.{FindError}
 use Rattle.oidtool_search.specs.declared.finding.FindError.TheVariants as search
@@ -23,8 +22,8 @@ use Rattle.oidtool_search.specs.declared.reading.ReadError.TheVariants as read
 use Rattle.oidtool_search.proofs.Results.{error_holds, error_holds_in}
 
 -- what follows from what is settled is settled
-settled_map : (P Q : List ℕ → Type 0) (old new : Option (List ℕ)) → ((text : List ℕ) → P text → Q text) → IsSettled P old new → IsSettled Q old new
-settled_map P Q old new follows settled = record {
+settled_map : {P Q : List ℕ → Type 0} {old new : Option (List ℕ)} → IsSettled P old new → ((text : List ℕ) → P text → Q text) → IsSettled Q old new
+settled_map settled follows = record {
   text = settled.text;
   rest = settled.rest;
   gives = settled.gives;
@@ -48,9 +47,7 @@ settled_all P old new text given holds = record {
 -- if the prefix reads, an error of the list text is the search's
 pub search_stops : (letter : ℕ → ℕ) (prefix : List ℕ) (start : KindDigits) (error : ReadError) (source source' sink sink' : Option (List ℕ))
     → prefix_read letter 4 prefix ≡ Ok start → ReadingStops error source source' → SearchFails letter prefix (from_reading error) source source' sink sink'
-search_stops letter prefix start (read.Refused (list.BadLine n error)) source source' sink sink' reads stops =
-    settled_map (λ text. list_read text ≡ Err (list.BadLine n error)) (λ text. finding letter prefix text ≡ Err (search.BadLine n error)) source source'
-    (λ text refused. rw (reads, refused) refl) stops
+search_stops letter prefix start (read.Refused (list.BadLine n error)) source source' sink sink' reads stops = settled_map stops (λ text refused. rw (reads, refused) refl)
 search_stops letter prefix start (read.Refused list.Memory) source source' sink sink' reads stops = (rw reads refl, stops)
 search_stops letter prefix start read.Input source source' sink sink' reads stops = (rw reads refl, stops)
 search_stops letter prefix start read.TooMuch source source' sink sink' reads stops = (rw reads refl, stops)
@@ -102,9 +99,7 @@ ids_stop_in kind prefix text found.Output source source' sink sink' gives is = a
 
 pub search_stops_in : (kind : Kind) (prefix : List ℕ) (start : KindDigits) (error : ReadError) (source source' sink sink' : Option (List ℕ))
     → prefix_read_in kind hex_letter prefix ≡ Ok start → ReadingStops error source source' → SearchStopsIn kind prefix (from_reading_in error) source source' sink sink'
-search_stops_in kind prefix start (read.Refused (list.BadLine n error)) source source' sink sink' reads stops =
-    settled_map (λ text. list_read text ≡ Err (list.BadLine n error)) (λ text. finding_in kind prefix text ≡ Err (found.BadLine n error)) source source'
-    (λ text refused. rw (reads, refused) refl) stops
+search_stops_in kind prefix start (read.Refused (list.BadLine n error)) source source' sink sink' reads stops = settled_map stops (λ text refused. rw (reads, refused) refl)
 search_stops_in kind prefix start (read.Refused list.Memory) source source' sink sink' reads stops = (rw reads refl, stops)
 search_stops_in kind prefix start read.Input source source' sink sink' reads stops = (rw reads refl, stops)
 search_stops_in kind prefix start read.TooMuch source source' sink sink' reads stops = (rw reads refl, stops)
