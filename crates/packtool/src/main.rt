@@ -11,8 +11,6 @@ mod files;
 mod noted;
 mod stores;
 
-ghost use Rattle.std.specs.Prelude.{◌≡◌, false};
-
 use clap::ArgMatches;
 use command_line::command_line_args;
 use failure::Failure;
@@ -77,29 +75,22 @@ fn run<'a>(rt: &HostRuntime, words: &'a [String]) -> Result<u8, Failure<'a>> {
         return Err(Failure::Memory);
     };
     let mut out = Plain::new(writer);
-    let status = run_command(rt, &matches, &mut out, &note)?;
+    let status = match matches.subcommand() {
+        Some((name @ ("show" | "check"), matches)) => {
+            run_over_files(rt, name, matches, &mut out, &note)?
+        }
+        Some((name, matches)) => {
+            if stores::run(rt, name, matches, &mut out, &note)? {
+                FOUND
+            } else {
+                NOTHING
+            }
+        }
+        None => FAILED,
+    };
     match out.flush() {
         Ok(()) => Ok(status),
         Err(error) => Err(Failure::Output(error)),
-    }
-}
-
-// Runs the command that was read.
-fn run_command<'a, W: Sink>(
-    rt: &HostRuntime,
-    matches: &ArgMatches<'a>,
-    out: &mut W,
-    note: &Note,
-) -> Result<u8, Failure<'a>>
-    requires { W.has_failed out.old ≡ false }
-{
-    match matches.subcommand() {
-        Some((name @ ("show" | "check"), matches)) => run_over_files(rt, name, matches, out, note),
-        Some((name, matches)) => match stores::run(rt, name, matches, out, note)? {
-            true => Ok(FOUND),
-            false => Ok(NOTHING),
-        },
-        None => Ok(FAILED),
     }
 }
 
