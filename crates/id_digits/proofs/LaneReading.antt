@@ -88,6 +88,10 @@ first_values text first second is also =
 pub both_digits : (p : ℕ → Bool) (xs ys all : List ℕ) → xs ++ ys ≡ all → (list_all p xs && list_all p ys) ≡ list_all p all
 both_digits p xs ys all is = sym (list_all-append p xs ys) ∙ ap (list_all p) is
 
+-- a digest has at least twenty bytes
+pub least : (n : ℕ) → IsTrue (is_digest_len n) → 20 ≤ n
+least n digest = grind (arith, nat_tests, digest)
+
 once : (b : Bool) → (b && b) ≡ b
 once true = refl
 once false = refl
