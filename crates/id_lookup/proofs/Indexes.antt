@@ -1,10 +1,10 @@
 -- Indexes are sorted, so a prefix of their kind can be looked up in them.
-use Rattle.std.proofs.Common.{◌≡◌, ℕ, zero, suc, not, nat_eq, ◌+◌, ◌-◌, ◌<◌, ◌≤◌, false, List, [], length, get_or, ◌⊎◌, inl, inr, ap, ◌∙◌, subst, arith}
+use Rattle.std.proofs.Common.{◌≡◌, ℕ, zero, suc, not, nat_eq, ◌+◌, ◌-◌, ◌<◌, ◌≤◌, true, false, List, [], length, get_or, Bool, ◌↔◌, IsTrue, ◌⊎◌, inl, inr, sym, ap, ◌∙◌, subst, arith}
 use Rattle.std.specs.List.{AllPairs}
 use Rattle.std.specs.Ordering.{nat_cmp, is_lt, ordering_reverse}
 use Rattle.std.specs.Cmp.Lexicographic.{slice_cmp}
 use Rattle.std.specs.declared.cmp.Ordering.TheVariants.{Less}
-use Rattle.std.proofs.lemmas.Bool.{cases_lt}
+use Rattle.std.proofs.lemmas.Bool.{cases_lt, false≢true}
 use Rattle.std.proofs.lemmas.Bool.Decides.{nat_tests}
 use Rattle.std.proofs.lemmas.Cmp.{nat_list_cmp_total}
 use Rattle.std.proofs.lemmas.List.{get_or_default}
@@ -15,7 +15,9 @@ use Rattle.gix_hash.specs.Prefix.{KindDigits}
 use Rattle.gix_hash.specs.declared.Kind.{Kind}
 use Rattle.id_lookup.specs.FoundRun.{IsRun}
 use Rattle.id_lookup.specs.declared.search.Run.{Run}
-use Rattle.id_lookup.specs.Index.{IsIndex, IsIndexUpTo}
+use Rattle.id_lookup.specs.declared.index.IndexError.{IndexError}
+use Rattle.id_lookup.specs.declared.index.IndexError.TheVariants.{WrongKind, NotRising}
+use Rattle.id_lookup.specs.Index.{IsIndex, IsIndexUpTo, IsWrongKind, IsNotRising, IsFirstIndexError}
 use Rattle.id_lookup.specs.Probing.{CanProbe}
 use Rattle.id_lookup.specs.Sorted.{IsSortedIds}
 
@@ -64,6 +66,37 @@ not_other a b same = grind (arith, nat_tests)
 
 pub no_other : (a b : Kind) → not (nat_eq (number_of a) (number_of b)) ≡ false → a ≡ b
 no_other a b same = kind_by_number a b (grind (arith, nat_tests))
+
+-- an id of another kind is wrong there
+pub wrong_there : (kind other : Kind) (ids : List (List ℕ)) (at : ℕ) → at < length ids → IsIndexUpTo at kind ids → length (get_or ids at []) ≡ hex_len_of other
+    → not (nat_eq (number_of other) (number_of kind)) ≡ true → IsWrongKind kind ids at
+wrong_there kind other ids at inside before long differ = record {
+  in_range = inside;
+  before = before;
+  wrong = λ right. false≢true (sym (not_other other kind (same_kind other kind (sym long ∙ right))) ∙ differ);
+}
+
+-- an id of the kind that is not above the previous one does not rise there
+pub not_rising : (kind : Kind) (ids : List (List ℕ)) (at : ℕ) (above : Bool) → at < length ids → IsIndexUpTo at kind ids → length (get_or ids at []) ≡ hex_len_of kind
+    → (IsTrue above ↔ (0 < at → slice_cmp nat_cmp (get_or ids (at - 1) []) (get_or ids at []) ≡ Less)) → above ≡ false → IsNotRising kind ids at
+not_rising kind ids at above inside before long decides fails = record {
+  has_predecessor = first (cases_lt 0 at);
+  in_range = inside;
+  before = before;
+  right = long;
+  not_above = λ less. false≢true (sym fails ∙ decides.1 (λ _. less));
+}
+  where
+    first : ((0 < at) ⊎ (at ≤ 0)) → 0 < at
+    first (inl after) = after
+    first (inr none) = absurd (false≢true (sym fails ∙ decides.1 (λ after. absurd (omega (arith, none, after)))))
+
+-- a list with an error is no index
+pub no_index : (kind : Kind) (ids : List (List ℕ)) (error : IndexError) → IsFirstIndexError kind ids error → IsIndex kind ids → ⊥
+no_index kind ids (WrongKind at) found index = found.wrong (index.kinds at [] (omega arith) found.in_range)
+no_index kind ids (NotRising at) found index =
+    let next : at - 1 + 1 ≡ at = omega (arith, found.has_predecessor) in
+    found.not_above (subst (λ (n : ℕ). slice_cmp nat_cmp (get_or ids (at - 1) []) (get_or ids n []) ≡ Less) next (index.rises (at - 1) [] (omega (arith, found.has_predecessor, found.in_range))))
 
 -- a run with its end replaced by an equal one
 pub run_ending : (prefix : KindDigits) (ids : List (List ℕ)) (run : Run) (end : ℕ) → IsRun prefix ids run → run.end ≡ end
