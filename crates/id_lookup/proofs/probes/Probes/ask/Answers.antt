@@ -1,0 +1,10 @@
+use Rattle.std.proofs.Common.{ap, refl, ◌∙◌}
+use Rattle.gix_hash.specs.Prefix.{place}
+use Rattle.id_lookup.proofs.probes.Probes.ask.Goals as goal
+
+pub returns-clause-counted : goal.returns-clause-counted
+returns-clause-counted g c = rw (← c.self.view_is) refl
+
+pub returns-clause-answer : goal.returns-clause-answer
+returns-clause-answer g c =
+    λ d. rw (← c.self.view_is) (c.cmp_oid.ensures ∙ ap (place c.self.inside.prefix.digits) (c.id_at.ensures.digits d))
