@@ -7,7 +7,7 @@
 #![tactic(auto)]
 
 use command_line::{Failure, WordsError, command_line_args, report};
-use oidtool_commands::{ArgError, CommandError, read_command, run_command};
+use oidtool_commands::{ArgError, Command, CommandError, read_command, run_command};
 use std::alloc::AllocError;
 use std::io;
 use std::io::BufWriter;
@@ -37,17 +37,24 @@ fn run<'a>(
     else {
         return Err(Failure::Command(CommandError::Memory));
     };
-    let command = match read_command(&words) {
-        Ok(command) => command,
-        Err(why) => return Err(Failure::Args(why)),
-    };
+    match read_command(&words) {
+        Ok(command) => match run_over_streams(rt, command) {
+            Ok(count) => Ok(count),
+            Err(why) => Err(Failure::Command(why)),
+        },
+        Err(why) => Err(Failure::Args(why)),
+    }
+}
+
+/// Runs a command over standard input and standard output.
+fn run_over_streams(
+    rt: &(impl Input + Print + Files + AllocGlobal),
+    command: Command<'_>,
+) -> Result<usize, CommandError> {
     let Ok(writer) = BufWriter::new(rt.alloc(), io::writer(rt)) else {
-        return Err(Failure::Command(CommandError::Memory));
+        return Err(CommandError::Memory);
     };
     let mut input = Plain::new(rt.reader());
     let mut out = Plain::new(writer);
-    match run_command(rt, rt.alloc(), command, &mut input, &mut out) {
-        Ok(count) => Ok(count),
-        Err(why) => Err(Failure::Command(why)),
-    }
+    run_command(rt, rt.alloc(), command, &mut input, &mut out)
 }
