@@ -6,7 +6,22 @@ use std::alloc::{AllocError, Global};
 
 /// The program's words: what `--help` prints and what is read.
 pub fn command<'a>(alloc: Global) -> Result<Command<'a>, AllocError> {
-    Command::new(alloc, "packtool")
+    let look_ups = with(with(program(alloc), find(alloc)), locate(alloc));
+    let shows = with(with(look_ups, names(alloc)), show(alloc));
+    with(shows, check(alloc))
+}
+
+// The program with one command more.
+fn with<'a>(
+    program: Result<Command<'a>, AllocError>,
+    command: Result<Command<'a>, AllocError>,
+) -> Result<Command<'a>, AllocError> {
+    program?.subcommand(command?)
+}
+
+// The program, with no command yet.
+fn program<'a>(alloc: Global) -> Result<Command<'a>, AllocError> {
+    let program = Command::new(alloc, "packtool")
         .before_help(ORIGIN)
         .about("Looks ids up in a Git object store, and reads pack indexes.")
         .version(VERSION)
@@ -14,12 +29,8 @@ pub fn command<'a>(alloc: Global) -> Result<Command<'a>, AllocError> {
         .bin_name("packtool")?
         .subcommand_required(true)
         .disable_help_subcommand(true)
-        .after_help(AFTER)
-        .subcommand(find(alloc)?)?
-        .subcommand(locate(alloc)?)?
-        .subcommand(names(alloc)?)?
-        .subcommand(show(alloc)?)?
-        .subcommand(check(alloc)?)
+        .after_help(AFTER);
+    Ok(program)
 }
 
 // The version and the origin, as `--version` and `--help` print them.
