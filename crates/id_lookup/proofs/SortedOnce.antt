@@ -1,5 +1,5 @@
 -- Ids of one kind that were sorted, and of which each was kept once, are the index of them.
-use Rattle.std.proofs.Common.{◌≡◌, zero, suc, List, [], ◌∷◌, length, get_or, map, refl, sym, ap, ◌∙◌, subst, arith, rules}
+use Rattle.std.proofs.Common.{◌≡◌, ◌↔◌, zero, suc, List, [], ◌∷◌, length, get_or, map, refl, sym, ap, ◌∙◌, subst, arith, rules}
 use Rattle.std.specs.Cmp.{IsTotalOrder, IsEquivalence}
 use Rattle.std.specs.Cmp.Rules.{comparing}
 use Rattle.std.specs.List.{All, Contains, dedup}
@@ -38,8 +38,7 @@ contains_from_map f (x ∷ xs) y (suc k, within, is) =
     let r = contains_from_map f xs y (k, omega arith, is) in
     (r.0, (suc r.1.0, omega (arith, r.1.1), r.1.2), r.2)
 
-module _ (kind : Kind) (ids sorted kept : List ObjectId) (of_kind : All (λ id. id_kind id ≡ kind) ids) (moved : IsPermutation ids sorted)
-    (is_sorted : IsSorted id_cmp sorted) (is : kept ≡ dedup id_eq sorted) where
+module _ (ids sorted kept : List ObjectId) (moved : IsPermutation ids sorted) (is_sorted : IsSorted id_cmp sorted) (is : kept ≡ dedup id_eq sorted) where
   -- nothing comes and nothing goes
   kept_from : (id : ObjectId) → Contains kept id → Contains ids id
   kept_from id c = Contains-permutation sorted ids id (IsPermutation-sym ids sorted moved) (Contains-from_dedup id_eq sorted id (subst (λ (xs : List ObjectId). Contains xs id) is c))
@@ -49,21 +48,26 @@ module _ (kind : Kind) (ids sorted kept : List ObjectId) (of_kind : All (λ id. 
       subst (λ (xs : List ObjectId). Contains xs id) (sym is)
       (Contains-dedup id_eq_equiv (λ x y. (id_eq-same x y).0) sorted id (Contains-permutation ids sorted id moved c))
 
+  pub kept_members : (id : ObjectId) → Contains kept id ↔ Contains ids id
+  kept_members id = (kept_from id, from_kept id)
+
+  pub kept_strict : IsStrictlySortedBy id_cmp kept
+  kept_strict = subst (IsStrictlySortedBy id_cmp) (sym is) (IsStrictlySortedBy-dedup id_cmp_total id_eq_ties sorted is_sorted)
+
+-- ids of one kind, and what is kept of them
+module _ (kind : Kind) (ids kept : List ObjectId) (of_kind : All (λ id. id_kind id ≡ kind) ids) (members : (id : ObjectId) → Contains kept id ↔ Contains ids id) where
   pub kept_kinds : All (λ id. id_kind id ≡ kind) kept
-  kept_kinds k d low = All-contains (λ id. id_kind id ≡ kind) ids (get_or kept k d) of_kind (kept_from (get_or kept k d) (Contains-get_or kept k d low))
+  kept_kinds k d low = All-contains (λ id. id_kind id ≡ kind) ids (get_or kept k d) of_kind ((members (get_or kept k d)).0 (Contains-get_or kept k d low))
 
-  strict : IsStrictlySortedBy id_cmp kept
-  strict = subst (IsStrictlySortedBy id_cmp) (sym is) (IsStrictlySortedBy-dedup id_cmp_total id_eq_ties sorted is_sorted)
-
-  pub index_of_sorted : All (λ id. length (id_digits id) ≡ hex_len_of (id_kind id)) kept → IsIndexOf kind (map id_digits ids) (map id_digits kept)
-  index_of_sorted long = record {
+  pub index_of_sorted : IsStrictlySortedBy id_cmp kept → All (λ id. length (id_digits id) ≡ hex_len_of (id_kind id)) kept → IsIndexOf kind (map id_digits ids) (map id_digits kept)
+  index_of_sorted strict long = record {
     index = index-of_kind kind kept long strict kept_kinds;
     members = λ digits. (
       λ c.
           let from = contains_from_map id_digits kept digits c in
-          subst (Contains (map id_digits ids)) from.2 (contains_map id_digits ids from.0 (kept_from from.0 from.1)),
+          subst (Contains (map id_digits ids)) from.2 (contains_map id_digits ids from.0 ((members from.0).0 from.1)),
       λ c.
           let from = contains_from_map id_digits ids digits c in
-          subst (Contains (map id_digits kept)) from.2 (contains_map id_digits kept from.0 (from_kept from.0 from.1)),
+          subst (Contains (map id_digits kept)) from.2 (contains_map id_digits kept from.0 ((members from.0).1 from.1)),
     );
   }

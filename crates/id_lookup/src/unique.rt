@@ -1,15 +1,18 @@
 //! Sorting ids, and keeping each of them once.
 
-ghost use Rattle.std.specs.Prelude.{◌≡◌, All, length, map};
+ghost use Rattle.std.specs.Prelude.{◌≡◌, ◌↔◌, All, Contains, length, map};
+ghost use Rattle.std.specs.List.Sorted.{IsStrictlySortedBy};
 ghost use Rattle.gix_hash.specs.Kind.{hex_len_of};
-ghost use Rattle.gix_hash.specs.ObjectId.{id_digits, id_kind};
+ghost use Rattle.gix_hash.specs.ObjectId.{id_cmp, id_digits, id_kind};
+ghost use Rattle.gix_hash.specs.declared.ObjectId.{ObjectId as Id};
 ghost use Rattle.gix_hash.specs.declared.kind.Kind as kinds;
 ghost use Rattle.id_lookup.specs.IndexOf.{IsIndexOf};
 
 use gix_hash::ObjectId;
 use std::alloc::Allocator;
 
-/// Sorts ids, and removes all but one of those that are equal. It takes no memory.
+/// Sorts ids of any kinds in the order of [`ObjectId`], and removes all but one of those that are
+/// equal. It takes no memory.
 ///
 /// If the ids are of one kind, then the result is an index of that kind, and
 /// [`IdIndex::try_new`](crate::IdIndex::try_new) accepts it.
@@ -20,6 +23,8 @@ use std::alloc::Allocator;
 /// assert!(rt; found.len() <= 2);
 /// ```
 pub fn sort_unique<A: Allocator>(ids: &mut Vec<ObjectId, A>)
+    ensures sorted { IsStrictlySortedBy id_cmp ids.new.items }
+    ensures members { (id : Id) → Contains ids.new.items id ↔ Contains ids.old.items id }
     ensures index { (kind : kinds.Kind) → All (λ id. id_kind id ≡ kind) ids.old.items
         → IsIndexOf kind (map id_digits ids.old.items) (map id_digits ids.new.items) }
     ensures kinds { (kind : kinds.Kind) → All (λ id. id_kind id ≡ kind) ids.old.items
