@@ -17,6 +17,7 @@ mod streams;
 use crate::expecting::expect;
 use gix_hash::ObjectId;
 use std::alloc::AllocError;
+use std::cell::Cell;
 use std::cmp::Ordering;
 use std::error::Error;
 use std::fmt::{Debug, Display};
@@ -138,4 +139,31 @@ fn expect_fed<T: Hash>(rt: &impl Abort, value: &T, writes: &[&[u8]]) {
         want.write(write);
     }
     expect!(rt; fed.finish() == want.finish());
+}
+
+// A state of a hash that counts its writes and their bytes. Clauses know nothing of a cell.
+#[derive(Drop)]
+struct Writes(Cell<(usize, usize)>);
+
+impl Hasher for Writes {
+    ghost write = { λ state _. state };
+
+    ghost finish = { λ _. 0 };
+
+    fn finish(&self) -> u64 {
+        0
+    }
+
+    fn write(&mut self, bytes: &[u8]) {
+        let (count, len) = self.0.get();
+        self.0
+            .set((count.saturating_add(1), len.saturating_add(bytes.len())));
+    }
+}
+
+// The value feeds a hash that many bytes, in that many writes.
+fn expect_writes<T: Hash>(rt: &impl Abort, value: &T, count: usize, len: usize) {
+    let mut writes = Writes(Cell::new((0, 0)));
+    value.hash(&mut writes);
+    expect!(rt; writes.0.get() == (count, len));
 }

@@ -2,7 +2,8 @@
 
 use super::{
     BLOB, BLOB_256, BLOB_256_BYTES, BLOB_BYTES, TREE, converted, expect_below, expect_debug,
-    expect_error, expect_fed, expect_outcome, expect_same, expect_text, id, parsed, tried,
+    expect_error, expect_fed, expect_outcome, expect_same, expect_text, expect_writes, id, parsed,
+    tried,
 };
 use crate::expecting::expect;
 use gix_hash::{Kind, ObjectId, Prefix, decode, oid, verify};
@@ -148,6 +149,7 @@ fn fed_to_a_hash(rt: HostRuntime) {
     expect_fed(&rt, &blob.as_oid(), &[&BLOB_BYTES]);
     expect_fed(&rt, &wide, &[&BLOB_256_BYTES]);
     expect_fed(&rt, &wide.as_oid(), &[&BLOB_256_BYTES]);
+    expect_writes(&rt, &blob, 1, 20);
     expect_fed(
         &rt,
         &blob.to_hex_with_len(50),
@@ -196,6 +198,9 @@ fn written_into_a_buffer(rt: HostRuntime) {
     assert!(rt; blob.kind().len_in_hex() == 40);
     let mut buffer = [b'#'; 64];
     expect!(&rt; blob.hex_to_buf(&mut buffer) == BLOB);
+    let mut buffer = [b'#'; 64];
+    blob.put_hex(&mut buffer);
+    expect!(&rt; &buffer == b"e69de29bb2d1d6434b8b29ae775ad8c2e48c5391########################");
 }
 
 #[test]

@@ -1,8 +1,8 @@
 //! Prefixes of ids.
 
 use super::{
-    BLOB, BLOB_256, TREE, converted, expect_below, expect_error, expect_fed, expect_outcome,
-    expect_same, expect_text, id,
+    BLOB, BLOB_256, TREE, converted, expect_below, expect_debug, expect_error, expect_fed,
+    expect_outcome, expect_same, expect_text, id,
 };
 use crate::expecting::expect;
 use gix_hash::prefix::{self, from_hex};
@@ -168,4 +168,8 @@ fn written_into_a_buffer(rt: HostRuntime) {
     assert!(rt; prefix.hex_len() <= 10);
     let mut buffer = [b'#'; 10];
     expect!(&rt; prefix.hex_to_buf(&mut buffer) == "e69de29");
+    let mut buffer = [b'#'; 10];
+    prefix.put_hex(&mut buffer);
+    expect!(&rt; &buffer == b"e69de29###");
+    expect_debug(&rt, prefix, "Prefix(e69de29)");
 }

@@ -10,6 +10,7 @@ use gix_hash::{
 };
 use std::io::ErrorKind::UnexpectedEof;
 use std::process::Abort;
+use std::test::Fail;
 use test_devices::{FAILED, Fault, Reader};
 
 /// The digests of `abc`, as FIPS 180-4's examples have them.
@@ -225,6 +226,31 @@ fn chunks_are_heard_and_asked_after(rt: HostRuntime) {
         expect_run(&rt, &zeros, run);
     }
     expect_text(&rt, digest_of(Kind::Sha1, &zeros), THREE_CHUNKS);
+}
+
+// No byte is read, and yet the progress hears a beginning and an end.
+#[test]
+fn none_of_the_next_bytes_are_read(rt: HostRuntime) {
+    let mut heard = Heard::new();
+    let fed = hasher_fed(Kind::Sha1, &[b"abc"]);
+    let mut input: &[u8] = b"d";
+    let id = bytes_with_hasher(&mut input, 0, fed, &mut heard, &mut Never);
+    expect_outcome(&rt, id, ABC);
+    heard.expect(&rt, &[Call::Init(Some(0)), Call::ShowThroughput]);
+    expect!(&rt; input == b"d".as_slice());
+}
+
+// No allocator is in reach.
+#[test]
+fn hashed_without_memory() -> Result<(), Fail> {
+    let (mut input, mut rest): (&[u8], &[u8]) = (b"abc", b"bc");
+    let whole = bytes(&mut input, 3, Kind::Sha1, &mut NoProgress, &mut Never)?;
+    let fed = hasher_fed(Kind::Sha1, &[b"a"]);
+    let in_parts = bytes_with_hasher(&mut rest, 2, fed, &mut NoProgress, &mut Never)?;
+    if whole.eq_str(ABC) && in_parts.eq_str(ABC) {
+        return Ok(());
+    }
+    Err(Fail::new("another digest without memory"))
 }
 
 // FIPS 180-4's long example: a million times the letter a.
