@@ -1,3 +1,2 @@
 mod OnlyMatches
 mod SlashedDigits
-mod SortedOnce

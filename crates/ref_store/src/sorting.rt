@@ -7,7 +7,7 @@ ghost use Rattle.id_lookup.specs.Index.{IsIndex};
 ghost use Rattle.id_lookup.specs.Sorted.{IsSortedIds};
 
 use gix_hash::{Kind, ObjectId};
-use id_lookup::{IdIndex, IndexError, SortedIds, sort_ids};
+use id_lookup::{IdIndex, IndexError, SortedIds, sort_ids, sort_unique};
 
 /// Sorts ids of one kind, removes duplicates, and returns the index of them. It fails if and only
 /// if some id is of the other kind.
@@ -18,9 +18,7 @@ pub fn sort_into_index(ids: &mut Vec<ObjectId>, kind: Kind) -> Result<IdIndex<'_
     ensures members { IfOk result (λ index. (digits : List ℕ) → Contains index.ids digits
         ↔ Contains (map id_digits ids.old.items) digits) }
 {
-    gix_hash::laws::order_of_ids();
-    ids.sort_unstable();
-    ids.dedup();
+    sort_unique(ids);
     id_lookup::laws::strictly_sorted(kind, ids);
     IdIndex::try_new(ids, kind)
 }
