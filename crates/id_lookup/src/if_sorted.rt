@@ -1,7 +1,8 @@
 //! Look-ups in lists that were not checked to be sorted. They are safe for any list, and for a
 //! sorted one return what [`SortedIds`](crate::SortedIds) returns.
 
-ghost use Rattle.std.specs.Prelude.{◌≡◌, ◌+◌, ◌<◌, ◌≤◌, ℕ, List, IfSome, IsNone, length, map, nat_lt};
+ghost use Rattle.std.specs.Prelude.{◌≡◌, ◌+◌, ◌<◌, ◌≤◌, ℕ, [], List, IfSome, IsNone, length, map, nat_lt, slice_index_or, take};
+ghost use Rattle.gix_hash.specs.Kind.{hex_len_of};
 ghost use Rattle.id_lookup.specs.Bounds.{bound_of};
 ghost use Rattle.id_lookup.specs.FoundRun.{IsRun};
 ghost use Rattle.id_lookup.specs.ShortNames.{IsShortestName};
@@ -120,13 +121,18 @@ fn bound_if_sorted<I: Id>(
 
 /// The shortest name of the member at an index, if the list is sorted: that of
 /// [`SortedIds::abbreviate_from`](crate::SortedIds::abbreviate_from), of at least 4 digits. For
-/// another list it is one that neither of its neighbours begins with.
+/// another list it is some beginning of the member, of at least 4 digits.
 ///
 /// ```
 /// let name = abbreviate_if_sorted(list, 0);
 /// ```
 pub fn abbreviate_if_sorted<I: Id>(ids: &[I], at: usize) -> Option<Prefix>
     requires { at < length ids.now }
+    ensures kind { IfSome result (λ name. hex_len_of name.kind
+        ≡ length (slice_index_or (map I.digits ids.now) at [])) }
+    ensures first { IfSome result (λ name. name.digits
+        ≡ take (length name.digits) (slice_index_or (map I.digits ids.now) at [])) }
+    ensures long { IfSome result (λ name. 4 ≤ length name.digits) }
     ensures name { IfSome result (λ name. IsSortedIds (map I.digits ids.now)
         → IsShortestName (map I.digits ids.now) at name.digits) }
     ensures none { IsNone result → IsSortedIds (map I.digits ids.now) → (name : List ℕ)

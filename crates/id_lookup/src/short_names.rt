@@ -1,6 +1,6 @@
 //! The shortest unique names of the ids of a sorted list: the two neighbours of an id decide.
 
-ghost use Rattle.std.specs.Prelude.{◌≡◌, ◌+◌, ◌-◌, ◌<◌, ◌≤◌, ℕ, [], IfSome, IsNone, List, length, map, slice_index_or, max};
+ghost use Rattle.std.specs.Prelude.{◌≡◌, ◌+◌, ◌-◌, ◌<◌, ◌≤◌, ℕ, [], IfSome, IsNone, List, length, map, slice_index_or, max, take};
 ghost use Rattle.gix_hash.specs.Kind.{hex_len_of};
 ghost use Rattle.id_lookup.specs.ShortNames.{IsShortestNameFrom, IsUniqueLen, common_at};
 ghost use Rattle.id_lookup.specs.Sorted.{IsSortedIds};
@@ -15,6 +15,9 @@ pub(crate) fn shortest_name<I: Id>(ids: &[I], at: usize, least: usize) -> Option
     requires enough { 4 ≤ least }
     ensures kind { IfSome result (λ name. hex_len_of name.kind
         ≡ length (slice_index_or (map I.digits ids.now) at [])) }
+    ensures first { IfSome result (λ name. name.digits
+        ≡ take (length name.digits) (slice_index_or (map I.digits ids.now) at [])) }
+    ensures long { IfSome result (λ name. least ≤ length name.digits) }
     ensures name { IfSome result (λ name. IsSortedIds (map I.digits ids.now)
         → IsShortestNameFrom least (map I.digits ids.now) at name.digits) }
     ensures none { IsNone result → IsSortedIds (map I.digits ids.now) → (name : List ℕ)
