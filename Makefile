@@ -3,19 +3,30 @@
 # other.
 PROGRAMS := oidtool packtool
 PREFIX ?= /usr/local
-MAKEFLAGS += --no-builtin-rules --jobs=$(shell nproc)
+# As many jobs as there are processors, and memory for: an rt may take 6 GB. But none if the caller said how many. (While
+# make reads a Makefile, only its own words say that, and those of the make that calls it.)
+JOBS := $(shell { printf '%s' "$$MAKEFLAGS" | tr ' ' '\0'; cat /proc/$$PPID/cmdline; } | grep -zqE '^(-[a-z]*j|--jobs)' || \
+    awk -v most="$$(nproc)" '/^MemAvailable/ { n = int($$2 / 6e6); print n < 1 ? 1 : n < most ? n : most }' /proc/meminfo)
+MAKEFLAGS += --no-builtin-rules $(JOBS:%=--jobs=%)
 
 SOURCES := $(shell find crates -name out -prune -o -name must-fail -prune -o \( -name '*.rt' -o -name '*.antt' \) -print)
-CRATES := $(shell sed -nE 's/^([a-z_0-9]+)( staticlib)?:.*/\1/p' crates.txt)
+# Each crate with those that it depends on, as NAME:LOW:LOW..
+LISTED := $(shell sed -E 's/ *\#.*//; s/ staticlib:/:/; s/:? +/:/g' crates.txt)
+CRATES := $(foreach line,$(LISTED),$(firstword $(subst :, ,$(line))))
 # The kit that proves them; nothing if there is no rt.
 KIT := $(wildcard $(patsubst %/bin/rt,%/KIT-ID,$(realpath $(shell command -v rt))))
 
-# direct CRATE: the crates of this repository that it depends on; below CRATE: those that these depend on, too.
-direct = $(filter $(CRATES),$(shell sed -nE 's/^$1( staticlib)?://p' crates.txt))
+# direct_CRATE: the crates of this repository that it depends on; below CRATE: those that these depend on, too.
+split = $(eval direct_$(firstword $1) := $(filter $(CRATES),$(wordlist 2,$(words $1),$1)))
+$(foreach line,$(LISTED),$(call split,$(subst :, ,$(line))))
 below = $(sort $(foreach low,$(direct_$1),$(low) $(call below,$(low))))
-$(foreach crate,$(CRATES),$(eval direct_$(crate) := $(call direct,$(crate))))
 
-.PHONY: all help lib test bench install clean $(PROGRAMS)
+# The crates that the goals need, the lowest first.
+goal_crates = $(or $(filter $1,$(PROGRAMS)),$(if $(filter lib,$1),gix_hash_c,$(PROGRAMS) $(if $(filter install,$1),gix_hash_c)))
+NEEDED := $(foreach goal,$(or $(MAKECMDGOALS),all),$(call goal_crates,$(goal)))
+export NEEDED := $(filter $(NEEDED) $(foreach crate,$(NEEDED),$(call below,$(crate))),$(CRATES))
+
+.PHONY: all help lib test bench install uninstall clean $(PROGRAMS)
 .DELETE_ON_ERROR:
 
 all: $(PROGRAMS)
@@ -24,7 +35,8 @@ help:
 	@echo 'make: both programs; make oidtool, make packtool: one of them'
 	@echo 'make lib: the library for C, out/libgix_hash.a and out/libgix_hash.so'
 	@echo 'make test: all proofs, edits and tests; make bench: the time and the instructions that the programs take'
-	@echo 'make install PREFIX=/usr/local: programs, man pages and the library; make clean: all that was built goes'
+	@echo 'make install PREFIX=/usr/local: programs, man pages, library and bindings; make uninstall: they go'
+	@echo 'make clean: all that was built goes'
 
 $(PROGRAMS): %: crates/%/out/built
 
@@ -38,7 +50,7 @@ $(foreach crate,$(CRATES),$(eval $(call rules,$(crate))))
 # The library for C: what the crate gix_hash_c exports, by the version of the header.
 VERSION := $(shell sed -nE 's/.*GIX_HASH_VERSION "(.*)"/\1/p' include/gix_hash.h)
 SONAME := libgix_hash.so.$(basename $(VERSION))
-lib: out/libgix_hash.a out/libgix_hash.so
+lib: out/libgix_hash.a out/$(SONAME)
 
 crates/gix_hash_c/out/libgix_hash_c.a: crates/gix_hash_c/out/built ;
 
@@ -46,7 +58,10 @@ out/libgix_hash.a: crates/gix_hash_c/out/libgix_hash_c.a
 	install -D -m 644 $< $@
 
 out/libgix_hash.so: out/libgix_hash.a
-	$(CC) -shared -Wl,-soname,$(SONAME) -Wl,--no-undefined -o $@ -Wl,--whole-archive $< -Wl,--no-whole-archive
+	$(CC) -shared -Wl,-soname,$(SONAME) -Wl,-z,now -Wl,--no-undefined -o $@ -Wl,--whole-archive $< -Wl,--no-whole-archive
+
+out/$(SONAME): out/libgix_hash.so
+	ln -sf $(<F) $@
 
 test:
 	./test
@@ -55,21 +70,11 @@ bench: $(PROGRAMS)
 	tools/bench
 	tools/instructions
 
-# The man page of oidtool is its help, laid out.
-MAN = awk -v name=$1 'NR == 1 { printf ".TH %s 1\n.SH NAME\n%s \\- %s\n", toupper(name), name, $$0 } \
-    NR == 2 { sub("^usage: ", ""); printf ".SH SYNOPSIS\n%s\n.SH DESCRIPTION\n.nf\n", $$0 } NR > 2' crates/$1/help
-LINES = prefix=$(PREFIX) 'Name: gix_hash' 'Description: Git object ids, proved' 'Version: $(VERSION)' \
-    'Cflags: -I$${prefix}/include' 'Libs: -L$${prefix}/lib -lgix_hash'
 install: $(PROGRAMS) lib
-	install -d $(addprefix $(DESTDIR)$(PREFIX)/,bin share/man/man1 include lib/pkgconfig)
-	install -t $(DESTDIR)$(PREFIX)/bin $(foreach program,$(PROGRAMS),crates/$(program)/out/$(program))
-	@$(call MAN,oidtool) > $(DESTDIR)$(PREFIX)/share/man/man1/oidtool.1
-	install -m 644 -t $(DESTDIR)$(PREFIX)/share/man/man1 crates/packtool/packtool.1
-	install -m 644 -t $(DESTDIR)$(PREFIX)/include include/gix_hash.h
-	install -m 644 -t $(DESTDIR)$(PREFIX)/lib out/libgix_hash.a
-	install out/libgix_hash.so $(DESTDIR)$(PREFIX)/lib/$(SONAME)
-	ln -sf $(SONAME) $(DESTDIR)$(PREFIX)/lib/libgix_hash.so
-	printf '%s\n' $(LINES) > $(DESTDIR)$(PREFIX)/lib/pkgconfig/gix_hash.pc
+	tools/install '$(DESTDIR)' '$(PREFIX)' '$(VERSION)'
+
+uninstall:
+	tools/install --remove '$(DESTDIR)' '$(PREFIX)' '$(VERSION)'
 
 clean:
 	rm -rf crates/*/out out
