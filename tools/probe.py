@@ -62,7 +62,9 @@ def print_end(output):
 
 def program(name):
     """The path of a program, which is proved and built first if it has to be."""
-    subprocess.run([ROOT / name], stdin=subprocess.DEVNULL, stdout=subprocess.DEVNULL, stderr=subprocess.DEVNULL, check=False)
+    made = subprocess.run(["flock", "crates.txt", "make", "-s", name], cwd=ROOT, stdin=subprocess.DEVNULL, stdout=sys.stderr)
+    if made.returncode:
+        sys.exit(f"{name} is not measured, since it was not proved and built")
     return str(ROOT / "crates" / name / "out" / name)
 
 
