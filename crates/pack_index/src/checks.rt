@@ -26,6 +26,7 @@ pub fn check_tables(bytes: &[u8], kind: Kind) -> Result<(), Error>
     ensures head { OnOk result (HasHead kind bytes.now) }
     ensures tables { OnOk result (HasTables kind bytes.now) }
     ensures err { IfErr result (IsFault kind bytes.now) }
+    ensures early { IfErr result (λ _. ¬ (HasHead kind bytes.now × HasTables kind bytes.now)) }
 {
     if bytes.len() < COUNTS_LEN + 2 * kind.len_in_bytes() {
         return Err(Error::TooShort);
