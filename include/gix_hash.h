@@ -8,9 +8,10 @@
  * No function allocates memory or keeps anything between calls, so any thread may call any function at
  * any time. Every call is safe and returns, whatever the values are, if the caller ensures that
  *
- * - no pointer is null, even if its len is 0, each pointer is aligned, and each len is below 2^63;
- * - a pointer with a len points to len initialised bytes, and any other to one initialised struct or
- *   number. Initialise also what a function writes, for example to zeros;
+ * - each pointer is aligned, and each len is below 2^63;
+ * - a pointer with a len points to len initialised bytes (if the len is 0, it may be null), and any
+ *   other to one initialised struct or number. Initialise also what a function writes, for example to
+ *   zeros;
  * - nobody changes these bytes during the call, and what a function writes does not overlap anything
  *   else that is passed to it.
  *
@@ -37,32 +38,45 @@ extern "C" {
 #define GIX_HASH_SHA1 1   /* 20 bytes, 40 digits */
 #define GIX_HASH_SHA256 2 /* 32 bytes, 64 digits */
 
-/* Codes. */
-#define GIX_HASH_OK 0
-#define GIX_HASH_BAD_LENGTH 1   /* no id or prefix has this number of digits */
-#define GIX_HASH_BAD_DIGIT 2    /* a byte of the text is not a hex digit */
-#define GIX_HASH_BAD_KIND 3     /* the kind is neither GIX_HASH_SHA1 nor GIX_HASH_SHA256 */
-#define GIX_HASH_NO_ROOM 4      /* the buffer is too short */
-#define GIX_HASH_TOO_LONG 5     /* the prefix has more digits than ids of the kind */
-#define GIX_HASH_OUT_OF_RANGE 6 /* the index is not below the number of names */
-#define GIX_HASH_UNSORTED 7     /* a digest is below the one before it */
-#define GIX_HASH_NOT_UNIQUE 8   /* another name is the same, so no beginning of this one is unique */
+/* Codes: the name, the number and the meaning of each. From 16 on they say why bytes are not a pack
+ * index. "detail" is a number that gix_hash_pack_check writes. */
+#define GIX_HASH_CODES(CODE) \
+    CODE(OK, 0, "success") \
+    CODE(BAD_LENGTH, 1, "no id or prefix has this number of digits") \
+    CODE(BAD_DIGIT, 2, "a byte of the text is not a hex digit") \
+    CODE(BAD_KIND, 3, "the kind is neither GIX_HASH_SHA1 nor GIX_HASH_SHA256") \
+    CODE(NO_ROOM, 4, "the buffer is too short") \
+    CODE(TOO_LONG, 5, "the prefix has more digits than ids of the kind") \
+    CODE(OUT_OF_RANGE, 6, "the index is not below the number of names") \
+    CODE(UNSORTED, 7, "a digest is below the one before it") \
+    CODE(NOT_UNIQUE, 8, "another name is the same, so no beginning of this one is unique") \
+    CODE(TOO_SHORT, 16, "fewer bytes than any pack index has") \
+    CODE(VERSION_1, 17, "a pack index of version 1, by its length") \
+    CODE(BAD_MAGIC, 18, "no pack index: the magic number is missing") \
+    CODE(BAD_VERSION, 19, "a pack index of another version than 2 (detail: which)") \
+    CODE(WRONG_LENGTH, 20, "the tables do not fill the bytes") \
+    CODE(NAMES_FALL, 21, "a name is below the one before it (detail: its index)") \
+    CODE(WRONG_COUNT, 22, "the names of a first byte are counted wrong (detail: the byte)") \
+    CODE(NO_OFFSET, 23, "the offset of a name is in no table (detail: its index)") \
+    CODE(LONG_OUT_OF_ORDER, 24, "a name's long offset is not the next one (detail: its index)") \
+    CODE(SPARE_LONG, 25, "a long offset is of no name (detail: its number)") \
+    CODE(OFFSET_IN_HEADER, 26, "the offset of a name is below 12 (detail: its index)") \
+    CODE(OFFSET_TOO_HIGH, 27, "the offset of a name is 2^63 or more (detail: its index)") \
+    CODE(WRONG_CHECKSUM, 28, "the last bytes are not the digest of those before them") \
+    CODE(OTHER_KIND, 29, "a pack index of the other kind (detail: which)")
 
-/* Why bytes are not a pack index, with the detail of those that have one. */
-#define GIX_HASH_TOO_SHORT 16         /* fewer bytes than any index has */
-#define GIX_HASH_VERSION_1 17         /* an index of version 1, by its length */
-#define GIX_HASH_BAD_MAGIC 18         /* the magic number is missing */
-#define GIX_HASH_BAD_VERSION 19       /* detail: the version, which is not 2 */
-#define GIX_HASH_WRONG_LENGTH 20      /* the tables do not fill the bytes */
-#define GIX_HASH_NAMES_FALL 21        /* detail: the first index whose name is below the one before it */
-#define GIX_HASH_WRONG_COUNT 22       /* detail: the first byte, 0 to 255, whose names are counted wrong */
-#define GIX_HASH_NO_OFFSET 23         /* detail: the first index whose offset is in no table */
-#define GIX_HASH_LONG_OUT_OF_ORDER 24 /* detail: the first index whose long offset is not the next one */
-#define GIX_HASH_SPARE_LONG 25        /* detail: the number of the first long offset that no name has */
-#define GIX_HASH_OFFSET_IN_HEADER 26  /* detail: the first index whose offset is below 12 */
-#define GIX_HASH_OFFSET_TOO_HIGH 27   /* detail: the first index whose offset is 2^63 or more */
-#define GIX_HASH_WRONG_CHECKSUM 28    /* the last bytes are not the digest of those before them */
-#define GIX_HASH_OTHER_KIND 29        /* detail: the kind of which the bytes are a pack index */
+/* GIX_HASH_OK, GIX_HASH_BAD_LENGTH, .. */
+#define GIX_HASH_CODE(name, number, text) GIX_HASH_##name = number,
+enum { GIX_HASH_CODES(GIX_HASH_CODE) };
+#undef GIX_HASH_CODE
+
+/* Returns the meaning of a code, or of another number a text that says so. */
+static inline const char *gix_hash_code_text(uint32_t code) {
+#define GIX_HASH_CODE(name, number, text) case number: return text;
+    switch (code) { GIX_HASH_CODES(GIX_HASH_CODE) }
+#undef GIX_HASH_CODE
+    return "no code of gix_hash.h";
+}
 
 /* No order, where -1, 0 and 1 are orders. */
 #define GIX_HASH_NO_ORDER 2
@@ -131,6 +145,11 @@ uint32_t gix_hash_check_sorted(uint32_t kind, const uint8_t *table, size_t len, 
  * Returns GIX_HASH_OK, GIX_HASH_BAD_KIND, GIX_HASH_BAD_LENGTH or GIX_HASH_TOO_LONG. */
 uint32_t gix_hash_find(uint32_t kind, const uint8_t *table, size_t len, const gix_hash_prefix *prefix, gix_hash_run *run);
 
+/* Gets the kind of which the bytes are a pack index (SHA-1, if they are one of both kinds). Checks them
+ * whole, for one kind and then for the other.
+ * Returns GIX_HASH_OK, or the code of gix_hash_pack_check for GIX_HASH_SHA1. */
+uint32_t gix_hash_pack_kind(const uint8_t *bytes, size_t len, uint32_t *kind);
+
 /* Checks whether bytes are a pack index of version 2 with names of a kind, as Git reads it: tables,
  * order, counts, offsets and checksum. Takes time proportional to len.
  * Returns GIX_HASH_OK, GIX_HASH_BAD_KIND, GIX_HASH_OTHER_KIND, or the first of the codes from
@@ -155,7 +174,8 @@ uint32_t gix_hash_pack_entry(uint32_t kind, const uint8_t *bytes, size_t len, si
 uint32_t gix_hash_pack_find(uint32_t kind, const uint8_t *bytes, size_t len, const gix_hash_prefix *prefix, gix_hash_run *run);
 
 /* Gets the number of digits of the shortest unique name of the object at an index: the smallest number,
- * at least 4, of its first digits with which no other name begins.
+ * at least 4, of its first digits with which no other name begins. For any bytes it is at most the
+ * number of digits of the kind, 40 or 64.
  * Also returns GIX_HASH_OUT_OF_RANGE or GIX_HASH_NOT_UNIQUE, after the codes above. */
 uint32_t gix_hash_pack_abbreviate(uint32_t kind, const uint8_t *bytes, size_t len, size_t at, size_t *hex_len);
 

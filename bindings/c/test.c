@@ -127,6 +127,26 @@ static void test_errors(void) {
     CHECK(0, gix_hash_check_sorted(1, fall, 60, &number) == GIX_HASH_UNSORTED && number == 2);
 }
 
+/* No bytes, at no address. */
+static void test_nothing(void) {
+    gix_hash_id id = id_of(EMPTY);
+    gix_hash_prefix prefix = prefix_of(EMPTY, 7);
+    gix_hash_run run = {3, 4};
+    gix_hash_entry entry = {0};
+    size_t number = 6;
+    uint64_t detail = 7;
+    uint32_t kind = 8, none = GIX_HASH_TOO_SHORT;
+    CHECK(0, gix_hash_id_from_hex(NULL, 0, &id) == GIX_HASH_BAD_LENGTH);
+    CHECK(0, gix_hash_prefix_from_hex(NULL, 0, &prefix) == GIX_HASH_BAD_LENGTH);
+    CHECK(0, gix_hash_id_to_hex(&id, NULL, 0) == GIX_HASH_NO_ROOM);
+    CHECK(0, !gix_hash_digest(GIX_HASH_SHA256, NULL, 0, &id) && !strcmp(hex_of(&id), EMPTY));
+    CHECK(0, !gix_hash_check_sorted(1, NULL, 0, &number) && number == 6);
+    CHECK(0, !gix_hash_find(1, NULL, 0, &prefix, &run) && !run.start && !run.end);
+    CHECK(0, gix_hash_pack_check(1, NULL, 0, &detail) == none && gix_hash_pack_kind(NULL, 0, &kind) == none && kind == 8);
+    CHECK(0, gix_hash_pack_count(1, NULL, 0, &number) == none && gix_hash_pack_entry(1, NULL, 0, 0, &entry) == none);
+    CHECK(0, gix_hash_pack_find(1, NULL, 0, &prefix, &run) == none && gix_hash_pack_abbreviate(1, NULL, 0, 0, &number) == none);
+}
+
 /* Copies of an index with one byte changed, and of another length, with the code and the detail. */
 static const struct { size_t at; uint8_t byte; long cut; uint32_t code; uint64_t detail; } broken[] = {
     {0, 0, 0, GIX_HASH_BAD_MAGIC, 7},           {7, 3, 0, GIX_HASH_BAD_VERSION, 3},
@@ -151,6 +171,25 @@ static void test_broken(uint32_t kind, size_t len) {
     CHECK(0, gix_hash_pack_check(kind, bytes, len, &detail) == last && detail == 7);
     bytes[len - 1] ^= 1;
     CHECK(0, gix_hash_pack_check(3 - kind, bytes, len, &detail) == GIX_HASH_OTHER_KIND && detail == kind);
+    uint32_t found = 7;
+    CHECK(0, !gix_hash_pack_kind(bytes, len, &found) && found == kind);
+    bytes[0] ^= 1, found = 7;
+    CHECK(0, gix_hash_pack_kind(bytes, len, &found) == GIX_HASH_BAD_MAGIC && found == 7);
+    bytes[0] ^= 1;
+}
+
+/* Of names that fall, a short name is still within the id. */
+static void test_changed(uint32_t kind, size_t len, size_t count) {
+    size_t size = kind == 1 ? 20 : 32;
+    uint8_t good[64];
+    memcpy(good, bytes + 1032, sizeof good);
+    for (size_t at = 1; at < count; at++) {
+        size_t hex_len = 0;
+        memcpy(bytes + 1032, bytes + 1032 + at * size, size); /* the first name is another one */
+        uint32_t code = gix_hash_pack_abbreviate(kind, bytes, len, 0, &hex_len);
+        CHECK(at, code ? code == GIX_HASH_NOT_UNIQUE && !hex_len : hex_len >= 4 && hex_len <= 2 * size);
+        memcpy(bytes + 1032, good, sizeof good);
+    }
 }
 
 /* The runs of the first 1 to 5 digits of a text, by all names. */
@@ -197,14 +236,16 @@ static void test_index(const char *folder, const char *name, uint32_t kind) {
         test_runs(kind, len, count, names[at]);
     }
     test_runs(kind, len, count, "00000"), test_runs(kind, len, count, "fffff"), test_runs(kind, len, count, "80808");
-    test_broken(kind, len);
+    test_broken(kind, len), test_changed(kind, len, count);
     if (file) fclose(file);
     if (git) pclose(git);
 }
 
 int main(int count, char **words) {
     const char *folder = count > 1 ? words[1] : ".";
-    test_digests(), test_texts(), test_errors();
+    test_digests(), test_texts(), test_errors(), test_nothing();
+    CHECK(0, !strcmp(gix_hash_code_text(GIX_HASH_NO_ROOM), "the buffer is too short"));
+    CHECK(0, !strcmp(gix_hash_code_text(30), "no code of gix_hash.h"));
     test_index(folder, "sha1.idx", GIX_HASH_SHA1), test_index(folder, "sha256.idx", GIX_HASH_SHA256);
     test_index(folder, "longs.idx", GIX_HASH_SHA1);
     printf("%d passed, %d failed\n", passed, failed);

@@ -13,6 +13,7 @@ use Rattle.gix_hash.specs.declared.prefix.from_hex.Error as from_hex
 use Rattle.gix_hash.specs.declared.prefix.from_hex.Error.TheVariants as refused
 use Rattle.gix_hash_c.specs.declared.ids.Id.{Id}
 use Rattle.gix_hash_c.specs.declared.prefixes.Prefix.{Prefix}
+use Rattle.gix_hash_c.specs.declared.codes.TheConstants.{BAD_DIGIT, BAD_KIND, BAD_LENGTH, NO_ROOM, OK}
 
 -- the kind that a number names: 1 is SHA-1, and 2 is SHA-256
 abbrev pub kind_of_number : ℕ → Option Kind
@@ -38,42 +39,26 @@ pub record HoldsDigits (digits : List ℕ) (prefix : Prefix) : Type 0 where
   pub hex_len : prefix.hex_len ≡ length digits
   pub bytes : digits_of prefix.bytes ≡ padded 64 digits
 
--- the codes
-abbrev pub ok : ℕ
-ok = 0
-
-abbrev pub bad_length : ℕ
-bad_length = 1
-
-abbrev pub bad_digit : ℕ
-bad_digit = 2
-
-abbrev pub bad_kind : ℕ
-bad_kind = 3
-
-abbrev pub no_room : ℕ
-no_room = 4
-
 -- what reading an id returns, and leaves
 abbrev pub IdAnswer : Result KindDigits decode.Error → ℕ → Id → Id → Type 0
-IdAnswer (Ok read) code old new = (code ≡ ok) × Holds read new
-IdAnswer (Err (unread.InvalidHexEncodingLength n)) code old new = (code ≡ bad_length) × (new ≡ old)
-IdAnswer (Err unread.Invalid) code old new = (code ≡ bad_digit) × (new ≡ old)
+IdAnswer (Ok read) code old new = (code ≡ OK) × Holds read new
+IdAnswer (Err (unread.InvalidHexEncodingLength n)) code old new = (code ≡ BAD_LENGTH) × (new ≡ old)
+IdAnswer (Err unread.Invalid) code old new = (code ≡ BAD_DIGIT) × (new ≡ old)
 
 -- what reading a prefix returns, and leaves
 abbrev pub PrefixAnswer : Result KindDigits from_hex.Error → ℕ → Prefix → Prefix → Type 0
-PrefixAnswer (Ok read) code old new = (code ≡ ok) × HoldsDigits read.digits new
-PrefixAnswer (Err refused.Invalid) code old new = (code ≡ bad_digit) × (new ≡ old)
-PrefixAnswer (Err (refused.TooShort n)) code old new = (code ≡ bad_length) × (new ≡ old)
-PrefixAnswer (Err (refused.TooLong n)) code old new = (code ≡ bad_length) × (new ≡ old)
+PrefixAnswer (Ok read) code old new = (code ≡ OK) × HoldsDigits read.digits new
+PrefixAnswer (Err refused.Invalid) code old new = (code ≡ BAD_DIGIT) × (new ≡ old)
+PrefixAnswer (Err (refused.TooShort n)) code old new = (code ≡ BAD_LENGTH) × (new ≡ old)
+PrefixAnswer (Err (refused.TooLong n)) code old new = (code ≡ BAD_LENGTH) × (new ≡ old)
 
 -- what spelling an id returns, and leaves in the buffer, by whether the buffer is too short
 abbrev pub SpellingAnswer : Bool → KindDigits → ℕ → List ℕ → List ℕ → Type 0
-SpellingAnswer true id code old new = (code ≡ no_room) × (new ≡ old)
-SpellingAnswer false id code old new = (code ≡ ok) × (new ≡ spelling hex_letter id.digits ++ drop (hex_len_of id.kind) old)
+SpellingAnswer true id code old new = (code ≡ NO_ROOM) × (new ≡ old)
+SpellingAnswer false id code old new = (code ≡ OK) × (new ≡ spelling hex_letter id.digits ++ drop (hex_len_of id.kind) old)
 
 abbrev pub HexAnswer : Option KindDigits → ℕ → List ℕ → List ℕ → Type 0
-HexAnswer None code old new = (code ≡ bad_kind) × (new ≡ old)
+HexAnswer None code old new = (code ≡ BAD_KIND) × (new ≡ old)
 HexAnswer (Some id) code old new = SpellingAnswer (nat_lt (length old) (hex_len_of id.kind)) id code old new
 
 -- the number of an order
@@ -100,25 +85,5 @@ place_number None id = no_order
 
 -- what hashing returns, and leaves
 abbrev pub DigestAnswer : ℕ → Option KindDigits → Id → Id → Type 0
-DigestAnswer code (Some digest) old new = (code ≡ ok) × Holds digest new
-DigestAnswer code None old new = (code ≡ bad_kind) × (new ≡ old)
-
--- the prefix has more digits than the ids that it is looked up among
-abbrev pub too_long : ℕ
-too_long = 5
-
--- no name has the index
-abbrev pub out_of_range : ℕ
-out_of_range = 6
-
--- a list is not sorted
-abbrev pub unsorted : ℕ
-unsorted = 7
-
--- a name that occurs more than once has no shortest name
-abbrev pub not_unique : ℕ
-not_unique = 8
-
--- the offset of a name is in no table
-abbrev pub no_offset : ℕ
-no_offset = 23
+DigestAnswer code (Some digest) old new = (code ≡ OK) × Holds digest new
+DigestAnswer code None old new = (code ≡ BAD_KIND) × (new ≡ old)

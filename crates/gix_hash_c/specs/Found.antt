@@ -7,8 +7,8 @@ use Rattle.id_lookup.specs.FoundRun.{IsRun}
 use Rattle.id_lookup.specs.Sorted.{IsSortedIds, IsFirstUnsorted}
 use Rattle.id_lookup.specs.declared.search.Run as found
 use Rattle.pack_index.specs.Format.{digests_in}
-use Rattle.gix_hash_c.specs.Face.{bad_kind, bad_length, ok, too_long, unsorted}
 use Rattle.gix_hash_c.specs.declared.look_up.Run.{Run}
+use Rattle.gix_hash_c.specs.declared.codes.TheConstants.{BAD_KIND, BAD_LENGTH, OK, TOO_LONG, UNSORTED}
 
 -- a run of C's as one of `id_lookup`
 abbrev pub run_in : Run → found.Run
@@ -22,18 +22,18 @@ pub record IsFound (digits : List ℕ) (ids : List (List ℕ)) (run : Run) : Typ
 
 -- what a look-up returns, and leaves, by whether there are too many digits
 abbrev pub FoundBy : Bool → List ℕ → List (List ℕ) → ℕ → Run → Run → Type 0
-FoundBy true digits ids code old new = (code ≡ too_long) × (new ≡ old)
-FoundBy false digits ids code old new = (code ≡ ok) × IsFound digits ids new
+FoundBy true digits ids code old new = (code ≡ TOO_LONG) × (new ≡ old)
+FoundBy false digits ids code old new = (code ≡ OK) × IsFound digits ids new
 
 abbrev pub FindAnswer : Option Kind → List ℕ → Option (List ℕ) → ℕ → Run → Run → Type 0
-FindAnswer None table prefix code old new = (code ≡ bad_kind) × (new ≡ old)
-FindAnswer (Some kind) table None code old new = (code ≡ bad_length) × (new ≡ old)
+FindAnswer None table prefix code old new = (code ≡ BAD_KIND) × (new ≡ old)
+FindAnswer (Some kind) table None code old new = (code ≡ BAD_LENGTH) × (new ≡ old)
 FindAnswer (Some kind) table (Some digits) code old new =
     FoundBy (nat_lt (hex_len_of kind) (length digits)) digits (digests_in kind table) code old new
 
 -- what the test of an order returns, and leaves
 abbrev pub SortedAnswer : Option Kind → List ℕ → ℕ → ℕ → ℕ → Type 0
-SortedAnswer None table code old new = (code ≡ bad_kind) × (new ≡ old)
+SortedAnswer None table code old new = (code ≡ BAD_KIND) × (new ≡ old)
 SortedAnswer (Some kind) table code old new =
-    ((code ≡ ok) × IsSortedIds (digests_in kind table) × (new ≡ old))
-    ⊎ ((code ≡ unsorted) × IsFirstUnsorted (digests_in kind table) new)
+    ((code ≡ OK) × IsSortedIds (digests_in kind table) × (new ≡ old))
+    ⊎ ((code ≡ UNSORTED) × IsFirstUnsorted (digests_in kind table) new)

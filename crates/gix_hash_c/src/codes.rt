@@ -1,4 +1,4 @@
-//! The codes that functions return.
+//! The codes that functions return. Clauses, the header and the bindings have these numbers.
 
 ghost use Rattle.std.specs.Prelude.{◌≡◌};
 ghost use Rattle.gix_hash_c.specs.Face.{kind_of_number, order_number};
@@ -24,7 +24,33 @@ pub(crate) const UNSORTED: u32 = 7;
 
 pub(crate) const NOT_UNIQUE: u32 = 8;
 
+pub(crate) const TOO_SHORT: u32 = 16;
+
+pub(crate) const VERSION_1: u32 = 17;
+
+pub(crate) const BAD_MAGIC: u32 = 18;
+
+pub(crate) const BAD_VERSION: u32 = 19;
+
+pub(crate) const WRONG_LENGTH: u32 = 20;
+
+pub(crate) const NAMES_FALL: u32 = 21;
+
+pub(crate) const WRONG_COUNT: u32 = 22;
+
 pub(crate) const NO_OFFSET: u32 = 23;
+
+pub(crate) const LONG_OUT_OF_ORDER: u32 = 24;
+
+pub(crate) const SPARE_LONG: u32 = 25;
+
+pub(crate) const OFFSET_IN_HEADER: u32 = 26;
+
+pub(crate) const OFFSET_TOO_HIGH: u32 = 27;
+
+pub(crate) const WRONG_CHECKSUM: u32 = 28;
+
+pub(crate) const OTHER_KIND: u32 = 29;
 
 pub(crate) const NO_ORDER: i32 = 2;
 

@@ -8,10 +8,12 @@ ghost use Rattle.id_lookup.specs.ShortNames.{IsShortestName};
 ghost use Rattle.id_lookup.specs.Sorted.{IsSortedIds};
 ghost use Rattle.pack_index.specs.Format.{HasHead, HasTables, crcs_at, digests_in, names_at, names_in};
 ghost use Rattle.gix_hash_c.specs.Face.{Holds, kind_of_number, prefix_in};
-ghost use Rattle.gix_hash_c.specs.Packs.{CheckAnswer, EntryAnswer, IsCause, LenAnswer, PackFindAnswer, ShortestAnswer, cause_number, detail_of};
+ghost use Rattle.gix_hash_c.specs.Packs.{CheckAnswer, EntryAnswer, IsCause, LenAnswer, PackFindAnswer, PackKindAnswer, ShortestAnswer, cause_number, detail_of};
 
 use crate::codes::{
-    BAD_KIND, BAD_LENGTH, NO_OFFSET, NOT_UNIQUE, OK, OUT_OF_RANGE, TOO_LONG, kind_of,
+    BAD_KIND, BAD_LENGTH, BAD_MAGIC, BAD_VERSION, LONG_OUT_OF_ORDER, NAMES_FALL, NO_OFFSET,
+    NOT_UNIQUE, OFFSET_IN_HEADER, OFFSET_TOO_HIGH, OK, OTHER_KIND, OUT_OF_RANGE, SPARE_LONG,
+    TOO_LONG, TOO_SHORT, VERSION_1, WRONG_CHECKSUM, WRONG_COUNT, WRONG_LENGTH, kind_of,
 };
 use crate::ids::{Id, to_c};
 use crate::look_up::{Run, find_in};
@@ -50,6 +52,25 @@ pub extern "C" fn gix_hash_pack_check(kind: u32, bytes: &[u8], detail: &mut u64)
             }
         },
         None => BAD_KIND,
+    }
+}
+
+/// The kind of which the bytes are a pack index: its number. An error is the number of the cause for
+/// which they are none of SHA-1, and leaves `kind` as it was.
+#[unsafe(no_mangle)]
+pub extern "C" fn gix_hash_pack_kind(bytes: &[u8], kind: &mut u32) -> u32
+    ensures { PackKindAnswer bytes.now result kind.old kind.new }
+{
+    match File::try_new(bytes, Kind::Sha1) {
+        Ok(_) => {
+            *kind = 1;
+            OK
+        }
+        Err(Error::OtherKind(_)) => {
+            *kind = 2;
+            OK
+        }
+        Err(error) => cause_of(error),
     }
 }
 
@@ -152,20 +173,20 @@ fn cause_of(error: Error) -> u32
     ensures { result ≡ cause_number error }
 {
     match error {
-        Error::TooShort => 16,
-        Error::Version1 => 17,
-        Error::BadMagic => 18,
-        Error::BadVersion(_) => 19,
-        Error::WrongLength => 20,
-        Error::NamesFall(_) => 21,
-        Error::WrongCount(_) => 22,
-        Error::NoOffset(_) => 23,
-        Error::LongOutOfOrder(_) => 24,
-        Error::SpareLong(_) => 25,
-        Error::OffsetInHeader(_) => 26,
-        Error::OffsetTooHigh(_) => 27,
-        Error::WrongChecksum => 28,
-        Error::OtherKind(_) => 29,
+        Error::TooShort => TOO_SHORT,
+        Error::Version1 => VERSION_1,
+        Error::BadMagic => BAD_MAGIC,
+        Error::BadVersion(_) => BAD_VERSION,
+        Error::WrongLength => WRONG_LENGTH,
+        Error::NamesFall(_) => NAMES_FALL,
+        Error::WrongCount(_) => WRONG_COUNT,
+        Error::NoOffset(_) => NO_OFFSET,
+        Error::LongOutOfOrder(_) => LONG_OUT_OF_ORDER,
+        Error::SpareLong(_) => SPARE_LONG,
+        Error::OffsetInHeader(_) => OFFSET_IN_HEADER,
+        Error::OffsetTooHigh(_) => OFFSET_TOO_HIGH,
+        Error::WrongChecksum => WRONG_CHECKSUM,
+        Error::OtherKind(_) => OTHER_KIND,
     }
 }
 
@@ -244,6 +265,8 @@ fn name_at(kind: Kind, table: &[u8], at: usize) -> Id
 // The length of the shortest name at an index of a table.
 fn shortest_at(kind: Kind, table: &[u8], at: usize) -> Option<usize>
     requires { at < length (digests_in kind table.now) }
+    ensures long { IfSome result (λ hex_len. 4 ≤ hex_len) }
+    ensures in_range { IfSome result (λ hex_len. hex_len ≤ hex_len_of kind) }
     ensures name { IfSome result (λ hex_len. IsSortedIds (digests_in kind table.now)
         → IsShortestName (digests_in kind table.now) at
         (take hex_len (slice_index_or (digests_in kind table.now) at []))) }
