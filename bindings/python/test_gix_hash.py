@@ -1,23 +1,41 @@
 """Compares gix_hash with hashlib, Git, and Python's own texts and lists."""
 
 import bisect
+import copy
 import doctest
 import hashlib
+import mmap
+import os
 import pathlib
+import pickle
 import random
 import subprocess
+import sys
+import tempfile
 import unittest
 
-import gix_hash
-from gix_hash import Code, Error, Id, Kind, PackIndex, Prefix, SortedDigests
+# Where `make lib` leaves it.
+os.environ.setdefault("GIX_HASH_LIBRARY", str(pathlib.Path(__file__).resolve().parents[2] / "out" / "libgix_hash.so"))
+import gix_hash  # noqa: E402
+from gix_hash import Code, Error, Id, Kind, PackIndex, Prefix, SortedDigests  # noqa: E402
 
-DATA = pathlib.Path(__file__).resolve().parents[2] / "crates" / "pack_index_tests" / "data"
 KINDS = {Kind.SHA1: "sha1", Kind.SHA256: "sha256"}
 EMPTY = hashlib.sha256().hexdigest()
 
 
-def git(*words, data):
+def git(*words, data=b""):
     return subprocess.run(["git", *words], input=data, stdout=subprocess.PIPE, check=True).stdout.decode()
+
+
+def index_of(kind):
+    """A pack index that git makes of 300 blobs. Offsets above 2,000 are long ones."""
+    with tempfile.TemporaryDirectory() as folder:
+        git("init", "-q", f"--object-format={KINDS[kind]}", folder)
+        blobs = "".join(f"blob\ndata 3\n{n}\n" for n in range(100, 400))
+        git("-C", folder, "-c", "fastimport.unpackLimit=1", "fast-import", "--quiet", data=blobs.encode())
+        (pack,) = pathlib.Path(folder, ".git/objects/pack").glob("*.pack")
+        git("-C", folder, "index-pack", "--index-version=2,2000", "-o", "index", str(pack))
+        return pathlib.Path(folder, "index").read_bytes()
 
 
 def load_tests(loader, tests, pattern):
@@ -64,15 +82,43 @@ class Bindings(unittest.TestCase):
             self.assertEqual(Prefix(digits).cmp(other), (digits > front) - (digits < front))
         self.fails(Code.TOO_LONG, 0, Prefix(EMPTY[:41]).cmp, Id(EMPTY[:40]))
 
+    def test_values(self):
+        for make in (Id, Prefix):
+            one, same, other = make(EMPTY), make(EMPTY.upper()), make(EMPTY[:40])
+            self.assertEqual((one, hash(one), str(one), repr(one)), (same, hash(same), EMPTY, f"{make.__name__}('{EMPTY}')"))
+            self.assertNotEqual(one, other)
+            self.assertNotEqual(one, EMPTY)
+            self.assertEqual((pickle.loads(pickle.dumps(one)), copy.deepcopy(one)), (one, one))
+            self.assertRaises(TypeError, make, 40)
+        self.assertEqual([str(Prefix(EMPTY[:n])) for n in (1, 2, 63)], [EMPTY[:n] for n in (1, 2, 63)])
+        for wrong in (40, None, EMPTY, 1.5):
+            for call in (Id.from_bytes, PackIndex.kind_of):
+                self.assertRaises(TypeError, call, wrong)
+            for call in (Id.digest, SortedDigests, PackIndex):
+                self.assertRaises(TypeError, call, Kind.SHA1, wrong)
+
+    def test_library(self):
+        words = [sys.executable, "-c", "import gix_hash"]
+        found = {**os.environ, "GIX_HASH_LIBRARY": "/nowhere.so", "PYTHONPATH": os.pathsep.join(sys.path)}
+        ran = subprocess.run(words, env=found, stderr=subprocess.PIPE, text=True)
+        self.assertRegex(ran.stderr, "ImportError: .*/nowhere.so.*GIX_HASH_LIBRARY")
+
     def test_indexes(self):
-        for file, kind in (("sha1.idx", Kind.SHA1), ("sha256.idx", Kind.SHA256), ("longs.idx", Kind.SHA1)):
-            data = (DATA / file).read_bytes()
+        for kind in KINDS:
+            data = index_of(kind)
             index = PackIndex(kind, data)
+            self.assertEqual((len(index), PackIndex.kind_of(data)), (300, kind))
             lines = [f"{it.offset} {it.id} ({it.crc:08x})\n" for it in index]
             self.assertEqual("".join(lines), git("show-index", f"--object-format={KINDS[kind]}", data=data))
             names = [str(it.id) for it in index]
             table = SortedDigests(kind, b"".join(bytes(it.id) for it in index))
             self.assertEqual([str(it) for it in table], names)
+            for list_of in (index, table):
+                each = list(list_of)
+                self.assertEqual((list_of[-1], list_of[-300], list_of[5:-3:7], list_of[::-1]), (each[-1], each[0], each[5:-3:7], each[::-1]))
+                for at in (300, -301):
+                    self.assertRaises(IndexError, list_of.__getitem__, at)
+                self.assertRaises(TypeError, list_of.__getitem__, 1.0)
             for at, name in enumerate(names):
                 hex_len = index.abbreviate(at)
                 shared = [sum(other.startswith(name[:length]) for other in names) for length in range(4, 41)]
@@ -84,8 +130,23 @@ class Bindings(unittest.TestCase):
             self.fails(Code.OTHER_KIND, kind, PackIndex, 3 - kind, data)
             self.fails(Code.WRONG_CHECKSUM, 0, PackIndex, kind, data[:-1] + bytes([data[-1] ^ 1]))
             self.fails(Code.BAD_VERSION, 9, PackIndex, kind, data[:7] + b"\x09" + data[8:])
-        self.fails(Code.TOO_LONG, 0, table.find, Prefix(EMPTY))
+        self.fails(Code.TOO_LONG, 0, SortedDigests(Kind.SHA1, b"").find, Prefix(EMPTY))
+        self.fails(Code.BAD_MAGIC, 0, PackIndex.kind_of, bytes(2000))
         self.fails(Code.UNSORTED, 1, SortedDigests, Kind.SHA1, b"2" * 20 + b"1" * 20)
+
+    def test_buffers(self):
+        with tempfile.TemporaryFile() as file:
+            file.write(index_of(Kind.SHA1))
+            file.flush()
+            with mmap.mmap(file.fileno(), 0, access=mmap.ACCESS_READ) as mapped:
+                index = PackIndex(Kind.SHA1, mapped)
+                self.assertEqual(index._data.words[0], PackIndex(Kind.SHA1, memoryview(mapped))._data.words[0])
+                self.assertEqual(list(index), list(PackIndex(Kind.SHA1, bytearray(mapped[:]))))
+                self.assertRaises(BufferError, mapped.close)
+                del index
+        self.assertRaises(BufferError, Id.digest, Kind.SHA1, memoryview(bytes(10))[::2])
+        self.assertEqual(Id.digest(Kind.SHA256, bytearray()), Id(EMPTY))
+        self.assertEqual(len(SortedDigests(Kind.SHA1, b"")), 0)
 
 
 if __name__ == "__main__":

@@ -12,11 +12,16 @@ The environment variable GIX_HASH_LIBRARY names the library's file, unless it is
 import ctypes
 import enum
 import functools
+import mmap
+import operator
 import os
 import re
-from typing import NamedTuple
+from collections.abc import Sequence
+from typing import Any, List, NamedTuple, Tuple, Union, overload
 
 __version__ = "0.4.0"
+# What has bytes. (Other objects that do, as an array, are taken too.)
+Buffer = Union[bytes, bytearray, memoryview, mmap.mmap]
 
 
 class Kind(enum.IntEnum):
@@ -82,6 +87,7 @@ uint32_t gix_hash_check_sorted(uint32_t kind, const uint8_t *table, size_t len, 
 uint32_t gix_hash_find(uint32_t kind, const uint8_t *table, size_t len, const gix_hash_prefix *prefix,
     gix_hash_run *run);
 uint32_t gix_hash_pack_check(uint32_t kind, const uint8_t *bytes, size_t len, uint64_t *detail);
+uint32_t gix_hash_pack_kind(const uint8_t *bytes, size_t len, uint32_t *kind);
 uint32_t gix_hash_pack_count(uint32_t kind, const uint8_t *bytes, size_t len, size_t *count);
 uint32_t gix_hash_pack_entry(uint32_t kind, const uint8_t *bytes, size_t len, size_t at, gix_hash_entry *entry);
 uint32_t gix_hash_pack_find(uint32_t kind, const uint8_t *bytes, size_t len, const gix_hash_prefix *prefix,
@@ -91,14 +97,17 @@ uint32_t gix_hash_pack_abbreviate(uint32_t kind, const uint8_t *bytes, size_t le
 _TYPES = {"uint8_t": ctypes.c_uint8, "uint32_t": ctypes.c_uint32, "uint64_t": ctypes.c_uint64, "int32_t": ctypes.c_int32}
 _TYPES["size_t"] = ctypes.c_size_t
 # The library is installed under the first two numbers of its version.
-_lib = ctypes.CDLL(os.environ.get("GIX_HASH_LIBRARY", f"libgix_hash.so.{__version__.rpartition('.')[0]}"))
+try:
+    _lib = ctypes.CDLL(os.environ.get("GIX_HASH_LIBRARY", f"libgix_hash.so.{__version__.rpartition('.')[0]}"))
+except OSError as _error:
+    raise ImportError(f"{_error}: set GIX_HASH_LIBRARY to the path of libgix_hash.so") from None
 
 
 def _typed(declared):
-    """The name and the type of a field or a parameter. Bytes that are passed are a Python object's."""
+    """The name and the type of a field or a parameter. Bytes are passed as their address."""
     kind, star, name, count = re.fullmatch(r" *(?:const )?(\w+) (\*?)(\w+)(?:\[(\d+)\])?", declared).groups()
     if star:
-        return name, ctypes.c_char_p if kind == "uint8_t" else ctypes.POINTER(_TYPES[kind])
+        return name, ctypes.c_void_p if kind == "uint8_t" else ctypes.POINTER(_TYPES[kind])
     return name, _TYPES[kind] * int(count) if count else _TYPES[kind]
 
 
@@ -116,10 +125,34 @@ def _check(code, detail=0):
         raise Error(Code(code), detail)
 
 
+class _View(ctypes.Structure):
+    """Python's Py_buffer: its first three fields, and room for the others."""
+
+    _fields_ = [("buf", ctypes.c_void_p), ("obj", ctypes.c_void_p), ("len", ctypes.c_ssize_t), ("_", ctypes.c_byte * 128)]
+
+
+class _Bytes:
+    """The bytes of an object that has some, as bytes, a memoryview or an mmap do. None is copied, and the object keeps
+    them while this one lives."""
+
+    def __init__(self, data):
+        self._view = _View()
+        ctypes.pythonapi.PyObject_GetBuffer(ctypes.py_object(data), ctypes.byref(self._view), 0)
+
+    def __del__(self):
+        ctypes.pythonapi.PyBuffer_Release(ctypes.byref(self._view))
+
+    @property
+    def words(self):
+        """The address and the number of the bytes."""
+        return self._view.buf, self._view.len
+
+
 def _index(at, count):
-    if not 0 <= at < count:
+    at = operator.index(at)
+    if not -count <= at < count:
         raise IndexError(at)
-    return at
+    return at % count
 
 
 @functools.total_ordering
@@ -130,26 +163,26 @@ class Id:
 
     def __init__(self, text: str):
         self._id = _Id()
-        data = text.encode()
+        data = str.encode(text)
         _check(_lib.gix_hash_id_from_hex(data, len(data), self._id))
 
     @classmethod
-    def _of(cls, struct):
+    def _of(cls, struct: Any) -> "Id":
         made = cls.__new__(cls)
         made._id = struct
         return made
 
     @classmethod
-    def digest(cls, kind: Kind, data: bytes) -> "Id":
+    def digest(cls, kind: Kind, data: Buffer) -> "Id":
         """The digest of bytes."""
-        struct, data = _Id(), bytes(data)
-        _check(_lib.gix_hash_digest(kind, data, len(data), struct))
+        struct, view = _Id(), _Bytes(data)
+        _check(_lib.gix_hash_digest(kind, *view.words, struct))
         return cls._of(struct)
 
     @classmethod
-    def from_bytes(cls, digest: bytes) -> "Id":
+    def from_bytes(cls, digest: Buffer) -> "Id":
         """The id with a digest of 20 or 32 bytes. The error is BAD_LENGTH for another length."""
-        return cls(digest.hex())
+        return cls(memoryview(digest).hex())
 
     @property
     def kind(self) -> Kind:
@@ -167,14 +200,17 @@ class Id:
     def __repr__(self) -> str:
         return f"Id('{self}')"
 
-    def __eq__(self, other) -> bool:
+    def __eq__(self, other: object) -> bool:
         return isinstance(other, Id) and _lib.gix_hash_id_cmp(self._id, other._id) == 0
 
-    def __lt__(self, other) -> bool:
+    def __lt__(self, other: "Id") -> bool:
         return _lib.gix_hash_id_cmp(self._id, other._id) < 0 if isinstance(other, Id) else NotImplemented
 
     def __hash__(self) -> int:
         return hash(bytes(self))
+
+    def __reduce__(self) -> Tuple[Any, ...]:
+        return Id, (str(self),)
 
 
 class Prefix:
@@ -184,7 +220,7 @@ class Prefix:
 
     def __init__(self, text: str):
         self._prefix = _Prefix()
-        data = text.encode()
+        data = str.encode(text)
         _check(_lib.gix_hash_prefix_from_hex(data, len(data), self._prefix))
 
     @property
@@ -199,26 +235,48 @@ class Prefix:
         _check(Code.TOO_LONG if order == 2 else 0)
         return order
 
+    def __str__(self) -> str:
+        return bytes(self._prefix.bytes).hex()[: self.hex_len]
 
-class SortedDigests:
-    """Sorted digests of a kind, one after the other. The error is UNSORTED, with the first index whose digest is below
-    the one before it. A part of a digest at the end is left out."""
+    def __repr__(self) -> str:
+        return f"Prefix('{self}')"
 
-    def __init__(self, kind: Kind, table: bytes):
-        self._kind, self._table, at = Kind(kind), bytes(table), ctypes.c_size_t()
-        _check(_lib.gix_hash_check_sorted(kind, self._table, len(self._table), at), at.value)
+    def __eq__(self, other: object) -> bool:
+        return isinstance(other, Prefix) and str(self) == str(other)
+
+    def __hash__(self) -> int:
+        return hash(str(self))
+
+    def __reduce__(self) -> Tuple[Any, ...]:
+        return Prefix, (str(self),)
+
+
+class SortedDigests(Sequence[Id]):
+    """Sorted digests of a kind, one after the other, as a sequence of ids. The error is UNSORTED, with the first index
+    whose digest is below the one before it. A part of a digest at the end is left out. The bytes are not copied, so
+    nobody may change them."""
+
+    def __init__(self, kind: Kind, table: Buffer):
+        self._kind, self._table, at = Kind(kind), _Bytes(table), ctypes.c_size_t()
+        _check(_lib.gix_hash_check_sorted(kind, *self._table.words, at), at.value)
 
     def __len__(self) -> int:
-        return len(self._table) // self._kind.len_in_bytes
+        return self._table.words[1] // self._kind.len_in_bytes
 
-    def __getitem__(self, at: int) -> Id:
-        start = _index(at, len(self)) * self._kind.len_in_bytes
-        return Id.from_bytes(self._table[start : start + self._kind.len_in_bytes])
+    @overload
+    def __getitem__(self, at: int) -> Id: ...
+    @overload
+    def __getitem__(self, at: slice) -> List[Id]: ...
+    def __getitem__(self, at):
+        if isinstance(at, slice):
+            return [self[each] for each in range(*at.indices(len(self)))]
+        size = self._kind.len_in_bytes
+        return Id.from_bytes(ctypes.string_at(self._table.words[0] + _index(at, len(self)) * size, size))
 
     def find(self, prefix: Prefix) -> range:
         """The indexes of the digests that begin with a prefix. The error is TOO_LONG."""
         run = _Run()
-        _check(_lib.gix_hash_find(self._kind, self._table, len(self._table), prefix._prefix, run))
+        _check(_lib.gix_hash_find(self._kind, *self._table.words, prefix._prefix, run))
         return range(run.start, run.end)
 
 
@@ -230,28 +288,41 @@ class Entry(NamedTuple):
     crc: int
 
 
-class PackIndex:
+class PackIndex(Sequence[Entry]):
     """A pack index of version 2, as a sequence of entries. The error is OTHER_KIND, or one from TOO_SHORT to
-    WRONG_CHECKSUM."""
+    WRONG_CHECKSUM. The bytes are not copied, so nobody may change them, and an mmap is closed after this is gone."""
 
-    def __init__(self, kind: Kind, data: bytes):
-        self._kind, self._data, detail = Kind(kind), bytes(data), ctypes.c_uint64()
-        _check(_lib.gix_hash_pack_check(kind, self._data, len(self._data), detail), detail.value)
+    def __init__(self, kind: Kind, data: Buffer):
+        self._kind, self._data, detail = Kind(kind), _Bytes(data), ctypes.c_uint64()
+        _check(_lib.gix_hash_pack_check(kind, *self._data.words, detail), detail.value)
+
+    @staticmethod
+    def kind_of(data: Buffer) -> Kind:
+        """The kind of the names of a pack index. The error is one from TOO_SHORT to WRONG_CHECKSUM."""
+        view, kind = _Bytes(data), ctypes.c_uint32()
+        _check(_lib.gix_hash_pack_kind(*view.words, kind))
+        return Kind(kind.value)
 
     def __len__(self) -> int:
         count = ctypes.c_size_t()
-        _check(_lib.gix_hash_pack_count(self._kind, self._data, len(self._data), count))
+        _check(_lib.gix_hash_pack_count(self._kind, *self._data.words, count))
         return count.value
 
-    def __getitem__(self, at: int) -> Entry:
+    @overload
+    def __getitem__(self, at: int) -> Entry: ...
+    @overload
+    def __getitem__(self, at: slice) -> List[Entry]: ...
+    def __getitem__(self, at):
+        if isinstance(at, slice):
+            return [self[each] for each in range(*at.indices(len(self)))]
         entry = _Entry()
-        _check(_lib.gix_hash_pack_entry(self._kind, self._data, len(self._data), _index(at, len(self)), entry))
+        _check(_lib.gix_hash_pack_entry(self._kind, *self._data.words, _index(at, len(self)), entry))
         return Entry(Id._of(entry.id), entry.offset, entry.crc)
 
     def find(self, prefix: Prefix) -> range:
         """The indexes of the names that begin with a prefix. The error is TOO_LONG."""
         run = _Run()
-        _check(_lib.gix_hash_pack_find(self._kind, self._data, len(self._data), prefix._prefix, run))
+        _check(_lib.gix_hash_pack_find(self._kind, *self._data.words, prefix._prefix, run))
         return range(run.start, run.end)
 
     def abbreviate(self, at: int) -> int:
@@ -259,5 +330,5 @@ class PackIndex:
         a name that occurs more than once."""
         hex_len = ctypes.c_size_t()
         at = _index(at, len(self))
-        _check(_lib.gix_hash_pack_abbreviate(self._kind, self._data, len(self._data), at, hex_len))
+        _check(_lib.gix_hash_pack_abbreviate(self._kind, *self._data.words, at, hex_len))
         return hex_len.value
