@@ -1,6 +1,6 @@
 //! Ids and prefixes.
 
-use crate::{raw, Error};
+use crate::{raw, Code, Error};
 use std::cmp::Ordering;
 use std::fmt;
 use std::str::FromStr;
@@ -22,6 +22,29 @@ impl Kind {
             Kind::Sha1 => 20,
             Kind::Sha256 => 32,
         }
+    }
+}
+
+/// Reads `sha1` or `sha256`. The error is `BadKind`.
+impl FromStr for Kind {
+    type Err = Error;
+
+    fn from_str(text: &str) -> Result<Kind, Error> {
+        match text {
+            "sha1" => Ok(Kind::Sha1),
+            "sha256" => Ok(Kind::Sha256),
+            _ => Err(Error { code: Code::BadKind, detail: 0 }),
+        }
+    }
+}
+
+/// `sha1` or `sha256`.
+impl fmt::Display for Kind {
+    fn fmt(&self, f: &mut fmt::Formatter<'_>) -> fmt::Result {
+        f.pad(match self {
+            Kind::Sha1 => "sha1",
+            Kind::Sha256 => "sha256",
+        })
     }
 }
 
@@ -150,5 +173,13 @@ impl FromStr for Prefix {
         // SAFETY: the text is valid for its length.
         Error::check(unsafe { raw::gix_hash_prefix_from_hex(text.as_ptr(), text.len(), &mut prefix) }, 0)?;
         Ok(Prefix(prefix))
+    }
+}
+
+/// The lowercase hex digits.
+impl fmt::Display for Prefix {
+    fn fmt(&self, f: &mut fmt::Formatter<'_>) -> fmt::Result {
+        let digits: String = self.0.bytes.iter().map(|byte| format!("{byte:02x}")).collect();
+        f.pad(&digits[..self.hex_len()])
     }
 }

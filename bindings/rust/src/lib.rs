@@ -1,6 +1,6 @@
 //! Git's object ids over `libgix_hash`, whose calls are proved; this crate is only tested.
 //!
-//! Set `GIX_HASH_LIB` to the folder of `libgix_hash.a`, unless it is installed.
+//! Set `GIX_HASH_LIB` to the folder of `libgix_hash.a`, unless `make lib` or `make install` put it beside this crate.
 //!
 //! ```
 #![doc = include_str!("../examples/find.rs")]

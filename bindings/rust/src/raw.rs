@@ -45,6 +45,7 @@ extern "C" {
         run: *mut Run,
     ) -> u32;
     pub fn gix_hash_pack_check(kind: u32, bytes: *const u8, len: usize, detail: *mut u64) -> u32;
+    pub fn gix_hash_pack_kind(bytes: *const u8, len: usize, kind: *mut u32) -> u32;
     pub fn gix_hash_pack_count(kind: u32, bytes: *const u8, len: usize, count: *mut usize) -> u32;
     pub fn gix_hash_pack_entry(kind: u32, bytes: *const u8, len: usize, at: usize, entry: *mut Entry) -> u32;
     pub fn gix_hash_pack_find(

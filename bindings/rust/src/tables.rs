@@ -30,6 +30,21 @@ impl<'a> SortedDigests<'a> {
         Ok(SortedDigests { kind, table })
     }
 
+    /// The number of digests.
+    pub fn len(&self) -> usize {
+        self.table.len() / self.kind.len_in_bytes()
+    }
+
+    /// Whether there is none.
+    pub fn is_empty(&self) -> bool {
+        self.len() == 0
+    }
+
+    /// All digests, in order.
+    pub fn iter(&self) -> impl Iterator<Item = Id> + 'a {
+        self.table.chunks_exact(self.kind.len_in_bytes()).filter_map(Id::from_bytes)
+    }
+
     /// The digest at an index, or `None` from the number of digests on.
     pub fn get(&self, at: usize) -> Option<Id> {
         Id::from_bytes(self.table.chunks_exact(self.kind.len_in_bytes()).nth(at)?)
@@ -62,7 +77,7 @@ pub struct Entry {
 /// # use nunbirdstand::{Kind, PackIndex};
 /// let bytes = std::fs::read("pack.idx")?;
 /// let index = PackIndex::new(Kind::Sha1, &bytes)?;
-/// for entry in index.entries() {
+/// for entry in index.iter() {
 ///     println!("{} {}", entry.offset, entry.id);
 /// }
 /// # Ok::<(), Box<dyn std::error::Error>>(())
@@ -83,8 +98,21 @@ impl<'a> PackIndex<'a> {
         Ok(PackIndex { kind, bytes })
     }
 
+    /// The same, of whichever kind the names are. The error is one from `TooShort` to `WrongChecksum`.
+    pub fn of_any_kind(bytes: &'a [u8]) -> Result<PackIndex<'a>, Error> {
+        let mut number = 0;
+        // SAFETY: the slice is valid for its length.
+        let code = unsafe { raw::gix_hash_pack_kind(bytes.as_ptr(), bytes.len(), &mut number) };
+        Error::check(code, 0)?;
+        Ok(PackIndex { kind: if number == 1 { Kind::Sha1 } else { Kind::Sha256 }, bytes })
+    }
+
+    /// The kind of the names.
+    pub fn kind(&self) -> Kind {
+        self.kind
+    }
+
     /// The number of names.
-    #[allow(clippy::len_without_is_empty)]
     pub fn len(&self) -> usize {
         let mut count = 0;
         // SAFETY: the slice is valid for its length.
@@ -92,6 +120,11 @@ impl<'a> PackIndex<'a> {
             raw::gix_hash_pack_count(self.kind as u32, self.bytes.as_ptr(), self.bytes.len(), &mut count)
         };
         count
+    }
+
+    /// Whether there is none.
+    pub fn is_empty(&self) -> bool {
+        self.len() == 0
     }
 
     /// What the index contains about the object at an index, or `None` from the number of names on.
@@ -103,7 +136,7 @@ impl<'a> PackIndex<'a> {
     }
 
     /// All that the index contains, in the order of names.
-    pub fn entries(self) -> impl Iterator<Item = Entry> + 'a {
+    pub fn iter(self) -> impl Iterator<Item = Entry> + 'a {
         (0..self.len()).map_while(move |at| self.get(at))
     }
 

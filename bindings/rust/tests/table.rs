@@ -1,10 +1,39 @@
 //! Values of FIPS 180-4, of Git, and of comparisons of texts.
 
 use nunbirdstand::{Code, Error, Id, Kind, PackIndex, Prefix, SortedDigests};
+use std::io::Write;
+use std::path::Path;
 use std::process::{Command, Stdio};
 
-const DATA: &str = concat!(env!("CARGO_MANIFEST_DIR"), "/../../crates/pack_index_tests/data");
 const EMPTY: &str = "e3b0c44298fc1c149afbf4c8996fb92427ae41e4649b934ca495991b7852b855";
+
+/// The output of git, from a folder, with some input.
+fn git(folder: &Path, words: &[&str], input: &[u8]) -> Vec<u8> {
+    let mut git = Command::new("git");
+    git.arg("-C").arg(folder).args(words).stdin(Stdio::piped()).stdout(Stdio::piped());
+    let mut child = git.spawn().unwrap();
+    child.stdin.take().unwrap().write_all(input).unwrap();
+    child.wait_with_output().unwrap().stdout
+}
+
+/// A pack index that git makes of 300 blobs. Offsets above 2,000 are long ones.
+fn index_of(kind: Kind) -> Vec<u8> {
+    let folder = std::env::temp_dir().join(format!("nunbirdstand-{kind}-{}", std::process::id()));
+    git(
+        &std::env::temp_dir(),
+        &["init", "-q", &format!("--object-format={kind}"), folder.to_str().unwrap()],
+        b"",
+    );
+    let blobs: Vec<_> = (100..400).map(|n| format!("blob\ndata 3\n{n}\n")).collect();
+    git(&folder, &["-c", "fastimport.unpackLimit=1", "fast-import", "--quiet"], blobs.concat().as_bytes());
+    let mut files = std::fs::read_dir(folder.join(".git/objects/pack")).unwrap().map(|it| it.unwrap().path());
+    let pack = files.find(|path| path.extension().is_some_and(|end| end == "pack")).unwrap();
+    let words = ["index-pack", "--index-version=2,2000", "-o", "index", pack.to_str().unwrap()];
+    git(&folder, &words, b"");
+    let bytes = std::fs::read(folder.join("index")).unwrap();
+    std::fs::remove_dir_all(folder).unwrap();
+    bytes
+}
 
 fn code<T>(result: Result<T, Error>) -> Option<Code> {
     result.err().map(|error| error.code)
@@ -46,29 +75,39 @@ fn texts() {
         assert_eq!((code(text.parse::<Id>()), code(text.parse::<Prefix>())), (id, prefix), "{text}");
     }
     assert_eq!(Id::from_bytes(&[0; 21]), None);
+    for (text, kind) in
+        [("sha1", Some(Kind::Sha1)), ("sha256", Some(Kind::Sha256)), ("SHA1", None), ("", None)]
+    {
+        assert_eq!(text.parse::<Kind>().ok(), kind);
+        assert!(kind.map_or(true, |kind| kind.to_string() == text));
+    }
+    for len in [1, 2, 7, 64] {
+        assert_eq!(EMPTY[..len].to_uppercase().parse::<Prefix>().unwrap().to_string(), EMPTY[..len]);
+    }
 }
 
 #[test]
 fn indexes() {
-    for (name, kind, format) in [("sha1.idx", Kind::Sha1, "sha1"), ("sha256.idx", Kind::Sha256, "sha256")] {
-        let path = format!("{DATA}/{name}");
-        let mut bytes = std::fs::read(&path).unwrap();
-        let mut git = Command::new("git");
-        git.args(["show-index", &format!("--object-format={format}")]);
-        let output = git.stdin(std::fs::File::open(path).unwrap()).stderr(Stdio::inherit()).output().unwrap();
+    for kind in [Kind::Sha1, Kind::Sha256] {
+        let mut bytes = index_of(kind);
+        let words = ["show-index", &format!("--object-format={kind}")];
+        let shown = git(&std::env::temp_dir(), &words, &bytes);
         let index = PackIndex::new(kind, &bytes).unwrap();
         let lines: Vec<_> =
-            index.entries().map(|it| format!("{} {} ({:08x})\n", it.offset, it.id, it.crc)).collect();
-        assert_eq!(lines.concat(), String::from_utf8(output.stdout).unwrap());
-        let table: Vec<_> = index.entries().flat_map(|it| it.id.as_bytes().to_vec()).collect();
+            index.iter().map(|it| format!("{} {} ({:08x})\n", it.offset, it.id, it.crc)).collect();
+        assert_eq!(lines.concat(), String::from_utf8(shown).unwrap());
+        let table: Vec<_> = index.iter().flat_map(|it| it.id.as_bytes().to_vec()).collect();
         let digests = SortedDigests::new(kind, &table).unwrap();
-        for (at, entry) in index.entries().enumerate() {
+        for (at, entry) in index.iter().enumerate() {
             let hex_len = index.abbreviate(at).unwrap();
             let name: Prefix = entry.id.to_string()[..hex_len].parse().unwrap();
             assert_eq!((name.hex_len(), digests.get(at)), (hex_len, Some(entry.id)));
             assert_eq!((index.find(&name), digests.find(&name)), (Ok(at..at + 1), Ok(at..at + 1)));
         }
         let len = index.len();
+        assert_eq!((len, digests.len(), digests.is_empty(), index.is_empty()), (300, 300, false, false));
+        assert!(digests.iter().eq(index.iter().map(|it| it.id)));
+        assert_eq!(PackIndex::of_any_kind(&bytes).unwrap().kind(), kind);
         assert_eq!(
             (index.get(len), digests.get(len), code(index.abbreviate(len))),
             (None, None, Some(Code::OutOfRange))
@@ -81,6 +120,7 @@ fn indexes() {
             Error { code: Code::OtherKind, detail: kind as u64 }
         );
         bytes[7] = 9;
+        assert_eq!(code(PackIndex::of_any_kind(&bytes)), Some(Code::BadVersion));
         assert_eq!(PackIndex::new(kind, &bytes).unwrap_err(), Error { code: Code::BadVersion, detail: 9 });
     }
     let fall = [[2; 20], [1; 20]].concat();
