@@ -71,10 +71,10 @@ bench: $(PROGRAMS)
 	tools/instructions
 
 install: $(PROGRAMS) lib
-	tools/install '$(DESTDIR)' '$(PREFIX)' '$(VERSION)'
+	tools/install '$(DESTDIR)' '$(PREFIX)'
 
 uninstall:
-	tools/install --remove '$(DESTDIR)' '$(PREFIX)' '$(VERSION)'
+	tools/install --remove '$(DESTDIR)' '$(PREFIX)'
 
 clean:
 	rm -rf crates/*/out out
