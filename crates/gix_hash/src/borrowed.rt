@@ -56,8 +56,8 @@ impl<'a> oid<'a> {
         oid { bytes }
     }
 
-    /// A view of a digest. Returns [`Error::InvalidByteSliceLength`], with the number of bytes, if
-    /// that is neither 20 nor 32.
+    /// A view of a digest of 20 or 32 bytes. For any other number it returns
+    /// [`Error::InvalidByteSliceLength`] with that number.
     pub fn try_from_bytes(bytes: &'a [u8]) -> Result<Self, Error>
         ensures ok { IfOk result (λ id. oid_bytes id ≡ bytes.now) }
         ensures accepted { IsOk result ↔ IsTrue (is_digest_len (length bytes.now)) }
@@ -190,7 +190,7 @@ impl<'a> oid<'a> {
         out.write_all(&buffer[..self.kind().len_in_hex()])
     }
 
-    /// Compares with the id that this one should be. If they differ, the error contains both.
+    /// Ok if the digits are those of the expected id, and otherwise an error that contains both.
     pub fn verify(&self, expected: oid<'_>) -> Result<(), verify::Error>
         ensures equal { IsOk result ↔ (oid_digits self.now ≡ oid_digits expected.entry) }
         ensures actual { IfErr result (λ e. (id_kind e.actual ≡ oid_kind self.now)

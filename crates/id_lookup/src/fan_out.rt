@@ -29,7 +29,7 @@ impl Model for FanOut {
 }
 
 impl FanOut {
-    /// The counts of a list, in any order.
+    /// The counts of a list by first bytes, whatever the order of its ids.
     pub fn of<I: Id>(ids: &[I]) -> FanOut
         ensures { IsFanOut result (map I.digits ids.now) }
     {

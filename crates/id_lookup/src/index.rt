@@ -51,7 +51,7 @@ impl<'a, I: Id> Model for IdIndex<'a, I> {
 }
 
 impl<'a, I: Id> IdIndex<'a, I> {
-    /// The list as an index of a kind. The error is for the first id that is of the other kind
+    /// The list as an index of a kind, or the first index whose id is of the other kind
     /// ([`IndexError::WrongKind`]), or of the kind but not above the previous one
     /// ([`IndexError::NotRising`]).
     pub fn try_new(ids: &'a [I], kind: Kind) -> Result<IdIndex<'a, I>, IndexError>

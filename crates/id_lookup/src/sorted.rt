@@ -48,7 +48,7 @@ impl<'a, I: Id> Model for SortedIds<'a, I> {
 }
 
 impl<'a, I: Id> SortedIds<'a, I> {
-    /// The list as a sorted one. The error has the first index whose id is below the previous one.
+    /// The list as a sorted one, or the first index whose id is below the previous one.
     pub fn try_new(ids: &'a [I]) -> Result<SortedIds<'a, I>, Unsorted>
         ensures ok { IfOk result (λ list. list ≡ map I.digits ids.now) }
         ensures sorted { IsOk result ↔ IsSortedIds (map I.digits ids.now) }
