@@ -7,6 +7,12 @@ import zipfile
 from pathlib import Path
 
 HERE = Path(__file__).resolve().parent
+ABOUT = """Metadata-Version: 2.1
+Name: nunbirdstand
+Summary: Git's object ids, over the proved library libgix_hash
+License: MIT OR Apache-2.0
+Requires-Python: >=3.9
+"""
 WHEEL = "Wheel-Version: 1.0\nGenerator: backend\nRoot-Is-Purelib: true\nTag: py3-none-any\n"
 
 
@@ -15,8 +21,7 @@ def build_wheel(wheel_directory, config_settings=None, metadata_directory=None):
     files = {name: (HERE / name).read_bytes() for name in ("gix_hash/__init__.py", "gix_hash/py.typed")}
     version = re.search(r'__version__ = "(.*)"', files["gix_hash/__init__.py"].decode())[1]
     name = f"nunbirdstand-{version}"
-    about = f"Metadata-Version: 2.1\nName: nunbirdstand\nVersion: {version}\nRequires-Python: >=3.9\n"
-    files |= {f"{name}.dist-info/METADATA": about.encode(), f"{name}.dist-info/WHEEL": WHEEL.encode()}
+    files |= {f"{name}.dist-info/METADATA": f"{ABOUT}Version: {version}\n".encode(), f"{name}.dist-info/WHEEL": WHEEL.encode()}
     digests = {file: base64.urlsafe_b64encode(hashlib.sha256(data).digest()).decode() for file, data in files.items()}
     lines = [f"{file},sha256={digests[file].rstrip('=')},{len(data)}\n" for file, data in files.items()]
     files[f"{name}.dist-info/RECORD"] = "".join([*lines, f"{name}.dist-info/RECORD,,\n"]).encode()

@@ -79,7 +79,7 @@ fn texts() {
         [("sha1", Some(Kind::Sha1)), ("sha256", Some(Kind::Sha256)), ("SHA1", None), ("", None)]
     {
         assert_eq!(text.parse::<Kind>().ok(), kind);
-        assert!(kind.map_or(true, |kind| kind.to_string() == text));
+        assert!(kind.iter().all(|kind| kind.to_string() == text));
     }
     for len in [1, 2, 7, 64] {
         assert_eq!(EMPTY[..len].to_uppercase().parse::<Prefix>().unwrap().to_string(), EMPTY[..len]);
