@@ -21,7 +21,8 @@ def build_wheel(wheel_directory, config_settings=None, metadata_directory=None):
     files = {name: (HERE / name).read_bytes() for name in ("gix_hash/__init__.py", "gix_hash/py.typed")}
     version = re.search(r'__version__ = "(.*)"', files["gix_hash/__init__.py"].decode())[1]
     name = f"nunbirdstand-{version}"
-    files |= {f"{name}.dist-info/METADATA": f"{ABOUT}Version: {version}\n".encode(), f"{name}.dist-info/WHEEL": WHEEL.encode()}
+    files[f"{name}.dist-info/METADATA"] = f"{ABOUT}Version: {version}\n".encode()
+    files[f"{name}.dist-info/WHEEL"] = WHEEL.encode()
     digests = {file: base64.urlsafe_b64encode(hashlib.sha256(data).digest()).decode() for file, data in files.items()}
     lines = [f"{file},sha256={digests[file].rstrip('=')},{len(data)}\n" for file, data in files.items()]
     files[f"{name}.dist-info/RECORD"] = "".join([*lines, f"{name}.dist-info/RECORD,,\n"]).encode()

@@ -85,7 +85,8 @@ class Bindings(unittest.TestCase):
     def test_values(self):
         for make in (Id, Prefix):
             one, same, other = make(EMPTY), make(EMPTY.upper()), make(EMPTY[:40])
-            self.assertEqual((one, hash(one), str(one), repr(one)), (same, hash(same), EMPTY, f"{make.__name__}('{EMPTY}')"))
+            self.assertEqual((one, hash(one), str(one)), (same, hash(same), EMPTY))
+            self.assertEqual(repr(one), f"{make.__name__}('{EMPTY}')")
             self.assertNotEqual(one, other)
             self.assertNotEqual(one, EMPTY)
             self.assertEqual((pickle.loads(pickle.dumps(one)), copy.deepcopy(one)), (one, one))
@@ -115,7 +116,8 @@ class Bindings(unittest.TestCase):
             self.assertEqual([str(it) for it in table], names)
             for list_of in (index, table):
                 each = list(list_of)
-                self.assertEqual((list_of[-1], list_of[-300], list_of[5:-3:7], list_of[::-1]), (each[-1], each[0], each[5:-3:7], each[::-1]))
+                for at in (-1, -300, 299, slice(5, -3, 7), slice(None, None, -1)):
+                    self.assertEqual(list_of[at], each[at])
                 for at in (300, -301):
                     self.assertRaises(IndexError, list_of.__getitem__, at)
                 self.assertRaises(TypeError, list_of.__getitem__, 1.0)
