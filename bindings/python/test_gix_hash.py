@@ -132,6 +132,7 @@ class Bindings(unittest.TestCase):
             self.fails(Code.OTHER_KIND, kind, PackIndex, 3 - kind, data)
             self.fails(Code.WRONG_CHECKSUM, 0, PackIndex, kind, data[:-1] + bytes([data[-1] ^ 1]))
             self.fails(Code.BAD_VERSION, 9, PackIndex, kind, data[:7] + b"\x09" + data[8:])
+            self.fails(Code.BAD_VERSION, 9, PackIndex.kind_of, data[:7] + b"\x09" + data[8:])
         self.fails(Code.TOO_LONG, 0, SortedDigests(Kind.SHA1, b"").find, Prefix(EMPTY))
         self.fails(Code.BAD_MAGIC, 0, PackIndex.kind_of, bytes(2000))
         self.fails(Code.UNSORTED, 1, SortedDigests, Kind.SHA1, b"2" * 20 + b"1" * 20)

@@ -300,7 +300,8 @@ class PackIndex(Sequence[Entry]):
     def kind_of(data: Buffer) -> Kind:
         """The kind of the names of a pack index. The error is one from TOO_SHORT to WRONG_CHECKSUM."""
         view, kind = _Bytes(data), ctypes.c_uint32()
-        _check(_lib.gix_hash_pack_kind(*view.words, kind))
+        if _lib.gix_hash_pack_kind(*view.words, kind):
+            PackIndex(Kind.SHA1, data)  # raises the same error, with its detail
         return Kind(kind.value)
 
     def __len__(self) -> int:

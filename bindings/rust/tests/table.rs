@@ -120,7 +120,7 @@ fn indexes() {
             Error { code: Code::OtherKind, detail: kind as u64 }
         );
         bytes[7] = 9;
-        assert_eq!(code(PackIndex::of_any_kind(&bytes)), Some(Code::BadVersion));
+        assert_eq!(PackIndex::of_any_kind(&bytes).unwrap_err(), Error { code: Code::BadVersion, detail: 9 });
         assert_eq!(PackIndex::new(kind, &bytes).unwrap_err(), Error { code: Code::BadVersion, detail: 9 });
     }
     let fall = [[2; 20], [1; 20]].concat();
