@@ -1,9 +1,9 @@
 -- Which bytes are sealed, and what is held back of those that were read.
-use Rattle.std.proofs.Common.{◌≡◌, ◌≢◌, ◌≤◌, ◌+◌, ◌-◌, ℕ, List, [], ◌∷◌, ◌++◌, length, take, drop, refl, sym, ap, subst, ◌∙◌, arith, append_assoc, take-append-drop, length-append, length-drop}
+use Rattle.std.proofs.Common.{◌≡◌, ◌≢◌, ◌<◌, ◌≤◌, ◌+◌, ◌-◌, ℕ, List, [], ◌∷◌, ◌++◌, length, take, drop, refl, sym, ap, subst, ◌∙◌, arith, append_assoc, take-append-drop, length-append, length-drop}
 use Rattle.std.specs.Prelude.{min}
 use Rattle.std.specs.List.{copy_within}
 use Rattle.std.proofs.Math.Seq.{take-add, take-append-add, take-append_seam, drop-append_seam}
-use Rattle.std.proofs.lemmas.List.{length-take, take-append-le}
+use Rattle.std.proofs.lemmas.List.{length-take, nil_from_length, take-append-le}
 use Rattle.std.proofs.lemmas.List.Edits.{take-paste}
 use borrow.Rule.Slice.PartMut.{put_mid, post_of}
 use Rattle.gix_hash.specs.Hashing.{digest, EndsInDigest}
@@ -78,6 +78,13 @@ unsealed kind lens message tail total held counted is_held len differ is_sealed 
     omega (arith, counted, is_held, len, length-append message tail, sealed-length kind lens (message ++ tail) is_sealed) in
     differ (sym (sealed-end kind lens message tail full is_sealed))
 
+-- all bytes are held back if those are fewer than a digest has
+all-held : (kind : Kind) (message last : List ℕ) (total held : ℕ) → length message + held ≡ total → held ≡ min (byte_len_of kind) total
+    → length last ≡ held → length last < byte_len_of kind → message ≡ []
+all-held kind message last total held counted is_held len fewer =
+    let none : length message ≡ 0 = omega (arith, counted, is_held, len, fewer) in
+    nil_from_length message none
+
 -- how the bytes end whose last are held back
 pub ends_as : (kind : Kind) → HaveLength kind → (message last : List ℕ) (total held : ℕ) → length message + held ≡ total
     → held ≡ min (byte_len_of kind) total → length last ≡ held → (id : ObjectId) → id ≡ digest kind message → (ending : Ending)
@@ -88,6 +95,7 @@ ends_as kind lens message last total held counted is_held len id digest_is (Unse
   message = message;
   last = last;
   parts = refl;
+  all = all-held kind message last total held counted is_held len;
   not_sealed = unsealed kind lens message last total held counted is_held len (λ same. is.1 (ap id_bytes digest_is ∙ same));
   digest_is = is.0 ∙ digest_is;
   last_is = is.2;

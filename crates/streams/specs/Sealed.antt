@@ -1,5 +1,5 @@
 -- Which bytes are sealed, and how bytes end.
-use Rattle.std.specs.Prelude.{◌≡◌, ◌≢◌, ◌<◌, ℕ, Option, Some, None, List, ◌++◌, length}
+use Rattle.std.specs.Prelude.{◌≡◌, ◌≢◌, ◌<◌, ℕ, Option, Some, None, List, [], ◌++◌, length}
 use Rattle.gix_hash.specs.Digits.{digits_of}
 use Rattle.gix_hash.specs.Hashing.{digest, sealed, EndsInDigest}
 use Rattle.gix_hash.specs.Kind.{byte_len_of}
@@ -24,6 +24,8 @@ pub record IsUnsealed (kind : Kind) (bytes : List ℕ) (id : ObjectId) (found : 
   pub message : List ℕ
   pub last : List ℕ
   pub parts : bytes ≡ message ++ last
+  -- the last bytes are fewer only if they are all
+  pub all : length last < byte_len_of kind → message ≡ []
   pub not_sealed : ¬ EndsInDigest kind bytes
   pub digest_is : id ≡ digest kind message
   pub last_is : IsLast kind last found
