@@ -1,6 +1,6 @@
 //! Devices over the library's readers and writers.
 
-ghost use Rattle.std.specs.Prelude.{◌≡◌, ◌||◌, false, is_err};
+ghost use Rattle.std.specs.Prelude.{◌≡◌, ◌||◌, false, is_err, OnErr};
 ghost use Rattle.std.specs.Io.{ReadsAtMost, WritesAtMost};
 ghost use Rattle.std.specs.Io.KnownBytes.{ReadConsumes, WriteAppends};
 ghost use Rattle.streams.specs.Writing.{write_fails};
@@ -20,21 +20,19 @@ use std::io::{self, BufWriter, Write};
 #[derive(Drop)]
 pub struct Plain<T> {
     inner: T,
-    failed: bool,
+    // Why the first call that failed did.
+    error: Option<io::Error>,
 }
 
 impl<T> Plain<T> {
-    ghost use Rattle.streams.specs.Devices.{plain_inner, plain_failed};
+    ghost use Rattle.streams.specs.Devices.{plain_error, plain_failed, plain_inner};
 
     /// A device that has not failed.
     pub fn new(inner: T) -> Self
         ensures stands { plain_failed result ≡ false }
         ensures inner { plain_inner result ≡ inner }
     {
-        Plain {
-            inner,
-            failed: false,
-        }
+        Plain { inner, error: None }
     }
 
     /// Whether a call failed: a read or a write returned an error, or a write took none of at least
@@ -42,8 +40,26 @@ impl<T> Plain<T> {
     pub fn failed(&self) -> bool
         ensures { result ≡ plain_failed self.now }
     {
-        let Plain { failed, .. } = self;
-        *failed
+        let Plain { error, .. } = self;
+        error.is_some()
+    }
+
+    /// Why the first call that failed did, or `None` if none failed. That of a write that took none
+    /// of at least one byte is `WriteZero`.
+    ///
+    /// ```
+    /// let mut input = Plain::new(rt.reader());
+    /// if let Err(PipeError::Input) = check(&mut input, Kind::Sha1)
+    ///     && let Some(why) = input.error()
+    /// {
+    ///     println!(rt; "{why}")?;
+    /// }
+    /// ```
+    pub fn error(&self) -> Option<io::Error>
+        ensures { result ≡ plain_error self.now }
+    {
+        let Plain { error, .. } = self;
+        *error
     }
 
     /// The reader or writer that it was made with.
@@ -56,7 +72,7 @@ impl<T> Plain<T> {
 }
 
 impl<T: io::Read> Source for Plain<T> {
-    ghost use Rattle.streams.specs.Devices.{plain_failed, plain_inner};
+    ghost use Rattle.streams.specs.Devices.{error_after, plain_error, plain_failed, plain_inner};
 
     ghost remaining = { λ s. T.remaining (plain_inner s) };
 
@@ -68,9 +84,10 @@ impl<T: io::Read> Source for Plain<T> {
         ensures bytes { ReadConsumes (T.remaining (plain_inner self.old))
             (T.remaining (plain_inner self.new)) result buf.new }
         ensures failed { plain_failed self.new ≡ (plain_failed self.old || is_err result) }
+        ensures error { plain_error self.new ≡ error_after (plain_error self.old) result }
     {
         let count = self.inner.read(buf);
-        self.failed = self.failed || count.is_err();
+        self.error = self.error.or(count.err());
         count
     }
 
@@ -80,7 +97,7 @@ impl<T: io::Read> Source for Plain<T> {
 }
 
 impl<T: io::Write> Sink for Plain<T> {
-    ghost use Rattle.streams.specs.Devices.{plain_failed, plain_inner};
+    ghost use Rattle.streams.specs.Devices.{error_after, plain_error, plain_failed, plain_inner};
 
     ghost taken = { λ s. T.contents (plain_inner s) };
 
@@ -93,13 +110,16 @@ impl<T: io::Write> Sink for Plain<T> {
             (T.contents (plain_inner self.new)) result bytes.now }
         ensures failed { plain_failed self.new
             ≡ (plain_failed self.old || write_fails result bytes.now) }
+        ensures error { OnErr result
+            (plain_error self.new ≡ error_after (plain_error self.old) result) }
     {
         let count = self.inner.write(bytes);
-        let fails = match &count {
-            Ok(count) => *count == 0 && !bytes.is_empty(),
-            Err(_) => true,
+        let error = match &count {
+            Ok(0) if !bytes.is_empty() => Some(io::ErrorKind::WriteZero.into()),
+            Ok(_) => None,
+            Err(error) => Some(*error),
         };
-        self.failed = self.failed || fails;
+        self.error = self.error.or(error);
         count
     }
 
@@ -117,7 +137,7 @@ impl<W: io::Write + Drop, A: Allocator> BufferedSink for Plain<BufWriter<W, A>> 
     /// Flushes the writer.
     fn flush(&mut self) -> io::Result<()> {
         let flushed = self.inner.flush();
-        self.failed = self.failed || flushed.is_err();
+        self.error = self.error.or(flushed.err());
         flushed
     }
 }
