@@ -4,13 +4,14 @@ use Rattle.std.specs.Prelude.{Result}
 use Rattle.oidtool_commands.specs.declared.command.Command.{Command}
 use Rattle.oidtool_commands.specs.declared.command.Command.TheVariants.{Find, FindChange, FindIn, Hash, HashFile, Seal}
 use Rattle.streams.specs.Printing.{printed}
-use Rattle.oidtool_search.specs.Finding.{IsFound}
+use Rattle.oidtool_search.specs.Stopping.{IsFound}
+use Rattle.oidtool_search.specs.declared.SearchError.{SearchError}
 use Rattle.gix_hash.specs.Hashing.{sealed}
 use Rattle.streams.specs.Pipe.{digest_line}
 use Rattle.command_line.proofs.Flushed.{all_written}
 use Rattle.oidtool_commands.specs.Running.{IsFoundAtMost, Does, DoesAtMost}
 
-all_lines : {E : Type 0} (letter : ℕ → ℕ) (answer : Result (List (List ℕ)) E) (a b : Option (List ℕ)) (count : ℕ) → IsFound letter answer a b count
+all_lines : (letter : ℕ → ℕ) (answer : Result (List (List ℕ)) SearchError) (a b : Option (List ℕ)) (count : ℕ) → IsFound letter answer a b count
     → IsFoundAtMost letter answer a b
 all_lines letter answer a b count found =
     record { ids = found.ids; found = found.found; lines = all_written a b (printed letter found.ids) found.written }

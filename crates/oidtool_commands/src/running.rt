@@ -3,24 +3,23 @@
 ghost use Rattle.std.specs.Prelude.{◌≡◌, ◌≢◌, ◌↔◌, ◌⊎◌, ℕ, List, [], length, true, false, IfOk, IfErr, IfSome, OnOk, IsErrAnd, IsErrOf, IsTrue};
 ghost use Rattle.std.specs.Io.KnownBytes.{Appends};
 ghost use Rattle.oidtool_commands.specs.declared.running.CommandError.{CommandError};
-ghost use Rattle.oidtool_search.specs.declared.FindFromError.{FindFromError};
-ghost use Rattle.oidtool_search.specs.declared.FindInFromError.{FindInFromError};
-ghost use Rattle.oidtool_commands.specs.Running.{Does, DoesAtMost, HasCopied, Refuses, copies, reads_source, refusal_from_source, refusal_in_source};
+ghost use Rattle.oidtool_search.specs.Searching.{finding, letter_for};
+ghost use Rattle.oidtool_search.specs.Stopping.{IsFoundInPart};
+ghost use Rattle.oidtool_search.specs.declared.SearchError.{SearchError};
+ghost use Rattle.oidtool_commands.specs.Running.{Does, DoesAtMost, FindsIn, HasCopied, Refuses, RefusesList, copies, reads_source, refusal_of_search};
 ghost use Rattle.streams.specs.Writing.{AppendsPart};
 ghost use Rattle.streams.specs.Pipe.{digest_line};
 
 use crate::command::Command;
 use gix_hash::io::{Never, NoProgress};
 use gix_hash::{Alphabet, Kind, bytes_of_file};
-use oidtool_search::{
-    FindFromError, FindInError, FindInFromError, find_change_from, find_from, find_in_from,
-};
+use oidtool_search::{Search, SearchError, search_from};
 use std::alloc::Allocator;
 use std::path::Path;
 use std::rt::Files;
 use streams::{
-    BufferedSink, CHUNK_LEN, PipeError, Sink, Source, WriteFailed, hash_all, next_chunk, seal,
-    write_id,
+    BufferedSink, CHUNK_LEN, MAX_LEN, PipeError, Sink, Source, WriteFailed, hash_all, next_chunk,
+    seal, write_id,
 };
 use thiserror::Error as ThisError;
 
@@ -38,10 +37,7 @@ pub enum CommandError {
     /// The prefix or the list text is rejected. The causes that other commands share are variants
     /// of this error.
     #[error("{0}")]
-    Find(FindFromError),
-    /// The prefix or the list text is rejected, for ids of one kind.
-    #[error("{0}")]
-    FindIn(FindInFromError),
+    Find(SearchError),
     /// Memory ran out.
     #[error("out of memory")]
     Memory,
@@ -71,34 +67,18 @@ impl From<PipeError> for CommandError {
     }
 }
 
-impl From<FindFromError> for CommandError {
-    ghost use Rattle.oidtool_commands.specs.Running.{refusal_from_source};
+impl From<SearchError> for CommandError {
+    ghost use Rattle.oidtool_commands.specs.Running.{refusal_of_search};
 
-    ghost from_gives = { λ error e. e ≡ refusal_from_source error };
+    ghost from_gives = { λ error e. e ≡ refusal_of_search error };
 
-    fn from(error: FindFromError) -> Self {
+    fn from(error: SearchError) -> Self {
         match error {
-            FindFromError::Memory => CommandError::Memory,
-            FindFromError::Output => CommandError::Output,
-            FindFromError::Input => CommandError::Input,
-            FindFromError::TooMuch => CommandError::TooMuch,
+            SearchError::Memory => CommandError::Memory,
+            SearchError::Output => CommandError::Output,
+            SearchError::Input => CommandError::Input,
+            SearchError::TooMuch => CommandError::TooMuch,
             error => CommandError::Find(error),
-        }
-    }
-}
-
-impl From<FindInFromError> for CommandError {
-    ghost use Rattle.oidtool_commands.specs.Running.{refusal_in_source};
-
-    ghost from_gives = { λ error e. e ≡ refusal_in_source error };
-
-    fn from(error: FindInFromError) -> Self {
-        match error {
-            FindInFromError::Search(FindInError::Memory) => CommandError::Memory,
-            FindInFromError::Search(FindInError::Output) => CommandError::Output,
-            FindInFromError::Input => CommandError::Input,
-            FindInFromError::TooMuch => CommandError::TooMuch,
-            FindInFromError::Search(error) => CommandError::FindIn(FindInFromError::Search(error)),
         }
     }
 }
@@ -155,20 +135,16 @@ pub fn run_command<F: Files, A: Allocator + Copy, R: Source, W: BufferedSink>(
         → DoesAtMost command.entry (R.remaining input.old) (W.taken out.old) (W.taken out.new) }
 {
     let count = match command {
-        Command::Find { prefix } => find_from(alloc, prefix, input, out)?,
+        Command::Find { prefix } => {
+            let search = Search::Sorted(Alphabet::Hex);
+            run_search(alloc, search, false, prefix, input, out)?
+        }
         Command::FindChange { letters } => {
-            let changes = find_change_from(alloc, letters, input, out);
-            if is_early(&changes) {
-                drain(input)?;
-            }
-            changes?
+            let search = Search::Sorted(Alphabet::Reverse);
+            run_search(alloc, search, true, letters, input, out)?
         }
         Command::FindIn { kind, prefix } => {
-            let ids = find_in_from(alloc, kind, prefix, input, out);
-            if is_early_in(&ids) {
-                drain(input)?;
-            }
-            ids?
+            run_search(alloc, Search::In(kind), true, prefix, input, out)?
         }
         Command::Hash { kind } => {
             hash_all(input, out, kind)?;
@@ -189,28 +165,45 @@ pub fn run_command<F: Files, A: Allocator + Copy, R: Source, W: BufferedSink>(
     }
 }
 
+// Searches the list text of the input, and then reads it to the end if `to_end` says so.
+fn run_search<A: Allocator, R: Source, W: Sink>(
+    alloc: A,
+    search: Search,
+    to_end: bool,
+    prefix: &str,
+    input: &mut R,
+    out: &mut W,
+) -> Result<usize, CommandError>
+    requires input { R.has_failed input.old ≡ false }
+    requires output { W.has_failed out.old ≡ false }
+    ensures done { IfOk result (FindsIn search prefix.now (R.remaining input.old)
+        (W.taken out.old) (W.taken out.new)) }
+    ensures refused { IfErr result (RefusesList search prefix.now (R.remaining input.old)) }
+    ensures memory { IsErrOf result CommandError.Memory
+        → IfSome (R.remaining input.old) (λ bytes. bytes ≢ []) }
+    ensures untouched { IfErr result (λ e. e ≢ CommandError.Output → out.new ≡ out.old) }
+    ensures input { IsErrOf result CommandError.Input ↔ (R.has_failed input.new ≡ true) }
+    ensures output { IsErrOf result CommandError.Output ↔ (W.has_failed out.new ≡ true) }
+    ensures part { IsErrOf result CommandError.Output → IfSome (R.remaining input.old) (λ text.
+        IsFoundInPart (letter_for search) (finding search prefix.now text) (W.taken out.old)
+        (W.taken out.new)) }
+{
+    let found = search_from(alloc, search, prefix, input, MAX_LEN, out);
+    if to_end && is_early(&found) {
+        drain(input)?;
+    }
+    Ok(found?)
+}
+
 // Whether a search ended with an error before its list did, and nothing failed.
-fn is_early(found: &Result<usize, FindFromError>) -> bool
-    ensures read { IsTrue result → IsErrOf found.now FindFromError.Input → ⊥ }
-    ensures kept { IsTrue result → IsErrAnd found.now (λ e. refusal_from_source e
+fn is_early(found: &Result<usize, SearchError>) -> bool
+    ensures read { IsTrue result → IsErrOf found.now SearchError.Input → ⊥ }
+    ensures kept { IsTrue result → IsErrAnd found.now (λ e. refusal_of_search e
         ≡ CommandError.Find e) }
 {
     matches!(
         found,
-        Err(FindFromError::Prefix(_) | FindFromError::BadLine { .. })
-    )
-}
-
-// The same of a search for ids of one kind.
-fn is_early_in(found: &Result<usize, FindInFromError>) -> bool
-    ensures read { IsTrue result → IsErrOf found.now FindInFromError.Input → ⊥ }
-    ensures kept { IsTrue result → IsErrAnd found.now (λ e. refusal_in_source e
-        ≡ CommandError.FindIn e) }
-{
-    use FindInError::{BadLine, Prefix};
-    matches!(
-        found,
-        Err(FindInFromError::Search(Prefix(_) | BadLine { .. }))
+        Err(SearchError::Prefix(_) | SearchError::BadLine { .. })
     )
 }
 

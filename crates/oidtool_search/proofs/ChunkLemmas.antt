@@ -20,9 +20,9 @@ use Rattle.gix_hash.specs.declared.ObjectId.{ObjectId}
 use Rattle.oidtool_search.specs.Lines.{is_line_feed, lines_of}
 use Rattle.oidtool_search.specs.ListChunks.{IsLine, ended, NoBadLineEnded, HasTaken, HasIdLine, Takes}
 use Rattle.oidtool_search.specs.ListText.{prepend_line, ids_read, list_read, IsFirstRead, RefusesList}
-use Rattle.oidtool_search.specs.declared.list.ListError.{ListError}
+use Rattle.oidtool_search.specs.declared.error.SearchError.{SearchError}
 use Rattle.oidtool_search.specs.declared.list_reader.ListReader.{ListReader}
-use Rattle.oidtool_search.specs.declared.list.ListError.TheVariants.{BadLine, Memory}
+use Rattle.oidtool_search.specs.declared.error.SearchError.TheVariants.{BadLine, Memory}
 use Rattle.oidtool_search.proofs.LineLemmas.{lines_of-ended, lines_of-last}
 use Rattle.oidtool_search.specs.Lines.{lines_of-nil}
 use Rattle.std.proofs.lemmas.List.{nil_from_length}
@@ -40,15 +40,15 @@ abbrev ReadAs : List (List ℕ) → List ObjectId → Type 0
 ReadAs lines ids = map (full_read hex_letter) lines ≡ map (λ id. Ok (whole_of id)) ids
 
 -- ids before those of the lines after theirs
-abbrev prepend : List (List ℕ) → Result (List (List ℕ)) ListError → Result (List (List ℕ)) ListError
+abbrev prepend : List (List ℕ) → Result (List (List ℕ)) SearchError → Result (List (List ℕ)) SearchError
 prepend front (Err error) = Err error
 prepend front (Ok ids) = Ok (front ++ ids)
 
-prepend-nil : (more : Result (List (List ℕ)) ListError) → more ≡ prepend [] more
+prepend-nil : (more : Result (List (List ℕ)) SearchError) → more ≡ prepend [] more
 prepend-nil (Err error) = refl
 prepend-nil (Ok ids) = refl
 
-prepend_line-front : (n : ℕ) (id : KindDigits) (front : List (List ℕ)) (more : Result (List (List ℕ)) ListError)
+prepend_line-front : (n : ℕ) (id : KindDigits) (front : List (List ℕ)) (more : Result (List (List ℕ)) SearchError)
     → prepend_line n (Ok id) (prepend front more) ≡ prepend (id.digits ∷ front) more
 prepend_line-front n id front (Err error) = refl
 prepend_line-front n id front (Ok ids) = refl
@@ -204,7 +204,7 @@ pub first_of_list : (text : List ℕ) (earlier part : List ObjectId) → list_re
 unfolding ids_read
 first_of_list text earlier part reads some = by_lines (lines_of text) earlier part reads some
   where
-    by_answer : (line : List ℕ) (answer : Result KindDigits Error) (more : Result (List (List ℕ)) ListError) (ids : List (List ℕ)) → full_read hex_letter line ≡ answer
+    by_answer : (line : List ℕ) (answer : Result KindDigits Error) (more : Result (List (List ℕ)) SearchError) (ids : List (List ℕ)) → full_read hex_letter line ≡ answer
         → prepend_line 1 answer more ≡ Ok ids → IsOk (full_read hex_letter line)
     by_answer line (Ok id) more ids is h = rw is refl
     by_answer line (Err error) more ids is h = cc h
@@ -216,9 +216,10 @@ first_of_list text earlier part reads some = by_lines (lines_of text) earlier pa
     by_lines (line ∷ lines) earlier part h some = by_answer line (full_read hex_letter line) (ids_read 2 lines) (map id_digits (earlier ++ part)) refl h
 
 -- texts of the same lines are rejected for the same errors
-pub refuses_same : (a b : List ℕ) (e : ListError) → lines_of a ≡ lines_of b → RefusesList a e → RefusesList b e
+pub refuses_same : (a b : List ℕ) (e : SearchError) → lines_of a ≡ lines_of b → RefusesList a e → RefusesList b e
 refuses_same a b (BadLine n error) same h = ap (ids_read 1) (sym same) ∙ h
 refuses_same a b Memory same h = subst IsFirstRead same h
+refuses_same a b error same h = absurd h
 
 -- one step of a reader after another
 pub takes_more : {A : Type 0} (old mid new : ListReader A) (x y z : List ℕ) → Takes old mid x → Takes mid new y → x ++ y ≡ z → Takes old new z

@@ -1,11 +1,7 @@
-mod AtTheEnd
-mod FoundInTexts
-mod FirstRefused
-mod IndexOrder
 mod LineLemmas
 mod Results
-mod SortedOrder
+mod Orders
 mod FinderLemmas
 mod ChunkLemmas
 mod SourceReads
-mod StopLemmas
+pub mod StopLemmas

@@ -1,30 +1,38 @@
 -- The bytes of a source that a list reader has taken, read by read.
-use Rattle.std.proofs.Common.{◌≡◌, ◌≢◌, ◌||◌, Bool, false, ℕ, ◌+◌, ◌^◌, ◌<◌, ◌≤◌, inl, inr, Option, List, [], ◌∷◌, ◌++◌, length, take, drop, refl, sym, ap, ◌∙◌, subst, arith, append_assoc, length-append, length-take, length-drop, take-append-drop, append-nil}
+use Rattle.std.proofs.Common.{◌≡◌, ◌≢◌, ◌||◌, Bool, false, ℕ, ◌+◌, ◌<◌, ◌≤◌, inl, inr, Option, Some, None, List, [], ◌∷◌, ◌++◌, length, take, drop, refl, sym, ap, ◌∙◌, subst, arith, append_assoc, length-append, length-take, length-drop, take-append-drop, append-nil}
 use Rattle.std.proofs.lemmas.List.{take-take}
 use Rattle.std.proofs.KnownBytes.{Consumes-trans, Consumes-kept}
 use Rattle.std.specs.Io.KnownBytes.{Consumes, Keeps, IsAtEnd}
-use Rattle.streams.specs.Source.{HasReadAll, max_len}
 use Rattle.std.proofs.Math.Seq.{take-append_seam}
 use Rattle.gix_hash.specs.declared.ObjectId.{ObjectId}
-use Rattle.oidtool_search.specs.FindingFrom.{IsSettled, GivesGoodLines, GivesTooMuch}
+use Rattle.oidtool_search.specs.Stopping.{HoldsOfAll, IsSettled, GivesGoodLines, GivesTooMuch}
 use Rattle.oidtool_search.specs.ListChunks.{HasTaken, NoBadLineEnded}
 use Rattle.oidtool_search.proofs.ChunkLemmas.{no_bad_line}
 
--- the reader has taken all bytes read so far, and `room` bytes more are within the limit
-pub record IsTaken (ids : List ObjectId) (kept : List ℕ) (len room : ℕ) (old now : Option (List ℕ)) : Type 0 where
+-- the reader has taken all bytes read so far, and `room` bytes more are the most that it may
+pub record IsTaken (most : ℕ) (ids : List ObjectId) (kept : List ℕ) (len room : ℕ) (old now : Option (List ℕ)) : Type 0 where
   pub text : List ℕ
   pub gives : Consumes old now text
   pub taken : HasTaken ids kept len text
-  pub limit : length text + room + 1 ≡ 2 ^ 61
+  pub limit : length text + room ≡ most
 
 some_length : (bytes : List ℕ) → bytes ≢ [] → 0 < length bytes
 some_length [] some = absurd (some refl)
 some_length (x ∷ bytes) some = omega arith
 
+-- which is nothing before the first read
+pub none_taken : (most : ℕ) (ids : List ObjectId) (kept : List ℕ) (len : ℕ) (source : Option (List ℕ)) → HasTaken ids kept len []
+    → IsTaken most ids kept len most source source
+none_taken most ids kept len source taken = record { text = []; gives = by_source source; taken = taken; limit = omega arith }
+  where
+    by_source : (source : Option (List ℕ)) → Consumes source source []
+    by_source None = tt
+    by_source (Some bytes) = refl
+
 -- one read more
-module _ (ids : List ObjectId) (kept : List ℕ) (len room : ℕ) (old now new : Option (List ℕ)) (t : IsTaken ids kept len room old now) where
+module _ (most : ℕ) (ids : List ObjectId) (kept : List ℕ) (len room : ℕ) (old now new : Option (List ℕ)) (t : IsTaken most ids kept len room old now) where
   -- it failed
-  pub stopped_good : Keeps now new → GivesGoodLines old new
+  pub stopped_good : Keeps now new → GivesGoodLines most old new
   stopped_good keeps = record {
     text = t.text;
     gives = Consumes-kept old now new t.text t.gives keeps;
@@ -33,22 +41,14 @@ module _ (ids : List ObjectId) (kept : List ℕ) (len room : ℕ) (old now new :
   }
 
   -- it gave no byte: that was all
-  pub given_all : (count : ℕ) (buf : List ℕ) → count ≡ 0 → Consumes now new (take count buf) → IsAtEnd new → HasReadAll old new t.text
-  given_all count buf none gives at_end = record {
+  pub holds_of_all : (Holds : List ℕ → Type 0) (count : ℕ) (buf : List ℕ) → count ≡ 0 → Consumes now new (take count buf) → IsAtEnd new → Holds t.text
+      → HoldsOfAll Holds most old new
+  holds_of_all Holds count buf none gives at_end holds = record {
+    text = t.text;
     gives = subst (Consumes old new) (append-nil t.text) (Consumes-trans old now new t.text [] t.gives (subst (λ n. Consumes now new (take n buf)) none gives));
     at_end = at_end;
     short = omega (arith, t.limit);
-  }
-
-  -- which settles what holds at the end
-  pub settled_at_end : (Holds : List ℕ → Type 0) (count : ℕ) (buf : List ℕ) → count ≡ 0 → Consumes now new (take count buf) → IsAtEnd new → Holds t.text
-      → IsSettled Holds old new
-  settled_at_end Holds count buf none gives at_end holds = record {
-    text = t.text;
-    rest = [];
-    gives = Consumes-trans old now new t.text [] t.gives (subst (λ n. Consumes now new (take n buf)) none gives);
-    short = omega (arith, t.limit);
-    holds = inr (holds, at_end, refl);
+    holds = holds;
   }
 
   -- it gave a chunk
@@ -57,7 +57,7 @@ module _ (ids : List ObjectId) (kept : List ℕ) (len room : ℕ) (old now new :
     given = subst (Consumes old new) (sym (append_assoc t.text chunk rest)) (Consumes-trans old now new t.text (chunk ++ rest) t.gives gives)
 
     -- that settles the error, whatever follows
-    pub settled : (Holds : List ℕ → Type 0) → ((more : List ℕ) → Holds (t.text ++ (chunk ++ more))) → IsSettled Holds old new
+    pub settled : (Holds : List ℕ → Type 0) → ((more : List ℕ) → Holds (t.text ++ (chunk ++ more))) → IsSettled Holds most old new
     settled Holds holds = record {
       text = t.text ++ chunk;
       rest = rest;
@@ -68,25 +68,23 @@ module _ (ids : List ObjectId) (kept : List ℕ) (len room : ℕ) (old now new :
 
     -- and more than there was room for
     pub too_much : (new_ids : List ObjectId) (new_kept : List ℕ) (new_len : ℕ) → length chunk ≡ room → rest ≢ []
-        → HasTaken new_ids new_kept new_len (t.text ++ chunk) → GivesTooMuch old new
+        → HasTaken new_ids new_kept new_len (t.text ++ chunk) → GivesTooMuch most old new
     too_much new_ids new_kept new_len full some taken =
         let text = t.text ++ chunk in
         let len = length-append t.text chunk in
-        let most : length text ≡ max_len = omega (arith, t.limit, len) in
+        let all : length text ≡ most = omega (arith, t.limit, len) in
         record {
           bytes = text ++ rest;
-          more = record {
-            too_long = omega (arith, t.limit, len, length-append text rest, some_length rest some);
-            gives = given;
-          };
+          gives = given;
+          too_long = omega (arith, t.limit, len, length-append text rest, some_length rest some);
           good =
-              subst NoBadLineEnded (sym (ap (λ n. take n (text ++ rest)) (sym most) ∙ take-append_seam text rest))
+              subst NoBadLineEnded (sym (ap (λ n. take n (text ++ rest)) (sym all) ∙ take-append_seam text rest))
               (no_bad_line new_ids new_kept new_len text taken);
         }
 
   -- it gave a chunk that was taken
   pub taken_chunk : (new_ids : List ObjectId) (new_kept : List ℕ) (new_len new_room : ℕ) (chunk : List ℕ) → Consumes now new chunk
-      → length chunk + new_room ≡ room → HasTaken new_ids new_kept new_len (t.text ++ chunk) → IsTaken new_ids new_kept new_len new_room old new
+      → length chunk + new_room ≡ room → HasTaken new_ids new_kept new_len (t.text ++ chunk) → IsTaken most new_ids new_kept new_len new_room old new
   taken_chunk new_ids new_kept new_len new_room chunk gives rest taken = record {
     text = t.text ++ chunk;
     gives = Consumes-trans old now new t.text chunk t.gives gives;
@@ -107,3 +105,13 @@ bytes_left room count buf less within none =
 -- a source that had not failed has not failed after a read that gave bytes
 pub not_failed : (before after : Bool) → before ≡ false → after ≡ (before || false) → after ≡ false
 not_failed before after stood same = same ∙ ap (λ b. b || false) stood
+
+-- what holds of all bytes of a source is settled
+pub settled_of_all : {P : List ℕ → Type 0} {most : ℕ} {old new : Option (List ℕ)} → HoldsOfAll P most old new → IsSettled P most old new
+settled_of_all {old = old} {new = new} all = record {
+  text = all.text;
+  rest = [];
+  gives = subst (Consumes old new) (sym (append-nil all.text)) all.gives;
+  short = all.short;
+  holds = inr (all.holds, all.at_end, refl);
+}

@@ -3,6 +3,5 @@ pub mod Lines
 pub mod ListText
 pub mod ListChunks
 pub mod Searching
-pub mod Finding
-pub mod FindingIn
-pub mod FindingFrom
+pub mod Stopping
+pub mod Errors

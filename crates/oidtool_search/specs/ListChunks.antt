@@ -6,7 +6,7 @@ use Rattle.gix_hash.specs.IdReading.{full_read, whole_of}
 use Rattle.gix_hash.specs.declared.ObjectId.{ObjectId}
 use Rattle.oidtool_search.specs.Lines.{is_line_feed}
 use Rattle.oidtool_search.specs.ListText.{RefusesList}
-use Rattle.oidtool_search.specs.declared.list.ListError.{ListError}
+use Rattle.oidtool_search.specs.declared.error.SearchError.{SearchError}
 use Rattle.oidtool_search.specs.declared.list_reader.ListReader.{ListReader}
 
 -- no byte of a line is a line feed
@@ -44,7 +44,7 @@ pub record Takes {A : Type 0} (old new : ListReader A) (bytes : List ℕ) : Type
   pub short : length new.ids.items + new.len ≤ length old.ids.items + old.len + length bytes
 
 -- after what a reader in this state has taken, the text is rejected for these bytes, whatever follows them
-abbrev pub RefusesAfter : {A : Type 0} → ListReader A → List ℕ → ListError → Type 0
+abbrev pub RefusesAfter : {A : Type 0} → ListReader A → List ℕ → SearchError → Type 0
 RefusesAfter old bytes error = (earlier : List ObjectId) (text more : List ℕ) → length earlier ≡ old.dropped
     → HasTaken (earlier ++ old.ids.items) old.line old.len text → RefusesList (text ++ (bytes ++ more)) error
 

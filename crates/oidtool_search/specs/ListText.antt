@@ -6,23 +6,23 @@ use Rattle.gix_hash.specs.IdReading.{full_read}
 use Rattle.gix_hash.specs.Prefix.{KindDigits, kind_digits}
 use Rattle.gix_hash.specs.declared.decode.Error.{Error}
 use Rattle.gix_hash.specs.declared.Kind.{Kind}
-use Rattle.oidtool_search.specs.declared.list.ListError.{ListError}
-use Rattle.oidtool_search.specs.declared.list.ListError.TheVariants.{BadLine, Memory}
+use Rattle.oidtool_search.specs.declared.error.SearchError.{SearchError}
+use Rattle.oidtool_search.specs.declared.error.SearchError.TheVariants.{BadLine, Memory}
 use Rattle.oidtool_search.specs.Lines.{lines_of}
 
 -- the digits of what line n reads as, before those of the lines after it; or the first error
-abbrev pub prepend_line : ℕ → Result KindDigits Error → Result (List (List ℕ)) ListError → Result (List (List ℕ)) ListError
+abbrev pub prepend_line : ℕ → Result KindDigits Error → Result (List (List ℕ)) SearchError → Result (List (List ℕ)) SearchError
 prepend_line n (Err error) more = Err (BadLine n error)
 prepend_line n (Ok id) (Err error) = Err error
 prepend_line n (Ok id) (Ok ids) = Ok (id.digits ∷ ids)
 
 -- the digits of the ids of some lines, counted from n, or the first error
-unfoldable pub ids_read : ℕ → List (List ℕ) → Result (List (List ℕ)) ListError
+unfoldable pub ids_read : ℕ → List (List ℕ) → Result (List (List ℕ)) SearchError
 ids_read n [] = Ok []
 ids_read n (line ∷ lines) = prepend_line n (full_read hex_letter line) (ids_read (n + 1) lines)
 
 -- the digits of the ids of a list text, or the first error, with its line, counted from 1
-abbrev pub list_read : List ℕ → Result (List (List ℕ)) ListError
+abbrev pub list_read : List ℕ → Result (List (List ℕ)) SearchError
 list_read text = ids_read 1 (lines_of text)
 
 -- the first of the lines reads as an id
@@ -31,9 +31,10 @@ IsFirstRead [] = ⊥
 IsFirstRead (line ∷ lines) = IsOk (full_read hex_letter line)
 
 -- the text is rejected as a list: for its first bad line, or, after a first line that reads, since memory ran out
-abbrev pub RefusesList : List ℕ → ListError → Type 0
+abbrev pub RefusesList : List ℕ → SearchError → Type 0
 RefusesList text (BadLine n error) = list_read text ≡ Err (BadLine n error)
 RefusesList text Memory = IsFirstRead (lines_of text)
+RefusesList text error = ⊥
 
 -- the line reads as an id of these digits
 abbrev pub IsLineOf : List ℕ → List ℕ → Type 0

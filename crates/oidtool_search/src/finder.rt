@@ -4,86 +4,81 @@ ghost use Rattle.std.specs.Prelude.{◌≡◌, ◌≢◌, ◌+◌, ◌^◌, ◌<
 ghost use Rattle.std.specs.Option.{option_map};
 ghost use Rattle.std.specs.Result.{result_map_both};
 ghost use Rattle.gix_hash.specs.ObjectId.{id_digits};
-ghost use Rattle.oidtool_search.specs.Searching.{last_or, found_among, IsFinderState};
-ghost use Rattle.oidtool_search.specs.declared.list.ListError.{ListError};
+ghost use Rattle.gix_hash.specs.Prefix.{KindDigits};
+ghost use Rattle.oidtool_search.specs.Searching.{last_or, found_among, HasFound};
+ghost use Rattle.oidtool_search.specs.declared.error.SearchError.{SearchError};
+ghost use Rattle.oidtool_search.specs.declared.search.Search.{Search};
 
-use crate::list::ListError;
-use crate::order::ListOrder;
+use crate::error::SearchError;
+use crate::query::Query;
 use gix_hash::ObjectId;
 use std::alloc::Allocator;
 
 /// Searches a list of ids that comes in parts. It keeps the ids that are found, the first error of
-/// the order, and the last id.
+/// the order, the smallest number of digits, and the last id.
 #[derive(Drop)]
-pub struct Finder<A: Allocator, O: ListOrder> {
-    order: O,
+pub struct Finder<A: Allocator> {
     count: usize,
     last: Option<ObjectId>,
-    refusal: Option<O::Error>,
+    min_hex_len: usize,
+    refusal: Option<SearchError>,
     found: Vec<ObjectId, A>,
 }
 
-impl<A: Allocator, O: ListOrder> Finder<A, O> {
+impl<A: Allocator> Finder<A> {
     /// A finder that has taken nothing.
-    pub fn new(alloc: A, order: O) -> Self
-        requires { O.is_after order [] }
-        ensures same { O.query result.order ≡ O.query order }
-        ensures known { IsFinderState (O.query order) (O.is_after result.order) []
-            result.count result.last result.refusal result.found.items }
+    pub fn new(alloc: A) -> Self
+        ensures known { (search : Search) (digits : List ℕ) → HasFound search digits [] result }
         ensures none { result.count ≡ 0 }
     {
         Finder {
-            order,
             count: 0,
             last: None,
+            min_hex_len: 64,
             refusal: None,
             found: Vec::new(alloc),
         }
     }
 
     /// Takes the next part of the list. Nothing is looked up after an error of the order.
-    pub fn take(&mut self, part: &[ObjectId]) -> Result<(), ListError>
+    pub fn take(&mut self, query: &Query, part: &[ObjectId]) -> Result<(), SearchError>
         requires { self.old.count + length part.now < 2 ^ 64 }
-        ensures same { O.query self.new.order ≡ O.query self.old.order }
         ensures known { OnOk result ((ids : List (List ℕ))
-            → IsFinderState (O.query self.old.order) (O.is_after self.old.order) ids
-            self.old.count self.old.last self.old.refusal self.old.found.items
-            → IsFinderState (O.query self.old.order) (O.is_after self.new.order)
-            (ids ++ map id_digits part.now)
-            self.new.count self.new.last self.new.refusal self.new.found.items) }
+            → HasFound query.now.search query.now.prefix.digits ids self.old
+            → HasFound query.now.search query.now.prefix.digits (ids ++ map id_digits part.now)
+            self.new) }
         ensures count { OnOk result (self.new.count ≡ self.old.count + length part.now) }
-        ensures memory { IfErr result (λ e. (e ≡ ListError.Memory) × (part.now ≢ [])) }
+        ensures memory { IfErr result (λ e. (e ≡ SearchError.Memory) × (part.now ≢ [])) }
     {
         let before = self.count;
         self.count += part.len();
         if self.refusal.is_some() {
             return Ok(());
         }
-        match self.order.find(before, self.last, part) {
+        match query.find(before, self.last, part) {
             Err(error) => {
                 self.refusal = Some(error);
                 Ok(())
             }
-            Ok(found) => {
+            Ok((found, min)) => {
                 self.last = last_of(self.last, part);
+                self.min_hex_len = self.min_hex_len.min(min);
                 match self.found.extend_from_slice(found) {
                     Ok(()) => Ok(()),
-                    Err(_) => Err(ListError::Memory),
+                    Err(_) => Err(SearchError::Memory),
                 }
             }
         }
     }
 
     /// The ids that are found, or the first error of the list that was taken.
-    pub fn into_found(self) -> Result<Vec<ObjectId, A>, O::Error>
-        ensures { (ids : List (List ℕ))
-            → IsFinderState (O.query self.order) (O.is_after self.order) ids
-            self.count self.last self.refusal self.found.items
-            → found_among (O.query self.order) ids
+    pub fn into_found(self, query: &Query) -> Result<Vec<ObjectId, A>, SearchError>
+        ensures { (ids : List (List ℕ)) → HasFound query.now.search query.now.prefix.digits ids self
+            → found_among query.now.search query.now.prefix.digits ids
             ≡ result_map_both (λ found. map id_digits found.items) (λ error. error) result }
     {
         let Finder {
-            order,
+            min_hex_len,
             refusal,
             found,
             ..
@@ -91,7 +86,7 @@ impl<A: Allocator, O: ListOrder> Finder<A, O> {
         if let Some(error) = refusal {
             return Err(error);
         }
-        if let Some(error) = order.error_of_all() {
+        if let Some(error) = query.error_of_all(min_hex_len) {
             return Err(error);
         }
         Ok(found)

@@ -1,21 +1,19 @@
 //! Finding the ids of a list text that begin with a prefix.
 
-ghost use Rattle.std.specs.Prelude.{◌≡◌, ◌≢◌, ◌↔◌, ◌⊎◌, true, false, ℕ, List, Result, IsOk, IfOk, IfErr, IsErrOf};
-ghost use Rattle.gix_hash.specs.Alphabet.{letter_of};
-ghost use Rattle.gix_hash.specs.Digits.{hex_letter, reverse_letter};
-ghost use Rattle.gix_hash.specs.PrefixReading.{prefix_read};
+ghost use Rattle.std.specs.Prelude.{◌≡◌, ◌≢◌, ◌↔◌, ℕ, List, Result, true, false, IfOk, IfErr, IsErrOf};
+ghost use Rattle.gix_hash.specs.declared.Alphabet.{Alphabet};
+ghost use Rattle.oidtool_search.specs.Errors.{cause_of};
+ghost use Rattle.oidtool_search.specs.Searching.{finding, ResultHolds};
+ghost use Rattle.oidtool_search.specs.Stopping.{Fails, Finds, From, IsOfText, IsOwn, Text};
+ghost use Rattle.oidtool_search.specs.declared.error.SearchError.{SearchError};
 ghost use Rattle.oidtool_search.specs.declared.finding.FindError.{FindError};
-ghost use Rattle.oidtool_search.specs.Finding.{finding, IsFound, IsFoundInPart, ResultHolds};
-ghost use Rattle.oidtool_search.specs.Lines.{lines_of};
-ghost use Rattle.oidtool_search.specs.ListText.{IsFirstRead};
+ghost use Rattle.oidtool_search.specs.declared.search.Search.{Search};
 
-use crate::found::write_found;
-use crate::list::ListError;
-use crate::order::Sorted;
-use crate::reading::find_in_text;
+use crate::error::SearchError;
+use crate::search::{Search, search_from};
 use gix_hash::{Alphabet, decode, prefix};
 use std::alloc::Allocator;
-use streams::{Sink, WriteFailed};
+use streams::{FromSlice, Sink};
 use thiserror::Error as ThisError;
 
 /// Why a search in a list text failed.
@@ -61,25 +59,24 @@ pub enum FindError {
     Output,
 }
 
-impl From<WriteFailed> for FindError {
-    ghost use Rattle.oidtool_search.specs.declared.finding.FindError.TheVariants.{Output};
-
-    ghost from_gives = { λ _ e. e ≡ Output };
-
-    fn from(_failed: WriteFailed) -> Self {
-        FindError::Output
-    }
-}
-
-impl From<ListError> for FindError {
-    ghost use Rattle.oidtool_search.specs.Finding.{refusal_of_list};
-
-    ghost from_gives = { λ error e. e ≡ refusal_of_list error };
-
-    fn from(error: ListError) -> Self {
-        match error {
-            ListError::BadLine { line, error } => FindError::BadLine { line, error },
-            ListError::Memory => FindError::Memory,
+impl FindError {
+    // The error of this cause.
+    fn of(cause: SearchError) -> Self
+        requires sorted { IsOwn (Search.Sorted Alphabet.Hex) cause }
+        requires of_text { IsOfText cause }
+        ensures { cause_of result ≡ cause }
+    {
+        match cause {
+            SearchError::Prefix(error) => FindError::Prefix(error),
+            SearchError::BadLine { line, error } => FindError::BadLine { line, error },
+            SearchError::Unsorted { line } => FindError::Unsorted { line },
+            SearchError::PrefixTooLong { hex_len, min } => FindError::PrefixTooLong {
+                hex_len,
+                min,
+            },
+            SearchError::Memory => FindError::Memory,
+            SearchError::Output => FindError::Output,
+            _ => unreachable!(),
         }
     }
 }
@@ -103,19 +100,19 @@ pub fn find<A: Allocator, W: Sink>(
     out: &mut W,
 ) -> Result<usize, FindError>
     requires { W.has_failed out.old ≡ false }
-    ensures found { IfOk result (IsFound hex_letter (finding hex_letter prefix.now list.now)
-        (W.taken out.old) (W.taken out.new)) }
-    ensures refused { IfErr result (λ e. (finding hex_letter prefix.now list.now ≡ Err e)
-        ⊎ (e ≡ FindError.Memory) ⊎ (e ≡ FindError.Output)) }
-    ensures memory { IsErrOf result FindError.Memory
-        → IsOk (prefix_read hex_letter 4 prefix.now) × IsFirstRead (lines_of list.now) }
+    ensures found { IfOk result (Finds (Search.Sorted Alphabet.Hex) prefix.now
+        (Text list.now) (W.taken out.old) (W.taken out.new)) }
+    ensures stopped { IfErr result (λ e. Fails (Search.Sorted Alphabet.Hex) prefix.now
+        (Text list.now) (cause_of e) (W.taken out.old) (W.taken out.new)) }
     ensures untouched { IfErr result (λ e. e ≢ FindError.Output → out.new ≡ out.old) }
     ensures output { IsErrOf result FindError.Output ↔ (W.has_failed out.new ≡ true) }
-    ensures part { IsErrOf result FindError.Output
-        → IsFoundInPart hex_letter (finding hex_letter prefix.now list.now) (W.taken out.old)
-        (W.taken out.new) }
 {
-    search(alloc, Alphabet::Hex, prefix, list, out)
+    let search = Search::Sorted(Alphabet::Hex);
+    let most = list.len() as u64;
+    match search_from(alloc, search, prefix, &mut FromSlice::new(list), most, out) {
+        Ok(count) => Ok(count),
+        Err(cause) => Err(FindError::of(cause)),
+    }
 }
 
 /// Writes a line for each id of the list text that begins with the prefix, as [`find`] does, with
@@ -127,50 +124,24 @@ pub fn find_change<A: Allocator, W: Sink>(
     out: &mut W,
 ) -> Result<usize, FindError>
     requires { W.has_failed out.old ≡ false }
-    ensures found { IfOk result (IsFound reverse_letter
-        (finding reverse_letter letters.now list.now) (W.taken out.old) (W.taken out.new)) }
-    ensures refused { IfErr result (λ e. (finding reverse_letter letters.now list.now ≡ Err e)
-        ⊎ (e ≡ FindError.Memory) ⊎ (e ≡ FindError.Output)) }
-    ensures memory { IsErrOf result FindError.Memory
-        → IsOk (prefix_read reverse_letter 4 letters.now) × IsFirstRead (lines_of list.now) }
+    ensures found { IfOk result (Finds (Search.Sorted Alphabet.Reverse) letters.now
+        (Text list.now) (W.taken out.old) (W.taken out.new)) }
+    ensures stopped { IfErr result (λ e. Fails (Search.Sorted Alphabet.Reverse) letters.now
+        (Text list.now) (cause_of e) (W.taken out.old) (W.taken out.new)) }
     ensures untouched { IfErr result (λ e. e ≢ FindError.Output → out.new ≡ out.old) }
     ensures output { IsErrOf result FindError.Output ↔ (W.has_failed out.new ≡ true) }
-    ensures part { IsErrOf result FindError.Output
-        → IsFoundInPart reverse_letter (finding reverse_letter letters.now list.now)
-        (W.taken out.old) (W.taken out.new) }
 {
-    search(alloc, Alphabet::Reverse, letters, list, out)
+    let search = Search::Sorted(Alphabet::Reverse);
+    let most = list.len() as u64;
+    match search_from(alloc, search, letters, &mut FromSlice::new(list), most, out) {
+        Ok(count) => Ok(count),
+        Err(cause) => Err(FindError::of(cause)),
+    }
 }
 
-// Does what `find` and `find_change` do, in the letters of an alphabet.
-fn search<A: Allocator, W: Sink>(
-    alloc: A,
-    alphabet: Alphabet,
-    prefix: &str,
-    list: &[u8],
-    out: &mut W,
-) -> Result<usize, FindError>
-    requires { W.has_failed out.old ≡ false }
-    ensures found { IfOk result (IsFound (letter_of alphabet)
-        (finding (letter_of alphabet) prefix.now list.now) (W.taken out.old) (W.taken out.new)) }
-    ensures refused { IfErr result (λ e. (finding (letter_of alphabet) prefix.now list.now ≡ Err e)
-        ⊎ (e ≡ FindError.Memory) ⊎ (e ≡ FindError.Output)) }
-    ensures memory { IsErrOf result FindError.Memory
-        → IsOk (prefix_read (letter_of alphabet) 4 prefix.now) × IsFirstRead (lines_of list.now) }
-    ensures untouched { IfErr result (λ e. e ≢ FindError.Output → out.new ≡ out.old) }
-    ensures output { IsErrOf result FindError.Output ↔ (W.has_failed out.new ≡ true) }
-    ensures part { IsErrOf result FindError.Output
-        → IsFoundInPart (letter_of alphabet) (finding (letter_of alphabet) prefix.now list.now)
-        (W.taken out.old) (W.taken out.new) }
-{
-    let prefix = alphabet.read_prefix(prefix).map_err(FindError::Prefix)?;
-    let ids = find_in_text(&alloc, Sorted::new(prefix), list)??;
-    Ok(write_found(alphabet, ids, out)?)
-}
-
-/// A law: a result is what is found if and only if what it says of the two texts holds.
+/// A law: a result is what a search in a sorted list finds if and only if what it says of the two texts holds.
 pub fn finding_means(alphabet: Alphabet, prefix: &str, list: &[u8])
-    ensures { (answer : Result (List (List ℕ)) FindError)
-        → (finding (letter_of alphabet) prefix.now list.now ≡ answer)
-        ↔ ResultHolds (letter_of alphabet) prefix.now list.now answer }
+    ensures { (answer : Result (List (List ℕ)) SearchError)
+        → (finding (Search.Sorted alphabet) prefix.now list.now ≡ answer)
+        ↔ ResultHolds (Search.Sorted alphabet) prefix.now list.now answer }
 {}

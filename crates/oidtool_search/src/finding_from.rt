@@ -1,22 +1,18 @@
 //! Finding ids in the list text of a source.
 
-ghost use Rattle.std.specs.Prelude.{◌≡◌, ◌≢◌, ◌↔◌, ℕ, List, Option, true, false, Err, IsErr, IfOk, IfErr, IsErrOf};
-ghost use Rattle.gix_hash.specs.Alphabet.{letter_of};
-ghost use Rattle.gix_hash.specs.Digits.{hex_letter, reverse_letter};
-ghost use Rattle.gix_hash.specs.PrefixReading.{prefix_read};
-ghost use Rattle.oidtool_search.specs.Finding.{finding, IsFound};
-ghost use Rattle.oidtool_search.specs.FindingFrom.{HoldsOfAll, SearchFails};
-ghost use Rattle.streams.specs.Source.{HasReadAll};
-ghost use Rattle.oidtool_search.specs.declared.finding.FindError.{FindError};
+ghost use Rattle.std.specs.Prelude.{◌≡◌, ◌≢◌, ◌↔◌, true, false, IsErr, IfOk, IfErr, IsErrOf};
+ghost use Rattle.gix_hash.specs.declared.Alphabet.{Alphabet};
+ghost use Rattle.oidtool_search.specs.Errors.{cause_from};
+ghost use Rattle.oidtool_search.specs.Searching.{prefix_of};
+ghost use Rattle.oidtool_search.specs.Stopping.{Fails, Finds, From, IsOwn};
 ghost use Rattle.oidtool_search.specs.declared.finding_from.FindFromError.{FindFromError};
+ghost use Rattle.oidtool_search.specs.declared.search.Search.{Search};
 
-use crate::finding::FindError;
-use crate::found::write_found;
-use crate::order::Sorted;
-use crate::reading::{ReadError, find_in_source};
+use crate::error::SearchError;
+use crate::search::{Search, search_from};
 use gix_hash::{Alphabet, decode, prefix};
 use std::alloc::Allocator;
-use streams::{Sink, Source, WriteFailed};
+use streams::{MAX_LEN, Sink, Source};
 use thiserror::Error as ThisError;
 
 /// Why a search in the list text of a source failed.
@@ -68,45 +64,24 @@ pub enum FindFromError {
     TooMuch,
 }
 
-impl From<FindError> for FindFromError {
-    ghost use Rattle.oidtool_search.specs.FindingFrom.{from_source};
-
-    ghost from_gives = { λ error e. e ≡ from_source error };
-
-    fn from(error: FindError) -> Self {
-        match error {
-            FindError::Prefix(error) => FindFromError::Prefix(error),
-            FindError::BadLine { line, error } => FindFromError::BadLine { line, error },
-            FindError::Unsorted { line } => FindFromError::Unsorted { line },
-            FindError::PrefixTooLong { hex_len, min } => {
+impl FindFromError {
+    // The error of this cause.
+    fn of(cause: SearchError) -> Self
+        requires { IsOwn (Search.Sorted Alphabet.Hex) cause }
+        ensures { cause_from result ≡ cause }
+    {
+        match cause {
+            SearchError::Prefix(error) => FindFromError::Prefix(error),
+            SearchError::BadLine { line, error } => FindFromError::BadLine { line, error },
+            SearchError::Unsorted { line } => FindFromError::Unsorted { line },
+            SearchError::PrefixTooLong { hex_len, min } => {
                 FindFromError::PrefixTooLong { hex_len, min }
             }
-            FindError::Memory => FindFromError::Memory,
-            FindError::Output => FindFromError::Output,
-        }
-    }
-}
-
-impl From<WriteFailed> for FindFromError {
-    ghost use Rattle.oidtool_search.specs.declared.finding_from.FindFromError.TheVariants.{Output};
-
-    ghost from_gives = { λ _ e. e ≡ Output };
-
-    fn from(_failed: WriteFailed) -> Self {
-        FindFromError::Output
-    }
-}
-
-impl From<ReadError> for FindFromError {
-    ghost use Rattle.oidtool_search.specs.FindingFrom.{from_reading};
-
-    ghost from_gives = { λ error e. e ≡ from_reading error };
-
-    fn from(error: ReadError) -> Self {
-        match error {
-            ReadError::Refused(error) => FindFromError::from(FindError::from(error)),
-            ReadError::Input => FindFromError::Input,
-            ReadError::TooMuch => FindFromError::TooMuch,
+            SearchError::Memory => FindFromError::Memory,
+            SearchError::Output => FindFromError::Output,
+            SearchError::Input => FindFromError::Input,
+            SearchError::TooMuch => FindFromError::TooMuch,
+            _ => unreachable!(),
         }
     }
 }
@@ -134,85 +109,27 @@ pub fn find_from<A: Allocator, R: Source, W: Sink>(
 ) -> Result<usize, FindFromError>
     requires input { R.has_failed list.old ≡ false }
     requires output { W.has_failed out.old ≡ false }
-    ensures found { IfOk result (λ count. (text : List ℕ)
-        × HasReadAll (R.remaining list.old) (R.remaining list.new) text
-        × IsFound hex_letter (finding hex_letter prefix.now text) (W.taken out.old)
-        (W.taken out.new) count) }
-    ensures stopped { IfErr result (λ e.
-        SearchFails hex_letter prefix.now e (R.remaining list.old) (R.remaining list.new)
+    ensures found { IfOk result (Finds (Search.Sorted Alphabet.Hex) prefix.now
+        (From MAX_LEN (R.remaining list.old) (R.remaining list.new))
         (W.taken out.old) (W.taken out.new)) }
-    ensures unread { IsErr (prefix_read hex_letter 4 prefix.now) → list.new ≡ list.old }
+    ensures stopped { IfErr result (λ e. Fails (Search.Sorted Alphabet.Hex) prefix.now
+        (From MAX_LEN (R.remaining list.old) (R.remaining list.new)) (cause_from e)
+        (W.taken out.old) (W.taken out.new)) }
+    ensures unread { IsErr (prefix_of (Search.Sorted Alphabet.Hex) prefix.now)
+        → list.new ≡ list.old }
     ensures untouched { IfErr result (λ e. e ≢ FindFromError.Output → out.new ≡ out.old) }
     ensures input { IsErrOf result FindFromError.Input ↔ (R.has_failed list.new ≡ true) }
     ensures output { IsErrOf result FindFromError.Output ↔ (W.has_failed out.new ≡ true) }
 {
-    search_from(alloc, Alphabet::Hex, prefix, list, out)
+    match search_from(
+        alloc,
+        Search::Sorted(Alphabet::Hex),
+        prefix,
+        list,
+        MAX_LEN,
+        out,
+    ) {
+        Ok(count) => Ok(count),
+        Err(cause) => Err(FindFromError::of(cause)),
+    }
 }
-
-/// Does what [`find_from`] does, with the prefix read in the letters `z` to `k` and the ids written
-/// in them, as by [`find_change`](crate::finding::find_change). The list text is in hex.
-pub fn find_change_from<A: Allocator, R: Source, W: Sink>(
-    alloc: A,
-    letters: &str,
-    list: &mut R,
-    out: &mut W,
-) -> Result<usize, FindFromError>
-    requires input { R.has_failed list.old ≡ false }
-    requires output { W.has_failed out.old ≡ false }
-    ensures found { IfOk result (λ count. (text : List ℕ)
-        × HasReadAll (R.remaining list.old) (R.remaining list.new) text
-        × IsFound reverse_letter (finding reverse_letter letters.now text) (W.taken out.old)
-        (W.taken out.new) count) }
-    ensures stopped { IfErr result (λ e.
-        SearchFails reverse_letter letters.now e (R.remaining list.old) (R.remaining list.new)
-        (W.taken out.old) (W.taken out.new)) }
-    ensures unread { IsErr (prefix_read reverse_letter 4 letters.now) → list.new ≡ list.old }
-    ensures untouched { IfErr result (λ e. e ≢ FindFromError.Output → out.new ≡ out.old) }
-    ensures input { IsErrOf result FindFromError.Input ↔ (R.has_failed list.new ≡ true) }
-    ensures output { IsErrOf result FindFromError.Output ↔ (W.has_failed out.new ≡ true) }
-{
-    search_from(alloc, Alphabet::Reverse, letters, list, out)
-}
-
-// Does what `find_from` and `find_change_from` do, in the letters of an alphabet.
-fn search_from<A: Allocator, R: Source, W: Sink>(
-    alloc: A,
-    alphabet: Alphabet,
-    prefix: &str,
-    list: &mut R,
-    out: &mut W,
-) -> Result<usize, FindFromError>
-    requires input { R.has_failed list.old ≡ false }
-    requires output { W.has_failed out.old ≡ false }
-    ensures found { IfOk result (λ count. (text : List ℕ)
-        × HasReadAll (R.remaining list.old) (R.remaining list.new) text
-        × IsFound (letter_of alphabet) (finding (letter_of alphabet) prefix.now text)
-        (W.taken out.old) (W.taken out.new) count) }
-    ensures stopped { IfErr result (λ e.
-        SearchFails (letter_of alphabet) prefix.now e (R.remaining list.old) (R.remaining list.new)
-        (W.taken out.old) (W.taken out.new)) }
-    ensures unread { IsErr (prefix_read (letter_of alphabet) 4 prefix.now) → list.new ≡ list.old }
-    ensures untouched { IfErr result (λ e. e ≢ FindFromError.Output → out.new ≡ out.old) }
-    ensures input { IsErrOf result FindFromError.Input ↔ (R.has_failed list.new ≡ true) }
-    ensures output { IsErrOf result FindFromError.Output ↔ (W.has_failed out.new ≡ true) }
-{
-    let prefix = alphabet.read_prefix(prefix).map_err(FindFromError::Prefix)?;
-    let ids = find_in_source(&alloc, Sorted::new(prefix), list)??;
-    Ok(write_found(alphabet, ids, out)?)
-}
-
-/// A law of the errors `Unsorted` and `PrefixTooLong` in the clause `stopped` of [`find_from`] and
-/// [`find_change_from`]: the source is at its end, and the error is that of `finding` on all that
-/// it gave. Before its end neither is certain, since a bad line that follows is reported first.
-pub fn unsorted_at_end(alphabet: Alphabet, prefix: &str)
-    ensures unsorted { (line : ℕ) (source source' sink sink' : Option (List ℕ))
-        → SearchFails (letter_of alphabet) prefix.now (FindFromError.Unsorted line) source source'
-        sink sink'
-        ↔ HoldsOfAll (λ text. finding (letter_of alphabet) prefix.now text
-        ≡ Err (FindError.Unsorted line)) source source' }
-    ensures prefix_too_long { (hex_len least : ℕ) (source source' sink sink' : Option (List ℕ))
-        → SearchFails (letter_of alphabet) prefix.now (FindFromError.PrefixTooLong hex_len least)
-        source source' sink sink'
-        ↔ HoldsOfAll (λ text. finding (letter_of alphabet) prefix.now text
-        ≡ Err (FindError.PrefixTooLong hex_len least)) source source' }
-{}

@@ -1,21 +1,19 @@
 //! Finding the ids of a list text of one kind that begin with a prefix.
 
-ghost use Rattle.std.specs.Prelude.{◌≡◌, ◌≢◌, ◌↔◌, ◌⊎◌, true, false, ℕ, List, Result, IsOk, IfOk, IfErr, IsErrOf};
-ghost use Rattle.gix_hash.specs.Digits.{hex_letter};
-ghost use Rattle.gix_hash.specs.PrefixReading.{prefix_read_in};
+ghost use Rattle.std.specs.Prelude.{◌≡◌, ◌≢◌, ◌↔◌, ℕ, List, Result, true, false, IfOk, IfErr, IsErrOf};
+ghost use Rattle.gix_hash.specs.declared.Kind.{Kind};
+ghost use Rattle.oidtool_search.specs.Errors.{cause_in};
+ghost use Rattle.oidtool_search.specs.Searching.{finding, ResultHolds};
+ghost use Rattle.oidtool_search.specs.Stopping.{Fails, Finds, From, IsOfText, IsOwn, Text};
+ghost use Rattle.oidtool_search.specs.declared.error.SearchError.{SearchError};
 ghost use Rattle.oidtool_search.specs.declared.finding_in.FindInError.{FindInError};
-ghost use Rattle.oidtool_search.specs.Finding.{IsFound, IsFoundInPart};
-ghost use Rattle.oidtool_search.specs.FindingIn.{finding_in, ResultHoldsIn};
-ghost use Rattle.oidtool_search.specs.Lines.{lines_of};
-ghost use Rattle.oidtool_search.specs.ListText.{IsFirstRead};
+ghost use Rattle.oidtool_search.specs.declared.search.Search.{Search};
 
-use crate::found::write_found;
-use crate::list::ListError;
-use crate::order::OfKind;
-use crate::reading::find_in_text;
-use gix_hash::{Alphabet, Kind, Prefix, decode, prefix};
+use crate::error::SearchError;
+use crate::search::{Search, search_from};
+use gix_hash::{Kind, decode, prefix};
 use std::alloc::Allocator;
-use streams::{Sink, WriteFailed};
+use streams::{FromSlice, Sink};
 use thiserror::Error as ThisError;
 
 /// Why a search in a list text of ids of one kind failed.
@@ -66,25 +64,22 @@ pub enum FindInError {
     Output,
 }
 
-impl From<WriteFailed> for FindInError {
-    ghost use Rattle.oidtool_search.specs.declared.finding_in.FindInError.TheVariants.{Output};
-
-    ghost from_gives = { λ _ e. e ≡ Output };
-
-    fn from(_failed: WriteFailed) -> Self {
-        FindInError::Output
-    }
-}
-
-impl From<ListError> for FindInError {
-    ghost use Rattle.oidtool_search.specs.FindingIn.{refusal_of_list_in};
-
-    ghost from_gives = { λ error e. e ≡ refusal_of_list_in error };
-
-    fn from(error: ListError) -> Self {
-        match error {
-            ListError::BadLine { line, error } => FindInError::BadLine { line, error },
-            ListError::Memory => FindInError::Memory,
+impl FindInError {
+    // The error of this cause.
+    fn of(cause: SearchError) -> Self
+        requires in_kind { IsOwn (Search.In Kind.Sha1) cause }
+        requires of_text { IsOfText cause }
+        ensures cause { cause_in result ≡ cause }
+        ensures same_kind { (other : Kind) → result ≢ FindInError.OtherKind other }
+    {
+        match cause {
+            SearchError::Prefix(error) => FindInError::Prefix(error),
+            SearchError::BadLine { line, error } => FindInError::BadLine { line, error },
+            SearchError::WrongKind { line } => FindInError::WrongKind { line },
+            SearchError::NotRising { line } => FindInError::NotRising { line },
+            SearchError::Memory => FindInError::Memory,
+            SearchError::Output => FindInError::Output,
+            _ => unreachable!(),
         }
     }
 }
@@ -111,28 +106,25 @@ pub fn find_in<A: Allocator, W: Sink>(
     out: &mut W,
 ) -> Result<usize, FindInError>
     requires { W.has_failed out.old ≡ false }
-    ensures found { IfOk result (IsFound hex_letter (finding_in kind prefix.now list.now)
+    ensures found { IfOk result (Finds (Search.In kind) prefix.now (Text list.now)
         (W.taken out.old) (W.taken out.new)) }
-    ensures refused { IfErr result (λ e. (finding_in kind prefix.now list.now ≡ Err e)
-        ⊎ (e ≡ FindInError.Memory) ⊎ (e ≡ FindInError.Output)) }
+    ensures stopped { IfErr result (λ e. Fails (Search.In kind) prefix.now (Text list.now)
+        (cause_in e) (W.taken out.old) (W.taken out.new)) }
     ensures same_kind { IfErr result (λ e. (other : Kind) → e ≢ FindInError.OtherKind other) }
-    ensures memory { IsErrOf result FindInError.Memory
-        → IsOk (prefix_read_in kind hex_letter prefix.now) × IsFirstRead (lines_of list.now) }
     ensures untouched { IfErr result (λ e. e ≢ FindInError.Output → out.new ≡ out.old) }
     ensures output { IsErrOf result FindInError.Output ↔ (W.has_failed out.new ≡ true) }
-    ensures part { IsErrOf result FindInError.Output
-        → IsFoundInPart hex_letter (finding_in kind prefix.now list.now) (W.taken out.old)
-        (W.taken out.new) }
 {
-    let prefix = Prefix::from_hex_in(kind, prefix).map_err(FindInError::Prefix)?;
-    let ids = find_in_text(&alloc, OfKind::new(kind, prefix), list)??;
-    Ok(write_found(Alphabet::Hex, ids, out)?)
+    let search = Search::In(kind);
+    let most = list.len() as u64;
+    match search_from(alloc, search, prefix, &mut FromSlice::new(list), most, out) {
+        Ok(count) => Ok(count),
+        Err(cause) => Err(FindInError::of(cause)),
+    }
 }
 
-/// A law: a result is what is found in ids of one kind if and only if what it says of the two texts
-/// holds.
+/// A law: a result is what a search in ids of one kind finds if and only if what it says of the two texts holds.
 pub fn finding_in_means(kind: Kind, prefix: &str, list: &[u8])
-    ensures { (answer : Result (List (List ℕ)) FindInError)
-        → (finding_in kind prefix.now list.now ≡ answer)
-        ↔ ResultHoldsIn kind prefix.now list.now answer }
+    ensures { (answer : Result (List (List ℕ)) SearchError)
+        → (finding (Search.In kind) prefix.now list.now ≡ answer)
+        ↔ ResultHolds (Search.In kind) prefix.now list.now answer }
 {}

@@ -8,7 +8,7 @@ ghost use Rattle.gix_hash.specs.ObjectId.{id_digits};
 ghost use Rattle.oidtool_search.specs.ListChunks.{HasTaken, HasIdLine, RefusesAfter, Takes};
 ghost use Rattle.oidtool_search.specs.ListText.{list_read, RefusesList};
 
-use crate::list::ListError;
+use crate::error::SearchError;
 use gix_hash::{Alphabet, Kind, ObjectId, decode};
 use std::alloc::Allocator;
 
@@ -46,7 +46,7 @@ impl<A: Allocator> ListReader<A> {
     }
 
     /// Takes the next chunk of the text. An error is that of the whole text, whatever follows.
-    pub fn take_chunk(&mut self, chunk: &[u8]) -> Result<(), ListError>
+    pub fn take_chunk(&mut self, chunk: &[u8]) -> Result<(), SearchError>
         requires { self.old.dropped + length self.old.ids.items + self.old.len
             + length chunk.now < 2 ^ 64 }
         ensures ok { OnOk result (Takes self.old self.new chunk.now) }
@@ -60,7 +60,7 @@ impl<A: Allocator> ListReader<A> {
     }
 
     /// The ids of the whole text, whose last line feed may be absent.
-    pub fn finish(mut self) -> Result<Vec<ObjectId, A>, ListError>
+    pub fn finish(mut self) -> Result<Vec<ObjectId, A>, SearchError>
         requires { self.dropped + length self.ids.items + 1 < 2 ^ 64 }
         ensures ok { IfOk result (λ ids. (earlier : List ObjectId) (text : List ℕ)
             → HasTaken (earlier ++ self.ids.items) self.line self.len text
@@ -99,7 +99,7 @@ impl<A: Allocator> ListReader<A> {
     // Takes the whole lines that begin at this index, if the chunk has at least one and it is an
     // id, and else one byte. Returns the index after them.
     #[inline(always)]
-    fn take_next(&mut self, chunk: &[u8], at: usize) -> Result<usize, ListError>
+    fn take_next(&mut self, chunk: &[u8], at: usize) -> Result<usize, SearchError>
         requires in_chunk { at < length chunk.now }
         requires room { self.old.dropped + length self.old.ids.items + self.old.len + 1 < 2 ^ 64 }
         ensures onward { IfOk result (λ next. (at < next) × (next ≤ length chunk.now)) }
@@ -154,7 +154,7 @@ impl<A: Allocator> ListReader<A> {
         end
     }
 
-    fn take_byte(&mut self, byte: u8) -> Result<(), ListError>
+    fn take_byte(&mut self, byte: u8) -> Result<(), SearchError>
         requires { self.old.dropped + length self.old.ids.items + self.old.len + 1 < 2 ^ 64 }
         ensures ok { OnOk result (Takes self.old self.new (byte ∷ [])) }
         ensures err { IfErr result (RefusesAfter self.old (byte ∷ [])) }
@@ -168,7 +168,7 @@ impl<A: Allocator> ListReader<A> {
     }
 
     // Takes a line feed.
-    fn end_line(&mut self) -> Result<(), ListError>
+    fn end_line(&mut self) -> Result<(), SearchError>
         requires { self.old.dropped + length self.old.ids.items + 1 < 2 ^ 64 }
         ensures ok { OnOk result (Takes self.old self.new (10 ∷ [])) }
         ensures one { OnOk result (length self.new.ids.items ≡ length self.old.ids.items + 1) }
@@ -181,7 +181,7 @@ impl<A: Allocator> ListReader<A> {
                 self.len = 0;
                 Ok(())
             }
-            Err(error) => Err(ListError::BadLine {
+            Err(error) => Err(SearchError::BadLine {
                 line: self.dropped + self.ids.len() + 1,
                 error,
             }),

@@ -4,14 +4,11 @@ ghost use Rattle.std.specs.Prelude.{◌≡◌, false};
 
 use super::{BLOB_LETTERS, TREE};
 use crate::expecting::shown;
-use gix_hash::Kind;
-use oidtool_search::{
-    FindInError, FindInFromError, find, find_change, find_change_from, find_from, find_in,
-    find_in_from,
-};
+use gix_hash::{Alphabet, Kind};
+use oidtool_search::{find, find_change, find_from, find_in, search_from};
 use std::alloc::Allocator;
 use std::process::Abort;
-use streams::{FromSlice, Sink, Source};
+use streams::{FromSlice, MAX_LEN, Sink, Source};
 
 /// How a search reads its prefix: in hex, in the letters of change ids, or in hex for ids of a
 /// kind.
@@ -86,14 +83,14 @@ impl By {
     {
         match self {
             By::Hex => shown(rt, find_from(alloc, prefix, input, out)),
-            By::Letters => shown(rt, find_change_from(alloc, prefix, input, out)),
-            By::In(kind) => match find_in_from(alloc, kind, prefix, input, out) {
-                Err(FindInFromError::Search(error)) => {
-                    let rejected: Result<usize, FindInError> = Err(error);
-                    shown(rt, rejected)
-                }
-                other => shown(rt, other),
-            },
+            By::Letters => {
+                let search = oidtool_search::Search::Sorted(Alphabet::Reverse);
+                shown(rt, search_from(alloc, search, prefix, input, MAX_LEN, out))
+            }
+            By::In(kind) => {
+                let search = oidtool_search::Search::In(kind);
+                shown(rt, search_from(alloc, search, prefix, input, MAX_LEN, out))
+            }
         }
     }
 }

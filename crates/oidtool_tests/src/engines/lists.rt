@@ -5,11 +5,11 @@ use super::by::{By, EACH};
 use super::{BLOB, BLOB_256, BLOB_LETTERS, NO_MATCH, TREE, TREE_256, TREE_LETTERS, text_of};
 use crate::expecting::{expect, expect_bytes, expect_text};
 use gix_hash::Kind;
-use oidtool_search::find_in_from;
+use oidtool_search::{Search, search_from};
 use std::alloc::{AllocError, Global};
 use std::process::Abort;
 use std::test::Fail;
-use streams::{FromSlice, IntoSlice, Plain};
+use streams::{FromSlice, IntoSlice, MAX_LEN, Plain};
 use test_devices::{Fault, Reader};
 
 // A prefix, the parts of a list, the Debug text of the result, and what is written.
@@ -332,7 +332,7 @@ fn finds_across_parts(rt: HostRuntime) {
     ] {
         let mut input = FromSlice::new(list.as_bytes());
         let mut out = Plain::new(Vec::new(rt.alloc()));
-        let found = find_in_from(rt.alloc(), Kind::Sha1, prefix, &mut input, &mut out);
+        let found = search_from(rt.alloc(), Search::In(Kind::Sha1), prefix, &mut input, MAX_LEN, &mut out);
         expect!(&rt; matches!(found, Ok(n) if n == count), prefix);
         expect!(&rt; out.into_inner().len() == count * 41, prefix);
     }

@@ -1,5 +1,6 @@
-use Rattle.oidtool_search.proofs.FinderLemmas.{known_none}
+use Rattle.std.proofs.Common.{refl}
+use Rattle.oidtool_search.proofs.FinderLemmas.{found_none}
 use Rattle.oidtool_search.proofs.finder.Finder.new.Goals as goal
 
 pub returns-clause-known : goal.returns-clause-known
-returns-clause-known g c = known_none _ _ _ c.requires c.new.ensures.items
+returns-clause-known g c search digits = found_none search digits _ refl refl refl refl c.new.ensures.items
