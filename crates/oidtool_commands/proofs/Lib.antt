@@ -1,3 +1,1 @@
 mod CommandLemmas
-mod RunningLemmas
-mod SourceSearches

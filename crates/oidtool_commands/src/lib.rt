@@ -6,7 +6,12 @@
 #![tactic(auto)]
 
 mod command;
+mod digests;
+mod error;
+mod flushing;
 mod running;
+mod searching;
 
 pub use command::{ArgError, Command, read_command};
-pub use running::{CommandError, run_command};
+pub use error::CommandError;
+pub use running::run_command;
