@@ -6,6 +6,8 @@
 //! a list matches, and 2 for an error, which is printed on standard error.
 #![tactic(auto)]
 
+mod help;
+
 use command_line::{Failure, WordsError, command_line_args, report};
 use oidtool_commands::{ArgError, Command, CommandError, read_command, run_command};
 use std::alloc::AllocError;
@@ -24,8 +26,8 @@ fn main(rt: HostRuntime) -> ExitCode {
     report(&rt, "", Err(outcome))
 }
 
-/// Runs the command that the words ask for over standard input and standard output. Nothing is read
-/// if the words are rejected.
+/// Prints the help or the version, or runs the command that the words ask for. Nothing is read if
+/// the words are rejected.
 fn run<'a>(
     rt: &(impl Input + Print + Files + AllocGlobal),
     words: &'a [String],
@@ -37,12 +39,25 @@ fn run<'a>(
     else {
         return Err(Failure::Command(CommandError::Memory));
     };
-    match read_command(&words) {
-        Ok(command) => match run_over_streams(rt, command) {
-            Ok(count) => Ok(count),
-            Err(why) => Err(Failure::Command(why)),
+    let ended = match words.first() {
+        Some(&("--help" | "-h")) => print_help(rt, help::REST),
+        Some(&("--version" | "-V")) => print_help(rt, ""),
+        _ => match read_command(&words) {
+            Ok(command) => run_over_streams(rt, command),
+            Err(why) => return Err(Failure::Args(why)),
         },
-        Err(why) => Err(Failure::Args(why)),
+    };
+    match ended {
+        Ok(count) => Ok(count),
+        Err(why) => Err(Failure::Command(why)),
+    }
+}
+
+/// Prints the first line of the help and then the rest on standard output, and returns 1.
+fn print_help(rt: &impl Print, rest: &str) -> Result<usize, CommandError> {
+    match print!(rt; "{}{rest}", help::VERSION) {
+        Ok(()) => Ok(1),
+        Err(_) => Err(CommandError::Output),
     }
 }
 
