@@ -107,14 +107,18 @@ fn late_error(
     let first = ids[0];
     let line = before + 1;
     match search {
-        Search::Sorted(_) if first.as_oid().cmp(&last.as_oid()).is_lt() => {
-            Some(SearchError::Unsorted { line })
+        Search::Sorted(_) => {
+            if first.as_oid().cmp(&last.as_oid()).is_lt() {
+                return Some(SearchError::Unsorted { line });
+            }
         }
-        Search::In(kind) if first.kind() == kind && !last.as_oid().cmp(&first.as_oid()).is_lt() => {
-            Some(SearchError::NotRising { line })
+        Search::In(kind) => {
+            if first.kind() == kind && !last.as_oid().cmp(&first.as_oid()).is_lt() {
+                return Some(SearchError::NotRising { line });
+            }
         }
-        _ => None,
     }
+    None
 }
 
 // Those of the ids that begin with the prefix, or the error of the first that is of the other kind
