@@ -274,8 +274,10 @@ fn reports_the_whole_length_of_a_bad_line(rt: HostRuntime) -> Result<(), Fail> {
     Ok(())
 }
 
+// Ids that are out of order are reported at the end of the list, after which nothing is read.
 #[test]
 fn reads_nothing_after_a_bad_line(rt: HostRuntime) {
+    let unsorted = text_of(&rt, UNSORTED);
     let ended = text_of(&rt, ["zz\n", TREE].as_slice());
     let ended = ended.as_bytes();
     let rows = [
@@ -284,6 +286,7 @@ fn reads_nothing_after_a_bad_line(rt: HostRuntime) {
         ("4b82", b"zz", (1, 2), "Err(Input)", 3),
         ("4b82", ended, (1, 1000), BAD_1, 3),
         ("abc", ended, (1, 0), SHORT, 0),
+        ("4b82", unsorted.as_bytes(), (41, 1000), UNSORTED_2, 3),
     ];
     for (prefix, list, (chunk, after), outcome, calls) in rows {
         let reader = (chunk, Fault::AfterBytes(after));
@@ -332,7 +335,14 @@ fn finds_across_parts(rt: HostRuntime) {
     ] {
         let mut input = FromSlice::new(list.as_bytes());
         let mut out = Plain::new(Vec::new(rt.alloc()));
-        let found = search_from(rt.alloc(), Search::In(Kind::Sha1), prefix, &mut input, MAX_LEN, &mut out);
+        let found = search_from(
+            rt.alloc(),
+            Search::In(Kind::Sha1),
+            prefix,
+            &mut input,
+            MAX_LEN,
+            &mut out,
+        );
         expect!(&rt; matches!(found, Ok(n) if n == count), prefix);
         expect!(&rt; out.into_inner().len() == count * 41, prefix);
     }
