@@ -8,10 +8,10 @@ use Rattle.gix_hash.specs.Digits.{first_byte_of}
 use Rattle.gix_hash.specs.declared.Kind.{Kind}
 use Rattle.id_lookup.proofs.SameMembers.{part_is}
 use Rattle.id_lookup.specs.IndexOf.{IsIndexOf, part_of}
-use Rattle.object_store.specs.Stores.{HasPlace, Holds, IfKnown, IsElsewhere, IsFirstFault, IsLocateFault, IsOutside, IsPlaceFault, IsStoreFault}
+use Rattle.object_store.specs.Stores.{HasPlace, Holds, IfKnown, IsFirstFault, IsLocateFault, IsOutside, IsPlaceFault, IsStoreFault}
 use Rattle.object_store.specs.Wanted.{passes, wanted_byte, wanted_len}
 use Rattle.object_store.specs.declared.error.Error.{Error}
-use Rattle.object_store.specs.declared.error.Error.TheVariants.{Index, Loose, Memory}
+use Rattle.object_store.specs.declared.error.Error.TheVariants.{Index, Memory}
 use Rattle.object_store.specs.declared.wanted.Wanted.{Wanted}
 use Rattle.object_store.proofs.Asked.{filter-part}
 use Rattle.pack_index.specs.Firsts.{Each}
@@ -98,26 +98,19 @@ module _ (Has : Kind → List ℕ → Type 0) (HasFault : Kind → List ℕ → 
 pub have_all : (Has : List ℕ → Type 0) {packs given : List LazyIndex} {at : ℕ} → given ≡ packs → length given ≤ at → All (IfKnown Has) (take at packs) → All (IfKnown Has) packs
 have_all Has {packs} {given} {at} value all have = subst (All (IfKnown Has)) (take_all at packs (subst (λ (ps : List LazyIndex). length ps ≤ at) value all)) have
 
--- where no pack index is at fault, each has what is asked for
-pub elsewhere : (Has : List ℕ → Type 0) (HasFault : List ℕ → LazyError → Type 0) (packs : List LazyIndex) (e : Error) → All (IfKnown Has) packs → IsElsewhere e
-    → IsFirstFault Has HasFault packs e
-elsewhere Has HasFault packs (Index at error) have is = absurd is
-elsewhere Has HasFault packs (Loose error) have is = have
-elsewhere Has HasFault packs (Memory error) have is = tt
-
 -- what was gathered, sorted and kept once
-pub held : (kind : Kind) (packs : List LazyIndex) (loose : Option (List (List ℕ))) (whole : List (List ℕ)) (p : List ℕ → Bool) (packed gathered part : List (List ℕ))
-    → (h : Holds kind packs loose whole) → packed ≡ flat_map (λ bytes. filter p (names_in kind bytes)) h.indexes → gathered ≡ packed ++ filter p h.loose_ids
+pub held : (kind : Kind) (packs : List LazyIndex) (loose whole : List (List ℕ)) (p : List ℕ → Bool) (packed gathered part : List (List ℕ))
+    → (h : Holds kind packs loose whole) → packed ≡ flat_map (λ bytes. filter p (names_in kind bytes)) h.indexes → gathered ≡ packed ++ filter p loose
     → IsIndexOf kind gathered part → part ≡ filter p whole
 held kind packs loose whole p packed gathered part h from_packs all index =
     let names = flat_map (names_in kind) h.indexes in
-    let here : gathered ≡ filter p (names ++ h.loose_ids) =
-    all ∙ ap (λ (front : List (List ℕ)). front ++ filter p h.loose_ids) (from_packs ∙ sym (filter-flat_map p (names_in kind) h.indexes)) ∙ sym (filter-append p names h.loose_ids) in
-    part_is kind p (names ++ h.loose_ids) whole part h.all (subst (λ (ids : List (List ℕ)). IsIndexOf kind ids part) here index)
+    let here : gathered ≡ filter p (names ++ loose) =
+    all ∙ ap (λ (front : List (List ℕ)). front ++ filter p loose) (from_packs ∙ sym (filter-flat_map p (names_in kind) h.indexes)) ∙ sym (filter-append p names loose) in
+    part_is kind p (names ++ loose) whole part h.all (subst (λ (ids : List (List ℕ)). IsIndexOf kind ids part) here index)
 
 -- a store whose pack indexes are ones has no fault
-no_first_fault : (Has : List ℕ → Type 0) (HasFault : List ℕ → LazyError → Type 0) (kind : Kind) (packs : List LazyIndex) (loose : Option (List (List ℕ)))
-    (whole : List (List ℕ)) (e : Error) → ((bytes : List ℕ) (why : LazyError) → IsPackIndex kind bytes → HasFault bytes why → lazy.IsOutside why)
+no_first_fault : (Has : List ℕ → Type 0) (HasFault : List ℕ → LazyError → Type 0) (kind : Kind) (packs : List LazyIndex) (loose whole : List (List ℕ))
+    (e : Error) → ((bytes : List ℕ) (why : LazyError) → IsPackIndex kind bytes → HasFault bytes why → lazy.IsOutside why)
     → Holds kind packs loose whole → IsFirstFault Has HasFault packs e → IsOutside e
 no_first_fault Has HasFault kind packs loose whole (Index at error) no_fault h fault =
     let content : LazyIndex → Option (List ℕ) = λ p. p.content in
@@ -127,10 +120,9 @@ no_first_fault Has HasFault kind packs loose whole (Index at error) no_fault h f
     let known = known_at content packs h.indexes h.known at pack low in
     no_fault (get_or h.indexes at []) error (h.are_indexes at [] inside)
     (fault.3 (get_or h.indexes at []) (ap content (sym (get_or_from_slice_get packs at pack pack fault.1)) ∙ known))
-no_first_fault Has HasFault kind packs loose whole (Loose error) no_fault h fault = tt
 no_first_fault Has HasFault kind packs loose whole (Memory error) no_fault h fault = tt
 
-pub no_store_fault : (kind : Kind) (packs : List LazyIndex) (loose : Option (List (List ℕ))) (whole : List (List ℕ)) (byte : ℕ) (e : Error)
+pub no_store_fault : (kind : Kind) (packs : List LazyIndex) (loose whole : List (List ℕ)) (byte : ℕ) (e : Error)
     → Holds kind packs loose whole → IsStoreFault kind packs byte e → IsOutside e
 no_store_fault kind packs loose whole byte e =
     no_first_fault (λ bytes. HasBucket kind bytes byte) (λ bytes why. IsBucketFault kind bytes byte why) kind packs loose whole e
@@ -140,7 +132,7 @@ no_place_fault : (kind : Kind) (bytes digits : List ℕ) (e : LazyError) → IsP
 no_place_fault kind bytes digits (NoOffset at) index fault = fault.2 (index.offsets.in_table at (omega (arith, fault.0.inside, fault.1.to)))
 no_place_fault kind bytes digits e index fault = no_bucket_fault kind bytes (first_byte_of digits) e index fault
 
-pub no_locate_fault : (kind : Kind) (packs : List LazyIndex) (loose : Option (List (List ℕ))) (whole : List (List ℕ)) (digits : List ℕ) (e : Error)
+pub no_locate_fault : (kind : Kind) (packs : List LazyIndex) (loose whole : List (List ℕ)) (digits : List ℕ) (e : Error)
     → Holds kind packs loose whole → IsLocateFault kind packs digits e → IsOutside e
 no_locate_fault kind packs loose whole digits e =
     no_first_fault (λ bytes. HasPlace kind bytes digits) (λ bytes why. IsPlaceFault kind bytes digits why) kind packs loose whole e

@@ -1,18 +1,16 @@
 -- What was found in each pack index and among the loose ids are the places of the object.
-use Rattle.std.proofs.Common.{◌≡◌, ◌≢◌, ℕ, suc, ◌+◌, ◌<◌, ◌≤◌, true, false, cond, ◌&&◌, ◌||◌, nat_eq, Bool, Option, None, Some, List, [], ◌∷◌, ◌++◌, length, get_or, map, filter, refl, sym, ap, ◌∙◌, subst, arith, eq-eqb}
+use Rattle.std.proofs.Common.{◌≡◌, ◌≢◌, ℕ, suc, ◌+◌, ◌<◌, ◌≤◌, true, ◌&&◌, ◌||◌, nat_eq, Option, None, Some, List, [], ◌∷◌, ◌++◌, length, get_or, map, refl, sym, ap, ◌∙◌, subst, arith, eq-eqb}
 use Rattle.std.specs.Prelude.{◌↔◌}
 use Rattle.std.specs.Cmp.Lexicographic.{bytes_decides}
 use Rattle.std.specs.List.{All, list_any, position_or_len}
 use Rattle.std.specs.Str.{bytes_eq}
-use Rattle.std.proofs.lemmas.Bool.{false_from_ne_true, false≢true, le-ltb, lt-ltb}
+use Rattle.std.proofs.lemmas.Bool.{false_from_ne_true, le-ltb, lt-ltb}
 use Rattle.std.proofs.lemmas.List.Sums.{position_or_len_is}
 use Rattle.gix_hash.specs.Digits.{first_byte_of}
 use Rattle.gix_hash.specs.Kind.{number_of}
 use Rattle.gix_hash.specs.ObjectId.{id_digits, id_eq, id_kind}
 use Rattle.gix_hash.specs.declared.Kind.{Kind}
 use Rattle.gix_hash.specs.declared.ObjectId.{ObjectId}
-use Rattle.id_lookup.specs.FirstBytes.{has_first_byte}
-use Rattle.id_lookup.specs.IndexOf.{part_of}
 use Rattle.object_store.specs.Places.{offset_of, packed_at, packed_places}
 use Rattle.object_store.specs.Stores.{HasPlace, IsPlaceFault}
 use Rattle.object_store.specs.declared.places.Place.{Place}
@@ -84,33 +82,11 @@ place_more kind packs id at pack offset old new indexes same each here found bef
     let next : suc at ≡ at + 1 = omega arith in
     all ∙ (λ i. before i ++ packed_at at (there i)) ∙ ap (packed_places kind id indexes) next
 
--- where a test passes only what another passes, the other need not be made
-any_within : {X : Type 0} (p q : X → Bool) → ((x : X) → q x ≡ true → p x ≡ true) → (xs : List X) → list_any q (filter p xs) ≡ list_any q xs
-any_within p q less [] = refl
-any_within {X} p q less (x ∷ xs) =
-    let rest = any_within p q less xs in
-    elim (p x) as (λ s. (q x ≡ true → s ≡ true) → list_any q (cond s (x ∷ filter p xs) (filter p xs)) ≡ (q x || list_any q xs)) [
-      | true ↦ λ h. ap (λ b. q x || b) rest
-      | false ↦ λ h. elim (q x) as (λ t. (t ≡ true → false ≡ true) → list_any q (filter p xs) ≡ (t || list_any q xs)) [
-        | true ↦ λ g. absurd (false≢true (g refl))
-        | false ↦ λ g. rest
-      ] h
-    ] (less x)
-
 -- ids of one kind are equal if their digits are
-any_digits : (kind : Kind) (id : ObjectId) → id_kind id ≡ kind → (ids : List ObjectId) → All (λ other. id_kind other ≡ kind) ids
+pub any_digits : (kind : Kind) (id : ObjectId) → id_kind id ≡ kind → (ids : List ObjectId) → All (λ other. id_kind other ≡ kind) ids
     → list_any (λ other. id_eq other id) ids ≡ list_any (λ other. bytes_eq other (id_digits id)) (map id_digits ids)
 any_digits kind id is [] each = refl
 any_digits kind id is (other ∷ ids) each =
     let same : nat_eq (number_of (id_kind other)) (number_of (id_kind id)) ≡ true = eq-eqb _ _ (ap number_of (each 0 other (omega arith) ∙ sym is)) in
     let rest = any_digits kind id is ids (λ k d low. each (suc k) d (omega arith)) in
     (λ i. (same i && bytes_eq (id_digits other) (id_digits id)) || rest i)
-
--- so the loose ids with the first byte decide
-pub any_loose : (kind : Kind) (id : ObjectId) (byte : ℕ) (ids : List ObjectId) (all : List (List ℕ)) → id_kind id ≡ kind → byte ≡ first_byte_of (id_digits id)
-    → All (λ other. id_kind other ≡ kind) ids → map id_digits ids ≡ part_of byte all
-    → list_any (λ other. id_eq other id) ids ≡ list_any (λ other. bytes_eq other (id_digits id)) all
-any_loose kind id byte ids all is first kinds same =
-    let q : List ℕ → Bool = λ other. bytes_eq other (id_digits id) in
-    any_digits kind id is ids kinds ∙ ap (list_any q) same
-    ∙ any_within (has_first_byte byte) q (λ other eq. eq-eqb (first_byte_of other) byte (ap first_byte_of ((bytes_decides other (id_digits id)).0 eq) ∙ sym first)) all

@@ -1,5 +1,5 @@
 -- What an object store holds. Each id is given by its digits.
-use Rattle.std.specs.Prelude.{◌≡◌, ℕ, ◌<◌, ◌++◌, All, List, [], Option, Some, flat_map, length, map, slice_get, slice_index_or, take}
+use Rattle.std.specs.Prelude.{◌≡◌, ℕ, ◌<◌, ◌++◌, All, List, [], Some, flat_map, length, map, slice_get, slice_index_or, take}
 use Rattle.gix_hash.specs.Digits.{first_byte_of}
 use Rattle.gix_hash.specs.declared.Kind.{Kind}
 use Rattle.id_lookup.specs.IndexOf.{IsIndexOf}
@@ -10,16 +10,14 @@ use Rattle.pack_index.specs.Lazy.{HasBucket, IsBucketFault, IsFirstCounted, Lazy
 use Rattle.pack_index.specs.declared.lazy_error.LazyError.{LazyError}
 use Rattle.pack_index.specs.declared.lazy_error.LazyError.TheVariants.{NoOffset}
 use Rattle.object_store.specs.declared.error.Error.{Error}
-use Rattle.object_store.specs.declared.error.Error.TheVariants.{Index, Loose, Memory}
+use Rattle.object_store.specs.declared.error.Error.TheVariants.{Index, Memory}
 
--- the bytes of the pack indexes are known, and each is one; the loose ids are known; and `whole` is the index of all these ids
-pub record Holds (kind : Kind) (packs : List LazyIndex) (loose : Option (List (List ℕ))) (whole : List (List ℕ)) : Type 0 where
+-- the bytes of the pack indexes are known, and each is one; and `whole` is the index of all their names and the loose ids
+pub record Holds (kind : Kind) (packs : List LazyIndex) (loose whole : List (List ℕ)) : Type 0 where
   pub indexes : List (List ℕ)
-  pub loose_ids : List (List ℕ)
   pub known : map (λ (pack : LazyIndex). pack.content) packs ≡ map Some indexes
   pub are_indexes : All (IsPackIndex kind) indexes
-  pub loose_known : loose ≡ Some loose_ids
-  pub all : IsIndexOf kind (flat_map (names_in kind) indexes ++ loose_ids) whole
+  pub all : IsIndexOf kind (flat_map (names_in kind) indexes ++ loose) whole
 
 -- the name is the shortest one of the id in the index
 abbrev pub IsNameIn : ℕ → List (List ℕ) → List ℕ → List ℕ → Type 0
@@ -29,19 +27,17 @@ IsNameIn least whole id name = (place : ℕ) → place < length whole → slice_
 abbrev pub IfKnown : (List ℕ → Type 0) → LazyIndex → Type 0
 IfKnown P pack = (bytes : List ℕ) → pack.content ≡ Some bytes → P bytes
 
--- why a look-up fails that asks the pack indexes in order, and then for the loose ids: the one at the index has the fault, and those before it have
--- what is asked for
+-- why a look-up fails that asks the pack indexes in order: the one at the index has the fault, and those before it have what is asked for
 abbrev pub IsFirstFault : (List ℕ → Type 0) → (List ℕ → LazyError → Type 0) → List LazyIndex → Error → Type 0
 IsFirstFault Has HasFault packs (Index at error) =
     (pack : LazyIndex) × (slice_get packs at ≡ Some pack) × All (IfKnown Has) (take at packs) × IfKnown (λ bytes. HasFault bytes error) pack
-IsFirstFault Has HasFault packs (Loose error) = All (IfKnown Has) packs
 IsFirstFault Has HasFault packs (Memory error) = Unit {0}
 
 -- the pack indexes have the names that are counted with a first byte
 abbrev pub HaveBuckets : Kind → List LazyIndex → ℕ → Type 0
 HaveBuckets kind packs byte = All (IfKnown (λ bytes. HasBucket kind bytes byte)) packs
 
--- why they are not read, or the loose ids with the byte are not listed
+-- why they are not read
 abbrev pub IsStoreFault : Kind → List LazyIndex → ℕ → Error → Type 0
 IsStoreFault kind packs byte error = IsFirstFault (λ bytes. HasBucket kind bytes byte) (λ bytes why. IsBucketFault kind bytes byte why) packs error
 
@@ -63,14 +59,7 @@ HavePlaces kind packs digits = All (IfKnown (λ bytes. HasPlace kind bytes digit
 abbrev pub IsLocateFault : Kind → List LazyIndex → List ℕ → Error → Type 0
 IsLocateFault kind packs digits error = IsFirstFault (λ bytes. HasPlace kind bytes digits) (λ bytes why. IsPlaceFault kind bytes digits why) packs error
 
--- no pack index is at fault
-abbrev pub IsElsewhere : Error → Type 0
-IsElsewhere (Index at error) = ⊥
-IsElsewhere (Loose error) = Unit {0}
-IsElsewhere (Memory error) = Unit {0}
-
 -- a read failed, or memory ran out
 abbrev pub IsOutside : Error → Type 0
 IsOutside (Index at error) = lazy.IsOutside error
-IsOutside (Loose error) = Unit {0}
 IsOutside (Memory error) = Unit {0}

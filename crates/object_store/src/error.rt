@@ -5,7 +5,6 @@ ghost use Rattle.object_store.specs.declared.error.Error.TheVariants as errors;
 
 use pack_index::LazyError;
 use std::alloc::AllocError;
-use std::io;
 use thiserror::Error as ThisError;
 
 /// Why a look-up in a store fails. Nothing of its result is known then.
@@ -27,9 +26,6 @@ pub enum Error {
         /// Why.
         error: LazyError,
     },
-    /// The loose objects cannot be listed, which is done after all pack indexes were read.
-    #[error("the loose objects cannot be listed: {0}")]
-    Loose(io::Error),
     /// There is not enough memory.
     #[error("out of memory")]
     Memory(AllocError),

@@ -8,7 +8,7 @@ ghost use Rattle.gix_hash.specs.declared.Kind.{Kind as IdKind};
 ghost use Rattle.id_lookup.specs.FirstBytes.{has_first_byte};
 ghost use Rattle.id_lookup.specs.Index.{IsIndex};
 ghost use Rattle.id_lookup.specs.Runs.{matches};
-ghost use Rattle.object_store.specs.Stores.{HaveBuckets, Holds, IsElsewhere, IsStoreFault};
+ghost use Rattle.object_store.specs.Stores.{HaveBuckets, Holds, IsStoreFault};
 ghost use Rattle.object_store.specs.Wanted.{passes, wanted_byte, wanted_len};
 ghost use Rattle.pack_index.specs.Format.{IsPackIndex, digests_in, names_in};
 ghost use Rattle.pack_index.specs.Lazy.{LazyIndex};
@@ -73,7 +73,7 @@ pub(crate) fn gather<S: Store, A: Allocator + Copy>(
 {
     let mut ids = Vec::new(alloc);
     push_packed(alloc, store, wanted, &mut ids)?;
-    push_loose(alloc, store, wanted, &mut ids)?;
+    push_wanted(&mut ids, store.loose_ids(), wanted, store.object_hash())?;
     sort_unique(&mut ids);
     Ok(ids)
 }
@@ -111,28 +111,6 @@ fn push_packed<S: Store, A: Allocator + Copy>(
         push_names(ids, &table, pack.object_hash(), wanted)?;
     }
     Ok(())
-}
-
-// Adds the loose ids that are asked for.
-fn push_loose<S: Store, A: Allocator + Copy>(
-    alloc: A,
-    store: &S,
-    wanted: &Wanted,
-    ids: &mut Vec<ObjectId, A>,
-) -> Result<(), Error>
-    requires enough { 2 ≤ wanted_len wanted.now }
-    requires fits { wanted_len wanted.now ≤ hex_len_of (S.kind store.now) }
-    requires kinds { All (λ id. id_kind id ≡ S.kind store.now) ids.old.items }
-    ensures digits { OnOk result ((loose : List (List ℕ)) → S.loose store.now ≡ Some loose
-        → map id_digits ids.new.items
-        ≡ map id_digits ids.old.items ++ filter (passes wanted.now) loose) }
-    ensures kinds { OnOk result (All (λ id. id_kind id ≡ S.kind store.now) ids.new.items) }
-    ensures err { IfErr result IsElsewhere }
-{
-    match store.loose_ids(alloc, wanted.first_byte()) {
-        Ok(loose) => Ok(push_wanted(ids, &loose, wanted, store.object_hash())?),
-        Err(error) => Err(Error::Loose(error)),
-    }
 }
 
 // Adds the digests of a kind that are asked for, of a table of them.

@@ -1,11 +1,9 @@
 //! Where an object store has an object.
 
 ghost use Rattle.std.specs.Prelude.{◌≡◌, ℕ, [], ◌∷◌, ◌++◌, All, IfErr, IfOk, List, OnOk, Some, length, map};
-ghost use Rattle.std.specs.List.{list_any};
-ghost use Rattle.std.specs.Str.{bytes_eq};
 ghost use Rattle.gix_hash.specs.ObjectId.{id_digits, id_kind};
 ghost use Rattle.object_store.specs.Places.{offset_of, packed_at, packed_places, places_of};
-ghost use Rattle.object_store.specs.Stores.{HasPlace, HavePlaces, Holds, IsElsewhere, IsLocateFault, IsPlaceFault};
+ghost use Rattle.object_store.specs.Stores.{HasPlace, HavePlaces, Holds, IsLocateFault, IsPlaceFault};
 ghost use Rattle.pack_index.specs.Firsts.{Each};
 ghost use Rattle.pack_index.specs.Format.{HasCount, IsPackIndex};
 ghost use Rattle.pack_index.specs.Lazy.{LazyIndex};
@@ -60,14 +58,14 @@ pub fn locate<S: Store, A: Allocator + Copy>(
     ensures places { IfOk result (λ places. (whole : List (List ℕ))
         → (h : Holds (S.kind store.now) (S.packs store.now) (S.loose store.now) whole)
         → places.items
-        ≡ places_of (S.kind store.now) (id_digits id.now) h.indexes h.loose_ids) }
+        ≡ places_of (S.kind store.now) (id_digits id.now) h.indexes (S.loose store.now)) }
     ensures right { IfOk result (λ _. HavePlaces (S.kind store.now) (S.packs store.now)
         (id_digits id.now)) }
     ensures err { IfErr result (IsLocateFault (S.kind store.now) (S.packs store.now)
         (id_digits id.now)) }
 {
     let mut places = packed_places(alloc, store, id)?;
-    if is_loose(alloc, store, id)? {
+    if store.loose_ids().contains(id) {
         push(&mut places, Place::Loose)?;
     }
     Ok(places)
@@ -139,18 +137,5 @@ fn packed_offset<S: ReadAt + Drop, A: Allocator>(
     match index.lookup(alloc, id.as_oid())? {
         Some(at) => Ok(Some(index.pack_offset_at_index(at)?)),
         None => Ok(None),
-    }
-}
-
-// Whether an object is loose.
-fn is_loose<S: Store, A: Allocator>(alloc: A, store: &S, id: &ObjectId) -> Result<bool, Error>
-    requires { id_kind id.now ≡ S.kind store.now }
-    ensures loose { IfOk result (λ loose. (all : List (List ℕ)) → S.loose store.now ≡ Some all
-        → loose ≡ list_any (λ other. bytes_eq other (id_digits id.now)) all) }
-    ensures err { IfErr result IsElsewhere }
-{
-    match store.loose_ids(alloc, id.first_byte()) {
-        Ok(ids) => Ok(ids.contains(id)),
-        Err(error) => Err(Error::Loose(error)),
     }
 }

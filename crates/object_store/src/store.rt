@@ -2,24 +2,22 @@
 
 use gix_hash::{Kind, ObjectId};
 use pack_index::LazyFile;
-use std::alloc::Allocator;
-use std::io;
+use std::alloc::AllocError;
 use streams::ReadAt;
 
-/// An object store: pack indexes and loose objects, whose ids are of one kind.
+/// A snapshot of an object store: pack indexes and loose objects, whose ids are of one kind. What
+/// it has was listed when it was opened, so a look-up lists nothing.
 ///
 /// ```
 /// for pack in store.indexes() {
 ///     println!(rt; "{} names", pack.num_objects())?;
 /// }
-/// let loose = store.loose_ids(rt.alloc(), 0x4b)?;
-/// println!(rt; "{} loose ids begin with 4b", loose.len())?;
+/// println!(rt; "{} loose ids", store.loose_ids().len())?;
 /// ```
 pub trait Store {
-    ghost use Rattle.std.specs.Prelude.{◌≡◌, ℕ, All, IfOk, List, Option, Some, map};
+    ghost use Rattle.std.specs.Prelude.{◌≡◌, ℕ, All, List, map};
     ghost use Rattle.gix_hash.specs.ObjectId.{id_digits, id_kind};
     ghost use Rattle.gix_hash.specs.declared.Kind.{Kind as IdKind};
-    ghost use Rattle.id_lookup.specs.IndexOf.{part_of};
     ghost use Rattle.pack_index.specs.Lazy.{LazyIndex};
 
     /// What the bytes of a pack index are read from.
@@ -31,8 +29,8 @@ pub trait Store {
     /// The pack indexes.
     ghost packs: { Self → List LazyIndex };
 
-    /// The ids of all loose objects, or `None`, which claims nothing.
-    ghost loose: { Self → Option (List (List ℕ)) };
+    /// The ids of all loose objects.
+    ghost loose: { Self → List (List ℕ) };
 
     /// The kind of all ids.
     fn object_hash(&self) -> Kind
@@ -43,11 +41,10 @@ pub trait Store {
         ensures value { result.now ≡ packs self.now }
         ensures kinds { All (λ pack. pack.kind ≡ kind self.now) (packs self.now) };
 
-    /// The ids of the loose objects with a first byte.
-    fn loose_ids<A: Allocator>(&self, alloc: A, byte: u8) -> io::Result<Vec<ObjectId, A>>
-        ensures ids { IfOk result (λ ids. (all : List (List ℕ)) → loose self.now ≡ Some all
-            → map id_digits ids.items ≡ part_of byte all) }
-        ensures kinds { IfOk result (λ ids. All (λ id. id_kind id ≡ kind self.now) ids.items) };
+    /// The ids of the loose objects, in any order; one may occur several times.
+    fn loose_ids(&self) -> &[ObjectId]
+        ensures ids { map id_digits result.now ≡ loose self.now }
+        ensures kinds { All (λ id. id_kind id ≡ kind self.now) result.now };
 }
 
 /// A store whose places have paths.
@@ -59,22 +56,21 @@ pub trait Store {
 /// }
 /// ```
 pub trait StorePaths: Store {
-    ghost use Rattle.std.specs.Prelude.{◌≡◌, ℕ, IfOk, List, Option, Some, map, string_bytes};
+    ghost use Rattle.std.specs.Prelude.{◌≡◌, ℕ, IfOk, List, map, string_bytes};
     ghost use Rattle.gix_hash.specs.ObjectId.{id_digits};
 
     /// The path of each pack, by the position of its pack index.
     ghost pack_path: { Self → ℕ → List ℕ };
 
-    /// The paths of the files of each loose object, by its digits, or `None`, which claims nothing.
-    ghost loose_paths: { Self → Option (List ℕ → List (List ℕ)) };
+    /// The paths of the files of each loose object, by its digits.
+    ghost loose_paths: { Self → List ℕ → List (List ℕ) };
 
     /// The path of the pack whose pack index is at a position among [`Store::indexes`], from 0.
     fn pack_path(&self, pack: usize) -> &str
         ensures { result.now ≡ pack_path self.now pack };
 
     /// The paths of the files of a loose object; none if it is not loose.
-    fn loose_paths(&self, id: &ObjectId) -> io::Result<Vec<String>>
-        ensures { IfOk result (λ paths. (all : List ℕ → List (List ℕ))
-            → loose_paths self.now ≡ Some all
-            → map string_bytes paths.items ≡ all (id_digits id.now)) };
+    fn loose_paths(&self, id: &ObjectId) -> Result<Vec<String>, AllocError>
+        ensures { IfOk result (λ paths. map string_bytes paths.items
+            ≡ loose_paths self.now (id_digits id.now)) };
 }
