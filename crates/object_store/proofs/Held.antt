@@ -22,7 +22,7 @@ use Rattle.pack_index.specs.Lazy.{HasBucket, IsBucketFault, LazyIndex}
 use Rattle.pack_index.specs.declared.lazy_error.LazyError.{LazyError}
 use Rattle.pack_index.specs.declared.lazy_error.LazyError.TheVariants.{NoOffset}
 
-filter-flat_map : {A X : Type 0} (p : X → Bool) (f : A → List X) (xs : List A) → filter p (flat_map f xs) ≡ flat_map (λ a. filter p (f a)) xs
+pub filter-flat_map : {A X : Type 0} (p : X → Bool) (f : A → List X) (xs : List A) → filter p (flat_map f xs) ≡ flat_map (λ a. filter p (f a)) xs
 filter-flat_map p f [] = refl
 filter-flat_map {A} {X} p f (x ∷ xs) = filter-append p (f x) (flat_map f xs) ∙ ap (λ (rest : List X). filter p (f x) ++ rest) (filter-flat_map p f xs)
 
@@ -58,25 +58,6 @@ pack_at {kind} {packs} {given} {at} {pack} value kinds less here =
     let low : at < length packs = subst (λ (ps : List LazyIndex). at < length ps) value less in
     let is : pack ≡ get_or packs at pack = here ∙ ap (λ (ps : List LazyIndex). get_or ps at pack) value in
     record { low = low; is = is; of_kind = ap (λ (p : LazyIndex). p.kind) is ∙ kinds at pack low }
-
--- one pack index more
-pub packed_more : (kind k : Kind) (packs : List LazyIndex) (wanted : Wanted) (byte at : ℕ) (pack : LazyIndex) (old new : List (List ℕ)) (table : List ℕ) (indexes : List (List ℕ))
-    → byte ≡ wanted_byte wanted → 2 ≤ wanted_len wanted → map (λ (p : LazyIndex). p.content) packs ≡ map Some indexes → All (IsPackIndex kind) indexes
-    → IsPackAt kind packs at pack → k ≡ pack.kind
-    → ((bytes : List ℕ) → pack.content ≡ Some bytes → Each (HasCount pack.kind bytes) 256 → digests_in pack.kind table ≡ part_of byte (names_in pack.kind bytes))
-    → old ≡ flat_map (λ bytes. filter (passes wanted) (names_in kind bytes)) (take at indexes)
-    → new ≡ old ++ filter (passes wanted) (digests_in k table)
-    → new ≡ flat_map (λ bytes. filter (passes wanted) (names_in kind bytes)) (take (at + 1) indexes)
-packed_more kind k packs wanted byte at pack old new table indexes is_byte long same each here k_is part before all =
-    let bytes = get_or indexes at [] in
-    let inside : at < length indexes = omega (arith, here.low, as_many (λ (p : LazyIndex). p.content) packs indexes same) in
-    let known : pack.content ≡ Some bytes = ap (λ (p : LazyIndex). p.content) here.is ∙ known_at (λ (p : LazyIndex). p.content) packs indexes same at pack here.low in
-    let counts : Each (HasCount pack.kind bytes) 256 = subst (λ (n : Kind). Each (HasCount n bytes) 256) (sym here.of_kind) (each at [] inside).names.counts in
-    let bucket : digests_in k table ≡ part_of (wanted_byte wanted) (names_in kind bytes) =
-    ap (λ (n : Kind). digests_in n table) k_is ∙ part bytes known counts ∙ (λ i. part_of (is_byte i) (names_in (here.of_kind i) bytes)) in
-    let found : filter (passes wanted) (digests_in k table) ≡ filter (passes wanted) (names_in kind bytes) =
-    ap (filter (passes wanted)) bucket ∙ filter-part wanted (names_in kind bytes) long in
-    all ∙ (λ i. before i ++ found i) ∙ sym (flat_map-take (λ bytes. filter (passes wanted) (names_in kind bytes)) indexes at [] inside)
 
 -- the pack index at a position has what is asked for, as those before it, or is the first that has not
 module _ (Has : Kind → List ℕ → Type 0) (HasFault : Kind → List ℕ → LazyError → Type 0) {kind : Kind} {packs : List LazyIndex} {at : ℕ} {pack : LazyIndex}

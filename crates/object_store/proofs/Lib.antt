@@ -2,4 +2,5 @@ pub mod Asked
 pub mod Held
 pub mod Located
 pub mod Named
+pub mod PartNames
 pub mod PlaceMembers

@@ -2,3 +2,4 @@
 pub mod Wanted
 pub mod Stores
 pub mod Places
+pub mod Parts

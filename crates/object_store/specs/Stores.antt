@@ -1,6 +1,7 @@
 -- What an object store holds. Each id is given by its digits.
 use Rattle.std.specs.Prelude.{◌≡◌, ℕ, ◌<◌, ◌++◌, All, List, [], Some, flat_map, length, map, slice_get, slice_index_or, take}
 use Rattle.gix_hash.specs.Digits.{first_byte_of}
+use Rattle.gix_hash.specs.ObjectId.{id_kind}
 use Rattle.gix_hash.specs.declared.Kind.{Kind}
 use Rattle.id_lookup.specs.IndexOf.{IsIndexOf}
 use Rattle.id_lookup.specs.ShortNames.{IsShortestNameFrom}
@@ -10,6 +11,7 @@ use Rattle.pack_index.specs.Lazy.{HasBucket, IsBucketFault, IsFirstCounted, Lazy
 use Rattle.pack_index.specs.declared.lazy_error.LazyError.{LazyError}
 use Rattle.pack_index.specs.declared.lazy_error.LazyError.TheVariants.{NoOffset}
 use Rattle.object_store.specs.declared.error.Error.{Error}
+use Rattle.object_store.specs.declared.naming.NamedId.{NamedId}
 use Rattle.object_store.specs.declared.error.Error.TheVariants.{Index, Memory}
 
 -- the bytes of the pack indexes are known, and each is one; and `whole` is the index of all their names and the loose ids
@@ -22,6 +24,10 @@ pub record Holds (kind : Kind) (packs : List LazyIndex) (loose whole : List (Lis
 -- the name is the shortest one of the id in the index
 abbrev pub IsNameIn : ℕ → List (List ℕ) → List ℕ → List ℕ → Type 0
 IsNameIn least whole id name = (place : ℕ) → place < length whole → slice_index_or whole place [] ≡ id → IsShortestNameFrom least whole place name
+
+-- the id and its name are of the kind
+abbrev pub IsOfKind : Kind → NamedId → Type 0
+IsOfKind kind named = (id_kind named.id ≡ kind) × (named.name.kind ≡ kind)
 
 -- a fact of the bytes of a pack index, if they are known
 abbrev pub IfKnown : (List ℕ → Type 0) → LazyIndex → Type 0

@@ -1,16 +1,16 @@
 //! Shortest names in a whole store.
 
-ghost use Rattle.std.specs.Prelude.{◌≡◌, ◌≢◌, ◌≤◌, ◌<◌, ◌↔◌, ℕ, [], All, Contains, List, IfErr, IfOk, IsTrue, MatchOption, Some, length, map, slice_get, slice_index_or, take};
+ghost use Rattle.std.specs.Prelude.{◌≡◌, ◌≢◌, ◌≤◌, ◌<◌, ◌↔◌, ℕ, [], All, Contains, List, IfErr, IfOk, IfSome, IsTrue, MatchOption, Some, length, map, slice_get, slice_index_or, take};
 ghost use Rattle.gix_hash.specs.Digits.{first_byte_of};
 ghost use Rattle.gix_hash.specs.Kind.{hex_len_of};
 ghost use Rattle.gix_hash.specs.ObjectId.{id_digits, id_kind};
 ghost use Rattle.id_lookup.specs.Index.{IsIndex};
 ghost use Rattle.id_lookup.specs.IndexOf.{part_of};
 ghost use Rattle.id_lookup.specs.ShortNames.{IsShortestNameFrom};
-ghost use Rattle.object_store.specs.Stores.{HaveBuckets, Holds, IsNameIn, IsStoreFault};
+ghost use Rattle.object_store.specs.Stores.{HaveBuckets, Holds, IsNameIn, IsOfKind, IsStoreFault};
 
 use crate::error::Error;
-use crate::gathering::gather;
+use crate::part::Part;
 use crate::store::Store;
 use crate::wanted::Wanted;
 use gix_hash::{Kind, ObjectId, Prefix};
@@ -58,10 +58,13 @@ pub fn names<S: Store, A: Allocator + Copy>(
     ensures names { IfOk result (λ named. (whole : List (List ℕ))
         → Holds (S.kind store.now) (S.packs store.now) (S.loose store.now) whole
         → All (λ (n : NamedId). IsNameIn least whole (id_digits n.id) n.name.digits) named.items) }
+    ensures index { IfOk result (λ named. IsIndex (S.kind store.now)
+        (map (λ (n : NamedId). id_digits n.id) named.items)) }
+    ensures kinds { IfOk result (λ named. All (IsOfKind (S.kind store.now)) named.items) }
     ensures right { IfOk result (λ _. HaveBuckets (S.kind store.now) (S.packs store.now) byte) }
     ensures err { IfErr result (IsStoreFault (S.kind store.now) (S.packs store.now) byte) }
 {
-    let ids = gather(alloc, store, &Wanted::FirstByte(byte))?;
+    let ids = Part::read(alloc, store, byte)?.gather(alloc, store, &Wanted::FirstByte(byte))?;
     Ok(name_all(alloc, &ids, store.object_hash(), least)?)
 }
 
@@ -88,13 +91,15 @@ pub fn abbreviate<S: Store, A: Allocator + Copy>(
         → Holds (S.kind store.now) (S.packs store.now) (S.loose store.now) whole
         → MatchOption name (¬ Contains whole (id_digits id.now))
         (λ name. IsNameIn least whole (id_digits id.now) name.digits)) }
+    ensures kind { IfOk result (λ name. IfSome name (λ name. name.kind ≡ S.kind store.now)) }
     ensures right { IfOk result (λ _. HaveBuckets (S.kind store.now) (S.packs store.now)
         (first_byte_of (id_digits id.now))) }
     ensures err { IfErr result (IsStoreFault (S.kind store.now) (S.packs store.now)
         (first_byte_of (id_digits id.now))) }
 {
     let front = front_of(id, least);
-    let ids = gather(alloc, store, &Wanted::BeginsWith(front))?;
+    let part = Part::read(alloc, store, id.first_byte())?;
+    let ids = part.gather(alloc, store, &Wanted::BeginsWith(front))?;
     Ok(name_in(&ids, id, least))
 }
 
@@ -117,8 +122,10 @@ fn name_all<A: Allocator>(
     least: usize,
 ) -> Result<Vec<NamedId, A>, AllocError>
     requires index { IsIndex kind (map id_digits ids.now) }
+    requires kinds { All (λ id. id_kind id ≡ kind) ids.now }
     requires enough { 4 ≤ least }
     requires fits { least ≤ hex_len_of kind }
+    ensures kinds { IfOk result (λ named. All (IsOfKind kind) named.items) }
     ensures ids { IfOk result (λ named. map (λ (n : NamedId). n.id) named.items ≡ ids.now) }
     ensures names { IfOk result (λ named. (k : ℕ) (d : NamedId) → k < length named.items
         → IsShortestNameFrom least (map id_digits ids.now) k
@@ -136,10 +143,12 @@ fn name_all<A: Allocator>(
 fn name_at(ids: &[ObjectId], index: &IdIndex<'_>, at: usize, least: usize) -> NamedId
     requires in_range { at < length ids.now }
     requires index { index.now.ids ≡ map id_digits ids.now }
+    requires kinds { All (λ id. id_kind id ≡ index.now.kind) ids.now }
     requires enough { 4 ≤ least }
     requires fits { least ≤ hex_len_of index.now.kind }
     ensures id { slice_get ids.now at ≡ Some result.id }
     ensures name { IsShortestNameFrom least (map id_digits ids.now) at result.name.digits }
+    ensures kind { IsOfKind index.now.kind result }
 {
     NamedId {
         id: ids[at],
@@ -152,11 +161,12 @@ fn name_in(ids: &[ObjectId], id: &ObjectId, least: usize) -> Option<Prefix>
     requires index { IsIndex (id_kind id.now) (map id_digits ids.now) }
     requires enough { 4 ≤ least }
     requires fits { least ≤ hex_len_of (id_kind id.now) }
-    ensures { MatchOption result ((k : ℕ) → k < length (map id_digits ids.now)
+    ensures name { MatchOption result ((k : ℕ) → k < length (map id_digits ids.now)
         → slice_index_or (map id_digits ids.now) k [] ≢ id_digits id.now)
         (λ name. (at : ℕ) × (at < length (map id_digits ids.now))
         × (slice_index_or (map id_digits ids.now) at [] ≡ id_digits id.now)
         × IsShortestNameFrom least (map id_digits ids.now) at name.digits) }
+    ensures kind { IfSome result (λ name. name.kind ≡ id_kind id.now) }
 {
     let index = IdIndex::try_new(ids, id.kind()).unwrap();
     for at in 0..index.len() {

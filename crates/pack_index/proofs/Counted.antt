@@ -1,5 +1,5 @@
 -- How many names the bytes of a pack index have, and how many digits each.
-use Rattle.std.proofs.Common.{◌≡◌, ℕ, ◌-◌, ◌%◌, ◌++◌, ◌*◌, ◌/◌, ◌<◌, ◌≤◌, zero, suc, List, [], ◌∷◌, length, map, get_or, take, drop, refl, sym, ap, ◌∙◌, arith, length-drop, take-append-drop}
+use Rattle.std.proofs.Common.{◌≡◌, ℕ, ◌-◌, ◌%◌, ◌++◌, ◌*◌, ◌/◌, ◌<◌, ◌≤◌, zero, suc, List, [], ◌∷◌, length, map, get_or, take, drop, refl, sym, ap, subst, ◌∙◌, arith, length-drop, take-append-drop}
 use Rattle.std.specs.Prelude.{flat_map, slice_range}
 use Rattle.std.proofs.Math.Nat.{mul-suc}
 use Rattle.std.proofs.lemmas.List.{length-map, length-take-le, nil_from_length}
@@ -70,6 +70,16 @@ long n (suc count) bytes fits (suc k) low =
 pub length-digests_in_at : (kind : Kind) (bytes : List ℕ) (k : ℕ) → k < length (digests_in kind bytes) → length (get_or (digests_in kind bytes) k []) ≡ hex_len_of kind
 length-digests_in_at Sha1 bytes k low = long 20 (length bytes / 20) bytes (omega arith) k (omega (arith, length-digests_in Sha1 bytes))
 length-digests_in_at Sha256 bytes k low = long 32 (length bytes / 32) bytes (omega arith) k (omega (arith, length-digests_in Sha256 bytes))
+
+-- so have the digests in chunks of bytes
+module _ (kind : Kind) (bytes : List ℕ) (chunks : List (List ℕ)) (is : chunks ≡ first_chunks (byte_len_of kind) (length bytes / byte_len_of kind) bytes) where
+  pub chunks-reach : hex_len_of kind ≤ least_hex_len (map digits_of chunks)
+  chunks-reach = subst (λ (xs : List (List ℕ)). hex_len_of kind ≤ least_hex_len (map digits_of xs)) (sym is) (digests_in-reach kind bytes)
+
+  pub chunks-long : (k : ℕ) → k < length (map digits_of chunks) → length (get_or (map digits_of chunks) k []) ≡ hex_len_of kind
+  chunks-long =
+      subst (λ (xs : List (List ℕ)). (k : ℕ) → k < length (map digits_of xs) → length (get_or (map digits_of xs) k []) ≡ hex_len_of kind) (sym is)
+      (length-digests_in_at kind bytes)
 
 -- digits of bytes in two parts
 digits_of-append : (front back : List ℕ) → digits_of (front ++ back) ≡ digits_of front ++ digits_of back

@@ -5,7 +5,7 @@ pub mod Counted
 mod Heads
 mod Longs
 mod Looked
-mod LookedUp
+pub mod LookedUp
 mod ReadOffsets
 mod Refusals
 mod Seen

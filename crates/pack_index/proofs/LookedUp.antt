@@ -13,7 +13,7 @@ use Rattle.id_lookup.proofs.Filtering.{filter_all, three_parts}
 use Rattle.id_lookup.proofs.Filters.{contains_kept}
 use Rattle.pack_index.specs.Firsts.{Each}
 use Rattle.pack_index.specs.Format.{HasCount, HasTables, count_in, names_in}
-use Rattle.pack_index.specs.Lazy.{IsFirstCounted, bucket_end, bucket_start, counted_with}
+use Rattle.pack_index.specs.Lazy.{AreCounted, BucketNames, IsFirstCounted, bucket_end, bucket_start, counted_with}
 use Rattle.pack_index.specs.Names.{IsFirstIndexOf}
 use Rattle.pack_index.proofs.Counted.{length-names_in}
 
@@ -46,7 +46,7 @@ module _ {kind : Kind} {bytes id : List ℕ} {start end : ℕ} {found : List (Li
       ap (λ (names : List (List ℕ)). get_or names k []) run_same ∙ get_or-take (end - start) (drop start (names_in kind bytes)) k [] low
       ∙ get_or-drop start (names_in kind bytes) k [] ∙ ap (λ n. get_or (names_in kind bytes) n []) is
 
-  name_found : (k : ℕ) → IsFirstIndexOf found id k → get_or (names_in kind bytes) (start + k) [] ≡ id
+  pub name_found : (k : ℕ) → IsFirstIndexOf found id k → get_or (names_in kind bytes) (start + k) [] ≡ id
   name_found k first = sym (run_name k (start + k) (omega (arith, first.in_range, read.long)) refl) ∙ first.same
 
   -- the first in the run is the first that is counted
@@ -116,3 +116,19 @@ module _ {kind : Kind} {bytes id : List ℕ} {start end : ℕ} {found : List (Li
         by : (j : ℕ) → j < start + k → ((j < start) ⊎ (start ≤ j)) → get_or (names_in kind bytes) j [] ≢ id
         by j low (inl less) = before j less
         by j low (inr more) = (is_counted k first).first j (omega (arith, read.from, more)) low
+
+-- what is counted is in the bucket
+pub counted_within : (kind : Kind) (bytes id : List ℕ) (byte at : ℕ) (bucket : BucketNames) → AreCounted kind bytes byte bucket → first_byte_of id ≡ byte
+    → IsFirstCounted kind bytes id at → Contains bucket.names id
+counted_within kind bytes id byte at bucket are is there =
+    let names = names_in kind bytes in
+    let from : bucket.start ≤ at = omega (arith, there.from, are.start, ap (bucket_start bytes) is) in
+    let to : at < bucket.start + length bucket.names = omega (arith, there.to, are.end, ap (bucket_end bytes) is) in
+    let k = at - bucket.start in
+    let low : k < bucket_end bytes byte - bucket_start bytes byte = omega (arith, from, to, are.start, are.end) in
+    let place : bucket_start bytes byte + k ≡ at = omega (arith, from, are.start) in
+    let same : get_or bucket.names k [] ≡ id =
+    ap (λ (xs : List (List ℕ)). get_or xs k []) are.names
+    ∙ get_or-take (bucket_end bytes byte - bucket_start bytes byte) (drop (bucket_start bytes byte) names) k [] low
+    ∙ get_or-drop (bucket_start bytes byte) names k [] ∙ ap (λ n. get_or names n []) place ∙ there.same in
+    (k, omega (arith, from, to), get_or_default bucket.names k id [] (omega (arith, from, to)) ∙ same)

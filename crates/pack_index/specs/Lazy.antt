@@ -1,9 +1,11 @@
 -- Pack indexes that are read at positions, and not whole.
-use Rattle.std.specs.Prelude.{◌≡◌, ◌≢◌, ℕ, zero, suc, ◌+◌, ◌*◌, ◌<◌, ◌≤◌, IsTrue, Option, List, [], All, length, slice_index_or, slice_range}
+use Rattle.std.specs.Prelude.{◌≡◌, ◌≢◌, ℕ, zero, suc, ◌+◌, ◌*◌, ◌<◌, ◌≤◌, IsTrue, Option, Some, List, [], All, length, slice_index_or, slice_range}
 use Rattle.gix_hash.specs.Digits.{first_byte_of}
 use Rattle.gix_hash.specs.declared.Kind.{Kind}
 use Rattle.id_lookup.specs.FirstBytes.{has_first_byte}
-use Rattle.pack_index.specs.Format.{HasHead, HasOffset, HasTables, count_in, magic_number, min_len, names_in, word_at}
+use Rattle.id_lookup.specs.IndexOf.{part_of}
+use Rattle.pack_index.specs.Firsts.{Each}
+use Rattle.pack_index.specs.Format.{HasCount, HasHead, HasOffset, HasTables, count_in, magic_number, min_len, names_in, word_at}
 use Rattle.pack_index.specs.declared.lazy_error.LazyError.{LazyError}
 use Rattle.pack_index.specs.declared.lazy_error.LazyError.TheVariants.{Read, Memory, TooShort, BadMagic, BadVersion, WrongLength, CountsFall, CountTooHigh, WrongCount, NoOffset}
 
@@ -35,6 +37,27 @@ pub record HasBucket (kind : Kind) (bytes : List ℕ) (byte : ℕ) : Type 0 wher
   pub in_order : bucket_start bytes byte ≤ bucket_end bytes byte
   pub inside : bucket_end bytes byte ≤ count_in bytes
   pub first : HaveFirstByte byte (counted_with kind bytes byte)
+
+-- what contracts see of a bucket: the kind of its names, the index of the first of them in the pack index, and the names
+pub record BucketNames : Type 0 where
+  pub kind : Kind
+  pub start : ℕ
+  pub names : List (List ℕ)
+
+-- they are the names that are counted with the first byte, and all that have it if the counts are right
+pub record AreCounted (kind : Kind) (bytes : List ℕ) (byte : ℕ) (bucket : BucketNames) : Type 0 where
+  pub right : HasBucket kind bytes byte
+  pub start : bucket.start ≡ bucket_start bytes byte
+  pub end : bucket.start + length bucket.names ≡ bucket_end bytes byte
+  pub names : bucket.names ≡ counted_with kind bytes byte
+  pub part : Each (HasCount kind bytes) 256 → bucket.names ≡ part_of byte (names_in kind bytes)
+
+-- the bucket of a pack index for a first byte
+pub record IsBucketOf (index : LazyIndex) (byte : ℕ) (bucket : BucketNames) : Type 0 where
+  pub kind : bucket.kind ≡ index.kind
+  pub inside : bucket.start + length bucket.names ≤ index.count
+  pub first : HaveFirstByte byte bucket.names
+  pub known : (bytes : List ℕ) → index.content ≡ Some bytes → AreCounted index.kind bytes byte bucket
 
 -- the id of these digits is at this index, and at none before it of the names that are counted with its first byte
 pub record IsFirstCounted (kind : Kind) (bytes digits : List ℕ) (at : ℕ) : Type 0 where

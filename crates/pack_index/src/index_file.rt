@@ -4,7 +4,7 @@ ghost use Rattle.std.specs.Prelude.{◌≡◌, ◌≢◌, ◌↔◌, ◌+◌, �
 ghost use Rattle.std.specs.List.{HoldsAt};
 ghost use Rattle.gix_hash.specs.Hashing.{digest};
 ghost use Rattle.gix_hash.specs.ObjectId.{id_bytes};
-ghost use Rattle.gix_hash.specs.Oid.{oid_bytes, oid_digits, oid_kind};
+ghost use Rattle.gix_hash.specs.Oid.{oid_bytes, oid_digits};
 ghost use Rattle.id_lookup.specs.Index.{IsAnswer};
 ghost use Rattle.id_lookup.specs.ShortNames.{IsShortestName};
 ghost use Rattle.id_lookup.specs.FoundRun.{IsRun};
@@ -14,7 +14,7 @@ ghost use Rattle.pack_index.specs.Refusal.{IsFault, IsRefusal, other_than};
 
 use crate::checks::{check_tables, first_wrong_count};
 use crate::error::Error;
-use crate::names::Names;
+use crate::names::{Names, all_digits};
 use crate::offsets::check_offsets;
 use crate::words::{NAMES_AT, crc_in, crcs_at, digest_at, offset_in, tables_end};
 use gix_hash::{Kind, Prefix, ends_in_digest, oid};
@@ -243,12 +243,4 @@ fn other_than(kind: Kind) -> Kind
         Kind::Sha1 => Kind::Sha256,
         Kind::Sha256 => Kind::Sha1,
     }
-}
-
-// The prefix of all digits of an id.
-fn all_digits(id: oid<'_>) -> Prefix
-    ensures { result ≡ record { kind = oid_kind id.entry; digits = oid_digits id.entry } }
-{
-    let kind = id.kind();
-    Prefix::new(id, kind.len_in_hex()).unwrap()
 }

@@ -8,10 +8,11 @@ ghost use Rattle.id_lookup.specs.FirstBytes.{has_first_byte};
 ghost use Rattle.id_lookup.specs.IndexOf.{part_of};
 ghost use Rattle.pack_index.specs.Firsts.{Each};
 ghost use Rattle.pack_index.specs.Format.{HasCount, HasHead, HasOffset, HasTables, count_in, digests_in, min_len, names_in, offset_in, offset_word};
-ghost use Rattle.pack_index.specs.Lazy.{HasBucket, HaveFirstByte, IsBucketFault, IsFirstCounted, IsHeadFault, IsOffsetFault, IsOutside, IsRead, bucket_end, bucket_start, counted_with};
+ghost use Rattle.pack_index.specs.Lazy.{HasBucket, HaveFirstByte, IsBucketFault, IsBucketOf, IsFirstCounted, IsHeadFault, IsOffsetFault, IsOutside, IsRead, bucket_end, bucket_start, counted_with};
 ghost use Rattle.pack_index.specs.Names.{IsFirstIndexOf};
 ghost use Rattle.streams.specs.ReadAt.{IsReadAt};
 
+use crate::bucket::Bucket;
 use crate::checks::{COUNTS_LEN, MAGIC, VERSION, fills_bytes};
 use crate::lazy_error::LazyError;
 use crate::words::{LONG, NAMES_AT, count_in, long_at, long_word_at, offsets_at, word_at};
@@ -27,7 +28,8 @@ use streams::ReadAt;
 ///
 /// ```
 /// let index = LazyFile::open(idx, Kind::Sha1)?;
-/// if let Some(at) = index.lookup(rt.alloc(), id.as_oid())? {
+/// let bucket = index.bucket(rt.alloc(), id.first_byte())?;
+/// if let Some(at) = index.lookup(&bucket, id.as_oid()) {
 ///     println!(rt; "at byte {} of the pack", index.pack_offset_at_index(at)?)?;
 /// }
 /// ```
@@ -105,60 +107,45 @@ impl<S: ReadAt + Drop> LazyFile<S> {
         count_in(&self.head)
     }
 
-    /// The names with a first byte, one after the other as the index has them: 20 or 32 bytes each.
-    /// Nothing else is read.
+    /// The names with a first byte. Nothing else is read.
     ///
     /// They are the names that are counted with the byte. If the counts are right, as in each pack
     /// index, they are all names with that first byte.
-    pub fn bucket<A: Allocator>(&self, alloc: A, byte: u8) -> Result<Vec<u8, A>, LazyError>
-        ensures names { IfOk result (λ table. (bytes : List ℕ) → self.now.content ≡ Some bytes
-            → digests_in self.now.kind table.items ≡ counted_with self.now.kind bytes byte) }
-        ensures part { IfOk result (λ table. (bytes : List ℕ) → self.now.content ≡ Some bytes
-            → Each (HasCount self.now.kind bytes) 256
-            → digests_in self.now.kind table.items ≡ part_of byte (names_in self.now.kind bytes)) }
-        ensures first { IfOk result (λ table.
-            HaveFirstByte byte (digests_in self.now.kind table.items)) }
-        ensures right { IfOk result (λ _. (bytes : List ℕ) → self.now.content ≡ Some bytes
-            → HasBucket self.now.kind bytes byte) }
+    pub fn bucket<A: Allocator>(&self, alloc: A, byte: u8) -> Result<Bucket<A>, LazyError>
+        ensures bucket { IfOk result (IsBucketOf self.now byte) }
         ensures err { IfErr result (λ e. (bytes : List ℕ) → self.now.content ≡ Some bytes
             → IsBucketFault self.now.kind bytes byte e) }
     {
         // Its contract says how many names there are.
         let _count = self.num_objects();
         let run = self.run_of(byte)?;
-        self.read_bucket(alloc, byte, &run)
+        let table = self.read_bucket(alloc, byte, &run)?;
+        Ok(Bucket::new(table, self.kind, run.start))
     }
 
     /// The index of a name, the first one if it occurs more than once, or `None` if it does not
-    /// occur. Only the names with its first byte are read, and all of them are compared.
-    pub fn lookup<A: Allocator>(&self, alloc: A, id: oid<'_>) -> Result<Option<u32>, LazyError>
-        ensures in_range { IfOk result (λ found. IfSome found (λ at. at < self.now.count)) }
-        ensures name { IfOk result (λ found. IfSome found (λ at. (bytes : List ℕ)
-            → self.now.content ≡ Some bytes
-            → slice_index_or (names_in self.now.kind bytes) at [] ≡ oid_digits id.entry)) }
-        ensures found { IfOk result (λ found. (bytes : List ℕ) → self.now.content ≡ Some bytes
+    /// occur. It is looked up in the bucket of its first byte, and nothing is read. If the names
+    /// there are not sorted, it is compared with each of them.
+    pub fn lookup<A: Allocator>(&self, bucket: &Bucket<A>, id: oid<'_>) -> Option<u32>
+        requires { IsBucketOf self.now (first_byte_of (oid_digits id)) bucket.now }
+        ensures in_range { IfSome result (λ at. at < self.now.count) }
+        ensures name { IfSome result (λ at. (bytes : List ℕ) → self.now.content ≡ Some bytes
+            → slice_index_or (names_in self.now.kind bytes) at [] ≡ oid_digits id.entry) }
+        ensures found { (bytes : List ℕ) → self.now.content ≡ Some bytes
             → Each (HasCount self.now.kind bytes) 256
             → let names = names_in self.now.kind bytes in
-            MatchOption found ((k : ℕ) → k < length names
+            MatchOption result ((k : ℕ) → k < length names
             → slice_index_or names k [] ≢ oid_digits id.entry)
-            (IsFirstIndexOf names (oid_digits id.entry))) }
-        ensures counted { IfOk result (λ found. (bytes : List ℕ) → self.now.content ≡ Some bytes
-            → (at : ℕ) → (found ≡ Some at)
-            ↔ IsFirstCounted self.now.kind bytes (oid_digits id.entry) at) }
-        ensures right { IfOk result (λ _. (bytes : List ℕ) → self.now.content ≡ Some bytes
-            → HasBucket self.now.kind bytes (first_byte_of (oid_digits id.entry))) }
-        ensures err { IfErr result (λ e. (bytes : List ℕ) → self.now.content ≡ Some bytes
-            → IsBucketFault self.now.kind bytes (first_byte_of (oid_digits id.entry)) e) }
+            (IsFirstIndexOf names (oid_digits id.entry)) }
+        ensures counted { (bytes : List ℕ) → self.now.content ≡ Some bytes
+            → (at : ℕ) → (result ≡ Some at)
+            ↔ IsFirstCounted self.now.kind bytes (oid_digits id.entry) at }
     {
-        // The contracts of these calls say how many names there are, and of which kind.
+        // Its contract says how many names there are.
         let _count = self.num_objects();
-        let kind = self.object_hash();
-        let byte = id.first_byte();
-        let run = self.run_of(byte)?;
-        let table = self.read_bucket(alloc, byte, &run)?;
-        match first_digest(&table, kind, id) {
-            Some(at) => Ok(Some((run.start + at) as u32)),
-            None => Ok(None),
+        match bucket.position(id) {
+            Some(at) => Some((bucket.start() + at) as u32),
+            None => None,
         }
     }
 
@@ -337,41 +324,4 @@ fn all_have_first_byte<I: Id>(ids: &[I], byte: u8) -> bool
     ensures { IsTrue result ↔ All (λ id. IsTrue (has_first_byte byte (I.digits id))) ids.now }
 {
     ids.iter().all(|id| id.as_oid().first_byte() == byte)
-}
-
-// The first index of an id among the digests of a kind in the bytes.
-fn first_digest(bytes: &[u8], kind: Kind, id: oid<'_>) -> Option<usize>
-    ensures { let names = digests_in kind bytes.now in
-        MatchOption result ((k : ℕ) → k < length names
-        → slice_index_or names k [] ≢ oid_digits id.entry)
-        (IsFirstIndexOf names (oid_digits id.entry)) }
-{
-    match kind {
-        Kind::Sha1 => first_index::<[u8; 20]>(bytes.as_chunks().0, id),
-        Kind::Sha256 => first_index::<[u8; 32]>(bytes.as_chunks().0, id),
-    }
-}
-
-// The first index of an id in a list.
-fn first_index<I: Id>(ids: &[I], id: oid<'_>) -> Option<usize>
-    ensures { let names = map I.digits ids.now in
-        MatchOption result ((k : ℕ) → k < length names
-        → slice_index_or names k [] ≢ oid_digits id.entry)
-        (IsFirstIndexOf names (oid_digits id.entry)) }
-{
-    for at in 0..ids.len() {
-        if is_at(ids, at, id) {
-            return Some(at);
-        }
-    }
-    None
-}
-
-// Whether the id at an index of a list is this one.
-fn is_at<I: Id>(ids: &[I], at: usize, id: oid<'_>) -> bool
-    requires { at < length ids.now }
-    ensures { IsTrue result
-        ↔ (slice_index_or (map I.digits ids.now) at [] ≡ oid_digits id.entry) }
-{
-    ids[at].as_oid() == id
 }

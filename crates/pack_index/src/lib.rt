@@ -6,6 +6,7 @@
 //! object in the pack.
 #![tactic(auto)]
 
+mod bucket;
 mod checks;
 mod error;
 mod index_file;
@@ -18,6 +19,7 @@ mod shared;
 pub mod tables;
 mod words;
 
+pub use bucket::Bucket;
 pub use error::Error;
 pub use index_file::File;
 pub use lazy::LazyFile;

@@ -3,7 +3,7 @@
 ghost use Rattle.std.specs.Prelude.{◌≡◌, ◌↔◌, ◌+◌, ◌<◌, ◌≤◌, ℕ, [], List, IfErr, IfOk, IfSome, IsNone, IsOk, length, slice_index_or};
 ghost use Rattle.std.specs.List.{HoldsAt};
 ghost use Rattle.gix_hash.specs.Kind.{hex_len_of};
-ghost use Rattle.gix_hash.specs.Oid.{oid_digits};
+ghost use Rattle.gix_hash.specs.Oid.{oid_digits, oid_kind};
 ghost use Rattle.id_lookup.specs.FirstBytes.{IsFanOut};
 ghost use Rattle.id_lookup.specs.FoundRun.{IsRun};
 ghost use Rattle.id_lookup.specs.ShortNames.{IsShortestName};
@@ -106,4 +106,12 @@ impl<'a> Names<'a> {
             Names::Sha256(ids) => lookup_in(fan_out, &mut Probes::new(ids, *prefix)),
         }
     }
+}
+
+// The prefix of all digits of an id.
+pub(crate) fn all_digits(id: oid<'_>) -> Prefix
+    ensures { result ≡ record { kind = oid_kind id.entry; digits = oid_digits id.entry } }
+{
+    let kind = id.kind();
+    Prefix::new(id, kind.len_in_hex()).unwrap()
 }

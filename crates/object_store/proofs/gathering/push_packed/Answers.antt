@@ -1,31 +1,28 @@
-use Rattle.std.proofs.Common.{◌≡◌, ◌∙◌, map, sym, ap, subst}
-use Rattle.std.specs.List.{All}
-use Rattle.gix_hash.specs.ObjectId.{id_digits, id_kind}
+use Rattle.std.proofs.Common.{◌≡◌, ◌∙◌, ◌++◌, List, ℕ, ap, filter, map, sym}
+use Rattle.std.specs.List.{flat_map}
+use Rattle.std.proofs.lemmas.List.{take_all}
+use Rattle.gix_hash.specs.ObjectId.{id_digits}
 use Rattle.gix_hash.specs.declared.Kind.{Kind}
-use Rattle.gix_hash.specs.declared.ObjectId.{ObjectId}
-use Rattle.object_store.specs.Wanted.{wanted_byte}
-use Rattle.object_store.proofs.Held.{have_all, have_more, pack_at, packed_more}
+use Rattle.object_store.specs.Wanted.{passes}
+use Rattle.object_store.proofs.PartNames.{bucket_more}
 use Rattle.pack_index.specs.Format.{digests_in}
-use Rattle.pack_index.specs.Lazy.{HasBucket, IsBucketFault}
+use Rattle.pack_index.specs.Lazy.{BucketNames}
 use Rattle.object_store.proofs.gathering.push_packed.Goals as goal
 
-pub returns-clause-right : goal.returns-clause-right
-returns-clause-right g c =
-    have_all (λ bytes. HasBucket (g.S.Store.kind c.args.store.now) bytes (wanted_byte c.args.wanted.now)) c.indexes-packs.ensures.value c.loop-at-test.false c.loop-at.invariant.2
-
-pub loop-at-preserved : goal.loop-at-preserved
-loop-at-preserved g c =
-    let kind = g.S.Store.kind c.args.store.now in
-    let pack = c.index-packs-at.result in
-    let here = pack_at c.indexes-packs.ensures.value c.indexes-packs.ensures.kinds c.loop-at-test.true c.index-packs-at.is in
-    let of_kind : c.object_hash.result ≡ kind = c.object_hash.ensures ∙ here.of_kind in (
-      λ indexes same each.
-          packed_more kind c.object_hash.result (g.S.Store.packs c.args.store.now) c.args.wanted.now c.first_byte-byte.result c.loop-at.at pack (map id_digits c.loop-at.ids.items)
-          (map id_digits c.push_names.new.ids.items) c.deref.result.now indexes c.first_byte-byte.ensures c.requires.enough same each here c.object_hash.ensures
-          (λ bytes known counts. ap (digests_in pack.kind) c.deref.ensures.value ∙ c.in-Ok.ensures.part bytes known counts) (c.loop-at.invariant.0 indexes same each)
-          c.in_ok-push_names.ensures.digits,
-      subst (λ (k : Kind). All (λ (id : ObjectId). id_kind id ≡ k) c.push_names.new.ids.items) of_kind
-          (c.in_ok-push_names.ensures.kinds (subst (λ (k : Kind). All (λ (id : ObjectId). id_kind id ≡ k) c.loop-at.ids.items) (sym of_kind) c.loop-at.invariant.1)),
-      have_more (λ k bytes. HasBucket k bytes (wanted_byte c.args.wanted.now)) (λ k bytes why. IsBucketFault k bytes (wanted_byte c.args.wanted.now) why)
-          here c.loop-at.invariant.2 (λ bytes known. subst (HasBucket pack.kind bytes) c.first_byte-byte.ensures (c.in-Ok.ensures.right bytes known)),
+pub loop-bucket-preserved : goal.loop-bucket-preserved
+loop-bucket-preserved g c =
+    let bucket = c.bucket-item.result in
+    let of_kind : bucket.kind ≡ c.args.kind =
+    ap (λ (b : BucketNames). b.kind) c.bucket-item.is ∙ c.requires.kinds c.loop-bucket.bucket-index bucket c.loop-bucket-test.true in
+    let names : digests_in c.args.kind c.names.result.now ≡ bucket.names = ap (λ (k : Kind). digests_in k c.names.result.now) (sym of_kind) ∙ c.names.ensures in (
+      bucket_more (passes c.args.wanted.now) c.args.buckets.now c.loop-bucket.bucket-index bucket (map id_digits c.args.ids.now.items) (map id_digits c.loop-bucket.ids.items)
+          (map id_digits c.push_names.new.ids.items) c.loop-bucket-test.true c.bucket-item.is c.loop-bucket.invariant.0
+          (c.in_ok-push_names.ensures.digits ∙ ap (λ (found : List (List ℕ)). map id_digits c.loop-bucket.ids.items ++ filter (passes c.args.wanted.now) found) names),
+      λ kinds. c.in_ok-push_names.ensures.kinds (c.loop-bucket.invariant.1 kinds),
     )
+
+pub returns-clause-digits : goal.returns-clause-digits
+returns-clause-digits g c =
+    c.loop-bucket.invariant.0
+    ∙ ap (λ (bs : List BucketNames). map id_digits c.args.ids.now.items ++ flat_map (λ (b : BucketNames). filter (passes c.args.wanted.now) b.names) bs)
+    (take_all c.loop-bucket.bucket-index c.args.buckets.now c.loop-bucket-test.false)

@@ -1,6 +1,8 @@
 use Rattle.std.proofs.Common.{◌≡◌, ℕ, ◌<◌, length, map, get_or, take}
+use Rattle.std.specs.List.{All}
 use Rattle.gix_hash.specs.ObjectId.{id_digits}
 use Rattle.id_lookup.specs.ShortNames.{IsShortestNameFrom}
+use Rattle.object_store.specs.Stores.{IsOfKind}
 use Rattle.object_store.specs.declared.naming.NamedId.{NamedId}
 use Rattle.object_store.proofs.naming.name_all.Given as goal
 
@@ -8,3 +10,4 @@ abbrev pub invariant-loop-at : goal.invariant-loop-at
 invariant-loop-at g l =
     (map (λ (n : NamedId). n.id) l.named.items ≡ take l.at l.ids)
     × ((k : ℕ) (d : NamedId) → k < length l.named.items → IsShortestNameFrom l.least (map id_digits l.ids) k (get_or l.named.items k d).name.digits)
+    × All (IsOfKind l.fn.kind) l.named.items

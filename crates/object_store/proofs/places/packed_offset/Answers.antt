@@ -1,37 +1,39 @@
 use Rattle.std.proofs.lemmas.Result.{err_from_is_err_and}
+use Rattle.std.proofs.Common.{sym, subst}
+use Rattle.gix_hash.specs.Digits.{first_byte_of}
 use Rattle.gix_hash.specs.Oid.{oid_digits}
-use Rattle.object_store.proofs.Located.{bucket_fault, offset_fault, offset_none, offset_some, place_none, place_some}
+use Rattle.pack_index.specs.Lazy.{IsBucketOf}
+use Rattle.object_store.proofs.Located.{offset_fault, offset_none, offset_some, place_none, place_some}
 use Rattle.object_store.proofs.places.packed_offset.Goals as goal
+
+pub lookup-requires : goal.lookup-requires
+lookup-requires g c = rw c.as_oid.ensures.digits c.requires
 
 pub returns-in_ok-pack_offset_at_index-in-Some-clause-offset : goal.returns-in_ok-pack_offset_at_index-in-Some-clause-offset
 returns-in_ok-pack_offset_at_index-in-Some-clause-offset g c =
     rw (← c.as_oid.ensures.digits) (λ bytes is counts.
-    offset_some _ bytes _ c.in-Some.at _ (rw c.in-Some.is at (c.in_ok-at.ensures.found bytes is counts)) (c.in_ok-pack_offset_at_index-in-Some.ensures.offset bytes is))
+    offset_some _ bytes _ c.in-Some.at _ (rw c.in-Some.is at (c.lookup.ensures.found bytes is counts)) (c.in_ok-pack_offset_at_index-in-Some.ensures.offset bytes is))
 
 pub returns-in-None-clause-offset : goal.returns-in-None-clause-offset
 returns-in-None-clause-offset g c =
-    rw (← c.as_oid.ensures.digits) (λ bytes is counts. offset_none _ bytes _ (rw c.in-None.is at (c.in_ok-at.ensures.found bytes is counts)))
-
-pub returns-in_err-at-clause-err : goal.returns-in_err-at-clause-err
-returns-in_err-at-clause-err g c =
-    let p = err_from_is_err_and c.from_residual.result c.from_residual.ensures.1 in
-    rw (p.1, p.2, ← c.as_oid.ensures.digits) (λ bytes is.
-    bucket_fault c.args.index.now.kind bytes (oid_digits c.as_oid.result) _ (c.in_err-at.ensures.err bytes is))
+    rw (← c.as_oid.ensures.digits) (λ bytes is counts. offset_none _ bytes _ (rw c.in-None.is at (c.lookup.ensures.found bytes is counts)))
 
 pub returns-in_err-pack_offset_at_index-in-Some-clause-err : goal.returns-in_err-pack_offset_at_index-in-Some-clause-err
 returns-in_err-pack_offset_at_index-in-Some-clause-err g c =
-    let failed = c.from_residual-in_err-pack_offset_at_index-in-Some in
-    let p = err_from_is_err_and failed.result failed.ensures.1 in
+    let p = err_from_is_err_and c.from_residual.result c.from_residual.ensures.1 in
+    let bucket = rw (← c.as_oid.ensures.digits) at c.requires in
     rw (p.1, p.2, ← c.as_oid.ensures.digits) (λ bytes is.
-    offset_fault _ bytes _ (c.in_ok-at.ensures.right bytes is) c.in-Some.at (rw c.in-Some.is at (c.in_ok-at.ensures.counted bytes is)) _
+    offset_fault _ bytes _ (bucket.known bytes is).right c.in-Some.at (rw c.in-Some.is at (c.lookup.ensures.counted bytes is)) _
     (c.in_err-pack_offset_at_index-in-Some.ensures.err bytes is))
 
 pub returns-in_ok-pack_offset_at_index-in-Some-clause-right : goal.returns-in_ok-pack_offset_at_index-in-Some-clause-right
 returns-in_ok-pack_offset_at_index-in-Some-clause-right g c =
+    let bucket = rw (← c.as_oid.ensures.digits) at c.requires in
     rw (← c.as_oid.ensures.digits) (λ bytes is.
-    place_some _ bytes _ (c.in_ok-at.ensures.right bytes is) c.in-Some.at (rw c.in-Some.is at (c.in_ok-at.ensures.counted bytes is))
+    place_some _ bytes _ (bucket.known bytes is).right c.in-Some.at (rw c.in-Some.is at (c.lookup.ensures.counted bytes is))
     (c.in_ok-pack_offset_at_index-in-Some.ensures.has bytes is))
 
 pub returns-in-None-clause-right : goal.returns-in-None-clause-right
 returns-in-None-clause-right g c =
-    rw (← c.as_oid.ensures.digits) (λ bytes is. place_none _ bytes _ (c.in_ok-at.ensures.right bytes is) (rw c.in-None.is at (c.in_ok-at.ensures.counted bytes is)))
+    let bucket = rw (← c.as_oid.ensures.digits) at c.requires in
+    rw (← c.as_oid.ensures.digits) (λ bytes is. place_none _ bytes _ (bucket.known bytes is).right (rw c.in-None.is at (c.lookup.ensures.counted bytes is)))

@@ -4,14 +4,14 @@ use Rattle.std.specs.Str.{bytes_eq}
 use Rattle.gix_hash.specs.ObjectId.{id_digits}
 use Rattle.object_store.specs.declared.places.Place.TheVariants.{Loose}
 use Rattle.object_store.proofs.Located.{any_digits}
-use Rattle.object_store.proofs.places.locate.Goals as goal
-use Rattle.object_store.proofs.places.locate.Goals.{then-contains+in_ok-push, else-contains}
+use Rattle.object_store.proofs.places.locate_in.Goals as goal
+use Rattle.object_store.proofs.places.locate_in.Goals.{then-contains+in_ok-push, else-contains}
 
 pub returns-clause-places : goal.returns-clause-places
 returns-clause-places g c = λ whole h.
     let packed = c.in_ok-places.ensures.places h.indexes h.known h.are_indexes in
     let ids = c.loose_ids.result.now in
-    let loose = c.contains.ensures.value ∙ any_digits (g.S.Store.kind c.args.store.now) c.args.id.now c.requires ids c.loose_ids.ensures.kinds
+    let loose = c.contains.ensures.value ∙ any_digits (g.S.Store.kind c.args.store.now) c.args.id.now c.requires.kind ids c.loose_ids.ensures.kinds
     ∙ ap (list_any (λ other. bytes_eq other (id_digits c.args.id.now))) c.loose_ids.ensures.ids in
     elim c.if-contains.branch [
       | then-contains+in_ok-push w ↦
