@@ -7,16 +7,12 @@ use Rattle.std.proofs.lemmas.List.Elements.{All-more, filter-append}
 use Rattle.gix_hash.specs.Digits.{first_byte_of}
 use Rattle.gix_hash.specs.declared.Kind.{Kind}
 use Rattle.id_lookup.proofs.SameMembers.{part_is}
-use Rattle.id_lookup.specs.IndexOf.{IsIndexOf, part_of}
+use Rattle.id_lookup.specs.IndexOf.{IsIndexOf}
 use Rattle.object_store.specs.Stores.{HasPlace, Holds, IfKnown, IsFirstFault, IsLocateFault, IsOutside, IsPlaceFault, IsStoreFault}
-use Rattle.object_store.specs.Wanted.{passes, wanted_byte, wanted_len}
 use Rattle.object_store.specs.declared.error.Error.{Error}
 use Rattle.object_store.specs.declared.error.Error.TheVariants.{Index, Memory}
-use Rattle.object_store.specs.declared.wanted.Wanted.{Wanted}
-use Rattle.object_store.proofs.Asked.{filter-part}
-use Rattle.pack_index.specs.Firsts.{Each}
 use Rattle.pack_index.proofs.Buckets.{no_bucket_fault}
-use Rattle.pack_index.specs.Format.{HasCount, IsPackIndex, digests_in, names_in}
+use Rattle.pack_index.specs.Format.{IsPackIndex, names_in}
 use Rattle.pack_index.specs.Lazy as lazy
 use Rattle.pack_index.specs.Lazy.{HasBucket, IsBucketFault, LazyIndex}
 use Rattle.pack_index.specs.declared.lazy_error.LazyError.{LazyError}

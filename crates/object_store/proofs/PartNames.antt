@@ -1,5 +1,5 @@
 -- What the buckets of a first byte have of a store.
-use Rattle.std.proofs.Common.{◌≡◌, ℕ, zero, suc, ◌+◌, ◌-◌, ◌<◌, ◌≤◌, ◌⊎◌, inl, inr, Bool, true, None, Some, List, [], ◌∷◌, ◌++◌, length, get_or, map, filter, take, refl, sym, ap, ◌∙◌, subst, arith, append_assoc}
+use Rattle.std.proofs.Common.{◌≡◌, ℕ, zero, suc, ◌+◌, ◌<◌, ◌≤◌, ◌⊎◌, inl, inr, Bool, true, None, Some, List, [], ◌∷◌, ◌++◌, length, get_or, map, filter, take, refl, sym, ap, ◌∙◌, subst, arith, append_assoc}
 use Rattle.std.specs.List.{All, Contains, flat_map}
 use Rattle.std.proofs.Math.Seq.{get_or-append_seam}
 use Rattle.std.proofs.lemmas.Bool.{cases_lt}
@@ -13,7 +13,7 @@ use Rattle.id_lookup.specs.IndexOf.{IsIndexOf, part_of}
 use Rattle.id_lookup.proofs.Beginnings.{test_same}
 use Rattle.id_lookup.proofs.Filters.{contains_kept, kept_passes}
 use Rattle.object_store.specs.Parts.{AreBuckets, AreFirstBuckets, HaveWanted}
-use Rattle.object_store.specs.Stores.{HaveBuckets, IfKnown}
+use Rattle.object_store.specs.Stores.{HaveBuckets}
 use Rattle.object_store.specs.Wanted.{passes, wanted_byte, wanted_len}
 use Rattle.object_store.specs.declared.wanted.Wanted.{Wanted}
 use Rattle.object_store.proofs.Asked.{filter-part, passes-byte}

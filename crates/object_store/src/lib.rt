@@ -3,8 +3,8 @@
 //! An id's first byte decides its part of the store, one of 256. A prefix of 2 digits or more
 //! is looked up in one part ([`lookup_prefix`]). A shortest unique name of 4 digits or more is
 //! decided in one ([`abbreviate`], [`names`]). So a look-up reads about 1/256 of the names, and
-//! a walk over all names takes memory for one part at a time. A program implements [`Store`]
-//! over its folders.
+//! a walk over all names takes memory for one part at a time. A [`Part`] is read once for several
+//! look-ups. A program implements [`Store`] over its folders.
 #![tactic(auto)]
 
 mod error;

@@ -1,11 +1,22 @@
 -- The lines of places, one after the other.
-use Rattle.std.proofs.Common.{◌≡◌, ◌≢◌, ℕ, ◌+◌, ◌<◌, Bool, true, false, not, Option, List, [], ◌∷◌, ◌++◌, length, get_or, map, take, drop, refl, sym, ap, ◌∙◌, append_assoc, arith}
+use Rattle.std.proofs.Common.{◌≡◌, ◌≢◌, ℕ, ◌+◌, ◌<◌, ◌≤◌, Bool, true, false, not, Option, List, [], ◌∷◌, ◌++◌, length, get_or, map, take, drop, refl, sym, ap, subst, ◌∙◌, append_assoc, arith}
 use Rattle.std.specs.Prelude.{◌↔◌, IsTrue, nat_eq}
-use Rattle.std.specs.List.{flat_map}
+use Rattle.std.specs.List.{All, flat_map}
 use Rattle.std.specs.Io.KnownBytes.{Appends}
 use Rattle.std.proofs.KnownBytes.{Appends-trans}
 use Rattle.std.proofs.lemmas.Bool.{eq-eqb, false≢true, ne_eqb}
+use Rattle.std.proofs.lemmas.List.Elements.{All-map}
 use Rattle.command_line.specs.Flushed.{AppendsAtMost}
+use Rattle.gix_hash.specs.Digits.{first_byte_of}
+use Rattle.gix_hash.specs.ObjectId.{id_digits}
+use Rattle.gix_hash.specs.declared.Kind.{Kind}
+use Rattle.gix_hash.specs.declared.ObjectId.{ObjectId}
+use Rattle.id_lookup.proofs.Beginnings.{first_byte_of-begins}
+use Rattle.id_lookup.proofs.Spelled.{starts_with-BeginsWith}
+use Rattle.object_store.specs.Parts.{HaveNames}
+use Rattle.object_store.specs.Stores.{HaveBuckets, HavePlaces}
+use Rattle.pack_index.specs.Lazy.{HasBucket, LazyIndex}
+use Rattle.packtool_commands.specs.Places.{HaveAllPlaces}
 use Rattle.packtool_commands.proofs.NamedLemmas.{lines_around}
 
 -- the lines of texts are those of what has these texts
@@ -38,3 +49,19 @@ AppendsAtMost-item a b c line xs k d within before last =
           ∙ ap (λ (more : List ℕ). front ++ more) (append_assoc last.part last.rest after) ∙ sym (append_assoc front last.part (last.rest ++ after));
       written = Appends-trans a b c front last.part before last.written;
     }
+
+-- digits with others after them have their first byte
+pub first_of_padded : (id digits rest : List ℕ) → id ≡ digits ++ rest → 2 ≤ length digits → first_byte_of id ≡ first_byte_of digits
+first_of_padded id digits rest is two = first_byte_of-begins id digits two ((starts_with-BeginsWith id digits).1 (rest, is))
+
+-- where the ids that were found have places, all ids that begin with the digits have what their places need
+pub all_places : (kind : Kind) (packs : List LazyIndex) (digits : List ℕ) (ids : List ObjectId) → HaveNames kind packs digits (map id_digits ids)
+    → HaveBuckets kind packs (first_byte_of digits) → 2 ≤ length digits → All (λ (id : ObjectId). HavePlaces kind packs (id_digits id)) ids → HaveAllPlaces kind packs digits
+all_places kind packs digits ids names buckets two places id begins k d low bytes known = record {
+  bucket = subst (HasBucket kind bytes) (sym (first_byte_of-begins id digits two begins)) (buckets k d low bytes known);
+  offset = λ at counted.
+      let there = names k d low bytes known id at counted begins in
+      let all : All (HavePlaces kind packs) (map id_digits ids) = All-map (HavePlaces kind packs) id_digits ids places in
+      let here = subst (HavePlaces kind packs) there.2 (all there.0 id there.1) in
+      (here k d low bytes known).offset at counted;
+}

@@ -1,11 +1,13 @@
 -- The lines of the places of objects.
-use Rattle.std.specs.Prelude.{◌≢◌, ◌↔◌, ◌⊎◌, ℕ, Bool, Option, Some, None, List, [], ◌∷◌, ◌++◌, IsTrue, decimal, flat_map}
+use Rattle.std.specs.Prelude.{◌≢◌, ◌↔◌, ◌⊎◌, ℕ, Bool, Option, Some, None, List, [], ◌∷◌, ◌++◌, IsTrue, decimal, flat_map, nat_eq}
+use Rattle.std.specs.List.{starts_with}
 use Rattle.std.specs.Io.KnownBytes.{Appends}
-use Rattle.gix_hash.specs.Digits.{hex_letter, spelling}
+use Rattle.gix_hash.specs.Digits.{first_byte_of, hex_letter, spelling}
 use Rattle.gix_hash.specs.declared.Kind.{Kind}
 use Rattle.object_store.specs.Places.{places_of}
-use Rattle.object_store.specs.Stores.{IsLocateFault, IsStoreFault}
+use Rattle.object_store.specs.Stores.{HavePlaces, IsLocateFault, IsStoreFault}
 use Rattle.object_store.specs.declared.error.Error.{Error}
+use Rattle.object_store.specs.declared.error.Error.TheVariants.{Index, Memory}
 use Rattle.object_store.specs.declared.places.Place.{Place}
 use Rattle.object_store.specs.declared.places.Place.TheVariants.{Packed, Loose}
 use Rattle.pack_index.specs.Lazy.{LazyIndex}
@@ -33,6 +35,16 @@ pub record HasLocated (lines : List ℕ → List ℕ) (ids : List (List ℕ)) (a
   pub found : IsTrue any ↔ (ids ≢ [])
   pub written : Appends old new (flat_map lines ids)
 
--- why the places of ids with a first byte are not found: a look-up of the ids fails, or that of the places of some id
-abbrev pub IsPlacesFault : Kind → List LazyIndex → ℕ → Error → Type 0
-IsPlacesFault kind packs byte error = IsStoreFault kind packs byte error ⊎ ((id : List ℕ) × IsLocateFault kind packs id error)
+-- memory ran out
+abbrev pub IsMemory : Error → Type 0
+IsMemory (Index at error) = ⊥
+IsMemory (Memory error) = Unit {0}
+
+-- the pack indexes have what the places of each id that begins with the digits need
+abbrev pub HaveAllPlaces : Kind → List LazyIndex → List ℕ → Type 0
+HaveAllPlaces kind packs digits = (id : List ℕ) → IsTrue (starts_with nat_eq id digits) → HavePlaces kind packs id
+
+-- why the places of the ids that begin with the digits are not found: a look-up of the ids fails, or that of the places of one of them
+abbrev pub IsPlacesFault : Kind → List LazyIndex → List ℕ → Error → Type 0
+IsPlacesFault kind packs digits error =
+    IsStoreFault kind packs (first_byte_of digits) error ⊎ ((id : List ℕ) × IsTrue (starts_with nat_eq id digits) × IsLocateFault kind packs id error)

@@ -1,6 +1,7 @@
 //! Why commands fail.
 
 ghost use Rattle.std.specs.Prelude.{◌≡◌};
+ghost use Rattle.object_store.specs.declared.error.Error.TheVariants as errors;
 ghost use Rattle.packtool_commands.specs.declared.error.FileError.TheVariants as file_errors;
 ghost use Rattle.packtool_commands.specs.declared.error.StoreError.TheVariants as store_errors;
 
@@ -31,6 +32,14 @@ impl From<object_store::Error> for StoreError {
 
     fn from(error: object_store::Error) -> Self {
         StoreError::Store(error)
+    }
+}
+
+impl From<AllocError> for StoreError {
+    ghost from_gives = { λ error made. made ≡ store_errors.Store (errors.Memory error) };
+
+    fn from(error: AllocError) -> Self {
+        StoreError::Store(object_store::Error::Memory(error))
     }
 }
 

@@ -6,16 +6,17 @@ ghost use Rattle.command_line.specs.Flushed.{AppendsAtMost};
 ghost use Rattle.gix_hash.specs.Digits.{first_byte_of};
 ghost use Rattle.gix_hash.specs.ObjectId.{id_digits, id_kind};
 ghost use Rattle.id_lookup.specs.Runs.{matches};
-ghost use Rattle.object_store.specs.Stores.{HaveBuckets, Holds, IsElsewhere, IsLocateFault};
+ghost use Rattle.object_store.specs.Parts.{AreBuckets};
+ghost use Rattle.object_store.specs.Stores.{HaveBuckets, HavePlaces, Holds, IsLocateFault};
 ghost use Rattle.packtool_commands.specs.Finding.{IsFault};
-ghost use Rattle.packtool_commands.specs.Places.{HasLocated, IsPlacesFault, lines_at, lines_of_places, place_line};
+ghost use Rattle.packtool_commands.specs.Places.{HasLocated, HaveAllPlaces, IsMemory, IsPlacesFault, lines_at, lines_of_places, place_line};
 ghost use Rattle.packtool_commands.specs.declared.error.StoreError.{StoreError};
 ghost use Rattle.streams.specs.Writing.{AppendsPart};
 
 use crate::error::StoreError;
 use crate::lines::{MAX_END_LEN, MAX_START_LEN, put_place_end, put_place_start};
 use gix_hash::{ObjectId, Prefix};
-use object_store::{Error, Place, StorePaths, lookup_prefix};
+use object_store::{Part, Place, StorePaths};
 use std::alloc::Allocator;
 use streams::{Sink, WriteFailed, write_all};
 
@@ -23,8 +24,8 @@ use streams::{Sink, WriteFailed, write_all};
 /// each once; the places of one in the order of [`object_store::locate`]; and of a loose object a
 /// line for each file. Returns whether there is such an id.
 ///
-/// The prefix has 2 digits or more, and the store's kind. The lines of an id are written before the
-/// places of the next are looked up. Under an error a beginning of the right lines was written.
+/// The prefix has 2 digits or more, and the store's kind. Of each pack index the names with its
+/// first byte are read once. The lines of an id are written before the offsets of the next are read. Under an error a beginning of the right lines was written.
 /// [`StoreError::Output`] is returned if and only if a write fails. The sink must not have failed
 /// before.
 ///
@@ -44,24 +45,26 @@ pub fn locate<S: StorePaths, A: Allocator + Copy, W: Sink>(
     requires output { W.has_failed out.old ≡ false }
     ensures located { IfOk result (λ any. (whole : List (List ℕ))
         → (h : Holds (S.kind store.now) (S.packs store.now) (S.loose store.now) whole)
-        → (paths : List ℕ → List (List ℕ)) → S.loose_paths store.now ≡ Some paths
-        → HasLocated (lines_of_places (S.pack_path store.now) paths (S.kind store.now) h.indexes
-        h.loose_ids) (matches prefix.now.digits whole) any (W.taken out.old) (W.taken out.new)) }
+        → HasLocated (lines_of_places (S.pack_path store.now) (S.loose_paths store.now)
+        (S.kind store.now) h.indexes (S.loose store.now)) (matches prefix.now.digits whole) any
+        (W.taken out.old) (W.taken out.new)) }
     ensures right { IfOk result (λ _. HaveBuckets (S.kind store.now) (S.packs store.now)
         (first_byte_of prefix.now.digits)) }
+    ensures places { IfOk result (λ _. HaveAllPlaces (S.kind store.now) (S.packs store.now)
+        prefix.now.digits) }
     ensures refused { IfErr result (IsFault (IsPlacesFault (S.kind store.now) (S.packs store.now)
-        (first_byte_of prefix.now.digits))) }
+        prefix.now.digits)) }
     ensures output { IsErrOf result StoreError.Output ↔ (W.has_failed out.new ≡ true) }
     ensures part { (whole : List (List ℕ))
         → (h : Holds (S.kind store.now) (S.packs store.now) (S.loose store.now) whole)
-        → (paths : List ℕ → List (List ℕ)) → S.loose_paths store.now ≡ Some paths
         → OnErr result (AppendsAtMost (W.taken out.old) (W.taken out.new) (flat_map
-        (lines_of_places (S.pack_path store.now) paths (S.kind store.now) h.indexes h.loose_ids)
-        (matches prefix.now.digits whole))) }
+        (lines_of_places (S.pack_path store.now) (S.loose_paths store.now) (S.kind store.now)
+        h.indexes (S.loose store.now)) (matches prefix.now.digits whole))) }
 {
-    let ids = lookup_prefix(alloc, store, prefix)?;
+    let part = Part::read(alloc, store, prefix.as_oid().first_byte())?;
+    let ids = part.lookup_prefix(alloc, store, prefix)?;
     for id in &ids {
-        write_places(alloc, store, id, out)?;
+        write_places(alloc, store, &part, id, out)?;
     }
     Ok(!ids.is_empty())
 }
@@ -70,24 +73,27 @@ pub fn locate<S: StorePaths, A: Allocator + Copy, W: Sink>(
 fn write_places<S: StorePaths, A: Allocator + Copy, W: Sink>(
     alloc: A,
     store: &S,
+    part: &Part<A>,
     id: &ObjectId,
     out: &mut W,
 ) -> Result<(), StoreError>
+    requires part { AreBuckets (S.packs store.now) (first_byte_of (id_digits id.now)) part.now }
     requires kind { id_kind id.now ≡ S.kind store.now }
     requires output { W.has_failed out.old ≡ false }
     ensures lines { (whole : List (List ℕ))
         → (h : Holds (S.kind store.now) (S.packs store.now) (S.loose store.now) whole)
-        → (paths : List ℕ → List (List ℕ)) → S.loose_paths store.now ≡ Some paths
-        → let lines = lines_of_places (S.pack_path store.now) paths (S.kind store.now)
-        h.indexes h.loose_ids (id_digits id.now) in
+        → let lines = lines_of_places (S.pack_path store.now) (S.loose_paths store.now)
+        (S.kind store.now) h.indexes (S.loose store.now) (id_digits id.now) in
         OnOk result (Appends (W.taken out.old) (W.taken out.new) lines)
         × OnErr result (AppendsAtMost (W.taken out.old) (W.taken out.new) lines) }
     ensures stands { OnOk result (W.has_failed out.new ≡ false) }
+    ensures right { OnOk result (HavePlaces (S.kind store.now) (S.packs store.now)
+        (id_digits id.now)) }
     ensures refused { IfErr result (IsFault (IsLocateFault (S.kind store.now) (S.packs store.now)
         (id_digits id.now))) }
     ensures output { IsErrOf result StoreError.Output ↔ (W.has_failed out.new ≡ true) }
 {
-    let places = object_store::locate(alloc, store, id)?;
+    let places = part.locate(alloc, store, id)?;
     for place in &places {
         write_lines_at(store, id, *place, out)?;
     }
@@ -102,24 +108,19 @@ fn write_lines_at<S: StorePaths, W: Sink>(
     out: &mut W,
 ) -> Result<(), StoreError>
     requires { W.has_failed out.old ≡ false }
-    ensures written { (paths : List ℕ → List (List ℕ)) → S.loose_paths store.now ≡ Some paths
-        → OnOk result (Appends (W.taken out.old) (W.taken out.new)
-        (lines_at (S.pack_path store.now) paths (id_digits id.now) place)) }
+    ensures written { OnOk result (Appends (W.taken out.old) (W.taken out.new)
+        (lines_at (S.pack_path store.now) (S.loose_paths store.now) (id_digits id.now) place)) }
     ensures stands { OnOk result (W.has_failed out.new ≡ false) }
-    ensures refused { IfErr result (IsFault IsElsewhere) }
+    ensures refused { IfErr result (IsFault IsMemory) }
     ensures output { IsErrOf result StoreError.Output ↔ (W.has_failed out.new ≡ true) }
-    ensures part { (paths : List ℕ → List (List ℕ)) → S.loose_paths store.now ≡ Some paths
-        → OnErr result (AppendsAtMost (W.taken out.old) (W.taken out.new)
-        (lines_at (S.pack_path store.now) paths (id_digits id.now) place)) }
+    ensures part { OnErr result (AppendsAtMost (W.taken out.old) (W.taken out.new)
+        (lines_at (S.pack_path store.now) (S.loose_paths store.now) (id_digits id.now) place)) }
 {
     match place {
         Place::Packed { pack, offset } => {
             write_place(id, store.pack_path(pack), Some(offset), out)?;
         }
-        Place::Loose => match store.loose_paths(id) {
-            Ok(paths) => write_loose(id, &paths, out)?,
-            Err(error) => return Err(StoreError::Store(Error::Loose(error))),
-        },
+        Place::Loose => write_loose(id, &store.loose_paths(id)?, out)?,
     }
     Ok(())
 }

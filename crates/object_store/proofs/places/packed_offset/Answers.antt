@@ -1,8 +1,4 @@
 use Rattle.std.proofs.lemmas.Result.{err_from_is_err_and}
-use Rattle.std.proofs.Common.{sym, subst}
-use Rattle.gix_hash.specs.Digits.{first_byte_of}
-use Rattle.gix_hash.specs.Oid.{oid_digits}
-use Rattle.pack_index.specs.Lazy.{IsBucketOf}
 use Rattle.object_store.proofs.Located.{offset_fault, offset_none, offset_some, place_none, place_some}
 use Rattle.object_store.proofs.places.packed_offset.Goals as goal
 

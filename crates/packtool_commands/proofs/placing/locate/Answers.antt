@@ -1,39 +1,47 @@
-use Rattle.std.proofs.Common.{◌≡◌, List, map, ap, subst, ◌∙◌}
-use Rattle.std.specs.List.{flat_map}
+use Rattle.std.proofs.Common.{◌≡◌, List, nat_eq, map, ap, subst, sym, ◌∙◌}
+use Rattle.std.specs.Prelude.{IsTrue}
+use Rattle.std.specs.List.{All, flat_map, starts_with}
 use Rattle.std.specs.Io.KnownBytes.{Appends}
 use Rattle.std.proofs.lemmas.List.{take_all}
+use Rattle.std.proofs.lemmas.List.Elements.{All-more}
 use Rattle.command_line.specs.Flushed.{AppendsAtMost}
 use Rattle.gix_hash.specs.ObjectId.{id_digits}
+use Rattle.gix_hash.specs.Oid.{oid_digits}
 use Rattle.gix_hash.specs.declared.ObjectId.{ObjectId}
 use Rattle.id_lookup.specs.Runs.{matches}
+use Rattle.id_lookup.proofs.Beginnings.{first_byte_of-begins}
+use Rattle.object_store.specs.Parts.{AreBuckets, HaveNames}
+use Rattle.object_store.specs.Stores.{HaveBuckets, HavePlaces}
 use Rattle.streams.proofs.WritingLemmas.{OnErr-of}
 use Rattle.packtool_commands.specs.Places.{lines_of_places}
 use Rattle.packtool_commands.proofs.NamedLemmas.{Appends-item}
-use Rattle.packtool_commands.proofs.PlaceLemmas.{AppendsAtMost-item, has_texts, same_lines}
+use Rattle.packtool_commands.proofs.PlaceLemmas.{AppendsAtMost-item, all_places, first_of_padded, has_texts, same_lines}
 use Rattle.packtool_commands.proofs.placing.locate.Goals as goal
 
 pub returns-in_err-write_places-clause-part : goal.returns-in_err-write_places-clause-part
-returns-in_err-write_places-clause-part g c = λ whole h paths known.
-    let lines = lines_of_places (g.S.StorePaths.pack_path c.args.store.now) paths (g.S.Store.kind c.args.store.now) h.indexes h.loose_ids in
+returns-in_err-write_places-clause-part g c = λ whole h.
+    let lines = lines_of_places (g.S.StorePaths.pack_path c.args.store.now) (g.S.StorePaths.loose_paths c.args.store.now) (g.S.Store.kind c.args.store.now) h.indexes (g.S.Store.loose c.args.store.now) in
     let ids = c.deref-id-items.result.now in
     let found : map id_digits ids ≡ matches c.args.prefix.now.digits whole = ap (map id_digits) c.deref-id-items.ensures.value ∙ c.in_ok-ids.ensures.found whole h in
     OnErr-of _ _ (subst (AppendsAtMost (g.W.Sink.taken c.args.out.now) (g.W.Sink.taken c.write_places.new.out))
     (same_lines lines id_digits ids (matches c.args.prefix.now.digits whole) found)
-    (AppendsAtMost-item _ _ _ (λ id. lines (id_digits id)) ids c.loop-id.id-index _ c.loop-id-test.true (c.loop-id.invariant.0 whole h paths known)
-    (c.in_err-write_places.ensures.lines whole h paths known).1))
+    (AppendsAtMost-item _ _ _ (λ id. lines (id_digits id)) ids c.loop-id.id-index _ c.loop-id-test.true (c.loop-id.invariant.0 whole h)
+    (c.in_err-write_places.ensures.lines whole h).1))
 
 pub loop-id-preserved : goal.loop-id-preserved
 loop-id-preserved g c = (
-  λ whole h paths known.
+  λ whole h.
       Appends-item _ _ _
-      (λ id. lines_of_places (g.S.StorePaths.pack_path c.args.store.now) paths (g.S.Store.kind c.args.store.now) h.indexes h.loose_ids (id_digits id))
-      c.deref-id-items.result.now c.loop-id.id-index _ c.loop-id-test.true (c.loop-id.invariant.0 whole h paths known) (c.in_ok-write_places.ensures.lines whole h paths known).0,
+      (λ id. lines_of_places (g.S.StorePaths.pack_path c.args.store.now) (g.S.StorePaths.loose_paths c.args.store.now) (g.S.Store.kind c.args.store.now) h.indexes (g.S.Store.loose c.args.store.now) (id_digits id))
+      c.deref-id-items.result.now c.loop-id.id-index _ c.loop-id-test.true (c.loop-id.invariant.0 whole h) (c.in_ok-write_places.ensures.lines whole h).0,
   c.in_ok-write_places.ensures.stands,
+  (let P : ObjectId → Type 0 = λ id. HavePlaces (g.S.Store.kind c.args.store.now) (g.S.Store.packs c.args.store.now) (id_digits id) in
+      All-more P c.deref-id-items.result.now c.loop-id.id-index _ c.loop-id-test.true c.loop-id.invariant.2 c.in_ok-write_places.ensures.right),
 )
 
 pub returns-clause-located : goal.returns-clause-located
-returns-clause-located g c = λ whole h paths known.
-    let lines = lines_of_places (g.S.StorePaths.pack_path c.args.store.now) paths (g.S.Store.kind c.args.store.now) h.indexes h.loose_ids in
+returns-clause-located g c = λ whole h.
+    let lines = lines_of_places (g.S.StorePaths.pack_path c.args.store.now) (g.S.StorePaths.loose_paths c.args.store.now) (g.S.Store.kind c.args.store.now) h.indexes (g.S.Store.loose c.args.store.now) in
     let ids = c.deref-id-items.result.now in
     let found : map id_digits ids ≡ matches c.args.prefix.now.digits whole = ap (map id_digits) c.deref-id-items.ensures.value ∙ c.in_ok-ids.ensures.found whole h in
     record {
@@ -41,5 +49,32 @@ returns-clause-located g c = λ whole h paths known.
       written = subst (Appends (g.W.Sink.taken c.args.out.now) (g.W.Sink.taken c.loop-id.out))
           (same_lines lines id_digits ids (matches c.args.prefix.now.digits whole) found)
           (subst (λ (items : List ObjectId). Appends (g.W.Sink.taken c.args.out.now) (g.W.Sink.taken c.loop-id.out) (flat_map (λ id. lines (id_digits id)) items))
-          (take_all c.loop-id.id-index ids c.loop-id-test.false) (c.loop-id.invariant.0 whole h paths known));
+          (take_all c.loop-id.id-index ids c.loop-id-test.false) (c.loop-id.invariant.0 whole h));
     }
+
+pub write_places-requires-clause-part : goal.write_places-requires-clause-part
+write_places-requires-clause-part g c =
+    let digits = c.args.prefix.now.digits in
+    let ids = c.deref-id-items.result.now in
+    let begin : All (λ (id : ObjectId). IsTrue (starts_with nat_eq (id_digits id) digits)) ids =
+    subst (All (λ (id : ObjectId). IsTrue (starts_with nat_eq (id_digits id) digits))) (sym c.deref-id-items.ensures.value) c.in_ok-ids.ensures.begin in
+    let byte = c.first_byte.ensures ∙ first_of_padded (oid_digits c.as_oid.result) digits _ c.as_oid.ensures.digits c.requires.enough in
+    subst (λ b. AreBuckets (g.S.Store.packs c.args.store.now) b c.in_ok-part.part) (byte ∙ sym (first_byte_of-begins _ digits c.requires.enough (begin c.loop-id.id-index _ c.loop-id-test.true)))
+    c.in_ok-part.ensures.part
+
+pub returns-clause-places : goal.returns-clause-places
+returns-clause-places g c =
+    let ids = c.deref-id-items.result.now in
+    let kind = g.S.Store.kind c.args.store.now in
+    let packs = g.S.Store.packs c.args.store.now in
+    let digits = c.args.prefix.now.digits in
+    let byte = c.first_byte.ensures ∙ first_of_padded (oid_digits c.as_oid.result) digits _ c.as_oid.ensures.digits c.requires.enough in
+    let P : ObjectId → Type 0 = λ id. HavePlaces kind packs (id_digits id) in
+    all_places kind packs digits ids (subst (λ (xs : List ObjectId). HaveNames kind packs digits (map id_digits xs)) (sym c.deref-id-items.ensures.value) c.in_ok-ids.ensures.each)
+    (subst (HaveBuckets kind packs) byte c.in_ok-part.ensures.right) c.requires.enough
+    (subst (All P) (take_all c.loop-id.id-index ids c.loop-id-test.false) c.loop-id.invariant.2)
+
+pub returns-clause-right : goal.returns-clause-right
+returns-clause-right g c =
+    subst (HaveBuckets (g.S.Store.kind c.args.store.now) (g.S.Store.packs c.args.store.now))
+    (c.first_byte.ensures ∙ first_of_padded (oid_digits c.as_oid.result) c.args.prefix.now.digits _ c.as_oid.ensures.digits c.requires.enough) c.in_ok-part.ensures.right

@@ -11,26 +11,25 @@ use Rattle.packtool_commands.proofs.PlaceLemmas.{same_lines}
 use Rattle.packtool_commands.proofs.placing.write_lines_at.Goals as goal
 
 pub returns-in_err-write_place-in-Packed-clause-part : goal.returns-in_err-write_place-in-Packed-clause-part
-returns-in_err-write_place-in-Packed-clause-part g c = λ paths known.
-    rw c.in-Packed.is
+returns-in_err-write_place-in-Packed-clause-part g c = rw c.in-Packed.is
     (OnErr-of _ _ (part_written _ _ _
     (subst
     (λ (path : List ℕ). AppendsPart (g.W.Sink.taken c.args.out.now) (g.W.Sink.taken c.write_place.new.out)
     (place_line (id_digits c.args.id.now) path (Some c.in-Packed.offset))) c.pack_path.ensures c.in_err-write_place-in-Packed.ensures.part)))
 
-pub returns-in_err-write_loose-in-Ok-clause-part : goal.returns-in_err-write_loose-in-Ok-clause-part
-returns-in_err-write_loose-in-Ok-clause-part g c = λ paths known.
+pub returns-in_err-write_loose-in-Loose-clause-part : goal.returns-in_err-write_loose-in-Loose-clause-part
+returns-in_err-write_loose-in-Loose-clause-part g c =
     let line : List ℕ → List ℕ = λ path. place_line (id_digits c.args.id.now) path None in
     rw c.in-Loose.is
     (OnErr-of _ _ (part_written _ _ _
     (subst (AppendsPart (g.W.Sink.taken c.args.out.now) (g.W.Sink.taken c.write_loose.new.out))
     (ap (flat_map (λ path. line (string_bytes path))) c.deref.ensures.value
-    ∙ same_lines line string_bytes c.in-Ok.paths.items (paths (id_digits c.args.id.now)) (c.in-Ok.ensures paths known)) c.in_err-write_loose-in-Ok.ensures.part)))
+    ∙ same_lines line string_bytes c.in_ok-loose_paths-in-Loose.field-0.items (g.S.StorePaths.loose_paths c.args.store.now (id_digits c.args.id.now)) c.in_ok-loose_paths-in-Loose.ensures) c.in_err-write_loose-in-Loose.ensures.part)))
 
-pub returns-in_ok-write_loose-in-Ok-clause-written : goal.returns-in_ok-write_loose-in-Ok-clause-written
-returns-in_ok-write_loose-in-Ok-clause-written g c = λ paths known.
+pub returns-in_ok-write_loose-in-Loose-clause-written : goal.returns-in_ok-write_loose-in-Loose-clause-written
+returns-in_ok-write_loose-in-Loose-clause-written g c =
     let line : List ℕ → List ℕ = λ path. place_line (id_digits c.args.id.now) path None in
     rw c.in-Loose.is
     (subst (Appends (g.W.Sink.taken c.args.out.now) (g.W.Sink.taken c.write_loose.new.out))
     (ap (flat_map (λ path. line (string_bytes path))) c.deref.ensures.value
-    ∙ same_lines line string_bytes c.in-Ok.paths.items (paths (id_digits c.args.id.now)) (c.in-Ok.ensures paths known)) c.in_ok-write_loose-in-Ok.ensures.written)
+    ∙ same_lines line string_bytes c.in_ok-loose_paths-in-Loose.field-0.items (g.S.StorePaths.loose_paths c.args.store.now (id_digits c.args.id.now)) c.in_ok-loose_paths-in-Loose.ensures) c.in_ok-write_loose-in-Loose.ensures.written)

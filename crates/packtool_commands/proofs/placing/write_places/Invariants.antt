@@ -1,4 +1,4 @@
-use Rattle.std.proofs.Common.{◌≡◌, ℕ, List, Some, false, take}
+use Rattle.std.proofs.Common.{◌≡◌, false, take}
 use Rattle.std.specs.List.{flat_map}
 use Rattle.std.specs.Io.KnownBytes.{Appends}
 use Rattle.gix_hash.specs.ObjectId.{id_digits}
@@ -7,7 +7,6 @@ use Rattle.packtool_commands.proofs.placing.write_places.Given as goal
 
 abbrev pub invariant-loop-place : goal.invariant-loop-place
 invariant-loop-place g l =
-    ((paths : List ℕ → List (List ℕ)) → g.S.StorePaths.loose_paths l.store ≡ Some paths
-    → Appends (g.W.Sink.taken l.fn.out) (g.W.Sink.taken l.out)
-    (flat_map (lines_at (g.S.StorePaths.pack_path l.store) paths (id_digits l.id)) (take l.place-index l.place-items)))
+    Appends (g.W.Sink.taken l.fn.out) (g.W.Sink.taken l.out)
+    (flat_map (lines_at (g.S.StorePaths.pack_path l.store) (g.S.StorePaths.loose_paths l.store) (id_digits l.id)) (take l.place-index l.place-items))
     × (g.W.Sink.has_failed l.out ≡ false)

@@ -1,4 +1,4 @@
-use Rattle.std.proofs.Common.{◌≡◌, ◌∙◌, ◌++◌, List, ℕ, [], ap, filter, map, refl, subst, sym, arith}
+use Rattle.std.proofs.Common.{◌≡◌, ◌∙◌, ◌++◌, List, ℕ, filter, map, refl, subst, sym, arith}
 use Rattle.std.specs.List.{All, flat_map}
 use Rattle.gix_hash.specs.ObjectId.{id_digits, id_kind}
 use Rattle.gix_hash.specs.declared.Kind.{Kind}
