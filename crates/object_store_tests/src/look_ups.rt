@@ -185,26 +185,24 @@ fn outcome(
 }
 
 // What is found with so many reads. Two open an index, for its length and its head. A look-up of
-// ids reads the names of each index and lists the loose ids.
-const IDS: [&str; 8] = [
+// ids reads the names of each index.
+const IDS: [&str; 7] = [
     "the pack index cannot be read: permission denied",
     "the pack index cannot be read: permission denied",
     "the pack index cannot be read: permission denied",
     "the pack index cannot be read: permission denied",
     "pack index 0: the pack index cannot be read: permission denied",
     "pack index 1: the pack index cannot be read: permission denied",
-    "the loose objects cannot be listed: permission denied",
     "found",
 ];
 
-// One of places also reads an offset of each index, and a long one.
-const LOCATED: [&str; 7] = [
+// One of places reads the same, and then an offset of each index, and a long one.
+const LOCATED: [&str; 6] = [
     "pack index 0: the pack index cannot be read: permission denied",
+    "pack index 1: the pack index cannot be read: permission denied",
     "pack index 0: the pack index cannot be read: permission denied",
     "pack index 1: the pack index cannot be read: permission denied",
     "pack index 1: the pack index cannot be read: permission denied",
-    "pack index 1: the pack index cannot be read: permission denied",
-    "the loose objects cannot be listed: permission denied",
     "found",
 ];
 

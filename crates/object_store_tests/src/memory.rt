@@ -1,11 +1,12 @@
 //! A store in memory, whose reads fail after some number of them.
 
 ghost use Rattle.std.specs.Prelude.{◌≡◌, [], ◌∷◌, All, IfOk};
+ghost use Rattle.gix_hash.specs.ObjectId.{id_kind};
 
 use gix_hash::{Kind, ObjectId};
 use object_store::{Store, StorePaths};
 use pack_index::{LazyError, LazyFile};
-use std::alloc::{AllocError, Allocator, Global};
+use std::alloc::{AllocError, Global};
 use std::cell::Cell;
 use std::io;
 use streams::ReadAt;
@@ -63,9 +64,9 @@ pub struct Memory<'a> {
     alloc: Global,
     kind: Kind,
     packs: Vec<LazyFile<Counted<'a>>>,
-    loose: &'a [ObjectId],
-    reads: &'a Reads,
+    loose: Vec<ObjectId>,
     ghost of_kind: { All (λ pack. pack.kind ≡ kind) packs.items },
+    ghost loose_kind: { All (λ id. id_kind id ≡ kind) loose.items },
 }
 
 // Both values.
@@ -78,13 +79,26 @@ fn pair<T: Drop>(alloc: Global, first: T, second: T) -> Result<Vec<T>, AllocErro
     Ok(both)
 }
 
+// The ids of a kind.
+fn ids_of_kind(alloc: Global, ids: &[ObjectId], kind: Kind) -> Result<Vec<ObjectId>, AllocError>
+    ensures { IfOk result (λ found. All (λ id. id_kind id ≡ kind) found.items) }
+{
+    let mut found = Vec::new(alloc);
+    for id in ids {
+        if id.kind() == kind {
+            found.push(*id)?;
+        }
+    }
+    Ok(found)
+}
+
 impl<'a> Memory<'a> {
     pub fn open(
         alloc: Global,
         kind: Kind,
         first: &'a [u8],
         second: &'a [u8],
-        loose: &'a [ObjectId],
+        loose: &[ObjectId],
         reads: &'a Reads,
     ) -> Result<Memory<'a>, LazyError> {
         let first = Counted {
@@ -104,14 +118,14 @@ impl<'a> Memory<'a> {
             alloc,
             kind,
             packs,
-            loose,
-            reads,
+            loose: ids_of_kind(alloc, loose, kind)?,
         })
     }
 }
 
 impl<'a> Store for Memory<'a> {
-    ghost use Rattle.std.specs.Prelude.{None};
+    ghost use Rattle.std.specs.Prelude.{map};
+    ghost use Rattle.gix_hash.specs.ObjectId.{id_digits};
 
     type Source = Counted<'a>;
 
@@ -119,7 +133,7 @@ impl<'a> Store for Memory<'a> {
 
     ghost packs = { λ store. store.packs.items };
 
-    ghost loose = { λ _. None };
+    ghost loose = { λ store. map id_digits store.loose.items };
 
     fn object_hash(&self) -> Kind {
         self.kind
@@ -129,36 +143,26 @@ impl<'a> Store for Memory<'a> {
         &self.packs
     }
 
-    fn loose_ids<A: Allocator>(&self, alloc: A, byte: u8) -> io::Result<Vec<ObjectId, A>> {
-        self.reads.read()?;
-        let mut ids = Vec::new(alloc);
-        for id in self.loose {
-            if id.first_byte() == byte && id.kind() == self.kind {
-                ids.push(*id)?;
-            }
-        }
-        Ok(ids)
+    fn loose_ids(&self) -> &[ObjectId] {
+        &self.loose
     }
 }
 
 impl StorePaths for Memory<'_> {
-    ghost use Rattle.std.specs.Prelude.{None, ◌==◌, codes, if◌then◌else◌};
+    ghost use Rattle.std.specs.Prelude.{◌==◌, ◌∷◌, [], codes, if◌then◌else◌};
 
     ghost pack_path = { λ _ pack. if pack == 0 then codes "1.pack" else codes "2.pack" };
 
-    ghost loose_paths = { λ _. None };
+    ghost loose_paths = { λ _ _. codes "a/loose" ∷ codes "b/loose" ∷ [] };
 
     fn pack_path(&self, pack: usize) -> &str {
         if pack == 0 { "1.pack" } else { "2.pack" }
     }
 
     // A file in each of two folders.
-    fn loose_paths(&self, id: &ObjectId) -> io::Result<Vec<String>> {
-        self.reads.read()?;
-        let mut paths = Vec::new(self.alloc);
-        for folder in ["a", "b"] {
-            paths.push(format!(in self.alloc; "{folder}/{id}")?)?;
-        }
-        Ok(paths)
+    fn loose_paths(&self, _id: &ObjectId) -> Result<Vec<String>, AllocError> {
+        let first = String::from_str(self.alloc, "a/loose")?;
+        let second = String::from_str(self.alloc, "b/loose")?;
+        pair(self.alloc, first, second)
     }
 }
