@@ -1,73 +1,92 @@
 //! Lists of alternates: other objects folders, whose objects a repository borrows.
 
-ghost use Rattle.std.specs.Prelude.{◌≡◌, ◌==◌, ◌<◌, IfOk, IfSome, filter, length, map};
-ghost use Rattle.std.specs.List.{slice_split};
-ghost use Rattle.ref_store.specs.Alternates.{names_folder};
+ghost use Rattle.std.specs.Prelude.{◌≡◌, ◌<◌, ◌≤◌, IfOk, IfSome, length};
 
 use std::alloc::{AllocError, Allocator};
 
-/// The lines of a file `objects/info/alternates` that name a folder, in order: all that are neither
-/// empty nor comments, which begin with `#`.
+/// The paths that a list of alternates names, in order, as Git takes them from it: the lines of
+/// `objects/info/alternates`, or what `$GIT_ALTERNATE_OBJECT_DIRECTORIES` has between colons.
+///
+/// Empty paths and comments, which begin with `#`, are passed over. What begins with a quotation
+/// mark is unquoted (C's escapes, with bytes as three octal digits), up to the closing one, after
+/// which one byte is passed over, mostly the separator. If it is not quoted right, it is the path
+/// itself.
 ///
 /// ```
-/// for line in alternate_lines(rt.alloc(), "../../main/.git/objects\n# more\n")? {
-///     println!(rt; "{line}")?;
-/// }
+/// let list = b"../../main/.git/objects\n# more\n\"../caf\\303\\251\"\n";
+/// let paths = alternate_paths(rt.alloc(), list, b'\n')?;
+/// assert!(rt; paths[1].as_slice() == "../café".as_bytes());
 /// ```
-pub fn alternate_lines<A: Allocator>(alloc: A, text: &str) -> Result<Vec<&str, A>, AllocError>
-    ensures { IfOk result (λ lines. map (λ line. line.now) lines.items
-        ≡ filter names_folder (slice_split (λ byte. byte == 10) text.now)) }
-{
-    text.split('\n')
-        .filter(|line| names_folder(line))
-        .collect(alloc)
+pub fn alternate_paths<A: Allocator + Copy>(
+    alloc: A,
+    list: &[u8],
+    separator: u8,
+) -> Result<Vec<Vec<u8, A>, A>, AllocError> {
+    let mut paths = Vec::new(alloc);
+    let mut left = list;
+    while !left.is_empty() {
+        let (path, rest) = first_path(alloc, left, separator)?;
+        if !path.is_empty() {
+            paths.push(path)?;
+        }
+        left = rest;
+    }
+    Ok(paths)
 }
 
-// Whether a line names a folder.
-fn names_folder(line: &str) -> bool
-    ensures { result ≡ names_folder line.now }
-{
-    match line.as_bytes() {
-        [] => false,
-        [first, ..] => *first != b'#',
+// The path that a list names first, and the rest of the list. A comment names the empty path.
+fn first_path<A: Allocator + Copy>(
+    alloc: A,
+    list: &[u8],
+    separator: u8,
+) -> Result<(Vec<u8, A>, &[u8]), AllocError> {
+    if let Some((path, rest)) = unquote(alloc, list)? {
+        return Ok((path, after_one(rest)));
+    }
+    let (line, rest) = split_line(list, separator);
+    match line {
+        [b'#', ..] => Ok((Vec::new(alloc), rest)),
+        _ => Ok((line.to_vec(alloc)?, rest)),
     }
 }
 
-/// The bytes of the path that such a line names. A line in quotation marks is unquoted, as Git
-/// quotes paths (C's escapes, with bytes as three octal digits). If it is not quoted right, it is
-/// the path itself. Git also takes a quoted line feed, and text after the quotation marks, but
-/// writes neither.
-///
-/// ```
-/// let path = alternate_path(rt.alloc(), "\"../caf\\303\\251\"")?;
-/// assert!(rt; path.as_slice() == "../café".as_bytes());
-/// ```
-pub fn alternate_path<A: Allocator + Copy>(alloc: A, line: &str) -> Result<Vec<u8, A>, AllocError> {
-    match unquote(alloc, line.as_bytes())? {
-        Some(path) => Ok(path),
-        None => line.as_bytes().to_vec(alloc),
+// What is before the first separator, and after it.
+fn split_line(list: &[u8], separator: u8) -> (&[u8], &[u8]) {
+    let len = list
+        .iter()
+        .position(|byte| *byte == separator)
+        .unwrap_or(list.len());
+    (&list[..len], after_one(&list[len..]))
+}
+
+// All bytes but the first, if there is one.
+fn after_one(text: &[u8]) -> &[u8] {
+    match text {
+        [] => text,
+        [_, rest @ ..] => rest,
     }
 }
 
-// The bytes that a text in quotation marks means, or `None` if it is not quoted right.
-fn unquote<A: Allocator>(alloc: A, text: &[u8]) -> Result<Option<Vec<u8, A>>, AllocError> {
-    let [b'"', quoted @ .., b'"'] = text else {
+// The bytes that a quoted text means and what is after the closing quotation mark; or `None` if no
+// quoted text begins the bytes, or it is not quoted right.
+fn unquote<A: Allocator>(alloc: A, text: &[u8]) -> Result<Option<(Vec<u8, A>, &[u8])>, AllocError> {
+    let [b'"', quoted @ ..] = text else {
         return Ok(None);
     };
     let mut bytes = Vec::new(alloc);
     let mut left = quoted;
-    while !left.is_empty() {
-        let Some((byte, rest)) = next_byte(left) else {
-            return Ok(None);
-        };
+    while let Some((byte, rest)) = next_byte(left) {
         bytes.push(byte)?;
         left = rest;
     }
-    Ok(Some(bytes))
+    match left {
+        [b'"', rest @ ..] => Ok(Some((bytes, rest))),
+        _ => Ok(None),
+    }
 }
 
-// The first byte that a quoted text means, and the rest of the text; or `None` if it is not quoted
-// right.
+// The first byte that a quoted text means, and the rest of the text; or `None` if it ends there, or
+// is not quoted right.
 fn next_byte(quoted: &[u8]) -> Option<(u8, &[u8])>
     ensures { IfSome result (λ next. length next.1.now < length quoted.now) }
 {

@@ -1,6 +1,7 @@
 //! Why a store in folders cannot be found, opened or read.
 
 use pack_index::LazyError;
+use ref_store::config::ConfigError;
 use std::alloc::{AllocError, Global};
 use std::io;
 use thiserror::Error as ThisError;
@@ -39,6 +40,28 @@ pub enum Error {
         /// What is wrong.
         why: &'static str,
     },
+    /// A repository's config says no kind of ids that is known.
+    #[error("{path}: {error}")]
+    Config {
+        /// Its path.
+        path: String,
+        /// Why.
+        error: ConfigError,
+    },
+    /// A folder is no objects folder.
+    #[error("{path}: no object store")]
+    NoStore {
+        /// Its path.
+        path: String,
+    },
+    /// A folder is no objects folder, but has one.
+    #[error("{path}: no object store: try {objects}")]
+    NoStoreButIn {
+        /// Its path.
+        path: String,
+        /// The path of the objects folder in it.
+        objects: String,
+    },
     /// Neither the current folder nor one above it has a repository.
     #[error("no git repository in this folder or above it")]
     NoRepository,
@@ -61,6 +84,14 @@ impl Error {
         match (String::from_str(alloc, path), error) {
             (_, LazyError::Memory(error)) | (Err(error), _) => Error::Memory(error),
             (Ok(path), error) => Error::Index { path, error },
+        }
+    }
+
+    // A config says no kind that is known.
+    pub(crate) fn config(alloc: Global, path: &str, error: ConfigError) -> Error {
+        match (String::from_str(alloc, path), error) {
+            (_, ConfigError::Memory(error)) | (Err(error), _) => Error::Memory(error),
+            (Ok(path), error) => Error::Config { path, error },
         }
     }
 

@@ -1,19 +1,21 @@
-//! The repository that a program runs in.
+//! Objects folders: the one of the repository that a program runs in, and others by their paths.
 
 use crate::error::Error;
-use crate::files::{join, kind_by_config, read_text, real_folder};
+use crate::files::{has_folder, join, kind_beside, kind_by_config};
+use crate::repository::{Environment, find_repository, variable};
 use gix_hash::Kind;
+use ref_store::alternates::alternate_paths;
 use std::alloc::AllocError;
-use std::env::VarError;
-use std::path::Path;
 use std::rt::{Env, Files};
-use std::{env, fs};
+use std::{fs, io};
+
+const ALTERNATES: &str = "GIT_ALTERNATE_OBJECT_DIRECTORIES";
 
 /// An objects folder that was found, and the kind of its ids.
 ///
 /// ```
-/// let found = find_objects(rt)?;
-/// let store = FolderStore::open(rt, &found.path, Some(found.kind))?;
+/// let folder = find_objects(rt)?;
+/// let store = FolderStore::open(rt, &folder.path, Some(folder.kind))?;
 /// ```
 #[derive(Debug, Drop)]
 pub struct ObjectsFolder {
@@ -21,102 +23,105 @@ pub struct ObjectsFolder {
     pub path: String,
     /// The kind that the repository's config says.
     pub kind: Kind,
+    /// The objects folders that the environment adds to its alternates.
+    pub alternates: Vec<String>,
+}
+
+impl ObjectsFolder {
+    /// The objects folder at a path, with the kind that the config beside it says, as Git has it; or
+    /// SHA-1 if there is none. The environment adds no alternates.
+    ///
+    /// A folder is an objects folder if `pack`, `info` or a folder of loose objects is in it.
+    ///
+    /// ```
+    /// let folder = ObjectsFolder::at(rt, ".git/objects")?;
+    /// let store = FolderStore::open(rt, &folder.path, Some(folder.kind))?;
+    /// ```
+    pub fn at<R: Files + AllocGlobal>(rt: &R, path: &str) -> Result<ObjectsFolder, Error> {
+        if !is_store(rt, path)? {
+            return Err(no_store(rt, path)?);
+        }
+        Ok(ObjectsFolder {
+            path: String::from_str(rt.alloc(), path)?,
+            kind: kind_beside(rt, path)?,
+            alternates: Vec::new(rt.alloc()),
+        })
+    }
 }
 
 /// Finds the objects folder of the repository that a program runs in, as Git does.
 ///
 /// The repository is that of `$GIT_DIR`, or else of the current folder or the first above it that
 /// has one: as `.git`, which is a folder or a file that names one, or as a bare repository. The
-/// worktrees of a repository share its objects. `$GIT_OBJECT_DIRECTORY` is taken in place of the
-/// repository's own objects folder.
+/// worktrees of a repository share its objects; `$GIT_COMMON_DIR` is taken in place of the folder
+/// that they share. `$GIT_OBJECT_DIRECTORY` is taken in place of the repository's own objects
+/// folder, and the folders of `$GIT_ALTERNATE_OBJECT_DIRECTORIES` are alternates.
 pub fn find_objects<R: Files + Env + AllocGlobal>(rt: &R) -> Result<ObjectsFolder, Error> {
-    let repository = find_repository(rt)?;
-    let path = match (variable(rt, "GIT_OBJECT_DIRECTORY")?, &repository) {
-        (Some(path), _) => path,
-        (None, Some(repository)) => join(rt, repository, "objects")?,
-        (None, None) => return Err(Error::NoRepository),
-    };
-    let kind = match &repository {
-        Some(repository) => kind_by_config(rt, repository)?,
-        None => kind_by_config(rt, &join(rt, &path, "..")?)?,
-    };
-    Ok(ObjectsFolder { path, kind })
+    let given = Environment::read(rt)?;
+    let alternates = alternates(rt)?;
+    match (find_repository(rt, &given)?, given.objects) {
+        (Some(repository), objects) => Ok(ObjectsFolder {
+            kind: kind_by_config(rt, &repository)?,
+            path: match objects {
+                Some(path) => path,
+                None => join(rt, &repository, "objects")?,
+            },
+            alternates,
+        }),
+        (None, Some(path)) => Ok(ObjectsFolder {
+            kind: kind_beside(rt, &path)?,
+            path,
+            alternates,
+        }),
+        (None, None) => Err(Error::NoRepository),
+    }
 }
 
-// The folder with the objects and the config of the repository, if there is one.
-fn find_repository<R: Files + Env + AllocGlobal>(rt: &R) -> Result<Option<String>, Error> {
-    if let Some(path) = variable(rt, "GIT_DIR")? {
-        return Ok(Some(required(rt, &path)?));
-    }
-    let here = env::current_dir(rt).map_err(|error| Error::file(rt.alloc(), ".", error))?;
-    for folder in here.ancestors() {
-        let path = join(rt, folder.as_str(), ".git")?;
-        if Path::new(&path).is_file(rt) {
-            return Ok(Some(required(rt, &path)?));
-        }
-        for path in [path.as_str(), folder.as_str()] {
-            if let Some(repository) = repository_at(rt, path)? {
-                return Ok(Some(repository));
+// The folders that `$GIT_ALTERNATE_OBJECT_DIRECTORIES` names.
+fn alternates(rt: &(impl Env + AllocGlobal)) -> Result<Vec<String>, Error> {
+    let alloc = rt.alloc();
+    let mut folders = Vec::new(alloc);
+    if let Some(list) = variable(rt, ALTERNATES)? {
+        for path in alternate_paths(alloc, list.as_bytes(), b':')? {
+            match String::from_utf8(path) {
+                Ok(path) => folders.push(path)?,
+                Err(_) => return Err(Error::text(alloc, ALTERNATES, "a path is not UTF-8")),
             }
         }
     }
-    Ok(None)
+    Ok(folders)
 }
 
-// The repository of a folder, or of the one that a file names.
-fn required<R: Files + AllocGlobal>(rt: &R, path: &str) -> Result<String, Error> {
-    let folder = if Path::new(path).is_file(rt) {
-        named_by(rt, path)?
-    } else {
-        String::from_str(rt.alloc(), path)?
-    };
-    match repository_at(rt, &folder)? {
-        Some(repository) => Ok(repository),
-        None => Err(Error::text(rt.alloc(), &folder, "not a git repository")),
-    }
-}
-
-// The folder that a file `.git` names.
-fn named_by<R: Files + AllocGlobal>(rt: &R, path: &str) -> Result<String, Error> {
-    let text = read_text(rt, path)?;
-    match text.as_ref().and_then(|text| text.strip_prefix("gitdir: ")) {
-        Some(name) => {
-            let folder = Path::new(path)
-                .parent()
-                .map_or("", |folder| folder.as_str());
-            Ok(join(rt, folder, name.trim_end_matches('\n'))?)
-        }
-        None => Err(Error::text(rt.alloc(), path, "names no folder")),
-    }
-}
-
-// The repository of a folder with `HEAD`: the folder itself or, for a worktree, the one that its
-// file `commondir` names. `None` if there are no objects and references.
-fn repository_at<R: Files + AllocGlobal>(rt: &R, folder: &str) -> Result<Option<String>, Error> {
-    if fs::symlink_metadata(rt, join(rt, folder, "HEAD")?).is_err() {
-        return Ok(None);
-    }
-    let repository = match read_text(rt, &join(rt, folder, "commondir")?)? {
-        Some(name) => {
-            let path = join(rt, folder, name.trim_end_matches('\n'))?;
-            real_folder(rt, &path).map_err(|error| Error::file(rt.alloc(), &path, error))?
-        }
-        None => String::from_str(rt.alloc(), folder)?,
-    };
-    for name in ["objects", "refs"] {
-        if !Path::new(&join(rt, &repository, name)?).is_dir(rt) {
-            return Ok(None);
+// Whether a folder is an objects folder.
+fn is_store<R: Files + AllocGlobal>(rt: &R, path: &str) -> Result<bool, AllocError> {
+    for name in ["pack", "info"] {
+        if has_folder(rt, path, name)? {
+            return Ok(true);
         }
     }
-    Ok(Some(repository))
+    for byte in 0..=u8::MAX {
+        if has_folder(rt, path, &format!(in rt.alloc(); "{byte:02x}")?)? {
+            return Ok(true);
+        }
+    }
+    Ok(false)
 }
 
-// The value of a variable of the environment, if it is set.
-fn variable(rt: &(impl Env + AllocGlobal), name: &str) -> Result<Option<String>, Error> {
-    match env::var(rt, name) {
-        Ok(value) => Ok(Some(value)),
-        Err(VarError::NotPresent) => Ok(None),
-        Err(VarError::OutOfMemory) => Err(Error::Memory(AllocError)),
-        Err(VarError::NotUnicode) => Err(Error::text(rt.alloc(), name, "not UTF-8")),
+// Why a folder is no objects folder.
+fn no_store<R: Files + AllocGlobal>(rt: &R, path: &str) -> Result<Error, AllocError> {
+    let alloc = rt.alloc();
+    match fs::metadata(rt, path) {
+        Ok(found) if found.is_dir() => {}
+        Ok(_) => return Ok(Error::file(alloc, path, io::ErrorKind::NotADirectory.into())),
+        Err(error) => return Ok(Error::file(alloc, path, error)),
     }
+    for name in ["objects", ".git/objects"] {
+        let objects = join(rt, path, name)?;
+        if is_store(rt, &objects)? {
+            let path = String::from_str(alloc, path)?;
+            return Ok(Error::NoStoreButIn { path, objects });
+        }
+    }
+    let path = String::from_str(alloc, path)?;
+    Ok(Error::NoStore { path })
 }

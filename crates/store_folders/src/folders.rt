@@ -1,8 +1,8 @@
 //! An objects folder and its alternates.
 
 use crate::error::Error;
-use crate::files::{is_missing, join, read_text, real_folder};
-use ref_store::alternates::{alternate_lines, alternate_path};
+use crate::files::{is_missing, join, read_bytes, real_folder};
+use ref_store::alternates::alternate_paths;
 use std::rt::Files;
 
 // How deep alternates of alternates are nested at most, as in Git: the list of the folder itself,
@@ -36,11 +36,11 @@ fn push_alternates<R: Files + AllocGlobal>(
 ) -> Result<(), Error> {
     let alloc = rt.alloc();
     let list = join(rt, folder, "info/alternates")?;
-    let Some(text) = read_text(rt, &list)? else {
+    let Some(text) = read_bytes(rt, &list)? else {
         return Ok(());
     };
-    for line in alternate_lines(alloc, &text)? {
-        let Some(real) = named_folder(rt, folder, &list, line)? else {
+    for path in alternate_paths(alloc, &text, b'\n')? {
+        let Some(real) = named_folder(rt, folder, &list, path)? else {
             continue;
         };
         if folders.contains(&real) {
@@ -54,14 +54,14 @@ fn push_alternates<R: Files + AllocGlobal>(
     Ok(())
 }
 
-// The absolute path of the folder that a line of a list of alternates names, if there is one.
+// The absolute path of the folder that a list of alternates names, if there is one.
 fn named_folder<R: Files + AllocGlobal>(
     rt: &R,
     folder: &str,
     list: &str,
-    line: &str,
+    path: Vec<u8>,
 ) -> Result<Option<String>, Error> {
-    let Ok(path) = String::from_utf8(alternate_path(rt.alloc(), line)?) else {
+    let Ok(path) = String::from_utf8(path) else {
         return Err(Error::text(rt.alloc(), list, "a path is not UTF-8"));
     };
     let path = join(rt, folder, &path)?;

@@ -11,6 +11,7 @@ mod finding;
 mod folders;
 mod loose;
 mod packs;
+mod repository;
 mod store;
 
 pub use error::Error;

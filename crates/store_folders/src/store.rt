@@ -3,7 +3,7 @@
 ghost use Rattle.std.specs.Prelude.{◌≡◌, All};
 
 use crate::error::Error;
-use crate::files::{join, kind_by_config};
+use crate::files::kind_beside;
 use crate::folders::with_alternates;
 use crate::loose::{loose_path, push_loose};
 use crate::packs::{index_paths, open_indexes, pack_paths};
@@ -53,7 +53,7 @@ impl<R: Files<File = File> + AllocGlobal + Clone + Drop> FolderStore<R> {
     {
         let kind = match kind {
             Some(kind) => kind,
-            None => kind_by_config(rt, &join(rt, objects, "..")?)?,
+            None => kind_beside(rt, objects)?,
         };
         let folders = with_alternates(rt, objects)?;
         let paths = index_paths(rt, &folders)?;

@@ -1,0 +1,161 @@
+//! Where a repository has its objects, references and config.
+
+use crate::error::Error;
+use crate::files::{join, read_text, real_folder};
+use std::alloc::AllocError;
+use std::env::VarError;
+use std::path::Path;
+use std::rt::{Env, Files};
+use std::{env, fs};
+
+// What the environment says of the repository.
+#[derive(Drop)]
+pub(crate) struct Environment {
+    // `$GIT_DIR`.
+    dir: Option<String>,
+    // `$GIT_COMMON_DIR`, the folder with the objects, the references and the config.
+    common: Option<String>,
+    // `$GIT_OBJECT_DIRECTORY`.
+    pub(crate) objects: Option<String>,
+}
+
+impl Environment {
+    pub(crate) fn read(rt: &(impl Env + AllocGlobal)) -> Result<Environment, Error> {
+        Ok(Environment {
+            dir: variable(rt, "GIT_DIR")?,
+            common: variable(rt, "GIT_COMMON_DIR")?,
+            objects: variable(rt, "GIT_OBJECT_DIRECTORY")?,
+        })
+    }
+}
+
+// The value of a variable of the environment, if it is set.
+pub(crate) fn variable(rt: &(impl Env + AllocGlobal), name: &str) -> Result<Option<String>, Error> {
+    match env::var(rt, name) {
+        Ok(value) => Ok(Some(value)),
+        Err(VarError::NotPresent) => Ok(None),
+        Err(VarError::OutOfMemory) => Err(Error::Memory(AllocError)),
+        Err(VarError::NotUnicode) => Err(Error::text(rt.alloc(), name, "not UTF-8")),
+    }
+}
+
+// The folder with the objects and the config of the repository, if there is one.
+pub(crate) fn find_repository<R: Files + Env + AllocGlobal>(
+    rt: &R,
+    given: &Environment,
+) -> Result<Option<String>, Error> {
+    if let Some(path) = &given.dir {
+        return Ok(Some(required(rt, given, path)?));
+    }
+    let here = env::current_dir(rt).map_err(|error| Error::file(rt.alloc(), ".", error))?;
+    for folder in here.ancestors() {
+        if let Some(repository) = repository_in(rt, given, folder.as_str())? {
+            return Ok(Some(repository));
+        }
+    }
+    Ok(None)
+}
+
+// The repository of a folder, if it has one: as `.git`, which is a folder or a file that names one,
+// or else as a bare repository.
+fn repository_in<R: Files + AllocGlobal>(
+    rt: &R,
+    given: &Environment,
+    folder: &str,
+) -> Result<Option<String>, Error> {
+    let path = join(rt, folder, ".git")?;
+    if Path::new(&path).is_file(rt) {
+        return Ok(Some(required(rt, given, &path)?));
+    }
+    match repository_at(rt, given, &path)? {
+        Some(repository) => Ok(Some(repository)),
+        None => repository_at(rt, given, folder),
+    }
+}
+
+// The repository that is a folder, or the one that a file names.
+fn required<R: Files + AllocGlobal>(
+    rt: &R,
+    given: &Environment,
+    path: &str,
+) -> Result<String, Error> {
+    let folder = if Path::new(path).is_file(rt) {
+        named_by(rt, path)?
+    } else {
+        String::from_str(rt.alloc(), path)?
+    };
+    match repository_at(rt, given, &folder)? {
+        Some(repository) => Ok(repository),
+        None => Err(Error::text(rt.alloc(), &folder, "not a git repository")),
+    }
+}
+
+// The folder that a file `.git` names.
+fn named_by<R: Files + AllocGlobal>(rt: &R, path: &str) -> Result<String, Error> {
+    let text = read_text(rt, path)?;
+    match text.as_ref().and_then(|text| text.strip_prefix("gitdir: ")) {
+        Some(name) => {
+            let folder = Path::new(path)
+                .parent()
+                .map_or("", |folder| folder.as_str());
+            Ok(join(rt, folder, without_line_ends(name))?)
+        }
+        None => Err(Error::text(rt.alloc(), path, "names no folder")),
+    }
+}
+
+// The repository that is a folder with `HEAD`, by the folder with its objects and references;
+// `None` if there are none. Objects that the environment names need not be there.
+fn repository_at<R: Files + AllocGlobal>(
+    rt: &R,
+    given: &Environment,
+    folder: &str,
+) -> Result<Option<String>, Error> {
+    if !has_head(rt, folder)? {
+        return Ok(None);
+    }
+    let common = match &given.common {
+        Some(common) => String::from_str(rt.alloc(), common)?,
+        None => common_of(rt, folder)?,
+    };
+    let objects = match &given.objects {
+        Some(objects) => String::from_str(rt.alloc(), objects)?,
+        None => join(rt, &common, "objects")?,
+    };
+    let has_both = Path::new(&objects).is_dir(rt)
+        && Path::new(&join(rt, &common, "refs")?).is_dir(rt);
+    Ok(if has_both { Some(common) } else { None })
+}
+
+// The folder that the file `commondir` of a worktree names, or else the folder itself.
+fn common_of<R: Files + AllocGlobal>(rt: &R, folder: &str) -> Result<String, Error> {
+    match read_text(rt, &join(rt, folder, "commondir")?)? {
+        Some(name) => {
+            let path = join(rt, folder, without_line_ends(&name))?;
+            real_folder(rt, &path).map_err(|error| Error::file(rt.alloc(), &path, error))
+        }
+        None => Ok(String::from_str(rt.alloc(), folder)?),
+    }
+}
+
+// Whether a folder has a `HEAD` of a repository: a link to a reference, which need not be there, or
+// a file that names a reference or begins with an id.
+fn has_head<R: Files + AllocGlobal>(rt: &R, folder: &str) -> Result<bool, AllocError> {
+    let path = join(rt, folder, "HEAD")?;
+    Ok(match fs::read_link(rt, &path) {
+        Ok(reference) => reference.as_str().starts_with("refs/"),
+        Err(_) => fs::read(rt, &path).is_ok_and(|text| is_head(&text)),
+    })
+}
+
+fn is_head(text: &[u8]) -> bool {
+    match text {
+        [b'r', b'e', b'f', b':', name @ ..] => name.trim_ascii_start().starts_with(b"refs/"),
+        _ => text.len() >= 40 && text[..40].iter().all(|digit| digit.is_ascii_hexdigit()),
+    }
+}
+
+// A line without the line feeds and carriage returns at its end.
+fn without_line_ends(line: &str) -> &str {
+    line.trim_end_matches(['\n', '\r'])
+}
