@@ -2,21 +2,22 @@
 
 use crate::expecting::{expect, expect_text, text_of};
 use crate::look_ups::{expect_ids, find, set};
-use crate::resolving::resolve;
 use gix_hash::{Kind, ObjectId};
 use object_store::{Store, StorePaths};
 use std::fs::File;
 use std::path::Path;
 use std::process::Abort;
-use std::rt::{Env, Files};
+use std::rt::Files;
 use std::test::Fail;
-use std::{env, fs};
-use store_folders::{FolderStore, find_objects};
+use std::fs;
+use store_folders::FolderStore;
 use test_devices::ids::{ids_of, pack_index};
 
-const PACKED: &str = "4b825dc642cb6eb9a060e54bf8d69288fbee4904";
+/// The id of an object in a pack.
+pub const PACKED: &str = "4b825dc642cb6eb9a060e54bf8d69288fbee4904";
 
-const BOTH: &str = "4b90000000000000000000000000000000000000";
+/// The id of an object in a pack and loose.
+pub const BOTH: &str = "4b90000000000000000000000000000000000000";
 
 const LOOSE: &str = "4bffffffffffffffffffffffffffffffffffffff";
 
@@ -26,10 +27,11 @@ const THIRD: &str = "4b02000000000000000000000000000000000000";
 
 const NO_PACK: &str = "4b03000000000000000000000000000000000000";
 
-// The path of a file, and its bytes; or that of a pack index, and its ids.
-type Bytes = (&'static str, &'static [u8]);
+/// The path of a file, and its bytes.
+pub type Bytes = (&'static str, &'static [u8]);
 
-type Index = (&'static str, &'static [&'static str]);
+/// The path of a pack index, and its ids.
+pub type Index = (&'static str, &'static [&'static str]);
 
 fn write<R: Files + AllocGlobal>(rt: &R, path: &str, bytes: &[u8]) -> Result<(), Fail> {
     if let Some(folder) = Path::new(path).parent() {
@@ -43,8 +45,8 @@ fn index_of(rt: &impl AllocGlobal, ids: &[&str]) -> Result<Vec<u8>, Fail> {
     Ok(pack_index(rt.alloc(), Kind::Sha1, &ids_of(rt, ids)?, &[])?)
 }
 
-// Makes empty files, files and pack indexes, and the folders that they are in.
-fn make<R: Files + AllocGlobal>(
+/// Makes empty files, files and pack indexes, and the folders that they are in.
+pub fn make<R: Files + AllocGlobal>(
     rt: &R,
     empty: &[&str],
     files: &[Bytes],
@@ -199,96 +201,5 @@ fn errors_have_paths(rt: HostRuntime) -> Result<(), Fail> {
         expect_text(&rt, &error_of(&rt, objects, kind, prefix)?, want);
     }
     fs::remove_dir_all(&rt, "with_faults")?;
-    Ok(())
-}
-
-const WITH_FOLDERS: [&str; 5] = [
-    "found/r/.git/objects/none",
-    "found/r/.git/refs/none",
-    "found/r/sub/deep/none",
-    "found/bare/objects/pack/pack-1.pack",
-    "found/bare/refs/none",
-];
-
-const REPOSITORIES: [Bytes; 9] = [
-    ("found/r/.git/HEAD", b"ref: refs/heads/main\n"),
-    (
-        "found/r/.git/config",
-        b"[extensions]\n\tobjectformat = sha256\n",
-    ),
-    ("found/r/.git/worktrees/w/HEAD", b"ref: refs/heads/w\n"),
-    ("found/r/.git/worktrees/w/commondir", b"../..\n"),
-    ("found/w/.git", b"gitdir: ../r/.git/worktrees/w\n"),
-    ("found/text/.git", b"gitdir"),
-    ("found/lost/.git", b"gitdir: ../gone\n"),
-    ("found/bare/HEAD", b"ref: refs/heads/main\n"),
-    ("found/bare/config", b"[core]\n\tbare = true\n"),
-];
-
-const BARE: Index = ("found/bare/objects/pack/pack-1.idx", &[PACKED, BOTH]);
-
-const SHA256: Option<Kind> = Some(Kind::Sha256);
-
-// Folders, the objects folders that are found in them or the ends of the errors, and the kinds.
-const FOLDERS: [(&str, &str, Option<Kind>); 7] = [
-    ("found/r", "found/r/.git/objects", SHA256),
-    ("found/r/sub/deep", "found/r/.git/objects", SHA256),
-    ("found/r/.git/refs", "found/r/.git/objects", SHA256),
-    ("found/w", "found/r/.git/objects", SHA256),
-    ("found/bare/refs", "found/bare/objects", Some(Kind::Sha1)),
-    ("found/text", "found/text/.git: names no folder", None),
-    (
-        "found/lost",
-        "found/lost/../gone: not a git repository",
-        None,
-    ),
-];
-
-// What is found in and above the current folder, or the error, and the kind.
-fn found_here(rt: &HostRuntime) -> Result<(String, Option<Kind>), Fail> {
-    match find_objects(rt) {
-        Ok(found) => Ok((found.path, Some(found.kind))),
-        Err(error) => Ok((text_of(rt, error)?, None)),
-    }
-}
-
-// Names that are typed, and the id that each resolves to.
-const TYPED: [(&str, &str); 6] = [
-    ("4B82", PACKED),
-    (PACKED, PACKED),
-    ("4b", ""),
-    ("4c", ""),
-    ("4", ""),
-    ("4g", ""),
-];
-
-fn expect_resolved<R: Abort + Files<File = File> + Env + AllocGlobal + Clone + Drop>(rt: &R) {
-    for (typed, want) in TYPED {
-        match resolve(rt, typed).expect(rt, "an error") {
-            Some(id) => expect!(rt; id.eq_str(want), typed),
-            None => expect!(rt; want.is_empty(), typed),
-        }
-    }
-}
-
-#[test]
-fn found_in_and_above_the_current_folder(rt: HostRuntime) -> Result<(), Fail> {
-    for name in ["GIT_DIR", "GIT_OBJECT_DIRECTORY"] {
-        if env::var(&rt, name).is_ok() {
-            return Ok(());
-        }
-    }
-    make(&rt, &WITH_FOLDERS, &REPOSITORIES, &[BARE])?;
-    let here = env::current_dir(&rt)?;
-    for (folder, want, kind) in FOLDERS {
-        env::set_current_dir(&rt, folder)?;
-        let (text, found) = found_here(&rt)?;
-        expect!(&rt; text.ends_with(want) && found == kind, text);
-        env::set_current_dir(&rt, here.as_path())?;
-    }
-    env::set_current_dir(&rt, "found/bare")?;
-    expect_resolved(&rt);
-    env::set_current_dir(&rt, here.as_path())?;
-    fs::remove_dir_all(&rt, "found")?;
     Ok(())
 }

@@ -1,6 +1,6 @@
 //! Lists of alternates: other objects folders, whose objects a repository borrows.
 
-ghost use Rattle.std.specs.Prelude.{◌≡◌, ◌<◌, ◌≤◌, IfOk, IfSome, length};
+ghost use Rattle.std.specs.Prelude.{◌≡◌, ◌-◌, ◌<◌, ◌≤◌, IfOk, IfSome, length};
 
 use std::alloc::{AllocError, Allocator};
 
@@ -39,7 +39,9 @@ fn first_path<A: Allocator + Copy>(
     alloc: A,
     list: &[u8],
     separator: u8,
-) -> Result<(Vec<u8, A>, &[u8]), AllocError> {
+) -> Result<(Vec<u8, A>, &[u8]), AllocError>
+    ensures { IfOk result (λ first. length first.1.now ≤ length list.now - 1) }
+{
     if let Some((path, rest)) = unquote(alloc, list)? {
         return Ok((path, after_one(rest)));
     }
@@ -51,7 +53,9 @@ fn first_path<A: Allocator + Copy>(
 }
 
 // What is before the first separator, and after it.
-fn split_line(list: &[u8], separator: u8) -> (&[u8], &[u8]) {
+fn split_line(list: &[u8], separator: u8) -> (&[u8], &[u8])
+    ensures { length result.1.now ≤ length list.now - 1 }
+{
     let len = list
         .iter()
         .position(|byte| *byte == separator)
@@ -60,7 +64,9 @@ fn split_line(list: &[u8], separator: u8) -> (&[u8], &[u8]) {
 }
 
 // All bytes but the first, if there is one.
-fn after_one(text: &[u8]) -> &[u8] {
+fn after_one(text: &[u8]) -> &[u8]
+    ensures { length result.now ≡ length text.now - 1 }
+{
     match text {
         [] => text,
         [_, rest @ ..] => rest,
@@ -69,7 +75,9 @@ fn after_one(text: &[u8]) -> &[u8] {
 
 // The bytes that a quoted text means and what is after the closing quotation mark; or `None` if no
 // quoted text begins the bytes, or it is not quoted right.
-fn unquote<A: Allocator>(alloc: A, text: &[u8]) -> Result<Option<(Vec<u8, A>, &[u8])>, AllocError> {
+fn unquote<A: Allocator>(alloc: A, text: &[u8]) -> Result<Option<(Vec<u8, A>, &[u8])>, AllocError>
+    ensures { IfOk result (λ found. IfSome found (λ path. length path.1.now < length text.now)) }
+{
     let [b'"', quoted @ ..] = text else {
         return Ok(None);
     };

@@ -1,6 +1,6 @@
 //! The head of a commit: the lines of its tree and its parents.
 
-ghost use Rattle.std.specs.Prelude.{◌≡◌, IfOk, MatchOption};
+ghost use Rattle.std.specs.Prelude.{◌≡◌, codes, IfOk, MatchOption};
 ghost use Rattle.gix_hash.specs.ObjectId.{id_digits, id_kind};
 ghost use Rattle.ref_store.specs.Commits.{keyed_then, HasNoKeyed, IsHead};
 
@@ -33,7 +33,7 @@ pub struct Head<'a> {
 ///
 /// It reads all lines of parents after the tree's.
 pub fn read_head(alloc: Global, kind: Kind, text: &[u8]) -> Result<Option<Head<'_>>, AllocError>
-    ensures { IfOk result (λ found. MatchOption found (HasNoKeyed kind TREE.now text.now)
+    ensures { IfOk result (λ found. MatchOption found (HasNoKeyed kind (codes "tree ") text.now)
         (λ head. IsHead kind text.now head.tree head.parents.items head.rest.now)) }
 {
     let Some((tree, mut rest)) = read_keyed(kind, TREE, text) else {

@@ -1,6 +1,6 @@
 //! What a repository's config (git-config) says of its format and its ids.
 
-ghost use Rattle.std.specs.Prelude.{◌≡◌, ◌<◌, ◌≤◌, IfSome, length};
+ghost use Rattle.std.specs.Prelude.{◌<◌, ◌≤◌, IfOk, IfSome, length};
 
 use gix_hash::Kind;
 use std::alloc::{AllocError, Global};
@@ -17,7 +17,7 @@ pub enum ConfigError {
     NoVersion,
     /// The version of the repository's format is above 1.
     #[error("expected git repo version <= 1, found {0}")]
-    Version(u64),
+    Version(i64),
     /// The repository's format has an extension that is not known.
     #[error("unknown repository extension found: {0}")]
     Extension(String),
@@ -57,7 +57,7 @@ pub fn kind_in_config(alloc: Global, text: &[u8]) -> Result<Kind, ConfigError> {
 // What the variables of a config that were read say of the repository's format.
 #[derive(Drop)]
 struct Format {
-    version: Option<u64>,
+    version: Option<i64>,
     kind: Kind,
     unknown: Option<String>,
     needs_version_1: Option<&'static str>,
@@ -91,7 +91,7 @@ impl Format {
     // The kind, unless the format is not known.
     fn checked(self) -> Result<Kind, ConfigError> {
         match (self.version, self.unknown, self.needs_version_1) {
-            (None, _, _) => Ok(Kind::Sha1),
+            (None | Some(i64::MIN..=-1), _, _) => Ok(Kind::Sha1),
             (Some(0), _, Some(extension)) => Err(ConfigError::NeedsVersion1(extension)),
             (Some(0), _, None) => Ok(self.kind),
             (Some(1), Some(extension), _) => Err(ConfigError::Extension(extension)),
@@ -102,8 +102,8 @@ impl Format {
 }
 
 // The number that a value is.
-fn number(value: Option<&[u8]>) -> Option<u64> {
-    str::from_utf8(value?).ok()?.parse().ok()
+fn number(value: Option<&[u8]>) -> Option<i64> {
+    str::from_utf8(value?.trim_ascii_start()).ok()?.parse().ok()
 }
 
 // The kind that a value names.
@@ -141,7 +141,10 @@ impl<'a> Variables<'a> {
     }
 
     // The value of the next variable, or `None` at the end. The value is `None` if there is no `=`.
-    fn next(&mut self) -> Result<Option<Option<Vec<u8>>>, ConfigError> {
+    fn next(&mut self) -> Result<Option<Option<Vec<u8>>>, ConfigError>
+        ensures { IfOk result (λ value. IfSome value
+            (λ _. length self.new.left.now < length self.old.left.now)) }
+    {
         while let Some(byte) = self.next_byte() {
             match byte {
                 b' ' | b'\t' | b'\r' | b'\n' => {}
@@ -159,7 +162,10 @@ impl<'a> Variables<'a> {
     }
 
     // The next byte. A carriage return before a line feed is passed over.
-    fn next_byte(&mut self) -> Option<u8> {
+    fn next_byte(&mut self) -> Option<u8>
+        ensures bound { length self.new.left.now ≤ length self.old.left.now }
+        ensures fewer { IfSome result (λ _. length self.new.left.now < length self.old.left.now) }
+    {
         let (byte, rest) = match self.left {
             [] => return None,
             [b'\r', b'\n', rest @ ..] => (b'\n', rest),
@@ -170,7 +176,9 @@ impl<'a> Variables<'a> {
     }
 
     // Reads on up to the end of the line.
-    fn pass_over_line(&mut self) {
+    fn pass_over_line(&mut self)
+        ensures { length self.new.left.now ≤ length self.old.left.now }
+    {
         while let Some(byte) = self.next_byte() {
             if byte == b'\n' {
                 return;
@@ -181,11 +189,13 @@ impl<'a> Variables<'a> {
     // The error that what was read is bad.
     fn bad_line(&self) -> ConfigError {
         let read = self.text.len().saturating_sub(self.left.len() + 1);
-        ConfigError::Line(1 + count_lines(self.text, read))
+        ConfigError::Line(count_lines(self.text, read).saturating_add(1))
     }
 
     // Reads the name of a section, after its `[`.
-    fn read_section(&mut self) -> Result<(), ConfigError> {
+    fn read_section(&mut self) -> Result<(), ConfigError>
+        ensures { length self.new.left.now ≤ length self.old.left.now }
+    {
         self.name.clear();
         while let Some(byte) = self.next_byte() {
             match byte {
@@ -200,7 +210,9 @@ impl<'a> Variables<'a> {
     }
 
     // Reads the name of a subsection, after a blank.
-    fn read_subsection(&mut self) -> Result<(), ConfigError> {
+    fn read_subsection(&mut self) -> Result<(), ConfigError>
+        ensures { length self.new.left.now ≤ length self.old.left.now }
+    {
         while let [b' ' | b'\t', rest @ ..] = self.left {
             self.left = rest;
         }
@@ -223,14 +235,18 @@ impl<'a> Variables<'a> {
         Err(self.bad_line())
     }
 
-    fn end_section(&mut self) -> Result<(), ConfigError> {
+    fn end_section(&mut self) -> Result<(), ConfigError>
+        ensures { length self.new.left.now ≤ length self.old.left.now }
+    {
         self.name.push(b'.')?;
         self.base = self.name.len();
         Ok(())
     }
 
     // Reads the rest of a key, and the value.
-    fn read_variable(&mut self) -> Result<Option<Vec<u8>>, ConfigError> {
+    fn read_variable(&mut self) -> Result<Option<Vec<u8>>, ConfigError>
+        ensures { length self.new.left.now ≤ length self.old.left.now }
+    {
         while let [byte, rest @ ..] = self.left
             && is_key_byte(*byte)
         {
@@ -249,7 +265,9 @@ impl<'a> Variables<'a> {
 
     // Reads a value, up to the end of its line. Blanks outside quotation marks are blanks within
     // the value, and nothing before and after it.
-    fn read_value(&mut self) -> Result<Vec<u8>, ConfigError> {
+    fn read_value(&mut self) -> Result<Vec<u8>, ConfigError>
+        ensures { length self.new.left.now ≤ length self.old.left.now }
+    {
         let mut value = Vec::new(self.alloc);
         let mut len = 0;
         let mut quoted = false;
@@ -281,7 +299,9 @@ impl<'a> Variables<'a> {
     }
 
     // Reads what a backslash is before. A line feed means nothing: the value goes on.
-    fn read_escape(&mut self, value: &mut Vec<u8>) -> Result<(), ConfigError> {
+    fn read_escape(&mut self, value: &mut Vec<u8>) -> Result<(), ConfigError>
+        ensures { length self.new.left.now ≤ length self.old.left.now }
+    {
         let byte = match self.next_byte() {
             None | Some(b'\n') => return Ok(()),
             Some(b'n') => b'\n',

@@ -6,6 +6,7 @@ use crate::repository::{Environment, find_repository, variable};
 use gix_hash::Kind;
 use ref_store::alternates::alternate_paths;
 use std::alloc::AllocError;
+use std::path::Path;
 use std::rt::{Env, Files};
 use std::{fs, io};
 
@@ -31,7 +32,8 @@ impl ObjectsFolder {
     /// The objects folder at a path, with the kind that the config beside it says, as Git has it; or
     /// SHA-1 if there is none. The environment adds no alternates.
     ///
-    /// A folder is an objects folder if `pack`, `info` or a folder of loose objects is in it.
+    /// A folder is an objects folder if the folder `pack`, the file `info/alternates` or a folder of
+    /// loose objects is in it.
     ///
     /// ```
     /// let folder = ObjectsFolder::at(rt, ".git/objects")?;
@@ -94,11 +96,13 @@ fn alternates(rt: &(impl Env + AllocGlobal)) -> Result<Vec<String>, Error> {
 
 // Whether a folder is an objects folder.
 fn is_store<R: Files + AllocGlobal>(rt: &R, path: &str) -> Result<bool, AllocError> {
-    for name in ["pack", "info"] {
-        if has_folder(rt, path, name)? {
-            return Ok(true);
-        }
-    }
+    Ok(has_folder(rt, path, "pack")?
+        || Path::new(&join(rt, path, "info/alternates")?).is_file(rt)
+        || has_loose_folder(rt, path)?)
+}
+
+// Whether a folder has one of loose objects.
+fn has_loose_folder<R: Files + AllocGlobal>(rt: &R, path: &str) -> Result<bool, AllocError> {
     for byte in 0..=u8::MAX {
         if has_folder(rt, path, &format!(in rt.alloc(); "{byte:02x}")?)? {
             return Ok(true);

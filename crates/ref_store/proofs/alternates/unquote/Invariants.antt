@@ -1,5 +1,8 @@
-use Rattle.std.proofs.Common.{length}
+use Rattle.std.proofs.Common.{◌<◌, length}
 use Rattle.ref_store.proofs.alternates.unquote.Given as goal
 
-abbrev pub decreases-loop-left : goal.decreases-loop-left
-decreases-loop-left g l = length l.left
+abbrev pub invariant-loop-byte : goal.invariant-loop-byte
+invariant-loop-byte g l = length l.left < length l.fn.text
+
+abbrev pub decreases-loop-byte : goal.decreases-loop-byte
+decreases-loop-byte g l = length l.left
