@@ -4,12 +4,12 @@ use crate::expecting::{expect, expect_text, text_of};
 use crate::look_ups::{expect_ids, find, set};
 use gix_hash::{Kind, ObjectId};
 use object_store::{Store, StorePaths};
+use std::fs;
 use std::fs::File;
 use std::path::Path;
 use std::process::Abort;
 use std::rt::Files;
 use std::test::Fail;
-use std::fs;
 use store_folders::FolderStore;
 use test_devices::ids::{ids_of, pack_index};
 

@@ -9,6 +9,8 @@ mod expecting;
 #[cfg(test)]
 mod files;
 #[cfg(test)]
+mod finding;
+#[cfg(test)]
 mod folders;
 #[cfg(test)]
 mod ids;

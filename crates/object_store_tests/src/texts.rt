@@ -58,7 +58,10 @@ fn lists_of_alternates(rt: HostRuntime) -> Result<(), Fail> {
 const CONFIGS: [(&str, &str); 25] = [
     ("", "sha1"),
     ("[extensions]\nobjectformat = sha256\n", "sha1"),
-    ("[core]\nrepositoryformatversion = -1\n[extensions]\nfoo\n", "sha1"),
+    (
+        "[core]\nrepositoryformatversion = -1\n[extensions]\nfoo\n",
+        "sha1",
+    ),
     (
         "[core]\n\trepositoryformatversion = 1\n[extensions]\n\tobjectformat = sha256\n",
         "sha256",
@@ -83,7 +86,10 @@ const CONFIGS: [(&str, &str); 25] = [
         "[core]\nrepositoryformatversion = 0\n[extensions]\npartialclone = o\nfoo\n# objectformat = md5\n",
         "sha1",
     ),
-    ("[core]\nrepositoryformatversion = 1\n[core \"extensions\"]\nobjectformat = sha256\n", "sha1"),
+    (
+        "[core]\nrepositoryformatversion = 1\n[core \"extensions\"]\nobjectformat = sha256\n",
+        "sha1",
+    ),
     (
         "[core]\nrepositoryformatversion = 0\n[extensions]\nobjectformat = sha256\n",
         "repo version is 0, but v1-only extension found: objectformat",
@@ -96,11 +102,26 @@ const CONFIGS: [(&str, &str); 25] = [
         "[core]\nrepositoryformatversion = 1\n[extensions]\nrefStorage = files\n",
         "unknown repository extension found: refstorage",
     ),
-    ("[core]\nrepositoryformatversion = 2\n", "expected git repo version <= 1, found 2"),
-    ("[core]\nrepositoryformatversion = x\n", "core.repositoryformatversion is not a number"),
-    ("[core]\nrepositoryformatversion\n", "core.repositoryformatversion is not a number"),
-    ("[extensions]\nobjectformat = SHA256\n", "extensions.objectformat is neither sha1 nor sha256"),
-    ("[extensions]\nobjectformat\n", "extensions.objectformat is neither sha1 nor sha256"),
+    (
+        "[core]\nrepositoryformatversion = 2\n",
+        "expected git repo version <= 1, found 2",
+    ),
+    (
+        "[core]\nrepositoryformatversion = x\n",
+        "core.repositoryformatversion is not a number",
+    ),
+    (
+        "[core]\nrepositoryformatversion\n",
+        "core.repositoryformatversion is not a number",
+    ),
+    (
+        "[extensions]\nobjectformat = SHA256\n",
+        "extensions.objectformat is neither sha1 nor sha256",
+    ),
+    (
+        "[extensions]\nobjectformat\n",
+        "extensions.objectformat is neither sha1 nor sha256",
+    ),
     ("[core]\n[ extensions ]\n", "bad config line 2"),
     ("[core]\n[core\n]", "bad config line 2"),
     ("[a \"b\" ]\n", "bad config line 1"),

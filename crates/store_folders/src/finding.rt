@@ -96,9 +96,11 @@ fn alternates(rt: &(impl Env + AllocGlobal)) -> Result<Vec<String>, Error> {
 
 // Whether a folder is an objects folder.
 fn is_store<R: Files + AllocGlobal>(rt: &R, path: &str) -> Result<bool, AllocError> {
-    Ok(has_folder(rt, path, "pack")?
-        || Path::new(&join(rt, path, "info/alternates")?).is_file(rt)
-        || has_loose_folder(rt, path)?)
+    Ok(
+        has_folder(rt, path, "pack")?
+            || Path::new(&join(rt, path, "info/alternates")?).is_file(rt)
+            || has_loose_folder(rt, path)?,
+    )
 }
 
 // Whether a folder has one of loose objects.
