@@ -1,2 +1,3 @@
+mod NamedLines
 mod OnlyMatches
 mod SlashedDigits

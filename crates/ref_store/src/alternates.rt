@@ -1,6 +1,8 @@
 //! Lists of alternates: other objects folders, whose objects a repository borrows.
 
-ghost use Rattle.std.specs.Prelude.{◌≡◌, ◌-◌, ◌<◌, ◌≤◌, IfOk, IfSome, length};
+ghost use Rattle.std.specs.Prelude.{◌≡◌, ◌==◌, ◌-◌, ◌<◌, ◌≤◌, ◌++◌, IfOk, IfSome, length, map};
+ghost use Rattle.std.specs.List.{after_first, before_first, position};
+ghost use Rattle.ref_store.specs.Alternates.{names_folder, named_lines, unless_empty, HasNoQuotes};
 
 use std::alloc::{AllocError, Allocator};
 
@@ -21,7 +23,10 @@ pub fn alternate_paths<A: Allocator + Copy>(
     alloc: A,
     list: &[u8],
     separator: u8,
-) -> Result<Vec<Vec<u8, A>, A>, AllocError> {
+) -> Result<Vec<Vec<u8, A>, A>, AllocError>
+    ensures { IfOk result (λ paths. HasNoQuotes list.now
+        → map (λ path. path.items) paths.items ≡ named_lines separator list.now) }
+{
     let mut paths = Vec::new(alloc);
     let mut left = list;
     while !left.is_empty() {
@@ -40,27 +45,51 @@ fn first_path<A: Allocator + Copy>(
     list: &[u8],
     separator: u8,
 ) -> Result<(Vec<u8, A>, &[u8]), AllocError>
-    ensures { IfOk result (λ first. length first.1.now ≤ length list.now - 1) }
+    ensures fewer { IfOk result (λ first. length first.1.now ≤ length list.now - 1) }
+    ensures named { IfOk result (λ first. HasNoQuotes list.now → HasNoQuotes first.1.now
+        × (named_lines separator list.now
+        ≡ unless_empty first.0.items ++ named_lines separator first.1.now)) }
 {
-    if let Some((path, rest)) = unquote(alloc, list)? {
-        return Ok((path, after_one(rest)));
+    if let [b'"', quoted @ ..] = list {
+        if let Some((path, rest)) = unquote(alloc, quoted)? {
+            return Ok((path, after_one(rest)));
+        }
     }
     let (line, rest) = split_line(list, separator);
-    match line {
-        [b'#', ..] => Ok((Vec::new(alloc), rest)),
-        _ => Ok((line.to_vec(alloc)?, rest)),
+    if names_folder(line) {
+        Ok((line.to_vec(alloc)?, rest))
+    } else {
+        Ok((Vec::new(alloc), rest))
     }
 }
 
 // What is before the first separator, and after it.
 fn split_line(list: &[u8], separator: u8) -> (&[u8], &[u8])
-    ensures { length result.1.now ≤ length list.now - 1 }
+    ensures line { result.0.now ≡ before_first (λ byte. byte == separator) list.now }
+    ensures rest { result.1.now ≡ after_first (λ byte. byte == separator) list.now }
+    ensures fewer { length result.1.now ≤ length list.now - 1 }
 {
-    let len = list
-        .iter()
-        .position(|byte| *byte == separator)
-        .unwrap_or(list.len());
-    (&list[..len], after_one(&list[len..]))
+    match separator_in(list, separator) {
+        Some(at) => (&list[..at], &list[at + 1..]),
+        None => (list, &[]),
+    }
+}
+
+// Where the first separator is.
+fn separator_in(list: &[u8], separator: u8) -> Option<usize>
+    ensures { result ≡ position (λ byte. byte == separator) list.now }
+{
+    list.iter().position(|byte| *byte == separator)
+}
+
+// Whether a line names a folder.
+fn names_folder(line: &[u8]) -> bool
+    ensures { result ≡ names_folder line.now }
+{
+    match line {
+        [] => false,
+        [first, ..] => *first != b'#',
+    }
 }
 
 // All bytes but the first, if there is one.
@@ -73,14 +102,11 @@ fn after_one(text: &[u8]) -> &[u8]
     }
 }
 
-// The bytes that a quoted text means and what is after the closing quotation mark; or `None` if no
-// quoted text begins the bytes, or it is not quoted right.
-fn unquote<A: Allocator>(alloc: A, text: &[u8]) -> Result<Option<(Vec<u8, A>, &[u8])>, AllocError>
-    ensures { IfOk result (λ found. IfSome found (λ path. length path.1.now < length text.now)) }
+// The bytes that a text after a quotation mark means, and what is after the closing one; or `None`
+// if it is not quoted right.
+fn unquote<A: Allocator>(alloc: A, quoted: &[u8]) -> Result<Option<(Vec<u8, A>, &[u8])>, AllocError>
+    ensures { IfOk result (λ found. IfSome found (λ path. length path.1.now ≤ length quoted.now)) }
 {
-    let [b'"', quoted @ ..] = text else {
-        return Ok(None);
-    };
     let mut bytes = Vec::new(alloc);
     let mut left = quoted;
     while let Some((byte, rest)) = next_byte(left) {
