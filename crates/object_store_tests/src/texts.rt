@@ -22,7 +22,7 @@ const ALTERNATES: [(u8, &str, &[&str]); 18] = [
         &["a\"b\\\n\t\x07\x08\x0b\x0c\r"],
     ),
     (b'\n', r#""caf\303\251""#, &["caf\u{e9}"]),
-    // A quoted line feed, and text after the closing quotation mark, whose first byte is passed over.
+    // A quoted line feed, and text after the closing quotation mark, whose first byte is lost.
     (b'\n', "\"a\nb\"\nc", &["a\nb", "c"]),
     (b'\n', "\"a\"bc\n\"d\"\n\n\"e\"", &["a", "c", "d", "e"]),
     (b'\n', "\"a\"\"b\"\n\"c\"b#d\ne", &["a", "b\"", "c", "e"]),
@@ -71,19 +71,19 @@ const CONFIGS: [(&str, &str); 25] = [
         "sha256",
     ),
     (
-        "\u{feff}[core]\nrepositoryformatversion = 1 # 0\n[extensions]\nobjectformat = \\\n sha2\\\n56\n",
+        "\u{feff}[core]\nrepositoryformatversion=1#0\n[extensions]\nobjectformat=\\\n sha2\\\n56\n",
         "sha256",
     ),
     (
-        "[extensions]\nobjectformat = sha1\nobjectformat = sha256\n[core]\nrepositoryformatversion=1",
+        "[extensions]\nobjectformat=sha1\nobjectformat=sha256\n[core]\nrepositoryformatversion=1",
         "sha256",
     ),
     (
-        "[core]\nrepositoryformatversion = 1\n[a \"b\\\"]\"]\nx = \"\\n\\t\\b;\\\\\"\ny\n[extensions]\nnoop\nnoop-v1",
+        "[core]repositoryformatversion=1\n[a \"b\\\"]\"]\nx=\"\\n\\b;\\\\\"\ny\n[extensions]noop",
         "sha1",
     ),
     (
-        "[core]\nrepositoryformatversion = 0\n[extensions]\npartialclone = o\nfoo\n# objectformat = md5\n",
+        "[core]repositoryformatversion=0\n[extensions]\npartialclone=o\nfoo\n# objectformat=md5\n",
         "sha1",
     ),
     (

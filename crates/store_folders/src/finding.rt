@@ -29,11 +29,11 @@ pub struct ObjectsFolder {
 }
 
 impl ObjectsFolder {
-    /// The objects folder at a path, with the kind that the config beside it says, as Git has it; or
-    /// SHA-1 if there is none. The environment adds no alternates.
+    /// The objects folder at a path, with the kind that the config beside it says. It is SHA-1 if
+    /// there is no config. The environment adds no alternates.
     ///
-    /// A folder is an objects folder if the folder `pack`, the file `info/alternates` or a folder of
-    /// loose objects is in it.
+    /// A folder is an objects folder if it has the folder `pack`, the file `info/alternates` or a
+    /// folder of loose objects.
     ///
     /// ```
     /// let folder = ObjectsFolder::at(rt, ".git/objects")?;
