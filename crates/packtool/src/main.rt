@@ -79,13 +79,7 @@ fn run<'a>(rt: &HostRuntime, words: &'a [String]) -> Result<u8, Failure<'a>> {
         Some((name @ ("show" | "check"), matches)) => {
             run_over_files(rt, name, matches, &mut out, &note)?
         }
-        Some((name, matches)) => {
-            if stores::run(rt, name, matches, &mut out, &note)? {
-                FOUND
-            } else {
-                NOTHING
-            }
-        }
+        Some((name, matches)) => { stores::run(rt, name, matches, &mut out, &note)? }
         None => FAILED,
     };
     match out.flush() {

@@ -1,55 +1,117 @@
 //! Commands over a store.
 
-ghost use Rattle.std.specs.Prelude.{◌≡◌, ◌≤◌, false, length, IfOk};
+ghost use Rattle.std.specs.Prelude.{◌≡◌, ◌≤◌, length, IfOk};
 ghost use Rattle.gix_hash.specs.Kind.{hex_len_of};
 
-use crate::arguments;
 use crate::failure::Failure;
 use crate::noted::Note;
+use crate::{FAILED, FOUND, NOTHING, arguments};
 use clap::ArgMatches;
 use gix_hash::{Kind, Prefix};
 use object_store::Store;
 use packtool_commands::{StoreError, find, locate, names};
-use store_folders::{FolderStore, find_objects};
+use store_folders::{FolderStore, LooseIds, ObjectsFolder, find_objects};
 use streams::Sink;
 
-/// Runs `find`, `where` or `names`, and returns whether there is an id to print.
+// How often a store is opened from which pack indexes are removed while it is read.
+const MAX_TRIES: usize = 10;
+
+/// Runs `find`, `where` or `names`, and returns the status. If a pack index is gone that was listed,
+/// the store is opened again, unless something may be written.
 pub fn run<'a, W: Sink>(
     rt: &HostRuntime,
     name: &str,
     matches: &ArgMatches<'a>,
     out: &mut W,
     note: &Note,
-) -> Result<bool, Failure<'a>>
-    requires { W.has_failed out.old ≡ false }
-{
-    let store = open(rt, matches)?;
-    let kind = store.object_hash();
-    let ran = match name {
-        "find" => find(rt.alloc(), &store, &read_prefix(matches, kind)?, out),
-        "where" => locate(rt.alloc(), &store, &read_prefix(matches, kind)?, out),
-        _ => names(rt.alloc(), &store, read_least(matches, kind), out),
-    };
+) -> Result<u8, Failure<'a>> {
+    let folder = objects_folder(rt, matches)?;
+    for _ in 1..MAX_TRIES {
+        let ran = run_once(rt, &folder, name, matches, out, note);
+        if name == "names" || !is_gone(&ran) {
+            return ran;
+        }
+    }
+    run_once(rt, &folder, name, matches, out, note)
+}
+
+// Whether a pack index was gone that was listed.
+fn is_gone(ran: &Result<u8, Failure<'_>>) -> bool {
     match ran {
-        Ok(any) => Ok(any),
-        Err(StoreError::Store(error)) => Err(Failure::Store(store.with_path(error))),
-        Err(StoreError::Output) => Err(Failure::Output(note.error())),
+        Err(Failure::Store(error)) => error.is_gone(),
+        _ => false,
     }
 }
 
-// The store of the objects folder that was asked for, or else of the one that Git would find.
-fn open<'a>(
+// Opens the store, and runs the command over it.
+fn run_once<'a, W: Sink>(
+    rt: &HostRuntime,
+    folder: &ObjectsFolder,
+    name: &str,
+    matches: &ArgMatches<'a>,
+    out: &mut W,
+    note: &Note,
+) -> Result<u8, Failure<'a>> {
+    if out.failed() {
+        return Err(Failure::Output(note.error()));
+    }
+    if name == "names" {
+        let store = FolderStore::open(rt, folder, LooseIds::All)?;
+        let least = read_least(matches, store.object_hash());
+        let ran = names(rt.alloc(), &store, least, out);
+        return status_of(rt, &store, ran, note);
+    }
+    let prefix = read_prefix(matches, folder.kind)?;
+    let loose = LooseIds::WithFirstByte(prefix.as_oid().first_byte());
+    let store = FolderStore::open(rt, folder, loose)?;
+    let ran = if name == "find" {
+        find(rt.alloc(), &store, &prefix, out)
+    } else {
+        store.check_loose_files(&prefix)?;
+        locate(rt.alloc(), &store, &prefix, out)
+    };
+    status_of(rt, &store, ran, note)
+}
+
+// The status of a command that ran over a store. What was passed over is printed, and the store was
+// not read whole then.
+fn status_of<'a>(
+    rt: &HostRuntime,
+    store: &FolderStore<HostRuntime>,
+    ran: Result<bool, StoreError>,
+    note: &Note,
+) -> Result<u8, Failure<'a>> {
+    let any = match ran {
+        Ok(any) => any,
+        Err(StoreError::Store(error)) => return Err(Failure::Store(store.with_path(error))),
+        Err(StoreError::Output) => return Err(Failure::Output(note.error())),
+    };
+    for error in store.passed_over() {
+        let _ = eprintln!(rt; "packtool: {error}, passed over");
+    }
+    if !store.passed_over().is_empty() {
+        Ok(FAILED)
+    } else if any {
+        Ok(FOUND)
+    } else {
+        Ok(NOTHING)
+    }
+}
+
+// The objects folder that was asked for, or else the one that Git would find, with the kind that was
+// asked for.
+fn objects_folder<'a>(
     rt: &HostRuntime,
     matches: &ArgMatches<'a>,
-) -> Result<FolderStore<HostRuntime>, Failure<'a>> {
-    let kind = arguments::kind(matches);
-    match matches.get_str("objects") {
-        Some(path) => Ok(FolderStore::open(rt, path, kind)?),
-        None => {
-            let found = find_objects(rt)?;
-            Ok(FolderStore::open(rt, found.path.as_str(), Some(kind.unwrap_or(found.kind)))?)
-        }
+) -> Result<ObjectsFolder, Failure<'a>> {
+    let mut folder = match matches.get_str("objects") {
+        Some(path) => ObjectsFolder::at(rt, path)?,
+        None => find_objects(rt)?,
+    };
+    if let Some(kind) = arguments::kind(matches) {
+        folder.kind = kind;
     }
+    Ok(folder)
 }
 
 // The fewest digits of a name that were asked for.

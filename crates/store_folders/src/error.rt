@@ -10,7 +10,7 @@ use thiserror::Error as ThisError;
 /// or file begins with its path.
 ///
 /// ```
-/// if let Err(error) = FolderStore::open(rt, ".git/objects", None) {
+/// if let Err(error) = FolderStore::open(rt, &find_objects(rt)?, LooseIds::All) {
 ///     println!(rt; "{error}")?;
 /// }
 /// ```
@@ -71,6 +71,30 @@ pub enum Error {
 }
 
 impl Error {
+    /// Whether a pack index was removed after it was listed, as by `git gc`, which has packed its
+    /// objects anew. The store is to be opened again.
+    ///
+    /// ```
+    /// match lookup_prefix(rt.alloc(), &store, &prefix) {
+    ///     Err(error) if store.with_path(error).is_gone() => println!(rt; "open it again")?,
+    ///     _ => {}
+    /// }
+    /// ```
+    pub fn is_gone(&self) -> bool {
+        match self {
+            Error::Index {
+                error: LazyError::Read(error),
+                ..
+            } => error.kind() == io::ErrorKind::NotFound,
+            _ => false,
+        }
+    }
+
+    // A pack index was removed.
+    pub(crate) fn gone(alloc: Global, path: &str) -> Error {
+        Error::index(alloc, path, LazyError::Read(io::ErrorKind::NotFound.into()))
+    }
+
     // A folder or file cannot be read.
     pub(crate) fn file(alloc: Global, path: &str, error: io::Error) -> Error {
         match String::from_str(alloc, path) {

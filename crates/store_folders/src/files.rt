@@ -4,7 +4,6 @@ use crate::error::Error;
 use gix_hash::Kind;
 use ref_store::config::kind_in_config;
 use std::alloc::AllocError;
-use std::fs::ReadDir;
 use std::path::Path;
 use std::rt::Files;
 use std::{fs, io};
@@ -20,18 +19,6 @@ pub(crate) fn is_missing(error: &io::Error) -> bool {
         error.kind(),
         io::ErrorKind::NotFound | io::ErrorKind::NotADirectory
     )
-}
-
-// The entries of a folder, or `None` if it is missing.
-pub(crate) fn entries_of<R: Files + AllocGlobal + Clone + Drop>(
-    rt: &R,
-    path: &str,
-) -> io::Result<Option<ReadDir<R>>> {
-    match fs::read_dir(rt, path) {
-        Ok(entries) => Ok(Some(entries)),
-        Err(error) if error.kind() == io::ErrorKind::NotFound => Ok(None),
-        Err(error) => Err(error),
-    }
 }
 
 // The bytes of a file, or `None` if there is no such file.

@@ -16,7 +16,7 @@ const ALTERNATES: &str = "GIT_ALTERNATE_OBJECT_DIRECTORIES";
 ///
 /// ```
 /// let folder = find_objects(rt)?;
-/// let store = FolderStore::open(rt, &folder.path, Some(folder.kind))?;
+/// let store = FolderStore::open(rt, &folder, LooseIds::All)?;
 /// ```
 #[derive(Debug, Drop)]
 pub struct ObjectsFolder {
@@ -37,7 +37,7 @@ impl ObjectsFolder {
     ///
     /// ```
     /// let folder = ObjectsFolder::at(rt, ".git/objects")?;
-    /// let store = FolderStore::open(rt, &folder.path, Some(folder.kind))?;
+    /// let store = FolderStore::open(rt, &folder, LooseIds::All)?;
     /// ```
     pub fn at<R: Files + AllocGlobal>(rt: &R, path: &str) -> Result<ObjectsFolder, Error> {
         if !is_store(rt, path)? {

@@ -2,72 +2,139 @@
 
 use crate::error::Error;
 use crate::files::{is_missing, join, read_bytes, real_folder};
+use crate::finding::ObjectsFolder;
 use ref_store::alternates::alternate_paths;
+use std::alloc::AllocError;
+use std::io;
 use std::rt::Files;
 
-// How deep alternates of alternates are nested at most, as in Git: the list of the folder itself,
-// and those of five more, one named by the other.
-const MAX_DEPTH: u8 = 5;
+// How many levels of alternates are read, as by Git: those of the folder itself, and five more, each
+// named by the one before.
+const LEVELS: u8 = 6;
 
-// An objects folder, and its alternates by their absolute paths, each folder once.
-pub(crate) fn with_alternates<R: Files + AllocGlobal>(
-    rt: &R,
-    objects: &str,
-) -> Result<Vec<String>, Error> {
-    let alloc = rt.alloc();
-    let real = real_folder(rt, objects).map_err(|error| Error::file(alloc, objects, error))?;
-    let mut folders = Vec::new(alloc);
-    folders.push(real.clone()?)?;
-    push_alternates(rt, &real, MAX_DEPTH, &mut folders)?;
-    // Errors show the path as it was given.
-    if let Some(first) = folders.first_mut() {
-        *first = String::from_str(alloc, objects)?;
-    }
-    Ok(folders)
+// An objects folder and its alternates, each once, and why others are passed over.
+#[derive(Drop)]
+pub(crate) struct Folders {
+    // The folder as it was given, and the absolute paths of the alternates.
+    pub(crate) paths: Vec<String>,
+    pub(crate) passed_over: Vec<Error>,
 }
 
-// Adds the alternates of a folder that are not there yet, and their own down to that depth. Those
-// that are no folders are passed over.
-fn push_alternates<R: Files + AllocGlobal>(
+// An objects folder and its alternates: those of the environment, and then those of its list, as
+// Git links them.
+pub(crate) fn with_alternates<R: Files + AllocGlobal>(
     rt: &R,
-    folder: &str,
-    deeper: u8,
-    folders: &mut Vec<String>,
-) -> Result<(), Error> {
+    objects: &ObjectsFolder,
+) -> Result<Folders, Error> {
     let alloc = rt.alloc();
-    let list = join(rt, folder, "info/alternates")?;
-    let Some(text) = read_bytes(rt, &list)? else {
-        return Ok(());
+    let path = objects.path.as_str();
+    let real = real_folder(rt, path).map_err(|error| Error::file(alloc, path, error))?;
+    let mut found = Folders {
+        paths: Vec::new(alloc),
+        passed_over: Vec::new(alloc),
     };
-    for path in alternate_paths(alloc, &text, b'\n')? {
-        let Some(real) = named_folder(rt, folder, &list, path)? else {
-            continue;
-        };
-        if folders.contains(&real) {
-            continue;
-        }
-        folders.push(real.clone()?)?;
-        if deeper > 0 {
-            push_alternates(rt, &real, deeper - 1, folders)?;
+    found.paths.push(real.clone()?)?;
+    push_folders(rt, &objects.alternates, LEVELS, &mut found)?;
+    let alternates = alternates_of(rt, &real, &mut found.passed_over)?;
+    push_folders(rt, &alternates, LEVELS, &mut found)?;
+    // Errors show the path as it was given.
+    if let Some(first) = found.paths.first_mut() {
+        *first = String::from_str(alloc, path)?;
+    }
+    Ok(found)
+}
+
+// Adds folders, and their alternates, of so many levels together.
+fn push_folders<R: Files + AllocGlobal>(
+    rt: &R,
+    paths: &[String],
+    levels: u8,
+    found: &mut Folders,
+) -> Result<(), Error> {
+    for path in paths {
+        if let Some(alternates) = push_folder(rt, path, levels, found)?
+            && levels > 0
+        {
+            push_folders(rt, &alternates, levels - 1, found)?;
         }
     }
     Ok(())
 }
 
-// The absolute path of the folder that a list of alternates names, if there is one.
-fn named_folder<R: Files + AllocGlobal>(
+// Adds a folder, and returns its alternates. Returns none if it is there already, or is passed over:
+// it cannot be read, or no level is left.
+fn push_folder<R: Files + AllocGlobal>(
+    rt: &R,
+    path: &str,
+    levels: u8,
+    found: &mut Folders,
+) -> Result<Option<Vec<String>>, Error> {
+    let real = match real_folder(rt, path) {
+        Ok(real) => real,
+        Err(error) => {
+            let error = unusable(rt, path, error)?;
+            found.passed_over.push(error)?;
+            return Ok(None);
+        }
+    };
+    if found.paths.contains(&real) {
+        return Ok(None);
+    }
+    if levels == 0 {
+        let error = Error::text(rt.alloc(), path, "nested more than 5 deep");
+        found.passed_over.push(error)?;
+        return Ok(None);
+    }
+    let alternates = alternates_of(rt, &real, &mut found.passed_over)?;
+    found.paths.push(real)?;
+    Ok(Some(alternates))
+}
+
+// Why an alternate is passed over that is no folder, or that cannot be read.
+fn unusable(rt: &impl AllocGlobal, path: &str, error: io::Error) -> Result<Error, Error> {
+    if error.kind() == io::ErrorKind::OutOfMemory {
+        return Err(Error::Memory(AllocError));
+    }
+    match path.strip_suffix('\r') {
+        Some(path) if is_missing(&error) => {
+            let why = "its line ends in a carriage return";
+            Ok(Error::text(rt.alloc(), path, why))
+        }
+        _ => Ok(Error::file(rt.alloc(), path, error)),
+    }
+}
+
+// The paths in the list of alternates of a folder. Those that are not UTF-8 are passed over.
+fn alternates_of<R: Files + AllocGlobal>(
     rt: &R,
     folder: &str,
-    list: &str,
+    passed_over: &mut Vec<Error>,
+) -> Result<Vec<String>, Error> {
+    let mut paths = Vec::new(rt.alloc());
+    let list = join(rt, folder, "info/alternates")?;
+    if let Some(text) = read_bytes(rt, &list)? {
+        for path in alternate_paths(rt.alloc(), &text, b'\n')? {
+            if !push_path(rt, folder, path, &mut paths)? {
+                let error = Error::text(rt.alloc(), &list, "a path is not UTF-8");
+                passed_over.push(error)?;
+            }
+        }
+    }
+    Ok(paths)
+}
+
+// Adds a path that the list of a folder names, if it is UTF-8, and returns whether it is.
+fn push_path(
+    rt: &impl AllocGlobal,
+    folder: &str,
     path: Vec<u8>,
-) -> Result<Option<String>, Error> {
-    let Ok(path) = String::from_utf8(path) else {
-        return Err(Error::text(rt.alloc(), list, "a path is not UTF-8"));
-    };
-    let path = join(rt, folder, &path)?;
-    match real_folder(rt, &path) {
-        Ok(real) => Ok(Some(real)),
-        Err(error) if is_missing(&error) => Ok(None),
-        Err(error) => Err(Error::file(rt.alloc(), &path, error)),
+    paths: &mut Vec<String>,
+) -> Result<bool, AllocError> {
+    match String::from_utf8(path) {
+        Ok(path) => {
+            paths.push(join(rt, folder, &path)?)?;
+            Ok(true)
+        }
+        Err(_) => Ok(false),
     }
 }

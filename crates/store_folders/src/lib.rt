@@ -9,11 +9,15 @@ mod error;
 mod files;
 mod finding;
 mod folders;
+mod listing;
 mod loose;
 mod packs;
 mod repository;
+mod source;
 mod store;
 
 pub use error::Error;
 pub use finding::{ObjectsFolder, find_objects};
+pub use loose::LooseIds;
+pub use source::Source;
 pub use store::FolderStore;

@@ -1,57 +1,175 @@
-//! The ids of loose objects, by the names of their files.
+//! The loose objects in objects folders, by the names of their files.
 
-ghost use Rattle.std.specs.Prelude.{◌≡◌, All, IfSome, OnOk};
-ghost use Rattle.gix_hash.specs.ObjectId.{id_kind};
+ghost use Rattle.std.specs.Prelude.{◌≡◌, ◌++◌, All, IfOk, IfSome, OnOk, map, nat_eq, string_bytes};
+ghost use Rattle.std.specs.Cmp.Lexicographic.{pointwise};
+ghost use Rattle.gix_hash.specs.ObjectId.{id_digits, id_kind};
+ghost use Rattle.store_folders.specs.LoosePaths.{path_in, paths_in};
 
-use crate::files::entries_of;
+use crate::error::Error;
+use crate::listing::names_in;
 use gix_hash::{Kind, ObjectId};
-use ref_store::paths::read_loose_path;
-use std::alloc::{AllocError, Allocator, Global};
-use std::io;
+use ref_store::paths::{read_loose_path, write_loose_path};
+use std::alloc::{AllocError, Global};
 use std::rt::Files;
 
-// The path of the file of a loose object in an objects folder.
-pub(crate) fn loose_path(alloc: Global, folder: &str, id: &ObjectId) -> Result<String, AllocError> {
-    let digits = format!(in alloc; "{id}")?;
-    let (first, others) = digits.split_at_checked(2).unwrap_or(("", ""));
-    format!(in alloc; "{folder}/{first}/{others}")
+/// Which loose objects of a store are listed as it is opened: those that will be asked for.
+///
+/// ```
+/// let loose = LooseIds::WithFirstByte(prefix.as_oid().first_byte());
+/// let store = FolderStore::open(rt, &find_objects(rt)?, loose)?;
+/// ```
+#[derive(Clone, Copy, Debug)]
+pub enum LooseIds {
+    /// All of them.
+    All,
+    /// Those whose ids have a first byte. A look-up of another byte finds no loose object.
+    WithFirstByte(u8),
+}
+
+// An objects folder, and the ids of the loose objects that were listed in it.
+#[derive(Drop)]
+pub(crate) struct LooseFolder {
+    pub(crate) path: String,
+    pub(crate) ids: Vec<ObjectId>,
+}
+
+// The ids of the loose objects that were listed.
+#[derive(Drop)]
+pub(crate) struct LooseObjects {
+    // Those of each folder.
+    pub(crate) folders: Vec<LooseFolder>,
+    // Those of all folders.
+    pub(crate) ids: Vec<ObjectId>,
+}
+
+// Lists the loose objects in objects folders.
+pub(crate) fn list_loose<R: Files + AllocGlobal>(
+    rt: &R,
+    paths: &[String],
+    kind: Kind,
+    which: LooseIds,
+) -> Result<LooseObjects, Error>
+    ensures { IfOk result (λ loose. All (λ id. id_kind id ≡ kind) loose.ids.items) }
+{
+    let mut loose = LooseObjects {
+        folders: Vec::new(rt.alloc()),
+        ids: Vec::new(rt.alloc()),
+    };
+    for path in paths {
+        let folder = list_folder(rt, path, kind, which)?;
+        loose.ids.extend_from_slice(&folder.ids)?;
+        loose.folders.push(folder)?;
+    }
+    Ok(loose)
+}
+
+// Lists the loose objects in an objects folder.
+fn list_folder<R: Files + AllocGlobal>(
+    rt: &R,
+    path: &str,
+    kind: Kind,
+    which: LooseIds,
+) -> Result<LooseFolder, Error>
+    ensures { IfOk result (λ folder. All (λ id. id_kind id ≡ kind) folder.ids.items) }
+{
+    let (first, last) = match which {
+        LooseIds::All => (0, u8::MAX),
+        LooseIds::WithFirstByte(byte) => (byte, byte),
+    };
+    let mut ids = Vec::new(rt.alloc());
+    for byte in first..=last {
+        push_part(rt, path, kind, byte, &mut ids)?;
+    }
+    let path = String::from_str(rt.alloc(), path)?;
+    Ok(LooseFolder { path, ids })
 }
 
 // Adds the ids of the loose objects in an objects folder that have a first byte. Names that are no
 // loose object's are passed over, as those of temporary files and names in capitals.
-pub(crate) fn push_loose<R: Files + AllocGlobal + Clone + Drop, A: Allocator>(
+fn push_part<R: Files + AllocGlobal>(
     rt: &R,
     folder: &str,
     kind: Kind,
     byte: u8,
-    ids: &mut Vec<ObjectId, A>,
-) -> io::Result<()>
+    ids: &mut Vec<ObjectId>,
+) -> Result<(), Error>
     ensures { OnOk result (All (λ id. id_kind id ≡ kind) ids.old.items
         → All (λ id. id_kind id ≡ kind) ids.new.items) }
 {
     let path = format!(in rt.alloc(); "{folder}/{byte:02x}")?;
-    let Some(entries) = entries_of(rt, &path)? else {
-        return Ok(());
-    };
-    for entry in entries {
-        match entry {
-            Ok(entry) => {
-                if let Some(id) = loose_id(kind, folder, entry.path().as_str()) {
-                    ids.push(id)?;
-                }
-            }
-            // A name that is not UTF-8 is no loose object's.
-            Err(error) if error.kind() == io::ErrorKind::InvalidFilename => {}
-            Err(error) => return Err(error),
+    let names = names_in(rt, &path)?;
+    Ok(push_ids(kind, byte, &names, ids)?)
+}
+
+// Adds the ids of the loose objects whose files have these names, each ended by a NUL, in the folder
+// of a first byte.
+fn push_ids(kind: Kind, byte: u8, names: &[u8], ids: &mut Vec<ObjectId>) -> Result<(), AllocError>
+    ensures { OnOk result (All (λ id. id_kind id ≡ kind) ids.old.items
+        → All (λ id. id_kind id ≡ kind) ids.new.items) }
+{
+    for name in names.split(|byte| *byte == 0) {
+        if let Some(id) = loose_id(kind, byte, name) {
+            ids.push(id)?;
         }
     }
     Ok(())
 }
 
-// The id of the loose object whose file has this path, in an objects folder.
-fn loose_id(kind: Kind, folder: &str, path: &str) -> Option<ObjectId>
+// The id of the loose object whose file has this name, in the folder of a first byte.
+fn loose_id(kind: Kind, byte: u8, name: &[u8]) -> Option<ObjectId>
     ensures { IfSome result (λ id. id_kind id ≡ kind) }
 {
-    let path = path.strip_prefix(folder)?.strip_prefix('/')?;
-    read_loose_path(kind, path.as_bytes())
+    let mut path = [b'/'; 65];
+    if name.len() > 62 {
+        return None;
+    }
+    let len = 3 + name.len();
+    path[0] = HEX[usize::from(byte / 16)];
+    path[1] = HEX[usize::from(byte % 16)];
+    path[3..len].copy_from_slice(name);
+    read_loose_path(kind, &path[..len])
+}
+
+const HEX: [u8; 16] = *b"0123456789abcdef";
+
+// Adds the paths of the files of a loose object in an objects folder where these are listed.
+pub(crate) fn push_paths(
+    alloc: Global,
+    folder: &str,
+    ids: &[ObjectId],
+    id: &ObjectId,
+    paths: &mut Vec<String>,
+) -> Result<(), AllocError>
+    ensures { OnOk result (map string_bytes paths.new.items ≡ map string_bytes paths.old.items
+        ++ paths_in folder.now (map id_digits ids.now) (id_digits id.now)) }
+{
+    for loose in ids {
+        if has_digits_of(loose, id) {
+            paths.push(loose_path(alloc, folder, loose)?)?;
+        }
+    }
+    Ok(())
+}
+
+// Whether two ids have the same digits.
+fn has_digits_of(loose: &ObjectId, id: &ObjectId) -> bool
+    ensures { result ≡ pointwise nat_eq (id_digits loose.now) (id_digits id.now) }
+{
+    loose.as_oid() == id.as_oid()
+}
+
+// The path of the file of a loose object in an objects folder.
+pub(crate) fn loose_path(alloc: Global, folder: &str, id: &ObjectId) -> Result<String, AllocError>
+    ensures { IfOk result (λ path. string_bytes path ≡ path_in folder.now (id_digits id.now)) }
+{
+    let mut path = folder.as_bytes().to_vec(alloc)?;
+    path.push(b'/')?;
+    let Ok(()) = write_loose_path(id, &mut path) else {
+        return Err(AllocError);
+    };
+    // It is UTF-8, as the folder's and the digits are.
+    match String::from_utf8(path) {
+        Ok(path) => Ok(path),
+        Err(_) => Err(AllocError),
+    }
 }

@@ -1,78 +1,119 @@
 //! An object store in folders.
 
 ghost use Rattle.std.specs.Prelude.{◌≡◌, All};
+ghost use Rattle.gix_hash.specs.ObjectId.{id_kind};
 
 use crate::error::Error;
-use crate::files::kind_beside;
+use crate::finding::ObjectsFolder;
 use crate::folders::with_alternates;
-use crate::loose::{loose_path, push_loose};
-use crate::packs::{index_paths, open_indexes, pack_paths};
-use gix_hash::{Kind, ObjectId};
+use crate::loose::{LooseIds, LooseObjects, list_loose, loose_path, push_paths};
+use crate::packs::{PackIndexes, open_indexes, pack_paths};
+use crate::source::Source;
+use gix_hash::{Kind, ObjectId, Prefix};
 use object_store::{Store, StorePaths};
 use pack_index::LazyFile;
-use std::alloc::{AllocError, Allocator};
-use std::cell::Cell;
+use std::alloc::AllocError;
+use std::cmp::Ordering;
 use std::fs::File;
 use std::rt::Files;
 use std::{fs, io};
 
-/// The object store of an objects folder and its alternates: the pack indexes whose packs are
-/// there, which stay open, and the loose objects, which are listed at each look-up.
+// How often a store that changes while it is read is read.
+const MAX_TRIES: usize = 100;
+
+/// The object store of an objects folder and its alternates, as it was when it was opened: the pack
+/// indexes whose packs are there, and the ids of loose objects. A look-up lists nothing.
 ///
 /// ```
-/// let store = FolderStore::open(rt, ".git/objects", None)?;
+/// let store = FolderStore::open(rt, &find_objects(rt)?, LooseIds::All)?;
 /// println!(rt; "{} pack indexes", store.indexes().len())?;
 /// ```
 #[derive(Drop)]
-pub struct FolderStore<R> {
+pub struct FolderStore<R: Files<File = File>> {
     rt: R,
     kind: Kind,
-    folders: Vec<String>,
+    passed_over: Vec<Error>,
     paths: Vec<String>,
     packs: Vec<String>,
-    indexes: Vec<LazyFile<File>>,
-    // The folder whose loose objects were listed last, or in which the file of this one was looked
-    // for.
-    listed: Cell<(usize, Option<ObjectId>)>,
+    indexes: Vec<LazyFile<Source<R>>>,
+    loose: LooseObjects,
     ghost of_kind: { All (λ index. index.kind ≡ kind) indexes.items },
+    ghost loose_of_kind: { All (λ id. id_kind id ≡ kind) loose.ids.items },
 }
 
 impl<R: Files<File = File> + AllocGlobal + Clone + Drop> FolderStore<R> {
-    ghost use Rattle.std.specs.Prelude.{IfOk, IfSome};
+    ghost use Rattle.std.specs.Prelude.{IfOk};
 
-    /// Opens the store of an objects folder.
+    /// Opens the store of an objects folder, whose ids are of the folder's kind.
     ///
-    /// With no kind, it is the one that `extensions.objectformat` says in the file `config` next to
-    /// the folder, as Git does, or else SHA-1.
+    /// No object is missed that is packed meanwhile, as by `git gc`. If pack indexes are removed
+    /// while the store is opened, it is read again, up to 100 times; then it is an error.
     ///
-    /// The folder's alternates are read as by Git: each once, nested up to 5 times, and passed over
-    /// if they are no folders. A folder `pack` or of loose objects may be missing. Any other
-    /// failure is an error.
-    pub fn open(rt: &R, objects: &str, kind: Option<Kind>) -> Result<FolderStore<R>, Error>
-        ensures { IfSome kind (λ kind. IfOk result (λ store. store.kind ≡ kind)) }
+    /// The folder's alternates are read as by Git: each once, and nested up to 5 times. Those that
+    /// cannot be used are passed over ([`FolderStore::passed_over`]). A folder `pack` or of loose
+    /// objects may be missing. Any other failure is an error.
+    ///
+    /// ```
+    /// let store = FolderStore::open(rt, &ObjectsFolder::at(rt, ".git/objects")?, LooseIds::All)?;
+    /// ```
+    pub fn open(rt: &R, folder: &ObjectsFolder, loose: LooseIds) -> Result<FolderStore<R>, Error>
+        ensures { IfOk result (λ store. store.kind ≡ folder.now.kind) }
     {
-        let kind = match kind {
-            Some(kind) => kind,
-            None => kind_beside(rt, objects)?,
-        };
-        let folders = with_alternates(rt, objects)?;
-        let paths = index_paths(rt, &folders)?;
+        for _ in 0..MAX_TRIES {
+            match FolderStore::read(rt, folder, loose) {
+                Ok(store) => return Ok(store),
+                Err(error) => {
+                    if !error.is_gone() {
+                        return Err(error);
+                    }
+                }
+            }
+        }
+        Err(Error::text(rt.alloc(), &folder.path, "changes while it is read"))
+    }
+
+    // Reads the store once. The order makes that no object is missed that is there all the time. One
+    // that is packed is in a pack before its loose file is removed, and in the new pack before the
+    // old one is: so the loose objects are listed before the packs. One that is taken out of a pack
+    // is loose before the pack is removed: so the packs are listed before the loose objects too, and
+    // none of them may be gone after. (A pack that came and went in between is not noticed.)
+    fn read(rt: &R, folder: &ObjectsFolder, loose: LooseIds) -> Result<FolderStore<R>, Error>
+        ensures { IfOk result (λ store. store.kind ≡ folder.now.kind) }
+    {
+        let kind = folder.kind;
+        let folders = with_alternates(rt, folder)?;
+        let before = PackIndexes::list(rt, &folders.paths)?;
+        let loose = list_loose(rt, &folders.paths, kind, loose)?;
+        let after = PackIndexes::list(rt, &folders.paths)?;
+        after.expect_all(rt.alloc(), &before)?;
+        let paths = after.with_packs(rt)?;
         let packs = pack_paths(rt.alloc(), &paths)?;
         let indexes = open_indexes(rt, &paths, kind)?;
+        let mut passed_over = folders.passed_over;
+        let mut unnamed = after.passed_over;
+        passed_over.append(&mut unnamed)?;
         Ok(FolderStore {
             rt: rt.clone()?,
             kind,
-            folders,
+            passed_over,
             paths,
             packs,
             indexes,
-            listed: Cell::new((0, None)),
+            loose,
         })
     }
 
-    /// The objects folders: the one that was opened, and the absolute paths of its alternates.
-    pub fn folders(&self) -> &[String] {
-        &self.folders
+    /// What was not read: the alternates that are missing, are no folders, cannot be read or are
+    /// nested too deep, and the pack indexes whose names are not UTF-8. Each has its path, or that of
+    /// its folder, and why.
+    ///
+    /// ```
+    /// for error in store.passed_over() {
+    ///     eprintln!(rt; "{error}, passed over")?;
+    /// }
+    /// ```
+    pub fn passed_over(&self) -> &[Error] {
+        &self.passed_over
     }
 
     /// The path of the pack index at this index among `indexes()`, if there is one.
@@ -80,74 +121,92 @@ impl<R: Files<File = File> + AllocGlobal + Clone + Drop> FolderStore<R> {
         self.paths.get(at).map(|path| path.as_str())
     }
 
-    /// The error of a look-up in this store, with the path of the pack index, or of the objects
-    /// folder whose loose objects cannot be listed, or of the loose object. It is the error of the
-    /// last look-up.
+    /// The error of a look-up in this store, with the path of the pack index.
     pub fn with_path(&self, error: object_store::Error) -> Error {
-        let alloc = self.rt.alloc();
         match error {
             object_store::Error::Index { at, error } => {
-                Error::index(alloc, self.index_path(at).unwrap_or("pack index"), error)
+                let path = self.index_path(at).unwrap_or("pack index");
+                Error::index(self.rt.alloc(), path, error)
             }
-            object_store::Error::Loose(error) => match self.listed_path() {
-                Ok(path) => Error::file(alloc, &path, error),
-                Err(error) => Error::Memory(error),
-            },
             object_store::Error::Memory(error) => Error::Memory(error),
         }
     }
 
-    // The path of the folder or the loose object that was read last.
-    fn listed_path(&self) -> Result<String, AllocError> {
-        let (at, id) = self.listed.get();
-        let folder = self
-            .folders
-            .get(at)
-            .map_or("objects", |folder| folder.as_str());
-        match id {
-            Some(id) => loose_path(self.rt.alloc(), folder, &id),
-            None => String::from_str(self.rt.alloc(), folder),
+    /// Checks the files of the loose objects whose ids begin with a prefix: one that is a link to
+    /// nothing is an error with its path. A file that was removed since it was listed is none.
+    ///
+    /// ```
+    /// store.check_loose_files(&prefix)?;
+    /// ```
+    pub fn check_loose_files(&self, prefix: &Prefix) -> Result<(), Error> {
+        for folder in &self.loose.folders {
+            for id in &folder.ids {
+                if begins_with(id, prefix) {
+                    self.check_loose_file(&folder.path, id)?;
+                }
+            }
+        }
+        Ok(())
+    }
+
+    // Checks the file of a loose object in a folder.
+    fn check_loose_file(&self, folder: &str, id: &ObjectId) -> Result<(), Error> {
+        let path = loose_path(self.rt.alloc(), folder, id)?;
+        let Err(error) = fs::metadata(&self.rt, path.as_str()) else {
+            return Ok(());
+        };
+        let is_gone = match fs::symlink_metadata(&self.rt, path.as_str()) {
+            Ok(_) => false,
+            Err(error) => error.kind() == io::ErrorKind::NotFound,
+        };
+        if is_gone {
+            Ok(())
+        } else {
+            Err(Error::file(self.rt.alloc(), &path, error))
         }
     }
 }
 
-/// What files contain is not known, and neither are the names of loose objects.
-impl<R: Files<File = File> + AllocGlobal + Clone + Drop> Store for FolderStore<R> {
-    ghost use Rattle.std.specs.Prelude.{None};
+// Whether an id begins with a prefix.
+fn begins_with(id: &ObjectId, prefix: &Prefix) -> bool {
+    prefix.hex_len() <= id.kind().len_in_hex() && prefix.cmp_oid(id.as_oid()) == Ordering::Equal
+}
 
-    type Source = File;
+/// What files contain is not known.
+impl<R: Files<File = File> + AllocGlobal + Clone + Drop> Store for FolderStore<R> {
+    ghost use Rattle.std.specs.Prelude.{map};
+    ghost use Rattle.gix_hash.specs.ObjectId.{id_digits};
+
+    type Source = Source<R>;
 
     ghost kind = { λ store. store.kind };
 
     ghost packs = { λ store. store.indexes.items };
 
-    ghost loose = { λ _. None };
+    ghost loose = { λ store. map id_digits store.loose.ids.items };
 
     fn object_hash(&self) -> Kind {
         self.kind
     }
 
-    fn indexes(&self) -> &[LazyFile<File>] {
+    fn indexes(&self) -> &[LazyFile<Source<R>>] {
         &self.indexes
     }
 
-    fn loose_ids<A: Allocator>(&self, alloc: A, byte: u8) -> io::Result<Vec<ObjectId, A>> {
-        let mut ids = Vec::new(alloc);
-        for (at, folder) in self.folders.iter().enumerate() {
-            self.listed.set((at, None));
-            push_loose(&self.rt, folder, self.kind, byte, &mut ids)?;
-        }
-        Ok(ids)
+    fn loose_ids(&self) -> &[ObjectId] {
+        &self.loose.ids
     }
 }
 
-/// Which loose objects have files is not known.
 impl<R: Files<File = File> + AllocGlobal + Clone + Drop> StorePaths for FolderStore<R> {
-    ghost use Rattle.std.specs.Prelude.{None, [], map, slice_index_or, string_bytes};
+    ghost use Rattle.std.specs.Prelude.{[], flat_map, map, slice_index_or, string_bytes};
+    ghost use Rattle.gix_hash.specs.ObjectId.{id_digits};
+    ghost use Rattle.store_folders.specs.LoosePaths.{paths_in};
 
     ghost pack_path = { λ store pack. slice_index_or (map string_bytes store.packs.items) pack [] };
 
-    ghost loose_paths = { λ _. None };
+    ghost loose_paths = { λ store digits. flat_map (λ folder. paths_in (string_bytes folder.path)
+        (map id_digits folder.ids.items) digits) store.loose.folders.items };
 
     fn pack_path(&self, pack: usize) -> &str {
         match self.packs.get(pack) {
@@ -157,14 +216,11 @@ impl<R: Files<File = File> + AllocGlobal + Clone + Drop> StorePaths for FolderSt
     }
 
     // In the order of the folders.
-    fn loose_paths(&self, id: &ObjectId) -> io::Result<Vec<String>> {
-        let mut paths = Vec::new(self.rt.alloc());
-        for (at, folder) in self.folders.iter().enumerate() {
-            self.listed.set((at, Some(*id)));
-            let path = loose_path(self.rt.alloc(), folder, id)?;
-            if fs::exists(&self.rt, path.as_str())? {
-                paths.push(path)?;
-            }
+    fn loose_paths(&self, id: &ObjectId) -> Result<Vec<String>, AllocError> {
+        let alloc = self.rt.alloc();
+        let mut paths = Vec::new(alloc);
+        for folder in &self.loose.folders {
+            push_paths(alloc, &folder.path, &folder.ids, id, &mut paths)?;
         }
         Ok(paths)
     }

@@ -1,0 +1,6 @@
+use Rattle.std.proofs.Common.{All, ◌≡◌}
+use Rattle.gix_hash.specs.ObjectId.{id_kind}
+use Rattle.store_folders.proofs.loose.push_ids.Given as goal
+
+abbrev pub invariant-loop-name : goal.invariant-loop-name
+invariant-loop-name l = All (λ id. id_kind id ≡ l.kind) l.fn.ids.items → All (λ id. id_kind id ≡ l.kind) l.ids.items

@@ -1,0 +1,10 @@
+use Rattle.std.proofs.Common.{◌≡◌, map, take, string_bytes}
+use Rattle.std.specs.List.{flat_map}
+use Rattle.gix_hash.specs.ObjectId.{id_digits}
+use Rattle.store_folders.specs.LoosePaths.{paths_in}
+use Rattle.store_folders.specs.declared.loose.LooseFolder.{LooseFolder}
+use Rattle.store_folders.proofs.store.FolderStoreStorePaths.loose_paths.Given as goal
+
+abbrev pub invariant-loop-folder : goal.invariant-loop-folder
+invariant-loop-folder g l =
+    map string_bytes l.paths.items ≡ flat_map (λ (f : LooseFolder). paths_in (string_bytes f.path) (map id_digits f.ids.items) (id_digits l.id)) (take l.folder-index l.self.loose.folders.items)

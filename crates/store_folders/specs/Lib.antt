@@ -1,0 +1,2 @@
+-- Object stores in folders.
+pub mod LoosePaths
