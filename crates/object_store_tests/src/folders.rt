@@ -10,7 +10,7 @@ use std::path::Path;
 use std::process::Abort;
 use std::rt::Files;
 use std::test::Fail;
-use store_folders::FolderStore;
+use store_folders::{Error, FolderStore, LooseIds, ObjectsFolder};
 use test_devices::ids::{ids_of, pack_index};
 
 /// The id of an object in a pack.
@@ -19,7 +19,8 @@ pub const PACKED: &str = "4b825dc642cb6eb9a060e54bf8d69288fbee4904";
 /// The id of an object in a pack and loose.
 pub const BOTH: &str = "4b90000000000000000000000000000000000000";
 
-const LOOSE: &str = "4bffffffffffffffffffffffffffffffffffffff";
+/// The id of a loose object.
+pub const LOOSE: &str = "4bffffffffffffffffffffffffffffffffffffff";
 
 const SECOND: &str = "4b01000000000000000000000000000000000000";
 
@@ -64,6 +65,14 @@ pub fn make<R: Files + AllocGlobal>(
     Ok(())
 }
 
+/// The store of an objects folder, with all its loose objects.
+pub fn open<R: Files<File = File> + AllocGlobal + Clone + Drop>(
+    rt: &R,
+    objects: &str,
+) -> Result<FolderStore<R>, Error> {
+    FolderStore::open(rt, &ObjectsFolder::at(rt, objects)?, LooseIds::All)
+}
+
 // A store with two alternates, the second by the first, and what is to be passed over.
 const EMPTY: [&str; 8] = [
     "stores/main/objects/pack/pack-1.pack",
@@ -103,13 +112,13 @@ const PREFIXES: [(&str, &[&str]); 3] = [
 #[test]
 fn looked_up_in_all_folders(rt: HostRuntime) -> Result<(), Fail> {
     make(&rt, &EMPTY, &FILES, &INDEXES)?;
-    let store = FolderStore::open(&rt, "stores/main/objects", None)?;
+    let store = open(&rt, "stores/main/objects")?;
     for (prefix, want) in PREFIXES {
         expect_ids(&rt, &find(&rt, rt.alloc(), &store, prefix)?, want);
     }
     expect_paths(&rt, &store);
-    let counts = (store.folders().len(), store.indexes().len());
-    expect!(&rt; store.object_hash() == Kind::Sha1 && counts == (3, 2));
+    let counts = (store.passed_over().len(), store.indexes().len());
+    expect!(&rt; store.object_hash() == Kind::Sha1 && counts == (1, 2));
     let index = store.index_path(0);
     expect!(&rt; index == Some("stores/main/objects/pack/pack-1.idx"));
     expect!(&rt; store.index_path(2).is_none());
@@ -132,43 +141,39 @@ fn expect_paths<S: StorePaths>(rt: &impl Abort, store: &S) {
     }
 }
 
-const WITH_FAULTS: [&str; 3] = [
+const WITH_FAULTS: [&str; 4] = [
+    "with_faults/objects/pack/pack-0.pack",
     "with_faults/objects/pack/pack-1.pack",
-    "with_faults/objects/22",
-    "with_faults/md5/objects/none",
+    "with_faults/22/22",
+    "with_faults/file/pack",
 ];
 
-// Objects folders, their kinds, prefixes, and the errors of opening or of looking up.
-const ERRORS: [(&str, Option<Kind>, &str, &str); 5] = [
+// Objects folders, their kinds, and the errors of opening them or of looking up in them.
+const ERRORS: [(&str, Kind, &str); 5] = [
     (
         "with_faults/objects",
-        Some(Kind::Sha256),
-        "11",
-        "with_faults/objects/pack/pack-1.idx: the tables of the pack index do not fill its bytes",
+        Kind::Sha256,
+        "with_faults/objects/pack/pack-0.idx: the tables of the pack index do not fill its bytes",
     ),
     (
         "with_faults/gone",
-        None,
-        "11",
+        Kind::Sha1,
         "with_faults/gone: No such file or directory (os error 2)",
     ),
     (
-        "with_faults/md5/objects",
-        None,
-        "11",
-        "with_faults/md5/objects/../config: extensions.objectformat is neither sha1 nor sha256",
-    ),
-    (
         "with_faults/objects",
-        None,
-        "11",
+        Kind::Sha1,
         "with_faults/objects/pack/pack-1.idx: the count of the first byte 17 is below the one before it",
     ),
     (
-        "with_faults/objects",
-        None,
-        "22",
-        "with_faults/objects: Not a directory (os error 20)",
+        "with_faults/22",
+        Kind::Sha1,
+        "with_faults/22/22: Not a directory (os error 20)",
+    ),
+    (
+        "with_faults/file",
+        Kind::Sha1,
+        "with_faults/file/pack: Not a directory (os error 20)",
     ),
 ];
 
@@ -176,14 +181,18 @@ const ERRORS: [(&str, Option<Kind>, &str, &str); 5] = [
 fn error_of<R: Abort + Files<File = File> + AllocGlobal + Clone + Drop>(
     rt: &R,
     objects: &str,
-    kind: Option<Kind>,
-    prefix: &str,
+    kind: Kind,
 ) -> Result<String, Fail> {
-    let store = match FolderStore::open(rt, objects, kind) {
+    let folder = ObjectsFolder {
+        path: String::from_str(rt.alloc(), objects)?,
+        kind,
+        alternates: Vec::new(rt.alloc()),
+    };
+    let store = match FolderStore::open(rt, &folder, LooseIds::All) {
         Ok(store) => store,
         Err(error) => return text_of(rt, error),
     };
-    match find(rt, rt.alloc(), &store, prefix) {
+    match find(rt, rt.alloc(), &store, "11") {
         Ok(_) => text_of(rt, "found"),
         Err(error) => text_of(rt, store.with_path(error)),
     }
@@ -191,14 +200,18 @@ fn error_of<R: Abort + Files<File = File> + AllocGlobal + Clone + Drop>(
 
 #[test]
 fn errors_have_paths(rt: HostRuntime) -> Result<(), Fail> {
-    let md5 = b"[extensions]\nobjectformat = md5".as_slice();
-    make(&rt, &WITH_FAULTS, &[("with_faults/md5/config", md5)], &[])?;
+    make(
+        &rt,
+        &WITH_FAULTS,
+        &[],
+        &[("with_faults/objects/pack/pack-0.idx", &[BOTH])],
+    )?;
     // The count of the first byte 16 in a pack index of one id.
     let mut index = index_of(&rt, &[PACKED])?;
     set(&mut index, 8 + 4 * 16 + 3, 1);
     write(&rt, "with_faults/objects/pack/pack-1.idx", &index)?;
-    for (objects, kind, prefix, want) in ERRORS {
-        expect_text(&rt, &error_of(&rt, objects, kind, prefix)?, want);
+    for (objects, kind, want) in ERRORS {
+        expect_text(&rt, &error_of(&rt, objects, kind)?, want);
     }
     fs::remove_dir_all(&rt, "with_faults")?;
     Ok(())

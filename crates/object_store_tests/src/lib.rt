@@ -24,4 +24,6 @@ mod pairing;
 mod printing;
 pub mod resolving;
 #[cfg(test)]
+mod snapshots;
+#[cfg(test)]
 mod texts;
