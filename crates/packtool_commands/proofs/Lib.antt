@@ -3,3 +3,4 @@ mod LineRanges
 mod ShownLemmas
 mod NamedLemmas
 mod PlaceLemmas
+mod EscapeLemmas

@@ -1,5 +1,6 @@
 -- What the commands print, and what they reject.
 pub mod Ending
+pub mod Escaping
 pub mod Finding
 pub mod Lines
 pub mod Names

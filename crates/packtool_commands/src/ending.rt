@@ -1,12 +1,13 @@
 //! The lines of checked files.
 
-ghost use Rattle.std.specs.Prelude.{◌≡◌, ◌++◌, false, true, OnOk, OnErr};
+ghost use Rattle.std.specs.Prelude.{◌≡◌, false, true, OnOk, OnErr};
 ghost use Rattle.std.specs.Io.KnownBytes.{Appends};
 ghost use Rattle.packtool_commands.specs.Ending.{verdict};
+ghost use Rattle.packtool_commands.specs.Escaping.{named};
 ghost use Rattle.streams.specs.Writing.{AppendsPart};
 
+use crate::escaping::write_named;
 use crate::lines::{MAX_VERDICT_LEN, put_verdict};
-use crate::placing::write_both;
 use streams::{Ending, Sink, WriteFailed};
 
 /// Writes the line of a file with this name whose bytes end so: `NAME: OK`, or `NAME: FAILED` and
@@ -24,13 +25,13 @@ use streams::{Ending, Sink, WriteFailed};
 pub fn write_ending<W: Sink>(name: &str, ending: &Ending, out: &mut W) -> Result<(), WriteFailed>
     requires { W.has_failed out.old ≡ false }
     ensures written { OnOk result (Appends (W.taken out.old) (W.taken out.new)
-        (name.now ++ verdict ending.now)) }
+        (named name.now (verdict ending.now))) }
     ensures stands { OnOk result (W.has_failed out.new ≡ false) }
     ensures part { OnErr result (AppendsPart (W.taken out.old) (W.taken out.new)
-        (name.now ++ verdict ending.now)) }
+        (named name.now (verdict ending.now))) }
     ensures failed { OnErr result (W.has_failed out.new ≡ true) }
 {
     let mut line = [0; MAX_VERDICT_LEN];
     let len = put_verdict(ending, &mut line);
-    write_both(name.as_bytes(), &line[..len], out)
+    write_named(name, &line[..len], out)
 }

@@ -2,14 +2,17 @@
 //!
 //! [`find`] writes the ids of a store that begin with a prefix, [`locate`] the places of these, and
 //! [`names`] all ids after their shortest names. [`write_place`] writes one place. [`show`] writes
-//! the lines of a pack index as `git show-index` does, [`write_ending`] whether a file ends with its
-//! digest, and [`write_pairing`] whether a pack index belongs to the pack beside it, as [`pair`]
-//! finds.
+//! the lines of a pack index as `git show-index` does. [`validate`] says whether a file is a pack
+//! index, [`write_ending`] writes whether a file ends with its digest, [`write_pairing`] whether a
+//! pack index belongs to the pack beside it, as [`pair`] finds, and [`write_named`] another line of
+//! a file. They escape names as `sha1sum` does.
 #![tactic(auto)]
 
 mod ending;
 mod error;
+mod escaping;
 mod finding;
+pub mod laws;
 mod lines;
 mod naming;
 mod pairing;
@@ -18,8 +21,9 @@ mod showing;
 
 pub use ending::write_ending;
 pub use error::{FileError, StoreError};
+pub use escaping::write_named;
 pub use finding::find;
 pub use naming::names;
 pub use pairing::{Pairing, PairingError, pair, write_pairing};
 pub use placing::{locate, write_place};
-pub use showing::show;
+pub use showing::{show, validate};

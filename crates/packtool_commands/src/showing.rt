@@ -52,6 +52,34 @@ pub fn show<A: Allocator, R: Source, W: Sink>(
     Ok(has_names(&file))
 }
 
+/// Reads a pack index of version 2 to its end, and returns the kind of its names. With no kind,
+/// they may be of either.
+///
+/// [`FileError::Index`] says why the bytes are none. [`FileError::Input`] is returned if and only if
+/// a read fails, and [`FileError::Output`] never. The input must not have failed before.
+///
+/// ```
+/// let kind = validate(rt.alloc(), None, &mut input)?;
+/// println!(rt; "names of the kind {kind}")?;
+/// ```
+pub fn validate<A: Allocator, R: Source>(
+    alloc: A,
+    kind: Option<Kind>,
+    input: &mut R,
+) -> Result<Kind, FileError>
+    requires { R.has_failed input.old ≡ false }
+    ensures valid { IfOk result (λ found. IfSome (R.remaining input.old) (λ bytes.
+        IsOpenedAs kind bytes (record { kind = found; bytes = bytes }))) }
+    ensures refused { IfErr result (λ e. IfSome (R.remaining input.old) (λ bytes.
+        Refuses kind bytes e)) }
+    ensures input { IsErrOf result FileError.Input ↔ (R.has_failed input.new ≡ true) }
+    ensures output { ¬ (IsErrOf result FileError.Output) }
+{
+    let bytes = read_all(alloc, input)?;
+    let file = open(&bytes, kind)?;
+    Ok(file.object_hash())
+}
+
 // Whether an index has a name.
 fn has_names(file: &File<'_>) -> bool
     ensures { IsTrue result ↔ (names_in file.now.kind file.now.bytes ≢ []) }

@@ -1,0 +1,9 @@
+use Rattle.std.proofs.Common.{◌≡◌, false, take}
+use Rattle.std.specs.List.{flat_map}
+use Rattle.std.specs.Io.KnownBytes.{Appends}
+use Rattle.packtool_commands.specs.Escaping.{escape_of}
+use Rattle.packtool_commands.proofs.escaping.write_escaped.Given as goal
+
+abbrev pub invariant-loop-byte : goal.invariant-loop-byte
+invariant-loop-byte g l =
+    Appends (g.W.Sink.taken l.fn.out) (g.W.Sink.taken l.out) (flat_map escape_of (take l.byte-index l.name)) × (g.W.Sink.has_failed l.out ≡ false)
