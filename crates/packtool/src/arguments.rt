@@ -4,6 +4,47 @@ use clap::{Arg, ArgAction, ArgMatches, Command, value_parser};
 use gix_hash::Kind;
 use std::alloc::{AllocError, Global};
 
+/// What the program is asked to do.
+#[derive(Clone, Copy)]
+pub enum Request {
+    /// A command over a store.
+    Store(StoreCommand),
+    /// A command over files.
+    Files(FileCommand),
+}
+
+/// A command over a store.
+#[derive(Clone, Copy)]
+pub enum StoreCommand {
+    /// `find`.
+    Find,
+    /// `where`.
+    Where,
+    /// `names`.
+    Names,
+}
+
+/// A command over files.
+#[derive(Clone, Copy)]
+pub enum FileCommand {
+    /// `show`.
+    Show,
+    /// `check`.
+    Check,
+}
+
+/// The command of the subcommand with this name.
+pub fn read_request(name: &str) -> Option<Request> {
+    match name {
+        "find" => Some(Request::Store(StoreCommand::Find)),
+        "where" => Some(Request::Store(StoreCommand::Where)),
+        "names" => Some(Request::Store(StoreCommand::Names)),
+        "show" => Some(Request::Files(FileCommand::Show)),
+        "check" => Some(Request::Files(FileCommand::Check)),
+        _ => None,
+    }
+}
+
 /// The program's words: what `--help` prints and what is read.
 pub fn command<'a>(alloc: Global) -> Result<Command<'a>, AllocError> {
     let look_ups = with(with(program(alloc), find(alloc)), locate(alloc));
@@ -90,12 +131,14 @@ fn show<'a>(alloc: Global) -> Result<Command<'a>, AllocError> {
 
 fn check<'a>(alloc: Global) -> Result<Command<'a>, AllocError> {
     Command::new(alloc, "check")
-        .about("Prints whether files end with the digest of all bytes before it, as Git's do")
+        .about(
+            "Prints whether pack indexes are right, and whether other files end with their digest",
+        )
         .after_help(AFTER)
         .arg(files(
             alloc,
             "FILE",
-            "A pack, pack index, multi-pack-index or commit-graph",
+            "A pack, pack index, multi-pack-index or commit-graph; - is standard input",
         ))?
         .arg(kind_option(alloc))
 }

@@ -1,9 +1,9 @@
 //! Why the program stops.
 
 use command_line::WordsError;
-use gix_hash::Kind;
 use std::alloc::AllocError;
 use std::io;
+use streams::Plain;
 use thiserror::Error as ThisError;
 
 /// Why a command stops.
@@ -21,13 +21,11 @@ pub enum Failure<'a> {
         why: FileWhy,
     },
     /// This text is no prefix.
-    #[error("{text}: no 2 to {most} hex digits, with which an id of kind {kind} begins")]
+    #[error("{text}: not 2 to {most} hex digits")]
     Prefix {
         /// The text.
         text: &'a str,
-        /// The kind of ids.
-        kind: Kind,
-        /// How many digits they have.
+        /// How many digits an id of the store has.
         most: usize,
     },
     /// An argument is not UTF-8.
@@ -41,12 +39,22 @@ pub enum Failure<'a> {
     Memory,
 }
 
+impl Failure<'_> {
+    /// That standard output, which is this, cannot be written.
+    pub fn of_output<W>(out: &Plain<W>) -> Self {
+        Failure::Output(out.error().unwrap_or(io::ErrorKind::WriteZero.into()))
+    }
+}
+
 /// Why a file is not shown or checked.
 #[derive(Debug, Drop, ThisError)]
 pub enum FileWhy {
     /// It cannot be read.
     #[error("{0}")]
     Read(io::Error),
+    /// It is a folder, a pipe or a device.
+    #[error("not a regular file")]
+    NotRegular,
     /// It is no pack index.
     #[error("{0}")]
     Index(pack_index::Error),

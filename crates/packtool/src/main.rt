@@ -2,22 +2,21 @@
 //!
 //! Its status is 0 if something was found and all is right, 1 if nothing was found or a file is
 //! wrong, and 2 for an error, which is printed on standard error. If nobody reads its output any
-//! more, it ends in silence.
+//! more, it ends in silence with 0, but for `check`, which goes on reading for the status.
 #![tactic(auto)]
 
 mod arguments;
 mod failure;
 mod files;
-mod noted;
 mod stores;
 
+use arguments::{FileCommand, Request};
 use clap::ArgMatches;
 use command_line::command_line_args;
 use failure::Failure;
-use noted::{Note, Noted};
-use std::io::{BufWriter, ErrorKind};
+use std::io::{self, BufWriter, ErrorKind};
 use std::process::ExitCode;
-use streams::{BufferedSink, Plain, Sink};
+use streams::{BufferedSink, Plain};
 
 // The statuses, a worse one above a better.
 const FOUND: u8 = 0;
@@ -37,7 +36,7 @@ fn main(rt: HostRuntime) -> ExitCode {
 fn end(rt: &HostRuntime, outcome: Result<u8, Failure<'_>>) -> ExitCode {
     match outcome {
         Ok(status) => ExitCode::from(status),
-        Err(failure) if is_closed_pipe(&failure) => ExitCode::SUCCESS,
+        Err(Failure::Output(error)) if is_closed_pipe(&error) => ExitCode::from(FOUND),
         Err(failure) => {
             report(rt, &failure);
             ExitCode::from(FAILED)
@@ -46,11 +45,8 @@ fn end(rt: &HostRuntime, outcome: Result<u8, Failure<'_>>) -> ExitCode {
 }
 
 // Whether nobody reads the output any more.
-fn is_closed_pipe(failure: &Failure<'_>) -> bool {
-    match failure {
-        Failure::Output(error) => error.kind() == ErrorKind::BrokenPipe,
-        _ => false,
-    }
+fn is_closed_pipe(error: &io::Error) -> bool {
+    error.kind() == ErrorKind::BrokenPipe
 }
 
 // Prints a failure. If that fails too, the status still says it.
@@ -70,41 +66,51 @@ fn run<'a>(rt: &HostRuntime, words: &'a [String]) -> Result<u8, Failure<'a>> {
             };
         }
     };
-    let note = Note::new();
-    let Ok(writer) = BufWriter::new(rt.alloc(), Noted::new(rt.stdout(), &note)) else {
+    let Some((name, matches)) = matches.subcommand() else {
+        return Ok(FAILED);
+    };
+    let Some(request) = arguments::read_request(name) else {
+        return Ok(FAILED);
+    };
+    let Ok(writer) = BufWriter::new(rt.alloc(), rt.stdout()) else {
         return Err(Failure::Memory);
     };
     let mut out = Plain::new(writer);
-    let status = match matches.subcommand() {
-        Some((name @ ("show" | "check"), matches)) => {
-            run_over_files(rt, name, matches, &mut out, &note)?
-        }
-        Some((name, matches)) => { stores::run(rt, name, matches, &mut out, &note)? }
-        None => FAILED,
+    let status = match request {
+        Request::Store(command) => stores::run(rt, command, matches, &mut out)?,
+        Request::Files(command) => run_over_files(rt, command, matches, &mut out)?,
     };
-    match out.flush() {
-        Ok(()) => Ok(status),
-        Err(error) => Err(Failure::Output(error)),
+    flushed(request, status, &mut out)
+}
+
+// Writes what is left of the output, and returns the status, also of `check` if nobody reads the
+// output any more.
+fn flushed<'a, W: io::Write + Drop>(
+    request: Request,
+    status: u8,
+    out: &mut Plain<BufWriter<W>>,
+) -> Result<u8, Failure<'a>> {
+    let _ = out.flush();
+    match (out.error(), request) {
+        (None, _) => Ok(status),
+        (Some(error), Request::Files(FileCommand::Check)) if is_closed_pipe(&error) => Ok(status),
+        (Some(error), _) => Err(Failure::Output(error)),
     }
 }
 
 // Runs `show` or `check` over each file, also after one that cannot be read.
-fn run_over_files<'a, W: Sink>(
+fn run_over_files<'a, W: io::Write>(
     rt: &HostRuntime,
-    name: &str,
+    command: FileCommand,
     matches: &ArgMatches<'a>,
-    out: &mut W,
-    note: &Note,
+    out: &mut Plain<W>,
 ) -> Result<u8, Failure<'a>> {
     let kind = arguments::kind(matches);
     let mut status = FOUND;
     for path in matches.get_strs("files").unwrap_or(&[]) {
-        if out.failed() {
-            return Err(Failure::Output(note.error()));
-        }
-        let outcome = match name {
-            "show" => files::show(rt, path, kind, out, note),
-            _ => files::check(rt, path, kind, out, note),
+        let outcome = match command {
+            FileCommand::Show => files::show(rt, path, kind, out),
+            FileCommand::Check => files::check(rt, path, kind, out),
         };
         match outcome {
             Ok(true) => {}

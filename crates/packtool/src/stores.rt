@@ -3,36 +3,36 @@
 ghost use Rattle.std.specs.Prelude.{◌≡◌, ◌≤◌, length, IfOk};
 ghost use Rattle.gix_hash.specs.Kind.{hex_len_of};
 
+use crate::arguments::{self, StoreCommand};
 use crate::failure::Failure;
-use crate::noted::Note;
-use crate::{FAILED, FOUND, NOTHING, arguments};
+use crate::{FAILED, FOUND, NOTHING};
 use clap::ArgMatches;
 use gix_hash::{Kind, Prefix};
 use object_store::Store;
 use packtool_commands::{StoreError, find, locate, names};
+use std::io;
 use store_folders::{FolderStore, LooseIds, ObjectsFolder, find_objects};
-use streams::Sink;
+use streams::Plain;
 
 // How often a store is opened from which pack indexes are removed while it is read.
 const MAX_TRIES: usize = 10;
 
 /// Runs `find`, `where` or `names`, and returns the status. If a pack index is gone that was listed,
 /// the store is opened again, unless something may be written.
-pub fn run<'a, W: Sink>(
+pub fn run<'a, W: io::Write>(
     rt: &HostRuntime,
-    name: &str,
+    command: StoreCommand,
     matches: &ArgMatches<'a>,
-    out: &mut W,
-    note: &Note,
+    out: &mut Plain<W>,
 ) -> Result<u8, Failure<'a>> {
     let folder = objects_folder(rt, matches)?;
     for _ in 1..MAX_TRIES {
-        let ran = run_once(rt, &folder, name, matches, out, note);
-        if name == "names" || !is_gone(&ran) {
+        let ran = run_once(rt, &folder, command, matches, out);
+        if matches!(command, StoreCommand::Names) || !is_gone(&ran) {
             return ran;
         }
     }
-    run_once(rt, &folder, name, matches, out, note)
+    run_once(rt, &folder, command, matches, out)
 }
 
 // Whether a pack index was gone that was listed.
@@ -44,47 +44,63 @@ fn is_gone(ran: &Result<u8, Failure<'_>>) -> bool {
 }
 
 // Opens the store, and runs the command over it.
-fn run_once<'a, W: Sink>(
+fn run_once<'a, W: io::Write>(
     rt: &HostRuntime,
     folder: &ObjectsFolder,
-    name: &str,
+    command: StoreCommand,
     matches: &ArgMatches<'a>,
-    out: &mut W,
-    note: &Note,
+    out: &mut Plain<W>,
 ) -> Result<u8, Failure<'a>> {
     if out.failed() {
-        return Err(Failure::Output(note.error()));
+        return Err(Failure::of_output(out));
     }
-    if name == "names" {
-        let store = FolderStore::open(rt, folder, LooseIds::All)?;
-        let least = read_least(matches, store.object_hash());
-        let ran = names(rt.alloc(), &store, least, out);
-        return status_of(rt, &store, ran, note);
+    match command {
+        StoreCommand::Find => {
+            let (store, prefix) = open_part(rt, folder, matches)?;
+            let ran = find(rt.alloc(), &store, &prefix, out);
+            status_of(rt, &store, ran, out)
+        }
+        StoreCommand::Where => {
+            let (store, prefix) = open_part(rt, folder, matches)?;
+            store.check_loose_files(&prefix)?;
+            let ran = locate(rt.alloc(), &store, &prefix, out);
+            status_of(rt, &store, ran, out)
+        }
+        StoreCommand::Names => {
+            let store = FolderStore::open(rt, folder, LooseIds::All)?;
+            let least = read_least(matches, store.object_hash());
+            let ran = names(rt.alloc(), &store, least, out);
+            status_of(rt, &store, ran, out)
+        }
     }
+}
+
+// The prefix that was asked for, and the store with the loose objects that have its first byte.
+fn open_part<'a>(
+    rt: &HostRuntime,
+    folder: &ObjectsFolder,
+    matches: &ArgMatches<'a>,
+) -> Result<(FolderStore<HostRuntime>, Prefix), Failure<'a>>
+    ensures enough { IfOk result (λ part. 2 ≤ length part.1.digits) }
+    ensures kind { IfOk result (λ part. part.1.kind ≡ part.0.kind) }
+{
     let prefix = read_prefix(matches, folder.kind)?;
     let loose = LooseIds::WithFirstByte(prefix.as_oid().first_byte());
-    let store = FolderStore::open(rt, folder, loose)?;
-    let ran = if name == "find" {
-        find(rt.alloc(), &store, &prefix, out)
-    } else {
-        store.check_loose_files(&prefix)?;
-        locate(rt.alloc(), &store, &prefix, out)
-    };
-    status_of(rt, &store, ran, note)
+    Ok((FolderStore::open(rt, folder, loose)?, prefix))
 }
 
 // The status of a command that ran over a store. What was passed over is printed, and the store was
 // not read whole then.
-fn status_of<'a>(
+fn status_of<'a, W>(
     rt: &HostRuntime,
     store: &FolderStore<HostRuntime>,
     ran: Result<bool, StoreError>,
-    note: &Note,
+    out: &Plain<W>,
 ) -> Result<u8, Failure<'a>> {
     let any = match ran {
         Ok(any) => any,
         Err(StoreError::Store(error)) => return Err(Failure::Store(store.with_path(error))),
-        Err(StoreError::Output) => return Err(Failure::Output(note.error())),
+        Err(StoreError::Output) => return Err(Failure::of_output(out)),
     };
     for error in store.passed_over() {
         let _ = eprintln!(rt; "packtool: {error}, passed over");
@@ -135,5 +151,5 @@ fn read_prefix<'a>(matches: &ArgMatches<'a>, kind: Kind) -> Result<Prefix, Failu
         return Ok(prefix);
     }
     let most = kind.len_in_hex();
-    Err(Failure::Prefix { text, kind, most })
+    Err(Failure::Prefix { text, most })
 }
