@@ -51,8 +51,11 @@ impl<A: Allocator> Model for Bucket<A> {
 impl<A: Allocator> Bucket<A> {
     // The names of a table, of which the first is at an index.
     pub(crate) fn new(table: Vec<u8, A>, kind: Kind, start: usize) -> Bucket<A>
-        ensures { result ≡ record { kind = kind; start = start;
-            names = digests_in kind table.items } }
+        ensures { result ≡ record {
+          kind = kind;
+          start = start;
+          names = digests_in kind table.items;
+        } }
     {
         let is_sorted = Names::try_new(&table, kind).is_ok();
         Bucket {
