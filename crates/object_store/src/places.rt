@@ -5,7 +5,7 @@ ghost use Rattle.gix_hash.specs.Digits.{first_byte_of};
 ghost use Rattle.gix_hash.specs.ObjectId.{id_digits, id_kind};
 ghost use Rattle.object_store.specs.Parts.{AreBuckets};
 ghost use Rattle.object_store.specs.Places.{offset_of, packed_at, packed_places, places_of};
-ghost use Rattle.object_store.specs.Stores.{HasPlace, HavePlaces, Holds, IsLocateFault, IsPlaceFault, IsStoreFault};
+ghost use Rattle.object_store.specs.Stores.{HasPlace, HaveBuckets, HavePlaces, Holds, IsLocateFault, IsPlaceFault, IsStoreFault};
 ghost use Rattle.pack_index.specs.Firsts.{Each};
 ghost use Rattle.pack_index.specs.Format.{HasCount, IsPackIndex};
 ghost use Rattle.pack_index.specs.Lazy.{IsBucketOf, LazyIndex};
@@ -46,7 +46,7 @@ pub enum Place {
 /// kind.
 ///
 /// If a pack index has the name more than once, the offset is that of the first. Of each pack index
-/// only the names with the id's first byte are read, and then the offset.
+/// only the names with the id's first byte are read, and then, once all are, the offset.
 ///
 /// ```
 /// let places = locate(rt.alloc(), &store, &id)?;
@@ -66,7 +66,8 @@ pub fn locate<S: Store, A: Allocator + Copy>(
         (id_digits id.now)) }
     ensures err { IfErr result (λ e. IsStoreFault (S.kind store.now) (S.packs store.now)
         (first_byte_of (id_digits id.now)) e
-        ⊎ IsLocateFault (S.kind store.now) (S.packs store.now) (id_digits id.now) e) }
+        ⊎ (HaveBuckets (S.kind store.now) (S.packs store.now) (first_byte_of (id_digits id.now))
+        × IsLocateFault (S.kind store.now) (S.packs store.now) (id_digits id.now) e)) }
 {
     let part = Part::read(alloc, store, id.first_byte())?;
     Ok(part.locate(alloc, store, id)?)
