@@ -153,7 +153,7 @@ const ERRORS: [(&str, Kind, &str); 5] = [
     (
         "with_faults/objects",
         Kind::Sha256,
-        "with_faults/objects/pack/pack-0.idx: the tables of the pack index do not fill its bytes",
+        "with_faults/objects/pack/pack-0.idx: the names of the pack index are of the kind sha1",
     ),
     (
         "with_faults/gone",

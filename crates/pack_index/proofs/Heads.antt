@@ -4,8 +4,9 @@ use Rattle.std.specs.Int.{from_be_bytes, w32}
 use Rattle.std.proofs.lemmas.List.{get_or-take, get_or-drop}
 use Rattle.gix_hash.specs.Kind.{byte_len_of}
 use Rattle.gix_hash.specs.declared.Kind.{Kind}
-use Rattle.pack_index.specs.Format.{FillsBytes, HasHead, HasTables, count_in, long_at, magic_number, min_len, names_at, offsets_at, word_at}
+use Rattle.pack_index.specs.Format.{FillsBytes, HasHead, HasTables, count_in, counts_len, long_at, magic_number, min_len, names_at, offsets_at, word_at}
 use Rattle.pack_index.specs.Lazy.{bucket_start, bucket_end}
+use Rattle.pack_index.specs.Refusal.{version_1_len}
 use Rattle.streams.specs.ReadAt.{IsReadAt}
 
 -- a number in bytes that were read
@@ -57,3 +58,8 @@ module _ (bytes head : List ℕ) (front : IsReadAt bytes 0 head) (long : length 
 
   pub head_by_tables : (kind : Kind) (len : ℕ) → len ≡ length bytes → HasTables kind bytes → FillsBytes kind (count_in head) len
   head_by_tables kind len same tables = rw (same, head_count) tables
+
+  -- how long an index of version 1 is, by the count in the head
+  pub version_1_in_head : (kind : Kind) → version_1_len kind head ≡ version_1_len kind bytes
+  version_1_in_head kind =
+      ap (λ n. counts_len + byte_len_of kind * n + 4 * n + 2 * byte_len_of kind) (head_word 1020 (omega arith))

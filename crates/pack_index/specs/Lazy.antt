@@ -6,8 +6,9 @@ use Rattle.id_lookup.specs.FirstBytes.{has_first_byte}
 use Rattle.id_lookup.specs.IndexOf.{part_of}
 use Rattle.pack_index.specs.Firsts.{Each}
 use Rattle.pack_index.specs.Format.{HasCount, HasHead, HasOffset, HasTables, count_in, magic_number, min_len, names_in, word_at}
+use Rattle.pack_index.specs.Refusal.{other_than, version_1_len}
 use Rattle.pack_index.specs.declared.lazy_error.LazyError.{LazyError}
-use Rattle.pack_index.specs.declared.lazy_error.LazyError.TheVariants.{Read, Memory, TooShort, BadMagic, BadVersion, WrongLength, CountsFall, CountTooHigh, WrongCount, NoOffset}
+use Rattle.pack_index.specs.declared.lazy_error.LazyError.TheVariants.{Read, Memory, TooShort, Version1, BadMagic, BadVersion, OtherKind, WrongLength, CountsFall, CountTooHigh, WrongCount, NoOffset}
 
 -- what contracts see: the kind of the names, their number as the last count says, and all bytes if they are known
 pub record LazyIndex : Type 0 where
@@ -81,10 +82,13 @@ IsOutside _ = ⊥
 abbrev pub IsHeadFault : Kind → List ℕ → LazyError → Type 0
 IsHeadFault kind bytes (Read e) = Unit {0}
 IsHeadFault kind bytes TooShort = length bytes < min_len kind
-IsHeadFault kind bytes BadMagic = (min_len kind ≤ length bytes) × (word_at bytes 0 ≢ magic_number)
+IsHeadFault kind bytes Version1 = (min_len kind ≤ length bytes) × (word_at bytes 0 ≢ magic_number) × (length bytes ≡ version_1_len kind bytes)
+IsHeadFault kind bytes BadMagic = (min_len kind ≤ length bytes) × (word_at bytes 0 ≢ magic_number) × (length bytes ≢ version_1_len kind bytes)
 IsHeadFault kind bytes (BadVersion version) =
     (min_len kind ≤ length bytes) × (word_at bytes 0 ≡ magic_number) × (version ≡ word_at bytes 4) × (version ≢ 2)
-IsHeadFault kind bytes WrongLength = HasHead kind bytes × ¬ HasTables kind bytes
+IsHeadFault kind bytes (OtherKind other) =
+    HasHead kind bytes × (¬ HasTables kind bytes) × (other ≡ other_than kind) × HasTables (other_than kind) bytes
+IsHeadFault kind bytes WrongLength = HasHead kind bytes × (¬ HasTables kind bytes) × ¬ HasTables (other_than kind) bytes
 IsHeadFault kind bytes _ = ⊥
 
 -- why the names that are counted with a first byte are not read: the cause holds of that byte, and none before it

@@ -5,7 +5,7 @@ ghost use Rattle.gix_hash.specs.Kind.{byte_len_of};
 ghost use Rattle.id_lookup.specs.FirstBytes.{IsFanOut};
 ghost use Rattle.pack_index.specs.Firsts.{Each, IsFirstNot};
 ghost use Rattle.pack_index.specs.Format.{FillsBytes, HasCount, HasHead, HasOffset, HasTables, count_in, min_len, names_at, names_in};
-ghost use Rattle.pack_index.specs.Refusal.{IsFault, version_1_len};
+ghost use Rattle.pack_index.specs.Refusal.{IsFault, other_than, version_1_len};
 
 use crate::error::Error;
 use crate::words::{LONG, NAMES_AT, count_in, long_at, offset_word, tables_end, up_to_in, word_at};
@@ -48,8 +48,8 @@ pub fn check_tables(bytes: &[u8], kind: Kind) -> Result<(), Error>
     Ok(())
 }
 
-// How many bytes an index of version 1 has, by its last count.
-fn version_1_len(bytes: &[u8], kind: Kind) -> usize
+/// How many bytes an index of version 1 has, by its last count.
+pub(crate) fn version_1_len(bytes: &[u8], kind: Kind) -> usize
     requires { names_at ≤ length bytes.now }
     ensures { result ≡ version_1_len kind bytes.now }
 {
@@ -59,6 +59,16 @@ fn version_1_len(bytes: &[u8], kind: Kind) -> usize
         Kind::Sha256 => 32 * count,
     };
     COUNTS_LEN + names + 4 * count + 2 * kind.len_in_bytes()
+}
+
+/// The other kind.
+pub(crate) fn other_than(kind: Kind) -> Kind
+    ensures { result ≡ other_than kind }
+{
+    match kind {
+        Kind::Sha1 => Kind::Sha256,
+        Kind::Sha256 => Kind::Sha1,
+    }
 }
 
 // Whether the tables of as many names as the head counts fill `len` bytes up to the digests.

@@ -12,7 +12,7 @@ ghost use Rattle.pack_index.specs.Format.{IsPackIndex, crc_in, digest_at, names_
 ghost use Rattle.pack_index.specs.Names.{IsFirstIndexOf};
 ghost use Rattle.pack_index.specs.Refusal.{IsFault, IsRefusal, other_than};
 
-use crate::checks::{check_tables, first_wrong_count};
+use crate::checks::{check_tables, first_wrong_count, other_than};
 use crate::error::Error;
 use crate::names::{Names, all_digits};
 use crate::offsets::check_offsets;
@@ -233,14 +233,5 @@ fn error_or_other(bytes: &[u8], kind: Kind, error: Error) -> Error
     match File::checked(bytes, other) {
         Ok(_) => Error::OtherKind(other),
         Err(_) => error,
-    }
-}
-
-fn other_than(kind: Kind) -> Kind
-    ensures { result ≡ other_than kind }
-{
-    match kind {
-        Kind::Sha1 => Kind::Sha256,
-        Kind::Sha256 => Kind::Sha1,
     }
 }

@@ -7,13 +7,13 @@ ghost use Rattle.gix_hash.specs.Oid.{oid_digits};
 ghost use Rattle.id_lookup.specs.FirstBytes.{has_first_byte};
 ghost use Rattle.id_lookup.specs.IndexOf.{part_of};
 ghost use Rattle.pack_index.specs.Firsts.{Each};
-ghost use Rattle.pack_index.specs.Format.{HasCount, HasHead, HasOffset, HasTables, count_in, digests_in, min_len, names_in, offset_in, offset_word};
+ghost use Rattle.pack_index.specs.Format.{HasCount, HasHead, HasOffset, HasTables, count_in, digests_in, magic_number, min_len, names_in, offset_in, offset_word, word_at};
 ghost use Rattle.pack_index.specs.Lazy.{HasBucket, HaveFirstByte, IsBucketFault, IsBucketOf, IsFirstCounted, IsHeadFault, IsOffsetFault, IsOutside, IsRead, bucket_end, bucket_start, counted_with};
 ghost use Rattle.pack_index.specs.Names.{IsFirstIndexOf};
 ghost use Rattle.streams.specs.ReadAt.{IsReadAt};
 
 use crate::bucket::Bucket;
-use crate::checks::{COUNTS_LEN, MAGIC, VERSION, fills_bytes};
+use crate::checks::{COUNTS_LEN, MAGIC, VERSION, fills_bytes, other_than, version_1_len};
 use crate::lazy_error::LazyError;
 use crate::words::{LONG, NAMES_AT, count_in, long_at, long_word_at, offsets_at, word_at};
 use gix_hash::{Kind, oid};
@@ -279,16 +279,45 @@ fn check_head(head: &[u8], kind: Kind, len: u64) -> Result<(), LazyError>
 {
     let magic = word_at(head, 0);
     if magic != MAGIC {
-        return Err(LazyError::BadMagic);
+        return Err(bad_magic(head, kind, len));
     }
     let version = word_at(head, 4);
     if version != VERSION {
         return Err(LazyError::BadVersion(version));
     }
     if !fills_bytes(head, kind, len) {
-        return Err(LazyError::WrongLength);
+        return Err(wrong_length(head, kind, len));
     }
     Ok(())
+}
+
+// Why bytes do not begin with the magic number: they are of version 1, or no index.
+fn bad_magic(head: &[u8], kind: Kind, len: u64) -> LazyError
+    requires head { length head.now ≡ 1032 }
+    requires enough { min_len kind ≤ len }
+    ensures { (bytes : List ℕ) → IsReadAt bytes 0 head.now → len ≡ length bytes
+        → word_at bytes 0 ≢ magic_number → IsHeadFault kind bytes result }
+{
+    if len == version_1_len(head, kind) as u64 {
+        LazyError::Version1
+    } else {
+        LazyError::BadMagic
+    }
+}
+
+// Why the tables of names of a kind do not fill the bytes: those of the other kind do, or neither.
+fn wrong_length(head: &[u8], kind: Kind, len: u64) -> LazyError
+    requires { length head.now ≡ 1032 }
+    ensures { (bytes : List ℕ) → IsReadAt bytes 0 head.now → len ≡ length bytes
+        → HasHead kind bytes → ¬ HasTables kind bytes → IsHeadFault kind bytes result }
+{
+    let other = other_than(kind);
+    let is_enough = len >= (COUNTS_LEN + 2 * other.len_in_bytes()) as u64;
+    if is_enough && fills_bytes(head, other, len) {
+        LazyError::OtherKind(other)
+    } else {
+        LazyError::WrongLength
+    }
 }
 
 // The indexes of the names that are counted with a first byte, in the head of a pack index.

@@ -2,6 +2,7 @@
 
 ghost use Rattle.pack_index.specs.Lazy.{IsOutside, IsRead};
 
+use gix_hash::Kind;
 use std::alloc::AllocError;
 use std::io;
 use thiserror::Error as ThisError;
@@ -25,13 +26,22 @@ pub enum LazyError {
     /// There are fewer bytes than the smallest index of any version has: 1024, and two digests.
     #[error("the bytes are too few for a pack index")]
     TooShort,
-    /// The bytes do not begin with the magic number of version 2 and later.
+    /// The bytes do not begin with the magic number of version 2 and later, and are as many as an
+    /// index of version 1 has, by its last count.
+    #[error("pack indexes of version 1 are not read")]
+    Version1,
+    /// The bytes do not begin with the magic number, nor are they as long as an index of version 1.
     #[error("the bytes do not begin as a pack index of version 2")]
     BadMagic,
     /// The version after the magic number is this, and not 2.
     #[error("pack indexes of version {0} are not read")]
     BadVersion(u32),
-    /// The tables of as many names as are counted do not fill the bytes up to the digests.
+    /// The tables of as many names as are counted fill the bytes up to the digests if the names are
+    /// of this kind, the other one, and not otherwise.
+    #[error("the names of the pack index are of the kind {0}")]
+    OtherKind(Kind),
+    /// The tables of as many names as are counted do not fill the bytes up to the digests, of
+    /// whichever kind the names are.
     #[error("the tables of the pack index do not fill its bytes")]
     WrongLength,
     /// The count of this byte is below that of the byte before it.
