@@ -1,5 +1,4 @@
-use Rattle.std.proofs.Common.{◌≡◌, ◌≢◌, ◌≤◌, ◌<◌, ◌∙◌, ℕ, List, [], length, get_or, map, sym, ap, subst}
-use Rattle.gix_hash.specs.Oid.{oid_digits}
+use Rattle.std.proofs.Common.{◌≢◌, ◌≤◌, ◌<◌, ◌∙◌, ℕ, List, [], length, get_or, map, sym, ap, subst}
 use Rattle.gix_hash.specs.Prefix.{KindDigits}
 use Rattle.id_lookup.specs.Sorted.{least_hex_len}
 use Rattle.pack_index.specs.Names.{IsFirstIndexOf}

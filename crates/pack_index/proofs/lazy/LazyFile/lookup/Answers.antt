@@ -1,7 +1,6 @@
-use Rattle.std.proofs.Common.{◌≡◌, ◌+◌, ◌-◌, List, ℕ, Some, length, refl, arith}
-use Rattle.gix_hash.specs.Digits.{first_byte_of}
+use Rattle.std.proofs.Common.{◌≡◌, ◌+◌, List, ℕ, Some, length, arith}
 use Rattle.gix_hash.specs.Oid.{oid_digits}
-use Rattle.pack_index.proofs.LookedUp.{IsRunOf, found_first, name_found, none_counted, not_found, some_counted}
+use Rattle.pack_index.proofs.LookedUp.{IsRunOf, found_first, none_counted, not_found, some_counted}
 use Rattle.pack_index.proofs.lazy.LazyFile.lookup.Given.{Over}
 use Rattle.pack_index.proofs.lazy.LazyFile.lookup.Goals.{After-position}
 use Rattle.pack_index.proofs.lazy.LazyFile.lookup.Goals as goal
