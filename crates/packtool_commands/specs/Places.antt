@@ -11,15 +11,16 @@ use Rattle.object_store.specs.declared.error.Error.TheVariants.{Index, Memory}
 use Rattle.object_store.specs.declared.places.Place.{Place}
 use Rattle.object_store.specs.declared.places.Place.TheVariants.{Packed, Loose}
 use Rattle.pack_index.specs.Lazy.{LazyIndex}
+use Rattle.packtool_commands.specs.Escaping.{escape_mark, escaped}
 
 -- what is after the path: the offset in a pack after a blank, if there is one, and a line feed
 abbrev pub place_end : Option ℕ → List ℕ
 place_end (Some offset) = 32 ∷ decimal offset ++ 10 ∷ []
 place_end None = 10 ∷ []
 
--- the id in hex, a blank, the path of the file, and the offset
+-- the id in hex, a blank, the path of the file, and the offset; a backslash before them if a byte of the path is escaped
 abbrev pub place_line : List ℕ → List ℕ → Option ℕ → List ℕ
-place_line id path offset = (spelling hex_letter id ++ 32 ∷ []) ++ (path ++ place_end offset)
+place_line id path offset = escape_mark path ++ ((spelling hex_letter id ++ 32 ∷ []) ++ (escaped path ++ place_end offset))
 
 -- the lines of a place: one of a pack, and one of each file of a loose object
 abbrev pub lines_at : (ℕ → List ℕ) → (List ℕ → List (List ℕ)) → List ℕ → Place → List ℕ

@@ -14,6 +14,7 @@ ghost use Rattle.packtool_commands.specs.declared.error.StoreError.{StoreError};
 ghost use Rattle.streams.specs.Writing.{AppendsPart};
 
 use crate::error::StoreError;
+use crate::escaping::{write_before, write_mark};
 use crate::lines::{MAX_END_LEN, MAX_START_LEN, put_place_end, put_place_start};
 use gix_hash::{ObjectId, Prefix};
 use object_store::{Part, Place, StorePaths};
@@ -22,7 +23,8 @@ use streams::{Sink, WriteFailed, write_all};
 
 /// Writes a line for each place of each id of a store that begins with a prefix: the ids in order,
 /// each once; the places of one in the order of [`object_store::locate`]; and of a loose object a
-/// line for each file. Returns whether there is such an id.
+/// line for each file. Paths are escaped as by [`write_place`](crate::write_place). Returns whether
+/// there is such an id.
 ///
 /// The prefix has 2 digits or more, and the store's kind. Of each pack index the names with its
 /// first byte are read once. The lines of an id are written before the offsets of the next are read. Under an error a beginning of the right lines was written.
@@ -142,7 +144,8 @@ fn write_loose<W: Sink>(id: &ObjectId, paths: &[String], out: &mut W) -> Result<
 }
 
 /// Writes the line of an object's place: the id, a blank, the path of the file that has it, and, of
-/// a pack, a blank and the offset there.
+/// a pack, a blank and the offset there. The path is escaped as by
+/// [`write_named`](crate::write_named), so no path looks like a further line.
 ///
 /// It stops at the first write that fails, after a proper beginning of the line. The sink must not
 /// have failed before.
@@ -170,24 +173,8 @@ pub fn write_place<W: Sink>(
     let start_len = put_place_start(id, &mut start);
     let mut end = [0; MAX_END_LEN];
     let end_len = put_place_end(offset, &mut end);
+    let path = path.as_bytes();
+    write_mark(path, out)?;
     write_all(out, &start[..start_len])?;
-    write_both(path.as_bytes(), &end[..end_len], out)
-}
-
-/// Writes two texts, one after the other.
-pub(crate) fn write_both<W: Sink>(
-    first: &[u8],
-    second: &[u8],
-    out: &mut W,
-) -> Result<(), WriteFailed>
-    requires { W.has_failed out.old ≡ false }
-    ensures written { OnOk result (Appends (W.taken out.old) (W.taken out.new)
-        (first.now ++ second.now)) }
-    ensures stands { OnOk result (W.has_failed out.new ≡ false) }
-    ensures part { OnErr result (AppendsPart (W.taken out.old) (W.taken out.new)
-        (first.now ++ second.now)) }
-    ensures failed { OnErr result (W.has_failed out.new ≡ true) }
-{
-    write_all(out, first)?;
-    write_all(out, second)
+    write_before(path, &end[..end_len], out)
 }
