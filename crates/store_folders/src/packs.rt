@@ -162,7 +162,15 @@ fn open_index<R: Files<File = File> + AllocGlobal + Clone + Drop>(
             Ok(index) => Ok(index),
             Err(error) => Err(Error::index(rt.alloc(), path, error)),
         },
-        Err(error) => Err(Error::index(rt.alloc(), path, LazyError::Read(error))),
+        Err(error) => Err(not_opened(rt, path, error)),
+    }
+}
+
+// Why a pack index cannot be opened. A link to nothing is there, and so it was not removed.
+fn not_opened<R: Files + AllocGlobal>(rt: &R, path: &str, error: io::Error) -> Error {
+    match fs::symlink_metadata(rt, path) {
+        Ok(_) => Error::file(rt.alloc(), path, error),
+        Err(_) => Error::index(rt.alloc(), path, LazyError::Read(error)),
     }
 }
 
