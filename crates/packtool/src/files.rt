@@ -247,12 +247,14 @@ fn unread<'a, R: io::Read>(
     error: FileError,
     input: &Plain<R>,
 ) -> Failure<'a> {
-    let read = input.error().unwrap_or(io::ErrorKind::UnexpectedEof.into());
-    match error {
-        FileError::Index(error) => failure(rt, path, FileWhy::Index(error)),
-        FileError::Input => failure(rt, path, FileWhy::Read(read)),
-        FileError::Memory | FileError::Output => Failure::Memory,
-    }
+    let why = match error {
+        FileError::Index(error) => FileWhy::Index(error),
+        FileError::Input => {
+            FileWhy::Read(input.error().unwrap_or(io::ErrorKind::UnexpectedEof.into()))
+        }
+        FileError::Memory | FileError::Output => return Failure::Memory,
+    };
+    failure(rt, path, why)
 }
 
 // Why a file is not shown or checked.
