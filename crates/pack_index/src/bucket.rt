@@ -16,7 +16,7 @@ use std::marker::Model;
 /// index. [`LazyFile::lookup`](crate::LazyFile::lookup) finds an id among them.
 ///
 /// ```
-/// let bucket = index.bucket(rt.alloc(), 0x4b)?;
+/// let bucket = LazyFile::open(idx, Kind::Sha1)?.bucket(rt.alloc(), 0x4b)?;
 /// println!(rt; "{} bytes of names", bucket.names().len())?;
 /// ```
 #[derive(Drop)]

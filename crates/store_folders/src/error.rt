@@ -75,9 +75,10 @@ impl Error {
     /// objects anew. The store is to be opened again.
     ///
     /// ```
-    /// match lookup_prefix(rt.alloc(), &store, &prefix) {
-    ///     Err(error) if store.with_path(error).is_gone() => println!(rt; "open it again")?,
-    ///     _ => {}
+    /// if let Err(error) = FolderStore::open(rt, &find_objects(rt)?, LooseIds::All)
+    ///     && error.is_gone()
+    /// {
+    ///     println!(rt; "open it again")?;
     /// }
     /// ```
     pub fn is_gone(&self) -> bool {

@@ -108,8 +108,9 @@ impl<R: Files<File = File> + AllocGlobal + Clone + Drop> FolderStore<R> {
     /// its folder, and why.
     ///
     /// ```
+    /// let store = FolderStore::open(rt, &find_objects(rt)?, LooseIds::All)?;
     /// for error in store.passed_over() {
-    ///     eprintln!(rt; "{error}, passed over")?;
+    ///     println!(rt; "{error}, passed over")?;
     /// }
     /// ```
     pub fn passed_over(&self) -> &[Error] {
@@ -136,6 +137,7 @@ impl<R: Files<File = File> + AllocGlobal + Clone + Drop> FolderStore<R> {
     /// nothing is an error with its path. A file that was removed since it was listed is none.
     ///
     /// ```
+    /// let store = FolderStore::open(rt, &find_objects(rt)?, LooseIds::All)?;
     /// store.check_loose_files(&prefix)?;
     /// ```
     pub fn check_loose_files(&self, prefix: &Prefix) -> Result<(), Error> {
