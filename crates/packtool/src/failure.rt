@@ -1,6 +1,5 @@
 //! Why the program stops.
 
-use command_line::WordsError;
 use std::alloc::AllocError;
 use std::io;
 use streams::Plain;
@@ -28,9 +27,12 @@ pub enum Failure<'a> {
         /// How many digits an id of the store has.
         most: usize,
     },
-    /// An argument is not UTF-8.
-    #[error("an argument is not UTF-8")]
-    NotText,
+    /// An argument that is not UTF-8 is no word of a command.
+    #[error("argument {number} is not UTF-8")]
+    NotText {
+        /// Its number among the arguments, from 1.
+        number: usize,
+    },
     /// Standard output cannot be written.
     #[error("standard output: {0}")]
     Output(io::Error),
@@ -52,6 +54,9 @@ pub enum FileWhy {
     /// It cannot be read.
     #[error("{0}")]
     Read(io::Error),
+    /// Its name is not UTF-8, which paths are.
+    #[error("the name is not UTF-8")]
+    NotText,
     /// It is a folder, a pipe or a device.
     #[error("not a regular file")]
     NotRegular,
@@ -72,14 +77,5 @@ impl From<store_folders::Error> for Failure<'_> {
 impl From<AllocError> for Failure<'_> {
     fn from(_error: AllocError) -> Self {
         Failure::Memory
-    }
-}
-
-impl From<WordsError> for Failure<'_> {
-    fn from(error: WordsError) -> Self {
-        match error {
-            WordsError::NotText => Failure::NotText,
-            WordsError::Memory => Failure::Memory,
-        }
     }
 }

@@ -4,6 +4,7 @@ ghost use Rattle.std.specs.Prelude.{◌≡◌, false};
 ghost use Rattle.streams.specs.Devices.{plain_failed};
 
 use crate::failure::{Failure, FileWhy};
+use crate::words::lossy_text;
 use gix_hash::Kind;
 use packtool_commands::{
     FileError, Pairing, PairingError, pair, show as show_input, validate, write_ending,
@@ -231,12 +232,21 @@ fn pairing_of<'a>(
 
 // Opens a file, unless it is of another type: to open a pipe waits for what writes to it.
 fn open<'a>(rt: &HostRuntime, path: &str) -> Result<File, Failure<'a>> {
+    expect_text(rt, path)?;
     match metadata(rt, path) {
         Ok(metadata) if metadata.is_file() => {
             File::open(rt, path).map_err(|error| failure(rt, path, FileWhy::Read(error)))
         }
         Ok(_) => Err(failure(rt, path, FileWhy::NotRegular)),
         Err(error) => Err(failure(rt, path, FileWhy::Read(error))),
+    }
+}
+
+/// Fails if the name of a file is not UTF-8.
+pub fn expect_text<'a>(rt: &HostRuntime, path: &str) -> Result<(), Failure<'a>> {
+    match lossy_text(path) {
+        Some(text) => Err(failure(rt, text, FileWhy::NotText)),
+        None => Ok(()),
     }
 }
 

@@ -9,14 +9,15 @@ mod arguments;
 mod failure;
 mod files;
 mod stores;
+mod words;
 
 use arguments::{FileCommand, Request};
 use clap::ArgMatches;
-use command_line::command_line_args;
 use failure::Failure;
 use std::io::{self, BufWriter, ErrorKind};
 use std::process::ExitCode;
 use streams::{BufferedSink, Plain};
+use words::lossy_text;
 
 // The statuses, a worse one above a better.
 const FOUND: u8 = 0;
@@ -26,7 +27,7 @@ const NOTHING: u8 = 1;
 const FAILED: u8 = 2;
 
 fn main(rt: HostRuntime) -> ExitCode {
-    match command_line_args(&rt) {
+    match words::read_words(&rt) {
         Ok(words) => end(&rt, run(&rt, &words)),
         Err(error) => end(&rt, Err(Failure::from(error))),
     }
@@ -59,6 +60,10 @@ fn run<'a>(rt: &HostRuntime, words: &'a [String]) -> Result<u8, Failure<'a>> {
     let matches = match arguments::command(rt.alloc())?.try_get_matches_from(words) {
         Ok(matches) => matches,
         Err(error) => {
+            if let Some(before) = words.iter().position(|word| lossy_text(word).is_some()) {
+                let number = before.saturating_add(1);
+                return Err(Failure::NotText { number });
+            }
             return match error.print(rt) {
                 Ok(()) if error.use_stderr() => Ok(FAILED),
                 Ok(()) => Ok(FOUND),

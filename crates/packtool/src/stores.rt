@@ -5,6 +5,8 @@ ghost use Rattle.gix_hash.specs.Kind.{hex_len_of};
 
 use crate::arguments::{self, StoreCommand};
 use crate::failure::Failure;
+use crate::files::expect_text;
+use crate::words::lossy_text;
 use crate::{FAILED, FOUND, NOTHING};
 use clap::ArgMatches;
 use gix_hash::{Kind, Prefix};
@@ -121,7 +123,10 @@ fn objects_folder<'a>(
     matches: &ArgMatches<'a>,
 ) -> Result<ObjectsFolder, Failure<'a>> {
     let mut folder = match matches.get_str("objects") {
-        Some(path) => ObjectsFolder::at(rt, path)?,
+        Some(path) => {
+            expect_text(rt, path)?;
+            ObjectsFolder::at(rt, path)?
+        }
         None => find_objects(rt)?,
     };
     if let Some(kind) = arguments::kind(matches) {
@@ -150,6 +155,7 @@ fn read_prefix<'a>(matches: &ArgMatches<'a>, kind: Kind) -> Result<Prefix, Failu
     {
         return Ok(prefix);
     }
+    let text = lossy_text(text).unwrap_or(text);
     let most = kind.len_in_hex();
     Err(Failure::Prefix { text, most })
 }
