@@ -227,7 +227,7 @@ impl<'a> oid<'a> {
     /// back as the clause says. [`oid::put_hex`] says the same of the buffer to every caller.
     pub fn hex_to_buf<'b>(&self, buffer: &'b mut [u8]) -> &'b str
         requires { hex_len_of (oid_kind self.now) ≤ length buffer.old }
-        ensures* behind { sem 𝓛 (EndsAs buffer.entry
+        ensures* after { sem 𝓛 (EndsAs buffer.entry
             (spelling hex_letter (oid_digits self.now) ++ drop
             (hex_len_of (oid_kind self.now)) buffer.old)) }
         ensures text { result.now ≡ spelling hex_letter (oid_digits self.now) }

@@ -245,7 +245,7 @@ impl ObjectId {
     /// As [`oid::hex_to_buf`].
     pub fn hex_to_buf<'b>(&self, buffer: &'b mut [u8]) -> &'b str
         requires { hex_len_of (id_kind self.now) ≤ length buffer.old }
-        ensures* behind { sem 𝓛 (EndsAs buffer.entry
+        ensures* after { sem 𝓛 (EndsAs buffer.entry
             (spelling hex_letter (id_digits self.now) ++ drop
             (hex_len_of (id_kind self.now)) buffer.old)) }
         ensures text { result.now ≡ spelling hex_letter (id_digits self.now) }

@@ -7,7 +7,7 @@ use Rattle.gix_hash.specs.declared.kind.Kind.{Kind}
 use Rattle.id_lookup.specs.FoundRun.{IsRun}
 use Rattle.id_lookup.specs.Sorted.{IsSortedIds}
 use Rattle.id_lookup.specs.declared.search.Run as found
-use Rattle.gix_hash_c.specs.Found.{IsFound, run_in}
+use Rattle.gix_hash_c.specs.Found.{IsRunIfSorted, run_in}
 use Rattle.gix_hash_c.specs.declared.look_up.Run.{Run}
 
 pub same_run : (prefix : KindDigits) (kind : Kind) (ids : List (List ℕ)) (run : found.Run) → IsRun prefix ids run → IsRun (kind_digits kind prefix.digits) ids run
@@ -24,9 +24,9 @@ same_run prefix kind ids run r = record {
 
 -- what was found in digests one after the other is found among their ids
 pub found_in : (prefix : KindDigits) (chunks ids : List (List ℕ)) (run : Run) → map digits_of chunks ≡ ids → run.start ≤ run.end → run.end ≤ length chunks
-    → (IsSortedIds (map digits_of chunks) → IsRun prefix (map digits_of chunks) (run_in run)) → IsFound prefix.digits ids run
+    → (IsSortedIds (map digits_of chunks) → IsRun prefix (map digits_of chunks) (run_in run)) → IsRunIfSorted prefix.digits ids run
 found_in prefix chunks ids run same rises within is =
-    subst (λ list. IsFound prefix.digits list run) same (record {
+    subst (λ list. IsRunIfSorted prefix.digits list run) same (record {
       rises = rises;
       in_range = omega (arith, within, length-map chunks digits_of);
       is = λ kind sorted. same_run prefix kind (map digits_of chunks) (run_in run) (is sorted);

@@ -24,7 +24,7 @@ abbrev pub id_in : Id → Option KindDigits
 id_in id = option_map (λ kind. kind_digits kind (digits_of (take (byte_len_of kind) id.bytes))) (kind_of_number id.kind)
 
 -- the struct holds the id: its kind's number, and its digits followed by zeros
-pub record Holds (digits : KindDigits) (id : Id) : Type 0 where
+pub record HoldsId (digits : KindDigits) (id : Id) : Type 0 where
   pub kind : id.kind ≡ number_of digits.kind
   pub bytes : digits_of id.bytes ≡ padded 64 digits.digits
 
@@ -41,7 +41,7 @@ pub record HoldsDigits (digits : List ℕ) (prefix : Prefix) : Type 0 where
 
 -- what reading an id returns, and leaves
 abbrev pub IdAnswer : Result KindDigits decode.Error → ℕ → Id → Id → Type 0
-IdAnswer (Ok read) code old new = (code ≡ OK) × Holds read new
+IdAnswer (Ok read) code old new = (code ≡ OK) × HoldsId read new
 IdAnswer (Err (unread.InvalidHexEncodingLength n)) code old new = (code ≡ BAD_LENGTH) × (new ≡ old)
 IdAnswer (Err unread.Invalid) code old new = (code ≡ BAD_DIGIT) × (new ≡ old)
 
@@ -85,5 +85,5 @@ place_number None id = no_order
 
 -- what hashing returns, and leaves
 abbrev pub DigestAnswer : ℕ → Option KindDigits → Id → Id → Type 0
-DigestAnswer code (Some digest) old new = (code ≡ OK) × Holds digest new
+DigestAnswer code (Some digest) old new = (code ≡ OK) × HoldsId digest new
 DigestAnswer code None old new = (code ≡ BAD_KIND) × (new ≡ old)

@@ -15,7 +15,7 @@ abbrev pub run_in : Run → found.Run
 run_in run = record { start = run.start; end = run.end }
 
 -- the run of some digits, if the ids are sorted; else some run of their indexes
-pub record IsFound (digits : List ℕ) (ids : List (List ℕ)) (run : Run) : Type 0 where
+pub record IsRunIfSorted (digits : List ℕ) (ids : List (List ℕ)) (run : Run) : Type 0 where
   pub rises : run.start ≤ run.end
   pub in_range : run.end ≤ length ids
   pub is : (kind : Kind) → IsSortedIds ids → IsRun (kind_digits kind digits) ids (run_in run)
@@ -23,7 +23,7 @@ pub record IsFound (digits : List ℕ) (ids : List (List ℕ)) (run : Run) : Typ
 -- what a look-up returns, and leaves, by whether there are too many digits
 abbrev pub FoundBy : Bool → List ℕ → List (List ℕ) → ℕ → Run → Run → Type 0
 FoundBy true digits ids code old new = (code ≡ TOO_LONG) × (new ≡ old)
-FoundBy false digits ids code old new = (code ≡ OK) × IsFound digits ids new
+FoundBy false digits ids code old new = (code ≡ OK) × IsRunIfSorted digits ids new
 
 abbrev pub FindAnswer : Option Kind → List ℕ → Option (List ℕ) → ℕ → Run → Run → Type 0
 FindAnswer None table prefix code old new = (code ≡ BAD_KIND) × (new ≡ old)

@@ -10,8 +10,8 @@ use Rattle.pack_index.specs.Format.{HasHead, HasOffset, HasTables, IsPackIndex, 
 use Rattle.pack_index.specs.Refusal.{IsFault, IsRefusal}
 use Rattle.pack_index.specs.declared.error.Error.{Error}
 use Rattle.pack_index.specs.declared.error.Error.TheVariants.{OtherKind, TooShort, Version1, BadMagic, BadVersion, WrongLength, NamesFall, WrongCount, NoOffset, LongOutOfOrder, SpareLong, OffsetInHeader, OffsetTooHigh, WrongChecksum}
-use Rattle.gix_hash_c.specs.Face.{Holds}
-use Rattle.gix_hash_c.specs.Found.{IsFound}
+use Rattle.gix_hash_c.specs.Face.{HoldsId}
+use Rattle.gix_hash_c.specs.Found.{IsRunIfSorted}
 use Rattle.gix_hash_c.specs.declared.look_up.Run.{Run}
 use Rattle.gix_hash_c.specs.declared.packs.Entry.{Entry}
 use Rattle.gix_hash_c.specs.declared.codes.TheConstants.{BAD_KIND, BAD_LENGTH, BAD_MAGIC, BAD_VERSION, LONG_OUT_OF_ORDER, NAMES_FALL, NOT_UNIQUE, NO_OFFSET, OFFSET_IN_HEADER, OFFSET_TOO_HIGH, OK, OTHER_KIND, OUT_OF_RANGE, SPARE_LONG, TOO_LONG, TOO_SHORT, VERSION_1, WRONG_CHECKSUM, WRONG_COUNT, WRONG_LENGTH}
@@ -76,7 +76,7 @@ LenAnswer (Some kind) bytes code old new =
 pub record IsEntry (kind : Kind) (bytes : List ℕ) (at : ℕ) (entry : Entry) : Type 0 where
   pub offset : entry.offset ≡ offset_in kind bytes at
   pub crc : entry.crc ≡ crc_in kind bytes at
-  pub id : Holds (kind_digits kind (slice_index_or (names_in kind bytes) at [])) entry.id
+  pub id : HoldsId (kind_digits kind (slice_index_or (names_in kind bytes) at [])) entry.id
 
 -- why there is none
 abbrev pub IsNoEntry : Kind → List ℕ → ℕ → ℕ → Type 0
@@ -96,7 +96,7 @@ PackFindAnswer None bytes prefix code old new = (code ≡ BAD_KIND) × (new ≡ 
 PackFindAnswer (Some kind) bytes None code old new = (code ≡ BAD_LENGTH) × (new ≡ old)
 PackFindAnswer (Some kind) bytes (Some digits) code old new =
     ((code ≡ TOO_LONG) × (hex_len_of kind < length digits) × (new ≡ old))
-    ⊎ ((length digits ≤ hex_len_of kind) × (((code ≡ OK) × HasTables kind bytes × IsFound digits (names_in kind bytes) new)
+    ⊎ ((length digits ≤ hex_len_of kind) × (((code ≡ OK) × HasTables kind bytes × IsRunIfSorted digits (names_in kind bytes) new)
     ⊎ ((new ≡ old) × IsCause kind bytes code)))
 
 -- as many first digits are the shortest name at an index, if the names are sorted

@@ -5,7 +5,7 @@ ghost use Rattle.id_digits.specs.Digits.{digits_of, hex_letter};
 ghost use Rattle.gix_hash.specs.IdReading.{full_read, whole_of};
 ghost use Rattle.gix_hash.specs.Kind.{byte_len_of};
 ghost use Rattle.gix_hash.specs.Oid.{oid_digits, oid_kind};
-ghost use Rattle.gix_hash_c.specs.Face.{Holds, HexAnswer, IdAnswer, id_in, ids_order};
+ghost use Rattle.gix_hash_c.specs.Face.{HoldsId, HexAnswer, IdAnswer, id_in, ids_order};
 
 use crate::codes::{BAD_DIGIT, BAD_KIND, BAD_LENGTH, NO_ORDER, NO_ROOM, OK, kind_of, order_of};
 use gix_hash::{ObjectId, decode, oid};
@@ -69,7 +69,7 @@ pub extern "C" fn gix_hash_id_cmp(one: &Id, other: &Id) -> i32
 // The struct for an id.
 #[inline(always)]
 pub(crate) fn to_c(id: &ObjectId) -> Id
-    ensures { Holds (whole_of id.now) result }
+    ensures { HoldsId (whole_of id.now) result }
 {
     // The contract of this call says how long the digest is.
     let _bytes = id.as_slice();

@@ -6,7 +6,7 @@ ghost use Rattle.gix_hash.specs.Kind.{hex_len_of};
 ghost use Rattle.id_lookup.specs.Sorted.{IsFirstUnsorted, IsSortedIds};
 ghost use Rattle.pack_index.specs.Format.{digests_in};
 ghost use Rattle.gix_hash_c.specs.Face.{kind_of_number, prefix_in};
-ghost use Rattle.gix_hash_c.specs.Found.{FindAnswer, IsFound, SortedAnswer};
+ghost use Rattle.gix_hash_c.specs.Found.{FindAnswer, IsRunIfSorted, SortedAnswer};
 
 use crate::codes::{BAD_KIND, BAD_LENGTH, OK, TOO_LONG, UNSORTED, kind_of};
 use crate::prefixes::{Prefix, prefix_of};
@@ -90,7 +90,7 @@ pub(crate) fn find_in(
     guess: id_lookup::Run,
 ) -> Run
     requires { length prefix.now.digits ≤ hex_len_of kind }
-    ensures { IsFound prefix.now.digits (digests_in kind table.now) result }
+    ensures { IsRunIfSorted prefix.now.digits (digests_in kind table.now) result }
 {
     let run = match kind {
         Kind::Sha1 => find_if_sorted_near::<[u8; 20]>(table.as_chunks().0, prefix, guess),

@@ -7,7 +7,7 @@ ghost use Rattle.gix_hash.specs.Prefix.{kind_digits};
 ghost use Rattle.id_lookup.specs.ShortNames.{IsShortestName};
 ghost use Rattle.id_lookup.specs.Sorted.{IsSortedIds};
 ghost use Rattle.pack_index.specs.Format.{HasHead, HasTables, crcs_at, digests_in, names_at, names_in};
-ghost use Rattle.gix_hash_c.specs.Face.{Holds, kind_of_number, prefix_in};
+ghost use Rattle.gix_hash_c.specs.Face.{HoldsId, kind_of_number, prefix_in};
 ghost use Rattle.gix_hash_c.specs.Packs.{CheckAnswer, EntryAnswer, IsCause, LenAnswer, PackFindAnswer, PackKindAnswer, ShortestAnswer, cause_number, detail_of};
 
 use crate::codes::{
@@ -254,7 +254,7 @@ fn run_by_counts(bytes: &[u8], prefix: &gix_hash::Prefix) -> id_lookup::Run
 // The name at an index of a table.
 fn name_at(kind: Kind, table: &[u8], at: usize) -> Id
     requires { at < length (digests_in kind table.now) }
-    ensures { Holds (kind_digits kind (slice_index_or (digests_in kind table.now) at [])) result }
+    ensures { HoldsId (kind_digits kind (slice_index_or (digests_in kind table.now) at [])) result }
 {
     match kind {
         Kind::Sha1 => to_c(&ObjectId::Sha1(table.as_chunks().0[at])),

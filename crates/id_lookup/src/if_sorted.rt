@@ -82,7 +82,7 @@ fn part_if_sorted<I: Id>(ids: &[I], prefix: &Prefix, guess: Run) -> Run
 
 // Whether the bound of the run is after the member at an index, if the list is sorted.
 fn is_after<I: Id>(ids: &[I], prefix: &Prefix, bound: Bound, at: usize) -> bool
-    requires reach { length prefix.now.digits ≤ least_hex_len (map I.digits ids.now) }
+    requires enough_digits { length prefix.now.digits ≤ least_hex_len (map I.digits ids.now) }
     requires in_range { at < length ids.now }
     ensures { IsSortedIds (map I.digits ids.now)
         → result ≡ nat_lt at (bound_of bound prefix.now (map I.digits ids.now)) }
@@ -98,7 +98,7 @@ fn bound_if_sorted<I: Id>(
     mut low: usize,
     mut high: usize,
 ) -> usize
-    requires reach { length prefix.now.digits ≤ least_hex_len (map I.digits ids.now) }
+    requires enough_digits { length prefix.now.digits ≤ least_hex_len (map I.digits ids.now) }
     requires rises { low ≤ high }
     requires in_range { high ≤ length ids.now }
     ensures above { low ≤ result }

@@ -8,7 +8,7 @@ use Rattle.gix_hash.specs.Digits.{first_byte_of}
 use Rattle.gix_hash.specs.declared.Kind.{Kind}
 use Rattle.id_lookup.proofs.SameMembers.{part_is}
 use Rattle.id_lookup.specs.IndexOf.{IsIndexOf}
-use Rattle.object_store.specs.Stores.{HasPlace, Holds, IfKnown, IsFirstFault, IsLocateFault, IsOutside, IsPlaceFault, IsStoreFault}
+use Rattle.object_store.specs.Stores.{HasPlace, Holds, IfKnown, IsFirstFault, IsLocateFault, IsIndexReadOrMemory, IsPlaceFault, IsStoreFault}
 use Rattle.object_store.specs.declared.error.Error.{Error}
 use Rattle.object_store.specs.declared.error.Error.TheVariants.{Index, Memory}
 use Rattle.pack_index.proofs.Buckets.{no_bucket_fault}
@@ -87,8 +87,8 @@ held kind packs loose whole p packed gathered part h from_packs all index =
 
 -- a store whose pack indexes are ones has no fault
 no_first_fault : (Has : List ℕ → Type 0) (HasFault : List ℕ → LazyError → Type 0) (kind : Kind) (packs : List LazyIndex) (loose whole : List (List ℕ))
-    (e : Error) → ((bytes : List ℕ) (why : LazyError) → IsPackIndex kind bytes → HasFault bytes why → lazy.IsOutside why)
-    → Holds kind packs loose whole → IsFirstFault Has HasFault packs e → IsOutside e
+    (e : Error) → ((bytes : List ℕ) (why : LazyError) → IsPackIndex kind bytes → HasFault bytes why → lazy.IsReadOrMemory why)
+    → Holds kind packs loose whole → IsFirstFault Has HasFault packs e → IsIndexReadOrMemory e
 no_first_fault Has HasFault kind packs loose whole (Index at error) no_fault h fault =
     let content : LazyIndex → Option (List ℕ) = λ p. p.content in
     let pack = fault.0 in
@@ -100,17 +100,17 @@ no_first_fault Has HasFault kind packs loose whole (Index at error) no_fault h f
 no_first_fault Has HasFault kind packs loose whole (Memory error) no_fault h fault = tt
 
 pub no_store_fault : (kind : Kind) (packs : List LazyIndex) (loose whole : List (List ℕ)) (byte : ℕ) (e : Error)
-    → Holds kind packs loose whole → IsStoreFault kind packs byte e → IsOutside e
+    → Holds kind packs loose whole → IsStoreFault kind packs byte e → IsIndexReadOrMemory e
 no_store_fault kind packs loose whole byte e =
     no_first_fault (λ bytes. HasBucket kind bytes byte) (λ bytes why. IsBucketFault kind bytes byte why) kind packs loose whole e
     (λ bytes. no_bucket_fault kind bytes byte)
 
-no_place_fault : (kind : Kind) (bytes digits : List ℕ) (e : LazyError) → IsPackIndex kind bytes → IsPlaceFault kind bytes digits e → lazy.IsOutside e
+no_place_fault : (kind : Kind) (bytes digits : List ℕ) (e : LazyError) → IsPackIndex kind bytes → IsPlaceFault kind bytes digits e → lazy.IsReadOrMemory e
 no_place_fault kind bytes digits (NoOffset at) index fault = fault.2 (index.offsets.in_table at (omega (arith, fault.0.inside, fault.1.to)))
 no_place_fault kind bytes digits e index fault = no_bucket_fault kind bytes (first_byte_of digits) e index fault
 
 pub no_locate_fault : (kind : Kind) (packs : List LazyIndex) (loose whole : List (List ℕ)) (digits : List ℕ) (e : Error)
-    → Holds kind packs loose whole → IsLocateFault kind packs digits e → IsOutside e
+    → Holds kind packs loose whole → IsLocateFault kind packs digits e → IsIndexReadOrMemory e
 no_locate_fault kind packs loose whole digits e =
     no_first_fault (λ bytes. HasPlace kind bytes digits) (λ bytes why. IsPlaceFault kind bytes digits why) kind packs loose whole e
     (λ bytes. no_place_fault kind bytes digits)

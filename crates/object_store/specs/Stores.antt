@@ -66,6 +66,6 @@ abbrev pub IsLocateFault : Kind → List LazyIndex → List ℕ → Error → Ty
 IsLocateFault kind packs digits error = IsFirstFault (λ bytes. HasPlace kind bytes digits) (λ bytes why. IsPlaceFault kind bytes digits why) packs error
 
 -- a read failed, or memory ran out
-abbrev pub IsOutside : Error → Type 0
-IsOutside (Index at error) = lazy.IsOutside error
-IsOutside (Memory error) = Unit {0}
+abbrev pub IsIndexReadOrMemory : Error → Type 0
+IsIndexReadOrMemory (Index at error) = lazy.IsReadOrMemory error
+IsIndexReadOrMemory (Memory error) = Unit {0}

@@ -42,7 +42,7 @@ pub fn lookup_prefix<S: Store, A: Allocator + Copy>(
         → map id_digits ids.items ≡ matches prefix.now.digits whole) }
     ensures index { IfOk result (λ ids. IsIndex (S.kind store.now) (map id_digits ids.items)) }
     ensures kinds { IfOk result (λ ids. All (λ id. id_kind id ≡ S.kind store.now) ids.items) }
-    ensures right { IfOk result (λ _. HaveBuckets (S.kind store.now) (S.packs store.now)
+    ensures sound { IfOk result (λ _. HaveBuckets (S.kind store.now) (S.packs store.now)
         (first_byte_of prefix.now.digits)) }
     ensures err { IfErr result (IsStoreFault (S.kind store.now) (S.packs store.now)
         (first_byte_of prefix.now.digits)) }

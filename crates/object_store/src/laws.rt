@@ -3,7 +3,7 @@
 ghost use Rattle.std.specs.Prelude.{◌↔◌, ℕ, ◌<◌, Contains, List, [], length, slice_index_or};
 ghost use Rattle.gix_hash.specs.declared.Kind.{Kind};
 ghost use Rattle.object_store.specs.Places.{HasObjectAt, places_of};
-ghost use Rattle.object_store.specs.Stores.{Holds, IsLocateFault, IsOutside, IsStoreFault};
+ghost use Rattle.object_store.specs.Stores.{Holds, IsLocateFault, IsIndexReadOrMemory, IsStoreFault};
 ghost use Rattle.object_store.specs.declared.error.Error.{Error as StoreError};
 ghost use Rattle.object_store.specs.declared.places.Place.TheVariants.{Packed, Loose};
 ghost use Rattle.pack_index.specs.Lazy.{LazyIndex};
@@ -13,11 +13,11 @@ ghost use Rattle.pack_index.specs.Lazy.{LazyIndex};
 pub fn failures()
     ensures buckets { (kind : Kind) (packs : List LazyIndex) (loose : List (List ℕ))
         (whole : List (List ℕ)) (byte : ℕ) (error : StoreError) → Holds kind packs loose whole
-        → IsStoreFault kind packs byte error → IsOutside error }
+        → IsStoreFault kind packs byte error → IsIndexReadOrMemory error }
     ensures places { (kind : Kind) (packs : List LazyIndex) (loose : List (List ℕ))
         (whole : List (List ℕ)) (digits : List ℕ) (error : StoreError)
         → Holds kind packs loose whole → IsLocateFault kind packs digits error
-        → IsOutside error }
+        → IsIndexReadOrMemory error }
 {}
 
 /// `locate` adds no place and leaves none out: an object is at an offset in a pack if and only if

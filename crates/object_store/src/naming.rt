@@ -61,7 +61,7 @@ pub fn names<S: Store, A: Allocator + Copy>(
     ensures index { IfOk result (λ named. IsIndex (S.kind store.now)
         (map (λ (n : NamedId). id_digits n.id) named.items)) }
     ensures kinds { IfOk result (λ named. All (IsOfKind (S.kind store.now)) named.items) }
-    ensures right { IfOk result (λ _. HaveBuckets (S.kind store.now) (S.packs store.now) byte) }
+    ensures sound { IfOk result (λ _. HaveBuckets (S.kind store.now) (S.packs store.now) byte) }
     ensures err { IfErr result (IsStoreFault (S.kind store.now) (S.packs store.now) byte) }
 {
     let ids = Part::read(alloc, store, byte)?.gather(alloc, store, &Wanted::FirstByte(byte))?;
@@ -92,7 +92,7 @@ pub fn abbreviate<S: Store, A: Allocator + Copy>(
         → MatchOption name (¬ Contains whole (id_digits id.now))
         (λ name. IsNameIn least whole (id_digits id.now) name.digits)) }
     ensures kind { IfOk result (λ name. IfSome name (λ name. name.kind ≡ S.kind store.now)) }
-    ensures right { IfOk result (λ _. HaveBuckets (S.kind store.now) (S.packs store.now)
+    ensures sound { IfOk result (λ _. HaveBuckets (S.kind store.now) (S.packs store.now)
         (first_byte_of (id_digits id.now))) }
     ensures err { IfErr result (IsStoreFault (S.kind store.now) (S.packs store.now)
         (first_byte_of (id_digits id.now))) }

@@ -52,7 +52,7 @@ impl<A: Allocator + Copy> Part<A> {
     /// of the first pack index that cannot be read, or is damaged where it is read.
     pub fn read<S: Store>(alloc: A, store: &S, byte: u8) -> Result<Part<A>, Error>
         ensures part { IfOk result (AreBuckets (S.packs store.now) byte) }
-        ensures right { IfOk result (λ _. HaveBuckets (S.kind store.now) (S.packs store.now) byte) }
+        ensures sound { IfOk result (λ _. HaveBuckets (S.kind store.now) (S.packs store.now) byte) }
         ensures err { IfErr result (IsStoreFault (S.kind store.now) (S.packs store.now) byte) }
     {
         let mut buckets = Vec::new(alloc);
@@ -106,7 +106,7 @@ impl<A: Allocator + Copy> Part<A> {
             → (h : Holds (S.kind store.now) (S.packs store.now) (S.loose store.now) whole)
             → places.items
             ≡ places_of (S.kind store.now) (id_digits id.now) h.indexes (S.loose store.now)) }
-        ensures right { IfOk result (λ _. HavePlaces (S.kind store.now) (S.packs store.now)
+        ensures sound { IfOk result (λ _. HavePlaces (S.kind store.now) (S.packs store.now)
             (id_digits id.now)) }
         ensures err { IfErr result (IsLocateFault (S.kind store.now) (S.packs store.now)
             (id_digits id.now)) }

@@ -62,7 +62,7 @@ pub fn locate<S: Store, A: Allocator + Copy>(
         → (h : Holds (S.kind store.now) (S.packs store.now) (S.loose store.now) whole)
         → places.items
         ≡ places_of (S.kind store.now) (id_digits id.now) h.indexes (S.loose store.now)) }
-    ensures right { IfOk result (λ _. HavePlaces (S.kind store.now) (S.packs store.now)
+    ensures sound { IfOk result (λ _. HavePlaces (S.kind store.now) (S.packs store.now)
         (id_digits id.now)) }
     ensures err { IfErr result (λ e. IsStoreFault (S.kind store.now) (S.packs store.now)
         (first_byte_of (id_digits id.now)) e
@@ -87,7 +87,7 @@ pub(crate) fn locate_in<S: Store, A: Allocator + Copy>(
         → (h : Holds (S.kind store.now) (S.packs store.now) (S.loose store.now) whole)
         → places.items
         ≡ places_of (S.kind store.now) (id_digits id.now) h.indexes (S.loose store.now)) }
-    ensures right { IfOk result (λ _. HavePlaces (S.kind store.now) (S.packs store.now)
+    ensures sound { IfOk result (λ _. HavePlaces (S.kind store.now) (S.packs store.now)
         (id_digits id.now)) }
     ensures err { IfErr result (IsLocateFault (S.kind store.now) (S.packs store.now)
         (id_digits id.now)) }
@@ -112,7 +112,7 @@ fn packed_places<S: Store, A: Allocator + Copy>(
         → All (IsPackIndex (S.kind store.now)) indexes
         → places.items
         ≡ packed_places (S.kind store.now) (id_digits id.now) indexes (length indexes)) }
-    ensures right { IfOk result (λ _. HavePlaces (S.kind store.now) (S.packs store.now)
+    ensures sound { IfOk result (λ _. HavePlaces (S.kind store.now) (S.packs store.now)
         (id_digits id.now)) }
     ensures err { IfErr result (IsLocateFault (S.kind store.now) (S.packs store.now)
         (id_digits id.now)) }
@@ -160,7 +160,7 @@ fn packed_offset<S: ReadAt + Drop, A: Allocator>(
     ensures offset { IfOk result (λ offset. (bytes : List ℕ) → index.now.content ≡ Some bytes
         → Each (HasCount index.now.kind bytes) 256
         → offset ≡ offset_of index.now.kind bytes (id_digits id.now)) }
-    ensures right { IfOk result (λ _. (bytes : List ℕ) → index.now.content ≡ Some bytes
+    ensures sound { IfOk result (λ _. (bytes : List ℕ) → index.now.content ≡ Some bytes
         → HasPlace index.now.kind bytes (id_digits id.now)) }
     ensures err { IfErr result (λ e. (bytes : List ℕ) → index.now.content ≡ Some bytes
         → IsPlaceFault index.now.kind bytes (id_digits id.now) e) }

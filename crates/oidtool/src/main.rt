@@ -8,8 +8,10 @@
 
 mod help;
 
-use command_line::{Failure, WordsError, command_line_args, report};
-use oidtool_commands::{ArgError, Command, CommandError, read_command, run_command};
+use oidtool_commands::{
+    ArgError, Command, CommandError, Failure, WordsError, command_line_args, read_command, report,
+    run_command,
+};
 use std::alloc::AllocError;
 use std::io;
 use std::io::BufWriter;
@@ -19,11 +21,11 @@ use streams::Plain;
 
 fn main(rt: HostRuntime) -> ExitCode {
     let outcome = match command_line_args(&rt) {
-        Ok(words) => return report(&rt, "", run(&rt, &words)),
+        Ok(words) => return report(&rt, run(&rt, &words)),
         Err(WordsError::NotText) => Failure::Args(ArgError::Usage),
         Err(WordsError::Memory) => Failure::Command(CommandError::Memory),
     };
-    report(&rt, "", Err(outcome))
+    report(&rt, Err(outcome))
 }
 
 /// Prints the help or the version, or runs the command that the words ask for. Nothing is read if
@@ -31,7 +33,7 @@ fn main(rt: HostRuntime) -> ExitCode {
 fn run<'a>(
     rt: &(impl Input + Print + Files + AllocGlobal),
     words: &'a [String],
-) -> Result<usize, Failure<ArgError<'a>, CommandError>> {
+) -> Result<usize, Failure<'a>> {
     let Ok(words): Result<Vec<&str>, AllocError> = words
         .iter()
         .map(|word| word.as_str())

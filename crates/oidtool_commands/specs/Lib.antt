@@ -1,3 +1,4 @@
--- What the words of a command ask for, and what each command does.
+-- What the words of a command ask for, what each command does, and the status of the program.
 pub mod Command
 pub mod Running
+pub mod Status

@@ -2,7 +2,8 @@
 //!
 //! [`read_command`] reads the words of a command line, and [`run_command`] does what they ask for:
 //! a search in a list, [`hash_all`](streams::hash_all), [`seal`](streams::seal), or the digest of a
-//! file.
+//! file. [`command_line_args`] returns the words that the program was started with, and [`report`]
+//! prints an error, a [`Failure`], and returns the exit status.
 #![tactic(auto)]
 
 mod command;
@@ -11,7 +12,11 @@ mod error;
 mod flushing;
 mod running;
 mod searching;
+mod status;
+mod words;
 
 pub use command::{ArgError, Command, read_command};
 pub use error::CommandError;
 pub use running::run_command;
+pub use status::{Failure, exit_status, report};
+pub use words::{WordsError, command_line_args};

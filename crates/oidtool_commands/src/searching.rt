@@ -128,7 +128,7 @@ fn search_to_end<A: Allocator, R: Source, W: BufferedSink>(
 fn drain<R: Source>(input: &mut R) -> Result<(), CommandError>
     requires { R.has_failed input.old ≡ false }
     ensures drained { OnOk result (IsDrained (R.remaining input.old) (R.remaining input.new)) }
-    ensures stands { OnOk result (R.has_failed input.new ≡ false) }
+    ensures not_failed { OnOk result (R.has_failed input.new ≡ false) }
     ensures refused { IfErr result (λ e. (e ≡ CommandError.Input)
         × (R.has_failed input.new ≡ true)) }
 {

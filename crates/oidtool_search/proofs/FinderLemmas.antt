@@ -11,7 +11,7 @@ use Rattle.gix_hash.specs.ObjectId.{id_digits}
 use Rattle.gix_hash.specs.declared.ObjectId.{ObjectId}
 use Rattle.id_lookup.specs.Runs.{matches}
 use Rattle.id_lookup.specs.Sorted.{least_hex_len}
-use Rattle.oidtool_search.specs.Searching.{error_after, error_of_all, first_refused, last_or, IsLeast, HasFound}
+use Rattle.oidtool_search.specs.Searching.{order_error, error_of_all, first_refused, last_or, IsLeast, HasFound}
 use Rattle.oidtool_search.specs.declared.error.SearchError.{SearchError}
 use Rattle.oidtool_search.specs.declared.error.SearchError.TheVariants.{PrefixTooLong}
 use Rattle.oidtool_search.specs.declared.finder.Finder.{Finder}
@@ -25,7 +25,7 @@ unfolding first_refused
 refused-append search last n [] more = let same : n + 0 ≡ n = omega arith in rw same refl
 refused-append search last n (id ∷ ids) more =
     let next : n + 1 + length ids ≡ n + suc (length ids) = omega arith in
-    by_order _ _ _ (error_after search last id)
+    by_order _ _ _ (order_error search last id)
     (refused-append search (Some id) (n + 1) ids more
     ∙ ap (λ k. option_or (first_refused search (Some id) (n + 1) ids) (first_refused search (last_or (Some id) ids) k more)) next)
   where

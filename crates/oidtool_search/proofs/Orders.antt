@@ -12,7 +12,7 @@ use Rattle.gix_hash.specs.Kind.{hex_len_of}
 use Rattle.gix_hash.specs.declared.Kind.{Kind}
 use Rattle.id_lookup.specs.Index.{IsIndexUpTo, IsWrongKind, IsNotRising}
 use Rattle.id_lookup.specs.Sorted.{IsFirstUnsorted}
-use Rattle.oidtool_search.specs.Searching.{error_after, first_refused, is_above, late_error}
+use Rattle.oidtool_search.specs.Searching.{order_error, first_refused, is_above, late_error}
 use Rattle.oidtool_search.specs.declared.error.SearchError.{SearchError}
 use Rattle.oidtool_search.specs.declared.error.SearchError.TheVariants.{Unsorted, WrongKind, NotRising}
 use Rattle.oidtool_search.specs.declared.search.Search.{Search}
@@ -25,7 +25,7 @@ before_at last ids (suc k) = Some (get_or ids k [])
 
 -- the error of the id at an index, after the previous one
 abbrev pub error_at : Search → Option (List ℕ) → List (List ℕ) → ℕ → Option (ℕ → SearchError)
-error_at search last ids k = error_after search (before_at last ids k) (get_or ids k [])
+error_at search last ids k = order_error search (before_at last ids k) (get_or ids k [])
 
 -- none of the first n ids is refused
 abbrev pub InOrder : Search → Option (List ℕ) → List (List ℕ) → ℕ → Type 0
@@ -47,13 +47,13 @@ is_first : (search : Search) (last : Option (List ℕ)) (n : ℕ) (ids : List (L
 unfolding first_refused
 is_first search last n [] = λ k within. absurd (omega arith)
 is_first search last n (id ∷ ids) =
-    by_error (error_after search last id) refl (first_refused search (Some id) (n + 1) ids) (is_first search (Some id) (n + 1) ids)
+    by_error (order_error search last id) refl (first_refused search (Some id) (n + 1) ids) (is_first search (Some id) (n + 1) ids)
   where
-    longer : error_after search last id ≡ None → (m : ℕ) → InOrder search (Some id) ids m → InOrder search last (id ∷ ids) (suc m)
+    longer : order_error search last id ≡ None → (m : ℕ) → InOrder search (Some id) ids m → InOrder search last (id ∷ ids) (suc m)
     longer here m more zero within = here
     longer here m more (suc k) within = shift search last id ids k ∙ more k (omega arith)
 
-    by_error : (why : Option (ℕ → SearchError)) → error_after search last id ≡ why → (more : Option SearchError) → IsFirst search (Some id) (n + 1) ids more
+    by_error : (why : Option (ℕ → SearchError)) → order_error search last id ≡ why → (more : Option SearchError) → IsFirst search (Some id) (n + 1) ids more
         → IsFirst search last n (id ∷ ids) (option_or (option_map (λ w. w n) why) more)
     by_error (Some why) here more h = (0, why, omega arith, λ k within. absurd (omega arith), here, ap why (omega arith))
     by_error None here None h = longer here (length ids) h
@@ -102,7 +102,7 @@ Says kind last id None = (length id ≡ hex_len_of kind) × (is_above last id �
 Says kind last id (Some why) = ((why ≡ WrongKind) × (length id ≡ hex_len_of kind → ⊥))
     ⊎ ((why ≡ NotRising) × (length id ≡ hex_len_of kind) × (is_above last id ≡ false))
 
-says : (kind : Kind) (last : Option (List ℕ)) (id : List ℕ) (why : Option (ℕ → SearchError)) → error_after (In kind) last id ≡ why → Says kind last id why
+says : (kind : Kind) (last : Option (List ℕ)) (id : List ℕ) (why : Option (ℕ → SearchError)) → order_error (In kind) last id ≡ why → Says kind last id why
 says kind last id why is = subst (Says kind last id) is (by_tests (length id == hex_len_of kind) refl (is_above last id) refl)
   where
     by_tests : (right : Bool) → (length id == hex_len_of kind) ≡ right → (above : Bool) → is_above last id ≡ above
@@ -113,7 +113,7 @@ says kind last id why is = subst (Says kind last id) is (by_tests (length id == 
 
 -- an id of the kind, by whether it is above the one before it
 of_kind : (kind : Kind) (last : Option (List ℕ)) (id : List ℕ) (above : Bool) → length id ≡ hex_len_of kind → is_above last id ≡ above
-    → error_after (In kind) last id ≡ (if above then None else Some NotRising)
+    → order_error (In kind) last id ≡ (if above then None else Some NotRising)
 of_kind kind last id above right is = let same : (length id == hex_len_of kind) ≡ true = grind (arith, nat_tests) in rw (same, is) refl
 
 -- the first n ids are in order

@@ -43,10 +43,10 @@ is_above None id = true
 is_above (Some last) id = is_lt (slice_cmp nat_cmp last id)
 
 -- the error of an id after the previous one, by its line: it is below that one, or it is of another kind or else not above that one
-abbrev pub error_after : Search → Option (List ℕ) → List ℕ → Option (ℕ → SearchError)
-error_after (Sorted alphabet) None id = None
-error_after (Sorted alphabet) (Some last) id = if is_lt (slice_cmp nat_cmp id last) then Some Unsorted else None
-error_after (In kind) last id = if not (length id == hex_len_of kind) then Some WrongKind else if is_above last id then None else Some NotRising
+abbrev pub order_error : Search → Option (List ℕ) → List ℕ → Option (ℕ → SearchError)
+order_error (Sorted alphabet) None id = None
+order_error (Sorted alphabet) (Some last) id = if is_lt (slice_cmp nat_cmp id last) then Some Unsorted else None
+order_error (In kind) last id = if not (length id == hex_len_of kind) then Some WrongKind else if is_above last id then None else Some NotRising
 
 -- the error of the first of some ids, on line n, for the id before them, if it has none by itself
 abbrev pub late_error : Search → ℕ → Option (List ℕ) → List (List ℕ) → Option SearchError
@@ -63,7 +63,7 @@ error_of_all (In kind) digits ids = None
 -- the error of the first of some ids, counted from n, that is refused after the previous one; `last` is the id before them
 unfoldable pub first_refused : Search → Option (List ℕ) → ℕ → List (List ℕ) → Option SearchError
 first_refused search last n [] = None
-first_refused search last n (id ∷ ids) = option_or (option_map (λ why. why n) (error_after search last id)) (first_refused search (Some id) (n + 1) ids)
+first_refused search last n (id ∷ ids) = option_or (option_map (λ why. why n) (order_error search last id)) (first_refused search (Some id) (n + 1) ids)
 
 -- the error, or else what is found
 abbrev pub error_or : {A : Type 0} → Option SearchError → A → Result A SearchError

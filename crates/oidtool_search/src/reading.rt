@@ -35,7 +35,7 @@ pub fn find_in_source<A: Allocator + Copy, R: Source>(
         OfAll (From most (R.remaining input.old) (R.remaining input.new))
         (λ text. found_in_list query.now.search query.now.prefix.digits (list_read text)
         ≡ Ok (map id_digits ids.items))) }
-    ensures stands { OnOk result (R.has_failed input.new ≡ false) }
+    ensures not_failed { OnOk result (R.has_failed input.new ≡ false) }
     ensures stopped { IfErr result (Stops
         (λ text. found_in_list query.now.search query.now.prefix.digits (list_read text))
         (From most (R.remaining input.old) (R.remaining input.new))) }

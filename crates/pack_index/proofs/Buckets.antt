@@ -16,7 +16,7 @@ use Rattle.id_lookup.proofs.FirstByteCounts.{count_by-below_0, count_by-up_to, u
 use Rattle.id_lookup.proofs.PartsInOrder.{below-next, part-run}
 use Rattle.pack_index.specs.Firsts.{Each}
 use Rattle.pack_index.specs.Format.{HasCount, HasTables, IsPackIndex, count_in, crcs_at, digests_in, names_in}
-use Rattle.pack_index.specs.Lazy.{HaveFirstByte, IsBucketFault, IsOutside, bucket_end, bucket_start, counted_with}
+use Rattle.pack_index.specs.Lazy.{HaveFirstByte, IsBucketFault, IsReadOrMemory, bucket_end, bucket_start, counted_with}
 use Rattle.pack_index.specs.declared.lazy_error.LazyError.{LazyError}
 use Rattle.pack_index.specs.declared.lazy_error.LazyError.TheVariants.{Read, Memory, CountsFall, CountTooHigh, WrongCount}
 use Rattle.pack_index.proofs.Counted.{length-names_in, length-table, as_many}
@@ -162,7 +162,7 @@ module _ (kind : Kind) (bytes : List ℕ) (byte : ℕ) (index : IsPackIndex kind
       subst (λ (ids : List (List ℕ)). All (λ id. has_first_byte byte id ≡ true) ids) is (filter_passes (has_first_byte byte) (names_in kind bytes))
 
 -- a pack index has no fault
-pub no_bucket_fault : (kind : Kind) (bytes : List ℕ) (byte : ℕ) (e : LazyError) → IsPackIndex kind bytes → IsBucketFault kind bytes byte e → IsOutside e
+pub no_bucket_fault : (kind : Kind) (bytes : List ℕ) (byte : ℕ) (e : LazyError) → IsPackIndex kind bytes → IsBucketFault kind bytes byte e → IsReadOrMemory e
 no_bucket_fault kind bytes byte (Read e) index fault = tt
 no_bucket_fault kind bytes byte (Memory e) index fault = tt
 no_bucket_fault kind bytes byte (CountsFall b) index fault = omega (arith, counts_rise kind bytes byte index fault.1, fault.2)

@@ -73,10 +73,10 @@ IsRead (Read e) = Unit {0}
 IsRead _ = ⊥
 
 -- a read failed, or memory ran out
-abbrev pub IsOutside : LazyError → Type 0
-IsOutside (Read e) = Unit {0}
-IsOutside (Memory e) = Unit {0}
-IsOutside _ = ⊥
+abbrev pub IsReadOrMemory : LazyError → Type 0
+IsReadOrMemory (Read e) = Unit {0}
+IsReadOrMemory (Memory e) = Unit {0}
+IsReadOrMemory _ = ⊥
 
 -- why bytes are not opened: the cause holds, and none before it
 abbrev pub IsHeadFault : Kind → List ℕ → LazyError → Type 0

@@ -106,7 +106,7 @@ impl<A: Allocator> Bucket<A> {
 // The first index of an id in a list whose members have as many digits as it has.
 fn position_in<I: Id>(ids: &[I], id: oid<'_>, is_sorted: bool) -> Option<usize>
     requires sorted { IsTrue is_sorted → IsSortedIds (map I.digits ids.now) }
-    requires reach { length (oid_digits id) ≤ least_hex_len (map I.digits ids.now) }
+    requires enough_digits { length (oid_digits id) ≤ least_hex_len (map I.digits ids.now) }
     requires long { (k : ℕ) → k < length (map I.digits ids.now)
         → length (slice_index_or (map I.digits ids.now) k []) ≡ length (oid_digits id) }
     ensures { let names = map I.digits ids.now in

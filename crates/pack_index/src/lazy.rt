@@ -8,7 +8,7 @@ ghost use Rattle.id_lookup.specs.FirstBytes.{has_first_byte};
 ghost use Rattle.id_lookup.specs.IndexOf.{part_of};
 ghost use Rattle.pack_index.specs.Firsts.{Each};
 ghost use Rattle.pack_index.specs.Format.{HasCount, HasHead, HasOffset, HasTables, count_in, digests_in, magic_number, min_len, names_in, offset_in, offset_word, word_at};
-ghost use Rattle.pack_index.specs.Lazy.{HasBucket, HaveFirstByte, IsBucketFault, IsBucketOf, IsFirstCounted, IsHeadFault, IsOffsetFault, IsOutside, IsRead, bucket_end, bucket_start, counted_with};
+ghost use Rattle.pack_index.specs.Lazy.{HasBucket, HaveFirstByte, IsBucketFault, IsBucketOf, IsFirstCounted, IsHeadFault, IsOffsetFault, IsReadOrMemory, IsRead, bucket_end, bucket_start, counted_with};
 ghost use Rattle.pack_index.specs.Names.{IsFirstIndexOf};
 ghost use Rattle.streams.specs.ReadAt.{IsReadAt};
 
@@ -229,7 +229,7 @@ impl<S: ReadAt + Drop> LazyFile<S> {
             ≡ run.now.end - run.now.start) }
         ensures first { IfOk result (λ table.
             HaveFirstByte byte (digests_in self.now.kind table.items)) }
-        ensures right { IfOk result (λ _. (bytes : List ℕ) → self.now.content ≡ Some bytes
+        ensures sound { IfOk result (λ _. (bytes : List ℕ) → self.now.content ≡ Some bytes
             → HasBucket self.now.kind bytes byte) }
         ensures err { IfErr result (λ e. (bytes : List ℕ) → self.now.content ≡ Some bytes
             → IsBucketFault self.now.kind bytes byte e) }
@@ -252,7 +252,7 @@ impl<S: ReadAt + Drop> LazyFile<S> {
             → IsReadAt bytes (1032 + byte_len_of self.now.kind * run.now.start) table.items) }
         ensures len { IfOk result (λ table. length table.items
             ≡ byte_len_of self.now.kind * (run.now.end - run.now.start)) }
-        ensures err { IfErr result IsOutside }
+        ensures err { IfErr result IsReadOrMemory }
     {
         let _count = count_in(&self.head);
         let (at, len) = match self.kind {

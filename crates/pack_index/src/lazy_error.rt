@@ -1,6 +1,6 @@
 //! Why a pack index that is read at positions does not give what was asked.
 
-ghost use Rattle.pack_index.specs.Lazy.{IsOutside, IsRead};
+ghost use Rattle.pack_index.specs.Lazy.{IsReadOrMemory, IsRead};
 
 use gix_hash::Kind;
 use std::alloc::AllocError;
@@ -67,7 +67,7 @@ impl From<io::Error> for LazyError {
 }
 
 impl From<AllocError> for LazyError {
-    ghost from_gives = { λ _ made. IsOutside made };
+    ghost from_gives = { λ _ made. IsReadOrMemory made };
 
     fn from(error: AllocError) -> Self {
         LazyError::Memory(error)

@@ -98,7 +98,7 @@ impl<'a> Names<'a> {
     // The run of a prefix, among the names with its first byte.
     pub(crate) fn find(&self, fan_out: &FanOut, prefix: &Prefix) -> Run
         requires fan_out { IsFanOut fan_out.now (list_of self.now) }
-        requires reach { length prefix.now.digits ≤ least_hex_len (list_of self.now) }
+        requires enough_digits { length prefix.now.digits ≤ least_hex_len (list_of self.now) }
         ensures { IsRun prefix.now (list_of self.now) result }
     {
         match self {

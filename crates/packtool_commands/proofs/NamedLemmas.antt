@@ -8,8 +8,6 @@ use Rattle.std.proofs.Math.Seq.{drop-cons}
 use Rattle.std.proofs.lemmas.Grind.{flat_map-append}
 use Rattle.std.proofs.lemmas.List.{map-append}
 use Rattle.std.proofs.lemmas.List.Elements.{All-append}
-use Rattle.command_line.specs.Flushed.{AppendsAtMost}
-use Rattle.command_line.proofs.Flushed.{part_written}
 use Rattle.gix_hash.specs.ObjectId.{id_digits}
 use Rattle.id_lookup.specs.IndexOf.{part_of}
 use Rattle.object_store.proofs.Held.{flat_map-take}
@@ -17,8 +15,8 @@ use Rattle.object_store.specs.Stores.{IsNameIn}
 use Rattle.object_store.specs.declared.naming.NamedId.{NamedId}
 use Rattle.packtool_commands.specs.Names.{AreNamedBelow, HasNamedAtMost, HasNamedBelow, name_line, parts_below}
 use Rattle.packtool_commands.proofs.LineRanges.{range-split}
-use Rattle.streams.specs.Writing.{AppendsPart}
-use Rattle.streams.proofs.WritingLemmas.{AppendsPart-after, AppendsPart-more}
+use Rattle.streams.specs.Writing.{AppendsAtMost, AppendsPart}
+use Rattle.streams.proofs.WritingLemmas.{AppendsPart-after, AppendsPart-more, part_written}
 
 -- one line more
 pub Appends-item : {X : Type 0} (a b c : Option (List ℕ)) (line : X → List ℕ) (xs : List X) (k : ℕ) (d : X) → k < length xs

@@ -17,9 +17,9 @@ pub record HasPrinted (ids : List (List ℕ)) (any : Bool) (old new : Option (Li
   pub written : Appends old new (printed hex_letter ids)
 
 -- what an error says of a store: what its own error does, and a failed write nothing
-abbrev pub IsFault : (Error → Type 0) → StoreError → Type 0
-IsFault IsItsFault (Store error) = IsItsFault error
-IsFault IsItsFault Output = Unit {0}
+abbrev pub IsFaultOf : (Error → Type 0) → StoreError → Type 0
+IsFaultOf IsItsFault (Store error) = IsItsFault error
+IsFaultOf IsItsFault Output = Unit {0}
 
 -- why a walk over the first bytes fails: a look-up with one of them does, and those with the lower ones do not
 abbrev pub IsWalkFault : Kind → List LazyIndex → Error → Type 0

@@ -28,5 +28,5 @@ abbrev pub lines_of : (ℕ → List ℕ) → ℕ → ℕ → List ℕ
 lines_of line start end = flat_map line (range_with_len start (end - start))
 
 -- the lines of all names
-abbrev pub shown : Kind → List ℕ → List ℕ
-shown kind bytes = lines_of (index_line kind bytes) 0 (length (names_in kind bytes))
+abbrev pub index_lines : Kind → List ℕ → List ℕ
+index_lines kind bytes = lines_of (index_line kind bytes) 0 (length (names_in kind bytes))

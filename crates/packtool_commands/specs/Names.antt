@@ -2,7 +2,7 @@
 use Rattle.std.specs.Prelude.{◌≡◌, ◌≢◌, ◌↔◌, ℕ, Bool, Option, List, [], ◌∷◌, ◌++◌, All, IsTrue, flat_map, map}
 use Rattle.std.specs.Io.KnownBytes.{Appends}
 use Rattle.std.specs.List.{range_with_len}
-use Rattle.command_line.specs.Flushed.{AppendsAtMost}
+use Rattle.streams.specs.Writing.{AppendsAtMost}
 use Rattle.gix_hash.specs.Digits.{hex_letter, spelling}
 use Rattle.gix_hash.specs.ObjectId.{id_digits}
 use Rattle.id_lookup.specs.IndexOf.{part_of}

@@ -6,7 +6,7 @@ use Rattle.gix_hash.specs.declared.Kind.TheVariants.{Sha1, Sha256}
 use Rattle.pack_index.specs.Format.{IndexFile, IsPackIndex, names_in}
 use Rattle.pack_index.specs.Refusal.{IsFault, IsRefusal}
 use Rattle.pack_index.specs.declared.error.Error.{Error}
-use Rattle.packtool_commands.specs.Lines.{shown}
+use Rattle.packtool_commands.specs.Lines.{index_lines}
 use Rattle.packtool_commands.specs.declared.error.FileError.{FileError}
 use Rattle.packtool_commands.specs.declared.error.FileError.TheVariants.{Index, Memory, Input, Output}
 use Rattle.streams.specs.Writing.{AppendsPart}
@@ -26,13 +26,13 @@ pub record HasShown (kind : Option Kind) (bytes : List ℕ) (any : Bool) (old ne
   pub file : IndexFile
   pub is_opened : IsOpenedAs kind bytes file
   pub found : IsTrue any ↔ (names_in file.kind file.bytes ≢ [])
-  pub written : Appends old new (shown file.kind file.bytes)
+  pub written : Appends old new (index_lines file.kind file.bytes)
 
 -- the bytes are an index, and a proper beginning of its lines was written
 pub record HasShownPart (kind : Option Kind) (bytes : List ℕ) (old new : Option (List ℕ)) : Type 0 where
   pub file : IndexFile
   pub is_opened : IsOpenedAs kind bytes file
-  pub written : AppendsPart old new (shown file.kind file.bytes)
+  pub written : AppendsPart old new (index_lines file.kind file.bytes)
 
 -- the cause of an error, if the bytes decide it
 abbrev pub Refuses : Option Kind → List ℕ → FileError → Type 0

@@ -26,7 +26,7 @@ pub fn write_ending<W: Sink>(name: &str, ending: &Ending, out: &mut W) -> Result
     requires { W.has_failed out.old ≡ false }
     ensures written { OnOk result (Appends (W.taken out.old) (W.taken out.new)
         (named name.now (verdict ending.now))) }
-    ensures stands { OnOk result (W.has_failed out.new ≡ false) }
+    ensures not_failed { OnOk result (W.has_failed out.new ≡ false) }
     ensures part { OnErr result (AppendsPart (W.taken out.old) (W.taken out.new)
         (named name.now (verdict ending.now))) }
     ensures failed { OnErr result (W.has_failed out.new ≡ true) }

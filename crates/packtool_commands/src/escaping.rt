@@ -28,7 +28,7 @@ pub(crate) fn write_mark<W: Sink>(name: &[u8], out: &mut W) -> Result<(), WriteF
     requires { W.has_failed out.old ≡ false }
     ensures written { OnOk result (Appends (W.taken out.old) (W.taken out.new)
         (escape_mark name.now)) }
-    ensures stands { OnOk result (W.has_failed out.new ≡ false) }
+    ensures not_failed { OnOk result (W.has_failed out.new ≡ false) }
     ensures part { OnErr result (AppendsPart (W.taken out.old) (W.taken out.new)
         (escape_mark name.now)) }
     ensures failed { OnErr result (W.has_failed out.new ≡ true) }
@@ -42,7 +42,7 @@ pub(crate) fn write_mark<W: Sink>(name: &[u8], out: &mut W) -> Result<(), WriteF
 fn write_escape<W: Sink>(byte: u8, out: &mut W) -> Result<(), WriteFailed>
     requires { W.has_failed out.old ≡ false }
     ensures written { OnOk result (Appends (W.taken out.old) (W.taken out.new) (escape_of byte)) }
-    ensures stands { OnOk result (W.has_failed out.new ≡ false) }
+    ensures not_failed { OnOk result (W.has_failed out.new ≡ false) }
     ensures part { OnErr result (AppendsPart (W.taken out.old) (W.taken out.new)
         (escape_of byte)) }
     ensures failed { OnErr result (W.has_failed out.new ≡ true) }
@@ -60,7 +60,7 @@ fn write_escaped<W: Sink>(name: &[u8], out: &mut W) -> Result<(), WriteFailed>
     requires { W.has_failed out.old ≡ false }
     ensures written { OnOk result (Appends (W.taken out.old) (W.taken out.new)
         (escaped name.now)) }
-    ensures stands { OnOk result (W.has_failed out.new ≡ false) }
+    ensures not_failed { OnOk result (W.has_failed out.new ≡ false) }
     ensures part { OnErr result (AppendsPart (W.taken out.old) (W.taken out.new)
         (escaped name.now)) }
     ensures failed { OnErr result (W.has_failed out.new ≡ true) }
@@ -83,7 +83,7 @@ pub(crate) fn write_before<W: Sink>(
     requires { W.has_failed out.old ≡ false }
     ensures written { OnOk result (Appends (W.taken out.old) (W.taken out.new)
         (escaped name.now ++ text.now)) }
-    ensures stands { OnOk result (W.has_failed out.new ≡ false) }
+    ensures not_failed { OnOk result (W.has_failed out.new ≡ false) }
     ensures part { OnErr result (AppendsPart (W.taken out.old) (W.taken out.new)
         (escaped name.now ++ text.now)) }
     ensures failed { OnErr result (W.has_failed out.new ≡ true) }
@@ -108,7 +108,7 @@ pub fn write_named<W: Sink>(name: &str, text: &[u8], out: &mut W) -> Result<(), 
     requires { W.has_failed out.old ≡ false }
     ensures written { OnOk result (Appends (W.taken out.old) (W.taken out.new)
         (named name.now text.now)) }
-    ensures stands { OnOk result (W.has_failed out.new ≡ false) }
+    ensures not_failed { OnOk result (W.has_failed out.new ≡ false) }
     ensures part { OnErr result (AppendsPart (W.taken out.old) (W.taken out.new)
         (named name.now text.now)) }
     ensures failed { OnErr result (W.has_failed out.new ≡ true) }

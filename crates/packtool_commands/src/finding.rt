@@ -4,7 +4,7 @@ ghost use Rattle.std.specs.Prelude.{◌≡◌, ◌≢◌, ◌↔◌, ◌≤◌, 
 ghost use Rattle.gix_hash.specs.Digits.{first_byte_of, hex_letter};
 ghost use Rattle.id_lookup.specs.Runs.{matches};
 ghost use Rattle.object_store.specs.Stores.{HaveBuckets, Holds, IsStoreFault};
-ghost use Rattle.packtool_commands.specs.Finding.{HasPrinted, IsFault};
+ghost use Rattle.packtool_commands.specs.Finding.{HasPrinted, IsFaultOf};
 ghost use Rattle.packtool_commands.specs.declared.error.StoreError.{StoreError};
 ghost use Rattle.streams.specs.Printing.{printed};
 ghost use Rattle.streams.specs.Writing.{AppendsPart};
@@ -39,9 +39,9 @@ pub fn find<S: Store, A: Allocator + Copy, W: Sink>(
     ensures found { IfOk result (λ any. (whole : List (List ℕ))
         → Holds (S.kind store.now) (S.packs store.now) (S.loose store.now) whole
         → HasPrinted (matches prefix.now.digits whole) any (W.taken out.old) (W.taken out.new)) }
-    ensures right { IfOk result (λ _. HaveBuckets (S.kind store.now) (S.packs store.now)
+    ensures sound { IfOk result (λ _. HaveBuckets (S.kind store.now) (S.packs store.now)
         (first_byte_of prefix.now.digits)) }
-    ensures refused { IfErr result (IsFault (IsStoreFault (S.kind store.now) (S.packs store.now)
+    ensures refused { IfErr result (IsFaultOf (IsStoreFault (S.kind store.now) (S.packs store.now)
         (first_byte_of prefix.now.digits))) }
     ensures untouched { IfErr result (λ e. e ≢ StoreError.Output → out.new ≡ out.old) }
     ensures output { IsErrOf result StoreError.Output ↔ (W.has_failed out.new ≡ true) }

@@ -5,7 +5,7 @@ ghost use Rattle.std.specs.Io.KnownBytes.{Appends};
 ghost use Rattle.gix_hash.specs.Kind.{hex_len_of};
 ghost use Rattle.object_store.specs.Stores.{HaveBuckets, Holds};
 ghost use Rattle.pack_index.specs.Firsts.{Each};
-ghost use Rattle.packtool_commands.specs.Finding.{IsFault, IsWalkFault};
+ghost use Rattle.packtool_commands.specs.Finding.{IsFaultOf, IsWalkFault};
 ghost use Rattle.packtool_commands.specs.Names.{HasNamedAtMost, HasNamedBelow, name_line};
 ghost use Rattle.packtool_commands.specs.declared.error.StoreError.{StoreError};
 ghost use Rattle.streams.specs.Writing.{AppendsPart};
@@ -44,9 +44,9 @@ pub fn names<S: Store, A: Allocator + Copy, W: Sink>(
     ensures named { IfOk result (λ any. (whole : List (List ℕ))
         → Holds (S.kind store.now) (S.packs store.now) (S.loose store.now) whole
         → HasNamedBelow 256 least whole any (W.taken out.old) (W.taken out.new)) }
-    ensures right { IfOk result (λ _. Each (HaveBuckets (S.kind store.now) (S.packs store.now))
+    ensures sound { IfOk result (λ _. Each (HaveBuckets (S.kind store.now) (S.packs store.now))
         256) }
-    ensures refused { IfErr result (IsFault (IsWalkFault (S.kind store.now) (S.packs store.now))) }
+    ensures refused { IfErr result (IsFaultOf (IsWalkFault (S.kind store.now) (S.packs store.now))) }
     ensures output { IsErrOf result StoreError.Output ↔ (W.has_failed out.new ≡ true) }
     ensures part { IfErr result (λ _. (whole : List (List ℕ))
         → Holds (S.kind store.now) (S.packs store.now) (S.loose store.now) whole
@@ -73,7 +73,7 @@ fn write_names<W: Sink>(named: &[NamedId], out: &mut W) -> Result<(), WriteFaile
     requires { W.has_failed out.old ≡ false }
     ensures written { OnOk result (Appends (W.taken out.old) (W.taken out.new)
         (flat_map name_line named.now)) }
-    ensures stands { OnOk result (W.has_failed out.new ≡ false) }
+    ensures not_failed { OnOk result (W.has_failed out.new ≡ false) }
     ensures part { OnErr result (AppendsPart (W.taken out.old) (W.taken out.new)
         (flat_map name_line named.now)) }
     ensures failed { OnErr result (W.has_failed out.new ≡ true) }

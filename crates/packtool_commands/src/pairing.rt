@@ -123,7 +123,7 @@ pub fn write_pairing<W: Sink>(name: &str, pairing: &Pairing, out: &mut W) -> Res
     requires { W.has_failed out.old ≡ false }
     ensures written { OnOk result (Appends (W.taken out.old) (W.taken out.new)
         (named name.now (pairing_verdict pairing.now))) }
-    ensures stands { OnOk result (W.has_failed out.new ≡ false) }
+    ensures not_failed { OnOk result (W.has_failed out.new ≡ false) }
     ensures part { OnErr result (AppendsPart (W.taken out.old) (W.taken out.new)
         (named name.now (pairing_verdict pairing.now))) }
     ensures failed { OnErr result (W.has_failed out.new ≡ true) }

@@ -2,16 +2,15 @@
 
 ghost use Rattle.std.specs.Prelude.{◌≡◌, ◌↔◌, ◌≤◌, ◌++◌, ℕ, List, None, Some, false, true, flat_map, length, string_bytes, IfErr, IfOk, IsErrOf, OnOk, OnErr};
 ghost use Rattle.std.specs.Io.KnownBytes.{Appends};
-ghost use Rattle.command_line.specs.Flushed.{AppendsAtMost};
 ghost use Rattle.gix_hash.specs.Digits.{first_byte_of};
 ghost use Rattle.gix_hash.specs.ObjectId.{id_digits, id_kind};
 ghost use Rattle.id_lookup.specs.Runs.{matches};
 ghost use Rattle.object_store.specs.Parts.{AreBuckets};
 ghost use Rattle.object_store.specs.Stores.{HaveBuckets, HavePlaces, Holds, IsLocateFault};
-ghost use Rattle.packtool_commands.specs.Finding.{IsFault};
+ghost use Rattle.packtool_commands.specs.Finding.{IsFaultOf};
 ghost use Rattle.packtool_commands.specs.Places.{HasLocated, HaveAllPlaces, IsMemory, IsPlacesFault, lines_at, lines_of_places, place_line};
 ghost use Rattle.packtool_commands.specs.declared.error.StoreError.{StoreError};
-ghost use Rattle.streams.specs.Writing.{AppendsPart};
+ghost use Rattle.streams.specs.Writing.{AppendsAtMost, AppendsPart};
 
 use crate::error::StoreError;
 use crate::escaping::{write_before, write_mark};
@@ -50,11 +49,11 @@ pub fn locate<S: StorePaths, A: Allocator + Copy, W: Sink>(
         → HasLocated (lines_of_places (S.pack_path store.now) (S.loose_paths store.now)
         (S.kind store.now) h.indexes (S.loose store.now)) (matches prefix.now.digits whole) any
         (W.taken out.old) (W.taken out.new)) }
-    ensures right { IfOk result (λ _. HaveBuckets (S.kind store.now) (S.packs store.now)
+    ensures sound { IfOk result (λ _. HaveBuckets (S.kind store.now) (S.packs store.now)
         (first_byte_of prefix.now.digits)) }
     ensures places { IfOk result (λ _. HaveAllPlaces (S.kind store.now) (S.packs store.now)
         prefix.now.digits) }
-    ensures refused { IfErr result (IsFault (IsPlacesFault (S.kind store.now) (S.packs store.now)
+    ensures refused { IfErr result (IsFaultOf (IsPlacesFault (S.kind store.now) (S.packs store.now)
         prefix.now.digits)) }
     ensures output { IsErrOf result StoreError.Output ↔ (W.has_failed out.new ≡ true) }
     ensures part { (whole : List (List ℕ))
@@ -88,10 +87,10 @@ fn write_places<S: StorePaths, A: Allocator + Copy, W: Sink>(
         (S.kind store.now) h.indexes (S.loose store.now) (id_digits id.now) in
         OnOk result (Appends (W.taken out.old) (W.taken out.new) lines)
         × OnErr result (AppendsAtMost (W.taken out.old) (W.taken out.new) lines) }
-    ensures stands { OnOk result (W.has_failed out.new ≡ false) }
-    ensures right { OnOk result (HavePlaces (S.kind store.now) (S.packs store.now)
+    ensures not_failed { OnOk result (W.has_failed out.new ≡ false) }
+    ensures sound { OnOk result (HavePlaces (S.kind store.now) (S.packs store.now)
         (id_digits id.now)) }
-    ensures refused { IfErr result (IsFault (IsLocateFault (S.kind store.now) (S.packs store.now)
+    ensures refused { IfErr result (IsFaultOf (IsLocateFault (S.kind store.now) (S.packs store.now)
         (id_digits id.now))) }
     ensures output { IsErrOf result StoreError.Output ↔ (W.has_failed out.new ≡ true) }
 {
@@ -112,8 +111,8 @@ fn write_lines_at<S: StorePaths, W: Sink>(
     requires { W.has_failed out.old ≡ false }
     ensures written { OnOk result (Appends (W.taken out.old) (W.taken out.new)
         (lines_at (S.pack_path store.now) (S.loose_paths store.now) (id_digits id.now) place)) }
-    ensures stands { OnOk result (W.has_failed out.new ≡ false) }
-    ensures refused { IfErr result (IsFault IsMemory) }
+    ensures not_failed { OnOk result (W.has_failed out.new ≡ false) }
+    ensures refused { IfErr result (IsFaultOf IsMemory) }
     ensures output { IsErrOf result StoreError.Output ↔ (W.has_failed out.new ≡ true) }
     ensures part { OnErr result (AppendsAtMost (W.taken out.old) (W.taken out.new)
         (lines_at (S.pack_path store.now) (S.loose_paths store.now) (id_digits id.now) place)) }
@@ -132,7 +131,7 @@ fn write_loose<W: Sink>(id: &ObjectId, paths: &[String], out: &mut W) -> Result<
     requires { W.has_failed out.old ≡ false }
     ensures written { OnOk result (Appends (W.taken out.old) (W.taken out.new)
         (flat_map (λ path. place_line (id_digits id.now) (string_bytes path) None) paths.now)) }
-    ensures stands { OnOk result (W.has_failed out.new ≡ false) }
+    ensures not_failed { OnOk result (W.has_failed out.new ≡ false) }
     ensures part { OnErr result (AppendsPart (W.taken out.old) (W.taken out.new)
         (flat_map (λ path. place_line (id_digits id.now) (string_bytes path) None) paths.now)) }
     ensures failed { OnErr result (W.has_failed out.new ≡ true) }
@@ -164,7 +163,7 @@ pub fn write_place<W: Sink>(
     requires { W.has_failed out.old ≡ false }
     ensures written { OnOk result (Appends (W.taken out.old) (W.taken out.new)
         (place_line (id_digits id.now) path.now offset)) }
-    ensures stands { OnOk result (W.has_failed out.new ≡ false) }
+    ensures not_failed { OnOk result (W.has_failed out.new ≡ false) }
     ensures part { OnErr result (AppendsPart (W.taken out.old) (W.taken out.new)
         (place_line (id_digits id.now) path.now offset)) }
     ensures failed { OnErr result (W.has_failed out.new ≡ true) }

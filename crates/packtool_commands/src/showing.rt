@@ -4,7 +4,7 @@ ghost use Rattle.std.specs.Prelude.{◌≡◌, ◌≢◌, ◌↔◌, ◌⊎◌, 
 ghost use Rattle.std.specs.Io.KnownBytes.{Appends, Consumes, IsAtEnd};
 ghost use Rattle.streams.specs.Writing.{AppendsPart};
 ghost use Rattle.pack_index.specs.Format.{names_in};
-ghost use Rattle.packtool_commands.specs.Lines.{shown};
+ghost use Rattle.packtool_commands.specs.Lines.{index_lines};
 ghost use Rattle.packtool_commands.specs.Showing.{HasShown, HasShownPart, IsOpenedAs, IsRefusalAs, Refuses};
 ghost use Rattle.packtool_commands.specs.declared.error.FileError.{FileError};
 
@@ -105,10 +105,10 @@ fn open(bytes: &[u8], kind: Option<Kind>) -> Result<File<'_>, pack_index::Error>
 fn write_lines<W: Sink>(file: &File<'_>, out: &mut W) -> Result<(), WriteFailed>
     requires { W.has_failed out.old ≡ false }
     ensures written { OnOk result (Appends (W.taken out.old) (W.taken out.new)
-        (shown file.now.kind file.now.bytes)) }
-    ensures stands { OnOk result (W.has_failed out.new ≡ false) }
+        (index_lines file.now.kind file.now.bytes)) }
+    ensures not_failed { OnOk result (W.has_failed out.new ≡ false) }
     ensures part { OnErr result (AppendsPart (W.taken out.old) (W.taken out.new)
-        (shown file.now.kind file.now.bytes)) }
+        (index_lines file.now.kind file.now.bytes)) }
     ensures failed { OnErr result (W.has_failed out.new ≡ true) }
 {
     let mut line = [0; MAX_LINE_LEN];

@@ -1,7 +1,7 @@
 //! Why a store in folders cannot be found, opened or read.
 
+use git_texts::config::ConfigError;
 use pack_index::LazyError;
-use ref_store::config::ConfigError;
 use std::alloc::{AllocError, Global};
 use std::io;
 use thiserror::Error as ThisError;

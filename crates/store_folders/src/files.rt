@@ -1,8 +1,8 @@
 //! Paths, and texts of files.
 
 use crate::error::Error;
+use git_texts::config::kind_in_config;
 use gix_hash::Kind;
-use ref_store::config::kind_in_config;
 use std::alloc::AllocError;
 use std::path::Path;
 use std::rt::Files;

@@ -3,8 +3,8 @@
 use crate::error::Error;
 use crate::files::{has_folder, join, kind_beside, kind_by_config};
 use crate::repository::{Environment, find_repository, variable};
+use git_texts::alternates::alternate_paths;
 use gix_hash::Kind;
-use ref_store::alternates::alternate_paths;
 use std::alloc::AllocError;
 use std::path::Path;
 use std::rt::{Env, Files};

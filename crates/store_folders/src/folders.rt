@@ -3,7 +3,7 @@
 use crate::error::Error;
 use crate::files::{is_missing, join, read_bytes, real_folder};
 use crate::finding::ObjectsFolder;
-use ref_store::alternates::alternate_paths;
+use git_texts::alternates::alternate_paths;
 use std::alloc::AllocError;
 use std::io;
 use std::rt::Files;

@@ -12,7 +12,7 @@ use Rattle.gix_hash.specs.ObjectId.{id_bytes}
 use Rattle.gix_hash.specs.declared.Kind.{Kind}
 use Rattle.gix_hash.specs.declared.Kind.TheVariants.{Sha1, Sha256}
 use Rattle.gix_hash.specs.declared.ObjectId.{ObjectId}
-use Rattle.streams.specs.Sealed.{EndsAs, IsEnding}
+use Rattle.streams.specs.Sealed.{HasEnding, IsEnding}
 use Rattle.streams.specs.declared.checking.Ending.{Ending}
 use Rattle.streams.specs.declared.checking.Ending.TheVariants.{Sealed, Unsealed}
 
@@ -88,7 +88,7 @@ all-held kind message last total held counted is_held len fewer =
 -- how the bytes end whose last are held back
 pub ends_as : (kind : Kind) → HaveLength kind → (message last : List ℕ) (total held : ℕ) → length message + held ≡ total
     → held ≡ min (byte_len_of kind) total → length last ≡ held → (id : ObjectId) → id ≡ digest kind message → (ending : Ending)
-    → IsEnding kind id last ending → EndsAs kind (message ++ last) ending
+    → IsEnding kind id last ending → HasEnding kind (message ++ last) ending
 ends_as kind lens message last total held counted is_held len id digest_is (Sealed found) is =
     (message, ap (λ (tail : List ℕ). message ++ tail) (sym is.1 ∙ ap id_bytes digest_is), is.0 ∙ digest_is)
 ends_as kind lens message last total held counted is_held len id digest_is (Unsealed other found) is = record {

@@ -3,7 +3,7 @@ use Rattle.std.specs.Prelude.{◌≡◌, Option, Some, None, ℕ, List, [], ◌�
 use Rattle.std.specs.Io.KnownBytes.{Appends, Keeps}
 use Rattle.std.proofs.Common.{refl, sym, ap, ◌∙◌, append_assoc}
 use Rattle.std.proofs.KnownBytes.{Appends-trans}
-use Rattle.streams.specs.Writing.{AppendsPart}
+use Rattle.streams.specs.Writing.{AppendsPart, AppendsAtMost}
 
 -- what is kept has grown by nothing
 pub Appends-kept : (a b c : Option (List ℕ)) (bytes : List ℕ) → Appends a b bytes → Keeps b c → Appends a c bytes
@@ -11,6 +11,10 @@ Appends-kept None b c bytes p q = tt
 Appends-kept (Some x) None c bytes p q = absurd p
 Appends-kept (Some x) (Some y) None bytes p q = absurd q
 Appends-kept (Some x) (Some y) (Some z) bytes p q = q ∙ p
+
+-- a proper beginning of the bytes is a beginning of them, or all
+pub part_written : (a b : Option (List ℕ)) (bytes : List ℕ) → AppendsPart a b bytes → AppendsAtMost a b bytes
+part_written a b bytes p = record { part = p.part; rest = p.rest; is_beginning = p.is_beginning; written = p.appends }
 
 -- a part of a chunk, after what was taken before, is a part of both
 pub AppendsPart-after : (a b c : Option (List ℕ)) (taken chunk : List ℕ) → Appends a b taken → AppendsPart b c chunk → AppendsPart a c (taken ++ chunk)

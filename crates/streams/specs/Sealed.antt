@@ -31,6 +31,6 @@ pub record IsUnsealed (kind : Kind) (bytes : List ℕ) (id : ObjectId) (found : 
   pub last_is : IsLast kind last found
 
 -- how the bytes end
-abbrev pub EndsAs : Kind → List ℕ → Ending → Type 0
-EndsAs kind bytes (Sealed id) = (message : List ℕ) × (bytes ≡ sealed kind message) × (id ≡ digest kind message)
-EndsAs kind bytes (Unsealed id found) = IsUnsealed kind bytes id found
+abbrev pub HasEnding : Kind → List ℕ → Ending → Type 0
+HasEnding kind bytes (Sealed id) = (message : List ℕ) × (bytes ≡ sealed kind message) × (id ≡ digest kind message)
+HasEnding kind bytes (Unsealed id found) = IsUnsealed kind bytes id found

@@ -14,3 +14,10 @@ pub record AppendsPart (old new : Option (List ℕ)) (whole : List ℕ) : Type 0
   pub is_beginning : whole ≡ part ++ rest
   pub is_proper : rest ≢ []
   pub appends : Appends old new part
+
+-- a beginning of the bytes was written, or all
+pub record AppendsAtMost (old new : Option (List ℕ)) (whole : List ℕ) : Type 0 where
+  pub part : List ℕ
+  pub rest : List ℕ
+  pub is_beginning : whole ≡ part ++ rest
+  pub written : Appends old new part

@@ -4,7 +4,7 @@ ghost use Rattle.std.specs.Prelude.{◌≡◌, ◌↔◌, ◌≤◌, ℕ, List, 
 ghost use Rattle.gix_hash.specs.Kind.{byte_len_of};
 ghost use Rattle.streams.specs.Source.{HasReadAll};
 ghost use Rattle.streams.specs.Pipe.{HashingFails};
-ghost use Rattle.streams.specs.Sealed.{EndsAs, IsEnding};
+ghost use Rattle.streams.specs.Sealed.{HasEnding, IsEnding};
 
 use crate::{CHUNK_LEN, PipeError, Source, next_chunk};
 use gix_hash::hashing_laws::digests;
@@ -54,7 +54,7 @@ pub fn check<R: Source>(input: &mut R, kind: Kind) -> Result<Ending, PipeError>
     requires { R.has_failed input.old ≡ false }
     ensures checked { IfOk result (λ ending. (bytes : List ℕ)
         × HasReadAll (R.remaining input.old) (R.remaining input.new) bytes
-        × EndsAs kind bytes ending) }
+        × HasEnding kind bytes ending) }
     ensures reads { OnOk result (R.has_failed input.new ≡ false) }
     ensures input { IsErrOf result PipeError.Input ↔ (R.has_failed input.new ≡ true) }
     ensures output { ¬ (IsErrOf result PipeError.Output) }

@@ -39,7 +39,7 @@ pub fn next_chunk<R: Source>(
         → HasReadCounted start (R.remaining input.old) bytes total.old
         → ChunkFails e start (R.remaining input.new) bytes buf.new) }
     ensures same { IfErr result (λ _. total.new ≡ total.old) }
-    ensures stands { OnOk result (R.has_failed input.new ≡ false) }
+    ensures not_failed { OnOk result (R.has_failed input.new ≡ false) }
     ensures input { IsErrOf result PipeError.Input ↔ (R.has_failed input.new ≡ true) }
 {
     let Ok(count) = input.read(buf) else {

@@ -21,7 +21,7 @@ impl<'a> FromSlice<'a> {
     /// A source with all bytes of the slice remaining.
     pub fn new(bytes: &'a [u8]) -> Self
         ensures whole { ⟦<FromSlice<'a> as Source>⟧.remaining result ≡ Some bytes.now }
-        ensures stands { ⟦<FromSlice<'a> as Source>⟧.has_failed result ≡ false }
+        ensures not_failed { ⟦<FromSlice<'a> as Source>⟧.has_failed result ≡ false }
     {
         FromSlice { rest: bytes }
     }
@@ -41,7 +41,7 @@ impl Source for FromSlice<'_> {
         ensures bytes { ReadConsumes (Some (slice_rest self.old))
             (Some (slice_rest self.new)) result buf.new }
         ensures fills { result ≡ Ok (min (length buf.old) (length (slice_rest self.old))) }
-        ensures behind { let count = min (length buf.old) (length (slice_rest self.old)) in
+        ensures after { let count = min (length buf.old) (length (slice_rest self.old)) in
             buf.new ≡ take count (slice_rest self.old) ++ drop count buf.old }
     {
         let count = buf.len().min(self.rest.len());

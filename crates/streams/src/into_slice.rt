@@ -30,7 +30,7 @@ impl<'a> IntoSlice<'a> {
     /// A sink that has taken nothing and has not failed.
     pub fn new(buf: &'a mut [u8]) -> Self
         ensures empty { ⟦<IntoSlice<'a> as Sink>⟧.taken result ≡ Some [] }
-        ensures stands { ⟦<IntoSlice<'a> as Sink>⟧.has_failed result ≡ false }
+        ensures not_failed { ⟦<IntoSlice<'a> as Sink>⟧.has_failed result ≡ false }
         ensures room { room_in result ≡ length buf.old }
     {
         IntoSlice {

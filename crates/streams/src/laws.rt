@@ -16,7 +16,7 @@ use gix_hash::hashing_laws::digests;
 pub fn sealed_bytes(kind: Kind)
     ensures written { (message : List ℕ) → EndsInDigest kind (sealed kind message) }
     ensures least { (bytes : List ℕ) → EndsInDigest kind bytes → byte_len_of kind ≤ length bytes }
-    ensures told { (front tail : List ℕ) → length tail ≡ byte_len_of kind
+    ensures equivalence { (front tail : List ℕ) → length tail ≡ byte_len_of kind
         → EndsInDigest kind (front ++ tail) ↔ (tail ≡ id_bytes (digest kind front)) }
     ensures last { (front : List ℕ) (byte other : ℕ) → EndsInDigest kind (front ++ byte ∷ [])
         → other ≢ byte → ¬ EndsInDigest kind (front ++ other ∷ []) }

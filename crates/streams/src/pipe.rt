@@ -102,7 +102,7 @@ fn copy_all<R: Source, W: Sink>(
         × HasReadAll (R.remaining input.old) (R.remaining input.new) message
         × Appends (W.taken out.old) (W.taken out.new) message × (id ≡ digest kind message)) }
     ensures reads { OnOk result (R.has_failed input.new ≡ false) }
-    ensures stands { OnOk result (W.has_failed out.new ≡ false) }
+    ensures not_failed { OnOk result (W.has_failed out.new ≡ false) }
     ensures input { IsErrOf result PipeError.Input ↔ (R.has_failed input.new ≡ true) }
     ensures output { IsErrOf result PipeError.Output ↔ (W.has_failed out.new ≡ true) }
     ensures stopped { IfErr result (λ e. SealingFails e kind (R.remaining input.old)

@@ -29,7 +29,7 @@ impl<T> Plain<T> {
 
     /// A device that has not failed.
     pub fn new(inner: T) -> Self
-        ensures stands { plain_failed result ≡ false }
+        ensures not_failed { plain_failed result ≡ false }
         ensures inner { plain_inner result ≡ inner }
     {
         Plain { inner, error: None }

@@ -24,7 +24,7 @@ pub fn write_ids<W: Sink>(
     requires { W.has_failed out.old ≡ false }
     ensures written { OnOk result (Appends (W.taken out.old) (W.taken out.new)
         (printed (letter_of alphabet) (map id_digits ids.now))) }
-    ensures stands { OnOk result (W.has_failed out.new ≡ false) }
+    ensures not_failed { OnOk result (W.has_failed out.new ≡ false) }
     ensures part { OnErr result (AppendsPart (W.taken out.old) (W.taken out.new)
         (printed (letter_of alphabet) (map id_digits ids.now))) }
     ensures failed { OnErr result (W.has_failed out.new ≡ true) }
@@ -40,7 +40,7 @@ pub fn write_id<W: Sink>(alphabet: Alphabet, id: &ObjectId, out: &mut W) -> Resu
     requires { W.has_failed out.old ≡ false }
     ensures written { OnOk result (Appends (W.taken out.old) (W.taken out.new)
         (line_of (letter_of alphabet) (id_digits id.now))) }
-    ensures stands { OnOk result (W.has_failed out.new ≡ false) }
+    ensures not_failed { OnOk result (W.has_failed out.new ≡ false) }
     ensures part { OnErr result (AppendsPart (W.taken out.old) (W.taken out.new)
         (line_of (letter_of alphabet) (id_digits id.now))) }
     ensures failed { OnErr result (W.has_failed out.new ≡ true) }

@@ -70,7 +70,7 @@ pub struct WriteFailed;
 pub fn write_all<W: Sink>(out: &mut W, bytes: &[u8]) -> Result<(), WriteFailed>
     requires { W.has_failed out.old ≡ false }
     ensures written { OnOk result (Appends (W.taken out.old) (W.taken out.new) bytes.now) }
-    ensures stands { OnOk result (W.has_failed out.new ≡ false) }
+    ensures not_failed { OnOk result (W.has_failed out.new ≡ false) }
     ensures part { OnErr result (AppendsPart (W.taken out.old) (W.taken out.new) bytes.now) }
     ensures failed { OnErr result (W.has_failed out.new ≡ true) }
 {

@@ -6,6 +6,7 @@ use std::alloc::Global;
 use std::io;
 
 pub mod ids;
+pub mod watched;
 
 /// As `assert!`, by a single call of `expecting::expect` of the crate that calls it, and with the
 /// row of a table that it is about, where one is given.

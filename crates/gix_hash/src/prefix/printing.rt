@@ -45,7 +45,7 @@ impl Prefix {
     /// back as the clause says. [`Prefix::put_hex`] says the same of the buffer to every caller.
     pub fn hex_to_buf<'b>(&self, buffer: &'b mut [u8]) -> &'b str
         requires { length self.now.digits ≤ length buffer.old }
-        ensures* behind { sem 𝓛 (EndsAs buffer.entry
+        ensures* after { sem 𝓛 (EndsAs buffer.entry
             (spelling hex_letter self.now.digits ++ drop (length self.now.digits) buffer.old)) }
         ensures text { result.now ≡ spelling hex_letter self.now.digits }
         ensures ascii { IsAscii result.now }

@@ -10,7 +10,7 @@ cmp_oid-requires g c =
     let ids = map g.I.Id.digits c.args.ids.now in
     let all = length-map c.args.ids.now g.I.Id.digits in
     let inside : c.args.at < length ids = omega (arith, all, c.requires.in_range) in
-    omega (arith, c.requires.reach, least_hex_len-le ids c.args.at [] inside, ap length (c.id_at.ensures.digits []), c.id_at.ensures.len)
+    omega (arith, c.requires.enough_digits, least_hex_len-le ids c.args.at [] inside, ap length (c.id_at.ensures.digits []), c.id_at.ensures.len)
 
 pub returns : goal.returns
 returns g c sorted =

@@ -15,6 +15,6 @@ pub gather-requires-clause-part : goal.gather-requires-clause-part
 gather-requires-clause-part g c =
     subst (λ byte. AreBuckets (g.S.Store.packs c.args.store.now) byte c.in_ok-part.part) (c.first_byte.ensures ∙ sym c.front_of-front.ensures.byte) c.in_ok-part.ensures.part
 
-pub returns-clause-right : goal.returns-clause-right
-returns-clause-right g c =
-    subst (HaveBuckets (g.S.Store.kind c.args.store.now) (g.S.Store.packs c.args.store.now)) c.first_byte.ensures c.in_ok-part.ensures.right
+pub returns-clause-sound : goal.returns-clause-sound
+returns-clause-sound g c =
+    subst (HaveBuckets (g.S.Store.kind c.args.store.now) (g.S.Store.packs c.args.store.now)) c.first_byte.ensures c.in_ok-part.ensures.sound

@@ -22,14 +22,14 @@ returns-in_err-pack_offset_at_index-in-Some-clause-err g c =
     offset_fault _ bytes _ (bucket.known bytes is).right c.in-Some.at (rw c.in-Some.is at (c.lookup.ensures.counted bytes is)) _
     (c.in_err-pack_offset_at_index-in-Some.ensures.err bytes is))
 
-pub returns-in_ok-pack_offset_at_index-in-Some-clause-right : goal.returns-in_ok-pack_offset_at_index-in-Some-clause-right
-returns-in_ok-pack_offset_at_index-in-Some-clause-right g c =
+pub returns-in_ok-pack_offset_at_index-in-Some-clause-sound : goal.returns-in_ok-pack_offset_at_index-in-Some-clause-sound
+returns-in_ok-pack_offset_at_index-in-Some-clause-sound g c =
     let bucket = rw (← c.as_oid.ensures.digits) at c.requires in
     rw (← c.as_oid.ensures.digits) (λ bytes is.
     place_some _ bytes _ (bucket.known bytes is).right c.in-Some.at (rw c.in-Some.is at (c.lookup.ensures.counted bytes is))
     (c.in_ok-pack_offset_at_index-in-Some.ensures.has bytes is))
 
-pub returns-in-None-clause-right : goal.returns-in-None-clause-right
-returns-in-None-clause-right g c =
+pub returns-in-None-clause-sound : goal.returns-in-None-clause-sound
+returns-in-None-clause-sound g c =
     let bucket = rw (← c.as_oid.ensures.digits) at c.requires in
     rw (← c.as_oid.ensures.digits) (λ bytes is. place_none _ bytes _ (bucket.known bytes is).right (rw c.in-None.is at (c.lookup.ensures.counted bytes is)))

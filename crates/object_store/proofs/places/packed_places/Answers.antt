@@ -16,8 +16,8 @@ returns-in-Err-clause-err g c =
     fault_at (λ k bytes. HasPlace k bytes (id_digits c.args.id.now)) (λ k bytes why. IsPlaceFault k bytes (id_digits c.args.id.now) why) here c.loop-pack.invariant.1
     c.in-Err.error c.in-Err.ensures.err
 
-pub returns-clause-right : goal.returns-clause-right
-returns-clause-right g c =
+pub returns-clause-sound : goal.returns-clause-sound
+returns-clause-sound g c =
     have_all (λ bytes. HasPlace (g.S.Store.kind c.args.store.now) bytes (id_digits c.args.id.now)) c.indexes-packs.ensures.value c.loop-pack-test.false c.loop-pack.invariant.1
 
 pub loop-pack-preserved : goal.loop-pack-preserved
@@ -28,5 +28,5 @@ loop-pack-preserved g c =
           c.loop-pack.places.items c.push_packed.new.places.items indexes same each here c.in-Ok.ensures.offset (c.loop-pack.invariant.0 indexes same each)
           c.in_ok-push_packed.ensures,
       have_more (λ k bytes. HasPlace k bytes (id_digits c.args.id.now)) (λ k bytes why. IsPlaceFault k bytes (id_digits c.args.id.now) why) here c.loop-pack.invariant.1
-          c.in-Ok.ensures.right,
+          c.in-Ok.ensures.sound,
     )

@@ -7,7 +7,7 @@ use Rattle.pack_index.proofs.bucket.position_in.Goals as goal
 
 pub find_if_sorted-run-requires : goal.find_if_sorted-run-requires
 find_if_sorted-run-requires g c =
-    subst (λ (p : KindDigits). length p.digits ≤ least_hex_len (map g.I.Id.digits c.args.ids.now)) (sym c.all_digits-prefix.ensures) c.requires.reach
+    subst (λ (p : KindDigits). length p.digits ≤ least_hex_len (map g.I.Id.digits c.args.ids.now)) (sym c.all_digits-prefix.ensures) c.requires.enough_digits
 
 pub returns-then-run : goal.returns-then-run
 returns-then-run g c =

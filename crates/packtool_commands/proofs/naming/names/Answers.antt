@@ -30,12 +30,12 @@ loop-byte-preserved g c = (
       (subst (λ (ids : List NamedId). IsTrue c.is_any-any.result ↔ (IsTrue c.loop-byte.any ⊎ (ids ≢ []))) c.deref-in-loop-byte.ensures.value c.is_any-any.ensures)
       (subst (λ (ids : List NamedId). Appends (g.W.Sink.taken c.loop-byte.out) (g.W.Sink.taken c.write_names.new.out) (flat_map name_line ids))
       c.deref.ensures.value c.in_ok-write_names.ensures.written),
-  c.in_ok-write_names.ensures.stands,
-  below_more _ _ c.loop-byte.invariant.2 c.in_ok-named.ensures.right,
+  c.in_ok-write_names.ensures.not_failed,
+  below_more _ _ c.loop-byte.invariant.2 c.in_ok-named.ensures.sound,
 )
 
-pub returns-clause-right : goal.returns-clause-right
-returns-clause-right g c =
+pub returns-clause-sound : goal.returns-clause-sound
+returns-clause-sound g c =
     let last : c.loop-byte.byte ≡ 256 = omega arith in
     subst (Each (HaveBuckets (g.S.Store.kind c.args.store.now) (g.S.Store.packs c.args.store.now))) last c.loop-byte.invariant.2
 

@@ -4,7 +4,7 @@ use Rattle.std.specs.List.{All, flat_map, starts_with}
 use Rattle.std.specs.Io.KnownBytes.{Appends}
 use Rattle.std.proofs.lemmas.List.{take_all}
 use Rattle.std.proofs.lemmas.List.Elements.{All-more}
-use Rattle.command_line.specs.Flushed.{AppendsAtMost}
+use Rattle.streams.specs.Writing.{AppendsAtMost}
 use Rattle.gix_hash.specs.ObjectId.{id_digits}
 use Rattle.gix_hash.specs.Oid.{oid_digits}
 use Rattle.gix_hash.specs.declared.ObjectId.{ObjectId}
@@ -34,9 +34,9 @@ loop-id-preserved g c = (
       Appends-item _ _ _
       (λ id. lines_of_places (g.S.StorePaths.pack_path c.args.store.now) (g.S.StorePaths.loose_paths c.args.store.now) (g.S.Store.kind c.args.store.now) h.indexes (g.S.Store.loose c.args.store.now) (id_digits id))
       c.deref-id-items.result.now c.loop-id.id-index _ c.loop-id-test.true (c.loop-id.invariant.0 whole h) (c.in_ok-write_places.ensures.lines whole h).0,
-  c.in_ok-write_places.ensures.stands,
+  c.in_ok-write_places.ensures.not_failed,
   (let P : ObjectId → Type 0 = λ id. HavePlaces (g.S.Store.kind c.args.store.now) (g.S.Store.packs c.args.store.now) (id_digits id) in
-      All-more P c.deref-id-items.result.now c.loop-id.id-index _ c.loop-id-test.true c.loop-id.invariant.2 c.in_ok-write_places.ensures.right),
+      All-more P c.deref-id-items.result.now c.loop-id.id-index _ c.loop-id-test.true c.loop-id.invariant.2 c.in_ok-write_places.ensures.sound),
 )
 
 pub returns-clause-located : goal.returns-clause-located
@@ -71,10 +71,10 @@ returns-clause-places g c =
     let byte = c.first_byte.ensures ∙ first_of_padded (oid_digits c.as_oid.result) digits _ c.as_oid.ensures.digits c.requires.enough in
     let P : ObjectId → Type 0 = λ id. HavePlaces kind packs (id_digits id) in
     all_places kind packs digits ids (subst (λ (xs : List ObjectId). HaveNames kind packs digits (map id_digits xs)) (sym c.deref-id-items.ensures.value) c.in_ok-ids.ensures.each)
-    (subst (HaveBuckets kind packs) byte c.in_ok-part.ensures.right) c.requires.enough
+    (subst (HaveBuckets kind packs) byte c.in_ok-part.ensures.sound) c.requires.enough
     (subst (All P) (take_all c.loop-id.id-index ids c.loop-id-test.false) c.loop-id.invariant.2)
 
-pub returns-clause-right : goal.returns-clause-right
-returns-clause-right g c =
+pub returns-clause-sound : goal.returns-clause-sound
+returns-clause-sound g c =
     subst (HaveBuckets (g.S.Store.kind c.args.store.now) (g.S.Store.packs c.args.store.now))
-    (c.first_byte.ensures ∙ first_of_padded (oid_digits c.as_oid.result) c.args.prefix.now.digits _ c.as_oid.ensures.digits c.requires.enough) c.in_ok-part.ensures.right
+    (c.first_byte.ensures ∙ first_of_padded (oid_digits c.as_oid.result) c.args.prefix.now.digits _ c.as_oid.ensures.digits c.requires.enough) c.in_ok-part.ensures.sound

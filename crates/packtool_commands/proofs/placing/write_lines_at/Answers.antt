@@ -2,10 +2,9 @@ use Rattle.std.proofs.Common.{List, ℕ, Some, None, ap, subst, ◌∙◌}
 use Rattle.std.specs.Prelude.{string_bytes}
 use Rattle.std.specs.List.{flat_map}
 use Rattle.std.specs.Io.KnownBytes.{Appends}
-use Rattle.command_line.proofs.Flushed.{part_written}
 use Rattle.gix_hash.specs.ObjectId.{id_digits}
 use Rattle.streams.specs.Writing.{AppendsPart}
-use Rattle.streams.proofs.WritingLemmas.{OnErr-of}
+use Rattle.streams.proofs.WritingLemmas.{OnErr-of, part_written}
 use Rattle.packtool_commands.specs.Places.{place_line}
 use Rattle.packtool_commands.proofs.PlaceLemmas.{same_lines}
 use Rattle.packtool_commands.proofs.placing.write_lines_at.Goals as goal

@@ -3,7 +3,7 @@ use Rattle.std.proofs.lemmas.Result.{err_from_is_err_and}
 use Rattle.std.specs.List.{flat_map}
 use Rattle.std.specs.Io.KnownBytes.{Appends}
 use Rattle.std.proofs.lemmas.List.{take_all}
-use Rattle.command_line.specs.Flushed.{AppendsAtMost}
+use Rattle.streams.specs.Writing.{AppendsAtMost}
 use Rattle.gix_hash.specs.ObjectId.{id_digits}
 use Rattle.object_store.specs.declared.places.Place.{Place}
 use Rattle.streams.proofs.WritingLemmas.{OnErr-of}
@@ -26,7 +26,7 @@ pub loop-place-preserved : goal.loop-place-preserved
 loop-place-preserved g c = (
   Appends-item _ _ _ (lines_at (g.S.StorePaths.pack_path c.args.store.now) (g.S.StorePaths.loose_paths c.args.store.now) (id_digits c.args.id.now)) c.deref-place-items.result.now c.loop-place.place-index _
       c.loop-place-test.true (c.loop-place.invariant.0) (c.in_ok-write_lines_at.ensures.written),
-  c.in_ok-write_lines_at.ensures.stands,
+  c.in_ok-write_lines_at.ensures.not_failed,
 )
 
 pub returns-clause-lines : goal.returns-clause-lines

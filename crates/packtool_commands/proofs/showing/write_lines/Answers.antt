@@ -11,7 +11,7 @@ pub loop-at-preserved : goal.loop-at-preserved
 loop-at-preserved g c = (
   Appends-line _ _ _ (index_line c.args.file.now.kind c.args.file.now.bytes) 0 c.loop-at.at (omega arith) c.loop-at.invariant.0
       (subst (Appends _ _) c.put_index_line-len.ensures.text c.in_ok-write_all.ensures.written),
-  c.in_ok-write_all.ensures.stands,
+  c.in_ok-write_all.ensures.not_failed,
 )
 
 pub returns-in_err-write_all-clause-part : goal.returns-in_err-write_all-clause-part

@@ -45,7 +45,7 @@ chunks-preserved g c =
       record {
         counted = omega (arith, length-held message all fed (omega (arith, ordered, long)), before.counted, ordered, c.in_ok-len.ensures.counted.0);
         held = held_again _ c.chunks.total held len fed before.held (omega (arith, is_fed, c.len_in_bytes-digest_len.ensures)) ∙ ap (min _) (sym c.in_ok-len.ensures.counted.0);
-        reads = c.in_ok-len.ensures.stands;
+        reads = c.in_ok-len.ensures.not_failed;
         kind = c.update.ensures.kind ∙ before.kind;
         fed = c.update.ensures.fed message before.fed;
         given = rw c.copy_within.ensures.after (subst (λ (bytes : List ℕ). HasReadCounted (g.R.Source.remaining c.args.input.now) (g.R.Source.remaining c.next_chunk.new.input) bytes c.next_chunk.new.total) (sym same) (c.in_ok-len.ensures.given _ _ before.given));

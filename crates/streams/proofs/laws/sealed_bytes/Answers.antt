@@ -2,8 +2,8 @@ use Rattle.std.proofs.Common.{List, ℕ, ◌++◌, ap}
 use Rattle.streams.proofs.SealedLemmas.{sealed-end, sealed-last}
 use Rattle.streams.proofs.laws.sealed_bytes.Goals as goal
 
-pub returns-clause-told : goal.returns-clause-told
-returns-clause-told c front tail len = (
+pub returns-clause-equivalence : goal.returns-clause-told
+returns-clause-equivalence c front tail len = (
   sealed-end c.args.kind c.digests.ensures.len front tail len,
   λ is_digest. (front, ap (λ (l : List ℕ). front ++ l) is_digest),
 )

@@ -17,8 +17,8 @@ returns-in-Err-clause-err g c =
     (have_first (g.S.Store.kind c.args.store.now) (g.S.Store.packs c.args.store.now) c.args.byte c.loop-at.at c.loop-at.buckets.items c.indexes-packs.ensures.kinds
     (omega (arith, c.loop-at.invariant.0)) (omega (arith, here.low)) c.loop-at.invariant.1) c.in-Err.error c.in-Err.ensures.err
 
-pub returns-clause-right : goal.returns-clause-right
-returns-clause-right g c =
+pub returns-clause-sound : goal.returns-clause-sound
+returns-clause-sound g c =
     have_all (λ bytes. HasBucket (g.S.Store.kind c.args.store.now) bytes c.args.byte) c.indexes-packs.ensures.value c.loop-at-test.false
     (have_first (g.S.Store.kind c.args.store.now) (g.S.Store.packs c.args.store.now) c.args.byte c.loop-at.at c.loop-at.buckets.items c.indexes-packs.ensures.kinds
     (omega (arith, c.loop-at.invariant.0)) (omega (arith, ap length c.indexes-packs.ensures.value)) c.loop-at.invariant.1)

@@ -25,14 +25,14 @@ found g c bytes is =
 pub returns-clause-names : goal.returns-clause-names
 returns-clause-names g c = λ bytes is. (found g (goal.at.returns-clause-names g c).After-have_first_byte bytes is).2
 
-pub returns-clause-right : goal.returns-clause-right
-returns-clause-right g c = λ bytes is.
-    let f = found g (goal.at.returns-clause-right g c).After-have_first_byte bytes is in
+pub returns-clause-sound : goal.returns-clause-sound
+returns-clause-sound g c = λ bytes is.
+    let f = found g (goal.at.returns-clause-sound g c).After-have_first_byte bytes is in
     record { in_order = f.0; inside = f.1; first = subst (HaveFirstByte c.args.byte) f.3 (c.have_first_byte.ensures.0 c.if-not-have_first_byte.false) }
 
 pub returns-clause-part : goal.returns-clause-part
 returns-clause-part g c = λ bytes is counts.
-    let right : HasBucket c.args.self.now.kind bytes c.args.byte = returns-clause-right g c bytes is in
+    let right : HasBucket c.args.self.now.kind bytes c.args.byte = returns-clause-sound g c bytes is in
     returns-clause-names g c bytes is
     ∙ counted_all c.args.self.now.kind c.args.byte bytes (c.num_objects-count.ensures.tables bytes is) counts c.ranges.byte.fits right.in_order right.inside right.first
 

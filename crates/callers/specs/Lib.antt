@@ -1,0 +1,4 @@
+pub mod Commits
+pub mod Names
+pub mod Offsets
+pub mod References

@@ -1,0 +1,58 @@
+//! Names that a user types and is shown: the first digits of an id (gitrevisions).
+
+ghost use Rattle.std.specs.Prelude.{◌≡◌, ◌<◌, ◌∷◌, ◌++◌, [], ℕ, List, OnOk, IfOk, IfErr, Err, length};
+ghost use Rattle.std.specs.Io.KnownBytes.{Appends};
+ghost use Rattle.gix_hash.specs.Digits.{hex_letter, spelling};
+ghost use Rattle.gix_hash.specs.PrefixReading.{prefix_read_in};
+ghost use Rattle.id_lookup.specs.ShortNames.{IsShortestName};
+ghost use Rattle.callers.specs.Names.{Resolves};
+
+use gix_hash::{ObjectId, Prefix, prefix};
+use id_lookup::IdIndex;
+use std::io;
+
+/// What a typed name means.
+///
+/// ```
+/// match resolve(&index, "4b82")? {
+///     Resolved::Unknown => println!(rt; "no such id")?,
+///     Resolved::Id(id) => println!(rt; "{id}")?,
+///     Resolved::Ambiguous(ids) => println!(rt; "{} ids", ids.len())?,
+/// }
+/// ```
+#[derive(Clone, Copy)]
+pub enum Resolved<'a> {
+    /// No id begins with it.
+    Unknown,
+    /// Only this id begins with it.
+    Id(ObjectId),
+    /// These ids, two or more, begin with it, in order.
+    Ambiguous(&'a [ObjectId]),
+}
+
+/// What a typed name means among the ids of an index: a prefix in the index's kind, of 1 digit
+/// or more in any letter case. What is no such prefix is refused as [`Prefix::from_hex_in`] refuses
+/// it.
+pub fn resolve<'a>(index: &IdIndex<'a>, name: &str) -> Result<Resolved<'a>, prefix::from_hex::Error>
+    ensures ok { IfOk result (Resolves index.now.kind index.now.ids name.now) }
+    ensures err { IfErr result (λ error. prefix_read_in index.now.kind hex_letter name.now
+        ≡ Err error) }
+{
+    let prefix = Prefix::from_hex_in(index.kind(), name)?;
+    match index.matches(&prefix) {
+        [] => Ok(Resolved::Unknown),
+        [id] => Ok(Resolved::Id(*id)),
+        candidates => Ok(Resolved::Ambiguous(candidates)),
+    }
+}
+
+/// Writes the shortest name of an id of an index, and a line feed.
+pub fn write_name<W: io::Write>(index: &IdIndex<'_>, at: usize, out: &mut W) -> io::Result<()>
+    requires { at < length index.now.ids }
+    ensures { OnOk result ((name : List ℕ) × IsShortestName index.now.ids at name
+        × Appends (W.contents out.old) (W.contents out.new) (spelling hex_letter name ++ 10 ∷ [])) }
+{
+    index.abbreviate(at).write_hex_to(out)?;
+    out.write_all(b"\n")?;
+    Ok(())
+}

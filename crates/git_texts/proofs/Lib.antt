@@ -1,0 +1,2 @@
+mod NamedLines
+mod SlashedDigits

@@ -1,0 +1,3 @@
+pub mod Alternates
+pub mod Paths
+pub mod Printed

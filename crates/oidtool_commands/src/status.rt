@@ -1,0 +1,50 @@
+//! How a program ends.
+
+ghost use Rattle.std.specs.Prelude.{◌≡◌};
+ghost use Rattle.std.specs.Process.{exit_status as ended_with};
+ghost use Rattle.oidtool_commands.specs.Status.{status_of};
+
+use crate::command::ArgError;
+use crate::error::CommandError;
+use std::fmt;
+use std::process::ExitCode;
+use thiserror::Error as ThisError;
+
+/// Why a program did not run a command to its end.
+///
+/// ```
+/// let why = Failure::Command(CommandError::Memory);
+/// println!(rt; "{why}")?;
+/// ```
+#[derive(Debug, Drop, ThisError)]
+pub enum Failure<'a> {
+    /// The arguments are no command.
+    #[error("{0}")]
+    Args(ArgError<'a>),
+    /// The command failed.
+    #[error("{0}")]
+    Command(CommandError),
+}
+
+/// The exit status for a result that counts what was found or written: 0 for at least one, 1 for
+/// none, and 2 for an error.
+pub fn exit_status<E>(outcome: &Result<usize, E>) -> u8
+    ensures { result ≡ status_of outcome.now }
+{
+    match outcome {
+        Ok(0) => 1,
+        Ok(_) => 0,
+        Err(_) => 2,
+    }
+}
+
+/// Prints an error on standard error, as its text and a line feed, and returns the exit status. The
+/// status is the same if the text cannot be printed.
+pub fn report<E: fmt::Display + Drop>(rt: &impl Eprint, outcome: Result<usize, E>) -> ExitCode
+    ensures { ended_with result ≡ status_of outcome }
+{
+    if let Err(why) = &outcome {
+        let _ = eprintln!(rt; "{why}");
+    }
+    ExitCode::from(exit_status(&outcome))
+}

@@ -1,0 +1,133 @@
+//! No device is called after a failure of it or of another.
+
+use crate::expecting::expect;
+use gix_hash::Kind;
+use oidtool_commands::{Command, run_command};
+use std::fs;
+use std::io::{BufWriter, ErrorKind};
+use std::process::Abort;
+use std::rt::Files;
+use std::test::Fail;
+use streams::{BufferedSink, Plain, Sink, Source};
+use test_devices::watched::{Course, Watch, Watched};
+use test_devices::{Fault, Reader, Writer};
+
+// The empty tree and the empty blob of SHA-1.
+const LIST: &str =
+    "4b825dc642cb6eb9a060e54bf8d69288fbee4904\ne69de29bb2d1d6434b8b29ae775ad8c2e48c5391\n";
+
+// How many bytes a reader gives and a writer takes in a call.
+const READ: usize = 41;
+
+const WRITTEN: usize = 7;
+
+// The file that is hashed.
+const FILE: &str = "oidtool-stops-at-a-failure";
+
+// The commands, and how often each reads and writes if nothing fails: two chunks and the end are
+// read, a line of 41 bytes takes six writes, and the digest of a sealed list takes three.
+const COMMANDS: [(Command<'_>, usize, usize); 6] = [
+    (Command::Find { prefix: "4b82" }, 3, 6),
+    (Command::FindChange { letters: "LTQM" }, 3, 6),
+    (
+        Command::FindIn {
+            kind: Kind::Sha1,
+            prefix: "4b82",
+        },
+        3,
+        6,
+    ),
+    (Command::Hash { kind: Kind::Sha1 }, 3, 6),
+    (
+        Command::HashFile {
+            kind: Kind::Sha1,
+            count: 3,
+            path: FILE,
+        },
+        0,
+        6,
+    ),
+    (Command::Seal { kind: Kind::Sha1 }, 3, 15),
+];
+
+// Runs the command over devices with these faults, and compares how they fared. The writer has a
+// buffer that is too small for a line.
+fn expect_course_of_command(
+    rt: &(impl Abort + Files + AllocGlobal),
+    command: Command<'_>,
+    read: Fault,
+    (chunk, write): (usize, Fault),
+    want: Course,
+) {
+    let watch = Watch::new();
+    let reader = Reader::new(LIST.as_bytes(), READ, read);
+    let mut input = Plain::new(Watched::new(reader, &watch));
+    let writer = Watched::new(Writer::new(rt.alloc(), chunk, write), &watch);
+    let buffered = BufWriter::with_capacity(rt.alloc(), 4, writer).expect(
+        rt,
+        "no memory for a buffer",
+    );
+    let mut out = Plain::new(buffered);
+    let outcome = run_command(rt, rt.alloc(), command, &mut input, &mut out);
+    expect!(rt; watch.course() == want, command);
+    expect!(rt; outcome.is_ok() == (want == Course::Fine), command);
+}
+
+#[test]
+fn commands_stop_at_a_failure(rt: HostRuntime) -> Result<(), Fail> {
+    fs::write(&rt, FILE, b"abc")?;
+    let never = Fault::Never;
+    for (command, reads, writes) in COMMANDS {
+        for n in 1..=16 {
+            for fault in [Fault::AtCall(n), Fault::InterruptedAt(n)] {
+                let want = Course::of_fault(n, reads);
+                expect_course_of_command(&rt, command, fault, (WRITTEN, never), want);
+                let want = Course::of_fault(n, writes);
+                expect_course_of_command(&rt, command, never, (WRITTEN, fault), want);
+            }
+        }
+        for writer in [(0, never), (usize::MAX, Fault::AtFlush)] {
+            expect_course_of_command(&rt, command, never, writer, Course::Failed);
+        }
+    }
+    fs::remove_file(&rt, FILE)?;
+    Ok(())
+}
+
+// A device over a reader or a writer of the library calls it once, and passes its error on.
+#[test]
+fn devices_ask_once(rt: HostRuntime) -> Result<(), Fail> {
+    for (fault, kind) in [
+        (Fault::AtCall(1), ErrorKind::Other),
+        (Fault::InterruptedAt(1), ErrorKind::Interrupted),
+    ] {
+        let mut input = Plain::new(Reader::new(b"abc", 3, fault));
+        let mut buf = [0; 3];
+        let outcome = input.read(&mut buf);
+        expect!(&rt; matches!(outcome, Err(error) if error.kind() == kind));
+        expect!(&rt; input.into_inner().calls == 1);
+        let mut out = Plain::new(Writer::new(rt.alloc(), 3, fault));
+        let outcome = out.write(b"abc");
+        expect!(&rt; matches!(outcome, Err(error) if error.kind() == kind));
+        expect!(&rt; out.into_inner().calls == 1);
+    }
+    Ok(())
+}
+
+// A flush reaches the writer, also if nothing was kept back.
+#[test]
+fn flushes_reach_the_writer(rt: HostRuntime) -> Result<(), Fail> {
+    for chunk in [b"".as_slice(), b"abc"] {
+        for (fault, fails) in [(Fault::Never, false), (Fault::AtFlush, true)] {
+            let writer = Writer::new(rt.alloc(), 3, fault);
+            let mut out = Plain::new(BufWriter::new(rt.alloc(), writer)?);
+            expect!(&rt; out.write(chunk).is_ok());
+            expect!(&rt; out.flush().is_err() == fails);
+            expect!(&rt; out.failed() == fails);
+            let (writer, _) = out.into_inner().into_parts();
+            expect!(&rt; writer.flushes == 1);
+            expect!(&rt; writer.bytes.as_slice() == chunk);
+        }
+    }
+    Ok(())
+}

@@ -1,3 +1,0 @@
-mod NamedLines
-mod OnlyMatches
-mod SlashedDigits
