@@ -62,10 +62,6 @@ module _ (kind : Kind) (bytes id : List ℕ) (bucket : HasBucket kind bytes (fir
     )
     offset_fault _ fault = absurd fault
 
-pub bucket_fault : (kind : Kind) (bytes id : List ℕ) (e : LazyError) → IsBucketFault kind bytes (first_byte_of id) e → IsPlaceFault kind bytes id e
-bucket_fault kind bytes id (NoOffset k) fault = absurd fault
-bucket_fault kind bytes id e fault = fault
-
 -- one pack more
 pub place_more : (kind : Kind) (packs : List LazyIndex) (id : List ℕ) (at : ℕ) (pack : LazyIndex) (offset : Option ℕ) (old new : List Place) (indexes : List (List ℕ))
     → map (λ (p : LazyIndex). p.content) packs ≡ map Some indexes → All (IsPackIndex kind) indexes → IsPackAt kind packs at pack

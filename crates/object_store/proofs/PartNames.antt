@@ -54,12 +54,6 @@ have_first kind packs byte n buckets kinds few within each k d low bytes known =
     let has = ((each k d b (omega (arith, short, few))).known bytes (ap content (sym same) ∙ known)).right in
     subst (λ (x : Kind). HasBucket x bytes byte) (kinds k d (omega (arith, short, within))) has
 
-pub have_buckets : (kind : Kind) (packs : List LazyIndex) (byte : ℕ) (buckets : List BucketNames) → All (λ (p : LazyIndex). p.kind ≡ kind) packs
-    → AreBuckets packs byte buckets → HaveBuckets kind packs byte
-have_buckets kind packs byte buckets kinds are =
-    subst (λ (ps : List LazyIndex). HaveBuckets kind ps byte) (take_all (length packs) packs (omega arith))
-    (have_first kind packs byte (length packs) buckets kinds (omega (arith, are.as_many)) (omega arith) are.each)
-
 -- the buckets are of the kind
 pub are_of_kind : (kind : Kind) (packs : List LazyIndex) (byte : ℕ) (buckets : List BucketNames) → All (λ (p : LazyIndex). p.kind ≡ kind) packs
     → AreBuckets packs byte buckets → All (λ (b : BucketNames). b.kind ≡ kind) buckets

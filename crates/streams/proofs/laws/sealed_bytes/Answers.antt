@@ -2,7 +2,7 @@ use Rattle.std.proofs.Common.{List, ℕ, ◌++◌, ap}
 use Rattle.streams.proofs.SealedLemmas.{sealed-end, sealed-last}
 use Rattle.streams.proofs.laws.sealed_bytes.Goals as goal
 
-pub returns-clause-equivalence : goal.returns-clause-told
+pub returns-clause-equivalence : goal.returns-clause-equivalence
 returns-clause-equivalence c front tail len = (
   sealed-end c.args.kind c.digests.ensures.len front tail len,
   λ is_digest. (front, ap (λ (l : List ℕ). front ++ l) is_digest),

@@ -16,8 +16,8 @@ returns-then-ne g c =
     kinds_differ c.kind.result c.self.inside.kind (sym c.ne.ensures ∙ c.if-ne.true)
     (ap hex_len_of c.kind.ensures.value ∙ sym c.kind.ensures.len ∙ sym (ap length same) ∙ length-digests_in_at c.self.inside.kind c.self.inside.table.items k inside))
 
-pub position_in-requires-clause-reach : goal.position_in-requires-clause-reach
-position_in-requires-clause-reach g c =
+pub position_in-requires-clause-enough_digits : goal.position_in-requires-clause-enough_digits
+position_in-requires-clause-enough_digits g c =
     let same = sym (no_other c.kind.result c.self.inside.kind (sym c.ne.ensures ∙ c.if-ne.false)) ∙ c.kind.ensures.value in
     let len : length (oid_digits c.args.id) ≡ hex_len_of Sha1 = c.kind.ensures.len ∙ ap hex_len_of (sym same ∙ c.in-Sha1.is) in
     subst (λ n. n ≤ least_hex_len (map digits_of c.as_chunks.result.0.now)) (sym len) (chunks-reach Sha1 c.deref.result.now c.as_chunks.result.0.now c.as_chunks.ensures.front)
@@ -27,8 +27,8 @@ position_in-requires-clause-long g c = λ k low.
     let same = sym (no_other c.kind.result c.self.inside.kind (sym c.ne.ensures ∙ c.if-ne.false)) ∙ c.kind.ensures.value in
     chunks-long Sha1 c.deref.result.now c.as_chunks.result.0.now c.as_chunks.ensures.front k low ∙ sym (c.kind.ensures.len ∙ ap hex_len_of (sym same ∙ c.in-Sha1.is))
 
-pub position_in-requires-in-Sha256-clause-reach : goal.position_in-requires-in-Sha256-clause-reach
-position_in-requires-in-Sha256-clause-reach g c =
+pub position_in-requires-in-Sha256-clause-enough_digits : goal.position_in-requires-in-Sha256-clause-enough_digits
+position_in-requires-in-Sha256-clause-enough_digits g c =
     let same = sym (no_other c.kind.result c.self.inside.kind (sym c.ne.ensures ∙ c.if-ne.false)) ∙ c.kind.ensures.value in
     let len : length (oid_digits c.args.id) ≡ hex_len_of Sha256 = c.kind.ensures.len ∙ ap hex_len_of (sym same ∙ c.in-Sha256.is) in
     subst (λ n. n ≤ least_hex_len (map digits_of c.as_chunks-in-Sha256.result.0.now)) (sym len)

@@ -6,8 +6,8 @@ use Rattle.pack_index.specs.Names.{kind_of}
 use Rattle.pack_index.proofs.Counted.{digests_in-reach}
 use Rattle.pack_index.proofs.index_file.File.find_prefix.Goals as goal
 
-pub find-requires-clause-reach : goal.find-requires-clause-reach
-find-requires-clause-reach c =
+pub find-requires-clause-enough_digits : goal.find-requires-clause-enough_digits
+find-requires-clause-enough_digits c =
     let same = rw (← c.self.view_is) at c.requires in
     let fits = subst (λ kind. length c.args.prefix.now.digits ≤ hex_len_of kind) same (rw c.hex_len-hex_len.ensures.value at c.hex_len-hex_len.ensures.at_most_kind) in
     let kind = kind_of c.self.inside.names in
