@@ -83,7 +83,7 @@ returns-in_err-ids g c =
     (settled_of_all (holds_of_all _ _ _ _ _ _ _ _ t.3 (λ text. RefusesList text c.in_err-ids.field-0.0) c.in-Ok.count buf c.if-count-eq0.true
     c.in-Ok.ensures.bytes.0 (c.in-Ok.ensures.bytes.1 c.if-count-eq0.true some) (c.in_err-ids.ensures.err t.0 t.3.text t.1 t.3.taken))) in
     let p = err_from_is_err_and c.from_residual.result exit in
-    record { found = rw p.1 tt; stands = rw p.1 tt; stopped = stopped.0; input = stopped.1 }
+    record { found = rw p.1 tt; not_failed = rw p.1 tt; stopped = stopped.0; input = stopped.1 }
 
 pub returns-in_err-take : goal.returns-in_err-take
 returns-in_err-take g c =
@@ -98,7 +98,7 @@ returns-in_err-take g c =
     c.in-Ok.ensures.bytes.0 (c.in-Ok.ensures.bytes.1 c.if-count-eq0.true some)
     (subst (RefusesList t.3.text) (sym m.0) (first_of_list t.3.text t.0 _ (c.in_ok-ids.ensures.ok t.0 t.3.text t.3.taken) part)))) in
     let p = err_from_is_err_and c.from_residual-in_err-take.result exit in
-    record { found = rw p.1 tt; stands = rw p.1 tt; stopped = stopped.0; input = stopped.1 }
+    record { found = rw p.1 tt; not_failed = rw p.1 tt; stopped = stopped.0; input = stopped.1 }
 
 pub returns-in_err-take_chunk : goal.returns-in_err-take_chunk
 returns-in_err-take_chunk g c =
@@ -111,7 +111,7 @@ returns-in_err-take_chunk g c =
     (settled _ _ _ _ _ _ _ _ t.3 (take room buf) (drop room (take c.in-Ok.count buf)) (split_read _ _ room c.in-Ok.count buf (omega arith) c.in-Ok.ensures.bytes.0) fits
     (λ text. RefusesList text c.in_err-take_chunk.field-0.0) (λ more. c.in_err-take_chunk.ensures.err t.0 t.3.text more t.1 t.3.taken)) in
     let p = err_from_is_err_and c.from_residual-in_err-take_chunk.result exit in
-    record { found = rw p.1 tt; stands = rw p.1 tt; stopped = stopped.0; input = stopped.1 }
+    record { found = rw p.1 tt; not_failed = rw p.1 tt; stopped = stopped.0; input = stopped.1 }
 
 pub returns-then-count-room-clause-stopped : goal.returns-then-count-room-clause-stopped
 returns-then-count-room-clause-stopped g c =
@@ -135,7 +135,7 @@ returns-in_err-take_chunk-2 g c =
     (settled _ _ _ _ _ _ _ _ t.3 (take count buf) [] (subst (Consumes _ _) (sym (append-nil (take count buf))) c.in-Ok.ensures.bytes.0) fits
     (λ text. RefusesList text c.in_err-take_chunk-2.field-0.0) (λ more. c.in_err-take_chunk-2.ensures.err t.0 t.3.text more t.1 t.3.taken)) in
     let p = err_from_is_err_and c.from_residual-in_err-take_chunk-2.result exit in
-    record { found = rw p.1 tt; stands = rw p.1 tt; stopped = stopped.0; input = stopped.1 }
+    record { found = rw p.1 tt; not_failed = rw p.1 tt; stopped = stopped.0; input = stopped.1 }
 
 pub returns-in_err-take-2 : goal.returns-in_err-take-2
 returns-in_err-take-2 g c =
@@ -151,4 +151,4 @@ returns-in_err-take-2 g c =
     (λ text. RefusesList text c.in_err-take-2.field-0.0) (λ more. rw (sym (append_assoc t.3.text (take count buf) more)) (subst (RefusesList ((t.3.text ++ take count buf) ++ more)) (sym m.0)
     (first_of_taken t.0 _ _ _ (t.3.text ++ take count buf) more (c.in_ok-take_chunk-2.ensures.ok.taken t.0 t.3.text t.3.taken) part)))) in
     let p = err_from_is_err_and c.from_residual-in_err-take-2.result exit in
-    record { found = rw p.1 tt; stands = rw p.1 tt; stopped = stopped.0; input = stopped.1 }
+    record { found = rw p.1 tt; not_failed = rw p.1 tt; stopped = stopped.0; input = stopped.1 }
