@@ -1,18 +1,12 @@
 -- The names of a pack index, as a sorted list of digests of either kind.
 use Rattle.std.specs.Prelude.{◌≡◌, ◌≢◌, ℕ, ◌<◌, List, [], length, slice_index_or}
-use Rattle.gix_hash.specs.declared.Kind.{Kind}
-use Rattle.gix_hash.specs.declared.Kind.TheVariants as kinds
 use Rattle.pack_index.specs.declared.names.Names.{Names}
 use Rattle.pack_index.specs.declared.names.Names.TheVariants.{Sha1, Sha256}
 
--- what contracts see of them: their digits, and their kind
+-- what contracts see of them: their digits
 abbrev pub list_of : Names → List (List ℕ)
 list_of (Sha1 ids) = ids
 list_of (Sha256 ids) = ids
-
-abbrev pub kind_of : Names → Kind
-kind_of (Sha1 ids) = kinds.Sha1
-kind_of (Sha256 ids) = kinds.Sha256
 
 -- the id of these digits is at this index, and at none before it
 pub record IsFirstIndexOf (names : List (List ℕ)) (digits : List ℕ) (at : ℕ) : Type 0 where

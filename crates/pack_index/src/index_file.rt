@@ -32,6 +32,7 @@ use std::marker::Model;
 #[derive(Drop)]
 pub struct File<'a> {
     bytes: &'a [u8],
+    kind: Kind,
     names: Names<'a>,
     // The file's own counts.
     fan_out: FanOut,
@@ -41,15 +42,15 @@ impl<'a> Model for File<'a> {
     ghost use Rattle.std.specs.Prelude.{◌≡◌};
     ghost use Rattle.id_lookup.specs.FirstBytes.{IsFanOut};
     ghost use Rattle.pack_index.specs.Format.{IndexFile, IsPackIndex, names_in};
-    ghost use Rattle.pack_index.specs.Names.{kind_of, list_of};
+    ghost use Rattle.pack_index.specs.Names.{list_of};
 
     ghost Value = { IndexFile };
 
-    ghost view = { λ file. record { kind = kind_of file.names; bytes = file.bytes.now } };
+    ghost view = { λ file. record { kind = file.kind; bytes = file.bytes.now } };
 
-    ghost invariant = { λ file. IsPackIndex (kind_of file.names) file.bytes.now
-        × (list_of file.names ≡ names_in (kind_of file.names) file.bytes.now)
-        × IsFanOut file.fan_out (names_in (kind_of file.names) file.bytes.now) };
+    ghost invariant = { λ file. IsPackIndex file.kind file.bytes.now
+        × (list_of file.names ≡ names_in file.kind file.bytes.now)
+        × IsFanOut file.fan_out (names_in file.kind file.bytes.now) };
 }
 
 impl<'a> File<'a> {
@@ -89,6 +90,7 @@ impl<'a> File<'a> {
         }
         Ok(File {
             bytes,
+            kind,
             names,
             fan_out,
         })
@@ -99,7 +101,7 @@ impl<'a> File<'a> {
         ensures kind { result ≡ self.now.kind }
         ensures index { IsPackIndex self.now.kind self.now.bytes }
     {
-        self.names.kind()
+        self.kind
     }
 
     /// The number of names.
@@ -123,8 +125,7 @@ impl<'a> File<'a> {
         requires { at < length (names_in self.now.kind self.now.bytes) }
         ensures { result ≡ offset_in self.now.kind self.now.bytes at }
     {
-        let kind = self.names.kind();
-        offset_in(self.bytes, kind, at)
+        offset_in(self.bytes, self.kind, at)
     }
 
     /// The CRC-32 of the packed bytes of the object of the name at an index.
@@ -132,8 +133,7 @@ impl<'a> File<'a> {
         requires { at < length (names_in self.now.kind self.now.bytes) }
         ensures { result ≡ crc_in self.now.kind self.now.bytes at }
     {
-        let kind = self.names.kind();
-        crc_in(self.bytes, kind, at)
+        crc_in(self.bytes, self.kind, at)
     }
 
     /// The run of exactly the names that begin with a prefix, by
@@ -172,7 +172,7 @@ impl<'a> File<'a> {
             → slice_index_or names k [] ≢ oid_digits id.entry)
             (IsFirstIndexOf names (oid_digits id.entry)) }
     {
-        if id.kind() != self.names.kind() {
+        if id.kind() != self.kind {
             return None;
         }
         let prefix = all_digits(id);
@@ -204,7 +204,7 @@ impl<'a> File<'a> {
         ensures { oid_bytes result ≡ slice_range self.now.bytes
             (tables_end self.now.kind self.now.bytes) (digest_at self.now.kind self.now.bytes) }
     {
-        let kind = self.names.kind();
+        let kind = self.kind;
         let bytes = self.bytes;
         oid::from_bytes_unchecked(&bytes[tables_end(bytes, kind)..digest_at(bytes, kind)])
     }
@@ -217,7 +217,7 @@ impl<'a> File<'a> {
             ≡ id_bytes (digest self.now.kind
             (take (digest_at self.now.kind self.now.bytes) self.now.bytes)) }
     {
-        let kind = self.names.kind();
+        let kind = self.kind;
         let bytes = self.bytes;
         oid::from_bytes_unchecked(&bytes[digest_at(bytes, kind)..])
     }

@@ -9,7 +9,7 @@ ghost use Rattle.id_lookup.specs.FoundRun.{IsRun};
 ghost use Rattle.id_lookup.specs.ShortNames.{IsShortestName};
 ghost use Rattle.id_lookup.specs.Sorted.{IsFirstUnsorted, IsSortedIds, least_hex_len};
 ghost use Rattle.pack_index.specs.Format.{digests_in};
-ghost use Rattle.pack_index.specs.Names.{kind_of, list_of};
+ghost use Rattle.pack_index.specs.Names.{list_of};
 
 use gix_hash::{Kind, Prefix, oid};
 use id_lookup::{FanOut, Id, Probes, Run, SortedIds, Unsorted, lookup_in};
@@ -24,7 +24,6 @@ pub(crate) enum Names<'a> {
 impl<'a> Names<'a> {
     // The digests of a kind that the bytes contain, one after the other.
     pub(crate) fn try_new(bytes: &'a [u8], kind: Kind) -> Result<Names<'a>, Unsorted>
-        ensures kind { IfOk result (λ names. kind_of names ≡ kind) }
         ensures list { IfOk result (λ names. list_of names ≡ digests_in kind bytes.now) }
         ensures sorted { IsOk result ↔ IsSortedIds (digests_in kind bytes.now) }
         ensures err { IfErr result (λ e. IsFirstUnsorted (digests_in kind bytes.now) e.at) }
@@ -38,15 +37,6 @@ impl<'a> Names<'a> {
                 Ok(ids) => Ok(Names::Sha256(ids)),
                 Err(unsorted) => Err(unsorted),
             },
-        }
-    }
-
-    pub(crate) fn kind(&self) -> Kind
-        ensures { result ≡ kind_of self.now }
-    {
-        match self {
-            Names::Sha1(_) => Kind::Sha1,
-            Names::Sha256(_) => Kind::Sha256,
         }
     }
 

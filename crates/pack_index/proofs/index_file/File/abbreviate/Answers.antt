@@ -2,14 +2,14 @@ use Rattle.std.proofs.Common.{◌≡◌, ◌<◌, [], length, get_or, subst, sym
 use Rattle.std.specs.Prelude.{slice_range}
 use Rattle.gix_hash.specs.Kind.{hex_len_of}
 use Rattle.pack_index.specs.Format.{crcs_at, names_at, names_in}
-use Rattle.pack_index.specs.Names.{kind_of, list_of}
+use Rattle.pack_index.specs.Names.{list_of}
 use Rattle.pack_index.proofs.Counted.{length-digests_in_at}
 use Rattle.pack_index.proofs.Looked.{named_kind}
 use Rattle.pack_index.proofs.index_file.File.abbreviate.Goals as goal
 
 pub returns-clause-kind : goal.returns-clause-kind
 returns-clause-kind c =
-    let kind = kind_of c.self.inside.names in
+    let kind = c.self.inside.kind in
     let bytes = c.self.inside.bytes.now in
     let at = c.args.at in
     let inside : at < length (names_in kind bytes) = rw (← c.self.view_is) at c.requires in

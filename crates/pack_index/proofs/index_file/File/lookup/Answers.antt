@@ -13,14 +13,14 @@ pub returns-then-ne : goal.returns-then-ne
 returns-then-ne c = λ k inside same.
     let file = c.args.self.now in
     let long = length-digests_in_at file.kind (slice_range file.bytes names_at (crcs_at file.kind file.bytes)) k inside in
-    let own = sym (ap (λ (f : IndexFile). f.kind) c.self.view_is) ∙ sym c.kind-2.ensures in
-    kinds_differ c.kind.result c.kind-2.result (sym c.ne.ensures ∙ c.if-ne.true)
+    let own = sym (ap (λ (f : IndexFile). f.kind) c.self.view_is) in
+    kinds_differ c.kind.result c.self.inside.kind (sym c.ne.ensures ∙ c.if-ne.true)
     (ap hex_len_of c.kind.ensures.value ∙ sym c.kind.ensures.len ∙ sym (ap length same) ∙ long ∙ ap hex_len_of own)
 
 pub find_prefix-run-requires : goal.find_prefix-run-requires
 find_prefix-run-requires c =
     ap (λ (p : KindDigits). p.kind) c.all_digits-prefix.ensures ∙ sym c.kind.ensures.value
-    ∙ no_other c.kind.result c.kind-2.result (sym c.ne.ensures ∙ c.if-ne.false) ∙ c.kind-2.ensures ∙ ap (λ (f : IndexFile). f.kind) c.self.view_is
+    ∙ no_other c.kind.result c.self.inside.kind (sym c.ne.ensures ∙ c.if-ne.false) ∙ ap (λ (f : IndexFile). f.kind) c.self.view_is
 
 pub returns : goal.returns
 returns c =
@@ -28,7 +28,7 @@ returns c =
     let names = names_in file.kind file.bytes in
     let digits = ap (λ (p : KindDigits). p.digits) c.all_digits-prefix.ensures in
     let kind = ap (λ (p : KindDigits). p.kind) c.all_digits-prefix.ensures ∙ sym c.kind.ensures.value
-    ∙ no_other c.kind.result c.kind-2.result (sym c.ne.ensures ∙ c.if-ne.false) ∙ c.kind-2.ensures ∙ ap (λ (f : IndexFile). f.kind) c.self.view_is in
+    ∙ no_other c.kind.result c.self.inside.kind (sym c.ne.ensures ∙ c.if-ne.false) ∙ ap (λ (f : IndexFile). f.kind) c.self.view_is in
     subst (λ ds. IsFirstIndexOf names ds c.find_prefix-run.result.start) digits
     (present c.all_digits-prefix.result names c.find_prefix-run.result c.find_prefix-run.ensures c.beginnings.ensures.digits
     (λ k inside. length-digests_in_at file.kind (slice_range file.bytes names_at (crcs_at file.kind file.bytes)) k inside

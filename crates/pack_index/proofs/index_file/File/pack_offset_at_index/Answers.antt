@@ -1,12 +1,11 @@
 use Rattle.std.proofs.Common.{arith}
-use Rattle.pack_index.specs.Names.{kind_of}
 use Rattle.pack_index.proofs.Counted.{length-names_in}
 use Rattle.pack_index.proofs.index_file.File.pack_offset_at_index.Goals as goal
 
 pub offset_in-requires-clause-in_range : goal.offset_in-requires-clause-in_range
 offset_in-requires-clause-in_range c =
     let inside = rw (← c.self.view_is) at c.requires in
-    omega (arith, inside, length-names_in (kind_of c.self.inside.names) c.self.inside.bytes.now c.self.invariant.0.names.tables)
+    omega (arith, inside, length-names_in c.self.inside.kind c.self.inside.bytes.now c.self.invariant.0.names.tables)
 
 pub offset_in-requires-clause-has : goal.offset_in-requires-clause-has
-offset_in-requires-clause-has c = rw c.kind-kind.ensures (c.self.invariant.0.offsets.in_table c.args.at (offset_in-requires-clause-in_range c))
+offset_in-requires-clause-has c = c.self.invariant.0.offsets.in_table c.args.at (offset_in-requires-clause-in_range c)
