@@ -21,7 +21,7 @@ use crate::prefixes::{Prefix, prefix_of};
 use gix_hash::{Kind, ObjectId};
 use id_lookup::abbreviate_if_sorted;
 use pack_index::tables::{
-    NAMES_AT, check_tables, count_in, crc_in, crcs_at, has_offset, offset_in, up_to_in,
+    NAMES_AT, check_tables, count_in, counted_in, crc_in, crcs_at, has_offset, offset_in,
 };
 use pack_index::{Error, File};
 
@@ -240,15 +240,7 @@ fn run_by_counts(bytes: &[u8], prefix: &gix_hash::Prefix) -> id_lookup::Run
     } else {
         first
     };
-    let start = if first == 0 {
-        0
-    } else {
-        up_to_in(bytes, first - 1)
-    };
-    id_lookup::Run {
-        start: start as usize,
-        end: up_to_in(bytes, last) as usize,
-    }
+    counted_in(bytes, first, last)
 }
 
 // The name at an index of a table.

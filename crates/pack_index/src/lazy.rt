@@ -15,7 +15,9 @@ ghost use Rattle.streams.specs.ReadAt.{IsReadAt};
 use crate::bucket::Bucket;
 use crate::checks::{COUNTS_LEN, MAGIC, VERSION, fills_bytes, other_than, version_1_len};
 use crate::lazy_error::LazyError;
-use crate::words::{LONG, NAMES_AT, count_in, long_at, long_word_at, offsets_at, word_at};
+use crate::words::{
+    LONG, NAMES_AT, count_in, counted_in, long_at, long_word_at, offsets_at, word_at,
+};
 use gix_hash::{Kind, oid};
 use id_lookup::{Id, Run};
 use std::alloc::Allocator;
@@ -196,7 +198,7 @@ impl<S: ReadAt + Drop> LazyFile<S> {
         ensures err { IfErr result (λ e. (bytes : List ℕ) → self.now.content ≡ Some bytes
             → IsBucketFault self.now.kind bytes byte e) }
     {
-        let run = counted_in(&self.head, byte);
+        let run = counted_in(&self.head, byte, byte);
         if run.end < run.start {
             return Err(LazyError::CountsFall(byte));
         }
@@ -317,24 +319,6 @@ fn wrong_length(head: &[u8], kind: Kind, len: u64) -> LazyError
         LazyError::OtherKind(other)
     } else {
         LazyError::WrongLength
-    }
-}
-
-// The indexes of the names that are counted with a first byte, in the head of a pack index.
-fn counted_in(head: &[u8], byte: u8) -> Run
-    requires { length head.now ≡ 1032 }
-    ensures start { result.start ≡ bucket_start head.now byte }
-    ensures end { result.end ≡ bucket_end head.now byte }
-{
-    let at = 8 + 4 * usize::from(byte);
-    let start = if byte == 0 {
-        0
-    } else {
-        word_at(head, at - 4) as usize
-    };
-    Run {
-        start,
-        end: word_at(head, at) as usize,
     }
 }
 

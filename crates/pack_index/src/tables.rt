@@ -9,4 +9,4 @@
 //! ```
 
 pub use crate::checks::{check_tables, has_offset};
-pub use crate::words::{NAMES_AT, count_in, crc_in, crcs_at, offset_in, up_to_in};
+pub use crate::words::{NAMES_AT, count_in, counted_in, crc_in, crcs_at, offset_in, up_to_in};

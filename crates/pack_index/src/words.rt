@@ -3,8 +3,10 @@
 ghost use Rattle.std.specs.Prelude.{◌≡◌, ◌+◌, ◌*◌, ◌<◌, ◌≤◌, ◌^◌, length};
 ghost use Rattle.gix_hash.specs.Kind.{byte_len_of};
 ghost use Rattle.pack_index.specs.Format.{HasOffset, HasTables, count_in, crc_in, crcs_at, digest_at, long_at, names_at, offset_in, offset_word, offsets_at, tables_end, word_at};
+ghost use Rattle.pack_index.specs.Lazy.{bucket_end, bucket_start};
 
 use gix_hash::Kind;
+use id_lookup::Run;
 
 /// Where the names begin.
 pub const NAMES_AT: usize = 1032;
@@ -43,6 +45,24 @@ pub fn up_to_in(bytes: &[u8], byte: u8) -> u32
     ensures { result ≡ word_at bytes.now (8 + 4 * byte) }
 {
     word_at(bytes, 8 + 4 * usize::from(byte))
+}
+
+/// The indexes of the names that are counted with first bytes from `first` to `last`. If the counts
+/// are wrong, they may be indexes of no names, and `end` may be below `start`.
+pub fn counted_in(bytes: &[u8], first: u8, last: u8) -> Run
+    requires { names_at ≤ length bytes.now }
+    ensures start { result.start ≡ bucket_start bytes.now first }
+    ensures end { result.end ≡ bucket_end bytes.now last }
+{
+    let below = if first == 0 {
+        0
+    } else {
+        up_to_in(bytes, first - 1)
+    };
+    Run {
+        start: below as usize,
+        end: up_to_in(bytes, last) as usize,
+    }
 }
 
 /// Where the CRCs begin, after the names.
