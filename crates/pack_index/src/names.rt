@@ -29,14 +29,8 @@ impl<'a> Names<'a> {
         ensures err { IfErr result (λ e. IsFirstUnsorted (digests_in kind bytes.now) e.at) }
     {
         match kind {
-            Kind::Sha1 => match SortedIds::try_new(bytes.as_chunks().0) {
-                Ok(ids) => Ok(Names::Sha1(ids)),
-                Err(unsorted) => Err(unsorted),
-            },
-            Kind::Sha256 => match SortedIds::try_new(bytes.as_chunks().0) {
-                Ok(ids) => Ok(Names::Sha256(ids)),
-                Err(unsorted) => Err(unsorted),
-            },
+            Kind::Sha1 => Ok(Names::Sha1(SortedIds::try_new(bytes.as_chunks().0)?)),
+            Kind::Sha256 => Ok(Names::Sha256(SortedIds::try_new(bytes.as_chunks().0)?)),
         }
     }
 
