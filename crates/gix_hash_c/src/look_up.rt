@@ -11,7 +11,7 @@ ghost use Rattle.gix_hash_c.specs.Found.{FindAnswer, IsRunIfSorted, SortedAnswer
 use crate::codes::{BAD_KIND, BAD_LENGTH, OK, TOO_LONG, UNSORTED, kind_of};
 use crate::prefixes::{Prefix, prefix_of};
 use gix_hash::Kind;
-use id_lookup::{SortedIds, find_if_sorted_near};
+use id_lookup::{SortedIds, Unsorted, find_if_sorted_near};
 
 /// The indexes from `start` up to `end`, counted from 0.
 #[repr(C)]
@@ -33,7 +33,7 @@ pub extern "C" fn gix_hash_check_sorted(kind: u32, table: &[u8], at: &mut usize)
         Some(kind) => match fall_in(kind, table) {
             None => OK,
             Some(fall) => {
-                *at = fall;
+                *at = fall.at;
                 UNSORTED
             }
         },
@@ -66,19 +66,13 @@ pub extern "C" fn gix_hash_find(kind: u32, table: &[u8], prefix: &Prefix, run: &
 }
 
 // The first index whose digest is below the one before it.
-fn fall_in(kind: Kind, table: &[u8]) -> Option<usize>
+fn fall_in(kind: Kind, table: &[u8]) -> Option<Unsorted>
     ensures none { IsNone result → IsSortedIds (digests_in kind table.now) }
-    ensures some { IfSome result (IsFirstUnsorted (digests_in kind table.now)) }
+    ensures some { IfSome result (λ fall. IsFirstUnsorted (digests_in kind table.now) fall.at) }
 {
     match kind {
-        Kind::Sha1 => match SortedIds::<[u8; 20]>::try_new(table.as_chunks().0) {
-            Ok(_) => None,
-            Err(unsorted) => Some(unsorted.at),
-        },
-        Kind::Sha256 => match SortedIds::<[u8; 32]>::try_new(table.as_chunks().0) {
-            Ok(_) => None,
-            Err(unsorted) => Some(unsorted.at),
-        },
+        Kind::Sha1 => SortedIds::<[u8; 20]>::try_new(table.as_chunks().0).err(),
+        Kind::Sha256 => SortedIds::<[u8; 32]>::try_new(table.as_chunks().0).err(),
     }
 }
 
