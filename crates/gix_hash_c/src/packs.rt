@@ -235,12 +235,8 @@ fn run_by_counts(bytes: &[u8], prefix: &gix_hash::Prefix) -> id_lookup::Run
     requires { names_at ≤ length bytes.now }
 {
     let first = prefix.as_oid().first_byte();
-    let last = if prefix.hex_len() == 1 {
-        first | 15
-    } else {
-        first
-    };
-    counted_in(bytes, first, last)
+    let other_digits = if prefix.hex_len() == 1 { 15 } else { 0 };
+    counted_in(bytes, first, first | other_digits)
 }
 
 // The name at an index of a table.
