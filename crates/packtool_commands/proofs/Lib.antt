@@ -1,5 +1,4 @@
 mod LineLemmas
-mod LineRanges
 mod ShownLemmas
 mod NamedLemmas
 mod PlaceLemmas

@@ -1,6 +1,6 @@
 -- The parts of a line, one after the other.
 use Rattle.std.proofs.Common.{◌≡◌, ℕ, ◌+◌, ◌-◌, ◌≤◌, List, [], ◌∷◌, ◌++◌, length, take, sym, ap, ◌∙◌, append_assoc, arith, length-append}
-use Rattle.std.specs.Prelude.{decimal, replicate, Result, Ok, Err, OnErr}
+use Rattle.std.specs.Prelude.{decimal, replicate}
 use Rattle.gix_hash.specs.Digits.{hex_letter, spelling}
 use Rattle.gix_hash.specs.Prefix.{padded}
 use Rattle.std.proofs.Math.Seq.{take-append_seam}
@@ -43,8 +43,3 @@ unfolding line_of_name
 name_parts name id l1 l2 l3 l4 e1 e2 e3 e4 =
     let h3 : l3 ≡ name ++ 32 ∷ id = e3 ∙ ap (λ (l : List ℕ). l ++ id) (e2 ∙ ap (λ (l : List ℕ). l ++ 32 ∷ []) e1) ∙ append_assoc name (32 ∷ []) id in
     e4 ∙ ap (λ (l : List ℕ). l ++ 10 ∷ []) h3
-
--- a fact that follows, where there is an error
-pub on_err : {T E : Type 0} (r : Result T E) (P Q : Type 0) → (P → Q) → OnErr r P → OnErr r Q
-on_err (Ok x) P Q follows p = tt
-on_err (Err e) P Q follows p = follows p

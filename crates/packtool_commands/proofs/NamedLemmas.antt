@@ -1,12 +1,13 @@
 -- The lines of the ids of a store with their names, a part after the other.
-use Rattle.std.proofs.Common.{◌≡◌, ◌≢◌, ℕ, ◌+◌, ◌<◌, Bool, Option, List, [], ◌∷◌, ◌++◌, length, get_or, map, take, drop, refl, sym, ap, subst, ◌∙◌, ◌⊎◌, inl, inr, arith, append-nil, take-append-drop, add-one}
+use Rattle.std.proofs.Common.{◌≡◌, ◌≢◌, ℕ, ◌+◌, ◌<◌, Bool, Option, List, [], ◌∷◌, ◌++◌, length, get_or, map, take, refl, sym, ap, subst, ◌∙◌, ◌⊎◌, inl, inr, append-nil, zero-add}
 use Rattle.std.specs.Prelude.{◌↔◌, IsTrue}
 use Rattle.std.specs.List.{All, flat_map, range_with_len}
 use Rattle.std.specs.Io.KnownBytes.{Appends}
 use Rattle.std.proofs.KnownBytes.{Appends-trans}
-use Rattle.std.proofs.Math.Seq.{drop-cons}
 use Rattle.std.proofs.lemmas.Grind.{flat_map-append}
 use Rattle.std.proofs.lemmas.List.{map-append}
+use Rattle.std.proofs.lemmas.List.Folds.{flat_map-map}
+use Rattle.std.proofs.lemmas.List.FromFn.{map-range_with_len_more}
 use Rattle.std.proofs.lemmas.List.Elements.{All-append}
 use Rattle.gix_hash.specs.ObjectId.{id_digits}
 use Rattle.id_lookup.specs.IndexOf.{part_of}
@@ -14,9 +15,8 @@ use Rattle.object_store.proofs.Held.{flat_map-take}
 use Rattle.object_store.specs.Stores.{IsNameIn}
 use Rattle.object_store.specs.declared.naming.NamedId.{NamedId}
 use Rattle.packtool_commands.specs.Names.{AreNamedBelow, HasNamedAtMost, HasNamedBelow, name_line, parts_below}
-use Rattle.packtool_commands.proofs.LineRanges.{range-split}
 use Rattle.streams.specs.Writing.{AppendsAtMost, AppendsPart}
-use Rattle.streams.proofs.WritingLemmas.{AppendsPart-after, AppendsPart-more, part_written}
+use Rattle.streams.proofs.WritingLemmas.{AppendsPart-after, part_written}
 
 -- one line more
 pub Appends-item : {X : Type 0} (a b c : Option (List ℕ)) (line : X → List ℕ) (xs : List X) (k : ℕ) (d : X) → k < length xs
@@ -24,32 +24,14 @@ pub Appends-item : {X : Type 0} (a b c : Option (List ℕ)) (line : X → List �
 Appends-item a b c line xs k d within before last =
     subst (Appends a c) (sym (flat_map-take line xs k d within)) (Appends-trans a b c (flat_map line (take k xs)) (line (get_or xs k d)) before last)
 
--- the lines before one, that line, and those after it
-pub lines_around : {X : Type 0} (line : X → List ℕ) (xs : List X) (k : ℕ) (d : X) → k < length xs
-    → flat_map line xs ≡ flat_map line (take k xs) ++ (line (get_or xs k d) ++ flat_map line (drop (k + 1) xs))
-lines_around {X} line xs k d within =
-    let parts : xs ≡ take k xs ++ get_or xs k d ∷ drop (k + 1) xs =
-    sym (take-append-drop k xs)
-    ∙ ap (λ (rest : List X). take k xs ++ rest) (drop-cons xs k d within ∙ ap (λ j. get_or xs k d ∷ drop j xs) (sym (add-one k))) in
-    ap (flat_map line) parts ∙ flat_map-append line (take k xs) (get_or xs k d ∷ drop (k + 1) xs)
-
--- a part of one line, after the lines before it, is a part of all the lines
-pub AppendsPart-item : {X : Type 0} (a b c : Option (List ℕ)) (line : X → List ℕ) (xs : List X) (k : ℕ) (d : X) → k < length xs
-    → Appends a b (flat_map line (take k xs)) → AppendsPart b c (line (get_or xs k d)) → AppendsPart a c (flat_map line xs)
-AppendsPart-item a b c line xs k d within before last =
-    let front = flat_map line (take k xs) in
-    let one = line (get_or xs k d) in
-    let after = flat_map line (drop (k + 1) xs) in
-    subst (AppendsPart a c) (sym (lines_around line xs k d within))
-    (AppendsPart-after a b c front (one ++ after) before (AppendsPart-more b c one after last))
-
 -- one first byte more
 parts-more : (n : ℕ) (ids : List (List ℕ)) → parts_below (n + 1) ids ≡ parts_below n ids ++ part_of n ids
 parts-more n ids =
     let part : ℕ → List (List ℕ) = λ byte. part_of byte ids in
-    let here : 0 + n ≡ n = omega arith in
-    ap (flat_map part) (range-split 0 n 1) ∙ flat_map-append part (range_with_len 0 n) (range_with_len (0 + n) 1)
-    ∙ ap (λ (last : List (List ℕ)). parts_below n ids ++ last) (append-nil (part (0 + n)) ∙ ap part here)
+    let parts : (m : ℕ) → parts_below m ids ≡ flat_map (λ p. p) (map part (range_with_len 0 m)) = λ m. sym (flat_map-map (λ p. p) part (range_with_len 0 m)) in
+    parts (n + 1) ∙ ap (flat_map (λ p. p)) (map-range_with_len_more part 0 n n (zero-add n))
+    ∙ flat_map-append (λ p. p) (map part (range_with_len 0 n)) (part n ∷ []) ∙ ap (λ (front : List (List ℕ)). front ++ (part n ++ [])) (sym (parts n))
+    ∙ ap (λ (last : List (List ℕ)). parts_below n ids ++ last) (append-nil (part n))
 
 -- the ids with one first byte more have their names
 pub named_below_more : (n least : ℕ) (whole : List (List ℕ)) (named more : List NamedId) → AreNamedBelow n least whole named

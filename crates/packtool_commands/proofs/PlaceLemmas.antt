@@ -1,12 +1,14 @@
 -- The lines of places, one after the other.
-use Rattle.std.proofs.Common.{◌≡◌, ◌≢◌, ℕ, ◌+◌, ◌<◌, ◌≤◌, Bool, true, false, not, Option, List, [], ◌∷◌, ◌++◌, length, get_or, map, take, drop, refl, sym, ap, subst, ◌∙◌, append_assoc, arith}
+use Rattle.std.proofs.Common.{◌≡◌, ◌≢◌, ℕ, ◌+◌, ◌<◌, ◌≤◌, Bool, true, false, not, Option, List, [], ◌∷◌, ◌++◌, length, get_or, map, take, drop, sym, ap, subst, ◌∙◌, append_assoc, arith}
 use Rattle.std.specs.Prelude.{◌↔◌, IsTrue, nat_eq}
 use Rattle.std.specs.List.{All, flat_map}
 use Rattle.std.specs.Io.KnownBytes.{Appends}
 use Rattle.std.proofs.KnownBytes.{Appends-trans}
 use Rattle.std.proofs.lemmas.Bool.{eq-eqb, false≢true, ne_eqb}
 use Rattle.std.proofs.lemmas.List.Elements.{All-map}
+use Rattle.std.proofs.lemmas.List.Folds.{flat_map-map}
 use Rattle.streams.specs.Writing.{AppendsAtMost}
+use Rattle.streams.proofs.WritingLemmas.{lines_around}
 use Rattle.gix_hash.specs.Digits.{first_byte_of}
 use Rattle.gix_hash.specs.ObjectId.{id_digits}
 use Rattle.gix_hash.specs.declared.Kind.{Kind}
@@ -17,14 +19,11 @@ use Rattle.object_store.specs.Parts.{HaveNames}
 use Rattle.object_store.specs.Stores.{HaveBuckets, HavePlaces}
 use Rattle.pack_index.specs.Lazy.{HasBucket, LazyIndex}
 use Rattle.packtool_commands.specs.Places.{HaveAllPlaces}
-use Rattle.packtool_commands.proofs.NamedLemmas.{lines_around}
 
 -- the lines of texts are those of what has these texts
 pub same_lines : {X : Type 0} (line : List ℕ → List ℕ) (text : X → List ℕ) (xs : List X) (all : List (List ℕ)) → map text xs ≡ all
     → flat_map (λ x. line (text x)) xs ≡ flat_map line all
-same_lines line text [] all is = ap (flat_map line) is
-same_lines line text (x ∷ xs) all is =
-    ap (λ (rest : List ℕ). line (text x) ++ rest) (same_lines line text xs (map text xs) refl) ∙ ap (flat_map line) is
+same_lines line text xs all is = sym (flat_map-map line text xs) ∙ ap (flat_map line) is
 
 -- whether there are texts, by the number of what has them
 pub has_texts : {X : Type 0} (text : X → List ℕ) (xs : List X) (all : List (List ℕ)) (n : ℕ) (empty : Bool) → map text xs ≡ all → length xs ≡ n → empty ≡ nat_eq n 0

@@ -23,10 +23,6 @@ line_of offset id crc = offset ++ 32 ∷ id ++ 32 ∷ 40 ∷ crc ++ 41 ∷ 10 �
 abbrev pub index_line : Kind → List ℕ → ℕ → List ℕ
 index_line kind bytes k = line_of (decimal (offset_in kind bytes k)) (spelling hex_letter (name_at kind bytes k)) (crc_text (crc_in kind bytes k))
 
--- the lines at the indexes from `start` up to `end`, one after the other
-abbrev pub lines_of : (ℕ → List ℕ) → ℕ → ℕ → List ℕ
-lines_of line start end = flat_map line (range_with_len start (end - start))
-
 -- the lines of all names
 abbrev pub index_lines : Kind → List ℕ → List ℕ
-index_lines kind bytes = lines_of (index_line kind bytes) 0 (length (names_in kind bytes))
+index_lines kind bytes = flat_map (index_line kind bytes) (range_with_len 0 (length (names_in kind bytes)))

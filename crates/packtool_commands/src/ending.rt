@@ -1,10 +1,9 @@
 //! The lines of checked files.
 
-ghost use Rattle.std.specs.Prelude.{◌≡◌, false, true, OnOk, OnErr};
-ghost use Rattle.std.specs.Io.KnownBytes.{Appends};
+ghost use Rattle.std.specs.Prelude.{◌≡◌, false};
 ghost use Rattle.packtool_commands.specs.Ending.{verdict};
 ghost use Rattle.packtool_commands.specs.Escaping.{named};
-ghost use Rattle.streams.specs.Writing.{AppendsPart};
+ghost use Rattle.streams.specs.Writing.{Wrote};
 
 use crate::escaping::write_named;
 use crate::lines::{MAX_VERDICT_LEN, put_verdict};
@@ -24,12 +23,8 @@ use streams::{Ending, Sink, WriteFailed};
 /// ```
 pub fn write_ending<W: Sink>(name: &str, ending: &Ending, out: &mut W) -> Result<(), WriteFailed>
     requires { W.has_failed out.old ≡ false }
-    ensures written { OnOk result (Appends (W.taken out.old) (W.taken out.new)
-        (named name.now (verdict ending.now))) }
-    ensures not_failed { OnOk result (W.has_failed out.new ≡ false) }
-    ensures part { OnErr result (AppendsPart (W.taken out.old) (W.taken out.new)
-        (named name.now (verdict ending.now))) }
-    ensures failed { OnErr result (W.has_failed out.new ≡ true) }
+    ensures { Wrote W.taken W.has_failed out.old out.new result
+        (named name.now (verdict ending.now)) }
 {
     let mut line = [0; MAX_VERDICT_LEN];
     let len = put_verdict(ending, &mut line);

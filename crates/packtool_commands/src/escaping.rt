@@ -1,11 +1,10 @@
 //! Names of files in lines, as `sha1sum` prints them: a backslash begins the line if a byte of the
 //! name is escaped.
 
-ghost use Rattle.std.specs.Prelude.{◌≡◌, ◌++◌, false, true, OnOk, OnErr};
-ghost use Rattle.std.specs.Io.KnownBytes.{Appends};
+ghost use Rattle.std.specs.Prelude.{◌≡◌, ◌++◌, false};
 ghost use Rattle.std.specs.List.{list_any};
 ghost use Rattle.packtool_commands.specs.Escaping.{escape_mark, escape_of, escaped, is_special, named};
-ghost use Rattle.streams.specs.Writing.{AppendsPart};
+ghost use Rattle.streams.specs.Writing.{Wrote};
 
 use streams::{Sink, WriteFailed, write_all};
 
@@ -17,21 +16,16 @@ fn is_special(byte: u8) -> bool
 }
 
 // Whether a name has a byte that is escaped.
-fn has_special(name: &[u8]) -> bool
+fn has_special(name: &str) -> bool
     ensures { result ≡ list_any is_special name.now }
 {
-    name.iter().any(|byte| is_special(*byte))
+    name.as_bytes().iter().any(|byte| is_special(*byte))
 }
 
 /// Writes what begins a line with a name: a backslash if a byte of the name is escaped.
-pub(crate) fn write_mark<W: Sink>(name: &[u8], out: &mut W) -> Result<(), WriteFailed>
+pub(crate) fn write_mark<W: Sink>(name: &str, out: &mut W) -> Result<(), WriteFailed>
     requires { W.has_failed out.old ≡ false }
-    ensures written { OnOk result (Appends (W.taken out.old) (W.taken out.new)
-        (escape_mark name.now)) }
-    ensures not_failed { OnOk result (W.has_failed out.new ≡ false) }
-    ensures part { OnErr result (AppendsPart (W.taken out.old) (W.taken out.new)
-        (escape_mark name.now)) }
-    ensures failed { OnErr result (W.has_failed out.new ≡ true) }
+    ensures { Wrote W.taken W.has_failed out.old out.new result (escape_mark name.now) }
 {
     let mark: &[u8] = if has_special(name) { b"\\" } else { b"" };
     write_all(out, mark)
@@ -41,11 +35,7 @@ pub(crate) fn write_mark<W: Sink>(name: &[u8], out: &mut W) -> Result<(), WriteF
 #[tactic(auto, unfolding(crate::specs::Escaping::escape_of))]
 fn write_escape<W: Sink>(byte: u8, out: &mut W) -> Result<(), WriteFailed>
     requires { W.has_failed out.old ≡ false }
-    ensures written { OnOk result (Appends (W.taken out.old) (W.taken out.new) (escape_of byte)) }
-    ensures not_failed { OnOk result (W.has_failed out.new ≡ false) }
-    ensures part { OnErr result (AppendsPart (W.taken out.old) (W.taken out.new)
-        (escape_of byte)) }
-    ensures failed { OnErr result (W.has_failed out.new ≡ true) }
+    ensures { Wrote W.taken W.has_failed out.old out.new result (escape_of byte) }
 {
     match byte {
         b'\\' => write_all(out, b"\\\\"),
@@ -56,37 +46,23 @@ fn write_escape<W: Sink>(byte: u8, out: &mut W) -> Result<(), WriteFailed>
 }
 
 // Writes a name, whose backslashes, line feeds and carriage returns are escaped.
-fn write_escaped<W: Sink>(name: &[u8], out: &mut W) -> Result<(), WriteFailed>
+fn write_escaped<W: Sink>(name: &str, out: &mut W) -> Result<(), WriteFailed>
     requires { W.has_failed out.old ≡ false }
-    ensures written { OnOk result (Appends (W.taken out.old) (W.taken out.new)
-        (escaped name.now)) }
-    ensures not_failed { OnOk result (W.has_failed out.new ≡ false) }
-    ensures part { OnErr result (AppendsPart (W.taken out.old) (W.taken out.new)
-        (escaped name.now)) }
-    ensures failed { OnErr result (W.has_failed out.new ≡ true) }
+    ensures { Wrote W.taken W.has_failed out.old out.new result (escaped name.now) }
 {
     if !has_special(name) {
-        return write_all(out, name);
+        return write_all(out, name.as_bytes());
     }
-    for byte in name {
+    for byte in name.as_bytes() {
         write_escape(*byte, out)?;
     }
     Ok(())
 }
 
 /// Writes an escaped name, and a text after it.
-pub(crate) fn write_before<W: Sink>(
-    name: &[u8],
-    text: &[u8],
-    out: &mut W,
-) -> Result<(), WriteFailed>
+pub(crate) fn write_before<W: Sink>(name: &str, text: &[u8], out: &mut W) -> Result<(), WriteFailed>
     requires { W.has_failed out.old ≡ false }
-    ensures written { OnOk result (Appends (W.taken out.old) (W.taken out.new)
-        (escaped name.now ++ text.now)) }
-    ensures not_failed { OnOk result (W.has_failed out.new ≡ false) }
-    ensures part { OnErr result (AppendsPart (W.taken out.old) (W.taken out.new)
-        (escaped name.now ++ text.now)) }
-    ensures failed { OnErr result (W.has_failed out.new ≡ true) }
+    ensures { Wrote W.taken W.has_failed out.old out.new result (escaped name.now ++ text.now) }
 {
     write_escaped(name, out)?;
     write_all(out, text)
@@ -106,14 +82,8 @@ pub(crate) fn write_before<W: Sink>(
 /// ```
 pub fn write_named<W: Sink>(name: &str, text: &[u8], out: &mut W) -> Result<(), WriteFailed>
     requires { W.has_failed out.old ≡ false }
-    ensures written { OnOk result (Appends (W.taken out.old) (W.taken out.new)
-        (named name.now text.now)) }
-    ensures not_failed { OnOk result (W.has_failed out.new ≡ false) }
-    ensures part { OnErr result (AppendsPart (W.taken out.old) (W.taken out.new)
-        (named name.now text.now)) }
-    ensures failed { OnErr result (W.has_failed out.new ≡ true) }
+    ensures { Wrote W.taken W.has_failed out.old out.new result (named name.now text.now) }
 {
-    let name = name.as_bytes();
     write_mark(name, out)?;
     write_before(name, text, out)
 }

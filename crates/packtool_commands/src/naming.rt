@@ -1,14 +1,13 @@
 //! The ids of a store after their shortest names.
 
-ghost use Rattle.std.specs.Prelude.{◌≡◌, ◌≢◌, ◌↔◌, ◌⊎◌, ◌≤◌, ℕ, List, [], false, true, flat_map, IfErr, IfOk, IsErrOf, IsTrue, OnOk, OnErr};
-ghost use Rattle.std.specs.Io.KnownBytes.{Appends};
+ghost use Rattle.std.specs.Prelude.{◌≡◌, ◌≢◌, ◌↔◌, ◌⊎◌, ◌≤◌, ℕ, List, [], false, true, flat_map, IfErr, IfOk, IsErrOf, IsTrue};
 ghost use Rattle.gix_hash.specs.Kind.{hex_len_of};
 ghost use Rattle.object_store.specs.Stores.{HaveBuckets, Holds};
 ghost use Rattle.pack_index.specs.Firsts.{Each};
 ghost use Rattle.packtool_commands.specs.Finding.{IsFaultOf, IsWalkFault};
 ghost use Rattle.packtool_commands.specs.Names.{HasNamedAtMost, HasNamedBelow, name_line};
 ghost use Rattle.packtool_commands.specs.declared.error.StoreError.{StoreError};
-ghost use Rattle.streams.specs.Writing.{AppendsPart};
+ghost use Rattle.streams.specs.Writing.{Wrote};
 
 use crate::error::StoreError;
 use crate::lines::{MAX_NAMES_LEN, put_name_line};
@@ -71,12 +70,7 @@ fn is_any(before: bool, named: &[NamedId]) -> bool
 // Writes the lines of ids with their names.
 fn write_names<W: Sink>(named: &[NamedId], out: &mut W) -> Result<(), WriteFailed>
     requires { W.has_failed out.old ≡ false }
-    ensures written { OnOk result (Appends (W.taken out.old) (W.taken out.new)
-        (flat_map name_line named.now)) }
-    ensures not_failed { OnOk result (W.has_failed out.new ≡ false) }
-    ensures part { OnErr result (AppendsPart (W.taken out.old) (W.taken out.new)
-        (flat_map name_line named.now)) }
-    ensures failed { OnErr result (W.has_failed out.new ≡ true) }
+    ensures { Wrote W.taken W.has_failed out.old out.new result (flat_map name_line named.now) }
 {
     let mut line = [0; MAX_NAMES_LEN];
     for id in named {

@@ -1,11 +1,10 @@
 //! Pack indexes and the packs beside them.
 
-ghost use Rattle.std.specs.Prelude.{◌≡◌, ◌≤◌, ℕ, List, Some, false, true, IfOk, OnOk, OnErr};
-ghost use Rattle.std.specs.Io.KnownBytes.{Appends};
+ghost use Rattle.std.specs.Prelude.{◌≡◌, ◌≤◌, ℕ, List, Some, false, IfOk};
 ghost use Rattle.gix_hash.specs.declared.Kind.{Kind};
 ghost use Rattle.packtool_commands.specs.Escaping.{named};
 ghost use Rattle.packtool_commands.specs.Pairing.{IsDigest, IsPairing, last_digest_but, pairing_verdict};
-ghost use Rattle.streams.specs.Writing.{AppendsPart};
+ghost use Rattle.streams.specs.Writing.{Wrote};
 
 use crate::escaping::write_named;
 use crate::lines::{MAX_VERDICT_LEN, put_pairing};
@@ -121,12 +120,8 @@ fn last_digest_but<S: ReadAt>(n: usize, source: &S, kind: Kind) -> io::Result<Op
 /// ```
 pub fn write_pairing<W: Sink>(name: &str, pairing: &Pairing, out: &mut W) -> Result<(), WriteFailed>
     requires { W.has_failed out.old ≡ false }
-    ensures written { OnOk result (Appends (W.taken out.old) (W.taken out.new)
-        (named name.now (pairing_verdict pairing.now))) }
-    ensures not_failed { OnOk result (W.has_failed out.new ≡ false) }
-    ensures part { OnErr result (AppendsPart (W.taken out.old) (W.taken out.new)
-        (named name.now (pairing_verdict pairing.now))) }
-    ensures failed { OnErr result (W.has_failed out.new ≡ true) }
+    ensures { Wrote W.taken W.has_failed out.old out.new result
+        (named name.now (pairing_verdict pairing.now)) }
 {
     let mut line = [0; MAX_VERDICT_LEN];
     let len = put_pairing(pairing, &mut line);

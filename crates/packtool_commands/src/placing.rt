@@ -10,7 +10,7 @@ ghost use Rattle.object_store.specs.Stores.{HaveBuckets, HavePlaces, Holds, IsLo
 ghost use Rattle.packtool_commands.specs.Finding.{IsFaultOf};
 ghost use Rattle.packtool_commands.specs.Places.{HasLocated, HaveAllPlaces, IsMemory, IsPlacesFault, lines_at, lines_of_places, place_line};
 ghost use Rattle.packtool_commands.specs.declared.error.StoreError.{StoreError};
-ghost use Rattle.streams.specs.Writing.{AppendsAtMost, AppendsPart};
+ghost use Rattle.streams.specs.Writing.{AppendsAtMost, Wrote};
 
 use crate::error::StoreError;
 use crate::escaping::{write_before, write_mark};
@@ -129,12 +129,8 @@ fn write_lines_at<S: StorePaths, W: Sink>(
 // Writes the lines of the files of a loose object.
 fn write_loose<W: Sink>(id: &ObjectId, paths: &[String], out: &mut W) -> Result<(), WriteFailed>
     requires { W.has_failed out.old ≡ false }
-    ensures written { OnOk result (Appends (W.taken out.old) (W.taken out.new)
-        (flat_map (λ path. place_line (id_digits id.now) (string_bytes path) None) paths.now)) }
-    ensures not_failed { OnOk result (W.has_failed out.new ≡ false) }
-    ensures part { OnErr result (AppendsPart (W.taken out.old) (W.taken out.new)
-        (flat_map (λ path. place_line (id_digits id.now) (string_bytes path) None) paths.now)) }
-    ensures failed { OnErr result (W.has_failed out.new ≡ true) }
+    ensures { Wrote W.taken W.has_failed out.old out.new result
+        (flat_map (λ path. place_line (id_digits id.now) (string_bytes path) None) paths.now) }
 {
     for path in paths {
         write_place(id, path.as_str(), None, out)?;
@@ -161,18 +157,13 @@ pub fn write_place<W: Sink>(
     out: &mut W,
 ) -> Result<(), WriteFailed>
     requires { W.has_failed out.old ≡ false }
-    ensures written { OnOk result (Appends (W.taken out.old) (W.taken out.new)
-        (place_line (id_digits id.now) path.now offset)) }
-    ensures not_failed { OnOk result (W.has_failed out.new ≡ false) }
-    ensures part { OnErr result (AppendsPart (W.taken out.old) (W.taken out.new)
-        (place_line (id_digits id.now) path.now offset)) }
-    ensures failed { OnErr result (W.has_failed out.new ≡ true) }
+    ensures { Wrote W.taken W.has_failed out.old out.new result
+        (place_line (id_digits id.now) path.now offset) }
 {
     let mut start = [0; MAX_START_LEN];
     let start_len = put_place_start(id, &mut start);
     let mut end = [0; MAX_END_LEN];
     let end_len = put_place_end(offset, &mut end);
-    let path = path.as_bytes();
     write_mark(path, out)?;
     write_all(out, &start[..start_len])?;
     write_before(path, &end[..end_len], out)

@@ -1,8 +1,8 @@
 //! The lines of a pack index, as `git show-index` prints them.
 
-ghost use Rattle.std.specs.Prelude.{◌≡◌, ◌≢◌, ◌↔◌, ◌⊎◌, [], false, true, IfErr, IfOk, IfSome, IsErrOf, IsTrue, OnOk, OnErr};
-ghost use Rattle.std.specs.Io.KnownBytes.{Appends, Consumes, IsAtEnd};
-ghost use Rattle.streams.specs.Writing.{AppendsPart};
+ghost use Rattle.std.specs.Prelude.{◌≡◌, ◌≢◌, ◌↔◌, ◌⊎◌, [], false, true, IfErr, IfOk, IfSome, IsErrOf, IsTrue, OnOk};
+ghost use Rattle.std.specs.Io.KnownBytes.{Consumes, IsAtEnd};
+ghost use Rattle.streams.specs.Writing.{Wrote};
 ghost use Rattle.pack_index.specs.Format.{names_in};
 ghost use Rattle.packtool_commands.specs.Lines.{index_lines};
 ghost use Rattle.packtool_commands.specs.Showing.{HasShown, HasShownPart, IsOpenedAs, IsRefusalAs, Refuses};
@@ -104,12 +104,8 @@ fn open(bytes: &[u8], kind: Option<Kind>) -> Result<File<'_>, pack_index::Error>
 // Writes the lines of an index.
 fn write_lines<W: Sink>(file: &File<'_>, out: &mut W) -> Result<(), WriteFailed>
     requires { W.has_failed out.old ≡ false }
-    ensures written { OnOk result (Appends (W.taken out.old) (W.taken out.new)
-        (index_lines file.now.kind file.now.bytes)) }
-    ensures not_failed { OnOk result (W.has_failed out.new ≡ false) }
-    ensures part { OnErr result (AppendsPart (W.taken out.old) (W.taken out.new)
-        (index_lines file.now.kind file.now.bytes)) }
-    ensures failed { OnErr result (W.has_failed out.new ≡ true) }
+    ensures { Wrote W.taken W.has_failed out.old out.new result
+        (index_lines file.now.kind file.now.bytes) }
 {
     let mut line = [0; MAX_LINE_LEN];
     let count = file.num_objects();

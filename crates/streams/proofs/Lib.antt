@@ -1,5 +1,4 @@
 pub mod WritingLemmas
 mod Taking
 mod PipeLemmas
-mod PrintLemmas
 mod SealedLemmas

@@ -1,9 +1,13 @@
 -- What was taken, after one write and another.
-use Rattle.std.specs.Prelude.{◌≡◌, Option, Some, None, ℕ, List, [], ◌∷◌, ◌++◌, Result, Ok, Err, OnErr}
+use Rattle.std.specs.Prelude.{◌≡◌, Bool, Option, Some, None, ℕ, ◌+◌, ◌<◌, List, [], ◌∷◌, ◌++◌, length, get_or, take, drop, Result, Ok, Err, IsErr, OnErr}
+use Rattle.std.specs.List.{flat_map}
 use Rattle.std.specs.Io.KnownBytes.{Appends, Keeps}
-use Rattle.std.proofs.Common.{refl, sym, ap, ◌∙◌, append_assoc}
+use Rattle.std.proofs.Common.{refl, sym, ap, subst, ◌∙◌, append_assoc, add-one, take-append-drop}
 use Rattle.std.proofs.KnownBytes.{Appends-trans}
-use Rattle.streams.specs.Writing.{AppendsPart, AppendsAtMost}
+use Rattle.std.proofs.Math.Seq.{drop-cons}
+use Rattle.std.proofs.lemmas.Grind.{flat_map-append}
+use Rattle.streams.specs.Writing.{AppendsPart, AppendsAtMost, Wrote}
+use Rattle.streams.specs.declared.sink.WriteFailed.{WriteFailed}
 
 -- what is kept has grown by nothing
 pub Appends-kept : (a b c : Option (List ℕ)) (bytes : List ℕ) → Appends a b bytes → Keeps b c → Appends a c bytes
@@ -44,3 +48,33 @@ AppendsPart-more a b message more p = record {
 pub OnErr-of : {T E : Type 0} (r : Result T E) (P : Type 0) → P → OnErr r P
 OnErr-of (Ok x) P p = tt
 OnErr-of (Err e) P p = p
+
+-- where the first of two writes stops, so do both
+pub Wrote-stop : {S : Type 0} {taken : S → Option (List ℕ)} {has_failed : S → Bool} {a b : S} {e : WriteFailed} (r : Result (Unit {0}) WriteFailed)
+    (first more : List ℕ) → IsErr r → Wrote taken has_failed a b (Err e) first → Wrote taken has_failed a b r (first ++ more)
+Wrote-stop (Ok x) first more is w = cc
+Wrote-stop (Err e) first more is w = record { written = tt; not_failed = tt; part = AppendsPart-more _ _ first more w.part; failed = w.failed }
+
+-- where it does not, the second says how both end
+pub Wrote-then : {S : Type 0} {taken : S → Option (List ℕ)} {has_failed : S → Bool} {a b c : S} (r : Result (Unit {0}) WriteFailed) (first more : List ℕ)
+    → Appends (taken a) (taken b) first → Wrote taken has_failed b c r more → Wrote taken has_failed a c r (first ++ more)
+Wrote-then (Ok x) first more before w = record { written = Appends-trans _ _ _ first more before w.written; not_failed = w.not_failed; part = tt; failed = tt }
+Wrote-then (Err e) first more before w = record { written = tt; not_failed = tt; part = AppendsPart-after _ _ _ first more before w.part; failed = w.failed }
+
+-- the lines before one, that line, and those after it
+pub lines_around : {X : Type 0} (line : X → List ℕ) (xs : List X) (k : ℕ) (d : X) → k < length xs
+    → flat_map line xs ≡ flat_map line (take k xs) ++ (line (get_or xs k d) ++ flat_map line (drop (k + 1) xs))
+lines_around {X} line xs k d within =
+    let parts : xs ≡ take k xs ++ get_or xs k d ∷ drop (k + 1) xs =
+    sym (take-append-drop k xs)
+    ∙ ap (λ (rest : List X). take k xs ++ rest) (drop-cons xs k d within ∙ ap (λ j. get_or xs k d ∷ drop j xs) (sym (add-one k))) in
+    ap (flat_map line) parts ∙ flat_map-append line (take k xs) (get_or xs k d ∷ drop (k + 1) xs)
+
+-- where the write of a line stops, after the lines before it, so does that of all lines
+pub Wrote-line : {S X : Type 0} {taken : S → Option (List ℕ)} {has_failed : S → Bool} {a b c : S} {e : WriteFailed} (r : Result (Unit {0}) WriteFailed)
+    (line : X → List ℕ) (xs : List X) (k : ℕ) (d : X) → k < length xs → IsErr r → Appends (taken a) (taken b) (flat_map line (take k xs))
+    → Wrote taken has_failed b c (Err e) (line (get_or xs k d)) → Wrote taken has_failed a c r (flat_map line xs)
+Wrote-line r line xs k d within is before w =
+    subst (Wrote _ _ _ _ _) (sym (lines_around line xs k d within))
+    (Wrote-then r (flat_map line (take k xs)) (line (get_or xs k d) ++ flat_map line (drop (k + 1) xs)) before
+    (Wrote-stop r (line (get_or xs k d)) (flat_map line (drop (k + 1) xs)) is w))

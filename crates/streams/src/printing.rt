@@ -1,11 +1,10 @@
 //! Writing ids, a line for each.
 
-ghost use Rattle.std.specs.Prelude.{◌≡◌, ◌≤◌, false, true, map, length, take, OnOk, OnErr};
-ghost use Rattle.std.specs.Io.KnownBytes.{Appends};
+ghost use Rattle.std.specs.Prelude.{◌≡◌, ◌≤◌, false, map, length, take};
 ghost use Rattle.gix_hash.specs.ObjectId.{id_digits};
 ghost use Rattle.gix_hash.specs.Alphabet.{letter_of};
 ghost use Rattle.streams.specs.Printing.{line_of, printed};
-ghost use Rattle.streams.specs.Writing.{AppendsPart};
+ghost use Rattle.streams.specs.Writing.{Wrote};
 
 use crate::{Sink, WriteFailed, write_all};
 use gix_hash::{Alphabet, ObjectId};
@@ -22,12 +21,8 @@ pub fn write_ids<W: Sink>(
     out: &mut W,
 ) -> Result<(), WriteFailed>
     requires { W.has_failed out.old ≡ false }
-    ensures written { OnOk result (Appends (W.taken out.old) (W.taken out.new)
-        (printed (letter_of alphabet) (map id_digits ids.now))) }
-    ensures not_failed { OnOk result (W.has_failed out.new ≡ false) }
-    ensures part { OnErr result (AppendsPart (W.taken out.old) (W.taken out.new)
-        (printed (letter_of alphabet) (map id_digits ids.now))) }
-    ensures failed { OnErr result (W.has_failed out.new ≡ true) }
+    ensures { Wrote W.taken W.has_failed out.old out.new result
+        (printed (letter_of alphabet) (map id_digits ids.now)) }
 {
     for id in ids {
         write_id(alphabet, id, out)?;
@@ -38,12 +33,8 @@ pub fn write_ids<W: Sink>(
 /// Writes the line of an id: its digits and a line feed.
 pub fn write_id<W: Sink>(alphabet: Alphabet, id: &ObjectId, out: &mut W) -> Result<(), WriteFailed>
     requires { W.has_failed out.old ≡ false }
-    ensures written { OnOk result (Appends (W.taken out.old) (W.taken out.new)
-        (line_of (letter_of alphabet) (id_digits id.now))) }
-    ensures not_failed { OnOk result (W.has_failed out.new ≡ false) }
-    ensures part { OnErr result (AppendsPart (W.taken out.old) (W.taken out.new)
-        (line_of (letter_of alphabet) (id_digits id.now))) }
-    ensures failed { OnErr result (W.has_failed out.new ≡ true) }
+    ensures { Wrote W.taken W.has_failed out.old out.new result
+        (line_of (letter_of alphabet) (id_digits id.now)) }
 {
     let mut line = [0; MAX_LINE_LEN];
     let len = put_id_line(alphabet, id, &mut line);

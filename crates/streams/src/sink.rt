@@ -1,9 +1,9 @@
 //! Writers whose failures a contract can name.
 
-ghost use Rattle.std.specs.Prelude.{◌≡◌, ◌||◌, [], false, true, is_err, OnOk, OnErr};
+ghost use Rattle.std.specs.Prelude.{◌≡◌, ◌||◌, [], false, is_err, OnOk};
 ghost use Rattle.std.specs.Io.{WritesAtMost};
-ghost use Rattle.std.specs.Io.KnownBytes.{Appends, WriteAppends};
-ghost use Rattle.streams.specs.Writing.{write_fails, AppendsPart};
+ghost use Rattle.std.specs.Io.KnownBytes.{WriteAppends};
+ghost use Rattle.streams.specs.Writing.{write_fails, Wrote};
 
 use std::io;
 
@@ -69,10 +69,7 @@ pub struct WriteFailed;
 /// Writes all of the bytes, by as many writes as needed, and stops at the first that fails.
 pub fn write_all<W: Sink>(out: &mut W, bytes: &[u8]) -> Result<(), WriteFailed>
     requires { W.has_failed out.old ≡ false }
-    ensures written { OnOk result (Appends (W.taken out.old) (W.taken out.new) bytes.now) }
-    ensures not_failed { OnOk result (W.has_failed out.new ≡ false) }
-    ensures part { OnErr result (AppendsPart (W.taken out.old) (W.taken out.new) bytes.now) }
-    ensures failed { OnErr result (W.has_failed out.new ≡ true) }
+    ensures { Wrote W.taken W.has_failed out.old out.new result bytes.now }
 {
     let mut at = 0;
     while at < bytes.len() {

@@ -1,12 +1,9 @@
-use Rattle.streams.proofs.WritingLemmas.{AppendsPart-after, AppendsPart-more, OnErr-of}
+use Rattle.streams.proofs.WritingLemmas.{Wrote-stop, Wrote-then}
 use Rattle.packtool_commands.specs.Escaping.{escaped}
-use Rattle.packtool_commands.proofs.LineLemmas.{on_err}
 use Rattle.packtool_commands.proofs.escaping.write_before.Goals as goal
 
-pub returns-in_err-write_escaped-clause-part : goal.returns-in_err-write_escaped-clause-part
-returns-in_err-write_escaped-clause-part g c =
-    OnErr-of _ _ (AppendsPart-more _ _ (escaped c.args.name.now) c.args.text.now c.in_err-write_escaped.ensures.part)
+pub returns-in_err-write_escaped : goal.returns-in_err-write_escaped
+returns-in_err-write_escaped g c = Wrote-stop _ (escaped c.args.name.now) _ c.from_residual.ensures.0 c.in_err-write_escaped.ensures
 
-pub returns-clause-part : goal.returns-clause-part
-returns-clause-part g c =
-    on_err _ _ _ (AppendsPart-after _ _ _ (escaped c.args.name.now) c.args.text.now c.in_ok-write_escaped.ensures.written) c.write_all.ensures.part
+pub returns : goal.returns
+returns g c = Wrote-then _ (escaped c.args.name.now) _ c.in_ok-write_escaped.ensures.written c.write_all.ensures

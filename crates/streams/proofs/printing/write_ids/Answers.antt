@@ -1,8 +1,17 @@
+use Rattle.std.proofs.Common.{subst, sym}
+use Rattle.std.specs.Io.KnownBytes.{Appends}
+use Rattle.std.proofs.lemmas.List.Folds.{flat_map-map}
 use Rattle.gix_hash.specs.Alphabet.{letter_of}
-use Rattle.streams.proofs.WritingLemmas.{OnErr-of}
-use Rattle.streams.proofs.PrintLemmas.{AppendsPart-id}
+use Rattle.gix_hash.specs.ObjectId.{id_digits}
+use Rattle.gix_hash.specs.declared.ObjectId.{ObjectId}
+use Rattle.streams.specs.Printing.{line_of}
+use Rattle.streams.specs.Writing.{Wrote}
+use Rattle.streams.proofs.WritingLemmas.{Wrote-line}
 use Rattle.streams.proofs.printing.write_ids.Goals as goal
 
-pub returns-in_err-write_id-clause-part : goal.returns-in_err-write_id-clause-part
-returns-in_err-write_id-clause-part g c =
-    OnErr-of _ _ (AppendsPart-id _ _ _ (letter_of c.args.alphabet) c.args.ids.now c.loop-id.id-index _ c.loop-id-test.true c.loop-id.invariant.0 c.in_err-write_id.ensures.part)
+pub returns-in_err-write_id : goal.returns-in_err-write_id
+returns-in_err-write_id g c =
+    let line = line_of (letter_of c.args.alphabet) in
+    subst (Wrote _ _ _ _ _) (sym (flat_map-map line id_digits c.args.ids.now))
+    (Wrote-line _ (λ (id : ObjectId). line (id_digits id)) c.args.ids.now c.loop-id.id-index _ c.loop-id-test.true c.from_residual.ensures.0
+    (subst (Appends _ _) (flat_map-map line id_digits _) c.loop-id.invariant.0) c.in_err-write_id.ensures)

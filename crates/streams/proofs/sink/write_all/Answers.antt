@@ -1,4 +1,4 @@
-use Rattle.std.proofs.Common.{arith}
+use Rattle.std.proofs.Common.{arith, rules}
 use Rattle.streams.proofs.Taking.{Appends-chunk, AppendsPart-take, AppendsPart-none, not_failed}
 use Rattle.streams.proofs.sink.write_all.Goals as goal
 
@@ -9,10 +9,18 @@ loop-at-preserved g c = (
   not_failed c.in-Ok.count _ _ _ c.if-count-eq0.false c.loop-at.invariant.2 c.in-Ok.ensures.failed,
 )
 
-pub returns-then-count-eq0-clause-part : goal.returns-then-count-eq0-clause-part
-returns-then-count-eq0-clause-part g c =
-    AppendsPart-none _ _ _ c.loop-at.at c.in-Ok.count c.args.bytes.now c.if-count-eq0.true c.loop-at-test.true c.loop-at.invariant.1 c.in-Ok.ensures.bytes
+pub returns-then-count-eq0 : goal.returns-then-count-eq0
+returns-then-count-eq0 g c = record {
+  written = tt;
+  not_failed = tt;
+  part = AppendsPart-none _ _ _ c.loop-at.at c.in-Ok.count c.args.bytes.now c.if-count-eq0.true c.loop-at-test.true c.loop-at.invariant.1 c.in-Ok.ensures.bytes;
+  failed = search rules;
+}
 
-pub returns-in_default-clause-part : goal.returns-in_default-clause-part
-returns-in_default-clause-part g c =
-    AppendsPart-take _ _ _ c.loop-at.at c.args.bytes.now c.loop-at-test.true c.loop-at.invariant.1 c.in_default.ensures.bytes
+pub returns-in_default : goal.returns-in_default
+returns-in_default g c = record {
+  written = tt;
+  not_failed = tt;
+  part = AppendsPart-take _ _ _ c.loop-at.at c.args.bytes.now c.loop-at-test.true c.loop-at.invariant.1 c.in_default.ensures.bytes;
+  failed = search rules;
+}
