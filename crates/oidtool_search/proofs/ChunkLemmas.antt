@@ -1,5 +1,5 @@
 -- What a list reader has taken, line by line.
-use Rattle.std.proofs.Common.{◌≡◌, ◌≢◌, ℕ, suc, ◌+◌, ◌-◌, ◌<◌, ◌≤◌, Bool, true, false, Option, Some, None, eqb-true, List, [], ◌∷◌, ◌++◌, length, take, drop, map, get_or, set, refl, arith, sym, ap, ◌∙◌, subst, append_assoc, append-nil, drop-cons, length-drop, length-take, get_or-drop, take-add, Result, Ok, Err}
+use Rattle.std.proofs.Common.{◌≡◌, ◌≢◌, ℕ, suc, ◌+◌, ◌-◌, ◌<◌, ◌≤◌, true, false, Option, Some, None, eqb-true, List, [], ◌∷◌, ◌++◌, length, take, drop, map, get_or, set, refl, arith, sym, ap, ◌∙◌, subst, append_assoc, append-nil, drop-cons, length-drop, length-take, get_or-drop, take-add, Result, Ok, Err}
 use Rattle.std.proofs.lemmas.Bool.Decides.{nat_tests}
 use Rattle.std.proofs.lemmas.List.{map-append, length-append, take_more_set, take_more, take_all, take-append-le, drop-drop}
 use Rattle.std.proofs.lemmas.List.Elements.{All-push, All-head, All-tail, All-nil, All-cons}
@@ -276,11 +276,11 @@ kept_long line kept len b size is same long =
 -- a line feed is no letter
 no_line_feed : (c d : ℕ) → digit_in hex_letter c ≡ Some d → is_line_feed c ≡ false
 unfolding digit_below
-no_line_feed c d found = by_test (is_line_feed c) refl
-  where
-    by_test : (feed : Bool) → is_line_feed c ≡ feed → feed ≡ false
-    by_test false is = refl
-    by_test true is = let none : digit_in hex_letter c ≡ None = rw (eqb-true c 10 is) refl in cc
+no_line_feed c d found =
+    elim (is_line_feed c) as (λ feed. is_line_feed c ≡ feed → feed ≡ false) [
+      | false ↦ λ is. refl
+      | true ↦ λ is. let none : digit_in hex_letter c ≡ None = rw (eqb-true c 10 is) refl in cc
+    ] refl
 
 -- so what reads as digits has none
 IsLine-read : (line ds : List ℕ) → digits_read hex_letter line ≡ Some ds → IsLine line

@@ -94,13 +94,9 @@ found_none search digits finder count refusal last least none = record {
   counted = count;
   in_order = refusal;
   is_last = λ _. rw last refl;
-  is_least = λ _. by_search search;
+  is_least = λ _. elim search as (λ s. IsLeast s finder.min_hex_len []) [ Sorted alphabet ↦ least | In kind ↦ tt ];
   are_found = λ _ _. rw none refl;
 }
-  where
-    by_search : (search : Search) → IsLeast search finder.min_hex_len []
-    by_search (Sorted alphabet) = least
-    by_search (In kind) = tt
 
 -- one part more
 module _ {A : Type 0} (search : Search) (digits : List ℕ) (ids : List (List ℕ)) (old new : Finder A) (h : HasFound search digits ids old)

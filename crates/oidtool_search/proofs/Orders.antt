@@ -217,11 +217,11 @@ IsOrder search n ids None = IsUpTo search (length ids) ids
 IsOrder search n ids (Some error) = (at : ℕ) × (why : ℕ → SearchError) × (error ≡ why (n + at)) × IsBadAt search ids at why
 
 pub order_is : (search : Search) (n : ℕ) (ids : List (List ℕ)) → IsOrder search n ids (first_refused search None n ids)
-order_is search n ids = by_error (first_refused search None n ids) (is_first search None n ids)
-  where
-    by_error : (error : Option SearchError) → IsFirst search None n ids error → IsOrder search n ids error
-    by_error None order = up_to search ids (length ids) (omega arith) order
-    by_error (Some error) (at, why, within, before, here, is) = (at, why, is, bad_at search ids at why within before here)
+order_is search n ids =
+    elim (first_refused search None n ids) as (λ error. IsFirst search None n ids error → IsOrder search n ids error) [
+      | None ↦ λ order. up_to search ids (length ids) (omega arith) order
+      | Some error ↦ λ h. (h.0, h.1, h.5, bad_at search ids h.0 h.1 h.2 h.3 h.4)
+    ] (is_first search None n ids)
 
 -- the first of a part may be refused for the id before it; else the part is in order if it is by itself
 late_first : (search : Search) (last : Option (List ℕ)) (n : ℕ) (ids : List (List ℕ))
@@ -229,12 +229,10 @@ late_first : (search : Search) (last : Option (List ℕ)) (n : ℕ) (ids : List 
 unfolding first_refused
 late_first search None n ids = refl
 late_first search (Some last) n [] = refl
-late_first (Sorted alphabet) (Some last) n (id ∷ ids) = by_test (is_below id last)
-  where
-    by_test : (b : Bool) → option_or (option_map (λ why. why n) (if b then Some Unsorted else None)) (first_refused (Sorted alphabet) (Some id) (n + 1) ids)
-        ≡ option_or (if b then Some (Unsorted n) else None) (first_refused (Sorted alphabet) (Some id) (n + 1) ids)
-    by_test true = refl
-    by_test false = refl
+late_first (Sorted alphabet) (Some last) n (id ∷ ids) =
+    let more = first_refused (Sorted alphabet) (Some id) (n + 1) ids in
+    elim (is_below id last) as (λ b. option_or (option_map (λ why. why n) (if b then Some Unsorted else None)) more ≡ option_or (if b then Some (Unsorted n) else None) more)
+    [ true ↦ refl | false ↦ refl ]
 late_first (In kind) (Some last) n (id ∷ ids) = by_tests (length id == hex_len_of kind) (is_below last id) (first_refused (In kind) (Some id) (n + 1) ids)
   where
     by_tests : (right above : Bool) (more : Option SearchError)

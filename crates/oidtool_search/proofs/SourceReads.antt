@@ -1,7 +1,7 @@
 -- The bytes of a source that a list reader has taken, read by read.
-use Rattle.std.proofs.Common.{◌≡◌, ◌≢◌, ◌||◌, Bool, false, ℕ, ◌+◌, ◌<◌, ◌≤◌, inl, inr, Option, Some, None, List, [], ◌∷◌, ◌++◌, length, take, drop, refl, sym, ap, ◌∙◌, subst, arith, append_assoc, length-append, length-take, length-drop, take-append-drop, append-nil}
+use Rattle.std.proofs.Common.{◌≡◌, ◌≢◌, ◌||◌, Bool, false, ℕ, ◌+◌, ◌<◌, ◌≤◌, inl, inr, Option, List, [], ◌∷◌, ◌++◌, length, take, drop, refl, sym, ap, ◌∙◌, subst, arith, append_assoc, length-append, length-take, length-drop, take-append-drop, append-nil}
 use Rattle.std.proofs.lemmas.List.{take-take}
-use Rattle.std.proofs.KnownBytes.{Consumes-trans, Consumes-kept}
+use Rattle.std.proofs.KnownBytes.{Consumes-nil, Consumes-trans, Consumes-kept}
 use Rattle.std.specs.Io.KnownBytes.{Consumes, Keeps, IsAtEnd}
 use Rattle.std.proofs.Math.Seq.{take-append_seam}
 use Rattle.gix_hash.specs.declared.ObjectId.{ObjectId}
@@ -23,11 +23,7 @@ some_length (x ∷ bytes) some = omega arith
 -- which is nothing before the first read
 pub none_taken : (most : ℕ) (ids : List ObjectId) (kept : List ℕ) (len : ℕ) (source : Option (List ℕ)) → HasTaken ids kept len []
     → IsTaken most ids kept len most source source
-none_taken most ids kept len source taken = record { text = []; gives = by_source source; taken = taken; limit = omega arith }
-  where
-    by_source : (source : Option (List ℕ)) → Consumes source source []
-    by_source None = tt
-    by_source (Some bytes) = refl
+none_taken most ids kept len source taken = record { text = []; gives = Consumes-nil source; taken = taken; limit = omega arith }
 
 -- one read more
 module _ (most : ℕ) (ids : List ObjectId) (kept : List ℕ) (len room : ℕ) (old now new : Option (List ℕ)) (t : IsTaken most ids kept len room old now) where
