@@ -56,19 +56,19 @@ pack_at {kind} {packs} {given} {at} {pack} value kinds less here =
     record { low = low; is = is; of_kind = ap (λ (p : LazyIndex). p.kind) is ∙ kinds at pack low }
 
 -- the pack index at a position has what is asked for, as those before it, or is the first that has not
-module _ (Has : Kind → List ℕ → Type 0) (HasFault : Kind → List ℕ → LazyError → Type 0) {kind : Kind} {packs : List LazyIndex} {at : ℕ} {pack : LazyIndex}
+module _ (Has : Kind → List ℕ → Type 0) (HasFault : Kind → Bool → List ℕ → LazyError → Type 0) {kind : Kind} {packs : List LazyIndex} {at : ℕ} {pack : LazyIndex}
     (here : IsPackAt kind packs at pack) (before : All (IfKnown (Has kind)) (take at packs)) where
   pub have_more : IfKnown (Has pack.kind) pack → All (IfKnown (Has kind)) (take (at + 1) packs)
   have_more has =
       All-more (IfKnown (Has kind)) packs at pack here.low before
       (subst (IfKnown (Has kind)) here.is (λ bytes known. subst (λ (k : Kind). Has k bytes) here.of_kind (has bytes known)))
 
-  pub fault_at : (e : LazyError) → IfKnown (λ bytes. HasFault pack.kind bytes e) pack → IsFirstFault (Has kind) (HasFault kind) packs (Index at e)
+  pub fault_at : (e : LazyError) → IfKnown (λ bytes. HasFault pack.kind pack.can_fail bytes e) pack → IsFirstFault (Has kind) (HasFault kind) packs (Index at e)
   fault_at e why = (
     pack,
     slice_get-get_or packs at pack here.low ∙ ap Some (sym here.is),
     before,
-    λ bytes known. subst (λ (k : Kind). HasFault k bytes e) here.of_kind (why bytes known),
+    λ bytes known. subst (λ (k : Kind). HasFault k pack.can_fail bytes e) here.of_kind (why bytes known),
   )
 
 -- all of them have it
@@ -86,31 +86,35 @@ held kind packs loose whole p packed gathered part h from_packs all index =
     part_is kind p (names ++ loose) whole part h.all (subst (λ (ids : List (List ℕ)). IsIndexOf kind ids part) here index)
 
 -- a store whose pack indexes are ones has no fault
-no_first_fault : (Has : List ℕ → Type 0) (HasFault : List ℕ → LazyError → Type 0) (kind : Kind) (packs : List LazyIndex) (loose whole : List (List ℕ))
-    (e : Error) → ((bytes : List ℕ) (why : LazyError) → IsPackIndex kind bytes → HasFault bytes why → lazy.IsReadOrMemory why)
-    → Holds kind packs loose whole → IsFirstFault Has HasFault packs e → IsIndexReadOrMemory e
+no_first_fault : (Has : List ℕ → Type 0) (HasFault : Bool → List ℕ → LazyError → Type 0) (kind : Kind) (packs : List LazyIndex) (loose whole : List (List ℕ))
+    (e : Error) → ((can_fail : Bool) (bytes : List ℕ) (why : LazyError) → IsPackIndex kind bytes → HasFault can_fail bytes why → lazy.IsReadOrMemory can_fail why)
+    → Holds kind packs loose whole → IsFirstFault Has HasFault packs e → IsIndexReadOrMemory packs e
 no_first_fault Has HasFault kind packs loose whole (Index at error) no_fault h fault =
     let content : LazyIndex → Option (List ℕ) = λ p. p.content in
     let pack = fault.0 in
     let low : at < length packs = slice_get_within packs at pack fault.1 in
     let inside : at < length h.indexes = omega (arith, low, as_many content packs h.indexes h.known) in
-    let known = known_at content packs h.indexes h.known at pack low in
-    no_fault (get_or h.indexes at []) error (h.are_indexes at [] inside)
-    (fault.3 (get_or h.indexes at []) (ap content (sym (get_or_from_slice_get packs at pack pack fault.1)) ∙ known))
+    let known = known_at content packs h.indexes h.known at pack low in (
+      pack,
+      fault.1,
+      no_fault pack.can_fail (get_or h.indexes at []) error (h.are_indexes at [] inside)
+          (fault.3 (get_or h.indexes at []) (ap content (sym (get_or_from_slice_get packs at pack pack fault.1)) ∙ known)),
+    )
 no_first_fault Has HasFault kind packs loose whole (Memory error) no_fault h fault = tt
 
 pub no_store_fault : (kind : Kind) (packs : List LazyIndex) (loose whole : List (List ℕ)) (byte : ℕ) (e : Error)
-    → Holds kind packs loose whole → IsStoreFault kind packs byte e → IsIndexReadOrMemory e
+    → Holds kind packs loose whole → IsStoreFault kind packs byte e → IsIndexReadOrMemory packs e
 no_store_fault kind packs loose whole byte e =
-    no_first_fault (λ bytes. HasBucket kind bytes byte) (λ bytes why. IsBucketFault kind bytes byte why) kind packs loose whole e
-    (λ bytes. no_bucket_fault kind bytes byte)
+    no_first_fault (λ bytes. HasBucket kind bytes byte) (λ can_fail bytes why. IsBucketFault can_fail kind bytes byte why) kind packs loose whole e
+    (λ can_fail bytes. no_bucket_fault can_fail kind bytes byte)
 
-no_place_fault : (kind : Kind) (bytes digits : List ℕ) (e : LazyError) → IsPackIndex kind bytes → IsPlaceFault kind bytes digits e → lazy.IsReadOrMemory e
-no_place_fault kind bytes digits (NoOffset at) index fault = fault.2 (index.offsets.in_table at (omega (arith, fault.0.inside, fault.1.to)))
-no_place_fault kind bytes digits e index fault = no_bucket_fault kind bytes (first_byte_of digits) e index fault
+no_place_fault : (can_fail : Bool) (kind : Kind) (bytes digits : List ℕ) (e : LazyError) → IsPackIndex kind bytes → IsPlaceFault can_fail kind bytes digits e
+    → lazy.IsReadOrMemory can_fail e
+no_place_fault can_fail kind bytes digits (NoOffset at) index fault = fault.2 (index.offsets.in_table at (omega (arith, fault.0.inside, fault.1.to)))
+no_place_fault can_fail kind bytes digits e index fault = no_bucket_fault can_fail kind bytes (first_byte_of digits) e index fault
 
 pub no_locate_fault : (kind : Kind) (packs : List LazyIndex) (loose whole : List (List ℕ)) (digits : List ℕ) (e : Error)
-    → Holds kind packs loose whole → IsLocateFault kind packs digits e → IsIndexReadOrMemory e
+    → Holds kind packs loose whole → IsLocateFault kind packs digits e → IsIndexReadOrMemory packs e
 no_locate_fault kind packs loose whole digits e =
-    no_first_fault (λ bytes. HasPlace kind bytes digits) (λ bytes why. IsPlaceFault kind bytes digits why) kind packs loose whole e
-    (λ bytes. no_place_fault kind bytes digits)
+    no_first_fault (λ bytes. HasPlace kind bytes digits) (λ can_fail bytes why. IsPlaceFault can_fail kind bytes digits why) kind packs loose whole e
+    (λ can_fail bytes. no_place_fault can_fail kind bytes digits)

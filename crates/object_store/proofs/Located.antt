@@ -1,5 +1,5 @@
 -- What was found in each pack index and among the loose ids are the places of the object.
-use Rattle.std.proofs.Common.{◌≡◌, ◌≢◌, ℕ, suc, ◌+◌, ◌<◌, ◌≤◌, true, ◌&&◌, ◌||◌, nat_eq, Option, None, Some, List, [], ◌∷◌, ◌++◌, length, get_or, map, refl, sym, ap, ◌∙◌, subst, arith, eq-eqb}
+use Rattle.std.proofs.Common.{◌≡◌, ◌≢◌, ℕ, suc, ◌+◌, ◌<◌, ◌≤◌, Bool, true, ◌&&◌, ◌||◌, nat_eq, Option, None, Some, List, [], ◌∷◌, ◌++◌, length, get_or, map, refl, sym, ap, ◌∙◌, subst, arith, eq-eqb}
 use Rattle.std.specs.Prelude.{◌↔◌}
 use Rattle.std.specs.Cmp.Lexicographic.{bytes_decides}
 use Rattle.std.specs.List.{All, list_any, position_or_len}
@@ -17,7 +17,7 @@ use Rattle.object_store.specs.declared.places.Place.{Place}
 use Rattle.object_store.proofs.Held.{IsPackAt, as_many, known_at}
 use Rattle.pack_index.specs.Firsts.{Each}
 use Rattle.pack_index.specs.Format.{HasCount, HasOffset, IsPackIndex, names_in, offset_in}
-use Rattle.pack_index.specs.Lazy.{HasBucket, IsBucketFault, IsFirstCounted, IsOffsetFault, LazyIndex}
+use Rattle.pack_index.specs.Lazy.{HasBucket, IsFirstCounted, IsOffsetFault, LazyIndex}
 use Rattle.pack_index.specs.declared.lazy_error.LazyError.{LazyError}
 use Rattle.pack_index.specs.declared.lazy_error.LazyError.TheVariants.{NoOffset, Read}
 use Rattle.pack_index.specs.Names.{IsFirstIndexOf}
@@ -53,14 +53,14 @@ module _ (kind : Kind) (bytes id : List ℕ) (bucket : HasBucket kind bytes (fir
       offset = λ n there. let same = (counted n).1 there in let at_n : at ≡ n = cc in subst (HasOffset kind bytes) at_n has;
     }
 
-    pub offset_fault : (e : LazyError) → IsOffsetFault kind bytes at e → IsPlaceFault kind bytes id e
-    offset_fault (Read e) fault = tt
-    offset_fault (NoOffset k) fault = (
+    pub offset_fault : (can_fail : Bool) (e : LazyError) → IsOffsetFault can_fail kind bytes at e → IsPlaceFault can_fail kind bytes id e
+    offset_fault can_fail (Read e) fault = fault
+    offset_fault can_fail (NoOffset k) fault = (
       bucket,
       (counted k).0 (ap Some (sym fault.0)),
       subst (λ n. ¬ HasOffset kind bytes n) (sym fault.0) fault.2,
     )
-    offset_fault _ fault = absurd fault
+    offset_fault can_fail _ fault = absurd fault
 
 -- one pack more
 pub place_more : (kind : Kind) (packs : List LazyIndex) (id : List ℕ) (at : ℕ) (pack : LazyIndex) (offset : Option ℕ) (old new : List Place) (indexes : List (List ℕ))

@@ -58,7 +58,7 @@ have_first kind packs byte n buckets kinds few within each k d low bytes known =
 pub are_of_kind : (kind : Kind) (packs : List LazyIndex) (byte : ℕ) (buckets : List BucketNames) → All (λ (p : LazyIndex). p.kind ≡ kind) packs
     → AreBuckets packs byte buckets → All (λ (b : BucketNames). b.kind ≡ kind) buckets
 are_of_kind kind packs byte buckets kinds are k b low =
-    let p : LazyIndex = record { kind = kind; count = 0; content = None } in
+    let p : LazyIndex = record { kind = kind; count = 0; content = None; can_fail = true } in
     (are.each k p b low).kind ∙ kinds k p (omega (arith, low, are.as_many))
 
 -- one bucket more was gathered
@@ -81,7 +81,7 @@ module _ (kind : Kind) (packs : List LazyIndex) (wanted : Wanted) (buckets : Lis
         let content : LazyIndex → _ = λ (p : LazyIndex). p.content in
         let f : BucketNames → List (List ℕ) = λ b. filter (passes wanted) b.names in
         let g : List ℕ → List (List ℕ) = λ bytes. filter (passes wanted) (names_in kind bytes) in
-        let p : LazyIndex = record { kind = kind; count = 0; content = None } in
+        let p : LazyIndex = record { kind = kind; count = 0; content = None; can_fail = true } in
         let b : BucketNames = record { kind = kind; start = 0; names = [] } in
         let bytes = get_or indexes n [] in
         let many = as_many content packs indexes same in

@@ -1,5 +1,5 @@
 -- What an object store holds. Each id is given by its digits.
-use Rattle.std.specs.Prelude.{◌≡◌, ℕ, ◌<◌, ◌++◌, All, List, [], Some, flat_map, length, map, slice_get, slice_index_or, take}
+use Rattle.std.specs.Prelude.{◌≡◌, ℕ, ◌<◌, ◌++◌, All, Bool, List, [], Some, flat_map, length, map, slice_get, slice_index_or, take}
 use Rattle.gix_hash.specs.Digits.{first_byte_of}
 use Rattle.gix_hash.specs.ObjectId.{id_kind}
 use Rattle.gix_hash.specs.declared.Kind.{Kind}
@@ -33,10 +33,12 @@ IsOfKind kind named = (id_kind named.id ≡ kind) × (named.name.kind ≡ kind)
 abbrev pub IfKnown : (List ℕ → Type 0) → LazyIndex → Type 0
 IfKnown P pack = (bytes : List ℕ) → pack.content ≡ Some bytes → P bytes
 
--- why a look-up fails that asks the pack indexes in order: the one at the index has the fault, and those before it have what is asked for
-abbrev pub IsFirstFault : (List ℕ → Type 0) → (List ℕ → LazyError → Type 0) → List LazyIndex → Error → Type 0
+-- why a look-up fails that asks the pack indexes in order: the one at the index has the fault, where a read of it may fail or not, and those before it
+-- have what is asked for
+abbrev pub IsFirstFault : (List ℕ → Type 0) → (Bool → List ℕ → LazyError → Type 0) → List LazyIndex → Error → Type 0
 IsFirstFault Has HasFault packs (Index at error) =
-    (pack : LazyIndex) × (slice_get packs at ≡ Some pack) × All (IfKnown Has) (take at packs) × IfKnown (λ bytes. HasFault bytes error) pack
+    (pack : LazyIndex) × (slice_get packs at ≡ Some pack) × All (IfKnown Has) (take at packs)
+    × IfKnown (λ bytes. HasFault pack.can_fail bytes error) pack
 IsFirstFault Has HasFault packs (Memory error) = Unit {0}
 
 -- the pack indexes have the names that are counted with a first byte
@@ -45,7 +47,8 @@ HaveBuckets kind packs byte = All (IfKnown (λ bytes. HasBucket kind bytes byte)
 
 -- why they are not read
 abbrev pub IsStoreFault : Kind → List LazyIndex → ℕ → Error → Type 0
-IsStoreFault kind packs byte error = IsFirstFault (λ bytes. HasBucket kind bytes byte) (λ bytes why. IsBucketFault kind bytes byte why) packs error
+IsStoreFault kind packs byte error =
+    IsFirstFault (λ bytes. HasBucket kind bytes byte) (λ can_fail bytes why. IsBucketFault can_fail kind bytes byte why) packs error
 
 -- a pack index has the names that are counted with the first byte of the id of these digits, and an offset if the id is one of them
 pub record HasPlace (kind : Kind) (bytes digits : List ℕ) : Type 0 where
@@ -53,19 +56,20 @@ pub record HasPlace (kind : Kind) (bytes digits : List ℕ) : Type 0 where
   pub offset : (at : ℕ) → IsFirstCounted kind bytes digits at → HasOffset kind bytes at
 
 -- why they are not read
-abbrev pub IsPlaceFault : Kind → List ℕ → List ℕ → LazyError → Type 0
-IsPlaceFault kind bytes digits (NoOffset at) =
+abbrev pub IsPlaceFault : Bool → Kind → List ℕ → List ℕ → LazyError → Type 0
+IsPlaceFault can_fail kind bytes digits (NoOffset at) =
     HasBucket kind bytes (first_byte_of digits) × IsFirstCounted kind bytes digits at × ¬ HasOffset kind bytes at
-IsPlaceFault kind bytes digits error = IsBucketFault kind bytes (first_byte_of digits) error
+IsPlaceFault can_fail kind bytes digits error = IsBucketFault can_fail kind bytes (first_byte_of digits) error
 
 -- the same of all pack indexes, as for a first byte
 abbrev pub HavePlaces : Kind → List LazyIndex → List ℕ → Type 0
 HavePlaces kind packs digits = All (IfKnown (λ bytes. HasPlace kind bytes digits)) packs
 
 abbrev pub IsLocateFault : Kind → List LazyIndex → List ℕ → Error → Type 0
-IsLocateFault kind packs digits error = IsFirstFault (λ bytes. HasPlace kind bytes digits) (λ bytes why. IsPlaceFault kind bytes digits why) packs error
+IsLocateFault kind packs digits error =
+    IsFirstFault (λ bytes. HasPlace kind bytes digits) (λ can_fail bytes why. IsPlaceFault can_fail kind bytes digits why) packs error
 
--- a read failed, or memory ran out
-abbrev pub IsIndexReadOrMemory : Error → Type 0
-IsIndexReadOrMemory (Index at error) = lazy.IsReadOrMemory error
-IsIndexReadOrMemory (Memory error) = Unit {0}
+-- a read failed that may, of the pack index at the index, or memory ran out
+abbrev pub IsIndexReadOrMemory : List LazyIndex → Error → Type 0
+IsIndexReadOrMemory packs (Index at error) = (pack : LazyIndex) × (slice_get packs at ≡ Some pack) × lazy.IsReadOrMemory pack.can_fail error
+IsIndexReadOrMemory packs (Memory error) = Unit {0}

@@ -9,15 +9,15 @@ ghost use Rattle.object_store.specs.declared.places.Place.TheVariants.{Packed, L
 ghost use Rattle.pack_index.specs.Lazy.{LazyIndex};
 
 /// If the bytes of a store are known and are those of pack indexes, then a look-up fails only
-/// because a read fails or memory runs out.
+/// because memory runs out, or a read fails of a pack index that is read from what may fail.
 pub fn failures()
     ensures buckets { (kind : Kind) (packs : List LazyIndex) (loose : List (List ℕ))
         (whole : List (List ℕ)) (byte : ℕ) (error : StoreError) → Holds kind packs loose whole
-        → IsStoreFault kind packs byte error → IsIndexReadOrMemory error }
+        → IsStoreFault kind packs byte error → IsIndexReadOrMemory packs error }
     ensures places { (kind : Kind) (packs : List LazyIndex) (loose : List (List ℕ))
         (whole : List (List ℕ)) (digits : List ℕ) (error : StoreError)
         → Holds kind packs loose whole → IsLocateFault kind packs digits error
-        → IsIndexReadOrMemory error }
+        → IsIndexReadOrMemory packs error }
 {}
 
 /// `locate` adds no place and leaves none out: an object is at an offset in a pack if and only if

@@ -163,7 +163,7 @@ fn packed_offset<S: ReadAt + Drop, A: Allocator>(
     ensures sound { IfOk result (λ _. (bytes : List ℕ) → index.now.content ≡ Some bytes
         → HasPlace index.now.kind bytes (id_digits id.now)) }
     ensures err { IfErr result (λ e. (bytes : List ℕ) → index.now.content ≡ Some bytes
-        → IsPlaceFault index.now.kind bytes (id_digits id.now) e) }
+        → IsPlaceFault index.now.can_fail index.now.kind bytes (id_digits id.now) e) }
 {
     match index.lookup(bucket, id.as_oid()) {
         Some(at) => Ok(Some(index.pack_offset_at_index(at)?)),

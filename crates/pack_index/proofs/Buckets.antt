@@ -1,5 +1,5 @@
 -- The names of a bucket, by its bytes.
-use Rattle.std.proofs.Common.{◌≡◌, true, ℕ, zero, suc, ◌+◌, ◌-◌, ◌*◌, ◌/◌, ◌<◌, ◌≤◌, List, [], ◌∷◌, length, get_or, slice_index, map, take, drop, refl, sym, ap, ◌∙◌, subst, arith}
+use Rattle.std.proofs.Common.{◌≡◌, Bool, true, ℕ, zero, suc, ◌+◌, ◌-◌, ◌*◌, ◌/◌, ◌<◌, ◌≤◌, List, [], ◌∷◌, length, get_or, slice_index, map, take, drop, refl, sym, ap, ◌∙◌, subst, arith}
 use Rattle.std.specs.Prelude.{slice_range, IsTrue}
 use Rattle.std.specs.List.{All, count_by}
 use Rattle.std.specs.Simd.{first_chunks}
@@ -162,10 +162,11 @@ module _ (kind : Kind) (bytes : List ℕ) (byte : ℕ) (index : IsPackIndex kind
       subst (λ (ids : List (List ℕ)). All (λ id. has_first_byte byte id ≡ true) ids) is (filter_passes (has_first_byte byte) (names_in kind bytes))
 
 -- a pack index has no fault
-pub no_bucket_fault : (kind : Kind) (bytes : List ℕ) (byte : ℕ) (e : LazyError) → IsPackIndex kind bytes → IsBucketFault kind bytes byte e → IsReadOrMemory e
-no_bucket_fault kind bytes byte (Read e) index fault = tt
-no_bucket_fault kind bytes byte (Memory e) index fault = tt
-no_bucket_fault kind bytes byte (CountsFall b) index fault = omega (arith, counts_rise kind bytes byte index fault.1, fault.2)
-no_bucket_fault kind bytes byte (CountTooHigh b) index fault = omega (arith, counts_inside kind bytes byte index fault.1, fault.3)
-no_bucket_fault kind bytes byte (WrongCount b) index fault = fault.4 (have_byte kind bytes byte index fault.1)
-no_bucket_fault kind bytes byte _ index fault = absurd fault
+pub no_bucket_fault : (can_fail : Bool) (kind : Kind) (bytes : List ℕ) (byte : ℕ) (e : LazyError) → IsPackIndex kind bytes → IsBucketFault can_fail kind bytes byte e
+    → IsReadOrMemory can_fail e
+no_bucket_fault can_fail kind bytes byte (Read e) index fault = fault
+no_bucket_fault can_fail kind bytes byte (Memory e) index fault = tt
+no_bucket_fault can_fail kind bytes byte (CountsFall b) index fault = omega (arith, counts_rise kind bytes byte index fault.1, fault.2)
+no_bucket_fault can_fail kind bytes byte (CountTooHigh b) index fault = omega (arith, counts_inside kind bytes byte index fault.1, fault.3)
+no_bucket_fault can_fail kind bytes byte (WrongCount b) index fault = fault.4 (have_byte kind bytes byte index fault.1)
+no_bucket_fault can_fail kind bytes byte _ index fault = absurd fault

@@ -1,11 +1,15 @@
 -- The numbers in the head of a pack index are those of all its bytes.
-use Rattle.std.proofs.Common.{◌≡◌, ℕ, zero, suc, ◌+◌, ◌-◌, ◌*◌, ◌<◌, ◌≤◌, List, [], ◌∷◌, length, get_or, take, drop, refl, sym, ap, ◌∙◌, arith, zero-add}
+use Rattle.std.proofs.Common.{◌≡◌, Bool, false, ℕ, zero, suc, ◌+◌, ◌-◌, ◌*◌, ◌<◌, ◌≤◌, List, [], ◌∷◌, length, get_or, take, drop, refl, sym, ap, ◌∙◌, arith, zero-add}
 use Rattle.std.specs.Int.{from_be_bytes, w32}
+use Rattle.std.proofs.lemmas.Bool.{false≢true}
 use Rattle.std.proofs.lemmas.List.{get_or-take, get_or-drop}
 use Rattle.gix_hash.specs.Kind.{byte_len_of}
 use Rattle.gix_hash.specs.declared.Kind.{Kind}
+use Rattle.gix_hash.specs.declared.Kind.TheVariants.{Sha1, Sha256}
 use Rattle.pack_index.specs.Format.{FillsBytes, HasHead, HasTables, count_in, counts_len, long_at, magic_number, min_len, names_at, offsets_at, word_at}
-use Rattle.pack_index.specs.Lazy.{bucket_start, bucket_end}
+use Rattle.pack_index.specs.Lazy.{IsHeadFault, bucket_start, bucket_end}
+use Rattle.pack_index.specs.declared.lazy_error.LazyError.{LazyError}
+use Rattle.pack_index.specs.declared.lazy_error.LazyError.TheVariants.{Read}
 use Rattle.pack_index.specs.Refusal.{version_1_len}
 use Rattle.streams.specs.ReadAt.{IsReadAt}
 
@@ -63,3 +67,13 @@ module _ (bytes head : List ℕ) (front : IsReadAt bytes 0 head) (long : length 
   pub version_1_in_head : (kind : Kind) → version_1_len kind head ≡ version_1_len kind bytes
   version_1_in_head kind =
       ap (λ n. counts_len + byte_len_of kind * n + 4 * n + 2 * byte_len_of kind) (head_word 1020 (omega arith))
+
+-- as many bytes as the smallest index has contain a head
+pub head_inside : (kind : Kind) (len : ℕ) → min_len kind ≤ len → 1032 ≤ len
+head_inside Sha1 len enough = omega arith
+head_inside Sha256 len enough = omega arith
+
+-- a fault of the bytes is one whether a read of them may fail or not
+pub head_fault : (can_fail : Bool) (kind : Kind) (bytes : List ℕ) (e : LazyError) → IsHeadFault false kind bytes e → IsHeadFault can_fail kind bytes e
+head_fault can_fail kind bytes (Read e) fault = absurd (false≢true fault)
+head_fault can_fail kind bytes _ fault = fault

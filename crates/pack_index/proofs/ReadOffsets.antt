@@ -2,8 +2,8 @@
 use Rattle.std.proofs.Common.{◌≡◌, ℕ, ◌+◌, ◌-◌, ◌*◌, ◌^◌, ◌<◌, ◌≤◌, List, length, sym, ap, ◌∙◌, arith}
 use Rattle.std.proofs.lemmas.Bool.{cond-false, cond-true, le-ltb, lt-ltb}
 use Rattle.gix_hash.specs.declared.Kind.{Kind}
-use Rattle.pack_index.specs.Format.{HasOffset, long_at, long_place, long_word, offset_in, offset_word, offsets_at, tables_end, word_at}
-use Rattle.pack_index.proofs.Heads.{offsets_in_head, word_within}
+use Rattle.pack_index.specs.Format.{HasOffset, HasTables, count_in, long_at, long_place, long_word, offset_in, offset_word, offsets_at, tables_end, word_at}
+use Rattle.pack_index.proofs.Heads.{head_count, offsets_in_head, word_within}
 use Rattle.streams.specs.ReadAt.{IsReadAt}
 
 -- the word that was read is that of the name
@@ -12,6 +12,12 @@ pub word_is : (kind : Kind) (bytes head short : List ℕ) (at from : ℕ) → Is
 word_is kind bytes head short at from front whole begins read four =
     let same : from + 0 ≡ offsets_at kind bytes + 4 * at = omega (arith, begins, offsets_in_head bytes head front whole kind) in
     word_within bytes from short read 0 (omega (arith, four)) ∙ ap (word_at bytes) same
+
+-- and it is in the bytes
+pub word_inside : (kind : Kind) (bytes head : List ℕ) (at from : ℕ) → IsReadAt bytes 0 head → length head ≡ 1032 → HasTables kind bytes → at < count_in head
+    → from ≡ offsets_at kind head + 4 * at → from + 4 ≤ length bytes
+word_inside kind bytes head at from front whole tables low begins =
+    omega (arith, low, begins, tables.fits, offsets_in_head bytes head front whole kind, head_count bytes head front whole)
 
 module _ (kind : Kind) (bytes : List ℕ) (at word : ℕ) (is : word ≡ offset_word kind bytes at) where
   pub has_short : word < long_word → HasOffset kind bytes at

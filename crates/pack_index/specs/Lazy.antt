@@ -1,5 +1,5 @@
 -- Pack indexes that are read at positions, and not whole.
-use Rattle.std.specs.Prelude.{◌≡◌, ◌≢◌, ℕ, zero, suc, ◌+◌, ◌*◌, ◌<◌, ◌≤◌, IsTrue, Option, Some, List, [], All, length, slice_index_or, slice_range}
+use Rattle.std.specs.Prelude.{◌≡◌, ◌≢◌, ℕ, zero, suc, ◌+◌, ◌*◌, ◌<◌, ◌≤◌, Bool, IsTrue, Option, Some, List, [], All, length, slice_index_or, slice_range}
 use Rattle.gix_hash.specs.Digits.{first_byte_of}
 use Rattle.gix_hash.specs.declared.Kind.{Kind}
 use Rattle.id_lookup.specs.FirstBytes.{has_first_byte}
@@ -10,11 +10,12 @@ use Rattle.pack_index.specs.Refusal.{other_than, version_1_len}
 use Rattle.pack_index.specs.declared.lazy_error.LazyError.{LazyError}
 use Rattle.pack_index.specs.declared.lazy_error.LazyError.TheVariants.{Read, Memory, TooShort, Version1, BadMagic, BadVersion, OtherKind, WrongLength, CountsFall, CountTooHigh, WrongCount, NoOffset}
 
--- what contracts see: the kind of the names, their number as the last count says, and all bytes if they are known
+-- what contracts see: the kind of the names, their number as the last count says, all bytes if they are known, and whether a read of them may fail
 pub record LazyIndex : Type 0 where
   pub kind : Kind
   pub count : ℕ
   pub content : Option (List ℕ)
+  pub can_fail : Bool
 
 -- how many names are counted before those with the first byte
 abbrev pub bucket_start : List ℕ → ℕ → ℕ
@@ -67,44 +68,39 @@ pub record IsFirstCounted (kind : Kind) (bytes digits : List ℕ) (at : ℕ) : T
   pub same : slice_index_or (names_in kind bytes) at [] ≡ digits
   pub first : (k : ℕ) → bucket_start bytes (first_byte_of digits) ≤ k → k < at → slice_index_or (names_in kind bytes) k [] ≢ digits
 
--- a read failed
-abbrev pub IsRead : LazyError → Type 0
-IsRead (Read e) = Unit {0}
-IsRead _ = ⊥
+-- a read failed that may, or memory ran out
+abbrev pub IsReadOrMemory : Bool → LazyError → Type 0
+IsReadOrMemory can_fail (Read e) = IsTrue can_fail
+IsReadOrMemory can_fail (Memory e) = Unit {0}
+IsReadOrMemory can_fail _ = ⊥
 
--- a read failed, or memory ran out
-abbrev pub IsReadOrMemory : LazyError → Type 0
-IsReadOrMemory (Read e) = Unit {0}
-IsReadOrMemory (Memory e) = Unit {0}
-IsReadOrMemory _ = ⊥
-
--- why bytes are not opened: the cause holds, and none before it
-abbrev pub IsHeadFault : Kind → List ℕ → LazyError → Type 0
-IsHeadFault kind bytes (Read e) = Unit {0}
-IsHeadFault kind bytes TooShort = length bytes < min_len kind
-IsHeadFault kind bytes Version1 = (min_len kind ≤ length bytes) × (word_at bytes 0 ≢ magic_number) × (length bytes ≡ version_1_len kind bytes)
-IsHeadFault kind bytes BadMagic = (min_len kind ≤ length bytes) × (word_at bytes 0 ≢ magic_number) × (length bytes ≢ version_1_len kind bytes)
-IsHeadFault kind bytes (BadVersion version) =
+-- why bytes are not opened, of which a read may fail or not: the cause holds, and none before it
+abbrev pub IsHeadFault : Bool → Kind → List ℕ → LazyError → Type 0
+IsHeadFault can_fail kind bytes (Read e) = IsTrue can_fail
+IsHeadFault can_fail kind bytes TooShort = length bytes < min_len kind
+IsHeadFault can_fail kind bytes Version1 = (min_len kind ≤ length bytes) × (word_at bytes 0 ≢ magic_number) × (length bytes ≡ version_1_len kind bytes)
+IsHeadFault can_fail kind bytes BadMagic = (min_len kind ≤ length bytes) × (word_at bytes 0 ≢ magic_number) × (length bytes ≢ version_1_len kind bytes)
+IsHeadFault can_fail kind bytes (BadVersion version) =
     (min_len kind ≤ length bytes) × (word_at bytes 0 ≡ magic_number) × (version ≡ word_at bytes 4) × (version ≢ 2)
-IsHeadFault kind bytes (OtherKind other) =
+IsHeadFault can_fail kind bytes (OtherKind other) =
     HasHead kind bytes × (¬ HasTables kind bytes) × (other ≡ other_than kind) × HasTables (other_than kind) bytes
-IsHeadFault kind bytes WrongLength = HasHead kind bytes × (¬ HasTables kind bytes) × ¬ HasTables (other_than kind) bytes
-IsHeadFault kind bytes _ = ⊥
+IsHeadFault can_fail kind bytes WrongLength = HasHead kind bytes × (¬ HasTables kind bytes) × ¬ HasTables (other_than kind) bytes
+IsHeadFault can_fail kind bytes _ = ⊥
 
 -- why the names that are counted with a first byte are not read: the cause holds of that byte, and none before it
-abbrev pub IsBucketFault : Kind → List ℕ → ℕ → LazyError → Type 0
-IsBucketFault kind bytes byte (Read e) = Unit {0}
-IsBucketFault kind bytes byte (Memory e) = Unit {0}
-IsBucketFault kind bytes byte (CountsFall b) = (b ≡ byte) × (byte < 256) × (bucket_end bytes byte < bucket_start bytes byte)
-IsBucketFault kind bytes byte (CountTooHigh b) =
+abbrev pub IsBucketFault : Bool → Kind → List ℕ → ℕ → LazyError → Type 0
+IsBucketFault can_fail kind bytes byte (Read e) = IsTrue can_fail
+IsBucketFault can_fail kind bytes byte (Memory e) = Unit {0}
+IsBucketFault can_fail kind bytes byte (CountsFall b) = (b ≡ byte) × (byte < 256) × (bucket_end bytes byte < bucket_start bytes byte)
+IsBucketFault can_fail kind bytes byte (CountTooHigh b) =
     (b ≡ byte) × (byte < 256) × (bucket_start bytes byte ≤ bucket_end bytes byte) × (count_in bytes < bucket_end bytes byte)
-IsBucketFault kind bytes byte (WrongCount b) =
+IsBucketFault can_fail kind bytes byte (WrongCount b) =
     (b ≡ byte) × (byte < 256) × (bucket_start bytes byte ≤ bucket_end bytes byte) × (bucket_end bytes byte ≤ count_in bytes)
     × ¬ HaveFirstByte byte (counted_with kind bytes byte)
-IsBucketFault kind bytes byte _ = ⊥
+IsBucketFault can_fail kind bytes byte _ = ⊥
 
 -- why the offset of the name at an index is not read
-abbrev pub IsOffsetFault : Kind → List ℕ → ℕ → LazyError → Type 0
-IsOffsetFault kind bytes at (Read e) = Unit {0}
-IsOffsetFault kind bytes at (NoOffset k) = (k ≡ at) × (at < count_in bytes) × ¬ HasOffset kind bytes at
-IsOffsetFault kind bytes at _ = ⊥
+abbrev pub IsOffsetFault : Bool → Kind → List ℕ → ℕ → LazyError → Type 0
+IsOffsetFault can_fail kind bytes at (Read e) = IsTrue can_fail
+IsOffsetFault can_fail kind bytes at (NoOffset k) = (k ≡ at) × (at < count_in bytes) × ¬ HasOffset kind bytes at
+IsOffsetFault can_fail kind bytes at _ = ⊥

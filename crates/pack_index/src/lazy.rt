@@ -1,6 +1,6 @@
 //! Pack indexes that are read at positions, and not whole.
 
-ghost use Rattle.std.specs.Prelude.{◌≡◌, ◌≢◌, ◌↔◌, ◌+◌, ◌-◌, ◌*◌, ◌<◌, ◌≤◌, ℕ, [], All, IfErr, IfOk, IfSome, IsTrue, List, MatchOption, OnOk, Some, length, map, slice_index_or};
+ghost use Rattle.std.specs.Prelude.{◌≡◌, ◌≢◌, ◌↔◌, ◌+◌, ◌-◌, ◌*◌, ◌<◌, ◌≤◌, ℕ, [], All, IfErr, IfOk, IfSome, IsTrue, List, MatchOption, OnOk, Some, false, length, map, slice_index_or};
 ghost use Rattle.gix_hash.specs.Digits.{first_byte_of};
 ghost use Rattle.gix_hash.specs.Kind.{byte_len_of};
 ghost use Rattle.gix_hash.specs.Oid.{oid_digits};
@@ -8,7 +8,7 @@ ghost use Rattle.id_lookup.specs.FirstBytes.{has_first_byte};
 ghost use Rattle.id_lookup.specs.IndexOf.{part_of};
 ghost use Rattle.pack_index.specs.Firsts.{Each};
 ghost use Rattle.pack_index.specs.Format.{HasCount, HasHead, HasOffset, HasTables, count_in, digests_in, magic_number, min_len, names_in, offset_in, offset_word, word_at};
-ghost use Rattle.pack_index.specs.Lazy.{HasBucket, HaveFirstByte, IsBucketFault, IsBucketOf, IsFirstCounted, IsHeadFault, IsOffsetFault, IsReadOrMemory, IsRead, bucket_end, bucket_start, counted_with};
+ghost use Rattle.pack_index.specs.Lazy.{HasBucket, HaveFirstByte, IsBucketFault, IsBucketOf, IsFirstCounted, IsHeadFault, IsOffsetFault, IsReadOrMemory, bucket_end, bucket_start, counted_with};
 ghost use Rattle.pack_index.specs.Names.{IsFirstIndexOf};
 ghost use Rattle.streams.specs.ReadAt.{IsReadAt};
 
@@ -57,6 +57,7 @@ impl<S: ReadAt> Model for LazyFile<S> {
       kind = file.kind;
       count = count_in file.head;
       content = S.content file.source;
+      can_fail = S.can_fail file.source;
     } };
 
     ghost invariant = { λ file. (bytes : List ℕ) → S.content file.source ≡ Some bytes
@@ -70,10 +71,11 @@ impl<S: ReadAt + Drop> LazyFile<S> {
     pub fn open(source: S, kind: Kind) -> Result<LazyFile<S>, LazyError>
         ensures kind { IfOk result (λ file. file.kind ≡ kind) }
         ensures content { IfOk result (λ file. file.content ≡ S.content source) }
+        ensures reads { IfOk result (λ file. file.can_fail ≡ S.can_fail source) }
         ensures head { IfOk result (λ file. (bytes : List ℕ) → S.content source ≡ Some bytes
             → HasHead kind bytes) }
         ensures err { IfErr result (λ e. (bytes : List ℕ) → S.content source ≡ Some bytes
-            → IsHeadFault kind bytes e) }
+            → IsHeadFault (S.can_fail source) kind bytes e) }
     {
         let len = source.len()?;
         if len < (COUNTS_LEN + 2 * kind.len_in_bytes()) as u64 {
@@ -116,7 +118,7 @@ impl<S: ReadAt + Drop> LazyFile<S> {
     pub fn bucket<A: Allocator>(&self, alloc: A, byte: u8) -> Result<Bucket<A>, LazyError>
         ensures bucket { IfOk result (IsBucketOf self.now byte) }
         ensures err { IfErr result (λ e. (bytes : List ℕ) → self.now.content ≡ Some bytes
-            → IsBucketFault self.now.kind bytes byte e) }
+            → IsBucketFault self.now.can_fail self.now.kind bytes byte e) }
     {
         // Its contract says how many names there are.
         let _count = self.num_objects();
@@ -160,7 +162,7 @@ impl<S: ReadAt + Drop> LazyFile<S> {
         ensures offset { IfOk result (λ offset. (bytes : List ℕ) → self.now.content ≡ Some bytes
             → offset ≡ offset_in self.now.kind bytes at) }
         ensures err { IfErr result (λ e. (bytes : List ℕ) → self.now.content ≡ Some bytes
-            → IsOffsetFault self.now.kind bytes at e) }
+            → IsOffsetFault self.now.can_fail self.now.kind bytes at e) }
     {
         let word = self.read_offset_word(at)?;
         if word < LONG {
@@ -177,9 +179,11 @@ impl<S: ReadAt + Drop> LazyFile<S> {
 
     // What the table of offsets has for the name at an index.
     fn read_offset_word(&self, at: u32) -> Result<u32, LazyError>
+        requires { at < self.now.count }
         ensures word { IfOk result (λ word. (bytes : List ℕ) → self.now.content ≡ Some bytes
             → word ≡ offset_word self.now.kind bytes at) }
-        ensures err { IfErr result IsRead }
+        ensures err { IfErr result (λ e. (bytes : List ℕ) → self.now.content ≡ Some bytes
+            → IsOffsetFault self.now.can_fail self.now.kind bytes at e) }
     {
         let mut word = [0; 4];
         let start = offsets_at(&self.head, self.kind) + 4 * at as usize;
@@ -196,7 +200,7 @@ impl<S: ReadAt + Drop> LazyFile<S> {
         ensures in_order { IfOk result (λ run. run.start ≤ run.end) }
         ensures inside { IfOk result (λ run. run.end ≤ self.now.count) }
         ensures err { IfErr result (λ e. (bytes : List ℕ) → self.now.content ≡ Some bytes
-            → IsBucketFault self.now.kind bytes byte e) }
+            → IsBucketFault self.now.can_fail self.now.kind bytes byte e) }
     {
         let run = counted_in(&self.head, byte, byte);
         if run.end < run.start {
@@ -234,7 +238,7 @@ impl<S: ReadAt + Drop> LazyFile<S> {
         ensures sound { IfOk result (λ _. (bytes : List ℕ) → self.now.content ≡ Some bytes
             → HasBucket self.now.kind bytes byte) }
         ensures err { IfErr result (λ e. (bytes : List ℕ) → self.now.content ≡ Some bytes
-            → IsBucketFault self.now.kind bytes byte e) }
+            → IsBucketFault self.now.can_fail self.now.kind bytes byte e) }
     {
         // The contracts of these calls say how many names there are, and of which kind.
         let _count = self.num_objects();
@@ -254,7 +258,8 @@ impl<S: ReadAt + Drop> LazyFile<S> {
             → IsReadAt bytes (1032 + byte_len_of self.now.kind * run.now.start) table.items) }
         ensures len { IfOk result (λ table. length table.items
             ≡ byte_len_of self.now.kind * (run.now.end - run.now.start)) }
-        ensures err { IfErr result IsReadOrMemory }
+        ensures err { IfErr result (λ e. (bytes : List ℕ) → self.now.content ≡ Some bytes
+            → IsReadOrMemory self.now.can_fail e) }
     {
         let _count = count_in(&self.head);
         let (at, len) = match self.kind {
@@ -277,7 +282,7 @@ fn check_head(head: &[u8], kind: Kind, len: u64) -> Result<(), LazyError>
     ensures tables { OnOk result ((bytes : List ℕ) → IsReadAt bytes 0 head.now
         → len ≡ length bytes → HasTables kind bytes) }
     ensures err { IfErr result (λ e. (bytes : List ℕ) → IsReadAt bytes 0 head.now
-        → len ≡ length bytes → IsHeadFault kind bytes e) }
+        → len ≡ length bytes → IsHeadFault false kind bytes e) }
 {
     let magic = word_at(head, 0);
     if magic != MAGIC {
@@ -298,7 +303,7 @@ fn bad_magic(head: &[u8], kind: Kind, len: u64) -> LazyError
     requires head { length head.now ≡ 1032 }
     requires enough { min_len kind ≤ len }
     ensures { (bytes : List ℕ) → IsReadAt bytes 0 head.now → len ≡ length bytes
-        → word_at bytes 0 ≢ magic_number → IsHeadFault kind bytes result }
+        → word_at bytes 0 ≢ magic_number → IsHeadFault false kind bytes result }
 {
     if len == version_1_len(head, kind) as u64 {
         LazyError::Version1
@@ -311,7 +316,7 @@ fn bad_magic(head: &[u8], kind: Kind, len: u64) -> LazyError
 fn wrong_length(head: &[u8], kind: Kind, len: u64) -> LazyError
     requires { length head.now ≡ 1032 }
     ensures { (bytes : List ℕ) → IsReadAt bytes 0 head.now → len ≡ length bytes
-        → HasHead kind bytes → ¬ HasTables kind bytes → IsHeadFault kind bytes result }
+        → HasHead kind bytes → ¬ HasTables kind bytes → IsHeadFault false kind bytes result }
 {
     let other = other_than(kind);
     let is_enough = len >= (COUNTS_LEN + 2 * other.len_in_bytes()) as u64;

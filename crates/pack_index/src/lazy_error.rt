@@ -1,6 +1,7 @@
 //! Why a pack index that is read at positions does not give what was asked.
 
-ghost use Rattle.pack_index.specs.Lazy.{IsReadOrMemory, IsRead};
+ghost use Rattle.std.specs.Prelude.{◌≡◌};
+ghost use Rattle.pack_index.specs.declared.lazy_error.LazyError.TheVariants as errors;
 
 use gix_hash::Kind;
 use std::alloc::AllocError;
@@ -17,7 +18,7 @@ use thiserror::Error as ThisError;
 /// ```
 #[derive(Debug, Drop, ThisError)]
 pub enum LazyError {
-    /// A read failed.
+    /// A read failed. No read of a slice does.
     #[error("the pack index cannot be read: {0}")]
     Read(io::Error),
     /// There is not enough memory.
@@ -59,7 +60,7 @@ pub enum LazyError {
 }
 
 impl From<io::Error> for LazyError {
-    ghost from_gives = { λ _ made. IsRead made };
+    ghost from_gives = { λ error made. made ≡ errors.Read error };
 
     fn from(error: io::Error) -> Self {
         LazyError::Read(error)
@@ -67,7 +68,7 @@ impl From<io::Error> for LazyError {
 }
 
 impl From<AllocError> for LazyError {
-    ghost from_gives = { λ _ made. IsReadOrMemory made };
+    ghost from_gives = { λ error made. made ≡ errors.Memory error };
 
     fn from(error: AllocError) -> Self {
         LazyError::Memory(error)

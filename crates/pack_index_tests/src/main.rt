@@ -2,8 +2,10 @@
 //!
 //! After each index come the runs of the sixteen prefixes of one digit; of each name the index at
 //! which it is found and its shortest name, or a dash if it occurs twice; and both checksums. Then
-//! come broken copies, each with the cause for which it is rejected.
+//! come broken copies, each with the cause for which it is rejected, and an index of many names.
 #![tactic(auto)]
+
+mod many_names;
 
 use gix_hash::{Kind, Prefix, digest_of};
 use pack_index::File;
@@ -99,7 +101,7 @@ fn main(rt: HostRuntime) -> io::Result<()> {
     for (name, kind) in OTHERS {
         print_cause(&rt, &fs::read(&rt, name)?, kind)?;
     }
-    Ok(())
+    many_names::print_last(&rt)
 }
 
 // What an index has.

@@ -43,9 +43,11 @@ pub struct Counted<'a> {
 }
 
 impl ReadAt for Counted<'_> {
-    ghost use Rattle.std.specs.Prelude.{None};
+    ghost use Rattle.std.specs.Prelude.{None, true};
 
     ghost content = { λ _. None };
+
+    ghost can_fail = { λ _. true };
 
     fn len(&self) -> io::Result<u64> {
         self.reads.read()?;

@@ -21,9 +21,11 @@ pub enum Source<R> {
 
 /// What a file contains is not known.
 impl<R: Files<File = File>> ReadAt for Source<R> {
-    ghost use Rattle.std.specs.Prelude.{None};
+    ghost use Rattle.std.specs.Prelude.{None, true};
 
     ghost content = { λ _. None };
+
+    ghost can_fail = { λ _. true };
 
     fn len(&self) -> io::Result<u64> {
         match self {

@@ -12,28 +12,37 @@ use std::os::unix::fs::FileExt;
 /// println!(rt; "{} bytes", idx.len()?)?;
 /// ```
 pub trait ReadAt {
-    ghost use Rattle.std.specs.Prelude.{◌≡◌, ℕ, List, Option, Some, OnOk, IfOk, length};
+    ghost use Rattle.std.specs.Prelude.{◌≡◌, ◌+◌, ◌≤◌, ℕ, Bool, List, Option, Some, OnErr, OnOk, IfOk, IsTrue, length};
     ghost use Rattle.streams.specs.ReadAt.{IsReadAt};
 
     /// All bytes, or `None`, which claims nothing.
     ghost content: { Self → Option (List ℕ) };
 
-    /// The number of bytes.
-    fn len(&self) -> io::Result<u64>
-        ensures { IfOk result (λ len. (bytes : List ℕ) → content self.now ≡ Some bytes
-            → len ≡ length bytes) };
+    /// Whether [`len`](ReadAt::len) may fail, and a read that does not go past the end.
+    ghost can_fail: { Self → Bool };
 
-    /// Fills the buffer with the bytes from a position on.
+    /// The number of bytes. Of a slice it never fails.
+    fn len(&self) -> io::Result<u64>
+        ensures len { IfOk result (λ len. (bytes : List ℕ) → content self.now ≡ Some bytes
+            → len ≡ length bytes) }
+        ensures err { OnErr result (IsTrue (can_fail self.now)) };
+
+    /// Fills the buffer with the bytes from a position on. Of a slice it fails only if that goes
+    /// past the end. After an error the buffer may have any bytes.
     fn read_exact_at(&self, buf: &mut [u8], at: u64) -> io::Result<()>
-        ensures { OnOk result ((bytes : List ℕ) → content self.now ≡ Some bytes
-            → IsReadAt bytes at buf.new) };
+        ensures bytes { OnOk result ((bytes : List ℕ) → content self.now ≡ Some bytes
+            → IsReadAt bytes at buf.new) }
+        ensures err { OnErr result ((bytes : List ℕ) → content self.now ≡ Some bytes
+            → at + length buf.old ≤ length bytes → IsTrue (can_fail self.now)) };
 }
 
-/// What a file contains is not known.
+/// What a file contains is not known, nor when a read fails.
 impl ReadAt for File {
-    ghost use Rattle.std.specs.Prelude.{None};
+    ghost use Rattle.std.specs.Prelude.{None, true};
 
     ghost content = { λ _. None };
+
+    ghost can_fail = { λ _. true };
 
     fn len(&self) -> io::Result<u64> {
         Ok(self.metadata()?.len())
@@ -46,9 +55,11 @@ impl ReadAt for File {
 
 /// A read of a slice fails only if it goes past the end.
 impl ReadAt for &[u8] {
-    ghost use Rattle.std.specs.Prelude.{Some};
+    ghost use Rattle.std.specs.Prelude.{Some, false};
 
     ghost content = { λ slice. Some slice.now };
+
+    ghost can_fail = { λ _. false };
 
     fn len(&self) -> io::Result<u64> {
         Ok(<[u8]>::len(self) as u64)

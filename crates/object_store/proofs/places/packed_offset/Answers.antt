@@ -19,7 +19,7 @@ returns-in_err-pack_offset_at_index-in-Some-clause-err g c =
     let p = err_from_is_err_and c.from_residual.result c.from_residual.ensures.1 in
     let bucket = rw (← c.as_oid.ensures.digits) at c.requires in
     rw (p.1, p.2, ← c.as_oid.ensures.digits) (λ bytes is.
-    offset_fault _ bytes _ (bucket.known bytes is).right c.in-Some.at (rw c.in-Some.is at (c.lookup.ensures.counted bytes is)) _
+    offset_fault _ bytes _ (bucket.known bytes is).right c.in-Some.at (rw c.in-Some.is at (c.lookup.ensures.counted bytes is)) _ _
     (c.in_err-pack_offset_at_index-in-Some.ensures.err bytes is))
 
 pub returns-in_ok-pack_offset_at_index-in-Some-clause-sound : goal.returns-in_ok-pack_offset_at_index-in-Some-clause-sound

@@ -13,7 +13,7 @@ loop-pack-init g c = (λ indexes same each. c.new-places.ensures.items, λ k d l
 pub returns-in-Err-clause-err : goal.returns-in-Err-clause-err
 returns-in-Err-clause-err g c =
     let here = pack_at c.indexes-packs.ensures.value c.indexes-packs.ensures.kinds c.loop-pack-test.true c.index-packs-pack.is in
-    fault_at (λ k bytes. HasPlace k bytes (id_digits c.args.id.now)) (λ k bytes why. IsPlaceFault k bytes (id_digits c.args.id.now) why) here c.loop-pack.invariant.1
+    fault_at (λ k bytes. HasPlace k bytes (id_digits c.args.id.now)) (λ k can_fail bytes why. IsPlaceFault can_fail k bytes (id_digits c.args.id.now) why) here c.loop-pack.invariant.1
     c.in-Err.error c.in-Err.ensures.err
 
 pub returns-clause-sound : goal.returns-clause-sound
@@ -27,6 +27,6 @@ loop-pack-preserved g c =
           place_more (g.S.Store.kind c.args.store.now) (g.S.Store.packs c.args.store.now) (id_digits c.args.id.now) c.loop-pack.pack c.index-packs-pack.result c.in-Ok.offset
           c.loop-pack.places.items c.push_packed.new.places.items indexes same each here c.in-Ok.ensures.offset (c.loop-pack.invariant.0 indexes same each)
           c.in_ok-push_packed.ensures,
-      have_more (λ k bytes. HasPlace k bytes (id_digits c.args.id.now)) (λ k bytes why. IsPlaceFault k bytes (id_digits c.args.id.now) why) here c.loop-pack.invariant.1
+      have_more (λ k bytes. HasPlace k bytes (id_digits c.args.id.now)) (λ k can_fail bytes why. IsPlaceFault can_fail k bytes (id_digits c.args.id.now) why) here c.loop-pack.invariant.1
           c.in-Ok.ensures.sound,
     )

@@ -13,7 +13,7 @@ loop-at-preserved g c =
 pub returns-in-Err-clause-err : goal.returns-in-Err-clause-err
 returns-in-Err-clause-err g c =
     let here = pack_at c.indexes-packs.ensures.value c.indexes-packs.ensures.kinds c.loop-at-test.true c.index-packs-at.is in
-    fault_at (λ k bytes. HasBucket k bytes c.args.byte) (λ k bytes why. IsBucketFault k bytes c.args.byte why) here
+    fault_at (λ k bytes. HasBucket k bytes c.args.byte) (λ k can_fail bytes why. IsBucketFault can_fail k bytes c.args.byte why) here
     (have_first (g.S.Store.kind c.args.store.now) (g.S.Store.packs c.args.store.now) c.args.byte c.loop-at.at c.loop-at.buckets.items c.indexes-packs.ensures.kinds
     (omega (arith, c.loop-at.invariant.0)) (omega (arith, here.low)) c.loop-at.invariant.1) c.in-Err.error c.in-Err.ensures.err
 

@@ -1,4 +1,6 @@
-use Rattle.std.proofs.Common.{◌≡◌, ◌∙◌, ℕ, ◌+◌, ◌-◌, ◌*◌, List, Some, length, refl, ap, arith, rules}
+use Rattle.std.proofs.Common.{◌≡◌, ◌∙◌, ℕ, ◌+◌, ◌-◌, ◌*◌, List, Some, length, refl, ap, subst, arith, rules}
+use Rattle.std.specs.Prelude.{IsTrue}
+use Rattle.std.proofs.lemmas.Result.{err_from_is_err_and}
 use Rattle.gix_hash.specs.declared.Kind.{Kind}
 use Rattle.pack_index.specs.Format.{long_at, long_word, tables_end}
 use Rattle.pack_index.specs.Lazy.{LazyIndex}
@@ -28,6 +30,14 @@ returns-then-start-self-clause-err g c = λ bytes is.
       no_long _ bytes c.args.at _ (c.in_ok-word.ensures.word bytes is) c.if-word-lt-LONG.false _ place.0 _ place.1 c.if-start-self.true,
     )
 
+pub returns-in_err-read_exact_at-clause-err : goal.returns-in_err-read_exact_at-clause-err
+returns-in_err-read_exact_at-clause-err g c =
+    let failed = err_from_is_err_and c.from_residual-in_err-read_exact_at.result c.from_residual-in_err-read_exact_at.ensures.1 in
+    rw (failed.1, failed.2) (λ bytes is.
+    let place = placed g (goal.at.returns-in_err-read_exact_at-clause-err g c).After-from-2 bytes is in
+    subst (λ (f : LazyIndex). IsTrue f.can_fail) c.self.view_is
+    (c.in_err-read_exact_at.ensures.err bytes (rw (← c.self.view_is) at is) (omega (arith, place.1, c.if-start-self.false))))
+
 pub returns-clause-has : goal.returns-clause-has
 returns-clause-has g c = λ bytes is.
     let place = placed g (goal.at.returns-clause-has g c).After-from-2 bytes is in
@@ -37,4 +47,4 @@ pub returns-clause-offset : goal.returns-clause-offset
 returns-clause-offset g c = λ bytes is.
     let place = placed g (goal.at.returns-clause-offset g c).After-from-2 bytes is in
     long_offset _ bytes c.args.at _ (c.in_ok-word.ensures.word bytes is) c.if-word-lt-LONG.false _ place.0 c.long_word_at.result c.read_exact_at.new.buf
-    (c.in_ok-read_exact_at.ensures bytes (rw (← c.self.view_is) at is)) (first_of (search rules, omega arith)) c.long_word_at.ensures
+    (c.in_ok-read_exact_at.ensures.bytes bytes (rw (← c.self.view_is) at is)) (first_of (search rules, omega arith)) c.long_word_at.ensures

@@ -1,0 +1,59 @@
+//! A pack index in memory of more names than 16 bits count, read at positions.
+
+use gix_hash::{Kind, ObjectId};
+use pack_index::{LazyError, LazyFile};
+use std::alloc::{AllocError, Global};
+use std::io;
+
+// All names have one first byte, and end in their indexes.
+const COUNT: u32 = 65_537;
+
+const FIRST_BYTE: u8 = 0x4b;
+
+const LAST: &[u8] = b"4b00000000000000000000000000000000010000";
+
+/// Prints where the index has its last name.
+pub fn print_last(rt: &(impl Print + AllocGlobal)) -> io::Result<()> {
+    let bytes = index_of_many(rt.alloc())?;
+    match find_last(rt.alloc(), &bytes) {
+        Ok(Some((at, offset))) => println!(rt; "of many names, the last is at {at}: {offset}"),
+        Ok(None) => println!(rt; "of many names, the last is not found"),
+        Err(error) => println!(rt; "of many names, none is found: {error}"),
+    }
+}
+
+// The index of the last name, and its offset.
+fn find_last(alloc: Global, bytes: &[u8]) -> Result<Option<(u32, u64)>, LazyError> {
+    let Ok(id) = ObjectId::from_hex(LAST) else {
+        return Ok(None);
+    };
+    let index = LazyFile::open(bytes, Kind::Sha1)?;
+    let bucket = index.bucket(alloc, id.first_byte())?;
+    match index.lookup(&bucket, id.as_oid()) {
+        Some(at) => Ok(Some((at, index.pack_offset_at_index(at)?))),
+        None => Ok(None),
+    }
+}
+
+// The bytes of the index. Its CRCs and digests are zeros.
+fn index_of_many(alloc: Global) -> Result<Vec<u8>, AllocError> {
+    let mut bytes = Vec::new(alloc);
+    bytes.extend_from_slice(b"\xfftOc\0\0\0\x02")?;
+    for byte in 0..=255 {
+        let count = if byte < FIRST_BYTE { 0 } else { COUNT };
+        bytes.extend_from_slice(&count.to_be_bytes())?;
+    }
+    for at in 0..COUNT {
+        bytes.push(FIRST_BYTE)?;
+        bytes.extend_from_slice(&[0; 15])?;
+        bytes.extend_from_slice(&at.to_be_bytes())?;
+    }
+    for _ in 0..COUNT {
+        bytes.extend_from_slice(&[0; 4])?;
+    }
+    for at in 0..COUNT {
+        bytes.extend_from_slice(&(at + 12).to_be_bytes())?;
+    }
+    bytes.extend_from_slice(&[0; 40])?;
+    Ok(bytes)
+}
