@@ -1,9 +1,9 @@
 //! Pack indexes and the packs beside them.
 
-ghost use Rattle.std.specs.Prelude.{◌≡◌, ◌≤◌, ℕ, List, Some, false, IfOk};
+ghost use Rattle.std.specs.Prelude.{◌≡◌, ◌≤◌, ℕ, List, Some, false, IfErr, IfOk, OnErr};
 ghost use Rattle.gix_hash.specs.declared.Kind.{Kind};
 ghost use Rattle.packtool_commands.specs.Escaping.{named};
-ghost use Rattle.packtool_commands.specs.Pairing.{IsDigest, IsPairing, last_digest_but, pairing_verdict};
+ghost use Rattle.packtool_commands.specs.Pairing.{IsDigest, IsOfWhatMayFail, IsPairing, MayFail, last_digest_but, pairing_verdict};
 ghost use Rattle.streams.specs.Writing.{Wrote};
 
 use crate::escaping::write_named;
@@ -55,17 +55,21 @@ pub enum PairingError {
 /// Whether a pack index of a kind belongs to a pack: whether the last digest but one of the index,
 /// which is that of its pack, is the one in which the pack ends.
 ///
-/// Nothing else is read, and neither digest is checked. An error is returned only if a read fails.
+/// Nothing else is read, and neither digest is checked. An error is returned only if a read of its
+/// file fails; if reads of both fail, it is that of the index.
 ///
 /// ```
 /// let pairing = pair(&idx, &pack, Kind::Sha1)?;
 /// println!(rt; "{}", matches!(pairing, Pairing::Same))?;
 /// ```
 pub fn pair<I: ReadAt, P: ReadAt>(index: &I, pack: &P, kind: Kind) -> Result<Pairing, PairingError>
-    ensures { IfOk result (λ pairing. (of_index of_pack : List ℕ)
+    ensures pairing { IfOk result (λ pairing. (of_index of_pack : List ℕ)
         → I.content index.now ≡ Some of_index → P.content pack.now ≡ Some of_pack
         → IsPairing kind (last_digest_but 1 kind of_index) (last_digest_but 0 kind of_pack)
         pairing) }
+    ensures err { IfErr result (IsOfWhatMayFail
+        (MayFail (I.content index.now) (I.can_fail index.now))
+        (MayFail (P.content pack.now) (P.can_fail pack.now))) }
 {
     match (
         last_digest_but(1, index, kind),
@@ -92,8 +96,9 @@ fn compared(named: Option<ObjectId>, found: Option<ObjectId>) -> Pairing
 // The last digest of a source but for the n after it, or `None` if it has fewer bytes.
 fn last_digest_but<S: ReadAt>(n: usize, source: &S, kind: Kind) -> io::Result<Option<ObjectId>>
     requires { n ≤ 1 }
-    ensures { IfOk result (λ found. (bytes : List ℕ) → S.content source.now ≡ Some bytes
+    ensures digest { IfOk result (λ found. (bytes : List ℕ) → S.content source.now ≡ Some bytes
         → IsDigest kind (last_digest_but n kind bytes) found) }
+    ensures err { OnErr result (MayFail (S.content source.now) (S.can_fail source.now)) }
 {
     let mut id = kind.null();
     let Some(at) = source
