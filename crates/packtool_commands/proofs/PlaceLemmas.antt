@@ -1,7 +1,7 @@
 -- The lines of places, one after the other.
-use Rattle.std.proofs.Common.{◌≡◌, ◌≢◌, ℕ, ◌+◌, ◌<◌, ◌≤◌, Bool, true, false, not, Option, List, [], ◌∷◌, ◌++◌, length, get_or, map, take, drop, sym, ap, subst, ◌∙◌, append_assoc, arith}
+use Rattle.std.proofs.Common.{◌≡◌, ◌≢◌, inr, ℕ, ◌+◌, ◌<◌, ◌≤◌, Bool, true, false, not, Option, List, [], ◌∷◌, ◌++◌, length, get_or, map, take, drop, sym, ap, subst, ◌∙◌, append_assoc, arith}
 use Rattle.std.specs.Prelude.{◌↔◌, IsTrue, nat_eq}
-use Rattle.std.specs.List.{All, flat_map}
+use Rattle.std.specs.List.{All, flat_map, starts_with}
 use Rattle.std.specs.Io.KnownBytes.{Appends}
 use Rattle.std.proofs.KnownBytes.{Appends-trans}
 use Rattle.std.proofs.lemmas.Bool.{eq-eqb, false≢true, ne_eqb}
@@ -16,9 +16,12 @@ use Rattle.gix_hash.specs.declared.ObjectId.{ObjectId}
 use Rattle.id_lookup.proofs.Beginnings.{first_byte_of-begins}
 use Rattle.id_lookup.proofs.Spelled.{starts_with-BeginsWith}
 use Rattle.object_store.specs.Parts.{HaveNames}
-use Rattle.object_store.specs.Stores.{HaveBuckets, HavePlaces}
+use Rattle.object_store.specs.Stores.{HaveBuckets, HavePlaces, IsLocateFault}
 use Rattle.pack_index.specs.Lazy.{HasBucket, LazyIndex}
-use Rattle.packtool_commands.specs.Places.{HaveAllPlaces}
+use Rattle.packtool_commands.specs.Finding.{IsFaultOf}
+use Rattle.packtool_commands.specs.Places.{HaveAllPlaces, IsPlacesFault}
+use Rattle.packtool_commands.specs.declared.error.StoreError.{StoreError}
+use Rattle.packtool_commands.specs.declared.error.StoreError.TheVariants.{Store, Output}
 
 -- the lines of texts are those of what has these texts
 pub same_lines : {X : Type 0} (line : List ℕ → List ℕ) (text : X → List ℕ) (xs : List X) (all : List (List ℕ)) → map text xs ≡ all
@@ -64,3 +67,9 @@ all_places kind packs digits ids names buckets two places id begins k d low byte
       let here = subst (HavePlaces kind packs) there.2 (all there.0 id there.1) in
       (here k d low bytes known).offset at counted;
 }
+
+-- where the places of one of the ids are at fault, those of all are
+pub places_fault : (kind : Kind) (packs : List LazyIndex) (digits id : List ℕ) (e : StoreError) → HaveBuckets kind packs (first_byte_of digits)
+    → IsTrue (starts_with nat_eq id digits) → IsFaultOf (IsLocateFault kind packs id) e → IsFaultOf (IsPlacesFault kind packs digits) e
+places_fault kind packs digits id (Store error) buckets begins fault = inr (buckets, id, begins, fault)
+places_fault kind packs digits id Output buckets begins fault = tt

@@ -5,7 +5,7 @@ use Rattle.std.specs.Io.KnownBytes.{Appends}
 use Rattle.gix_hash.specs.Digits.{first_byte_of, hex_letter, spelling}
 use Rattle.gix_hash.specs.declared.Kind.{Kind}
 use Rattle.object_store.specs.Places.{places_of}
-use Rattle.object_store.specs.Stores.{HavePlaces, IsLocateFault, IsStoreFault}
+use Rattle.object_store.specs.Stores.{HaveBuckets, HavePlaces, IsLocateFault, IsStoreFault}
 use Rattle.object_store.specs.declared.error.Error.{Error}
 use Rattle.object_store.specs.declared.error.Error.TheVariants.{Index, Memory}
 use Rattle.object_store.specs.declared.places.Place.{Place}
@@ -45,7 +45,9 @@ IsMemory (Memory error) = Unit {0}
 abbrev pub HaveAllPlaces : Kind → List LazyIndex → List ℕ → Type 0
 HaveAllPlaces kind packs digits = (id : List ℕ) → IsTrue (starts_with nat_eq id digits) → HavePlaces kind packs id
 
--- why the places of the ids that begin with the digits are not found: a look-up of the ids fails, or that of the places of one of them
+-- why the places of the ids that begin with the digits are not found: a look-up of the ids fails, or none of the names does, and that of the places of
+-- one of the ids
 abbrev pub IsPlacesFault : Kind → List LazyIndex → List ℕ → Error → Type 0
 IsPlacesFault kind packs digits error =
-    IsStoreFault kind packs (first_byte_of digits) error ⊎ ((id : List ℕ) × IsTrue (starts_with nat_eq id digits) × IsLocateFault kind packs id error)
+    IsStoreFault kind packs (first_byte_of digits) error
+    ⊎ (HaveBuckets kind packs (first_byte_of digits) × (id : List ℕ) × IsTrue (starts_with nat_eq id digits) × IsLocateFault kind packs id error)

@@ -3,6 +3,7 @@ use Rattle.std.specs.Prelude.{IsTrue}
 use Rattle.std.specs.List.{All, flat_map, starts_with}
 use Rattle.std.specs.Io.KnownBytes.{Appends}
 use Rattle.std.proofs.lemmas.List.{take_all}
+use Rattle.std.proofs.lemmas.Result.{err_from_is_err_and}
 use Rattle.std.proofs.lemmas.List.Elements.{All-more}
 use Rattle.streams.specs.Writing.{AppendsAtMost}
 use Rattle.gix_hash.specs.ObjectId.{id_digits}
@@ -15,7 +16,7 @@ use Rattle.object_store.specs.Stores.{HaveBuckets, HavePlaces}
 use Rattle.streams.proofs.WritingLemmas.{OnErr-of}
 use Rattle.packtool_commands.specs.Places.{lines_of_places}
 use Rattle.packtool_commands.proofs.NamedLemmas.{Appends-item}
-use Rattle.packtool_commands.proofs.PlaceLemmas.{AppendsAtMost-item, all_places, first_of_padded, has_texts, same_lines}
+use Rattle.packtool_commands.proofs.PlaceLemmas.{AppendsAtMost-item, all_places, first_of_padded, has_texts, places_fault, same_lines}
 use Rattle.packtool_commands.proofs.placing.locate.Goals as goal
 
 pub returns-in_err-write_places-clause-part : goal.returns-in_err-write_places-clause-part
@@ -27,6 +28,18 @@ returns-in_err-write_places-clause-part g c = λ whole h.
     (same_lines lines id_digits ids (matches c.args.prefix.now.digits whole) found)
     (AppendsAtMost-item _ _ _ (λ id. lines (id_digits id)) ids c.loop-id.id-index _ c.loop-id-test.true (c.loop-id.invariant.0 whole h)
     (c.in_err-write_places.ensures.lines whole h).1))
+
+pub returns-in_err-write_places-clause-refused : goal.returns-in_err-write_places-clause-refused
+returns-in_err-write_places-clause-refused g c =
+    let failed = err_from_is_err_and c.from_residual-in_err-write_places.result c.from_residual-in_err-write_places.ensures.1 in
+    let digits = c.args.prefix.now.digits in
+    let ids = c.deref-id-items.result.now in
+    let begin : All (λ (id : ObjectId). IsTrue (starts_with nat_eq (id_digits id) digits)) ids =
+    subst (All (λ (id : ObjectId). IsTrue (starts_with nat_eq (id_digits id) digits))) (sym c.deref-id-items.ensures.value) c.in_ok-ids.ensures.begin in
+    let byte = c.first_byte.ensures ∙ first_of_padded (oid_digits c.as_oid.result) digits _ c.as_oid.ensures.digits c.requires.enough in
+    rw (failed.1, failed.2)
+    (places_fault _ _ digits _ _ (subst (HaveBuckets (g.S.Store.kind c.args.store.now) (g.S.Store.packs c.args.store.now)) byte c.in_ok-part.ensures.sound)
+    (begin c.loop-id.id-index _ c.loop-id-test.true) c.in_err-write_places.ensures.refused)
 
 pub loop-id-preserved : goal.loop-id-preserved
 loop-id-preserved g c = (
