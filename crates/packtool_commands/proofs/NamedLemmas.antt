@@ -1,13 +1,13 @@
 -- The lines of the ids of a store with their names, a part after the other.
-use Rattle.std.proofs.Common.{◌≡◌, ◌≢◌, ℕ, ◌+◌, ◌<◌, Bool, Option, List, [], ◌∷◌, ◌++◌, length, get_or, map, take, refl, sym, ap, subst, ◌∙◌, ◌⊎◌, inl, inr, append-nil, zero-add}
+use Rattle.std.proofs.Common.{◌≡◌, ◌≢◌, ℕ, ◌+◌, ◌<◌, Bool, Option, List, [], ◌∷◌, ◌++◌, length, get_or, map, take, drop, refl, sym, ap, subst, ◌∙◌, ◌⊎◌, inl, inr, append-nil, take-append-drop, zero-add, arith}
 use Rattle.std.specs.Prelude.{◌↔◌, IsTrue}
 use Rattle.std.specs.List.{All, flat_map, range_with_len}
 use Rattle.std.specs.Io.KnownBytes.{Appends}
 use Rattle.std.proofs.KnownBytes.{Appends-trans}
 use Rattle.std.proofs.lemmas.Grind.{flat_map-append}
-use Rattle.std.proofs.lemmas.List.{map-append}
+use Rattle.std.proofs.lemmas.List.{map-append, map-id}
 use Rattle.std.proofs.lemmas.List.Folds.{flat_map-map}
-use Rattle.std.proofs.lemmas.List.FromFn.{map-range_with_len_more}
+use Rattle.std.proofs.lemmas.List.FromFn.{map-range_with_len_more, take-map-range_with_len}
 use Rattle.std.proofs.lemmas.List.Elements.{All-append}
 use Rattle.gix_hash.specs.ObjectId.{id_digits}
 use Rattle.id_lookup.specs.IndexOf.{part_of}
@@ -24,14 +24,22 @@ pub Appends-item : {X : Type 0} (a b c : Option (List ℕ)) (line : X → List �
 Appends-item a b c line xs k d within before last =
     subst (Appends a c) (sym (flat_map-take line xs k d within)) (Appends-trans a b c (flat_map line (take k xs)) (line (get_or xs k d)) before last)
 
--- one first byte more
-parts-more : (n : ℕ) (ids : List (List ℕ)) → parts_below (n + 1) ids ≡ parts_below n ids ++ part_of n ids
-parts-more n ids =
-    let part : ℕ → List (List ℕ) = λ byte. part_of byte ids in
-    let parts : (m : ℕ) → parts_below m ids ≡ flat_map (λ p. p) (map part (range_with_len 0 m)) = λ m. sym (flat_map-map (λ p. p) part (range_with_len 0 m)) in
-    parts (n + 1) ∙ ap (flat_map (λ p. p)) (map-range_with_len_more part 0 n n (zero-add n))
-    ∙ flat_map-append (λ p. p) (map part (range_with_len 0 n)) (part n ∷ []) ∙ ap (λ (front : List (List ℕ)). front ++ (part n ++ [])) (sym (parts n))
-    ∙ ap (λ (last : List (List ℕ)). parts_below n ids ++ last) (append-nil (part n))
+-- the lines at the indexes below n + 1
+pub lines-more : {X : Type 0} (line : ℕ → List X) (n : ℕ) → flat_map line (range_with_len 0 (n + 1)) ≡ flat_map line (range_with_len 0 n) ++ line n
+lines-more {X} line n =
+    let parts : (m : ℕ) → flat_map line (range_with_len 0 m) ≡ flat_map (λ l. l) (map line (range_with_len 0 m)) = λ m. sym (flat_map-map (λ l. l) line (range_with_len 0 m)) in
+    parts (n + 1) ∙ ap (flat_map (λ l. l)) (map-range_with_len_more line 0 n n (zero-add n))
+    ∙ flat_map-append (λ l. l) (map line (range_with_len 0 n)) (line n ∷ []) ∙ ap (λ (front : List X). front ++ (line n ++ [])) (sym (parts n))
+    ∙ ap (λ (last : List X). flat_map line (range_with_len 0 n) ++ last) (append-nil (line n))
+
+-- the lines before one, that line, and those after it
+pub lines-at : {X : Type 0} (line : ℕ → List X) (n k : ℕ) → k < n
+    → flat_map line (range_with_len 0 n) ≡ flat_map line (range_with_len 0 k) ++ line k ++ flat_map line (drop (k + 1) (range_with_len 0 n))
+lines-at {X} line n k within =
+    let after : List ℕ = drop (k + 1) (range_with_len 0 n) in
+    let front : take (k + 1) (range_with_len 0 n) ≡ range_with_len 0 (k + 1) = simp map-id at (take-map-range_with_len (λ (i : ℕ). i) 0 n (k + 1) (omega arith)) in
+    ap (flat_map line) (sym (take-append-drop (k + 1) (range_with_len 0 n)) ∙ ap (λ (indexes : List ℕ). indexes ++ after) front)
+    ∙ flat_map-append line (range_with_len 0 (k + 1)) after ∙ ap (λ (lines : List X). lines ++ flat_map line after) (lines-more line k)
 
 -- the ids with one first byte more have their names
 pub named_below_more : (n least : ℕ) (whole : List (List ℕ)) (named more : List NamedId) → AreNamedBelow n least whole named
@@ -39,7 +47,7 @@ pub named_below_more : (n least : ℕ) (whole : List (List ℕ)) (named more : L
     → AreNamedBelow (n + 1) least whole (named ++ more)
 named_below_more n least whole named more before ids names = record {
   ids = map-append (λ (m : NamedId). id_digits m.id) named more ∙ ap (λ (front : List (List ℕ)). front ++ map (λ (m : NamedId). id_digits m.id) more) before.ids
-      ∙ ap (λ (last : List (List ℕ)). parts_below n whole ++ last) ids ∙ sym (parts-more n whole);
+      ∙ ap (λ (last : List (List ℕ)). parts_below n whole ++ last) ids ∙ sym (lines-more (λ byte. part_of byte whole) n);
   names = All-append (λ (m : NamedId). IsNameIn least whole (id_digits m.id) m.name.digits) named more before.names names;
 }
 

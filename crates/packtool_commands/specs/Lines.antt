@@ -1,5 +1,5 @@
 -- The lines of a pack index, as `git show-index` prints them.
-use Rattle.std.specs.Prelude.{ℕ, ◌-◌, List, [], ◌∷◌, ◌++◌, decimal, flat_map, length, slice_index_or}
+use Rattle.std.specs.Prelude.{ℕ, List, [], ◌∷◌, ◌++◌, decimal, flat_map, length, slice_index_or}
 use Rattle.std.specs.Int.{to_be_bytes, w32}
 use Rattle.std.specs.List.{range_with_len}
 use Rattle.gix_hash.specs.Digits.{hex_letter, spelling}
