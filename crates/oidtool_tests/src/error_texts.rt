@@ -3,6 +3,7 @@
 use crate::expecting::expect_printed;
 use gix_hash::prefix::from_hex;
 use gix_hash::{Kind, decode};
+use oidtool_commands::CommandError;
 use oidtool_search::{FindError, FindFromError, FindInError, SearchError};
 use streams::PipeError;
 
@@ -99,7 +100,12 @@ fn prints_errors_of_sources(rt: HostRuntime) {
     ] {
         expect_printed(&rt, error, text);
     }
-    for (error, text) in [(PipeError::Input, NOT_READ), (PipeError::TooMuch, TOO_MUCH)] {
+    for (error, text) in [
+        (PipeError::Input, NOT_READ),
+        (PipeError::Output, NOT_WRITTEN),
+        (PipeError::TooMuch, TOO_MUCH),
+    ] {
         expect_printed(&rt, error, text);
     }
+    expect_printed(&rt, CommandError::TooMuch, TOO_MUCH);
 }

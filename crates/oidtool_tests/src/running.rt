@@ -54,7 +54,8 @@ fn runs_commands(rt: HostRuntime) {
     }
 }
 
-// After a bad line `find` reads no more, and the others read on.
+// After a bad line `find` reads no more, and the others read on. Ids that are out of order are
+// reported at the end of the list, after which none reads.
 #[test]
 fn reports_a_read_that_fails(rt: HostRuntime) {
     let bad_line = "Err(Find(BadLine { line: 1, error: InvalidHexEncodingLength(5) }))";
@@ -62,6 +63,14 @@ fn reports_a_read_that_fails(rt: HostRuntime) {
     for ((command, _), outcome) in SEARCHES.into_iter().zip(outcomes) {
         let reader = (6, Fault::AtCall(2));
         expect_run(&rt, command, b"no id\n", reader, outcome, b"");
+    }
+    let list = text_of(&rt, &[BLOB, TREE]);
+    let unsorted = "Err(Find(Unsorted { line: 2 }))";
+    let outcomes = [unsorted, unsorted, "Err(Find(NotRising { line: 2 }))"];
+    for ((command, _), outcome) in SEARCHES.into_iter().zip(outcomes) {
+        let reader = (41, Fault::AtCall(4));
+        let reads = expect_run(&rt, command, list.as_bytes(), reader, outcome, b"");
+        expect!(&rt; reads == 3, command);
     }
 }
 
