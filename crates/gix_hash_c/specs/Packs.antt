@@ -61,8 +61,8 @@ PackKindAnswer bytes code old new =
     ⊎ ((new ≡ old) × (¬ IsPackIndex Sha256 bytes) × ((e : Error) × IsFault Sha1 bytes e × (code ≡ cause_number e))))
 
 -- the number of a cause for which the bytes are no pack index, one of those that lie in the head and the lengths of the tables
-abbrev pub IsCause : Kind → List ℕ → ℕ → Type 0
-IsCause kind bytes code =
+abbrev pub IsTablesFault : Kind → List ℕ → ℕ → Type 0
+IsTablesFault kind bytes code =
     (e : Error) × IsFault kind bytes e × (¬ (HasHead kind bytes × HasTables kind bytes)) × (code ≡ cause_number e)
 
 -- how many names there are
@@ -70,7 +70,7 @@ abbrev pub LenAnswer : Option Kind → List ℕ → ℕ → ℕ → ℕ → Type
 LenAnswer None bytes code old new = (code ≡ BAD_KIND) × (new ≡ old)
 LenAnswer (Some kind) bytes code old new =
     ((code ≡ OK) × HasHead kind bytes × HasTables kind bytes × (new ≡ length (names_in kind bytes)))
-    ⊎ ((new ≡ old) × IsCause kind bytes code)
+    ⊎ ((new ≡ old) × IsTablesFault kind bytes code)
 
 -- what the tables contain at an index
 pub record IsEntry (kind : Kind) (bytes : List ℕ) (at : ℕ) (entry : Entry) : Type 0 where
@@ -82,7 +82,7 @@ pub record IsEntry (kind : Kind) (bytes : List ℕ) (at : ℕ) (entry : Entry) :
 abbrev pub IsNoEntry : Kind → List ℕ → ℕ → ℕ → Type 0
 IsNoEntry kind bytes at code =
     ((code ≡ OUT_OF_RANGE) × HasTables kind bytes × (count_in bytes ≤ at))
-    ⊎ (((code ≡ NO_OFFSET) × HasTables kind bytes × (at < count_in bytes) × (¬ HasOffset kind bytes at)) ⊎ IsCause kind bytes code)
+    ⊎ (((code ≡ NO_OFFSET) × HasTables kind bytes × (at < count_in bytes) × (¬ HasOffset kind bytes at)) ⊎ IsTablesFault kind bytes code)
 
 abbrev pub EntryAnswer : Option Kind → List ℕ → ℕ → ℕ → Entry → Entry → Type 0
 EntryAnswer None bytes at code old new = (code ≡ BAD_KIND) × (new ≡ old)
@@ -97,7 +97,7 @@ PackFindAnswer (Some kind) bytes None code old new = (code ≡ BAD_LENGTH) × (n
 PackFindAnswer (Some kind) bytes (Some digits) code old new =
     ((code ≡ TOO_LONG) × (hex_len_of kind < length digits) × (new ≡ old))
     ⊎ ((length digits ≤ hex_len_of kind) × (((code ≡ OK) × HasTables kind bytes × IsRunIfSorted digits (names_in kind bytes) new)
-    ⊎ ((new ≡ old) × IsCause kind bytes code)))
+    ⊎ ((new ≡ old) × IsTablesFault kind bytes code)))
 
 -- as many first digits are the shortest name at an index, if the names are sorted
 abbrev pub IsShortest : Kind → List ℕ → ℕ → ℕ → Type 0
@@ -109,7 +109,7 @@ abbrev pub IsNameless : Kind → List ℕ → ℕ → ℕ → Type 0
 IsNameless kind bytes at code =
     ((code ≡ NOT_UNIQUE) × HasTables kind bytes × (at < count_in bytes)
     × (IsSortedIds (names_in kind bytes) → (name : List ℕ) → ¬ IsShortestName (names_in kind bytes) at name))
-    ⊎ (((code ≡ OUT_OF_RANGE) × HasTables kind bytes × (count_in bytes ≤ at)) ⊎ IsCause kind bytes code)
+    ⊎ (((code ≡ OUT_OF_RANGE) × HasTables kind bytes × (count_in bytes ≤ at)) ⊎ IsTablesFault kind bytes code)
 
 abbrev pub ShortestAnswer : Option Kind → List ℕ → ℕ → ℕ → ℕ → ℕ → Type 0
 ShortestAnswer None bytes at code old new = (code ≡ BAD_KIND) × (new ≡ old)

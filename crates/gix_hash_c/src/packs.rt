@@ -8,7 +8,7 @@ ghost use Rattle.id_lookup.specs.ShortNames.{IsShortestName};
 ghost use Rattle.id_lookup.specs.Sorted.{IsSortedIds};
 ghost use Rattle.pack_index.specs.Format.{HasHead, HasTables, crcs_at, digests_in, names_at, names_in};
 ghost use Rattle.gix_hash_c.specs.Face.{HoldsId, kind_of_number, prefix_in};
-ghost use Rattle.gix_hash_c.specs.Packs.{CheckAnswer, EntryAnswer, IsCause, LenAnswer, PackFindAnswer, PackKindAnswer, ShortestAnswer, cause_number, detail_of};
+ghost use Rattle.gix_hash_c.specs.Packs.{CheckAnswer, EntryAnswer, IsTablesFault, LenAnswer, PackFindAnswer, PackKindAnswer, ShortestAnswer, cause_number, detail_of};
 
 use crate::codes::{
     BAD_KIND, BAD_LENGTH, BAD_MAGIC, BAD_VERSION, LONG_OUT_OF_ORDER, NAMES_FALL, NO_OFFSET,
@@ -213,7 +213,7 @@ fn detail_of(error: Error, old: u64) -> u64
 fn tables(kind: Kind, bytes: &[u8]) -> Result<(), u32>
     ensures head { OnOk result (HasHead kind bytes.now) }
     ensures tables { OnOk result (HasTables kind bytes.now) }
-    ensures err { IfErr result (IsCause kind bytes.now) }
+    ensures err { IfErr result (IsTablesFault kind bytes.now) }
 {
     match check_tables(bytes, kind) {
         Ok(()) => Ok(()),

@@ -41,22 +41,22 @@ TakesKind words word = (words ≡ codes "hash" ∷ word ∷ []) ⊎ (words ≡ c
     ⊎ ((count : List ℕ) × (path : List ℕ) × (words ≡ codes "hash-file" ∷ word ∷ count ∷ path ∷ []))
 
 -- the word is rejected as a kind
-abbrev pub RefusesKind : List ℕ → ArgError → Type 0
-RefusesKind word Usage = ⊥
-RefusesKind word (BadKind text) = (text.now ≡ word) × IsNoName word
-RefusesKind word (BadNumber text) = ⊥
+abbrev pub IsKindRefusal : List ℕ → ArgError → Type 0
+IsKindRefusal word Usage = ⊥
+IsKindRefusal word (BadKind text) = (text.now ≡ word) × IsNoName word
+IsKindRefusal word (BadNumber text) = ⊥
 
 -- the word is rejected as a number
-abbrev pub RefusesNumber : List ℕ → ArgError → Type 0
-RefusesNumber word Usage = ⊥
-RefusesNumber word (BadKind text) = ⊥
-RefusesNumber word (BadNumber text) = (text.now ≡ word) × ((n : ℕ) → ¬ IsNumberOf word n)
+abbrev pub IsNumberRefusal : List ℕ → ArgError → Type 0
+IsNumberRefusal word Usage = ⊥
+IsNumberRefusal word (BadKind text) = ⊥
+IsNumberRefusal word (BadNumber text) = (text.now ≡ word) × ((n : ℕ) → ¬ IsNumberOf word n)
 
 -- the words are rejected for this cause: first the command and the number of its words, then the kind, then the number
-abbrev pub RefusesWords : List (List ℕ) → ArgError → Type 0
-RefusesWords words Usage = IsNoCommand words
-RefusesWords words (BadKind text) = TakesKind words text.now × IsNoName text.now
-RefusesWords words (BadNumber text) = (kind : Kind) × (name : List ℕ) × (path : List ℕ) × (words ≡ codes "hash-file" ∷ name ∷ text.now ∷ path ∷ [])
+abbrev pub IsWordsRefusal : List (List ℕ) → ArgError → Type 0
+IsWordsRefusal words Usage = IsNoCommand words
+IsWordsRefusal words (BadKind text) = TakesKind words text.now × IsNoName text.now
+IsWordsRefusal words (BadNumber text) = (kind : Kind) × (name : List ℕ) × (path : List ℕ) × (words ≡ codes "hash-file" ∷ name ∷ text.now ∷ path ∷ [])
     × IsNameOf name kind × ((n : ℕ) → ¬ IsNumberOf text.now n)
 
 -- the texts that words refer to

@@ -2,7 +2,7 @@
 
 ghost use Rattle.std.specs.Prelude.{◌≡◌, [], ◌∷◌, IfOk, IfErr};
 ghost use Rattle.gix_hash.specs.Kind.{IsNameOf};
-ghost use Rattle.oidtool_commands.specs.Command.{AsksFor, IsNumberOf, RefusesKind, RefusesNumber, RefusesWords, texts_of};
+ghost use Rattle.oidtool_commands.specs.Command.{AsksFor, IsNumberOf, IsKindRefusal, IsNumberRefusal, IsWordsRefusal, texts_of};
 
 use gix_hash::Kind;
 use std::fmt;
@@ -88,7 +88,7 @@ impl fmt::Display for ArgError<'_> {
 /// kind, then a number. It takes no memory.
 pub fn read_command<'a>(words: &[&'a str]) -> Result<Command<'a>, ArgError<'a>>
     ensures asked { IfOk result (AsksFor (texts_of words.now)) }
-    ensures refused { IfErr result (RefusesWords (texts_of words.now)) }
+    ensures refused { IfErr result (IsWordsRefusal (texts_of words.now)) }
 {
     match words {
         [name, word] => read_one_word(name, word),
@@ -101,7 +101,7 @@ pub fn read_command<'a>(words: &[&'a str]) -> Result<Command<'a>, ArgError<'a>>
 // Reads a command that takes one word.
 fn read_one_word<'a>(name: &str, word: &'a str) -> Result<Command<'a>, ArgError<'a>>
     ensures asked { IfOk result (AsksFor (name.now ∷ word.now ∷ [])) }
-    ensures refused { IfErr result (RefusesWords (name.now ∷ word.now ∷ [])) }
+    ensures refused { IfErr result (IsWordsRefusal (name.now ∷ word.now ∷ [])) }
 {
     match name {
         "find" => Ok(Command::Find { prefix: word }),
@@ -123,7 +123,7 @@ fn read_two_words<'a>(
     prefix: &'a str,
 ) -> Result<Command<'a>, ArgError<'a>>
     ensures asked { IfOk result (AsksFor (name.now ∷ kind.now ∷ prefix.now ∷ [])) }
-    ensures refused { IfErr result (RefusesWords (name.now ∷ kind.now ∷ prefix.now ∷ [])) }
+    ensures refused { IfErr result (IsWordsRefusal (name.now ∷ kind.now ∷ prefix.now ∷ [])) }
 {
     match name {
         "find-in" => Ok(Command::FindIn {
@@ -142,7 +142,7 @@ fn read_three_words<'a>(
     path: &'a str,
 ) -> Result<Command<'a>, ArgError<'a>>
     ensures asked { IfOk result (AsksFor (name.now ∷ kind.now ∷ count.now ∷ path.now ∷ [])) }
-    ensures refused { IfErr result (RefusesWords
+    ensures refused { IfErr result (IsWordsRefusal
         (name.now ∷ kind.now ∷ count.now ∷ path.now ∷ [])) }
 {
     match name {
@@ -158,7 +158,7 @@ fn read_three_words<'a>(
 // Reads a word as the name of a kind.
 fn read_kind<'a>(word: &'a str) -> Result<Kind, ArgError<'a>>
     ensures named { IfOk result (IsNameOf word.now) }
-    ensures refused { IfErr result (RefusesKind word.now) }
+    ensures refused { IfErr result (IsKindRefusal word.now) }
 {
     match Kind::from_str(word) {
         Ok(kind) => Ok(kind),
@@ -169,7 +169,7 @@ fn read_kind<'a>(word: &'a str) -> Result<Kind, ArgError<'a>>
 // Reads a word as a number: decimal digits, after a `+` or none.
 fn read_count<'a>(word: &'a str) -> Result<u64, ArgError<'a>>
     ensures number { IfOk result (IsNumberOf word.now) }
-    ensures refused { IfErr result (RefusesNumber word.now) }
+    ensures refused { IfErr result (IsNumberRefusal word.now) }
 {
     match word.parse() {
         Ok(count) => Ok(count),

@@ -19,7 +19,7 @@ use Rattle.gix_hash.specs.declared.Kind.{Kind}
 use Rattle.gix_hash.specs.declared.ObjectId.{ObjectId}
 use Rattle.oidtool_search.specs.Lines.{is_line_feed, lines_of}
 use Rattle.oidtool_search.specs.ListChunks.{IsLine, ended, NoBadLineEnded, HasTaken, HasIdLine, Takes}
-use Rattle.oidtool_search.specs.ListText.{prepend_line, ids_read, list_read, IsFirstRead, RefusesList}
+use Rattle.oidtool_search.specs.ListText.{prepend_line, ids_read, list_read, IsFirstRead, IsListRefusal}
 use Rattle.oidtool_search.specs.declared.error.SearchError.{SearchError}
 use Rattle.oidtool_search.specs.declared.list_reader.ListReader.{ListReader}
 use Rattle.oidtool_search.specs.declared.error.SearchError.TheVariants.{BadLine, Memory}
@@ -216,7 +216,7 @@ first_of_list text earlier part reads some = by_lines (lines_of text) earlier pa
     by_lines (line ∷ lines) earlier part h some = by_answer line (full_read hex_letter line) (ids_read 2 lines) (map id_digits (earlier ++ part)) refl h
 
 -- texts of the same lines are rejected for the same errors
-pub refuses_same : (a b : List ℕ) (e : SearchError) → lines_of a ≡ lines_of b → RefusesList a e → RefusesList b e
+pub refuses_same : (a b : List ℕ) (e : SearchError) → lines_of a ≡ lines_of b → IsListRefusal a e → IsListRefusal b e
 refuses_same a b (BadLine n error) same h = ap (ids_read 1) (sym same) ∙ h
 refuses_same a b Memory same h = subst IsFirstRead same h
 refuses_same a b error same h = absurd h

@@ -10,7 +10,7 @@ use Rattle.streams.specs.Printing.{printed}
 use Rattle.oidtool_search.specs.declared.query.Query.{Query}
 use Rattle.gix_hash.specs.Prefix.{KindDigits}
 use Rattle.gix_hash.specs.declared.prefix.from_hex.Error.{Error as PrefixError}
-use Rattle.oidtool_search.specs.ListText.{list_read, RefusesList}
+use Rattle.oidtool_search.specs.ListText.{list_read, IsListRefusal}
 use Rattle.oidtool_search.specs.Searching.{found_among, found_in_list, found_texts, letter_for, prefix_of}
 use Rattle.oidtool_search.specs.Stopping.{Given, From, Fails, Finds, HoldsOfAll, IsOwn, IsSettled, OfAll, Stops}
 use Rattle.oidtool_search.specs.declared.error.SearchError.{SearchError}
@@ -55,7 +55,7 @@ all_whole P most xs (Some ys) all =
 
 -- an error of the list text stops the search, and is none of a read
 refused_stops : (search : Search) (digits : List ℕ) (most : ℕ) (old new : Option (List ℕ)) (error : SearchError)
-    → IsSettled (λ text. RefusesList text error) most old new
+    → IsSettled (λ text. IsListRefusal text error) most old new
     → Stops (λ text. found_in_list search digits (list_read text)) (From most old new) error × (error ≢ Input)
 refused_stops search digits most old new (BadLine n error) stops = (settled_map stops (λ text refused. rw refused refl), λ is. cc is)
 refused_stops search digits most old new Memory stops = (stops, λ is. cc is)
@@ -63,11 +63,11 @@ refused_stops search digits most old new error stops = absurd (settled_never (λ
 
 -- so much of an exit with such an error
 pub refused_exit : {V : Type 0} (search : Search) (digits : List ℕ) (most : ℕ) (old new : Option (List ℕ)) (failed : Bool) (error : SearchError) (found : Result V SearchError)
-    → IsErrAnd found (λ e. e ≡ error) → failed ≡ false → IsSettled (λ text. RefusesList text error) most old new
+    → IsErrAnd found (λ e. e ≡ error) → failed ≡ false → IsSettled (λ text. IsListRefusal text error) most old new
     → IfErr found (Stops (λ text. found_in_list search digits (list_read text)) (From most old new)) × (IsErrOf found Input ↔ (failed ≡ true))
 refused_exit search digits most old new failed error (Ok v) is stands stops = absurd is
 refused_exit search digits most old new failed error (Err e) is stands stops =
-    let s = refused_stops search digits most old new e (subst (λ e. IsSettled (λ text. RefusesList text e) most old new) (sym is) stops) in
+    let s = refused_stops search digits most old new e (subst (λ e. IsSettled (λ text. IsListRefusal text e) most old new) (sym is) stops) in
     (s.0, (λ input. absurd (s.1 (cc input)), λ h. absurd (false≢true (sym stands ∙ h))))
 
 -- and so does an error of the ids, at the end

@@ -5,7 +5,7 @@ use Rattle.gix_hash.specs.Digits.{hex_letter}
 use Rattle.gix_hash.specs.IdReading.{full_read, whole_of}
 use Rattle.gix_hash.specs.declared.ObjectId.{ObjectId}
 use Rattle.oidtool_search.specs.Lines.{is_line_feed}
-use Rattle.oidtool_search.specs.ListText.{RefusesList}
+use Rattle.oidtool_search.specs.ListText.{IsListRefusal}
 use Rattle.oidtool_search.specs.declared.error.SearchError.{SearchError}
 use Rattle.oidtool_search.specs.declared.list_reader.ListReader.{ListReader}
 
@@ -44,9 +44,9 @@ pub record Takes {A : Type 0} (old new : ListReader A) (bytes : List ℕ) : Type
   pub short : length new.ids.items + new.len ≤ length old.ids.items + old.len + length bytes
 
 -- after what a reader in this state has taken, the text is rejected for these bytes, whatever follows them
-abbrev pub RefusesAfter : {A : Type 0} → ListReader A → List ℕ → SearchError → Type 0
-RefusesAfter old bytes error = (earlier : List ObjectId) (text more : List ℕ) → length earlier ≡ old.dropped
-    → HasTaken (earlier ++ old.ids.items) old.line old.len text → RefusesList (text ++ (bytes ++ more)) error
+abbrev pub IsRefusalAfter : {A : Type 0} → ListReader A → List ℕ → SearchError → Type 0
+IsRefusalAfter old bytes error = (earlier : List ObjectId) (text more : List ℕ) → length earlier ≡ old.dropped
+    → HasTaken (earlier ++ old.ids.items) old.line old.len text → IsListRefusal (text ++ (bytes ++ more)) error
 
 -- from one index to the next the chunk has a line that reads as the id, and its line feed
 pub record HasIdLine (chunk : List ℕ) (at next : ℕ) (id : ObjectId) : Type 0 where

@@ -31,10 +31,10 @@ IsFirstRead [] = ⊥
 IsFirstRead (line ∷ lines) = IsOk (full_read hex_letter line)
 
 -- the text is rejected as a list: for its first bad line, or, after a first line that reads, since memory ran out
-abbrev pub RefusesList : List ℕ → SearchError → Type 0
-RefusesList text (BadLine n error) = list_read text ≡ Err (BadLine n error)
-RefusesList text Memory = IsFirstRead (lines_of text)
-RefusesList text error = ⊥
+abbrev pub IsListRefusal : List ℕ → SearchError → Type 0
+IsListRefusal text (BadLine n error) = list_read text ≡ Err (BadLine n error)
+IsListRefusal text Memory = IsFirstRead (lines_of text)
+IsListRefusal text error = ⊥
 
 -- the line reads as an id of these digits
 abbrev pub IsLineOf : List ℕ → List ℕ → Type 0

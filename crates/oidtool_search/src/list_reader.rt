@@ -5,8 +5,8 @@ ghost use Rattle.std.specs.List.{slice_range};
 ghost use Rattle.gix_hash.specs.Digits.{hex_letter};
 ghost use Rattle.gix_hash.specs.IdReading.{full_read, result_digits};
 ghost use Rattle.gix_hash.specs.ObjectId.{id_digits};
-ghost use Rattle.oidtool_search.specs.ListChunks.{HasTaken, HasIdLine, RefusesAfter, Takes};
-ghost use Rattle.oidtool_search.specs.ListText.{list_read, RefusesList};
+ghost use Rattle.oidtool_search.specs.ListChunks.{HasTaken, HasIdLine, IsRefusalAfter, Takes};
+ghost use Rattle.oidtool_search.specs.ListText.{list_read, IsListRefusal};
 
 use crate::error::SearchError;
 use gix_hash::{Alphabet, Kind, ObjectId, decode};
@@ -50,7 +50,7 @@ impl<A: Allocator> ListReader<A> {
         requires { self.old.dropped + length self.old.ids.items + self.old.len
             + length chunk.now < 2 ^ 64 }
         ensures ok { OnOk result (Takes self.old self.new chunk.now) }
-        ensures err { IfErr result (RefusesAfter self.old chunk.now) }
+        ensures err { IfErr result (IsRefusalAfter self.old chunk.now) }
     {
         let mut at = 0;
         while at < chunk.len() {
@@ -68,7 +68,7 @@ impl<A: Allocator> ListReader<A> {
         ensures short { IfOk result (λ ids. length ids.items ≤ length self.ids.items + 1) }
         ensures err { IfErr result (λ e. (earlier : List ObjectId) (text : List ℕ)
             → length earlier ≡ self.dropped
-            → HasTaken (earlier ++ self.ids.items) self.line self.len text → RefusesList text e) }
+            → HasTaken (earlier ++ self.ids.items) self.line self.len text → IsListRefusal text e) }
     {
         if self.len > 0 {
             self.end_line()?;
@@ -104,7 +104,7 @@ impl<A: Allocator> ListReader<A> {
         requires room { self.old.dropped + length self.old.ids.items + self.old.len + 1 < 2 ^ 64 }
         ensures onward { IfOk result (λ next. (at < next) × (next ≤ length chunk.now)) }
         ensures ok { IfOk result (λ next. Takes self.old self.new (slice_range chunk.now at next)) }
-        ensures err { IfErr result (RefusesAfter self.old (drop at chunk.now)) }
+        ensures err { IfErr result (IsRefusalAfter self.old (drop at chunk.now)) }
     {
         let next = self.take_lines(chunk, at);
         if next > at {
@@ -157,7 +157,7 @@ impl<A: Allocator> ListReader<A> {
     fn take_byte(&mut self, byte: u8) -> Result<(), SearchError>
         requires { self.old.dropped + length self.old.ids.items + self.old.len + 1 < 2 ^ 64 }
         ensures ok { OnOk result (Takes self.old self.new (byte ∷ [])) }
-        ensures err { IfErr result (RefusesAfter self.old (byte ∷ [])) }
+        ensures err { IfErr result (IsRefusalAfter self.old (byte ∷ [])) }
     {
         if byte == LINE_FEED {
             return self.end_line();
@@ -173,7 +173,7 @@ impl<A: Allocator> ListReader<A> {
         ensures ok { OnOk result (Takes self.old self.new (10 ∷ [])) }
         ensures one { OnOk result (length self.new.ids.items ≡ length self.old.ids.items + 1) }
         ensures begun { OnOk result (self.new.len ≡ 0) }
-        ensures err { IfErr result (RefusesAfter self.old (10 ∷ [])) }
+        ensures err { IfErr result (IsRefusalAfter self.old (10 ∷ [])) }
     {
         match read_line(&self.line, self.len) {
             Ok(id) => {

@@ -35,8 +35,8 @@ pub record HasShownPart (kind : Option Kind) (bytes : List ℕ) (old new : Optio
   pub written : AppendsPart old new (index_lines file.kind file.bytes)
 
 -- the cause of an error, if the bytes decide it
-abbrev pub Refuses : Option Kind → List ℕ → FileError → Type 0
-Refuses kind bytes (Index error) = IsRefusalAs kind bytes error
-Refuses kind bytes Memory = bytes ≢ []
-Refuses kind bytes Input = Unit {0}
-Refuses kind bytes Output = Unit {0}
+abbrev pub IsFileRefusal : Option Kind → List ℕ → FileError → Type 0
+IsFileRefusal kind bytes (Index error) = IsRefusalAs kind bytes error
+IsFileRefusal kind bytes Memory = bytes ≢ []
+IsFileRefusal kind bytes Input = Unit {0}
+IsFileRefusal kind bytes Output = Unit {0}

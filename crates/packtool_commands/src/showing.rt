@@ -5,7 +5,7 @@ ghost use Rattle.std.specs.Io.KnownBytes.{Consumes, IsAtEnd};
 ghost use Rattle.streams.specs.Writing.{Wrote};
 ghost use Rattle.pack_index.specs.Format.{names_in};
 ghost use Rattle.packtool_commands.specs.Lines.{index_lines};
-ghost use Rattle.packtool_commands.specs.Showing.{HasShown, HasShownPart, IsOpenedAs, IsRefusalAs, Refuses};
+ghost use Rattle.packtool_commands.specs.Showing.{HasShown, HasShownPart, IsOpenedAs, IsRefusalAs, IsFileRefusal};
 ghost use Rattle.packtool_commands.specs.declared.error.FileError.{FileError};
 
 use crate::error::FileError;
@@ -39,7 +39,7 @@ pub fn show<A: Allocator, R: Source, W: Sink>(
     ensures shown { IfOk result (λ any. IfSome (R.remaining input.old) (λ bytes.
         HasShown kind bytes any (W.taken out.old) (W.taken out.new))) }
     ensures refused { IfErr result (λ e. IfSome (R.remaining input.old) (λ bytes.
-        Refuses kind bytes e)) }
+        IsFileRefusal kind bytes e)) }
     ensures untouched { IfErr result (λ e. e ≢ FileError.Output → out.new ≡ out.old) }
     ensures input { IsErrOf result FileError.Input ↔ (R.has_failed input.new ≡ true) }
     ensures output { IsErrOf result FileError.Output ↔ (W.has_failed out.new ≡ true) }
@@ -71,7 +71,7 @@ pub fn validate<A: Allocator, R: Source>(
     ensures valid { IfOk result (λ found. IfSome (R.remaining input.old) (λ bytes.
         IsOpenedAs kind bytes (record { kind = found; bytes = bytes }))) }
     ensures refused { IfErr result (λ e. IfSome (R.remaining input.old) (λ bytes.
-        Refuses kind bytes e)) }
+        IsFileRefusal kind bytes e)) }
     ensures input { IsErrOf result FileError.Input ↔ (R.has_failed input.new ≡ true) }
     ensures output { ¬ (IsErrOf result FileError.Output) }
 {

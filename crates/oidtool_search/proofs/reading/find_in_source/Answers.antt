@@ -5,7 +5,7 @@ use Rattle.std.proofs.lemmas.Result.{err_from_is_err_and}
 use Rattle.std.specs.Io.KnownBytes.{Consumes}
 use Rattle.gix_hash.specs.ObjectId.{id_digits}
 use Rattle.oidtool_search.specs.ListChunks.{HasTaken}
-use Rattle.oidtool_search.specs.ListText.{RefusesList}
+use Rattle.oidtool_search.specs.ListText.{IsListRefusal}
 use Rattle.oidtool_search.specs.Searching.{HasFound}
 use Rattle.oidtool_search.specs.Stopping.{From}
 use Rattle.oidtool_search.proofs.ChunkLemmas.{first_of_taken, first_of_list}
@@ -80,7 +80,7 @@ returns-in_err-ids g c =
     let buf = c.read.new.buf in
     let some : 0 < length buf = omega (arith, c.read.auto.buf) in
     let stopped = refused_exit _ _ _ _ _ _ _ _ exit (not_failed _ _ c.chunks.invariant.stands c.in-Ok.ensures.failed)
-    (settled_of_all (holds_of_all _ _ _ _ _ _ _ _ t.3 (λ text. RefusesList text c.in_err-ids.field-0.0) c.in-Ok.count buf c.if-count-eq0.true
+    (settled_of_all (holds_of_all _ _ _ _ _ _ _ _ t.3 (λ text. IsListRefusal text c.in_err-ids.field-0.0) c.in-Ok.count buf c.if-count-eq0.true
     c.in-Ok.ensures.bytes.0 (c.in-Ok.ensures.bytes.1 c.if-count-eq0.true some) (c.in_err-ids.ensures.err t.0 t.3.text t.1 t.3.taken))) in
     let p = err_from_is_err_and c.from_residual.result exit in
     record { found = rw p.1 tt; not_failed = rw p.1 tt; stopped = stopped.0; input = stopped.1 }
@@ -94,9 +94,9 @@ returns-in_err-take g c =
     let some : 0 < length buf = omega (arith, c.read.auto.buf) in
     let part : c.in_ok-ids.ids.items ≢ [] = subst (λ ids. ids ≢ []) c.deref.ensures.value m.1 in
     let stopped = refused_exit _ _ _ _ _ _ _ _ exit (not_failed _ _ c.chunks.invariant.stands c.in-Ok.ensures.failed)
-    (settled_of_all (holds_of_all _ _ _ _ _ _ _ _ t.3 (λ text. RefusesList text c.in_err-take.field-0.0) c.in-Ok.count buf c.if-count-eq0.true
+    (settled_of_all (holds_of_all _ _ _ _ _ _ _ _ t.3 (λ text. IsListRefusal text c.in_err-take.field-0.0) c.in-Ok.count buf c.if-count-eq0.true
     c.in-Ok.ensures.bytes.0 (c.in-Ok.ensures.bytes.1 c.if-count-eq0.true some)
-    (subst (RefusesList t.3.text) (sym m.0) (first_of_list t.3.text t.0 _ (c.in_ok-ids.ensures.ok t.0 t.3.text t.3.taken) part)))) in
+    (subst (IsListRefusal t.3.text) (sym m.0) (first_of_list t.3.text t.0 _ (c.in_ok-ids.ensures.ok t.0 t.3.text t.3.taken) part)))) in
     let p = err_from_is_err_and c.from_residual-in_err-take.result exit in
     record { found = rw p.1 tt; not_failed = rw p.1 tt; stopped = stopped.0; input = stopped.1 }
 
@@ -109,7 +109,7 @@ returns-in_err-take_chunk g c =
     let fits : length (take room buf) ≤ room = omega (arith, length-take room buf) in
     let stopped = refused_exit _ _ _ _ _ _ _ _ exit (not_failed _ _ c.chunks.invariant.stands c.in-Ok.ensures.failed)
     (settled _ _ _ _ _ _ _ _ t.3 (take room buf) (drop room (take c.in-Ok.count buf)) (split_read _ _ room c.in-Ok.count buf (omega arith) c.in-Ok.ensures.bytes.0) fits
-    (λ text. RefusesList text c.in_err-take_chunk.field-0.0) (λ more. c.in_err-take_chunk.ensures.err t.0 t.3.text more t.1 t.3.taken)) in
+    (λ text. IsListRefusal text c.in_err-take_chunk.field-0.0) (λ more. c.in_err-take_chunk.ensures.err t.0 t.3.text more t.1 t.3.taken)) in
     let p = err_from_is_err_and c.from_residual-in_err-take_chunk.result exit in
     record { found = rw p.1 tt; not_failed = rw p.1 tt; stopped = stopped.0; input = stopped.1 }
 
@@ -133,7 +133,7 @@ returns-in_err-take_chunk-2 g c =
     let fits : length (take count buf) ≤ c.chunks.room = omega (arith, length-take count buf) in
     let stopped = refused_exit _ _ _ _ _ _ _ _ exit (not_failed _ _ c.chunks.invariant.stands c.in-Ok.ensures.failed)
     (settled _ _ _ _ _ _ _ _ t.3 (take count buf) [] (subst (Consumes _ _) (sym (append-nil (take count buf))) c.in-Ok.ensures.bytes.0) fits
-    (λ text. RefusesList text c.in_err-take_chunk-2.field-0.0) (λ more. c.in_err-take_chunk-2.ensures.err t.0 t.3.text more t.1 t.3.taken)) in
+    (λ text. IsListRefusal text c.in_err-take_chunk-2.field-0.0) (λ more. c.in_err-take_chunk-2.ensures.err t.0 t.3.text more t.1 t.3.taken)) in
     let p = err_from_is_err_and c.from_residual-in_err-take_chunk-2.result exit in
     record { found = rw p.1 tt; not_failed = rw p.1 tt; stopped = stopped.0; input = stopped.1 }
 
@@ -148,7 +148,7 @@ returns-in_err-take-2 g c =
     let part : c.take_chunk-in-chunks.new.self.ids.items ≢ [] = subst (λ ids. ids ≢ []) c.ids.ensures m.1 in
     let stopped = refused_exit _ _ _ _ _ _ _ _ exit (not_failed _ _ c.chunks.invariant.stands c.in-Ok.ensures.failed)
     (settled _ _ _ _ _ _ _ _ t.3 (take count buf) [] (subst (Consumes _ _) (sym (append-nil (take count buf))) c.in-Ok.ensures.bytes.0) fits
-    (λ text. RefusesList text c.in_err-take-2.field-0.0) (λ more. rw (sym (append_assoc t.3.text (take count buf) more)) (subst (RefusesList ((t.3.text ++ take count buf) ++ more)) (sym m.0)
+    (λ text. IsListRefusal text c.in_err-take-2.field-0.0) (λ more. rw (sym (append_assoc t.3.text (take count buf) more)) (subst (IsListRefusal ((t.3.text ++ take count buf) ++ more)) (sym m.0)
     (first_of_taken t.0 _ _ _ (t.3.text ++ take count buf) more (c.in_ok-take_chunk-2.ensures.ok.taken t.0 t.3.text t.3.taken) part)))) in
     let p = err_from_is_err_and c.from_residual-in_err-take-2.result exit in
     record { found = rw p.1 tt; not_failed = rw p.1 tt; stopped = stopped.0; input = stopped.1 }

@@ -1,6 +1,6 @@
 use Rattle.std.proofs.Common.{◌++◌, take, drop, subst, sym, ap, ◌∙◌, arith, append_assoc, take-append-drop}
 use Rattle.std.proofs.lemmas.Result.{err_from_is_err_and}
-use Rattle.oidtool_search.specs.ListText.{RefusesList}
+use Rattle.oidtool_search.specs.ListText.{IsListRefusal}
 use Rattle.oidtool_search.proofs.ChunkLemmas.{takes_more, take_range}
 use Rattle.oidtool_search.proofs.list_reader.ListReader.take_chunk.Goals as goal
 
@@ -15,7 +15,7 @@ returns-in_err-at-clause-err g c =
     let i = c.loop-at.invariant in
     let at = c.loop-at.at in
     let chunk = c.args.chunk.now in
-    rw (p.1, p.2) (λ earlier text more count h. subst (λ t. RefusesList t c.in_err-at.field-0.0)
+    rw (p.1, p.2) (λ earlier text more count h. subst (λ t. IsListRefusal t c.in_err-at.field-0.0)
     (append_assoc text (take at chunk) (drop at chunk ++ more)
     ∙ ap (λ l. text ++ l) (sym (append_assoc (take at chunk) (drop at chunk) more) ∙ ap (λ l. l ++ more) (take-append-drop at chunk)))
     (c.in_err-at.ensures.err earlier (text ++ take at chunk) more (count ∙ sym i.ok.dropped) (i.ok.taken earlier text h)))

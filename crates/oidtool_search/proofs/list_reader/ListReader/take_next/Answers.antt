@@ -1,6 +1,6 @@
 use Rattle.std.proofs.Common.{◌≡◌, ◌++◌, append-nil, suc, drop, drop-cons, subst, sym, ◌∙◌, arith}
 use Rattle.std.proofs.lemmas.Result.{err_from_is_err_and}
-use Rattle.oidtool_search.specs.ListText.{RefusesList}
+use Rattle.oidtool_search.specs.ListText.{IsListRefusal}
 use Rattle.oidtool_search.proofs.ChunkLemmas.{takes_more, range_one, range_none}
 use Rattle.oidtool_search.proofs.list_reader.ListReader.take_next.Goals as goal
 
@@ -16,5 +16,5 @@ returns-in_err-take_byte-clause-err g c =
     let chunk = c.args.chunk.now in
     let lines = c.take_lines-next.ensures in
     let same : c.take_lines-next.result ≡ at = omega (arith, lines.onward, c.if-next-at.false) in
-    rw (p.1, p.2) (λ earlier text more count h. subst (λ l. RefusesList (text ++ (l ++ more)) c.in_err-take_byte.field-0.0) (sym (drop-cons chunk at 0 c.requires.in_chunk))
+    rw (p.1, p.2) (λ earlier text more count h. subst (λ l. IsListRefusal (text ++ (l ++ more)) c.in_err-take_byte.field-0.0) (sym (drop-cons chunk at 0 c.requires.in_chunk))
     (c.in_err-take_byte.ensures.err earlier text (drop (suc at) chunk ++ more) (count ∙ sym lines.ok.dropped) (rw (same, range_none, append-nil) at (lines.ok.taken earlier text h))))
