@@ -2,7 +2,7 @@
 
 use crate::expecting::{expect, text_of};
 use crate::folders::{BOTH, Bytes, Index, PACKED, make};
-use crate::resolving::resolve;
+use callers::resolving::resolve;
 use std::fs::File;
 use std::os::unix::fs::symlink;
 use std::process::Abort;
@@ -12,7 +12,7 @@ use std::{env, fs};
 use store_folders::{Error, ObjectsFolder, find_objects};
 
 // Files, by which there are folders.
-const EMPTY: [&str; 20] = [
+const EMPTY: [&str; 23] = [
     "found/r/.git/objects/pack/none",
     "found/r/.git/refs/none",
     "found/r/sub/deep/none",
@@ -33,6 +33,9 @@ const EMPTY: [&str; 20] = [
     "found/strange/.git/refs/none",
     "found/linked/.git/refs/none",
     "found/none/a/b",
+    "found/loose/0a/none",
+    "found/folders/objects/pack/none",
+    "found/folders/config/none",
 ];
 
 const SHA256: &[u8] =
@@ -96,7 +99,7 @@ const FOUND: [(&str, &str); 15] = [
 ];
 
 // Paths, and what they are as objects folders.
-const AT: [(&str, &str); 11] = [
+const AT: [(&str, &str); 13] = [
     ("found/r/.git/objects", "found/r/.git/objects sha256"),
     ("found/both/.git/objects/", "found/both/.git/objects/ sha1"),
     (
@@ -115,8 +118,13 @@ const AT: [(&str, &str); 11] = [
         "found/r",
         "found/r: no object store: try found/r/.git/objects",
     ),
+    ("found/loose", "found/loose sha1"),
     ("found/none", "found/none: no object store"),
     ("found/file", "found/file: no object store"),
+    (
+        "found/folders/objects",
+        "found/folders/objects/../config: Is a directory (os error 21)",
+    ),
     (
         "found/gone",
         "found/gone: No such file or directory (os error 2)",

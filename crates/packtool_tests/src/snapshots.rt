@@ -1,13 +1,15 @@
 //! Stores in folders that change while they are opened, and those that cannot be read whole.
 
-use crate::expecting::{expect, text_of};
+use crate::expecting::{expect, expect_text, text_of};
 use crate::folders::{BOTH, Index, LOOSE, PACKED, make, open};
 use crate::look_ups::{expect_ids, find};
+use crate::memory::Reads;
 use gix_hash::{ObjectId, Prefix};
 use object_store::Store;
 use std::alloc::{Alloc, AllocError, Allocator, Global};
 use std::cell::Cell;
 use std::fs::{File, Metadata, OpenOptions};
+use std::io::{BufReader, Read};
 use std::path::PathBuf;
 use std::process::Abort;
 use std::rt::Files;
@@ -16,13 +18,46 @@ use std::{fs, io};
 use store_folders::{FolderStore, LooseIds, ObjectsFolder};
 
 // A file that is moved before a folder is listed: how many were listed before, and the two paths.
-type Move = (usize, &'static str, &'static str);
+type Move = (usize, (&'static str, &'static str));
 
-// Folders in which files are moved as they are listed.
+// The names in a folder, each given by a read of its own, from the last on.
+#[derive(Drop)]
+struct Names<'a> {
+    left: Vec<Vec<u8>>,
+    reads: &'a Reads,
+}
+
+impl<'a> Names<'a> {
+    fn open<R: Files + AllocGlobal>(rt: &R, path: &str, reads: &'a Reads) -> io::Result<Self> {
+        let mut names = Vec::new(rt.alloc());
+        BufReader::new(rt.alloc(), rt.open_dir(path)?)?.read_to_end(&mut names)?;
+        let mut left = Vec::new(rt.alloc());
+        for name in names.split_inclusive(|byte| *byte == 0) {
+            left.push(name.to_vec(rt.alloc())?)?;
+        }
+        left.sort_unstable();
+        Ok(Names { left, reads })
+    }
+}
+
+impl Read for Names<'_> {
+    fn read(&mut self, buf: &mut [u8]) -> io::Result<usize> {
+        self.reads.read()?;
+        let Some(name) = self.left.pop() else {
+            return Ok(0);
+        };
+        let len = name.len().min(buf.len());
+        buf[..len].copy_from_slice(&name[..len]);
+        Ok(len)
+    }
+}
+
+// Folders in which files are moved as they are listed, and of which so many reads are left.
 struct Moving<'a, R> {
     rt: &'a R,
     moves: &'a [Move],
     listed: &'a Cell<usize>,
+    reads: &'a Reads,
 }
 
 impl<R> Copy for Moving<'_, R> {}
@@ -41,19 +76,19 @@ impl<R: AllocGlobal> Alloc for Moving<'_, R> {
     }
 }
 
-impl<R: Files<File = File>> Files for Moving<'_, R> {
+impl<'a, R: Files<File = File> + AllocGlobal> Files for Moving<'a, R> {
     type File = File;
 
-    type Dir = R::Dir;
+    type Dir = Names<'a>;
 
-    fn open_dir(&self, path: &str) -> io::Result<Self::Dir> {
-        for (before, from, to) in self.moves {
+    fn open_dir(&self, path: &str) -> io::Result<Names<'a>> {
+        for (before, (from, to)) in self.moves {
             if *before == self.listed.get() {
                 self.rt.rename(from, to)?;
             }
         }
         self.listed.set(self.listed.get().saturating_add(1));
-        self.rt.open_dir(path)
+        Names::open(self.rt, path, self.reads)
     }
 
     fn open_file(&self, how: &OpenOptions, path: &str) -> io::Result<File> {
@@ -129,7 +164,7 @@ const NEW_LOOSE: (&str, &str) = (
 );
 
 // Moves as by `git gc`: of objects into a pack, from a pack into another, and out of a pack.
-const MOVES: [[(usize, (&str, &str)); 3]; 5] = [
+const MOVES: [[Move; 3]; 5] = [
     [(0, NEW_PACK), (0, NEW_INDEX), (1, OLD_LOOSE)],
     [(1, NEW_PACK), (1, NEW_INDEX), (1, OLD_LOOSE)],
     [(2, NEW_PACK), (2, NEW_INDEX), (2, OLD_LOOSE)],
@@ -137,33 +172,109 @@ const MOVES: [[(usize, (&str, &str)); 3]; 5] = [
     [(2, NEW_LOOSE), (2, OLD_INDEX), (9, OLD_LOOSE)],
 ];
 
-// The ids that are found if files are moved as the store is opened.
-fn found_beside<R: Abort + Files<File = File> + AllocGlobal>(
-    rt: &R,
-    moves: &[(usize, (&'static str, &'static str)); 3],
-) -> Result<Vec<ObjectId>, Fail> {
-    make(rt, &LIVE, &[], &LIVE_INDEXES)?;
-    let mut all = Vec::new(rt.alloc());
-    for (before, (from, to)) in moves {
-        all.push((*before, *from, *to))?;
+// The pack indexes are in the order of their paths.
+fn expect_in_order<R: Files<File = File> + AllocGlobal + Clone + Drop>(
+    rt: &impl Abort,
+    store: &FolderStore<R>,
+) {
+    for at in 1..store.indexes().len() {
+        let before = store.index_path(at - 1).map_or("", |path| path);
+        expect!(rt; store.index_path(at).is_some_and(|path| before < path), at);
     }
-    let listed = Cell::new(0);
+}
+
+// Opens the store with these moves and so many reads of folders, and compares the ids that are found,
+// or the error.
+fn expect_opened<R: Abort + Files<File = File> + AllocGlobal>(
+    rt: &R,
+    objects: &str,
+    moves: &[Move],
+    left: usize,
+    want: Result<&[&str], &str>,
+) -> Result<(), Fail> {
+    let (ids, text) = match want {
+        Ok(ids) => (ids, "found"),
+        Err(text) => (&[] as &[&str], text),
+    };
+    let (listed, reads) = (Cell::new(0), Reads::new(left));
     let moving = Moving {
         rt,
-        moves: &all,
+        moves,
         listed: &listed,
+        reads: &reads,
     };
-    let folder = ObjectsFolder::at(rt, "live/objects")?;
-    let store = FolderStore::open(&moving, &folder, LooseIds::WithFirstByte(0x4b))?;
-    Ok(find(rt, rt.alloc(), &store, "4b")?)
+    let folder = ObjectsFolder::at(rt, objects)?;
+    match FolderStore::open(&moving, &folder, LooseIds::WithFirstByte(0x4b)) {
+        Ok(store) => {
+            expect_text(rt, "found", text);
+            expect_ids(rt, &find(rt, rt.alloc(), &store, "4b")?, ids);
+            expect_in_order(rt, &store);
+        }
+        Err(error) => expect_text(rt, &text_of(rt, error)?, text),
+    }
+    Ok(())
 }
+
+const AMPLE: usize = 10_000;
 
 #[test]
 fn no_object_is_lost_that_moves(rt: HostRuntime) -> Result<(), Fail> {
     for moves in &MOVES {
-        expect_ids(&rt, &found_beside(&rt, moves)?, &[PACKED, LOOSE]);
+        make(&rt, &LIVE, &[], &LIVE_INDEXES)?;
+        expect_opened(&rt, "live/objects", moves, AMPLE, Ok(&[PACKED, LOOSE]))?;
         fs::remove_dir_all(&rt, "live")?;
     }
+    Ok(())
+}
+
+// A pack index that is away whenever the packs are listed again. The store is read 100 times.
+#[test]
+fn a_store_that_changes_is_read_again(rt: HostRuntime) -> Result<(), Fail> {
+    let (home, away) = OLD_INDEX;
+    for (times, want) in [
+        (99, Ok([PACKED, LOOSE].as_slice())),
+        (100, Err("live/objects: changes while it is read")),
+    ] {
+        make(&rt, &LIVE, &[], &LIVE_INDEXES)?;
+        let mut moves = Vec::new(rt.alloc());
+        for n in 0..times {
+            moves.push((3 * n + 2, (home, away)))?;
+            moves.push((3 * n + 3, (away, home)))?;
+        }
+        expect_opened(&rt, "live/objects", &moves, AMPLE, want)?;
+        fs::remove_dir_all(&rt, "live")?;
+    }
+    Ok(())
+}
+
+// A packed object and a loose one, among files of other names.
+const LISTED: [&str; 5] = [
+    "listed/objects/pack/pack-1.pack",
+    "listed/objects/pack/pack-2.pack",
+    "listed/objects/pack/tmp_idx_f0K1Cz",
+    "listed/objects/4b/825dc642cb6eb9a060e54bf8d69288fbee4904",
+    "listed/objects/4b/tmp_obj_f0K1Cz",
+];
+
+const LISTED_INDEXES: [Index; 2] = [
+    ("listed/objects/pack/pack-1.idx", &[BOTH]),
+    ("listed/objects/pack/pack-2.idx", &[LOOSE]),
+];
+
+// The packs are listed, the loose objects, and the packs again. In a folder two names are those of
+// itself and of the one above it, and a last read finds the end.
+#[test]
+fn each_read_of_a_folder_fails_in_turn(rt: HostRuntime) -> Result<(), Fail> {
+    make(&rt, &LISTED, &[], &LISTED_INDEXES)?;
+    for left in 0..=21 {
+        let want = match left {
+            0..8 | 13..21 => Err("listed/objects/pack: permission denied"),
+            8..13 => Err("listed/objects/4b: permission denied"),
+            _ => Ok([PACKED, BOTH, LOOSE].as_slice()),
+        };
+        expect_opened(&rt, "listed/objects", &[], left, want)?;
+    }
+    fs::remove_dir_all(&rt, "listed")?;
     Ok(())
 }
 
@@ -271,9 +382,7 @@ fn packs_are_more_than_open_files(rt: HostRuntime) -> Result<(), Fail> {
     make_many(&rt)?;
     let store = open(&rt, "many/objects")?;
     expect!(&rt; store.indexes().len() == 70);
-    for at in 1..70 {
-        expect!(&rt; store.index_path(at - 1).map_or("", |path| path) < store.index_path(at).map_or("", |path| path));
-    }
+    expect_in_order(&rt, &store);
     expect_ids(&rt, &find(&rt, rt.alloc(), &store, "4b")?, &[BOTH]);
     rt.remove_file("many/objects/pack/pack-69.idx")?;
     match find(&rt, rt.alloc(), &store, "4b") {

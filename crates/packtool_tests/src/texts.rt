@@ -1,8 +1,10 @@
-//! Lists of alternates, and configs.
+//! Lists of alternates, configs, and the texts of errors.
 
 use crate::expecting::{expect, expect_text, text_of};
 use git_texts::alternates::alternate_paths;
-use git_texts::config::kind_in_config;
+use git_texts::config::{ConfigError, kind_in_config};
+use packtool_commands::{FileError, StoreError};
+use std::alloc::AllocError;
 use std::test::Fail;
 
 // Lists of alternates, and the paths that Git 2.39 takes from them: files `info/alternates`, and
@@ -139,6 +141,28 @@ fn kinds_in_configs(rt: HostRuntime) -> Result<(), Fail> {
             Err(error) => text_of(&rt, error)?,
         };
         expect_text(&rt, &said, want);
+    }
+    Ok(())
+}
+
+// Those that `packtool` does not print.
+#[test]
+fn texts_of_errors(rt: HostRuntime) -> Result<(), Fail> {
+    for (text, want) in [
+        (text_of(&rt, FileError::Memory)?, "out of memory"),
+        (text_of(&rt, FileError::Input)?, "cannot read"),
+        (text_of(&rt, FileError::Output)?, "cannot write"),
+        (text_of(&rt, StoreError::Output)?, "cannot write"),
+        (
+            text_of(&rt, ConfigError::Memory(AllocError))?,
+            "out of memory",
+        ),
+        (
+            text_of(&rt, store_folders::Error::Memory(AllocError))?,
+            "out of memory",
+        ),
+    ] {
+        expect_text(&rt, &text, want);
     }
     Ok(())
 }
