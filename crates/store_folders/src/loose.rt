@@ -1,6 +1,6 @@
 //! The loose objects in objects folders, by the names of their files.
 
-ghost use Rattle.std.specs.Prelude.{◌≡◌, ◌++◌, All, IfOk, IfSome, OnOk, map, nat_eq, string_bytes};
+ghost use Rattle.std.specs.Prelude.{◌≡◌, ◌++◌, All, IfOk, IfSome, OnOk, drop, map, nat_eq, string_bytes, take};
 ghost use Rattle.std.specs.Cmp.Lexicographic.{pointwise};
 ghost use Rattle.gix_hash.specs.ObjectId.{id_digits, id_kind};
 ghost use Rattle.store_folders.specs.LoosePaths.{path_in, paths_in};
@@ -26,20 +26,31 @@ pub enum LooseIds {
     WithFirstByte(u8),
 }
 
-// An objects folder, and the ids of the loose objects that were listed in it.
+// An objects folder, and where the ids of its loose objects begin and end among all that were
+// listed.
 #[derive(Drop)]
 pub(crate) struct LooseFolder {
     pub(crate) path: String,
+    pub(crate) start: usize,
+    pub(crate) end: usize,
+}
+
+// The loose objects that were listed.
+#[derive(Drop)]
+pub(crate) struct LooseObjects {
+    pub(crate) folders: Vec<LooseFolder>,
+    // Their ids, folder by folder.
     pub(crate) ids: Vec<ObjectId>,
 }
 
-// The ids of the loose objects that were listed.
-#[derive(Drop)]
-pub(crate) struct LooseObjects {
-    // Those of each folder.
-    pub(crate) folders: Vec<LooseFolder>,
-    // Those of all folders.
-    pub(crate) ids: Vec<ObjectId>,
+impl LooseObjects {
+    // The ids of those in a folder.
+    pub(crate) fn ids_in(&self, folder: &LooseFolder) -> &[ObjectId]
+        ensures { result.now ≡ drop folder.now.start (take folder.now.end self.now.ids.items) }
+    {
+        let ids = &self.ids[..folder.end.min(self.ids.len())];
+        &ids[folder.start.min(ids.len())..]
+    }
 }
 
 // Lists the loose objects in objects folders.
@@ -51,37 +62,37 @@ pub(crate) fn list_loose<R: Files + AllocGlobal>(
 ) -> Result<LooseObjects, Error>
     ensures { IfOk result (λ loose. All (λ id. id_kind id ≡ kind) loose.ids.items) }
 {
-    let mut loose = LooseObjects {
-        folders: Vec::new(rt.alloc()),
-        ids: Vec::new(rt.alloc()),
-    };
+    let mut folders = Vec::with_capacity(rt.alloc(), paths.len())?;
+    let mut ids = Vec::new(rt.alloc());
     for path in paths {
-        let folder = list_folder(rt, path, kind, which)?;
-        loose.ids.extend_from_slice(&folder.ids)?;
-        loose.folders.push(folder)?;
+        let start = ids.len();
+        push_folder(rt, path, kind, which, &mut ids)?;
+        let end = ids.len();
+        let path = String::from_str(rt.alloc(), path)?;
+        folders.push(LooseFolder { path, start, end })?;
     }
-    Ok(loose)
+    Ok(LooseObjects { folders, ids })
 }
 
-// Lists the loose objects in an objects folder.
-fn list_folder<R: Files + AllocGlobal>(
+// Adds the ids of the loose objects in an objects folder.
+fn push_folder<R: Files + AllocGlobal>(
     rt: &R,
-    path: &str,
+    folder: &str,
     kind: Kind,
     which: LooseIds,
-) -> Result<LooseFolder, Error>
-    ensures { IfOk result (λ folder. All (λ id. id_kind id ≡ kind) folder.ids.items) }
+    ids: &mut Vec<ObjectId>,
+) -> Result<(), Error>
+    requires { All (λ id. id_kind id ≡ kind) ids.old.items }
+    ensures { OnOk result (All (λ id. id_kind id ≡ kind) ids.new.items) }
 {
     let (first, last) = match which {
         LooseIds::All => (0, u8::MAX),
         LooseIds::WithFirstByte(byte) => (byte, byte),
     };
-    let mut ids = Vec::new(rt.alloc());
     for byte in first..=last {
-        push_part(rt, path, kind, byte, &mut ids)?;
+        push_part(rt, folder, kind, byte, ids)?;
     }
-    let path = String::from_str(rt.alloc(), path)?;
-    Ok(LooseFolder { path, ids })
+    Ok(())
 }
 
 // Adds the ids of the loose objects in an objects folder that have a first byte. Names that are no

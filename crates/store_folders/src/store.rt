@@ -142,7 +142,7 @@ impl<R: Files<File = File> + AllocGlobal + Clone + Drop> FolderStore<R> {
     /// ```
     pub fn check_loose_files(&self, prefix: &Prefix) -> Result<(), Error> {
         for folder in &self.loose.folders {
-            for id in &folder.ids {
+            for id in self.loose.ids_in(folder) {
                 if begins_with(id, prefix) {
                     self.check_loose_file(&folder.path, id)?;
                 }
@@ -201,14 +201,15 @@ impl<R: Files<File = File> + AllocGlobal + Clone + Drop> Store for FolderStore<R
 }
 
 impl<R: Files<File = File> + AllocGlobal + Clone + Drop> StorePaths for FolderStore<R> {
-    ghost use Rattle.std.specs.Prelude.{[], flat_map, map, slice_index_or, string_bytes};
+    ghost use Rattle.std.specs.Prelude.{[], drop, flat_map, map, slice_index_or, string_bytes, take};
     ghost use Rattle.gix_hash.specs.ObjectId.{id_digits};
     ghost use Rattle.store_folders.specs.LoosePaths.{paths_in};
 
     ghost pack_path = { λ store pack. slice_index_or (map string_bytes store.packs.items) pack [] };
 
     ghost loose_paths = { λ store digits. flat_map (λ folder. paths_in (string_bytes folder.path)
-        (map id_digits folder.ids.items) digits) store.loose.folders.items };
+        (map id_digits (drop folder.start (take folder.end store.loose.ids.items))) digits)
+        store.loose.folders.items };
 
     fn pack_path(&self, pack: usize) -> &str {
         match self.packs.get(pack) {
@@ -222,7 +223,8 @@ impl<R: Files<File = File> + AllocGlobal + Clone + Drop> StorePaths for FolderSt
         let alloc = self.rt.alloc();
         let mut paths = Vec::new(alloc);
         for folder in &self.loose.folders {
-            push_paths(alloc, &folder.path, &folder.ids, id, &mut paths)?;
+            let ids = self.loose.ids_in(folder);
+            push_paths(alloc, &folder.path, ids, id, &mut paths)?;
         }
         Ok(paths)
     }
