@@ -8,15 +8,16 @@
 mod arguments;
 mod failure;
 mod files;
+mod output;
 mod stores;
 mod words;
 
 use arguments::{FileCommand, Request};
 use clap::ArgMatches;
 use failure::Failure;
-use std::io::{self, BufWriter, ErrorKind};
+use output::{buffered, flushed};
+use std::io::{self, ErrorKind};
 use std::process::ExitCode;
-use streams::{BufferedSink, Plain};
 use words::lossy_text;
 
 // The statuses, a worse one above a better.
@@ -77,45 +78,26 @@ fn run<'a>(rt: &HostRuntime, words: &'a [String]) -> Result<u8, Failure<'a>> {
     let Some(request) = arguments::read_request(name) else {
         return Ok(FAILED);
     };
-    let Ok(writer) = BufWriter::new(rt.alloc(), rt.stdout()) else {
-        return Err(Failure::Memory);
-    };
-    let mut out = Plain::new(writer);
-    let status = match request {
-        Request::Store(command) => stores::run(rt, command, matches, &mut out)?,
-        Request::Files(command) => run_over_files(rt, command, matches, &mut out)?,
-    };
-    flushed(request, status, &mut out)
-}
-
-// Writes what is left of the output, and returns the status, also of `check` if nobody reads the
-// output any more.
-fn flushed<'a, W: io::Write + Drop>(
-    request: Request,
-    status: u8,
-    out: &mut Plain<BufWriter<W>>,
-) -> Result<u8, Failure<'a>> {
-    let _ = out.flush();
-    match (out.error(), request) {
-        (None, _) => Ok(status),
-        (Some(error), Request::Files(FileCommand::Check)) if is_closed_pipe(&error) => Ok(status),
-        (Some(error), _) => Err(Failure::Output(error)),
+    match request {
+        Request::Store(command) => stores::run(rt, command, matches),
+        Request::Files(command) => run_over_files(rt, command, matches),
     }
 }
 
-// Runs `show` or `check` over each file, also after one that cannot be read.
-fn run_over_files<'a, W: io::Write>(
+// Runs `show` or `check` over each file, also after one that cannot be read. `check` returns the
+// status also if nobody reads the output any more.
+fn run_over_files<'a>(
     rt: &HostRuntime,
     command: FileCommand,
     matches: &ArgMatches<'a>,
-    out: &mut Plain<W>,
 ) -> Result<u8, Failure<'a>> {
+    let mut out = buffered(rt, rt.stdout())?;
     let kind = arguments::kind(matches);
     let mut status = FOUND;
     for path in matches.get_strs("files").unwrap_or(&[]) {
         let outcome = match command {
-            FileCommand::Show => files::show(rt, path, kind, out),
-            FileCommand::Check => files::check(rt, path, kind, out),
+            FileCommand::Show => files::show(rt, path, kind, &mut out),
+            FileCommand::Check => files::check(rt, path, kind, &mut out),
         };
         match outcome {
             Ok(true) => {}
@@ -127,5 +109,8 @@ fn run_over_files<'a, W: io::Write>(
             Err(failure) => return Err(failure),
         }
     }
-    Ok(status)
+    match (flushed(status, &mut out), command) {
+        (Err(Failure::Output(error)), FileCommand::Check) if is_closed_pipe(&error) => Ok(status),
+        (flushed, _) => flushed,
+    }
 }

@@ -6,35 +6,60 @@ ghost use Rattle.gix_hash.specs.Kind.{hex_len_of};
 use crate::arguments::{self, StoreCommand};
 use crate::failure::Failure;
 use crate::files::expect_text;
+use crate::output::{Noting, buffered, flushed};
 use crate::words::lossy_text;
 use crate::{FAILED, FOUND, NOTHING};
 use clap::ArgMatches;
 use gix_hash::{Kind, Prefix};
 use object_store::Store;
 use packtool_commands::{StoreError, find, locate, names};
+use std::cell::Cell;
 use std::io;
-use store_folders::{FolderStore, LooseIds, ObjectsFolder, find_objects};
+use store_folders::{Error, FolderStore, LooseIds, ObjectsFolder, find_objects};
 use streams::Plain;
 
-// How often a store is opened from which pack indexes are removed while it is read.
+// How often a command begins.
 const MAX_TRIES: usize = 10;
 
 /// Runs `find`, `where` or `names`, and returns the status. If a pack index is gone that was listed,
-/// the store is opened again, unless something may be written.
-pub fn run<'a, W: io::Write>(
+/// it begins again over the store as it is then, unless something may have been written to standard
+/// output.
+pub fn run<'a>(
     rt: &HostRuntime,
     command: StoreCommand,
     matches: &ArgMatches<'a>,
-    out: &mut Plain<W>,
 ) -> Result<u8, Failure<'a>> {
     let folder = objects_folder(rt, matches)?;
-    for _ in 1..MAX_TRIES {
-        let ran = run_once(rt, &folder, command, matches, out);
-        if matches!(command, StoreCommand::Names) || !is_gone(&ran) {
-            return ran;
+    for _ in 0..MAX_TRIES {
+        if let Some(status) = run_once(rt, &folder, command, matches)? {
+            return Ok(status);
         }
     }
-    run_once(rt, &folder, command, matches, out)
+    let path = folder.path;
+    let why = "changes while it is read";
+    Err(Failure::Store(Error::Text { path, why }))
+}
+
+// Runs a command, and returns the status, or `None` if it is to begin again.
+fn run_once<'a>(
+    rt: &HostRuntime,
+    folder: &ObjectsFolder,
+    command: StoreCommand,
+    matches: &ArgMatches<'a>,
+) -> Result<Option<u8>, Failure<'a>> {
+    let is_written = Cell::new(false);
+    let output = Noting {
+        inner: rt.stdout(),
+        is_written: &is_written,
+    };
+    let mut out = buffered(rt, output)?;
+    let ran = write_lines(rt, folder, command, matches, &mut out);
+    if is_gone(&ran) && !is_written.get() {
+        // The lines in the buffer are dropped, not written.
+        drop(out.into_inner().into_parts());
+        return Ok(None);
+    }
+    Ok(Some(flushed(ran?, &mut out)?))
 }
 
 // Whether a pack index was gone that was listed.
@@ -45,8 +70,8 @@ fn is_gone(ran: &Result<u8, Failure<'_>>) -> bool {
     }
 }
 
-// Opens the store, and runs the command over it.
-fn run_once<'a, W: io::Write>(
+// Opens the store, and runs a command over it.
+fn write_lines<'a, W: io::Write>(
     rt: &HostRuntime,
     folder: &ObjectsFolder,
     command: StoreCommand,
