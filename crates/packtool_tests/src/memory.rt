@@ -25,7 +25,7 @@ impl Reads {
     }
 
     /// Fails if no read is left.
-    pub fn read(&self) -> io::Result<()> {
+    fn read(&self) -> io::Result<()> {
         let left = self.left.get();
         if left == 0 {
             return Err(io::ErrorKind::PermissionDenied.into());

@@ -3,7 +3,6 @@
 use crate::expecting::{expect, expect_text, text_of};
 use crate::folders::{BOTH, Index, LOOSE, PACKED, make, open};
 use crate::look_ups::{expect_ids, find};
-use crate::memory::Reads;
 use gix_hash::{ObjectId, Prefix};
 use object_store::Store;
 use std::alloc::{Alloc, AllocError, Allocator, Global};
@@ -20,30 +19,36 @@ use store_folders::{FolderStore, LooseIds, ObjectsFolder};
 // A file that is moved before a folder is listed: how many were listed before, and the two paths.
 type Move = (usize, (&'static str, &'static str));
 
-// The names in a folder, each given by a read of its own, from the last on.
+// The names in a folder, each given by a read of its own, from the last on, until no read is left.
 #[derive(Drop)]
-struct Names<'a> {
-    left: Vec<Vec<u8>>,
-    reads: &'a Reads,
+struct Names {
+    names: Vec<Vec<u8>>,
+    reads: usize,
 }
 
-impl<'a> Names<'a> {
-    fn open<R: Files + AllocGlobal>(rt: &R, path: &str, reads: &'a Reads) -> io::Result<Self> {
+impl Names {
+    // Takes the reads that it needs of those that are left.
+    fn open<R: Files + AllocGlobal>(rt: &R, path: &str, left: &Cell<usize>) -> io::Result<Self> {
+        let mut all = Vec::new(rt.alloc());
+        BufReader::new(rt.alloc(), rt.open_dir(path)?)?.read_to_end(&mut all)?;
         let mut names = Vec::new(rt.alloc());
-        BufReader::new(rt.alloc(), rt.open_dir(path)?)?.read_to_end(&mut names)?;
-        let mut left = Vec::new(rt.alloc());
-        for name in names.split_inclusive(|byte| *byte == 0) {
-            left.push(name.to_vec(rt.alloc())?)?;
+        for name in all.split_inclusive(|byte| *byte == 0) {
+            names.push(name.to_vec(rt.alloc())?)?;
         }
-        left.sort_unstable();
-        Ok(Names { left, reads })
+        names.sort_unstable();
+        let reads = left.get();
+        left.set(reads.saturating_sub(names.len()).saturating_sub(1));
+        Ok(Names { names, reads })
     }
 }
 
-impl Read for Names<'_> {
+impl Read for Names {
     fn read(&mut self, buf: &mut [u8]) -> io::Result<usize> {
-        self.reads.read()?;
-        let Some(name) = self.left.pop() else {
+        if self.reads == 0 {
+            return Err(io::ErrorKind::PermissionDenied.into());
+        }
+        self.reads -= 1;
+        let Some(name) = self.names.pop() else {
             return Ok(0);
         };
         let len = name.len().min(buf.len());
@@ -57,7 +62,7 @@ struct Moving<'a, R> {
     rt: &'a R,
     moves: &'a [Move],
     listed: &'a Cell<usize>,
-    reads: &'a Reads,
+    reads: &'a Cell<usize>,
 }
 
 impl<R> Copy for Moving<'_, R> {}
@@ -76,12 +81,12 @@ impl<R: AllocGlobal> Alloc for Moving<'_, R> {
     }
 }
 
-impl<'a, R: Files<File = File> + AllocGlobal> Files for Moving<'a, R> {
+impl<R: Files<File = File> + AllocGlobal> Files for Moving<'_, R> {
     type File = File;
 
-    type Dir = Names<'a>;
+    type Dir = Names;
 
-    fn open_dir(&self, path: &str) -> io::Result<Names<'a>> {
+    fn open_dir(&self, path: &str) -> io::Result<Names> {
         for (before, (from, to)) in self.moves {
             if *before == self.listed.get() {
                 self.rt.rename(from, to)?;
@@ -196,7 +201,7 @@ fn expect_opened<R: Abort + Files<File = File> + AllocGlobal>(
         Ok(ids) => (ids, "found"),
         Err(text) => (&[] as &[&str], text),
     };
-    let (listed, reads) = (Cell::new(0), Reads::new(left));
+    let (listed, reads) = (Cell::new(0), Cell::new(left));
     let moving = Moving {
         rt,
         moves,
