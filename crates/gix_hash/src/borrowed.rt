@@ -150,7 +150,8 @@ impl<'a> oid<'a> {
         ensures { IsTrue result ↔ (text.now ≡ spelling hex_letter (oid_digits self.now)) }
     {
         let mut buffer = Kind::hex_buf();
-        self.hex_to_buf(&mut buffer) == text
+        self.put_hex(&mut buffer);
+        self.front_text(&buffer) == text
     }
 
     /// The number of digits that two ids share: those before the first that differs, or all of the
@@ -332,7 +333,8 @@ impl fmt::Display for oid<'_> {
 
     fn fmt<W: fmt::Write>(&self, f: &mut fmt::Formatter<W>) -> fmt::Result {
         let mut buffer = Kind::hex_buf();
-        f.write_str(self.hex_to_buf(&mut buffer))
+        self.put_hex(&mut buffer);
+        f.write_str(self.front_text(&buffer))
     }
 }
 

@@ -210,7 +210,8 @@ impl ObjectId {
         ensures { IsTrue result ↔ (text.now ≡ spelling hex_letter (id_digits self.now)) }
     {
         let mut buffer = Kind::hex_buf();
-        self.hex_to_buf(&mut buffer).as_bytes() == text
+        self.put_hex(&mut buffer);
+        self.front_text(&buffer).as_bytes() == text
     }
 
     /// The id for printing in full.
