@@ -8,7 +8,7 @@ use Rattle.gix_hash.specs.Digits.{first_byte_of}
 use Rattle.gix_hash.specs.declared.Kind.{Kind}
 use Rattle.id_lookup.proofs.SameMembers.{part_is}
 use Rattle.id_lookup.specs.IndexOf.{IsIndexOf}
-use Rattle.object_store.specs.Stores.{HasPlace, Holds, IfKnown, IsFirstFault, IsLocateFault, IsIndexReadOrMemory, IsPlaceFault, IsStoreFault}
+use Rattle.object_store.specs.Stores.{HasLocation, Holds, IfKnown, IsFirstFault, IsLocateFault, IsIndexReadOrMemory, IsLocationFault, IsStoreFault}
 use Rattle.object_store.specs.declared.error.Error.{Error}
 use Rattle.object_store.specs.declared.error.Error.TheVariants.{Index, Memory}
 use Rattle.pack_index.proofs.Buckets.{no_bucket_fault}
@@ -108,13 +108,13 @@ no_store_fault kind packs loose whole byte e =
     no_first_fault (λ bytes. HasBucket kind bytes byte) (λ can_fail bytes why. IsBucketFault can_fail kind bytes byte why) kind packs loose whole e
     (λ can_fail bytes. no_bucket_fault can_fail kind bytes byte)
 
-no_place_fault : (can_fail : Bool) (kind : Kind) (bytes digits : List ℕ) (e : LazyError) → IsPackIndex kind bytes → IsPlaceFault can_fail kind bytes digits e
+no_location_fault : (can_fail : Bool) (kind : Kind) (bytes digits : List ℕ) (e : LazyError) → IsPackIndex kind bytes → IsLocationFault can_fail kind bytes digits e
     → lazy.IsReadOrMemory can_fail e
-no_place_fault can_fail kind bytes digits (NoOffset at) index fault = fault.2 (index.offsets.in_table at (omega (arith, fault.0.inside, fault.1.to)))
-no_place_fault can_fail kind bytes digits e index fault = no_bucket_fault can_fail kind bytes (first_byte_of digits) e index fault
+no_location_fault can_fail kind bytes digits (NoOffset at) index fault = fault.2 (index.offsets.in_table at (omega (arith, fault.0.inside, fault.1.to)))
+no_location_fault can_fail kind bytes digits e index fault = no_bucket_fault can_fail kind bytes (first_byte_of digits) e index fault
 
 pub no_locate_fault : (kind : Kind) (packs : List LazyIndex) (loose whole : List (List ℕ)) (digits : List ℕ) (e : Error)
     → Holds kind packs loose whole → IsLocateFault kind packs digits e → IsIndexReadOrMemory packs e
 no_locate_fault kind packs loose whole digits e =
-    no_first_fault (λ bytes. HasPlace kind bytes digits) (λ can_fail bytes why. IsPlaceFault can_fail kind bytes digits why) kind packs loose whole e
-    (λ can_fail bytes. no_place_fault can_fail kind bytes digits)
+    no_first_fault (λ bytes. HasLocation kind bytes digits) (λ can_fail bytes why. IsLocationFault can_fail kind bytes digits why) kind packs loose whole e
+    (λ can_fail bytes. no_location_fault can_fail kind bytes digits)

@@ -3,4 +3,4 @@ pub mod Held
 pub mod Located
 pub mod Named
 pub mod PartNames
-pub mod PlaceMembers
+pub mod LocationMembers

@@ -1,4 +1,4 @@
--- What was found in each pack index and among the loose ids are the places of the object.
+-- What was found in each pack index and among the loose ids are the locations of the object.
 use Rattle.std.proofs.Common.{◌≡◌, ◌≢◌, ℕ, suc, ◌+◌, ◌<◌, ◌≤◌, Bool, true, ◌&&◌, ◌||◌, nat_eq, Option, None, Some, List, [], ◌∷◌, ◌++◌, length, get_or, map, refl, sym, ap, ◌∙◌, subst, arith, eq-eqb}
 use Rattle.std.specs.Prelude.{◌↔◌}
 use Rattle.std.specs.Cmp.Lexicographic.{bytes_decides}
@@ -11,9 +11,9 @@ use Rattle.gix_hash.specs.Kind.{number_of}
 use Rattle.gix_hash.specs.ObjectId.{id_digits, id_eq, id_kind}
 use Rattle.gix_hash.specs.declared.Kind.{Kind}
 use Rattle.gix_hash.specs.declared.ObjectId.{ObjectId}
-use Rattle.object_store.specs.Places.{offset_of, packed_at, packed_places}
-use Rattle.object_store.specs.Stores.{HasPlace, IsPlaceFault}
-use Rattle.object_store.specs.declared.places.Place.{Place}
+use Rattle.object_store.specs.Locations.{offset_of, packed_at, packed_locations}
+use Rattle.object_store.specs.Stores.{HasLocation, IsLocationFault}
+use Rattle.object_store.specs.declared.locations.Location.{Location}
 use Rattle.object_store.proofs.Held.{IsPackAt, as_many, known_at}
 use Rattle.pack_index.specs.Firsts.{Each}
 use Rattle.pack_index.specs.Format.{HasCount, HasOffset, IsPackIndex, names_in, offset_in}
@@ -43,17 +43,17 @@ offset_some kind bytes id at offset found is =
 
 -- what an index has of an id that it was asked for
 module _ (kind : Kind) (bytes id : List ℕ) (bucket : HasBucket kind bytes (first_byte_of id)) where
-  pub place_none : ((n : ℕ) → (None ≡ Some n) ↔ IsFirstCounted kind bytes id n) → HasPlace kind bytes id
-  place_none counted = record { bucket = bucket; offset = λ n there. let same = (counted n).1 there in absurd cc }
+  pub location_none : ((n : ℕ) → (None ≡ Some n) ↔ IsFirstCounted kind bytes id n) → HasLocation kind bytes id
+  location_none counted = record { bucket = bucket; offset = λ n there. let same = (counted n).1 there in absurd cc }
 
   module _ (at : ℕ) (counted : (n : ℕ) → (Some at ≡ Some n) ↔ IsFirstCounted kind bytes id n) where
-    pub place_some : HasOffset kind bytes at → HasPlace kind bytes id
-    place_some has = record {
+    pub location_some : HasOffset kind bytes at → HasLocation kind bytes id
+    location_some has = record {
       bucket = bucket;
       offset = λ n there. let same = (counted n).1 there in let at_n : at ≡ n = cc in subst (HasOffset kind bytes) at_n has;
     }
 
-    pub offset_fault : (can_fail : Bool) (e : LazyError) → IsOffsetFault can_fail kind bytes at e → IsPlaceFault can_fail kind bytes id e
+    pub offset_fault : (can_fail : Bool) (e : LazyError) → IsOffsetFault can_fail kind bytes at e → IsLocationFault can_fail kind bytes id e
     offset_fault can_fail (Read e) fault = fault
     offset_fault can_fail (NoOffset k) fault = (
       bucket,
@@ -63,12 +63,12 @@ module _ (kind : Kind) (bytes id : List ℕ) (bucket : HasBucket kind bytes (fir
     offset_fault can_fail _ fault = absurd fault
 
 -- one pack more
-pub place_more : (kind : Kind) (packs : List LazyIndex) (id : List ℕ) (at : ℕ) (pack : LazyIndex) (offset : Option ℕ) (old new : List Place) (indexes : List (List ℕ))
+pub location_more : (kind : Kind) (packs : List LazyIndex) (id : List ℕ) (at : ℕ) (pack : LazyIndex) (offset : Option ℕ) (old new : List Location) (indexes : List (List ℕ))
     → map (λ (p : LazyIndex). p.content) packs ≡ map Some indexes → All (IsPackIndex kind) indexes → IsPackAt kind packs at pack
     → ((bytes : List ℕ) → pack.content ≡ Some bytes → Each (HasCount pack.kind bytes) 256 → offset ≡ offset_of pack.kind bytes id)
-    → old ≡ packed_places kind id indexes at → new ≡ old ++ packed_at at offset → new ≡ packed_places kind id indexes (at + 1)
-unfolding packed_places
-place_more kind packs id at pack offset old new indexes same each here found before all =
+    → old ≡ packed_locations kind id indexes at → new ≡ old ++ packed_at at offset → new ≡ packed_locations kind id indexes (at + 1)
+unfolding packed_locations
+location_more kind packs id at pack offset old new indexes same each here found before all =
     let content : LazyIndex → Option (List ℕ) = λ p. p.content in
     let bytes = get_or indexes at [] in
     let inside : at < length indexes = omega (arith, here.low, as_many content packs indexes same) in
@@ -76,7 +76,7 @@ place_more kind packs id at pack offset old new indexes same each here found bef
     let counts : Each (HasCount pack.kind bytes) 256 = subst (λ (n : Kind). Each (HasCount n bytes) 256) (sym here.of_kind) (each at [] inside).names.counts in
     let there : offset ≡ offset_of kind bytes id = found bytes known counts ∙ ap (λ (n : Kind). offset_of n bytes id) here.of_kind in
     let next : suc at ≡ at + 1 = omega arith in
-    all ∙ (λ i. before i ++ packed_at at (there i)) ∙ ap (packed_places kind id indexes) next
+    all ∙ (λ i. before i ++ packed_at at (there i)) ∙ ap (packed_locations kind id indexes) next
 
 -- ids of one kind are equal if their digits are
 pub any_digits : (kind : Kind) (id : ObjectId) → id_kind id ≡ kind → (ids : List ObjectId) → All (λ other. id_kind other ≡ kind) ids

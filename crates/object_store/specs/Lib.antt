@@ -1,5 +1,5 @@
 -- Object stores and the ids that they hold.
 pub mod Wanted
 pub mod Stores
-pub mod Places
+pub mod Locations
 pub mod Parts

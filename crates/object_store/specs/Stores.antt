@@ -51,23 +51,23 @@ IsStoreFault kind packs byte error =
     IsFirstFault (λ bytes. HasBucket kind bytes byte) (λ can_fail bytes why. IsBucketFault can_fail kind bytes byte why) packs error
 
 -- a pack index has the names that are counted with the first byte of the id of these digits, and an offset if the id is one of them
-pub record HasPlace (kind : Kind) (bytes digits : List ℕ) : Type 0 where
+pub record HasLocation (kind : Kind) (bytes digits : List ℕ) : Type 0 where
   pub bucket : HasBucket kind bytes (first_byte_of digits)
   pub offset : (at : ℕ) → IsFirstCounted kind bytes digits at → HasOffset kind bytes at
 
 -- why they are not read
-abbrev pub IsPlaceFault : Bool → Kind → List ℕ → List ℕ → LazyError → Type 0
-IsPlaceFault can_fail kind bytes digits (NoOffset at) =
+abbrev pub IsLocationFault : Bool → Kind → List ℕ → List ℕ → LazyError → Type 0
+IsLocationFault can_fail kind bytes digits (NoOffset at) =
     HasBucket kind bytes (first_byte_of digits) × IsFirstCounted kind bytes digits at × ¬ HasOffset kind bytes at
-IsPlaceFault can_fail kind bytes digits error = IsBucketFault can_fail kind bytes (first_byte_of digits) error
+IsLocationFault can_fail kind bytes digits error = IsBucketFault can_fail kind bytes (first_byte_of digits) error
 
 -- the same of all pack indexes, as for a first byte
-abbrev pub HavePlaces : Kind → List LazyIndex → List ℕ → Type 0
-HavePlaces kind packs digits = All (IfKnown (λ bytes. HasPlace kind bytes digits)) packs
+abbrev pub HaveLocations : Kind → List LazyIndex → List ℕ → Type 0
+HaveLocations kind packs digits = All (IfKnown (λ bytes. HasLocation kind bytes digits)) packs
 
 abbrev pub IsLocateFault : Kind → List LazyIndex → List ℕ → Error → Type 0
 IsLocateFault kind packs digits error =
-    IsFirstFault (λ bytes. HasPlace kind bytes digits) (λ can_fail bytes why. IsPlaceFault can_fail kind bytes digits why) packs error
+    IsFirstFault (λ bytes. HasLocation kind bytes digits) (λ can_fail bytes why. IsLocationFault can_fail kind bytes digits why) packs error
 
 -- a read failed that may, of the pack index at the index, or memory ran out
 abbrev pub IsIndexReadOrMemory : List LazyIndex → Error → Type 0

@@ -2,10 +2,10 @@
 
 ghost use Rattle.std.specs.Prelude.{◌↔◌, ℕ, ◌<◌, Contains, List, [], length, slice_index_or};
 ghost use Rattle.gix_hash.specs.declared.Kind.{Kind};
-ghost use Rattle.object_store.specs.Places.{HasObjectAt, places_of};
+ghost use Rattle.object_store.specs.Locations.{HasObjectAt, locations_of};
 ghost use Rattle.object_store.specs.Stores.{Holds, IsLocateFault, IsIndexReadOrMemory, IsStoreFault};
 ghost use Rattle.object_store.specs.declared.error.Error.{Error as StoreError};
-ghost use Rattle.object_store.specs.declared.places.Place.TheVariants.{Packed, Loose};
+ghost use Rattle.object_store.specs.declared.locations.Location.TheVariants.{Packed, Loose};
 ghost use Rattle.pack_index.specs.Lazy.{LazyIndex};
 
 /// If the bytes of a store are known and are those of pack indexes, then a look-up fails only
@@ -14,19 +14,19 @@ pub fn failures()
     ensures buckets { (kind : Kind) (packs : List LazyIndex) (loose : List (List ℕ))
         (whole : List (List ℕ)) (byte : ℕ) (error : StoreError) → Holds kind packs loose whole
         → IsStoreFault kind packs byte error → IsIndexReadOrMemory packs error }
-    ensures places { (kind : Kind) (packs : List LazyIndex) (loose : List (List ℕ))
+    ensures locations { (kind : Kind) (packs : List LazyIndex) (loose : List (List ℕ))
         (whole : List (List ℕ)) (digits : List ℕ) (error : StoreError)
         → Holds kind packs loose whole → IsLocateFault kind packs digits error
         → IsIndexReadOrMemory packs error }
 {}
 
-/// `locate` adds no place and leaves none out: an object is at an offset in a pack if and only if
+/// `locate` adds no location and leaves none out: an object is at an offset in a pack if and only if
 /// the pack index has its name, the first of which has that offset; and it is a loose object if and
 /// only if its id is one of the loose ids.
-pub fn places()
+pub fn locations()
     ensures packed { (kind : Kind) (id : List ℕ) (indexes loose_ids : List (List ℕ))
-        (pack offset : ℕ) → Contains (places_of kind id indexes loose_ids) (Packed pack offset)
+        (pack offset : ℕ) → Contains (locations_of kind id indexes loose_ids) (Packed pack offset)
         ↔ ((pack < length indexes) × HasObjectAt kind (slice_index_or indexes pack []) id offset) }
     ensures loose { (kind : Kind) (id : List ℕ) (indexes loose_ids : List (List ℕ))
-        → Contains (places_of kind id indexes loose_ids) Loose ↔ Contains loose_ids id }
+        → Contains (locations_of kind id indexes loose_ids) Loose ↔ Contains loose_ids id }
 {}

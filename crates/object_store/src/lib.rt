@@ -10,15 +10,15 @@
 mod error;
 mod gathering;
 pub mod laws;
+mod locations;
 mod naming;
 mod part;
-mod places;
 mod store;
 mod wanted;
 
 pub use error::Error;
 pub use gathering::lookup_prefix;
+pub use locations::{Location, locate};
 pub use naming::{NamedId, abbreviate, names};
 pub use part::Part;
-pub use places::{Place, locate};
 pub use store::{Store, StorePaths};

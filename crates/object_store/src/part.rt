@@ -8,13 +8,13 @@ ghost use Rattle.gix_hash.specs.ObjectId.{id_digits, id_kind};
 ghost use Rattle.id_lookup.specs.Index.{IsIndex};
 ghost use Rattle.id_lookup.specs.Runs.{matches};
 ghost use Rattle.object_store.specs.Parts.{AreBuckets, HaveNames, HaveWanted};
-ghost use Rattle.object_store.specs.Places.{places_of};
-ghost use Rattle.object_store.specs.Stores.{HaveBuckets, HavePlaces, Holds, IsLocateFault, IsStoreFault};
+ghost use Rattle.object_store.specs.Locations.{locations_of};
+ghost use Rattle.object_store.specs.Stores.{HaveBuckets, HaveLocations, Holds, IsLocateFault, IsStoreFault};
 ghost use Rattle.object_store.specs.Wanted.{passes, wanted_byte, wanted_len};
 
 use crate::error::Error;
 use crate::gathering::{push_packed, push_wanted};
-use crate::places::{Place, locate_in};
+use crate::locations::{Location, locate_in};
 use crate::store::Store;
 use crate::wanted::Wanted;
 use gix_hash::{ObjectId, Prefix};
@@ -29,7 +29,7 @@ use std::marker::Model;
 /// ```
 /// let part = Part::read(rt.alloc(), &store, prefix.as_oid().first_byte())?;
 /// for id in part.lookup_prefix(rt.alloc(), &store, &prefix)?.iter() {
-///     println!(rt; "{id}: {} places", part.locate(rt.alloc(), &store, id)?.len())?;
+///     println!(rt; "{id}: {} locations", part.locate(rt.alloc(), &store, id)?.len())?;
 /// }
 /// ```
 #[derive(Drop)]
@@ -92,21 +92,21 @@ impl<A: Allocator + Copy> Part<A> {
         self.gather(alloc, store, &Wanted::BeginsWith(*prefix))
     }
 
-    /// All places of an object of the store whose id has the first byte that was read, as
+    /// All locations of an object of the store whose id has the first byte that was read, as
     /// [`locate`](crate::locate) gives them.
     pub fn locate<S: Store>(
         &self,
         alloc: A,
         store: &S,
         id: &ObjectId,
-    ) -> Result<Vec<Place, A>, Error>
+    ) -> Result<Vec<Location, A>, Error>
         requires part { AreBuckets (S.packs store.now) (first_byte_of (id_digits id.now)) self.now }
         requires kind { id_kind id.now ≡ S.kind store.now }
-        ensures places { IfOk result (λ places. (whole : List (List ℕ))
+        ensures locations { IfOk result (λ locations. (whole : List (List ℕ))
             → (h : Holds (S.kind store.now) (S.packs store.now) (S.loose store.now) whole)
-            → places.items
-            ≡ places_of (S.kind store.now) (id_digits id.now) h.indexes (S.loose store.now)) }
-        ensures sound { IfOk result (λ _. HavePlaces (S.kind store.now) (S.packs store.now)
+            → locations.items
+            ≡ locations_of (S.kind store.now) (id_digits id.now) h.indexes (S.loose store.now)) }
+        ensures sound { IfOk result (λ _. HaveLocations (S.kind store.now) (S.packs store.now)
             (id_digits id.now)) }
         ensures err { IfErr result (IsLocateFault (S.kind store.now) (S.packs store.now)
             (id_digits id.now)) }

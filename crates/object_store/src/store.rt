@@ -47,7 +47,7 @@ pub trait Store {
         ensures kinds { All (λ id. id_kind id ≡ kind self.now) result.now };
 }
 
-/// A store whose places have paths.
+/// A store whose packs and loose objects have paths.
 ///
 /// ```
 /// println!(rt; "{}", store.pack_path(0))?;

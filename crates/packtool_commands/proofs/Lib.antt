@@ -1,5 +1,5 @@
 mod LineLemmas
 mod ShownLemmas
 mod NamedLemmas
-mod PlaceLemmas
+mod LocationLemmas
 mod EscapeLemmas

@@ -5,5 +5,5 @@ pub mod Finding
 pub mod Lines
 pub mod Names
 pub mod Pairing
-pub mod Places
+pub mod Locations
 pub mod Showing

@@ -1,11 +1,11 @@
 //! The commands of `packtool`, over any store, reader, writer and allocator.
 //!
-//! [`find`] writes the ids of a store that begin with a prefix, [`locate`] the places of these, and
-//! [`names`] all ids after their shortest names. [`write_place`] writes one place. [`show`] writes
-//! the lines of a pack index as `git show-index` does. [`validate`] says whether a file is a pack
-//! index, [`write_ending`] writes whether a file ends with its digest, [`write_pairing`] whether a
-//! pack index belongs to the pack beside it, as [`pair`] finds, and [`write_named`] another line of
-//! a file. They escape names as `sha1sum` does.
+//! [`find`] writes the ids of a store that begin with a prefix, [`locate`] the locations of these,
+//! and [`names`] all ids after their shortest names. [`write_location`] writes one location.
+//! [`show`] writes the lines of a pack index as `git show-index` does. [`validate`] says whether a
+//! file is a pack index, [`write_ending`] writes whether a file ends with its digest,
+//! [`write_pairing`] whether a pack index belongs to the pack beside it, as [`pair`] finds, and
+//! [`write_named`] another line of a file. They escape names as `sha1sum` does.
 #![tactic(auto)]
 
 mod ending;
@@ -14,16 +14,16 @@ mod escaping;
 mod finding;
 pub mod laws;
 mod lines;
+mod locating;
 mod naming;
 mod pairing;
-mod placing;
 mod showing;
 
 pub use ending::write_ending;
 pub use error::{FileError, StoreError};
 pub use escaping::write_named;
 pub use finding::find;
+pub use locating::{locate, write_location};
 pub use naming::names;
 pub use pairing::{Pairing, PairingError, pair, write_pairing};
-pub use placing::{locate, write_place};
 pub use showing::{show, validate};

@@ -9,7 +9,7 @@ ghost use Rattle.packtool_commands.specs.Ending.{hex_of, verdict};
 ghost use Rattle.packtool_commands.specs.Lines.{crc_text, index_line, line_of};
 ghost use Rattle.packtool_commands.specs.Names.{name_line};
 ghost use Rattle.packtool_commands.specs.Pairing.{pairing_verdict};
-ghost use Rattle.packtool_commands.specs.Places.{place_end};
+ghost use Rattle.packtool_commands.specs.Locations.{location_end};
 
 use crate::pairing::Pairing;
 use gix_hash::{Alphabet, ObjectId, oid};
@@ -29,7 +29,7 @@ pub(crate) const MAX_NAMES_LEN: usize = 130;
 /// The length of the longest verdict: two ids of 64 digits, and 61 bytes around them.
 pub(crate) const MAX_VERDICT_LEN: usize = 189;
 
-/// The lengths of the longest parts of the line of a place before the path and after it: an id and
+/// The lengths of the longest parts of the line of a location before the path and after it: an id and
 /// a blank, and a blank, an offset of 20 digits and a line feed.
 pub(crate) const MAX_START_LEN: usize = 65;
 
@@ -43,7 +43,7 @@ const CRC_LEN: usize = 8;
 
 /// Writes the line of the name at an index to the start of the buffer, and returns its length.
 pub(crate) fn put_index_line(file: &File<'_>, at: usize, line: &mut [u8]) -> usize
-    requires place { at < length (names_in file.now.kind file.now.bytes) }
+    requires location { at < length (names_in file.now.kind file.now.bytes) }
     requires room { length line.old ≡ MAX_LINE_LEN }
     ensures len { result ≤ MAX_LINE_LEN }
     ensures text { take result line.new ≡ index_line file.now.kind file.now.bytes at }
@@ -170,7 +170,7 @@ fn put_digest(before: &[u8], id: &ObjectId, after: &[u8], line: &mut [u8]) -> us
 }
 
 /// Writes an id and a blank to the start of the buffer, and returns their length.
-pub(crate) fn put_place_start(id: &ObjectId, line: &mut [u8]) -> usize
+pub(crate) fn put_location_start(id: &ObjectId, line: &mut [u8]) -> usize
     requires { length line.old ≡ MAX_START_LEN }
     ensures len { result ≤ MAX_START_LEN }
     ensures text { take result line.new ≡ spelling hex_letter (id_digits id.now) ++ 32 ∷ [] }
@@ -179,11 +179,11 @@ pub(crate) fn put_place_start(id: &ObjectId, line: &mut [u8]) -> usize
     put(line, id_end, b" ")
 }
 
-/// Writes what is after the path of a place to the start of the buffer, and returns its length.
-pub(crate) fn put_place_end(offset: Option<u64>, line: &mut [u8]) -> usize
+/// Writes what is after the path of a location to the start of the buffer, and returns its length.
+pub(crate) fn put_location_end(offset: Option<u64>, line: &mut [u8]) -> usize
     requires { length line.old ≡ MAX_END_LEN }
     ensures len { result ≤ MAX_END_LEN }
-    ensures text { take result line.new ≡ place_end offset }
+    ensures text { take result line.new ≡ location_end offset }
 {
     let Some(offset) = offset else {
         return put(line, 0, b"\n");

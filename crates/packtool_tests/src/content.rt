@@ -1,8 +1,8 @@
-//! A store of two packs and loose objects, whose ids, names and places are known.
+//! A store of two packs and loose objects, whose ids, names and locations are known.
 
 use crate::memory::{Memory, Reads};
 use gix_hash::{Kind, ObjectId};
-use object_store::Place;
+use object_store::Location;
 use pack_index::LazyError;
 use std::alloc::Global;
 use std::test::Fail;
@@ -50,17 +50,17 @@ pub const NAMES: [&str; 7] = [
 /// An id that is in both packs and loose.
 pub const EVERYWHERE: &str = "4b825dc642cb6eb9a060e54bf8d69288fbee4904";
 
-/// Its places. Its offset in the second pack is a long one.
-pub const PLACES: [Place; 3] = [
-    Place::Packed {
+/// Its locations. Its offset in the second pack is a long one.
+pub const LOCATIONS: [Location; 3] = [
+    Location::Packed {
         pack: 0,
         offset: 3073,
     },
-    Place::Packed {
+    Location::Packed {
         pack: 1,
         offset: 0x7fff_ffff_ffff_ffff,
     },
-    Place::Loose,
+    Location::Loose,
 ];
 
 /// The bytes of both pack indexes, and the loose ids.

@@ -1,11 +1,11 @@
-//! Look-ups of ids, their names and their places.
+//! Look-ups of ids, their names and their locations.
 
-use crate::content::{ALL, Content, EVERYWHERE, NAMES, PLACES};
+use crate::content::{ALL, Content, EVERYWHERE, LOCATIONS, NAMES};
 use crate::expecting::{expect, expect_text, text_of};
 use crate::memory::{Memory, Reads};
 use gix_hash::{ObjectId, Prefix};
 use linked_list_allocator::LocalHeap;
-use object_store::{Error, NamedId, Place, Store, abbreviate, locate, lookup_prefix, names};
+use object_store::{Error, Location, NamedId, Store, abbreviate, locate, lookup_prefix, names};
 use std::alloc::Allocator;
 use std::process::Abort;
 use std::test::Fail;
@@ -30,19 +30,19 @@ pub fn expect_ids(rt: &impl Abort, found: &[ObjectId], want: &[&str]) {
     }
 }
 
-// The places of an object in a store of the id's kind.
-fn places_of<S: Store, A: Allocator + Copy>(
+// The locations of an object in a store of the id's kind.
+fn locations_of<S: Store, A: Allocator + Copy>(
     rt: &impl Abort,
     alloc: A,
     store: &S,
     id: &str,
-) -> Result<Vec<Place, A>, Error> {
+) -> Result<Vec<Location, A>, Error> {
     let id = ObjectId::from_hex(id.as_bytes()).expect(rt, "no id");
     assert!(rt; id.kind() == store.object_hash());
     locate(alloc, store, &id)
 }
 
-fn expect_places(rt: &impl Abort, found: &[Place], want: &[Place]) {
+fn expect_locations(rt: &impl Abort, found: &[Location], want: &[Location]) {
     expect!(rt; *found == *want);
 }
 
@@ -71,17 +71,17 @@ fn prefixes_are_found_once_and_in_order(rt: HostRuntime) -> Result<(), Fail> {
     Ok(())
 }
 
-fn packed(pack: usize, offset: u64) -> Place {
-    Place::Packed { pack, offset }
+fn packed(pack: usize, offset: u64) -> Location {
+    Location::Packed { pack, offset }
 }
 
 #[test]
-fn places_are_those_of_all_packs(rt: HostRuntime) -> Result<(), Fail> {
+fn locations_are_those_of_all_packs(rt: HostRuntime) -> Result<(), Fail> {
     let content = Content::new(&rt)?;
     let reads = Reads::new(1000);
     let store = content.open(rt.alloc(), &reads)?;
-    let cases: [(&str, &[Place]); 7] = [
-        (EVERYWHERE, &PLACES),
+    let cases: [(&str, &[Location]); 7] = [
+        (EVERYWHERE, &LOCATIONS),
         (
             "0000000000000000000000000000000000000000",
             &[packed(1, 0x1_0000_000c)],
@@ -96,13 +96,16 @@ fn places_are_those_of_all_packs(rt: HostRuntime) -> Result<(), Fail> {
         ),
         (
             "e69de29bb2d1d6434b8b29ae775ad8c2e48c5391",
-            &[packed(0, 3074), Place::Loose],
+            &[packed(0, 3074), Location::Loose],
         ),
-        ("e69de29c00000000000000000000000000000000", &[Place::Loose]),
+        (
+            "e69de29c00000000000000000000000000000000",
+            &[Location::Loose],
+        ),
         ("4b825dc642cb6eb9a060e54bf8d69288fbee4905", &[]),
     ];
     for (id, want) in cases {
-        expect_places(&rt, &places_of(&rt, rt.alloc(), &store, id)?, want);
+        expect_locations(&rt, &locations_of(&rt, rt.alloc(), &store, id)?, want);
     }
     Ok(())
 }
@@ -145,11 +148,11 @@ fn names_are_shortest_in_the_whole_store(rt: HostRuntime) -> Result<(), Fail> {
     Ok(())
 }
 
-// A look-up of the ids that begin with `4b`, or of the places of the id that is everywhere.
+// A look-up of the ids that begin with `4b`, or of the locations of the id that is everywhere.
 #[derive(Clone, Copy)]
 enum Asked {
     Ids,
-    Places,
+    Locations,
 }
 
 // Finds what is asked for, or nothing.
@@ -161,7 +164,11 @@ fn look_up<S: Store, A: Allocator + Copy>(
 ) -> Result<(), Error> {
     match asked {
         Asked::Ids => expect_ids(rt, &find(rt, alloc, store, "4b")?, &ALL[1..4]),
-        Asked::Places => expect_places(rt, &places_of(rt, alloc, store, EVERYWHERE)?, &PLACES),
+        Asked::Locations => expect_locations(
+            rt,
+            &locations_of(rt, alloc, store, EVERYWHERE)?,
+            &LOCATIONS,
+        ),
     }
     Ok(())
 }
@@ -196,7 +203,7 @@ const IDS: [&str; 7] = [
     "found",
 ];
 
-// One of places reads the same, and then an offset of each index, and a long one.
+// One of locations reads the same, and then an offset of each index, and a long one.
 const LOCATED: [&str; 6] = [
     "pack index 0: the pack index cannot be read: permission denied",
     "pack index 1: the pack index cannot be read: permission denied",
@@ -213,7 +220,11 @@ fn each_read_fails_in_turn(rt: HostRuntime) -> Result<(), Fail> {
         expect_text(&rt, &outcome(&rt, &content, left, Asked::Ids)?, want);
     }
     for (done, want) in LOCATED.iter().enumerate() {
-        expect_text(&rt, &outcome(&rt, &content, 4 + done, Asked::Places)?, want);
+        expect_text(
+            &rt,
+            &outcome(&rt, &content, 4 + done, Asked::Locations)?,
+            want,
+        );
     }
     Ok(())
 }
@@ -272,7 +283,7 @@ fn damage_is_reported(rt: HostRuntime) -> Result<(), Fail> {
     let mut content = Content::new(&rt)?;
     set(&mut content.second, 1032 + 3 * (20 + 4) + 4 + 3, 2);
     let want = "pack index 1: the name at place 1 has no offset";
-    expect_text(&rt, &outcome(&rt, &content, 100, Asked::Places)?, want);
+    expect_text(&rt, &outcome(&rt, &content, 100, Asked::Locations)?, want);
     Ok(())
 }
 
@@ -300,7 +311,7 @@ fn memory_is_refused(rt: HostRuntime) -> Result<(), Fail> {
     let content = Content::new(&rt)?;
     let reads = Reads::new(100_000);
     let store = content.open(rt.alloc(), &reads)?;
-    for asked in [Asked::Ids, Asked::Places] {
+    for asked in [Asked::Ids, Asked::Locations] {
         let mut before = false;
         for units in 0..64 {
             let is_enough = is_enough(&rt, &store, units, asked)?;

@@ -114,7 +114,7 @@ fn writes_fail_in_turn(rt: HostRuntime) -> Result<(), Fail> {
     expect_written(&rt, Asked::Find("fe"), "", AMPLE, 0)
 }
 
-// Four reads open the store. Nothing is found in part, and places and names are written until a
+// Four reads open the store. Nothing is found in part, and locations and names are written until a
 // read fails. Two find the ids, and four their offsets.
 #[test]
 fn reads_fail_in_turn(rt: HostRuntime) -> Result<(), Fail> {

@@ -1,0 +1,175 @@
+//! Where an object store has an object.
+
+ghost use Rattle.std.specs.Prelude.{◌≡◌, ◌⊎◌, ℕ, [], ◌∷◌, ◌++◌, All, IfErr, IfOk, List, OnOk, Some, length, map};
+ghost use Rattle.gix_hash.specs.Digits.{first_byte_of};
+ghost use Rattle.gix_hash.specs.ObjectId.{id_digits, id_kind};
+ghost use Rattle.object_store.specs.Parts.{AreBuckets};
+ghost use Rattle.object_store.specs.Locations.{offset_of, packed_at, packed_locations, locations_of};
+ghost use Rattle.object_store.specs.Stores.{HasLocation, HaveBuckets, HaveLocations, Holds, IsLocateFault, IsLocationFault, IsStoreFault};
+ghost use Rattle.pack_index.specs.Firsts.{Each};
+ghost use Rattle.pack_index.specs.Format.{HasCount, IsPackIndex};
+ghost use Rattle.pack_index.specs.Lazy.{IsBucketOf, LazyIndex};
+
+use crate::error::Error;
+use crate::part::Part;
+use crate::store::Store;
+use gix_hash::ObjectId;
+use pack_index::{Bucket, LazyError, LazyFile};
+use std::alloc::{AllocError, Allocator};
+use streams::ReadAt;
+
+/// A location of an object in a store.
+///
+/// ```
+/// for location in locate(rt.alloc(), &store, &id)?.iter() {
+///     match location {
+///         Location::Packed { pack, offset } => println!(rt; "pack {pack}, at byte {offset}")?,
+///         Location::Loose => println!(rt; "loose")?,
+///     }
+/// }
+/// ```
+#[derive(Clone, Copy, PartialEq, Eq, Debug)]
+pub enum Location {
+    /// In a pack.
+    Packed {
+        /// The position of its pack index among those of the store, from 0.
+        pack: usize,
+        /// The offset in the pack, in bytes.
+        offset: u64,
+    },
+    /// Among the loose objects.
+    Loose,
+}
+
+/// All locations of an object: one in each pack whose index has its name, in the order of
+/// [`Store::indexes`], and last [`Location::Loose`] if it is a loose object. The id has the store's
+/// kind.
+///
+/// If a pack index has the name more than once, the offset is that of the first. Of each pack index
+/// only the names with the id's first byte are read, and then, once all are, the offset.
+///
+/// ```
+/// let locations = locate(rt.alloc(), &store, &id)?;
+/// println!(rt; "{} copies", locations.len())?;
+/// ```
+pub fn locate<S: Store, A: Allocator + Copy>(
+    alloc: A,
+    store: &S,
+    id: &ObjectId,
+) -> Result<Vec<Location, A>, Error>
+    requires { id_kind id.now ≡ S.kind store.now }
+    ensures locations { IfOk result (λ locations. (whole : List (List ℕ))
+        → (h : Holds (S.kind store.now) (S.packs store.now) (S.loose store.now) whole)
+        → locations.items
+        ≡ locations_of (S.kind store.now) (id_digits id.now) h.indexes (S.loose store.now)) }
+    ensures sound { IfOk result (λ _. HaveLocations (S.kind store.now) (S.packs store.now)
+        (id_digits id.now)) }
+    ensures err { IfErr result (λ e. IsStoreFault (S.kind store.now) (S.packs store.now)
+        (first_byte_of (id_digits id.now)) e
+        ⊎ (HaveBuckets (S.kind store.now) (S.packs store.now) (first_byte_of (id_digits id.now))
+        × IsLocateFault (S.kind store.now) (S.packs store.now) (id_digits id.now) e)) }
+{
+    let part = Part::read(alloc, store, id.first_byte())?;
+    Ok(part.locate(alloc, store, id)?)
+}
+
+// All locations of an object, by the buckets of its first byte.
+pub(crate) fn locate_in<S: Store, A: Allocator + Copy>(
+    alloc: A,
+    store: &S,
+    buckets: &[Bucket<A>],
+    id: &ObjectId,
+) -> Result<Vec<Location, A>, Error>
+    requires buckets { AreBuckets (S.packs store.now) (first_byte_of (id_digits id.now))
+        buckets.now }
+    requires kind { id_kind id.now ≡ S.kind store.now }
+    ensures locations { IfOk result (λ locations. (whole : List (List ℕ))
+        → (h : Holds (S.kind store.now) (S.packs store.now) (S.loose store.now) whole)
+        → locations.items
+        ≡ locations_of (S.kind store.now) (id_digits id.now) h.indexes (S.loose store.now)) }
+    ensures sound { IfOk result (λ _. HaveLocations (S.kind store.now) (S.packs store.now)
+        (id_digits id.now)) }
+    ensures err { IfErr result (IsLocateFault (S.kind store.now) (S.packs store.now)
+        (id_digits id.now)) }
+{
+    let mut locations = packed_locations(alloc, store, buckets, id)?;
+    if store.loose_ids().contains(id) {
+        push(&mut locations, Location::Loose)?;
+    }
+    Ok(locations)
+}
+
+// The locations of an object in packs, in order.
+fn packed_locations<S: Store, A: Allocator + Copy>(
+    alloc: A,
+    store: &S,
+    buckets: &[Bucket<A>],
+    id: &ObjectId,
+) -> Result<Vec<Location, A>, Error>
+    requires { AreBuckets (S.packs store.now) (first_byte_of (id_digits id.now)) buckets.now }
+    ensures locations { IfOk result (λ locations. (indexes : List (List ℕ))
+        → map (λ (pack : LazyIndex). pack.content) (S.packs store.now) ≡ map Some indexes
+        → All (IsPackIndex (S.kind store.now)) indexes
+        → locations.items
+        ≡ packed_locations (S.kind store.now) (id_digits id.now) indexes (length indexes)) }
+    ensures sound { IfOk result (λ _. HaveLocations (S.kind store.now) (S.packs store.now)
+        (id_digits id.now)) }
+    ensures err { IfErr result (IsLocateFault (S.kind store.now) (S.packs store.now)
+        (id_digits id.now)) }
+{
+    let mut locations = Vec::new(alloc);
+    let packs = store.indexes();
+    for pack in 0..packs.len() {
+        let offset = match packed_offset(&packs[pack], &buckets[pack], id) {
+            Ok(offset) => offset,
+            Err(error) => return Err(Error::Index { at: pack, error }),
+        };
+        push_packed(&mut locations, pack, offset)?;
+    }
+    Ok(locations)
+}
+
+// Adds the location at an offset in a pack, if there is one.
+fn push_packed<A: Allocator>(
+    locations: &mut Vec<Location, A>,
+    pack: usize,
+    offset: Option<u64>,
+) -> Result<(), AllocError>
+    ensures { OnOk result (locations.new.items ≡ locations.old.items ++ packed_at pack offset) }
+{
+    match offset {
+        Some(offset) => push(locations, Location::Packed { pack, offset }),
+        None => Ok(()),
+    }
+}
+
+// Adds a location.
+fn push<A: Allocator>(
+    locations: &mut Vec<Location, A>,
+    location: Location,
+) -> Result<(), AllocError>
+    ensures { OnOk result (locations.new.items ≡ locations.old.items ++ location ∷ []) }
+{
+    Ok(locations.push(location)?)
+}
+
+// The offset in its pack of the object of an id, if the pack index has its name.
+fn packed_offset<S: ReadAt + Drop, A: Allocator>(
+    index: &LazyFile<S>,
+    bucket: &Bucket<A>,
+    id: &ObjectId,
+) -> Result<Option<u64>, LazyError>
+    requires { IsBucketOf index.now (first_byte_of (id_digits id.now)) bucket.now }
+    ensures offset { IfOk result (λ offset. (bytes : List ℕ) → index.now.content ≡ Some bytes
+        → Each (HasCount index.now.kind bytes) 256
+        → offset ≡ offset_of index.now.kind bytes (id_digits id.now)) }
+    ensures sound { IfOk result (λ _. (bytes : List ℕ) → index.now.content ≡ Some bytes
+        → HasLocation index.now.kind bytes (id_digits id.now)) }
+    ensures err { IfErr result (λ e. (bytes : List ℕ) → index.now.content ≡ Some bytes
+        → IsLocationFault index.now.can_fail index.now.kind bytes (id_digits id.now) e) }
+{
+    match index.lookup(bucket, id.as_oid()) {
+        Some(at) => Ok(Some(index.pack_offset_at_index(at)?)),
+        None => Ok(None),
+    }
+}

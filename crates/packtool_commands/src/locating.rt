@@ -1,0 +1,170 @@
+//! The locations of the objects of a store, a line for each.
+
+ghost use Rattle.std.specs.Prelude.{◌≡◌, ◌↔◌, ◌≤◌, ◌++◌, ℕ, List, None, Some, false, true, flat_map, length, string_bytes, IfErr, IfOk, IsErrOf, OnOk, OnErr};
+ghost use Rattle.std.specs.Io.KnownBytes.{Appends};
+ghost use Rattle.gix_hash.specs.Digits.{first_byte_of};
+ghost use Rattle.gix_hash.specs.ObjectId.{id_digits, id_kind};
+ghost use Rattle.id_lookup.specs.Runs.{matches};
+ghost use Rattle.object_store.specs.Parts.{AreBuckets};
+ghost use Rattle.object_store.specs.Stores.{HaveBuckets, HaveLocations, Holds, IsLocateFault};
+ghost use Rattle.packtool_commands.specs.Finding.{IsFaultOf};
+ghost use Rattle.packtool_commands.specs.Locations.{HasLocated, HaveAllLocations, IsMemory, IsLocationsFault, lines_at, lines_of_locations, location_line};
+ghost use Rattle.packtool_commands.specs.declared.error.StoreError.{StoreError};
+ghost use Rattle.streams.specs.Writing.{AppendsAtMost, Wrote};
+
+use crate::error::StoreError;
+use crate::escaping::{write_before, write_mark};
+use crate::lines::{MAX_END_LEN, MAX_START_LEN, put_location_end, put_location_start};
+use gix_hash::{ObjectId, Prefix};
+use object_store::{Location, Part, StorePaths};
+use std::alloc::Allocator;
+use streams::{Sink, WriteFailed, write_all};
+
+/// Writes a line for each location of each id of a store that begins with a prefix: the ids in order,
+/// each once; the locations of one in the order of [`object_store::locate`]; and of a loose object a
+/// line for each file. Paths are escaped as by [`write_location`](crate::write_location). Returns whether
+/// there is such an id.
+///
+/// The prefix has 2 digits or more, and the store's kind. Of each pack index the names with its
+/// first byte are read once. The lines of an id are written before the offsets of the next are read. Under an error a beginning of the right lines was written.
+/// [`StoreError::Output`] is returned if and only if a write fails. The sink must not have failed
+/// before.
+///
+/// ```
+/// if !locate(rt.alloc(), &store, &prefix, &mut out)? {
+///     println!(rt; "no id begins with {prefix}")?;
+/// }
+/// ```
+pub fn locate<S: StorePaths, A: Allocator + Copy, W: Sink>(
+    alloc: A,
+    store: &S,
+    prefix: &Prefix,
+    out: &mut W,
+) -> Result<bool, StoreError>
+    requires enough { 2 ≤ length prefix.now.digits }
+    requires kind { prefix.now.kind ≡ S.kind store.now }
+    requires output { W.has_failed out.old ≡ false }
+    ensures located { IfOk result (λ any. (whole : List (List ℕ))
+        → (h : Holds (S.kind store.now) (S.packs store.now) (S.loose store.now) whole)
+        → HasLocated (lines_of_locations (S.pack_path store.now) (S.loose_paths store.now)
+        (S.kind store.now) h.indexes (S.loose store.now)) (matches prefix.now.digits whole) any
+        (W.taken out.old) (W.taken out.new)) }
+    ensures sound { IfOk result (λ _. HaveBuckets (S.kind store.now) (S.packs store.now)
+        (first_byte_of prefix.now.digits)) }
+    ensures locations { IfOk result (λ _. HaveAllLocations (S.kind store.now) (S.packs store.now)
+        prefix.now.digits) }
+    ensures refused { IfErr result (IsFaultOf (IsLocationsFault (S.kind store.now) (S.packs store.now)
+        prefix.now.digits)) }
+    ensures output { IsErrOf result StoreError.Output ↔ (W.has_failed out.new ≡ true) }
+    ensures part { (whole : List (List ℕ))
+        → (h : Holds (S.kind store.now) (S.packs store.now) (S.loose store.now) whole)
+        → OnErr result (AppendsAtMost (W.taken out.old) (W.taken out.new) (flat_map
+        (lines_of_locations (S.pack_path store.now) (S.loose_paths store.now) (S.kind store.now)
+        h.indexes (S.loose store.now)) (matches prefix.now.digits whole))) }
+{
+    let part = Part::read(alloc, store, prefix.as_oid().first_byte())?;
+    let ids = part.lookup_prefix(alloc, store, prefix)?;
+    for id in &ids {
+        write_locations(alloc, store, &part, id, out)?;
+    }
+    Ok(!ids.is_empty())
+}
+
+// Writes the lines of all locations of an object.
+fn write_locations<S: StorePaths, A: Allocator + Copy, W: Sink>(
+    alloc: A,
+    store: &S,
+    part: &Part<A>,
+    id: &ObjectId,
+    out: &mut W,
+) -> Result<(), StoreError>
+    requires part { AreBuckets (S.packs store.now) (first_byte_of (id_digits id.now)) part.now }
+    requires kind { id_kind id.now ≡ S.kind store.now }
+    requires output { W.has_failed out.old ≡ false }
+    ensures lines { (whole : List (List ℕ))
+        → (h : Holds (S.kind store.now) (S.packs store.now) (S.loose store.now) whole)
+        → let lines = lines_of_locations (S.pack_path store.now) (S.loose_paths store.now)
+        (S.kind store.now) h.indexes (S.loose store.now) (id_digits id.now) in
+        OnOk result (Appends (W.taken out.old) (W.taken out.new) lines)
+        × OnErr result (AppendsAtMost (W.taken out.old) (W.taken out.new) lines) }
+    ensures not_failed { OnOk result (W.has_failed out.new ≡ false) }
+    ensures sound { OnOk result (HaveLocations (S.kind store.now) (S.packs store.now)
+        (id_digits id.now)) }
+    ensures refused { IfErr result (IsFaultOf (IsLocateFault (S.kind store.now) (S.packs store.now)
+        (id_digits id.now))) }
+    ensures output { IsErrOf result StoreError.Output ↔ (W.has_failed out.new ≡ true) }
+{
+    let locations = part.locate(alloc, store, id)?;
+    for location in &locations {
+        write_lines_at(store, id, *location, out)?;
+    }
+    Ok(())
+}
+
+// Writes the lines of one location of an object.
+fn write_lines_at<S: StorePaths, W: Sink>(
+    store: &S,
+    id: &ObjectId,
+    location: Location,
+    out: &mut W,
+) -> Result<(), StoreError>
+    requires { W.has_failed out.old ≡ false }
+    ensures written { OnOk result (Appends (W.taken out.old) (W.taken out.new)
+        (lines_at (S.pack_path store.now) (S.loose_paths store.now) (id_digits id.now) location)) }
+    ensures not_failed { OnOk result (W.has_failed out.new ≡ false) }
+    ensures refused { IfErr result (IsFaultOf IsMemory) }
+    ensures output { IsErrOf result StoreError.Output ↔ (W.has_failed out.new ≡ true) }
+    ensures part { OnErr result (AppendsAtMost (W.taken out.old) (W.taken out.new)
+        (lines_at (S.pack_path store.now) (S.loose_paths store.now) (id_digits id.now) location)) }
+{
+    match location {
+        Location::Packed { pack, offset } => {
+            write_location(id, store.pack_path(pack), Some(offset), out)?;
+        }
+        Location::Loose => write_loose(id, &store.loose_paths(id)?, out)?,
+    }
+    Ok(())
+}
+
+// Writes the lines of the files of a loose object.
+fn write_loose<W: Sink>(id: &ObjectId, paths: &[String], out: &mut W) -> Result<(), WriteFailed>
+    requires { W.has_failed out.old ≡ false }
+    ensures { Wrote W.taken W.has_failed out.old out.new result
+        (flat_map (λ path. location_line (id_digits id.now) (string_bytes path) None) paths.now) }
+{
+    for path in paths {
+        write_location(id, path.as_str(), None, out)?;
+    }
+    Ok(())
+}
+
+/// Writes the line of an object's location: the id, a blank, the path of the file that has it, and, of
+/// a pack, a blank and the offset there. The path is escaped as by
+/// [`write_named`](crate::write_named), so no path looks like a further line.
+///
+/// It stops at the first write that fails, after a proper beginning of the line. The sink must not
+/// have failed before.
+///
+/// ```
+/// if write_location(&id, "objects/pack/pack-1.pack", Some(12), &mut out).is_err() {
+///     println!(rt; "the line is not written whole")?;
+/// }
+/// ```
+pub fn write_location<W: Sink>(
+    id: &ObjectId,
+    path: &str,
+    offset: Option<u64>,
+    out: &mut W,
+) -> Result<(), WriteFailed>
+    requires { W.has_failed out.old ≡ false }
+    ensures { Wrote W.taken W.has_failed out.old out.new result
+        (location_line (id_digits id.now) path.now offset) }
+{
+    let mut start = [0; MAX_START_LEN];
+    let start_len = put_location_start(id, &mut start);
+    let mut end = [0; MAX_END_LEN];
+    let end_len = put_location_end(offset, &mut end);
+    write_mark(path, out)?;
+    write_all(out, &start[..start_len])?;
+    write_before(path, &end[..end_len], out)
+}
