@@ -30,44 +30,41 @@ pub fn run<'a>(
     matches: &ArgMatches<'a>,
 ) -> Result<u8, Failure<'a>> {
     let folder = objects_folder(rt, matches)?;
-    for _ in 0..MAX_TRIES {
-        if let Some(status) = run_once(rt, &folder, command, matches)? {
-            return Ok(status);
+    let is_written = Cell::new(false);
+    for _ in 1..MAX_TRIES {
+        let ended = run_once(rt, &folder, command, matches, &is_written);
+        if is_written.get() || !is_gone(&ended) {
+            return ended;
         }
     }
-    let path = folder.path;
-    let why = "changes while it is read";
-    Err(Failure::Store(Error::Text { path, why }))
+    run_once(rt, &folder, command, matches, &is_written)
 }
 
-// Runs a command, and returns the status, or `None` if it is to begin again.
+// Runs a command, and returns the status. It also says whether something may have been written.
 fn run_once<'a>(
     rt: &HostRuntime,
     folder: &ObjectsFolder,
     command: StoreCommand,
     matches: &ArgMatches<'a>,
-) -> Result<Option<u8>, Failure<'a>> {
-    let is_written = Cell::new(false);
+    is_written: &Cell<bool>,
+) -> Result<u8, Failure<'a>> {
     let output = Noting {
         inner: rt.stdout(),
-        is_written: &is_written,
+        is_written,
     };
     let mut out = buffered(rt, output)?;
     let ran = write_lines(rt, folder, command, matches, &mut out);
     if is_gone(&ran) && !is_written.get() {
         // The lines in the buffer are dropped, not written.
         drop(out.into_inner().into_parts());
-        return Ok(None);
+        return ran;
     }
-    Ok(Some(flushed(ran?, &mut out)?))
+    flushed(ran?, &mut out)
 }
 
 // Whether a pack index was gone that was listed.
 fn is_gone(ran: &Result<u8, Failure<'_>>) -> bool {
-    match ran {
-        Err(Failure::Store(error)) => error.is_gone(),
-        _ => false,
-    }
+    matches!(ran, Err(Failure::Store(Error::Gone { .. })))
 }
 
 // Opens the store, and runs a command over it.

@@ -14,7 +14,7 @@ use std::process::Abort;
 use std::rt::Files;
 use std::test::Fail;
 use std::{fs, io};
-use store_folders::{FolderStore, LooseIds, ObjectsFolder};
+use store_folders::{Error, FolderStore, LooseIds, ObjectsFolder};
 
 // A file that is moved before a folder is listed: how many were listed before, and the two paths.
 type Move = (usize, (&'static str, &'static str));
@@ -238,7 +238,10 @@ fn a_store_that_changes_is_read_again(rt: HostRuntime) -> Result<(), Fail> {
     let (home, away) = OLD_INDEX;
     for (times, want) in [
         (99, Ok([PACKED, LOOSE].as_slice())),
-        (100, Err("live/objects: changes while it is read")),
+        (
+            100,
+            Err("live/objects/pack/pack-1.idx: removed since it was listed"),
+        ),
     ] {
         make(&rt, &LIVE, &[], &LIVE_INDEXES)?;
         let mut moves = Vec::new(rt.alloc());
@@ -333,11 +336,13 @@ fn alternates_that_cannot_be_used_are_said(rt: HostRuntime) -> Result<(), Fail> 
     Ok(())
 }
 
-// A loose object whose file is a link to nothing, and one whose file is removed.
-const LINKED: [&str; 3] = [
+// A loose object whose file is a link to nothing, one whose file is removed, and a pack whose index
+// is a link to nothing.
+const LINKED: [&str; 4] = [
     "linked/objects/4b/90000000000000000000000000000000000000",
     "linked/objects/4b/ffffffffffffffffffffffffffffffffffffff",
     "linked/objects/info/none",
+    "linked/objects/pack/pack-1.pack",
 ];
 
 #[test]
@@ -360,6 +365,9 @@ fn links_to_nothing_are_said(rt: HostRuntime) -> Result<(), Fail> {
         };
         expect!(&rt; text.as_str() == want, text);
     }
+    rt.symlink("gone", "linked/objects/pack/pack-1.idx")?;
+    let want = "linked/objects/pack/pack-1.idx: No such file or directory (os error 2)";
+    expect_opened(&rt, "linked/objects", &[], AMPLE, Err(want))?;
     fs::remove_dir_all(&rt, "linked")?;
     Ok(())
 }
@@ -392,8 +400,11 @@ fn packs_are_more_than_open_files(rt: HostRuntime) -> Result<(), Fail> {
     rt.remove_file("many/objects/pack/pack-69.idx")?;
     match find(&rt, rt.alloc(), &store, "4b") {
         Ok(_) => expect!(&rt; false),
-        Err(error) => expect!(&rt; store.with_path(error).is_gone()),
+        Err(error) => expect!(&rt; matches!(store.with_path(error), Error::Gone { .. })),
     }
+    rt.symlink("gone", "many/objects/pack/pack-69.idx")?;
+    let want = "many/objects/pack/pack-69.idx: No such file or directory (os error 2)";
+    expect_opened(&rt, "many/objects", &[], AMPLE, Err(want))?;
     fs::remove_dir_all(&rt, "many")?;
     Ok(())
 }

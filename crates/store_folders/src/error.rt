@@ -32,6 +32,19 @@ pub enum Error {
         /// Why.
         error: LazyError,
     },
+    /// A pack index was removed after it was listed, as by `git gc`, which has packed its objects
+    /// anew. The store is to be opened again.
+    ///
+    /// ```
+    /// if let Err(Error::Gone { path }) = FolderStore::open(rt, &find_objects(rt)?, LooseIds::All) {
+    ///     println!(rt; "{path}: open the store again")?;
+    /// }
+    /// ```
+    #[error("{path}: removed since it was listed")]
+    Gone {
+        /// Its path.
+        path: String,
+    },
     /// A file of the repository does not say what it is to say.
     #[error("{path}: {why}")]
     Text {
@@ -71,31 +84,6 @@ pub enum Error {
 }
 
 impl Error {
-    /// Whether a pack index was removed after it was listed, as by `git gc`, which has packed its
-    /// objects anew. The store is to be opened again.
-    ///
-    /// ```
-    /// if let Err(error) = FolderStore::open(rt, &find_objects(rt)?, LooseIds::All)
-    ///     && error.is_gone()
-    /// {
-    ///     println!(rt; "open it again")?;
-    /// }
-    /// ```
-    pub fn is_gone(&self) -> bool {
-        match self {
-            Error::Index {
-                error: LazyError::Read(error),
-                ..
-            } => error.kind() == io::ErrorKind::NotFound,
-            _ => false,
-        }
-    }
-
-    // A pack index was removed.
-    pub(crate) fn gone(alloc: Global, path: &str) -> Error {
-        Error::index(alloc, path, LazyError::Read(io::ErrorKind::NotFound.into()))
-    }
-
     // A folder or file cannot be read.
     pub(crate) fn file(alloc: Global, path: &str, error: io::Error) -> Error {
         match String::from_str(alloc, path) {
@@ -104,11 +92,18 @@ impl Error {
         }
     }
 
-    // A pack index cannot be read, or is damaged.
+    // A pack index is not there, cannot be read, or is damaged.
     pub(crate) fn index(alloc: Global, path: &str, error: LazyError) -> Error {
-        match (String::from_str(alloc, path), error) {
-            (_, LazyError::Memory(error)) | (Err(error), _) => Error::Memory(error),
-            (Ok(path), error) => Error::Index { path, error },
+        let path = match String::from_str(alloc, path) {
+            Ok(path) => path,
+            Err(error) => return Error::Memory(error),
+        };
+        match error {
+            LazyError::Memory(error) => Error::Memory(error),
+            LazyError::Read(error) if error.kind() == io::ErrorKind::NotFound => Error::Gone {
+                path,
+            },
+            error => Error::Index { path, error },
         }
     }
 

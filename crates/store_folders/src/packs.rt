@@ -53,7 +53,10 @@ impl PackIndexes {
             }
         }
         match earlier.paths.get(at) {
-            Some(path) => Err(Error::gone(alloc, path)),
+            Some(path) => {
+                let path = String::from_str(alloc, path)?;
+                Err(Error::Gone { path })
+            }
             None => Ok(()),
         }
     }
@@ -160,6 +163,7 @@ fn open_index<R: Files<File = File> + AllocGlobal + Clone + Drop>(
     match open_source(rt, path, stays_open) {
         Ok(source) => match LazyFile::open(source, kind) {
             Ok(index) => Ok(index),
+            Err(LazyError::Read(error)) => Err(not_opened(rt, path, error)),
             Err(error) => Err(Error::index(rt.alloc(), path, error)),
         },
         Err(error) => Err(not_opened(rt, path, error)),

@@ -46,8 +46,8 @@ impl<R: Files<File = File> + AllocGlobal + Clone + Drop> FolderStore<R> {
 
     /// Opens the store of an objects folder, whose ids are of the folder's kind.
     ///
-    /// No object is missed that is packed meanwhile, as by `git gc`. If pack indexes are removed
-    /// while the store is opened, it is read again, up to 100 times; then it is an error.
+    /// No object is missed that is packed meanwhile, as by `git gc`. If a pack index is removed while
+    /// the store is opened, the store is read again; the 100th time [`Error::Gone`] is returned.
     ///
     /// The folder's alternates are read as by Git: each once, and nested up to 5 times. Those that
     /// cannot be used are passed over ([`FolderStore::passed_over`]). A folder `pack` or of loose
@@ -59,17 +59,13 @@ impl<R: Files<File = File> + AllocGlobal + Clone + Drop> FolderStore<R> {
     pub fn open(rt: &R, folder: &ObjectsFolder, loose: LooseIds) -> Result<FolderStore<R>, Error>
         ensures { IfOk result (λ store. store.kind ≡ folder.now.kind) }
     {
-        for _ in 0..MAX_TRIES {
+        for _ in 1..MAX_TRIES {
             match FolderStore::read(rt, folder, loose) {
-                Ok(store) => return Ok(store),
-                Err(error) => {
-                    if !error.is_gone() {
-                        return Err(error);
-                    }
-                }
+                Err(Error::Gone { .. }) => {}
+                opened => return opened,
             }
         }
-        Err(Error::text(rt.alloc(), &folder.path, "changes while it is read"))
+        FolderStore::read(rt, folder, loose)
     }
 
     // Reads the store once. The order makes that no object is missed that is there all the time. One
