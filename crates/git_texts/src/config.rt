@@ -75,6 +75,9 @@ impl Format {
                 self.needs_version_1 = Some("objectformat");
             }
             b"extensions.noop-v1" => self.needs_version_1 = Some("noop-v1"),
+            // Of Git 2.45 and 2.48: how refs are stored, and how worktrees are linked.
+            b"extensions.refstorage" => self.needs_version_1 = Some("refstorage"),
+            b"extensions.relativeworktrees" => self.needs_version_1 = Some("relativeworktrees"),
             b"extensions.noop"
             | b"extensions.preciousobjects"
             | b"extensions.partialclone"

@@ -56,8 +56,9 @@ fn lists_of_alternates(rt: HostRuntime) -> Result<(), Fail> {
 }
 
 // Configs, and what Git 2.39 says of them (`git rev-parse --show-object-format`): kinds, or errors,
-// whose texts are `packtool`'s own.
-const CONFIGS: [(&str, &str); 25] = [
+// whose texts are `packtool`'s own. `refStorage` and `relativeWorktrees` are of later versions: what
+// their documentation says.
+const CONFIGS: [(&str, &str); 28] = [
     ("", "sha1"),
     ("[extensions]\nobjectformat = sha256\n", "sha1"),
     (
@@ -101,8 +102,20 @@ const CONFIGS: [(&str, &str); 25] = [
         "unknown repository extension found: a.objectformat",
     ),
     (
-        "[core]\nrepositoryformatversion = 1\n[extensions]\nrefStorage = files\n",
-        "unknown repository extension found: refstorage",
+        "[core]\nrepositoryformatversion = 1\n[extensions]\ncompatObjectFormat = sha256\n",
+        "unknown repository extension found: compatobjectformat",
+    ),
+    (
+        "[core]\nrepositoryformatversion=1\n[extensions]\nrefStorage=reftable\nrelativeWorktrees=true\nobjectFormat=sha256",
+        "sha256",
+    ),
+    (
+        "[core]\nrepositoryformatversion = 0\n[extensions]\nrefStorage = files\n",
+        "repo version is 0, but v1-only extension found: refstorage",
+    ),
+    (
+        "[core]\nrepositoryformatversion = 0\n[extensions]\nrelativeWorktrees = true\n",
+        "repo version is 0, but v1-only extension found: relativeworktrees",
     ),
     (
         "[core]\nrepositoryformatversion = 2\n",
