@@ -45,11 +45,17 @@ pub(crate) fn read_text<R: Files + AllocGlobal>(
     }
 }
 
-// The absolute path of a folder, without links.
+// The absolute path of a folder, without links; the same path if that is not UTF-8.
 pub(crate) fn real_folder<R: Files + AllocGlobal>(rt: &R, path: &str) -> io::Result<String> {
-    let real = fs::canonicalize(rt, path)?;
-    if fs::metadata(rt, real.as_path())?.is_dir() {
-        Ok(real.into_string())
+    let real = match fs::canonicalize(rt, path) {
+        Ok(real) => real.into_string(),
+        Err(error) if error.kind() == io::ErrorKind::InvalidFilename => {
+            String::from_str(rt.alloc(), path)?
+        }
+        Err(error) => return Err(error),
+    };
+    if fs::metadata(rt, &real)?.is_dir() {
+        Ok(real)
     } else {
         Err(io::ErrorKind::NotADirectory.into())
     }

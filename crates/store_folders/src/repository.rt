@@ -4,9 +4,13 @@ use crate::error::Error;
 use crate::files::{join, read_text, real_folder};
 use std::alloc::AllocError;
 use std::env::VarError;
+use std::os::unix::fs::MetadataExt;
 use std::path::Path;
 use std::rt::{Env, Files};
-use std::{env, fs};
+use std::{env, fs, io};
+
+// How many folders are looked at by relative paths. A path has at most 4,096 bytes, three for each.
+const MAX_ABOVE: usize = 4096 / 3;
 
 // What the environment says of the repository.
 #[derive(Drop)]
@@ -47,13 +51,46 @@ pub(crate) fn find_repository<R: Files + Env + AllocGlobal>(
     if let Some(path) = &given.dir {
         return Ok(Some(required(rt, given, path)?));
     }
-    let here = env::current_dir(rt).map_err(|error| Error::file(rt.alloc(), ".", error))?;
+    let here = match env::current_dir(rt) {
+        Ok(here) => here,
+        Err(error) if error.kind() == io::ErrorKind::InvalidFilename => {
+            return find_above(rt, given);
+        }
+        Err(error) => return Err(Error::file(rt.alloc(), ".", error)),
+    };
     for folder in here.ancestors() {
         if let Some(repository) = repository_in(rt, given, folder.as_str())? {
             return Ok(Some(repository));
         }
     }
     Ok(None)
+}
+
+// The same by relative paths, for a current folder whose path is not UTF-8.
+fn find_above<R: Files + AllocGlobal>(
+    rt: &R,
+    given: &Environment,
+) -> Result<Option<String>, Error> {
+    let mut folder = String::from_str(rt.alloc(), ".")?;
+    for _ in 0..MAX_ABOVE {
+        if let Some(repository) = repository_in(rt, given, &folder)? {
+            return Ok(Some(repository));
+        }
+        let above = join(rt, &folder, "..")?;
+        if is_highest(rt, &folder, &above) {
+            break;
+        }
+        folder = above;
+    }
+    Ok(None)
+}
+
+// Whether no other folder above this one can be seen. The folder above the root is the root.
+fn is_highest<R: Files + AllocGlobal>(rt: &R, folder: &str, above: &str) -> bool {
+    match (fs::metadata(rt, folder), fs::metadata(rt, above)) {
+        (Ok(folder), Ok(above)) => folder.dev() == above.dev() && folder.ino() == above.ino(),
+        _ => true,
+    }
 }
 
 // The repository of a folder, if it has one: as `.git`, which is a folder or a file that names one,
