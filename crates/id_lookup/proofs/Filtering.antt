@@ -15,7 +15,7 @@ module _ {X : Type 0} (p : X → Bool) where
   filter_all [] each = refl
   filter_all (x ∷ xs) each = rw (each 0 x (omega arith)) (ap (λ found. x ∷ found) (filter_all xs (λ k d h. each (suc k) d (omega arith))))
 
-  -- a list up to a place, from there to another, and after that
+  -- a list up to a position, from there to another, and after that
   pub three_parts : (xs : List X) (start end : ℕ) → start ≤ end → take start xs ++ (slice_range xs start end ++ drop end xs) ≡ xs
   three_parts xs start end rise =
       let whole : start + (end - start) ≡ end = omega arith in

@@ -9,7 +9,7 @@ use Rattle.id_lookup.specs.Index.{IsIndex}
 use Rattle.id_lookup.specs.ShortNames.{IsShortestNameFrom}
 use Rattle.id_lookup.proofs.Spelled.{starts_with-BeginsWith}
 use Rattle.id_lookup.proofs.Filters.{contains_kept, contains_had}
-use Rattle.id_lookup.proofs.SameMembers.{index-filter, one_place}
+use Rattle.id_lookup.proofs.SameMembers.{index-filter, one_position}
 
 -- what begins with some first digits of an id begins with fewer of them
 begins_fewer : (id member name : List ℕ) (n : ℕ) → name ≡ take (length name) member → n ≤ length name → starts_with nat_eq id name ≡ true
@@ -25,30 +25,30 @@ begins_fewer id member name n first few begins =
           ∙ ap (λ (whole : List ℕ). whole ++ rest) front,
     )
 
-module _ (kind : Kind) (p : List ℕ → Bool) (fewest : ℕ) (whole : List (List ℕ)) (at place : ℕ) (name : List ℕ) (index : IsIndex kind whole)
-    (decides : (id : List ℕ) → starts_with nat_eq id (take fewest (get_or whole place [])) ≡ true → p id ≡ true)
-    (within : at < length (filter p whole)) (inside : place < length whole) (same : get_or whole place [] ≡ get_or (filter p whole) at [])
+module _ (kind : Kind) (p : List ℕ → Bool) (fewest : ℕ) (whole : List (List ℕ)) (at position : ℕ) (name : List ℕ) (index : IsIndex kind whole)
+    (decides : (id : List ℕ) → starts_with nat_eq id (take fewest (get_or whole position [])) ≡ true → p id ≡ true)
+    (within : at < length (filter p whole)) (inside : position < length whole) (same : get_or whole position [] ≡ get_or (filter p whole) at [])
     (short : IsShortestNameFrom fewest (filter p whole) at name) where
-  first : name ≡ take (length name) (get_or whole place [])
+  first : name ≡ take (length name) (get_or whole position [])
   first = short.first ∙ ap (take (length name)) (sym same)
 
   -- what fails the test begins otherwise
   other_part : (id : List ℕ) → p id ≡ false → starts_with nat_eq id name ≡ false
   other_part id fails = elim (starts_with nat_eq id name) as (λ t. starts_with nat_eq id name ≡ t → t ≡ false) [
-    | true ↦ λ begins. absurd (false≢true (sym fails ∙ decides id (begins_fewer id (get_or whole place []) name fewest first short.long begins)))
+    | true ↦ λ begins. absurd (false≢true (sym fails ∙ decides id (begins_fewer id (get_or whole position []) name fewest first short.long begins)))
     | false ↦ λ begins. refl
   ] refl
 
   -- and so does another member that passes
-  same_part : (k : ℕ) → k < length whole → k ≢ place → p (get_or whole k []) ≡ true → starts_with nat_eq (get_or whole k []) name ≡ false
+  same_part : (k : ℕ) → k < length whole → k ≢ position → p (get_or whole k []) ≡ true → starts_with nat_eq (get_or whole k []) name ≡ false
   same_part k low other here =
       let c = contains_kept p whole (get_or whole k []) (Contains-get_or whole k [] low) here in
       let there : get_or (filter p whole) c.0 [] ≡ get_or whole k [] = sym (get_or_default (filter p whole) c.0 (get_or whole k []) [] c.1) ∙ c.2 in
-      let apart : c.0 ≢ at = λ e. other (one_place kind whole index k place low inside (sym there ∙ ap (λ n. get_or (filter p whole) n []) e ∙ sym same)) in
+      let apart : c.0 ≢ at = λ e. other (one_position kind whole index k position low inside (sym there ∙ ap (λ n. get_or (filter p whole) n []) e ∙ sym same)) in
       subst (λ (id : List ℕ). starts_with nat_eq id name ≡ false) there (short.alone c.0 c.1 apart)
 
   -- so the name among those that pass is that in the whole
-  pub name-whole : IsShortestNameFrom fewest whole place name
+  pub name-whole : IsShortestNameFrom fewest whole position name
   name-whole = record {
     first = first;
     long = short.long;
@@ -61,7 +61,7 @@ module _ (kind : Kind) (p : List ℕ → Bool) (fewest : ℕ) (whole : List (Lis
         let id = get_or (filter p whole) r.0 [] in
         let c = contains_had p whole id (Contains-get_or (filter p whole) r.0 [] r.1) in
         let there : get_or whole c.0 [] ≡ id = sym (get_or_default whole c.0 id [] c.1) ∙ c.2 in
-        let apart : c.0 ≢ place = λ e. r.2 (one_place kind (filter p whole) (index-filter kind p whole index) r.0 at r.1 within
+        let apart : c.0 ≢ position = λ e. r.2 (one_position kind (filter p whole) (index-filter kind p whole index) r.0 at r.1 within
         (sym there ∙ ap (λ n. get_or whole n []) e ∙ same)) in
         (c.0, c.1, apart, subst (λ (x : List ℕ). starts_with nat_eq x (take n name) ≡ true) (sym there) r.3);
   }

@@ -35,9 +35,9 @@ index-filter kind p ids index = record {
 }
 
 -- an id has one position
-pub one_place : (kind : Kind) (ids : List (List ℕ)) → IsIndex kind ids → (i j : ℕ) → i < length ids → j < length ids
+pub one_position : (kind : Kind) (ids : List (List ℕ)) → IsIndex kind ids → (i j : ℕ) → i < length ids → j < length ids
     → get_or ids i [] ≡ get_or ids j [] → i ≡ j
-one_place kind ids index i j within inside same = by (cases_lt i j) (cases_lt j i)
+one_position kind ids index i j within inside same = by (cases_lt i j) (cases_lt j i)
   where
     pairs : AllPairs Below ids
     pairs = index-pairs kind ids index

@@ -103,7 +103,7 @@ fn bound_if_sorted<I: Id>(
     requires in_range { high ≤ length ids.now }
     ensures above { low ≤ result }
     ensures below { result ≤ high }
-    ensures place { IsSortedIds (map I.digits ids.now)
+    ensures value { IsSortedIds (map I.digits ids.now)
         → low ≤ bound_of bound prefix.now (map I.digits ids.now)
         → bound_of bound prefix.now (map I.digits ids.now) ≤ high
         → result ≡ bound_of bound prefix.now (map I.digits ids.now) }

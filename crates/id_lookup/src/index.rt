@@ -222,10 +222,10 @@ impl fmt::Display for IndexError {
     fn fmt<W: fmt::Write>(&self, f: &mut fmt::Formatter<W>) -> fmt::Result {
         match *self {
             IndexError::WrongKind { at } => {
-                write!(f, "the id at place {at} is of the other kind")
+                write!(f, "the id at position {at} is of the other kind")
             }
             IndexError::NotRising { at } => {
-                write!(f, "the id at place {at} is not above the one before it")
+                write!(f, "the id at position {at} is not above the one before it")
             }
         }
     }

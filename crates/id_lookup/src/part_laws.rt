@@ -23,13 +23,13 @@ pub fn parts()
     ensures found { (digits : List ℕ) (ids : List (List ℕ)) → 2 ≤ length digits
         → matches digits (part_of (first_byte_of digits) ids) ≡ matches digits ids }
     ensures names { (kind : kinds.Kind) (p : List ℕ → Bool) (least : ℕ) (whole : List (List ℕ))
-        (at place : ℕ) (name : List ℕ) → IsIndex kind whole
-        → ((id : List ℕ) → starts_with nat_eq id (take least (slice_index_or whole place [])) ≡ true
+        (at position : ℕ) (name : List ℕ) → IsIndex kind whole
+        → ((id : List ℕ) → starts_with nat_eq id (take least (slice_index_or whole position [])) ≡ true
         → p id ≡ true)
-        → at < length (filter p whole) → place < length whole
-        → slice_index_or whole place [] ≡ slice_index_or (filter p whole) at []
+        → at < length (filter p whole) → position < length whole
+        → slice_index_or whole position [] ≡ slice_index_or (filter p whole) at []
         → IsShortestNameFrom least (filter p whole) at name
-        → IsShortestNameFrom least whole place name }
+        → IsShortestNameFrom least whole position name }
 {}
 
 /// In a sorted list the ids with a first byte are a run, and the parts one after the other are the

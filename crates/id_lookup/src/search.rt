@@ -159,7 +159,7 @@ fn find_bound<I: Id>(
     requires below { bound_of bound probes.old.prefix probes.old.ids ≤ high }
     requires in_range { high ≤ length probes.old.ids }
     requires room { probes.old.asked + bits (high - low) < 2 ^ 64 }
-    ensures place { result ≡ bound_of bound probes.old.prefix probes.old.ids }
+    ensures value { result ≡ bound_of bound probes.old.prefix probes.old.ids }
     ensures asked { probes.new.asked ≤ probes.old.asked + bits (high - low) }
     ensures same { probes.new ≡ record probes.old { asked = probes.new.asked } }
 {

@@ -175,7 +175,11 @@ pub struct Unsorted {
 
 impl fmt::Display for Unsorted {
     fn fmt<W: fmt::Write>(&self, f: &mut fmt::Formatter<W>) -> fmt::Result {
-        write!(f, "the id at place {} is below the one before it", self.at)
+        write!(
+            f,
+            "the id at position {} is below the one before it",
+            self.at
+        )
     }
 }
 

@@ -107,5 +107,9 @@ fn not_sorted(rt: HostRuntime) {
     let error = SortedIds::try_new(&ids)
         .err()
         .expect(&rt, "it is accepted as sorted");
-    expect_text(&rt, error, "the id at place 2 is below the one before it");
+    expect_text(
+        &rt,
+        error,
+        "the id at position 2 is below the one before it",
+    );
 }

@@ -44,10 +44,10 @@ name_of_id kind least id whole part None index same none = λ c.
     let kept = contains_kept (λ x. starts_with nat_eq x (take least id)) whole id c (begins_itself id least) in
     let there : Contains part id = subst (λ (ids : List (List ℕ)). Contains ids id) (sym same) kept in
     none there.0 there.1 (sym (get_or_default part there.0 id [] there.1) ∙ there.2)
-name_of_id kind least id whole part (Some name) index same found = λ place inside here.
+name_of_id kind least id whole part (Some name) index same found = λ position inside here.
     let p : List ℕ → Bool = λ x. starts_with nat_eq x (take least id) in
     let at : get_or (filter p whole) found.0 [] ≡ id = ap (λ (ids : List (List ℕ)). get_or ids found.0 []) (sym same) ∙ found.2 in
-    name-whole kind p least whole found.0 place name.digits index
+    name-whole kind p least whole found.0 position name.digits index
     (λ other begins. subst (λ (member : List ℕ). starts_with nat_eq other (take least member) ≡ true) here begins)
     (subst (λ (ids : List (List ℕ)). found.0 < length ids) same found.1) inside (here ∙ sym at)
     (subst (λ (ids : List (List ℕ)). IsShortestNameFrom least ids found.0 name.digits) same found.3)
@@ -55,16 +55,16 @@ name_of_id kind least id whole part (Some name) index same found = λ place insi
 -- of the id at a position of a part
 pub name_in_part : (kind : Kind) (byte least at : ℕ) (id name : List ℕ) (whole part : List (List ℕ)) → IsIndex kind whole → 4 ≤ least → least ≤ hex_len_of kind
     → part ≡ part_of byte whole → at < length part → get_or part at [] ≡ id → IsShortestNameFrom least part at name → IsNameIn least whole id name
-name_in_part kind byte least at id name whole part index enough fits same within is short = λ place inside here.
+name_in_part kind byte least at id name whole part index enough fits same within is short = λ position inside here.
     let p = has_first_byte byte in
     let within' : at < length (filter p whole) = subst (λ (ids : List (List ℕ)). at < length ids) same within in
     let is' : get_or (filter p whole) at [] ≡ id = ap (λ (ids : List (List ℕ)). get_or ids at []) (sym same) ∙ is in
     let has : first_byte_of id ≡ byte =
     test_same (first_byte_of id) byte (subst (λ (x : List ℕ). p x ≡ true) is' (kept_passes p whole (get_or (filter p whole) at []) (Contains-get_or (filter p whole) at [] within'))) in
-    let long : length id ≡ hex_len_of kind = ap length (sym here) ∙ index.kinds place [] (omega arith) inside in
+    let long : length id ≡ hex_len_of kind = ap length (sym here) ∙ index.kinds position [] (omega arith) inside in
     let two : 2 ≤ length (take least id) = omega (arith, enough, length-take-le least id (omega (arith, fits, long))) in
     let front : first_byte_of id ≡ first_byte_of (take least id) = first_byte_of-begins id (take least id) two (begins_itself id least) in
-    name-whole kind p least whole at place name index
+    name-whole kind p least whole at position name index
     (λ other begins. same_test (first_byte_of other) byte
     (first_byte_of-begins other (take least id) two (subst (λ (member : List ℕ). starts_with nat_eq other (take least member) ≡ true) here begins) ∙ sym front ∙ has))
     within' inside (here ∙ sym is') (subst (λ (ids : List (List ℕ)). IsShortestNameFrom least ids at name) same short)

@@ -23,7 +23,7 @@ pub record Holds (kind : Kind) (packs : List LazyIndex) (loose whole : List (Lis
 
 -- the name is the shortest one of the id in the index
 abbrev pub IsNameIn : ℕ → List (List ℕ) → List ℕ → List ℕ → Type 0
-IsNameIn least whole id name = (place : ℕ) → place < length whole → slice_index_or whole place [] ≡ id → IsShortestNameFrom least whole place name
+IsNameIn least whole id name = (position : ℕ) → position < length whole → slice_index_or whole position [] ≡ id → IsShortestNameFrom least whole position name
 
 -- the id and its name are of the kind
 abbrev pub IsOfKind : Kind → NamedId → Type 0

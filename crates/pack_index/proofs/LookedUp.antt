@@ -126,9 +126,9 @@ counted_within kind bytes id byte at bucket are is there =
     let to : at < bucket.start + length bucket.names = omega (arith, there.to, are.end, ap (bucket_end bytes) is) in
     let k = at - bucket.start in
     let low : k < bucket_end bytes byte - bucket_start bytes byte = omega (arith, from, to, are.start, are.end) in
-    let place : bucket_start bytes byte + k ≡ at = omega (arith, from, are.start) in
+    let position : bucket_start bytes byte + k ≡ at = omega (arith, from, are.start) in
     let same : get_or bucket.names k [] ≡ id =
     ap (λ (xs : List (List ℕ)). get_or xs k []) are.names
     ∙ get_or-take (bucket_end bytes byte - bucket_start bytes byte) (drop (bucket_start bytes byte) names) k [] low
-    ∙ get_or-drop (bucket_start bytes byte) names k [] ∙ ap (λ n. get_or names n []) place ∙ there.same in
+    ∙ get_or-drop (bucket_start bytes byte) names k [] ∙ ap (λ n. get_or names n []) position ∙ there.same in
     (k, omega (arith, from, to), get_or_default bucket.names k id [] (omega (arith, from, to)) ∙ same)

@@ -2,7 +2,7 @@
 use Rattle.std.proofs.Common.{◌≡◌, ℕ, ◌+◌, ◌-◌, ◌*◌, ◌^◌, ◌<◌, ◌≤◌, List, length, sym, ap, ◌∙◌, arith}
 use Rattle.std.proofs.lemmas.Bool.{cond-false, cond-true, le-ltb, lt-ltb}
 use Rattle.gix_hash.specs.declared.Kind.{Kind}
-use Rattle.pack_index.specs.Format.{HasOffset, HasTables, count_in, long_at, long_place, long_word, offset_in, offset_word, offsets_at, tables_end, word_at}
+use Rattle.pack_index.specs.Format.{HasOffset, HasTables, count_in, long_at, long_entry, long_word, offset_in, offset_word, offsets_at, tables_end, word_at}
 use Rattle.pack_index.proofs.Heads.{head_count, offsets_in_head, word_within}
 use Rattle.streams.specs.ReadAt.{IsReadAt}
 
@@ -25,11 +25,11 @@ module _ (kind : Kind) (bytes : List ℕ) (at word : ℕ) (is : word ≡ offset_
 
   pub short_offset : word < long_word → word ≡ offset_in kind bytes at
   short_offset less =
-      is ∙ sym (cond-true _ (offset_word kind bytes at) (2 ^ 32 * word_at bytes (long_place kind bytes at) + word_at bytes (long_place kind bytes at + 4))
+      is ∙ sym (cond-true _ (offset_word kind bytes at) (2 ^ 32 * word_at bytes (long_entry kind bytes at) + word_at bytes (long_entry kind bytes at + 4))
       (lt-ltb (offset_word kind bytes at) long_word (omega (arith, is, less))))
 
   module _ (high : long_word ≤ word) (start : ℕ) (starts : start ≡ long_at kind bytes + 8 * (word - long_word)) where
-    start_is : start ≡ long_place kind bytes at
+    start_is : start ≡ long_entry kind bytes at
     start_is = omega (arith, starts, is)
 
     pub has_long : (end : ℕ) → end ≡ tables_end kind bytes → start + 8 ≤ end → HasOffset kind bytes at
@@ -40,10 +40,10 @@ module _ (kind : Kind) (bytes : List ℕ) (at word : ℕ) (is : word ≡ offset_
 
     pub long_offset : (offset : ℕ) (long : List ℕ) → IsReadAt bytes start long → length long ≡ 8 → offset ≡ 2 ^ 32 * word_at long 0 + word_at long 4 → offset ≡ offset_in kind bytes at
     long_offset offset long there eight made =
-        let here : start + 0 ≡ long_place kind bytes at = omega (arith, start_is) in
-        let next : start + 4 ≡ long_place kind bytes at + 4 = omega (arith, start_is) in
-        let upper : word_at long 0 ≡ word_at bytes (long_place kind bytes at) = word_within bytes start long there 0 (omega (arith, eight)) ∙ ap (word_at bytes) here in
-        let lower : word_at long 4 ≡ word_at bytes (long_place kind bytes at + 4) = word_within bytes start long there 4 (omega (arith, eight)) ∙ ap (word_at bytes) next in
+        let here : start + 0 ≡ long_entry kind bytes at = omega (arith, start_is) in
+        let next : start + 4 ≡ long_entry kind bytes at + 4 = omega (arith, start_is) in
+        let upper : word_at long 0 ≡ word_at bytes (long_entry kind bytes at) = word_within bytes start long there 0 (omega (arith, eight)) ∙ ap (word_at bytes) here in
+        let lower : word_at long 4 ≡ word_at bytes (long_entry kind bytes at + 4) = word_within bytes start long there 4 (omega (arith, eight)) ∙ ap (word_at bytes) next in
         made ∙ (λ i. 2 ^ 32 * upper i + lower i)
-        ∙ sym (cond-false _ (offset_word kind bytes at) (2 ^ 32 * word_at bytes (long_place kind bytes at) + word_at bytes (long_place kind bytes at + 4))
+        ∙ sym (cond-false _ (offset_word kind bytes at) (2 ^ 32 * word_at bytes (long_entry kind bytes at) + word_at bytes (long_entry kind bytes at + 4))
         (le-ltb (offset_word kind bytes at) long_word (omega (arith, is, high))))

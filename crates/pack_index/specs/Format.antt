@@ -89,14 +89,14 @@ abbrev pub offset_word : Kind → List ℕ → ℕ → ℕ
 offset_word kind bytes k = word_at bytes (offsets_at kind bytes + 4 * k)
 
 -- where its long offset is, if it has one
-abbrev pub long_place : Kind → List ℕ → ℕ → ℕ
-long_place kind bytes k = long_at kind bytes + 8 * (offset_word kind bytes k - long_word)
+abbrev pub long_entry : Kind → List ℕ → ℕ → ℕ
+long_entry kind bytes k = long_at kind bytes + 8 * (offset_word kind bytes k - long_word)
 
 -- the offset in the pack of the object of the name at an index: the word if that is below 2 ^ 31, and else the long offset of its number
 abbrev pub offset_in : Kind → List ℕ → ℕ → ℕ
 offset_in kind bytes k =
     if nat_lt (offset_word kind bytes k) long_word then offset_word kind bytes k
-    else 2 ^ 32 * word_at bytes (long_place kind bytes k) + word_at bytes (long_place kind bytes k + 4)
+    else 2 ^ 32 * word_at bytes (long_entry kind bytes k) + word_at bytes (long_entry kind bytes k + 4)
 
 -- whether the offset of the name at an index is long
 abbrev pub is_long : Kind → List ℕ → ℕ → Bool
@@ -129,7 +129,7 @@ HasCount kind bytes b = word_at bytes (8 + 4 * b) ≡ count_by (is_up_to b) (nam
 
 -- the offset of the name at an index is in a table
 abbrev pub HasOffset : Kind → List ℕ → ℕ → Type 0
-HasOffset kind bytes k = long_word ≤ offset_word kind bytes k → long_place kind bytes k + 8 ≤ tables_end kind bytes
+HasOffset kind bytes k = long_word ≤ offset_word kind bytes k → long_entry kind bytes k + 8 ≤ tables_end kind bytes
 
 -- if it is long, then it is the next one: as many names before have one
 abbrev pub IsNextLong : Kind → List ℕ → ℕ → Type 0

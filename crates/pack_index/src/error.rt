@@ -34,7 +34,7 @@ pub enum Error {
     #[error("the tables of the pack index do not fill its bytes")]
     WrongLength,
     /// The name at this index is the first that is below the previous one.
-    #[error("the name at place {0} is below the one before it")]
+    #[error("the name at position {0} is below the one before it")]
     NamesFall(usize),
     /// The count of this byte is the first that is not the number of names with at most that first
     /// byte. So if counts fall, one is wrong.
@@ -42,21 +42,21 @@ pub enum Error {
     WrongCount(u8),
     /// The name at this index is the first whose offset is in no table: it is long, and its number
     /// is not below the number of long offsets.
-    #[error("the name at place {0} has no offset")]
+    #[error("the name at position {0} has no offset")]
     NoOffset(usize),
     /// The name at this index is the first with a long offset that is not the next one: its number
     /// is not the number of names before it with long offsets.
-    #[error("the long offset of the name at place {0} is not the next one")]
+    #[error("the long offset of the name at position {0} is not the next one")]
     LongOutOfOrder(usize),
     /// The long offset at this index is the first that no name has.
-    #[error("the long offset at place {0} is of no name")]
+    #[error("the long offset at position {0} is of no name")]
     SpareLong(usize),
     /// The name at this index is the first whose offset is below 12, in the header of the pack.
-    #[error("the offset of the name at place {0} is in the header of the pack")]
+    #[error("the offset of the name at position {0} is in the header of the pack")]
     OffsetInHeader(usize),
     /// The name at this index is the first whose offset is 2^63 or more, which no signed number of
     /// 64 bits is.
-    #[error("the offset of the name at place {0} is 2^63 or more")]
+    #[error("the offset of the name at position {0} is 2^63 or more")]
     OffsetTooHigh(usize),
     /// The last bytes are not the digest of all before them.
     #[error("the checksum of the pack index is wrong")]

@@ -55,7 +55,7 @@ pub enum LazyError {
     #[error("a name that is counted with the first byte {0} has another")]
     WrongCount(u8),
     /// The name at this index has a long offset, and there is none of its number.
-    #[error("the name at place {0} has no offset")]
+    #[error("the name at position {0} has no offset")]
     NoOffset(usize),
 }
 

@@ -68,7 +68,7 @@ pub fn counted_in(bytes: &[u8], first: u8, last: u8) -> Run
 /// Where the CRCs begin, after the names.
 pub fn crcs_at(bytes: &[u8], kind: Kind) -> usize
     requires { names_at ≤ length bytes.now }
-    ensures place { result ≡ crcs_at kind bytes.now }
+    ensures start { result ≡ crcs_at kind bytes.now }
     ensures small { result < 2 ^ 40 }
 {
     let count = count_in(bytes) as usize;
@@ -82,7 +82,7 @@ pub fn crcs_at(bytes: &[u8], kind: Kind) -> usize
 // Where the offsets begin.
 pub(crate) fn offsets_at(bytes: &[u8], kind: Kind) -> usize
     requires { names_at ≤ length bytes.now }
-    ensures place { result ≡ offsets_at kind bytes.now }
+    ensures start { result ≡ offsets_at kind bytes.now }
     ensures small { result < 2 ^ 41 }
 {
     crcs_at(bytes, kind) + 4 * count_in(bytes) as usize
@@ -91,7 +91,7 @@ pub(crate) fn offsets_at(bytes: &[u8], kind: Kind) -> usize
 // Where the long offsets begin.
 pub(crate) fn long_at(bytes: &[u8], kind: Kind) -> usize
     requires { names_at ≤ length bytes.now }
-    ensures place { result ≡ long_at kind bytes.now }
+    ensures start { result ≡ long_at kind bytes.now }
     ensures small { result < 2 ^ 42 }
 {
     offsets_at(bytes, kind) + 4 * count_in(bytes) as usize

@@ -137,8 +137,8 @@ fn show_runs(rt: &impl Print, file: &File<'_>) -> io::Result<()> {
 fn show_names(rt: &impl Print, file: &File<'_>) -> io::Result<()> {
     for at in 0..file.num_objects() {
         match (file.lookup(file.oid_at_index(at)), file.abbreviate(at)) {
-            (Some(place), Some(name)) => println!(rt; "{place} {name}")?,
-            (Some(place), None) => println!(rt; "{place} -")?,
+            (Some(at), Some(name)) => println!(rt; "{at} {name}")?,
+            (Some(at), None) => println!(rt; "{at} -")?,
             (None, _) => println!(rt; "not found")?,
         }
     }

@@ -282,7 +282,7 @@ fn damage_is_reported(rt: HostRuntime) -> Result<(), Fail> {
     // The second name of the second index has the third long offset of two.
     let mut content = Content::new(&rt)?;
     set(&mut content.second, 1032 + 3 * (20 + 4) + 4 + 3, 2);
-    let want = "pack index 1: the name at place 1 has no offset";
+    let want = "pack index 1: the name at position 1 has no offset";
     expect_text(&rt, &outcome(&rt, &content, 100, Asked::Locations)?, want);
     Ok(())
 }

@@ -36,13 +36,16 @@ fn expect_found<I: Id>(
 fn no_index(rt: HostRuntime) {
     let (tree, blob) = (id(&rt, TREE), id(&rt, BLOB));
     let (blob_256, tree_256) = (id(&rt, BLOB_256), id(&rt, TREE_256));
-    let other_kind = "the id at place 0 is of the other kind";
-    let not_above = "the id at place 1 is not above the one before it";
+    let other_kind = "the id at position 0 is of the other kind";
+    let not_above = "the id at position 1 is not above the one before it";
     let rows: [(&[ObjectId], &str); 4] = [
         (&[blob_256, tree, tree_256, blob], other_kind),
         (&[tree, tree], not_above),
         (&[blob, tree], not_above),
-        (&[tree, blob_256], "the id at place 1 is of the other kind"),
+        (
+            &[tree, blob_256],
+            "the id at position 1 is of the other kind",
+        ),
     ];
     for (ids, want) in rows {
         let error = IdIndex::try_new(ids, Kind::Sha1).err();

@@ -8,7 +8,7 @@ invariant-loop-low g l = record {
   above : l.fn.low ≤ l.low;
   rises : l.low ≤ l.high;
   below : l.high ≤ l.fn.high;
-  place : IsSortedIds (map g.I.Id.digits l.fn.ids) → l.fn.low ≤ bound_of l.bound l.fn.prefix (map g.I.Id.digits l.fn.ids) → bound_of l.bound l.fn.prefix (map g.I.Id.digits l.fn.ids) ≤ l.fn.high
+  value : IsSortedIds (map g.I.Id.digits l.fn.ids) → l.fn.low ≤ bound_of l.bound l.fn.prefix (map g.I.Id.digits l.fn.ids) → bound_of l.bound l.fn.prefix (map g.I.Id.digits l.fn.ids) ≤ l.fn.high
       → (l.low ≤ bound_of l.bound l.fn.prefix (map g.I.Id.digits l.fn.ids)) × (bound_of l.bound l.fn.prefix (map g.I.Id.digits l.fn.ids) ≤ l.high);
 }
 

@@ -9,6 +9,6 @@ returns-clause-run g c sorted =
     let above = c.part_if_sorted-part.ensures.above sorted in
     let below = c.part_if_sorted-part.ensures.below sorted in
     let ends = bound_of-end prefix ids in
-    let start = c.bound_if_sorted-start.ensures.place sorted above (omega arith) in
-    let end = c.bound_if_sorted-end.ensures.place sorted (omega (arith, start, ends)) below in
+    let start = c.bound_if_sorted-start.ensures.value sorted above (omega arith) in
+    let end = c.bound_if_sorted-end.ensures.value sorted (omega (arith, start, ends)) below in
     run_is prefix ids sorted _ start end

@@ -18,7 +18,7 @@ find_bound-end-requires-clause-above g c =
     let list = ap (λ (p : Probing). p.ids) c.find_bound-start.ensures.same in
     let prefix = ap (λ (p : Probing). p.prefix) c.find_bound-start.ensures.same in
     let ends = bound_of-end c.args.probes.now.prefix c.args.probes.now.ids in
-    rw (list, prefix) (omega (arith, c.find_bound-start.ensures.place))
+    rw (list, prefix) (omega (arith, c.find_bound-start.ensures.value))
 
 pub find_bound-end-requires-clause-room : goal.find_bound-end-requires-clause-room
 find_bound-end-requires-clause-room g c =
@@ -30,11 +30,11 @@ pub returns-clause-run : goal.returns-clause-run
 returns-clause-run g c =
     let list = ap (λ (p : Probing). p.ids) c.find_bound-start.ensures.same in
     let prefix = ap (λ (p : Probing). p.prefix) c.find_bound-start.ensures.same in
-    run_is c.args.probes.now.prefix c.args.probes.now.ids c.requires.can_probe.sorted _ c.find_bound-start.ensures.place
-    (rw (list, prefix) at c.find_bound-end.ensures.place)
+    run_is c.args.probes.now.prefix c.args.probes.now.ids c.requires.can_probe.sorted _ c.find_bound-start.ensures.value
+    (rw (list, prefix) at c.find_bound-end.ensures.value)
 
 pub returns-clause-asked : goal.returns-clause-asked
 returns-clause-asked g c =
     let fewer = bits-mono (c.args.part.end - c.find_bound-start.result) (c.args.part.end - c.args.part.start)
-    (omega (arith, c.requires.above, c.find_bound-start.ensures.place)) in
+    (omega (arith, c.requires.above, c.find_bound-start.ensures.value)) in
     omega (arith, c.requires.fresh, c.find_bound-start.ensures.asked, c.find_bound-end.ensures.asked)

@@ -11,40 +11,40 @@ use Rattle.pack_index.proofs.lazy.LazyFile.pack_offset_at_index.Goals.{After-fro
 use Rattle.pack_index.proofs.lazy.LazyFile.pack_offset_at_index.Goals as goal
 
 -- where the long offset is, and where all of them end
-placed : (g : Over) (c : After-from-2 g) (bytes : List ℕ) → c.args.self.now.content ≡ Some bytes
+long_starts : (g : Over) (c : After-from-2 g) (bytes : List ℕ) → c.args.self.now.content ≡ Some bytes
     → (c.long_at.result + 8 * c.from-2.result ≡ long_at c.args.self.now.kind bytes + 8 * (c.in_ok-word.word - long_word))
     × (c.self.inside.end ≡ tables_end c.args.self.now.kind bytes)
-placed g c bytes is =
+long_starts g c bytes is =
     let inv = c.self.invariant bytes (rw (← c.self.view_is) at is) in
     let kind : c.self.inside.kind ≡ c.args.self.now.kind = ap (λ (f : LazyIndex). f.kind) c.self.view_is in
     let whole : length c.self.inside.head ≡ 1032 = first_of (search rules, omega arith) in
-    let starts = c.long_at.ensures.place ∙ long_in_head bytes c.self.inside.head inv.0 whole c.self.inside.kind ∙ ap (λ (k : Kind). long_at k bytes) kind in
+    let starts = c.long_at.ensures.start ∙ long_in_head bytes c.self.inside.head inv.0 whole c.self.inside.kind ∙ ap (λ (k : Kind). long_at k bytes) kind in
     (omega (arith, starts, c.from-2.ensures), inv.2 ∙ ap (λ (k : Kind). tables_end k bytes) kind)
 
 pub returns-then-start-self-clause-err : goal.returns-then-start-self-clause-err
 returns-then-start-self-clause-err g c = λ bytes is.
-    let place = placed g (goal.at.returns-then-start-self-clause-err g c).After-from-2 bytes is in
+    let start = long_starts g (goal.at.returns-then-start-self-clause-err g c).After-from-2 bytes is in
     let inv = c.self.invariant bytes (rw (← c.self.view_is) at is) in (
       refl,
       omega (arith, c.requires, ap (λ (f : LazyIndex). f.count) c.self.view_is, head_count bytes c.self.inside.head inv.0 (first_of (search rules, omega arith))),
-      no_long _ bytes c.args.at _ (c.in_ok-word.ensures.word bytes is) c.if-word-lt-LONG.false _ place.0 _ place.1 c.if-start-self.true,
+      no_long _ bytes c.args.at _ (c.in_ok-word.ensures.word bytes is) c.if-word-lt-LONG.false _ start.0 _ start.1 c.if-start-self.true,
     )
 
 pub returns-in_err-read_exact_at-clause-err : goal.returns-in_err-read_exact_at-clause-err
 returns-in_err-read_exact_at-clause-err g c =
     let failed = err_from_is_err_and c.from_residual-in_err-read_exact_at.result c.from_residual-in_err-read_exact_at.ensures.1 in
     rw (failed.1, failed.2) (λ bytes is.
-    let place = placed g (goal.at.returns-in_err-read_exact_at-clause-err g c).After-from-2 bytes is in
+    let start = long_starts g (goal.at.returns-in_err-read_exact_at-clause-err g c).After-from-2 bytes is in
     subst (λ (f : LazyIndex). IsTrue f.can_fail) c.self.view_is
-    (c.in_err-read_exact_at.ensures.err bytes (rw (← c.self.view_is) at is) (omega (arith, place.1, c.if-start-self.false))))
+    (c.in_err-read_exact_at.ensures.err bytes (rw (← c.self.view_is) at is) (omega (arith, start.1, c.if-start-self.false))))
 
 pub returns-clause-has : goal.returns-clause-has
 returns-clause-has g c = λ bytes is.
-    let place = placed g (goal.at.returns-clause-has g c).After-from-2 bytes is in
-    has_long _ bytes c.args.at _ (c.in_ok-word.ensures.word bytes is) c.if-word-lt-LONG.false _ place.0 _ place.1 c.if-start-self.false
+    let start = long_starts g (goal.at.returns-clause-has g c).After-from-2 bytes is in
+    has_long _ bytes c.args.at _ (c.in_ok-word.ensures.word bytes is) c.if-word-lt-LONG.false _ start.0 _ start.1 c.if-start-self.false
 
 pub returns-clause-offset : goal.returns-clause-offset
 returns-clause-offset g c = λ bytes is.
-    let place = placed g (goal.at.returns-clause-offset g c).After-from-2 bytes is in
-    long_offset _ bytes c.args.at _ (c.in_ok-word.ensures.word bytes is) c.if-word-lt-LONG.false _ place.0 c.long_word_at.result c.read_exact_at.new.buf
+    let start = long_starts g (goal.at.returns-clause-offset g c).After-from-2 bytes is in
+    long_offset _ bytes c.args.at _ (c.in_ok-word.ensures.word bytes is) c.if-word-lt-LONG.false _ start.0 c.long_word_at.result c.read_exact_at.new.buf
     (c.in_ok-read_exact_at.ensures.bytes bytes (rw (← c.self.view_is) at is)) (first_of (search rules, omega arith)) c.long_word_at.ensures
