@@ -6,6 +6,13 @@ use gix_hash::Kind;
 use std::alloc::{AllocError, Global};
 use thiserror::Error as ThisError;
 
+// The extensions, beside `objectformat`, that only version 1 of the format has. The last two are of
+// Git 2.45 and 2.48: how refs are stored, and how worktrees are linked.
+const OF_VERSION_1: [&str; 3] = ["noop-v1", "refstorage", "relativeworktrees"];
+
+// Those that version 0 has, too.
+const OF_ANY_VERSION: [&str; 4] = ["noop", "partialclone", "preciousobjects", "worktreeconfig"];
+
 /// Why a config says no kind.
 #[derive(Debug, Drop, ThisError)]
 pub enum ConfigError {
@@ -74,19 +81,21 @@ impl Format {
                 self.kind = kind_of(value).ok_or(ConfigError::Kind)?;
                 self.needs_version_1 = Some("objectformat");
             }
-            b"extensions.noop-v1" => self.needs_version_1 = Some("noop-v1"),
-            // Of Git 2.45 and 2.48: how refs are stored, and how worktrees are linked.
-            b"extensions.refstorage" => self.needs_version_1 = Some("refstorage"),
-            b"extensions.relativeworktrees" => self.needs_version_1 = Some("relativeworktrees"),
-            b"extensions.noop"
-            | b"extensions.preciousobjects"
-            | b"extensions.partialclone"
-            | b"extensions.worktreeconfig" => {}
             _ => {
                 if let Some(extension) = name.strip_prefix(b"extensions.") {
-                    self.unknown = Some(String::from_utf8_lossy(alloc, extension)?);
+                    self.set_extension(alloc, extension)?;
                 }
             }
+        }
+        Ok(())
+    }
+
+    // Sets what an extension says that is not about objects.
+    fn set_extension(&mut self, alloc: Global, name: &[u8]) -> Result<(), AllocError> {
+        if let Some(known) = known(&OF_VERSION_1, name) {
+            self.needs_version_1 = Some(known);
+        } else if known(&OF_ANY_VERSION, name).is_none() {
+            self.unknown = Some(String::from_utf8_lossy(alloc, name)?);
         }
         Ok(())
     }
@@ -102,6 +111,16 @@ impl Format {
             (Some(version), _, _) => Err(ConfigError::Version(version)),
         }
     }
+}
+
+// The extension of this name among some, if it is one of them.
+fn known(extensions: &[&'static str], name: &[u8]) -> Option<&'static str> {
+    for extension in extensions {
+        if extension.as_bytes() == name {
+            return Some(*extension);
+        }
+    }
+    None
 }
 
 // The number that a value is.

@@ -59,22 +59,28 @@ impl ObjectsFolder {
 /// that they share. `$GIT_OBJECT_DIRECTORY` is taken in place of the repository's own objects
 /// folder, and the folders of `$GIT_ALTERNATE_OBJECT_DIRECTORIES` are alternates.
 pub fn find_objects<R: Files + Env + AllocGlobal>(rt: &R) -> Result<ObjectsFolder, Error> {
-    let given = Environment::read(rt)?;
+    let (path, kind) = find_folder(rt)?;
     let alternates = alternates(rt)?;
+    Ok(ObjectsFolder {
+        path,
+        kind,
+        alternates,
+    })
+}
+
+// The path of that folder, and the kind of its ids.
+fn find_folder<R: Files + Env + AllocGlobal>(rt: &R) -> Result<(String, Kind), Error> {
+    let given = Environment::read(rt)?;
     match (find_repository(rt, &given)?, given.objects) {
-        (Some(repository), objects) => Ok(ObjectsFolder {
-            kind: kind_by_config(rt, &repository)?,
-            path: match objects {
-                Some(path) => path,
-                None => join(rt, &repository, "objects")?,
-            },
-            alternates,
-        }),
-        (None, Some(path)) => Ok(ObjectsFolder {
-            kind: kind_beside(rt, &path)?,
-            path,
-            alternates,
-        }),
+        (Some(repository), Some(path)) => Ok((path, kind_by_config(rt, &repository)?)),
+        (Some(repository), None) => {
+            let kind = kind_by_config(rt, &repository)?;
+            Ok((join(rt, &repository, "objects")?, kind))
+        }
+        (None, Some(path)) => {
+            let kind = kind_beside(rt, &path)?;
+            Ok((path, kind))
+        }
         (None, None) => Err(Error::NoRepository),
     }
 }

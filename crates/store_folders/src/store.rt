@@ -1,6 +1,6 @@
 //! An object store in folders.
 
-ghost use Rattle.std.specs.Prelude.{◌≡◌, All};
+ghost use Rattle.std.specs.Prelude.{◌≡◌, All, IfOk};
 ghost use Rattle.gix_hash.specs.ObjectId.{id_kind};
 
 use crate::error::Error;
@@ -42,8 +42,6 @@ pub struct FolderStore<R: Files<File = File>> {
 }
 
 impl<R: Files<File = File> + AllocGlobal + Clone + Drop> FolderStore<R> {
-    ghost use Rattle.std.specs.Prelude.{IfOk};
-
     /// Opens the store of an objects folder, whose ids are of the folder's kind.
     ///
     /// No object is missed that is packed meanwhile, as by `git gc`. If a pack index is removed while
@@ -68,25 +66,18 @@ impl<R: Files<File = File> + AllocGlobal + Clone + Drop> FolderStore<R> {
         FolderStore::read(rt, folder, loose)
     }
 
-    // Reads the store once. The order makes that no object is missed that is there all the time. One
-    // that is packed is in a pack before its loose file is removed, and in the new pack before the
-    // old one is: so the loose objects are listed before the packs. One that is taken out of a pack
-    // is loose before the pack is removed: so the packs are listed before the loose objects too, and
-    // none of them may be gone after. (A pack that came and went in between is not noticed.)
+    // Reads the store once.
     fn read(rt: &R, folder: &ObjectsFolder, loose: LooseIds) -> Result<FolderStore<R>, Error>
         ensures { IfOk result (λ store. store.kind ≡ folder.now.kind) }
     {
         let kind = folder.kind;
         let folders = with_alternates(rt, folder)?;
-        let before = PackIndexes::list(rt, &folders.paths)?;
-        let loose = list_loose(rt, &folders.paths, kind, loose)?;
-        let after = PackIndexes::list(rt, &folders.paths)?;
-        after.expect_all(rt.alloc(), &before)?;
-        let paths = after.with_packs(rt)?;
+        let (listed, loose) = list(rt, &folders.paths, kind, loose)?;
+        let paths = listed.with_packs(rt)?;
         let packs = pack_paths(rt.alloc(), &paths)?;
         let indexes = open_indexes(rt, &paths, kind)?;
         let mut passed_over = folders.passed_over;
-        let mut unnamed = after.passed_over;
+        let mut unnamed = listed.passed_over;
         passed_over.append(&mut unnamed)?;
         Ok(FolderStore {
             rt: rt.clone()?,
@@ -163,6 +154,27 @@ impl<R: Files<File = File> + AllocGlobal + Clone + Drop> FolderStore<R> {
             Err(Error::file(self.rt.alloc(), &path, error))
         }
     }
+}
+
+// Lists the pack indexes and the loose objects in objects folders. The order makes that no object is
+// missed that is there all the time. One that is packed is in a pack before its loose file is
+// removed, and in the new pack before the old one is: so the loose objects are listed before the
+// packs. One that is taken out of a pack is loose before the pack is removed: so the packs are listed
+// before the loose objects too, and none of them may be gone after. (A pack that came and went in
+// between is not noticed.)
+fn list<R: Files + AllocGlobal>(
+    rt: &R,
+    folders: &[String],
+    kind: Kind,
+    loose: LooseIds,
+) -> Result<(PackIndexes, LooseObjects), Error>
+    ensures { IfOk result (λ listed. All (λ id. id_kind id ≡ kind) listed.1.ids.items) }
+{
+    let before = PackIndexes::list(rt, folders)?;
+    let loose = list_loose(rt, folders, kind, loose)?;
+    let after = PackIndexes::list(rt, folders)?;
+    after.expect_all(rt.alloc(), &before)?;
+    Ok((after, loose))
 }
 
 // Whether an id begins with a prefix.
