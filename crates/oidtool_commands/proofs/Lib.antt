@@ -1,1 +1,8 @@
 mod CommandLemmas
+mod LineLemmas
+pub mod Results
+mod Orders
+mod FinderLemmas
+mod ChunkLemmas
+mod SourceReads
+pub mod StopLemmas

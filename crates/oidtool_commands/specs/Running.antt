@@ -9,11 +9,11 @@ use Rattle.oidtool_commands.specs.declared.command.Command.{Command}
 use Rattle.oidtool_commands.specs.declared.command.Command.TheVariants.{Find, FindChange, FindIn, Hash, HashFile, Seal}
 use Rattle.oidtool_commands.specs.declared.error.CommandError.{CommandError}
 use Rattle.oidtool_commands.specs.declared.error.CommandError.TheVariants as command
-use Rattle.oidtool_search.specs.Stopping.{Fails, Finds, From}
-use Rattle.oidtool_search.specs.declared.Search.{Search}
-use Rattle.oidtool_search.specs.declared.Search.TheVariants.{Sorted, In}
-use Rattle.oidtool_search.specs.declared.SearchError.{SearchError}
-use Rattle.oidtool_search.specs.declared.SearchError.TheVariants as search
+use Rattle.oidtool_commands.specs.Stopping.{Fails, Finds, From}
+use Rattle.oidtool_commands.specs.declared.search.Search.{Search}
+use Rattle.oidtool_commands.specs.declared.search.Search.TheVariants.{Sorted, In}
+use Rattle.oidtool_commands.specs.declared.search.error.SearchError.{SearchError}
+use Rattle.oidtool_commands.specs.declared.search.error.SearchError.TheVariants as search
 use Rattle.streams.specs.Pipe.{digest_line, HashingFails, SealingFails}
 use Rattle.streams.specs.Source.{HasReadAll, HasReadTooMuch, max_len}
 use Rattle.streams.specs.Writing.{AppendsPart}

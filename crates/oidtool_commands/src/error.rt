@@ -2,7 +2,7 @@
 
 ghost use Rattle.std.specs.Prelude.{◌≡◌};
 
-use oidtool_search::SearchError;
+use crate::search::error::SearchError;
 use streams::{PipeError, WriteFailed};
 use thiserror::Error as ThisError;
 

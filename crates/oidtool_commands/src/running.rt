@@ -7,7 +7,9 @@ ghost use Rattle.oidtool_commands.specs.declared.error.CommandError.{CommandErro
 use crate::command::Command;
 use crate::digests::{hash, hash_file, seal};
 use crate::error::CommandError;
-use crate::searching::{find, find_change, find_in};
+use crate::search::Search;
+use crate::searching::{search, search_to_end};
+use gix_hash::Alphabet;
 use std::alloc::Allocator;
 use std::rt::Files;
 use streams::{BufferedSink, Source};
@@ -48,9 +50,16 @@ pub fn run_command<F: Files, A: Allocator + Copy, R: Source, W: BufferedSink>(
     ensures output { IsErrOf result CommandError.Output ↔ (W.has_failed out.new ≡ true) }
 {
     match command {
-        Command::Find { prefix } => find(alloc, prefix, input, out),
-        Command::FindChange { letters } => find_change(alloc, letters, input, out),
-        Command::FindIn { kind, prefix } => find_in(alloc, kind, prefix, input, out),
+        Command::Find { prefix } => {
+            search(alloc, Search::Sorted(Alphabet::Hex), prefix, input, out)
+        }
+        Command::FindChange { letters } => {
+            let by = Search::Sorted(Alphabet::Reverse);
+            search_to_end(alloc, by, letters, input, out)
+        }
+        Command::FindIn { kind, prefix } => {
+            search_to_end(alloc, Search::In(kind), prefix, input, out)
+        }
         Command::Hash { kind } => hash(kind, input, out),
         Command::HashFile { kind, count, path } => hash_file(files, kind, count, path, out),
         Command::Seal { kind } => seal(kind, input, out),

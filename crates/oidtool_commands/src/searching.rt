@@ -1,99 +1,44 @@
 //! The commands that search the list text of the input.
 
 ghost use Rattle.std.specs.Prelude.{◌≡◌, ◌≢◌, ◌↔◌, [], true, false, IfOk, IfErr, OnOk, IsErrOf};
-ghost use Rattle.gix_hash.specs.declared.Alphabet.{Alphabet};
 ghost use Rattle.oidtool_commands.specs.Running.{IsDrained, SearchFails, SearchToEndFails};
 ghost use Rattle.oidtool_commands.specs.declared.error.CommandError.{CommandError};
-ghost use Rattle.oidtool_search.specs.Stopping.{Finds, From};
-ghost use Rattle.oidtool_search.specs.declared.Search.{Search};
+ghost use Rattle.oidtool_commands.specs.Stopping.{Finds, From};
 
 use crate::error::CommandError;
 use crate::flushing::flush;
-use gix_hash::{Alphabet, Kind};
-use oidtool_search::{Search, SearchError, search_from};
+use crate::search::error::SearchError;
+use crate::search::{Search, search_from};
 use std::alloc::Allocator;
 use streams::{BufferedSink, CHUNK_LEN, MAX_LEN, PipeError, Source, next_chunk};
 
-/// Writes a line for each id of a sorted list that begins with the prefix, and returns their
-/// number. Nothing is read after the chunk in which the first bad line ends.
-pub fn find<A: Allocator, R: Source, W: BufferedSink>(
+/// Writes a line for each id of the list that begins with the prefix, and returns their number.
+/// Nothing is read after the chunk in which the first bad line ends.
+pub fn search<A: Allocator, R: Source, W: BufferedSink>(
     alloc: A,
+    search: Search,
     prefix: &str,
     input: &mut R,
     out: &mut W,
 ) -> Result<usize, CommandError>
     requires input { R.has_failed input.old ≡ false }
     requires output { W.has_failed out.old ≡ false }
-    ensures done { IfOk result (Finds (Search.Sorted Alphabet.Hex) prefix.now
+    ensures done { IfOk result (Finds search prefix.now
         (From MAX_LEN (R.remaining input.old) (R.remaining input.new))
         (W.taken out.old) (W.taken out.new)) }
-    ensures failed { IfErr result (SearchFails (Search.Sorted Alphabet.Hex) prefix.now
+    ensures failed { IfErr result (SearchFails search prefix.now
         (R.remaining input.old) (R.remaining input.new) (W.taken out.old) (W.taken out.new)) }
     ensures flushed { OnOk result (W.kept_back out.new ≡ []) }
     ensures untouched { IfErr result (λ e. e ≢ CommandError.Output → out.new ≡ out.old) }
     ensures input { IsErrOf result CommandError.Input ↔ (R.has_failed input.new ≡ true) }
     ensures output { IsErrOf result CommandError.Output ↔ (W.has_failed out.new ≡ true) }
 {
-    let search = Search::Sorted(Alphabet::Hex);
     let count = search_from(alloc, search, prefix, input, MAX_LEN, out)?;
     flush(count, out)
 }
 
-/// The same with the prefix read in the letters `z` to `k`, and the ids written in them. The input
-/// is read to its end, also after a bad line.
-pub fn find_change<A: Allocator, R: Source, W: BufferedSink>(
-    alloc: A,
-    letters: &str,
-    input: &mut R,
-    out: &mut W,
-) -> Result<usize, CommandError>
-    requires input { R.has_failed input.old ≡ false }
-    requires output { W.has_failed out.old ≡ false }
-    ensures done { IfOk result (Finds (Search.Sorted Alphabet.Reverse) letters.now
-        (From MAX_LEN (R.remaining input.old) (R.remaining input.new))
-        (W.taken out.old) (W.taken out.new)) }
-    ensures failed { IfErr result (SearchToEndFails (Search.Sorted Alphabet.Reverse) letters.now
-        (R.remaining input.old) (R.remaining input.new) (W.taken out.old) (W.taken out.new)) }
-    ensures flushed { OnOk result (W.kept_back out.new ≡ []) }
-    ensures untouched { IfErr result (λ e. e ≢ CommandError.Output → out.new ≡ out.old) }
-    ensures input { IsErrOf result CommandError.Input ↔ (R.has_failed input.new ≡ true) }
-    ensures output { IsErrOf result CommandError.Output ↔ (W.has_failed out.new ≡ true) }
-{
-    search_to_end(
-        alloc,
-        Search::Sorted(Alphabet::Reverse),
-        letters,
-        input,
-        out,
-    )
-}
-
-/// The same in hex of a strictly increasing list of ids of the kind. The input is read to its end,
-/// also after a bad line.
-pub fn find_in<A: Allocator, R: Source, W: BufferedSink>(
-    alloc: A,
-    kind: Kind,
-    prefix: &str,
-    input: &mut R,
-    out: &mut W,
-) -> Result<usize, CommandError>
-    requires input { R.has_failed input.old ≡ false }
-    requires output { W.has_failed out.old ≡ false }
-    ensures done { IfOk result (Finds (Search.In kind) prefix.now
-        (From MAX_LEN (R.remaining input.old) (R.remaining input.new))
-        (W.taken out.old) (W.taken out.new)) }
-    ensures failed { IfErr result (SearchToEndFails (Search.In kind) prefix.now
-        (R.remaining input.old) (R.remaining input.new) (W.taken out.old) (W.taken out.new)) }
-    ensures flushed { OnOk result (W.kept_back out.new ≡ []) }
-    ensures untouched { IfErr result (λ e. e ≢ CommandError.Output → out.new ≡ out.old) }
-    ensures input { IsErrOf result CommandError.Input ↔ (R.has_failed input.new ≡ true) }
-    ensures output { IsErrOf result CommandError.Output ↔ (W.has_failed out.new ≡ true) }
-{
-    search_to_end(alloc, Search::In(kind), prefix, input, out)
-}
-
-// Searches the input, and reads on to its end if the search stops at the prefix or at a line.
-fn search_to_end<A: Allocator, R: Source, W: BufferedSink>(
+/// The same, and reads the input to its end also if the search stops at the prefix or at a line.
+pub fn search_to_end<A: Allocator, R: Source, W: BufferedSink>(
     alloc: A,
     search: Search,
     prefix: &str,

@@ -1,7 +1,2 @@
--- List texts as lines and ids, and the results of searches in them.
-pub mod Lines
-pub mod ListText
-pub mod ListChunks
-pub mod Searching
-pub mod Stopping
+-- The errors of the calls as causes.
 pub mod Errors

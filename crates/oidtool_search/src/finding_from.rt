@@ -3,14 +3,13 @@
 ghost use Rattle.std.specs.Prelude.{◌≡◌, ◌≢◌, ◌↔◌, true, false, IsErr, IfOk, IfErr, IsErrOf};
 ghost use Rattle.gix_hash.specs.declared.Alphabet.{Alphabet};
 ghost use Rattle.oidtool_search.specs.Errors.{cause_from};
-ghost use Rattle.oidtool_search.specs.Searching.{prefix_of};
-ghost use Rattle.oidtool_search.specs.Stopping.{Fails, Finds, From, IsOwn};
+ghost use Rattle.oidtool_commands.specs.Searching.{prefix_of};
+ghost use Rattle.oidtool_commands.specs.Stopping.{Fails, Finds, From, IsOwn};
 ghost use Rattle.oidtool_search.specs.declared.finding_from.FindFromError.{FindFromError};
-ghost use Rattle.oidtool_search.specs.declared.search.Search.{Search};
+ghost use Rattle.oidtool_commands.specs.declared.Search.{Search};
 
-use crate::error::SearchError;
-use crate::search::{Search, search_from};
 use gix_hash::{Alphabet, decode, prefix};
+use oidtool_commands::{Search, SearchError, search_from};
 use std::alloc::Allocator;
 use streams::{MAX_LEN, Sink, Source};
 use thiserror::Error as ThisError;

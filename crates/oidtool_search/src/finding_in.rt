@@ -3,15 +3,14 @@
 ghost use Rattle.std.specs.Prelude.{◌≡◌, ◌≢◌, ◌↔◌, ℕ, List, Result, true, false, IfOk, IfErr, IsErrOf};
 ghost use Rattle.gix_hash.specs.declared.Kind.{Kind};
 ghost use Rattle.oidtool_search.specs.Errors.{cause_in};
-ghost use Rattle.oidtool_search.specs.Searching.{finding, ResultHolds};
-ghost use Rattle.oidtool_search.specs.Stopping.{Fails, Finds, From, IsOfText, IsOwn, Text};
-ghost use Rattle.oidtool_search.specs.declared.error.SearchError.{SearchError};
+ghost use Rattle.oidtool_commands.specs.Searching.{finding, ResultHolds};
+ghost use Rattle.oidtool_commands.specs.Stopping.{Fails, Finds, From, IsOfText, IsOwn, Text};
+ghost use Rattle.oidtool_commands.specs.declared.SearchError.{SearchError};
 ghost use Rattle.oidtool_search.specs.declared.finding_in.FindInError.{FindInError};
-ghost use Rattle.oidtool_search.specs.declared.search.Search.{Search};
+ghost use Rattle.oidtool_commands.specs.declared.Search.{Search};
 
-use crate::error::SearchError;
-use crate::search::{Search, search_from};
 use gix_hash::{Kind, decode, prefix};
+use oidtool_commands::{Search, SearchError, search_from};
 use std::alloc::Allocator;
 use streams::{FromSlice, Sink};
 use thiserror::Error as ThisError;

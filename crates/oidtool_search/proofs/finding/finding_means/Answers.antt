@@ -1,5 +1,5 @@
-use Rattle.oidtool_search.specs.declared.search.Search.TheVariants.{Sorted}
-use Rattle.oidtool_search.proofs.Results.{result_means}
+use Rattle.oidtool_commands.specs.declared.Search.TheVariants.{Sorted}
+use Rattle.oidtool_commands.proofs.Results.{result_means}
 use Rattle.oidtool_search.proofs.finding.finding_means.Goals as goal
 
 pub returns : goal.returns

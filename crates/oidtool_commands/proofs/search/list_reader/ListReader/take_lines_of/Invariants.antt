@@ -1,0 +1,15 @@
+use Rattle.std.proofs.Common.{◌≡◌, ◌-◌, ◌≤◌, length}
+use Rattle.std.specs.List.{slice_range}
+use Rattle.oidtool_commands.specs.ListChunks.{Takes}
+use Rattle.oidtool_commands.proofs.search.list_reader.ListReader.take_lines_of.Given as goal
+
+abbrev pub invariant-loop-kind : goal.invariant-loop-kind
+invariant-loop-kind g l = record {
+  ok : Takes l.fn.self l.self (slice_range l.chunk l.at l.end);
+  begun : l.self.len ≡ 0;
+  onward : l.at ≤ l.end;
+  in_chunk : l.end ≤ length l.chunk;
+}
+
+abbrev pub decreases-loop-kind : goal.decreases-loop-kind
+decreases-loop-kind g l = length l.chunk - l.end

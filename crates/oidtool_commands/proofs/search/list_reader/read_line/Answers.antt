@@ -1,0 +1,12 @@
+use Rattle.std.proofs.Common.{ap, sym, ◌∙◌}
+use Rattle.gix_hash.specs.Digits.{hex_letter}
+use Rattle.gix_hash.specs.IdReading.{full_read}
+use Rattle.oidtool_commands.proofs.ChunkLemmas.{long_line, short_line}
+use Rattle.oidtool_commands.proofs.search.list_reader.read_line.Goals as goal
+
+pub returns-then-len-gt-MAX_DIGITS : goal.returns-then-len-gt-MAX_DIGITS
+returns-then-len-gt-MAX_DIGITS c line len kept = long_line line c.args.len len c.if-len-gt-MAX_DIGITS.true
+
+pub returns : goal.returns
+returns c line len kept =
+    c.from_hex.ensures ∙ ap (full_read hex_letter) (sym (short_line line c.args.len c.args.kept.now len c.if-len-gt-MAX_DIGITS.false kept))

@@ -1,0 +1,22 @@
+use Rattle.std.proofs.Common.{◌≡◌, ◌+◌, ◌∙◌, ap, refl, inl, inr, Some, arith}
+use Rattle.oidtool_commands.specs.declared.search.error.SearchError.TheVariants.{WrongKind, NotRising}
+use Rattle.oidtool_commands.specs.declared.search.Search.TheVariants.{In}
+use Rattle.id_lookup.specs.Index.{Index}
+use Rattle.oidtool_commands.proofs.FinderLemmas.{no_more_found}
+use Rattle.oidtool_commands.proofs.Orders.{bad_is}
+use Rattle.oidtool_commands.proofs.search.query.find_in_index.Goals as goal
+
+pub returns-in-Err-WrongKind-clause-bad : goal.returns-in-Err-WrongKind-clause-bad
+returns-in-Err-WrongKind-clause-bad c =
+    let at = c.in-Err-WrongKind.at in
+    let line : c.args.before + 1 + at ≡ c.args.before + at + 1 = omega arith in
+    bad_is (In c.args.kind) _ _ at WrongKind (inl (refl, rw c.in-Err-WrongKind.field-0-is at c.in-Err-WrongKind.ensures.err)) ∙ ap (λ k. Some (WrongKind k)) line
+
+pub returns-in-Err-NotRising-clause-bad : goal.returns-in-Err-NotRising-clause-bad
+returns-in-Err-NotRising-clause-bad c =
+    let at = c.in-Err-NotRising.at in
+    let line : c.args.before + 1 + at ≡ c.args.before + at + 1 = omega arith in
+    bad_is (In c.args.kind) _ _ at NotRising (inr (refl, rw c.in-Err-NotRising.field-0-is at c.in-Err-NotRising.ensures.err)) ∙ ap (λ k. Some (NotRising k)) line
+
+pub returns-in-Ok-clause-within : goal.returns-in-Ok-clause-within
+returns-in-Ok-clause-within c = no_more_found _ _ _ _ c.matches.ensures.value (ap (λ (index : Index). index.ids) c.in-Ok.ensures.ok)

@@ -1,7 +1,0 @@
-mod LineLemmas
-mod Results
-mod Orders
-mod FinderLemmas
-mod ChunkLemmas
-mod SourceReads
-pub mod StopLemmas
