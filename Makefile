@@ -1,12 +1,12 @@
 # Proves, builds, tests and installs the programs and the library for C. `make help` lists what it makes.
-# A crate is proved and built by tools/prove once the crates below it are, side by side if they do not depend on each
-# other.
+# A crate is proved and built by tools/prove, whole, once the crates below it are, side by side if they do not depend on
+# each other.
 PROGRAMS := oidtool packtool
 PREFIX ?= /usr/local
-# As many jobs as there are processors, and memory for: an rt may take 6 GB. But none if the caller said how many. (While
+# As many jobs as there are processors, and memory for: a crate may take 3 GB. But none if the caller said how many. (While
 # make reads a Makefile, only its own words say that, and those of the make that calls it.)
 JOBS := $(shell { printf '%s' "$$MAKEFLAGS" | tr ' ' '\0'; cat /proc/$$PPID/cmdline; } | grep -zqE '^(-[a-z]*j|--jobs)' || \
-    awk -v most="$$(nproc)" '/^MemAvailable/ { n = int($$2 / 6e6); print n < 1 ? 1 : n < most ? n : most }' /proc/meminfo)
+    awk -v most="$$(nproc)" '/^MemAvailable/ { n = int($$2 / 3e6); print n < 1 ? 1 : n < most ? n : most }' /proc/meminfo)
 MAKEFLAGS += --no-builtin-rules $(JOBS:%=--jobs=%)
 
 SOURCES := $(shell find crates -name out -prune -o -name must-fail -prune -o \( -name '*.rt' -o -name '*.antt' \) -print)
@@ -16,9 +16,11 @@ CRATES := $(foreach line,$(LISTED),$(firstword $(subst :, ,$(line))))
 # The kit that proves them; nothing if there is no rt.
 KIT := $(wildcard $(patsubst %/bin/rt,%/KIT-ID,$(realpath $(shell command -v rt))))
 
-# direct_CRATE: the crates of this repository that it depends on; below CRATE: those that these depend on, too.
-split = $(eval direct_$(firstword $1) := $(filter $(CRATES),$(wordlist 2,$(words $1),$1)))
+# named_CRATE: the libraries that it depends on; direct_CRATE: those of this repository; below CRATE: those that these depend
+# on, too.
+split = $(eval named_$(firstword $1) := $(wordlist 2,$(words $1),$1))
 $(foreach line,$(LISTED),$(call split,$(subst :, ,$(line))))
+$(foreach crate,$(CRATES),$(eval direct_$(crate) := $(filter $(CRATES),$(named_$(crate)))))
 below = $(sort $(foreach low,$(direct_$1),$(low) $(call below,$(low))))
 
 # The crates that the goals need, the lowest first.
@@ -42,8 +44,8 @@ $(PROGRAMS): %: crates/%/out/built
 
 # rules CRATE: when it is out of date, and how it is made.
 define rules
-crates/$1/out/built: $(filter crates/$1/%,$(SOURCES)) $(KIT) $(foreach low,$(direct_$1),crates/$(low)/out/built)
-	@tools/prove $1 $(call below,$1)
+crates/$1/out/built: $(filter crates/$1/%,$(SOURCES)) tools/prove $(KIT) $(foreach low,$(direct_$1),crates/$(low)/out/built)
+	@tools/prove $1 $(named_$1) -- $(call below,$1)
 endef
 $(foreach crate,$(CRATES),$(eval $(call rules,$(crate))))
 
