@@ -73,19 +73,13 @@ struct Format {
 impl Format {
     // Sets what a variable says.
     fn set(&mut self, alloc: Global, name: &[u8], value: Option<&[u8]>) -> Result<(), ConfigError> {
-        match name {
-            b"core.repositoryformatversion" => {
-                self.version = Some(number(value).ok_or(ConfigError::NoVersion)?);
-            }
-            b"extensions.objectformat" => {
-                self.kind = kind_of(value).ok_or(ConfigError::Kind)?;
-                self.needs_version_1 = Some("objectformat");
-            }
-            _ => {
-                if let Some(extension) = name.strip_prefix(b"extensions.") {
-                    self.set_extension(alloc, extension)?;
-                }
-            }
+        if name == b"core.repositoryformatversion".as_slice() {
+            self.version = Some(number(value).ok_or(ConfigError::NoVersion)?);
+        } else if name == b"extensions.objectformat".as_slice() {
+            self.kind = kind_of(value).ok_or(ConfigError::Kind)?;
+            self.needs_version_1 = Some("objectformat");
+        } else if let Some(extension) = name.strip_prefix(b"extensions.") {
+            self.set_extension(alloc, extension)?;
         }
         Ok(())
     }
