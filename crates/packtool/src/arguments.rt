@@ -33,18 +33,18 @@ pub enum FileCommand {
     Check,
 }
 
-// A command: its name, what its help says of it, and its arguments.
+// A row of the table of commands: what a command asks for, its name, what its help says of it, and its arguments.
 #[derive(Clone, Copy)]
-struct Listed {
+struct Row {
     request: Request,
     name: &'static str,
     about: &'static str,
-    words: &'static [Word],
+    arguments: &'static [Argument],
 }
 
 // An argument of a command.
 #[derive(Clone, Copy)]
-enum Word {
+enum Argument {
     Prefix,
     Indexes,
     Files,
@@ -53,44 +53,44 @@ enum Word {
     Kind,
 }
 
-const COMMANDS: [Listed; 5] = [
-    Listed {
+const COMMANDS: [Row; 5] = [
+    Row {
         request: Request::Store(StoreCommand::Find),
         name: "find",
         about: "Prints each id of the store that begins with a prefix",
-        words: &[Word::Prefix, Word::Objects, Word::Kind],
+        arguments: &[Argument::Prefix, Argument::Objects, Argument::Kind],
     },
-    Listed {
+    Row {
         request: Request::Store(StoreCommand::Where),
         name: "where",
         about: "Prints the same, each id with every pack and offset, or loose file, that has it",
-        words: &[Word::Prefix, Word::Objects, Word::Kind],
+        arguments: &[Argument::Prefix, Argument::Objects, Argument::Kind],
     },
-    Listed {
+    Row {
         request: Request::Store(StoreCommand::Names),
         name: "names",
         about: "Prints each id of the store after its shortest name that no other id begins with",
-        words: &[Word::Least, Word::Objects, Word::Kind],
+        arguments: &[Argument::Least, Argument::Objects, Argument::Kind],
     },
-    Listed {
+    Row {
         request: Request::Files(FileCommand::Show),
         name: "show",
         about: "Prints offset, id and CRC of each name of pack indexes, as git show-index does",
-        words: &[Word::Indexes, Word::Kind],
+        arguments: &[Argument::Indexes, Argument::Kind],
     },
-    Listed {
+    Row {
         request: Request::Files(FileCommand::Check),
         name: "check",
         about: "Prints whether pack indexes are right, and whether other files end with their digest",
-        words: &[Word::Files, Word::Kind],
+        arguments: &[Argument::Files, Argument::Kind],
     },
 ];
 
 /// The command of the subcommand with this name.
 pub fn read_request(name: &str) -> Option<Request> {
-    for command in &COMMANDS {
-        if command.name == name {
-            return Some(command.request);
+    for row in &COMMANDS {
+        if row.name == name {
+            return Some(row.request);
         }
     }
     None
@@ -117,49 +117,49 @@ pub fn command<'a>(alloc: Global) -> Result<Command<'a>, AllocError> {
         .subcommand_required(true)
         .disable_help_subcommand(true)
         .after_help(AFTER);
-    for listed in &COMMANDS {
-        program = program.subcommand(subcommand(alloc, listed)?)?;
+    for row in &COMMANDS {
+        program = program.subcommand(subcommand(alloc, row)?)?;
     }
     Ok(program)
 }
 
 // A command of the program.
-fn subcommand<'a>(alloc: Global, listed: &Listed) -> Result<Command<'a>, AllocError> {
-    let mut command = Command::new(alloc, listed.name)
-        .about(listed.about)
+fn subcommand<'a>(alloc: Global, row: &Row) -> Result<Command<'a>, AllocError> {
+    let mut command = Command::new(alloc, row.name)
+        .about(row.about)
         .after_help(AFTER);
-    for word in listed.words {
-        command = command.arg(argument(alloc, *word))?;
+    for argument in row.arguments {
+        command = command.arg(arg_of(alloc, *argument))?;
     }
     Ok(command)
 }
 
 // An argument of a command.
-fn argument<'a>(alloc: Global, word: Word) -> Arg<'a> {
-    match word {
-        Word::Prefix => Arg::new(alloc, "prefix")
+fn arg_of<'a>(alloc: Global, argument: Argument) -> Arg<'a> {
+    match argument {
+        Argument::Prefix => Arg::new(alloc, "prefix")
             .value_name("PREFIX")
             .help("2 hex digits or more")
             .required(true),
-        Word::Indexes => files(alloc)
+        Argument::Indexes => files(alloc)
             .value_name("INDEX")
             .help("A pack index of version 2; - is standard input"),
-        Word::Files => files(alloc).value_name("FILE").help(
+        Argument::Files => files(alloc).value_name("FILE").help(
             "A pack, pack index, multi-pack-index or commit-graph; - is standard input",
         ),
-        Word::Least => Arg::new(alloc, "least")
+        Argument::Least => Arg::new(alloc, "least")
             .long("least")
             .value_name("N")
             .help("The fewest digits of a name")
             .value_parser(value_parser!(u8).range(4..=64))
             .default_value("4"),
-        Word::Objects => Arg::new(alloc, "objects")
+        Argument::Objects => Arg::new(alloc, "objects")
             .long("objects")
             .value_name("DIR")
             .help(
                 "The objects folder [default: $GIT_OBJECT_DIRECTORY, or .git/objects here or above]",
             ),
-        Word::Kind => Arg::new(alloc, "kind")
+        Argument::Kind => Arg::new(alloc, "kind")
             .long("kind")
             .value_name("KIND")
             .help("The kind of ids [default: what the repository or the file has]")
