@@ -1,10 +1,12 @@
-"""What the tools share: counts of what passed, and a program that is compiled in a copy of this repository's crates."""
+"""What the tools share: counts of what passed, the environment of what they start, and a program that is compiled in a copy
+of this repository's crates."""
 
 import contextlib
 import os
 import random
 import re
 import shutil
+import signal
 import subprocess
 import sys
 import tempfile
@@ -12,8 +14,18 @@ from pathlib import Path
 
 ROOT = Path(__file__).resolve().parent.parent
 PROGRAM = "probe"
+# The environment of all that is started: a git hook's own variables would lead git to another repository, and a user's
+# configuration would change what git does.
+CLEAN = {key: value for key, value in os.environ.items() if not key.startswith("GIT_")}
+CLEAN |= {"GIT_CONFIG_GLOBAL": os.devnull, "GIT_CONFIG_NOSYSTEM": "1"}
+# What takes longer than so many seconds has failed.
+LIMIT = 1800
 # The compiler's name for an error: /room/crates/x/src/y.rt:5:7: error[private-field]: ..
 ERROR = re.compile(r"^(?P<file>[^:\n]+):\d+:\d+: error\[(?P<name>[^\]\n]+)\]", re.MULTILINE)
+
+# Temporary folders are removed as at any other end.
+for ending in (signal.SIGTERM, signal.SIGHUP):
+    signal.signal(ending, lambda number, _: sys.exit(128 + number))
 
 
 def count(results):
@@ -25,6 +37,15 @@ def count(results):
         failed += not holds
     print(f"{passed} passed, {failed} failed", flush=True)
     return min(failed, 1)
+
+
+def git(folder, *words, given=b"", env=None):
+    """What git prints in a folder, as the user n. It packs nothing by itself."""
+    words = ["git", "-c", "gc.auto=0", "-c", "user.name=n", "-c", "user.email=e", *words]
+    done = subprocess.run(words, cwd=folder, input=given, env=CLEAN | (env or {}), capture_output=True, check=False, timeout=LIMIT)
+    if done.returncode:
+        raise OSError(f"{' '.join(map(str, words))}: {done.stderr.decode(errors='replace')}")
+    return done.stdout.decode()
 
 
 @contextlib.contextmanager
@@ -41,16 +62,14 @@ def room_with(crates, sources):
         folder.mkdir(parents=True)
         for file, text in sources.items():
             (folder / file).write_text(text, encoding="utf-8")
-        # (a git hook's own variables would lead git to another repository)
-        environment = {key: value for key, value in os.environ.items() if not key.startswith("GIT_")}
-        subprocess.run(["git", "init", "--quiet", name], env=environment, check=True)
+        git(room, "init", "--quiet")
         yield room
 
 
 def compiled(room, verb="try"):
     """Compiles the program with all crates below it, and proves nothing. Returns the status, the output, and its
     errors, each with its file. The verb `run` also proves and runs it."""
-    words = {"cwd": room / "crates" / PROGRAM, "stdin": subprocess.DEVNULL, "stderr": subprocess.STDOUT}
+    words = {"cwd": room / "crates" / PROGRAM, "stdin": subprocess.DEVNULL, "stderr": subprocess.STDOUT, "timeout": LIMIT}
     ran = subprocess.run(["rt", verb], stdout=subprocess.PIPE, encoding="utf-8", errors="replace", check=False, **words)
     return ran.returncode, ran.stdout, [(it["file"], it["name"]) for it in ERROR.finditer(ran.stdout)]
 
