@@ -18,8 +18,9 @@ use std::fmt;
 use std::marker::Model;
 use std::str::FromStr;
 
-/// An id in another spelling: the letters `z` to `k` for the digits 0 to 15, as Jujutsu prints
-/// change ids. Contracts see the id.
+/// An id in another spelling: the letters `z` to `k` for the digits 0 to 15, which Jujutsu uses for
+/// its change ids. It has 40 or 64 letters; Jujutsu's own change ids, of 32, are not read. It is
+/// ordered as the id is, in the opposite order of its letters. Contracts see the id.
 ///
 /// ```
 /// let change = ChangeId::from_reverse_hex(text)?;

@@ -15,7 +15,7 @@ use std::ops::Range;
 use std::str::FromStr;
 use std::{fmt, io};
 
-/// The name of an object: the digest of its content.
+/// The id of a Git object: the digest of its header and content.
 ///
 /// ```
 /// let id = ObjectId::from_hex(b"4b825dc642cb6eb9a060e54bf8d69288fbee4904")?;
