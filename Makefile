@@ -1,20 +1,17 @@
 # Proves, builds, tests and installs the programs and the library for C. `make help` lists what it makes.
 # A crate is proved and built by tools/prove, whole, once the crates below it are, side by side if they do not depend on
-# each other.
+# each other. tools/prove finds out by checksums whether it has to be, so make always calls it.
 PROGRAMS := oidtool packtool
 PREFIX ?= /usr/local
 # As many jobs as there are processors, and memory for: a crate may take 3 GB. But none if the caller said how many. (While
 # make reads a Makefile, only its own words say that, and those of the make that calls it.)
 JOBS := $(shell { printf '%s' "$$MAKEFLAGS" | tr ' ' '\0'; cat /proc/$$PPID/cmdline; } | grep -zqE '^(-[a-z]*j|--jobs)' || \
-    awk -v most="$$(nproc)" '/^MemAvailable/ { n = int($$2 / 3e6); print n < 1 ? 1 : n < most ? n : most }' /proc/meminfo)
+    tools/jobs 3000 3000)
 MAKEFLAGS += --no-builtin-rules $(JOBS:%=--jobs=%)
 
-SOURCES := $(shell find crates -name out -prune -o -name must-fail -prune -o \( -name '*.rt' -o -name '*.antt' \) -print)
 # Each crate with those that it depends on, as NAME:LOW:LOW..
 LISTED := $(shell sed -E 's/ *\#.*//; s/ staticlib:/:/; s/:? +/:/g' crates.txt)
 CRATES := $(foreach line,$(LISTED),$(firstword $(subst :, ,$(line))))
-# The kit that proves them; nothing if there is no rt.
-KIT := $(wildcard $(patsubst %/bin/rt,%/KIT-ID,$(realpath $(shell command -v rt))))
 
 # named_CRATE: the libraries that it depends on; direct_CRATE: those of this repository; below CRATE: those that these depend
 # on, too.
@@ -28,7 +25,7 @@ goal_crates = $(or $(filter $1,$(PROGRAMS)),$(if $(filter lib,$1),gix_hash_c,$(P
 NEEDED := $(foreach goal,$(or $(MAKECMDGOALS),all),$(call goal_crates,$(goal)))
 export NEEDED := $(filter $(NEEDED) $(foreach crate,$(NEEDED),$(call below,$(crate))),$(CRATES))
 
-.PHONY: all help lib test bench install uninstall clean $(PROGRAMS)
+.PHONY: all help lib test bench install uninstall clean always $(PROGRAMS)
 .DELETE_ON_ERROR:
 
 all: $(PROGRAMS)
@@ -42,9 +39,9 @@ help:
 
 $(PROGRAMS): %: crates/%/out/built
 
-# rules CRATE: when it is out of date, and how it is made.
+# rules CRATE: what is proved before it, and how it is made.
 define rules
-crates/$1/out/built: $(filter crates/$1/%,$(SOURCES)) tools/prove $(KIT) $(foreach low,$(direct_$1),crates/$(low)/out/built)
+crates/$1/out/built: always $(foreach low,$(direct_$1),crates/$(low)/out/built)
 	@tools/prove $1 $(named_$1) -- $(call below,$1)
 endef
 $(foreach crate,$(CRATES),$(eval $(call rules,$(crate))))
@@ -54,10 +51,8 @@ VERSION := $(shell sed -nE 's/.*GIX_HASH_VERSION "(.*)"/\1/p' include/gix_hash.h
 SONAME := libgix_hash.so.$(basename $(VERSION))
 lib: out/libgix_hash.a out/$(SONAME)
 
-crates/gix_hash_c/out/libgix_hash_c.a: crates/gix_hash_c/out/built ;
-
-out/libgix_hash.a: crates/gix_hash_c/out/libgix_hash_c.a
-	install -D -m 644 $< $@
+out/libgix_hash.a: crates/gix_hash_c/out/built
+	install -D -m 644 $(<D)/libgix_hash_c.a $@
 
 out/libgix_hash.so: out/libgix_hash.a
 	$(CC) -shared -Wl,-soname,$(SONAME) -Wl,-z,now -Wl,--no-undefined -o $@ -Wl,--whole-archive $< -Wl,--no-whole-archive
@@ -65,12 +60,14 @@ out/libgix_hash.so: out/libgix_hash.a
 out/$(SONAME): out/libgix_hash.so
 	ln -sf $(<F) $@
 
+# (what calls make again has its own jobs and variables)
+APART := env -u MAKEFLAGS -u MFLAGS -u MAKELEVEL
 test:
-	./test
+	$(APART) ./test
 
 bench: $(PROGRAMS)
-	tools/bench
-	tools/instructions
+	$(APART) tools/bench
+	$(APART) tools/instructions
 
 install: $(PROGRAMS) lib
 	tools/install '$(DESTDIR)' '$(PREFIX)'
