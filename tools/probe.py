@@ -1,5 +1,5 @@
-"""What the tools share: counts of what passed, the environment of what they start, and a program that is compiled in a copy
-of this repository's crates."""
+"""What the tools share: counts of what passed, how other programs are started, edits of sources, a program that is
+compiled in a copy of this repository's crates, and ids."""
 
 import contextlib
 import os
@@ -20,8 +20,8 @@ CLEAN = {key: value for key, value in os.environ.items() if not key.startswith("
 CLEAN |= {"GIT_CONFIG_GLOBAL": os.devnull, "GIT_CONFIG_NOSYSTEM": "1"}
 # What takes longer than so many seconds has failed.
 LIMIT = 1800
-# The compiler's name for an error: /room/crates/x/src/y.rt:5:7: error[private-field]: ..
-ERROR = re.compile(r"^(?P<file>[^:\n]+):\d+:\d+: error\[(?P<name>[^\]\n]+)\]", re.MULTILINE)
+# An error of the compiler: /room/crates/x/src/y.rt:5:7: error[private-field]: ..
+ERROR = re.compile(r"^([^:\n]+):(\d+):\d+: error\[([^\]\n]+)\]", re.MULTILINE)
 
 # Temporary folders are removed as at any other end.
 for ending in (signal.SIGTERM, signal.SIGHUP):
@@ -29,7 +29,7 @@ for ending in (signal.SIGTERM, signal.SIGHUP):
 
 
 def count(results):
-    """Prints a line for each result, a pair of a text and whether it passed, and then their counts. Returns the status."""
+    """Prints a line for each result, a text and whether it passed, and then their counts. Returns the status."""
     passed = failed = 0
     for text, holds in results:
         print(text, flush=True)
@@ -39,13 +39,51 @@ def count(results):
     return min(failed, 1)
 
 
+@contextlib.contextmanager
+def started(words, limit=LIMIT, **options):
+    """A command that runs in the environment CLEAN, or in that of the options. It and all that it started are killed
+    after so many seconds, and end when the block is left."""
+    words = ["timeout", "-s", "KILL", str(limit), *words]
+    with subprocess.Popen(words, **{"env": CLEAN, "stdout": subprocess.PIPE, **options}) as child:
+        try:
+            yield child
+        finally:
+            child.terminate()
+
+
 def git(folder, *words, given=b"", env=None):
     """What git prints in a folder, as the user n. It packs nothing by itself."""
     words = ["git", "-c", "gc.auto=0", "-c", "user.name=n", "-c", "user.email=e", *words]
-    done = subprocess.run(words, cwd=folder, input=given, env=CLEAN | (env or {}), capture_output=True, check=False, timeout=LIMIT)
-    if done.returncode:
-        raise OSError(f"{' '.join(map(str, words))}: {done.stderr.decode(errors='replace')}")
-    return done.stdout.decode()
+    options = {"cwd": folder, "env": CLEAN | (env or {}), "stdin": subprocess.PIPE, "stderr": subprocess.PIPE}
+    with started(words, **options) as child:
+        printed, errors = child.communicate(given)
+    if child.returncode:
+        raise OSError(f"{' '.join(map(str, words))}: {errors.decode(errors='replace')}")
+    return printed.decode()
+
+
+def changes(edit):
+    """What an edit changes: for each pair of its lines 'old' and 'new' the path of the file, and both texts."""
+    path = old = None
+    for line in edit.read_text(encoding="utf-8").split("\n"):
+        key, _, text = line.partition(":")
+        if key == "file":
+            path = edit.parent.parent / text.strip()
+        elif key == "old":
+            old = text.removeprefix(" ")
+        elif key == "new":
+            yield path, old, text.removeprefix(" ")
+
+
+def make_edit(edit, texts):
+    """Makes an edit in texts, which have the files that were edited before. Returns why it can't be made, if so."""
+    for path, old, new in changes(edit):
+        if path not in texts:
+            texts[path] = path.read_text(encoding="utf-8") if path.is_file() else ""
+        if (times := texts[path].count(old)) != 1:
+            return f"this occurs {times} times in its file, and not once: {old}"
+        texts[path] = texts[path].replace(old, new)
+    return None
 
 
 @contextlib.contextmanager
@@ -68,10 +106,11 @@ def room_with(crates, sources):
 
 def compiled(room, verb="try"):
     """Compiles the program with all crates below it, and proves nothing. Returns the status, the output, and its
-    errors, each with its file. The verb `run` also proves and runs it."""
-    words = {"cwd": room / "crates" / PROGRAM, "stdin": subprocess.DEVNULL, "stderr": subprocess.STDOUT, "timeout": LIMIT}
-    ran = subprocess.run(["rt", verb], stdout=subprocess.PIPE, encoding="utf-8", errors="replace", check=False, **words)
-    return ran.returncode, ran.stdout, [(it["file"], it["name"]) for it in ERROR.finditer(ran.stdout)]
+    errors, each with its file and line. The verb `run` also proves and runs it."""
+    options = {"cwd": room / "crates" / PROGRAM, "stdin": subprocess.DEVNULL, "stderr": subprocess.STDOUT}
+    with started(["rt", verb], encoding="utf-8", errors="replace", **options) as child:
+        output = child.communicate()[0]
+    return child.returncode, output, [(file, int(line), name) for file, line, name in ERROR.findall(output)]
 
 
 def print_end(output):
@@ -81,7 +120,8 @@ def print_end(output):
 
 def program(name):
     """The path of a program, which is proved and built first if it has to be."""
-    made = subprocess.run(["flock", "crates.txt", "make", "-s", name], cwd=ROOT, stdin=subprocess.DEVNULL, stdout=sys.stderr)
+    words = ["flock", "crates.txt", "make", "-s", name]
+    made = subprocess.run(words, cwd=ROOT, env=CLEAN, stdin=subprocess.DEVNULL, stdout=sys.stderr, check=False)
     if made.returncode:
         sys.exit(f"{name} is not measured, since it was not proved and built")
     return str(ROOT / "crates" / name / "out" / name)
