@@ -1,12 +1,15 @@
 """What the tools share: counts of what passed, how other programs are started, edits of sources, a program that is
 compiled in a copy of this repository's crates, and ids."""
 
+import bisect
 import contextlib
+import hashlib
 import os
 import random
 import re
 import shutil
 import signal
+import struct
 import subprocess
 import sys
 import tempfile
@@ -132,3 +135,17 @@ def sorted_ids(size, id_lens):
     rng = random.Random(size + sum(id_lens))
     for word in sorted(rng.getrandbits(64) for _ in range(size)):
         yield f"{word:016x}{rng.randbytes(rng.choice(id_lens) - 8).hex()}"
+
+
+def index_of(ids):
+    """A pack index of version 2 of sorted ids of SHA-1 in hex, each with a random CRC and an offset of its own."""
+    names = [bytes.fromhex(digits) for digits in ids]
+    rng = random.Random(len(names))
+    firsts = [name[0] for name in names]
+    fan_out = [bisect.bisect_right(firsts, byte) for byte in range(256)]
+    offsets = [12 + 40 * position for position in range(len(names))]
+    rng.shuffle(offsets)
+    head = b"\xfftOc" + struct.pack(">257I", 2, *fan_out)
+    crcs, offsets = rng.randbytes(4 * len(names)), struct.pack(f">{len(names)}I", *offsets)
+    index = b"".join((head, *names, crcs, offsets, bytes(20)))
+    return index + hashlib.sha1(index).digest()
