@@ -31,6 +31,11 @@ for ending in (signal.SIGTERM, signal.SIGHUP):
     signal.signal(ending, lambda number, _: sys.exit(128 + number))
 
 
+def read(name):
+    """The text of a file, by its path from the top."""
+    return (ROOT / name).read_text(encoding="utf-8")
+
+
 def count(results):
     """Prints a line for each result, a text and whether it passed, and then their counts. Returns the status."""
     passed = failed = 0
@@ -67,8 +72,8 @@ def git(folder, *words, given=b"", env=None):
 
 def changes(edit):
     """What an edit changes: for each pair of its lines 'old' and 'new' the path of the file, and both texts."""
-    path = old = None
-    for line in edit.read_text(encoding="utf-8").split("\n"):
+    path, old = None, ""
+    for line in read(edit).split("\n"):
         key, _, text = line.partition(":")
         if key == "file":
             path = edit.parent.parent / text.strip()
@@ -81,11 +86,12 @@ def changes(edit):
 def make_edit(edit, texts):
     """Makes an edit in texts, which have the files that were edited before. Returns why it can't be made, if so."""
     for path, old, new in changes(edit):
-        if path not in texts:
-            texts[path] = path.read_text(encoding="utf-8") if path.is_file() else ""
-        if (times := texts[path].count(old)) != 1:
+        if not path or not path.is_file():
+            return "it names no file"
+        text = texts.get(path) or read(path)
+        if (times := text.count(old)) != 1:
             return f"this occurs {times} times in its file, and not once: {old}"
-        texts[path] = texts[path].replace(old, new)
+        texts[path] = text.replace(old, new)
     return None
 
 
@@ -97,8 +103,8 @@ def room_with(crates, sources):
         room = Path(name).resolve()
         shutil.copytree(ROOT / "crates", room / "crates", symlinks=True, ignore=shutil.ignore_patterns("out"))
         shutil.copy(ROOT / "HANDLES", room)
-        listed = (ROOT / "crates.txt").read_text(encoding="utf-8")
-        (room / "crates.txt").write_text(f"{listed}\n{PROGRAM}: {' '.join(sorted(crates))}\n", encoding="utf-8")
+        listed = f"{read('crates.txt')}\n{PROGRAM}: {' '.join(sorted(crates))}\n"
+        (room / "crates.txt").write_text(listed, encoding="utf-8")
         folder = room / "crates" / PROGRAM / "src"
         folder.mkdir(parents=True)
         for file, text in sources.items():
