@@ -1,12 +1,15 @@
-"""What the tools share: counts of what passed, the environment of what they start, and a program that is compiled in a copy
-of this repository's crates."""
+"""What the tools share: counts of what passed, how other programs are started, edits of sources, a program that is
+compiled in a copy of this repository's crates, and ids."""
 
+import bisect
 import contextlib
+import hashlib
 import os
 import random
 import re
 import shutil
 import signal
+import struct
 import subprocess
 import sys
 import tempfile
@@ -20,16 +23,21 @@ CLEAN = {key: value for key, value in os.environ.items() if not key.startswith("
 CLEAN |= {"GIT_CONFIG_GLOBAL": os.devnull, "GIT_CONFIG_NOSYSTEM": "1"}
 # What takes longer than so many seconds has failed.
 LIMIT = 1800
-# The compiler's name for an error: /room/crates/x/src/y.rt:5:7: error[private-field]: ..
-ERROR = re.compile(r"^(?P<file>[^:\n]+):\d+:\d+: error\[(?P<name>[^\]\n]+)\]", re.MULTILINE)
+# An error of the compiler: /room/crates/x/src/y.rt:5:7: error[private-field]: ..
+ERROR = re.compile(r"^([^:\n]+):(\d+):\d+: error\[([^\]\n]+)\]", re.MULTILINE)
 
 # Temporary folders are removed as at any other end.
 for ending in (signal.SIGTERM, signal.SIGHUP):
     signal.signal(ending, lambda number, _: sys.exit(128 + number))
 
 
+def read(name):
+    """The text of a file, by its path from the top."""
+    return (ROOT / name).read_text(encoding="utf-8")
+
+
 def count(results):
-    """Prints a line for each result, a pair of a text and whether it passed, and then their counts. Returns the status."""
+    """Prints a line for each result, a text and whether it passed, and then their counts. Returns the status."""
     passed = failed = 0
     for text, holds in results:
         print(text, flush=True)
@@ -39,13 +47,52 @@ def count(results):
     return min(failed, 1)
 
 
+@contextlib.contextmanager
+def started(words, limit=LIMIT, **options):
+    """A command that runs in the environment CLEAN, or in that of the options. It and all that it started are killed
+    after so many seconds, and end when the block is left."""
+    words = ["timeout", "-s", "KILL", str(limit), *words]
+    with subprocess.Popen(words, **{"env": CLEAN, "stdout": subprocess.PIPE, **options}) as child:
+        try:
+            yield child
+        finally:
+            child.terminate()
+
+
 def git(folder, *words, given=b"", env=None):
     """What git prints in a folder, as the user n. It packs nothing by itself."""
     words = ["git", "-c", "gc.auto=0", "-c", "user.name=n", "-c", "user.email=e", *words]
-    done = subprocess.run(words, cwd=folder, input=given, env=CLEAN | (env or {}), capture_output=True, check=False, timeout=LIMIT)
-    if done.returncode:
-        raise OSError(f"{' '.join(map(str, words))}: {done.stderr.decode(errors='replace')}")
-    return done.stdout.decode()
+    options = {"cwd": folder, "env": CLEAN | (env or {}), "stdin": subprocess.PIPE, "stderr": subprocess.PIPE}
+    with started(words, **options) as child:
+        printed, errors = child.communicate(given)
+    if child.returncode:
+        raise OSError(f"{' '.join(map(str, words))}: {errors.decode(errors='replace')}")
+    return printed.decode()
+
+
+def changes(edit):
+    """What an edit changes: for each pair of its lines 'old' and 'new' the path of the file, and both texts."""
+    path, old = None, ""
+    for line in read(edit).split("\n"):
+        key, _, text = line.partition(":")
+        if key == "file":
+            path = edit.parent.parent / text.strip()
+        elif key == "old":
+            old = text.removeprefix(" ")
+        elif key == "new":
+            yield path, old, text.removeprefix(" ")
+
+
+def make_edit(edit, texts):
+    """Makes an edit in texts, which have the files that were edited before. Returns why it can't be made, if so."""
+    for path, old, new in changes(edit):
+        if not path or not path.is_file():
+            return "it names no file"
+        text = texts.get(path) or read(path)
+        if (times := text.count(old)) != 1:
+            return f"this occurs {times} times in its file, and not once: {old}"
+        texts[path] = text.replace(old, new)
+    return None
 
 
 @contextlib.contextmanager
@@ -56,8 +103,8 @@ def room_with(crates, sources):
         room = Path(name).resolve()
         shutil.copytree(ROOT / "crates", room / "crates", symlinks=True, ignore=shutil.ignore_patterns("out"))
         shutil.copy(ROOT / "HANDLES", room)
-        listed = (ROOT / "crates.txt").read_text(encoding="utf-8")
-        (room / "crates.txt").write_text(f"{listed}\n{PROGRAM}: {' '.join(sorted(crates))}\n", encoding="utf-8")
+        listed = f"{read('crates.txt')}\n{PROGRAM}: {' '.join(sorted(crates))}\n"
+        (room / "crates.txt").write_text(listed, encoding="utf-8")
         folder = room / "crates" / PROGRAM / "src"
         folder.mkdir(parents=True)
         for file, text in sources.items():
@@ -68,10 +115,11 @@ def room_with(crates, sources):
 
 def compiled(room, verb="try"):
     """Compiles the program with all crates below it, and proves nothing. Returns the status, the output, and its
-    errors, each with its file. The verb `run` also proves and runs it."""
-    words = {"cwd": room / "crates" / PROGRAM, "stdin": subprocess.DEVNULL, "stderr": subprocess.STDOUT, "timeout": LIMIT}
-    ran = subprocess.run(["rt", verb], stdout=subprocess.PIPE, encoding="utf-8", errors="replace", check=False, **words)
-    return ran.returncode, ran.stdout, [(it["file"], it["name"]) for it in ERROR.finditer(ran.stdout)]
+    errors, each with its file and line. The verb `run` also proves and runs it."""
+    options = {"cwd": room / "crates" / PROGRAM, "stdin": subprocess.DEVNULL, "stderr": subprocess.STDOUT}
+    with started(["rt", verb], encoding="utf-8", errors="replace", **options) as child:
+        output = child.communicate()[0]
+    return child.returncode, output, [(file, int(line), name) for file, line, name in ERROR.findall(output)]
 
 
 def print_end(output):
@@ -81,7 +129,8 @@ def print_end(output):
 
 def program(name):
     """The path of a program, which is proved and built first if it has to be."""
-    made = subprocess.run(["flock", "crates.txt", "make", "-s", name], cwd=ROOT, stdin=subprocess.DEVNULL, stdout=sys.stderr)
+    words = ["flock", "crates.txt", "make", "-s", name]
+    made = subprocess.run(words, cwd=ROOT, env=CLEAN, stdin=subprocess.DEVNULL, stdout=sys.stderr, check=False)
     if made.returncode:
         sys.exit(f"{name} is not measured, since it was not proved and built")
     return str(ROOT / "crates" / name / "out" / name)
@@ -92,3 +141,17 @@ def sorted_ids(size, id_lens):
     rng = random.Random(size + sum(id_lens))
     for word in sorted(rng.getrandbits(64) for _ in range(size)):
         yield f"{word:016x}{rng.randbytes(rng.choice(id_lens) - 8).hex()}"
+
+
+def index_of(ids):
+    """A pack index of version 2 of sorted ids of SHA-1 in hex, each with a random CRC and an offset of its own."""
+    names = [bytes.fromhex(digits) for digits in ids]
+    rng = random.Random(len(names))
+    firsts = [name[0] for name in names]
+    fan_out = [bisect.bisect_right(firsts, byte) for byte in range(256)]
+    offsets = [12 + 40 * position for position in range(len(names))]
+    rng.shuffle(offsets)
+    head = b"\xfftOc" + struct.pack(">257I", 2, *fan_out)
+    crcs, offsets = rng.randbytes(4 * len(names)), struct.pack(f">{len(names)}I", *offsets)
+    index = b"".join((head, *names, crcs, offsets, bytes(20)))
+    return index + hashlib.sha1(index).digest()
