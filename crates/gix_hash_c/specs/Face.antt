@@ -13,7 +13,7 @@ use Rattle.gix_hash.specs.declared.prefix.from_hex.Error as from_hex
 use Rattle.gix_hash.specs.declared.prefix.from_hex.Error.TheVariants as refused
 use Rattle.gix_hash_c.specs.declared.ids.Id.{Id}
 use Rattle.gix_hash_c.specs.declared.prefixes.Prefix.{Prefix}
-use Rattle.gix_hash_c.specs.declared.codes.TheConstants.{BAD_DIGIT, BAD_KIND, BAD_LENGTH, NO_ROOM, OK}
+use Rattle.gix_hash_c.specs.Codes.{BAD_DIGIT, BAD_KIND, BAD_LENGTH, NO_ROOM, OK}
 
 -- the kind that a number names: 1 is SHA-1, and 2 is SHA-256
 abbrev pub kind_of_number : ℕ → Option Kind

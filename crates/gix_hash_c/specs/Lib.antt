@@ -1,3 +1,4 @@
+pub mod Codes
 pub mod Face
 pub mod Found
 pub mod Packs

@@ -1,4 +1,5 @@
-//! The codes that functions return. Clauses, the header and the bindings have these numbers.
+//! The codes that functions return. Definitions of clauses, the header and the bindings have the
+//! same numbers.
 
 ghost use Rattle.std.specs.Prelude.{◌≡◌};
 ghost use Rattle.gix_hash_c.specs.Face.{kind_of_number, order_number};
