@@ -1,6 +1,7 @@
 /*
- * Git's object ids for C: SHA-1 and SHA-256 ids, prefixes of their hex digits, digests of bytes,
- * look-ups in sorted tables of digests, and pack indexes. Link libgix_hash; docs/BINDINGS.md says how.
+ * Git's object ids for C: SHA-1 and SHA-256 ids, prefixes of their hex digits, digests of bytes
+ * and ids of objects, look-ups in sorted tables of digests, and pack indexes. Link libgix_hash;
+ * docs/BINDINGS.md says how.
  *
  * A len is a number of bytes, a hex_len a number of hex digits, of which a byte has two. Indexes
  * count from 0.
@@ -38,11 +39,17 @@ extern "C" {
 #define GIX_HASH_SHA1 1   /* 20 bytes, 40 digits */
 #define GIX_HASH_SHA256 2 /* 32 bytes, 64 digits */
 
+/* Types of objects, by the numbers that they have in packs. */
+#define GIX_HASH_COMMIT 1
+#define GIX_HASH_TREE 2
+#define GIX_HASH_BLOB 3
+#define GIX_HASH_TAG 4
+
 /* Codes: the name, the number and the meaning of each. From 16 on they say why bytes are not a pack
  * index. "detail" is a number that gix_hash_pack_check writes. */
 #define GIX_HASH_CODES(CODE) \
     CODE(OK, 0, "success") \
-    CODE(BAD_LENGTH, 1, "no id or prefix has this number of digits") \
+    CODE(BAD_LENGTH, 1, "no id or prefix has this length") \
     CODE(BAD_DIGIT, 2, "a byte of the text is not a hex digit") \
     CODE(BAD_KIND, 3, "the kind is neither GIX_HASH_SHA1 nor GIX_HASH_SHA256") \
     CODE(NO_ROOM, 4, "the buffer is too short") \
@@ -50,6 +57,7 @@ extern "C" {
     CODE(OUT_OF_RANGE, 6, "the index is not below the number of names") \
     CODE(UNSORTED, 7, "a digest is below the one before it") \
     CODE(NOT_UNIQUE, 8, "another name is the same, so no beginning of this one is unique") \
+    CODE(BAD_TYPE, 9, "the type is none from GIX_HASH_COMMIT to GIX_HASH_TAG") \
     CODE(TOO_SHORT, 16, "fewer bytes than any pack index has") \
     CODE(VERSION_1, 17, "a pack index of version 1, by its length") \
     CODE(BAD_MAGIC, 18, "no pack index: the magic number is missing") \
@@ -108,6 +116,10 @@ typedef struct gix_hash_entry {
     gix_hash_id id;
 } gix_hash_entry;
 
+/* Returns the version of the library that is linked: 10,000 times the first number of GIX_HASH_VERSION,
+ * 100 times the second, and the third. */
+uint32_t gix_hash_version(void);
+
 /* Reads an id from a text of 40 or 64 hex digits in either case.
  * Returns GIX_HASH_OK, GIX_HASH_BAD_LENGTH or GIX_HASH_BAD_DIGIT. */
 uint32_t gix_hash_id_from_hex(const uint8_t *text, size_t len, gix_hash_id *id);
@@ -116,6 +128,22 @@ uint32_t gix_hash_id_from_hex(const uint8_t *text, size_t len, gix_hash_id *id);
  * as they were, so no zero ends the digits.
  * Returns GIX_HASH_OK, GIX_HASH_BAD_KIND or GIX_HASH_NO_ROOM. */
 uint32_t gix_hash_id_to_hex(const gix_hash_id *id, uint8_t *buffer, size_t len);
+
+/* Writes the 40 or 64 lowercase hex digits of an id to the front of a buffer, and a zero after them. The
+ * bytes after it stay as they were. 65 bytes are enough for both kinds.
+ * Returns GIX_HASH_OK, GIX_HASH_BAD_KIND or GIX_HASH_NO_ROOM. */
+uint32_t gix_hash_id_to_text(const gix_hash_id *id, char *text, size_t len);
+
+/* Takes an id from the 20 or 32 bytes of its digest.
+ * Returns GIX_HASH_OK, GIX_HASH_BAD_KIND or GIX_HASH_BAD_LENGTH. */
+uint32_t gix_hash_id_from_bytes(uint32_t kind, const uint8_t *bytes, size_t len, gix_hash_id *id);
+
+/* Gets the id whose digits are all zero, that of the blob with no bytes, or that of the tree with no
+ * entries.
+ * Each returns GIX_HASH_OK or GIX_HASH_BAD_KIND. */
+uint32_t gix_hash_id_null(uint32_t kind, gix_hash_id *id);
+uint32_t gix_hash_id_empty_blob(uint32_t kind, gix_hash_id *id);
+uint32_t gix_hash_id_empty_tree(uint32_t kind, gix_hash_id *id);
 
 /* Returns the order of two ids, by kind and then by digits: -1 if one is below other, 0 if they are
  * equal, 1 if one is above other; GIX_HASH_NO_ORDER if a kind is bad. */
@@ -130,9 +158,15 @@ uint32_t gix_hash_prefix_from_hex(const uint8_t *text, size_t len, gix_hash_pref
  * the kind is bad, or the id has fewer digits than the prefix. */
 int32_t gix_hash_prefix_cmp_id(const gix_hash_prefix *prefix, const gix_hash_id *id);
 
-/* Computes the digest of bytes.
+/* Computes the digest of bytes. (The id of a blob is another one: see gix_hash_object_id.)
  * Returns GIX_HASH_OK or GIX_HASH_BAD_KIND. */
 uint32_t gix_hash_digest(uint32_t kind, const uint8_t *bytes, size_t len, gix_hash_id *id);
+
+/* Computes the id of an object from its type and its bytes, as git hash-object does: the digest of the
+ * name of the type, a blank, len in decimal, a zero, and the bytes. Whether
+ * the bytes are a tree, a commit or a tag is not checked.
+ * Returns GIX_HASH_OK, GIX_HASH_BAD_KIND or GIX_HASH_BAD_TYPE. */
+uint32_t gix_hash_object_id(uint32_t kind, uint32_t object_type, const uint8_t *bytes, size_t len, gix_hash_id *id);
 
 /* Tests whether a table of digests of a kind, one after the other, is sorted. Duplicates are fine, and a
  * part of a digest at the end is not read. Takes time proportional to len.

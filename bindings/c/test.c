@@ -241,6 +241,77 @@ static void test_index(const char *folder, const char *name, uint32_t kind) {
     if (git) pclose(git);
 }
 
+/* What reading, spelling and naming ids returns, leaves and writes. */
+static void test_ids(void) {
+    for (size_t i = 0; i < ROWS(digests); i++) {
+        uint32_t kind = digests[i].kind;
+        size_t size = kind == GIX_HASH_SHA1 ? 20 : 32;
+        gix_hash_id id = id_of(digests[i].hex), old, made;
+        memset(&old, 7, sizeof old);
+        for (size_t len = 0; len < 68; len++) {
+            char text[68], kept[68];
+            memset(text, '-', sizeof text), memset(kept, '-', sizeof kept), made = old;
+            int fits = len > 2 * size;
+            CHECK(len, gix_hash_id_to_text(&id, text, len) == (fits ? GIX_HASH_OK : GIX_HASH_NO_ROOM));
+            if (fits) memcpy(kept, digests[i].hex, 2 * size + 1);
+            CHECK(len, !memcmp(text, kept, sizeof text));
+            CHECK(len, gix_hash_id_from_bytes(kind, id.bytes, len % 33, &made) == (len % 33 == size ? GIX_HASH_OK : GIX_HASH_BAD_LENGTH));
+            CHECK(len, !memcmp(&made, len % 33 == size ? &id : &old, sizeof made));
+        }
+    }
+    char text[65] = "kept";
+    gix_hash_id id = {0}, none = {.kind = 3}, zeros = {.kind = GIX_HASH_SHA256};
+    CHECK(0, gix_hash_id_to_text(&none, text, 65) == GIX_HASH_BAD_KIND && !strcmp(text, "kept"));
+    CHECK(0, gix_hash_id_to_text(&zeros, NULL, 0) == GIX_HASH_NO_ROOM);
+    CHECK(0, gix_hash_id_from_bytes(GIX_HASH_SHA1, NULL, 0, &id) == GIX_HASH_BAD_LENGTH);
+    CHECK(0, !gix_hash_id_null(GIX_HASH_SHA256, &id) && !memcmp(&id, &zeros, sizeof id));
+    static const uint32_t unknown[] = {0, 5, 257, 0x80000001, UINT32_MAX}; /* as kinds, and as types */
+    for (size_t i = 0; i < ROWS(unknown); i++) {
+        uint32_t kind = unknown[i], bad = GIX_HASH_BAD_KIND;
+        CHECK(i, gix_hash_id_null(kind, &id) == bad && gix_hash_id_from_bytes(kind, none.bytes, 20, &id) == bad);
+        CHECK(i, gix_hash_id_empty_blob(kind, &id) == bad && gix_hash_id_empty_tree(kind, &id) == bad);
+        CHECK(i, gix_hash_object_id(kind, 0, NULL, 0, &id) == bad);
+        CHECK(i, gix_hash_object_id(GIX_HASH_SHA1, kind, NULL, 0, &id) == GIX_HASH_BAD_TYPE && !memcmp(&id, &zeros, sizeof id));
+    }
+    int number[3] = {0};
+    CHECK(0, sscanf(GIX_HASH_VERSION, "%d.%d.%d", &number[0], &number[1], &number[2]) == 3);
+    CHECK(0, gix_hash_version() == (uint32_t)(10000 * number[0] + 100 * number[1] + number[2]));
+}
+
+static uint8_t content[1 << 20];
+
+/* The next of a row of numbers that look random. */
+static uint32_t next_number(void) {
+    static uint32_t seed = 1;
+    return (seed = seed * 1664525 + 1013904223) >> 8;
+}
+
+/* Ids of objects of each type, as git hash-object prints them. */
+static void test_objects(const char *name, uint32_t kind) {
+    static const size_t sizes[] = {0, 1, 9, 10, 4095, 65536, sizeof content};
+    char folder[] = "/tmp/gix-hash-XXXXXX", path[100], command[1000], line[100], text[65] = "";
+    if (!mkdtemp(folder)) exit(2);
+    for (size_t i = 0; i < ROWS(sizes); i++) {
+        snprintf(path, sizeof path, "%s/%u", folder, (unsigned)i);
+        FILE *file = fopen(path, "wb");
+        CHECK(i, file && fwrite(content, 1, sizes[i], file) == sizes[i] && !fclose(file));
+    }
+    snprintf(command, sizeof command,
+        "cd %s && git init -q --object-format=%s git 2>&1 && cd git && for i in 0 1 2 3 4 5 6; do for type in commit tree blob tag; do "
+        "git hash-object --literally --no-filters -t $type ../$i; done; done; rm -rf %s", folder, name, folder);
+    FILE *git = popen(command, "r");
+    for (size_t i = 0; i < ROWS(sizes); i++)
+        for (uint32_t type = GIX_HASH_COMMIT; type <= GIX_HASH_TAG; type++) {
+            gix_hash_id id = {0}, empty = {0};
+            CHECK(i, git && fgets(line, sizeof line, git) && !gix_hash_object_id(kind, type, content, sizes[i], &id));
+            line[strcspn(line, "\n")] = 0;
+            CHECK(i, !gix_hash_id_to_text(&id, text, sizeof text) && !strcmp(text, line));
+            if (type == GIX_HASH_BLOB) CHECK(i, !gix_hash_id_empty_blob(kind, &empty) && !memcmp(&id, &empty, sizeof id) == !i);
+            if (type == GIX_HASH_TREE) CHECK(i, !gix_hash_id_empty_tree(kind, &empty) && !memcmp(&id, &empty, sizeof id) == !i);
+        }
+    if (git) pclose(git);
+}
+
 int main(int count, char **words) {
     const char *folder = count > 1 ? words[1] : ".";
     test_digests(), test_texts(), test_errors(), test_nothing();
@@ -248,6 +319,8 @@ int main(int count, char **words) {
     CHECK(0, !strcmp(gix_hash_code_text(30), "no code of gix_hash.h"));
     test_index(folder, "sha1.idx", GIX_HASH_SHA1), test_index(folder, "sha256.idx", GIX_HASH_SHA256);
     test_index(folder, "longs.idx", GIX_HASH_SHA1);
+    for (size_t i = 0; i < sizeof content; i++) content[i] = (uint8_t)next_number();
+    test_ids(), test_objects("sha1", GIX_HASH_SHA1), test_objects("sha256", GIX_HASH_SHA256);
     printf("%d passed, %d failed\n", passed, failed);
     return failed > 0;
 }

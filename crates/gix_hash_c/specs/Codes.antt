@@ -27,3 +27,6 @@ UNSORTED = 7
 
 abbrev pub NOT_UNIQUE : ℕ
 NOT_UNIQUE = 8
+
+abbrev pub BAD_TYPE : ℕ
+BAD_TYPE = 9

@@ -1,4 +1,5 @@
 pub mod Codes
 pub mod Face
 pub mod Found
+pub mod Objects
 pub mod Packs

@@ -25,6 +25,8 @@ pub(crate) const UNSORTED: u32 = 7;
 
 pub(crate) const NOT_UNIQUE: u32 = 8;
 
+pub(crate) const BAD_TYPE: u32 = 9;
+
 pub(crate) const TOO_SHORT: u32 = 16;
 
 pub(crate) const VERSION_1: u32 = 17;

@@ -8,5 +8,7 @@ mod codes;
 mod digests;
 mod ids;
 mod look_up;
+mod objects;
 mod packs;
 mod prefixes;
+mod version;
