@@ -19,9 +19,6 @@
  * A function that returns a code returns GIX_HASH_OK if it succeeds. Otherwise it returns the first code
  * in its list that applies, and writes nothing. The two exceptions are *at of gix_hash_check_sorted and
  * *detail of gix_hash_pack_check, which say more about the code.
- *
- * Streaming hashers are left out: the state of a hasher is private to the crates that compute digests,
- * so C could hold it only on the heap, and nothing here allocates.
  */
 #ifndef GIX_HASH_H
 #define GIX_HASH_H
@@ -116,6 +113,16 @@ typedef struct gix_hash_entry {
     gix_hash_id id;
 } gix_hash_entry;
 
+/* A hash function at work on a message, which comes in pieces. Any values are safe, but only those that
+ * gix_hash_hasher_new and gix_hash_hasher_update wrote stand for a message. A copy of the struct is a
+ * hasher of its own. What is in words, count and block may change with the version. */
+typedef struct gix_hash_hasher {
+    uint32_t kind;
+    uint32_t words[8];
+    uint64_t count;
+    uint8_t block[64];
+} gix_hash_hasher;
+
 /* Returns the version of the library that is linked: 10,000 times the first number of GIX_HASH_VERSION,
  * 100 times the second, and the third. */
 uint32_t gix_hash_version(void);
@@ -162,9 +169,21 @@ int32_t gix_hash_prefix_cmp_id(const gix_hash_prefix *prefix, const gix_hash_id 
  * Returns GIX_HASH_OK or GIX_HASH_BAD_KIND. */
 uint32_t gix_hash_digest(uint32_t kind, const uint8_t *bytes, size_t len, gix_hash_id *id);
 
+/* Makes a hasher of a message with no bytes yet.
+ * Returns GIX_HASH_OK or GIX_HASH_BAD_KIND. */
+uint32_t gix_hash_hasher_new(uint32_t kind, gix_hash_hasher *hasher);
+
+/* Appends bytes to the message of a hasher.
+ * Returns GIX_HASH_OK, or GIX_HASH_BAD_KIND if the hasher was not made. */
+uint32_t gix_hash_hasher_update(gix_hash_hasher *hasher, const uint8_t *bytes, size_t len);
+
+/* Computes the digest of the message so far. The hasher stays as it is, and can be fed more.
+ * Returns GIX_HASH_OK, or GIX_HASH_BAD_KIND if the hasher was not made. */
+uint32_t gix_hash_hasher_finish(const gix_hash_hasher *hasher, gix_hash_id *id);
+
 /* Computes the id of an object from its type and its bytes, as git hash-object does: the digest of the
- * name of the type, a blank, len in decimal, a zero, and the bytes. Whether
- * the bytes are a tree, a commit or a tag is not checked.
+ * name of the type, a blank, len in decimal, a zero, and the bytes. For an object that comes in pieces,
+ * feed the same to a hasher. Whether the bytes are a tree, a commit or a tag is not checked.
  * Returns GIX_HASH_OK, GIX_HASH_BAD_KIND or GIX_HASH_BAD_TYPE. */
 uint32_t gix_hash_object_id(uint32_t kind, uint32_t object_type, const uint8_t *bytes, size_t len, gix_hash_id *id);
 

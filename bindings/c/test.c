@@ -312,6 +312,45 @@ static void test_objects(const char *name, uint32_t kind) {
     if (git) pclose(git);
 }
 
+/* Messages in pieces of 0 to 199 bytes have the digests of their beginnings, also in copies. */
+static void test_hashers(uint32_t kind) {
+    for (size_t row = 0; row < 50; row++) {
+        gix_hash_hasher hasher, copy;
+        gix_hash_id id = {0}, whole = {0};
+        memset(&hasher, 7, sizeof hasher);
+        CHECK(row, !gix_hash_hasher_new(kind, &hasher) && !gix_hash_hasher_update(&hasher, NULL, 0));
+        for (size_t at = 0; at < 2000;) {
+            size_t len = next_number() % 200;
+            copy = hasher;
+            CHECK(row, !gix_hash_hasher_update(&copy, content + 1, 5));
+            CHECK(row, !gix_hash_hasher_update(&hasher, content + at, len));
+            at += len;
+            CHECK(row, !gix_hash_hasher_finish(&hasher, &id) && !gix_hash_digest(kind, content, at, &whole));
+            CHECK(row, !memcmp(&id, &whole, sizeof id));
+        }
+        CHECK(row, !gix_hash_hasher_finish(&copy, &id) && memcmp(&id, &whole, sizeof id));
+    }
+}
+
+/* Any bytes are a hasher, also at the end of the count. One of no kind stays, and so does the id. */
+static void test_any_hashers(void) {
+    for (uint32_t i = 0; i < 3000; i++) {
+        gix_hash_hasher hasher, old;
+        gix_hash_id id = {0}, zeros = {0};
+        for (size_t k = 0; k < sizeof hasher; k++) ((uint8_t *)&hasher)[k] = (uint8_t)next_number();
+        hasher.kind = i % 3 ? i % 3 : i + 3;
+        if (i % 5 == 0) hasher.count = UINT64_MAX - i % 64;
+        old = hasher;
+        uint32_t code = i % 3 ? GIX_HASH_OK : GIX_HASH_BAD_KIND;
+        CHECK(i, gix_hash_hasher_finish(&hasher, &id) == code && !memcmp(&hasher, &old, sizeof old));
+        CHECK(i, !memcmp(&id, &zeros, sizeof id) == (code != GIX_HASH_OK));
+        CHECK(i, gix_hash_hasher_update(&hasher, content, i % 200) == code);
+        CHECK(i, code ? !memcmp(&hasher, &old, sizeof old) : hasher.count == old.count + i % 200);
+        old = hasher;
+        CHECK(i, gix_hash_hasher_new(i + 3, &hasher) == GIX_HASH_BAD_KIND && !memcmp(&hasher, &old, sizeof old));
+    }
+}
+
 int main(int count, char **words) {
     const char *folder = count > 1 ? words[1] : ".";
     test_digests(), test_texts(), test_errors(), test_nothing();
@@ -321,6 +360,7 @@ int main(int count, char **words) {
     test_index(folder, "longs.idx", GIX_HASH_SHA1);
     for (size_t i = 0; i < sizeof content; i++) content[i] = (uint8_t)next_number();
     test_ids(), test_objects("sha1", GIX_HASH_SHA1), test_objects("sha256", GIX_HASH_SHA256);
+    test_hashers(GIX_HASH_SHA1), test_hashers(GIX_HASH_SHA256), test_any_hashers();
     printf("%d passed, %d failed\n", passed, failed);
     return failed > 0;
 }
