@@ -66,6 +66,9 @@ extern "C" {
     CODE(OTHER_KIND, 29, "a pack index of the other kind (detail: which)")
 
 /* GIX_HASH_OK, GIX_HASH_BAD_LENGTH, .. */
+#ifdef GIX_HASH_CODE
+#error "gix_hash.h defines the macro GIX_HASH_CODE for itself"
+#endif
 #define GIX_HASH_CODE(name, number, text) GIX_HASH_##name = number,
 enum { GIX_HASH_CODES(GIX_HASH_CODE) };
 #undef GIX_HASH_CODE
