@@ -32,6 +32,15 @@ extern "C" {
 
 #define GIX_HASH_VERSION "0.4.0"
 
+/* gcc warns of bytes that are fewer than their len says, and of what is not initialised. */
+#if defined(__GNUC__) && __GNUC__ >= 10
+#define GIX_HASH_READS(...) __attribute__((access(read_only, __VA_ARGS__)))
+#define GIX_HASH_WRITES(...) __attribute__((access(read_write, __VA_ARGS__)))
+#else
+#define GIX_HASH_READS(...)
+#define GIX_HASH_WRITES(...)
+#endif
+
 /* Kinds. */
 #define GIX_HASH_SHA1 1   /* 20 bytes, 40 digits */
 #define GIX_HASH_SHA256 2 /* 32 bytes, 64 digits */
@@ -71,6 +80,9 @@ extern "C" {
     CODE(OTHER_KIND, 29, "a pack index of the other kind (detail: which)")
 
 /* GIX_HASH_OK, GIX_HASH_BAD_LENGTH, .. */
+#ifdef GIX_HASH_CODE
+#error "gix_hash.h defines the macro GIX_HASH_CODE for itself"
+#endif
 #define GIX_HASH_CODE(name, number, text) GIX_HASH_##name = number,
 enum { GIX_HASH_CODES(GIX_HASH_CODE) };
 #undef GIX_HASH_CODE
@@ -129,11 +141,13 @@ uint32_t gix_hash_version(void);
 
 /* Reads an id from a text of 40 or 64 hex digits in either case.
  * Returns GIX_HASH_OK, GIX_HASH_BAD_LENGTH or GIX_HASH_BAD_DIGIT. */
+GIX_HASH_READS(1, 2) GIX_HASH_WRITES(3)
 uint32_t gix_hash_id_from_hex(const uint8_t *text, size_t len, gix_hash_id *id);
 
 /* Writes the 40 or 64 lowercase hex digits of an id to the front of a buffer. The bytes after them stay
  * as they were, so no zero ends the digits.
  * Returns GIX_HASH_OK, GIX_HASH_BAD_KIND or GIX_HASH_NO_ROOM. */
+GIX_HASH_READS(1) GIX_HASH_WRITES(2, 3)
 uint32_t gix_hash_id_to_hex(const gix_hash_id *id, uint8_t *buffer, size_t len);
 
 /* Writes the 40 or 64 lowercase hex digits of an id to the front of a buffer, and a zero after them. The
@@ -154,19 +168,23 @@ uint32_t gix_hash_id_empty_tree(uint32_t kind, gix_hash_id *id);
 
 /* Returns the order of two ids, by kind and then by digits: -1 if one is below other, 0 if they are
  * equal, 1 if one is above other; GIX_HASH_NO_ORDER if a kind is bad. */
+GIX_HASH_READS(1) GIX_HASH_READS(2)
 int32_t gix_hash_id_cmp(const gix_hash_id *one, const gix_hash_id *other);
 
 /* Reads a prefix from a text of 1 to 64 hex digits in either case.
  * Returns GIX_HASH_OK, GIX_HASH_BAD_LENGTH or GIX_HASH_BAD_DIGIT. */
+GIX_HASH_READS(1, 2) GIX_HASH_WRITES(3)
 uint32_t gix_hash_prefix_from_hex(const uint8_t *text, size_t len, gix_hash_prefix *prefix);
 
 /* Returns the order of a prefix and as many first digits of an id: 0 if and only if the id begins with
  * the prefix, -1 if the prefix is below them, 1 if it is above; GIX_HASH_NO_ORDER if the hex_len or
  * the kind is bad, or the id has fewer digits than the prefix. */
+GIX_HASH_READS(1) GIX_HASH_READS(2)
 int32_t gix_hash_prefix_cmp_id(const gix_hash_prefix *prefix, const gix_hash_id *id);
 
 /* Computes the digest of bytes. (The id of a blob is another one: see gix_hash_object_id.)
  * Returns GIX_HASH_OK or GIX_HASH_BAD_KIND. */
+GIX_HASH_READS(2, 3) GIX_HASH_WRITES(4)
 uint32_t gix_hash_digest(uint32_t kind, const uint8_t *bytes, size_t len, gix_hash_id *id);
 
 /* Makes a hasher of a message with no bytes yet.
@@ -191,16 +209,19 @@ uint32_t gix_hash_object_id(uint32_t kind, uint32_t object_type, const uint8_t *
  * part of a digest at the end is not read. Takes time proportional to len.
  * Returns GIX_HASH_OK, GIX_HASH_BAD_KIND, or GIX_HASH_UNSORTED with the first index whose digest is
  * below the one before it in *at. */
+GIX_HASH_READS(2, 3) GIX_HASH_WRITES(4)
 uint32_t gix_hash_check_sorted(uint32_t kind, const uint8_t *table, size_t len, size_t *at);
 
 /* Finds the digests of a sorted table that begin with a prefix. If none does, the run is empty, at the
  * index where the prefix would be. If the table is not sorted, the run is some run of its indexes.
  * Returns GIX_HASH_OK, GIX_HASH_BAD_KIND, GIX_HASH_BAD_LENGTH or GIX_HASH_TOO_LONG. */
+GIX_HASH_READS(2, 3) GIX_HASH_READS(4) GIX_HASH_WRITES(5)
 uint32_t gix_hash_find(uint32_t kind, const uint8_t *table, size_t len, const gix_hash_prefix *prefix, gix_hash_run *run);
 
 /* Gets the kind of which the bytes are a pack index (SHA-1, if they are one of both kinds). Checks them
  * whole, for one kind and then for the other.
  * Returns GIX_HASH_OK, or the code of gix_hash_pack_check for GIX_HASH_SHA1. */
+GIX_HASH_READS(1, 2) GIX_HASH_WRITES(3)
 uint32_t gix_hash_pack_kind(const uint8_t *bytes, size_t len, uint32_t *kind);
 
 /* Checks whether bytes are a pack index of version 2 with names of a kind, as Git reads it: tables,
@@ -213,23 +234,28 @@ uint32_t gix_hash_pack_kind(const uint8_t *bytes, size_t len, uint32_t *kind);
  * only the kind, the magic number, the version and the lengths of the tables, in constant time, and
  * return GIX_HASH_BAD_KIND, or a code from GIX_HASH_TOO_SHORT to GIX_HASH_WRONG_LENGTH. They are safe
  * for any bytes, so it is no danger if the bytes changed since the check. */
+GIX_HASH_READS(2, 3) GIX_HASH_WRITES(4)
 uint32_t gix_hash_pack_check(uint32_t kind, const uint8_t *bytes, size_t len, uint64_t *detail);
 
 /* Gets the number of names. */
+GIX_HASH_READS(2, 3) GIX_HASH_WRITES(4)
 uint32_t gix_hash_pack_count(uint32_t kind, const uint8_t *bytes, size_t len, size_t *count);
 
 /* Gets the offset, the CRC-32 and the name at an index.
  * Also returns GIX_HASH_OUT_OF_RANGE or GIX_HASH_NO_OFFSET, after the codes above. */
+GIX_HASH_READS(2, 3) GIX_HASH_WRITES(5)
 uint32_t gix_hash_pack_entry(uint32_t kind, const uint8_t *bytes, size_t len, size_t at, gix_hash_entry *entry);
 
 /* Finds the names that begin with a prefix, as gix_hash_find does.
  * Also returns GIX_HASH_BAD_LENGTH or GIX_HASH_TOO_LONG, right after GIX_HASH_BAD_KIND. */
+GIX_HASH_READS(2, 3) GIX_HASH_READS(4) GIX_HASH_WRITES(5)
 uint32_t gix_hash_pack_find(uint32_t kind, const uint8_t *bytes, size_t len, const gix_hash_prefix *prefix, gix_hash_run *run);
 
 /* Gets the number of digits of the shortest unique name of the object at an index: the smallest number,
  * at least 4, of its first digits with which no other name begins. For any bytes it is at most the
  * number of digits of the kind, 40 or 64.
  * Also returns GIX_HASH_OUT_OF_RANGE or GIX_HASH_NOT_UNIQUE, after the codes above. */
+GIX_HASH_READS(2, 3) GIX_HASH_WRITES(5)
 uint32_t gix_hash_pack_abbreviate(uint32_t kind, const uint8_t *bytes, size_t len, size_t at, size_t *hex_len);
 
 #ifdef __cplusplus

@@ -13,4 +13,4 @@ mod tables;
 
 pub use error::{Code, Error};
 pub use ids::{Id, Kind, Prefix};
-pub use tables::{Entry, PackIndex, SortedDigests};
+pub use tables::{Entries, Entry, Ids, PackIndex, SortedDigests};
