@@ -153,17 +153,22 @@ uint32_t gix_hash_id_to_hex(const gix_hash_id *id, uint8_t *buffer, size_t len);
 /* Writes the 40 or 64 lowercase hex digits of an id to the front of a buffer, and a zero after them. The
  * bytes after it stay as they were. 65 bytes are enough for both kinds.
  * Returns GIX_HASH_OK, GIX_HASH_BAD_KIND or GIX_HASH_NO_ROOM. */
+GIX_HASH_READS(1) GIX_HASH_WRITES(2, 3)
 uint32_t gix_hash_id_to_text(const gix_hash_id *id, char *text, size_t len);
 
 /* Takes an id from the 20 or 32 bytes of its digest.
  * Returns GIX_HASH_OK, GIX_HASH_BAD_KIND or GIX_HASH_BAD_LENGTH. */
+GIX_HASH_READS(2, 3) GIX_HASH_WRITES(4)
 uint32_t gix_hash_id_from_bytes(uint32_t kind, const uint8_t *bytes, size_t len, gix_hash_id *id);
 
 /* Gets the id whose digits are all zero, that of the blob with no bytes, or that of the tree with no
  * entries.
  * Each returns GIX_HASH_OK or GIX_HASH_BAD_KIND. */
+GIX_HASH_WRITES(2)
 uint32_t gix_hash_id_null(uint32_t kind, gix_hash_id *id);
+GIX_HASH_WRITES(2)
 uint32_t gix_hash_id_empty_blob(uint32_t kind, gix_hash_id *id);
+GIX_HASH_WRITES(2)
 uint32_t gix_hash_id_empty_tree(uint32_t kind, gix_hash_id *id);
 
 /* Returns the order of two ids, by kind and then by digits: -1 if one is below other, 0 if they are
@@ -189,20 +194,24 @@ uint32_t gix_hash_digest(uint32_t kind, const uint8_t *bytes, size_t len, gix_ha
 
 /* Makes a hasher of a message with no bytes yet.
  * Returns GIX_HASH_OK or GIX_HASH_BAD_KIND. */
+GIX_HASH_WRITES(2)
 uint32_t gix_hash_hasher_new(uint32_t kind, gix_hash_hasher *hasher);
 
 /* Appends bytes to the message of a hasher.
  * Returns GIX_HASH_OK, or GIX_HASH_BAD_KIND if the hasher was not made. */
+GIX_HASH_WRITES(1) GIX_HASH_READS(2, 3)
 uint32_t gix_hash_hasher_update(gix_hash_hasher *hasher, const uint8_t *bytes, size_t len);
 
 /* Computes the digest of the message so far. The hasher stays as it is, and can be fed more.
  * Returns GIX_HASH_OK, or GIX_HASH_BAD_KIND if the hasher was not made. */
+GIX_HASH_READS(1) GIX_HASH_WRITES(2)
 uint32_t gix_hash_hasher_finish(const gix_hash_hasher *hasher, gix_hash_id *id);
 
 /* Computes the id of an object from its type and its bytes, as git hash-object does: the digest of the
  * name of the type, a blank, len in decimal, a zero, and the bytes. For an object that comes in pieces,
  * feed the same to a hasher. Whether the bytes are a tree, a commit or a tag is not checked.
  * Returns GIX_HASH_OK, GIX_HASH_BAD_KIND or GIX_HASH_BAD_TYPE. */
+GIX_HASH_READS(3, 4) GIX_HASH_WRITES(5)
 uint32_t gix_hash_object_id(uint32_t kind, uint32_t object_type, const uint8_t *bytes, size_t len, gix_hash_id *id);
 
 /* Tests whether a table of digests of a kind, one after the other, is sorted. Duplicates are fine, and a

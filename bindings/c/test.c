@@ -341,14 +341,16 @@ static void test_ids(void) {
         gix_hash_id id = id_of(digests[i].hex), old, made;
         memset(&old, 7, sizeof old);
         for (size_t len = 0; len < 68; len++) {
-            char text[68], kept[68];
-            memset(text, '-', sizeof text), memset(kept, '-', sizeof kept), made = old;
-            int fits = len > 2 * size;
-            CHECK(len, gix_hash_id_to_text(&id, text, len) == (fits ? GIX_HASH_OK : GIX_HASH_NO_ROOM));
-            if (fits) memcpy(kept, digests[i].hex, 2 * size + 1);
-            CHECK(len, !memcmp(text, kept, sizeof text));
-            CHECK(len, gix_hash_id_from_bytes(kind, id.bytes, len % 33, &made) == (len % 33 == size ? GIX_HASH_OK : GIX_HASH_BAD_LENGTH));
-            CHECK(len, !memcmp(&made, len % 33 == size ? &id : &old, sizeof made));
+            char dashes[68], kept[68];
+            memset(dashes, '-', sizeof dashes), memset(kept, '-', sizeof kept), made = old;
+            char *text = fenced(INPUT, dashes, len);
+            uint32_t code = len > 2 * size ? GIX_HASH_OK : GIX_HASH_NO_ROOM;
+            if (!code) memcpy(kept, digests[i].hex, 2 * size + 1);
+            CHECK(len, gix_hash_id_to_text(fenced(STRUCT, &id, sizeof id), text, len) == code && !memcmp(text, kept, len));
+            size_t count = len % 33; /* bytes */
+            code = count == size ? GIX_HASH_OK : GIX_HASH_BAD_LENGTH;
+            CHECK(len, gix_hash_id_from_bytes(kind, fenced(INPUT, id.bytes, count), count, &made) == code);
+            CHECK(len, !memcmp(&made, code ? &old : &id, sizeof made));
         }
     }
     char text[65] = "kept";
@@ -415,7 +417,7 @@ static void test_hashers(uint32_t kind) {
             size_t len = next_number() % 200;
             copy = hasher;
             CHECK(row, !gix_hash_hasher_update(&copy, content + 1, 5));
-            CHECK(row, !gix_hash_hasher_update(&hasher, content + at, len));
+            CHECK(row, !gix_hash_hasher_update(&hasher, fenced(INPUT, content + at, len), len));
             at += len;
             CHECK(row, !gix_hash_hasher_finish(&hasher, &id) && !gix_hash_digest(kind, content, at, &whole));
             CHECK(row, !memcmp(&id, &whole, sizeof id));
