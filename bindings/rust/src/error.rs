@@ -33,7 +33,7 @@ macro_rules! codes {
 }
 
 codes! {
-    BadLength = 1, "no id or prefix has this number of digits";
+    BadLength = 1, "no id or prefix has this length";
     BadDigit = 2, "a byte of the text is not a hex digit";
     BadKind = 3, "the kind is neither SHA-1 nor SHA-256";
     NoRoom = 4, "the buffer is too short";
@@ -41,6 +41,7 @@ codes! {
     OutOfRange = 6, "the index is not below the number of names";
     Unsorted = 7, "the digest at index `detail` is below the one before it";
     NotUnique = 8, "another name is the same";
+    BadType = 9, "the type of the object is not one of the four";
     TooShort = 16, "the bytes are too few for a pack index";
     Version1 = 17, "the pack index has version 1";
     BadMagic = 18, "the bytes do not begin as a pack index";

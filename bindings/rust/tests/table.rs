@@ -1,6 +1,6 @@
 //! Values of FIPS 180-4, of Git, and of comparisons of texts.
 
-use nunbirdstand::{Code, Error, Id, Kind, PackIndex, Prefix, SortedDigests};
+use nunbirdstand::{Code, Error, Hasher, Id, Kind, ObjectType, PackIndex, Prefix, SortedDigests};
 use std::io::Write;
 use std::path::Path;
 use std::process::{Command, Stdio};
@@ -63,6 +63,49 @@ fn digests() {
             let order = (other.len() <= hex.len()).then(|| other.cmp(digits));
             assert_eq!(other.parse::<Prefix>().unwrap().cmp_id(&id), order);
         }
+    }
+}
+
+#[test]
+fn pieces() {
+    let message: Vec<u8> = (0..1000u32).map(|n| (n % 251) as u8).collect();
+    for kind in [Kind::Sha1, Kind::Sha256] {
+        for size in 1..=130 {
+            let mut hasher = Hasher::new(kind);
+            for (at, piece) in message.chunks(size).enumerate() {
+                assert_eq!(hasher.finish(), Id::digest(kind, &message[..at * size]));
+                hasher.write_all(piece).unwrap();
+            }
+            let mut other = hasher.clone();
+            other.update(b"more");
+            assert_eq!((hasher.finish(), hasher.kind()), (Id::digest(kind, &message), kind));
+            assert_eq!(other.finish(), Id::digest(kind, &[&message[..], b"more"].concat()));
+        }
+    }
+}
+
+#[test]
+fn objects() {
+    let folder = Path::new(env!("CARGO_TARGET_TMPDIR"));
+    for kind in [Kind::Sha1, Kind::Sha256] {
+        let folder = folder.join(format!("objects-{kind}"));
+        std::fs::create_dir_all(&folder).unwrap();
+        git(&folder, &["init", "-q", &format!("--object-format={kind}")], b"");
+        for (object_type, name) in [
+            (ObjectType::Commit, "commit"),
+            (ObjectType::Tree, "tree"),
+            (ObjectType::Blob, "blob"),
+            (ObjectType::Tag, "tag"),
+        ] {
+            for bytes in [&b""[..], b"abc\n", &[7; 4095]] {
+                let wanted = git(&folder, &["hash-object", "--literally", "--stdin", "-t", name], bytes);
+                let id = Id::of_object(kind, object_type, bytes);
+                assert_eq!(id.to_string(), String::from_utf8(wanted).unwrap().trim_end());
+                assert_eq!(id == Id::empty_blob(kind), bytes.is_empty() && object_type == ObjectType::Blob);
+                assert_eq!(id == Id::empty_tree(kind), bytes.is_empty() && object_type == ObjectType::Tree);
+            }
+        }
+        assert!(Id::null(kind).as_bytes().iter().all(|&byte| byte == 0) && Id::null(kind).kind() == kind);
     }
 }
 
