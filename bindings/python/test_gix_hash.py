@@ -13,12 +13,13 @@ import random
 import subprocess
 import sys
 import tempfile
+import threading
 import unittest
 
 # Where `make lib` leaves it.
 os.environ.setdefault("GIX_HASH_LIBRARY", str(pathlib.Path(__file__).resolve().parents[2] / "out" / "libgix_hash.so"))
 import gix_hash  # noqa: E402
-from gix_hash import Code, Error, Id, Kind, PackIndex, Prefix, SortedDigests  # noqa: E402
+from gix_hash import Code, Error, Hasher, Id, Kind, ObjectType, PackIndex, Prefix, SortedDigests  # noqa: E402
 
 KINDS = {Kind.SHA1: "sha1", Kind.SHA256: "sha256"}
 EMPTY = hashlib.sha256().hexdigest()
@@ -66,6 +67,42 @@ class Bindings(unittest.TestCase):
                 self.assertEqual({found, Id(str(found).upper()), Id.from_bytes(wanted.digest())}, {found})
         of_git = git("hash-object", "--stdin", data=b"abc\n")
         self.assertEqual(str(Id.digest(Kind.SHA1, b"blob 4\0abc\n")), of_git.strip())
+
+    def test_hashers(self):
+        rng = random.Random(2)
+        for kind, name in KINDS.items():
+            for _ in range(100):
+                ours, wanted = Hasher(kind), hashlib.new(name)
+                for data in [rng.randbytes(rng.randrange(200)) for _ in range(9)]:
+                    ours.update(memoryview(data)), wanted.update(data)
+                    copied = ours.copy()
+                    copied.update(b"more")
+                    self.assertEqual((ours.digest(), ours.hexdigest()), (wanted.digest(), wanted.hexdigest()))
+                    self.assertNotEqual(ours.id(), copied.id())
+            for word in ("name", "digest_size", "block_size"):
+                self.assertEqual(getattr(ours, word), getattr(wanted, word))
+            whole, pieces = Hasher(kind, bytes(1 << 24)), Hasher(kind)
+            threads = [threading.Thread(target=pieces.update, args=(bytes(1 << 20),)) for _ in range(16)]
+            for each in threads:
+                each.start()
+            for each in threads:
+                each.join()
+            self.assertEqual(pieces.id(), whole.id())
+        self.assertRaises(ValueError, Hasher, 3)
+
+    def test_objects(self):
+        for kind, name in KINDS.items():
+            with tempfile.TemporaryDirectory() as folder:
+                git("init", "-q", f"--object-format={name}", folder)
+                for object_type in ObjectType:
+                    words = "-C", folder, "hash-object", "--literally", "--stdin", "-t", object_type.name.lower()
+                    for data in (b"", b"abc\n", bytes(4095)):
+                        found = Id.of_object(kind, object_type, data)
+                        self.assertEqual(str(found), git(*words, data=data).strip())
+                        self.assertEqual(found == Id.empty_blob(kind), (object_type, data) == (ObjectType.BLOB, b""))
+                        self.assertEqual(found == Id.empty_tree(kind), (object_type, data) == (ObjectType.TREE, b""))
+            self.assertEqual(bytes(Id.null(kind)), bytes(kind.len_in_bytes))
+        self.assertRaises(ValueError, Id.of_object, Kind.SHA1, 5, b"")
 
     def test_texts(self):
         short, wrong = Code.BAD_LENGTH, Code.BAD_DIGIT
@@ -118,7 +155,7 @@ class Bindings(unittest.TestCase):
             self.assertRegex(ran.stderr, f"ImportError: .*{why}.*GIX_HASH_LIBRARY")
         found = {}
         exec("from gix_hash import *", found)
-        public = {"Buffer", "Code", "Entry", "Error", "Id", "Kind", "PackIndex", "Prefix", "SortedDigests"}
+        public = {"Buffer", "Code", "Entry", "Error", "Hasher", "Id", "Kind", "ObjectType", "PackIndex", "Prefix", "SortedDigests"}
         self.assertEqual(found.keys() - {"__builtins__"}, public)
 
     def test_hostile_calls(self):

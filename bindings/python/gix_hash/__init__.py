@@ -22,10 +22,11 @@ import operator
 import os
 import re
 import sys
+import threading
 from collections.abc import Iterator, Sequence
 from typing import Any, Dict, List, NamedTuple, Optional, Tuple, Type, TypeVar, Union, overload
 
-__all__ = ["Buffer", "Code", "Entry", "Error", "Id", "Kind", "PackIndex", "Prefix", "SortedDigests"]
+__all__ = ["Buffer", "Code", "Entry", "Error", "Hasher", "Id", "Kind", "ObjectType", "PackIndex", "Prefix", "SortedDigests"]
 __version__ = "0.4.0"
 # What has bytes. (Other objects that do, as an array of bytes, are taken too.)
 Buffer = Union[bytes, bytearray, memoryview, mmap.mmap]
@@ -44,6 +45,15 @@ class Kind(enum.IntEnum):
         return 20 if self is Kind.SHA1 else 32
 
 
+class ObjectType(enum.IntEnum):
+    """The type of an object, by the number that it has in packs."""
+
+    COMMIT = 1
+    TREE = 2
+    BLOB = 3
+    TAG = 4
+
+
 class Code(enum.IntEnum):
     """What failed. The header gix_hash.h says what each code means."""
 
@@ -55,6 +65,7 @@ class Code(enum.IntEnum):
     OUT_OF_RANGE = 6
     UNSORTED = 7
     NOT_UNIQUE = 8
+    BAD_TYPE = 9
     TOO_SHORT = 16
     VERSION_1 = 17
     BAD_MAGIC = 18
@@ -90,12 +101,23 @@ typedef struct gix_hash_id { uint32_t kind; uint8_t bytes[32]; } gix_hash_id;
 typedef struct gix_hash_prefix { uint32_t hex_len; uint8_t bytes[32]; } gix_hash_prefix;
 typedef struct gix_hash_run { size_t start; size_t end; } gix_hash_run;
 typedef struct gix_hash_entry { uint64_t offset; uint32_t crc; gix_hash_id id; } gix_hash_entry;
+typedef struct gix_hash_hasher { uint32_t kind; uint32_t words[8]; uint64_t count; uint8_t block[64]; } gix_hash_hasher;
+uint32_t gix_hash_version(void);
 uint32_t gix_hash_id_from_hex(const uint8_t *text, size_t len, gix_hash_id *id);
 uint32_t gix_hash_id_to_hex(const gix_hash_id *id, uint8_t *buffer, size_t len);
+uint32_t gix_hash_id_to_text(const gix_hash_id *id, uint8_t *text, size_t len);
+uint32_t gix_hash_id_from_bytes(uint32_t kind, const uint8_t *bytes, size_t len, gix_hash_id *id);
+uint32_t gix_hash_id_null(uint32_t kind, gix_hash_id *id);
+uint32_t gix_hash_id_empty_blob(uint32_t kind, gix_hash_id *id);
+uint32_t gix_hash_id_empty_tree(uint32_t kind, gix_hash_id *id);
 int32_t gix_hash_id_cmp(const gix_hash_id *one, const gix_hash_id *other);
 uint32_t gix_hash_prefix_from_hex(const uint8_t *text, size_t len, gix_hash_prefix *prefix);
 int32_t gix_hash_prefix_cmp_id(const gix_hash_prefix *prefix, const gix_hash_id *id);
 uint32_t gix_hash_digest(uint32_t kind, const uint8_t *bytes, size_t len, gix_hash_id *id);
+uint32_t gix_hash_hasher_new(uint32_t kind, gix_hash_hasher *hasher);
+uint32_t gix_hash_hasher_update(gix_hash_hasher *hasher, const uint8_t *bytes, size_t len);
+uint32_t gix_hash_hasher_finish(const gix_hash_hasher *hasher, gix_hash_id *id);
+uint32_t gix_hash_object_id(uint32_t kind, uint32_t object_type, const uint8_t *bytes, size_t len, gix_hash_id *id);
 uint32_t gix_hash_check_sorted(uint32_t kind, const uint8_t *table, size_t len, size_t *at);
 uint32_t gix_hash_find(uint32_t kind, const uint8_t *table, size_t len, const gix_hash_prefix *prefix,
     gix_hash_run *run);
@@ -127,10 +149,10 @@ try:
     _lib = ctypes.CDLL(os.environ.get("GIX_HASH_LIBRARY", f"libgix_hash.so.{__version__.rpartition('.')[0]}"))
     for _result, _name, _listed in re.findall(r"(\w+) (gix_hash_\w+)\((.*?)\);", " ".join(_DECLARED.split())):
         _call = getattr(_lib, _name)
-        _call.restype, _call.argtypes = _TYPES[_result], [_typed(it)[1] for it in _listed.split(",")]
+        _call.restype, _call.argtypes = _TYPES[_result], [_typed(it)[1] for it in _listed.split(",") if it != "void"]
 except (OSError, AttributeError) as _error:
     raise ImportError(f"{_error}: set GIX_HASH_LIBRARY to the path of libgix_hash.so") from None
-_Id, _Prefix, _Run, _Entry = (_TYPES[f"gix_hash_{name}"] for name in ("id", "prefix", "run", "entry"))
+_Id, _Prefix, _Run, _Entry, _Hasher = (_TYPES[f"gix_hash_{it}"] for it in ("id", "prefix", "run", "entry", "hasher"))
 _CODES = frozenset(Code)
 
 
@@ -205,6 +227,34 @@ class Id:
         return cls._of(made)
 
     @classmethod
+    def of_object(cls, kind: Kind, object_type: ObjectType, data: Buffer) -> "Id":
+        """The id of an object, as git hash-object computes it. Whether the bytes are such an object is not checked."""
+        made, (held, *given) = _Id(), _bytes(data)
+        _check(_lib.gix_hash_object_id(_kind(kind), ObjectType(object_type), *given, made))
+        return cls._of(made)
+
+    @classmethod
+    def null(cls, kind: Kind) -> "Id":
+        """The id whose digits are all zero."""
+        return cls._named(_lib.gix_hash_id_null, kind)
+
+    @classmethod
+    def empty_blob(cls, kind: Kind) -> "Id":
+        """The id of the blob with no bytes."""
+        return cls._named(_lib.gix_hash_id_empty_blob, kind)
+
+    @classmethod
+    def empty_tree(cls, kind: Kind) -> "Id":
+        """The id of the tree with no entries."""
+        return cls._named(_lib.gix_hash_id_empty_tree, kind)
+
+    @classmethod
+    def _named(cls, call: Any, kind: Kind) -> "Id":
+        made = _Id()
+        _check(call(_kind(kind), made))
+        return cls._of(made)
+
+    @classmethod
     def from_bytes(cls, digest: Buffer) -> "Id":
         """The id with a digest of 20 or 32 bytes. The error is BAD_LENGTH for another length."""
         data = bytes(_bytes(digest)[0])
@@ -240,6 +290,67 @@ class Id:
 
     def __reduce__(self) -> Tuple[Any, ...]:
         return type(self), (str(self),)
+
+
+class Hasher:
+    """A hash function at work on a message, which comes in pieces, with what objects of hashlib have. Threads may share one.
+
+    >>> hasher = Hasher(Kind.SHA1, b"blob 3\\0")
+    >>> hasher.update(b"abc")
+    >>> hasher.name, hasher.id() == Id.of_object(Kind.SHA1, ObjectType.BLOB, b"abc")
+    ('sha1', True)
+    """
+
+    __slots__ = ("_hasher", "_lock")
+    block_size = 64
+
+    def __init__(self, kind: Kind, data: Buffer = b"") -> None:
+        self._hasher, self._lock = _Hasher(), threading.Lock()
+        _check(_lib.gix_hash_hasher_new(_kind(kind), self._hasher))
+        self.update(data)
+
+    @property
+    def kind(self) -> Kind:
+        """The kind of the digest."""
+        return Kind(self._hasher.kind)
+
+    @property
+    def name(self) -> str:
+        """The kind as hashlib names it."""
+        return self.kind.name.lower()
+
+    @property
+    def digest_size(self) -> int:
+        """The number of bytes of the digest."""
+        return self.kind.len_in_bytes
+
+    def update(self, data: Buffer) -> None:
+        """Appends bytes to the message."""
+        held, *given = _bytes(data)
+        with self._lock:
+            _check(_lib.gix_hash_hasher_update(self._hasher, *given))
+
+    def id(self) -> Id:
+        """The digest of the message so far. More can be appended after it."""
+        made = _Id()
+        with self._lock:
+            _check(_lib.gix_hash_hasher_finish(self._hasher, made))
+        return Id._of(made)
+
+    def digest(self) -> bytes:
+        """The bytes of that id."""
+        return bytes(self.id())
+
+    def hexdigest(self) -> str:
+        """The lowercase hex digits of that id."""
+        return str(self.id())
+
+    def copy(self) -> "Hasher":
+        """A hasher of the same message, which is fed by itself."""
+        made = Hasher(self.kind)
+        with self._lock:
+            made._hasher = _Hasher.from_buffer_copy(self._hasher)
+        return made
 
 
 class Prefix:
