@@ -63,7 +63,7 @@ extern "C" {
     CODE(OUT_OF_RANGE, 6, "the index is not below the number of names") \
     CODE(UNSORTED, 7, "a digest is below the one before it") \
     CODE(NOT_UNIQUE, 8, "another name is the same, so no beginning of this one is unique") \
-    CODE(BAD_TYPE, 9, "the type is none from GIX_HASH_COMMIT to GIX_HASH_TAG") \
+    CODE(BAD_TYPE, 9, "the type is not one of GIX_HASH_COMMIT to GIX_HASH_TAG") \
     CODE(TOO_SHORT, 16, "fewer bytes than any pack index has") \
     CODE(VERSION_1, 17, "a pack index of version 1, by its length") \
     CODE(BAD_MAGIC, 18, "no pack index: the magic number is missing") \
@@ -198,12 +198,12 @@ GIX_HASH_WRITES(2)
 uint32_t gix_hash_hasher_new(uint32_t kind, gix_hash_hasher *hasher);
 
 /* Appends bytes to the message of a hasher.
- * Returns GIX_HASH_OK, or GIX_HASH_BAD_KIND if the hasher was not made. */
+ * Returns GIX_HASH_OK, or GIX_HASH_BAD_KIND for a hasher of no kind, as one of zeros. */
 GIX_HASH_WRITES(1) GIX_HASH_READS(2, 3)
 uint32_t gix_hash_hasher_update(gix_hash_hasher *hasher, const uint8_t *bytes, size_t len);
 
 /* Computes the digest of the message so far. The hasher stays as it is, and can be fed more.
- * Returns GIX_HASH_OK, or GIX_HASH_BAD_KIND if the hasher was not made. */
+ * Returns GIX_HASH_OK, or GIX_HASH_BAD_KIND for a hasher of no kind, as one of zeros. */
 GIX_HASH_READS(1) GIX_HASH_WRITES(2)
 uint32_t gix_hash_hasher_finish(const gix_hash_hasher *hasher, gix_hash_id *id);
 

@@ -230,7 +230,7 @@ class Id:
     def of_object(cls, kind: Kind, object_type: ObjectType, data: Buffer) -> "Id":
         """The id of an object, as git hash-object computes it. Whether the bytes are such an object is not checked."""
         made, (held, *given) = _Id(), _bytes(data)
-        _check(_lib.gix_hash_object_id(_kind(kind), ObjectType(object_type), *given, made))
+        _check(_lib.gix_hash_object_id(_kind(kind), ObjectType(_only(int, object_type)), *given, made))
         return cls._of(made)
 
     @classmethod

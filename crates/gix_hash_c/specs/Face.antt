@@ -98,7 +98,7 @@ place_number (Some digits) (Some id) = if nat_lt (hex_len_of id.kind) (length di
 place_number (Some digits) None = no_order
 place_number None id = no_order
 
--- what is returned of an id of a kind, and left, where the number names none
+-- what making an id of a kind returns, and leaves. None stands for a number of no kind
 abbrev pub KindIdAnswer : Option KindDigits → ℕ → Id → Id → Type 0
 KindIdAnswer None code old new = (code ≡ BAD_KIND) × (new ≡ old)
 KindIdAnswer (Some id) code old new = (code ≡ OK) × HoldsId id new
