@@ -1,6 +1,7 @@
 /*
- * Git's object ids for C: SHA-1 and SHA-256 ids, prefixes of their hex digits, digests of bytes,
- * look-ups in sorted tables of digests, and pack indexes. Link libgix_hash; docs/BINDINGS.md says how.
+ * Git's object ids for C: SHA-1 and SHA-256 ids, prefixes of their hex digits, digests of bytes
+ * and ids of objects, look-ups in sorted tables of digests, and pack indexes. Link libgix_hash;
+ * docs/BINDINGS.md says how.
  *
  * A len is a number of bytes, a hex_len a number of hex digits, of which a byte has two. Indexes
  * count from 0.
@@ -18,9 +19,6 @@
  * A function that returns a code returns GIX_HASH_OK if it succeeds. Otherwise it returns the first code
  * in its list that applies, and writes nothing. The two exceptions are *at of gix_hash_check_sorted and
  * *detail of gix_hash_pack_check, which say more about the code.
- *
- * Streaming hashers are left out: the state of a hasher is private to the crates that compute digests,
- * so C could hold it only on the heap, and nothing here allocates.
  */
 #ifndef GIX_HASH_H
 #define GIX_HASH_H
@@ -34,15 +32,30 @@ extern "C" {
 
 #define GIX_HASH_VERSION "0.4.0"
 
+/* gcc warns of bytes that are fewer than their len says, and of what is not initialised. */
+#if defined(__GNUC__) && __GNUC__ >= 10
+#define GIX_HASH_READS(...) __attribute__((access(read_only, __VA_ARGS__)))
+#define GIX_HASH_WRITES(...) __attribute__((access(read_write, __VA_ARGS__)))
+#else
+#define GIX_HASH_READS(...)
+#define GIX_HASH_WRITES(...)
+#endif
+
 /* Kinds. */
 #define GIX_HASH_SHA1 1   /* 20 bytes, 40 digits */
 #define GIX_HASH_SHA256 2 /* 32 bytes, 64 digits */
+
+/* Types of objects, by the numbers that they have in packs. */
+#define GIX_HASH_COMMIT 1
+#define GIX_HASH_TREE 2
+#define GIX_HASH_BLOB 3
+#define GIX_HASH_TAG 4
 
 /* Codes: the name, the number and the meaning of each. From 16 on they say why bytes are not a pack
  * index. "detail" is a number that gix_hash_pack_check writes. */
 #define GIX_HASH_CODES(CODE) \
     CODE(OK, 0, "success") \
-    CODE(BAD_LENGTH, 1, "no id or prefix has this number of digits") \
+    CODE(BAD_LENGTH, 1, "no id or prefix has this length") \
     CODE(BAD_DIGIT, 2, "a byte of the text is not a hex digit") \
     CODE(BAD_KIND, 3, "the kind is neither GIX_HASH_SHA1 nor GIX_HASH_SHA256") \
     CODE(NO_ROOM, 4, "the buffer is too short") \
@@ -50,6 +63,7 @@ extern "C" {
     CODE(OUT_OF_RANGE, 6, "the index is not below the number of names") \
     CODE(UNSORTED, 7, "a digest is below the one before it") \
     CODE(NOT_UNIQUE, 8, "another name is the same, so no beginning of this one is unique") \
+    CODE(BAD_TYPE, 9, "the type is not one of GIX_HASH_COMMIT to GIX_HASH_TAG") \
     CODE(TOO_SHORT, 16, "fewer bytes than any pack index has") \
     CODE(VERSION_1, 17, "a pack index of version 1, by its length") \
     CODE(BAD_MAGIC, 18, "no pack index: the magic number is missing") \
@@ -66,6 +80,9 @@ extern "C" {
     CODE(OTHER_KIND, 29, "a pack index of the other kind (detail: which)")
 
 /* GIX_HASH_OK, GIX_HASH_BAD_LENGTH, .. */
+#ifdef GIX_HASH_CODE
+#error "gix_hash.h defines the macro GIX_HASH_CODE for itself"
+#endif
 #define GIX_HASH_CODE(name, number, text) GIX_HASH_##name = number,
 enum { GIX_HASH_CODES(GIX_HASH_CODE) };
 #undef GIX_HASH_CODE
@@ -108,46 +125,112 @@ typedef struct gix_hash_entry {
     gix_hash_id id;
 } gix_hash_entry;
 
+/* A hash function at work on a message, which comes in pieces. Any values are safe, but only those that
+ * gix_hash_hasher_new and gix_hash_hasher_update wrote stand for a message. A copy of the struct is a
+ * hasher of its own. What is in words, count and block may change with the version. */
+typedef struct gix_hash_hasher {
+    uint32_t kind;
+    uint32_t words[8];
+    uint64_t count;
+    uint8_t block[64];
+} gix_hash_hasher;
+
+/* Returns the version of the library that is linked: 10,000 times the first number of GIX_HASH_VERSION,
+ * 100 times the second, and the third. */
+uint32_t gix_hash_version(void);
+
 /* Reads an id from a text of 40 or 64 hex digits in either case.
  * Returns GIX_HASH_OK, GIX_HASH_BAD_LENGTH or GIX_HASH_BAD_DIGIT. */
+GIX_HASH_READS(1, 2) GIX_HASH_WRITES(3)
 uint32_t gix_hash_id_from_hex(const uint8_t *text, size_t len, gix_hash_id *id);
 
 /* Writes the 40 or 64 lowercase hex digits of an id to the front of a buffer. The bytes after them stay
  * as they were, so no zero ends the digits.
  * Returns GIX_HASH_OK, GIX_HASH_BAD_KIND or GIX_HASH_NO_ROOM. */
+GIX_HASH_READS(1) GIX_HASH_WRITES(2, 3)
 uint32_t gix_hash_id_to_hex(const gix_hash_id *id, uint8_t *buffer, size_t len);
+
+/* Writes the 40 or 64 lowercase hex digits of an id to the front of a buffer, and a zero after them. The
+ * bytes after it stay as they were. 65 bytes are enough for both kinds.
+ * Returns GIX_HASH_OK, GIX_HASH_BAD_KIND or GIX_HASH_NO_ROOM. */
+GIX_HASH_READS(1) GIX_HASH_WRITES(2, 3)
+uint32_t gix_hash_id_to_text(const gix_hash_id *id, char *text, size_t len);
+
+/* Takes an id from the 20 or 32 bytes of its digest.
+ * Returns GIX_HASH_OK, GIX_HASH_BAD_KIND or GIX_HASH_BAD_LENGTH. */
+GIX_HASH_READS(2, 3) GIX_HASH_WRITES(4)
+uint32_t gix_hash_id_from_bytes(uint32_t kind, const uint8_t *bytes, size_t len, gix_hash_id *id);
+
+/* Gets the id whose digits are all zero, that of the blob with no bytes, or that of the tree with no
+ * entries.
+ * Each returns GIX_HASH_OK or GIX_HASH_BAD_KIND. */
+GIX_HASH_WRITES(2)
+uint32_t gix_hash_id_null(uint32_t kind, gix_hash_id *id);
+GIX_HASH_WRITES(2)
+uint32_t gix_hash_id_empty_blob(uint32_t kind, gix_hash_id *id);
+GIX_HASH_WRITES(2)
+uint32_t gix_hash_id_empty_tree(uint32_t kind, gix_hash_id *id);
 
 /* Returns the order of two ids, by kind and then by digits: -1 if one is below other, 0 if they are
  * equal, 1 if one is above other; GIX_HASH_NO_ORDER if a kind is bad. */
+GIX_HASH_READS(1) GIX_HASH_READS(2)
 int32_t gix_hash_id_cmp(const gix_hash_id *one, const gix_hash_id *other);
 
 /* Reads a prefix from a text of 1 to 64 hex digits in either case.
  * Returns GIX_HASH_OK, GIX_HASH_BAD_LENGTH or GIX_HASH_BAD_DIGIT. */
+GIX_HASH_READS(1, 2) GIX_HASH_WRITES(3)
 uint32_t gix_hash_prefix_from_hex(const uint8_t *text, size_t len, gix_hash_prefix *prefix);
 
 /* Returns the order of a prefix and as many first digits of an id: 0 if and only if the id begins with
  * the prefix, -1 if the prefix is below them, 1 if it is above; GIX_HASH_NO_ORDER if the hex_len or
  * the kind is bad, or the id has fewer digits than the prefix. */
+GIX_HASH_READS(1) GIX_HASH_READS(2)
 int32_t gix_hash_prefix_cmp_id(const gix_hash_prefix *prefix, const gix_hash_id *id);
 
-/* Computes the digest of bytes.
+/* Computes the digest of bytes. (The id of a blob is another one: see gix_hash_object_id.)
  * Returns GIX_HASH_OK or GIX_HASH_BAD_KIND. */
+GIX_HASH_READS(2, 3) GIX_HASH_WRITES(4)
 uint32_t gix_hash_digest(uint32_t kind, const uint8_t *bytes, size_t len, gix_hash_id *id);
+
+/* Makes a hasher of a message with no bytes yet.
+ * Returns GIX_HASH_OK or GIX_HASH_BAD_KIND. */
+GIX_HASH_WRITES(2)
+uint32_t gix_hash_hasher_new(uint32_t kind, gix_hash_hasher *hasher);
+
+/* Appends bytes to the message of a hasher.
+ * Returns GIX_HASH_OK, or GIX_HASH_BAD_KIND for a hasher of no kind, as one of zeros. */
+GIX_HASH_WRITES(1) GIX_HASH_READS(2, 3)
+uint32_t gix_hash_hasher_update(gix_hash_hasher *hasher, const uint8_t *bytes, size_t len);
+
+/* Computes the digest of the message so far. The hasher stays as it is, and can be fed more.
+ * Returns GIX_HASH_OK, or GIX_HASH_BAD_KIND for a hasher of no kind, as one of zeros. */
+GIX_HASH_READS(1) GIX_HASH_WRITES(2)
+uint32_t gix_hash_hasher_finish(const gix_hash_hasher *hasher, gix_hash_id *id);
+
+/* Computes the id of an object from its type and its bytes, as git hash-object does: the digest of the
+ * name of the type, a blank, len in decimal, a zero, and the bytes. For an object that comes in pieces,
+ * feed the same to a hasher. Whether the bytes are a tree, a commit or a tag is not checked.
+ * Returns GIX_HASH_OK, GIX_HASH_BAD_KIND or GIX_HASH_BAD_TYPE. */
+GIX_HASH_READS(3, 4) GIX_HASH_WRITES(5)
+uint32_t gix_hash_object_id(uint32_t kind, uint32_t object_type, const uint8_t *bytes, size_t len, gix_hash_id *id);
 
 /* Tests whether a table of digests of a kind, one after the other, is sorted. Duplicates are fine, and a
  * part of a digest at the end is not read. Takes time proportional to len.
  * Returns GIX_HASH_OK, GIX_HASH_BAD_KIND, or GIX_HASH_UNSORTED with the first index whose digest is
  * below the one before it in *at. */
+GIX_HASH_READS(2, 3) GIX_HASH_WRITES(4)
 uint32_t gix_hash_check_sorted(uint32_t kind, const uint8_t *table, size_t len, size_t *at);
 
 /* Finds the digests of a sorted table that begin with a prefix. If none does, the run is empty, at the
  * index where the prefix would be. If the table is not sorted, the run is some run of its indexes.
  * Returns GIX_HASH_OK, GIX_HASH_BAD_KIND, GIX_HASH_BAD_LENGTH or GIX_HASH_TOO_LONG. */
+GIX_HASH_READS(2, 3) GIX_HASH_READS(4) GIX_HASH_WRITES(5)
 uint32_t gix_hash_find(uint32_t kind, const uint8_t *table, size_t len, const gix_hash_prefix *prefix, gix_hash_run *run);
 
 /* Gets the kind of which the bytes are a pack index (SHA-1, if they are one of both kinds). Checks them
  * whole, for one kind and then for the other.
  * Returns GIX_HASH_OK, or the code of gix_hash_pack_check for GIX_HASH_SHA1. */
+GIX_HASH_READS(1, 2) GIX_HASH_WRITES(3)
 uint32_t gix_hash_pack_kind(const uint8_t *bytes, size_t len, uint32_t *kind);
 
 /* Checks whether bytes are a pack index of version 2 with names of a kind, as Git reads it: tables,
@@ -160,23 +243,28 @@ uint32_t gix_hash_pack_kind(const uint8_t *bytes, size_t len, uint32_t *kind);
  * only the kind, the magic number, the version and the lengths of the tables, in constant time, and
  * return GIX_HASH_BAD_KIND, or a code from GIX_HASH_TOO_SHORT to GIX_HASH_WRONG_LENGTH. They are safe
  * for any bytes, so it is no danger if the bytes changed since the check. */
+GIX_HASH_READS(2, 3) GIX_HASH_WRITES(4)
 uint32_t gix_hash_pack_check(uint32_t kind, const uint8_t *bytes, size_t len, uint64_t *detail);
 
 /* Gets the number of names. */
+GIX_HASH_READS(2, 3) GIX_HASH_WRITES(4)
 uint32_t gix_hash_pack_count(uint32_t kind, const uint8_t *bytes, size_t len, size_t *count);
 
 /* Gets the offset, the CRC-32 and the name at an index.
  * Also returns GIX_HASH_OUT_OF_RANGE or GIX_HASH_NO_OFFSET, after the codes above. */
+GIX_HASH_READS(2, 3) GIX_HASH_WRITES(5)
 uint32_t gix_hash_pack_entry(uint32_t kind, const uint8_t *bytes, size_t len, size_t at, gix_hash_entry *entry);
 
 /* Finds the names that begin with a prefix, as gix_hash_find does.
  * Also returns GIX_HASH_BAD_LENGTH or GIX_HASH_TOO_LONG, right after GIX_HASH_BAD_KIND. */
+GIX_HASH_READS(2, 3) GIX_HASH_READS(4) GIX_HASH_WRITES(5)
 uint32_t gix_hash_pack_find(uint32_t kind, const uint8_t *bytes, size_t len, const gix_hash_prefix *prefix, gix_hash_run *run);
 
 /* Gets the number of digits of the shortest unique name of the object at an index: the smallest number,
  * at least 4, of its first digits with which no other name begins. For any bytes it is at most the
  * number of digits of the kind, 40 or 64.
  * Also returns GIX_HASH_OUT_OF_RANGE or GIX_HASH_NOT_UNIQUE, after the codes above. */
+GIX_HASH_READS(2, 3) GIX_HASH_WRITES(5)
 uint32_t gix_hash_pack_abbreviate(uint32_t kind, const uint8_t *bytes, size_t len, size_t at, size_t *hex_len);
 
 #ifdef __cplusplus

@@ -1,10 +1,11 @@
 /* Tests of gix_hash.h: test FOLDER, where the folder has pack indexes. Expected values are those of FIPS 180-4,
    of `git show-index`, and of strcmp and strncmp over hex digits. The last line is 'N passed, M failed'. */
-#define _POSIX_C_SOURCE 200809L
+#define _DEFAULT_SOURCE
 #include "gix_hash.h"
 #include <stdio.h>
 #include <stdlib.h>
 #include <string.h>
+#include <sys/mman.h>
 
 #define ROWS(table) (sizeof table / sizeof *table)
 #define CHECK(row, holds) check(__LINE__, (long)(row), holds)
@@ -17,7 +18,21 @@ static void check(int line, long row, int holds) {
     if (!holds) printf("test.c:%d: row %ld\n", line, row);
 }
 
-static const uint8_t *bytes_of(const char *text) { return (const uint8_t *)text; }
+/* A copy of what a call is passed. Reading or writing past its end stops this program: sanitizers do not see into the library.
+   Each region keeps its last copy. */
+enum region { INPUT, STRUCT, INDEX };
+
+static void *fenced(enum region region, const void *bytes, size_t len) {
+    static uint8_t *regions[3];
+    const size_t size = 1 << 16;
+    if (!regions[region]) {
+        regions[region] = mmap(NULL, 2 * size, PROT_READ | PROT_WRITE, MAP_PRIVATE | MAP_ANONYMOUS, -1, 0);
+        if (regions[region] == MAP_FAILED || mprotect(regions[region] + size, size, PROT_NONE)) abort();
+    }
+    return memmove(regions[region] + size - len, bytes, len);
+}
+
+static const uint8_t *bytes_of(const char *text) { return fenced(INPUT, text, strlen(text)); }
 
 static int sign(int n) { return (n > 0) - (n < 0); }
 
@@ -29,16 +44,18 @@ static gix_hash_id id_of(const char *hex) {
 
 static gix_hash_prefix prefix_of(const char *hex, size_t len) {
     gix_hash_prefix prefix = {0};
-    gix_hash_prefix_from_hex(bytes_of(hex), len, &prefix);
+    gix_hash_prefix_from_hex(fenced(INPUT, hex, len), len, &prefix);
     return prefix;
 }
 
 /* The digits of an id, or an empty text. */
 static const char *hex_of(const gix_hash_id *id) {
     static char digits[65];
+    size_t len = id->kind == GIX_HASH_SHA1 ? 40 : 64;
     memset(digits, 0, sizeof digits);
-    gix_hash_id_to_hex(id, (uint8_t *)digits, 64);
-    return digits;
+    uint8_t *buffer = fenced(INPUT, digits, len);
+    gix_hash_id_to_hex(fenced(STRUCT, id, sizeof *id), buffer, len);
+    return memcpy(digits, buffer, len);
 }
 
 static const struct { uint32_t kind; const char *text, *hex; } digests[] = {
@@ -61,11 +78,13 @@ static void test_digests(void) {
         for (size_t j = 0; j < ROWS(digests); j++) {
             gix_hash_id other = id_of(digests[j].hex);
             int order = id.kind == other.kind ? strcmp(digests[i].hex, digests[j].hex) : (int)id.kind - (int)other.kind;
-            CHECK(i, gix_hash_id_cmp(&id, &other) == sign(order));
+            const gix_hash_id *one = fenced(INPUT, &id, sizeof id);
+            CHECK(i, gix_hash_id_cmp(one, fenced(STRUCT, &other, sizeof other)) == sign(order));
             for (size_t len = 1; len <= strlen(digests[j].hex); len++) {
                 gix_hash_prefix prefix = prefix_of(digests[j].hex, len);
                 order = len > strlen(digests[i].hex) ? GIX_HASH_NO_ORDER : sign(strncmp(digests[j].hex, digests[i].hex, len));
-                CHECK(i, prefix.hex_len == len && gix_hash_prefix_cmp_id(&prefix, &id) == order);
+                const gix_hash_prefix *copy = fenced(STRUCT, &prefix, sizeof prefix);
+                CHECK(i, copy->hex_len == len && gix_hash_prefix_cmp_id(copy, fenced(INPUT, &id, sizeof id)) == order);
             }
         }
     }
@@ -88,9 +107,10 @@ static void test_texts(void) {
         gix_hash_prefix prefix, old_prefix;
         memset(&old_id, 7, sizeof id), id = old_id;
         memset(&old_prefix, 7, sizeof prefix), prefix = old_prefix;
-        CHECK(i, gix_hash_id_from_hex(bytes_of(texts[i].text), texts[i].len, &id) == texts[i].id);
+        const uint8_t *text = fenced(INPUT, texts[i].text, texts[i].len);
+        CHECK(i, gix_hash_id_from_hex(text, texts[i].len, &id) == texts[i].id);
         CHECK(i, !memcmp(&id, &old_id, sizeof id) == (texts[i].id != GIX_HASH_OK));
-        CHECK(i, gix_hash_prefix_from_hex(bytes_of(texts[i].text), texts[i].len, &prefix) == texts[i].prefix);
+        CHECK(i, gix_hash_prefix_from_hex(text, texts[i].len, &prefix) == texts[i].prefix);
         CHECK(i, !memcmp(&prefix, &old_prefix, sizeof prefix) == (texts[i].prefix != GIX_HASH_OK));
     }
 }
@@ -103,7 +123,7 @@ static void test_errors(void) {
     gix_hash_entry entry = {.offset = 5};
     size_t number = 6;
     uint64_t detail = 7;
-    uint8_t buffer[64] = "kept", fall[60] = {1, [20] = 2, [40] = 1};
+    uint8_t buffer[64] = "kept", digests[60] = {1, [20] = 2, [40] = 1}, *fall = fenced(INPUT, digests, sizeof digests);
     none.kind = 3;
     CHECK(0, gix_hash_id_to_hex(&none, buffer, 64) == GIX_HASH_BAD_KIND);
     CHECK(0, gix_hash_id_to_hex(&id, buffer, 63) == GIX_HASH_NO_ROOM && !strcmp((char *)buffer, "kept"));
@@ -125,6 +145,46 @@ static void test_errors(void) {
     CHECK(0, gix_hash_check_sorted(3, fall, 60, &number) == GIX_HASH_BAD_KIND && number == 6);
     CHECK(0, gix_hash_check_sorted(1, fall, 59, &number) == GIX_HASH_OK && number == 6);
     CHECK(0, gix_hash_check_sorted(1, fall, 60, &number) == GIX_HASH_UNSORTED && number == 2);
+}
+
+/* Numbers that no kind, and no prefix, has. In some the lowest byte is a good one. */
+static const uint32_t bad_kinds[] = {0, 3, 255, 257, 0x01000000, 0x02000000, 0x80000001, 0xffffff02, 0xffffffff};
+static const uint32_t bad_lens[] = {0, 65, 128, 257, 0x10000, 0x01000028, 0x80000028, 0xffffffff};
+
+static void test_hostile(void) {
+    gix_hash_id id = id_of(EMPTY), good = id;
+    gix_hash_prefix prefix = prefix_of(EMPTY, 7);
+    gix_hash_run run = {3, 4};
+    gix_hash_entry entry = {.offset = 5};
+    size_t number = 6;
+    uint64_t detail = 7;
+    const uint32_t code = GIX_HASH_BAD_KIND;
+    uint8_t buffer[64] = {0}, zeros[60] = {0}, *bytes = fenced(INPUT, zeros, sizeof zeros);
+    for (size_t i = 0; i < ROWS(bad_kinds); i++) {
+        uint32_t kind = id.kind = bad_kinds[i];
+        CHECK(kind, gix_hash_id_to_hex(&id, buffer, 64) == code && !buffer[0]);
+        CHECK(kind, gix_hash_id_cmp(&id, &good) == GIX_HASH_NO_ORDER && gix_hash_id_cmp(&good, &id) == GIX_HASH_NO_ORDER);
+        CHECK(kind, gix_hash_prefix_cmp_id(&prefix, &id) == GIX_HASH_NO_ORDER);
+        CHECK(kind, gix_hash_digest(kind, bytes, 60, &good) == code && !strcmp(hex_of(&good), EMPTY));
+        bytes = fenced(INPUT, zeros, sizeof zeros);
+        CHECK(kind, gix_hash_check_sorted(kind, bytes, 60, &number) == code && gix_hash_find(kind, bytes, 60, &prefix, &run) == code);
+        CHECK(kind, gix_hash_pack_check(kind, bytes, 60, &detail) == code && gix_hash_pack_count(kind, bytes, 60, &number) == code);
+        CHECK(kind, gix_hash_pack_entry(kind, bytes, 60, 0, &entry) == code && gix_hash_pack_find(kind, bytes, 60, &prefix, &run) == code);
+        CHECK(kind, gix_hash_pack_abbreviate(kind, bytes, 60, 0, &number) == code);
+    }
+    for (size_t i = 0; i < ROWS(bad_lens); i++) {
+        prefix.hex_len = bad_lens[i];
+        CHECK(i, gix_hash_prefix_cmp_id(&prefix, &good) == GIX_HASH_NO_ORDER);
+        CHECK(i, gix_hash_find(2, bytes, 60, &prefix, &run) == GIX_HASH_BAD_LENGTH);
+        CHECK(i, gix_hash_pack_find(2, bytes, 60, &prefix, &run) == GIX_HASH_BAD_LENGTH);
+    }
+    CHECK(0, run.start == 3 && run.end == 4 && entry.offset == 5 && number == 6 && detail == 7);
+    prefix.hex_len = 7;
+    for (size_t len = 0; len <= sizeof zeros; len++) {
+        bytes = fenced(INPUT, zeros, len);
+        CHECK(len, !gix_hash_check_sorted(1, bytes, len, &number) && !gix_hash_check_sorted(2, bytes, len, &number));
+        CHECK(len, !gix_hash_find(1, bytes, len, &prefix, &run) && run.start == len / 20 && run.end == run.start);
+    }
 }
 
 /* No bytes, at no address. */
@@ -154,7 +214,7 @@ static const struct { size_t at; uint8_t byte; long cut; uint32_t code; uint64_t
     {1032, 0xff, 0, GIX_HASH_NAMES_FALL, 1},    {11, 9, 0, GIX_HASH_WRONG_COUNT, 0},
 };
 
-static uint8_t bytes[1 << 16];
+static uint8_t *bytes;
 static char names[1000][65];
 
 static void test_broken(uint32_t kind, size_t len) {
@@ -163,7 +223,8 @@ static void test_broken(uint32_t kind, size_t len) {
     for (size_t i = 0; i < ROWS(broken); i++) {
         uint8_t good = bytes[broken[i].at];
         bytes[broken[i].at] = broken[i].byte, detail = 7;
-        CHECK(i, gix_hash_pack_check(kind, bytes, len - (size_t)broken[i].cut, &detail) == broken[i].code);
+        size_t left = len - (size_t)broken[i].cut;
+        CHECK(i, gix_hash_pack_check(kind, fenced(INPUT, bytes, left), left, &detail) == broken[i].code);
         CHECK(i, detail == broken[i].detail);
         bytes[broken[i].at] = good;
     }
@@ -192,33 +253,64 @@ static void test_changed(uint32_t kind, size_t len, size_t count) {
     }
 }
 
+/* An index of any length, or with any tables, is safe: each call returns, and no index is at or after the count. */
+static void test_any_bytes(uint32_t kind, size_t len, size_t count) {
+    static const size_t far[] = {0, 1, SIZE_MAX / 32, SIZE_MAX / 20, SIZE_MAX / 2, SIZE_MAX - 1};
+    uint64_t detail = 0, random = 1;
+    gix_hash_prefix prefix = prefix_of("8", 1);
+    gix_hash_entry entry = {0};
+    for (size_t left = 0; left < len; left += 13) {
+        uint8_t *cut = fenced(INPUT, bytes, left);
+        size_t hex_len = 0;
+        gix_hash_run run = {0};
+        CHECK(left, gix_hash_pack_check(kind, cut, left, &detail) && gix_hash_pack_check(3 - kind, cut, left, &detail));
+        CHECK(left, gix_hash_pack_find(kind, cut, left, &prefix, &run) || run.end <= count);
+        CHECK(left, gix_hash_pack_entry(kind, cut, left, count, &entry) && gix_hash_pack_abbreviate(kind, cut, left, count, &hex_len));
+        uint8_t *any = fenced(INPUT, bytes, len);
+        for (size_t at = 8; at < len - 8; at++)
+            if (at < 1028 || at > 1031) random = random * 6364136223846793005u + 1442695040888963407u, any[at] = (uint8_t)(random >> 56);
+        CHECK(left, gix_hash_pack_check(kind, any, len, &detail));
+        CHECK(left, gix_hash_pack_find(kind, any, len, &prefix, &run) || (run.start <= run.end && run.end <= count));
+        gix_hash_pack_entry(kind, any, len, left % count, &entry);
+        CHECK(left, gix_hash_pack_abbreviate(kind, any, len, left % count, &hex_len) || hex_len <= (kind == 1 ? 40 : 64));
+    }
+    for (size_t i = 0; i < ROWS(far); i++) {
+        size_t hex_len = 7, at = far[i] < count ? count + far[i] : far[i];
+        CHECK(i, gix_hash_pack_entry(kind, bytes, len, at, &entry) == GIX_HASH_OUT_OF_RANGE);
+        CHECK(i, gix_hash_pack_abbreviate(kind, bytes, len, at, &hex_len) == GIX_HASH_OUT_OF_RANGE && hex_len == 7);
+    }
+}
+
 /* The runs of the first 1 to 5 digits of a text, by all names. */
 static void test_runs(uint32_t kind, size_t len, size_t count, const char *digits) {
     for (size_t hex_len = 1; hex_len < 6; hex_len++) {
-        gix_hash_prefix prefix = prefix_of(digits, hex_len);
+        gix_hash_prefix prefix = prefix_of(digits, hex_len), *copy = fenced(STRUCT, &prefix, sizeof prefix);
         gix_hash_run run = {0}, table = {0};
-        size_t start = 0, end = 0;
+        size_t start = 0, end = 0, size = (kind == 1 ? 20 : 32) * count;
         for (size_t k = 0; k < count; k++) {
             int order = strncmp(names[k], digits, hex_len);
             start += order < 0, end += order <= 0;
         }
-        CHECK(hex_len, !gix_hash_pack_find(kind, bytes, len, &prefix, &run) && run.start == start && run.end == end);
-        CHECK(hex_len, !gix_hash_find(kind, bytes + 1032, (kind == 1 ? 20 : 32) * count, &prefix, &table));
+        CHECK(hex_len, !gix_hash_pack_find(kind, bytes, len, copy, &run) && run.start == start && run.end == end);
+        CHECK(hex_len, !gix_hash_find(kind, fenced(INPUT, bytes + 1032, size), size, copy, &table));
         CHECK(hex_len, table.start == start && table.end == end);
     }
 }
 
 /* All that an index has, as Git lists it. */
 static void test_index(const char *folder, const char *name, uint32_t kind) {
+    static uint8_t loaded[1 << 16];
     char path[4096], command[8192], line[200], ours[200];
     snprintf(path, sizeof path, "%s/%s", folder, name);
     snprintf(command, sizeof command, "git show-index --object-format=%s < '%s'", kind == 1 ? "sha1" : "sha256", path);
     FILE *file = fopen(path, "rb"), *git = popen(command, "r");
-    size_t len = file ? fread(bytes, 1, sizeof bytes, file) : 0, count = 0, at = 0;
+    size_t len = file ? fread(loaded, 1, sizeof loaded, file) : 0, count = 0, at = 0;
     uint64_t detail = 7;
+    bytes = fenced(INDEX, loaded, len);
     CHECK(0, !gix_hash_pack_check(kind, bytes, len, &detail) && detail == 7);
-    CHECK(0, !gix_hash_pack_count(kind, bytes, len, &count) && count > 0 && count < 1000);
-    for (; git && fgets(line, sizeof line, git); at++) {
+    CHECK(0, !gix_hash_pack_count(kind, bytes, len, &count) && count > 0 && count < ROWS(names));
+    if (!count || count >= ROWS(names)) return;
+    for (; git && at < count && fgets(line, sizeof line, git); at++) {
         gix_hash_entry entry = {0};
         CHECK(at, !gix_hash_pack_entry(kind, bytes, len, at, &entry));
         strcpy(names[at], hex_of(&entry.id));
@@ -226,7 +318,7 @@ static void test_index(const char *folder, const char *name, uint32_t kind) {
         CHECK(at, !strcmp(ours, line));
     }
     gix_hash_entry entry = {.offset = 5};
-    CHECK(at, at == count && gix_hash_pack_entry(kind, bytes, len, at, &entry) == GIX_HASH_OUT_OF_RANGE && entry.offset == 5);
+    CHECK(at, at == count && !fgets(line, sizeof line, git) && gix_hash_pack_entry(kind, bytes, len, at, &entry) == GIX_HASH_OUT_OF_RANGE && entry.offset == 5);
     for (at = 0; at < count; at++) {
         size_t hex_len = 0, shared = 3;
         for (size_t k = 0; k < count; k++)
@@ -236,18 +328,133 @@ static void test_index(const char *folder, const char *name, uint32_t kind) {
         test_runs(kind, len, count, names[at]);
     }
     test_runs(kind, len, count, "00000"), test_runs(kind, len, count, "fffff"), test_runs(kind, len, count, "80808");
-    test_broken(kind, len), test_changed(kind, len, count);
+    test_broken(kind, len), test_changed(kind, len, count), test_any_bytes(kind, len, count);
     if (file) fclose(file);
     if (git) pclose(git);
 }
 
+/* What reading, spelling and naming ids returns, leaves and writes. */
+static void test_ids(void) {
+    for (size_t i = 0; i < ROWS(digests); i++) {
+        uint32_t kind = digests[i].kind;
+        size_t size = kind == GIX_HASH_SHA1 ? 20 : 32;
+        gix_hash_id id = id_of(digests[i].hex), old, made;
+        memset(&old, 7, sizeof old);
+        for (size_t len = 0; len < 68; len++) {
+            char dashes[68], kept[68];
+            memset(dashes, '-', sizeof dashes), memset(kept, '-', sizeof kept), made = old;
+            char *text = fenced(INPUT, dashes, len);
+            uint32_t code = len > 2 * size ? GIX_HASH_OK : GIX_HASH_NO_ROOM;
+            if (!code) memcpy(kept, digests[i].hex, 2 * size + 1);
+            CHECK(len, gix_hash_id_to_text(fenced(STRUCT, &id, sizeof id), text, len) == code && !memcmp(text, kept, len));
+            size_t count = len % 33; /* bytes */
+            code = count == size ? GIX_HASH_OK : GIX_HASH_BAD_LENGTH;
+            CHECK(len, gix_hash_id_from_bytes(kind, fenced(INPUT, id.bytes, count), count, &made) == code);
+            CHECK(len, !memcmp(&made, code ? &old : &id, sizeof made));
+        }
+    }
+    char text[65] = "kept";
+    gix_hash_id id = {0}, none = {.kind = 3}, zeros = {.kind = GIX_HASH_SHA256};
+    CHECK(0, gix_hash_id_to_text(&none, text, 65) == GIX_HASH_BAD_KIND && !strcmp(text, "kept"));
+    CHECK(0, gix_hash_id_to_text(&zeros, NULL, 0) == GIX_HASH_NO_ROOM);
+    CHECK(0, gix_hash_id_from_bytes(GIX_HASH_SHA1, NULL, 0, &id) == GIX_HASH_BAD_LENGTH);
+    CHECK(0, !gix_hash_id_null(GIX_HASH_SHA256, &id) && !memcmp(&id, &zeros, sizeof id));
+    static const uint32_t unknown[] = {0, 5, 257, 0x80000001, UINT32_MAX}; /* as kinds, and as types */
+    for (size_t i = 0; i < ROWS(unknown); i++) {
+        uint32_t kind = unknown[i], bad = GIX_HASH_BAD_KIND;
+        CHECK(i, gix_hash_id_null(kind, &id) == bad && gix_hash_id_from_bytes(kind, none.bytes, 20, &id) == bad);
+        CHECK(i, gix_hash_id_empty_blob(kind, &id) == bad && gix_hash_id_empty_tree(kind, &id) == bad);
+        CHECK(i, gix_hash_object_id(kind, 0, NULL, 0, &id) == bad);
+        CHECK(i, gix_hash_object_id(GIX_HASH_SHA1, kind, NULL, 0, &id) == GIX_HASH_BAD_TYPE && !memcmp(&id, &zeros, sizeof id));
+    }
+    int number[3] = {0};
+    CHECK(0, sscanf(GIX_HASH_VERSION, "%d.%d.%d", &number[0], &number[1], &number[2]) == 3);
+    CHECK(0, gix_hash_version() == (uint32_t)(10000 * number[0] + 100 * number[1] + number[2]));
+}
+
+static uint8_t content[1 << 20];
+
+/* The next of a row of numbers that look random. */
+static uint32_t next_number(void) {
+    static uint32_t seed = 1;
+    return (seed = seed * 1664525 + 1013904223) >> 8;
+}
+
+/* Ids of objects of each type, as git hash-object prints them. */
+static void test_objects(const char *name, uint32_t kind) {
+    static const size_t sizes[] = {0, 1, 9, 10, 4095, 65536, sizeof content};
+    char folder[] = "/tmp/gix-hash-XXXXXX", path[100], command[1000], line[100], text[65] = "";
+    if (!mkdtemp(folder)) exit(2);
+    for (size_t i = 0; i < ROWS(sizes); i++) {
+        snprintf(path, sizeof path, "%s/%u", folder, (unsigned)i);
+        FILE *file = fopen(path, "wb");
+        CHECK(i, file && fwrite(content, 1, sizes[i], file) == sizes[i] && !fclose(file));
+    }
+    snprintf(command, sizeof command,
+        "cd %s && git init -q --object-format=%s git 2>&1 && cd git && for i in 0 1 2 3 4 5 6; do for type in commit tree blob tag; do "
+        "git hash-object --literally --no-filters -t $type ../$i; done; done; rm -rf %s", folder, name, folder);
+    FILE *git = popen(command, "r");
+    for (size_t i = 0; i < ROWS(sizes); i++)
+        for (uint32_t type = GIX_HASH_COMMIT; type <= GIX_HASH_TAG; type++) {
+            gix_hash_id id = {0}, empty = {0};
+            CHECK(i, git && fgets(line, sizeof line, git) && !gix_hash_object_id(kind, type, content, sizes[i], &id));
+            line[strcspn(line, "\n")] = 0;
+            CHECK(i, !gix_hash_id_to_text(&id, text, sizeof text) && !strcmp(text, line));
+            if (type == GIX_HASH_BLOB) CHECK(i, !gix_hash_id_empty_blob(kind, &empty) && !memcmp(&id, &empty, sizeof id) == !i);
+            if (type == GIX_HASH_TREE) CHECK(i, !gix_hash_id_empty_tree(kind, &empty) && !memcmp(&id, &empty, sizeof id) == !i);
+        }
+    if (git) pclose(git);
+}
+
+/* Messages in pieces of 0 to 199 bytes have the digests of their beginnings, also in copies. */
+static void test_hashers(uint32_t kind) {
+    for (size_t row = 0; row < 50; row++) {
+        gix_hash_hasher hasher, copy;
+        gix_hash_id id = {0}, whole = {0};
+        memset(&hasher, 7, sizeof hasher);
+        CHECK(row, !gix_hash_hasher_new(kind, &hasher) && !gix_hash_hasher_update(&hasher, NULL, 0));
+        for (size_t at = 0; at < 2000;) {
+            size_t len = next_number() % 200;
+            copy = hasher;
+            CHECK(row, !gix_hash_hasher_update(&copy, content + 1, 5));
+            CHECK(row, !gix_hash_hasher_update(&hasher, fenced(INPUT, content + at, len), len));
+            at += len;
+            CHECK(row, !gix_hash_hasher_finish(&hasher, &id) && !gix_hash_digest(kind, content, at, &whole));
+            CHECK(row, !memcmp(&id, &whole, sizeof id));
+        }
+        CHECK(row, !gix_hash_hasher_finish(&copy, &id) && memcmp(&id, &whole, sizeof id));
+    }
+}
+
+/* Any bytes are a hasher, also at the end of the count. One of no kind stays, and so does the id. */
+static void test_any_hashers(void) {
+    for (uint32_t i = 0; i < 3000; i++) {
+        gix_hash_hasher hasher, old;
+        gix_hash_id id = {0}, zeros = {0};
+        for (size_t k = 0; k < sizeof hasher; k++) ((uint8_t *)&hasher)[k] = (uint8_t)next_number();
+        hasher.kind = i % 3 ? i % 3 : i + 3;
+        if (i % 5 == 0) hasher.count = UINT64_MAX - i % 64;
+        old = hasher;
+        uint32_t code = i % 3 ? GIX_HASH_OK : GIX_HASH_BAD_KIND;
+        CHECK(i, gix_hash_hasher_finish(&hasher, &id) == code && !memcmp(&hasher, &old, sizeof old));
+        CHECK(i, !memcmp(&id, &zeros, sizeof id) == (code != GIX_HASH_OK));
+        CHECK(i, gix_hash_hasher_update(&hasher, content, i % 200) == code);
+        CHECK(i, code ? !memcmp(&hasher, &old, sizeof old) : hasher.count == old.count + i % 200);
+        old = hasher;
+        CHECK(i, gix_hash_hasher_new(i + 3, &hasher) == GIX_HASH_BAD_KIND && !memcmp(&hasher, &old, sizeof old));
+    }
+}
+
 int main(int count, char **words) {
     const char *folder = count > 1 ? words[1] : ".";
-    test_digests(), test_texts(), test_errors(), test_nothing();
+    test_digests(), test_texts(), test_errors(), test_hostile(), test_nothing();
     CHECK(0, !strcmp(gix_hash_code_text(GIX_HASH_NO_ROOM), "the buffer is too short"));
     CHECK(0, !strcmp(gix_hash_code_text(30), "no code of gix_hash.h"));
     test_index(folder, "sha1.idx", GIX_HASH_SHA1), test_index(folder, "sha256.idx", GIX_HASH_SHA256);
     test_index(folder, "longs.idx", GIX_HASH_SHA1);
+    for (size_t i = 0; i < sizeof content; i++) content[i] = (uint8_t)next_number();
+    test_ids(), test_objects("sha1", GIX_HASH_SHA1), test_objects("sha256", GIX_HASH_SHA256);
+    test_hashers(GIX_HASH_SHA1), test_hashers(GIX_HASH_SHA256), test_any_hashers();
     printf("%d passed, %d failed\n", passed, failed);
     return failed > 0;
 }

@@ -12,6 +12,7 @@ Name: nunbirdstand
 Summary: Git's object ids, over the proved library libgix_hash
 License: MIT OR Apache-2.0
 Requires-Python: >=3.9
+Classifier: Programming Language :: Python :: Implementation :: CPython
 """
 WHEEL = "Wheel-Version: 1.0\nGenerator: backend\nRoot-Is-Purelib: true\nTag: py3-none-any\n"
 

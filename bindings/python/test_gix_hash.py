@@ -1,5 +1,6 @@
 """Compares gix_hash with hashlib, Git, and Python's own texts and lists."""
 
+import array
 import bisect
 import copy
 import doctest
@@ -12,19 +13,22 @@ import random
 import subprocess
 import sys
 import tempfile
+import threading
 import unittest
 
 # Where `make lib` leaves it.
 os.environ.setdefault("GIX_HASH_LIBRARY", str(pathlib.Path(__file__).resolve().parents[2] / "out" / "libgix_hash.so"))
 import gix_hash  # noqa: E402
-from gix_hash import Code, Error, Id, Kind, PackIndex, Prefix, SortedDigests  # noqa: E402
+from gix_hash import Code, Error, Hasher, Id, Kind, ObjectType, PackIndex, Prefix, SortedDigests  # noqa: E402
 
 KINDS = {Kind.SHA1: "sha1", Kind.SHA256: "sha256"}
 EMPTY = hashlib.sha256().hexdigest()
+# The user's own variables and configuration do not reach git.
+CLEAN = {"PATH": os.environ["PATH"], "GIT_CONFIG_GLOBAL": os.devnull, "GIT_CONFIG_NOSYSTEM": "1"}
 
 
 def git(*words, data=b""):
-    return subprocess.run(["git", *words], input=data, stdout=subprocess.PIPE, check=True).stdout.decode()
+    return subprocess.run(["git", *words], input=data, env=CLEAN, stdout=subprocess.PIPE, check=True).stdout.decode()
 
 
 def index_of(kind):
@@ -41,6 +45,10 @@ def index_of(kind):
 def load_tests(loader, tests, pattern):
     tests.addTests(doctest.DocTestSuite(gix_hash))
     return tests
+
+
+class OwnId(Id):
+    pass
 
 
 class Bindings(unittest.TestCase):
@@ -60,6 +68,42 @@ class Bindings(unittest.TestCase):
         of_git = git("hash-object", "--stdin", data=b"abc\n")
         self.assertEqual(str(Id.digest(Kind.SHA1, b"blob 4\0abc\n")), of_git.strip())
 
+    def test_hashers(self):
+        rng = random.Random(2)
+        for kind, name in KINDS.items():
+            for _ in range(100):
+                ours, wanted = Hasher(kind), hashlib.new(name)
+                for data in [rng.randbytes(rng.randrange(200)) for _ in range(9)]:
+                    ours.update(memoryview(data)), wanted.update(data)
+                    copied = ours.copy()
+                    copied.update(b"more")
+                    self.assertEqual((ours.digest(), ours.hexdigest()), (wanted.digest(), wanted.hexdigest()))
+                    self.assertNotEqual(ours.id(), copied.id())
+            for word in ("name", "digest_size", "block_size"):
+                self.assertEqual(getattr(ours, word), getattr(wanted, word))
+            whole, pieces = Hasher(kind, bytes(1 << 24)), Hasher(kind)
+            threads = [threading.Thread(target=pieces.update, args=(bytes(1 << 20),)) for _ in range(16)]
+            for each in threads:
+                each.start()
+            for each in threads:
+                each.join()
+            self.assertEqual(pieces.id(), whole.id())
+        self.assertRaises(ValueError, Hasher, 3)
+
+    def test_objects(self):
+        for kind, name in KINDS.items():
+            with tempfile.TemporaryDirectory() as folder:
+                git("init", "-q", f"--object-format={name}", folder)
+                for object_type in ObjectType:
+                    words = "-C", folder, "hash-object", "--literally", "--stdin", "-t", object_type.name.lower()
+                    for data in (b"", b"abc\n", bytes(4095)):
+                        found = Id.of_object(kind, object_type, data)
+                        self.assertEqual(str(found), git(*words, data=data).strip())
+                        self.assertEqual(found == Id.empty_blob(kind), (object_type, data) == (ObjectType.BLOB, b""))
+                        self.assertEqual(found == Id.empty_tree(kind), (object_type, data) == (ObjectType.TREE, b""))
+            self.assertEqual(bytes(Id.null(kind)), bytes(kind.len_in_bytes))
+        self.assertRaises(ValueError, Id.of_object, Kind.SHA1, 5, b"")
+
     def test_texts(self):
         short, wrong = Code.BAD_LENGTH, Code.BAD_DIGIT
         for text, of_id, of_prefix in [
@@ -77,6 +121,8 @@ class Bindings(unittest.TestCase):
         ids = [Id.digest(rng.choice(list(KINDS)), rng.randbytes(2)) for _ in range(300)]
         self.assertEqual(sorted(ids), sorted(ids, key=lambda it: (it.kind, str(it))))
         for one, other in zip(ids, ids[1:]):
+            order = gix_hash._lib.gix_hash_id_cmp(one._struct, other._struct)
+            self.assertEqual((order, one == other), ((one > other) - (one < other), order == 0))
             digits = (str(one) if rng.random() < 0.5 else str(other))[: rng.randint(1, 40)]
             front = str(other)[: len(digits)]
             self.assertEqual(Prefix(digits).cmp(other), (digits > front) - (digits < front))
@@ -92,37 +138,80 @@ class Bindings(unittest.TestCase):
             self.assertEqual((pickle.loads(pickle.dumps(one)), copy.deepcopy(one)), (one, one))
             self.assertRaises(TypeError, make, 40)
         self.assertEqual([str(Prefix(EMPTY[:n])) for n in (1, 2, 63)], [EMPTY[:n] for n in (1, 2, 63)])
-        for wrong in (40, None, EMPTY, 1.5):
-            for call in (Id.from_bytes, PackIndex.kind_of):
-                self.assertRaises(TypeError, call, wrong)
-            for call in (Id.digest, SortedDigests, PackIndex):
-                self.assertRaises(TypeError, call, Kind.SHA1, wrong)
+        own = OwnId(EMPTY)
+        for made in (pickle.loads(pickle.dumps(own)), OwnId.from_bytes(bytes(own)), OwnId.digest(Kind.SHA256, b"")):
+            self.assertEqual((type(made), repr(made), made), (OwnId, f"OwnId('{EMPTY}')", Id(EMPTY)))
+        own.__init__("g" * 40)
+        self.assertEqual(str(own), EMPTY)
+        for error in (Error(Code.BAD_DIGIT), Error(Code.UNSORTED, 7)):
+            same = pickle.loads(pickle.dumps(error))
+            self.assertEqual((same.code, same.detail, str(same)), (error.code, error.detail, str(error)))
+        self.fails(Code.UNKNOWN, 99, gix_hash._check, 99, 5)
 
     def test_library(self):
-        words = [sys.executable, "-c", "import gix_hash"]
-        found = {**os.environ, "GIX_HASH_LIBRARY": "/nowhere.so", "PYTHONPATH": os.pathsep.join(sys.path)}
-        ran = subprocess.run(words, env=found, stderr=subprocess.PIPE, text=True)
-        self.assertRegex(ran.stderr, "ImportError: .*/nowhere.so.*GIX_HASH_LIBRARY")
+        for path, why in (("/nowhere.so", "/nowhere.so"), ("libc.so.6", "gix_hash_")):
+            found = {**os.environ, "GIX_HASH_LIBRARY": path, "PYTHONPATH": os.pathsep.join(sys.path)}
+            ran = subprocess.run([sys.executable, "-c", "import gix_hash"], env=found, stderr=subprocess.PIPE, text=True)
+            self.assertRegex(ran.stderr, f"ImportError: .*{why}.*GIX_HASH_LIBRARY")
+        found = {}
+        exec("from gix_hash import *", found)
+        public = {"Buffer", "Code", "Entry", "Error", "Hasher", "Id", "Kind", "ObjectType", "PackIndex", "Prefix", "SortedDigests"}
+        self.assertEqual(found.keys() - {"__builtins__"}, public)
+
+    def test_hostile_calls(self):
+        """Calls that are wrong, and the exception of each."""
+        data = index_of(Kind.SHA1)
+        index, table, id, prefix = PackIndex(Kind.SHA1, memoryview(data)), SortedDigests(Kind.SHA1, bytearray(40)), Id(EMPTY), Prefix("e")
+        strided, floats = memoryview(bytes(40))[::2], array.array("f", [1.0] * 5)
+        rows = [(TypeError, call, wrong) for call in (Id, Prefix) for wrong in (40, None, EMPTY.encode())]
+        rows += [(Error, Id, text) for text in ("\ud800" * 40, "\xe9" * 40, "\uff11" * 40, "\0" * 40, " " + EMPTY[:40], EMPTY[:40] + "\n")]
+        rows += [(Error, Prefix, text) for text in ("\ud800", "\xe9", " e", "e ", "+1", "0x", "e" * 65)]
+        for call in (Id.digest, SortedDigests, PackIndex):
+            rows += [(TypeError, call, kind, data) for kind in (True, None, 1.0, "sha1")]
+            rows += [(ValueError, call, kind, data) for kind in (0, 3, -1, 2**32 + 1, 2**64 + 2)]
+            rows += [(TypeError, call, Kind.SHA1, wrong) for wrong in (40, None, EMPTY, 1.5, floats, [1])]
+            rows += [(BufferError, call, Kind.SHA1, strided)]
+        for call in (Id.from_bytes, PackIndex.kind_of, PackIndex.of_any_kind):
+            rows += [(TypeError, call, wrong) for wrong in (40, None, EMPTY, 1.5, floats, [1])] + [(BufferError, call, strided)]
+        rows += [(Error, Id.from_bytes, bytes(n)) for n in range(100) if n not in (20, 32)]
+        rows += [(TypeError, call, wrong) for call in (index.find, table.find) for wrong in ("e6", None, id)]
+        rows += [(TypeError, prefix.cmp, wrong) for wrong in ("e6", None, prefix)]
+        for call in (index.__getitem__, index.abbreviate, table.__getitem__):
+            rows += [(TypeError, call, wrong) for wrong in (1.0, "1", None)]
+            rows += [(IndexError, call, at) for at in (300, -301, 2**63, 2**64, -(2**64))]
+        rows += [(ValueError, call, wrong) for call in (index.index, table.index) for wrong in (id, "e6", None, Id(EMPTY[:40]))]
+        rows += [(TypeError, index.abbreviate, slice(1)), (TypeError, copy.deepcopy, index), (TypeError, pickle.dumps, index)]
+        rows += [(AttributeError, setattr, id, "kind", Kind.SHA1), (TypeError, sorted, [id, EMPTY])]
+        for wanted, call, *given in rows:
+            with self.subTest(call=call, given=given):
+                self.assertRaises(wanted, call, *given)
+        for cut in range(0, len(data), 7):
+            self.assertRaises(Error, PackIndex.of_any_kind, data[:cut])
+            self.assertRaises(Error, PackIndex.of_any_kind, data[:cut] + bytes([data[cut] ^ 1]) + data[cut + 1 :])
+        self.assertFalse(EMPTY in index or None in table or id in index or id in table or Prefix(EMPTY) in table)
 
     def test_indexes(self):
         for kind in KINDS:
             data = index_of(kind)
             index = PackIndex(kind, data)
-            self.assertEqual((len(index), PackIndex.kind_of(data)), (300, kind))
+            self.assertEqual((len(index), PackIndex.kind_of(data), index.kind), (300, kind, kind))
+            self.assertEqual((PackIndex.of_any_kind(data).kind, list(PackIndex.of_any_kind(data))), (kind, list(index)))
             lines = [f"{it.offset} {it.id} ({it.crc:08x})\n" for it in index]
             self.assertEqual("".join(lines), git("show-index", f"--object-format={KINDS[kind]}", data=data))
             names = [str(it.id) for it in index]
             table = SortedDigests(kind, b"".join(bytes(it.id) for it in index))
-            self.assertEqual([str(it) for it in table], names)
+            self.assertEqual(([str(it) for it in table], table.kind), (names, kind))
             for list_of in (index, table):
                 each = list(list_of)
                 for at in (-1, -300, 299, slice(5, -3, 7), slice(None, None, -1)):
                     self.assertEqual(list_of[at], each[at])
                 for at in (300, -301):
                     self.assertRaises(IndexError, list_of.__getitem__, at)
-                self.assertRaises(TypeError, list_of.__getitem__, 1.0)
+                self.assertEqual([list_of.index(it) for it in each], list(range(300)))
+                self.assertTrue(all(it in list_of and list_of.count(it) == 1 for it in each))
             for at, name in enumerate(names):
                 hex_len = index.abbreviate(at)
+                self.assertEqual((index.index(Id(name)), Id(name) in index, index.count(Id(name))), (at, True, 1))
                 shared = [sum(other.startswith(name[:length]) for other in names) for length in range(4, 41)]
                 self.assertEqual(hex_len, 4 + shared.index(1))
                 for digits in (name[:1], name[:2], name[:hex_len], name):
@@ -133,6 +222,12 @@ class Bindings(unittest.TestCase):
             self.fails(Code.WRONG_CHECKSUM, 0, PackIndex, kind, data[:-1] + bytes([data[-1] ^ 1]))
             self.fails(Code.BAD_VERSION, 9, PackIndex, kind, data[:7] + b"\x09" + data[8:])
             self.fails(Code.BAD_VERSION, 9, PackIndex.kind_of, data[:7] + b"\x09" + data[8:])
+            self.assertNotIn(index[0]._replace(crc=index[0].crc ^ 1), index)
+        repeats = SortedDigests(Kind.SHA1, b"1" * 60 + b"2" * 20)
+        one = repeats[0]
+        self.assertEqual((repeats.count(one), repeats.index(one), repeats.index(one, 1), repeats.index(one, -2)), (3, 0, 1, 2))
+        self.assertRaises(ValueError, repeats.index, one, 3)
+        self.assertRaises(ValueError, repeats.index, repeats[3], 0, 3)
         self.fails(Code.TOO_LONG, 0, SortedDigests(Kind.SHA1, b"").find, Prefix(EMPTY))
         self.fails(Code.BAD_MAGIC, 0, PackIndex.kind_of, bytes(2000))
         self.fails(Code.UNSORTED, 1, SortedDigests, Kind.SHA1, b"2" * 20 + b"1" * 20)
@@ -143,11 +238,12 @@ class Bindings(unittest.TestCase):
             file.flush()
             with mmap.mmap(file.fileno(), 0, access=mmap.ACCESS_READ) as mapped:
                 index = PackIndex(Kind.SHA1, mapped)
-                self.assertEqual(index._data.words[0], PackIndex(Kind.SHA1, memoryview(mapped))._data.words[0])
+                self.assertEqual(index._given, PackIndex(Kind.SHA1, memoryview(mapped))._given)
                 self.assertEqual(list(index), list(PackIndex(Kind.SHA1, bytearray(mapped[:]))))
                 self.assertRaises(BufferError, mapped.close)
                 del index
-        self.assertRaises(BufferError, Id.digest, Kind.SHA1, memoryview(bytes(10))[::2])
+        self.assertEqual(Id.digest(Kind.SHA1, memoryview(b"abcd")[1:3]), Id.digest(Kind.SHA1, b"bc"))
+        self.assertEqual(Id.digest(Kind.SHA1, array.array("b", b"bc")), Id.digest(Kind.SHA1, b"bc"))
         self.assertEqual(Id.digest(Kind.SHA256, bytearray()), Id(EMPTY))
         self.assertEqual(len(SortedDigests(Kind.SHA1, b"")), 0)
 

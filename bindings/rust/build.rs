@@ -1,4 +1,5 @@
-//! Links libgix_hash.a: from the folder `GIX_HASH_LIB`, or else from where `make lib` and `make install` put it.
+//! Links `libgix_hash.a`: from the folder `GIX_HASH_LIB`, or else from where `make lib` and `make install` put it.
+//! One that is made later in a nearer folder is taken after `cargo clean -p nunbirdstand`.
 
 use std::path::Path;
 
@@ -15,7 +16,7 @@ fn main() {
     };
     let Some(folder) = folders.iter().find(|folder| Path::new(folder).join("libgix_hash.a").exists()) else {
         panic!(
-            "libgix_hash.a is not in {folders:?}: set GIX_HASH_LIB to its folder, or run `make lib` first"
+            "libgix_hash.a is not in {folders:?}: set GIX_HASH_LIB to the absolute path of its folder, or run `make lib` first"
         );
     };
     println!("cargo:rerun-if-changed={folder}/libgix_hash.a");

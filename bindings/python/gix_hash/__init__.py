@@ -1,6 +1,11 @@
 """Git's object ids over libgix_hash, whose calls are proved; this module is only tested.
 
-The environment variable GIX_HASH_LIBRARY names the library's file, unless it is installed.
+Ids are spelled and compared here, and the rest is done by the library. The environment variable GIX_HASH_LIBRARY names its
+file, unless it is installed.
+
+Bytes are taken from any object that has them one after the other, as bytes, a memoryview or an mmap, and are not copied. So
+nobody may change them during a call, in which other threads run, nor while a SortedDigests or a PackIndex has them. If the
+file of an mmap is cut off, reading what is gone ends the program by SIGBUS.
 
 >>> digest = Id.digest(Kind.SHA1, b"blob 0\\0")
 >>> str(digest), digest.kind.name
@@ -16,12 +21,16 @@ import mmap
 import operator
 import os
 import re
-from collections.abc import Sequence
-from typing import Any, List, NamedTuple, Tuple, Union, overload
+import sys
+import threading
+from collections.abc import Iterator, Sequence
+from typing import Any, Dict, List, NamedTuple, Optional, Tuple, Type, TypeVar, Union, overload
 
+__all__ = ["Buffer", "Code", "Entry", "Error", "Hasher", "Id", "Kind", "ObjectType", "PackIndex", "Prefix", "SortedDigests"]
 __version__ = "0.4.0"
-# What has bytes. (Other objects that do, as an array, are taken too.)
+# What has bytes. (Other objects that do, as an array of bytes, are taken too.)
 Buffer = Union[bytes, bytearray, memoryview, mmap.mmap]
+_T = TypeVar("_T")
 
 
 class Kind(enum.IntEnum):
@@ -36,6 +45,15 @@ class Kind(enum.IntEnum):
         return 20 if self is Kind.SHA1 else 32
 
 
+class ObjectType(enum.IntEnum):
+    """The type of an object, by the number that it has in packs."""
+
+    COMMIT = 1
+    TREE = 2
+    BLOB = 3
+    TAG = 4
+
+
 class Code(enum.IntEnum):
     """What failed. The header gix_hash.h says what each code means."""
 
@@ -47,6 +65,7 @@ class Code(enum.IntEnum):
     OUT_OF_RANGE = 6
     UNSORTED = 7
     NOT_UNIQUE = 8
+    BAD_TYPE = 9
     TOO_SHORT = 16
     VERSION_1 = 17
     BAD_MAGIC = 18
@@ -61,14 +80,19 @@ class Code(enum.IntEnum):
     OFFSET_TOO_HIGH = 27
     WRONG_CHECKSUM = 28
     OTHER_KIND = 29
+    UNKNOWN = 2**32 - 1
+    """The library is a later one, and returned a code that is not in this list: the error's detail."""
 
 
 class Error(ValueError):
-    """Why a call failed: its code, and the index, byte, version or kind that it speaks of, else 0."""
+    """Why a call failed: its code, and the index, byte, version, kind or code that it speaks of, else 0."""
 
     def __init__(self, code: Code, detail: int = 0):
         super().__init__(f"{code.name}, {detail}" if detail else code.name)
         self.code, self.detail = code, detail
+
+    def __reduce__(self) -> Tuple[Any, ...]:
+        return type(self), (self.code, self.detail)
 
 
 # The declarations of gix_hash.h, from which ctypes has its types.
@@ -77,12 +101,23 @@ typedef struct gix_hash_id { uint32_t kind; uint8_t bytes[32]; } gix_hash_id;
 typedef struct gix_hash_prefix { uint32_t hex_len; uint8_t bytes[32]; } gix_hash_prefix;
 typedef struct gix_hash_run { size_t start; size_t end; } gix_hash_run;
 typedef struct gix_hash_entry { uint64_t offset; uint32_t crc; gix_hash_id id; } gix_hash_entry;
+typedef struct gix_hash_hasher { uint32_t kind; uint32_t words[8]; uint64_t count; uint8_t block[64]; } gix_hash_hasher;
+uint32_t gix_hash_version(void);
 uint32_t gix_hash_id_from_hex(const uint8_t *text, size_t len, gix_hash_id *id);
 uint32_t gix_hash_id_to_hex(const gix_hash_id *id, uint8_t *buffer, size_t len);
+uint32_t gix_hash_id_to_text(const gix_hash_id *id, uint8_t *text, size_t len);
+uint32_t gix_hash_id_from_bytes(uint32_t kind, const uint8_t *bytes, size_t len, gix_hash_id *id);
+uint32_t gix_hash_id_null(uint32_t kind, gix_hash_id *id);
+uint32_t gix_hash_id_empty_blob(uint32_t kind, gix_hash_id *id);
+uint32_t gix_hash_id_empty_tree(uint32_t kind, gix_hash_id *id);
 int32_t gix_hash_id_cmp(const gix_hash_id *one, const gix_hash_id *other);
 uint32_t gix_hash_prefix_from_hex(const uint8_t *text, size_t len, gix_hash_prefix *prefix);
 int32_t gix_hash_prefix_cmp_id(const gix_hash_prefix *prefix, const gix_hash_id *id);
 uint32_t gix_hash_digest(uint32_t kind, const uint8_t *bytes, size_t len, gix_hash_id *id);
+uint32_t gix_hash_hasher_new(uint32_t kind, gix_hash_hasher *hasher);
+uint32_t gix_hash_hasher_update(gix_hash_hasher *hasher, const uint8_t *bytes, size_t len);
+uint32_t gix_hash_hasher_finish(const gix_hash_hasher *hasher, gix_hash_id *id);
+uint32_t gix_hash_object_id(uint32_t kind, uint32_t object_type, const uint8_t *bytes, size_t len, gix_hash_id *id);
 uint32_t gix_hash_check_sorted(uint32_t kind, const uint8_t *table, size_t len, size_t *at);
 uint32_t gix_hash_find(uint32_t kind, const uint8_t *table, size_t len, const gix_hash_prefix *prefix,
     gix_hash_run *run);
@@ -94,18 +129,13 @@ uint32_t gix_hash_pack_find(uint32_t kind, const uint8_t *bytes, size_t len, con
     gix_hash_run *run);
 uint32_t gix_hash_pack_abbreviate(uint32_t kind, const uint8_t *bytes, size_t len, size_t at, size_t *hex_len);
 """
-_TYPES = {"uint8_t": ctypes.c_uint8, "uint32_t": ctypes.c_uint32, "uint64_t": ctypes.c_uint64, "int32_t": ctypes.c_int32}
-_TYPES["size_t"] = ctypes.c_size_t
-# The library is installed under the first two numbers of its version.
-try:
-    _lib = ctypes.CDLL(os.environ.get("GIX_HASH_LIBRARY", f"libgix_hash.so.{__version__.rpartition('.')[0]}"))
-except OSError as _error:
-    raise ImportError(f"{_error}: set GIX_HASH_LIBRARY to the path of libgix_hash.so") from None
+_TYPES: Dict[str, Any] = {"uint8_t": ctypes.c_uint8, "uint32_t": ctypes.c_uint32, "uint64_t": ctypes.c_uint64}
+_TYPES.update({"int32_t": ctypes.c_int32, "size_t": ctypes.c_size_t})
 
 
-def _typed(declared):
+def _typed(declared: str) -> Tuple[str, Any]:
     """The name and the type of a field or a parameter. Bytes are passed as their address."""
-    kind, star, name, count = re.fullmatch(r" *(?:const )?(\w+) (\*?)(\w+)(?:\[(\d+)\])?", declared).groups()
+    ((kind, star, name, count),) = re.findall(r"(?:const )?(\w+) (\*?)(\w+)(?:\[(\d+)\])?$", declared)
     if star:
         return name, ctypes.c_void_p if kind == "uint8_t" else ctypes.POINTER(_TYPES[kind])
     return name, _TYPES[kind] * int(count) if count else _TYPES[kind]
@@ -114,124 +144,236 @@ def _typed(declared):
 for _name, _listed in re.findall(r"struct (\w+) { (.*?); }", _DECLARED):
     _fields = {"_fields_": [_typed(it) for it in _listed.split(";")]}
     _TYPES[_name] = type(_name, (ctypes.Structure,), _fields)
-for _result, _name, _listed in re.findall(r"(\w+) (gix_hash_\w+)\((.*?)\);", " ".join(_DECLARED.split())):
-    _call = getattr(_lib, _name)
-    _call.restype, _call.argtypes = _TYPES[_result], [_typed(it)[1] for it in _listed.split(",")]
-_Id, _Prefix, _Run, _Entry = (_TYPES[f"gix_hash_{name}"] for name in ("id", "prefix", "run", "entry"))
+# The library is installed under the first two numbers of its version.
+try:
+    _lib = ctypes.CDLL(os.environ.get("GIX_HASH_LIBRARY", f"libgix_hash.so.{__version__.rpartition('.')[0]}"))
+    for _result, _name, _listed in re.findall(r"(\w+) (gix_hash_\w+)\((.*?)\);", " ".join(_DECLARED.split())):
+        _call = getattr(_lib, _name)
+        _call.restype, _call.argtypes = _TYPES[_result], [_typed(it)[1] for it in _listed.split(",") if it != "void"]
+except (OSError, AttributeError) as _error:
+    raise ImportError(f"{_error}: set GIX_HASH_LIBRARY to the path of libgix_hash.so") from None
+_Id, _Prefix, _Run, _Entry, _Hasher = (_TYPES[f"gix_hash_{it}"] for it in ("id", "prefix", "run", "entry", "hasher"))
+_CODES = frozenset(Code)
 
 
-def _check(code, detail=0):
+def _check(code: int, detail: int = 0) -> None:
     if code:
-        raise Error(Code(code), detail)
+        raise Error(Code(code), detail) if code in _CODES else Error(Code.UNKNOWN, code)
+
+
+def _only(kind: Type[_T], value: _T) -> _T:
+    """The value, which must be of a class. (True is 1, and yet no kind of ids.)"""
+    if not isinstance(value, kind) or isinstance(value, bool):
+        raise TypeError(f"{value!r} is not of the class {kind.__name__}")
+    return value
+
+
+def _kind(number: int) -> Kind:
+    return Kind(_only(int, number))
 
 
 class _View(ctypes.Structure):
-    """Python's Py_buffer: its first three fields, and room for the others."""
+    """Python's Py_buffer: its first field, and room for the others."""
 
-    _fields_ = [("buf", ctypes.c_void_p), ("obj", ctypes.c_void_p), ("len", ctypes.c_ssize_t), ("_", ctypes.c_byte * 128)]
-
-
-class _Bytes:
-    """The bytes of an object that has some, as bytes, a memoryview or an mmap do. None is copied, and the object keeps
-    them while this one lives."""
-
-    def __init__(self, data):
-        self._view = _View()
-        ctypes.pythonapi.PyObject_GetBuffer(ctypes.py_object(data), ctypes.byref(self._view), 0)
-
-    def __del__(self):
-        ctypes.pythonapi.PyBuffer_Release(ctypes.byref(self._view))
-
-    @property
-    def words(self):
-        """The address and the number of the bytes."""
-        return self._view.buf, self._view.len
+    _fields_ = [("buf", ctypes.c_void_p), ("_", ctypes.c_byte * 144)]
 
 
-def _index(at, count):
-    at = operator.index(at)
-    if not -count <= at < count:
-        raise IndexError(at)
-    return at % count
+def _bytes(data: Buffer) -> Tuple[Any, Any, int]:
+    """Where bytes are: an object that keeps them there, to slice, and what a call is passed, their address and number."""
+    if type(data) is bytes:
+        return data, data, len(data)
+    view = memoryview(data)
+    if view.itemsize != 1:
+        raise TypeError(f"items of {view.itemsize} bytes are not bytes")
+    given = _View()
+    ctypes.pythonapi.PyObject_GetBuffer(ctypes.py_object(view), ctypes.byref(given), 0)
+    address = given.buf
+    ctypes.pythonapi.PyBuffer_Release(ctypes.byref(given))
+    return view if view.ndim == 1 else view.cast("B"), address, view.nbytes
+
+
+# How the struct of an id begins, by the number of bytes of the digest after that.
+_HEADS = {kind.len_in_bytes: kind.to_bytes(4, sys.byteorder) for kind in Kind}
 
 
 @functools.total_ordering
 class Id:
-    """An id, read from 40 or 64 hex digits in either case. Ids are ordered by kind and then by digits."""
+    """An id, read from 40 or 64 hex digits in either case. Ids are ordered by kind and then by digits, and do not change."""
 
-    __slots__ = ("_id",)
+    # The bytes of the struct up to the end of the digest, 4 and then 20 or 32. They are ordered as ids are.
+    __slots__ = ("_key",)
+    _key: bytes
 
-    def __init__(self, text: str):
-        self._id = _Id()
-        data = str.encode(text)
-        _check(_lib.gix_hash_id_from_hex(data, len(data), self._id))
+    def __new__(cls, text: str) -> "Id":
+        made, digits = _Id(), str.encode(text, "ascii", "replace")
+        _check(_lib.gix_hash_id_from_hex(digits, len(digits), made))
+        return cls._of(made)
 
     @classmethod
-    def _of(cls, struct: Any) -> "Id":
-        made = cls.__new__(cls)
-        made._id = struct
+    def _of(cls, made: Any) -> "Id":
+        return cls._of_key(bytes(made)[: 24 if made.kind == 1 else 36])
+
+    @classmethod
+    def _of_key(cls, key: bytes) -> "Id":
+        made = object.__new__(cls)
+        made._key = key
         return made
 
     @classmethod
     def digest(cls, kind: Kind, data: Buffer) -> "Id":
         """The digest of bytes."""
-        struct, view = _Id(), _Bytes(data)
-        _check(_lib.gix_hash_digest(kind, *view.words, struct))
-        return cls._of(struct)
+        made, (held, *given) = _Id(), _bytes(data)
+        _check(_lib.gix_hash_digest(_kind(kind), *given, made))
+        return cls._of(made)
+
+    @classmethod
+    def of_object(cls, kind: Kind, object_type: ObjectType, data: Buffer) -> "Id":
+        """The id of an object, as git hash-object computes it. Whether the bytes are such an object is not checked."""
+        made, (held, *given) = _Id(), _bytes(data)
+        _check(_lib.gix_hash_object_id(_kind(kind), ObjectType(_only(int, object_type)), *given, made))
+        return cls._of(made)
+
+    @classmethod
+    def null(cls, kind: Kind) -> "Id":
+        """The id whose digits are all zero."""
+        return cls._named(_lib.gix_hash_id_null, kind)
+
+    @classmethod
+    def empty_blob(cls, kind: Kind) -> "Id":
+        """The id of the blob with no bytes."""
+        return cls._named(_lib.gix_hash_id_empty_blob, kind)
+
+    @classmethod
+    def empty_tree(cls, kind: Kind) -> "Id":
+        """The id of the tree with no entries."""
+        return cls._named(_lib.gix_hash_id_empty_tree, kind)
+
+    @classmethod
+    def _named(cls, call: Any, kind: Kind) -> "Id":
+        made = _Id()
+        _check(call(_kind(kind), made))
+        return cls._of(made)
 
     @classmethod
     def from_bytes(cls, digest: Buffer) -> "Id":
         """The id with a digest of 20 or 32 bytes. The error is BAD_LENGTH for another length."""
-        return cls(memoryview(digest).hex())
+        data = bytes(_bytes(digest)[0])
+        _check(0 if len(data) in _HEADS else Code.BAD_LENGTH)
+        return cls._of_key(_HEADS[len(data)] + data)
 
     @property
     def kind(self) -> Kind:
         """The kind."""
-        return Kind(self._id.kind)
+        return Kind.SHA1 if len(self._key) == 24 else Kind.SHA256
+
+    @property
+    def _struct(self) -> Any:
+        return _Id.from_buffer_copy(self._key.ljust(36, b"\0"))
 
     def __bytes__(self) -> bytes:
-        return bytes(self._id.bytes)[: self.kind.len_in_bytes]
+        return self._key[4:]
 
     def __str__(self) -> str:
-        digits = ctypes.create_string_buffer(64)
-        _check(_lib.gix_hash_id_to_hex(self._id, digits, 64))
-        return digits.raw[: 2 * self.kind.len_in_bytes].decode()
+        return self._key[4:].hex()
 
     def __repr__(self) -> str:
-        return f"Id('{self}')"
+        return f"{type(self).__name__}('{self}')"
 
     def __eq__(self, other: object) -> bool:
-        return isinstance(other, Id) and _lib.gix_hash_id_cmp(self._id, other._id) == 0
+        return isinstance(other, Id) and self._key == other._key
 
     def __lt__(self, other: "Id") -> bool:
-        return _lib.gix_hash_id_cmp(self._id, other._id) < 0 if isinstance(other, Id) else NotImplemented
+        return self._key < other._key if isinstance(other, Id) else NotImplemented
 
     def __hash__(self) -> int:
-        return hash(bytes(self))
+        return hash(self._key)
 
     def __reduce__(self) -> Tuple[Any, ...]:
-        return Id, (str(self),)
+        return type(self), (str(self),)
+
+
+class Hasher:
+    """A hash function at work on a message, which comes in pieces, with what objects of hashlib have. Threads may share one.
+
+    >>> hasher = Hasher(Kind.SHA1, b"blob 3\\0")
+    >>> hasher.update(b"abc")
+    >>> hasher.name, hasher.id() == Id.of_object(Kind.SHA1, ObjectType.BLOB, b"abc")
+    ('sha1', True)
+    """
+
+    __slots__ = ("_hasher", "_lock")
+    block_size = 64
+
+    def __init__(self, kind: Kind, data: Buffer = b"") -> None:
+        self._hasher, self._lock = _Hasher(), threading.Lock()
+        _check(_lib.gix_hash_hasher_new(_kind(kind), self._hasher))
+        self.update(data)
+
+    @property
+    def kind(self) -> Kind:
+        """The kind of the digest."""
+        return Kind(self._hasher.kind)
+
+    @property
+    def name(self) -> str:
+        """The kind as hashlib names it."""
+        return self.kind.name.lower()
+
+    @property
+    def digest_size(self) -> int:
+        """The number of bytes of the digest."""
+        return self.kind.len_in_bytes
+
+    def update(self, data: Buffer) -> None:
+        """Appends bytes to the message."""
+        held, *given = _bytes(data)
+        with self._lock:
+            _check(_lib.gix_hash_hasher_update(self._hasher, *given))
+
+    def id(self) -> Id:
+        """The digest of the message so far. More can be appended after it."""
+        made = _Id()
+        with self._lock:
+            _check(_lib.gix_hash_hasher_finish(self._hasher, made))
+        return Id._of(made)
+
+    def digest(self) -> bytes:
+        """The bytes of that id."""
+        return bytes(self.id())
+
+    def hexdigest(self) -> str:
+        """The lowercase hex digits of that id."""
+        return str(self.id())
+
+    def copy(self) -> "Hasher":
+        """A hasher of the same message, which is fed by itself."""
+        made = Hasher(self.kind)
+        with self._lock:
+            made._hasher = _Hasher.from_buffer_copy(self._hasher)
+        return made
 
 
 class Prefix:
-    """A prefix of 1 to 64 hex digits, in either case."""
+    """A prefix of 1 to 64 hex digits, in either case. It does not change."""
 
     __slots__ = ("_prefix",)
+    _prefix: Any
 
-    def __init__(self, text: str):
-        self._prefix = _Prefix()
-        data = str.encode(text)
-        _check(_lib.gix_hash_prefix_from_hex(data, len(data), self._prefix))
+    def __new__(cls, text: str) -> "Prefix":
+        made, digits = object.__new__(cls), str.encode(text, "ascii", "replace")
+        made._prefix = _Prefix()
+        _check(_lib.gix_hash_prefix_from_hex(digits, len(digits), made._prefix))
+        return made
 
     @property
     def hex_len(self) -> int:
         """The number of digits."""
-        return self._prefix.hex_len
+        return int(self._prefix.hex_len)
 
     def cmp(self, other: Id) -> int:
         """The order of the prefix and as many first digits of an id: -1, 1, or 0 if and only if the id begins with the
         prefix. The error is TOO_LONG if the id has fewer digits."""
-        order = _lib.gix_hash_prefix_cmp_id(self._prefix, other._id)
+        order = int(_lib.gix_hash_prefix_cmp_id(self._prefix, _only(Id, other)._struct))
         _check(Code.TOO_LONG if order == 2 else 0)
         return order
 
@@ -239,7 +381,7 @@ class Prefix:
         return bytes(self._prefix.bytes).hex()[: self.hex_len]
 
     def __repr__(self) -> str:
-        return f"Prefix('{self}')"
+        return f"{type(self).__name__}('{self}')"
 
     def __eq__(self, other: object) -> bool:
         return isinstance(other, Prefix) and str(self) == str(other)
@@ -248,36 +390,7 @@ class Prefix:
         return hash(str(self))
 
     def __reduce__(self) -> Tuple[Any, ...]:
-        return Prefix, (str(self),)
-
-
-class SortedDigests(Sequence[Id]):
-    """Sorted digests of a kind, one after the other, as a sequence of ids. The error is UNSORTED, with the first index
-    whose digest is below the one before it. A part of a digest at the end is left out. The bytes are not copied, so
-    nobody may change them."""
-
-    def __init__(self, kind: Kind, table: Buffer):
-        self._kind, self._table, at = Kind(kind), _Bytes(table), ctypes.c_size_t()
-        _check(_lib.gix_hash_check_sorted(kind, *self._table.words, at), at.value)
-
-    def __len__(self) -> int:
-        return self._table.words[1] // self._kind.len_in_bytes
-
-    @overload
-    def __getitem__(self, at: int) -> Id: ...
-    @overload
-    def __getitem__(self, at: slice) -> List[Id]: ...
-    def __getitem__(self, at):
-        if isinstance(at, slice):
-            return [self[each] for each in range(*at.indices(len(self)))]
-        size = self._kind.len_in_bytes
-        return Id.from_bytes(ctypes.string_at(self._table.words[0] + _index(at, len(self)) * size, size))
-
-    def find(self, prefix: Prefix) -> range:
-        """The indexes of the digests that begin with a prefix. The error is TOO_LONG."""
-        run = _Run()
-        _check(_lib.gix_hash_find(self._kind, *self._table.words, prefix._prefix, run))
-        return range(run.start, run.end)
+        return type(self), (str(self),)
 
 
 class Entry(NamedTuple):
@@ -288,48 +401,123 @@ class Entry(NamedTuple):
     crc: int
 
 
-class PackIndex(Sequence[Entry]):
-    """A pack index of version 2, as a sequence of entries. The error is OTHER_KIND, or one from TOO_SHORT to
-    WRONG_CHECKSUM. The bytes are not copied, so nobody may change them, and an mmap is closed after this is gone."""
+class _Table(Sequence[_T]):
+    """What lists of ids share: their bytes, and the library's call that finds a prefix."""
+
+    _call: Any
+
+    def _hold(self, kind: int, data: Buffer) -> None:
+        self._kind = _kind(kind)
+        self._data, *given = _bytes(data)
+        # What each call begins with.
+        self._given = (int(self._kind), *given)
+
+    @property
+    def kind(self) -> Kind:
+        """The kind of all ids."""
+        return self._kind
+
+    def _item(self, at: int) -> _T:
+        raise NotImplementedError
+
+    @overload
+    def __getitem__(self, at: int) -> _T: ...
+    @overload
+    def __getitem__(self, at: slice) -> List[_T]: ...
+    def __getitem__(self, at: Union[int, slice]) -> Union[_T, List[_T]]:
+        if isinstance(at, slice):
+            return [self._item(each) for each in range(len(self))[at]]
+        return self._item(range(len(self))[at])
+
+    def __iter__(self) -> Iterator[_T]:
+        return map(self._item, range(len(self)))
+
+    def find(self, prefix: Prefix) -> range:
+        """The indexes of the ids that begin with a prefix. The error is TOO_LONG."""
+        run = _Run()
+        _check(self._call(*self._given, _only(Prefix, prefix)._prefix, run))
+        return range(run.start, run.end)
+
+    def _indexes(self, value: object) -> List[int]:
+        id = value.id if isinstance(value, Entry) else value
+        if not isinstance(id, Id) or id.kind is not self._kind:
+            return []
+        return [at for at in self.find(Prefix(str(id))) if value is id or self._item(at) == value]
+
+    def __contains__(self, value: object) -> bool:
+        return bool(self._indexes(value))
+
+    def count(self, value: Any) -> int:
+        """How often an id, or an item, is in the list."""
+        return len(self._indexes(value))
+
+    def index(self, value: Any, start: int = 0, stop: Optional[int] = None) -> int:
+        """The first index of an id, or of an item, from start up to stop, or a ValueError if there is none."""
+        for at in self._indexes(value):
+            if at in range(len(self))[start:stop]:
+                return at
+        raise ValueError(f"{value!r} is not in the list")
+
+
+class SortedDigests(_Table[Id]):
+    """Sorted digests of a kind, one after the other, as a sequence of ids. The error is UNSORTED, with the first index
+    whose digest is below the one before it. A part of a digest at the end is left out. The bytes are not copied, so
+    nobody may change them."""
+
+    _call = _lib.gix_hash_find
+
+    def __init__(self, kind: Kind, table: Buffer):
+        self._hold(kind, table)
+        at, self._size = ctypes.c_size_t(), self._kind.len_in_bytes
+        _check(_lib.gix_hash_check_sorted(*self._given, at), at.value)
+
+    def __len__(self) -> int:
+        return len(self._data) // self._size
+
+    def _item(self, at: int) -> Id:
+        return Id._of_key(_HEADS[self._size] + bytes(self._data[at * self._size : (at + 1) * self._size]))
+
+
+class PackIndex(_Table[Entry]):
+    """A pack index of version 2, as a sequence of entries, where `in`, `index` and `count` also take an id. The error is
+    OTHER_KIND, or one from TOO_SHORT to WRONG_CHECKSUM. The bytes are not copied, so nobody may change them, and an mmap is
+    closed after this is gone."""
+
+    _call = _lib.gix_hash_pack_find
 
     def __init__(self, kind: Kind, data: Buffer):
-        self._kind, self._data, detail = Kind(kind), _Bytes(data), ctypes.c_uint64()
-        _check(_lib.gix_hash_pack_check(kind, *self._data.words, detail), detail.value)
+        self._hold(kind, data)
+        detail = ctypes.c_uint64()
+        _check(_lib.gix_hash_pack_check(*self._given, detail), detail.value)
+
+    @classmethod
+    def of_any_kind(cls, data: Buffer) -> "PackIndex":
+        """The same, of whichever kind the names are. The error is one from TOO_SHORT to WRONG_CHECKSUM."""
+        made = cls.__new__(cls)
+        made._hold(cls.kind_of(data), data)
+        return made
 
     @staticmethod
     def kind_of(data: Buffer) -> Kind:
-        """The kind of the names of a pack index. The error is one from TOO_SHORT to WRONG_CHECKSUM."""
-        view, kind = _Bytes(data), ctypes.c_uint32()
-        if _lib.gix_hash_pack_kind(*view.words, kind):
+        """The kind of the names of a pack index, which is checked whole. The error is one from TOO_SHORT to WRONG_CHECKSUM."""
+        (held, *given), kind = _bytes(data), ctypes.c_uint32()
+        if _lib.gix_hash_pack_kind(*given, kind):
             PackIndex(Kind.SHA1, data)  # raises the same error, with its detail
         return Kind(kind.value)
 
     def __len__(self) -> int:
         count = ctypes.c_size_t()
-        _check(_lib.gix_hash_pack_count(self._kind, *self._data.words, count))
+        _check(_lib.gix_hash_pack_count(*self._given, count))
         return count.value
 
-    @overload
-    def __getitem__(self, at: int) -> Entry: ...
-    @overload
-    def __getitem__(self, at: slice) -> List[Entry]: ...
-    def __getitem__(self, at):
-        if isinstance(at, slice):
-            return [self[each] for each in range(*at.indices(len(self)))]
+    def _item(self, at: int) -> Entry:
         entry = _Entry()
-        _check(_lib.gix_hash_pack_entry(self._kind, *self._data.words, _index(at, len(self)), entry))
+        _check(_lib.gix_hash_pack_entry(*self._given, at, entry))
         return Entry(Id._of(entry.id), entry.offset, entry.crc)
-
-    def find(self, prefix: Prefix) -> range:
-        """The indexes of the names that begin with a prefix. The error is TOO_LONG."""
-        run = _Run()
-        _check(_lib.gix_hash_pack_find(self._kind, *self._data.words, prefix._prefix, run))
-        return range(run.start, run.end)
 
     def abbreviate(self, at: int) -> int:
         """The smallest number of first digits, at least 4, with which no other name begins. The error is NOT_UNIQUE for
         a name that occurs more than once."""
         hex_len = ctypes.c_size_t()
-        at = _index(at, len(self))
-        _check(_lib.gix_hash_pack_abbreviate(self._kind, *self._data.words, at, hex_len))
+        _check(_lib.gix_hash_pack_abbreviate(*self._given, range(len(self))[operator.index(at)], hex_len))
         return hex_len.value

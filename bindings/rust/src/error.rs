@@ -10,19 +10,22 @@ macro_rules! codes {
         #[non_exhaustive]
         pub enum Code {
             $(#[doc = $text] $name = $code,)*
+            /// The library is a later one, and returned the code `detail`, which is not in this list.
+            Unknown = u32::MAX,
         }
 
         impl Code {
             fn of(number: u32) -> Code {
                 match number {
                     $($code => Code::$name,)*
-                    _ => unreachable!("gix_hash.h has no code {number}"),
+                    _ => Code::Unknown,
                 }
             }
 
             fn text(self) -> &'static str {
                 match self {
                     $(Code::$name => $text,)*
+                    Code::Unknown => "the library returned the code `detail`, which is not known",
                 }
             }
         }
@@ -30,7 +33,7 @@ macro_rules! codes {
 }
 
 codes! {
-    BadLength = 1, "no id or prefix has this number of digits";
+    BadLength = 1, "no id or prefix has this length";
     BadDigit = 2, "a byte of the text is not a hex digit";
     BadKind = 3, "the kind is neither SHA-1 nor SHA-256";
     NoRoom = 4, "the buffer is too short";
@@ -38,6 +41,7 @@ codes! {
     OutOfRange = 6, "the index is not below the number of names";
     Unsorted = 7, "the digest at index `detail` is below the one before it";
     NotUnique = 8, "another name is the same";
+    BadType = 9, "the type of the object is not one of the four";
     TooShort = 16, "the bytes are too few for a pack index";
     Version1 = 17, "the pack index has version 1";
     BadMagic = 18, "the bytes do not begin as a pack index";
@@ -66,9 +70,10 @@ pub struct Error {
 impl Error {
     /// Ok for the code 0, and else its error.
     pub(crate) fn check(number: u32, detail: u64) -> Result<(), Error> {
-        match number {
-            0 => Ok(()),
-            _ => Err(Error { code: Code::of(number), detail }),
+        match Code::of(number) {
+            _ if number == 0 => Ok(()),
+            Code::Unknown => Err(Error { code: Code::Unknown, detail: u64::from(number) }),
+            code => Err(Error { code, detail }),
         }
     }
 }
@@ -80,3 +85,15 @@ impl fmt::Display for Error {
 }
 
 impl std::error::Error for Error {}
+
+#[cfg(test)]
+mod tests {
+    use super::*;
+
+    #[test]
+    fn codes_of_a_later_library() {
+        let text = Error::check(99, 5).unwrap_err().to_string();
+        assert_eq!(text, "the library returned the code 99, which is not known");
+        assert_eq!(Error::check(29, 1), Err(Error { code: Code::OtherKind, detail: 1 }));
+    }
+}

@@ -17,6 +17,7 @@ pub enum Kind {
 
 impl Kind {
     /// The number of bytes of a digest.
+    #[must_use]
     pub fn len_in_bytes(self) -> usize {
         match self {
             Kind::Sha1 => 20,
@@ -71,22 +72,24 @@ pub struct Id(pub(crate) raw::Id);
 
 impl Id {
     /// The digest of bytes.
+    #[must_use]
     pub fn digest(kind: Kind, bytes: &[u8]) -> Id {
         let mut id = raw::Id::default();
         // SAFETY: the slice is valid for its length, and a kind is a good one.
-        unsafe { raw::gix_hash_digest(kind as u32, bytes.as_ptr(), bytes.len(), &mut id) };
+        let code = unsafe { raw::gix_hash_digest(kind as u32, bytes.as_ptr(), bytes.len(), &mut id) };
+        debug_assert_eq!(code, 0);
         Id(id)
     }
 
     /// The id with a digest of 20 or 32 bytes, or `None` for another length.
+    #[must_use]
     pub fn from_bytes(digest: &[u8]) -> Option<Id> {
-        let kind = [Kind::Sha1, Kind::Sha256].into_iter().find(|kind| kind.len_in_bytes() == digest.len())?;
-        let mut bytes = [0; 32];
-        bytes[..digest.len()].copy_from_slice(digest);
-        Some(Id(raw::Id { kind: kind as u32, bytes }))
+        let sha1 = <[u8; 20]>::try_from(digest).map(Id::from);
+        sha1.or_else(|_| <[u8; 32]>::try_from(digest).map(Id::from)).ok()
     }
 
     /// The kind.
+    #[must_use]
     pub fn kind(&self) -> Kind {
         if self.0.kind == 1 {
             Kind::Sha1
@@ -96,8 +99,40 @@ impl Id {
     }
 
     /// The 20 or 32 bytes of the digest.
+    #[must_use]
     pub fn as_bytes(&self) -> &[u8] {
         &self.0.bytes[..self.kind().len_in_bytes()]
+    }
+}
+
+impl AsRef<[u8]> for Id {
+    fn as_ref(&self) -> &[u8] {
+        self.as_bytes()
+    }
+}
+
+/// The id with a digest of SHA-1.
+impl From<[u8; 20]> for Id {
+    fn from(digest: [u8; 20]) -> Id {
+        let mut id = raw::Id { kind: Kind::Sha1 as u32, bytes: [0; 32] };
+        id.bytes[..20].copy_from_slice(&digest);
+        Id(id)
+    }
+}
+
+/// The id with a digest of SHA-256.
+impl From<[u8; 32]> for Id {
+    fn from(bytes: [u8; 32]) -> Id {
+        Id(raw::Id { kind: Kind::Sha256 as u32, bytes })
+    }
+}
+
+/// The id with a digest of 20 or 32 bytes. The error is `BadLength`.
+impl TryFrom<&[u8]> for Id {
+    type Error = Error;
+
+    fn try_from(digest: &[u8]) -> Result<Id, Error> {
+        Id::from_bytes(digest).ok_or(Error { code: Code::BadLength, detail: 0 })
     }
 }
 
@@ -118,7 +153,8 @@ impl fmt::Display for Id {
     fn fmt(&self, f: &mut fmt::Formatter<'_>) -> fmt::Result {
         let mut digits = [0; 64];
         // SAFETY: the buffer is valid for its length, which is enough for each kind.
-        unsafe { raw::gix_hash_id_to_hex(&self.0, digits.as_mut_ptr(), digits.len()) };
+        let code = unsafe { raw::gix_hash_id_to_hex(&self.0, digits.as_mut_ptr(), digits.len()) };
+        debug_assert_eq!(code, 0);
         let digits = &digits[..2 * self.kind().len_in_bytes()];
         f.pad(std::str::from_utf8(digits).map_err(|_| fmt::Error)?)
     }
@@ -126,8 +162,8 @@ impl fmt::Display for Id {
 
 impl Ord for Id {
     fn cmp(&self, other: &Id) -> Ordering {
-        // SAFETY: both are structs. Their kinds are good, so there is an order.
-        order(unsafe { raw::gix_hash_id_cmp(&self.0, &other.0) }).unwrap_or(Ordering::Equal)
+        // SAFETY: both are structs.
+        order(unsafe { raw::gix_hash_id_cmp(&self.0, &other.0) }).expect("the kind of an id is good")
     }
 }
 
@@ -152,12 +188,14 @@ pub struct Prefix(pub(crate) raw::Prefix);
 
 impl Prefix {
     /// The number of digits.
+    #[must_use]
     pub fn hex_len(&self) -> usize {
         self.0.hex_len as usize
     }
 
     /// The order of the prefix and as many first digits of an id: `Equal` if and only if the id begins
     /// with the prefix. `None` if the id has fewer digits.
+    #[must_use]
     pub fn cmp_id(&self, id: &Id) -> Option<Ordering> {
         // SAFETY: both are structs.
         order(unsafe { raw::gix_hash_prefix_cmp_id(&self.0, &id.0) })
@@ -173,6 +211,13 @@ impl FromStr for Prefix {
         // SAFETY: the text is valid for its length.
         Error::check(unsafe { raw::gix_hash_prefix_from_hex(text.as_ptr(), text.len(), &mut prefix) }, 0)?;
         Ok(Prefix(prefix))
+    }
+}
+
+/// All digits of an id.
+impl From<Id> for Prefix {
+    fn from(id: Id) -> Prefix {
+        Prefix(raw::Prefix { hex_len: if id.kind() == Kind::Sha1 { 40 } else { 64 }, bytes: id.0.bytes })
     }
 }
 

@@ -7,10 +7,12 @@
 //! ```
 
 mod error;
+mod hasher;
 mod ids;
 mod raw;
 mod tables;
 
 pub use error::{Code, Error};
+pub use hasher::{Hasher, ObjectType};
 pub use ids::{Id, Kind, Prefix};
-pub use tables::{Entry, PackIndex, SortedDigests};
+pub use tables::{Entries, Entry, Ids, PackIndex, SortedDigests};

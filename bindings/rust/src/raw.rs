@@ -29,13 +29,34 @@ pub struct Entry {
     pub id: Id,
 }
 
+#[repr(C)]
+#[derive(Clone)]
+pub struct Hasher {
+    pub kind: u32,
+    pub words: [u32; 8],
+    pub count: u64,
+    pub block: [u8; 64],
+}
+
+// Some are not called, since the bytes and digits of an id are at hand in Rust.
+#[allow(dead_code)]
 extern "C" {
+    pub fn gix_hash_version() -> u32;
     pub fn gix_hash_id_from_hex(text: *const u8, len: usize, id: *mut Id) -> u32;
     pub fn gix_hash_id_to_hex(id: *const Id, buffer: *mut u8, len: usize) -> u32;
+    pub fn gix_hash_id_to_text(id: *const Id, text: *mut u8, len: usize) -> u32;
+    pub fn gix_hash_id_from_bytes(kind: u32, bytes: *const u8, len: usize, id: *mut Id) -> u32;
+    pub fn gix_hash_id_null(kind: u32, id: *mut Id) -> u32;
+    pub fn gix_hash_id_empty_blob(kind: u32, id: *mut Id) -> u32;
+    pub fn gix_hash_id_empty_tree(kind: u32, id: *mut Id) -> u32;
     pub fn gix_hash_id_cmp(one: *const Id, other: *const Id) -> i32;
     pub fn gix_hash_prefix_from_hex(text: *const u8, len: usize, prefix: *mut Prefix) -> u32;
     pub fn gix_hash_prefix_cmp_id(prefix: *const Prefix, id: *const Id) -> i32;
     pub fn gix_hash_digest(kind: u32, bytes: *const u8, len: usize, id: *mut Id) -> u32;
+    pub fn gix_hash_hasher_new(kind: u32, hasher: *mut Hasher) -> u32;
+    pub fn gix_hash_hasher_update(hasher: *mut Hasher, bytes: *const u8, len: usize) -> u32;
+    pub fn gix_hash_hasher_finish(hasher: *const Hasher, id: *mut Id) -> u32;
+    pub fn gix_hash_object_id(kind: u32, object_type: u32, bytes: *const u8, len: usize, id: *mut Id) -> u32;
     pub fn gix_hash_check_sorted(kind: u32, table: *const u8, len: usize, at: *mut usize) -> u32;
     pub fn gix_hash_find(
         kind: u32,

@@ -1,7 +1,9 @@
 //! Sorted tables of digests, and pack indexes. The bytes are borrowed, so nobody changes them after the check.
 
-use crate::{raw, Error, Id, Kind, Prefix};
+use crate::{raw, Code, Error, Id, Kind, Prefix};
+use std::iter::Map;
 use std::ops::Range;
+use std::slice::ChunksExact;
 
 /// Sorted digests of a kind, one after the other, looked up where they are.
 ///
@@ -30,24 +32,33 @@ impl<'a> SortedDigests<'a> {
         Ok(SortedDigests { kind, table })
     }
 
+    /// The kind of the digests.
+    #[must_use]
+    pub fn kind(&self) -> Kind {
+        self.kind
+    }
+
     /// The number of digests.
+    #[must_use]
     pub fn len(&self) -> usize {
         self.table.len() / self.kind.len_in_bytes()
     }
 
     /// Whether there is none.
+    #[must_use]
     pub fn is_empty(&self) -> bool {
         self.len() == 0
     }
 
     /// All digests, in order.
-    pub fn iter(&self) -> impl Iterator<Item = Id> + 'a {
-        self.table.chunks_exact(self.kind.len_in_bytes()).filter_map(Id::from_bytes)
+    pub fn iter(&self) -> Ids<'a> {
+        self.table.chunks_exact(self.kind.len_in_bytes()).map(id_of)
     }
 
     /// The digest at an index, or `None` from the number of digests on.
+    #[must_use]
     pub fn get(&self, at: usize) -> Option<Id> {
-        Id::from_bytes(self.table.chunks_exact(self.kind.len_in_bytes()).nth(at)?)
+        self.iter().nth(at)
     }
 
     /// The indexes of the digests that begin with a prefix. The error is `TooLong`.
@@ -57,6 +68,22 @@ impl<'a> SortedDigests<'a> {
         let code = unsafe { raw::gix_hash_find(kind, table.as_ptr(), table.len(), &prefix.0, &mut run) };
         Error::check(code, 0)?;
         Ok(run.start..run.end)
+    }
+}
+
+/// The digests of a table, in order.
+pub type Ids<'a> = Map<ChunksExact<'a, u8>, fn(&'a [u8]) -> Id>;
+
+fn id_of(digest: &[u8]) -> Id {
+    Id::from_bytes(digest).expect("a digest has the length of its kind")
+}
+
+impl<'a> IntoIterator for &SortedDigests<'a> {
+    type Item = Id;
+    type IntoIter = Ids<'a>;
+
+    fn into_iter(self) -> Ids<'a> {
+        self.iter()
     }
 }
 
@@ -77,7 +104,7 @@ pub struct Entry {
 /// # use nunbirdstand::{Kind, PackIndex};
 /// let bytes = std::fs::read("pack.idx")?;
 /// let index = PackIndex::new(Kind::Sha1, &bytes)?;
-/// for entry in index.iter() {
+/// for entry in &index {
 ///     println!("{} {}", entry.offset, entry.id);
 /// }
 /// # Ok::<(), Box<dyn std::error::Error>>(())
@@ -112,36 +139,41 @@ impl<'a> PackIndex<'a> {
     }
 
     /// The kind of the names.
+    #[must_use]
     pub fn kind(&self) -> Kind {
         self.kind
     }
 
     /// The number of names.
+    #[must_use]
     pub fn len(&self) -> usize {
-        let mut count = 0;
+        let (kind, bytes, mut count) = (self.kind as u32, self.bytes, 0);
         // SAFETY: the slice is valid for its length.
-        unsafe {
-            raw::gix_hash_pack_count(self.kind as u32, self.bytes.as_ptr(), self.bytes.len(), &mut count)
-        };
+        let code = unsafe { raw::gix_hash_pack_count(kind, bytes.as_ptr(), bytes.len(), &mut count) };
+        debug_assert_eq!(code, 0);
         count
     }
 
     /// Whether there is none.
+    #[must_use]
     pub fn is_empty(&self) -> bool {
         self.len() == 0
     }
 
     /// What the index contains about the object at an index, or `None` from the number of names on.
+    #[must_use]
     pub fn get(&self, at: usize) -> Option<Entry> {
         let (kind, bytes, mut entry) = (self.kind as u32, self.bytes, raw::Entry::default());
         // SAFETY: the slice is valid for its length.
         let code = unsafe { raw::gix_hash_pack_entry(kind, bytes.as_ptr(), bytes.len(), at, &mut entry) };
+        debug_assert!(code == 0 || code == Code::OutOfRange as u32);
         (code == 0).then_some(Entry { id: Id(entry.id), offset: entry.offset, crc: entry.crc })
     }
 
     /// All that the index contains, in the order of names.
-    pub fn iter(self) -> impl Iterator<Item = Entry> + 'a {
-        (0..self.len()).map_while(move |at| self.get(at))
+    #[must_use]
+    pub fn iter(&self) -> Entries<'a> {
+        Entries { index: *self, left: 0..self.len() }
     }
 
     /// The indexes of the names that begin with a prefix. The error is `TooLong`.
@@ -162,5 +194,41 @@ impl<'a> PackIndex<'a> {
             unsafe { raw::gix_hash_pack_abbreviate(kind, bytes.as_ptr(), bytes.len(), at, &mut hex_len) };
         Error::check(code, 0)?;
         Ok(hex_len)
+    }
+}
+
+/// What a pack index contains, in the order of names.
+#[derive(Debug, Clone)]
+pub struct Entries<'a> {
+    index: PackIndex<'a>,
+    left: Range<usize>,
+}
+
+impl Iterator for Entries<'_> {
+    type Item = Entry;
+
+    fn next(&mut self) -> Option<Entry> {
+        self.index.get(self.left.next()?)
+    }
+
+    fn size_hint(&self) -> (usize, Option<usize>) {
+        self.left.size_hint()
+    }
+}
+
+impl DoubleEndedIterator for Entries<'_> {
+    fn next_back(&mut self) -> Option<Entry> {
+        self.index.get(self.left.next_back()?)
+    }
+}
+
+impl ExactSizeIterator for Entries<'_> {}
+
+impl<'a> IntoIterator for &PackIndex<'a> {
+    type Item = Entry;
+    type IntoIter = Entries<'a>;
+
+    fn into_iter(self) -> Entries<'a> {
+        self.iter()
     }
 }

@@ -1,4 +1,5 @@
 -- Lemmas of several proofs.
 mod Reading
+mod Recast
 mod Runs
 mod Zeros

@@ -1,5 +1,5 @@
 -- What the structs hold that cross to C, and which codes functions return.
-use Rattle.std.specs.Prelude.{◌≡◌, ◌==◌, ℕ, ℤ, pos, negsuc, nat_lt, Bool, true, false, ◌||◌, ◌++◌, if◌then◌else◌, List, Option, Some, None, Result, Ok, Err, drop, length, option_map, take}
+use Rattle.std.specs.Prelude.{◌≡◌, ◌≢◌, ◌==◌, ◌<◌, ◌≤◌, ◌⊎◌, ℕ, suc, ℤ, pos, negsuc, nat_lt, Bool, true, false, ◌||◌, ◌++◌, if◌then◌else◌, List, ◌∷◌, Option, Some, None, Result, Ok, Err, drop, length, option_map, take}
 use Rattle.std.specs.declared.cmp.Ordering.{Ordering}
 use Rattle.std.specs.declared.cmp.Ordering.TheVariants.{Less, Equal, Greater}
 use Rattle.id_digits.specs.Digits.{digits_of, hex_letter, spelling}
@@ -13,7 +13,7 @@ use Rattle.gix_hash.specs.declared.prefix.from_hex.Error as from_hex
 use Rattle.gix_hash.specs.declared.prefix.from_hex.Error.TheVariants as refused
 use Rattle.gix_hash_c.specs.declared.ids.Id.{Id}
 use Rattle.gix_hash_c.specs.declared.prefixes.Prefix.{Prefix}
-use Rattle.gix_hash_c.specs.declared.codes.TheConstants.{BAD_DIGIT, BAD_KIND, BAD_LENGTH, NO_ROOM, OK}
+use Rattle.gix_hash_c.specs.Codes.{BAD_DIGIT, BAD_KIND, BAD_LENGTH, NO_ROOM, OK}
 
 -- the kind that a number names: 1 is SHA-1, and 2 is SHA-256
 abbrev pub kind_of_number : ℕ → Option Kind
@@ -45,6 +45,13 @@ IdAnswer (Ok read) code old new = (code ≡ OK) × HoldsId read new
 IdAnswer (Err (unread.InvalidHexEncodingLength n)) code old new = (code ≡ BAD_LENGTH) × (new ≡ old)
 IdAnswer (Err unread.Invalid) code old new = (code ≡ BAD_DIGIT) × (new ≡ old)
 
+-- what taking an id from bytes returns, and leaves
+abbrev pub BytesAnswer : Option Kind → List ℕ → ℕ → Id → Id → Type 0
+BytesAnswer None bytes code old new = (code ≡ BAD_KIND) × (new ≡ old)
+BytesAnswer (Some kind) bytes code old new =
+    ((code ≡ BAD_LENGTH) × (length bytes ≢ byte_len_of kind) × (new ≡ old))
+    ⊎ ((code ≡ OK) × (length bytes ≡ byte_len_of kind) × HoldsId (kind_digits kind (digits_of bytes)) new)
+
 -- what reading a prefix returns, and leaves
 abbrev pub PrefixAnswer : Result KindDigits from_hex.Error → ℕ → Prefix → Prefix → Type 0
 PrefixAnswer (Ok read) code old new = (code ≡ OK) × HoldsDigits read.digits new
@@ -60,6 +67,14 @@ SpellingAnswer false id code old new = (code ≡ OK) × (new ≡ spelling hex_le
 abbrev pub HexAnswer : Option KindDigits → ℕ → List ℕ → List ℕ → Type 0
 HexAnswer None code old new = (code ≡ BAD_KIND) × (new ≡ old)
 HexAnswer (Some id) code old new = SpellingAnswer (nat_lt (length old) (hex_len_of id.kind)) id code old new
+
+-- what spelling an id as a text of C returns, and leaves in the buffer: a zero ends the digits
+abbrev pub TextAnswer : Option KindDigits → ℕ → List ℕ → List ℕ → Type 0
+TextAnswer None code old new = (code ≡ BAD_KIND) × (new ≡ old)
+TextAnswer (Some id) code old new =
+    ((code ≡ NO_ROOM) × (length old ≤ hex_len_of id.kind) × (new ≡ old))
+    ⊎ ((code ≡ OK) × (hex_len_of id.kind < length old)
+    × (new ≡ spelling hex_letter id.digits ++ 0 ∷ drop (suc (hex_len_of id.kind)) old))
 
 -- the number of an order
 abbrev pub order_number : Ordering → ℤ
@@ -83,7 +98,7 @@ place_number (Some digits) (Some id) = if nat_lt (hex_len_of id.kind) (length di
 place_number (Some digits) None = no_order
 place_number None id = no_order
 
--- what hashing returns, and leaves
-abbrev pub DigestAnswer : ℕ → Option KindDigits → Id → Id → Type 0
-DigestAnswer code (Some digest) old new = (code ≡ OK) × HoldsId digest new
-DigestAnswer code None old new = (code ≡ BAD_KIND) × (new ≡ old)
+-- what making an id of a kind returns, and leaves. None stands for a number of no kind
+abbrev pub KindIdAnswer : Option KindDigits → ℕ → Id → Id → Type 0
+KindIdAnswer None code old new = (code ≡ BAD_KIND) × (new ≡ old)
+KindIdAnswer (Some id) code old new = (code ≡ OK) × HoldsId id new

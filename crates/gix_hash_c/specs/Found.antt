@@ -8,7 +8,7 @@ use Rattle.id_lookup.specs.Sorted.{IsSortedIds, IsFirstUnsorted}
 use Rattle.id_lookup.specs.declared.search.Run as found
 use Rattle.pack_index.specs.Format.{digests_in}
 use Rattle.gix_hash_c.specs.declared.look_up.Run.{Run}
-use Rattle.gix_hash_c.specs.declared.codes.TheConstants.{BAD_KIND, BAD_LENGTH, OK, TOO_LONG, UNSORTED}
+use Rattle.gix_hash_c.specs.Codes.{BAD_KIND, BAD_LENGTH, OK, TOO_LONG, UNSORTED}
 
 -- a run of C's as one of `id_lookup`
 abbrev pub run_in : Run → found.Run

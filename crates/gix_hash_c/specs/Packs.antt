@@ -14,24 +14,24 @@ use Rattle.gix_hash_c.specs.Face.{HoldsId}
 use Rattle.gix_hash_c.specs.Found.{IsRunIfSorted}
 use Rattle.gix_hash_c.specs.declared.look_up.Run.{Run}
 use Rattle.gix_hash_c.specs.declared.packs.Entry.{Entry}
-use Rattle.gix_hash_c.specs.declared.codes.TheConstants.{BAD_KIND, BAD_LENGTH, BAD_MAGIC, BAD_VERSION, LONG_OUT_OF_ORDER, NAMES_FALL, NOT_UNIQUE, NO_OFFSET, OFFSET_IN_HEADER, OFFSET_TOO_HIGH, OK, OTHER_KIND, OUT_OF_RANGE, SPARE_LONG, TOO_LONG, TOO_SHORT, VERSION_1, WRONG_CHECKSUM, WRONG_COUNT, WRONG_LENGTH}
+use Rattle.gix_hash_c.specs.Codes.{BAD_KIND, BAD_LENGTH, NOT_UNIQUE, OK, OUT_OF_RANGE, TOO_LONG}
 
 -- the number of a cause for which bytes are no pack index
 abbrev pub cause_number : Error → ℕ
-cause_number TooShort = TOO_SHORT
-cause_number Version1 = VERSION_1
-cause_number BadMagic = BAD_MAGIC
-cause_number (BadVersion version) = BAD_VERSION
-cause_number WrongLength = WRONG_LENGTH
-cause_number (NamesFall at) = NAMES_FALL
-cause_number (WrongCount byte) = WRONG_COUNT
-cause_number (NoOffset at) = NO_OFFSET
-cause_number (LongOutOfOrder at) = LONG_OUT_OF_ORDER
-cause_number (SpareLong number) = SPARE_LONG
-cause_number (OffsetInHeader at) = OFFSET_IN_HEADER
-cause_number (OffsetTooHigh at) = OFFSET_TOO_HIGH
-cause_number WrongChecksum = WRONG_CHECKSUM
-cause_number (OtherKind other) = OTHER_KIND
+cause_number TooShort = 16
+cause_number Version1 = 17
+cause_number BadMagic = 18
+cause_number (BadVersion version) = 19
+cause_number WrongLength = 20
+cause_number (NamesFall at) = 21
+cause_number (WrongCount byte) = 22
+cause_number (NoOffset at) = 23
+cause_number (LongOutOfOrder at) = 24
+cause_number (SpareLong number) = 25
+cause_number (OffsetInHeader at) = 26
+cause_number (OffsetTooHigh at) = 27
+cause_number WrongChecksum = 28
+cause_number (OtherKind other) = 29
 
 -- and its detail, if it has one
 abbrev pub detail_of : Error → ℕ → ℕ
@@ -60,16 +60,20 @@ PackKindAnswer bytes code old new =
     ⊎ (((code ≡ OK) × IsPackIndex Sha256 bytes × (¬ IsPackIndex Sha1 bytes) × (new ≡ number_of Sha256))
     ⊎ ((new ≡ old) × (¬ IsPackIndex Sha256 bytes) × ((e : Error) × IsFault Sha1 bytes e × (code ≡ cause_number e))))
 
+-- the head is that of an index, and the tables have its lengths: what each call tests
+abbrev pub IsLaidOut : Kind → List ℕ → Type 0
+IsLaidOut kind bytes = HasHead kind bytes × HasTables kind bytes
+
 -- the number of a cause for which the bytes are no pack index, one of those that lie in the head and the lengths of the tables
 abbrev pub IsTablesFault : Kind → List ℕ → ℕ → Type 0
 IsTablesFault kind bytes code =
-    (e : Error) × IsFault kind bytes e × (¬ (HasHead kind bytes × HasTables kind bytes)) × (code ≡ cause_number e)
+    (e : Error) × IsFault kind bytes e × (¬ IsLaidOut kind bytes) × (code ≡ cause_number e)
 
 -- how many names there are
 abbrev pub LenAnswer : Option Kind → List ℕ → ℕ → ℕ → ℕ → Type 0
 LenAnswer None bytes code old new = (code ≡ BAD_KIND) × (new ≡ old)
 LenAnswer (Some kind) bytes code old new =
-    ((code ≡ OK) × HasHead kind bytes × HasTables kind bytes × (new ≡ length (names_in kind bytes)))
+    ((code ≡ OK) × IsLaidOut kind bytes × (new ≡ length (names_in kind bytes)))
     ⊎ ((new ≡ old) × IsTablesFault kind bytes code)
 
 -- what the tables contain at an index
@@ -81,13 +85,13 @@ pub record IsEntry (kind : Kind) (bytes : List ℕ) (at : ℕ) (entry : Entry) :
 -- why there is none
 abbrev pub IsNoEntry : Kind → List ℕ → ℕ → ℕ → Type 0
 IsNoEntry kind bytes at code =
-    ((code ≡ OUT_OF_RANGE) × HasTables kind bytes × (count_in bytes ≤ at))
-    ⊎ (((code ≡ NO_OFFSET) × HasTables kind bytes × (at < count_in bytes) × (¬ HasOffset kind bytes at)) ⊎ IsTablesFault kind bytes code)
+    ((code ≡ OUT_OF_RANGE) × IsLaidOut kind bytes × (count_in bytes ≤ at))
+    ⊎ (((code ≡ cause_number (NoOffset at)) × IsLaidOut kind bytes × (at < count_in bytes) × (¬ HasOffset kind bytes at)) ⊎ IsTablesFault kind bytes code)
 
 abbrev pub EntryAnswer : Option Kind → List ℕ → ℕ → ℕ → Entry → Entry → Type 0
 EntryAnswer None bytes at code old new = (code ≡ BAD_KIND) × (new ≡ old)
 EntryAnswer (Some kind) bytes at code old new =
-    ((code ≡ OK) × HasTables kind bytes × (at < count_in bytes) × HasOffset kind bytes at × IsEntry kind bytes at new)
+    ((code ≡ OK) × IsLaidOut kind bytes × (at < count_in bytes) × HasOffset kind bytes at × IsEntry kind bytes at new)
     ⊎ ((new ≡ old) × IsNoEntry kind bytes at code)
 
 -- the run of a prefix
@@ -96,7 +100,7 @@ PackFindAnswer None bytes prefix code old new = (code ≡ BAD_KIND) × (new ≡ 
 PackFindAnswer (Some kind) bytes None code old new = (code ≡ BAD_LENGTH) × (new ≡ old)
 PackFindAnswer (Some kind) bytes (Some digits) code old new =
     ((code ≡ TOO_LONG) × (hex_len_of kind < length digits) × (new ≡ old))
-    ⊎ ((length digits ≤ hex_len_of kind) × (((code ≡ OK) × HasTables kind bytes × IsRunIfSorted digits (names_in kind bytes) new)
+    ⊎ ((length digits ≤ hex_len_of kind) × (((code ≡ OK) × IsLaidOut kind bytes × IsRunIfSorted digits (names_in kind bytes) new)
     ⊎ ((new ≡ old) × IsTablesFault kind bytes code)))
 
 -- as many first digits are the shortest name at an index, if the names are sorted
@@ -107,12 +111,12 @@ IsShortest kind bytes at hex_len =
 -- why there is none
 abbrev pub IsNameless : Kind → List ℕ → ℕ → ℕ → Type 0
 IsNameless kind bytes at code =
-    ((code ≡ NOT_UNIQUE) × HasTables kind bytes × (at < count_in bytes)
+    ((code ≡ NOT_UNIQUE) × IsLaidOut kind bytes × (at < count_in bytes)
     × (IsSortedIds (names_in kind bytes) → (name : List ℕ) → ¬ IsShortestName (names_in kind bytes) at name))
-    ⊎ (((code ≡ OUT_OF_RANGE) × HasTables kind bytes × (count_in bytes ≤ at)) ⊎ IsTablesFault kind bytes code)
+    ⊎ (((code ≡ OUT_OF_RANGE) × IsLaidOut kind bytes × (count_in bytes ≤ at)) ⊎ IsTablesFault kind bytes code)
 
 abbrev pub ShortestAnswer : Option Kind → List ℕ → ℕ → ℕ → ℕ → ℕ → Type 0
 ShortestAnswer None bytes at code old new = (code ≡ BAD_KIND) × (new ≡ old)
 ShortestAnswer (Some kind) bytes at code old new =
-    ((code ≡ OK) × HasTables kind bytes × (at < count_in bytes) × (4 ≤ new) × (new ≤ hex_len_of kind) × IsShortest kind bytes at new)
+    ((code ≡ OK) × IsLaidOut kind bytes × (at < count_in bytes) × (4 ≤ new) × (new ≤ hex_len_of kind) × IsShortest kind bytes at new)
     ⊎ ((new ≡ old) × IsNameless kind bytes at code)

@@ -1,4 +1,5 @@
-//! The codes that functions return. Clauses, the header and the bindings have these numbers.
+//! The codes that functions return. Definitions of clauses, the header and the bindings have the
+//! same numbers.
 
 ghost use Rattle.std.specs.Prelude.{◌≡◌};
 ghost use Rattle.gix_hash_c.specs.Face.{kind_of_number, order_number};
@@ -23,6 +24,8 @@ pub(crate) const OUT_OF_RANGE: u32 = 6;
 pub(crate) const UNSORTED: u32 = 7;
 
 pub(crate) const NOT_UNIQUE: u32 = 8;
+
+pub(crate) const BAD_TYPE: u32 = 9;
 
 pub(crate) const TOO_SHORT: u32 = 16;
 

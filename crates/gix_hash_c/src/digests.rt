@@ -3,7 +3,7 @@
 ghost use Rattle.std.specs.Prelude.{option_map};
 ghost use Rattle.gix_hash.specs.Hashing.{digest};
 ghost use Rattle.gix_hash.specs.IdReading.{whole_of};
-ghost use Rattle.gix_hash_c.specs.Face.{DigestAnswer, kind_of_number};
+ghost use Rattle.gix_hash_c.specs.Face.{KindIdAnswer, kind_of_number};
 
 use crate::codes::{BAD_KIND, OK, kind_of};
 use crate::ids::{Id, to_c};
@@ -12,8 +12,8 @@ use gix_hash::digest_of;
 /// The digest of some bytes. `BAD_KIND` leaves `id` as it was.
 #[unsafe(no_mangle)]
 pub extern "C" fn gix_hash_digest(kind: u32, bytes: &[u8], id: &mut Id) -> u32
-    ensures { DigestAnswer result (option_map (λ kind. whole_of (digest kind bytes.now))
-        (kind_of_number kind)) id.old id.new }
+    ensures { KindIdAnswer (option_map (λ kind. whole_of (digest kind bytes.now))
+        (kind_of_number kind)) result id.old id.new }
 {
     match kind_of(kind) {
         Some(kind) => {

@@ -1,11 +1,13 @@
 //! Ids for C.
 
-ghost use Rattle.std.specs.Prelude.{◌≡◌, MatchOption, Some, None, take};
+ghost use Rattle.std.specs.Prelude.{◌≡◌, MatchOption, Some, None, option_map, take};
 ghost use Rattle.id_digits.specs.Digits.{digits_of, hex_letter};
 ghost use Rattle.gix_hash.specs.IdReading.{full_read, whole_of};
 ghost use Rattle.gix_hash.specs.Kind.{byte_len_of};
 ghost use Rattle.gix_hash.specs.Oid.{oid_digits, oid_kind};
-ghost use Rattle.gix_hash_c.specs.Face.{HoldsId, HexAnswer, IdAnswer, id_in, ids_order};
+ghost use Rattle.gix_hash.specs.Prefix.{kind_digits};
+ghost use Rattle.gix_hash.specs.WellKnown.{empty_blob_digits, empty_tree_digits, null_digits};
+ghost use Rattle.gix_hash_c.specs.Face.{BytesAnswer, HexAnswer, HoldsId, IdAnswer, KindIdAnswer, TextAnswer, id_in, ids_order, kind_of_number};
 
 use crate::codes::{BAD_DIGIT, BAD_KIND, BAD_LENGTH, NO_ORDER, NO_ROOM, OK, kind_of, order_of};
 use gix_hash::{ObjectId, decode, oid};
@@ -52,6 +54,88 @@ pub extern "C" fn gix_hash_id_to_hex(id: &Id, buffer: &mut [u8]) -> u32
             id.put_hex(buffer);
             OK
         }
+    }
+}
+
+/// Writes the 40 or 64 lowercase hex digits of an id into the front of a buffer, and a zero after
+/// them. The bytes after it stay. An error leaves the buffer as it was: `BAD_KIND`, or else
+/// `NO_ROOM`.
+#[unsafe(no_mangle)]
+pub extern "C" fn gix_hash_id_to_text(id: &Id, text: &mut [u8]) -> u32
+    ensures { TextAnswer (id_in id.now) result text.old text.new }
+{
+    match of_c(id) {
+        None => BAD_KIND,
+        Some(id) => {
+            let len = id.kind().len_in_hex();
+            if text.len() <= len {
+                return NO_ROOM;
+            }
+            id.put_hex(text);
+            text[len] = 0;
+            OK
+        }
+    }
+}
+
+/// Takes an id from the bytes of a digest. An error leaves `id` as it was: `BAD_KIND`, or else
+/// `BAD_LENGTH`.
+#[unsafe(no_mangle)]
+pub extern "C" fn gix_hash_id_from_bytes(kind: u32, bytes: &[u8], id: &mut Id) -> u32
+    ensures { BytesAnswer (kind_of_number kind) bytes.now result id.old id.new }
+{
+    let Some(kind) = kind_of(kind) else {
+        return BAD_KIND;
+    };
+    if bytes.len() != kind.len_in_bytes() {
+        return BAD_LENGTH;
+    }
+    *id = to_c(&ObjectId::from_bytes_or_panic(bytes));
+    OK
+}
+
+/// The id whose digits are all zero. `BAD_KIND` leaves `id` as it was.
+#[unsafe(no_mangle)]
+pub extern "C" fn gix_hash_id_null(kind: u32, id: &mut Id) -> u32
+    ensures { KindIdAnswer (option_map (λ kind. kind_digits kind (null_digits kind))
+        (kind_of_number kind)) result id.old id.new }
+{
+    match kind_of(kind) {
+        Some(kind) => {
+            *id = to_c(&kind.null());
+            OK
+        }
+        None => BAD_KIND,
+    }
+}
+
+/// The id of the empty blob. `BAD_KIND` leaves `id` as it was.
+#[unsafe(no_mangle)]
+pub extern "C" fn gix_hash_id_empty_blob(kind: u32, id: &mut Id) -> u32
+    ensures { KindIdAnswer (option_map (λ kind. kind_digits kind (empty_blob_digits kind))
+        (kind_of_number kind)) result id.old id.new }
+{
+    match kind_of(kind) {
+        Some(kind) => {
+            *id = to_c(&kind.empty_blob());
+            OK
+        }
+        None => BAD_KIND,
+    }
+}
+
+/// The id of the empty tree. `BAD_KIND` leaves `id` as it was.
+#[unsafe(no_mangle)]
+pub extern "C" fn gix_hash_id_empty_tree(kind: u32, id: &mut Id) -> u32
+    ensures { KindIdAnswer (option_map (λ kind. kind_digits kind (empty_tree_digits kind))
+        (kind_of_number kind)) result id.old id.new }
+{
+    match kind_of(kind) {
+        Some(kind) => {
+            *id = to_c(&kind.empty_tree());
+            OK
+        }
+        None => BAD_KIND,
     }
 }
 

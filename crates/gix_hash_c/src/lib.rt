@@ -6,7 +6,11 @@
 
 mod codes;
 mod digests;
+mod hashers;
 mod ids;
 mod look_up;
+mod objects;
 mod packs;
 mod prefixes;
+mod states;
+mod version;

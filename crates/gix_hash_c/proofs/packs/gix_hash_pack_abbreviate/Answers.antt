@@ -10,4 +10,4 @@ shortest_at-requires c =
 pub returns-in-None : goal.returns-in-None
 returns-in-None c =
     let inside : c.args.at < count_in c.args.bytes.now = omega (arith, c.if-at-count_in.false, c.count_in.ensures) in
-    rw (sym c.in-Some.ensures) (inr (refl, inl (refl, c.in_default-tables.ensures.tables, inside, rw c.names.ensures at (c.in-None.ensures.none refl))))
+    rw (sym c.in-Some.ensures) (inr (refl, inl (refl, (c.in_default-tables.ensures.head, c.in_default-tables.ensures.tables), inside, rw c.names.ensures at (c.in-None.ensures.none refl))))

@@ -6,7 +6,6 @@ pub returns-in-Ok : goal.returns-in-Ok
 returns-in-Ok c =
     rw (sym c.in-Some.ensures) (inl (
       refl,
-      c.in-Ok.ensures.head,
-      c.in-Ok.ensures.tables,
+      (c.in-Ok.ensures.head, c.in-Ok.ensures.tables),
       c.count_in.ensures ∙ sym (length-names_in c.in-Some.kind c.args.bytes.now c.in-Ok.ensures.tables),
     ))

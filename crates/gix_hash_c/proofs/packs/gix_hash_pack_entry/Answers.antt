@@ -11,7 +11,7 @@ returns-then-not-has_offset c =
       refl,
       inr (inl (
         refl,
-        c.in_default-tables.ensures.tables,
+        (c.in_default-tables.ensures.head, c.in_default-tables.ensures.tables),
         inside,
         λ has. false≢true (sym c.if-not-has_offset.true ∙ c.has_offset.ensures.1 has),
       )),

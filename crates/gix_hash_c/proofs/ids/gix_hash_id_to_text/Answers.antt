@@ -1,0 +1,19 @@
+use Rattle.std.proofs.Common.{◌≡◌, ◌<◌, ◌++◌, ◌∷◌, ℕ, List, suc, drop, length, get_or, inr, refl, sym, ap, ◌∙◌, arith, drop-cons}
+use Rattle.std.proofs.lemmas.List.{set_at}
+use Rattle.id_digits.specs.Digits.{hex_letter, spelling}
+use Rattle.id_digits.proofs.Spellings.{length-spelling}
+use Rattle.gix_hash.specs.Kind.{hex_len_of}
+use Rattle.gix_hash.specs.Oid.{oid_digits, oid_kind}
+use Rattle.gix_hash_c.proofs.ids.gix_hash_id_to_text.Goals as goal
+
+pub returns-else-text-len : goal.returns-else-text-len
+returns-else-text-len c =
+    let old = c.args.text.now in let n = hex_len_of (oid_kind c.in-Some.id) in let digits = oid_digits c.in-Some.id in
+    let front = spelling hex_letter digits in
+    let at : c.len_in_hex-len.result ≡ n = c.len_in_hex-len.ensures ∙ ap hex_len_of c.kind.ensures.value in
+    let room : n < length old = omega (arith, c.if-text-len.false, at) in
+    let len : length front ≡ n = length-spelling hex_letter digits ∙ c.put_hex.ensures.len in
+    let written : c.put_hex.new.buffer ≡ front ++ get_or old n 0 ∷ drop (suc n) old =
+    c.put_hex.ensures.value ∙ ap (λ (rest : List ℕ). front ++ rest) (drop-cons old n 0 room) in
+    rw (c.in-Some.ensures, written, at)
+    (inr (refl, room, set_at front (get_or old n 0) (drop (suc n) old) 0 n len))

@@ -1,0 +1,11 @@
+-- The states of the hash functions, by their fields.
+use Rattle.sha1.specs.declared.Sha1.{Sha1}
+use Rattle.sha2.specs.declared.Sha256.{Sha256}
+use Rattle.gix_hash_c.specs.declared.states.Sha1Fields.{Sha1Fields}
+use Rattle.gix_hash_c.specs.declared.states.Sha256Fields.{Sha256Fields}
+
+abbrev pub sha1_of : Sha1Fields → Sha1
+sha1_of fields = record { h = fields.h; buffer = fields.buffer; total = fields.total }
+
+abbrev pub sha256_of : Sha256Fields → Sha256
+sha256_of fields = record { core = record { h = fields.core.h; buffer = fields.core.buffer; total = fields.core.total } }
