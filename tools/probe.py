@@ -17,9 +17,9 @@ from pathlib import Path
 
 ROOT = Path(__file__).resolve().parent.parent
 PROGRAM = "probe"
-# The environment of all that is started: a git hook's own variables would lead git to another repository, and a user's
-# configuration would change what git does.
-CLEAN = {key: value for key, value in os.environ.items() if not key.startswith("GIT_")}
+# The environment of all that is started: a git hook's own variables would lead git to another repository, a user's
+# configuration would change what git does, and a calling make's variables what make does.
+CLEAN = {key: value for key, value in os.environ.items() if not key.startswith(("GIT_", "MAKE", "MFLAGS"))}
 CLEAN |= {"GIT_CONFIG_GLOBAL": os.devnull, "GIT_CONFIG_NOSYSTEM": "1"}
 # What takes longer than so many seconds has failed.
 LIMIT = 1800
