@@ -44,18 +44,19 @@ SearchFails search prefix input input' old new e =
 abbrev pub IsDrained : Option (List ℕ) → Option (List ℕ) → Type 0
 IsDrained input input' = (bytes : List ℕ) × (HasReadAll input input' bytes ⊎ HasReadTooMuch input input' bytes)
 
--- the input is read on after an error that a search reports before the end of its list, and after no other
-abbrev pub ReadsOn : SearchError → Option (List ℕ) → Option (List ℕ) → Type 0
-ReadsOn (search.Prefix error) input input' = IsDrained input input'
-ReadsOn (search.BadLine n error) input input' = IsDrained input input'
-ReadsOn error input input' = input' ≡ input
+-- what a search that stopped with this error has read in the end: all of the input if its prefix is rejected, all after the chunk in which a bad line
+-- ends, and nothing more after another error
+abbrev pub ReadsOn : SearchError → Option (List ℕ) → Option (List ℕ) → Option (List ℕ) → Type 0
+ReadsOn (search.Prefix error) input stop input' = IsDrained input input'
+ReadsOn (search.BadLine n error) input stop input' = IsDrained stop input'
+ReadsOn error input stop input' = input' ≡ stop
 
 -- a search that reads its input to the end fails: at a read, with its own error where it stopped, or at the flush
 abbrev pub SearchToEndFails : Search → List ℕ → Option (List ℕ) → Option (List ℕ) → Option (List ℕ) → Option (List ℕ) → CommandError → Type 0
 SearchToEndFails search prefix input input' old new e =
     (e ≡ command.Input)
     ⊎ ((error : SearchError) × (stop : Option (List ℕ)) × (e ≡ error_of_search error)
-    × Fails search prefix (From max_len input stop) error old new × ReadsOn error stop input')
+    × Fails search prefix (From max_len input stop) error old new × ReadsOn error input stop input')
     ⊎ ((e ≡ command.Output) × (count : ℕ) × Finds search prefix (From max_len input input') old new count)
 
 -- all of the input was read, and what is made of it was written

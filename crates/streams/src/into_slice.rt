@@ -79,13 +79,21 @@ impl Sink for IntoSlice<'_> {
     }
 }
 
-impl BufferedSink for IntoSlice<'_> {
-    ghost use Rattle.std.specs.Prelude.{[]};
+impl<'a> BufferedSink for IntoSlice<'a> {
+    ghost use Rattle.std.specs.Prelude.{[], IsOk, OnOk, is_err};
+    ghost use Rattle.std.specs.Io.KnownBytes.{Keeps};
+    ghost use Rattle.streams.specs.Devices.{slice_taken, slice_failed};
 
     ghost kept_back = { λ _. [] };
 
     /// Does nothing, since the bytes are already in the slice.
-    fn flush(&mut self) -> io::Result<()> {
+    fn flush(&mut self) -> io::Result<()>
+        ensures bytes { Keeps (Some (slice_taken self.old)) (Some (slice_taken self.new)) }
+        ensures failed { slice_failed self.new ≡ (slice_failed self.old || is_err result) }
+        ensures flushed { OnOk result
+            (⟦<IntoSlice<'a> as BufferedSink>⟧.kept_back self.new ≡ []) }
+        ensures ok { IsOk result }
+    {
         Ok(())
     }
 }

@@ -1,6 +1,8 @@
 //! Devices over the library's readers and writers.
 
-ghost use Rattle.std.specs.Prelude.{◌≡◌, ◌||◌, false, is_err, OnErr};
+ghost use Rattle.std.specs.Prelude.{◌≡◌, ◌<◌, ◌||◌, None, false, is_err, length, IfOk, IfSome, IsSome, OnErr};
+ghost use Rattle.std.specs.IoError.{error_kind};
+ghost use Rattle.std.specs.declared.io.ErrorKind.{ErrorKind};
 ghost use Rattle.std.specs.Io.{ReadsAtMost, WritesAtMost};
 ghost use Rattle.std.specs.Io.KnownBytes.{ReadConsumes, WriteAppends};
 ghost use Rattle.streams.specs.Writing.{write_fails};
@@ -112,6 +114,11 @@ impl<T: io::Write> Sink for Plain<T> {
             ≡ (plain_failed self.old || write_fails result bytes.now) }
         ensures error { OnErr result
             (plain_error self.new ≡ error_after (plain_error self.old) result) }
+        ensures write_zero { plain_error self.old ≡ None → IfOk result (λ count. count ≡ 0
+            → 0 < length bytes.now → IfSome (plain_error self.new)
+            (λ error. error_kind error ≡ ErrorKind.WriteZero)) }
+        ensures first { IsSome (plain_error self.old)
+            → plain_error self.new ≡ plain_error self.old }
     {
         let count = self.inner.write(bytes);
         let error = match &count {
@@ -130,12 +137,20 @@ impl<T: io::Write> Sink for Plain<T> {
 
 impl<W: io::Write + Drop, A: Allocator> BufferedSink for Plain<BufWriter<W, A>> {
     ghost use Rattle.std.specs.Io.Buffered.{writer_buffer};
-    ghost use Rattle.streams.specs.Devices.{plain_inner};
+    ghost use Rattle.std.specs.Prelude.{[], OnOk};
+    ghost use Rattle.std.specs.Io.KnownBytes.{Keeps};
+    ghost use Rattle.streams.specs.Devices.{error_after, plain_error, plain_failed, plain_inner};
 
     ghost kept_back = { λ s. writer_buffer (plain_inner s) };
 
     /// Flushes the writer.
-    fn flush(&mut self) -> io::Result<()> {
+    fn flush(&mut self) -> io::Result<()>
+        ensures bytes { Keeps (⟦<Plain<BufWriter<W, A>> as Sink>⟧.taken self.old)
+            (⟦<Plain<BufWriter<W, A>> as Sink>⟧.taken self.new) }
+        ensures failed { plain_failed self.new ≡ (plain_failed self.old || is_err result) }
+        ensures flushed { OnOk result (writer_buffer (plain_inner self.new) ≡ []) }
+        ensures error { plain_error self.new ≡ error_after (plain_error self.old) result }
+    {
         let flushed = self.inner.flush();
         self.error = self.error.or(flushed.err());
         flushed
