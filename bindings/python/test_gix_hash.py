@@ -2,6 +2,7 @@
 
 import array
 import bisect
+import collections
 import copy
 import doctest
 import hashlib
@@ -153,6 +154,10 @@ class Bindings(unittest.TestCase):
             found = {**os.environ, "GIX_HASH_LIBRARY": path, "PYTHONPATH": os.pathsep.join(sys.path)}
             ran = subprocess.run([sys.executable, "-c", "import gix_hash"], env=found, stderr=subprocess.PIPE, text=True)
             self.assertRegex(ran.stderr, f"ImportError: .*{why}.*GIX_HASH_LIBRARY")
+        source = pathlib.Path(gix_hash.__file__).read_text(encoding="utf-8")
+        for version in ("9.9.0", "0.3.9", "0.5.0"):
+            with self.assertRaisesRegex(ImportError, f"is not {version[:3]}: set GIX_HASH_LIBRARY"):
+                exec(source.replace(f'"{gix_hash.__version__}"', f'"{version}"'), {"__name__": "other"})
         found = {}
         exec("from gix_hash import *", found)
         public = {"Buffer", "Code", "Entry", "Error", "Hasher", "Id", "Kind", "ObjectType", "PackIndex", "Prefix", "SortedDigests"}
@@ -161,10 +166,12 @@ class Bindings(unittest.TestCase):
     def test_hostile_calls(self):
         """Calls that are wrong, and the exception of each."""
         data = index_of(Kind.SHA1)
-        index, table, id, prefix = PackIndex(Kind.SHA1, memoryview(data)), SortedDigests(Kind.SHA1, bytearray(40)), Id(EMPTY), Prefix("e")
+        index, table = PackIndex(Kind.SHA1, memoryview(data)), SortedDigests(Kind.SHA1, bytearray(40))
+        id, prefix = Id(EMPTY), Prefix("e")
         strided, floats = memoryview(bytes(40))[::2], array.array("f", [1.0] * 5)
         rows = [(TypeError, call, wrong) for call in (Id, Prefix) for wrong in (40, None, EMPTY.encode())]
-        rows += [(Error, Id, text) for text in ("\ud800" * 40, "\xe9" * 40, "\uff11" * 40, "\0" * 40, " " + EMPTY[:40], EMPTY[:40] + "\n")]
+        rows += [(Error, Id, letter * 40) for letter in ("\ud800", "\xe9", "\uff11", "\0", " ")]
+        rows += [(Error, Id, text) for text in (" " + EMPTY[:40], EMPTY[:40] + "\n")]
         rows += [(Error, Prefix, text) for text in ("\ud800", "\xe9", " e", "e ", "+1", "0x", "e" * 65)]
         for call in (Id.digest, SortedDigests, PackIndex):
             rows += [(TypeError, call, kind, data) for kind in (True, None, 1.0, "sha1")]
@@ -172,14 +179,21 @@ class Bindings(unittest.TestCase):
             rows += [(TypeError, call, Kind.SHA1, wrong) for wrong in (40, None, EMPTY, 1.5, floats, [1])]
             rows += [(BufferError, call, Kind.SHA1, strided)]
         for call in (Id.from_bytes, PackIndex.kind_of, PackIndex.of_any_kind):
-            rows += [(TypeError, call, wrong) for wrong in (40, None, EMPTY, 1.5, floats, [1])] + [(BufferError, call, strided)]
+            rows += [(TypeError, call, wrong) for wrong in (40, None, EMPTY, 1.5, floats, [1])]
+            rows += [(BufferError, call, strided)]
+        for call in (Id.null, Id.empty_blob, Id.empty_tree, Hasher):
+            rows += [(TypeError, call, True), (ValueError, call, 0), (ValueError, call, 2**32 + 1)]
+        rows += [(ValueError, Id.of_object, Kind.SHA1, wrong, b"") for wrong in (0, 5, 2**32 + 1)]
+        rows += [(TypeError, Id.of_object, Kind.SHA1, wrong, b"") for wrong in ("blob", None, True)]
+        rows += [(TypeError, Hasher(Kind.SHA1).update, "abc"), (TypeError, copy.deepcopy, Hasher(Kind.SHA1))]
         rows += [(Error, Id.from_bytes, bytes(n)) for n in range(100) if n not in (20, 32)]
         rows += [(TypeError, call, wrong) for call in (index.find, table.find) for wrong in ("e6", None, id)]
         rows += [(TypeError, prefix.cmp, wrong) for wrong in ("e6", None, prefix)]
         for call in (index.__getitem__, index.abbreviate, table.__getitem__):
             rows += [(TypeError, call, wrong) for wrong in (1.0, "1", None)]
             rows += [(IndexError, call, at) for at in (300, -301, 2**63, 2**64, -(2**64))]
-        rows += [(ValueError, call, wrong) for call in (index.index, table.index) for wrong in (id, "e6", None, Id(EMPTY[:40]))]
+        for call in (index.index, table.index):
+            rows += [(ValueError, call, wrong) for wrong in (id, "e6", None, Id(EMPTY[:40]))]
         rows += [(TypeError, index.abbreviate, slice(1)), (TypeError, copy.deepcopy, index), (TypeError, pickle.dumps, index)]
         rows += [(AttributeError, setattr, id, "kind", Kind.SHA1), (TypeError, sorted, [id, EMPTY])]
         for wanted, call, *given in rows:
@@ -209,11 +223,11 @@ class Bindings(unittest.TestCase):
                     self.assertRaises(IndexError, list_of.__getitem__, at)
                 self.assertEqual([list_of.index(it) for it in each], list(range(300)))
                 self.assertTrue(all(it in list_of and list_of.count(it) == 1 for it in each))
+            fronts = collections.Counter(name[:length] for name in names for length in range(4, 65))
             for at, name in enumerate(names):
                 hex_len = index.abbreviate(at)
                 self.assertEqual((index.index(Id(name)), Id(name) in index, index.count(Id(name))), (at, True, 1))
-                shared = [sum(other.startswith(name[:length]) for other in names) for length in range(4, 41)]
-                self.assertEqual(hex_len, 4 + shared.index(1))
+                self.assertEqual(hex_len, next(length for length in range(4, 65) if fronts[name[:length]] == 1))
                 for digits in (name[:1], name[:2], name[:hex_len], name):
                     wanted = range(bisect.bisect_left(names, digits), bisect.bisect_left(names, digits + "g"))
                     self.assertEqual((index.find(Prefix(digits)), table.find(Prefix(digits))), (wanted, wanted))
@@ -223,9 +237,11 @@ class Bindings(unittest.TestCase):
             self.fails(Code.BAD_VERSION, 9, PackIndex, kind, data[:7] + b"\x09" + data[8:])
             self.fails(Code.BAD_VERSION, 9, PackIndex.kind_of, data[:7] + b"\x09" + data[8:])
             self.assertNotIn(index[0]._replace(crc=index[0].crc ^ 1), index)
+
+    def test_tables(self):
         repeats = SortedDigests(Kind.SHA1, b"1" * 60 + b"2" * 20)
         one = repeats[0]
-        self.assertEqual((repeats.count(one), repeats.index(one), repeats.index(one, 1), repeats.index(one, -2)), (3, 0, 1, 2))
+        self.assertEqual([repeats.count(one), *(repeats.index(one, start) for start in (0, 1, -2))], [3, 0, 1, 2])
         self.assertRaises(ValueError, repeats.index, one, 3)
         self.assertRaises(ValueError, repeats.index, repeats[3], 0, 3)
         self.fails(Code.TOO_LONG, 0, SortedDigests(Kind.SHA1, b"").find, Prefix(EMPTY))
