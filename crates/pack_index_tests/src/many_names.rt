@@ -1,9 +1,10 @@
 //! A pack index in memory of more names than 16 bits count, read at positions.
 
+use crate::expecting::expect;
 use gix_hash::{Kind, ObjectId};
 use pack_index::{LazyError, LazyFile};
 use std::alloc::{AllocError, Global};
-use std::io;
+use std::test::Fail;
 
 // All names have one first byte, and end in their indexes.
 const COUNT: u32 = 65_537;
@@ -11,16 +12,6 @@ const COUNT: u32 = 65_537;
 const FIRST_BYTE: u8 = 0x4b;
 
 const LAST: &[u8] = b"4b00000000000000000000000000000000010000";
-
-/// Prints where the index has its last name.
-pub fn print_last(rt: &(impl Print + AllocGlobal)) -> io::Result<()> {
-    let bytes = index_of_many(rt.alloc())?;
-    match find_last(rt.alloc(), &bytes) {
-        Ok(Some((at, offset))) => println!(rt; "of many names, the last is at {at}: {offset}"),
-        Ok(None) => println!(rt; "of many names, the last is not found"),
-        Err(error) => println!(rt; "of many names, none is found: {error}"),
-    }
-}
 
 // The index of the last name, and its offset.
 fn find_last(alloc: Global, bytes: &[u8]) -> Result<Option<(u32, u64)>, LazyError> {
@@ -56,4 +47,12 @@ fn index_of_many(alloc: Global) -> Result<Vec<u8>, AllocError> {
     }
     bytes.extend_from_slice(&[0; 40])?;
     Ok(bytes)
+}
+
+#[test]
+fn the_last_is_found(rt: HostRuntime) -> Result<(), Fail> {
+    let bytes = index_of_many(rt.alloc())?;
+    let last = find_last(rt.alloc(), &bytes)?;
+    expect!(&rt; last == Some((65_536, 65_548)));
+    Ok(())
 }

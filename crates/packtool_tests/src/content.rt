@@ -31,24 +31,18 @@ const LOOSE: [&str; 3] = [
     "e69de29bb2d1d6434b8b29ae775ad8c2e48c5391",
 ];
 
-/// Every id of the store, each once, in order.
-pub const ALL: [&str; 7] = [
-    "0000000000000000000000000000000000000000",
+/// The ids of the store that begin with `4b`, each once, in order.
+pub const FOUND: [&str; 3] = [
     "4b825d0000000000000000000000000000000000",
     "4b825dc642cb6eb9a060e54bf8d69288fbee4904",
     "4b90000000000000000000000000000000000000",
-    "e69de29bb2d1d6434b8b29ae775ad8c2e48c5391",
-    "e69de29c00000000000000000000000000000000",
-    "ffffffffffffffffffffffffffffffffffffffff",
-];
-
-/// Their shortest names of 4 digits or more.
-pub const NAMES: [&str; 7] = [
-    "0000", "4b825d0", "4b825dc", "4b90", "e69de29b", "e69de29c", "ffff",
 ];
 
 /// An id that is in both packs and loose.
 pub const EVERYWHERE: &str = "4b825dc642cb6eb9a060e54bf8d69288fbee4904";
+
+/// Its shortest name of 4 digits or more.
+pub const NAME: &str = "4b825dc";
 
 /// Its locations. Its offset in the second pack is a long one.
 pub const LOCATIONS: [Location; 3] = [
@@ -66,8 +60,8 @@ pub const LOCATIONS: [Location; 3] = [
 /// The bytes of both pack indexes, and the loose ids.
 #[derive(Drop)]
 pub struct Content {
-    pub first: Vec<u8>,
-    pub second: Vec<u8>,
+    first: Vec<u8>,
+    second: Vec<u8>,
     loose: Vec<ObjectId>,
 }
 

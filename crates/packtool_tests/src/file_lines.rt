@@ -3,12 +3,11 @@
 use crate::expecting::{expect, expect_bytes};
 use gix_hash::{Kind, ObjectId};
 use linked_list_allocator::LocalHeap;
-use pack_index::Error;
 use packtool_commands::{FileError, Pairing, show, write_ending, write_location, write_pairing};
 use std::alloc::{AllocError, Global};
 use std::process::Abort;
 use std::test::Fail;
-use streams::{Ending, FromSlice, IntoSlice, Plain};
+use streams::{Ending, IntoSlice, Plain};
 use test_devices::ids::pack_index;
 use test_devices::watched::{Course, Watch, Watched};
 use test_devices::{Fault, Reader, Writer};
@@ -59,20 +58,6 @@ fn stops_at_a_failure(rt: HostRuntime) {
         }
     }
     expect_course(&rt, never, (0, never), Course::Failed);
-}
-
-// With ample memory more than a mebibyte is read.
-#[test]
-fn reads_long_inputs(rt: HostRuntime) -> Result<(), Fail> {
-    let zeros = vec![in rt.alloc(); 0u8; 1_100_000]?;
-    for kind in [None, Some(Kind::Sha1), Some(Kind::Sha256)] {
-        let mut input = FromSlice::new(&zeros);
-        let mut buf = [0; 8];
-        let mut out = IntoSlice::new(&mut buf);
-        let outcome = show(rt.alloc(), kind, &mut input, &mut out);
-        expect!(&rt; matches!(outcome, Err(FileError::Index(Error::BadMagic))), kind);
-    }
-    Ok(())
 }
 
 // The growths fail one after the other, until a run has enough memory.

@@ -1,25 +1,27 @@
-//! Ids that are printed, found by typed names, kept in sets and maps, and sorted.
+//! Ids that are printed, kept in a set and a map, sorted, and found by typed names.
 
 use crate::expecting::expect;
 use callers::checking::{pack_name, write_line};
 use callers::names::{Resolved, resolve, write_name};
 use callers::sets::{mark_seen, set_offset};
 use callers::sorting::sort_into_index;
-use gix_hash::{Kind, ObjectId};
-use id_lookup::{IdIndex, IndexError};
+use gix_hash::Kind;
 use std::collections::{BTreeMap, HashSet};
-use std::process::Abort;
 use std::test::Fail;
 use test_devices::ids::ids_of;
 
 #[test]
-fn printed(rt: HostRuntime) -> Result<(), Fail> {
+fn printed_and_kept(rt: HostRuntime) -> Result<(), Fail> {
     let blob = Kind::Sha1.empty_blob();
     let mut out = Vec::new(rt.alloc());
     write_line(blob.as_oid(), &mut out)?;
     expect!(&rt; out.as_slice() == b"e69de29bb2d1d6434b8b29ae775ad8c2e48c5391\n".as_slice());
     let name = pack_name(rt.alloc(), blob.as_oid())?;
     expect!(&rt; name.as_str() == "pack-e69de29bb2d1d6434b8b29ae775ad8c2e48c5391.pack");
+    let mut seen = HashSet::new(rt.alloc());
+    expect!(&rt; mark_seen(&mut seen, blob)?);
+    let mut offsets = BTreeMap::new(rt.alloc());
+    expect!(&rt; set_offset(&mut offsets, blob, 12)?.is_none());
     Ok(())
 }
 
@@ -38,52 +40,33 @@ const OBJECTS: [&str; 11] = [
     "f719efd430d52bcfc8566a43b2eb655688d38871",
 ];
 
-// Names that are typed, and the number of the objects that they mean.
-const TYPED: [(&str, usize); 4] = [("8113", 1), ("F71", 1), ("2", 3), ("c", 0)];
-
-fn expect_resolved(rt: &impl Abort, index: &IdIndex<'_>) {
-    for (name, want) in TYPED {
-        let count = match resolve(index, name) {
-            Ok(Resolved::Id(_)) => 1,
-            Ok(Resolved::Ambiguous(ids)) => ids.len(),
-            _ => 0,
-        };
-        expect!(rt; count == want, name);
-    }
-}
+// Names that are typed, and the number of the objects that they mean; none for what is no prefix.
+const TYPED: [(&str, Option<usize>); 5] = [
+    ("8113", Some(1)),
+    ("F71", Some(1)),
+    ("2", Some(3)),
+    ("c", Some(0)),
+    ("g", None),
+];
 
 // The short name is by `git rev-parse --short=4`.
 #[test]
 fn typed_names(rt: HostRuntime) -> Result<(), Fail> {
     let mut ids = ids_of(&rt, &OBJECTS)?;
     let index = sort_into_index(&mut ids, Kind::Sha1)?;
-    expect_resolved(&rt, &index);
+    for (name, want) in TYPED {
+        let count = match resolve(&index, name) {
+            Ok(Resolved::Unknown) => Some(0),
+            Ok(Resolved::Id(_)) => Some(1),
+            Ok(Resolved::Ambiguous(ids)) => Some(ids.len()),
+            Err(_) => None,
+        };
+        expect!(&rt; count == want, name);
+    }
     let mut out = Vec::new(rt.alloc());
     if index.len() > 1 {
         write_name(&index, 1, &mut out)?;
     }
     expect!(&rt; out.as_slice() == b"259a\n".as_slice());
-    Ok(())
-}
-
-// An id of SHA-256 comes last, though by its digits it is between the others.
-#[test]
-fn of_another_kind(rt: HostRuntime) -> Result<(), Fail> {
-    let mut ids = ids_of(&rt, &OBJECTS)?;
-    ids.push(ObjectId::Sha256([0x90; 32]))?;
-    let refused = sort_into_index(&mut ids, Kind::Sha1);
-    expect!(&rt; matches!(refused, Err(IndexError::WrongKind { at: 11 })));
-    Ok(())
-}
-
-#[test]
-fn sets_and_maps(rt: HostRuntime) -> Result<(), Fail> {
-    let blob = Kind::Sha1.empty_blob();
-    let mut seen = HashSet::new(rt.alloc());
-    let mut offsets = BTreeMap::new(rt.alloc());
-    for (is_new, offset, before) in [(true, 12, None), (false, 34, Some(12))] {
-        expect!(&rt; mark_seen(&mut seen, blob)? == is_new);
-        expect!(&rt; set_offset(&mut offsets, blob, offset)? == before);
-    }
     Ok(())
 }

@@ -1,6 +1,7 @@
-//! Tests of what `packtool` stands on, by public calls only: `object_store` over stores in memory,
-//! where reads and memory fail in turn, `store_folders` over folders, `git_texts` and `callers` over
-//! files and ids of repositories that Git made, and `packtool_commands`.
+//! Tests of what `packtool` stands on, by public calls only: `object_store` and `packtool_commands`
+//! over stores in memory, where reads, writes and memory fail in turn, `store_folders` over folders
+//! that change, and a call of each kind of `callers`. What the built program shows is tested by
+//! `tools/stores` and `tools/runs`.
 #![tactic(auto)]
 
 #[cfg(test)]
@@ -11,8 +12,6 @@ mod expecting;
 mod file_lines;
 #[cfg(test)]
 mod files;
-#[cfg(test)]
-mod finding;
 #[cfg(test)]
 mod folders;
 #[cfg(test)]
@@ -25,6 +24,8 @@ mod memory;
 mod pairing;
 #[cfg(test)]
 mod printing;
+#[cfg(test)]
+mod resolving;
 #[cfg(test)]
 mod snapshots;
 #[cfg(test)]

@@ -21,27 +21,6 @@ fn ending_in(alloc: Global, ids: &[ObjectId]) -> Result<Vec<u8>, AllocError> {
     Ok(bytes)
 }
 
-#[test]
-fn compares_an_index_with_a_pack(rt: HostRuntime) -> Result<(), Fail> {
-    for kind in [Kind::Sha1, Kind::Sha256] {
-        let (tree, blob) = (kind.empty_tree(), kind.empty_blob());
-        let index = ending_in(rt.alloc(), &[tree, blob])?;
-        let pack = ending_in(rt.alloc(), &[blob, tree])?;
-        let (index, pack, short) = (&index[..], &pack[..], &b"few"[..]);
-        let same = pair(&index, &pack, kind);
-        expect!(&rt; matches!(same, Ok(Pairing::Same)));
-        let Ok(Pairing::Other { named, found }) = pair(&pack, &pack, kind) else {
-            return Err(Fail::new("they belong together"));
-        };
-        expect!(&rt; named == blob && found == Some(tree));
-        let other = pair(&index, &short, kind);
-        expect!(&rt; matches!(other, Ok(Pairing::Other { found: None, .. })));
-        let unnamed = pair(&short, &pack, kind);
-        expect!(&rt; matches!(unnamed, Ok(Pairing::Unnamed)));
-    }
-    Ok(())
-}
-
 // The length and then the digest are read of each.
 #[test]
 fn says_which_cannot_be_read(rt: HostRuntime) -> Result<(), Fail> {

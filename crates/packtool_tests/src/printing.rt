@@ -62,30 +62,30 @@ fn run(
     }
 }
 
-// Whether as much of the text is taken as the outcome says, with this many reads and this much
-// room.
+// Whether a run ends so that writes this many bytes of the text, with this many reads and this much
+// room: after all of it, or because a write or a read fails.
 fn is_right(
     outcome: &Result<bool, StoreError>,
     text: &str,
-    taken: usize,
     left: usize,
     room: usize,
+    written: usize,
 ) -> bool {
     match outcome {
-        Ok(any) => *any != text.is_empty() && taken == text.len() && left >= 10,
-        Err(StoreError::Output) => taken == room && room < text.len(),
-        Err(StoreError::Store(_)) => left < AMPLE,
+        Ok(any) => *any != text.is_empty() && written == text.len(),
+        Err(StoreError::Output) => written == room && room < text.len() && left == AMPLE,
+        Err(StoreError::Store(_)) => written < text.len() && left < AMPLE,
     }
 }
 
-// With this many reads and this much room, what is written is a beginning of the text, and all of
-// it if nothing fails.
+// With this many reads and this much room, this many bytes of the text are written, from its
+// beginning on.
 fn expect_written(
     rt: &(impl Abort + AllocGlobal),
-    asked: Asked,
-    text: &str,
+    (asked, text): (Asked, &str),
     left: usize,
     room: usize,
+    written: usize,
 ) -> Result<(), Fail> {
     let content = Content::new(rt)?;
     let reads = Reads::new(left);
@@ -93,40 +93,65 @@ fn expect_written(
     let mut buf = [0; 512];
     let mut out = IntoSlice::new(buf.get_mut(..room).ok_or("no room")?);
     let outcome = run(rt, asked, &store, &mut out);
-    let taken = out.written();
-    let is_right = is_right(&outcome, text, taken.len(), left, room);
-    expect!(rt; is_right && text.as_bytes().starts_with(taken), (left, room));
+    let is_right = is_right(&outcome, text, left, room, written);
+    let want = text.as_bytes().get(..written);
+    expect!(rt; is_right && want == Some(out.written()), (left, room));
     Ok(())
 }
 
 #[test]
 fn writes_fail_in_turn(rt: HostRuntime) -> Result<(), Fail> {
     for room in 0..=FOUND.len() {
-        expect_written(&rt, Asked::Find("4B8"), FOUND, AMPLE, room)?;
+        expect_written(&rt, (Asked::Find("4B8"), FOUND), AMPLE, room, room)?;
     }
     for room in 0..=LOCATED.len() {
-        expect_written(&rt, Asked::Locate("4B8"), LOCATED, AMPLE, room)?;
+        expect_written(&rt, (Asked::Locate("4B8"), LOCATED), AMPLE, room, room)?;
     }
-    for room in [0, 1, 47, 48, 49, 100, NAMED.len() - 1, NAMED.len(), 512] {
-        expect_written(&rt, Asked::Names, NAMED, AMPLE, room)?;
+    for room in [0, 1, 47, 48, 49, 100, NAMED.len() - 1, NAMED.len()] {
+        expect_written(&rt, (Asked::Names, NAMED), AMPLE, room, room)?;
     }
-    expect_written(&rt, Asked::Locate("fe"), "", AMPLE, 0)?;
-    expect_written(&rt, Asked::Find("fe"), "", AMPLE, 0)
+    expect_written(&rt, (Asked::Names, NAMED), AMPLE, 512, NAMED.len())?;
+    expect_written(&rt, (Asked::Locate("fe"), ""), AMPLE, 0, 0)?;
+    expect_written(&rt, (Asked::Find("fe"), ""), AMPLE, 0, 0)
 }
 
-// Four reads open the store. Nothing is found in part, and locations and names are written until a
-// read fails. Two find the ids, and four their offsets.
+// How many reads there are before one fails, and how many bytes are written then, of locations and
+// of names. Four reads open the store. Two find the ids to locate. Then one reads the offset of the
+// first id, and three those of the second: the long one takes two. For the names of each first byte
+// two are made, and its lines are written before those of the next.
+const LOCATED_BY: [(usize, usize); 7] = [
+    (4, 0),
+    (5, 0),
+    (6, 0),
+    (7, 53),
+    (8, 53),
+    (9, 53),
+    (10, LOCATED.len()),
+];
+
+const NAMED_BY: [(usize, usize); 9] = [
+    (4, 0),
+    (5, 0),
+    (6, 48),
+    (7, 48),
+    (60, 48),
+    (200, 194),
+    (300, 194),
+    (515, 294),
+    (516, NAMED.len()),
+];
+
 #[test]
 fn reads_fail_in_turn(rt: HostRuntime) -> Result<(), Fail> {
     for left in 4..6 {
-        // With no room a write would fail.
-        expect_written(&rt, Asked::Find("4b8"), FOUND, left, 0)?;
+        // Nothing is found in part: with no room a write would fail.
+        expect_written(&rt, (Asked::Find("4b8"), FOUND), left, 0, 0)?;
     }
-    for left in 4..=10 {
-        expect_written(&rt, Asked::Locate("4b8"), LOCATED, left, 512)?;
+    for (left, written) in LOCATED_BY {
+        expect_written(&rt, (Asked::Locate("4b8"), LOCATED), left, 512, written)?;
     }
-    for left in [4, 5, 6, 7, 60, 200, 300, 515, 516] {
-        expect_written(&rt, Asked::Names, NAMED, left, 512)?;
+    for (left, written) in NAMED_BY {
+        expect_written(&rt, (Asked::Names, NAMED), left, 512, written)?;
     }
     Ok(())
 }

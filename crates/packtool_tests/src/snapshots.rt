@@ -1,9 +1,9 @@
-//! Stores in folders that change while they are opened, and those that cannot be read whole.
+//! Stores in folders that change while they are opened or looked up in, and whose reads fail.
 
 use crate::expecting::{expect, expect_text, text_of};
 use crate::folders::{BOTH, Index, LOOSE, PACKED, make, open};
 use crate::look_ups::{expect_ids, find};
-use gix_hash::{ObjectId, Prefix};
+use gix_hash::Prefix;
 use object_store::Store;
 use std::alloc::{Alloc, AllocError, Allocator, Global};
 use std::cell::Cell;
@@ -137,24 +137,28 @@ impl<R: Files<File = File> + AllocGlobal> Files for Moving<'_, R> {
     }
 }
 
-// A store with a packed object and a loose one, and beside it a pack of both, and the loose file of
-// the packed one.
-const LIVE: [&str; 5] = [
+// A store with a packed object, a loose one and a pack without its index. Beside it are a pack of
+// both, the loose file of the packed one and the index.
+const LIVE: [&str; 6] = [
     "live/objects/pack/pack-1.pack",
+    "live/objects/pack/pack-3.pack",
     "live/objects/4b/ffffffffffffffffffffffffffffffffffffff",
     "live/new/pack-2.pack",
     "live/new/825dc642cb6eb9a060e54bf8d69288fbee4904",
     "live/old/none",
 ];
 
-const LIVE_INDEXES: [Index; 2] = [
+const LIVE_INDEXES: [Index; 3] = [
     ("live/objects/pack/pack-1.idx", &[PACKED]),
     ("live/new/pack-2.idx", &[PACKED, LOOSE]),
+    ("live/new/pack-3.idx", &[LOOSE]),
 ];
 
 const NEW_PACK: (&str, &str) = ("live/new/pack-2.pack", "live/objects/pack/pack-2.pack");
 
 const NEW_INDEX: (&str, &str) = ("live/new/pack-2.idx", "live/objects/pack/pack-2.idx");
+
+const OTHER_INDEX: (&str, &str) = ("live/new/pack-3.idx", "live/objects/pack/pack-3.idx");
 
 const OLD_INDEX: (&str, &str) = ("live/objects/pack/pack-1.idx", "live/old/pack-1.idx");
 
@@ -168,13 +172,15 @@ const NEW_LOOSE: (&str, &str) = (
     "live/objects/4b/825dc642cb6eb9a060e54bf8d69288fbee4904",
 );
 
-// Moves as by `git gc`: of objects into a pack, from a pack into another, and out of a pack.
-const MOVES: [[Move; 3]; 5] = [
+// Moves as by `git gc`: of objects into a pack, from a pack into another, and out of a pack, the last
+// as another pack gets its index.
+const MOVES: [[Move; 3]; 6] = [
     [(0, NEW_PACK), (0, NEW_INDEX), (1, OLD_LOOSE)],
     [(1, NEW_PACK), (1, NEW_INDEX), (1, OLD_LOOSE)],
     [(2, NEW_PACK), (2, NEW_INDEX), (2, OLD_LOOSE)],
     [(2, NEW_PACK), (2, NEW_INDEX), (2, OLD_INDEX)],
     [(2, NEW_LOOSE), (2, OLD_INDEX), (9, OLD_LOOSE)],
+    [(2, NEW_LOOSE), (2, OLD_INDEX), (2, OTHER_INDEX)],
 ];
 
 // The pack indexes are in the order of their paths.
@@ -182,7 +188,9 @@ fn expect_in_order<R: Files<File = File> + AllocGlobal + Clone + Drop>(
     rt: &impl Abort,
     store: &FolderStore<R>,
 ) {
-    for at in 1..store.indexes().len() {
+    let count = store.indexes().len();
+    expect!(rt; store.index_path(count).is_none());
+    for at in 1..count {
         let before = store.index_path(at - 1).map_or("", |path| path);
         expect!(rt; store.index_path(at).is_some_and(|path| before < path), at);
     }
@@ -286,97 +294,11 @@ fn each_read_of_a_folder_fails_in_turn(rt: HostRuntime) -> Result<(), Fail> {
     Ok(())
 }
 
-// A chain of alternates, of which the last two are nested too deep, and alternates that are none.
-const CHAIN: [&str; 9] = [
-    "chain/0/00/0000000000000000000000000000000000000a",
-    "chain/1/00/0000000000000000000000000000000000001a",
-    "chain/2/00/0000000000000000000000000000000000002a",
-    "chain/3/00/0000000000000000000000000000000000003a",
-    "chain/4/00/0000000000000000000000000000000000004a",
-    "chain/5/00/0000000000000000000000000000000000005a",
-    "chain/6/00/0000000000000000000000000000000000006a",
-    "chain/7/00/0000000000000000000000000000000000007a",
-    "chain/8/00/0000000000000000000000000000000000008a",
-];
-
-const LISTS: [(&str, &[u8]); 8] = [
-    (
-        "chain/0/info/alternates",
-        b"../gone\n../1\n../1\r\n../0/00/0000000000000000000000000000000000000a\n../\xff\n",
-    ),
-    ("chain/1/info/alternates", b"../2\n"),
-    ("chain/2/info/alternates", b"../3\n"),
-    ("chain/3/info/alternates", b"../4\n"),
-    ("chain/4/info/alternates", b"../5\n"),
-    ("chain/5/info/alternates", b"../6\n"),
-    ("chain/6/info/alternates", b"../7\n../0\n"),
-    ("chain/7/info/alternates", b"../8\n"),
-];
-
-// The ends of what is said of those that are passed over.
-const PASSED_OVER: [&str; 5] = [
-    "chain/0/info/alternates: a path is not UTF-8",
-    "chain/0/../gone: No such file or directory (os error 2)",
-    "chain/6/../7: nested more than 5 deep",
-    "chain/0/../1: its line ends in a carriage return",
-    "chain/0/../0/00/0000000000000000000000000000000000000a: not a directory",
-];
-
-#[test]
-fn alternates_that_cannot_be_used_are_said(rt: HostRuntime) -> Result<(), Fail> {
-    make(&rt, &CHAIN, &LISTS, &[])?;
-    let store = open(&rt, "chain/0")?;
-    expect!(&rt; store.loose_ids().len() == 7);
-    expect!(&rt; store.passed_over().len() == PASSED_OVER.len());
-    for (error, want) in store.passed_over().iter().zip(&PASSED_OVER) {
-        let text = text_of(&rt, error)?;
-        expect!(&rt; text.ends_with(want), text);
-    }
-    fs::remove_dir_all(&rt, "chain")?;
-    Ok(())
-}
-
-// A loose object whose file is a link to nothing, one whose file is removed, and a pack whose index
-// is a link to nothing.
-const LINKED: [&str; 4] = [
-    "linked/objects/4b/90000000000000000000000000000000000000",
-    "linked/objects/4b/ffffffffffffffffffffffffffffffffffffff",
-    "linked/objects/info/none",
-    "linked/objects/pack/pack-1.pack",
-];
-
-#[test]
-fn links_to_nothing_are_said(rt: HostRuntime) -> Result<(), Fail> {
-    make(&rt, &LINKED, &[], &[])?;
-    rt.remove_file(LINKED[0])?;
-    rt.symlink("gone", LINKED[0])?;
-    let store = open(&rt, "linked/objects")?;
-    rt.remove_file(LINKED[1])?;
-    for (digits, want) in [
-        (
-            "4b90",
-            "linked/objects/4b/90000000000000000000000000000000000000: No such file or directory (os error 2)",
-        ),
-        ("4bff", "right"),
-    ] {
-        let text = match store.check_loose_files(&Prefix::from_hex(digits)?) {
-            Ok(()) => text_of(&rt, "right")?,
-            Err(error) => text_of(&rt, error)?,
-        };
-        expect!(&rt; text.as_str() == want, text);
-    }
-    rt.symlink("gone", "linked/objects/pack/pack-1.idx")?;
-    let want = "linked/objects/pack/pack-1.idx: No such file or directory (os error 2)";
-    expect_opened(&rt, "linked/objects", &[], AMPLE, Err(want))?;
-    fs::remove_dir_all(&rt, "linked")?;
-    Ok(())
-}
-
-// The store of 70 packs, of which the last are opened for each read.
+// A store of 70 packs, of which the last are opened for each read, and a loose object.
 fn make_many(rt: &HostRuntime) -> Result<(), Fail> {
     make(
         rt,
-        &["many/objects/pack/pack-00.pack"],
+        &["many/objects/pack/pack-00.pack", MANY_LOOSE],
         &[],
         &[("many/objects/pack/pack-00.idx", &[BOTH])],
     )?;
@@ -390,21 +312,22 @@ fn make_many(rt: &HostRuntime) -> Result<(), Fail> {
     Ok(())
 }
 
+const MANY_LOOSE: &str = "many/objects/4b/ffffffffffffffffffffffffffffffffffffff";
+
+// A loose object that is gone is no fault, and a pack index that is gone is one that says so.
 #[test]
-fn packs_are_more_than_open_files(rt: HostRuntime) -> Result<(), Fail> {
+fn files_may_be_removed_after_opening(rt: HostRuntime) -> Result<(), Fail> {
     make_many(&rt)?;
     let store = open(&rt, "many/objects")?;
-    expect!(&rt; store.indexes().len() == 70);
     expect_in_order(&rt, &store);
-    expect_ids(&rt, &find(&rt, rt.alloc(), &store, "4b")?, &[BOTH]);
+    rt.remove_file(MANY_LOOSE)?;
+    store.check_loose_files(&Prefix::from_hex("4bff")?)?;
     rt.remove_file("many/objects/pack/pack-69.idx")?;
+    let want = "many/objects/pack/pack-69.idx: removed since it was listed";
     match find(&rt, rt.alloc(), &store, "4b") {
         Ok(_) => expect!(&rt; false),
-        Err(error) => expect!(&rt; matches!(store.with_path(error), Error::Gone { .. })),
+        Err(error) => expect_text(&rt, &text_of(&rt, store.with_path(error))?, want),
     }
-    rt.symlink("gone", "many/objects/pack/pack-69.idx")?;
-    let want = "many/objects/pack/pack-69.idx: No such file or directory (os error 2)";
-    expect_opened(&rt, "many/objects", &[], AMPLE, Err(want))?;
     fs::remove_dir_all(&rt, "many")?;
     Ok(())
 }
