@@ -153,6 +153,10 @@ class Bindings(unittest.TestCase):
             found = {**os.environ, "GIX_HASH_LIBRARY": path, "PYTHONPATH": os.pathsep.join(sys.path)}
             ran = subprocess.run([sys.executable, "-c", "import gix_hash"], env=found, stderr=subprocess.PIPE, text=True)
             self.assertRegex(ran.stderr, f"ImportError: .*{why}.*GIX_HASH_LIBRARY")
+        source = pathlib.Path(gix_hash.__file__).read_text(encoding="utf-8")
+        for version in ("9.9.0", "0.3.9", "0.5.0"):
+            with self.assertRaisesRegex(ImportError, f"is not {version[:3]}: set GIX_HASH_LIBRARY"):
+                exec(source.replace(f'"{gix_hash.__version__}"', f'"{version}"'), {"__name__": "other"})
         found = {}
         exec("from gix_hash import *", found)
         public = {"Buffer", "Code", "Entry", "Error", "Hasher", "Id", "Kind", "ObjectType", "PackIndex", "Prefix", "SortedDigests"}
@@ -173,6 +177,11 @@ class Bindings(unittest.TestCase):
             rows += [(BufferError, call, Kind.SHA1, strided)]
         for call in (Id.from_bytes, PackIndex.kind_of, PackIndex.of_any_kind):
             rows += [(TypeError, call, wrong) for wrong in (40, None, EMPTY, 1.5, floats, [1])] + [(BufferError, call, strided)]
+        for call in (Id.null, Id.empty_blob, Id.empty_tree, Hasher):
+            rows += [(TypeError, call, True), (ValueError, call, 0), (ValueError, call, 2**32 + 1)]
+        rows += [(ValueError, Id.of_object, Kind.SHA1, wrong, b"") for wrong in (0, 5, 2**32 + 1)]
+        rows += [(TypeError, Id.of_object, Kind.SHA1, wrong, b"") for wrong in ("blob", None, True)]
+        rows += [(TypeError, Hasher(Kind.SHA1).update, "abc"), (TypeError, copy.deepcopy, Hasher(Kind.SHA1))]
         rows += [(Error, Id.from_bytes, bytes(n)) for n in range(100) if n not in (20, 32)]
         rows += [(TypeError, call, wrong) for call in (index.find, table.find) for wrong in ("e6", None, id)]
         rows += [(TypeError, prefix.cmp, wrong) for wrong in ("e6", None, prefix)]

@@ -150,6 +150,9 @@ try:
     for _result, _name, _listed in re.findall(r"(\w+) (gix_hash_\w+)\((.*?)\);", " ".join(_DECLARED.split())):
         _call = getattr(_lib, _name)
         _call.restype, _call.argtypes = _TYPES[_result], [_typed(it)[1] for it in _listed.split(",") if it != "void"]
+    _high, _low = map(int, __version__.split(".")[:2])
+    if _lib.gix_hash_version() // 100 != 100 * _high + _low:
+        raise OSError(f"the version of the library is not {_high}.{_low}")
 except (OSError, AttributeError) as _error:
     raise ImportError(f"{_error}: set GIX_HASH_LIBRARY to the path of libgix_hash.so") from None
 _Id, _Prefix, _Run, _Entry, _Hasher = (_TYPES[f"gix_hash_{it}"] for it in ("id", "prefix", "run", "entry", "hasher"))
@@ -162,7 +165,7 @@ def _check(code: int, detail: int = 0) -> None:
 
 
 def _only(kind: Type[_T], value: _T) -> _T:
-    """The value, which must be of a class. (True is 1, and yet no kind of ids.)"""
+    """The value, which must be of a class. (True is 1, and yet no kind and no type.)"""
     if not isinstance(value, kind) or isinstance(value, bool):
         raise TypeError(f"{value!r} is not of the class {kind.__name__}")
     return value

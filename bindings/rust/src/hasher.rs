@@ -31,11 +31,7 @@ impl Hasher {
     /// The kind of the digest.
     #[must_use]
     pub fn kind(&self) -> Kind {
-        if self.0.kind == 1 {
-            Kind::Sha1
-        } else {
-            Kind::Sha256
-        }
+        Kind::of(self.0.kind)
     }
 
     /// Appends bytes to the message.

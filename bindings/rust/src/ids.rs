@@ -24,6 +24,15 @@ impl Kind {
             Kind::Sha256 => 32,
         }
     }
+
+    /// The kind of a number that the library wrote.
+    pub(crate) fn of(number: u32) -> Kind {
+        if number == 1 {
+            Kind::Sha1
+        } else {
+            Kind::Sha256
+        }
+    }
 }
 
 /// Reads `sha1` or `sha256`. The error is `BadKind`.
@@ -91,11 +100,7 @@ impl Id {
     /// The kind.
     #[must_use]
     pub fn kind(&self) -> Kind {
-        if self.0.kind == 1 {
-            Kind::Sha1
-        } else {
-            Kind::Sha256
-        }
+        Kind::of(self.0.kind)
     }
 
     /// The 20 or 32 bytes of the digest.

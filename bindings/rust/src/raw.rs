@@ -84,3 +84,14 @@ extern "C" {
         hex_len: *mut usize,
     ) -> u32;
 }
+
+#[cfg(test)]
+mod tests {
+    #[test]
+    fn version() {
+        // SAFETY: it takes nothing.
+        let version = unsafe { super::gix_hash_version() };
+        let text = format!("{}.{}.{}", version / 10000, version / 100 % 100, version % 100);
+        assert_eq!(text, env!("CARGO_PKG_VERSION"));
+    }
+}

@@ -130,9 +130,8 @@ impl<'a> PackIndex<'a> {
         let mut number = 0;
         // SAFETY: the slice is valid for its length.
         let code = unsafe { raw::gix_hash_pack_kind(bytes.as_ptr(), bytes.len(), &mut number) };
-        match (code, number) {
-            (0, 1) => Ok(PackIndex { kind: Kind::Sha1, bytes }),
-            (0, _) => Ok(PackIndex { kind: Kind::Sha256, bytes }),
+        match code {
+            0 => Ok(PackIndex { kind: Kind::of(number), bytes }),
             // This is the same error, with its detail.
             _ => PackIndex::new(Kind::Sha1, bytes),
         }
