@@ -2,6 +2,7 @@
 
 import array
 import bisect
+import collections
 import copy
 import doctest
 import hashlib
@@ -218,11 +219,11 @@ class Bindings(unittest.TestCase):
                     self.assertRaises(IndexError, list_of.__getitem__, at)
                 self.assertEqual([list_of.index(it) for it in each], list(range(300)))
                 self.assertTrue(all(it in list_of and list_of.count(it) == 1 for it in each))
+            fronts = collections.Counter(name[:length] for name in names for length in range(4, 65))
             for at, name in enumerate(names):
                 hex_len = index.abbreviate(at)
                 self.assertEqual((index.index(Id(name)), Id(name) in index, index.count(Id(name))), (at, True, 1))
-                shared = [sum(other.startswith(name[:length]) for other in names) for length in range(4, 41)]
-                self.assertEqual(hex_len, 4 + shared.index(1))
+                self.assertEqual(hex_len, next(length for length in range(4, 65) if fronts[name[:length]] == 1))
                 for digits in (name[:1], name[:2], name[:hex_len], name):
                     wanted = range(bisect.bisect_left(names, digits), bisect.bisect_left(names, digits + "g"))
                     self.assertEqual((index.find(Prefix(digits)), table.find(Prefix(digits))), (wanted, wanted))
