@@ -18,8 +18,8 @@ static void check(int line, long row, int holds) {
     if (!holds) printf("test.c:%d: row %ld\n", line, row);
 }
 
-/* A copy of what a call is passed. Reading or writing past its end stops this program: sanitizers do not see into the library.
-   Each region keeps its last copy. */
+/* A copy of what a call is passed. Reading or writing past its end stops this program: sanitizers do not see
+   into the library. Each region keeps its last copy. */
 enum region { INPUT, STRUCT, INDEX };
 
 static void *fenced(enum region region, const void *bytes, size_t len) {
@@ -167,9 +167,12 @@ static void test_hostile(void) {
         CHECK(kind, gix_hash_prefix_cmp_id(&prefix, &id) == GIX_HASH_NO_ORDER);
         CHECK(kind, gix_hash_digest(kind, bytes, 60, &good) == code && !strcmp(hex_of(&good), EMPTY));
         bytes = fenced(INPUT, zeros, sizeof zeros);
-        CHECK(kind, gix_hash_check_sorted(kind, bytes, 60, &number) == code && gix_hash_find(kind, bytes, 60, &prefix, &run) == code);
-        CHECK(kind, gix_hash_pack_check(kind, bytes, 60, &detail) == code && gix_hash_pack_count(kind, bytes, 60, &number) == code);
-        CHECK(kind, gix_hash_pack_entry(kind, bytes, 60, 0, &entry) == code && gix_hash_pack_find(kind, bytes, 60, &prefix, &run) == code);
+        CHECK(kind, gix_hash_check_sorted(kind, bytes, 60, &number) == code);
+        CHECK(kind, gix_hash_find(kind, bytes, 60, &prefix, &run) == code);
+        CHECK(kind, gix_hash_pack_check(kind, bytes, 60, &detail) == code);
+        CHECK(kind, gix_hash_pack_count(kind, bytes, 60, &number) == code);
+        CHECK(kind, gix_hash_pack_entry(kind, bytes, 60, 0, &entry) == code);
+        CHECK(kind, gix_hash_pack_find(kind, bytes, 60, &prefix, &run) == code);
         CHECK(kind, gix_hash_pack_abbreviate(kind, bytes, 60, 0, &number) == code);
     }
     for (size_t i = 0; i < ROWS(bad_lens); i++) {
@@ -265,10 +268,13 @@ static void test_any_bytes(uint32_t kind, size_t len, size_t count) {
         gix_hash_run run = {0};
         CHECK(left, gix_hash_pack_check(kind, cut, left, &detail) && gix_hash_pack_check(3 - kind, cut, left, &detail));
         CHECK(left, gix_hash_pack_find(kind, cut, left, &prefix, &run) || run.end <= count);
-        CHECK(left, gix_hash_pack_entry(kind, cut, left, count, &entry) && gix_hash_pack_abbreviate(kind, cut, left, count, &hex_len));
+        CHECK(left, gix_hash_pack_entry(kind, cut, left, count, &entry));
+        CHECK(left, gix_hash_pack_abbreviate(kind, cut, left, count, &hex_len));
         uint8_t *any = fenced(INPUT, bytes, len);
-        for (size_t at = 8; at < len - 8; at++)
-            if (at < 1028 || at > 1031) random = random * 6364136223846793005u + 1442695040888963407u, any[at] = (uint8_t)(random >> 56);
+        for (size_t at = 8; at < len - 8; at++) { /* but for the count, at 1028 */
+            random = random * 6364136223846793005u + 1442695040888963407u;
+            if (at / 4 != 1028 / 4) any[at] = (uint8_t)(random >> 56);
+        }
         CHECK(left, gix_hash_pack_check(kind, any, len, &detail));
         CHECK(left, gix_hash_pack_find(kind, any, len, &prefix, &run) || (run.start <= run.end && run.end <= count));
         gix_hash_pack_entry(kind, any, len, left % count, &entry);

@@ -166,10 +166,12 @@ class Bindings(unittest.TestCase):
     def test_hostile_calls(self):
         """Calls that are wrong, and the exception of each."""
         data = index_of(Kind.SHA1)
-        index, table, id, prefix = PackIndex(Kind.SHA1, memoryview(data)), SortedDigests(Kind.SHA1, bytearray(40)), Id(EMPTY), Prefix("e")
+        index, table = PackIndex(Kind.SHA1, memoryview(data)), SortedDigests(Kind.SHA1, bytearray(40))
+        id, prefix = Id(EMPTY), Prefix("e")
         strided, floats = memoryview(bytes(40))[::2], array.array("f", [1.0] * 5)
         rows = [(TypeError, call, wrong) for call in (Id, Prefix) for wrong in (40, None, EMPTY.encode())]
-        rows += [(Error, Id, text) for text in ("\ud800" * 40, "\xe9" * 40, "\uff11" * 40, "\0" * 40, " " + EMPTY[:40], EMPTY[:40] + "\n")]
+        rows += [(Error, Id, letter * 40) for letter in ("\ud800", "\xe9", "\uff11", "\0", " ")]
+        rows += [(Error, Id, text) for text in (" " + EMPTY[:40], EMPTY[:40] + "\n")]
         rows += [(Error, Prefix, text) for text in ("\ud800", "\xe9", " e", "e ", "+1", "0x", "e" * 65)]
         for call in (Id.digest, SortedDigests, PackIndex):
             rows += [(TypeError, call, kind, data) for kind in (True, None, 1.0, "sha1")]
@@ -177,7 +179,8 @@ class Bindings(unittest.TestCase):
             rows += [(TypeError, call, Kind.SHA1, wrong) for wrong in (40, None, EMPTY, 1.5, floats, [1])]
             rows += [(BufferError, call, Kind.SHA1, strided)]
         for call in (Id.from_bytes, PackIndex.kind_of, PackIndex.of_any_kind):
-            rows += [(TypeError, call, wrong) for wrong in (40, None, EMPTY, 1.5, floats, [1])] + [(BufferError, call, strided)]
+            rows += [(TypeError, call, wrong) for wrong in (40, None, EMPTY, 1.5, floats, [1])]
+            rows += [(BufferError, call, strided)]
         for call in (Id.null, Id.empty_blob, Id.empty_tree, Hasher):
             rows += [(TypeError, call, True), (ValueError, call, 0), (ValueError, call, 2**32 + 1)]
         rows += [(ValueError, Id.of_object, Kind.SHA1, wrong, b"") for wrong in (0, 5, 2**32 + 1)]
@@ -189,7 +192,8 @@ class Bindings(unittest.TestCase):
         for call in (index.__getitem__, index.abbreviate, table.__getitem__):
             rows += [(TypeError, call, wrong) for wrong in (1.0, "1", None)]
             rows += [(IndexError, call, at) for at in (300, -301, 2**63, 2**64, -(2**64))]
-        rows += [(ValueError, call, wrong) for call in (index.index, table.index) for wrong in (id, "e6", None, Id(EMPTY[:40]))]
+        for call in (index.index, table.index):
+            rows += [(ValueError, call, wrong) for wrong in (id, "e6", None, Id(EMPTY[:40]))]
         rows += [(TypeError, index.abbreviate, slice(1)), (TypeError, copy.deepcopy, index), (TypeError, pickle.dumps, index)]
         rows += [(AttributeError, setattr, id, "kind", Kind.SHA1), (TypeError, sorted, [id, EMPTY])]
         for wanted, call, *given in rows:
@@ -233,9 +237,11 @@ class Bindings(unittest.TestCase):
             self.fails(Code.BAD_VERSION, 9, PackIndex, kind, data[:7] + b"\x09" + data[8:])
             self.fails(Code.BAD_VERSION, 9, PackIndex.kind_of, data[:7] + b"\x09" + data[8:])
             self.assertNotIn(index[0]._replace(crc=index[0].crc ^ 1), index)
+
+    def test_tables(self):
         repeats = SortedDigests(Kind.SHA1, b"1" * 60 + b"2" * 20)
         one = repeats[0]
-        self.assertEqual((repeats.count(one), repeats.index(one), repeats.index(one, 1), repeats.index(one, -2)), (3, 0, 1, 2))
+        self.assertEqual([repeats.count(one), *(repeats.index(one, start) for start in (0, 1, -2))], [3, 0, 1, 2])
         self.assertRaises(ValueError, repeats.index, one, 3)
         self.assertRaises(ValueError, repeats.index, repeats[3], 0, 3)
         self.fails(Code.TOO_LONG, 0, SortedDigests(Kind.SHA1, b"").find, Prefix(EMPTY))
