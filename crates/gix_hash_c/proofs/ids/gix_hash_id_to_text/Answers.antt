@@ -1,4 +1,4 @@
-use Rattle.std.proofs.Common.{◌≡◌, ◌<◌, ◌++◌, ◌∷◌, ℕ, List, suc, drop, length, get_or, inr, refl, sym, ap, ◌∙◌, arith, drop-cons}
+use Rattle.std.proofs.Common.{◌≡◌, ◌<◌, ◌++◌, ◌∷◌, ℕ, List, suc, drop, length, get_or, inr, refl, ap, ◌∙◌, arith, drop-cons}
 use Rattle.std.proofs.lemmas.List.{set_at}
 use Rattle.id_digits.specs.Digits.{hex_letter, spelling}
 use Rattle.id_digits.proofs.Spellings.{length-spelling}
