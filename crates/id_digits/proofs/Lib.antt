@@ -5,6 +5,8 @@ mod FirstWords
 mod LanePacking
 mod LaneReading
 mod LaneValues
+mod LineOrder
+pub mod ReadLines
 mod Masks
 pub mod NumberParts
 pub mod Packing

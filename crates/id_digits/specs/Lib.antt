@@ -6,3 +6,4 @@ pub mod ReverseLetters
 pub mod DigestLengths
 pub mod Beginnings
 pub mod Words
+pub mod SortedLines

@@ -8,6 +8,7 @@
 
 mod common;
 mod copying;
+mod lines;
 mod order;
 mod reading;
 mod reverse;
@@ -15,6 +16,7 @@ mod words;
 
 pub use common::common_digits;
 pub use copying::copy_digits;
+pub use lines::are_sorted_lines;
 pub use order::digest_cmp;
 pub use reading::read_digest;
 pub use reverse::{to_hex_letters, to_reverse_letters};

@@ -31,7 +31,7 @@ pub fn digest_cmp(one: &[u8], other: &[u8]) -> Ordering
 
 // The first eight bytes as a number, which is ordered as they are.
 #[inline(always)]
-fn first_word(bytes: &[u8]) -> u64
+pub(crate) fn first_word(bytes: &[u8]) -> u64
     requires { WORD ≤ length bytes.now }
     ensures { result ≡ word 16 (digits_of bytes.now) }
 {

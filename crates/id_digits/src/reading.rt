@@ -11,7 +11,7 @@ use std::simd::prelude::*;
 use std::simd::u8x16;
 
 // The letters of one vector, and the bytes that two of them spell.
-const LETTERS: usize = 16;
+pub(crate) const LETTERS: usize = 16;
 
 const BYTES: usize = 16;
 
@@ -53,7 +53,7 @@ fn put_rest(lanes: u8x16, bytes: &mut [u8])
 
 // The digits of the sixteen letters from this index on.
 #[inline(always)]
-fn values_at(text: &[u8], at: usize) -> u8x16
+pub(crate) fn values_at(text: &[u8], at: usize) -> u8x16
     requires { at + LETTERS ≤ length text.now }
     ensures { result ≡ values_of (take LETTERS (drop at text.now)) }
 {
@@ -77,7 +77,7 @@ fn values_of(letters: u8x16) -> u8x16
 
 // The greater of each two values.
 #[inline(always)]
-fn greater(one: u8x16, other: u8x16) -> u8x16
+pub(crate) fn greater(one: u8x16, other: u8x16) -> u8x16
     ensures { list_all is_digit result ≡ (list_all is_digit one && list_all is_digit other) }
 {
     one.simd_lt(other).select(other, one)
@@ -85,7 +85,7 @@ fn greater(one: u8x16, other: u8x16) -> u8x16
 
 // Whether each value is a digit.
 #[inline(always)]
-fn are_digits(values: u8x16) -> bool
+pub(crate) fn are_digits(values: u8x16) -> bool
     ensures { result ≡ list_all is_digit values }
 {
     values.simd_ge(u8x16::splat(16)).to_bitmask() == 0

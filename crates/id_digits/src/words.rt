@@ -77,7 +77,7 @@ fn second_word(bytes: &[u8]) -> u128
 }
 
 // The digits of the first 16 bytes.
-fn word_of_16_bytes(bytes: &[u8]) -> u128
+pub(crate) fn word_of_16_bytes(bytes: &[u8]) -> u128
     requires { 16 ≤ length bytes.now }
     ensures { result ≡ word 32 (digits_of bytes.now) }
 {

@@ -1,4 +1,5 @@
 pub mod Beginnings
+pub mod OutsidePrefixes
 mod Binary
 mod CommonDigits
 pub mod Counting

@@ -296,7 +296,7 @@ IsLine-read (c ∷ line) ds reads =
     by_parts (Some d) is (Some rest) are rest_is h = All-cons (λ b. is_line_feed b ≡ false) c line (no_line_feed c d is) (rest_is rest are)
 
 -- what reads as an id reads as digits
-IsLine-id : (line : List ℕ) (id : KindDigits) → full_read hex_letter line ≡ Ok id → IsLine line
+pub IsLine-id : (line : List ℕ) (id : KindDigits) → full_read hex_letter line ≡ Ok id → IsLine line
 IsLine-id line id reads = by_digits (digits_read hex_letter line) refl (kind_of_full_len (length line)) reads
   where
     by_digits : (digits : Option (List ℕ)) → digits_read hex_letter line ≡ digits → (kind : Option Kind)

@@ -3,6 +3,8 @@ mod LineLemmas
 pub mod Results
 mod Orders
 mod FinderLemmas
+mod IdLines
+mod SkippedLines
 mod ChunkLemmas
 mod SourceReads
 pub mod StopLemmas

@@ -7,4 +7,5 @@ pub mod Lines
 pub mod ListText
 pub mod ListChunks
 pub mod Searching
+pub mod Skipping
 pub mod Stopping

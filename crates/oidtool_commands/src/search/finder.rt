@@ -1,11 +1,13 @@
 //! The ids that begin with a prefix in a list that comes in parts.
 
-ghost use Rattle.std.specs.Prelude.{◌≡◌, ◌≢◌, ◌+◌, ◌^◌, ◌<◌, ℕ, List, [], ◌++◌, map, length, IfErr, OnOk};
+ghost use Rattle.std.specs.Prelude.{false, IsTrue, ◌≡◌, ◌≢◌, ◌+◌, ◌-◌, ◌^◌, ◌<◌, ℕ, List, [], ◌++◌, map, length, IfErr, OnOk};
 ghost use Rattle.std.specs.Option.{option_map};
 ghost use Rattle.std.specs.Result.{result_map_both};
 ghost use Rattle.gix_hash.specs.ObjectId.{id_digits};
 ghost use Rattle.gix_hash.specs.Prefix.{KindDigits};
+ghost use Rattle.id_digits.specs.SortedLines.{is_line_len};
 ghost use Rattle.oidtool_commands.specs.Searching.{last_or, found_among, HasFound};
+ghost use Rattle.oidtool_commands.specs.Skipping.{HasSkipped};
 ghost use Rattle.oidtool_commands.specs.declared.search.error.SearchError.{SearchError};
 ghost use Rattle.oidtool_commands.specs.declared.search.Search.{Search};
 
@@ -67,6 +69,29 @@ impl<A: Allocator> Finder<A> {
                     Ok(()) => Ok(()),
                     Err(_) => Err(SearchError::Memory),
                 }
+            }
+        }
+    }
+
+    /// Skips the next lines of the list, each of `LINE` bytes, and returns true, if
+    /// [`Query::find_skippable`] says that they can be skipped. Else it takes nothing.
+    pub fn skip<const LINE: usize>(&mut self, query: &Query, lines: &[[u8; LINE]]) -> bool
+        requires line { IsTrue (is_line_len LINE) }
+        requires room { self.old.count + length lines.now < 2 ^ 64 }
+        ensures skipped { IsTrue result → HasSkipped query.now.search query.now.prefix.digits
+            (LINE - 1) lines.now self.old self.new }
+        ensures none { result ≡ false → self.new ≡ self.old }
+    {
+        if self.refusal.is_some() {
+            return false;
+        }
+        match query.find_skippable(self.last, lines) {
+            None => false,
+            Some(end) => {
+                self.count += lines.len();
+                self.last = Some(end);
+                self.min_hex_len = self.min_hex_len.min(LINE - 1);
+                true
             }
         }
     }

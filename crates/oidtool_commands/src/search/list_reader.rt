@@ -1,6 +1,6 @@
 //! List texts that come in chunks.
 
-ghost use Rattle.std.specs.Prelude.{◌≡◌, ℕ, ◌+◌, ◌^◌, ◌<◌, ◌≤◌, List, [], ◌∷◌, ◌++◌, map, take, drop, length, IfOk, IfErr, IfSome, OnOk};
+ghost use Rattle.std.specs.Prelude.{◌≡◌, ℕ, false, ◌+◌, ◌^◌, ◌<◌, ◌≤◌, List, [], ◌∷◌, ◌++◌, map, take, drop, length, IfOk, IfErr, IfSome, OnOk};
 ghost use Rattle.std.specs.List.{slice_range};
 ghost use Rattle.gix_hash.specs.Digits.{hex_letter};
 ghost use Rattle.gix_hash.specs.IdReading.{full_read, result_digits};
@@ -94,6 +94,40 @@ impl<A: Allocator> ListReader<A> {
     {
         self.dropped += self.ids.len();
         self.ids.clear();
+    }
+
+    /// The number of bytes of the next chunk that belong to the line that has begun: up to its line
+    /// feed, or all of them. It is 0 if no line has begun.
+    pub fn rest_of_line(&self, chunk: &[u8]) -> usize
+        ensures { result ≤ length chunk.now }
+    {
+        if self.len == 0 {
+            return 0;
+        }
+        for at in 0..chunk.len() {
+            if chunk[at] == LINE_FEED {
+                return at + 1;
+            }
+        }
+        chunk.len()
+    }
+
+    /// Whether a line has begun that has not ended.
+    pub fn has_begun_line(&self) -> bool
+        ensures { result ≡ false → self.now.len ≡ 0 }
+    {
+        self.len > 0
+    }
+
+    /// Counts lines that it was not given, since they were skipped.
+    pub fn skip(&mut self, lines: usize)
+        requires { self.old.dropped + lines < 2 ^ 64 }
+        ensures dropped { self.new.dropped ≡ self.old.dropped + lines }
+        ensures ids { self.new.ids ≡ self.old.ids }
+        ensures line { self.new.line ≡ self.old.line }
+        ensures len { self.new.len ≡ self.old.len }
+    {
+        self.dropped += lines;
     }
 
     // Takes the whole lines that begin at this index, if the chunk has at least one and it is an

@@ -1,16 +1,22 @@
 //! The look-up of a prefix in a list that comes in parts, and the order that the list must have.
 
-ghost use Rattle.std.specs.Prelude.{◌≡◌, ◌+◌, ◌^◌, ◌<◌, ◌≤◌, ℕ, List, Bool, None, Some, map, length, IfOk, IfErr, OnOk};
+ghost use Rattle.std.specs.Prelude.{◌⊎◌, IsTrue, IfSome, ◌≡◌, ◌+◌, ◌-◌, ◌^◌, ◌<◌, ◌≤◌, ℕ, List, Bool, None, Some, map, length, IfOk, IfErr, OnOk};
 ghost use Rattle.std.specs.Option.{option_map};
-ghost use Rattle.gix_hash.specs.ObjectId.{id_digits};
+ghost use Rattle.std.specs.declared.cmp.Ordering.TheVariants.{Less, Greater};
+ghost use Rattle.gix_hash.specs.Kind.{hex_len_of};
+ghost use Rattle.gix_hash.specs.ObjectId.{id_digits, id_kind};
+ghost use Rattle.gix_hash.specs.Prefix.{place};
+ghost use Rattle.id_digits.specs.SortedLines.{is_line_len};
 ghost use Rattle.id_lookup.specs.Index.{IsIndex};
 ghost use Rattle.id_lookup.specs.Runs.{matches};
 ghost use Rattle.oidtool_commands.specs.Searching.{IsFor, IsLeast, error_of_all, first_refused, late_error};
+ghost use Rattle.oidtool_commands.specs.Skipping.{CanSkip, TakesLength, allows_repeats};
 ghost use Rattle.oidtool_commands.specs.declared.search.Search.{Search};
 
 use crate::search::Search;
 use crate::search::error::SearchError;
-use gix_hash::{Kind, ObjectId, Prefix};
+use gix_hash::{Alphabet, Kind, ObjectId, Prefix};
+use id_digits::are_sorted_lines;
 use id_lookup::{IdIndex, IndexError, SortedIds};
 
 /// A search whose prefix is read.
@@ -71,6 +77,68 @@ impl Query {
             },
             Search::In(kind) => Ok((find_in_index(kind, &self.prefix, before, part)?, 64)),
         }
+    }
+
+    /// The id of the last of the next lines of a list, each of `LINE` bytes, if the lines can be
+    /// skipped: they are of full ids in order after `last`, the last id before them, and the prefix
+    /// comes before the first of these ids, or after the last, so none begins with it.
+    pub fn find_skippable<const LINE: usize>(
+        &self,
+        last: Option<ObjectId>,
+        lines: &[[u8; LINE]],
+    ) -> Option<ObjectId>
+        requires { IsTrue (is_line_len LINE) }
+        ensures { IfSome result (CanSkip self.now.search self.now.prefix.digits (LINE - 1)
+            (option_map id_digits last) lines.now) }
+    {
+        if lines.is_empty() || !self.takes_length(LINE - 1) {
+            return None;
+        }
+        let first = Alphabet::Hex.find_id(&lines[0][..LINE - 1])?;
+        let end = Alphabet::Hex.find_id(&lines[lines.len() - 1][..LINE - 1])?;
+        if !self.is_outside(&first, &end) {
+            return None;
+        }
+        if late_error(self.search, 0, last, &[first]).is_some() {
+            return None;
+        }
+        if are_sorted_lines(lines, self.allows_repeats()) {
+            Some(end)
+        } else {
+            None
+        }
+    }
+
+    // Whether ids of `hex_len` digits may be searched, and the prefix has no more.
+    fn takes_length(&self, hex_len: usize) -> bool
+        ensures search { IsTrue result → TakesLength self.now.search hex_len }
+        ensures prefix { IsTrue result → length self.now.prefix.digits ≤ hex_len }
+    {
+        let is_kind = match self.search {
+            Search::Sorted(_) => true,
+            Search::In(kind) => hex_len == kind.len_in_hex(),
+        };
+        is_kind && self.prefix.hex_len() <= hex_len
+    }
+
+    // Whether an id may be repeated in the list.
+    fn allows_repeats(&self) -> bool
+        ensures { result ≡ allows_repeats self.now.search }
+    {
+        matches!(self.search, Search::Sorted(_))
+    }
+
+    // Whether the prefix comes before the first of sorted ids, or after the last.
+    fn is_outside(&self, first: &ObjectId, end: &ObjectId) -> bool
+        requires first { length self.now.prefix.digits ≤ hex_len_of (id_kind first.now) }
+        requires end { length self.now.prefix.digits ≤ hex_len_of (id_kind end.now) }
+        ensures { IsTrue result → (place self.now.prefix.digits (id_digits first.now) ≡ Less)
+            ⊎ (place self.now.prefix.digits (id_digits end.now) ≡ Greater) }
+    {
+        if self.prefix.cmp_oid(first.as_oid()).is_lt() {
+            return true;
+        }
+        self.prefix.cmp_oid(end.as_oid()).is_gt()
     }
 
     /// The error of a list in order whose ids have at least so many digits.

@@ -1,9 +1,11 @@
 //! Searches in the list text of a source, chunk by chunk.
 
-ghost use Rattle.std.specs.Prelude.{◌≡◌, ◌↔◌, ◌^◌, ◌<◌, false, true, map, IfOk, IfErr, OnOk, IsErrOf, Ok};
+ghost use Rattle.std.specs.Prelude.{◌≡◌, ◌↔◌, ◌+◌, ◌^◌, ◌<◌, ◌≤◌, [], length, take, false, true, map, IsTrue, IfOk, IfErr, OnOk, IsErrOf, Ok};
 ghost use Rattle.gix_hash.specs.ObjectId.{id_digits};
+ghost use Rattle.id_digits.specs.SortedLines.{is_line_len};
 ghost use Rattle.oidtool_commands.specs.ListText.{list_read};
 ghost use Rattle.oidtool_commands.specs.Searching.{found_in_list};
+ghost use Rattle.oidtool_commands.specs.Skipping.{IsRefusedIn, Searches};
 ghost use Rattle.oidtool_commands.specs.Stopping.{From, OfAll, Stops};
 ghost use Rattle.oidtool_commands.specs.declared.search.error.SearchError.{SearchError};
 
@@ -14,6 +16,11 @@ use crate::search::query::Query;
 use gix_hash::ObjectId;
 use std::alloc::Allocator;
 use streams::{CHUNK_LEN, Source};
+
+// The bytes of a line of an id of each kind: its letters, and a line feed.
+const SHA1_LINE: usize = 41;
+
+const SHA256_LINE: usize = 65;
 
 /// The ids that are found in the list text that the source gives to its end, of at most so many
 /// bytes. The ids whose lines end in a chunk are looked up together, and only those that are found
@@ -59,9 +66,77 @@ pub fn find_in_source<A: Allocator + Copy, R: Source>(
             reader.take_chunk(&chunk[..room as usize])?;
             return Err(SearchError::TooMuch);
         }
-        reader.take_chunk(&chunk[..count])?;
-        finder.take(query, reader.ids())?;
-        reader.drop_ids();
+        search_chunk(&mut reader, &mut finder, query, &chunk[..count])?;
         room -= count as u64;
     }
+}
+
+// Takes a chunk of the list text: its lines are skipped, if they can be, or else read.
+fn search_chunk<A: Allocator>(
+    reader: &mut ListReader<A>,
+    finder: &mut Finder<A>,
+    query: &Query,
+    chunk: &[u8],
+) -> Result<(), SearchError>
+    requires empty { reader.old.ids.items ≡ [] }
+    requires count { finder.old.count ≡ reader.old.dropped }
+    requires room { reader.old.dropped + reader.old.len + length chunk.now < 2 ^ 64 }
+    ensures ok { OnOk result (Searches query.now.search query.now.prefix.digits reader.old reader.new
+        finder.old finder.new chunk.now) }
+    ensures err { IfErr result (IsRefusedIn query.now.search query.now.prefix.digits reader.old
+        finder.old chunk.now) }
+{
+    let start = reader.rest_of_line(chunk);
+    read_chunk(reader, finder, query, &chunk[..start])?;
+    let mut end = start + skip_lines::<_, SHA1_LINE>(reader, finder, query, &chunk[start..]);
+    end += skip_lines::<_, SHA256_LINE>(reader, finder, query, &chunk[end..]);
+    read_chunk(reader, finder, query, &chunk[end..])
+}
+
+// Reads a chunk of the list text, and looks the prefix up among the ids whose lines end in it.
+fn read_chunk<A: Allocator>(
+    reader: &mut ListReader<A>,
+    finder: &mut Finder<A>,
+    query: &Query,
+    chunk: &[u8],
+) -> Result<(), SearchError>
+    requires empty { reader.old.ids.items ≡ [] }
+    requires count { finder.old.count ≡ reader.old.dropped }
+    requires room { reader.old.dropped + reader.old.len + length chunk.now < 2 ^ 64 }
+    ensures ok { OnOk result (Searches query.now.search query.now.prefix.digits reader.old reader.new
+        finder.old finder.new chunk.now) }
+    ensures err { IfErr result (IsRefusedIn query.now.search query.now.prefix.digits reader.old
+        finder.old chunk.now) }
+{
+    reader.take_chunk(chunk)?;
+    finder.take(query, reader.ids())?;
+    reader.drop_ids();
+    Ok(())
+}
+
+// Skips all whole lines of `LINE` bytes of a chunk, if none of their ids can begin with the prefix,
+// and returns the number of their bytes.
+fn skip_lines<A: Allocator, const LINE: usize>(
+    reader: &mut ListReader<A>,
+    finder: &mut Finder<A>,
+    query: &Query,
+    chunk: &[u8],
+) -> usize
+    requires line { IsTrue (is_line_len LINE) }
+    requires empty { reader.old.ids.items ≡ [] }
+    requires count { finder.old.count ≡ reader.old.dropped }
+    requires room { reader.old.dropped + length chunk.now < 2 ^ 64 }
+    ensures within { result ≤ length chunk.now }
+    ensures searches { Searches query.now.search query.now.prefix.digits reader.old reader.new
+        finder.old finder.new (take result chunk.now) }
+{
+    if reader.has_begun_line() {
+        return 0;
+    }
+    let lines = chunk.as_chunks::<LINE>().0;
+    if !finder.skip(query, lines) {
+        return 0;
+    }
+    reader.skip(lines.len());
+    LINE * lines.len()
 }

@@ -1,14 +1,13 @@
 -- Each exit says where the reading stopped, by the bytes taken and by the last read.
-use Rattle.std.proofs.Common.{◌≡◌, ◌≢◌, ◌<◌, ◌≤◌, ◌++◌, ◌∙◌, [], map, sym, append-nil, append_assoc, take, drop, length, length-append, ap, subst, arith, length-take}
+use Rattle.std.proofs.Common.{◌≡◌, ◌≢◌, ◌<◌, ◌≤◌, ◌∙◌, [], map, sym, append-nil, take, drop, length, subst, arith, length-take}
 use Rattle.std.proofs.lemmas.List.{map-append}
 use Rattle.std.proofs.lemmas.Result.{err_from_is_err_and}
 use Rattle.std.specs.Io.KnownBytes.{Consumes}
 use Rattle.gix_hash.specs.ObjectId.{id_digits}
-use Rattle.oidtool_commands.specs.ListChunks.{HasTaken}
 use Rattle.oidtool_commands.specs.ListText.{IsListRefusal}
-use Rattle.oidtool_commands.specs.Searching.{HasFound}
 use Rattle.oidtool_commands.specs.Stopping.{From}
-use Rattle.oidtool_commands.proofs.ChunkLemmas.{first_of_taken, first_of_list}
+use Rattle.oidtool_commands.proofs.SkippedLines.{has_searched}
+use Rattle.oidtool_commands.proofs.ChunkLemmas.{first_of_list}
 use Rattle.oidtool_commands.proofs.SourceReads.{none_taken, stopped_good, holds_of_all, settled_of_all, settled, too_much, taken_chunk, split_read, bytes_left, not_failed}
 use Rattle.oidtool_commands.proofs.StopLemmas.{refused_exit, end_found, end_stops, end_read}
 use Rattle.oidtool_commands.proofs.search.reading.find_in_source.Goals as goal
@@ -28,23 +27,13 @@ chunks-preserved g c =
     let taken = t.3 in
     let chunk = take c.in-Ok.count c.read.new.buf in
     let all : length chunk ≡ c.in-Ok.count = omega (arith, c.in-Ok.ensures.bound, length-take c.in-Ok.count c.read.new.buf) in
-    let said = c.in_ok-take_chunk-2.ensures.ok in
-    let has : HasTaken ((t.0 ++ c.ids.result.now) ++ c.drop_ids.new.self.ids.items) c.drop_ids.new.self.line c.drop_ids.new.self.len (taken.text ++ chunk) =
-    rw (c.drop_ids.ensures.ids, c.drop_ids.ensures.line, c.drop_ids.ensures.len, append-nil (t.0 ++ c.ids.result.now), c.ids.ensures)
-    (said.taken t.0 taken.text taken.taken) in
-    let none = ap length c.chunks.invariant.empty in
-    let part = ap length c.ids.ensures in
+    let said = c.in_ok-search_chunk.ensures.ok in
+    let s = said.onward taken.text (has_searched _ _ c.chunks.reader c.chunks.finder taken.text t.0 t.1 t.2 taken.taken) in
     record {
-      taken = (
-        t.0 ++ c.ids.result.now,
-        omega (arith, length-append t.0 c.ids.result.now, part, t.1, c.drop_ids.ensures.dropped, said.dropped),
-        subst (λ all. HasFound c.args.query.now.search c.args.query.now.prefix.digits all c.take-in-chunks.new.self) (sym (map-append id_digits t.0 c.ids.result.now))
-            (c.in_ok-take-2.ensures.known (map id_digits t.0) t.2),
-        taken_chunk _ _ _ _ _ _ _ _ taken _ _ _ _ chunk c.in-Ok.ensures.bytes.0 (omega arith) has,
-      );
-      empty = c.drop_ids.ensures.ids;
-      count = omega (arith, c.in_ok-take-2.ensures.count, c.chunks.invariant.count, part, c.drop_ids.ensures.dropped, said.dropped);
-      short = omega (arith, said.short, said.dropped, none, c.chunks.invariant.short, c.drop_ids.ensures.dropped, c.drop_ids.ensures.len);
+      taken = (s.earlier, s.dropped, s.found, taken_chunk _ _ _ _ _ _ _ _ taken _ _ _ _ chunk c.in-Ok.ensures.bytes.0 (omega arith) s.taken);
+      empty = said.empty;
+      count = said.count;
+      short = omega (arith, said.short, c.chunks.invariant.short, all);
       stands = not_failed _ _ c.chunks.invariant.stands c.in-Ok.ensures.failed;
     }
 
@@ -124,31 +113,16 @@ returns-then-count-room-clause-stopped g c =
     too_much _ _ _ _ _ _ _ _ t.3 (take room buf) (drop room (take count buf)) (split_read _ _ room count buf (omega arith) c.in-Ok.ensures.bytes.0) (omega arith)
     _ _ _ full (bytes_left room count buf (omega arith) within) (c.in_ok-take_chunk.ensures.ok.taken t.0 t.3.text t.3.taken)
 
-pub returns-in_err-take_chunk-2 : goal.returns-in_err-take_chunk-2
-returns-in_err-take_chunk-2 g c =
-    let exit = c.from_residual-in_err-take_chunk-2.ensures.1 in
+pub returns-in_err-search_chunk : goal.returns-in_err-search_chunk
+returns-in_err-search_chunk g c =
+    let exit = c.from_residual-in_err-search_chunk.ensures.1 in
     let t = c.chunks.invariant.taken in
     let count = c.in-Ok.count in
     let buf = c.read.new.buf in
     let fits : length (take count buf) ≤ c.chunks.room = omega (arith, length-take count buf) in
     let stopped = refused_exit _ _ _ _ _ _ _ _ exit (not_failed _ _ c.chunks.invariant.stands c.in-Ok.ensures.failed)
     (settled _ _ _ _ _ _ _ _ t.3 (take count buf) [] (subst (Consumes _ _) (sym (append-nil (take count buf))) c.in-Ok.ensures.bytes.0) fits
-    (λ text. IsListRefusal text c.in_err-take_chunk-2.field-0.0) (λ more. c.in_err-take_chunk-2.ensures.err t.0 t.3.text more t.1 t.3.taken)) in
-    let p = err_from_is_err_and c.from_residual-in_err-take_chunk-2.result exit in
-    record { found = rw p.1 tt; not_failed = rw p.1 tt; stopped = stopped.0; input = stopped.1 }
-
-pub returns-in_err-take-2 : goal.returns-in_err-take-2
-returns-in_err-take-2 g c =
-    let exit = c.from_residual-in_err-take-2.ensures.1 in
-    let m = c.in_err-take-2.ensures.memory in
-    let t = c.chunks.invariant.taken in
-    let count = c.in-Ok.count in
-    let buf = c.read.new.buf in
-    let fits : length (take count buf) ≤ c.chunks.room = omega (arith, length-take count buf) in
-    let part : c.take_chunk-in-chunks.new.self.ids.items ≢ [] = subst (λ ids. ids ≢ []) c.ids.ensures m.1 in
-    let stopped = refused_exit _ _ _ _ _ _ _ _ exit (not_failed _ _ c.chunks.invariant.stands c.in-Ok.ensures.failed)
-    (settled _ _ _ _ _ _ _ _ t.3 (take count buf) [] (subst (Consumes _ _) (sym (append-nil (take count buf))) c.in-Ok.ensures.bytes.0) fits
-    (λ text. IsListRefusal text c.in_err-take-2.field-0.0) (λ more. rw (sym (append_assoc t.3.text (take count buf) more)) (subst (IsListRefusal ((t.3.text ++ take count buf) ++ more)) (sym m.0)
-    (first_of_taken t.0 _ _ _ (t.3.text ++ take count buf) more (c.in_ok-take_chunk-2.ensures.ok.taken t.0 t.3.text t.3.taken) part)))) in
-    let p = err_from_is_err_and c.from_residual-in_err-take-2.result exit in
+    (λ text. IsListRefusal text c.in_err-search_chunk.field-0.0)
+    (λ more. c.in_err-search_chunk.ensures.err t.3.text more (has_searched _ _ c.chunks.reader c.chunks.finder t.3.text t.0 t.1 t.2 t.3.taken))) in
+    let p = err_from_is_err_and c.from_residual-in_err-search_chunk.result exit in
     record { found = rw p.1 tt; not_failed = rw p.1 tt; stopped = stopped.0; input = stopped.1 }

@@ -1,0 +1,243 @@
+-- Sorted lines of full ids: the ids that they read as, and what is known of these.
+use Rattle.std.proofs.Common.{◌≡◌, ◌⊎◌, inl, inr, ℕ, zero, suc, ◌+◌, ◌-◌, ◌*◌, ◌<◌, ◌≤◌, Bool, true, false, nat_eq, if◌then◌else◌, IsTrue, Option, Some, None, Result, Ok, Err, List, [], ◌∷◌, map, length, take, get_or, refl, sym, ap, ◌∙◌, arith, Less, Equal, Greater}
+use Rattle.std.proofs.lemmas.Bool.Decides.{nat_tests}
+use Rattle.std.proofs.lemmas.Cmp.{nat_list_cmp_total}
+use Rattle.std.proofs.lemmas.List.{length-map, get_or-map}
+use Rattle.std.specs.Option.{option_map}
+use Rattle.std.specs.Result.{result_ok}
+use Rattle.std.specs.Ordering.{nat_cmp, is_lt, is_le, ordering_reverse}
+use Rattle.std.specs.Cmp.Lexicographic.{slice_cmp}
+use Rattle.std.specs.declared.cmp.Ordering.{Ordering}
+use Rattle.gix_hash.specs.Digits.{digits_of, hex_letter}
+use Rattle.gix_hash.specs.IdReading.{full_read, whole_of}
+use Rattle.gix_hash.specs.Kind.{hex_len_of, byte_len_of, kind_of_full_len}
+use Rattle.gix_hash.specs.ObjectId.{id_digits}
+use Rattle.gix_hash.specs.Prefix.{KindDigits, place}
+use Rattle.gix_hash.specs.Reading.{reading_of}
+use Rattle.gix_hash.specs.declared.Kind.{Kind}
+use Rattle.gix_hash.specs.declared.Kind.TheVariants.{Sha1, Sha256}
+use Rattle.gix_hash.specs.declared.ObjectId.{ObjectId}
+use Rattle.gix_hash.specs.declared.ObjectId.TheVariants as id
+use Rattle.gix_hash.specs.declared.decode.Error.{Error}
+use Rattle.gix_hash.specs.declared.decode.Error.TheVariants.{InvalidHexEncodingLength, Invalid}
+use Rattle.id_digits.specs.LetterValues.{value_of, packed}
+use Rattle.id_digits.specs.SortedLines.{is_line_len, line_values, may_follow, IsIdLine, AreSortedLines}
+use Rattle.id_digits.proofs.ReadLines.{length-letters, packed_line, line_reads}
+use Rattle.id_lookup.specs.Sorted.{IsSortedIds, least_hex_len}
+use Rattle.id_lookup.proofs.Indexes.{index-sorted}
+use Rattle.id_lookup.proofs.OutsidePrefixes.{no_matches}
+use Rattle.oidtool_commands.specs.Searching.{late_error, IsLeast}
+use Rattle.oidtool_commands.specs.Skipping.{TakesLength, allows_repeats, IsLineOfId, AreLinesOf, CanSkip}
+use Rattle.oidtool_commands.specs.declared.search.error.SearchError.TheVariants.{Unsorted, NotRising}
+use Rattle.oidtool_commands.specs.declared.search.Search.{Search}
+use Rattle.oidtool_commands.specs.declared.search.Search.TheVariants.{Sorted, In}
+use Rattle.oidtool_commands.proofs.FinderLemmas.{last_or-at}
+use Rattle.oidtool_commands.proofs.Orders.{IsUpTo, in_order_after}
+
+-- the kind of the ids in lines of a length
+pub kind_of_line : (len : ℕ) → IsTrue (is_line_len len) → (kind : Kind) × (len - 1 ≡ hex_len_of kind)
+kind_of_line len is = by (nat_eq len 41) refl
+  where
+    by : (b : Bool) → nat_eq len 41 ≡ b → (kind : Kind) × (len - 1 ≡ hex_len_of kind)
+    by true short = let same : len - 1 ≡ 40 = grind (arith, nat_tests, short) in (Sha1, same)
+    by false long = let same : len - 1 ≡ 64 = grind (arith, nat_tests, is, long) in (Sha256, same)
+
+two_a_byte : (kind : Kind) → hex_len_of kind ≡ 2 * byte_len_of kind
+two_a_byte Sha1 = refl
+two_a_byte Sha256 = refl
+
+-- the id of a kind that has these bytes
+abbrev made : Kind → List ℕ → ObjectId
+made Sha1 bytes = id.Sha1 bytes
+made Sha256 bytes = id.Sha256 bytes
+
+made_digits : (kind : Kind) (bytes : List ℕ) → id_digits (made kind bytes) ≡ digits_of bytes
+made_digits Sha1 bytes = refl
+made_digits Sha256 bytes = refl
+
+made_whole : (kind : Kind) (bytes : List ℕ)
+    → reading_of (kind_of_full_len (hex_len_of kind)) (Some (digits_of bytes)) (InvalidHexEncodingLength (hex_len_of kind)) Invalid ≡ Ok (whole_of (made kind bytes))
+made_whole Sha1 bytes = refl
+made_whole Sha256 bytes = refl
+
+-- the id that a line reads as
+abbrev id_of : Kind → List ℕ → ObjectId
+id_of kind line = made kind (packed (line_values (hex_len_of kind) line))
+
+abbrev ids_of : Kind → List (List ℕ) → List ObjectId
+ids_of kind lines = map (id_of kind) lines
+
+abbrev digits_in : Kind → List (List ℕ) → List (List ℕ)
+digits_in kind lines = map id_digits (ids_of kind lines)
+
+count : (kind : Kind) (lines : List (List ℕ)) → length (digits_in kind lines) ≡ length lines
+count kind lines = length-map (ids_of kind lines) id_digits ∙ length-map lines (id_of kind)
+
+digits_are : (kind : Kind) (line : List ℕ) → IsIdLine (hex_len_of kind) line → id_digits (id_of kind line) ≡ line_values (hex_len_of kind) line
+digits_are kind line is =
+    made_digits kind (packed (line_values (hex_len_of kind) line)) ∙ packed_line (byte_len_of kind) (hex_len_of kind) line (two_a_byte kind) is
+
+count_digits : (kind : Kind) (line : List ℕ) → IsIdLine (hex_len_of kind) line → length (id_digits (id_of kind line)) ≡ hex_len_of kind
+count_digits kind line is = ap length (digits_are kind line is) ∙ length-map (take (hex_len_of kind) line) value_of ∙ length-letters (hex_len_of kind) line is
+
+line_of_id : (kind : Kind) (line : List ℕ) → IsIdLine (hex_len_of kind) line → IsLineOfId (hex_len_of kind) line (id_of kind line)
+line_of_id kind line is =
+    let n = hex_len_of kind in
+    record {
+      feed = is.feed;
+      reads = rw (length-letters n line is, line_reads (byte_len_of kind) n line (two_a_byte kind) is) (made_whole kind (packed (line_values n line)));
+    }
+
+are_lines : (kind : Kind) (repeats : Bool) (previous : List ℕ) (lines : List (List ℕ)) → AreSortedLines (hex_len_of kind) repeats previous lines
+    → AreLinesOf (hex_len_of kind) lines (ids_of kind lines)
+unfolding AreSortedLines
+are_lines kind repeats previous [] h = tt
+are_lines kind repeats previous (line ∷ lines) h = (line_of_id kind line h.0, are_lines kind repeats line lines h.2)
+
+line_at : (n : ℕ) (repeats : Bool) (previous : List ℕ) (lines : List (List ℕ)) → AreSortedLines n repeats previous lines
+    → (k : ℕ) → k < length lines → IsIdLine n (get_or lines k [])
+unfolding AreSortedLines
+line_at n repeats previous [] h k inside = absurd (omega arith)
+line_at n repeats previous (line ∷ lines) h zero inside = h.0
+line_at n repeats previous (line ∷ lines) h (suc k) inside = line_at n repeats line lines h.2 k (omega arith)
+
+length_at : (kind : Kind) (repeats : Bool) (previous : List ℕ) (lines : List (List ℕ)) → AreSortedLines (hex_len_of kind) repeats previous lines
+    → (k : ℕ) (d : List ℕ) → k < length lines → length (get_or (digits_in kind lines) k d) ≡ hex_len_of kind
+unfolding AreSortedLines
+length_at kind repeats previous [] h k d inside = absurd (omega arith)
+length_at kind repeats previous (line ∷ lines) h zero d inside = count_digits kind line h.0
+length_at kind repeats previous (line ∷ lines) h (suc k) d inside = length_at kind repeats line lines h.2 k d (omega arith)
+
+follows_at : (kind : Kind) (repeats : Bool) (previous : List ℕ) (lines : List (List ℕ)) → AreSortedLines (hex_len_of kind) repeats previous lines
+    → (k : ℕ) (d : List ℕ) → suc k < length lines
+    → IsTrue (may_follow repeats (slice_cmp nat_cmp (get_or (digits_in kind lines) k d) (get_or (digits_in kind lines) (suc k) d)))
+unfolding AreSortedLines
+follows_at kind repeats previous [] h k d inside = absurd (omega arith)
+follows_at kind repeats previous (line ∷ []) h k d inside = absurd (omega arith)
+follows_at kind repeats previous (line ∷ (next ∷ lines)) h zero d inside = rw (digits_are kind line h.0, digits_are kind next h.2.0) h.2.1
+follows_at kind repeats previous (line ∷ (next ∷ lines)) h (suc k) d inside = follows_at kind repeats line (next ∷ lines) h.2 k d (omega arith)
+
+not_below : (o : Ordering) → is_le o ≡ true → is_lt (ordering_reverse o) ≡ false
+not_below Less h = refl
+not_below Equal h = refl
+not_below Greater h = cc h
+
+is_less : (o : Ordering) → is_lt o ≡ true → o ≡ Less
+is_less Less h = refl
+is_less Equal h = cc h
+is_less Greater h = cc h
+
+-- the ids are in order
+in_order : (search : Search) (kind : Kind) (lines : List (List ℕ)) → TakesLength search (hex_len_of kind)
+    → AreSortedLines (hex_len_of kind) (allows_repeats search) [] lines → IsUpTo search (length (digits_in kind lines)) (digits_in kind lines)
+in_order (Sorted alphabet) kind lines takes h = λ k d low high.
+    let ids = digits_in kind lines in
+    let next : k + 1 ≡ suc k = omega arith in
+    rw next
+    (ap is_lt (nat_list_cmp_total.antisymm (get_or ids (suc k) d) (get_or ids k d))
+    ∙ not_below (slice_cmp nat_cmp (get_or ids k d) (get_or ids (suc k) d)) (follows_at kind true [] lines h k d (omega (arith, high, count kind lines))))
+in_order (In other) kind lines takes h = record {
+  kinds = λ k d low high. length_at kind false [] lines h k d (omega (arith, high, count kind lines)) ∙ takes;
+  rises = λ k d high.
+      let next : k + 1 ≡ suc k = omega arith in
+      rw next (is_less _ (follows_at kind false [] lines h k d (omega (arith, high, count kind lines))));
+}
+
+are_sorted : (search : Search) (ids : List (List ℕ)) → IsUpTo search (length ids) ids → IsSortedIds ids
+are_sorted (Sorted alphabet) ids h = h
+are_sorted (In kind) ids h = index-sorted kind ids h
+
+-- the error of the first id after the one before it depends on no other id
+late_any : (search : Search) (last : Option (List ℕ)) (number : ℕ) (id : List ℕ) (ids : List (List ℕ)) → late_error search 1 last (id ∷ []) ≡ None
+    → late_error search number last (id ∷ ids) ≡ None
+late_any search None number id ids h = refl
+late_any (Sorted alphabet) (Some last) number id ids h = by (is_lt (slice_cmp nat_cmp id last)) h
+  where
+    by : (b : Bool) → (if b then Some (Unsorted 1) else None) ≡ None → (if b then Some (Unsorted number) else None) ≡ None
+    by true h = cc h
+    by false h = refl
+late_any (In kind) (Some last) number id ids h = by _ h
+  where
+    by : (b : Bool) → (if b then Some (NotRising 1) else None) ≡ None → (if b then Some (NotRising number) else None) ≡ None
+    by true h = cc h
+    by false h = refl
+
+-- the smallest number of digits
+at_most : (kind : Kind) → hex_len_of kind ≤ 64
+at_most Sha1 = omega arith
+at_most Sha256 = omega arith
+
+least_most : (kind : Kind) (repeats : Bool) (previous : List ℕ) (lines : List (List ℕ)) → AreSortedLines (hex_len_of kind) repeats previous lines
+    → hex_len_of kind ≤ least_hex_len (digits_in kind lines)
+unfolding AreSortedLines
+least_most kind repeats previous [] h = at_most kind
+least_most kind repeats previous (line ∷ lines) h = omega (arith, count_digits kind line h.0, least_most kind repeats line lines h.2)
+
+least_is : (search : Search) (kind : Kind) (previous : List ℕ) (lines : List (List ℕ)) → AreSortedLines (hex_len_of kind) (allows_repeats search) previous lines
+    → 0 < length lines → IsLeast search (hex_len_of kind) (digits_in kind lines)
+unfolding AreSortedLines
+least_is (In other) kind previous lines h some = tt
+least_is (Sorted alphabet) kind previous [] h some = absurd (omega arith)
+least_is (Sorted alphabet) kind previous (line ∷ lines) h some = omega (arith, count_digits kind line h.0, least_most kind true line lines h.2)
+
+-- an id that is found in a text is what the text reads as
+pub found_reads : (id : ObjectId) (reading : Result KindDigits Error) → option_map whole_of (Some id) ≡ result_ok reading → reading ≡ Ok (whole_of id)
+found_reads id (Ok whole) h = let same : whole ≡ whole_of id = cc h in ap Ok same
+found_reads id (Err error) h = cc h
+
+-- an id that is read from the letters of a line has the digits of that line
+same_digits : (kind : Kind) (line : List ℕ) (found : ObjectId) → IsIdLine (hex_len_of kind) line
+    → full_read hex_letter (take (hex_len_of kind) line) ≡ Ok (whole_of found) → id_digits found ≡ id_digits (id_of kind line)
+same_digits kind line found is reads =
+    let both : Ok (whole_of found) ≡ Ok (whole_of (id_of kind line)) = sym reads ∙ (line_of_id kind line is).reads in
+    let whole : whole_of found ≡ whole_of (id_of kind line) = cc both in
+    ap (λ (w : KindDigits). w.digits) whole
+
+-- sorted lines can be skipped, if the prefix comes before the first id, or after the last
+can_skip_of : (search : Search) (kind : Kind) (prefix : KindDigits) (last : Option (List ℕ)) (lines : List (List ℕ)) (first end : ObjectId)
+    → AreSortedLines (hex_len_of kind) (allows_repeats search) [] lines → 0 < length lines → TakesLength search (hex_len_of kind)
+    → full_read hex_letter (take (hex_len_of kind) (get_or lines 0 [])) ≡ Ok (whole_of first)
+    → full_read hex_letter (take (hex_len_of kind) (get_or lines (length lines - 1) [])) ≡ Ok (whole_of end)
+    → ((place prefix.digits (id_digits first) ≡ Less) ⊎ (place prefix.digits (id_digits end) ≡ Greater))
+    → late_error search 1 last (id_digits first ∷ []) ≡ None → CanSkip search prefix.digits (hex_len_of kind) last lines end
+can_skip_of search kind prefix last [] first end h some takes reads also outside late = absurd (omega arith)
+can_skip_of search kind prefix last (line ∷ lines) first end h some takes reads also outside late =
+    let all = line ∷ lines in
+    let n = hex_len_of kind in
+    let at = length all - 1 in
+    let repeats = allows_repeats search in
+    let ids = ids_of kind all in
+    let digits = digits_in kind all in
+    let up_to = in_order search kind all takes h in
+    let at_end : at < length all = omega arith in
+    let first_is : id_digits first ≡ id_digits (id_of kind line) = same_digits kind line first (line_at n repeats [] all h 0 (omega arith)) reads in
+    let end_is : id_digits end ≡ id_digits (id_of kind (get_or all at [])) = same_digits kind (get_or all at []) end (line_at n repeats [] all h at at_end) also in
+    let there : get_or ids at (id_of kind []) ≡ id_of kind (get_or all at []) = get_or-map (id_of kind) all at [] (id_of kind []) at_end in
+    let last_there : get_or digits at [] ≡ id_digits (id_of kind (get_or all at [])) =
+    get_or-map id_digits ids at (id_of kind []) [] (omega (arith, length-map all (id_of kind))) ∙ ap id_digits there in
+    let size : length digits ≡ length all = count kind all in
+    record {
+      ids = ids;
+      each = are_lines kind repeats [] all h;
+      is_last =
+          ap Some (end_is ∙ ap id_digits (sym there))
+          ∙ last_or-at ids last (id_of kind []) at (omega (arith, length-map all (id_of kind)));
+      in_order = λ number.
+          in_order_after search last number digits (rw first_is at (late_any search last number (id_digits first) (digits_in kind lines) late)) up_to;
+      least = least_is search kind [] all h some;
+      none = no_matches prefix digits (are_sorted search digits up_to) (omega (arith, size)) (elim outside [
+        | inl before ↦ inl (rw first_is at before)
+        | inr after ↦ inr (rw (size, last_there) (rw end_is at after))
+      ]);
+    }
+
+module _ (len : ℕ) (line : IsTrue (is_line_len len)) (search : Search) (prefix : KindDigits) (last : Option (List ℕ)) (lines : List (List ℕ)) (first end : ObjectId) where
+  -- the same for lines of a length
+  pub can_skip : AreSortedLines (len - 1) (allows_repeats search) [] lines → 0 < length lines → TakesLength search (len - 1)
+      → full_read hex_letter (take (len - 1) (get_or lines 0 [])) ≡ Ok (whole_of first)
+      → full_read hex_letter (take (len - 1) (get_or lines (length lines - 1) [])) ≡ Ok (whole_of end)
+      → ((place prefix.digits (id_digits first) ≡ Less) ⊎ (place prefix.digits (id_digits end) ≡ Greater))
+      → late_error search 1 last (id_digits first ∷ []) ≡ None → CanSkip search prefix.digits (len - 1) last lines end
+  can_skip sorted some takes reads also outside late =
+      let of = kind_of_line len line in
+      rw of.1 (can_skip_of search of.0 prefix last lines first end (rw of.1 at sorted) some (rw of.1 at takes) (rw of.1 at reads) (rw of.1 at also) outside late)

@@ -1,0 +1,191 @@
+-- What a search does with a chunk, step by step: lines that are skipped, and lines that are read.
+use Rattle.std.proofs.Common.{◌-◌, ◌/◌, Bool, true, false, nat_eq, IsTrue, Result, Ok, Err, IfErr, take-append-drop, ◌≡◌, ◌≢◌, ℕ, zero, suc, ◌+◌, ◌*◌, ◌<◌, ◌≤◌, List, [], ◌∷◌, ◌++◌, map, length, take, drop, refl, sym, ap, subst, ◌∙◌, arith, append_assoc, append-nil, take-add, length-append, length-take, length-drop}
+use Rattle.std.proofs.lemmas.Bool.Decides.{nat_tests}
+use Rattle.std.proofs.lemmas.List.{length-take-le, map-append, take_all, take_more}
+use Rattle.std.proofs.Math.Nat.{suc-mul}
+use Rattle.std.specs.Prelude.{OnOk}
+use Rattle.std.specs.List.{slice_range}
+use Rattle.std.specs.Simd.{first_chunks}
+use Rattle.gix_hash.specs.IdReading.{whole_of}
+use Rattle.gix_hash.specs.ObjectId.{id_digits}
+use Rattle.gix_hash.specs.declared.ObjectId.{ObjectId}
+use Rattle.id_digits.specs.SortedLines.{is_line_len}
+use Rattle.oidtool_commands.specs.ListChunks.{HasTaken, HasIdLine, Takes, IsRefusalAfter, ended}
+use Rattle.oidtool_commands.specs.ListText.{IsListRefusal}
+use Rattle.oidtool_commands.specs.Skipping.{AreLinesOf, HasSkipped, HasSearched, Searches, IsRefusedIn}
+use Rattle.oidtool_commands.specs.Searching.{HasFound}
+use Rattle.oidtool_commands.specs.declared.search.error.SearchError.{SearchError}
+use Rattle.oidtool_commands.specs.declared.search.error.SearchError.TheVariants.{Memory}
+use Rattle.oidtool_commands.specs.declared.search.finder.Finder.{Finder}
+use Rattle.oidtool_commands.specs.declared.search.list_reader.ListReader.{ListReader}
+use Rattle.oidtool_commands.specs.declared.search.Search.{Search}
+use Rattle.oidtool_commands.proofs.ChunkLemmas.{IsLine-id, line_pushed, first_of_taken}
+
+pub lines_counted : (n : ℕ) (lines : List (List ℕ)) (ids : List ObjectId) → AreLinesOf n lines ids → length ids ≡ length lines
+lines_counted n [] [] h = refl
+lines_counted n [] (id ∷ ids) h = absurd h
+lines_counted n (line ∷ lines) [] h = absurd h
+lines_counted n (line ∷ lines) (id ∷ ids) h = ap suc (lines_counted n lines ids h.1)
+
+length-first_chunks : (size k : ℕ) (chunk : List ℕ) → length (first_chunks size k chunk) ≡ k
+length-first_chunks size zero chunk = refl
+length-first_chunks size (suc k) chunk = ap suc (length-first_chunks size k (drop size chunk))
+
+-- the lines of a length that a chunk has room for
+pub record HasRoom (size k n : ℕ) : Type 0 where
+  pub some : 0 < size
+  pub within : k * size ≤ n
+  pub fewer : k ≤ k * size
+
+pub whole_lines : (size n : ℕ) → IsTrue (is_line_len size) → HasRoom size (n / size) n
+whole_lines size n is = by (nat_eq size 41) refl
+  where
+    by : (b : Bool) → nat_eq size 41 ≡ b → HasRoom size (n / size) n
+    by true short = let same : size ≡ 41 = grind (arith, nat_tests, short) in rw same record { some = omega arith; within = omega arith; fewer = omega arith }
+    by false long = let same : size ≡ 65 = grind (arith, nat_tests, is, long) in rw same record { some = omega arith; within = omega arith; fewer = omega arith }
+
+-- whole lines are taken as their ids, if no line has begun
+lines_taken : (size k : ℕ) (chunk : List ℕ) (ids more : List ObjectId) (kept : List ℕ) (len : ℕ) (text : List ℕ) → 0 < size → k * size ≤ length chunk → len ≡ 0
+    → AreLinesOf (size - 1) (first_chunks size k chunk) more → HasTaken ids kept len text → HasTaken (ids ++ more) kept len (text ++ take (k * size) chunk)
+lines_taken size zero chunk ids [] kept len text some room empty lines h =
+    let none : 0 * size ≡ 0 = omega arith in
+    rw (append-nil ids, none, append-nil text) h
+lines_taken size zero chunk ids (id ∷ more) kept len text some room empty lines h = absurd lines
+lines_taken size (suc k) chunk ids [] kept len text some room empty lines h = absurd lines
+lines_taken size (suc k) chunk ids (id ∷ more) kept len text some room empty lines h =
+    let parts : suc k * size ≡ size + k * size = omega (arith, suc-mul k size) in
+    let fits : size + k * size ≤ length chunk = rw parts at room in
+    let line = take size chunk in
+    let whole : slice_range chunk 0 size ≡ line = let same : size - 0 ≡ size = omega arith in rw same refl in
+    let long : length line ≡ size = length-take-le size chunk (omega (arith, fits)) in
+    let is_ended : line ≡ ended (take (size - 1) line) =
+    sym (take_all (size - 1 + 1) line (omega (arith, long))) ∙ take_more line (size - 1) 0 (omega (arith, long)) ∙ ap (λ b. take (size - 1) line ++ b ∷ []) lines.0.feed in
+    let there : HasIdLine chunk 0 size id = record {
+      line = take (size - 1) line;
+      is_line = IsLine-id (take (size - 1) line) (whole_of id) lines.0.reads;
+      reads = lines.0.reads;
+      is_there = whole ∙ is_ended;
+      onward = some;
+      in_chunk = omega (arith, fits);
+    } in
+    let first : HasTaken (ids ++ id ∷ []) kept len (text ++ line) =
+    rw whole at (line_pushed ids (ids ++ id ∷ []) kept kept len text chunk 0 size id empty there h refl) in
+    let rest = lines_taken size k (drop size chunk) (ids ++ id ∷ []) more kept len (text ++ line) some (omega (arith, fits, length-drop size chunk)) empty lines.1 first in
+    rw (parts, take-add size (k * size) chunk, ← append_assoc text line (take (k * size) (drop size chunk)), ← append_assoc ids (id ∷ []) more) rest
+
+module _ {A : Type 0} (search : Search) (digits : List ℕ) where
+  -- the state of a search, of its parts
+  pub has_searched : (reader : ListReader A) (finder : Finder A) (text : List ℕ) (earlier : List ObjectId) → length earlier ≡ reader.dropped
+      → HasFound search digits (map id_digits earlier) finder → HasTaken (earlier ++ reader.ids.items) reader.line reader.len text → HasSearched search digits reader finder text
+  has_searched reader finder text earlier dropped found taken = record { earlier = earlier; dropped = dropped; found = found; taken = taken }
+
+  -- lines that are skipped
+  pub skipped : (size : ℕ) (reader reader' : ListReader A) (finder finder' : Finder A) (chunk : List ℕ) (k bytes : ℕ)
+      → HasSkipped search digits (size - 1) (first_chunks size k chunk) finder finder' → HasRoom size k (length chunk) → bytes ≡ k * size
+      → reader.len ≡ 0 → reader.ids.items ≡ [] → finder.count ≡ reader.dropped
+      → reader'.dropped ≡ reader.dropped + k → reader'.ids ≡ reader.ids → reader'.line ≡ reader.line → reader'.len ≡ reader.len
+      → Searches search digits reader reader' finder finder' (take bytes chunk)
+  skipped size reader reader' finder finder' chunk k bytes h room are between none count dropped ids line len =
+      let many : length h.ids ≡ k = lines_counted (size - 1) _ h.ids h.each ∙ length-first_chunks size k chunk in
+      let same : reader'.ids.items ≡ [] = ap (λ v. v.items) ids ∙ none in
+      record {
+        onward = λ text s.
+            let before : HasTaken s.earlier reader.line reader.len text = rw (none, append-nil s.earlier) at s.taken in
+            let after = lines_taken size k chunk s.earlier h.ids reader.line reader.len text room.some room.within between h.each before in
+            record {
+              earlier = s.earlier ++ h.ids;
+              dropped = omega (arith, length-append s.earlier h.ids, s.dropped, dropped, many);
+              found = subst (λ all. HasFound search digits all finder') (sym (map-append id_digits s.earlier h.ids)) (h.found (map id_digits s.earlier) s.found);
+              taken = rw (same, append-nil (s.earlier ++ h.ids), line, len, are) after;
+            };
+        empty = same;
+        count = omega (arith, h.counted, many, count, dropped);
+        short = omega (arith, dropped, len, are, room.fewer, length-take bytes chunk, room.within);
+      }
+
+  -- none are
+  pub none_skipped : (reader : ListReader A) (finder : Finder A) (chunk : List ℕ) → reader.ids.items ≡ [] → finder.count ≡ reader.dropped
+      → Searches search digits reader reader finder finder (take 0 chunk)
+  none_skipped reader finder chunk none count = record {
+    onward = λ text s. rw (append-nil text) s;
+    empty = none;
+    count = count;
+    short = omega arith;
+  }
+
+  -- one step after another
+  pub searches_more : (reader reader' reader'' : ListReader A) (finder finder' finder'' : Finder A) (a b c : List ℕ) → Searches search digits reader reader' finder finder' a
+      → Searches search digits reader' reader'' finder' finder'' b → a ++ b ≡ c → Searches search digits reader reader'' finder finder'' c
+  searches_more reader reader' reader'' finder finder' finder'' a b c first second is = record {
+    onward = λ text s.
+        subst (HasSearched search digits reader'' finder'') (append_assoc text a b ∙ ap (λ l. text ++ l) is) (second.onward (text ++ a) (first.onward text s));
+    empty = second.empty;
+    count = second.count;
+    short = omega (arith, first.short, second.short, ap length is, length-append a b);
+  }
+
+  -- as far as an index of a chunk, and from there on
+  pub searches_on : (reader reader' reader'' : ListReader A) (finder finder' finder'' : Finder A) (chunk : List ℕ) (end n : ℕ)
+      → Searches search digits reader reader' finder finder' (take end chunk)
+      → Searches search digits reader' reader'' finder' finder'' (take n (take (length chunk - end) (drop end chunk)))
+      → Searches search digits reader reader'' finder finder'' (take (end + n) chunk)
+  searches_on reader reader' reader'' finder finder' finder'' chunk end n first second =
+      let rest : take (length chunk - end) (drop end chunk) ≡ drop end chunk = take_all (length chunk - end) (drop end chunk) (omega (arith, length-drop end chunk)) in
+      searches_more reader reader' reader'' finder finder' finder'' _ _ _ first second (ap (λ l. take end chunk ++ take n l) rest ∙ sym (take-add end n chunk))
+
+  -- bytes that are refused after others
+  pub refused_after : (reader reader' : ListReader A) (finder finder' : Finder A) (a b c all : List ℕ) (error : SearchError) → Searches search digits reader reader' finder finder' a
+      → IsRefusedIn search digits reader' finder' b error → a ++ (b ++ c) ≡ all → IsRefusedIn search digits reader finder all error
+  refused_after reader reader' finder finder' a b c all error first refused is = λ text more s.
+      subst (λ l. IsListRefusal l error)
+      (append_assoc text a (b ++ (c ++ more)) ∙ ap (λ l. text ++ l) (ap (λ l. a ++ l) (sym (append_assoc b c more)) ∙ sym (append_assoc a (b ++ c) more) ∙ ap (λ l. l ++ more) is))
+      (refused (text ++ a) (c ++ more) (first.onward text s))
+
+  -- or before others
+  pub refused_first : (reader : ListReader A) (finder : Finder A) (b c all : List ℕ) (error : SearchError) → IsRefusedIn search digits reader finder b error
+      → b ++ c ≡ all → IsRefusedIn search digits reader finder all error
+  refused_first reader finder b c all error refused is = λ text more s.
+      subst (λ l. IsListRefusal (text ++ l) error) (sym (append_assoc b c more) ∙ ap (λ l. l ++ more) is) (refused text (c ++ more) s)
+
+  -- lines that are read, and looked up
+  pub read_searches : (reader reader' reader'' : ListReader A) (finder finder' : Finder A) (chunk : List ℕ) (part : List ObjectId) → Takes reader reader' chunk
+      → reader.ids.items ≡ [] → finder.count ≡ reader.dropped → part ≡ reader'.ids.items
+      → ((ids : List (List ℕ)) → HasFound search digits ids finder → HasFound search digits (ids ++ map id_digits part) finder') → finder'.count ≡ finder.count + length part
+      → reader''.ids.items ≡ [] → reader''.dropped ≡ reader'.dropped + length reader'.ids.items → reader''.line ≡ reader'.line → reader''.len ≡ reader'.len
+      → Searches search digits reader reader'' finder finder' chunk
+  read_searches reader reader' reader'' finder finder' chunk part takes none count same known counted empty dropped line len = record {
+    onward = λ text s. record {
+      earlier = s.earlier ++ part;
+      dropped = omega (arith, length-append s.earlier part, s.dropped, dropped, takes.dropped, ap length same);
+      found = subst (λ all. HasFound search digits all finder') (sym (map-append id_digits s.earlier part)) (known (map id_digits s.earlier) s.found);
+      taken = rw (empty, append-nil (s.earlier ++ part), line, len, same) (takes.taken s.earlier text s.taken);
+    };
+    empty = empty;
+    count = omega (arith, counted, count, dropped, takes.dropped, ap length same);
+    short = omega (arith, takes.short, takes.dropped, dropped, len, ap length none);
+  }
+
+  pub refused_lines : (reader : ListReader A) (finder : Finder A) (chunk : List ℕ) (error : SearchError) → IsRefusalAfter reader chunk error
+      → IsRefusedIn search digits reader finder chunk error
+  refused_lines reader finder chunk error refused = λ text more s. refused s.earlier text more s.dropped s.taken
+
+  -- memory ran out after ids
+  pub refused_memory : (reader reader' : ListReader A) (finder : Finder A) (chunk : List ℕ) (error : SearchError) → Takes reader reader' chunk → error ≡ Memory
+      → reader'.ids.items ≢ [] → IsRefusedIn search digits reader finder chunk error
+  refused_memory reader reader' finder chunk error takes is some = λ text more s.
+      rw (is, ← append_assoc text chunk more)
+      (first_of_taken s.earlier reader'.ids.items reader'.line reader'.len (text ++ chunk) more (takes.taken s.earlier text s.taken) some)
+
+pub two_parts : (chunk : List ℕ) (end : ℕ) → take end chunk ++ take (length chunk - end) (drop end chunk) ≡ chunk
+two_parts chunk end =
+    let rest : take (length chunk - end) (drop end chunk) ≡ drop end chunk = take_all (length chunk - end) (drop end chunk) (omega (arith, length-drop end chunk)) in
+    rw rest (take-append-drop end chunk)
+
+-- what holds of a result, from what held of it
+pub on_ok_map : {V E P Q : Type 0} (r : Result V E) → (P → Q) → OnOk r P → OnOk r Q
+on_ok_map (Ok v) f h = f h
+on_ok_map (Err e) f h = h
+
+pub if_err_map : {V E : Type 0} {P Q : E → Type 0} (r : Result V E) → ((e : E) → P e → Q e) → IfErr r P → IfErr r Q
+if_err_map (Ok v) f h = h
+if_err_map (Err e) f h = f e h
