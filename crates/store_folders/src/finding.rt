@@ -62,33 +62,42 @@ impl ObjectsFolder {
 /// name a folder is an error if it is empty.
 pub fn find_objects<R: Files + Env + AllocGlobal>(rt: &R) -> Result<ObjectsFolder, Error> {
     let given = Environment::read(rt)?;
-    let repository = find_repository(rt, &given)?;
-    let top = match &repository {
-        Some(Repository { top: Some(top), .. }) => top.as_str(),
-        _ => "",
-    };
+    match find_repository(rt, &given)? {
+        Some(repository) => objects_of(rt, &given, &repository),
+        None => objects_given(rt, &given),
+    }
+}
+
+// The objects folder of a repository.
+fn objects_of<R: Files + Env + AllocGlobal>(
+    rt: &R,
+    given: &Environment,
+    repository: &Repository,
+) -> Result<ObjectsFolder, Error> {
     let path = match &given.objects {
-        Some(path) => Some(join(rt, top, path)?),
-        None => None,
-    };
-    let alternates = alternates(rt, top)?;
-    let (path, kind) = match (&repository, path) {
-        (Some(found), Some(path)) => (path, kind_by_config(rt, &found.folder)?),
-        (Some(found), None) => {
-            let path = join(rt, &found.folder, "objects")?;
-            (path, kind_by_config(rt, &found.folder)?)
-        }
-        (None, Some(path)) => {
-            let kind = kind_beside(rt, &path)?;
-            (path, kind)
-        }
-        (None, None) => return Err(Error::NoRepository),
+        Some(path) => join(rt, &repository.top, path)?,
+        None => join(rt, &repository.folder, "objects")?,
     };
     Ok(ObjectsFolder {
         path,
-        kind,
-        alternates,
+        kind: kind_by_config(rt, &repository.folder)?,
+        alternates: alternates(rt, &repository.top)?,
     })
+}
+
+// The objects folder that the environment names, where there is no repository.
+fn objects_given<R: Files + Env + AllocGlobal>(
+    rt: &R,
+    given: &Environment,
+) -> Result<ObjectsFolder, Error> {
+    match &given.objects {
+        Some(path) => Ok(ObjectsFolder {
+            path: String::from_str(rt.alloc(), path)?,
+            kind: kind_beside(rt, path)?,
+            alternates: alternates(rt, "")?,
+        }),
+        None => Err(Error::NoRepository),
+    }
 }
 
 // The folders that `$GIT_ALTERNATE_OBJECT_DIRECTORIES` names, relative to a folder.

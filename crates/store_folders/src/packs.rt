@@ -1,6 +1,6 @@
 //! The pack indexes in objects folders.
 
-ghost use Rattle.std.specs.Prelude.{◌≡◌, All, IfOk, IfSome};
+ghost use Rattle.std.specs.Prelude.{◌≡◌, All, IfOk, OnOk};
 
 use crate::error::Error;
 use crate::files::join;
@@ -225,37 +225,37 @@ fn open_all<R: Files<File = File> + AllocGlobal + Clone + Drop>(
 ) -> Result<OpenIndexes<R>, Error>
     ensures { IfOk result (λ opened. All (λ index. index.kind ≡ kind) opened.indexes.items) }
 {
-    let mut opened = Vec::with_capacity(rt.alloc(), paths.len())?;
-    let mut indexes = Vec::with_capacity(rt.alloc(), paths.len())?;
-    let mut passed_over = Vec::new(rt.alloc());
+    let mut opened = OpenIndexes {
+        paths: Vec::with_capacity(rt.alloc(), paths.len())?,
+        indexes: Vec::with_capacity(rt.alloc(), paths.len())?,
+        passed_over: Vec::new(rt.alloc()),
+    };
     for (at, path) in paths.iter().enumerate() {
-        if let Some(index) = open_or_pass_over(rt, path, at < most_open, kind, &mut passed_over)? {
-            opened.push(String::from_str(rt.alloc(), path)?)?;
-            indexes.push(index)?;
-        }
+        push_opened(rt, path, at < most_open, kind, &mut opened)?;
     }
-    Ok(OpenIndexes {
-        paths: opened,
-        indexes,
-        passed_over,
-    })
+    Ok(opened)
 }
 
-// Opens a pack index, or passes it over if it is none of version 2 and of the kind.
-fn open_or_pass_over<R: Files<File = File> + AllocGlobal + Clone + Drop>(
+// Opens a pack index and adds it, or passes it over if it is none of version 2 and of the kind.
+fn push_opened<R: Files<File = File> + AllocGlobal + Clone + Drop>(
     rt: &R,
     path: &str,
     stays_open: bool,
     kind: Kind,
-    passed_over: &mut Vec<Error>,
-) -> Result<Option<LazyFile<Source<R>>>, Error>
-    ensures { IfOk result (λ opened. IfSome opened (λ index. index.kind ≡ kind)) }
+    opened: &mut OpenIndexes<R>,
+) -> Result<(), Error>
+    ensures { OnOk result (All (λ index. index.kind ≡ kind) opened.old.indexes.items
+        → All (λ index. index.kind ≡ kind) opened.new.indexes.items) }
 {
     match open_index(rt, path, stays_open, kind) {
-        Ok(index) => Ok(Some(index)),
+        Ok(index) => {
+            opened.paths.push(String::from_str(rt.alloc(), path)?)?;
+            opened.indexes.push(index)?;
+            Ok(())
+        }
         Err(Error::Index { path, error }) if !matches!(error, LazyError::Read(_)) => {
-            passed_over.push(Error::Index { path, error })?;
-            Ok(None)
+            opened.passed_over.push(Error::Index { path, error })?;
+            Ok(())
         }
         Err(error) => Err(error),
     }

@@ -56,9 +56,9 @@ pub(crate) fn variable(rt: &(impl Env + AllocGlobal), name: &str) -> Result<Opti
 pub(crate) struct Repository {
     // The folder with its objects, references and config.
     pub(crate) folder: String,
-    // The top of its worktree, if it was found there and that is above the current folder: Git goes
-    // there first, and takes relative paths of the environment from there.
-    pub(crate) top: Option<String>,
+    // From where relative paths of the environment lead: the top of its worktree, if it was found
+    // there, since Git goes there first. It is empty for the current folder.
+    pub(crate) top: String,
 }
 
 // The repository, if there is one.
@@ -68,7 +68,8 @@ pub(crate) fn find_repository<R: Files + Env + AllocGlobal>(
 ) -> Result<Option<Repository>, Error> {
     if let Some(path) = &given.dir {
         let folder = required(rt, given, path)?;
-        return Ok(Some(Repository { folder, top: None }));
+        let top = String::new(rt.alloc());
+        return Ok(Some(Repository { folder, top }));
     }
     let here = match env::current_dir(rt) {
         Ok(here) => here,
@@ -80,7 +81,7 @@ pub(crate) fn find_repository<R: Files + Env + AllocGlobal>(
     for folder in here.ancestors() {
         if let Some(mut found) = repository_in(rt, given, folder.as_str())? {
             if folder.as_str() == here.as_str() {
-                found.top = None;
+                found.top.clear();
             }
             return Ok(Some(found));
         }
@@ -129,14 +130,17 @@ fn repository_in<R: Files + AllocGlobal>(
         repository_at(rt, given, &path)?
     };
     if let Some(repository) = of_worktree {
-        let top = Some(String::from_str(rt.alloc(), folder)?);
+        let top = String::from_str(rt.alloc(), folder)?;
         return Ok(Some(Repository {
             folder: repository,
             top,
         }));
     }
     match repository_at(rt, given, folder)? {
-        Some(folder) => Ok(Some(Repository { folder, top: None })),
+        Some(folder) => Ok(Some(Repository {
+            folder,
+            top: String::new(rt.alloc()),
+        })),
         None => Ok(None),
     }
 }
