@@ -7,11 +7,13 @@
 #![tactic(auto)]
 
 mod help;
+mod retrying;
 
 use oidtool_commands::{
     ArgError, Command, CommandError, Failure, WordsError, command_line_args, read_command, report,
     run_command,
 };
+use retrying::Retrying;
 use std::alloc::AllocError;
 use std::io;
 use std::io::BufWriter;
@@ -63,15 +65,16 @@ fn print_help(rt: &impl Print, rest: &str) -> Result<usize, CommandError> {
     }
 }
 
-/// Runs a command over standard input and standard output.
+/// Runs a command over standard input and standard output. A read or write that is interrupted is
+/// tried again.
 fn run_over_streams(
     rt: &(impl Input + Print + Files + AllocGlobal),
     command: Command<'_>,
 ) -> Result<usize, CommandError> {
-    let Ok(writer) = BufWriter::new(rt.alloc(), io::writer(rt)) else {
+    let Ok(writer) = BufWriter::new(rt.alloc(), Retrying::new(io::writer(rt))) else {
         return Err(CommandError::Memory);
     };
-    let mut input = Plain::new(rt.reader());
+    let mut input = Plain::new(Retrying::new(rt.reader()));
     let mut out = Plain::new(writer);
     run_command(rt, rt.alloc(), command, &mut input, &mut out)
 }

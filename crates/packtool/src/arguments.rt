@@ -112,6 +112,7 @@ pub fn command<'a>(alloc: Global) -> Result<Command<'a>, AllocError> {
         .before_help(ORIGIN)
         .about("Looks ids up in a Git object store, and reads pack indexes.")
         .version(VERSION)
+        .propagate_version(true)
         .no_binary_name(true)
         .bin_name("packtool")?
         .subcommand_required(true)
@@ -126,6 +127,7 @@ pub fn command<'a>(alloc: Global) -> Result<Command<'a>, AllocError> {
 // A command of the program.
 fn subcommand<'a>(alloc: Global, row: &Row) -> Result<Command<'a>, AllocError> {
     let mut command = Command::new(alloc, row.name)
+        .display_name("packtool")?
         .about(row.about)
         .after_help(AFTER);
     for argument in row.arguments {

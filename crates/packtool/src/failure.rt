@@ -27,6 +27,14 @@ pub enum Failure<'a> {
         /// How many digits an id of the store has.
         most: usize,
     },
+    /// Names of at least so many digits are longer than the store's ids.
+    #[error("--least {least}: an id has {most} digits")]
+    Least {
+        /// The fewest digits that were asked for.
+        least: usize,
+        /// How many digits an id of the store has.
+        most: usize,
+    },
     /// An argument that is not UTF-8 is no word of a command.
     #[error("argument {number} is not UTF-8")]
     NotText {

@@ -4,8 +4,10 @@ ghost use Rattle.std.specs.Prelude.{◌≡◌, false};
 ghost use Rattle.streams.specs.Devices.{plain_failed};
 
 use crate::failure::{Failure, FileWhy};
+use crate::input::{Retrying, Sha256Checker};
 use crate::words::lossy_text;
 use gix_hash::Kind;
+use pack_index::LazyFile;
 use packtool_commands::{
     FileError, Pairing, PairingError, pair, show as show_input, validate, write_ending,
     write_named, write_pairing,
@@ -17,6 +19,10 @@ use streams::{Ending, PipeError, Plain, ReadAt, check as check_input};
 // How a pack index begins, of version 2 and later.
 const MAGIC: [u8; 4] = *b"\xfftOc";
 
+// The length of that, the version and the 256 counts of a pack index, of which the last is that of all
+// its names. Each name has at most 32 bytes, a CRC of 4 and an offset of 4 or 12. Two digests follow.
+const HEAD_LEN: usize = 8 + 256 * 4;
+
 /// Prints the names of a pack index, and returns whether there is one.
 pub fn show<'a, W: io::Write>(
     rt: &HostRuntime,
@@ -25,7 +31,7 @@ pub fn show<'a, W: io::Write>(
     out: &mut Plain<W>,
 ) -> Result<bool, Failure<'a>> {
     if path == "-" {
-        show_from(rt, path, kind, rt.reader(), out)
+        show_from(rt, path, kind, Retrying::new(rt.reader()), out)
     } else {
         show_from(rt, path, kind, open(rt, path)?, out)
     }
@@ -59,12 +65,16 @@ enum Verdict {
     Faulty(pack_index::Error),
     // It is a right pack index, and whether it belongs to the pack beside it, if there is one.
     Index(Option<Pairing>),
+    // It is a right pack index and belongs to the pack, but has this offset, at which no object of the
+    // pack is.
+    Beyond(u64),
 }
 
 /// Prints whether a file is right, and returns it: whether a pack index is one and belongs to the
 /// pack beside it, or another file ends with its digest. If the output failed, nothing is printed.
 ///
-/// With no kind it is right in either; a file that is not of SHA-1 is read twice.
+/// With no kind it is right in either; a file that is not of SHA-1 is read twice, and standard input
+/// once.
 pub fn check<'a, W: io::Write>(
     rt: &HostRuntime,
     path: &str,
@@ -102,24 +112,45 @@ fn write_verdict<'a, W: io::Write>(
         }
         Verdict::Index(Some(pairing)) => write_pairing(path, pairing, out),
         Verdict::Index(None) => write_named(path, b": OK\n", out),
+        Verdict::Beyond(offset) => {
+            let text = format!(in rt.alloc();
+                ": FAILED: the offset {offset} is not in the pack beside it\n"
+            )?;
+            write_named(path, text.as_bytes(), out)
+        }
     };
     Ok(())
 }
 
-// What is said of standard input, which is read whole first.
+// What is said of standard input. Its first bytes decide whether it is a pack index; of one no more is
+// read than its counts allow. Any other input is hashed as it is read.
 fn verdict_of_input<'a>(rt: &HostRuntime, kind: Option<Kind>) -> Result<Verdict, Failure<'a>> {
     let path = "-";
-    let mut bytes = Vec::new(rt.alloc());
-    rt.reader()
-        .read_to_end(&mut bytes)
-        .map_err(|error| failure(rt, path, FileWhy::Read(error)))?;
-    let mut input = Cursor::new(&bytes[..]);
-    if !is_index(&&bytes[..], path) {
-        return Ok(Verdict::Ends(ending_in(rt, &mut input, path, kind)?));
+    let mut reader = Retrying::new(rt.reader());
+    let mut head = Vec::new(rt.alloc());
+    (&mut reader)
+        .take(HEAD_LEN as u64)
+        .read_to_end(&mut head)
+        .map_err(|error| unreadable(rt, path, error))?;
+    let mut input = Cursor::new(&head[..]).chain(reader);
+    if !is_index(&&head[..], path) {
+        return Ok(Verdict::Ends(ending_once(rt, &mut input, path, kind)?));
     }
-    match index_kind(rt, &mut input, path, kind)? {
+    let one_more = most_index_len(&head).saturating_add(1);
+    match index_kind(rt, &mut input.take(one_more), path, kind)? {
         Ok(_) => Ok(Verdict::Index(None)),
         Err(error) => Ok(Verdict::Faulty(error)),
+    }
+}
+
+// The length of the longest pack index of version 2 that begins with these bytes, of either kind.
+fn most_index_len(head: &[u8]) -> u64 {
+    match head {
+        [.., b0, b1, b2, b3] if head.len() == HEAD_LEN => {
+            let count = u64::from(u32::from_be_bytes([*b0, *b1, *b2, *b3]));
+            HEAD_LEN as u64 + 48 * count + 64
+        }
+        _ => HEAD_LEN as u64,
     }
 }
 
@@ -134,7 +165,7 @@ fn verdict_of_file<'a>(
         return Ok(Verdict::Ends(ending_in(rt, &mut file, path, kind)?));
     }
     match index_kind(rt, &mut file, path, kind)? {
-        Ok(kind) => Ok(Verdict::Index(pairing_of(rt, &file, path, kind)?)),
+        Ok(kind) => verdict_beside_pack(rt, &mut file, path, kind),
         Err(error) => Ok(Verdict::Faulty(error)),
     }
 }
@@ -177,9 +208,27 @@ fn ending_in<'a, R: io::Read + Seek>(
     }
     reader
         .seek(SeekFrom::Start(0))
-        .map_err(|error| failure(rt, path, FileWhy::Read(error)))?;
+        .map_err(|error| unreadable(rt, path, error))?;
     let other = ending_of(rt, reader, path, Kind::Sha256)?;
     Ok(if is_sealed(&other) { other } else { ending })
+}
+
+// The same of an input that is read only once.
+fn ending_once<'a, R: io::Read>(
+    rt: &HostRuntime,
+    reader: &mut R,
+    path: &str,
+    kind: Option<Kind>,
+) -> Result<Ending, Failure<'a>> {
+    if let Some(kind) = kind {
+        return ending_of(rt, reader, path, kind);
+    }
+    let mut both = Sha256Checker::new(reader);
+    let ending = ending_of(rt, &mut both, path, Kind::Sha1)?;
+    match both.sealed() {
+        Some(digest) if !is_sealed(&ending) => Ok(Ending::Sealed(digest)),
+        _ => Ok(ending),
+    }
 }
 
 fn is_sealed(ending: &Ending) -> bool {
@@ -201,33 +250,69 @@ fn ending_of<'a, R: io::Read>(
     }
 }
 
-// Whether a pack index belongs to the pack beside it, or `None` if there is no pack, or the file is
-// not named as an index.
-fn pairing_of<'a>(
+// What is said of a right pack index: whether it belongs to the pack beside it, if there is one, and
+// whether its offsets may be in it.
+fn verdict_beside_pack<'a>(
     rt: &HostRuntime,
-    index: &File,
+    index: &mut File,
     path: &str,
     kind: Kind,
-) -> Result<Option<Pairing>, Failure<'a>> {
+) -> Result<Verdict, Failure<'a>> {
+    let Some((pack_path, pack)) = pack_beside(rt, path)? else {
+        return Ok(Verdict::Index(None));
+    };
+    match pair(index, &pack, kind) {
+        Ok(Pairing::Same) => {}
+        Ok(pairing) => return Ok(Verdict::Index(Some(pairing))),
+        Err(PairingError::Index(error)) => return Err(unreadable(rt, path, error)),
+        Err(PairingError::Pack(error)) => return Err(unreadable(rt, &pack_path, error)),
+    }
+    let len = match ReadAt::len(&pack) {
+        Ok(len) => len,
+        Err(error) => return Err(unreadable(rt, &pack_path, error)),
+    };
+    match highest_offset(rt, index, kind) {
+        Ok(highest) if highest < len.saturating_sub(kind.len_in_bytes() as u64) => {
+            Ok(Verdict::Index(Some(Pairing::Same)))
+        }
+        Ok(highest) => Ok(Verdict::Beyond(highest)),
+        Err(error) => Err(unreadable(rt, path, error)),
+    }
+}
+
+// The pack beside a pack index, or `None` if there is none, or the file is not named as an index.
+fn pack_beside<'a>(rt: &HostRuntime, path: &str) -> Result<Option<(String, File)>, Failure<'a>> {
     let Some(stem) = path.strip_suffix(".idx") else {
         return Ok(None);
     };
     let pack_path = format!(in rt.alloc(); "{stem}.pack")?;
-    let pack = match open(rt, &pack_path) {
-        Ok(pack) => pack,
+    match open(rt, &pack_path) {
+        Ok(pack) => Ok(Some((pack_path, pack))),
         Err(
             Failure::File {
                 why: FileWhy::Read(error),
                 ..
             },
-        ) if error.kind() == io::ErrorKind::NotFound => return Ok(None),
-        Err(failure) => return Err(failure),
-    };
-    match pair(index, &pack, kind) {
-        Ok(pairing) => Ok(Some(pairing)),
-        Err(PairingError::Index(error)) => Err(failure(rt, path, FileWhy::Read(error))),
-        Err(PairingError::Pack(error)) => Err(failure(rt, &pack_path, FileWhy::Read(error))),
+        ) if error.kind() == io::ErrorKind::NotFound => Ok(None),
+        Err(failure) => Err(failure),
     }
+}
+
+// The highest offset that a right pack index has, or 0 if it has none. It is read once more.
+fn highest_offset(rt: &HostRuntime, index: &mut File, kind: Kind) -> io::Result<u64> {
+    let mut bytes = Vec::new(rt.alloc());
+    index.seek(SeekFrom::Start(0))?;
+    index.read_to_end(&mut bytes)?;
+    let mut highest = 0;
+    if let Ok(file) = LazyFile::open(&bytes[..], kind) {
+        let count = file.num_objects();
+        for at in 0..count {
+            if let Ok(offset) = file.pack_offset_at_index(at) {
+                highest = highest.max(offset);
+            }
+        }
+    }
+    Ok(highest)
 }
 
 // Opens a file, unless it is of another type: to open a pipe waits for what writes to it.
@@ -235,10 +320,10 @@ fn open<'a>(rt: &HostRuntime, path: &str) -> Result<File, Failure<'a>> {
     expect_text(rt, path)?;
     match metadata(rt, path) {
         Ok(metadata) if metadata.is_file() => {
-            File::open(rt, path).map_err(|error| failure(rt, path, FileWhy::Read(error)))
+            File::open(rt, path).map_err(|error| unreadable(rt, path, error))
         }
         Ok(_) => Err(failure(rt, path, FileWhy::NotRegular)),
-        Err(error) => Err(failure(rt, path, FileWhy::Read(error))),
+        Err(error) => Err(unreadable(rt, path, error)),
     }
 }
 
@@ -265,6 +350,11 @@ fn unread<'a, R: io::Read>(
         FileError::Memory | FileError::Output => return Failure::Memory,
     };
     failure(rt, path, why)
+}
+
+// A file cannot be read.
+fn unreadable<'a>(rt: &HostRuntime, path: &str, error: io::Error) -> Failure<'a> {
+    failure(rt, path, FileWhy::Read(error))
 }
 
 // Why a file is not shown or checked.

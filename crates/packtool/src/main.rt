@@ -8,6 +8,7 @@
 mod arguments;
 mod failure;
 mod files;
+mod input;
 mod output;
 mod stores;
 mod words;

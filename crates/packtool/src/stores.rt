@@ -1,7 +1,8 @@
 //! Commands over a store.
 
-ghost use Rattle.std.specs.Prelude.{◌≡◌, ◌≤◌, length, IfOk};
+ghost use Rattle.std.specs.Prelude.{◌≡◌, ◌≤◌, false, length, IfOk, OnOk};
 ghost use Rattle.gix_hash.specs.Kind.{hex_len_of};
+ghost use Rattle.streams.specs.Devices.{plain_failed};
 
 use crate::arguments::{self, StoreCommand};
 use crate::failure::Failure;
@@ -11,8 +12,8 @@ use crate::words::lossy_text;
 use crate::{FAILED, FOUND, NOTHING};
 use clap::ArgMatches;
 use gix_hash::{Kind, Prefix};
-use object_store::Store;
-use packtool_commands::{StoreError, find, locate, names};
+use object_store::{NamedId, names};
+use packtool_commands::{StoreError, find, locate, write_names};
 use std::cell::Cell;
 use std::io;
 use store_folders::{Error, FolderStore, LooseIds, ObjectsFolder, find_objects};
@@ -91,11 +92,68 @@ fn write_lines<'a, W: io::Write>(
             status_of(rt, &store, ran, out)
         }
         StoreCommand::Names => {
-            let store = FolderStore::open(rt, folder, LooseIds::All)?;
-            let least = read_least(matches, store.object_hash());
-            let ran = names(rt.alloc(), &store, least, out);
-            status_of(rt, &store, ran, out)
+            let least = read_least(matches, folder.kind)?;
+            write_all_names(rt, folder, least, out)
         }
+    }
+}
+
+// Writes the lines of `names`, and returns the status. The ids with one first byte are written before
+// those with the next are read, and no name depends on ids with another. So if a pack index is gone,
+// the store is opened again for the bytes that are left.
+fn write_all_names<'a, W: io::Write>(
+    rt: &HostRuntime,
+    folder: &ObjectsFolder,
+    least: usize,
+    out: &mut Plain<W>,
+) -> Result<u8, Failure<'a>>
+    requires output { plain_failed out.old ≡ false }
+    requires enough { 4 ≤ least }
+    requires fits { least ≤ hex_len_of folder.now.kind }
+{
+    let mut store = FolderStore::open(rt, folder, LooseIds::All)?;
+    let mut any = false;
+    let mut is_whole = true;
+    for byte in 0..=u8::MAX {
+        let named = names_of(rt, folder, byte, least, &mut store, &mut is_whole)?;
+        if write_names(&named, out).is_err() {
+            return Err(Failure::of_output(out));
+        }
+        any = any || !named.is_empty();
+    }
+    is_whole = report_passed_over(rt, &store) && is_whole;
+    Ok(status_if(is_whole, any))
+}
+
+// The ids of a store with a first byte, with their names. If a pack index is gone, the store is opened
+// again; if something was passed over in it until then, it was not read whole.
+fn names_of<'a>(
+    rt: &HostRuntime,
+    folder: &ObjectsFolder,
+    byte: u8,
+    least: usize,
+    store: &mut FolderStore<HostRuntime>,
+    is_whole: &mut bool,
+) -> Result<Vec<NamedId>, Failure<'a>>
+    requires kind { store.old.kind ≡ folder.now.kind }
+    requires enough { 4 ≤ least }
+    requires fits { least ≤ hex_len_of folder.now.kind }
+    ensures { OnOk result (store.new.kind ≡ folder.now.kind) }
+{
+    'tries: for _ in 1..MAX_TRIES {
+        match names(rt.alloc(), store, byte, least) {
+            Ok(named) => return Ok(named),
+            Err(error) => match store.with_path(error) {
+                Error::Gone { .. } => {}
+                error => return Err(Failure::Store(error)),
+            },
+        }
+        *is_whole = report_passed_over(rt, store) && *is_whole;
+        *store = FolderStore::open(rt, folder, LooseIds::All)?;
+    }
+    match names(rt.alloc(), store, byte, least) {
+        Ok(named) => Ok(named),
+        Err(error) => Err(Failure::Store(store.with_path(error))),
     }
 }
 
@@ -113,8 +171,7 @@ fn open_part<'a>(
     Ok((FolderStore::open(rt, folder, loose)?, prefix))
 }
 
-// The status of a command that ran over a store. What was passed over is printed, and the store was
-// not read whole then.
+// The status of a command that ran over a store.
 fn status_of<'a, W>(
     rt: &HostRuntime,
     store: &FolderStore<HostRuntime>,
@@ -126,15 +183,23 @@ fn status_of<'a, W>(
         Err(StoreError::Store(error)) => return Err(Failure::Store(store.with_path(error))),
         Err(StoreError::Output) => return Err(Failure::of_output(out)),
     };
+    Ok(status_if(report_passed_over(rt, store), any))
+}
+
+// Prints what was passed over, and returns whether the store was read whole, that is nothing was.
+fn report_passed_over(rt: &HostRuntime, store: &FolderStore<HostRuntime>) -> bool {
     for error in store.passed_over() {
         let _ = eprintln!(rt; "packtool: {error}, passed over");
     }
-    if !store.passed_over().is_empty() {
-        Ok(FAILED)
-    } else if any {
-        Ok(FOUND)
-    } else {
-        Ok(NOTHING)
+    store.passed_over().is_empty()
+}
+
+// The status if a store was read whole, and has an id.
+fn status_if(is_whole: bool, any: bool) -> u8 {
+    match (is_whole, any) {
+        (false, _) => FAILED,
+        (true, true) => FOUND,
+        (true, false) => NOTHING,
     }
 }
 
@@ -158,11 +223,17 @@ fn objects_folder<'a>(
 }
 
 // The fewest digits of a name that were asked for.
-fn read_least(matches: &ArgMatches<'_>, kind: Kind) -> usize
-    ensures least { 4 ≤ result }
-    ensures most { result ≤ hex_len_of kind }
+fn read_least<'a>(matches: &ArgMatches<'a>, kind: Kind) -> Result<usize, Failure<'a>>
+    ensures least { IfOk result (λ least. 4 ≤ least) }
+    ensures most { IfOk result (λ least. least ≤ hex_len_of kind) }
 {
-    usize::from(matches.get_one::<u8>("least").unwrap_or(4)).clamp(4, kind.len_in_hex())
+    let least = usize::from(matches.get_one::<u8>("least").unwrap_or(4)).max(4);
+    let most = kind.len_in_hex();
+    if least > most {
+        Err(Failure::Least { least, most })
+    } else {
+        Ok(least)
+    }
 }
 
 // The prefix that was asked for.

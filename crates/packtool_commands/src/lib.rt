@@ -1,7 +1,8 @@
 //! The commands of `packtool`, over any store, reader, writer and allocator.
 //!
 //! [`find`] writes the ids of a store that begin with a prefix, [`locate`] the locations of these,
-//! and [`names`] all ids after their shortest names. [`write_location`] writes one location.
+//! and [`names`] all ids after their shortest names. [`write_location`] writes one location, and
+//! [`write_names`] the lines of some ids.
 //! [`show`] writes the lines of a pack index as `git show-index` does. [`validate`] says whether a
 //! file is a pack index, [`write_ending`] writes whether a file ends with its digest,
 //! [`write_pairing`] whether a pack index belongs to the pack beside it, as [`pair`] finds, and
@@ -24,6 +25,6 @@ pub use error::{FileError, StoreError};
 pub use escaping::write_named;
 pub use finding::find;
 pub use locating::{locate, write_location};
-pub use naming::names;
+pub use naming::{names, write_names};
 pub use pairing::{Pairing, PairingError, pair, write_pairing};
 pub use showing::{show, validate};

@@ -67,8 +67,19 @@ fn is_any(before: bool, named: &[NamedId]) -> bool
     before || !named.is_empty()
 }
 
-// Writes the lines of ids with their names.
-fn write_names<W: Sink>(named: &[NamedId], out: &mut W) -> Result<(), WriteFailed>
+/// Writes a line for each id, in their order, as [`names`] does: its name, a blank, the id, and a line
+/// feed. So a caller whose store may change can open it again between two first bytes.
+///
+/// It stops at the first write that fails, after a proper beginning of the lines. The sink must not
+/// have failed before.
+///
+/// ```
+/// let named = object_store::names(rt.alloc(), &store, 0x4b, 7)?;
+/// if write_names(&named, &mut out).is_err() {
+///     println!(rt; "the lines are not written whole")?;
+/// }
+/// ```
+pub fn write_names<W: Sink>(named: &[NamedId], out: &mut W) -> Result<(), WriteFailed>
     requires { W.has_failed out.old ≡ false }
     ensures { Wrote W.taken W.has_failed out.old out.new result (flat_map name_line named.now) }
 {

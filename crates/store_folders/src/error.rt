@@ -45,6 +45,13 @@ pub enum Error {
         /// Its path.
         path: String,
     },
+    /// A folder of packs or the alternates of the store were changed while it was read, each time
+    /// anew. The store is to be opened again.
+    #[error("{path}: changed while it was read")]
+    Changed {
+        /// The path of the folder.
+        path: String,
+    },
     /// A file of the repository does not say what it is to say.
     #[error("{path}: {why}")]
     Text {
@@ -104,6 +111,14 @@ impl Error {
                 path,
             },
             error => Error::Index { path, error },
+        }
+    }
+
+    // A folder was changed while the store was read.
+    pub(crate) fn changed(alloc: Global, path: &str) -> Error {
+        match String::from_str(alloc, path) {
+            Ok(path) => Error::Changed { path },
+            Err(error) => Error::Memory(error),
         }
     }
 

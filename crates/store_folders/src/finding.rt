@@ -2,7 +2,7 @@
 
 use crate::error::Error;
 use crate::files::{has_folder, join, kind_beside, kind_by_config};
-use crate::repository::{Environment, find_repository, variable};
+use crate::repository::{Environment, Repository, find_repository, variable};
 use git_texts::alternates::alternate_paths;
 use gix_hash::Kind;
 use std::alloc::AllocError;
@@ -57,42 +57,57 @@ impl ObjectsFolder {
 /// has one: as `.git`, which is a folder or a file that names one, or as a bare repository. The
 /// worktrees of a repository share its objects; `$GIT_COMMON_DIR` is taken in place of the folder
 /// that they share. `$GIT_OBJECT_DIRECTORY` is taken in place of the repository's own objects
-/// folder, and the folders of `$GIT_ALTERNATE_OBJECT_DIRECTORIES` are alternates.
+/// folder, and the folders of `$GIT_ALTERNATE_OBJECT_DIRECTORIES` are alternates. Relative ones are
+/// taken from the folder that has `.git`, if the repository is found there. One of the variables that
+/// name a folder is an error if it is empty.
 pub fn find_objects<R: Files + Env + AllocGlobal>(rt: &R) -> Result<ObjectsFolder, Error> {
-    let (path, kind) = find_folder(rt)?;
-    let alternates = alternates(rt)?;
-    Ok(ObjectsFolder {
-        path,
-        kind,
-        alternates,
-    })
-}
-
-// The path of that folder, and the kind of its ids.
-fn find_folder<R: Files + Env + AllocGlobal>(rt: &R) -> Result<(String, Kind), Error> {
     let given = Environment::read(rt)?;
-    match (find_repository(rt, &given)?, given.objects) {
-        (Some(repository), Some(path)) => Ok((path, kind_by_config(rt, &repository)?)),
-        (Some(repository), None) => {
-            let kind = kind_by_config(rt, &repository)?;
-            Ok((join(rt, &repository, "objects")?, kind))
-        }
-        (None, Some(path)) => {
-            let kind = kind_beside(rt, &path)?;
-            Ok((path, kind))
-        }
-        (None, None) => Err(Error::NoRepository),
+    match find_repository(rt, &given)? {
+        Some(repository) => objects_of(rt, &given, &repository),
+        None => objects_given(rt, &given),
     }
 }
 
-// The folders that `$GIT_ALTERNATE_OBJECT_DIRECTORIES` names.
-fn alternates(rt: &(impl Env + AllocGlobal)) -> Result<Vec<String>, Error> {
+// The objects folder of a repository.
+fn objects_of<R: Files + Env + AllocGlobal>(
+    rt: &R,
+    given: &Environment,
+    repository: &Repository,
+) -> Result<ObjectsFolder, Error> {
+    let path = match &given.objects {
+        Some(path) => join(rt, &repository.top, path)?,
+        None => join(rt, &repository.folder, "objects")?,
+    };
+    Ok(ObjectsFolder {
+        path,
+        kind: kind_by_config(rt, &repository.folder)?,
+        alternates: alternates(rt, &repository.top)?,
+    })
+}
+
+// The objects folder that the environment names, where there is no repository.
+fn objects_given<R: Files + Env + AllocGlobal>(
+    rt: &R,
+    given: &Environment,
+) -> Result<ObjectsFolder, Error> {
+    match &given.objects {
+        Some(path) => Ok(ObjectsFolder {
+            path: String::from_str(rt.alloc(), path)?,
+            kind: kind_beside(rt, path)?,
+            alternates: alternates(rt, "")?,
+        }),
+        None => Err(Error::NoRepository),
+    }
+}
+
+// The folders that `$GIT_ALTERNATE_OBJECT_DIRECTORIES` names, relative to a folder.
+fn alternates(rt: &(impl Env + AllocGlobal), top: &str) -> Result<Vec<String>, Error> {
     let alloc = rt.alloc();
     let mut folders = Vec::new(alloc);
     if let Some(list) = variable(rt, ALTERNATES)? {
         for path in alternate_paths(alloc, list.as_bytes(), b':')? {
             match String::from_utf8(path) {
-                Ok(path) => folders.push(path)?,
+                Ok(path) => folders.push(join(rt, top, &path)?)?,
                 Err(_) => return Err(Error::text(alloc, ALTERNATES, "a path is not UTF-8")),
             }
         }

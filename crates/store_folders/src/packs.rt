@@ -1,6 +1,6 @@
 //! The pack indexes in objects folders.
 
-ghost use Rattle.std.specs.Prelude.{◌≡◌, All, IfOk};
+ghost use Rattle.std.specs.Prelude.{◌≡◌, All, IfOk, OnOk};
 
 use crate::error::Error;
 use crate::files::join;
@@ -10,13 +10,16 @@ use gix_hash::Kind;
 use pack_index::{LazyError, LazyFile};
 use std::alloc::{AllocError, Global};
 use std::fs::File;
-use std::path::Path;
+use std::os::unix::fs::MetadataExt;
 use std::rt::Files;
 use std::{fs, io, str};
 
 // How many pack indexes are kept open. The others are opened for each read, so that a store of any
 // number of packs is read with few open files.
 const MAX_OPEN: usize = 64;
+
+// The system's error of a process that has as many open files as it may have: EMFILE.
+const TOO_MANY_OPEN: i32 = 24;
 
 // The pack indexes that objects folders had as they were listed.
 #[derive(Drop)]
@@ -25,6 +28,23 @@ pub(crate) struct PackIndexes {
     pub(crate) paths: Vec<String>,
     // Why others are passed over.
     pub(crate) passed_over: Vec<Error>,
+    // The folders that they are in, in order.
+    folders: Vec<PackFolder>,
+}
+
+// A folder of packs, and its state after it was listed, or `None` if it was missing.
+#[derive(Drop)]
+struct PackFolder {
+    path: String,
+    state: Option<FolderState>,
+}
+
+// Which folder it is, and when a name last came or went in it.
+#[derive(Clone, Copy, PartialEq)]
+struct FolderState {
+    dev: u64,
+    ino: u64,
+    modified: (i64, i64),
 }
 
 impl PackIndexes {
@@ -36,10 +56,14 @@ impl PackIndexes {
         let mut indexes = PackIndexes {
             paths: Vec::new(rt.alloc()),
             passed_over: Vec::new(rt.alloc()),
+            folders: Vec::with_capacity(rt.alloc(), folders.len())?,
         };
         for folder in folders {
-            let mut paths = indexes_in(rt, folder, &mut indexes.passed_over)?;
+            let path = join(rt, folder, "pack")?;
+            let mut paths = indexes_in(rt, &path, &mut indexes.passed_over)?;
             indexes.paths.append(&mut paths)?;
+            let state = state_of(rt, &path)?;
+            indexes.folders.push(PackFolder { path, state })?;
         }
         Ok(indexes)
     }
@@ -61,6 +85,20 @@ impl PackIndexes {
         }
     }
 
+    // Fails if a folder has changed since it was listed for an earlier list, of the same folders.
+    pub(crate) fn expect_unchanged(
+        &self,
+        alloc: Global,
+        earlier: &PackIndexes,
+    ) -> Result<(), Error> {
+        for (folder, before) in self.folders.iter().zip(&earlier.folders) {
+            if folder.state != before.state {
+                return Err(Error::changed(alloc, &folder.path));
+            }
+        }
+        Ok(())
+    }
+
     // The paths of those whose packs are there. Fails if an index was removed with its pack.
     pub(crate) fn with_packs<R: Files + AllocGlobal>(&self, rt: &R) -> Result<Vec<String>, Error> {
         let mut paths = Vec::new(rt.alloc());
@@ -73,18 +111,30 @@ impl PackIndexes {
     }
 }
 
-// The paths of the pack indexes in an objects folder, in order.
+// The state of a folder, or `None` if it is missing.
+fn state_of<R: Files + AllocGlobal>(rt: &R, path: &str) -> Result<Option<FolderState>, Error> {
+    match fs::metadata(rt, path) {
+        Ok(found) => Ok(Some(FolderState {
+            dev: found.dev(),
+            ino: found.ino(),
+            modified: (found.mtime(), found.mtime_nsec()),
+        })),
+        Err(error) if error.kind() == io::ErrorKind::NotFound => Ok(None),
+        Err(error) => Err(Error::file(rt.alloc(), path, error)),
+    }
+}
+
+// The paths of the pack indexes in a folder of packs, in order.
 fn indexes_in<R: Files + AllocGlobal>(
     rt: &R,
     folder: &str,
     passed_over: &mut Vec<Error>,
 ) -> Result<Vec<String>, Error> {
-    let folder = join(rt, folder, "pack")?;
-    let names = names_in(rt, &folder)?;
+    let names = names_in(rt, folder)?;
     let mut paths = Vec::new(rt.alloc());
     for name in names.split(|byte| *byte == 0) {
         if name.ends_with(b".idx") {
-            push_index(rt, &folder, name, &mut paths, passed_over)?;
+            push_index(rt, folder, name, &mut paths, passed_over)?;
         }
     }
     paths.sort_unstable();
@@ -110,10 +160,14 @@ fn push_index(
     Ok(())
 }
 
-// Whether the pack of a pack index is there. Fails if neither is.
+// Whether the pack of a pack index is there. Fails if neither is, or if it cannot be known.
 fn has_pack<R: Files + AllocGlobal>(rt: &R, path: &str) -> Result<bool, Error> {
-    if Path::new(&pack_of(rt.alloc(), path)?).is_file(rt) {
-        return Ok(true);
+    let pack = pack_of(rt.alloc(), path)?;
+    match fs::metadata(rt, pack.as_str()) {
+        Ok(found) if found.is_file() => return Ok(true),
+        Ok(_) => {}
+        Err(error) if error.kind() == io::ErrorKind::NotFound => {}
+        Err(error) => return Err(Error::file(rt.alloc(), &pack, error)),
     }
     match fs::symlink_metadata(rt, path) {
         Ok(_) => Ok(false),
@@ -136,19 +190,75 @@ pub(crate) fn pack_paths(alloc: Global, indexes: &[String]) -> Result<Vec<String
     Ok(packs)
 }
 
-// Opens pack indexes whose names are of a kind.
+// The pack indexes that were opened.
+#[derive(Drop)]
+pub(crate) struct OpenIndexes<R: Files<File = File>> {
+    // Their paths, in order.
+    pub(crate) paths: Vec<String>,
+    pub(crate) indexes: Vec<LazyFile<Source<R>>>,
+    // Why others are passed over: they are no pack indexes of version 2 and of the kind.
+    pub(crate) passed_over: Vec<Error>,
+}
+
+// Opens pack indexes whose names are of a kind. If too many files are open, none stays open.
 pub(crate) fn open_indexes<R: Files<File = File> + AllocGlobal + Clone + Drop>(
     rt: &R,
     paths: &[String],
     kind: Kind,
-) -> Result<Vec<LazyFile<Source<R>>>, Error>
-    ensures { IfOk result (λ indexes. All (λ index. index.kind ≡ kind) indexes.items) }
+) -> Result<OpenIndexes<R>, Error>
+    ensures { IfOk result (λ opened. All (λ index. index.kind ≡ kind) opened.indexes.items) }
 {
-    let mut indexes = Vec::with_capacity(rt.alloc(), paths.len())?;
-    for (at, path) in paths.iter().enumerate() {
-        indexes.push(open_index(rt, path, at < MAX_OPEN, kind)?)?;
+    match open_all(rt, paths, MAX_OPEN, kind) {
+        Err(Error::File { error, .. }) if error.raw_os_error() == Some(TOO_MANY_OPEN) => {
+            open_all(rt, paths, 0, kind)
+        }
+        opened => opened,
     }
-    Ok(indexes)
+}
+
+// Opens pack indexes, of which the first ones stay open.
+fn open_all<R: Files<File = File> + AllocGlobal + Clone + Drop>(
+    rt: &R,
+    paths: &[String],
+    most_open: usize,
+    kind: Kind,
+) -> Result<OpenIndexes<R>, Error>
+    ensures { IfOk result (λ opened. All (λ index. index.kind ≡ kind) opened.indexes.items) }
+{
+    let mut opened = OpenIndexes {
+        paths: Vec::with_capacity(rt.alloc(), paths.len())?,
+        indexes: Vec::with_capacity(rt.alloc(), paths.len())?,
+        passed_over: Vec::new(rt.alloc()),
+    };
+    for (at, path) in paths.iter().enumerate() {
+        push_opened(rt, path, at < most_open, kind, &mut opened)?;
+    }
+    Ok(opened)
+}
+
+// Opens a pack index and adds it, or passes it over if it is none of version 2 and of the kind.
+fn push_opened<R: Files<File = File> + AllocGlobal + Clone + Drop>(
+    rt: &R,
+    path: &str,
+    stays_open: bool,
+    kind: Kind,
+    opened: &mut OpenIndexes<R>,
+) -> Result<(), Error>
+    ensures { OnOk result (All (λ index. index.kind ≡ kind) opened.old.indexes.items
+        → All (λ index. index.kind ≡ kind) opened.new.indexes.items) }
+{
+    match open_index(rt, path, stays_open, kind) {
+        Ok(index) => {
+            opened.paths.push(String::from_str(rt.alloc(), path)?)?;
+            opened.indexes.push(index)?;
+            Ok(())
+        }
+        Err(Error::Index { path, error }) if !matches!(error, LazyError::Read(_)) => {
+            opened.passed_over.push(Error::Index { path, error })?;
+            Ok(())
+        }
+        Err(error) => Err(error),
+    }
 }
 
 // Opens a pack index, to stay open or to be opened again for each read.

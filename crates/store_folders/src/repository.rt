@@ -26,10 +26,18 @@ pub(crate) struct Environment {
 impl Environment {
     pub(crate) fn read(rt: &(impl Env + AllocGlobal)) -> Result<Environment, Error> {
         Ok(Environment {
-            dir: variable(rt, "GIT_DIR")?,
-            common: variable(rt, "GIT_COMMON_DIR")?,
-            objects: variable(rt, "GIT_OBJECT_DIRECTORY")?,
+            dir: path_variable(rt, "GIT_DIR")?,
+            common: path_variable(rt, "GIT_COMMON_DIR")?,
+            objects: path_variable(rt, "GIT_OBJECT_DIRECTORY")?,
         })
+    }
+}
+
+// The path that is the value of a variable, if it is set. An empty one is no path of this folder.
+fn path_variable(rt: &(impl Env + AllocGlobal), name: &str) -> Result<Option<String>, Error> {
+    match variable(rt, name)? {
+        Some(path) if path.is_empty() => Err(Error::text(rt.alloc(), name, "empty")),
+        path => Ok(path),
     }
 }
 
@@ -43,13 +51,25 @@ pub(crate) fn variable(rt: &(impl Env + AllocGlobal), name: &str) -> Result<Opti
     }
 }
 
-// The folder with the objects and the config of the repository, if there is one.
+// A repository that was found.
+#[derive(Drop)]
+pub(crate) struct Repository {
+    // The folder with its objects, references and config.
+    pub(crate) folder: String,
+    // From where relative paths of the environment lead: the top of its worktree, if it was found
+    // there, since Git goes there first. It is empty for the current folder.
+    pub(crate) top: String,
+}
+
+// The repository, if there is one.
 pub(crate) fn find_repository<R: Files + Env + AllocGlobal>(
     rt: &R,
     given: &Environment,
-) -> Result<Option<String>, Error> {
+) -> Result<Option<Repository>, Error> {
     if let Some(path) = &given.dir {
-        return Ok(Some(required(rt, given, path)?));
+        let folder = required(rt, given, path)?;
+        let top = String::new(rt.alloc());
+        return Ok(Some(Repository { folder, top }));
     }
     let here = match env::current_dir(rt) {
         Ok(here) => here,
@@ -59,8 +79,11 @@ pub(crate) fn find_repository<R: Files + Env + AllocGlobal>(
         Err(error) => return Err(Error::file(rt.alloc(), ".", error)),
     };
     for folder in here.ancestors() {
-        if let Some(repository) = repository_in(rt, given, folder.as_str())? {
-            return Ok(Some(repository));
+        if let Some(mut found) = repository_in(rt, given, folder.as_str())? {
+            if folder.as_str() == here.as_str() {
+                found.top.clear();
+            }
+            return Ok(Some(found));
         }
     }
     Ok(None)
@@ -70,7 +93,7 @@ pub(crate) fn find_repository<R: Files + Env + AllocGlobal>(
 fn find_above<R: Files + AllocGlobal>(
     rt: &R,
     given: &Environment,
-) -> Result<Option<String>, Error> {
+) -> Result<Option<Repository>, Error> {
     let mut folder = String::from_str(rt.alloc(), ".")?;
     for _ in 0..MAX_ABOVE {
         if let Some(repository) = repository_in(rt, given, &folder)? {
@@ -99,14 +122,26 @@ fn repository_in<R: Files + AllocGlobal>(
     rt: &R,
     given: &Environment,
     folder: &str,
-) -> Result<Option<String>, Error> {
+) -> Result<Option<Repository>, Error> {
     let path = join(rt, folder, ".git")?;
-    if Path::new(&path).is_file(rt) {
-        return Ok(Some(required(rt, given, &path)?));
+    let of_worktree = if Path::new(&path).is_file(rt) {
+        Some(required(rt, given, &path)?)
+    } else {
+        repository_at(rt, given, &path)?
+    };
+    if let Some(repository) = of_worktree {
+        let top = String::from_str(rt.alloc(), folder)?;
+        return Ok(Some(Repository {
+            folder: repository,
+            top,
+        }));
     }
-    match repository_at(rt, given, &path)? {
-        Some(repository) => Ok(Some(repository)),
-        None => repository_at(rt, given, folder),
+    match repository_at(rt, given, folder)? {
+        Some(folder) => Ok(Some(Repository {
+            folder,
+            top: String::new(rt.alloc()),
+        })),
+        None => Ok(None),
     }
 }
 

@@ -5,9 +5,9 @@ ghost use Rattle.gix_hash.specs.ObjectId.{id_kind};
 
 use crate::error::Error;
 use crate::finding::ObjectsFolder;
-use crate::folders::with_alternates;
+use crate::folders::{Folders, with_alternates};
 use crate::loose::{LooseIds, LooseObjects, list_loose, loose_path, push_paths};
-use crate::packs::{PackIndexes, open_indexes, pack_paths};
+use crate::packs::{OpenIndexes, PackIndexes, open_indexes, pack_paths};
 use crate::source::Source;
 use gix_hash::{Kind, ObjectId, Prefix};
 use object_store::{Store, StorePaths};
@@ -45,7 +45,8 @@ impl<R: Files<File = File> + AllocGlobal + Clone + Drop> FolderStore<R> {
     /// Opens the store of an objects folder, whose ids are of the folder's kind.
     ///
     /// No object is missed that is packed meanwhile, as by `git gc`. If a pack index is removed while
-    /// the store is opened, the store is read again; the 100th time [`Error::Gone`] is returned.
+    /// the store is opened, a folder of packs is changed or an alternate comes or goes, the store is
+    /// read again; the 100th time [`Error::Gone`] or [`Error::Changed`] is returned.
     ///
     /// The folder's alternates are read as by Git: each once, and nested up to 5 times. Those that
     /// cannot be used are passed over ([`FolderStore::passed_over`]). A folder `pack` or of loose
@@ -59,7 +60,7 @@ impl<R: Files<File = File> + AllocGlobal + Clone + Drop> FolderStore<R> {
     {
         for _ in 1..MAX_TRIES {
             match FolderStore::read(rt, folder, loose) {
-                Err(Error::Gone { .. }) => {}
+                Err(Error::Gone { .. } | Error::Changed { .. }) => {}
                 opened => return opened,
             }
         }
@@ -73,12 +74,18 @@ impl<R: Files<File = File> + AllocGlobal + Clone + Drop> FolderStore<R> {
         let kind = folder.kind;
         let folders = with_alternates(rt, folder)?;
         let (listed, loose) = list(rt, &folders.paths, kind, loose)?;
-        let paths = listed.with_packs(rt)?;
-        let packs = pack_paths(rt.alloc(), &paths)?;
-        let indexes = open_indexes(rt, &paths, kind)?;
+        expect_alternates(rt, folder, &folders)?;
+        let opened = open_indexes(rt, &listed.with_packs(rt)?, kind)?;
+        let packs = pack_paths(rt.alloc(), &opened.paths)?;
         let mut passed_over = folders.passed_over;
         let mut unnamed = listed.passed_over;
         passed_over.append(&mut unnamed)?;
+        let OpenIndexes {
+            paths,
+            indexes,
+            passed_over: mut damaged,
+        } = opened;
+        passed_over.append(&mut damaged)?;
         Ok(FolderStore {
             rt: rt.clone()?,
             kind,
@@ -90,9 +97,9 @@ impl<R: Files<File = File> + AllocGlobal + Clone + Drop> FolderStore<R> {
         })
     }
 
-    /// What was not read: the alternates that are missing, are no folders, cannot be read or are
-    /// nested too deep, and the pack indexes whose names are not UTF-8. Each has its path, or that of
-    /// its folder, and why.
+    /// What was not read: alternates that are missing, are no folders, cannot be read or are nested too
+    /// deep, and pack indexes whose names are not UTF-8 or whose heads are not those of version 2 and
+    /// of the kind. Each has its path, or that of its folder, and why.
     ///
     /// ```
     /// let store = FolderStore::open(rt, &find_objects(rt)?, LooseIds::All)?;
@@ -160,8 +167,9 @@ impl<R: Files<File = File> + AllocGlobal + Clone + Drop> FolderStore<R> {
 // missed that is there all the time. One that is packed is in a pack before its loose file is
 // removed, and in the new pack before the old one is: so the loose objects are listed before the
 // packs. One that is taken out of a pack is loose before the pack is removed: so the packs are listed
-// before the loose objects too, and none of them may be gone after. (A pack that came and went in
-// between is not noticed.)
+// before the loose objects too, and none of them may be gone after. A pack may have come and gone in
+// between, with objects that were loose before and are loose again: so no folder of packs may have
+// changed.
 fn list<R: Files + AllocGlobal>(
     rt: &R,
     folders: &[String],
@@ -174,7 +182,22 @@ fn list<R: Files + AllocGlobal>(
     let loose = list_loose(rt, folders, kind, loose)?;
     let after = PackIndexes::list(rt, folders)?;
     after.expect_all(rt.alloc(), &before)?;
+    after.expect_unchanged(rt.alloc(), &before)?;
     Ok((after, loose))
+}
+
+// Fails if the alternates of a folder are not these any more: one that came later may have got
+// objects that the folder had, and had no more as it was listed.
+fn expect_alternates<R: Files + AllocGlobal>(
+    rt: &R,
+    folder: &ObjectsFolder,
+    earlier: &Folders,
+) -> Result<(), Error> {
+    if with_alternates(rt, folder)?.paths == earlier.paths {
+        Ok(())
+    } else {
+        Err(Error::changed(rt.alloc(), &folder.path))
+    }
 }
 
 // Whether an id begins with a prefix.
