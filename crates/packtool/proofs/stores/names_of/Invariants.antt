@@ -1,5 +1,5 @@
 use Rattle.std.proofs.Common.{◌≡◌}
 use Rattle.packtool.proofs.stores.names_of.Given as goal
 
-abbrev pub invariant-loop-tries : goal.invariant-loop-tries
-invariant-loop-tries l = l.store.kind ≡ l.folder.kind
+abbrev pub invariant-tries : goal.invariant-tries
+invariant-tries l = l.store.kind ≡ l.folder.kind
