@@ -112,16 +112,21 @@ OTHERS = [
     ("none.idx", "sha1", ""),
 ]
 
+# The highest offset that Git has.
+LAST_OFFSET = (1 << 63) - 1
 # Two packs. The second has two long offsets.
 TWO = {
     "pack-1": index_of([f"4b825d{'0' * 34}", PACKED, "e69de29bb2d1d6434b8b29ae775ad8c2e48c5391", "f" * 40]),
-    "pack-2": index_of(["0" * 40, PACKED, BOTH], (0x1_0000_000C, 0x7FFF_FFFF_FFFF_FFFF)),
+    "pack-2": index_of(["0" * 40, PACKED, BOTH], (0x1_0000_000C, LAST_OFFSET)),
 }
-# Bytes of the first index, by position and value, and the error of its look-up of `4b`.
-DAMAGED = [
+# Bytes of the first index, by position and value, and why it is passed over then.
+BAD_HEADS = [
     (0, 0, "the bytes do not begin as a pack index of version 2"),
     (7, 3, "pack indexes of version 3 are not read"),
     (1031, 5, "the tables of the pack index do not fill its bytes"),
+]
+# And the error of its look-up of `4b`.
+DAMAGED = [
     # The counts of byte 4a and of byte 4b, and the first byte of the first name.
     (307, 3, "the count of the first byte 75 is below the one before it"),
     (311, 5, "the count of the first byte 75 is above the number of names"),
@@ -252,7 +257,7 @@ LENT_FILES = {
     "main/objects/4b/0A000000000000000000000000000000000000": b"",
     "main/objects/4c/ffffffffffffffffffffffffffffffffffffff": b"",
     "main/objects/info/alternates": rb'"../../a \"b\"/objects"',
-    'a "b"/objects/pack/pack-1.idx': index_of([FIRST, BOTH, f"4c{'0' * 38}"], (0x1_0000_000C, 0x7FFF_FFFF_FFFF_FFFF)),
+    'a "b"/objects/pack/pack-1.idx': index_of([FIRST, BOTH, f"4c{'0' * 38}"], (0x1_0000_000C, LAST_OFFSET)),
     'a "b"/objects/pack/pack-1.pack': b"",
     'a "b"/objects/info/alternates': b"# none\n\n../../gone\n../../main/objects\n../../third/objects\n"
     b"../../third/../third/objects\n",
@@ -291,7 +296,6 @@ UNREAD_FILES = {
 }
 # Objects folders that the environment names, what is done in them, and the errors.
 UNREAD = [
-    ("objects", "names --kind sha256", "objects/pack/pack-0.idx: the names of the pack index are of the kind sha1"),
     ("gone", "names", "gone: No such file or directory (os error 2)"),
     ("objects", "find 11", "objects/pack/pack-1.idx: the count of the first byte 17 is below the one before it"),
     ("22", "names", "22/22: Not a directory (os error 20)"),
