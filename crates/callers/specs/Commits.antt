@@ -5,7 +5,7 @@ use Rattle.gix_hash.specs.IdDigits.{AreIdDigits}
 use Rattle.gix_hash.specs.ObjectId.{id_digits, id_kind}
 use Rattle.gix_hash.specs.declared.Kind.{Kind}
 use Rattle.gix_hash.specs.declared.ObjectId.{ObjectId}
-use Rattle.git_texts.specs.Printed.{line_then}
+use Rattle.repositories.specs.Printed.{line_then}
 
 -- a line of a key and digits, and the rest after it
 abbrev pub keyed_then : List ℕ → List ℕ → List ℕ → List ℕ

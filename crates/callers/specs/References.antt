@@ -4,7 +4,7 @@ use Rattle.std.specs.List.{list_all, list_any}
 use Rattle.gix_hash.specs.IdDigits.{AreIdDigits}
 use Rattle.gix_hash.specs.ObjectId.{id_digits, id_kind}
 use Rattle.gix_hash.specs.declared.Kind.{Kind}
-use Rattle.git_texts.specs.Printed.{line_then}
+use Rattle.repositories.specs.Printed.{line_then}
 use Rattle.callers.specs.declared.references.Reference.{Reference}
 use Rattle.callers.specs.declared.references.Reference.TheVariants.{Id, Symbolic}
 

@@ -2,9 +2,10 @@
 
 use gix_hash::{ObjectId, Prefix};
 use object_store::lookup_prefix;
+use repositories::find_objects;
 use std::fs::File;
 use std::rt::{Env, Files};
-use store_folders::{Error, FolderStore, LooseIds, find_objects};
+use store_folders::{Error, FolderStore, LooseIds};
 
 /// The id of the only object of the repository that begins with the hex digits that were typed, of
 /// which there must be two or more.

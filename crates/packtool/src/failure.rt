@@ -8,6 +8,9 @@ use thiserror::Error as ThisError;
 /// Why a command stops.
 #[derive(Debug, Drop, ThisError)]
 pub enum Failure<'a> {
+    /// The repository or its objects folder is not found, or cannot be read.
+    #[error("{0}")]
+    Repository(repositories::Error),
     /// The store cannot be read.
     #[error("{0}")]
     Store(store_folders::Error),
@@ -74,6 +77,12 @@ pub enum FileWhy {
     /// It has 2^61 bytes or more.
     #[error("too long")]
     TooMuch,
+}
+
+impl From<repositories::Error> for Failure<'_> {
+    fn from(error: repositories::Error) -> Self {
+        Failure::Repository(error)
+    }
 }
 
 impl From<store_folders::Error> for Failure<'_> {

@@ -14,9 +14,10 @@ use clap::ArgMatches;
 use gix_hash::{Kind, Prefix};
 use object_store::{NamedId, names};
 use packtool_commands::{StoreError, find, locate, write_names};
+use repositories::{ObjectsFolder, find_objects};
 use std::cell::Cell;
 use std::io;
-use store_folders::{Error, FolderStore, LooseIds, ObjectsFolder, find_objects};
+use store_folders::{Error, FolderStore, LooseIds};
 use streams::Plain;
 
 // How often a command begins.

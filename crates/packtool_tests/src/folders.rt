@@ -1,12 +1,13 @@
 //! Stores in folders, which are made where the tests run.
 
 use gix_hash::Kind;
+use repositories::ObjectsFolder;
 use std::fs;
 use std::fs::File;
 use std::path::Path;
 use std::rt::Files;
 use std::test::Fail;
-use store_folders::{Error, FolderStore, LooseIds, ObjectsFolder};
+use store_folders::{Error, FolderStore, LooseIds};
 use test_devices::ids::{ids_of, pack_index};
 
 /// The id of an object in a pack.

@@ -5,6 +5,7 @@ use crate::folders::{BOTH, Index, LOOSE, PACKED, make, open};
 use crate::look_ups::{expect_ids, find};
 use gix_hash::Prefix;
 use object_store::Store;
+use repositories::ObjectsFolder;
 use std::alloc::{Alloc, AllocError, Allocator, Global};
 use std::cell::Cell;
 use std::fs::{File, Metadata, OpenOptions};
@@ -14,7 +15,7 @@ use std::process::Abort;
 use std::rt::Files;
 use std::test::Fail;
 use std::{fs, io};
-use store_folders::{Error, FolderStore, LooseIds, ObjectsFolder};
+use store_folders::{Error, FolderStore, LooseIds};
 
 // A file that is moved before a folder is listed: how many were listed before, and the two paths.
 type Move = (usize, (&'static str, &'static str));

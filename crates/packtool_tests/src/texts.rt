@@ -1,8 +1,8 @@
 //! Texts of errors.
 
 use crate::expecting::{expect_text, text_of};
-use git_texts::config::ConfigError;
 use packtool_commands::{FileError, StoreError};
+use repositories::config::ConfigError;
 use std::alloc::AllocError;
 use std::test::Fail;
 
@@ -16,6 +16,10 @@ fn texts_of_errors(rt: HostRuntime) -> Result<(), Fail> {
         (text_of(&rt, StoreError::Output)?, "cannot write"),
         (
             text_of(&rt, ConfigError::Memory(AllocError))?,
+            "out of memory",
+        ),
+        (
+            text_of(&rt, repositories::Error::Memory(AllocError))?,
             "out of memory",
         ),
         (

@@ -1,7 +1,7 @@
 -- The paths of loose objects, which are given by their digits.
 use Rattle.std.specs.Prelude.{ℕ, ◌++◌, List, ◌∷◌, filter, map, nat_eq}
 use Rattle.std.specs.Cmp.Lexicographic.{pointwise}
-use Rattle.git_texts.specs.Paths.{loose_path}
+use Rattle.repositories.specs.Paths.{loose_path}
 
 -- the path of the file of a loose object in a folder
 abbrev pub path_in : List ℕ → List ℕ → List ℕ

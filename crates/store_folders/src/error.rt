@@ -1,13 +1,12 @@
-//! Why a store in folders cannot be found, opened or read.
+//! Why a store in folders cannot be opened or read.
 
-use git_texts::config::ConfigError;
 use pack_index::LazyError;
 use std::alloc::{AllocError, Global};
 use std::io;
 use thiserror::Error as ThisError;
 
-/// Why a store in folders is not found or opened, or a look-up in it fails. Each error of a folder
-/// or file begins with its path.
+/// Why a store in folders is not opened, or a look-up in it fails. Each error of a folder or file
+/// begins with its path.
 ///
 /// ```
 /// if let Err(error) = FolderStore::open(rt, &find_objects(rt)?, LooseIds::All) {
@@ -16,14 +15,9 @@ use thiserror::Error as ThisError;
 /// ```
 #[derive(Debug, Drop, ThisError)]
 pub enum Error {
-    /// A folder or file cannot be read.
-    #[error("{path}: {error}")]
-    File {
-        /// Its path.
-        path: String,
-        /// Why.
-        error: io::Error,
-    },
+    /// A folder or file cannot be read, or does not say what it is to say.
+    #[error("{0}")]
+    Repository(repositories::Error),
     /// A pack index cannot be read, or is damaged where it was read.
     #[error("{path}: {error}")]
     Index {
@@ -52,51 +46,24 @@ pub enum Error {
         /// The path of the folder.
         path: String,
     },
-    /// A file of the repository does not say what it is to say.
-    #[error("{path}: {why}")]
-    Text {
-        /// Its path.
-        path: String,
-        /// What is wrong.
-        why: &'static str,
-    },
-    /// A repository's config says no kind of ids that is known.
-    #[error("{path}: {error}")]
-    Config {
-        /// Its path.
-        path: String,
-        /// Why.
-        error: ConfigError,
-    },
-    /// A folder is no objects folder.
-    #[error("{path}: no object store")]
-    NoStore {
-        /// Its path.
-        path: String,
-    },
-    /// A folder is no objects folder, but has one.
-    #[error("{path}: no object store: try {objects}")]
-    NoStoreButIn {
-        /// Its path.
-        path: String,
-        /// The path of the objects folder in it.
-        objects: String,
-    },
-    /// Neither the current folder nor one above it has a repository.
-    #[error("no git repository in this folder or above it")]
-    NoRepository,
     /// There is not enough memory.
     #[error("out of memory")]
     Memory(#[from(alloc)] AllocError),
 }
 
+impl From<repositories::Error> for Error {
+    fn from(error: repositories::Error) -> Error {
+        match error {
+            repositories::Error::Memory(error) => Error::Memory(error),
+            error => Error::Repository(error),
+        }
+    }
+}
+
 impl Error {
     // A folder or file cannot be read.
     pub(crate) fn file(alloc: Global, path: &str, error: io::Error) -> Error {
-        match String::from_str(alloc, path) {
-            Ok(path) if error.kind() != io::ErrorKind::OutOfMemory => Error::File { path, error },
-            _ => Error::Memory(AllocError),
-        }
+        Error::from(repositories::Error::file(alloc, path, error))
     }
 
     // A pack index is not there, cannot be read, or is damaged.
@@ -122,19 +89,8 @@ impl Error {
         }
     }
 
-    // A config says no kind that is known.
-    pub(crate) fn config(alloc: Global, path: &str, error: ConfigError) -> Error {
-        match (String::from_str(alloc, path), error) {
-            (_, ConfigError::Memory(error)) | (Err(error), _) => Error::Memory(error),
-            (Ok(path), error) => Error::Config { path, error },
-        }
-    }
-
-    // A file does not say what it is to say.
+    // The name of a file is not what it is to be.
     pub(crate) fn text(alloc: Global, path: &str, why: &'static str) -> Error {
-        match String::from_str(alloc, path) {
-            Ok(path) => Error::Text { path, why },
-            Err(error) => Error::Memory(error),
-        }
+        Error::from(repositories::Error::text(alloc, path, why))
     }
 }

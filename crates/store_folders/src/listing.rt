@@ -1,7 +1,7 @@
 //! The names in folders.
 
 use crate::error::Error;
-use crate::files::join;
+use repositories::join;
 use std::io;
 use std::io::{BufReader, Read};
 use std::rt::Files;

@@ -7,8 +7,8 @@ ghost use Rattle.store_folders.specs.LoosePaths.{path_in, paths_in};
 
 use crate::error::Error;
 use crate::listing::names_in;
-use git_texts::paths::{read_loose_path, write_loose_path};
 use gix_hash::{Kind, ObjectId};
+use repositories::paths::{read_loose_path, write_loose_path};
 use std::alloc::{AllocError, Global};
 use std::rt::Files;
 

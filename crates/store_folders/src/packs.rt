@@ -3,11 +3,11 @@
 ghost use Rattle.std.specs.Prelude.{◌≡◌, All, IfOk, OnOk};
 
 use crate::error::Error;
-use crate::files::join;
 use crate::listing::names_in;
 use crate::source::Source;
 use gix_hash::Kind;
 use pack_index::{LazyError, LazyFile};
+use repositories::join;
 use std::alloc::{AllocError, Global};
 use std::fs::File;
 use std::os::unix::fs::MetadataExt;
@@ -209,9 +209,8 @@ pub(crate) fn open_indexes<R: Files<File = File> + AllocGlobal + Clone + Drop>(
     ensures { IfOk result (λ opened. All (λ index. index.kind ≡ kind) opened.indexes.items) }
 {
     match open_all(rt, paths, MAX_OPEN, kind) {
-        Err(Error::File { error, .. }) if error.raw_os_error() == Some(TOO_MANY_OPEN) => {
-            open_all(rt, paths, 0, kind)
-        }
+        Err(Error::Repository(repositories::Error::File { error, .. }))
+            if error.raw_os_error() == Some(TOO_MANY_OPEN) => { open_all(rt, paths, 0, kind) }
         opened => opened,
     }
 }

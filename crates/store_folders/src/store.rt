@@ -4,14 +4,13 @@ ghost use Rattle.std.specs.Prelude.{◌≡◌, All, IfOk};
 ghost use Rattle.gix_hash.specs.ObjectId.{id_kind};
 
 use crate::error::Error;
-use crate::finding::ObjectsFolder;
-use crate::folders::{Folders, with_alternates};
 use crate::loose::{LooseIds, LooseObjects, list_loose, loose_path, push_paths};
 use crate::packs::{OpenIndexes, PackIndexes, open_indexes, pack_paths};
 use crate::source::Source;
 use gix_hash::{Kind, ObjectId, Prefix};
 use object_store::{Store, StorePaths};
 use pack_index::LazyFile;
+use repositories::{Folders, ObjectsFolder, with_alternates};
 use std::alloc::AllocError;
 use std::cmp::Ordering;
 use std::fs::File;
@@ -77,7 +76,7 @@ impl<R: Files<File = File> + AllocGlobal + Clone + Drop> FolderStore<R> {
         expect_alternates(rt, folder, &folders)?;
         let opened = open_indexes(rt, &listed.with_packs(rt)?, kind)?;
         let packs = pack_paths(rt.alloc(), &opened.paths)?;
-        let mut passed_over = folders.passed_over;
+        let mut passed_over = alternates_passed_over(rt, folders)?;
         let mut unnamed = listed.passed_over;
         passed_over.append(&mut unnamed)?;
         let OpenIndexes {
@@ -198,6 +197,18 @@ fn expect_alternates<R: Files + AllocGlobal>(
     } else {
         Err(Error::changed(rt.alloc(), &folder.path))
     }
+}
+
+// Why alternates are passed over.
+fn alternates_passed_over(
+    rt: &impl AllocGlobal,
+    folders: Folders,
+) -> Result<Vec<Error>, AllocError> {
+    let mut errors = Vec::with_capacity(rt.alloc(), folders.passed_over.len())?;
+    for error in folders.passed_over {
+        errors.push(Error::from(error))?;
+    }
+    Ok(errors)
 }
 
 // Whether an id begins with a prefix.

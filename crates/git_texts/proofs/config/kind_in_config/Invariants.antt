@@ -1,5 +1,0 @@
-use Rattle.std.proofs.Common.{length}
-use Rattle.git_texts.proofs.config.kind_in_config.Given as goal
-
-abbrev pub decreases-loop-format : goal.decreases-loop-format
-decreases-loop-format l = length l.variables.left.now

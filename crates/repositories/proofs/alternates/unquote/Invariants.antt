@@ -1,0 +1,8 @@
+use Rattle.std.proofs.Common.{◌≤◌, length}
+use Rattle.repositories.proofs.alternates.unquote.Given as goal
+
+abbrev pub invariant-loop-byte : goal.invariant-loop-byte
+invariant-loop-byte g l = length l.left ≤ length l.fn.quoted
+
+abbrev pub decreases-loop-byte : goal.decreases-loop-byte
+decreases-loop-byte g l = length l.left

@@ -1,0 +1,104 @@
+//! Paths, and texts of files.
+
+use crate::config::kind_in_config;
+use crate::error::Error;
+use gix_hash::Kind;
+use std::alloc::AllocError;
+use std::path::Path;
+use std::rt::Files;
+use std::{fs, io};
+
+/// A path below a folder, or the path itself if it is absolute.
+///
+/// ```
+/// let packs = join(rt, &folder.path, "pack")?;
+/// ```
+pub fn join(rt: &impl AllocGlobal, folder: &str, path: &str) -> Result<String, AllocError> {
+    Ok(Path::new(folder).join(rt.alloc(), path)?.into_string())
+}
+
+// Whether a call failed because there is no such folder or file.
+pub(crate) fn is_missing(error: &io::Error) -> bool {
+    matches!(
+        error.kind(),
+        io::ErrorKind::NotFound | io::ErrorKind::NotADirectory
+    )
+}
+
+// The bytes of a file, or `None` if there is no such file.
+pub(crate) fn read_bytes<R: Files + AllocGlobal>(
+    rt: &R,
+    path: &str,
+) -> Result<Option<Vec<u8>>, Error> {
+    match fs::read(rt, path) {
+        Ok(bytes) => Ok(Some(bytes)),
+        Err(error) if is_missing(&error) => Ok(None),
+        Err(error) => Err(Error::file(rt.alloc(), path, error)),
+    }
+}
+
+// The text of a file, or `None` if there is no such file.
+pub(crate) fn read_text<R: Files + AllocGlobal>(
+    rt: &R,
+    path: &str,
+) -> Result<Option<String>, Error> {
+    match fs::read_to_string(rt, path) {
+        Ok(text) => Ok(Some(text)),
+        Err(error) if is_missing(&error) => Ok(None),
+        Err(error) => Err(Error::file(rt.alloc(), path, error)),
+    }
+}
+
+// The absolute path of a folder, without links; the same path if that is not UTF-8.
+pub(crate) fn real_folder<R: Files + AllocGlobal>(rt: &R, path: &str) -> io::Result<String> {
+    let real = match fs::canonicalize(rt, path) {
+        Ok(real) => real.into_string(),
+        Err(error) if error.kind() == io::ErrorKind::InvalidFilename => {
+            String::from_str(rt.alloc(), path)?
+        }
+        Err(error) => return Err(error),
+    };
+    if fs::metadata(rt, &real)?.is_dir() {
+        Ok(real)
+    } else {
+        Err(io::ErrorKind::NotADirectory.into())
+    }
+}
+
+// Whether a folder has one of this name.
+pub(crate) fn has_folder<R: Files + AllocGlobal>(
+    rt: &R,
+    folder: &str,
+    name: &str,
+) -> Result<bool, AllocError> {
+    Ok(Path::new(&join(rt, folder, name)?).is_dir(rt))
+}
+
+// The kind of a repository's ids by its config in a folder. SHA-1 if there is no config.
+pub(crate) fn kind_by_config<R: Files + AllocGlobal>(rt: &R, folder: &str) -> Result<Kind, Error> {
+    Ok(kind_if_config(rt, folder)?.unwrap_or(Kind::Sha1))
+}
+
+// The kind of the ids of an objects folder by the config beside it. SHA-1 if there is no config. If
+// the folder is a link, the config is beside the folder, or else beside the link.
+pub(crate) fn kind_beside<R: Files + AllocGlobal>(rt: &R, objects: &str) -> Result<Kind, Error> {
+    match kind_if_config(rt, &join(rt, objects, "..")?)? {
+        Some(kind) => Ok(kind),
+        None => {
+            let folder = Path::new(objects).parent();
+            kind_by_config(rt, folder.map_or(objects, |folder| folder.as_str()))
+        }
+    }
+}
+
+// The kind by the config in a folder, or `None` if there is no config.
+fn kind_if_config<R: Files + AllocGlobal>(rt: &R, folder: &str) -> Result<Option<Kind>, Error> {
+    let path = join(rt, folder, "config")?;
+    let Some(text) = read_bytes(rt, &path)? else {
+        return Ok(None);
+    };
+    match kind_in_config(rt.alloc(), &text) {
+        Ok(kind) => Ok(Some(kind)),
+        Err(error) => Err(Error::config(rt.alloc(), &path, error)),
+    }
+}

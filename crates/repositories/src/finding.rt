@@ -1,0 +1,154 @@
+//! Objects folders: the one of the repository that a program runs in, and others by their paths.
+
+use crate::alternates::alternate_paths;
+use crate::error::Error;
+use crate::files::{has_folder, join, kind_beside, kind_by_config};
+use crate::repository::{Environment, Repository, find_repository, variable};
+use gix_hash::Kind;
+use std::alloc::AllocError;
+use std::path::Path;
+use std::rt::{Env, Files};
+use std::{fs, io};
+
+const ALTERNATES: &str = "GIT_ALTERNATE_OBJECT_DIRECTORIES";
+
+/// An objects folder that was found, and the kind of its ids.
+///
+/// ```
+/// let folder = find_objects(rt)?;
+/// println!(rt; "{}, {} ids", folder.path, folder.kind)?;
+/// ```
+#[derive(Debug, Drop)]
+pub struct ObjectsFolder {
+    /// The path of the folder.
+    pub path: String,
+    /// The kind that the repository's config says.
+    pub kind: Kind,
+    /// The objects folders that the environment adds to its alternates.
+    pub alternates: Vec<String>,
+}
+
+impl ObjectsFolder {
+    /// The objects folder at a path, with the kind that the config beside it says. It is SHA-1 if
+    /// there is no config. The environment adds no alternates.
+    ///
+    /// A folder is an objects folder if it has the folder `pack`, the file `info/alternates` or a
+    /// folder of loose objects.
+    ///
+    /// ```
+    /// let folder = ObjectsFolder::at(rt, ".git/objects")?;
+    /// assert!(rt; folder.alternates.is_empty());
+    /// ```
+    pub fn at<R: Files + AllocGlobal>(rt: &R, path: &str) -> Result<ObjectsFolder, Error> {
+        if !is_store(rt, path)? {
+            return Err(no_store(rt, path)?);
+        }
+        Ok(ObjectsFolder {
+            path: String::from_str(rt.alloc(), path)?,
+            kind: kind_beside(rt, path)?,
+            alternates: Vec::new(rt.alloc()),
+        })
+    }
+}
+
+/// Finds the objects folder of the repository that a program runs in, as Git does.
+///
+/// The repository is that of `$GIT_DIR`, or else of the current folder or the first above it that
+/// has one: as `.git`, which is a folder or a file that names one, or as a bare repository. The
+/// worktrees of a repository share its objects; `$GIT_COMMON_DIR` is taken in place of the folder
+/// that they share. `$GIT_OBJECT_DIRECTORY` is taken in place of the repository's own objects
+/// folder, and the folders of `$GIT_ALTERNATE_OBJECT_DIRECTORIES` are alternates. Relative ones are
+/// taken from the folder that has `.git`, if the repository is found there. One of the variables that
+/// name a folder is an error if it is empty.
+pub fn find_objects<R: Files + Env + AllocGlobal>(rt: &R) -> Result<ObjectsFolder, Error> {
+    let given = Environment::read(rt)?;
+    match find_repository(rt, &given)? {
+        Some(repository) => objects_of(rt, &given, &repository),
+        None => objects_given(rt, &given),
+    }
+}
+
+// The objects folder of a repository.
+fn objects_of<R: Files + Env + AllocGlobal>(
+    rt: &R,
+    given: &Environment,
+    repository: &Repository,
+) -> Result<ObjectsFolder, Error> {
+    let path = match &given.objects {
+        Some(path) => join(rt, &repository.top, path)?,
+        None => join(rt, &repository.folder, "objects")?,
+    };
+    Ok(ObjectsFolder {
+        path,
+        kind: kind_by_config(rt, &repository.folder)?,
+        alternates: alternates(rt, &repository.top)?,
+    })
+}
+
+// The objects folder that the environment names, where there is no repository.
+fn objects_given<R: Files + Env + AllocGlobal>(
+    rt: &R,
+    given: &Environment,
+) -> Result<ObjectsFolder, Error> {
+    match &given.objects {
+        Some(path) => Ok(ObjectsFolder {
+            path: String::from_str(rt.alloc(), path)?,
+            kind: kind_beside(rt, path)?,
+            alternates: alternates(rt, "")?,
+        }),
+        None => Err(Error::NoRepository),
+    }
+}
+
+// The folders that `$GIT_ALTERNATE_OBJECT_DIRECTORIES` names, relative to a folder.
+fn alternates(rt: &(impl Env + AllocGlobal), top: &str) -> Result<Vec<String>, Error> {
+    let alloc = rt.alloc();
+    let mut folders = Vec::new(alloc);
+    if let Some(list) = variable(rt, ALTERNATES)? {
+        for path in alternate_paths(alloc, list.as_bytes(), b':')? {
+            match String::from_utf8(path) {
+                Ok(path) => folders.push(join(rt, top, &path)?)?,
+                Err(_) => return Err(Error::text(alloc, ALTERNATES, "a path is not UTF-8")),
+            }
+        }
+    }
+    Ok(folders)
+}
+
+// Whether a folder is an objects folder.
+fn is_store<R: Files + AllocGlobal>(rt: &R, path: &str) -> Result<bool, AllocError> {
+    Ok(
+        has_folder(rt, path, "pack")?
+            || Path::new(&join(rt, path, "info/alternates")?).is_file(rt)
+            || has_loose_folder(rt, path)?,
+    )
+}
+
+// Whether a folder has one of loose objects.
+fn has_loose_folder<R: Files + AllocGlobal>(rt: &R, path: &str) -> Result<bool, AllocError> {
+    for byte in 0..=u8::MAX {
+        if has_folder(rt, path, &format!(in rt.alloc(); "{byte:02x}")?)? {
+            return Ok(true);
+        }
+    }
+    Ok(false)
+}
+
+// Why a folder is no objects folder.
+fn no_store<R: Files + AllocGlobal>(rt: &R, path: &str) -> Result<Error, AllocError> {
+    let alloc = rt.alloc();
+    match fs::metadata(rt, path) {
+        Ok(found) if found.is_dir() => {}
+        Ok(_) => return Ok(Error::file(alloc, path, io::ErrorKind::NotADirectory.into())),
+        Err(error) => return Ok(Error::file(alloc, path, error)),
+    }
+    for name in ["objects", ".git/objects"] {
+        let objects = join(rt, path, name)?;
+        if is_store(rt, &objects)? {
+            let path = String::from_str(alloc, path)?;
+            return Ok(Error::NoStoreButIn { path, objects });
+        }
+    }
+    let path = String::from_str(alloc, path)?;
+    Ok(Error::NoStore { path })
+}

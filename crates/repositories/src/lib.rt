@@ -1,0 +1,26 @@
+//! Git's repositories: where their objects are (gitrepository-layout), and Git's texts around
+//! object ids: paths of loose objects, lists of alternates, a repository's format in its config,
+//! and ids in lines.
+//!
+//! [`find_objects`] finds the objects folder of the repository that a program runs in, and
+//! [`with_alternates`] the folders whose objects it borrows.
+#![tactic(auto)]
+
+/// Lists of alternates.
+pub mod alternates;
+/// What a repository's config says of its ids.
+pub mod config;
+mod error;
+mod files;
+mod finding;
+mod folders;
+/// Paths of loose objects.
+pub mod paths;
+/// Ids in texts.
+pub mod printed;
+mod repository;
+
+pub use error::Error;
+pub use files::join;
+pub use finding::{ObjectsFolder, find_objects};
+pub use folders::{Folders, with_alternates};

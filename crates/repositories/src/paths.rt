@@ -1,0 +1,51 @@
+//! Where loose objects lie below the folder `objects` (gitrepository-layout): in a folder of their
+//! first two digits.
+
+ghost use Rattle.std.specs.Prelude.{◌≡◌, ◌≢◌, ◌≤◌, ◌+◌, ◌++◌, take, ℕ, List, OnOk, MatchOption, length};
+ghost use Rattle.std.specs.Io.KnownBytes.{Appends};
+ghost use Rattle.gix_hash.specs.IdDigits.{AreIdDigits};
+ghost use Rattle.gix_hash.specs.ObjectId.{id_digits, id_kind};
+ghost use Rattle.repositories.specs.Paths.{loose_path};
+
+use crate::printed::{after_key, read_printed};
+use gix_hash::{Kind, ObjectId};
+use std::io;
+
+/// Writes the path of a loose object.
+pub fn write_loose_path<W: io::Write>(id: &ObjectId, out: &mut W) -> io::Result<()>
+    ensures { OnOk result (Appends (W.contents out.old) (W.contents out.new)
+        (loose_path (id_digits id.now))) }
+{
+    let mut digits = [0; 64];
+    id.put_hex(&mut digits);
+    out.write_all(&digits[..2])?;
+    out.write_all(b"/")?;
+    out.write_all(&digits[2..id.kind().len_in_hex()])?;
+    Ok(())
+}
+
+/// The id of the loose object at a path, or `None` if the path is that of no id of the kind.
+pub fn read_loose_path(kind: Kind, path: &[u8]) -> Option<ObjectId>
+    ensures { MatchOption result ((digits : List ℕ) → AreIdDigits kind digits
+        → path.now ≢ loose_path digits)
+        (λ id. (id_kind id ≡ kind) × (path.now ≡ loose_path (id_digits id))) }
+{
+    if path.len() < 3 || path.len() > 65 {
+        return None;
+    }
+    let (folder, rest) = path.split_at(2);
+    let file = after_key(b"/", rest)?;
+    let mut digits = [0; 64];
+    put_both(folder, file, &mut digits);
+    read_printed(kind, &digits[..folder.len() + file.len()])
+}
+
+// Writes two slices to the front of a buffer, one after the other.
+fn put_both(first: &[u8], second: &[u8], buffer: &mut [u8])
+    requires { length first.now + length second.now ≤ length buffer.old }
+    ensures { take (length first.now + length second.now) buffer.new ≡ first.now ++ second.now }
+{
+    let len = first.len() + second.len();
+    buffer[..first.len()].copy_from_slice(first);
+    buffer[first.len()..len].copy_from_slice(second);
+}
