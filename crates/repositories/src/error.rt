@@ -5,8 +5,7 @@ use std::alloc::{AllocError, Global};
 use std::io;
 use thiserror::Error as ThisError;
 
-/// Why a repository, its objects folder or an alternate is not found or read. Each error of a
-/// folder or file begins with its path.
+/// Why a repository, its objects folder or an alternate is not found or read.
 ///
 /// ```
 /// if let Err(error) = find_objects(rt) {
@@ -15,6 +14,18 @@ use thiserror::Error as ThisError;
 /// ```
 #[derive(Debug, Drop, ThisError)]
 pub enum Error {
+    /// Something is missing, wrong or cannot be read. A result with this pointer is small.
+    #[error("{0}")]
+    Cause(Box<Cause>),
+    /// There is not enough memory.
+    #[error("out of memory")]
+    Memory(#[from(alloc)] AllocError),
+}
+
+/// What is missing, wrong or cannot be read. The text of each cause in a folder or file begins with
+/// its path.
+#[derive(Debug, Drop, ThisError)]
+pub enum Cause {
     /// A folder or file cannot be read.
     #[error("{path}: {error}")]
     File {
@@ -56,16 +67,15 @@ pub enum Error {
     /// Neither the current folder nor one above it has a repository.
     #[error("no git repository in this folder or above it")]
     NoRepository,
-    /// There is not enough memory.
-    #[error("out of memory")]
-    Memory(#[from(alloc)] AllocError),
 }
 
 impl Error {
     /// The error that a folder or file cannot be read, or `Memory` if that is why.
     pub fn file(alloc: Global, path: &str, error: io::Error) -> Error {
         match String::from_str(alloc, path) {
-            Ok(path) if error.kind() != io::ErrorKind::OutOfMemory => Error::File { path, error },
+            Ok(path) if error.kind() != io::ErrorKind::OutOfMemory => {
+                Error::of(alloc, Cause::File { path, error })
+            }
             _ => Error::Memory(AllocError),
         }
     }
@@ -73,7 +83,7 @@ impl Error {
     /// The error that a file or the name of one does not say what it is to say.
     pub fn text(alloc: Global, path: &str, why: &'static str) -> Error {
         match String::from_str(alloc, path) {
-            Ok(path) => Error::Text { path, why },
+            Ok(path) => Error::of(alloc, Cause::Text { path, why }),
             Err(error) => Error::Memory(error),
         }
     }
@@ -82,7 +92,26 @@ impl Error {
     pub(crate) fn config(alloc: Global, path: &str, error: ConfigError) -> Error {
         match (String::from_str(alloc, path), error) {
             (_, ConfigError::Memory(error)) | (Err(error), _) => Error::Memory(error),
-            (Ok(path), error) => Error::Config { path, error },
+            (Ok(path), error) => Error::of(alloc, Cause::Config { path, error }),
+        }
+    }
+
+    // The error of a cause.
+    pub(crate) fn of(alloc: Global, cause: Cause) -> Error {
+        match Box::new(alloc, cause) {
+            Ok(cause) => Error::Cause(cause),
+            Err(_) => Error::Memory(AllocError),
+        }
+    }
+
+    /// The system's number of the error by which a folder or file cannot be read, if there is one.
+    pub fn raw_os_error(&self) -> Option<i32> {
+        let Error::Cause(cause) = self else {
+            return None;
+        };
+        match &**cause {
+            Cause::File { error, .. } => error.raw_os_error(),
+            _ => None,
         }
     }
 }

@@ -65,6 +65,22 @@ pub(crate) fn real_folder<R: Files + AllocGlobal>(rt: &R, path: &str) -> io::Res
     }
 }
 
+// The same, where a folder that is not there is an error.
+pub(crate) fn existing_folder<R: Files + AllocGlobal>(rt: &R, path: &str) -> Result<String, Error> {
+    match real_folder(rt, path) {
+        Ok(real) => Ok(real),
+        Err(error) => Err(Error::file(rt.alloc(), path, error)),
+    }
+}
+
+// The path of the folder in which a path is, if it has one.
+pub(crate) fn parent(path: &str) -> Option<&str> {
+    match Path::new(path).parent() {
+        Some(folder) => Some(folder.as_str()),
+        None => None,
+    }
+}
+
 // Whether a folder has one of this name.
 pub(crate) fn has_folder<R: Files + AllocGlobal>(
     rt: &R,
@@ -82,12 +98,10 @@ pub(crate) fn kind_by_config<R: Files + AllocGlobal>(rt: &R, folder: &str) -> Re
 // The kind of the ids of an objects folder by the config beside it. SHA-1 if there is no config. If
 // the folder is a link, the config is beside the folder, or else beside the link.
 pub(crate) fn kind_beside<R: Files + AllocGlobal>(rt: &R, objects: &str) -> Result<Kind, Error> {
-    match kind_if_config(rt, &join(rt, objects, "..")?)? {
+    let above = join(rt, objects, "..")?;
+    match kind_if_config(rt, &above)? {
         Some(kind) => Ok(kind),
-        None => {
-            let folder = Path::new(objects).parent();
-            kind_by_config(rt, folder.map_or(objects, |folder| folder.as_str()))
-        }
+        None => kind_by_config(rt, parent(objects).unwrap_or(objects)),
     }
 }
 

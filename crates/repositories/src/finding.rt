@@ -1,8 +1,9 @@
 //! Objects folders: the one of the repository that a program runs in, and others by their paths.
 
 use crate::alternates::alternate_paths;
-use crate::error::Error;
+use crate::error::{Cause, Error};
 use crate::files::{has_folder, join, kind_beside, kind_by_config};
+use crate::folders::push_path;
 use crate::repository::{Environment, Repository, find_repository, variable};
 use gix_hash::Kind;
 use std::alloc::AllocError;
@@ -43,9 +44,10 @@ impl ObjectsFolder {
         if !is_store(rt, path)? {
             return Err(no_store(rt, path)?);
         }
+        let kind = kind_beside(rt, path)?;
         Ok(ObjectsFolder {
             path: String::from_str(rt.alloc(), path)?,
-            kind: kind_beside(rt, path)?,
+            kind,
             alternates: Vec::new(rt.alloc()),
         })
     }
@@ -62,9 +64,17 @@ impl ObjectsFolder {
 /// name a folder is an error if it is empty.
 pub fn find_objects<R: Files + Env + AllocGlobal>(rt: &R) -> Result<ObjectsFolder, Error> {
     let given = Environment::read(rt)?;
-    match find_repository(rt, &given)? {
-        Some(repository) => objects_of(rt, &given, &repository),
-        None => objects_given(rt, &given),
+    find_given(rt, &given)
+}
+
+// The objects folder that Git finds in an environment.
+fn find_given<R: Files + Env + AllocGlobal>(
+    rt: &R,
+    given: &Environment,
+) -> Result<ObjectsFolder, Error> {
+    match find_repository(rt, given)? {
+        Some(repository) => objects_of(rt, given, &repository),
+        None => objects_given(rt, given),
     }
 }
 
@@ -74,13 +84,14 @@ fn objects_of<R: Files + Env + AllocGlobal>(
     given: &Environment,
     repository: &Repository,
 ) -> Result<ObjectsFolder, Error> {
-    let path = match &given.objects {
-        Some(path) => join(rt, &repository.top, path)?,
-        None => join(rt, &repository.folder, "objects")?,
+    let kind = kind_by_config(rt, &repository.folder)?;
+    let (folder, path) = match &given.objects {
+        Some(path) => (&repository.top, path.as_str()),
+        None => (&repository.folder, "objects"),
     };
     Ok(ObjectsFolder {
-        path,
-        kind: kind_by_config(rt, &repository.folder)?,
+        path: join(rt, folder, path)?,
+        kind,
         alternates: alternates(rt, &repository.top)?,
     })
 }
@@ -90,29 +101,39 @@ fn objects_given<R: Files + Env + AllocGlobal>(
     rt: &R,
     given: &Environment,
 ) -> Result<ObjectsFolder, Error> {
-    match &given.objects {
-        Some(path) => Ok(ObjectsFolder {
-            path: String::from_str(rt.alloc(), path)?,
-            kind: kind_beside(rt, path)?,
-            alternates: alternates(rt, "")?,
-        }),
-        None => Err(Error::NoRepository),
-    }
+    let Some(path) = &given.objects else {
+        return Err(Error::of(rt.alloc(), Cause::NoRepository));
+    };
+    let kind = kind_beside(rt, path)?;
+    Ok(ObjectsFolder {
+        path: String::from_str(rt.alloc(), path)?,
+        kind,
+        alternates: alternates(rt, "")?,
+    })
 }
 
 // The folders that `$GIT_ALTERNATE_OBJECT_DIRECTORIES` names, relative to a folder.
 fn alternates(rt: &(impl Env + AllocGlobal), top: &str) -> Result<Vec<String>, Error> {
-    let alloc = rt.alloc();
-    let mut folders = Vec::new(alloc);
+    let mut folders = Vec::new(rt.alloc());
     if let Some(list) = variable(rt, ALTERNATES)? {
-        for path in alternate_paths(alloc, list.as_bytes(), b':')? {
-            match String::from_utf8(path) {
-                Ok(path) => folders.push(join(rt, top, &path)?)?,
-                Err(_) => return Err(Error::text(alloc, ALTERNATES, "a path is not UTF-8")),
-            }
-        }
+        push_given(rt, top, list.as_bytes(), &mut folders)?;
     }
     Ok(folders)
+}
+
+// Adds the folders that a list of the environment names, relative to a folder.
+fn push_given(
+    rt: &impl AllocGlobal,
+    top: &str,
+    list: &[u8],
+    folders: &mut Vec<String>,
+) -> Result<(), Error> {
+    for path in &alternate_paths(rt.alloc(), list, b':')? {
+        if !push_path(rt, top, path, folders)? {
+            return Err(Error::text(rt.alloc(), ALTERNATES, "a path is not UTF-8"));
+        }
+    }
+    Ok(())
 }
 
 // Whether a folder is an objects folder.
@@ -138,17 +159,29 @@ fn has_loose_folder<R: Files + AllocGlobal>(rt: &R, path: &str) -> Result<bool, 
 fn no_store<R: Files + AllocGlobal>(rt: &R, path: &str) -> Result<Error, AllocError> {
     let alloc = rt.alloc();
     match fs::metadata(rt, path) {
-        Ok(found) if found.is_dir() => {}
-        Ok(_) => return Ok(Error::file(alloc, path, io::ErrorKind::NotADirectory.into())),
-        Err(error) => return Ok(Error::file(alloc, path, error)),
+        Ok(found) if found.is_dir() => Ok(Error::of(alloc, no_store_but(rt, path)?)),
+        Ok(_) => Ok(Error::file(alloc, path, io::ErrorKind::NotADirectory.into())),
+        Err(error) => Ok(Error::file(alloc, path, error)),
     }
+}
+
+// That a folder is no objects folder, and the one that it has.
+fn no_store_but<R: Files + AllocGlobal>(rt: &R, path: &str) -> Result<Cause, AllocError> {
+    let objects = store_in(rt, path)?;
+    let path = String::from_str(rt.alloc(), path)?;
+    Ok(match objects {
+        Some(objects) => Cause::NoStoreButIn { path, objects },
+        None => Cause::NoStore { path },
+    })
+}
+
+// The objects folder of a repository or worktree at a path, if there is one.
+fn store_in<R: Files + AllocGlobal>(rt: &R, path: &str) -> Result<Option<String>, AllocError> {
     for name in ["objects", ".git/objects"] {
         let objects = join(rt, path, name)?;
         if is_store(rt, &objects)? {
-            let path = String::from_str(alloc, path)?;
-            return Ok(Error::NoStoreButIn { path, objects });
+            return Ok(Some(objects));
         }
     }
-    let path = String::from_str(alloc, path)?;
-    Ok(Error::NoStore { path })
+    Ok(None)
 }

@@ -2,11 +2,11 @@
 
 use crate::alternates::alternate_paths;
 use crate::error::Error;
-use crate::files::{is_missing, join, read_bytes, real_folder};
+use crate::files::{existing_folder, is_missing, join, read_bytes, real_folder};
 use crate::finding::ObjectsFolder;
 use std::alloc::AllocError;
-use std::io;
 use std::rt::Files;
+use std::{io, str};
 
 // How many levels of alternates are read, as by Git: those of the folder itself, and five more, each
 // named by the one before.
@@ -38,22 +38,41 @@ pub fn with_alternates<R: Files + AllocGlobal>(
     rt: &R,
     objects: &ObjectsFolder,
 ) -> Result<Folders, Error> {
-    let alloc = rt.alloc();
-    let path = objects.path.as_str();
-    let real = real_folder(rt, path).map_err(|error| Error::file(alloc, path, error))?;
     let mut found = Folders {
-        paths: Vec::new(alloc),
-        passed_over: Vec::new(alloc),
+        paths: Vec::new(rt.alloc()),
+        passed_over: Vec::new(rt.alloc()),
     };
-    found.paths.push(real.clone()?)?;
-    push_folders(rt, &objects.alternates, LEVELS, &mut found)?;
-    let alternates = alternates_of(rt, &real, &mut found.passed_over)?;
-    push_folders(rt, &alternates, LEVELS, &mut found)?;
+    push_all(rt, objects, &mut found)?;
+    Ok(found)
+}
+
+// Adds an objects folder and its alternates.
+fn push_all<R: Files + AllocGlobal>(
+    rt: &R,
+    objects: &ObjectsFolder,
+    found: &mut Folders,
+) -> Result<(), Error> {
+    let real = existing_folder(rt, &objects.path)?;
+    push_with_alternates(rt, &real, &objects.alternates, found)?;
     // Errors show the path as it was given.
     if let Some(first) = found.paths.first_mut() {
-        *first = String::from_str(alloc, path)?;
+        *first = objects.path.clone()?;
     }
-    Ok(found)
+    Ok(())
+}
+
+// Adds an objects folder by its absolute path, the alternates of the environment, and those of its
+// list.
+fn push_with_alternates<R: Files + AllocGlobal>(
+    rt: &R,
+    real: &str,
+    given: &[String],
+    found: &mut Folders,
+) -> Result<(), Error> {
+    found.paths.push(String::from_str(rt.alloc(), real)?)?;
+    push_folders(rt, given, LEVELS, found)?;
+    let alternates = alternates_of(rt, real, &mut found.passed_over)?;
+    push_folders(rt, &alternates, LEVELS, found)
 }
 
 // Adds folders, and their alternates, of so many levels together.
@@ -81,25 +100,29 @@ fn push_folder<R: Files + AllocGlobal>(
     levels: u8,
     found: &mut Folders,
 ) -> Result<Option<Vec<String>>, Error> {
-    let real = match real_folder(rt, path) {
-        Ok(real) => real,
-        Err(error) => {
-            let error = unusable(rt, path, error)?;
+    match real_folder(rt, path) {
+        Ok(real) if found.paths.contains(&real) => Ok(None),
+        Ok(_) if levels == 0 => {
+            let error = Error::text(rt.alloc(), path, "nested more than 5 deep");
             found.passed_over.push(error)?;
-            return Ok(None);
+            Ok(None)
         }
-    };
-    if found.paths.contains(&real) {
-        return Ok(None);
+        Ok(real) => push_real(rt, &real, found),
+        Err(error) => {
+            found.passed_over.push(unusable(rt, path, error)?)?;
+            Ok(None)
+        }
     }
-    if levels == 0 {
-        let error = Error::text(rt.alloc(), path, "nested more than 5 deep");
-        found.passed_over.push(error)?;
-        return Ok(None);
-    }
-    let alternates = alternates_of(rt, &real, &mut found.passed_over)?;
-    found.paths.push(real)?;
-    Ok(Some(alternates))
+}
+
+// Adds a folder by its absolute path, and returns its alternates.
+fn push_real<R: Files + AllocGlobal>(
+    rt: &R,
+    real: &str,
+    found: &mut Folders,
+) -> Result<Option<Vec<String>>, Error> {
+    found.paths.push(String::from_str(rt.alloc(), real)?)?;
+    Ok(Some(alternates_of(rt, real, &mut found.passed_over)?))
 }
 
 // Why an alternate is passed over that is no folder, or that cannot be read.
@@ -125,26 +148,37 @@ fn alternates_of<R: Files + AllocGlobal>(
     let mut paths = Vec::new(rt.alloc());
     let list = join(rt, folder, "info/alternates")?;
     if let Some(text) = read_bytes(rt, &list)? {
-        for path in alternate_paths(rt.alloc(), &text, b'\n')? {
-            if !push_path(rt, folder, path, &mut paths)? {
-                let error = Error::text(rt.alloc(), &list, "a path is not UTF-8");
-                passed_over.push(error)?;
-            }
-        }
+        push_listed(rt, folder, (&list, &text), &mut paths, passed_over)?;
     }
     Ok(paths)
 }
 
-// Adds a path that the list of a folder names, if it is UTF-8, and returns whether it is.
-fn push_path(
+// Adds the paths that the list of a folder names, which is given by its path and its text.
+fn push_listed(
     rt: &impl AllocGlobal,
     folder: &str,
-    path: Vec<u8>,
+    (list, text): (&str, &[u8]),
+    paths: &mut Vec<String>,
+    passed_over: &mut Vec<Error>,
+) -> Result<(), Error> {
+    for path in &alternate_paths(rt.alloc(), text, b'\n')? {
+        if !push_path(rt, folder, path, paths)? {
+            passed_over.push(Error::text(rt.alloc(), list, "a path is not UTF-8"))?;
+        }
+    }
+    Ok(())
+}
+
+// Adds a path that the list of a folder names, if it is UTF-8, and returns whether it is.
+pub(crate) fn push_path(
+    rt: &impl AllocGlobal,
+    folder: &str,
+    path: &[u8],
     paths: &mut Vec<String>,
 ) -> Result<bool, AllocError> {
-    match String::from_utf8(path) {
+    match str::from_utf8(path) {
         Ok(path) => {
-            paths.push(join(rt, folder, &path)?)?;
+            paths.push(join(rt, folder, path)?)?;
             Ok(true)
         }
         Err(_) => Ok(false),

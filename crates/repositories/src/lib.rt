@@ -20,7 +20,7 @@ pub mod paths;
 pub mod printed;
 mod repository;
 
-pub use error::Error;
+pub use error::{Cause, Error};
 pub use files::join;
 pub use finding::{ObjectsFolder, find_objects};
 pub use folders::{Folders, with_alternates};

@@ -1,7 +1,7 @@
 //! Where a repository has its objects, references and config.
 
 use crate::error::Error;
-use crate::files::{join, read_text, real_folder};
+use crate::files::{existing_folder, has_folder, join, parent, read_text};
 use std::alloc::AllocError;
 use std::env::VarError;
 use std::os::unix::fs::MetadataExt;
@@ -67,17 +67,21 @@ pub(crate) fn find_repository<R: Files + Env + AllocGlobal>(
     given: &Environment,
 ) -> Result<Option<Repository>, Error> {
     if let Some(path) = &given.dir {
-        let folder = required(rt, given, path)?;
-        let top = String::new(rt.alloc());
-        return Ok(Some(Repository { folder, top }));
+        return with_top(rt, required(rt, given, path)?, "");
     }
-    let here = match env::current_dir(rt) {
-        Ok(here) => here,
-        Err(error) if error.kind() == io::ErrorKind::InvalidFilename => {
-            return find_above(rt, given);
-        }
-        Err(error) => return Err(Error::file(rt.alloc(), ".", error)),
-    };
+    match env::current_dir(rt) {
+        Ok(here) => find_from(rt, given, here.as_path()),
+        Err(error) if error.kind() == io::ErrorKind::InvalidFilename => find_above(rt, given),
+        Err(error) => Err(Error::file(rt.alloc(), ".", error)),
+    }
+}
+
+// The repository of a folder, or of the first above it that has one.
+fn find_from<R: Files + AllocGlobal>(
+    rt: &R,
+    given: &Environment,
+    here: Path<'_>,
+) -> Result<Option<Repository>, Error> {
     for folder in here.ancestors() {
         if let Some(mut found) = repository_in(rt, given, folder.as_str())? {
             if folder.as_str() == here.as_str() {
@@ -96,16 +100,22 @@ fn find_above<R: Files + AllocGlobal>(
 ) -> Result<Option<Repository>, Error> {
     let mut folder = String::from_str(rt.alloc(), ".")?;
     for _ in 0..MAX_ABOVE {
-        if let Some(repository) = repository_in(rt, given, &folder)? {
-            return Ok(Some(repository));
+        let found = repository_in(rt, given, &folder)?;
+        if found.is_some() || !go_up(rt, &mut folder)? {
+            return Ok(found);
         }
-        let above = join(rt, &folder, "..")?;
-        if is_highest(rt, &folder, &above) {
-            break;
-        }
-        folder = above;
     }
     Ok(None)
+}
+
+// Lets a path lead to the folder above, and returns whether it does.
+fn go_up<R: Files + AllocGlobal>(rt: &R, folder: &mut String) -> Result<bool, AllocError> {
+    let above = join(rt, folder, "..")?;
+    if is_highest(rt, folder, &above) {
+        return Ok(false);
+    }
+    *folder = above;
+    Ok(true)
 }
 
 // Whether no other folder above this one can be seen. The folder above the root is the root.
@@ -123,26 +133,33 @@ fn repository_in<R: Files + AllocGlobal>(
     given: &Environment,
     folder: &str,
 ) -> Result<Option<Repository>, Error> {
-    let path = join(rt, folder, ".git")?;
-    let of_worktree = if Path::new(&path).is_file(rt) {
-        Some(required(rt, given, &path)?)
-    } else {
-        repository_at(rt, given, &path)?
-    };
-    if let Some(repository) = of_worktree {
-        let top = String::from_str(rt.alloc(), folder)?;
-        return Ok(Some(Repository {
-            folder: repository,
-            top,
-        }));
+    if let Some(repository) = repository_of_worktree(rt, given, folder)? {
+        return with_top(rt, repository, folder);
     }
     match repository_at(rt, given, folder)? {
-        Some(folder) => Ok(Some(Repository {
-            folder,
-            top: String::new(rt.alloc()),
-        })),
+        Some(repository) => with_top(rt, repository, ""),
         None => Ok(None),
     }
+}
+
+// The repository that a folder has as `.git`.
+fn repository_of_worktree<R: Files + AllocGlobal>(
+    rt: &R,
+    given: &Environment,
+    folder: &str,
+) -> Result<Option<String>, Error> {
+    let path = join(rt, folder, ".git")?;
+    if Path::new(&path).is_file(rt) {
+        Ok(Some(required(rt, given, &path)?))
+    } else {
+        repository_at(rt, given, &path)
+    }
+}
+
+// A repository that was found, and its top.
+fn with_top(rt: &impl AllocGlobal, folder: String, top: &str) -> Result<Option<Repository>, Error> {
+    let top = String::from_str(rt.alloc(), top)?;
+    Ok(Some(Repository { folder, top }))
 }
 
 // The repository that is a folder, or the one that a file names.
@@ -164,16 +181,13 @@ fn required<R: Files + AllocGlobal>(
 
 // The folder that a file `.git` names.
 fn named_by<R: Files + AllocGlobal>(rt: &R, path: &str) -> Result<String, Error> {
-    let text = read_text(rt, path)?;
-    match text.as_ref().and_then(|text| text.strip_prefix("gitdir: ")) {
-        Some(name) => {
-            let folder = Path::new(path)
-                .parent()
-                .map_or("", |folder| folder.as_str());
-            Ok(join(rt, folder, without_line_ends(name))?)
-        }
-        None => Err(Error::text(rt.alloc(), path, "names no folder")),
+    if let Some(text) = read_text(rt, path)?
+        && let Some(name) = text.strip_prefix("gitdir: ")
+    {
+        let folder = parent(path).unwrap_or("");
+        return Ok(join(rt, folder, without_line_ends(name))?);
     }
+    Err(Error::text(rt.alloc(), path, "names no folder"))
 }
 
 // The repository that is a folder with `HEAD`, by the folder with its objects and references;
@@ -190,21 +204,34 @@ fn repository_at<R: Files + AllocGlobal>(
         Some(common) => String::from_str(rt.alloc(), common)?,
         None => common_of(rt, folder)?,
     };
-    let objects = match &given.objects {
-        Some(objects) => String::from_str(rt.alloc(), objects)?,
-        None => join(rt, &common, "objects")?,
+    if has_both(rt, given, &common)? {
+        Ok(Some(common))
+    } else {
+        Ok(None)
+    }
+}
+
+// Whether there are the objects that the environment names, or else those of a folder, and the
+// references of the folder.
+fn has_both<R: Files + AllocGlobal>(
+    rt: &R,
+    given: &Environment,
+    folder: &str,
+) -> Result<bool, AllocError> {
+    let has_objects = match &given.objects {
+        Some(objects) => Path::new(objects).is_dir(rt),
+        None => has_folder(rt, folder, "objects")?,
     };
-    let has_both = Path::new(&objects).is_dir(rt)
-        && Path::new(&join(rt, &common, "refs")?).is_dir(rt);
-    Ok(if has_both { Some(common) } else { None })
+    Ok(has_objects && has_folder(rt, folder, "refs")?)
 }
 
 // The folder that the file `commondir` of a worktree names, or else the folder itself.
 fn common_of<R: Files + AllocGlobal>(rt: &R, folder: &str) -> Result<String, Error> {
-    match read_text(rt, &join(rt, folder, "commondir")?)? {
+    let path = join(rt, folder, "commondir")?;
+    match read_text(rt, &path)? {
         Some(name) => {
-            let path = join(rt, folder, without_line_ends(&name))?;
-            real_folder(rt, &path).map_err(|error| Error::file(rt.alloc(), &path, error))
+            let common = join(rt, folder, without_line_ends(&name))?;
+            existing_folder(rt, &common)
         }
         None => Ok(String::from_str(rt.alloc(), folder)?),
     }
@@ -214,10 +241,13 @@ fn common_of<R: Files + AllocGlobal>(rt: &R, folder: &str) -> Result<String, Err
 // a file that names a reference or begins with an id.
 fn has_head<R: Files + AllocGlobal>(rt: &R, folder: &str) -> Result<bool, AllocError> {
     let path = join(rt, folder, "HEAD")?;
-    Ok(match fs::read_link(rt, &path) {
-        Ok(reference) => reference.as_str().starts_with("refs/"),
-        Err(_) => fs::read(rt, &path).is_ok_and(|text| is_head(&text)),
-    })
+    if let Ok(reference) = fs::read_link(rt, &path) {
+        return Ok(reference.as_str().starts_with("refs/"));
+    }
+    match fs::read(rt, &path) {
+        Ok(text) => Ok(is_head(&text)),
+        Err(_) => Ok(false),
+    }
 }
 
 fn is_head(text: &[u8]) -> bool {

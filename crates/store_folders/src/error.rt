@@ -24,7 +24,7 @@ pub enum Error {
         /// Its path.
         path: String,
         /// Why.
-        error: LazyError,
+        error: Box<LazyError>,
     },
     /// A pack index was removed after it was listed, as by `git gc`, which has packed its objects
     /// anew. The store is to be opened again.
@@ -77,7 +77,10 @@ impl Error {
             LazyError::Read(error) if error.kind() == io::ErrorKind::NotFound => Error::Gone {
                 path,
             },
-            error => Error::Index { path, error },
+            error => match Box::new(alloc, error) {
+                Ok(error) => Error::Index { path, error },
+                Err(_) => Error::Memory(AllocError),
+            },
         }
     }
 
@@ -86,6 +89,22 @@ impl Error {
         match String::from_str(alloc, path) {
             Ok(path) => Error::Changed { path },
             Err(error) => Error::Memory(error),
+        }
+    }
+
+    // The system's number of the error by which a folder or file cannot be read, if there is one.
+    pub(crate) fn raw_os_error(&self) -> Option<i32> {
+        match self {
+            Error::Repository(error) => error.raw_os_error(),
+            _ => None,
+        }
+    }
+
+    // Whether a pack index was read, and is damaged or none.
+    pub(crate) fn is_damage(&self) -> bool {
+        match self {
+            Error::Index { error, .. } => !matches!(**error, LazyError::Read(_)),
+            _ => false,
         }
     }
 

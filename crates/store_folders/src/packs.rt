@@ -209,9 +209,11 @@ pub(crate) fn open_indexes<R: Files<File = File> + AllocGlobal + Clone + Drop>(
     ensures { IfOk result (λ opened. All (λ index. index.kind ≡ kind) opened.indexes.items) }
 {
     match open_all(rt, paths, MAX_OPEN, kind) {
-        Err(Error::Repository(repositories::Error::File { error, .. }))
-            if error.raw_os_error() == Some(TOO_MANY_OPEN) => { open_all(rt, paths, 0, kind) }
-        opened => opened,
+        Ok(opened) => Ok(opened),
+        Err(error) if error.raw_os_error() == Some(TOO_MANY_OPEN) => {
+            open_all(rt, paths, 0, kind)
+        }
+        Err(error) => Err(error),
     }
 }
 
@@ -252,8 +254,8 @@ fn push_opened<R: Files<File = File> + AllocGlobal + Clone + Drop>(
             opened.indexes.push(index)?;
             Ok(())
         }
-        Err(Error::Index { path, error }) if !matches!(error, LazyError::Read(_)) => {
-            opened.passed_over.push(Error::Index { path, error })?;
+        Err(error) if error.is_damage() => {
+            opened.passed_over.push(error)?;
             Ok(())
         }
         Err(error) => Err(error),
