@@ -20,7 +20,7 @@ pub enum Failure<'a> {
         /// Its path.
         path: String,
         /// Why.
-        why: FileWhy,
+        why: Box<FileWhy>,
     },
     /// This text is no prefix.
     #[error("{text}: not 2 to {most} hex digits")]

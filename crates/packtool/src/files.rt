@@ -161,13 +161,24 @@ fn verdict_of_file<'a>(
     kind: Option<Kind>,
 ) -> Result<Verdict, Failure<'a>> {
     let mut file = open(rt, path)?;
-    if !is_index(&file, path) {
-        return Ok(Verdict::Ends(ending_in(rt, &mut file, path, kind)?));
+    verdict_of_open(rt, &mut file, path, kind)
+}
+
+// What is said of a file that was opened.
+fn verdict_of_open<'a>(
+    rt: &HostRuntime,
+    file: &mut File,
+    path: &str,
+    kind: Option<Kind>,
+) -> Result<Verdict, Failure<'a>> {
+    if !is_index(&*file, path) {
+        return Ok(Verdict::Ends(ending_in(rt, file, path, kind)?));
     }
-    match index_kind(rt, &mut file, path, kind)? {
-        Ok(kind) => verdict_beside_pack(rt, &mut file, path, kind),
-        Err(error) => Ok(Verdict::Faulty(error)),
-    }
+    let kind = match index_kind(rt, file, path, kind)? {
+        Ok(kind) => kind,
+        Err(error) => return Ok(Verdict::Faulty(error)),
+    };
+    verdict_beside_pack(rt, file, path, kind)
 }
 
 // Whether the name is that of a pack index, or the bytes begin as one of version 2.
@@ -206,9 +217,9 @@ fn ending_in<'a, R: io::Read + Seek>(
     if kind.is_some() || is_sealed(&ending) {
         return Ok(ending);
     }
-    reader
-        .seek(SeekFrom::Start(0))
-        .map_err(|error| unreadable(rt, path, error))?;
+    if let Err(error) = reader.seek(SeekFrom::Start(0)) {
+        return Err(unreadable(rt, path, error));
+    }
     let other = ending_of(rt, reader, path, Kind::Sha256)?;
     Ok(if is_sealed(&other) { other } else { ending })
 }
@@ -261,15 +272,25 @@ fn verdict_beside_pack<'a>(
     let Some((pack_path, pack)) = pack_beside(rt, path)? else {
         return Ok(Verdict::Index(None));
     };
-    match pair(index, &pack, kind) {
+    verdict_of_pair(rt, (index, path), (&pack, &pack_path), kind)
+}
+
+// The same of a pack index and a pack, each given with its path.
+fn verdict_of_pair<'a>(
+    rt: &HostRuntime,
+    (index, path): (&mut File, &str),
+    (pack, pack_path): (&File, &str),
+    kind: Kind,
+) -> Result<Verdict, Failure<'a>> {
+    match pair(index, pack, kind) {
         Ok(Pairing::Same) => {}
         Ok(pairing) => return Ok(Verdict::Index(Some(pairing))),
         Err(PairingError::Index(error)) => return Err(unreadable(rt, path, error)),
-        Err(PairingError::Pack(error)) => return Err(unreadable(rt, &pack_path, error)),
+        Err(PairingError::Pack(error)) => return Err(unreadable(rt, pack_path, error)),
     }
-    let len = match ReadAt::len(&pack) {
+    let len = match ReadAt::len(pack) {
         Ok(len) => len,
-        Err(error) => return Err(unreadable(rt, &pack_path, error)),
+        Err(error) => return Err(unreadable(rt, pack_path, error)),
     };
     match highest_offset(rt, index, kind) {
         Ok(highest) if highest < len.saturating_sub(kind.len_in_bytes() as u64) => {
@@ -288,13 +309,18 @@ fn pack_beside<'a>(rt: &HostRuntime, path: &str) -> Result<Option<(String, File)
     let pack_path = format!(in rt.alloc(); "{stem}.pack")?;
     match open(rt, &pack_path) {
         Ok(pack) => Ok(Some((pack_path, pack))),
-        Err(
-            Failure::File {
-                why: FileWhy::Read(error),
-                ..
-            },
-        ) if error.kind() == io::ErrorKind::NotFound => Ok(None),
+        Err(failure) if is_missing(&failure) => Ok(None),
         Err(failure) => Err(failure),
+    }
+}
+
+// Whether a file is not read because there is none.
+fn is_missing(failure: &Failure<'_>) -> bool {
+    match failure {
+        Failure::File { why, .. } => {
+            matches!(&**why, FileWhy::Read(error) if error.kind() == io::ErrorKind::NotFound)
+        }
+        _ => false,
     }
 }
 
@@ -319,9 +345,10 @@ fn highest_offset(rt: &HostRuntime, index: &mut File, kind: Kind) -> io::Result<
 fn open<'a>(rt: &HostRuntime, path: &str) -> Result<File, Failure<'a>> {
     expect_text(rt, path)?;
     match metadata(rt, path) {
-        Ok(metadata) if metadata.is_file() => {
-            File::open(rt, path).map_err(|error| unreadable(rt, path, error))
-        }
+        Ok(metadata) if metadata.is_file() => match File::open(rt, path) {
+            Ok(file) => Ok(file),
+            Err(error) => Err(unreadable(rt, path, error)),
+        },
         Ok(_) => Err(failure(rt, path, FileWhy::NotRegular)),
         Err(error) => Err(unreadable(rt, path, error)),
     }
@@ -359,8 +386,11 @@ fn unreadable<'a>(rt: &HostRuntime, path: &str, error: io::Error) -> Failure<'a>
 
 // Why a file is not shown or checked.
 fn failure<'a>(rt: &HostRuntime, path: &str, why: FileWhy) -> Failure<'a> {
-    let Ok(path) = String::from_str(rt.alloc(), path) else {
-        return Failure::Memory;
-    };
-    Failure::File { path, why }
+    match (
+        String::from_str(rt.alloc(), path),
+        Box::new(rt.alloc(), why),
+    ) {
+        (Ok(path), Ok(why)) => Failure::File { path, why },
+        _ => Failure::Memory,
+    }
 }

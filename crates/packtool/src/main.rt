@@ -16,9 +16,11 @@ mod words;
 use arguments::{FileCommand, Request};
 use clap::ArgMatches;
 use failure::Failure;
+use gix_hash::Kind;
 use output::{buffered, flushed};
 use std::io::{self, ErrorKind};
 use std::process::ExitCode;
+use streams::Plain;
 use words::lossy_text;
 
 // The statuses, a worse one above a better.
@@ -61,27 +63,47 @@ fn report(rt: &HostRuntime, failure: &Failure<'_>) {
 fn run<'a>(rt: &HostRuntime, words: &'a [String]) -> Result<u8, Failure<'a>> {
     let matches = match arguments::command(rt.alloc())?.try_get_matches_from(words) {
         Ok(matches) => matches,
-        Err(error) => {
-            if let Some(before) = words.iter().position(|word| lossy_text(word).is_some()) {
-                let number = before.saturating_add(1);
-                return Err(Failure::NotText { number });
-            }
-            return match error.print(rt) {
-                Ok(()) if error.use_stderr() => Ok(FAILED),
-                Ok(()) => Ok(FOUND),
-                Err(why) => Err(Failure::Output(why)),
-            };
-        }
+        Err(error) => return print_usage(rt, words, &error),
     };
+    run_request(rt, &matches)
+}
+
+// Prints why the words ask for no command, or the help or version that they ask for. An argument
+// that is not UTF-8 is the first thing that is wrong.
+fn print_usage<'a>(
+    rt: &HostRuntime,
+    words: &[String],
+    error: &clap::Error,
+) -> Result<u8, Failure<'a>> {
+    if let Some(number) = first_not_text(words) {
+        return Err(Failure::NotText { number });
+    }
+    match error.print(rt) {
+        Ok(()) if error.use_stderr() => Ok(FAILED),
+        Ok(()) => Ok(FOUND),
+        Err(why) => Err(Failure::Output(why)),
+    }
+}
+
+// The number, from 1, of the first word whose argument is not UTF-8.
+fn first_not_text(words: &[String]) -> Option<usize> {
+    for (before, word) in words.iter().enumerate() {
+        if lossy_text(word).is_some() {
+            return Some(before.saturating_add(1));
+        }
+    }
+    None
+}
+
+// Runs the command that was read.
+fn run_request<'a>(rt: &HostRuntime, matches: &ArgMatches<'a>) -> Result<u8, Failure<'a>> {
     let Some((name, matches)) = matches.subcommand() else {
         return Ok(FAILED);
     };
-    let Some(request) = arguments::read_request(name) else {
-        return Ok(FAILED);
-    };
-    match request {
-        Request::Store(command) => stores::run(rt, command, matches),
-        Request::Files(command) => run_over_files(rt, command, matches),
+    match arguments::read_request(name) {
+        Some(Request::Store(command)) => stores::run(rt, command, matches),
+        Some(Request::Files(command)) => run_over_files(rt, command, matches),
+        None => Ok(FAILED),
     }
 }
 
@@ -96,22 +118,33 @@ fn run_over_files<'a>(
     let kind = arguments::kind(matches);
     let mut status = FOUND;
     for path in matches.get_strs("files").unwrap_or(&[]) {
-        let outcome = match command {
-            FileCommand::Show => files::show(rt, path, kind, &mut out),
-            FileCommand::Check => files::check(rt, path, kind, &mut out),
-        };
-        match outcome {
-            Ok(true) => {}
-            Ok(false) => status = status.max(NOTHING),
-            Err(Failure::File { path, why }) => {
-                report(rt, &Failure::File { path, why });
-                status = FAILED;
-            }
-            Err(failure) => return Err(failure),
-        }
+        status = status.max(run_over_file(rt, command, path, kind, &mut out)?);
     }
     match (flushed(status, &mut out), command) {
         (Err(Failure::Output(error)), FileCommand::Check) if is_closed_pipe(&error) => Ok(status),
         (flushed, _) => flushed,
+    }
+}
+
+// Runs `show` or `check` over a file, and returns the status. One that cannot be read is reported.
+fn run_over_file<'a, W: io::Write>(
+    rt: &HostRuntime,
+    command: FileCommand,
+    path: &str,
+    kind: Option<Kind>,
+    out: &mut Plain<W>,
+) -> Result<u8, Failure<'a>> {
+    let outcome = match command {
+        FileCommand::Show => files::show(rt, path, kind, out),
+        FileCommand::Check => files::check(rt, path, kind, out),
+    };
+    match outcome {
+        Ok(true) => Ok(FOUND),
+        Ok(false) => Ok(NOTHING),
+        Err(failure) if matches!(failure, Failure::File { .. }) => {
+            report(rt, &failure);
+            Ok(FAILED)
+        }
+        Err(failure) => Err(failure),
     }
 }

@@ -32,14 +32,24 @@ pub fn run<'a>(
     matches: &ArgMatches<'a>,
 ) -> Result<u8, Failure<'a>> {
     let folder = objects_folder(rt, matches)?;
+    run_over(rt, &folder, command, matches)
+}
+
+// Runs a command over an objects folder, and returns the status.
+fn run_over<'a>(
+    rt: &HostRuntime,
+    folder: &ObjectsFolder,
+    command: StoreCommand,
+    matches: &ArgMatches<'a>,
+) -> Result<u8, Failure<'a>> {
     let is_written = Cell::new(false);
     for _ in 1..MAX_TRIES {
-        let ended = run_once(rt, &folder, command, matches, &is_written);
+        let ended = run_once(rt, folder, command, matches, &is_written);
         if is_written.get() || !is_gone(&ended) {
             return ended;
         }
     }
-    run_once(rt, &folder, command, matches, &is_written)
+    run_once(rt, folder, command, matches, &is_written)
 }
 
 // Runs a command, and returns the status. It also says whether something may have been written.
@@ -88,15 +98,30 @@ fn write_lines<'a, W: io::Write>(
         }
         StoreCommand::Where => {
             let (store, prefix) = open_part(rt, folder, matches)?;
-            store.check_loose_files(&prefix)?;
-            let ran = locate(rt.alloc(), &store, &prefix, out);
-            status_of(rt, &store, ran, out)
+            write_locations(rt, &store, &prefix, out)
         }
         StoreCommand::Names => {
             let least = read_least(matches, folder.kind)?;
-            write_all_names(rt, folder, least, out)
+            let mut store = FolderStore::open(rt, folder, LooseIds::All)?;
+            write_all_names(rt, folder, least, &mut store, out)
         }
     }
+}
+
+// Writes the lines of `where`, and returns the status.
+fn write_locations<'a, W: io::Write>(
+    rt: &HostRuntime,
+    store: &FolderStore<HostRuntime>,
+    prefix: &Prefix,
+    out: &mut Plain<W>,
+) -> Result<u8, Failure<'a>>
+    requires output { plain_failed out.old ≡ false }
+    requires enough { 2 ≤ length prefix.now.digits }
+    requires kind { prefix.now.kind ≡ store.now.kind }
+{
+    store.check_loose_files(prefix)?;
+    let ran = locate(rt.alloc(), store, prefix, out);
+    status_of(rt, store, ran, out)
 }
 
 // Writes the lines of `names`, and returns the status. The ids with one first byte are written before
@@ -106,23 +131,24 @@ fn write_all_names<'a, W: io::Write>(
     rt: &HostRuntime,
     folder: &ObjectsFolder,
     least: usize,
+    store: &mut FolderStore<HostRuntime>,
     out: &mut Plain<W>,
 ) -> Result<u8, Failure<'a>>
     requires output { plain_failed out.old ≡ false }
+    requires kind { store.old.kind ≡ folder.now.kind }
     requires enough { 4 ≤ least }
     requires fits { least ≤ hex_len_of folder.now.kind }
 {
-    let mut store = FolderStore::open(rt, folder, LooseIds::All)?;
     let mut any = false;
     let mut is_whole = true;
     for byte in 0..=u8::MAX {
-        let named = names_of(rt, folder, byte, least, &mut store, &mut is_whole)?;
+        let named = names_of(rt, folder, byte, least, store, &mut is_whole)?;
         if write_names(&named, out).is_err() {
             return Err(Failure::of_output(out));
         }
         any = any || !named.is_empty();
     }
-    is_whole = report_passed_over(rt, &store) && is_whole;
+    is_whole = report_passed_over(rt, store) && is_whole;
     Ok(status_if(is_whole, any))
 }
 
