@@ -8,8 +8,9 @@ ghost use Rattle.pack_index.specs.Names.{IsFirstIndexOf};
 
 use crate::names::{Names, all_digits};
 use gix_hash::{Kind, oid};
-use id_lookup::{Id, find_if_sorted, laws};
+use id_lookup::{Id, Run, find_if_sorted_near, laws};
 use std::alloc::Allocator;
+use std::cell::Cell;
 use std::marker::Model;
 
 /// The names of a pack index that are counted with a first byte, read once, in the order of the
@@ -28,6 +29,9 @@ pub struct Bucket<A: Allocator> {
     table: Vec<u8, A>,
     // If not, an id is compared with each of them.
     is_sorted: bool,
+    // Where the last look-up ended, and the next one begins: ids are mostly looked up in order. No
+    // result depends on it.
+    near: Cell<usize>,
 }
 
 impl<A: Allocator> Model for Bucket<A> {
@@ -63,6 +67,7 @@ impl<A: Allocator> Bucket<A> {
             start,
             table,
             is_sorted,
+            near: Cell::new(0),
         }
     }
 
@@ -97,14 +102,19 @@ impl<A: Allocator> Bucket<A> {
             return None;
         }
         match self.kind {
-            Kind::Sha1 => position_in::<[u8; 20]>(self.table.as_chunks().0, id, self.is_sorted),
-            Kind::Sha256 => position_in::<[u8; 32]>(self.table.as_chunks().0, id, self.is_sorted),
+            Kind::Sha1 => {
+                position_in::<[u8; 20]>(self.table.as_chunks().0, id, self.is_sorted, &self.near)
+            }
+            Kind::Sha256 => {
+                position_in::<[u8; 32]>(self.table.as_chunks().0, id, self.is_sorted, &self.near)
+            }
         }
     }
 }
 
-// The first index of an id in a list whose members have as many digits as it has.
-fn position_in<I: Id>(ids: &[I], id: oid<'_>, is_sorted: bool) -> Option<usize>
+// The first index of an id in a list whose members have as many digits as it has. If the list is
+// sorted, it is searched first at an index, which is then where the search ended.
+fn position_in<I: Id>(ids: &[I], id: oid<'_>, is_sorted: bool, near: &Cell<usize>) -> Option<usize>
     requires sorted { IsTrue is_sorted → IsSortedIds (map I.digits ids.now) }
     requires enough_digits { length (oid_digits id) ≤ least_hex_len (map I.digits ids.now) }
     requires long { (k : ℕ) → k < length (map I.digits ids.now)
@@ -119,7 +129,13 @@ fn position_in<I: Id>(ids: &[I], id: oid<'_>, is_sorted: bool) -> Option<usize>
     }
     let prefix = all_digits(id);
     laws::beginnings(&prefix);
-    let run = find_if_sorted(ids, &prefix);
+    let start = near.get();
+    let mut end = start;
+    if start < ids.len() && is_at(ids, start, id) {
+        end = start + 1;
+    }
+    let run = find_if_sorted_near(ids, &prefix, Run { start, end });
+    near.set(run.end);
     if run.start == run.end {
         return None;
     }
