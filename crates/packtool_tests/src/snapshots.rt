@@ -5,7 +5,7 @@ use crate::folders::{BOTH, Index, LOOSE, PACKED, make, open};
 use crate::look_ups::{expect_ids, find};
 use gix_hash::Prefix;
 use object_store::Store;
-use repositories::ObjectsFolder;
+use pack_index::LazyError;
 use std::alloc::{Alloc, AllocError, Allocator, Global};
 use std::cell::Cell;
 use std::fs::{File, Metadata, OpenOptions};
@@ -295,7 +295,7 @@ fn each_read_of_a_folder_fails_in_turn(rt: HostRuntime) -> Result<(), Fail> {
     Ok(())
 }
 
-// A store of 70 packs, of which the last are opened for each read, and a loose object.
+// A store of 70 packs, of which the last do not stay open, and a loose object.
 fn make_many(rt: &HostRuntime) -> Result<(), Fail> {
     make(
         rt,
@@ -315,7 +315,8 @@ fn make_many(rt: &HostRuntime) -> Result<(), Fail> {
 
 const MANY_LOOSE: &str = "many/objects/4b/ffffffffffffffffffffffffffffffffffffff";
 
-// A loose object that is gone is no fault, and a pack index that is gone is one that says so.
+// A loose object that is gone is no fault, and neither is a small pack index: it was read as it was
+// opened. A larger one that is gone is one that says so.
 #[test]
 fn files_may_be_removed_after_opening(rt: HostRuntime) -> Result<(), Fail> {
     make_many(&rt)?;
@@ -324,11 +325,11 @@ fn files_may_be_removed_after_opening(rt: HostRuntime) -> Result<(), Fail> {
     rt.remove_file(MANY_LOOSE)?;
     store.check_loose_files(&Prefix::from_hex("4bff")?)?;
     rt.remove_file("many/objects/pack/pack-69.idx")?;
+    expect_ids(&rt, &find(&rt, rt.alloc(), &store, "4b9")?, &[BOTH]);
+    let error = LazyError::Read(io::ErrorKind::NotFound.into());
+    let error = object_store::Error::Index { at: 69, error };
     let want = "many/objects/pack/pack-69.idx: removed since it was listed";
-    match find(&rt, rt.alloc(), &store, "4b") {
-        Ok(_) => expect!(&rt; false),
-        Err(error) => expect_text(&rt, &text_of(&rt, store.with_path(error))?, want),
-    }
+    expect_text(&rt, &text_of(&rt, store.with_path(error))?, want);
     fs::remove_dir_all(&rt, "many")?;
     Ok(())
 }

@@ -14,8 +14,8 @@ use std::os::unix::fs::MetadataExt;
 use std::rt::Files;
 use std::{fs, io, str};
 
-// How many pack indexes are kept open. The others are opened for each read, so that a store of any
-// number of packs is read with few open files.
+// How many pack indexes are kept open. The others are opened again to be read, so that a store of
+// any number of packs is read with few open files.
 const MAX_OPEN: usize = 64;
 
 // The system's error of a process that has as many open files as it may have: EMFILE.
@@ -262,7 +262,7 @@ fn push_opened<R: Files<File = File> + AllocGlobal + Clone + Drop>(
     }
 }
 
-// Opens a pack index, to stay open or to be opened again for each read.
+// Opens a pack index, to stay open or to be opened again for each read of what is not kept.
 fn open_index<R: Files<File = File> + AllocGlobal + Clone + Drop>(
     rt: &R,
     path: &str,
@@ -271,7 +271,7 @@ fn open_index<R: Files<File = File> + AllocGlobal + Clone + Drop>(
 ) -> Result<LazyFile<Source<R>>, Error>
     ensures { IfOk result (λ index. index.kind ≡ kind) }
 {
-    match open_source(rt, path, stays_open) {
+    match Source::open(rt, path, stays_open) {
         Ok(source) => match LazyFile::open(source, kind) {
             Ok(index) => Ok(index),
             Err(LazyError::Read(error)) => Err(not_opened(rt, path, error)),
@@ -286,20 +286,5 @@ fn not_opened<R: Files + AllocGlobal>(rt: &R, path: &str, error: io::Error) -> E
     match fs::symlink_metadata(rt, path) {
         Ok(_) => Error::file(rt.alloc(), path, error),
         Err(_) => Error::index(rt.alloc(), path, LazyError::Read(error)),
-    }
-}
-
-fn open_source<R: Files<File = File> + AllocGlobal + Clone + Drop>(
-    rt: &R,
-    path: &str,
-    stays_open: bool,
-) -> io::Result<Source<R>> {
-    if stays_open {
-        Ok(Source::Open(fs::open(rt, path)?))
-    } else {
-        Ok(Source::AtEachRead {
-            rt: rt.clone()?,
-            path: String::from_str(rt.alloc(), path)?,
-        })
     }
 }
