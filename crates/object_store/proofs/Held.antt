@@ -9,6 +9,7 @@ use Rattle.gix_hash.specs.declared.Kind.{Kind}
 use Rattle.id_lookup.proofs.SameMembers.{part_is}
 use Rattle.id_lookup.specs.IndexOf.{IsIndexOf}
 use Rattle.object_store.specs.Stores.{HasLocation, Holds, IfKnown, IsFirstFault, IsLocateFault, IsIndexReadOrMemory, IsLocationFault, IsStoreFault}
+use Rattle.object_store.specs.Views.{StoreView}
 use Rattle.object_store.specs.declared.error.Error.{Error}
 use Rattle.object_store.specs.declared.error.Error.TheVariants.{Index, Memory}
 use Rattle.pack_index.proofs.Buckets.{no_bucket_fault}
@@ -76,20 +77,21 @@ pub have_all : (Has : List ℕ → Type 0) {packs given : List LazyIndex} {at : 
 have_all Has {packs} {given} {at} value all have = subst (All (IfKnown Has)) (take_all at packs (subst (λ (ps : List LazyIndex). length ps ≤ at) value all)) have
 
 -- what was gathered, sorted and kept once
-pub held : (kind : Kind) (packs : List LazyIndex) (loose whole : List (List ℕ)) (p : List ℕ → Bool) (packed gathered part : List (List ℕ))
-    → (h : Holds kind packs loose whole) → packed ≡ flat_map (λ bytes. filter p (names_in kind bytes)) h.indexes → gathered ≡ packed ++ filter p loose
-    → IsIndexOf kind gathered part → part ≡ filter p whole
-held kind packs loose whole p packed gathered part h from_packs all index =
-    let names = flat_map (names_in kind) h.indexes in
-    let here : gathered ≡ filter p (names ++ loose) =
-    all ∙ ap (λ (front : List (List ℕ)). front ++ filter p loose) (from_packs ∙ sym (filter-flat_map p (names_in kind) h.indexes)) ∙ sym (filter-append p names loose) in
-    part_is kind p (names ++ loose) whole part h.all (subst (λ (ids : List (List ℕ)). IsIndexOf kind ids part) here index)
+pub held : (view : StoreView) (whole : List (List ℕ)) (p : List ℕ → Bool) (packed gathered part : List (List ℕ))
+    → (h : Holds view whole) → packed ≡ flat_map (λ bytes. filter p (names_in view.kind bytes)) h.indexes → gathered ≡ packed ++ filter p view.loose
+    → IsIndexOf view.kind gathered part → part ≡ filter p whole
+held view whole p packed gathered part h from_packs all index =
+    let names = flat_map (names_in view.kind) h.indexes in
+    let here : gathered ≡ filter p (names ++ view.loose) =
+    all ∙ ap (λ (front : List (List ℕ)). front ++ filter p view.loose) (from_packs ∙ sym (filter-flat_map p (names_in view.kind) h.indexes)) ∙ sym (filter-append p names view.loose) in
+    part_is view.kind p (names ++ view.loose) whole part h.all (subst (λ (ids : List (List ℕ)). IsIndexOf view.kind ids part) here index)
 
 -- a store whose pack indexes are ones has no fault
-no_first_fault : (Has : List ℕ → Type 0) (HasFault : Bool → List ℕ → LazyError → Type 0) (kind : Kind) (packs : List LazyIndex) (loose whole : List (List ℕ))
-    (e : Error) → ((can_fail : Bool) (bytes : List ℕ) (why : LazyError) → IsPackIndex kind bytes → HasFault can_fail bytes why → lazy.IsReadOrMemory can_fail why)
-    → Holds kind packs loose whole → IsFirstFault Has HasFault packs e → IsIndexReadOrMemory packs e
-no_first_fault Has HasFault kind packs loose whole (Index at error) no_fault h fault =
+no_first_fault : (Has : List ℕ → Type 0) (HasFault : Bool → List ℕ → LazyError → Type 0) (view : StoreView) (whole : List (List ℕ))
+    (e : Error) → ((can_fail : Bool) (bytes : List ℕ) (why : LazyError) → IsPackIndex view.kind bytes → HasFault can_fail bytes why → lazy.IsReadOrMemory can_fail why)
+    → Holds view whole → IsFirstFault Has HasFault view.packs e → IsIndexReadOrMemory view e
+no_first_fault Has HasFault view whole (Index at error) no_fault h fault =
+    let packs = view.packs in
     let content : LazyIndex → Option (List ℕ) = λ p. p.content in
     let pack = fault.0 in
     let low : at < length packs = slice_get_within packs at pack fault.1 in
@@ -100,21 +102,19 @@ no_first_fault Has HasFault kind packs loose whole (Index at error) no_fault h f
       no_fault pack.can_fail (get_or h.indexes at []) error (h.are_indexes at [] inside)
           (fault.3 (get_or h.indexes at []) (ap content (sym (get_or_from_slice_get packs at pack pack fault.1)) ∙ known)),
     )
-no_first_fault Has HasFault kind packs loose whole (Memory error) no_fault h fault = tt
+no_first_fault Has HasFault view whole (Memory error) no_fault h fault = tt
 
-pub no_store_fault : (kind : Kind) (packs : List LazyIndex) (loose whole : List (List ℕ)) (byte : ℕ) (e : Error)
-    → Holds kind packs loose whole → IsStoreFault kind packs byte e → IsIndexReadOrMemory packs e
-no_store_fault kind packs loose whole byte e =
-    no_first_fault (λ bytes. HasBucket kind bytes byte) (λ can_fail bytes why. IsBucketFault can_fail kind bytes byte why) kind packs loose whole e
-    (λ can_fail bytes. no_bucket_fault can_fail kind bytes byte)
+pub no_store_fault : (view : StoreView) (whole : List (List ℕ)) (byte : ℕ) (e : Error) → Holds view whole → IsStoreFault view byte e → IsIndexReadOrMemory view e
+no_store_fault view whole byte e =
+    no_first_fault (λ bytes. HasBucket view.kind bytes byte) (λ can_fail bytes why. IsBucketFault can_fail view.kind bytes byte why) view whole e
+    (λ can_fail bytes. no_bucket_fault can_fail view.kind bytes byte)
 
 no_location_fault : (can_fail : Bool) (kind : Kind) (bytes digits : List ℕ) (e : LazyError) → IsPackIndex kind bytes → IsLocationFault can_fail kind bytes digits e
     → lazy.IsReadOrMemory can_fail e
 no_location_fault can_fail kind bytes digits (NoOffset at) index fault = fault.2 (index.offsets.in_table at (omega (arith, fault.0.inside, fault.1.to)))
 no_location_fault can_fail kind bytes digits e index fault = no_bucket_fault can_fail kind bytes (first_byte_of digits) e index fault
 
-pub no_locate_fault : (kind : Kind) (packs : List LazyIndex) (loose whole : List (List ℕ)) (digits : List ℕ) (e : Error)
-    → Holds kind packs loose whole → IsLocateFault kind packs digits e → IsIndexReadOrMemory packs e
-no_locate_fault kind packs loose whole digits e =
-    no_first_fault (λ bytes. HasLocation kind bytes digits) (λ can_fail bytes why. IsLocationFault can_fail kind bytes digits why) kind packs loose whole e
-    (λ can_fail bytes. no_location_fault can_fail kind bytes digits)
+pub no_locate_fault : (view : StoreView) (whole : List (List ℕ)) (digits : List ℕ) (e : Error) → Holds view whole → IsLocateFault view digits e → IsIndexReadOrMemory view e
+no_locate_fault view whole digits e =
+    no_first_fault (λ bytes. HasLocation view.kind bytes digits) (λ can_fail bytes why. IsLocationFault can_fail view.kind bytes digits why) view whole e
+    (λ can_fail bytes. no_location_fault can_fail view.kind bytes digits)

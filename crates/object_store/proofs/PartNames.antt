@@ -12,8 +12,9 @@ use Rattle.gix_hash.specs.declared.ObjectId.{ObjectId}
 use Rattle.id_lookup.specs.IndexOf.{IsIndexOf, part_of}
 use Rattle.id_lookup.proofs.Beginnings.{test_same}
 use Rattle.id_lookup.proofs.Filters.{contains_kept, kept_passes}
-use Rattle.object_store.specs.Parts.{AreBuckets, AreFirstBuckets, HaveWanted}
-use Rattle.object_store.specs.Stores.{HaveBuckets}
+use Rattle.object_store.specs.Parts.{AreBuckets, AreFirstBuckets, HavePassing}
+use Rattle.object_store.specs.Stores.{IfKnown}
+use Rattle.object_store.specs.Views.{StoreView}
 use Rattle.object_store.specs.Wanted.{passes, wanted_byte, wanted_len}
 use Rattle.object_store.specs.declared.wanted.Wanted.{Wanted}
 use Rattle.object_store.proofs.Asked.{filter-part, passes-byte}
@@ -45,7 +46,7 @@ one_more kind packs byte at pack bucket old new here long before last is = (
 
 -- so the pack indexes up to there have the names that are counted
 pub have_first : (kind : Kind) (packs : List LazyIndex) (byte n : ℕ) (buckets : List BucketNames) → All (λ (p : LazyIndex). p.kind ≡ kind) packs
-    → n ≤ length buckets → n ≤ length packs → AreFirstBuckets packs byte buckets → HaveBuckets kind (take n packs) byte
+    → n ≤ length buckets → n ≤ length packs → AreFirstBuckets packs byte buckets → All (IfKnown (λ bytes. HasBucket kind bytes byte)) (take n packs)
 have_first kind packs byte n buckets kinds few within each k d low bytes known =
     let short : k < n = omega (arith, low, length-take-le n packs within) in
     let same : get_or (take n packs) k d ≡ get_or packs k d = get_or-take n packs k d short in
@@ -55,10 +56,10 @@ have_first kind packs byte n buckets kinds few within each k d low bytes known =
     subst (λ (x : Kind). HasBucket x bytes byte) (kinds k d (omega (arith, short, within))) has
 
 -- the buckets are of the kind
-pub are_of_kind : (kind : Kind) (packs : List LazyIndex) (byte : ℕ) (buckets : List BucketNames) → All (λ (p : LazyIndex). p.kind ≡ kind) packs
-    → AreBuckets packs byte buckets → All (λ (b : BucketNames). b.kind ≡ kind) buckets
-are_of_kind kind packs byte buckets kinds are k b low =
-    let p : LazyIndex = record { kind = kind; count = 0; content = None; can_fail = true } in
+pub are_of_kind : (view : StoreView) (byte : ℕ) (buckets : List BucketNames) → All (λ (p : LazyIndex). p.kind ≡ view.kind) view.packs
+    → AreBuckets view byte buckets → All (λ (b : BucketNames). b.kind ≡ view.kind) buckets
+are_of_kind view byte buckets kinds are k b low =
+    let p : LazyIndex = record { kind = view.kind; count = 0; content = None; can_fail = true } in
     (are.each k p b low).kind ∙ kinds k p (omega (arith, low, are.as_many))
 
 -- one bucket more was gathered
@@ -70,8 +71,14 @@ bucket_more p buckets k bucket first old new low here before all =
     all ∙ (λ i. before i ++ f (here i)) ∙ append_assoc first (flat_map f (take k buckets)) (f (get_or buckets k bucket))
     ∙ ap (λ (rest : List (List ℕ)). first ++ rest) (sym (flat_map-take f buckets k bucket low))
 
-module _ (kind : Kind) (packs : List LazyIndex) (wanted : Wanted) (buckets : List BucketNames) (kinds : All (λ (p : LazyIndex). p.kind ≡ kind) packs)
-    (long : 2 ≤ wanted_len wanted) (are : AreBuckets packs (wanted_byte wanted) buckets) where
+module _ (view : StoreView) (wanted : Wanted) (buckets : List BucketNames) (kinds : All (λ (p : LazyIndex). p.kind ≡ view.kind) view.packs)
+    (long : 2 ≤ wanted_len wanted) (are : AreBuckets view (wanted_byte wanted) buckets) where
+  abbrev kind : Kind
+  kind = view.kind
+
+  abbrev packs : List LazyIndex
+  packs = view.packs
+
   -- what is asked for of them is that of the pack indexes
   module _ (indexes : List (List ℕ)) (same : map (λ (p : LazyIndex). p.content) packs ≡ map Some indexes) (each : All (IsPackIndex kind) indexes) where
     names_upto : (n : ℕ) → n ≤ length packs
@@ -105,7 +112,7 @@ module _ (kind : Kind) (packs : List LazyIndex) (wanted : Wanted) (buckets : Lis
 
   -- each name that is counted and asked for was gathered
   pub have_wanted : (loose ids : List (List ℕ))
-      → IsIndexOf kind (flat_map (λ (b : BucketNames). filter (passes wanted) b.names) buckets ++ loose) ids → HaveWanted kind packs wanted ids
+      → IsIndexOf kind (flat_map (λ (b : BucketNames). filter (passes wanted) b.names) buckets ++ loose) ids → HavePassing view (passes wanted) ids
   have_wanted loose ids index k d low bytes known id at counted begins =
       let f : BucketNames → List (List ℕ) = λ b. filter (passes wanted) b.names in
       let b : BucketNames = record { kind = kind; start = 0; names = [] } in

@@ -13,13 +13,14 @@ use Rattle.pack_index.specs.declared.lazy_error.LazyError.TheVariants.{NoOffset}
 use Rattle.object_store.specs.declared.error.Error.{Error}
 use Rattle.object_store.specs.declared.naming.NamedId.{NamedId}
 use Rattle.object_store.specs.declared.error.Error.TheVariants.{Index, Memory}
+use Rattle.object_store.specs.Views.{StoreView}
 
 -- the bytes of the pack indexes are known, and each is one; and `whole` is the index of all their names and the loose ids
-pub record Holds (kind : Kind) (packs : List LazyIndex) (loose whole : List (List ℕ)) : Type 0 where
+pub record Holds (view : StoreView) (whole : List (List ℕ)) : Type 0 where
   pub indexes : List (List ℕ)
-  pub known : map (λ (pack : LazyIndex). pack.content) packs ≡ map Some indexes
-  pub are_indexes : All (IsPackIndex kind) indexes
-  pub all : IsIndexOf kind (flat_map (names_in kind) indexes ++ loose) whole
+  pub known : map (λ (pack : LazyIndex). pack.content) view.packs ≡ map Some indexes
+  pub are_indexes : All (IsPackIndex view.kind) indexes
+  pub all : IsIndexOf view.kind (flat_map (names_in view.kind) indexes ++ view.loose) whole
 
 -- the name is the shortest one of the id in the index
 abbrev pub IsNameIn : ℕ → List (List ℕ) → List ℕ → List ℕ → Type 0
@@ -42,13 +43,13 @@ IsFirstFault Has HasFault packs (Index at error) =
 IsFirstFault Has HasFault packs (Memory error) = Unit {0}
 
 -- the pack indexes have the names that are counted with a first byte
-abbrev pub HaveBuckets : Kind → List LazyIndex → ℕ → Type 0
-HaveBuckets kind packs byte = All (IfKnown (λ bytes. HasBucket kind bytes byte)) packs
+abbrev pub HaveBuckets : StoreView → ℕ → Type 0
+HaveBuckets view byte = All (IfKnown (λ bytes. HasBucket view.kind bytes byte)) view.packs
 
 -- why they are not read
-abbrev pub IsStoreFault : Kind → List LazyIndex → ℕ → Error → Type 0
-IsStoreFault kind packs byte error =
-    IsFirstFault (λ bytes. HasBucket kind bytes byte) (λ can_fail bytes why. IsBucketFault can_fail kind bytes byte why) packs error
+abbrev pub IsStoreFault : StoreView → ℕ → Error → Type 0
+IsStoreFault view byte error =
+    IsFirstFault (λ bytes. HasBucket view.kind bytes byte) (λ can_fail bytes why. IsBucketFault can_fail view.kind bytes byte why) view.packs error
 
 -- a pack index has the names that are counted with the first byte of the id of these digits, and an offset if the id is one of them
 pub record HasLocation (kind : Kind) (bytes digits : List ℕ) : Type 0 where
@@ -62,14 +63,14 @@ IsLocationFault can_fail kind bytes digits (NoOffset at) =
 IsLocationFault can_fail kind bytes digits error = IsBucketFault can_fail kind bytes (first_byte_of digits) error
 
 -- the same of all pack indexes, as for a first byte
-abbrev pub HaveLocations : Kind → List LazyIndex → List ℕ → Type 0
-HaveLocations kind packs digits = All (IfKnown (λ bytes. HasLocation kind bytes digits)) packs
+abbrev pub HaveLocations : StoreView → List ℕ → Type 0
+HaveLocations view digits = All (IfKnown (λ bytes. HasLocation view.kind bytes digits)) view.packs
 
-abbrev pub IsLocateFault : Kind → List LazyIndex → List ℕ → Error → Type 0
-IsLocateFault kind packs digits error =
-    IsFirstFault (λ bytes. HasLocation kind bytes digits) (λ can_fail bytes why. IsLocationFault can_fail kind bytes digits why) packs error
+abbrev pub IsLocateFault : StoreView → List ℕ → Error → Type 0
+IsLocateFault view digits error =
+    IsFirstFault (λ bytes. HasLocation view.kind bytes digits) (λ can_fail bytes why. IsLocationFault can_fail view.kind bytes digits why) view.packs error
 
 -- a read failed that may, of the pack index at the index, or memory ran out
-abbrev pub IsIndexReadOrMemory : List LazyIndex → Error → Type 0
-IsIndexReadOrMemory packs (Index at error) = (pack : LazyIndex) × (slice_get packs at ≡ Some pack) × lazy.IsReadOrMemory pack.can_fail error
-IsIndexReadOrMemory packs (Memory error) = Unit {0}
+abbrev pub IsIndexReadOrMemory : StoreView → Error → Type 0
+IsIndexReadOrMemory view (Index at error) = (pack : LazyIndex) × (slice_get view.packs at ≡ Some pack) × lazy.IsReadOrMemory pack.can_fail error
+IsIndexReadOrMemory view (Memory error) = Unit {0}

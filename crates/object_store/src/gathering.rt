@@ -1,12 +1,11 @@
 //! The ids of a store with a first byte, or that begin with a prefix.
 
-ghost use Rattle.std.specs.Prelude.{◌≡◌, ◌≤◌, ℕ, ◌++◌, All, IfErr, IfOk, List, OnOk, filter, flat_map, length, map};
+ghost use Rattle.std.specs.Prelude.{◌≡◌, ◌≤◌, ◌++◌, All, IfErr, IfOk, OnOk, filter, flat_map, length, map};
 ghost use Rattle.gix_hash.specs.Digits.{first_byte_of};
 ghost use Rattle.gix_hash.specs.Kind.{hex_len_of};
 ghost use Rattle.gix_hash.specs.ObjectId.{id_digits, id_kind};
-ghost use Rattle.id_lookup.specs.Index.{IsIndex};
-ghost use Rattle.id_lookup.specs.Runs.{matches};
-ghost use Rattle.object_store.specs.Stores.{HaveBuckets, Holds, IsStoreFault};
+ghost use Rattle.object_store.specs.Parts.{AreMatches};
+ghost use Rattle.object_store.specs.Stores.{IsStoreFault};
 ghost use Rattle.object_store.specs.Wanted.{passes, wanted_len};
 ghost use Rattle.pack_index.specs.Format.{digests_in};
 ghost use Rattle.pack_index.specs.Lazy.{BucketNames};
@@ -36,20 +35,15 @@ pub fn lookup_prefix<S: Store, A: Allocator + Copy>(
     prefix: &Prefix,
 ) -> Result<Vec<ObjectId, A>, Error>
     requires enough { 2 ≤ length prefix.now.digits }
-    requires kind { prefix.now.kind ≡ S.kind store.now }
-    ensures found { IfOk result (λ ids. (whole : List (List ℕ))
-        → Holds (S.kind store.now) (S.packs store.now) (S.loose store.now) whole
-        → map id_digits ids.items ≡ matches prefix.now.digits whole) }
-    ensures index { IfOk result (λ ids. IsIndex (S.kind store.now) (map id_digits ids.items)) }
-    ensures kinds { IfOk result (λ ids. All (λ id. id_kind id ≡ S.kind store.now) ids.items) }
-    ensures sound { IfOk result (λ _. HaveBuckets (S.kind store.now) (S.packs store.now)
-        (first_byte_of prefix.now.digits)) }
-    ensures err { IfErr result (IsStoreFault (S.kind store.now) (S.packs store.now)
+    requires kind { prefix.now.kind ≡ (S.view store.now).kind }
+    ensures matches { IfOk result (λ ids. AreMatches (S.view store.now) prefix.now.digits
+        ids.items) }
+    ensures err { IfErr result (IsStoreFault (S.view store.now)
         (first_byte_of prefix.now.digits)) }
 {
     let byte = Wanted::BeginsWith(*prefix).first_byte();
     let part = Part::read(alloc, store, byte)?;
-    Ok(part.lookup_prefix(alloc, store, prefix)?)
+    Ok(part.lookup_prefix(alloc, prefix)?)
 }
 
 // Adds the names of buckets of a kind that are asked for.

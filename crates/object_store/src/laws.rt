@@ -6,18 +6,16 @@ ghost use Rattle.object_store.specs.Locations.{HasObjectAt, locations_of};
 ghost use Rattle.object_store.specs.Stores.{Holds, IsLocateFault, IsIndexReadOrMemory, IsStoreFault};
 ghost use Rattle.object_store.specs.declared.error.Error.{Error as StoreError};
 ghost use Rattle.object_store.specs.declared.locations.Location.TheVariants.{Packed, Loose};
-ghost use Rattle.pack_index.specs.Lazy.{LazyIndex};
+ghost use Rattle.object_store.specs.Views.{StoreView};
 
 /// If the bytes of a store are known and are those of pack indexes, then a look-up fails only
 /// because memory runs out, or a read fails of a pack index that is read from what may fail.
 pub fn failures()
-    ensures buckets { (kind : Kind) (packs : List LazyIndex) (loose : List (List ℕ))
-        (whole : List (List ℕ)) (byte : ℕ) (error : StoreError) → Holds kind packs loose whole
-        → IsStoreFault kind packs byte error → IsIndexReadOrMemory packs error }
-    ensures locations { (kind : Kind) (packs : List LazyIndex) (loose : List (List ℕ))
-        (whole : List (List ℕ)) (digits : List ℕ) (error : StoreError)
-        → Holds kind packs loose whole → IsLocateFault kind packs digits error
-        → IsIndexReadOrMemory packs error }
+    ensures buckets { (view : StoreView) (whole : List (List ℕ)) (byte : ℕ) (error : StoreError)
+        → Holds view whole → IsStoreFault view byte error → IsIndexReadOrMemory view error }
+    ensures locations { (view : StoreView) (whole : List (List ℕ)) (digits : List ℕ)
+        (error : StoreError) → Holds view whole → IsLocateFault view digits error
+        → IsIndexReadOrMemory view error }
 {}
 
 /// `locate` adds no location and leaves none out: an object is at an offset in a pack if and only if

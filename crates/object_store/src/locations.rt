@@ -1,14 +1,14 @@
 //! Where an object store has an object.
 
-ghost use Rattle.std.specs.Prelude.{◌≡◌, ◌⊎◌, ℕ, [], ◌∷◌, ◌++◌, All, IfErr, IfOk, List, OnOk, Some, length, map};
+ghost use Rattle.std.specs.Prelude.{◌≡◌, ◌⊎◌, ℕ, [], ◌∷◌, ◌++◌, IfErr, IfOk, List, OnOk, Some, length};
 ghost use Rattle.gix_hash.specs.Digits.{first_byte_of};
 ghost use Rattle.gix_hash.specs.ObjectId.{id_digits, id_kind};
-ghost use Rattle.object_store.specs.Parts.{AreBuckets};
-ghost use Rattle.object_store.specs.Locations.{offset_of, packed_at, packed_locations, locations_of};
+ghost use Rattle.object_store.specs.Parts.{AreBuckets, AreLocations};
+ghost use Rattle.object_store.specs.Locations.{offset_of, packed_at, packed_locations};
 ghost use Rattle.object_store.specs.Stores.{HasLocation, HaveBuckets, HaveLocations, Holds, IsLocateFault, IsLocationFault, IsStoreFault};
 ghost use Rattle.pack_index.specs.Firsts.{Each};
-ghost use Rattle.pack_index.specs.Format.{HasCount, IsPackIndex};
-ghost use Rattle.pack_index.specs.Lazy.{IsBucketOf, LazyIndex};
+ghost use Rattle.pack_index.specs.Format.{HasCount};
+ghost use Rattle.pack_index.specs.Lazy.{IsBucketOf};
 
 use crate::error::Error;
 use crate::part::Part;
@@ -57,20 +57,16 @@ pub fn locate<S: Store, A: Allocator + Copy>(
     store: &S,
     id: &ObjectId,
 ) -> Result<Vec<Location, A>, Error>
-    requires { id_kind id.now ≡ S.kind store.now }
-    ensures locations { IfOk result (λ locations. (whole : List (List ℕ))
-        → (h : Holds (S.kind store.now) (S.packs store.now) (S.loose store.now) whole)
-        → locations.items
-        ≡ locations_of (S.kind store.now) (id_digits id.now) h.indexes (S.loose store.now)) }
-    ensures sound { IfOk result (λ _. HaveLocations (S.kind store.now) (S.packs store.now)
-        (id_digits id.now)) }
-    ensures err { IfErr result (λ e. IsStoreFault (S.kind store.now) (S.packs store.now)
+    requires { id_kind id.now ≡ (S.view store.now).kind }
+    ensures locations { IfOk result (λ locations. AreLocations (S.view store.now)
+        (id_digits id.now) locations.items) }
+    ensures err { IfErr result (λ e. IsStoreFault (S.view store.now)
         (first_byte_of (id_digits id.now)) e
-        ⊎ (HaveBuckets (S.kind store.now) (S.packs store.now) (first_byte_of (id_digits id.now))
-        × IsLocateFault (S.kind store.now) (S.packs store.now) (id_digits id.now) e)) }
+        ⊎ (HaveBuckets (S.view store.now) (first_byte_of (id_digits id.now))
+        × IsLocateFault (S.view store.now) (id_digits id.now) e)) }
 {
     let part = Part::read(alloc, store, id.first_byte())?;
-    Ok(part.locate(alloc, store, id)?)
+    Ok(part.locate(alloc, id)?)
 }
 
 // All locations of an object, by the buckets of its first byte.
@@ -80,17 +76,12 @@ pub(crate) fn locate_in<S: Store, A: Allocator + Copy>(
     buckets: &[Bucket<A>],
     id: &ObjectId,
 ) -> Result<Vec<Location, A>, Error>
-    requires buckets { AreBuckets (S.packs store.now) (first_byte_of (id_digits id.now))
+    requires buckets { AreBuckets (S.view store.now) (first_byte_of (id_digits id.now))
         buckets.now }
-    requires kind { id_kind id.now ≡ S.kind store.now }
-    ensures locations { IfOk result (λ locations. (whole : List (List ℕ))
-        → (h : Holds (S.kind store.now) (S.packs store.now) (S.loose store.now) whole)
-        → locations.items
-        ≡ locations_of (S.kind store.now) (id_digits id.now) h.indexes (S.loose store.now)) }
-    ensures sound { IfOk result (λ _. HaveLocations (S.kind store.now) (S.packs store.now)
-        (id_digits id.now)) }
-    ensures err { IfErr result (IsLocateFault (S.kind store.now) (S.packs store.now)
-        (id_digits id.now)) }
+    requires kind { id_kind id.now ≡ (S.view store.now).kind }
+    ensures locations { IfOk result (λ locations. AreLocations (S.view store.now)
+        (id_digits id.now) locations.items) }
+    ensures err { IfErr result (IsLocateFault (S.view store.now) (id_digits id.now)) }
 {
     let mut locations = packed_locations(alloc, store, buckets, id)?;
     if store.loose_ids().contains(id) {
@@ -106,16 +97,13 @@ fn packed_locations<S: Store, A: Allocator + Copy>(
     buckets: &[Bucket<A>],
     id: &ObjectId,
 ) -> Result<Vec<Location, A>, Error>
-    requires { AreBuckets (S.packs store.now) (first_byte_of (id_digits id.now)) buckets.now }
-    ensures locations { IfOk result (λ locations. (indexes : List (List ℕ))
-        → map (λ (pack : LazyIndex). pack.content) (S.packs store.now) ≡ map Some indexes
-        → All (IsPackIndex (S.kind store.now)) indexes
-        → locations.items
-        ≡ packed_locations (S.kind store.now) (id_digits id.now) indexes (length indexes)) }
-    ensures sound { IfOk result (λ _. HaveLocations (S.kind store.now) (S.packs store.now)
-        (id_digits id.now)) }
-    ensures err { IfErr result (IsLocateFault (S.kind store.now) (S.packs store.now)
-        (id_digits id.now)) }
+    requires { AreBuckets (S.view store.now) (first_byte_of (id_digits id.now)) buckets.now }
+    ensures locations { IfOk result (λ locations. (whole : List (List ℕ))
+        → (h : Holds (S.view store.now) whole) → locations.items
+        ≡ packed_locations (S.view store.now).kind (id_digits id.now) h.indexes
+        (length h.indexes)) }
+    ensures sound { IfOk result (λ _. HaveLocations (S.view store.now) (id_digits id.now)) }
+    ensures err { IfErr result (IsLocateFault (S.view store.now) (id_digits id.now)) }
 {
     let mut locations = Vec::new(alloc);
     let packs = store.indexes();

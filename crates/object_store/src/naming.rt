@@ -51,20 +51,18 @@ pub fn names<S: Store, A: Allocator + Copy>(
     least: usize,
 ) -> Result<Vec<NamedId, A>, Error>
     requires enough { 4 ≤ least }
-    requires fits { least ≤ hex_len_of (S.kind store.now) }
-    ensures ids { IfOk result (λ named. (whole : List (List ℕ))
-        → Holds (S.kind store.now) (S.packs store.now) (S.loose store.now) whole
+    requires fits { least ≤ hex_len_of (S.view store.now).kind }
+    ensures ids { IfOk result (λ named. (whole : List (List ℕ)) → Holds (S.view store.now) whole
         → map (λ (n : NamedId). id_digits n.id) named.items ≡ part_of byte whole) }
-    ensures names { IfOk result (λ named. (whole : List (List ℕ))
-        → Holds (S.kind store.now) (S.packs store.now) (S.loose store.now) whole
+    ensures names { IfOk result (λ named. (whole : List (List ℕ)) → Holds (S.view store.now) whole
         → All (λ (n : NamedId). IsNameIn least whole (id_digits n.id) n.name.digits) named.items) }
-    ensures index { IfOk result (λ named. IsIndex (S.kind store.now)
+    ensures index { IfOk result (λ named. IsIndex (S.view store.now).kind
         (map (λ (n : NamedId). id_digits n.id) named.items)) }
-    ensures kinds { IfOk result (λ named. All (IsOfKind (S.kind store.now)) named.items) }
-    ensures sound { IfOk result (λ _. HaveBuckets (S.kind store.now) (S.packs store.now) byte) }
-    ensures err { IfErr result (IsStoreFault (S.kind store.now) (S.packs store.now) byte) }
+    ensures kinds { IfOk result (λ named. All (IsOfKind (S.view store.now).kind) named.items) }
+    ensures sound { IfOk result (λ _. HaveBuckets (S.view store.now) byte) }
+    ensures err { IfErr result (IsStoreFault (S.view store.now) byte) }
 {
-    let ids = Part::read(alloc, store, byte)?.gather(alloc, store, &Wanted::FirstByte(byte))?;
+    let ids = Part::read(alloc, store, byte)?.gather(alloc, &Wanted::FirstByte(byte))?;
     Ok(name_all(alloc, &ids, store.object_hash(), least)?)
 }
 
@@ -84,22 +82,21 @@ pub fn abbreviate<S: Store, A: Allocator + Copy>(
     id: &ObjectId,
     least: usize,
 ) -> Result<Option<Prefix>, Error>
-    requires kind { id_kind id.now ≡ S.kind store.now }
+    requires kind { id_kind id.now ≡ (S.view store.now).kind }
     requires enough { 4 ≤ least }
-    requires fits { least ≤ hex_len_of (S.kind store.now) }
-    ensures name { IfOk result (λ name. (whole : List (List ℕ))
-        → Holds (S.kind store.now) (S.packs store.now) (S.loose store.now) whole
+    requires fits { least ≤ hex_len_of (S.view store.now).kind }
+    ensures name { IfOk result (λ name. (whole : List (List ℕ)) → Holds (S.view store.now) whole
         → MatchOption name (¬ Contains whole (id_digits id.now))
         (λ name. IsNameIn least whole (id_digits id.now) name.digits)) }
-    ensures kind { IfOk result (λ name. IfSome name (λ name. name.kind ≡ S.kind store.now)) }
-    ensures sound { IfOk result (λ _. HaveBuckets (S.kind store.now) (S.packs store.now)
+    ensures kind { IfOk result (λ name. IfSome name (λ name. name.kind ≡ (S.view store.now).kind)) }
+    ensures sound { IfOk result (λ _. HaveBuckets (S.view store.now)
         (first_byte_of (id_digits id.now))) }
-    ensures err { IfErr result (IsStoreFault (S.kind store.now) (S.packs store.now)
+    ensures err { IfErr result (IsStoreFault (S.view store.now)
         (first_byte_of (id_digits id.now))) }
 {
     let front = front_of(id, least);
     let part = Part::read(alloc, store, id.first_byte())?;
-    let ids = part.gather(alloc, store, &Wanted::BeginsWith(front))?;
+    let ids = part.gather(alloc, &Wanted::BeginsWith(front))?;
     Ok(name_in(&ids, id, least))
 }
 

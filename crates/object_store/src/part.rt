@@ -1,15 +1,11 @@
 //! The names of a store with one first byte.
 
-ghost use Rattle.std.specs.Prelude.{◌≡◌, ◌∷◌, [], ◌++◌, ◌≤◌, ℕ, All, IfErr, IfOk, IsTrue, List, OnOk, filter, length, map, nat_eq};
-ghost use Rattle.std.specs.List.{starts_with};
+ghost use Rattle.std.specs.Prelude.{◌≡◌, ◌∷◌, [], ◌++◌, ◌≤◌, IfErr, IfOk, OnOk, length};
 ghost use Rattle.gix_hash.specs.Digits.{first_byte_of};
 ghost use Rattle.gix_hash.specs.Kind.{hex_len_of};
 ghost use Rattle.gix_hash.specs.ObjectId.{id_digits, id_kind};
-ghost use Rattle.id_lookup.specs.Index.{IsIndex};
-ghost use Rattle.id_lookup.specs.Runs.{matches};
-ghost use Rattle.object_store.specs.Parts.{AreBuckets, HaveNames, HaveWanted};
-ghost use Rattle.object_store.specs.Locations.{locations_of};
-ghost use Rattle.object_store.specs.Stores.{HaveBuckets, HaveLocations, Holds, IsLocateFault, IsStoreFault};
+ghost use Rattle.object_store.specs.Parts.{AreLocations, AreMatches, ArePassing};
+ghost use Rattle.object_store.specs.Stores.{HaveBuckets, IsLocateFault, IsStoreFault};
 ghost use Rattle.object_store.specs.Wanted.{passes, wanted_byte, wanted_len};
 
 use crate::error::Error;
@@ -28,32 +24,37 @@ use std::marker::Model;
 ///
 /// ```
 /// let part = Part::read(rt.alloc(), &store, prefix.as_oid().first_byte())?;
-/// for id in part.lookup_prefix(rt.alloc(), &store, &prefix)?.iter() {
-///     println!(rt; "{id}: {} locations", part.locate(rt.alloc(), &store, id)?.len())?;
+/// for id in part.lookup_prefix(rt.alloc(), &prefix)?.iter() {
+///     println!(rt; "{id}: {} locations", part.locate(rt.alloc(), id)?.len())?;
 /// }
 /// ```
 #[derive(Drop)]
-pub struct Part<A: Allocator> {
+pub struct Part<'s, S: Store, A: Allocator> {
+    store: &'s S,
+    byte: u8,
     // That of each pack index.
     buckets: Vec<Bucket<A>, A>,
 }
 
-impl<A: Allocator> Model for Part<A> {
-    ghost use Rattle.std.specs.Prelude.{List};
-    ghost use Rattle.pack_index.specs.Lazy.{BucketNames};
+impl<'s, S: Store, A: Allocator> Model for Part<'s, S, A> {
+    ghost use Rattle.object_store.specs.Parts.{AreBuckets};
+    ghost use Rattle.object_store.specs.Views.{PartView};
 
-    ghost Value = { List BucketNames };
+    ghost Value = { PartView };
 
-    ghost view = { λ part. part.buckets.items };
+    ghost view = { λ part. record { store = S.view part.store.now; byte = part.byte } };
+
+    ghost invariant = { λ part. AreBuckets (S.view part.store.now) part.byte part.buckets.items };
 }
 
-impl<A: Allocator + Copy> Part<A> {
+impl<'s, S: Store, A: Allocator + Copy> Part<'s, S, A> {
     /// The names of a store with a first byte, of which memory is taken for all. An error is that
     /// of the first pack index that cannot be read, or is damaged where it is read.
-    pub fn read<S: Store>(alloc: A, store: &S, byte: u8) -> Result<Part<A>, Error>
-        ensures part { IfOk result (AreBuckets (S.packs store.now) byte) }
-        ensures sound { IfOk result (λ _. HaveBuckets (S.kind store.now) (S.packs store.now) byte) }
-        ensures err { IfErr result (IsStoreFault (S.kind store.now) (S.packs store.now) byte) }
+    pub fn read(alloc: A, store: &'s S, byte: u8) -> Result<Part<'s, S, A>, Error>
+        ensures part { IfOk result (λ part. part
+            ≡ record { store = S.view store.now; byte = byte }) }
+        ensures sound { IfOk result (λ _. HaveBuckets (S.view store.now) byte) }
+        ensures err { IfErr result (IsStoreFault (S.view store.now) byte) }
     {
         let mut buckets = Vec::new(alloc);
         let packs = store.indexes();
@@ -63,83 +64,52 @@ impl<A: Allocator + Copy> Part<A> {
                 Err(error) => return Err(Error::Index { at, error }),
             }
         }
-        Ok(Part { buckets })
+        Ok(Part {
+            store,
+            byte,
+            buckets,
+        })
     }
 
     /// The ids of the store that begin with a prefix, each once, in order. The prefix has 2 digits
     /// or more, the store's kind, and the first byte that was read.
-    pub fn lookup_prefix<S: Store>(
-        &self,
-        alloc: A,
-        store: &S,
-        prefix: &Prefix,
-    ) -> Result<Vec<ObjectId, A>, AllocError>
-        requires part { AreBuckets (S.packs store.now) (first_byte_of prefix.now.digits) self.now }
+    pub fn lookup_prefix(&self, alloc: A, prefix: &Prefix) -> Result<Vec<ObjectId, A>, AllocError>
+        requires byte { first_byte_of prefix.now.digits ≡ self.now.byte }
         requires enough { 2 ≤ length prefix.now.digits }
-        requires kind { prefix.now.kind ≡ S.kind store.now }
-        ensures found { IfOk result (λ ids. (whole : List (List ℕ))
-            → Holds (S.kind store.now) (S.packs store.now) (S.loose store.now) whole
-            → map id_digits ids.items ≡ matches prefix.now.digits whole) }
-        ensures each { IfOk result (λ ids. HaveNames (S.kind store.now) (S.packs store.now)
-            prefix.now.digits (map id_digits ids.items)) }
-        ensures begin { IfOk result (λ ids. All (λ id. IsTrue (starts_with nat_eq (id_digits id)
-            prefix.now.digits)) ids.items) }
-        ensures index { IfOk result (λ ids. IsIndex (S.kind store.now) (map id_digits ids.items)) }
-        ensures kinds { IfOk result (λ ids. All (λ id. id_kind id ≡ S.kind store.now) ids.items) }
+        requires kind { prefix.now.kind ≡ self.now.store.kind }
+        ensures { IfOk result (λ ids. AreMatches self.now.store prefix.now.digits ids.items) }
     {
         // The contract of this call says that the prefix has at most as many digits as its kind.
         let _hex_len = prefix.hex_len();
-        self.gather(alloc, store, &Wanted::BeginsWith(*prefix))
+        self.gather(alloc, &Wanted::BeginsWith(*prefix))
     }
 
     /// All locations of an object of the store whose id has the first byte that was read, as
     /// [`locate`](crate::locate) gives them.
-    pub fn locate<S: Store>(
-        &self,
-        alloc: A,
-        store: &S,
-        id: &ObjectId,
-    ) -> Result<Vec<Location, A>, Error>
-        requires part { AreBuckets (S.packs store.now) (first_byte_of (id_digits id.now)) self.now }
-        requires kind { id_kind id.now ≡ S.kind store.now }
-        ensures locations { IfOk result (λ locations. (whole : List (List ℕ))
-            → (h : Holds (S.kind store.now) (S.packs store.now) (S.loose store.now) whole)
-            → locations.items
-            ≡ locations_of (S.kind store.now) (id_digits id.now) h.indexes (S.loose store.now)) }
-        ensures sound { IfOk result (λ _. HaveLocations (S.kind store.now) (S.packs store.now)
-            (id_digits id.now)) }
-        ensures err { IfErr result (IsLocateFault (S.kind store.now) (S.packs store.now)
-            (id_digits id.now)) }
+    pub fn locate(&self, alloc: A, id: &ObjectId) -> Result<Vec<Location, A>, Error>
+        requires byte { first_byte_of (id_digits id.now) ≡ self.now.byte }
+        requires kind { id_kind id.now ≡ self.now.store.kind }
+        ensures locations { IfOk result (λ locations. AreLocations self.now.store
+            (id_digits id.now) locations.items) }
+        ensures err { IfErr result (IsLocateFault self.now.store (id_digits id.now)) }
     {
-        locate_in(alloc, store, &self.buckets, id)
+        locate_in(alloc, self.store, &self.buckets, id)
     }
 
     // The ids of the store that are asked for, each once, in order.
-    pub(crate) fn gather<S: Store>(
-        &self,
-        alloc: A,
-        store: &S,
-        wanted: &Wanted,
-    ) -> Result<Vec<ObjectId, A>, AllocError>
-        requires part { AreBuckets (S.packs store.now) (wanted_byte wanted.now) self.now }
+    pub(crate) fn gather(&self, alloc: A, wanted: &Wanted) -> Result<Vec<ObjectId, A>, AllocError>
+        requires byte { wanted_byte wanted.now ≡ self.now.byte }
         requires enough { 2 ≤ wanted_len wanted.now }
-        requires fits { wanted_len wanted.now ≤ hex_len_of (S.kind store.now) }
-        ensures ids { IfOk result (λ ids. (whole : List (List ℕ))
-            → Holds (S.kind store.now) (S.packs store.now) (S.loose store.now) whole
-            → map id_digits ids.items ≡ filter (passes wanted.now) whole) }
-        ensures each { IfOk result (λ ids. HaveWanted (S.kind store.now) (S.packs store.now)
-            wanted.now (map id_digits ids.items)) }
-        ensures wanted { IfOk result (λ ids. All (λ id. IsTrue (passes wanted.now (id_digits id)))
-            ids.items) }
-        ensures index { IfOk result (λ ids. IsIndex (S.kind store.now) (map id_digits ids.items)) }
-        ensures kinds { IfOk result (λ ids. All (λ id. id_kind id ≡ S.kind store.now) ids.items) }
+        requires fits { wanted_len wanted.now ≤ hex_len_of self.now.store.kind }
+        ensures { IfOk result (λ ids. ArePassing self.now.store (wanted_byte wanted.now)
+            (passes wanted.now) ids.items) }
     {
         // Its contract says that the pack indexes have the store's kind.
-        let _packs = store.indexes();
-        let kind = store.object_hash();
+        let _packs = self.store.indexes();
+        let kind = self.store.object_hash();
         let mut ids = Vec::new(alloc);
         push_packed(&mut ids, &self.buckets, kind, wanted)?;
-        push_wanted(&mut ids, store.loose_ids(), wanted, kind)?;
+        push_wanted(&mut ids, self.store.loose_ids(), wanted, kind)?;
         sort_unique(&mut ids);
         Ok(ids)
     }

@@ -15,36 +15,29 @@ use streams::ReadAt;
 /// println!(rt; "{} loose ids", store.loose_ids().len())?;
 /// ```
 pub trait Store {
-    ghost use Rattle.std.specs.Prelude.{◌≡◌, ℕ, All, List, map};
+    ghost use Rattle.std.specs.Prelude.{◌≡◌, All, map};
     ghost use Rattle.gix_hash.specs.ObjectId.{id_digits, id_kind};
-    ghost use Rattle.gix_hash.specs.declared.Kind.{Kind as IdKind};
-    ghost use Rattle.pack_index.specs.Lazy.{LazyIndex};
+    ghost use Rattle.object_store.specs.Views.{StoreView};
 
     /// What the bytes of a pack index are read from.
     type Source: ReadAt + Drop;
 
-    /// The kind of all ids.
-    ghost kind: { Self → IdKind };
-
-    /// The pack indexes.
-    ghost packs: { Self → List LazyIndex };
-
-    /// The ids of all loose objects.
-    ghost loose: { Self → List (List ℕ) };
+    /// What it has: the kind of all ids, the pack indexes, and the ids of all loose objects.
+    ghost view: { Self → StoreView };
 
     /// The kind of all ids.
     fn object_hash(&self) -> Kind
-        ensures { result ≡ kind self.now };
+        ensures { result ≡ (view self.now).kind };
 
     /// The pack indexes.
     fn indexes(&self) -> &[LazyFile<Self::Source>]
-        ensures value { result.now ≡ packs self.now }
-        ensures kinds { All (λ pack. pack.kind ≡ kind self.now) (packs self.now) };
+        ensures value { result.now ≡ (view self.now).packs }
+        ensures kinds { All (λ pack. pack.kind ≡ (view self.now).kind) (view self.now).packs };
 
     /// The ids of the loose objects, in any order; one may occur several times.
     fn loose_ids(&self) -> &[ObjectId]
-        ensures ids { map id_digits result.now ≡ loose self.now }
-        ensures kinds { All (λ id. id_kind id ≡ kind self.now) result.now };
+        ensures ids { map id_digits result.now ≡ (view self.now).loose }
+        ensures kinds { All (λ id. id_kind id ≡ (view self.now).kind) result.now };
 }
 
 /// A store whose packs and loose objects have paths.

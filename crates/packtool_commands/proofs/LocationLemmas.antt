@@ -11,13 +11,13 @@ use Rattle.streams.specs.Writing.{AppendsAtMost}
 use Rattle.streams.proofs.WritingLemmas.{lines_around}
 use Rattle.gix_hash.specs.Digits.{first_byte_of}
 use Rattle.gix_hash.specs.ObjectId.{id_digits}
-use Rattle.gix_hash.specs.declared.Kind.{Kind}
 use Rattle.gix_hash.specs.declared.ObjectId.{ObjectId}
 use Rattle.id_lookup.proofs.Beginnings.{first_byte_of-begins}
 use Rattle.id_lookup.proofs.Spelled.{starts_with-BeginsWith}
-use Rattle.object_store.specs.Parts.{HaveNames}
+use Rattle.object_store.specs.Parts.{HavePassing}
 use Rattle.object_store.specs.Stores.{HaveBuckets, HaveLocations, IsLocateFault}
-use Rattle.pack_index.specs.Lazy.{HasBucket, LazyIndex}
+use Rattle.object_store.specs.Views.{StoreView}
+use Rattle.pack_index.specs.Lazy.{HasBucket}
 use Rattle.packtool_commands.specs.Finding.{IsFaultOf}
 use Rattle.packtool_commands.specs.Locations.{HaveAllLocations, IsLocationsFault}
 use Rattle.packtool_commands.specs.declared.error.StoreError.{StoreError}
@@ -57,19 +57,19 @@ pub first_of_padded : (id digits rest : List ℕ) → id ≡ digits ++ rest → 
 first_of_padded id digits rest is two = first_byte_of-begins id digits two ((starts_with-BeginsWith id digits).1 (rest, is))
 
 -- where the ids that were found have locations, all ids that begin with the digits have what their locations need
-pub all_locations : (kind : Kind) (packs : List LazyIndex) (digits : List ℕ) (ids : List ObjectId) → HaveNames kind packs digits (map id_digits ids)
-    → HaveBuckets kind packs (first_byte_of digits) → 2 ≤ length digits → All (λ (id : ObjectId). HaveLocations kind packs (id_digits id)) ids → HaveAllLocations kind packs digits
-all_locations kind packs digits ids names buckets two locations id begins k d low bytes known = record {
-  bucket = subst (HasBucket kind bytes) (sym (first_byte_of-begins id digits two begins)) (buckets k d low bytes known);
+pub all_locations : (view : StoreView) (digits : List ℕ) (ids : List ObjectId) → HavePassing view (λ id. starts_with nat_eq id digits) (map id_digits ids)
+    → HaveBuckets view (first_byte_of digits) → 2 ≤ length digits → All (λ (id : ObjectId). HaveLocations view (id_digits id)) ids → HaveAllLocations view digits
+all_locations view digits ids names buckets two locations id begins k d low bytes known = record {
+  bucket = subst (HasBucket view.kind bytes) (sym (first_byte_of-begins id digits two begins)) (buckets k d low bytes known);
   offset = λ at counted.
       let there = names k d low bytes known id at counted begins in
-      let all : All (HaveLocations kind packs) (map id_digits ids) = All-map (HaveLocations kind packs) id_digits ids locations in
-      let here = subst (HaveLocations kind packs) there.2 (all there.0 id there.1) in
+      let all : All (HaveLocations view) (map id_digits ids) = All-map (HaveLocations view) id_digits ids locations in
+      let here = subst (HaveLocations view) there.2 (all there.0 id there.1) in
       (here k d low bytes known).offset at counted;
 }
 
 -- where the locations of one of the ids are at fault, those of all are
-pub locations_fault : (kind : Kind) (packs : List LazyIndex) (digits id : List ℕ) (e : StoreError) → HaveBuckets kind packs (first_byte_of digits)
-    → IsTrue (starts_with nat_eq id digits) → IsFaultOf (IsLocateFault kind packs id) e → IsFaultOf (IsLocationsFault kind packs digits) e
-locations_fault kind packs digits id (Store error) buckets begins fault = inr (buckets, id, begins, fault)
-locations_fault kind packs digits id Output buckets begins fault = tt
+pub locations_fault : (view : StoreView) (digits id : List ℕ) (e : StoreError) → HaveBuckets view (first_byte_of digits)
+    → IsTrue (starts_with nat_eq id digits) → IsFaultOf (IsLocateFault view id) e → IsFaultOf (IsLocationsFault view digits) e
+locations_fault view digits id (Store error) buckets begins fault = inr (buckets, id, begins, fault)
+locations_fault view digits id Output buckets begins fault = tt

@@ -3,14 +3,13 @@ use Rattle.std.specs.Prelude.{◌≢◌, ◌↔◌, ◌⊎◌, ℕ, Bool, Option
 use Rattle.std.specs.List.{starts_with}
 use Rattle.std.specs.Io.KnownBytes.{Appends}
 use Rattle.gix_hash.specs.Digits.{first_byte_of, hex_letter, spelling}
-use Rattle.gix_hash.specs.declared.Kind.{Kind}
 use Rattle.object_store.specs.Locations.{locations_of}
 use Rattle.object_store.specs.Stores.{HaveBuckets, HaveLocations, IsLocateFault, IsStoreFault}
 use Rattle.object_store.specs.declared.error.Error.{Error}
 use Rattle.object_store.specs.declared.error.Error.TheVariants.{Index, Memory}
 use Rattle.object_store.specs.declared.locations.Location.{Location}
 use Rattle.object_store.specs.declared.locations.Location.TheVariants.{Packed, Loose}
-use Rattle.pack_index.specs.Lazy.{LazyIndex}
+use Rattle.object_store.specs.Views.{StoreView}
 use Rattle.packtool_commands.specs.Escaping.{escape_mark, escaped}
 
 -- what is after the path: the offset in a pack after a blank, if there is one, and a line feed
@@ -27,9 +26,9 @@ abbrev pub lines_at : (ℕ → List ℕ) → (List ℕ → List (List ℕ)) → 
 lines_at pack_path loose_paths id (Packed pack offset) = location_line id (pack_path pack) (Some offset)
 lines_at pack_path loose_paths id Loose = flat_map (λ path. location_line id path None) (loose_paths id)
 
--- the lines of all locations of an object, in a store with these paths, pack indexes and loose ids
-abbrev pub lines_of_locations : (ℕ → List ℕ) → (List ℕ → List (List ℕ)) → Kind → List (List ℕ) → List (List ℕ) → List ℕ → List ℕ
-lines_of_locations pack_path loose_paths kind indexes loose_ids id = flat_map (lines_at pack_path loose_paths id) (locations_of kind id indexes loose_ids)
+-- the lines of all locations of an object, in a store with these paths and bytes of pack indexes
+abbrev pub lines_of_locations : (ℕ → List ℕ) → (List ℕ → List (List ℕ)) → StoreView → List (List ℕ) → List ℕ → List ℕ
+lines_of_locations pack_path loose_paths view indexes id = flat_map (lines_at pack_path loose_paths id) (locations_of view.kind id indexes view.loose)
 
 -- the lines of each of the ids were written, and whether there is one was returned
 pub record HasLocated (lines : List ℕ → List ℕ) (ids : List (List ℕ)) (any : Bool) (old new : Option (List ℕ)) : Type 0 where
@@ -42,12 +41,12 @@ IsMemory (Index at error) = ⊥
 IsMemory (Memory error) = Unit {0}
 
 -- the pack indexes have what the locations of each id that begins with the digits need
-abbrev pub HaveAllLocations : Kind → List LazyIndex → List ℕ → Type 0
-HaveAllLocations kind packs digits = (id : List ℕ) → IsTrue (starts_with nat_eq id digits) → HaveLocations kind packs id
+abbrev pub HaveAllLocations : StoreView → List ℕ → Type 0
+HaveAllLocations view digits = (id : List ℕ) → IsTrue (starts_with nat_eq id digits) → HaveLocations view id
 
 -- why the locations of the ids that begin with the digits are not found: a look-up of the ids fails, or none of the names does, and that of the locations of
 -- one of the ids
-abbrev pub IsLocationsFault : Kind → List LazyIndex → List ℕ → Error → Type 0
-IsLocationsFault kind packs digits error =
-    IsStoreFault kind packs (first_byte_of digits) error
-    ⊎ (HaveBuckets kind packs (first_byte_of digits) × (id : List ℕ) × IsTrue (starts_with nat_eq id digits) × IsLocateFault kind packs id error)
+abbrev pub IsLocationsFault : StoreView → List ℕ → Error → Type 0
+IsLocationsFault view digits error =
+    IsStoreFault view (first_byte_of digits) error
+    ⊎ (HaveBuckets view (first_byte_of digits) × (id : List ℕ) × IsTrue (starts_with nat_eq id digits) × IsLocateFault view id error)

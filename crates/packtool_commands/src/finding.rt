@@ -4,7 +4,7 @@ ghost use Rattle.std.specs.Prelude.{◌≡◌, ◌≢◌, ◌↔◌, ◌≤◌, 
 ghost use Rattle.gix_hash.specs.Digits.{first_byte_of, hex_letter};
 ghost use Rattle.id_lookup.specs.Runs.{matches};
 ghost use Rattle.object_store.specs.Stores.{HaveBuckets, Holds, IsStoreFault};
-ghost use Rattle.packtool_commands.specs.Finding.{HasPrinted, IsFaultOf};
+ghost use Rattle.packtool_commands.specs.Finding.{HasPrinted, HasPrintedMatches, IsFaultOf};
 ghost use Rattle.packtool_commands.specs.declared.error.StoreError.{StoreError};
 ghost use Rattle.streams.specs.Printing.{printed};
 ghost use Rattle.streams.specs.Writing.{AppendsPart};
@@ -34,19 +34,19 @@ pub fn find<S: Store, A: Allocator + Copy, W: Sink>(
     out: &mut W,
 ) -> Result<bool, StoreError>
     requires enough { 2 ≤ length prefix.now.digits }
-    requires kind { prefix.now.kind ≡ S.kind store.now }
+    requires kind { prefix.now.kind ≡ (S.view store.now).kind }
     requires output { W.has_failed out.old ≡ false }
-    ensures found { IfOk result (λ any. (whole : List (List ℕ))
-        → Holds (S.kind store.now) (S.packs store.now) (S.loose store.now) whole
+    ensures found { IfOk result (λ any. (whole : List (List ℕ)) → Holds (S.view store.now) whole
         → HasPrinted (matches prefix.now.digits whole) any (W.taken out.old) (W.taken out.new)) }
-    ensures sound { IfOk result (λ _. HaveBuckets (S.kind store.now) (S.packs store.now)
+    ensures matches { IfOk result (λ _. HasPrintedMatches (S.view store.now) prefix.now.digits
+        (W.taken out.old) (W.taken out.new)) }
+    ensures sound { IfOk result (λ _. HaveBuckets (S.view store.now)
         (first_byte_of prefix.now.digits)) }
-    ensures refused { IfErr result (IsFaultOf (IsStoreFault (S.kind store.now) (S.packs store.now)
+    ensures refused { IfErr result (IsFaultOf (IsStoreFault (S.view store.now)
         (first_byte_of prefix.now.digits))) }
     ensures untouched { IfErr result (λ e. e ≢ StoreError.Output → out.new ≡ out.old) }
     ensures output { IsErrOf result StoreError.Output ↔ (W.has_failed out.new ≡ true) }
-    ensures part { IsErrOf result StoreError.Output → (whole : List (List ℕ))
-        → Holds (S.kind store.now) (S.packs store.now) (S.loose store.now) whole
+    ensures part { IsErrOf result StoreError.Output → (whole : List (List ℕ)) → Holds (S.view store.now) whole
         → AppendsPart (W.taken out.old) (W.taken out.new)
         (printed hex_letter (matches prefix.now.digits whole)) }
 {

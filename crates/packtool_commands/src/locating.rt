@@ -5,7 +5,6 @@ ghost use Rattle.std.specs.Io.KnownBytes.{Appends};
 ghost use Rattle.gix_hash.specs.Digits.{first_byte_of};
 ghost use Rattle.gix_hash.specs.ObjectId.{id_digits, id_kind};
 ghost use Rattle.id_lookup.specs.Runs.{matches};
-ghost use Rattle.object_store.specs.Parts.{AreBuckets};
 ghost use Rattle.object_store.specs.Stores.{HaveBuckets, HaveLocations, Holds, IsLocateFault};
 ghost use Rattle.packtool_commands.specs.Finding.{IsFaultOf};
 ghost use Rattle.packtool_commands.specs.Locations.{HasLocated, HaveAllLocations, IsMemory, IsLocationsFault, lines_at, lines_of_locations, location_line};
@@ -26,9 +25,9 @@ use streams::{Sink, WriteFailed, write_all};
 /// there is such an id.
 ///
 /// The prefix has 2 digits or more, and the store's kind. Of each pack index the names with its
-/// first byte are read once. The lines of an id are written before the offsets of the next are read. Under an error a beginning of the right lines was written.
-/// [`StoreError::Output`] is returned if and only if a write fails. The sink must not have failed
-/// before.
+/// first byte are read once. The lines of an id are written before the offsets of the next are
+/// read. Under an error a beginning of the right lines was written. [`StoreError::Output`] is
+/// returned if and only if a write fails. The sink must not have failed before.
 ///
 /// ```
 /// if !locate(rt.alloc(), &store, &prefix, &mut out)? {
@@ -42,28 +41,25 @@ pub fn locate<S: StorePaths, A: Allocator + Copy, W: Sink>(
     out: &mut W,
 ) -> Result<bool, StoreError>
     requires enough { 2 ≤ length prefix.now.digits }
-    requires kind { prefix.now.kind ≡ S.kind store.now }
+    requires kind { prefix.now.kind ≡ (S.view store.now).kind }
     requires output { W.has_failed out.old ≡ false }
-    ensures located { IfOk result (λ any. (whole : List (List ℕ))
-        → (h : Holds (S.kind store.now) (S.packs store.now) (S.loose store.now) whole)
+    ensures located { IfOk result (λ any. (whole : List (List ℕ)) → (h : Holds (S.view store.now) whole)
         → HasLocated (lines_of_locations (S.pack_path store.now) (S.loose_paths store.now)
-        (S.kind store.now) h.indexes (S.loose store.now)) (matches prefix.now.digits whole) any
+        (S.view store.now) h.indexes) (matches prefix.now.digits whole) any
         (W.taken out.old) (W.taken out.new)) }
-    ensures sound { IfOk result (λ _. HaveBuckets (S.kind store.now) (S.packs store.now)
+    ensures sound { IfOk result (λ _. HaveBuckets (S.view store.now)
         (first_byte_of prefix.now.digits)) }
-    ensures locations { IfOk result (λ _. HaveAllLocations (S.kind store.now) (S.packs store.now)
-        prefix.now.digits) }
-    ensures refused { IfErr result (IsFaultOf (IsLocationsFault (S.kind store.now) (S.packs store.now)
+    ensures locations { IfOk result (λ _. HaveAllLocations (S.view store.now) prefix.now.digits) }
+    ensures refused { IfErr result (IsFaultOf (IsLocationsFault (S.view store.now)
         prefix.now.digits)) }
     ensures output { IsErrOf result StoreError.Output ↔ (W.has_failed out.new ≡ true) }
-    ensures part { (whole : List (List ℕ))
-        → (h : Holds (S.kind store.now) (S.packs store.now) (S.loose store.now) whole)
+    ensures part { (whole : List (List ℕ)) → (h : Holds (S.view store.now) whole)
         → OnErr result (AppendsAtMost (W.taken out.old) (W.taken out.new) (flat_map
-        (lines_of_locations (S.pack_path store.now) (S.loose_paths store.now) (S.kind store.now)
-        h.indexes (S.loose store.now)) (matches prefix.now.digits whole))) }
+        (lines_of_locations (S.pack_path store.now) (S.loose_paths store.now) (S.view store.now)
+        h.indexes) (matches prefix.now.digits whole))) }
 {
     let part = Part::read(alloc, store, prefix.as_oid().first_byte())?;
-    let ids = part.lookup_prefix(alloc, store, prefix)?;
+    let ids = part.lookup_prefix(alloc, prefix)?;
     for id in &ids {
         write_locations(alloc, store, &part, id, out)?;
     }
@@ -74,27 +70,27 @@ pub fn locate<S: StorePaths, A: Allocator + Copy, W: Sink>(
 fn write_locations<S: StorePaths, A: Allocator + Copy, W: Sink>(
     alloc: A,
     store: &S,
-    part: &Part<A>,
+    part: &Part<'_, S, A>,
     id: &ObjectId,
     out: &mut W,
 ) -> Result<(), StoreError>
-    requires part { AreBuckets (S.packs store.now) (first_byte_of (id_digits id.now)) part.now }
-    requires kind { id_kind id.now ≡ S.kind store.now }
+    requires store { part.now.store ≡ S.view store.now }
+    requires byte { first_byte_of (id_digits id.now) ≡ part.now.byte }
+    requires kind { id_kind id.now ≡ part.now.store.kind }
     requires output { W.has_failed out.old ≡ false }
-    ensures lines { (whole : List (List ℕ))
-        → (h : Holds (S.kind store.now) (S.packs store.now) (S.loose store.now) whole)
+    ensures lines { (whole : List (List ℕ)) → (h : Holds (S.view store.now) whole)
         → let lines = lines_of_locations (S.pack_path store.now) (S.loose_paths store.now)
-        (S.kind store.now) h.indexes (S.loose store.now) (id_digits id.now) in
+        (S.view store.now) h.indexes (id_digits id.now) in
         OnOk result (Appends (W.taken out.old) (W.taken out.new) lines)
         × OnErr result (AppendsAtMost (W.taken out.old) (W.taken out.new) lines) }
     ensures not_failed { OnOk result (W.has_failed out.new ≡ false) }
-    ensures sound { OnOk result (HaveLocations (S.kind store.now) (S.packs store.now)
+    ensures sound { OnOk result (HaveLocations (S.view store.now)
         (id_digits id.now)) }
-    ensures refused { IfErr result (IsFaultOf (IsLocateFault (S.kind store.now) (S.packs store.now)
+    ensures refused { IfErr result (IsFaultOf (IsLocateFault (S.view store.now)
         (id_digits id.now))) }
     ensures output { IsErrOf result StoreError.Output ↔ (W.has_failed out.new ≡ true) }
 {
-    let locations = part.locate(alloc, store, id)?;
+    let locations = part.locate(alloc, id)?;
     for location in &locations {
         write_lines_at(store, id, *location, out)?;
     }

@@ -38,17 +38,14 @@ pub fn names<S: Store, A: Allocator + Copy, W: Sink>(
     out: &mut W,
 ) -> Result<bool, StoreError>
     requires enough { 4 ≤ least }
-    requires fits { least ≤ hex_len_of (S.kind store.now) }
+    requires fits { least ≤ hex_len_of (S.view store.now).kind }
     requires output { W.has_failed out.old ≡ false }
-    ensures named { IfOk result (λ any. (whole : List (List ℕ))
-        → Holds (S.kind store.now) (S.packs store.now) (S.loose store.now) whole
+    ensures named { IfOk result (λ any. (whole : List (List ℕ)) → Holds (S.view store.now) whole
         → HasNamedBelow 256 least whole any (W.taken out.old) (W.taken out.new)) }
-    ensures sound { IfOk result (λ _. Each (HaveBuckets (S.kind store.now) (S.packs store.now))
-        256) }
-    ensures refused { IfErr result (IsFaultOf (IsWalkFault (S.kind store.now) (S.packs store.now))) }
+    ensures sound { IfOk result (λ _. Each (HaveBuckets (S.view store.now)) 256) }
+    ensures refused { IfErr result (IsFaultOf (IsWalkFault (S.view store.now))) }
     ensures output { IsErrOf result StoreError.Output ↔ (W.has_failed out.new ≡ true) }
-    ensures part { IfErr result (λ _. (whole : List (List ℕ))
-        → Holds (S.kind store.now) (S.packs store.now) (S.loose store.now) whole
+    ensures part { IfErr result (λ _. (whole : List (List ℕ)) → Holds (S.view store.now) whole
         → HasNamedAtMost least whole (W.taken out.old) (W.taken out.new)) }
 {
     let mut any = false;

@@ -131,11 +131,11 @@ impl<'a> Store for Memory<'a> {
 
     type Source = Counted<'a>;
 
-    ghost kind = { λ store. store.kind };
-
-    ghost packs = { λ store. store.packs.items };
-
-    ghost loose = { λ store. map id_digits store.loose.items };
+    ghost view = { λ store. record {
+      kind = store.kind;
+      packs = store.packs.items;
+      loose = map id_digits store.loose.items;
+    } };
 
     fn object_hash(&self) -> Kind {
         self.kind

@@ -223,11 +223,11 @@ impl<R: Files<File = File> + AllocGlobal + Clone + Drop> Store for FolderStore<R
 
     type Source = Source<R>;
 
-    ghost kind = { λ store. store.kind };
-
-    ghost packs = { λ store. store.indexes.items };
-
-    ghost loose = { λ store. map id_digits store.loose.ids.items };
+    ghost view = { λ store. record {
+      kind = store.kind;
+      packs = store.indexes.items;
+      loose = map id_digits store.loose.ids.items;
+    } };
 
     fn object_hash(&self) -> Kind {
         self.kind

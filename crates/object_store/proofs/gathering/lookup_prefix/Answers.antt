@@ -1,7 +1,8 @@
-use Rattle.std.proofs.Common.{subst}
-use Rattle.object_store.specs.Stores.{HaveBuckets}
+use Rattle.std.proofs.Common.{ap, subst}
+use Rattle.object_store.specs.Parts.{AreMatches}
+use Rattle.object_store.specs.Views.{PartView, StoreView}
 use Rattle.object_store.proofs.gathering.lookup_prefix.Goals as goal
 
-pub returns-clause-sound : goal.returns-clause-sound
-returns-clause-sound g c =
-    subst (HaveBuckets (g.S.Store.kind c.args.store.now) (g.S.Store.packs c.args.store.now)) c.first_byte-byte.ensures c.in_ok-part.ensures.sound
+pub returns-clause-matches : goal.returns-clause-matches
+returns-clause-matches g c =
+    subst (λ (view : StoreView). AreMatches view c.args.prefix.now.digits c.in_ok-lookup_prefix.field-0.items) (ap (λ (p : PartView). p.store) c.in_ok-part.ensures.part) c.in_ok-lookup_prefix.ensures

@@ -9,8 +9,8 @@ use Rattle.packtool_commands.proofs.locating.locate.Given as goal
 
 abbrev pub invariant-loop-id : goal.invariant-loop-id
 invariant-loop-id g l =
-    ((whole : List (List ℕ)) → (h : Holds (g.S.Store.kind l.store) (g.S.Store.packs l.store) (g.S.Store.loose l.store) whole)
+    ((whole : List (List ℕ)) → (h : Holds (g.S.Store.view l.store) whole)
     → Appends (g.W.Sink.taken l.fn.out) (g.W.Sink.taken l.out)
-    (flat_map (λ id. lines_of_locations (g.S.StorePaths.pack_path l.store) (g.S.StorePaths.loose_paths l.store) (g.S.Store.kind l.store) h.indexes (g.S.Store.loose l.store) (id_digits id)) (take l.id-index l.id-items)))
+    (flat_map (λ id. lines_of_locations (g.S.StorePaths.pack_path l.store) (g.S.StorePaths.loose_paths l.store) (g.S.Store.view l.store) h.indexes (id_digits id)) (take l.id-index l.id-items)))
     × (g.W.Sink.has_failed l.out ≡ false)
-    × All (λ (id : ObjectId). HaveLocations (g.S.Store.kind l.store) (g.S.Store.packs l.store) (id_digits id)) (take l.id-index l.id-items)
+    × All (λ (id : ObjectId). HaveLocations (g.S.Store.view l.store) (id_digits id)) (take l.id-index l.id-items)

@@ -37,7 +37,7 @@ loop-byte-preserved g c = (
 pub returns-clause-sound : goal.returns-clause-sound
 returns-clause-sound g c =
     let last : c.loop-byte.byte ≡ 256 = omega arith in
-    subst (Each (HaveBuckets (g.S.Store.kind c.args.store.now) (g.S.Store.packs c.args.store.now))) last c.loop-byte.invariant.2
+    subst (Each (HaveBuckets (g.S.Store.view c.args.store.now))) last c.loop-byte.invariant.2
 
 pub returns-clause-named : goal.returns-clause-named
 returns-clause-named g c = λ whole h.

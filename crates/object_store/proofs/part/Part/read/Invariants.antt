@@ -3,4 +3,4 @@ use Rattle.object_store.specs.Parts.{AreFirstBuckets}
 use Rattle.object_store.proofs.part.Part.read.Given as goal
 
 abbrev pub invariant-loop-at : goal.invariant-loop-at
-invariant-loop-at g l = (length l.buckets.items ≡ l.at) × AreFirstBuckets (g.S.Store.packs l.store) l.byte l.buckets.items
+invariant-loop-at g l = (length l.buckets.items ≡ l.at) × AreFirstBuckets (g.S.Store.view l.store).packs l.byte l.buckets.items
