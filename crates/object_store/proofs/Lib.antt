@@ -4,3 +4,4 @@ pub mod Located
 pub mod Named
 pub mod PartNames
 pub mod LocationMembers
+pub mod LooseParts

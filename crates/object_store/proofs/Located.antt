@@ -1,16 +1,13 @@
 -- What was found in each pack index and among the loose ids are the locations of the object.
-use Rattle.std.proofs.Common.{◌≡◌, ◌≢◌, ℕ, suc, ◌+◌, ◌<◌, ◌≤◌, Bool, true, ◌&&◌, ◌||◌, nat_eq, Option, None, Some, List, [], ◌∷◌, ◌++◌, length, get_or, map, refl, sym, ap, ◌∙◌, subst, arith, eq-eqb}
+use Rattle.std.proofs.Common.{◌≡◌, ◌≢◌, ℕ, suc, ◌+◌, ◌<◌, ◌≤◌, Bool, Option, None, Some, List, [], ◌++◌, length, get_or, map, refl, sym, ap, ◌∙◌, subst, arith}
 use Rattle.std.specs.Prelude.{◌↔◌}
 use Rattle.std.specs.Cmp.Lexicographic.{bytes_decides}
-use Rattle.std.specs.List.{All, list_any, position_or_len}
+use Rattle.std.specs.List.{All, position_or_len}
 use Rattle.std.specs.Str.{bytes_eq}
 use Rattle.std.proofs.lemmas.Bool.{false_from_ne_true, le-ltb, lt-ltb}
 use Rattle.std.proofs.lemmas.List.Sums.{position_or_len_is}
 use Rattle.gix_hash.specs.Digits.{first_byte_of}
-use Rattle.gix_hash.specs.Kind.{number_of}
-use Rattle.gix_hash.specs.ObjectId.{id_digits, id_eq, id_kind}
 use Rattle.gix_hash.specs.declared.Kind.{Kind}
-use Rattle.gix_hash.specs.declared.ObjectId.{ObjectId}
 use Rattle.object_store.specs.Locations.{offset_of, packed_at, packed_locations}
 use Rattle.object_store.specs.Stores.{HasLocation, IsLocationFault}
 use Rattle.object_store.specs.declared.locations.Location.{Location}
@@ -77,12 +74,3 @@ location_more kind packs id at pack offset old new indexes same each here found 
     let there : offset ≡ offset_of kind bytes id = found bytes known counts ∙ ap (λ (n : Kind). offset_of n bytes id) here.of_kind in
     let next : suc at ≡ at + 1 = omega arith in
     all ∙ (λ i. before i ++ packed_at at (there i)) ∙ ap (packed_locations kind id indexes) next
-
--- ids of one kind are equal if their digits are
-pub any_digits : (kind : Kind) (id : ObjectId) → id_kind id ≡ kind → (ids : List ObjectId) → All (λ other. id_kind other ≡ kind) ids
-    → list_any (λ other. id_eq other id) ids ≡ list_any (λ other. bytes_eq other (id_digits id)) (map id_digits ids)
-any_digits kind id is [] each = refl
-any_digits kind id is (other ∷ ids) each =
-    let same : nat_eq (number_of (id_kind other)) (number_of (id_kind id)) ≡ true = eq-eqb _ _ (ap number_of (each 0 other (omega arith) ∙ sym is)) in
-    let rest = any_digits kind id is ids (λ k d low. each (suc k) d (omega arith)) in
-    (λ i. (same i && bytes_eq (id_digits other) (id_digits id)) || rest i)

@@ -84,7 +84,7 @@ pub(crate) fn locate_in<S: Store, A: Allocator + Copy>(
     ensures err { IfErr result (IsLocateFault (S.view store.now) (id_digits id.now)) }
 {
     let mut locations = packed_locations(alloc, store, buckets, id)?;
-    if store.loose_ids().contains(id) {
+    if store.loose().contains(id) {
         push(&mut locations, Location::Loose)?;
     }
     Ok(locations)

@@ -109,7 +109,8 @@ impl<'s, S: Store, A: Allocator + Copy> Part<'s, S, A> {
         let kind = self.store.object_hash();
         let mut ids = Vec::new(alloc);
         push_packed(&mut ids, &self.buckets, kind, wanted)?;
-        push_wanted(&mut ids, self.store.loose_ids(), wanted, kind)?;
+        let loose = self.store.loose().with_first_byte(self.byte);
+        push_wanted(&mut ids, loose, wanted, kind)?;
         sort_unique(&mut ids);
         Ok(ids)
     }

@@ -1,5 +1,6 @@
 //! What an object store is to a look-up.
 
+use crate::loose::LooseTable;
 use gix_hash::{Kind, ObjectId};
 use pack_index::LazyFile;
 use std::alloc::AllocError;
@@ -12,11 +13,10 @@ use streams::ReadAt;
 /// for pack in store.indexes() {
 ///     println!(rt; "{} names", pack.num_objects())?;
 /// }
-/// println!(rt; "{} loose ids", store.loose_ids().len())?;
+/// println!(rt; "{} loose ids", store.loose().ids().len())?;
 /// ```
 pub trait Store {
-    ghost use Rattle.std.specs.Prelude.{◌≡◌, All, map};
-    ghost use Rattle.gix_hash.specs.ObjectId.{id_digits, id_kind};
+    ghost use Rattle.std.specs.Prelude.{◌≡◌, All};
     ghost use Rattle.object_store.specs.Views.{StoreView};
 
     /// What the bytes of a pack index are read from.
@@ -34,10 +34,10 @@ pub trait Store {
         ensures value { result.now ≡ (view self.now).packs }
         ensures kinds { All (λ pack. pack.kind ≡ (view self.now).kind) (view self.now).packs };
 
-    /// The ids of the loose objects, in any order; one may occur several times.
-    fn loose_ids(&self) -> &[ObjectId]
-        ensures ids { map id_digits result.now ≡ (view self.now).loose }
-        ensures kinds { All (λ id. id_kind id ≡ (view self.now).kind) result.now };
+    /// The ids of the loose objects.
+    fn loose(&self) -> &LooseTable
+        ensures { result.now
+            ≡ record { kind = (view self.now).kind; ids = (view self.now).loose } };
 }
 
 /// A store whose packs and loose objects have paths.

@@ -4,7 +4,7 @@ ghost use Rattle.std.specs.Prelude.{◌≡◌, [], ◌∷◌, All, IfOk};
 ghost use Rattle.gix_hash.specs.ObjectId.{id_kind};
 
 use gix_hash::{Kind, ObjectId};
-use object_store::{Store, StorePaths};
+use object_store::{LooseTable, Store, StorePaths};
 use pack_index::{LazyError, LazyFile};
 use std::alloc::{AllocError, Global};
 use std::cell::Cell;
@@ -66,9 +66,9 @@ pub struct Memory<'a> {
     alloc: Global,
     kind: Kind,
     packs: Vec<LazyFile<Counted<'a>>>,
-    loose: Vec<ObjectId>,
+    loose: LooseTable,
     ghost of_kind: { All (λ pack. pack.kind ≡ kind) packs.items },
-    ghost loose_kind: { All (λ id. id_kind id ≡ kind) loose.items },
+    ghost loose_kind: { loose.kind ≡ kind },
 }
 
 // Both values.
@@ -120,21 +120,18 @@ impl<'a> Memory<'a> {
             alloc,
             kind,
             packs,
-            loose: ids_of_kind(alloc, loose, kind)?,
+            loose: LooseTable::new(ids_of_kind(alloc, loose, kind)?, kind),
         })
     }
 }
 
 impl<'a> Store for Memory<'a> {
-    ghost use Rattle.std.specs.Prelude.{map};
-    ghost use Rattle.gix_hash.specs.ObjectId.{id_digits};
-
     type Source = Counted<'a>;
 
     ghost view = { λ store. record {
       kind = store.kind;
       packs = store.packs.items;
-      loose = map id_digits store.loose.items;
+      loose = store.loose.ids;
     } };
 
     fn object_hash(&self) -> Kind {
@@ -145,7 +142,7 @@ impl<'a> Store for Memory<'a> {
         &self.packs
     }
 
-    fn loose_ids(&self) -> &[ObjectId] {
+    fn loose(&self) -> &LooseTable {
         &self.loose
     }
 }

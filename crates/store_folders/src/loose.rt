@@ -1,14 +1,13 @@
 //! The loose objects in objects folders, by the names of their files.
 
-ghost use Rattle.std.specs.Prelude.{◌≡◌, ◌++◌, All, IfOk, IfSome, OnOk, drop, map, nat_eq, string_bytes, take};
-ghost use Rattle.std.specs.Cmp.Lexicographic.{pointwise};
+ghost use Rattle.std.specs.Prelude.{◌≡◌, ◌++◌, All, IfOk, IfSome, OnOk, map, string_bytes};
 ghost use Rattle.gix_hash.specs.ObjectId.{id_digits, id_kind};
 ghost use Rattle.store_folders.specs.LoosePaths.{path_in, paths_in};
 
 use crate::error::Error;
 use crate::listing::names_in;
 use gix_hash::{Kind, ObjectId};
-use repositories::paths::{read_loose_path, write_loose_path};
+use object_store::LooseTable;
 use std::alloc::{AllocError, Global};
 use std::rt::Files;
 
@@ -26,31 +25,19 @@ pub enum LooseIds {
     WithFirstByte(u8),
 }
 
-// An objects folder, and where the ids of its loose objects begin and end among all that were
-// listed.
+// An objects folder, and the ids of its loose objects.
 #[derive(Drop)]
 pub(crate) struct LooseFolder {
     pub(crate) path: String,
-    pub(crate) start: usize,
-    pub(crate) end: usize,
+    pub(crate) table: LooseTable,
 }
 
 // The loose objects that were listed.
 #[derive(Drop)]
 pub(crate) struct LooseObjects {
     pub(crate) folders: Vec<LooseFolder>,
-    // Their ids, folder by folder.
-    pub(crate) ids: Vec<ObjectId>,
-}
-
-impl LooseObjects {
-    // The ids of those in a folder.
-    pub(crate) fn ids_in(&self, folder: &LooseFolder) -> &[ObjectId]
-        ensures { result.now ≡ drop folder.now.start (take folder.now.end self.now.ids.items) }
-    {
-        let ids = &self.ids[..folder.end.min(self.ids.len())];
-        &ids[folder.start.min(ids.len())..]
-    }
+    // The ids of all of them.
+    pub(crate) table: LooseTable,
 }
 
 // Lists the loose objects in objects folders.
@@ -60,18 +47,33 @@ pub(crate) fn list_loose<R: Files + AllocGlobal>(
     kind: Kind,
     which: LooseIds,
 ) -> Result<LooseObjects, Error>
-    ensures { IfOk result (λ loose. All (λ id. id_kind id ≡ kind) loose.ids.items) }
+    ensures { IfOk result (λ loose. loose.table.kind ≡ kind) }
 {
     let mut folders = Vec::with_capacity(rt.alloc(), paths.len())?;
-    let mut ids = Vec::new(rt.alloc());
+    let mut all = Vec::new(rt.alloc());
     for path in paths {
-        let start = ids.len();
-        push_folder(rt, path, kind, which, &mut ids)?;
-        let end = ids.len();
-        let path = String::from_str(rt.alloc(), path)?;
-        folders.push(LooseFolder { path, start, end })?;
+        let folder = list_folder(rt, path, kind, which)?;
+        all.extend_from_slice(folder.table.ids())?;
+        folders.push(folder)?;
     }
-    Ok(LooseObjects { folders, ids })
+    let table = LooseTable::new(all, kind);
+    Ok(LooseObjects { folders, table })
+}
+
+// Lists the loose objects in an objects folder.
+fn list_folder<R: Files + AllocGlobal>(
+    rt: &R,
+    path: &str,
+    kind: Kind,
+    which: LooseIds,
+) -> Result<LooseFolder, Error>
+    ensures { IfOk result (λ folder. folder.table.kind ≡ kind) }
+{
+    let mut ids = Vec::new(rt.alloc());
+    push_folder(rt, path, kind, which, &mut ids)?;
+    let path = String::from_str(rt.alloc(), path)?;
+    let table = LooseTable::new(ids, kind);
+    Ok(LooseFolder { path, table })
 }
 
 // Adds the ids of the loose objects in an objects folder.
@@ -143,30 +145,20 @@ fn loose_id(kind: Kind, byte: u8, name: &[u8]) -> Option<ObjectId>
 
 const HEX: [u8; 16] = *b"0123456789abcdef";
 
-// Adds the paths of the files of a loose object in an objects folder where these are listed.
-pub(crate) fn push_paths(
+// Adds the path of the file of a loose object in an objects folder, if it is there.
+pub(crate) fn push_path(
     alloc: Global,
-    folder: &str,
-    ids: &[ObjectId],
+    folder: &LooseFolder,
     id: &ObjectId,
     paths: &mut Vec<String>,
 ) -> Result<(), AllocError>
     ensures { OnOk result (map string_bytes paths.new.items ≡ map string_bytes paths.old.items
-        ++ paths_in folder.now (map id_digits ids.now) (id_digits id.now)) }
+        ++ paths_in (string_bytes folder.now.path) folder.now.table.ids (id_digits id.now)) }
 {
-    for loose in ids {
-        if has_digits_of(loose, id) {
-            paths.push(loose_path(alloc, folder, loose)?)?;
-        }
+    if folder.table.contains(id) {
+        paths.push(loose_path(alloc, &folder.path, id)?)?;
     }
     Ok(())
-}
-
-// Whether two ids have the same digits.
-fn has_digits_of(loose: &ObjectId, id: &ObjectId) -> bool
-    ensures { result ≡ pointwise nat_eq (id_digits loose.now) (id_digits id.now) }
-{
-    loose.as_oid() == id.as_oid()
 }
 
 // The path of the file of a loose object in an objects folder.

@@ -4,11 +4,13 @@ ghost use Rattle.std.specs.Prelude.{◌≡◌, All, IfOk};
 ghost use Rattle.gix_hash.specs.ObjectId.{id_kind};
 
 use crate::error::Error;
-use crate::loose::{LooseIds, LooseObjects, list_loose, loose_path, push_paths};
+use crate::finding::ObjectsFolder;
+use crate::folders::{Folders, with_alternates};
+use crate::loose::{LooseIds, LooseObjects, list_loose, loose_path, push_path};
 use crate::packs::{OpenIndexes, PackIndexes, open_indexes, pack_paths};
 use crate::source::Source;
 use gix_hash::{Kind, ObjectId, Prefix};
-use object_store::{Store, StorePaths};
+use object_store::{LooseTable, Store, StorePaths};
 use pack_index::LazyFile;
 use repositories::{Folders, ObjectsFolder, with_alternates};
 use std::alloc::AllocError;
@@ -37,7 +39,7 @@ pub struct FolderStore<R: Files<File = File>> {
     indexes: Vec<LazyFile<Source<R>>>,
     loose: LooseObjects,
     ghost of_kind: { All (λ index. index.kind ≡ kind) indexes.items },
-    ghost loose_of_kind: { All (λ id. id_kind id ≡ kind) loose.ids.items },
+    ghost loose_of_kind: { loose.table.kind ≡ kind },
 }
 
 impl<R: Files<File = File> + AllocGlobal + Clone + Drop> FolderStore<R> {
@@ -135,7 +137,7 @@ impl<R: Files<File = File> + AllocGlobal + Clone + Drop> FolderStore<R> {
     /// ```
     pub fn check_loose_files(&self, prefix: &Prefix) -> Result<(), Error> {
         for folder in &self.loose.folders {
-            for id in self.loose.ids_in(folder) {
+            for id in folder.table.ids() {
                 if begins_with(id, prefix) {
                     self.check_loose_file(&folder.path, id)?;
                 }
@@ -175,7 +177,7 @@ fn list<R: Files + AllocGlobal>(
     kind: Kind,
     loose: LooseIds,
 ) -> Result<(PackIndexes, LooseObjects), Error>
-    ensures { IfOk result (λ listed. All (λ id. id_kind id ≡ kind) listed.1.ids.items) }
+    ensures { IfOk result (λ listed. listed.1.table.kind ≡ kind) }
 {
     let before = PackIndexes::list(rt, folders)?;
     let loose = list_loose(rt, folders, kind, loose)?;
@@ -218,15 +220,12 @@ fn begins_with(id: &ObjectId, prefix: &Prefix) -> bool {
 
 /// What files contain is not known.
 impl<R: Files<File = File> + AllocGlobal + Clone + Drop> Store for FolderStore<R> {
-    ghost use Rattle.std.specs.Prelude.{map};
-    ghost use Rattle.gix_hash.specs.ObjectId.{id_digits};
-
     type Source = Source<R>;
 
     ghost view = { λ store. record {
       kind = store.kind;
       packs = store.indexes.items;
-      loose = map id_digits store.loose.ids.items;
+      loose = store.loose.table.ids;
     } };
 
     fn object_hash(&self) -> Kind {
@@ -237,21 +236,19 @@ impl<R: Files<File = File> + AllocGlobal + Clone + Drop> Store for FolderStore<R
         &self.indexes
     }
 
-    fn loose_ids(&self) -> &[ObjectId] {
-        &self.loose.ids
+    fn loose(&self) -> &LooseTable {
+        &self.loose.table
     }
 }
 
 impl<R: Files<File = File> + AllocGlobal + Clone + Drop> StorePaths for FolderStore<R> {
-    ghost use Rattle.std.specs.Prelude.{[], drop, flat_map, map, slice_index_or, string_bytes, take};
-    ghost use Rattle.gix_hash.specs.ObjectId.{id_digits};
+    ghost use Rattle.std.specs.Prelude.{[], flat_map, map, slice_index_or, string_bytes};
     ghost use Rattle.store_folders.specs.LoosePaths.{paths_in};
 
     ghost pack_path = { λ store pack. slice_index_or (map string_bytes store.packs.items) pack [] };
 
     ghost loose_paths = { λ store digits. flat_map (λ folder. paths_in (string_bytes folder.path)
-        (map id_digits (drop folder.start (take folder.end store.loose.ids.items))) digits)
-        store.loose.folders.items };
+        folder.table.ids digits) store.loose.folders.items };
 
     fn pack_path(&self, pack: usize) -> &str {
         match self.packs.get(pack) {
@@ -265,8 +262,7 @@ impl<R: Files<File = File> + AllocGlobal + Clone + Drop> StorePaths for FolderSt
         let alloc = self.rt.alloc();
         let mut paths = Vec::new(alloc);
         for folder in &self.loose.folders {
-            let ids = self.loose.ids_in(folder);
-            push_paths(alloc, &folder.path, ids, id, &mut paths)?;
+            push_path(alloc, folder, id, &mut paths)?;
         }
         Ok(paths)
     }

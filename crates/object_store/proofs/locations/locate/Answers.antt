@@ -1,6 +1,6 @@
-use Rattle.std.proofs.Common.{◌∙◌, ap, inr, subst, sym}
+use Rattle.std.proofs.Common.{ap, inr, subst}
 use Rattle.std.proofs.lemmas.Result.{err_from_is_err_and}
-use Rattle.gix_hash.specs.ObjectId.{id_digits, id_kind}
+use Rattle.gix_hash.specs.ObjectId.{id_digits}
 use Rattle.object_store.specs.Parts.{AreLocations}
 use Rattle.object_store.specs.Stores.{IsLocateFault}
 use Rattle.object_store.specs.Views.{PartView, StoreView}

@@ -3,7 +3,8 @@ use Rattle.std.specs.List.{list_any}
 use Rattle.std.specs.Str.{bytes_eq}
 use Rattle.gix_hash.specs.ObjectId.{id_digits}
 use Rattle.object_store.specs.declared.locations.Location.TheVariants.{Loose}
-use Rattle.object_store.proofs.Located.{any_digits}
+use Rattle.id_lookup.specs.Index.{Index}
+use Rattle.object_store.proofs.LooseParts.{any_is}
 use Rattle.object_store.proofs.locations.locate_in.Goals as goal
 use Rattle.object_store.proofs.locations.locate_in.Goals.{then-contains+in_ok-push, else-contains}
 
@@ -11,9 +12,8 @@ pub returns-clause-locations : goal.returns-clause-locations
 returns-clause-locations g c = record {
   all = λ whole h.
       let packed = c.in_ok-locations.ensures.locations whole h in
-      let ids = c.loose_ids.result.now in
-      let loose = c.contains.ensures.value ∙ any_digits (g.S.Store.view c.args.store.now).kind c.args.id.now c.requires.kind ids c.loose_ids.ensures.kinds
-      ∙ ap (list_any (λ other. bytes_eq other (id_digits c.args.id.now))) c.loose_ids.ensures.ids in
+      let loose = any_is c.loose.result.now.ids (id_digits c.args.id.now) c.contains.result c.contains.ensures
+      ∙ ap (λ (table : Index). list_any (λ other. bytes_eq other (id_digits c.args.id.now)) table.ids) c.loose.ensures in
       elim c.if-contains.branch [
         | then-contains+in_ok-push w ↦
             ap (λ (v : _). v.items) w.locations-is ∙ w.in_ok-push.ensures ∙ (λ i. packed i ++ cond ((sym w.if-contains.true ∙ loose) i) (Loose ∷ []) [])

@@ -1,4 +1,4 @@
-use Rattle.std.proofs.Common.{◌∙◌, List, ℕ, map, ap, subst, sym}
+use Rattle.std.proofs.Common.{◌∙◌, List, ℕ, map, ap, subst}
 use Rattle.gix_hash.specs.ObjectId.{id_digits}
 use Rattle.id_lookup.specs.Runs.{matches}
 use Rattle.object_store.specs.Parts.{AreMatches}

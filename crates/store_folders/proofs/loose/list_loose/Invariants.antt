@@ -3,4 +3,4 @@ use Rattle.gix_hash.specs.ObjectId.{id_kind}
 use Rattle.store_folders.proofs.loose.list_loose.Given as goal
 
 abbrev pub invariant-loop-path : goal.invariant-loop-path
-invariant-loop-path g l = All (λ id. id_kind id ≡ l.kind) l.ids.items
+invariant-loop-path g l = All (λ id. id_kind id ≡ l.kind) l.all.items

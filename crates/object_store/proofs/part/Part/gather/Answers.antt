@@ -3,12 +3,13 @@ use Rattle.std.specs.List.{All, flat_map}
 use Rattle.gix_hash.specs.ObjectId.{id_digits, id_kind}
 use Rattle.gix_hash.specs.declared.Kind.{Kind}
 use Rattle.gix_hash.specs.declared.ObjectId.{ObjectId}
-use Rattle.id_lookup.specs.IndexOf.{IsIndexOf}
+use Rattle.id_lookup.specs.Index.{Index}
+use Rattle.id_lookup.specs.IndexOf.{IsIndexOf, part_of}
 use Rattle.pack_index.specs.Lazy.{BucketNames}
 use Rattle.object_store.specs.Parts.{AreBuckets}
-use Rattle.object_store.specs.Stores.{HaveBuckets}
-use Rattle.object_store.specs.Views.{PartView, StoreView}
+use Rattle.object_store.specs.Views.{PartView}
 use Rattle.object_store.specs.Wanted.{passes, wanted_byte}
+use Rattle.object_store.proofs.Asked.{filter-part}
 use Rattle.object_store.proofs.Held.{held}
 use Rattle.object_store.proofs.PartNames.{all_pass, are_of_kind, have_wanted, part_names}
 use Rattle.object_store.proofs.part.Part.gather.Given.{Over}
@@ -21,6 +22,9 @@ push_packed-requires-clause-kinds g c =
     let all = are_of_kind view c.self.inside.byte c.self.inside.buckets.items c.indexes-packs.ensures.kinds c.self.invariant in
     subst (λ (bs : List BucketNames). All (λ (b : BucketNames). b.kind ≡ c.object_hash-kind.result) bs) (sym c.deref.ensures.value)
     (subst (λ (k : Kind). All (λ (b : BucketNames). b.kind ≡ k) c.self.inside.buckets.items) (sym c.object_hash-kind.ensures) all)
+
+pub push_wanted-requires-clause-kinds : goal.push_wanted-requires-clause-kinds
+push_wanted-requires-clause-kinds g c = λ k d low. c.with_first_byte-loose.ensures.kinds k d low ∙ ap (λ (table : Index). table.kind) c.loose.ensures ∙ sym c.object_hash-kind.ensures
 
 kinds : (g : Over) (c : After-sort_unique g) → All (λ (id : ObjectId). id_kind id ≡ (g.S.Store.view c.self.inside.store.now).kind) c.push_wanted.new.ids.items
 kinds g c =
@@ -38,8 +42,11 @@ index g c =
     let f : BucketNames → List (List ℕ) = λ b. filter p b.names in
     let front : map id_digits c.push_packed.new.ids.items ≡ flat_map f c.self.inside.buckets.items =
     c.in_ok-push_packed.ensures.digits ∙ (λ i. map id_digits (c.new-ids.ensures.items i) ++ flat_map f (c.deref.ensures.value i)) in
+    let byte : c.self.inside.byte ≡ wanted_byte c.args.wanted.now = ap (λ (part : PartView). part.byte) c.self.view_is ∙ sym c.requires.byte in
+    let loose : filter p (map id_digits c.with_first_byte-loose.result.now) ≡ filter p view.loose =
+    (λ i. filter p (c.with_first_byte-loose.ensures.ids i)) ∙ (λ i. filter p (part_of (byte i) ((c.loose.ensures i).ids))) ∙ filter-part c.args.wanted.now view.loose c.requires.enough in
     let all : map id_digits c.push_wanted.new.ids.items ≡ flat_map f c.self.inside.buckets.items ++ filter p view.loose =
-    c.in_ok-push_wanted.ensures.digits ∙ (λ i. front i ++ filter p (c.loose_ids.ensures.ids i)) in
+    c.in_ok-push_wanted.ensures.digits ∙ (λ i. front i ++ loose i) in
     subst (λ (ids : List (List ℕ)). IsIndexOf view.kind ids (map id_digits c.sort_unique.new.ids.items)) all
     (c.sort_unique.ensures.index view.kind (kinds g c))
 

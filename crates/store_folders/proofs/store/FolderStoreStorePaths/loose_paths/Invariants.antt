@@ -1,4 +1,4 @@
-use Rattle.std.proofs.Common.{◌≡◌, drop, map, take, string_bytes}
+use Rattle.std.proofs.Common.{◌≡◌, map, take, string_bytes}
 use Rattle.std.specs.List.{flat_map}
 use Rattle.gix_hash.specs.ObjectId.{id_digits}
 use Rattle.store_folders.specs.LoosePaths.{paths_in}
@@ -7,4 +7,4 @@ use Rattle.store_folders.proofs.store.FolderStoreStorePaths.loose_paths.Given as
 
 abbrev pub invariant-loop-folder : goal.invariant-loop-folder
 invariant-loop-folder g l =
-    map string_bytes l.paths.items ≡ flat_map (λ (f : LooseFolder). paths_in (string_bytes f.path) (map id_digits (drop f.start (take f.end l.self.loose.ids.items))) (id_digits l.id)) (take l.folder-index l.self.loose.folders.items)
+    map string_bytes l.paths.items ≡ flat_map (λ (f : LooseFolder). paths_in (string_bytes f.path) f.table.ids (id_digits l.id)) (take l.folder-index l.self.loose.folders.items)

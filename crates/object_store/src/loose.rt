@@ -1,0 +1,93 @@
+//! The ids of loose objects.
+
+ghost use Rattle.std.specs.Prelude.{◌≡◌, ◌↔◌, All, Contains, IsTrue, count_by, map};
+ghost use Rattle.gix_hash.specs.ObjectId.{id_digits, id_kind};
+ghost use Rattle.id_lookup.specs.FirstBytes.{is_below};
+ghost use Rattle.id_lookup.specs.IndexOf.{IsIndexOf, part_of};
+
+use gix_hash::{Kind, ObjectId, Prefix};
+use id_lookup::{FanOut, find_if_sorted, laws, sort_unique};
+use std::marker::Model;
+
+/// The ids of loose objects, each once, in order. Those with a first byte, and a single one, are
+/// found without a look at the others.
+///
+/// ```
+/// let loose = LooseTable::new(ids, Kind::Sha1);
+/// println!(rt; "{} begin with 4b", loose.with_first_byte(0x4b).len())?;
+/// ```
+#[derive(Drop)]
+pub struct LooseTable {
+    kind: Kind,
+    ids: Vec<ObjectId>,
+    fan_out: FanOut,
+}
+
+impl Model for LooseTable {
+    ghost use Rattle.std.specs.Prelude.{◌≡◌, All, map};
+    ghost use Rattle.gix_hash.specs.ObjectId.{id_digits, id_kind};
+    ghost use Rattle.id_lookup.specs.FirstBytes.{IsFanOut};
+    ghost use Rattle.id_lookup.specs.Index.{Index, IsIndex};
+
+    ghost Value = { Index };
+
+    ghost view = { λ table. record { kind = table.kind; ids = map id_digits table.ids.items } };
+
+    ghost invariant = { λ table. IsIndex table.kind (map id_digits table.ids.items)
+        × IsFanOut table.fan_out (map id_digits table.ids.items)
+        × All (λ id. id_kind id ≡ table.kind) table.ids.items };
+}
+
+impl LooseTable {
+    /// The ids of a list, in any order; one may occur several times. All must be of the kind.
+    pub fn new(mut ids: Vec<ObjectId>, kind: Kind) -> LooseTable
+        requires { All (λ id. id_kind id ≡ kind) ids.items }
+        ensures kind { result.kind ≡ kind }
+        ensures index { IsIndexOf kind (map id_digits ids.items) result.ids }
+    {
+        sort_unique(&mut ids);
+        let fan_out = FanOut::of(&ids);
+        LooseTable { kind, ids, fan_out }
+    }
+
+    /// All ids, in order.
+    pub fn ids(&self) -> &[ObjectId]
+        ensures ids { map id_digits result.now ≡ self.now.ids }
+        ensures kinds { All (λ id. id_kind id ≡ self.now.kind) result.now }
+    {
+        &self.ids
+    }
+
+    /// Those with a first byte, in order.
+    pub fn with_first_byte(&self, byte: u8) -> &[ObjectId]
+        ensures ids { map id_digits result.now ≡ part_of byte self.now.ids }
+        ensures kinds { All (λ id. id_kind id ≡ self.now.kind) result.now }
+    {
+        laws::parts_in_order();
+        let start = self.below(byte);
+        let end = self.fan_out.up_to(byte);
+        &self.ids[start..end]
+    }
+
+    // How many have a lower first byte.
+    fn below(&self, byte: u8) -> usize
+        ensures { result ≡ count_by (is_below byte) self.now.ids }
+    {
+        if byte == 0 {
+            0
+        } else {
+            self.fan_out.up_to(byte - 1)
+        }
+    }
+
+    /// Whether an id is one of them.
+    pub fn contains(&self, id: &ObjectId) -> bool
+        ensures { IsTrue result ↔ Contains self.now.ids (id_digits id.now) }
+    {
+        if id.kind() != self.kind {
+            return false;
+        }
+        let run = find_if_sorted(&self.ids, &Prefix::from(*id));
+        run.start != run.end
+    }
+}

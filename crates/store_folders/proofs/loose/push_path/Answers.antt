@@ -1,0 +1,21 @@
+use Rattle.std.proofs.Common.{◌∙◌, ◌++◌, List, ℕ, [], ◌∷◌, append-nil, ap, cond, map, string_bytes, sym}
+use Rattle.std.proofs.lemmas.List.{map-append}
+use Rattle.gix_hash.specs.ObjectId.{id_digits}
+use Rattle.object_store.proofs.LooseParts.{any_is}
+use Rattle.store_folders.specs.LoosePaths.{path_in}
+use Rattle.store_folders.proofs.loose.push_path.Goals as goal
+
+pub returns-in_ok-push : goal.returns-in_ok-push
+returns-in_ok-push c =
+    let digits = id_digits c.args.id.now in
+    let any = any_is c.args.folder.now.table.ids digits c.contains.result c.contains.ensures in
+    let path = c.in_ok-loose_path.ensures ∙ ap (λ (folder : List ℕ). path_in folder digits) c.deref.ensures in
+    ap (map string_bytes) c.in_ok-push.ensures.items ∙ map-append string_bytes c.args.paths.now.items (c.in_ok-loose_path.field-0 ∷ [])
+    ∙ (λ i. map string_bytes c.args.paths.now.items ++ cond ((sym c.if-contains.true ∙ any) i) (path i ∷ []) [])
+
+pub returns-else-contains : goal.returns-else-contains
+returns-else-contains c =
+    let digits = id_digits c.args.id.now in
+    let any = any_is c.args.folder.now.table.ids digits c.contains.result c.contains.ensures in
+    sym (append-nil (map string_bytes c.args.paths.now.items))
+    ∙ (λ i. map string_bytes c.args.paths.now.items ++ cond ((sym c.if-contains.false ∙ any) i) (path_in (string_bytes c.args.folder.now.path) digits ∷ []) [])
