@@ -7,19 +7,17 @@
 #![tactic(auto)]
 
 mod help;
-mod retrying;
 
 use oidtool_commands::{
     ArgError, Command, CommandError, Failure, WordsError, command_line_args, read_command, report,
     run_command,
 };
-use retrying::Retrying;
 use std::alloc::AllocError;
 use std::io;
 use std::io::BufWriter;
 use std::process::ExitCode;
 use std::rt::Files;
-use streams::Plain;
+use streams::{Plain, Retrying};
 
 fn main(rt: HostRuntime) -> ExitCode {
     let outcome = match command_line_args(&rt) {

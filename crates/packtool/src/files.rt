@@ -4,7 +4,7 @@ ghost use Rattle.std.specs.Prelude.{◌≡◌, false};
 ghost use Rattle.streams.specs.Devices.{plain_failed};
 
 use crate::failure::{Failure, FileWhy};
-use crate::input::{Retrying, Sha256Checker};
+use crate::input::Sha256Checker;
 use crate::words::lossy_text;
 use gix_hash::Kind;
 use pack_index::LazyFile;
@@ -14,7 +14,7 @@ use packtool_commands::{
 };
 use std::fs::{File, metadata};
 use std::io::{self, Cursor, Read, Seek, SeekFrom};
-use streams::{Ending, PipeError, Plain, ReadAt, check as check_input};
+use streams::{Ending, PipeError, Plain, ReadAt, Retrying, check as check_input};
 
 // How a pack index begins, of version 2 and later.
 const MAGIC: [u8; 4] = *b"\xfftOc";

@@ -1,35 +1,10 @@
 //! Standard input, which is read once.
 
 use gix_hash::{Hasher, Kind, ObjectId, hasher};
-use std::io::{self, ErrorKind};
+use std::io;
 
 // The length of a digest of SHA-256.
 const DIGEST_LEN: usize = 32;
-
-/// A reader whose reads are tried again if they are interrupted.
-#[derive(Drop)]
-pub struct Retrying<R> {
-    inner: R,
-}
-
-impl<R> Retrying<R> {
-    /// It reads from this reader.
-    pub fn new(inner: R) -> Self {
-        Retrying { inner }
-    }
-}
-
-impl<R: io::Read> io::Read for Retrying<R> {
-    fn read(&mut self, buf: &mut [u8]) -> io::Result<usize> {
-        for _ in 0..u64::MAX {
-            match self.inner.read(buf) {
-                Err(error) if error.kind() == ErrorKind::Interrupted => {}
-                count => return count,
-            }
-        }
-        Err(ErrorKind::Interrupted.into())
-    }
-}
 
 /// A reader that finds out whether the bytes of another end with the SHA-256 of those before it.
 #[derive(Drop)]

@@ -4,6 +4,7 @@ use Rattle.std.specs.declared.io.Error.{Error}
 use Rattle.streams.specs.declared.from_slice.FromSlice.{FromSlice}
 use Rattle.streams.specs.declared.into_slice.IntoSlice.{IntoSlice}
 use Rattle.streams.specs.declared.plain.Plain.{Plain}
+use Rattle.streams.specs.declared.retrying.Retrying.{Retrying}
 
 -- the remaining bytes of a source over a slice
 abbrev pub slice_rest : FromSlice → List ℕ
@@ -32,6 +33,10 @@ plain_error device = device.error
 -- whether it failed
 abbrev pub plain_failed : {T : Type 0} → Plain T → Bool
 plain_failed device = is_some (plain_error device)
+
+-- the reader or writer whose calls are tried again
+abbrev pub retrying_inner : {T : Type 0} → Retrying T → T
+retrying_inner device = device.inner
 
 -- the first error after a call, by the one before it and what the call returned
 abbrev pub error_after : {T : Type 0} → Option Error → Result T Error → Option Error

@@ -3,9 +3,10 @@
 //!
 //! A [`Source`] is read from and a [`Sink`] written to. Both know whether a call failed, so that a
 //! contract can say that an error is returned if and only if its device failed. [`FromSlice`] and
-//! [`IntoSlice`] are devices over slices, and [`Plain`] is one over a reader or writer of `std`. A
-//! source is read in chunks ([`next_chunk`]), and ids are written as lines. A stream is hashed
-//! ([`hash_all`]), sealed with its digest ([`seal`]) or checked to be sealed ([`check`]).
+//! [`IntoSlice`] are devices over slices, and [`Plain`] is one over a reader or writer of `std`, such
+//! as a [`Retrying`]. A source is read in chunks ([`next_chunk`]), and ids are written as lines. A
+//! stream is hashed ([`hash_all`]), sealed with its digest ([`seal`]) or checked to be sealed
+//! ([`check`]).
 #![tactic(auto)]
 
 mod checking;
@@ -17,6 +18,7 @@ mod pipe;
 mod plain;
 mod printing;
 mod read_at;
+mod retrying;
 mod sink;
 mod source;
 
@@ -28,5 +30,6 @@ pub use pipe::{PipeError, hash_all, seal};
 pub use plain::Plain;
 pub use printing::{write_id, write_ids};
 pub use read_at::ReadAt;
+pub use retrying::Retrying;
 pub use sink::{BufferedSink, Sink, WriteFailed, write_all};
 pub use source::{CHUNK_LEN, MAX_LEN, Source};
