@@ -1,10 +1,11 @@
 //! List texts that come in chunks.
 
-ghost use Rattle.std.specs.Prelude.{◌≡◌, ℕ, false, ◌+◌, ◌^◌, ◌<◌, ◌≤◌, List, [], ◌∷◌, ◌++◌, map, take, drop, length, IfOk, IfErr, IfSome, OnOk};
-ghost use Rattle.std.specs.List.{slice_range};
+ghost use Rattle.std.specs.Prelude.{◌≡◌, ◌↔◌, ℕ, false, MatchOption, ◌+◌, ◌^◌, ◌<◌, ◌≤◌, List, [], ◌∷◌, ◌++◌, map, take, drop, length, IfOk, IfErr, IfSome, OnOk};
+ghost use Rattle.std.specs.List.{position, slice_range};
 ghost use Rattle.gix_hash.specs.Digits.{hex_letter};
 ghost use Rattle.gix_hash.specs.IdReading.{full_read, result_digits};
 ghost use Rattle.gix_hash.specs.ObjectId.{id_digits};
+ghost use Rattle.oidtool_commands.specs.Lines.{is_line_feed};
 ghost use Rattle.oidtool_commands.specs.ListChunks.{HasTaken, HasIdLine, IsRefusalAfter, Takes};
 ghost use Rattle.oidtool_commands.specs.ListText.{list_read, IsListRefusal};
 
@@ -99,24 +100,25 @@ impl<A: Allocator> ListReader<A> {
     /// The number of bytes of the next chunk that belong to the line that has begun: up to its line
     /// feed, or all of them. It is 0 if no line has begun.
     pub fn rest_of_line(&self, chunk: &[u8]) -> usize
-        ensures { result ≤ length chunk.now }
+        ensures within { result ≤ length chunk.now }
+        ensures none { self.now.len ≡ 0 → result ≡ 0 }
+        ensures begun { 0 < self.now.len → MatchOption (position is_line_feed chunk.now)
+            (result ≡ length chunk.now) (λ at. result ≡ at + 1) }
     {
         if self.len == 0 {
             return 0;
         }
-        for at in 0..chunk.len() {
-            if chunk[at] == LINE_FEED {
-                return at + 1;
-            }
+        match line_feed_in(chunk) {
+            Some(at) => at + 1,
+            None => chunk.len(),
         }
-        chunk.len()
     }
 
     /// Whether a line has begun that has not ended.
     pub fn has_begun_line(&self) -> bool
-        ensures { result ≡ false → self.now.len ≡ 0 }
+        ensures { (result ≡ false) ↔ (self.now.len ≡ 0) }
     {
-        self.len > 0
+        self.len != 0
     }
 
     /// Counts lines that it was not given, since they were skipped.
@@ -221,6 +223,14 @@ impl<A: Allocator> ListReader<A> {
             }),
         }
     }
+}
+
+// The index of the first line feed.
+fn line_feed_in(chunk: &[u8]) -> Option<usize>
+    ensures first { result ≡ position is_line_feed chunk.now }
+    ensures within { IfSome result (λ at. at < length chunk.now) }
+{
+    chunk.iter().position(|byte| *byte == LINE_FEED)
 }
 
 // Reads a line, given its length and its first 64 bytes: a longer one is rejected by its length.

@@ -81,7 +81,8 @@ impl Query {
 
     /// The id of the last of the next lines of a list, each of `LINE` bytes, if the lines can be
     /// skipped: they are of full ids in order after `last`, the last id before them, and the prefix
-    /// comes before the first of these ids, or after the last, so none begins with it.
+    /// comes before the first of these ids, or after the last, so none begins with it. `None` says
+    /// nothing of the lines.
     pub fn find_skippable<const LINE: usize>(
         &self,
         last: Option<ObjectId>,

@@ -20,7 +20,7 @@ returns-clause-searches g c =
     let many = c.as_chunks.ensures.front_len in
     skipped _ _ size c.args.reader.now c.skip-2.new.self c.args.finder.now c.skip.new.self chunk k (size * length c.as_chunks.result.0.now)
     (subst (λ lines. HasSkipped c.args.query.now.search c.args.query.now.prefix.digits (size - 1) lines c.args.finder.now c.skip.new.self) c.as_chunks.ensures.front (c.skip.ensures.skipped c.if-not-skip.false))
-    (whole_lines size (length chunk) c.requires.line) (mul_comm size _ ∙ ap (λ n. n * size) many) (c.if-has_begun_line.ensures refl)
+    (whole_lines size (length chunk) c.requires.line) (mul_comm size _ ∙ ap (λ n. n * size) many) (c.if-has_begun_line.ensures.0 refl)
     c.requires.empty c.requires.count (c.skip-2.ensures.dropped ∙ ap (λ n. c.args.reader.now.dropped + n) many) c.skip-2.ensures.ids c.skip-2.ensures.line c.skip-2.ensures.len
 
 pub returns-clause-within : goal.returns-clause-within
