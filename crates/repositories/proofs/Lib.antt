@@ -1,2 +1,2 @@
-mod NamedLines
-mod SlashedDigits
+mod Entries
+mod Quoted

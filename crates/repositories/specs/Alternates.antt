@@ -1,21 +1,32 @@
--- The lines of a list of alternates.
-use Rattle.std.specs.Prelude.{◌≢◌, ℕ, Bool, false, List, [], ◌∷◌, ◌==◌, not, All, filter}
-use Rattle.std.specs.List.{slice_split}
+-- The paths that a list of alternates names.
+use Rattle.std.specs.Prelude.{◌≡◌, ◌≢◌, ◌⊎◌, ℕ, Bool, true, false, List, [], ◌∷◌, ◌==◌, not, drop, filter, length, if◌then◌else◌}
+use Rattle.std.specs.List.{after_first, before_first}
+use Rattle.repositories.specs.Quoting.{IsQuoted}
 
--- whether a line names a folder: it is neither empty nor a comment, which begins with #
-abbrev pub names_folder : List ℕ → Bool
-names_folder [] = false
-names_folder (first ∷ rest) = not (first == 35)
+-- whether a line is a comment, which begins with #
+abbrev pub is_comment : List ℕ → Bool
+is_comment [] = false
+is_comment (first ∷ rest) = first == 35
 
--- the lines between separators that name a folder
-abbrev pub named_lines : ℕ → List ℕ → List (List ℕ)
-named_lines separator text = filter names_folder (slice_split (λ byte. byte == separator) text)
+-- the list begins with a quoted path, and this is its rest: after the path one byte is passed over, mostly the separator
+abbrev pub HasQuotedPath : List ℕ → List ℕ → List ℕ → Type 0
+HasQuotedPath list path rest = (after : List ℕ) × IsQuoted list path after × (rest ≡ drop 1 after)
 
--- the text has no quotation mark
-abbrev pub HasNoQuotes : List ℕ → Type 0
-HasNoQuotes text = All (λ byte. byte ≢ 34) text
+-- the list begins with a line of this path, or of a comment, which has the empty path, and this is its rest
+abbrev pub HasLine : ℕ → List ℕ → List ℕ → List ℕ → Type 0
+HasLine separator list path rest =
+    let line = before_first (λ byte. byte == separator) list in
+    (path ≡ (if is_comment line then [] else line)) × (rest ≡ after_first (λ byte. byte == separator) list)
 
--- a path, unless it is empty
-abbrev pub unless_empty : List ℕ → List (List ℕ)
-unless_empty [] = []
-unless_empty (first ∷ rest) = (first ∷ rest) ∷ []
+-- the list begins with an entry of this path, and this is its rest. What is not quoted right is a line
+abbrev pub HasEntry : ℕ → List ℕ → List ℕ → List ℕ → Type 0
+HasEntry separator list path rest = HasQuotedPath list path rest ⊎ (((quoted after : List ℕ) → ¬ IsQuoted list quoted after) × HasLine separator list path rest)
+
+-- the list is entries of these paths
+abbrev pub HasEntries : ℕ → List ℕ → List (List ℕ) → Type 0
+HasEntries separator list [] = list ≡ []
+HasEntries separator list (path ∷ paths) = (list ≢ []) × ((rest : List ℕ) × HasEntry separator list path rest × HasEntries separator rest paths)
+
+-- the list names these paths: those of its entries that are not empty
+abbrev pub NamesPaths : ℕ → List ℕ → List (List ℕ) → Type 0
+NamesPaths separator list paths = (entries : List (List ℕ)) × HasEntries separator list entries × (paths ≡ filter (λ path. not (length path == 0)) entries)

@@ -1,3 +1,4 @@
 pub mod Alternates
 pub mod Paths
 pub mod Printed
+pub mod Quoting

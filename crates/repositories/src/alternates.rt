@@ -1,8 +1,10 @@
 //! Lists of alternates: other objects folders, whose objects a repository borrows.
 
-ghost use Rattle.std.specs.Prelude.{◌≡◌, ◌==◌, ◌-◌, ◌<◌, ◌≤◌, ◌++◌, IfOk, IfSome, length, map};
+ghost use Rattle.std.specs.Prelude.{◌≡◌, ◌≢◌, ◌==◌, ◌-◌, ◌<◌, ◌≤◌, [], ◌∷◌, ◌++◌, ℕ, List, OnOk, not, filter, IfOk, IfSome, MatchOption, drop, length, map};
 ghost use Rattle.std.specs.List.{after_first, before_first, position};
-ghost use Rattle.repositories.specs.Alternates.{names_folder, named_lines, unless_empty, HasNoQuotes};
+ghost use Rattle.std.specs.Option.{option_map};
+ghost use Rattle.repositories.specs.Alternates.{HasEntry, NamesPaths, is_comment};
+ghost use Rattle.repositories.specs.Quoting.{Means, escaped, escaped_byte, quoted_byte};
 
 use std::alloc::{AllocError, Allocator};
 
@@ -24,42 +26,54 @@ pub fn alternate_paths<A: Allocator + Copy>(
     list: &[u8],
     separator: u8,
 ) -> Result<Vec<Vec<u8, A>, A>, AllocError>
-    ensures { IfOk result (λ paths. HasNoQuotes list.now
-        → map (λ path. path.items) paths.items ≡ named_lines separator list.now) }
+    ensures { IfOk result (λ paths. NamesPaths separator list.now
+        (map (λ path. path.items) paths.items)) }
 {
     let mut paths = Vec::new(alloc);
     let mut left = list;
     while !left.is_empty() {
         let (path, rest) = first_path(alloc, left, separator)?;
-        if !path.is_empty() {
-            paths.push(path)?;
-        }
+        push_path(&mut paths, path)?;
         left = rest;
     }
     Ok(paths)
 }
 
-// The path that a list names first, and the rest of the list. A comment names the empty path.
+// Adds a path, unless it is empty.
+fn push_path<A: Allocator>(
+    paths: &mut Vec<Vec<u8, A>, A>,
+    path: Vec<u8, A>,
+) -> Result<(), AllocError>
+    ensures { OnOk result (map (λ path. path.items) paths.new.items
+        ≡ map (λ path. path.items) paths.old.items
+        ++ filter (λ path. not (length path == 0)) (path.items ∷ [])) }
+{
+    if !path.is_empty() {
+        paths.push(path)?;
+    }
+    Ok(())
+}
+
+// The path of the first entry of a list, and the rest of the list. That of a comment is empty.
 fn first_path<A: Allocator + Copy>(
     alloc: A,
     list: &[u8],
     separator: u8,
 ) -> Result<(Vec<u8, A>, &[u8]), AllocError>
     ensures fewer { IfOk result (λ first. length first.1.now ≤ length list.now - 1) }
-    ensures named { IfOk result (λ first. HasNoQuotes list.now → HasNoQuotes first.1.now
-        × (named_lines separator list.now
-        ≡ unless_empty first.0.items ++ named_lines separator first.1.now)) }
+    ensures entry { IfOk result (λ first.
+        HasEntry separator list.now first.0.items first.1.now) }
 {
-    if let [b'"', quoted @ ..] = list {
-        if let Some((path, rest)) = unquote(alloc, quoted)? {
-            return Ok((path, after_one(rest)));
-        }
+    if let Some(quoted) = after_mark(list)
+        && let Some((path, rest)) = unquote(alloc, quoted)?
+    {
+        return Ok((path, after_one(rest)));
     }
     let (line, rest) = split_line(list, separator);
-    if names_folder(line) {
-        Ok((line.to_vec(alloc)?, rest))
-    } else {
+    if is_comment(line) {
         Ok((Vec::new(alloc), rest))
+    } else {
+        Ok((line.to_vec(alloc)?, rest))
     }
 }
 
@@ -82,19 +96,16 @@ fn separator_in(list: &[u8], separator: u8) -> Option<usize>
     list.iter().position(|byte| *byte == separator)
 }
 
-// Whether a line names a folder.
-fn names_folder(line: &[u8]) -> bool
-    ensures { result ≡ names_folder line.now }
+// Whether a line is a comment.
+fn is_comment(line: &[u8]) -> bool
+    ensures { result ≡ is_comment line.now }
 {
-    match line {
-        [] => false,
-        [first, ..] => *first != b'#',
-    }
+    matches!(line, [b'#', ..])
 }
 
 // All bytes but the first, if there is one.
 fn after_one(text: &[u8]) -> &[u8]
-    ensures { length result.now ≡ length text.now - 1 }
+    ensures { result.now ≡ drop 1 text.now }
 {
     match text {
         [] => text,
@@ -102,10 +113,25 @@ fn after_one(text: &[u8]) -> &[u8]
     }
 }
 
+// The rest of a text after a quotation mark, if it begins with one.
+fn after_mark(text: &[u8]) -> Option<&[u8]>
+    ensures { MatchOption result ((rest : List ℕ) → text.now ≢ 34 ∷ rest)
+        (λ rest. text.now ≡ 34 ∷ rest.now) }
+{
+    match text {
+        [b'"', rest @ ..] => Some(rest),
+        _ => None,
+    }
+}
+
 // The bytes that a text after a quotation mark means, and what is after the closing one; or `None`
 // if it is not quoted right.
 fn unquote<A: Allocator>(alloc: A, quoted: &[u8]) -> Result<Option<(Vec<u8, A>, &[u8])>, AllocError>
-    ensures { IfOk result (λ found. IfSome found (λ path. length path.1.now ≤ length quoted.now)) }
+    ensures fewer { IfOk result (λ found.
+        IfSome found (λ path. length path.1.now ≤ length quoted.now)) }
+    ensures means { IfOk result (λ found. MatchOption found
+        ((bytes rest : List ℕ) → ¬ Means quoted.now bytes (34 ∷ rest))
+        (λ path. Means quoted.now path.0.items (34 ∷ path.1.now))) }
 {
     let mut bytes = Vec::new(alloc);
     let mut left = quoted;
@@ -113,21 +139,32 @@ fn unquote<A: Allocator>(alloc: A, quoted: &[u8]) -> Result<Option<(Vec<u8, A>, 
         bytes.push(byte)?;
         left = rest;
     }
-    match left {
-        [b'"', rest @ ..] => Ok(Some((bytes, rest))),
-        _ => Ok(None),
+    match after_mark(left) {
+        Some(rest) => Ok(Some((bytes, rest))),
+        None => Ok(None),
     }
 }
 
 // The first byte that a quoted text means, and the rest of the text; or `None` if it ends there, or
 // is not quoted right.
 fn next_byte(quoted: &[u8]) -> Option<(u8, &[u8])>
-    ensures { IfSome result (λ next. length next.1.now < length quoted.now) }
+    ensures fewer { IfSome result (λ next. length next.1.now < length quoted.now) }
+    ensures byte { option_map (λ next. (next.0, next.1.now)) result ≡ quoted_byte quoted.now }
 {
     match quoted {
-        [] | [b'"', ..] | [b'\\'] => None,
+        [] | [b'"', ..] => None,
+        [b'\\', escape @ ..] => next_escaped(escape),
+        [byte, rest @ ..] => Some((*byte, rest)),
+    }
+}
+
+// The byte that is meant after a backslash, and the rest of the text.
+fn next_escaped(escape: &[u8]) -> Option<(u8, &[u8])>
+    ensures fewer { IfSome result (λ next. length next.1.now < length escape.now) }
+    ensures byte { option_map (λ next. (next.0, next.1.now)) result ≡ escaped_byte escape.now }
+{
+    match escape {
         [
-            b'\\',
             high @ b'0'..=b'3',
             middle @ b'0'..=b'7',
             low @ b'0'..=b'7',
@@ -136,13 +173,15 @@ fn next_byte(quoted: &[u8]) -> Option<(u8, &[u8])>
             let byte = (high - b'0') * 64 + (middle - b'0') * 8 + (low - b'0');
             Some((byte, rest))
         }
-        [b'\\', letter, rest @ ..] => Some((escaped(*letter)?, rest)),
-        [byte, rest @ ..] => Some((*byte, rest)),
+        [letter, rest @ ..] => Some((escaped(*letter)?, rest)),
+        [] => None,
     }
 }
 
 // The byte that a letter after a backslash means.
-fn escaped(letter: u8) -> Option<u8> {
+fn escaped(letter: u8) -> Option<u8>
+    ensures { result ≡ escaped letter }
+{
     match letter {
         b'a' => Some(7),
         b'b' => Some(8),

@@ -1,8 +1,12 @@
 use Rattle.std.proofs.Common.{◌≤◌, length}
+use Rattle.repositories.proofs.Quoted.{Reads}
 use Rattle.repositories.proofs.alternates.unquote.Given as goal
 
 abbrev pub invariant-loop-byte : goal.invariant-loop-byte
-invariant-loop-byte g l = length l.left ≤ length l.fn.quoted
+invariant-loop-byte g l = record {
+  fewer : length l.left ≤ length l.fn.quoted;
+  reads : Reads l.fn.quoted l.bytes.items l.left;
+}
 
 abbrev pub decreases-loop-byte : goal.decreases-loop-byte
 decreases-loop-byte g l = length l.left

@@ -1,0 +1,41 @@
+-- A quoted text that is read byte by byte.
+use Rattle.std.proofs.Common.{◌≡◌, ◌≢◌, ℕ, ◌++◌, ◌∷◌, List, [], Option, Some, None, refl, sym, ap, ◌∙◌, subst, append_assoc, append-nil}
+use Rattle.std.specs.Option.{unwrap_or}
+use Rattle.repositories.specs.Quoting.{Means, quoted_byte}
+
+-- from a text some bytes were read, and this is left: what is meant from the one is what is meant from the other
+pub record Reads (text bytes left : List ℕ) : Type 0 where
+  pub on : (more end : List ℕ) → Means left more end → Means text (bytes ++ more) end
+  pub only : (all end : List ℕ) → Means text all end → (more : List ℕ) × (all ≡ bytes ++ more) × Means left more end
+
+pub reads_none : (text : List ℕ) → Reads text [] text
+reads_none text = record { on = λ more end h. h; only = λ all end h. (all, refl, h) }
+
+one_byte : (left rest : List ℕ) (byte : ℕ) → quoted_byte left ≡ Some (byte, rest) → (all end : List ℕ) → Means left all end → (more : List ℕ) × (all ≡ byte ∷ more) × Means rest more end
+one_byte left rest byte is [] end h = absurd (let none = h.1 in cc)
+one_byte left rest byte is (first ∷ more) end h =
+    let same : Some (first, h.0) ≡ Some (byte, rest) = sym h.1 ∙ is in
+    let e : first ≡ byte = ap (λ (o : Option (ℕ × List ℕ)). (unwrap_or {T = ℕ × List ℕ} o (0, [])).0) same in
+    let e' : h.0 ≡ rest = ap (λ (o : Option (ℕ × List ℕ)). (unwrap_or {T = ℕ × List ℕ} o (0, [])).1) same in
+    (more, ap (λ b. b ∷ more) e, subst (λ r. Means r more end) e' h.2)
+
+pub reads_byte : (text bytes left rest : List ℕ) (byte : ℕ) → quoted_byte left ≡ Some (byte, rest) → Reads text bytes left → Reads text (bytes ++ byte ∷ []) rest
+reads_byte text bytes left rest byte is reads = record {
+  on = λ more end h. subst (λ all. Means text all end) (sym (append_assoc bytes (byte ∷ []) more)) (reads.on (byte ∷ more) end (rest, is, h));
+  only = λ all end h.
+      let m = reads.only all end h in
+      let n = one_byte left rest byte is m.0 end m.2 in
+      (n.0, m.1 ∙ ap (λ l. bytes ++ l) n.1 ∙ sym (append_assoc bytes (byte ∷ []) n.0), n.2);
+}
+
+-- where no more is meant the bytes are all
+pub means_all : (text bytes left : List ℕ) → Reads text bytes left → quoted_byte left ≡ None → Means text bytes left
+means_all text bytes left reads none = subst (λ all. Means text all left) (append-nil bytes) (reads.on [] left (refl, none))
+
+-- and no others are meant, up to another end
+pub means_no_other : (text bytes left all end : List ℕ) → Reads text bytes left → quoted_byte left ≡ None → Means text all end → left ≡ end
+means_no_other text bytes left all end reads none h = let m = reads.only all end h in at_end m.0 m.2
+  where
+    at_end : (more : List ℕ) → Means left more end → left ≡ end
+    at_end [] m = m.0
+    at_end (byte ∷ more) m = absurd (let some = m.1 in cc)
