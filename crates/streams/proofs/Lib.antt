@@ -1,4 +1,3 @@
 pub mod WritingLemmas
 mod Taking
-mod PipeLemmas
 mod SealedLemmas
