@@ -1,6 +1,6 @@
 -- The offset of a name, by what was read of it.
 use Rattle.std.proofs.Common.{◌≡◌, ℕ, ◌+◌, ◌-◌, ◌*◌, ◌^◌, ◌<◌, ◌≤◌, List, length, sym, ap, ◌∙◌, arith}
-use Rattle.std.proofs.lemmas.Bool.{cond-false, cond-true, le-ltb, lt-ltb}
+use Rattle.std.proofs.lemmas.Bool.{cond-false, le-ltb}
 use Rattle.gix_hash.specs.declared.Kind.{Kind}
 use Rattle.pack_index.specs.Format.{HasOffset, HasTables, count_in, long_at, long_entry, long_word, offset_in, offset_word, offsets_at, tables_end, word_at}
 use Rattle.pack_index.proofs.Heads.{head_count, offsets_in_head, word_within}
@@ -20,14 +20,6 @@ word_inside kind bytes head at from front whole tables low begins =
     omega (arith, low, begins, tables.fits, offsets_in_head bytes head front whole kind, head_count bytes head front whole)
 
 module _ (kind : Kind) (bytes : List ℕ) (at word : ℕ) (is : word ≡ offset_word kind bytes at) where
-  pub has_short : word < long_word → HasOffset kind bytes at
-  has_short less = λ long. absurd (omega (arith, is, less, long))
-
-  pub short_offset : word < long_word → word ≡ offset_in kind bytes at
-  short_offset less =
-      is ∙ sym (cond-true _ (offset_word kind bytes at) (2 ^ 32 * word_at bytes (long_entry kind bytes at) + word_at bytes (long_entry kind bytes at + 4))
-      (lt-ltb (offset_word kind bytes at) long_word (omega (arith, is, less))))
-
   module _ (high : long_word ≤ word) (start : ℕ) (starts : start ≡ long_at kind bytes + 8 * (word - long_word)) where
     start_is : start ≡ long_entry kind bytes at
     start_is = omega (arith, starts, is)

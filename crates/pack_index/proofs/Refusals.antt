@@ -1,12 +1,12 @@
--- Bytes that are rejected are no pack index, and when the error is the other kind.
-use Rattle.std.proofs.Common.{◌≡◌, ◌↔◌, ℕ, ◌+◌, ◌-◌, inl, inr, List, [], get_or, sym, ap, subst, ◌∙◌, arith}
+-- Bytes that are rejected are no pack index.
+use Rattle.std.proofs.Common.{◌≡◌, ℕ, ◌+◌, ◌-◌, List, [], get_or, sym, ap, subst, ◌∙◌, arith}
 use Rattle.std.specs.Ordering.{nat_cmp, is_lt}
 use Rattle.std.specs.Cmp.Lexicographic.{slice_cmp}
 use Rattle.std.specs.declared.cmp.Ordering.TheVariants.{Less}
 use Rattle.std.proofs.lemmas.Bool.{false≢true}
 use Rattle.gix_hash.specs.declared.Kind.{Kind}
 use Rattle.pack_index.specs.Format.{IsPackIndex, names_in}
-use Rattle.pack_index.specs.Refusal.{IsFault, IsRefusal, other_than}
+use Rattle.pack_index.specs.Refusal.{IsFault}
 use Rattle.pack_index.specs.declared.error.Error.{Error}
 use Rattle.pack_index.specs.declared.error.Error.TheVariants.{OtherKind, TooShort, Version1, BadMagic, BadVersion, WrongLength, NamesFall, WrongCount, NoOffset, LongOutOfOrder, SpareLong, OffsetInHeader, OffsetTooHigh, WrongChecksum}
 
@@ -33,8 +33,3 @@ module _ (kind : Kind) (bytes : List ℕ) where
   no_index (OffsetInHeader at) (names, offsets, order, used, first) is = first.2 (is.offsets.past_header at first.0)
   no_index (OffsetTooHigh at) (names, offsets, order, used, past, first) is = first.2 (is.offsets.signed at first.0)
   no_index WrongChecksum (names, offsets, wrong) is = wrong is.checksum
-
-  -- a rejection names the other kind if and only if they are an index of it
-  pub other_kind : (e : Error) → IsRefusal kind bytes e → (e ≡ OtherKind (other_than kind)) ↔ IsPackIndex (other_than kind) bytes
-  other_kind e (inl (same, other, none)) = (λ _. other, λ _. same)
-  other_kind e (inr (none, fault)) = (λ same. absurd (subst (IsFault kind bytes) same fault), λ other. absurd (none other))
