@@ -255,6 +255,11 @@ uint32_t gix_hash_pack_count(uint32_t kind, const uint8_t *bytes, size_t len, si
 GIX_HASH_READS(2, 3) GIX_HASH_WRITES(5)
 uint32_t gix_hash_pack_entry(uint32_t kind, const uint8_t *bytes, size_t len, size_t at, gix_hash_entry *entry);
 
+/* Gets the name at an index.
+ * Also returns GIX_HASH_OUT_OF_RANGE, after the codes above. */
+GIX_HASH_READS(2, 3) GIX_HASH_WRITES(5)
+uint32_t gix_hash_pack_id(uint32_t kind, const uint8_t *bytes, size_t len, size_t at, gix_hash_id *id);
+
 /* Finds the names that begin with a prefix, as gix_hash_find does.
  * Also returns GIX_HASH_BAD_LENGTH or GIX_HASH_TOO_LONG, right after GIX_HASH_BAD_KIND. */
 GIX_HASH_READS(2, 3) GIX_HASH_READS(4) GIX_HASH_WRITES(5)

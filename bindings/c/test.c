@@ -138,6 +138,7 @@ static void test_errors(void) {
         CHECK(kind, gix_hash_pack_check(kind, fall, 60, &detail) == code && detail == 7);
         CHECK(kind, gix_hash_pack_count(kind, fall, 60, &number) == code);
         CHECK(kind, gix_hash_pack_entry(kind, fall, 60, 0, &entry) == code && entry.offset == 5);
+        CHECK(kind, gix_hash_pack_id(kind, fall, 60, 0, &id) == code && !memcmp(&id, &old, sizeof id));
         CHECK(kind, gix_hash_pack_abbreviate(kind, fall, 60, 0, &number) == code && number == 6);
     }
     CHECK(0, gix_hash_digest(0, fall, 60, &id) == GIX_HASH_BAD_KIND && !memcmp(&id, &old, sizeof id));
@@ -173,6 +174,7 @@ static void test_hostile(void) {
         CHECK(kind, gix_hash_pack_count(kind, bytes, 60, &number) == code);
         CHECK(kind, gix_hash_pack_entry(kind, bytes, 60, 0, &entry) == code);
         CHECK(kind, gix_hash_pack_find(kind, bytes, 60, &prefix, &run) == code);
+        CHECK(kind, gix_hash_pack_id(kind, bytes, 60, 0, &good) == code && !strcmp(hex_of(&good), EMPTY));
         CHECK(kind, gix_hash_pack_abbreviate(kind, bytes, 60, 0, &number) == code);
     }
     for (size_t i = 0; i < ROWS(bad_lens); i++) {
@@ -207,6 +209,7 @@ static void test_nothing(void) {
     CHECK(0, !gix_hash_find(1, NULL, 0, &prefix, &run) && !run.start && !run.end);
     CHECK(0, gix_hash_pack_check(1, NULL, 0, &detail) == none && gix_hash_pack_kind(NULL, 0, &kind) == none && kind == 8);
     CHECK(0, gix_hash_pack_count(1, NULL, 0, &number) == none && gix_hash_pack_entry(1, NULL, 0, 0, &entry) == none);
+    CHECK(0, gix_hash_pack_id(1, NULL, 0, 0, &id) == none && !strcmp(hex_of(&id), EMPTY));
     CHECK(0, gix_hash_pack_find(1, NULL, 0, &prefix, &run) == none && gix_hash_pack_abbreviate(1, NULL, 0, 0, &number) == none);
 }
 
@@ -262,13 +265,14 @@ static void test_any_bytes(uint32_t kind, size_t len, size_t count) {
     uint64_t detail = 0, random = 1;
     gix_hash_prefix prefix = prefix_of("8", 1);
     gix_hash_entry entry = {0};
+    gix_hash_id id = {0};
     for (size_t left = 0; left < len; left += 13) {
         uint8_t *cut = fenced(INPUT, bytes, left);
         size_t hex_len = 0;
         gix_hash_run run = {0};
         CHECK(left, gix_hash_pack_check(kind, cut, left, &detail) && gix_hash_pack_check(3 - kind, cut, left, &detail));
         CHECK(left, gix_hash_pack_find(kind, cut, left, &prefix, &run) || run.end <= count);
-        CHECK(left, gix_hash_pack_entry(kind, cut, left, count, &entry));
+        CHECK(left, gix_hash_pack_entry(kind, cut, left, count, &entry) && gix_hash_pack_id(kind, cut, left, count, &id));
         CHECK(left, gix_hash_pack_abbreviate(kind, cut, left, count, &hex_len));
         uint8_t *any = fenced(INPUT, bytes, len);
         for (size_t at = 8; at < len - 8; at++) { /* but for the count, at 1028 */
@@ -278,11 +282,13 @@ static void test_any_bytes(uint32_t kind, size_t len, size_t count) {
         CHECK(left, gix_hash_pack_check(kind, any, len, &detail));
         CHECK(left, gix_hash_pack_find(kind, any, len, &prefix, &run) || (run.start <= run.end && run.end <= count));
         gix_hash_pack_entry(kind, any, len, left % count, &entry);
+        CHECK(left, !gix_hash_pack_id(kind, any, len, left % count, &id) && id.kind == kind);
         CHECK(left, gix_hash_pack_abbreviate(kind, any, len, left % count, &hex_len) || hex_len <= (kind == 1 ? 40 : 64));
     }
     for (size_t i = 0; i < ROWS(far); i++) {
         size_t hex_len = 7, at = far[i] < count ? count + far[i] : far[i];
         CHECK(i, gix_hash_pack_entry(kind, bytes, len, at, &entry) == GIX_HASH_OUT_OF_RANGE);
+        CHECK(i, gix_hash_pack_id(kind, bytes, len, at, &id) == GIX_HASH_OUT_OF_RANGE);
         CHECK(i, gix_hash_pack_abbreviate(kind, bytes, len, at, &hex_len) == GIX_HASH_OUT_OF_RANGE && hex_len == 7);
     }
 }
@@ -300,6 +306,31 @@ static void test_runs(uint32_t kind, size_t len, size_t count, const char *digit
         CHECK(hex_len, !gix_hash_pack_find(kind, bytes, len, copy, &run) && run.start == start && run.end == end);
         CHECK(hex_len, !gix_hash_find(kind, fenced(INPUT, bytes + 1032, size), size, copy, &table));
         CHECK(hex_len, table.start == start && table.end == end);
+    }
+}
+
+/* Runs among names that are not where evenly spread ones would be: all but two of their bytes are the same, and each name
+   occurs twice. */
+static void test_uneven(uint32_t kind) {
+    static uint8_t made[1 << 16] = {0xff, 't', 'O', 'c', [7] = 2};
+    static const uint8_t same[] = {0, 1, 0x42, 0x7f, 0xfe, 0xff};
+    const size_t count = 1000, size = kind == 1 ? 20 : 32, len = 1032 + (size + 8) * count + 2 * size;
+    for (size_t i = 0; i < ROWS(same); i++) {
+        for (size_t byte = 0; byte < 256; byte++) /* the counts, the highest byte first */
+            memcpy(made + 8 + 4 * byte, byte < same[i] ? "\0\0\0" : "\0\0\3\350", 4);
+        uint8_t *names_at = memset(made + 1032, same[i], size * count);
+        for (size_t at = 0; at < count; at++)
+            names_at[at * size + 9] = (uint8_t)(at / 2 >> 8), names_at[at * size + 10] = (uint8_t)(at / 2);
+        for (size_t at = 0; at < count; at++) {
+            gix_hash_prefix all = {18, {0}}, whole = {2 * (uint32_t)size, {0}};
+            size_t first = at / 2 * 2, after = first + (same[i] % 2 ? 0 : 2);
+            gix_hash_run run = {0};
+            memcpy(all.bytes, names_at, 9), memcpy(whole.bytes, names_at + at * size, size);
+            CHECK(at, !gix_hash_pack_find(kind, made, len, &all, &run) && !run.start && run.end == count);
+            CHECK(at, !gix_hash_pack_find(kind, made, len, &whole, &run) && run.start == first && run.end == first + 2);
+            whole.bytes[size - 1] ^= 1; /* no name */
+            CHECK(at, !gix_hash_pack_find(kind, made, len, &whole, &run) && run.start == after && run.end == after);
+        }
     }
 }
 
@@ -322,6 +353,8 @@ static void test_index(const char *folder, const char *name, uint32_t kind) {
         strcpy(names[at], hex_of(&entry.id));
         snprintf(ours, sizeof ours, "%llu %s (%08x)\n", (unsigned long long)entry.offset, names[at], (unsigned)entry.crc);
         CHECK(at, !strcmp(ours, line));
+        gix_hash_id id = {0};
+        CHECK(at, !gix_hash_pack_id(kind, bytes, len, at, &id) && !memcmp(&id, &entry.id, sizeof id));
     }
     gix_hash_entry entry = {.offset = 5};
     CHECK(at, at == count && !fgets(line, sizeof line, git) && gix_hash_pack_entry(kind, bytes, len, at, &entry) == GIX_HASH_OUT_OF_RANGE && entry.offset == 5);
@@ -458,6 +491,7 @@ int main(int count, char **words) {
     CHECK(0, !strcmp(gix_hash_code_text(30), "no code of gix_hash.h"));
     test_index(folder, "sha1.idx", GIX_HASH_SHA1), test_index(folder, "sha256.idx", GIX_HASH_SHA256);
     test_index(folder, "longs.idx", GIX_HASH_SHA1);
+    test_uneven(GIX_HASH_SHA1), test_uneven(GIX_HASH_SHA256);
     for (size_t i = 0; i < sizeof content; i++) content[i] = (uint8_t)next_number();
     test_ids(), test_objects("sha1", GIX_HASH_SHA1), test_objects("sha256", GIX_HASH_SHA256);
     test_hashers(GIX_HASH_SHA1), test_hashers(GIX_HASH_SHA256), test_any_hashers();

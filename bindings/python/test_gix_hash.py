@@ -189,7 +189,7 @@ class Bindings(unittest.TestCase):
         rows += [(Error, Id.from_bytes, bytes(n)) for n in range(100) if n not in (20, 32)]
         rows += [(TypeError, call, wrong) for call in (index.find, table.find) for wrong in ("e6", None, id)]
         rows += [(TypeError, prefix.cmp, wrong) for wrong in ("e6", None, prefix)]
-        for call in (index.__getitem__, index.abbreviate, table.__getitem__):
+        for call in (index.__getitem__, index.id, index.abbreviate, table.__getitem__):
             rows += [(TypeError, call, wrong) for wrong in (1.0, "1", None)]
             rows += [(IndexError, call, at) for at in (300, -301, 2**63, 2**64, -(2**64))]
         for call in (index.index, table.index):
@@ -213,6 +213,7 @@ class Bindings(unittest.TestCase):
             lines = [f"{it.offset} {it.id} ({it.crc:08x})\n" for it in index]
             self.assertEqual("".join(lines), git("show-index", f"--object-format={KINDS[kind]}", data=data))
             names = [str(it.id) for it in index]
+            self.assertEqual([str(index.id(at)) for at in range(-300, 300)], 2 * names)
             table = SortedDigests(kind, b"".join(bytes(it.id) for it in index))
             self.assertEqual(([str(it) for it in table], table.kind), (names, kind))
             for list_of in (index, table):
@@ -231,7 +232,8 @@ class Bindings(unittest.TestCase):
                 for digits in (name[:1], name[:2], name[:hex_len], name):
                     wanted = range(bisect.bisect_left(names, digits), bisect.bisect_left(names, digits + "g"))
                     self.assertEqual((index.find(Prefix(digits)), table.find(Prefix(digits))), (wanted, wanted))
-            self.assertRaises(IndexError, index.abbreviate, len(index))
+            for call in (index.id, index.abbreviate):
+                self.assertRaises(IndexError, call, len(index))
             self.fails(Code.OTHER_KIND, kind, PackIndex, 3 - kind, data)
             self.fails(Code.WRONG_CHECKSUM, 0, PackIndex, kind, data[:-1] + bytes([data[-1] ^ 1]))
             self.fails(Code.BAD_VERSION, 9, PackIndex, kind, data[:7] + b"\x09" + data[8:])

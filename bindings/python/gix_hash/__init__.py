@@ -125,6 +125,7 @@ uint32_t gix_hash_pack_check(uint32_t kind, const uint8_t *bytes, size_t len, ui
 uint32_t gix_hash_pack_kind(const uint8_t *bytes, size_t len, uint32_t *kind);
 uint32_t gix_hash_pack_count(uint32_t kind, const uint8_t *bytes, size_t len, size_t *count);
 uint32_t gix_hash_pack_entry(uint32_t kind, const uint8_t *bytes, size_t len, size_t at, gix_hash_entry *entry);
+uint32_t gix_hash_pack_id(uint32_t kind, const uint8_t *bytes, size_t len, size_t at, gix_hash_id *id);
 uint32_t gix_hash_pack_find(uint32_t kind, const uint8_t *bytes, size_t len, const gix_hash_prefix *prefix,
     gix_hash_run *run);
 uint32_t gix_hash_pack_abbreviate(uint32_t kind, const uint8_t *bytes, size_t len, size_t at, size_t *hex_len);
@@ -517,6 +518,12 @@ class PackIndex(_Table[Entry]):
         entry = _Entry()
         _check(_lib.gix_hash_pack_entry(*self._given, at, entry))
         return Entry(Id._of(entry.id), entry.offset, entry.crc)
+
+    def id(self, at: int) -> Id:
+        """The name at an index."""
+        made = _Id()
+        _check(_lib.gix_hash_pack_id(*self._given, range(len(self))[operator.index(at)], made))
+        return Id._of(made)
 
     def abbreviate(self, at: int) -> int:
         """The smallest number of first digits, at least 4, with which no other name begins. The error is NOT_UNIQUE for

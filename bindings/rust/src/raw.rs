@@ -69,6 +69,7 @@ extern "C" {
     pub fn gix_hash_pack_kind(bytes: *const u8, len: usize, kind: *mut u32) -> u32;
     pub fn gix_hash_pack_count(kind: u32, bytes: *const u8, len: usize, count: *mut usize) -> u32;
     pub fn gix_hash_pack_entry(kind: u32, bytes: *const u8, len: usize, at: usize, entry: *mut Entry) -> u32;
+    pub fn gix_hash_pack_id(kind: u32, bytes: *const u8, len: usize, at: usize, id: *mut Id) -> u32;
     pub fn gix_hash_pack_find(
         kind: u32,
         bytes: *const u8,

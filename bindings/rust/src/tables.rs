@@ -169,6 +169,16 @@ impl<'a> PackIndex<'a> {
         (code == 0).then_some(Entry { id: Id(entry.id), offset: entry.offset, crc: entry.crc })
     }
 
+    /// The name at an index, or `None` from the number of names on.
+    #[must_use]
+    pub fn id(&self, at: usize) -> Option<Id> {
+        let (kind, bytes, mut id) = (self.kind as u32, self.bytes, raw::Id::default());
+        // SAFETY: the slice is valid for its length.
+        let code = unsafe { raw::gix_hash_pack_id(kind, bytes.as_ptr(), bytes.len(), at, &mut id) };
+        debug_assert!(code == 0 || code == Code::OutOfRange as u32);
+        (code == 0).then_some(Id(id))
+    }
+
     /// All that the index contains, in the order of names.
     #[must_use]
     pub fn iter(&self) -> Entries<'a> {

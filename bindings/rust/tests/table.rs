@@ -150,7 +150,8 @@ fn indexes() {
         for (at, entry) in index.iter().enumerate() {
             let hex_len = index.abbreviate(at).unwrap();
             let name: Prefix = entry.id.to_string()[..hex_len].parse().unwrap();
-            assert_eq!((name.hex_len(), digests.get(at)), (hex_len, Some(entry.id)));
+            let id = Some(entry.id);
+            assert_eq!((name.hex_len(), index.id(at), digests.get(at)), (hex_len, id, id));
             assert_eq!((index.find(&name), digests.find(&name)), (Ok(at..at + 1), Ok(at..at + 1)));
         }
         let len = index.len();
@@ -161,8 +162,8 @@ fn indexes() {
         assert_eq!((index.iter().nth(7), index.iter().skip(299).len()), (index.get(7), 1));
         assert_eq!(PackIndex::of_any_kind(&bytes).unwrap().kind(), kind);
         assert_eq!(
-            (index.get(len), digests.get(len), code(index.abbreviate(len))),
-            (None, None, Some(Code::OutOfRange))
+            (index.get(len), index.id(len), digests.get(len), code(index.abbreviate(len))),
+            (None, None, None, Some(Code::OutOfRange))
         );
         let too_long = (kind == Kind::Sha1).then_some(Code::TooLong);
         assert_eq!(code(index.find(&EMPTY.parse().unwrap())), too_long);
@@ -207,7 +208,8 @@ fn hostile_calls() {
     let (index, table) = (PackIndex::of_any_kind(&bytes).unwrap(), [7; 59]);
     let digests = SortedDigests::new(Kind::Sha1, &table).unwrap();
     for at in [300, usize::MAX / 20, usize::MAX / 2 + 1, usize::MAX - 1, usize::MAX] {
-        assert_eq!((index.get(at), index.iter().nth(at), digests.get(at)), (None, None, None));
+        assert_eq!((index.get(at), index.iter().nth(at)), (None, None));
+        assert_eq!((index.id(at), digests.get(at)), (None, None));
         assert_eq!(code(index.abbreviate(at)), Some(Code::OutOfRange));
     }
     for (prefix, run) in [("0", 0..2), ("06", 0..0), ("07", 0..2), ("08", 2..2)] {

@@ -1,4 +1,5 @@
 -- Lemmas of several proofs.
+mod CommonPlace
 mod Reading
 mod Recast
 mod Runs

@@ -12,6 +12,7 @@ use Rattle.pack_index.specs.declared.error.Error.{Error}
 use Rattle.pack_index.specs.declared.error.Error.TheVariants.{OtherKind, TooShort, Version1, BadMagic, BadVersion, WrongLength, NamesFall, WrongCount, NoOffset, LongOutOfOrder, SpareLong, OffsetInHeader, OffsetTooHigh, WrongChecksum}
 use Rattle.gix_hash_c.specs.Face.{HoldsId}
 use Rattle.gix_hash_c.specs.Found.{IsRunIfSorted}
+use Rattle.gix_hash_c.specs.declared.ids.Id.{Id}
 use Rattle.gix_hash_c.specs.declared.look_up.Run.{Run}
 use Rattle.gix_hash_c.specs.declared.packs.Entry.{Entry}
 use Rattle.gix_hash_c.specs.Codes.{BAD_KIND, BAD_LENGTH, NOT_UNIQUE, OK, OUT_OF_RANGE, TOO_LONG}
@@ -94,6 +95,18 @@ EntryAnswer (Some kind) bytes at code old new =
     ((code ≡ OK) × IsLaidOut kind bytes × (at < count_in bytes) × HasOffset kind bytes at × IsEntry kind bytes at new)
     ⊎ ((new ≡ old) × IsNoEntry kind bytes at code)
 
+-- why there is no name at an index
+abbrev pub IsNoName : Kind → List ℕ → ℕ → ℕ → Type 0
+IsNoName kind bytes at code =
+    ((code ≡ OUT_OF_RANGE) × IsLaidOut kind bytes × (count_in bytes ≤ at)) ⊎ IsTablesFault kind bytes code
+
+-- the name at an index
+abbrev pub NameAnswer : Option Kind → List ℕ → ℕ → ℕ → Id → Id → Type 0
+NameAnswer None bytes at code old new = (code ≡ BAD_KIND) × (new ≡ old)
+NameAnswer (Some kind) bytes at code old new =
+    ((code ≡ OK) × IsLaidOut kind bytes × (at < count_in bytes) × HoldsId (kind_digits kind (slice_index_or (names_in kind bytes) at [])) new)
+    ⊎ ((new ≡ old) × IsNoName kind bytes at code)
+
 -- the run of a prefix
 abbrev pub PackFindAnswer : Option Kind → List ℕ → Option (List ℕ) → ℕ → Run → Run → Type 0
 PackFindAnswer None bytes prefix code old new = (code ≡ BAD_KIND) × (new ≡ old)
@@ -113,7 +126,7 @@ abbrev pub IsNameless : Kind → List ℕ → ℕ → ℕ → Type 0
 IsNameless kind bytes at code =
     ((code ≡ NOT_UNIQUE) × IsLaidOut kind bytes × (at < count_in bytes)
     × (IsSortedIds (names_in kind bytes) → (name : List ℕ) → ¬ IsShortestName (names_in kind bytes) at name))
-    ⊎ (((code ≡ OUT_OF_RANGE) × IsLaidOut kind bytes × (count_in bytes ≤ at)) ⊎ IsTablesFault kind bytes code)
+    ⊎ IsNoName kind bytes at code
 
 abbrev pub ShortestAnswer : Option Kind → List ℕ → ℕ → ℕ → ℕ → ℕ → Type 0
 ShortestAnswer None bytes at code old new = (code ≡ BAD_KIND) × (new ≡ old)

@@ -8,7 +8,7 @@ ghost use Rattle.id_lookup.specs.ShortNames.{IsShortestName};
 ghost use Rattle.id_lookup.specs.Sorted.{IsSortedIds};
 ghost use Rattle.pack_index.specs.Format.{HasHead, HasTables, crcs_at, digests_in, names_at, names_in};
 ghost use Rattle.gix_hash_c.specs.Face.{HoldsId, kind_of_number, prefix_in};
-ghost use Rattle.gix_hash_c.specs.Packs.{CheckAnswer, EntryAnswer, IsTablesFault, LenAnswer, PackFindAnswer, PackKindAnswer, ShortestAnswer, cause_number, detail_of};
+ghost use Rattle.gix_hash_c.specs.Packs.{CheckAnswer, EntryAnswer, IsTablesFault, LenAnswer, NameAnswer, PackFindAnswer, PackKindAnswer, ShortestAnswer, cause_number, detail_of};
 
 use crate::codes::{
     BAD_KIND, BAD_LENGTH, BAD_MAGIC, BAD_VERSION, LONG_OUT_OF_ORDER, NAMES_FALL, NO_OFFSET,
@@ -24,6 +24,9 @@ use pack_index::tables::{
     NAMES_AT, check_tables, count_in, counted_in, crc_in, crcs_at, has_offset, offset_in,
 };
 use pack_index::{Error, File};
+
+// How many names before and after a place are searched first.
+const NEAR: usize = 8;
 
 /// What an index contains about an object.
 #[repr(C)]
@@ -116,6 +119,24 @@ pub extern "C" fn gix_hash_pack_entry(kind: u32, bytes: &[u8], at: usize, entry:
     OK
 }
 
+/// The name at an index. An error leaves `id` as it was.
+#[unsafe(no_mangle)]
+pub extern "C" fn gix_hash_pack_id(kind: u32, bytes: &[u8], at: usize, id: &mut Id) -> u32
+    ensures { NameAnswer (kind_of_number kind) bytes.now at result id.old id.new }
+{
+    let Some(kind) = kind_of(kind) else {
+        return BAD_KIND;
+    };
+    if let Err(cause) = tables(kind, bytes) {
+        return cause;
+    }
+    if at >= count_in(bytes) as usize {
+        return OUT_OF_RANGE;
+    }
+    *id = name_at(kind, names(kind, bytes), at);
+    OK
+}
+
 /// The run of a prefix among the names. An error leaves `run` as it was.
 #[unsafe(no_mangle)]
 pub extern "C" fn gix_hash_pack_find(kind: u32, bytes: &[u8], prefix: &Prefix, run: &mut Run) -> u32
@@ -134,8 +155,7 @@ pub extern "C" fn gix_hash_pack_find(kind: u32, bytes: &[u8], prefix: &Prefix, r
     if let Err(cause) = tables(kind, bytes) {
         return cause;
     }
-    let guess = run_by_counts(bytes, &prefix);
-    *run = find_in(kind, names(kind, bytes), &prefix, guess);
+    *run = find_in(kind, names(kind, bytes), &prefix, guess(bytes, &prefix));
     OK
 }
 
@@ -229,14 +249,24 @@ fn names(kind: Kind, bytes: &[u8]) -> &[u8]
     &bytes[NAMES_AT..crcs_at(bytes, kind)]
 }
 
-// Where the names with the prefix's first byte are by the counts. These may be wrong, so this is a
-// guess, which changes no result.
-fn run_by_counts(bytes: &[u8], prefix: &gix_hash::Prefix) -> id_lookup::Run
+// About where the names with the prefix are: by the counts those with its first byte, and among
+// these by its next digits, as if they were spread evenly. This guess changes no result.
+fn guess(bytes: &[u8], prefix: &gix_hash::Prefix) -> id_lookup::Run
     requires { names_at ≤ length bytes.now }
 {
     let first = prefix.as_oid().first_byte();
     let other_digits = if prefix.hex_len() == 1 { 15 } else { 0 };
-    counted_in(bytes, first, first | other_digits)
+    let counted = counted_in(bytes, first, first | other_digits);
+    let bytes = prefix.as_oid().as_bytes();
+    let next = u32::from_be_bytes([bytes[1], bytes[2], bytes[3], bytes[4]]);
+    let size = counted.end.saturating_sub(counted.start);
+    let place = counted
+        .start
+        .saturating_add(size.saturating_mul(next as usize) >> 32);
+    id_lookup::Run {
+        start: place.saturating_sub(NEAR).max(counted.start),
+        end: place.saturating_add(NEAR).min(counted.end),
+    }
 }
 
 // The name at an index of a table.

@@ -2,12 +2,16 @@
 
 ghost use Rattle.std.specs.Prelude.{◌≡◌, ◌≤◌, MatchOption, Some, None, take};
 ghost use Rattle.id_digits.specs.Digits.{digits_of, hex_letter};
+ghost use Rattle.gix_hash.specs.Kind.{hex_len_of};
+ghost use Rattle.gix_hash.specs.Oid.{oid_digits, oid_kind};
+ghost use Rattle.gix_hash.specs.Prefix.{place};
 ghost use Rattle.gix_hash.specs.PrefixReading.{prefix_read};
 ghost use Rattle.gix_hash_c.specs.Face.{PrefixAnswer, id_in, place_number, prefix_in};
 
 use crate::codes::{BAD_DIGIT, BAD_LENGTH, NO_ORDER, OK, order_of};
 use crate::ids::{Id, of_c};
-use gix_hash::{Alphabet, Kind};
+use gix_hash::{Alphabet, Kind, oid};
+use std::cmp::Ordering;
 
 /// A prefix of 1 to 64 digits.
 #[repr(C)]
@@ -50,16 +54,41 @@ pub extern "C" fn gix_hash_prefix_from_hex(text: &[u8], prefix: &mut Prefix) -> 
 pub extern "C" fn gix_hash_prefix_cmp_id(prefix: &Prefix, id: &Id) -> i32
     ensures { result ≡ place_number (prefix_in prefix.now) (id_in id.now) }
 {
-    let Some(prefix) = prefix_of(prefix) else {
-        return NO_ORDER;
-    };
-    let Some(id) = of_c(id) else {
-        return NO_ORDER;
-    };
-    if prefix.hex_len() > id.kind().len_in_hex() {
+    match of_c(id) {
+        Some(id) => first_digits_order(&prefix.bytes, prefix.hex_len as usize, id),
+        None => NO_ORDER,
+    }
+}
+
+// The order of the first `hex_len` digits of some bytes and of an id, if the id has as many.
+#[inline(always)]
+fn first_digits_order(bytes: &[u8; 32], hex_len: usize, id: oid<'_>) -> i32
+    ensures { result ≡ place_number
+        (prefix_in (record { hex_len = hex_len; bytes = bytes.now }))
+        (Some (record { kind = oid_kind id.entry; digits = oid_digits id.entry })) }
+{
+    if hex_len == 0 {
         return NO_ORDER;
     }
-    order_of(prefix.cmp_oid(id))
+    if hex_len > id.kind().len_in_hex() {
+        return NO_ORDER;
+    }
+    order_of(first_digits_cmp(bytes, hex_len, id))
+}
+
+// The order of the first `hex_len` digits of some bytes and of an id. To make a prefix of the bytes
+// would take longer than to compare them once.
+#[inline(always)]
+fn first_digits_cmp(bytes: &[u8; 32], hex_len: usize, id: oid<'_>) -> Ordering
+    requires { hex_len ≤ hex_len_of (oid_kind id) }
+    ensures { result ≡ place (take hex_len (digits_of bytes.now)) (oid_digits id.entry) }
+{
+    let own = oid::from_bytes_unchecked(&bytes[..id.kind().len_in_bytes()]);
+    if own.common_hex_len(id) < hex_len {
+        own.cmp(&id)
+    } else {
+        Ordering::Equal
+    }
 }
 
 // The prefix in a struct.

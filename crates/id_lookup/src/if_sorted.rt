@@ -33,8 +33,9 @@ pub fn find_if_sorted<I: Id>(ids: &[I], prefix: &Prefix) -> Run
     find_if_sorted_near(ids, prefix, Run { start: 0, end })
 }
 
-/// As [`find_if_sorted`], but it searches first among the indexes of a guess. A guess that contains
-/// the run spares comparisons, and no guess changes the result.
+/// As [`find_if_sorted`], but it searches first among the indexes of a guess, and then in parts
+/// beside it that double in length. So a guess near the run spares comparisons, and no guess
+/// changes the result.
 ///
 /// The caller must ensure that the prefix has at most as many digits as each member.
 ///
@@ -50,34 +51,88 @@ pub fn find_if_sorted_near<I: Id>(ids: &[I], prefix: &Prefix, guess: Run) -> Run
     ensures run { IsSortedIds (map I.digits ids.now)
         → IsRun prefix.now (map I.digits ids.now) result }
 {
-    let part = part_if_sorted(ids, prefix, guess);
-    let start = bound_if_sorted(ids, prefix, Bound::Start, part.start, part.end);
-    let end = bound_if_sorted(ids, prefix, Bound::End, start, part.end);
+    let near = part_near(ids, prefix, guess);
+    let start = bound_if_sorted(ids, prefix, Bound::Start, near.start, near.end);
+    let from = part_from(ids, prefix, Bound::End, start, start);
+    let end = bound_if_sorted(ids, prefix, Bound::End, from.start, from.end);
     Run { start, end }
 }
 
-// The guess, or the whole list, whichever has both bounds of the run, if the list is sorted.
-fn part_if_sorted<I: Id>(ids: &[I], prefix: &Prefix, guess: Run) -> Run
+// A part with the start of the run, if the list is sorted: the guess, or one beside it, or the
+// whole list if the guess is no run of its indexes.
+fn part_near<I: Id>(ids: &[I], prefix: &Prefix, guess: Run) -> Run
     requires { length prefix.now.digits ≤ least_hex_len (map I.digits ids.now) }
     ensures rises { result.start ≤ result.end }
     ensures in_range { result.end ≤ length ids.now }
     ensures above { IsSortedIds (map I.digits ids.now)
         → result.start ≤ bound_of Bound.Start prefix.now (map I.digits ids.now) }
     ensures below { IsSortedIds (map I.digits ids.now)
-        → bound_of Bound.End prefix.now (map I.digits ids.now) ≤ result.end }
+        → bound_of Bound.Start prefix.now (map I.digits ids.now) ≤ result.end }
 {
-    let len = ids.len();
-    let all = Run { start: 0, end: len };
-    if guess.start > guess.end || guess.end > len {
-        return all;
+    let end = ids.len();
+    if guess.start > guess.end || guess.end > end {
+        return Run { start: 0, end };
     }
     if guess.start > 0 && !is_after(ids, prefix, Bound::Start, guess.start - 1) {
-        return all;
+        let high = guess.start - 1;
+        let low = high.saturating_sub(guess.end - guess.start);
+        return part_up_to(ids, prefix, low, high);
     }
-    if guess.end < len && is_after(ids, prefix, Bound::End, guess.end) {
-        return all;
+    part_from(ids, prefix, Bound::Start, guess.start, guess.end)
+}
+
+// A part with a bound of the run, if the list is sorted and the bound is at least `first`: from
+// there to `high`, or the first of the parts after it that has the bound. Each is as long as all
+// before it.
+fn part_from<I: Id>(ids: &[I], prefix: &Prefix, bound: Bound, first: usize, mut high: usize) -> Run
+    requires enough_digits { length prefix.now.digits ≤ least_hex_len (map I.digits ids.now) }
+    requires rises { first ≤ high }
+    requires in_range { high ≤ length ids.now }
+    ensures from { first ≤ result.start }
+    ensures rises { result.start ≤ result.end }
+    ensures in_range { result.end ≤ length ids.now }
+    ensures above { IsSortedIds (map I.digits ids.now)
+        → first ≤ bound_of bound prefix.now (map I.digits ids.now)
+        → result.start ≤ bound_of bound prefix.now (map I.digits ids.now) }
+    ensures below { IsSortedIds (map I.digits ids.now)
+        → bound_of bound prefix.now (map I.digits ids.now) ≤ result.end }
+{
+    let len = ids.len();
+    let mut low = first;
+    while high < len && is_after(ids, prefix, bound, high) {
+        low = high + 1;
+        high = low + (high - first).min(len - low);
     }
-    guess
+    Run {
+        start: low,
+        end: high,
+    }
+}
+
+// A part with the start of the run, if the list is sorted and the start is at most `last`: from
+// `low` to there, or the first of the parts before it that has the start. Each is as long as all
+// after it.
+fn part_up_to<I: Id>(ids: &[I], prefix: &Prefix, mut low: usize, last: usize) -> Run
+    requires enough_digits { length prefix.now.digits ≤ least_hex_len (map I.digits ids.now) }
+    requires rises { low ≤ last }
+    requires in_range { last ≤ length ids.now }
+    ensures rises { result.start ≤ result.end }
+    ensures in_range { result.end ≤ length ids.now }
+    ensures above { IsSortedIds (map I.digits ids.now)
+        → result.start ≤ bound_of Bound.Start prefix.now (map I.digits ids.now) }
+    ensures below { IsSortedIds (map I.digits ids.now)
+        → bound_of Bound.Start prefix.now (map I.digits ids.now) ≤ last
+        → bound_of Bound.Start prefix.now (map I.digits ids.now) ≤ result.end }
+{
+    let mut high = last;
+    while low > 0 && !is_after(ids, prefix, Bound::Start, low - 1) {
+        high = low - 1;
+        low = high.saturating_sub(last - low);
+    }
+    Run {
+        start: low,
+        end: high,
+    }
 }
 
 // Whether the bound of the run is after the member at an index, if the list is sorted.

@@ -6,9 +6,9 @@ pub returns-clause-run : goal.returns-clause-run
 returns-clause-run g c sorted =
     let ids = map g.I.Id.digits c.args.ids.now in
     let prefix = c.args.prefix.now in
-    let above = c.part_if_sorted-part.ensures.above sorted in
-    let below = c.part_if_sorted-part.ensures.below sorted in
+    let near = c.part_near-near.ensures in
+    let start = c.bound_if_sorted-start.ensures.value sorted (near.above sorted) (near.below sorted) in
+    let from = c.part_from-from.ensures in
     let ends = bound_of-end prefix ids in
-    let start = c.bound_if_sorted-start.ensures.value sorted above (omega arith) in
-    let end = c.bound_if_sorted-end.ensures.value sorted (omega (arith, start, ends)) below in
+    let end = c.bound_if_sorted-end.ensures.value sorted (from.above sorted (omega (arith, start, ends))) (from.below sorted) in
     run_is prefix ids sorted _ start end

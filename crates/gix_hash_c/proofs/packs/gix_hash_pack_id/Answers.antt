@@ -1,0 +1,7 @@
+use Rattle.std.proofs.Common.{arith}
+use Rattle.pack_index.proofs.Counted.{length-names_in}
+use Rattle.gix_hash_c.proofs.packs.gix_hash_pack_id.Goals as goal
+
+pub name_at-requires : goal.name_at-requires
+name_at-requires c =
+    rw c.names.ensures (omega (arith, c.if-at-count_in.false, c.count_in.ensures, length-names_in c.in-Some.kind c.args.bytes.now c.in_default-tables.ensures.tables))

@@ -1,0 +1,16 @@
+use Rattle.std.proofs.Common.{◌≤◌, map}
+use Rattle.id_lookup.specs.Bounds.{bound_of}
+use Rattle.id_lookup.specs.Sorted.{IsSortedIds}
+use Rattle.id_lookup.specs.declared.search.Bound.TheVariants.{Start}
+use Rattle.id_lookup.proofs.if_sorted.part_up_to.Given as goal
+
+abbrev pub invariant-loop-low : goal.invariant-loop-low
+invariant-loop-low g l = record {
+  rises : l.low ≤ l.high;
+  in_range : l.high ≤ l.fn.last;
+  below : IsSortedIds (map g.I.Id.digits l.fn.ids) → bound_of Start l.fn.prefix (map g.I.Id.digits l.fn.ids) ≤ l.fn.last
+      → bound_of Start l.fn.prefix (map g.I.Id.digits l.fn.ids) ≤ l.high;
+}
+
+abbrev pub decreases-loop-low : goal.decreases-loop-low
+decreases-loop-low g l = l.low
