@@ -1,10 +1,7 @@
 -- The parts of a line, one after the other.
-use Rattle.std.proofs.Common.{◌≡◌, ℕ, ◌+◌, ◌-◌, ◌≤◌, List, [], ◌∷◌, ◌++◌, length, take, sym, ap, ◌∙◌, append_assoc, arith, length-append}
-use Rattle.std.specs.Prelude.{decimal, replicate}
+use Rattle.std.proofs.Common.{◌≡◌, ℕ, List, [], ◌∷◌, ◌++◌, ap, ◌∙◌, append_assoc}
+use Rattle.std.specs.Prelude.{decimal}
 use Rattle.gix_hash.specs.Digits.{hex_letter, spelling}
-use Rattle.gix_hash.specs.Prefix.{padded}
-use Rattle.std.proofs.Math.Seq.{take-append_seam}
-use Rattle.std.proofs.lemmas.List.{take-map, take-take}
 use Rattle.packtool_commands.specs.Lines.{crc_text, line_of}
 use Rattle.packtool_commands.specs.Names.{line_of_name}
 
@@ -24,18 +21,6 @@ pub same_line : (offset offset' : ℕ) (id id' : List ℕ) (crc crc' : ℕ) → 
 same_line offset offset' id id' crc crc' first second third =
     ap (λ n. line_of (decimal n) (spelling hex_letter id) (crc_text crc)) first ∙ ap (λ (ds : List ℕ). line_of (decimal offset') (spelling hex_letter ds) (crc_text crc)) second
     ∙ ap (λ n. line_of (decimal offset') (spelling hex_letter id') (crc_text n)) third
-
--- the first letters of a spelling are the spelling of the first digits
-front : (letter : ℕ → ℕ) (n end : ℕ) (line id : List ℕ) → n ≤ end → take end line ≡ spelling letter id → take n line ≡ spelling letter (take n id)
-front letter n end line id within is = sym (take-take n end line within) ∙ ap (take n) is ∙ take-map letter n id
-
--- the first letters of the spelling of a prefix with zeros after it are the prefix's
-pub name_front : (letter : ℕ → ℕ) (n end len : ℕ) (line digits id : List ℕ) → n ≡ length digits → end ≡ 0 + length id → id ≡ padded len digits
-    → take end line ≡ spelling letter id → take n line ≡ spelling letter digits
-name_front letter n end len line digits id n_is end_is id_is is =
-    let long : n ≤ end = omega (arith, n_is, end_is, ap length id_is, length-append digits (replicate (len - length digits) 0)) in
-    front letter n end line id long is
-    ∙ ap (spelling letter) (ap (take n) id_is ∙ ap (λ m. take m (padded len digits)) n_is ∙ take-append_seam digits (replicate (len - length digits) 0))
 
 -- parts that were put one after the other are a line of a name
 pub name_parts : (name id l1 l2 l3 l4 : List ℕ) → l1 ≡ name → l2 ≡ l1 ++ 32 ∷ [] → l3 ≡ l2 ++ id → l4 ≡ l3 ++ 10 ∷ [] → l4 ≡ line_of_name name id

@@ -14,6 +14,7 @@ ghost use Rattle.packtool_commands.specs.Locations.{location_end};
 use crate::pairing::Pairing;
 use gix_hash::{Alphabet, ObjectId, oid};
 use hex::encode_to_slice;
+use id_lookup::begins_with;
 use itoa::Buffer;
 use object_store::NamedId;
 use pack_index::File;
@@ -77,11 +78,29 @@ pub(crate) fn put_name_line(named: &NamedId, line: &mut [u8]) -> usize
     ensures len { result ≤ MAX_NAMES_LEN }
     ensures text { take result line.new ≡ name_line named.now }
 {
-    // The blank overwrites what is after the digits of the name, and the id the rest.
-    put_id(line, 0, named.name.as_oid());
-    let id_at = put(line, named.name.hex_len(), b" ");
-    let id_end = put_id(line, id_at, named.id.as_oid());
+    let mut letters = [0; MAX_ID_LEN];
+    let end = put_id(&mut letters, 0, named.id.as_oid());
+    let id = &letters[..end];
+    let name_end = put_name(line, named, id);
+    let id_at = put(line, name_end, b" ");
+    let id_end = put(line, id_at, id);
     put(line, id_end, b"\n")
+}
+
+// Writes the name of an id to the start of the buffer, and returns its length. The name is copied
+// from the letters of the id, if these begin with it.
+fn put_name(line: &mut [u8], named: &NamedId, id: &[u8]) -> usize
+    requires room { MAX_ID_LEN ≤ length line.old }
+    requires id { id.now ≡ hex_of named.now.id }
+    ensures most { result ≤ MAX_ID_LEN }
+    ensures text { take result line.new ≡ spelling hex_letter named.now.name.digits }
+{
+    let len = named.name.hex_len();
+    if len <= named.id.kind().len_in_hex() && begins_with(&named.id, &named.name) {
+        return put(line, 0, &id[..len]);
+    }
+    named.name.put_hex(line);
+    len
 }
 
 /// Writes what is said of a checked file after its name to the start of the buffer, and returns its
