@@ -20,6 +20,12 @@ pub fn text_of<T: Display + Drop>(rt: &impl AllocGlobal, value: T) -> Result<Str
     Ok(format!(in rt.alloc(); "{value}")?)
 }
 
+/// The value prints so.
+pub fn expect_printed<T: Display + Drop>(rt: &(impl Abort + AllocGlobal), value: T, want: &str) {
+    let text = format!(in rt.alloc(); "{value}").expect(rt, "no memory for a text");
+    expect_text(rt, text.as_str(), want);
+}
+
 /// The bytes are these, of a row of a table.
 pub fn expect_bytes<T: Debug>(rt: &impl Abort, bytes: &[u8], want: &[u8], row: &T) {
     assert!(rt; bytes == want, "{bytes:?} for {row:?}");

@@ -52,7 +52,7 @@ fn expect_course(
 fn stops_at_a_failure(rt: HostRuntime) {
     let never = Fault::Never;
     for n in 1..=13 {
-        for fault in [Fault::AtCall(n), Fault::InterruptedAt(n)] {
+        for &fault in &[Fault::AtCall(n), Fault::InterruptedAt(n)] {
             expect_course(&rt, fault, (WRITTEN, never), Course::of_fault(n, READS));
             expect_course(&rt, never, (WRITTEN, fault), Course::of_fault(n, WRITES));
         }
@@ -95,7 +95,6 @@ enum Line {
 
 // A writer takes as much of the line as it has room for, and the result says whether that is all.
 fn expect_line(rt: &impl Abort, line: Line, want: &str) {
-    let id = KIND.empty_tree();
     for room in 0..=want.len() {
         let mut buf = [0; 240];
         let Some(buf) = buf.get_mut(..room) else {
@@ -105,7 +104,7 @@ fn expect_line(rt: &impl Abort, line: Line, want: &str) {
         let written = match line {
             Line::Ending(ending) => write_ending("a.idx", &ending, &mut out),
             Line::Pairing(pairing) => write_pairing("a.idx", &pairing, &mut out),
-            Line::Location(offset) => write_location(&id, "a b.pack", offset, &mut out),
+            Line::Location(offset) => write_location(&TREE, "a b.pack", offset, &mut out),
         };
         expect!(rt; written.is_ok() == (room == want.len()), room);
         let taken = want.as_bytes().get(..room).unwrap_or(b"");
@@ -113,54 +112,78 @@ fn expect_line(rt: &impl Abort, line: Line, want: &str) {
     }
 }
 
-fn ended(digest: ObjectId, last: Option<ObjectId>) -> Line {
-    Line::Ending(Ending::Unsealed { digest, last })
-}
+// The ids of the empty tree and of the empty blob of SHA-1, and of the latter of SHA-256.
+const TREE: ObjectId = ObjectId::Sha1([
+    0x4b, 0x82, 0x5d, 0xc6, 0x42, 0xcb, 0x6e, 0xb9, 0xa0, 0x60, 0xe5, 0x4b, 0xf8, 0xd6, 0x92, 0x88,
+    0xfb, 0xee, 0x49, 0x04,
+]);
 
-fn paired(named: ObjectId, found: Option<ObjectId>) -> Line {
-    Line::Pairing(Pairing::Other { named, found })
-}
+const BLOB: ObjectId = ObjectId::Sha1([
+    0xe6, 0x9d, 0xe2, 0x9b, 0xb2, 0xd1, 0xd6, 0x43, 0x4b, 0x8b, 0x29, 0xae, 0x77, 0x5a, 0xd8, 0xc2,
+    0xe4, 0x8c, 0x53, 0x91,
+]);
+
+const LONG: ObjectId = ObjectId::Sha256([
+    0x47, 0x3a, 0x0f, 0x4c, 0x3b, 0xe8, 0xa9, 0x36, 0x81, 0xa2, 0x67, 0xe3, 0xb1, 0xe9, 0xa7, 0xdc,
+    0xda, 0x11, 0x85, 0x43, 0x6f, 0xe1, 0x41, 0xf7, 0x74, 0x91, 0x20, 0xa3, 0x03, 0x72, 0x18, 0x13,
+]);
+
+// Lines of files, and what is written.
+const LINES: [(Line, &str); 10] = [
+    (Line::Ending(Ending::Sealed(TREE)), "a.idx: OK\n"),
+    (
+        Line::Ending(Ending::Unsealed {
+            digest: TREE,
+            last: None,
+        }),
+        "a.idx: FAILED: it is shorter than a digest\n",
+    ),
+    (
+        Line::Ending(Ending::Unsealed {
+            digest: TREE,
+            last: Some(BLOB),
+        }),
+        "a.idx: FAILED: it ends in e69de29bb2d1d6434b8b29ae775ad8c2e48c5391, and the digest of the rest is 4b825dc642cb6eb9a060e54bf8d69288fbee4904\n",
+    ),
+    (
+        Line::Ending(Ending::Unsealed {
+            digest: LONG,
+            last: Some(LONG),
+        }),
+        "a.idx: FAILED: it ends in 473a0f4c3be8a93681a267e3b1e9a7dcda1185436fe141f7749120a303721813, and the digest of the rest is 473a0f4c3be8a93681a267e3b1e9a7dcda1185436fe141f7749120a303721813\n",
+    ),
+    (Line::Pairing(Pairing::Same), "a.idx: OK\n"),
+    (
+        Line::Pairing(Pairing::Unnamed),
+        "a.idx: FAILED: it is shorter than two digests\n",
+    ),
+    (
+        Line::Pairing(Pairing::Other {
+            named: TREE,
+            found: None,
+        }),
+        "a.idx: FAILED: its pack ends in 4b825dc642cb6eb9a060e54bf8d69288fbee4904, and the pack beside it is shorter than a digest\n",
+    ),
+    (
+        Line::Pairing(Pairing::Other {
+            named: LONG,
+            found: Some(LONG),
+        }),
+        "a.idx: FAILED: its pack ends in 473a0f4c3be8a93681a267e3b1e9a7dcda1185436fe141f7749120a303721813, and the pack beside it ends in 473a0f4c3be8a93681a267e3b1e9a7dcda1185436fe141f7749120a303721813\n",
+    ),
+    (
+        Line::Location(None),
+        "4b825dc642cb6eb9a060e54bf8d69288fbee4904 a b.pack\n",
+    ),
+    (
+        Line::Location(Some(u64::MAX)),
+        "4b825dc642cb6eb9a060e54bf8d69288fbee4904 a b.pack 18446744073709551615\n",
+    ),
+];
 
 #[test]
 fn writes_lines_of_files(rt: HostRuntime) {
-    let (tree, blob) = (KIND.empty_tree(), KIND.empty_blob());
-    let long = Kind::Sha256.empty_blob();
-    for (line, want) in [
-        (Line::Ending(Ending::Sealed(tree)), "a.idx: OK\n"),
-        (
-            ended(tree, None),
-            "a.idx: FAILED: it is shorter than a digest\n",
-        ),
-        (
-            ended(tree, Some(blob)),
-            "a.idx: FAILED: it ends in e69de29bb2d1d6434b8b29ae775ad8c2e48c5391, and the digest of the rest is 4b825dc642cb6eb9a060e54bf8d69288fbee4904\n",
-        ),
-        (
-            ended(long, Some(long)),
-            "a.idx: FAILED: it ends in 473a0f4c3be8a93681a267e3b1e9a7dcda1185436fe141f7749120a303721813, and the digest of the rest is 473a0f4c3be8a93681a267e3b1e9a7dcda1185436fe141f7749120a303721813\n",
-        ),
-        (Line::Pairing(Pairing::Same), "a.idx: OK\n"),
-        (
-            Line::Pairing(Pairing::Unnamed),
-            "a.idx: FAILED: it is shorter than two digests\n",
-        ),
-        (
-            paired(tree, None),
-            "a.idx: FAILED: its pack ends in 4b825dc642cb6eb9a060e54bf8d69288fbee4904, and the pack beside it is shorter than a digest\n",
-        ),
-        (
-            paired(long, Some(long)),
-            "a.idx: FAILED: its pack ends in 473a0f4c3be8a93681a267e3b1e9a7dcda1185436fe141f7749120a303721813, and the pack beside it ends in 473a0f4c3be8a93681a267e3b1e9a7dcda1185436fe141f7749120a303721813\n",
-        ),
-        (
-            Line::Location(None),
-            "4b825dc642cb6eb9a060e54bf8d69288fbee4904 a b.pack\n",
-        ),
-        (
-            Line::Location(Some(u64::MAX)),
-            "4b825dc642cb6eb9a060e54bf8d69288fbee4904 a b.pack 18446744073709551615\n",
-        ),
-    ] {
+    for &(line, want) in &LINES {
         expect_line(&rt, line, want);
     }
 }

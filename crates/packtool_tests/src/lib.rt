@@ -1,7 +1,8 @@
-//! Tests of what `packtool` stands on, by public calls only: `object_store` and `packtool_commands`
-//! over stores in memory, where reads, writes and memory fail in turn, `store_folders` over folders
-//! that change, and a call of each kind of `callers`. What the built program shows is tested by
-//! `tools/stores` and `tools/runs`.
+//! Tests of what `packtool` stands on, by public calls only: of `object_store` and
+//! `packtool_commands` over stores in memory, where reads, writes and memory fail in turn, and of
+//! `pack_index` by values that are worked out by hand. What the built program shows is tested by
+//! `tools/stores` and `tools/runs`. The pack indexes in `data` are for them, for `tools/live` and for
+//! the tests of the bindings.
 #![tactic(auto)]
 
 #[cfg(test)]
@@ -11,22 +12,16 @@ mod expecting;
 #[cfg(test)]
 mod file_lines;
 #[cfg(test)]
-mod files;
-#[cfg(test)]
-mod folders;
-#[cfg(test)]
-mod ids;
-#[cfg(test)]
 mod look_ups;
 #[cfg(test)]
+mod many_names;
+#[cfg(test)]
 mod memory;
+#[cfg(test)]
+mod offsets;
 #[cfg(test)]
 mod pairing;
 #[cfg(test)]
 mod printing;
-#[cfg(test)]
-mod resolving;
-#[cfg(test)]
-mod snapshots;
 #[cfg(test)]
 mod texts;

@@ -169,7 +169,7 @@ fn memory_is_refused(rt: HostRuntime) -> Result<(), Fail> {
     let content = Content::new(&rt)?;
     let reads = Reads::new(100_000);
     let store = content.open(rt.alloc(), &reads)?;
-    for asked in [Asked::Ids, Asked::Locations, Asked::Name] {
+    for &asked in &[Asked::Ids, Asked::Locations, Asked::Name] {
         let mut before = false;
         for units in 0..64 {
             let is_enough = is_enough(&rt, &store, units, asked)?;

@@ -101,18 +101,28 @@ fn expect_written(
 
 #[test]
 fn writes_fail_in_turn(rt: HostRuntime) -> Result<(), Fail> {
-    for room in 0..=FOUND.len() {
-        expect_written(&rt, (Asked::Find("4B8"), FOUND), AMPLE, room, room)?;
+    for &(asked, text) in &[(Asked::Find("4B8"), FOUND), (Asked::Locate("4B8"), LOCATED)] {
+        for room in 0..=text.len() {
+            expect_written(&rt, (asked, text), AMPLE, room, room)?;
+        }
     }
-    for room in 0..=LOCATED.len() {
-        expect_written(&rt, (Asked::Locate("4B8"), LOCATED), AMPLE, room, room)?;
-    }
-    for room in [0, 1, 47, 48, 49, 100, NAMED.len() - 1, NAMED.len()] {
+    for &room in &[0, 1, 47, 48, 49, 100, NAMED.len() - 1, NAMED.len()] {
         expect_written(&rt, (Asked::Names, NAMED), AMPLE, room, room)?;
     }
-    expect_written(&rt, (Asked::Names, NAMED), AMPLE, 512, NAMED.len())?;
-    expect_written(&rt, (Asked::Locate("fe"), ""), AMPLE, 0, 0)?;
-    expect_written(&rt, (Asked::Find("fe"), ""), AMPLE, 0, 0)
+    Ok(())
+}
+
+// With more room than is needed, and with none where none is.
+#[test]
+fn writes_all(rt: HostRuntime) -> Result<(), Fail> {
+    for &(asked, text, room) in &[
+        (Asked::Names, NAMED, 512),
+        (Asked::Locate("fe"), "", 0),
+        (Asked::Find("fe"), "", 0),
+    ] {
+        expect_written(&rt, (asked, text), AMPLE, room, text.len())?;
+    }
+    Ok(())
 }
 
 // How many reads there are before one fails, and how many bytes are written then, of locations and
@@ -147,10 +157,10 @@ fn reads_fail_in_turn(rt: HostRuntime) -> Result<(), Fail> {
         // Nothing is found in part: with no room a write would fail.
         expect_written(&rt, (Asked::Find("4b8"), FOUND), left, 0, 0)?;
     }
-    for (left, written) in LOCATED_BY {
+    for &(left, written) in &LOCATED_BY {
         expect_written(&rt, (Asked::Locate("4b8"), LOCATED), left, 512, written)?;
     }
-    for (left, written) in NAMED_BY {
+    for &(left, written) in &NAMED_BY {
         expect_written(&rt, (Asked::Names, NAMED), left, 512, written)?;
     }
     Ok(())

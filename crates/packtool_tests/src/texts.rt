@@ -1,33 +1,17 @@
 //! Texts of errors.
 
-use crate::expecting::{expect_text, text_of};
+use crate::expecting::expect_printed;
+use git_texts::config::ConfigError;
 use packtool_commands::{FileError, StoreError};
 use repositories::config::ConfigError;
 use std::alloc::AllocError;
-use std::test::Fail;
 
 // Those that `packtool` does not print.
 #[test]
-fn texts_of_errors(rt: HostRuntime) -> Result<(), Fail> {
-    for (text, want) in [
-        (text_of(&rt, FileError::Memory)?, "out of memory"),
-        (text_of(&rt, FileError::Input)?, "cannot read"),
-        (text_of(&rt, FileError::Output)?, "cannot write"),
-        (text_of(&rt, StoreError::Output)?, "cannot write"),
-        (
-            text_of(&rt, ConfigError::Memory(AllocError))?,
-            "out of memory",
-        ),
-        (
-            text_of(&rt, repositories::Error::Memory(AllocError))?,
-            "out of memory",
-        ),
-        (
-            text_of(&rt, store_folders::Error::Memory(AllocError))?,
-            "out of memory",
-        ),
-    ] {
-        expect_text(&rt, &text, want);
-    }
-    Ok(())
+fn texts_of_errors(rt: HostRuntime) {
+    expect_printed(&rt, FileError::Memory, "out of memory");
+    expect_printed(&rt, FileError::Input, "cannot read");
+    expect_printed(&rt, FileError::Output, "cannot write");
+    expect_printed(&rt, StoreError::Output, "cannot write");
+    expect_printed(&rt, ConfigError::Memory(AllocError), "out of memory");
 }

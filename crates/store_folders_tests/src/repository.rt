@@ -22,7 +22,7 @@ const TYPED: [(&str, &str); 6] = [
 
 #[test]
 fn typed_names_of_a_repository(rt: HostRuntime) -> Result<(), Fail> {
-    for name in ["GIT_DIR", "GIT_COMMON_DIR", "GIT_OBJECT_DIRECTORY"] {
+    for &name in &["GIT_DIR", "GIT_COMMON_DIR", "GIT_OBJECT_DIRECTORY"] {
         if env::var(&rt, name).is_ok() {
             return Err(Fail::new("the environment names another repository"));
         }
@@ -35,7 +35,7 @@ fn typed_names_of_a_repository(rt: HostRuntime) -> Result<(), Fail> {
     )?;
     let here = env::current_dir(&rt)?;
     env::set_current_dir(&rt, "typed")?;
-    for (typed, want) in TYPED {
+    for &(typed, want) in &TYPED {
         match resolve(&rt, typed)? {
             Some(id) => expect!(&rt; id.eq_str(want), typed),
             None => expect!(&rt; want.is_empty(), typed),

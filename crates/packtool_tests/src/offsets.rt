@@ -21,7 +21,7 @@ fn names_of_an_index(rt: HostRuntime) -> Result<(), Fail> {
     let Ok(file) = File::try_new(&bytes, Kind::Sha1) else {
         return Err(Fail::new("it is no pack index"));
     };
-    for (id, at, name) in [(0, 0, Some("2bdf")), (1, 1, None), (3, 3, Some("f719"))] {
+    for &(id, at, name) in &[(0, 0, Some("2bdf")), (1, 1, None), (3, 3, Some("f719"))] {
         if id >= file.num_objects() {
             return Err(Fail::new("it has too few names"));
         }
@@ -38,7 +38,7 @@ fn names_of_an_index(rt: HostRuntime) -> Result<(), Fail> {
 #[test]
 fn offsets_that_two_names_share(rt: HostRuntime) -> Result<(), Fail> {
     let ids = ids_of(&rt, &NAMES)?;
-    for (long, want) in [(3073, Some((0, 1))), (12, None), (3075, Some((0, 3)))] {
+    for &(long, want) in &[(3073, Some((0, 1))), (12, None), (3075, Some((0, 3)))] {
         let bytes = pack_index(rt.alloc(), Kind::Sha1, &ids, &[long])?;
         let Ok(file) = File::try_new(&bytes, Kind::Sha1) else {
             return Err(Fail::new("it is no pack index"));

@@ -1,11 +1,9 @@
 //! Stores in folders that change while they are opened or looked up in, and whose reads fail.
 
-use crate::expecting::{expect, expect_text, text_of};
+use crate::expecting::{expect, expect_ids, expect_printed};
 use crate::folders::{BOTH, Index, LOOSE, PACKED, make, open};
-use crate::look_ups::{expect_ids, find};
-use gix_hash::Prefix;
-use object_store::Store;
-use pack_index::LazyError;
+use gix_hash::{ObjectId, Prefix};
+use object_store::{Store, lookup_prefix};
 use std::alloc::{Alloc, AllocError, Allocator, Global};
 use std::cell::Cell;
 use std::fs::{File, Metadata, OpenOptions};
@@ -184,6 +182,17 @@ const MOVES: [[Move; 3]; 6] = [
     [(2, NEW_LOOSE), (2, OLD_INDEX), (2, OTHER_INDEX)],
 ];
 
+// The ids of the store that begin with `4b`.
+fn find<R: Files<File = File> + AllocGlobal + Clone + Drop>(
+    rt: &(impl Abort + AllocGlobal),
+    store: &FolderStore<R>,
+) -> Result<Vec<ObjectId>, object_store::Error> {
+    let kind = store.object_hash();
+    let prefix = Prefix::from_hex_in(kind, "4b").expect(rt, "no prefix");
+    assert!(rt; prefix.hex_len() >= 2 && prefix.as_oid().kind() == kind);
+    lookup_prefix(rt.alloc(), store, &prefix)
+}
+
 // The pack indexes are in the order of their paths.
 fn expect_in_order<R: Files<File = File> + AllocGlobal + Clone + Drop>(
     rt: &impl Abort,
@@ -206,10 +215,6 @@ fn expect_opened<R: Abort + Files<File = File> + AllocGlobal>(
     left: usize,
     want: Result<&[&str], &str>,
 ) -> Result<(), Fail> {
-    let (ids, text) = match want {
-        Ok(ids) => (ids, "found"),
-        Err(text) => (&[] as &[&str], text),
-    };
     let (listed, reads) = (Cell::new(0), Cell::new(left));
     let moving = Moving {
         rt,
@@ -220,11 +225,11 @@ fn expect_opened<R: Abort + Files<File = File> + AllocGlobal>(
     let folder = ObjectsFolder::at(rt, objects)?;
     match FolderStore::open(&moving, &folder, LooseIds::WithFirstByte(0x4b)) {
         Ok(store) => {
-            expect_text(rt, "found", text);
-            expect_ids(rt, &find(rt, rt.alloc(), &store, "4b")?, ids);
+            let ids = want.expect(rt, "a store where an error is wanted");
+            expect_ids(rt, &find(rt, &store)?, ids);
             expect_in_order(rt, &store);
         }
-        Err(error) => expect_text(rt, &text_of(rt, error)?, text),
+        Err(error) => expect_printed(rt, error, want.err().unwrap_or("a store")),
     }
     Ok(())
 }
@@ -245,7 +250,7 @@ fn no_object_is_lost_that_moves(rt: HostRuntime) -> Result<(), Fail> {
 #[test]
 fn a_store_that_changes_is_read_again(rt: HostRuntime) -> Result<(), Fail> {
     let (home, away) = OLD_INDEX;
-    for (times, want) in [
+    for &(times, want) in &[
         (99, Ok([PACKED, LOOSE].as_slice())),
         (
             100,
@@ -304,7 +309,7 @@ fn make_many(rt: &HostRuntime) -> Result<(), Fail> {
         &[("many/objects/pack/pack-00.idx", &[BOTH])],
     )?;
     for at in 1..70 {
-        for ending in ["pack", "idx"] {
+        for &ending in &["pack", "idx"] {
             let from = format!(in rt.alloc(); "many/objects/pack/pack-00.{ending}")?;
             let to = format!(in rt.alloc(); "many/objects/pack/pack-{at:02}.{ending}")?;
             fs::copy(rt, &from, &to)?;
@@ -329,7 +334,16 @@ fn files_may_be_removed_after_opening(rt: HostRuntime) -> Result<(), Fail> {
     let error = LazyError::Read(io::ErrorKind::NotFound.into());
     let error = object_store::Error::Index { at: 69, error };
     let want = "many/objects/pack/pack-69.idx: removed since it was listed";
-    expect_text(&rt, &text_of(&rt, store.with_path(error))?, want);
+    match find(&rt, &store) {
+        Ok(_) => expect!(&rt; false),
+        Err(error) => expect_printed(&rt, store.with_path(error), want),
+    }
     fs::remove_dir_all(&rt, "many")?;
     Ok(())
+}
+
+// One that `packtool` does not print.
+#[test]
+fn text_of_an_error(rt: HostRuntime) {
+    expect_printed(&rt, Error::Memory(AllocError), "out of memory");
 }

@@ -1,0 +1,17 @@
+//! Tests of `store_folders`, over folders that change and reads that fail, and a call of each kind
+//! of `callers`, by public calls only. What the built program shows is tested by `tools/stores` and
+//! `tools/live`.
+#![tactic(auto)]
+
+#[cfg(test)]
+mod examples;
+#[cfg(test)]
+mod expecting;
+#[cfg(test)]
+mod folders;
+#[cfg(test)]
+mod repository;
+#[cfg(test)]
+mod sources;
+#[cfg(test)]
+mod store;
