@@ -82,10 +82,15 @@ fn expect_debug<T: Debug + Drop>(rt: &(impl Abort + AllocGlobal), value: T, want
     expect_made(rt, text, want);
 }
 
+// The value's Debug text is not empty.
+fn expect_shown<T: Debug>(rt: &(impl Abort + AllocGlobal), value: &T) {
+    let shown = format!(in rt.alloc(); "{value:?}").expect(rt, "no memory for a text");
+    expect!(rt; !shown.is_empty());
+}
+
 // The error's text; its Debug text is not empty.
 fn expect_error<E: Error + Drop>(rt: &(impl Abort + AllocGlobal), error: E, want: &str) {
-    let shown = format!(in rt.alloc(); "{error:?}").expect(rt, "no memory for a text");
-    expect!(rt; !shown.is_empty());
+    expect_shown(rt, &error);
     expect_text(rt, error, want);
 }
 

@@ -65,7 +65,7 @@ fn expect_each_found<I: Id>(rt: &impl Abort, ids: &[I], rows: &[(&str, usize, us
 fn first_bytes_of_two(rt: HostRuntime) {
     let ids = [id(&rt, TREE), id(&rt, BLOB)];
     let index = IdIndex::try_new(&ids, Kind::Sha1).expect(&rt, "ids of no index");
-    for (byte, want) in [(0x4a, 0), (0x4b, 1), (0xe5, 1), (0xe6, 2), (0xff, 2)] {
+    for &(byte, want) in &[(0x4a, 0), (0x4b, 1), (0xe5, 1), (0xe6, 2), (0xff, 2)] {
         expect!(&rt; index.fan_out().up_to(byte) == want, byte);
     }
 }

@@ -25,6 +25,10 @@ enum Reading {
 
 const ZEROS_41: &str = "00000000000000000000000000000000000000000";
 
+const GS_41: &str = "ggggggggggggggggggggggggggggggggggggggggg";
+
+const GS_65: &str = "ggggggggggggggggggggggggggggggggggggggggggggggggggggggggggggggggg";
+
 use Reading::{BadLength, Invalid, TooLong, TooShort, Zeros};
 
 // Numbers of digits 0, and what the calls return that read an id, a prefix of at least 4 digits,
@@ -122,22 +126,33 @@ fn expect_reverse(rt: &impl Abort, text: &str, [id, prefix, nonempty]: [Reading;
     expect_prefix(rt, Prefix::from_reverse_hex_nonempty(text), len, nonempty);
 }
 
+fn without_digits([id, prefix, nonempty]: [Reading; 3]) -> [Reading; 3] {
+    [
+        id.without_digits(),
+        prefix.without_digits(),
+        nonempty.without_digits(),
+    ]
+}
+
+// A text of that many letters, by the calls that read hex and by those that read `z` to `k`.
+fn expect_repeated(
+    rt: &(impl Abort + AllocGlobal),
+    letter: char,
+    len: usize,
+    (hex, reverse): ([Reading; 3], [Reading; 3]),
+) {
+    let text = text_of(rt, letter, len);
+    expect_hex(rt, text.as_str(), hex);
+    expect_reverse(rt, text.as_str(), reverse);
+}
+
 // In the alphabet of the other calls the texts have the same lengths, but no digits.
 #[test]
 fn each_length(rt: HostRuntime) {
-    for (len, [id, prefix, nonempty]) in ROWS {
-        let hex = text_of(&rt, '0', len);
-        let letters = text_of(&rt, 'z', len);
-        let read = [id, prefix, nonempty];
-        let invalid = [
-            id.without_digits(),
-            prefix.without_digits(),
-            nonempty.without_digits(),
-        ];
-        expect_hex(&rt, hex.as_str(), read);
-        expect_hex(&rt, letters.as_str(), invalid);
-        expect_reverse(&rt, letters.as_str(), read);
-        expect_reverse(&rt, hex.as_str(), invalid);
+    for &(len, read) in &ROWS {
+        let invalid = without_digits(read);
+        expect_repeated(&rt, '0', len, (read, invalid));
+        expect_repeated(&rt, 'z', len, (invalid, read));
     }
 }
 
@@ -145,14 +160,13 @@ fn each_length(rt: HostRuntime) {
 // whose lowercase is `k`, has three bytes.
 #[test]
 fn letters_that_are_no_digits(rt: HostRuntime) {
-    let g_65 = text_of(&rt, 'g', 65);
-    for (text, len, prefix, nonempty) in [
+    for &(text, len, prefix, nonempty) in &[
         ("é", 2, TooShort, Invalid),
         ("éé", 4, Invalid, Invalid),
         ("+123", 4, Invalid, Invalid),
         ("abcg", 4, Invalid, Invalid),
         ("\u{212a}zzz", 6, Invalid, Invalid),
-        (g_65.as_str(), 65, TooLong, TooLong),
+        (GS_65, 65, TooLong, TooLong),
     ] {
         expect_prefix(&rt, Prefix::from_hex(text), len, prefix);
         expect_prefix(&rt, Prefix::from_hex_nonempty(text), len, nonempty);
@@ -165,7 +179,7 @@ fn letters_that_are_no_digits(rt: HostRuntime) {
 fn prefixes_of_a_given_kind(rt: HostRuntime) {
     let blob = id(&rt, BLOB_256);
     let six = Prefix::new(blob.as_oid(), 6).expect(&rt, "six digits are no prefix");
-    for (kind, text, prefix, is_same) in [
+    for &(kind, text, prefix, is_same) in &[
         (Kind::Sha256, "473a0f", six, true),
         (Kind::Sha1, "473a0f", six, false),
         (Kind::Sha256, BLOB_256, Prefix::from(blob), true),
@@ -173,13 +187,16 @@ fn prefixes_of_a_given_kind(rt: HostRuntime) {
         let read = Prefix::from_hex_in(kind, text).expect(&rt, "a text that is no prefix");
         expect!(&rt; (read == prefix) == is_same, text);
     }
-    let g_41 = text_of(&rt, 'g', 41);
-    for (kind, text, len, want) in [
-        (Kind::Sha1, "G", 1, Invalid),
-        (Kind::Sha1, "", 0, TooShort),
-        (Kind::Sha1, g_41.as_str(), 41, TooLong),
-        (Kind::Sha1, ZEROS_41, 41, TooLong),
+}
+
+#[test]
+fn no_prefixes_of_a_given_kind(rt: HostRuntime) {
+    for &(text, len, want) in &[
+        ("G", 1, Invalid),
+        ("", 0, TooShort),
+        (GS_41, 41, TooLong),
+        (ZEROS_41, 41, TooLong),
     ] {
-        expect_prefix(&rt, Prefix::from_hex_in(kind, text), len, want);
+        expect_prefix(&rt, Prefix::from_hex_in(Kind::Sha1, text), len, want);
     }
 }

@@ -2,7 +2,7 @@
 
 use super::{
     BLOB, BLOB_256, BLOB_BYTES, BLOB_LETTERS, TREE, converted, expect_below, expect_fed,
-    expect_outcome, expect_same, expect_text, id, parsed,
+    expect_outcome, expect_same, expect_shown, expect_text, id, parsed,
 };
 use crate::expecting::expect;
 use gix_hash::{ChangeId, ObjectId, Prefix};
@@ -23,11 +23,11 @@ fn expect_read(rt: &(impl Abort + AllocGlobal), rows: &[(&str, &str)]) {
 }
 
 #[test]
-fn spelled(rt: HostRuntime) -> Result<(), Fail> {
+fn spelled(rt: HostRuntime) {
     let blob = ChangeId::from(id(&rt, BLOB));
     expect_text(&rt, blob, BLOB_LETTERS);
     expect_text(&rt, ChangeId::from(id(&rt, TREE)), TREE_LETTERS);
-    for (hex_len, want) in [
+    for &(hex_len, want) in &[
         (0, ""),
         (8, "ltqmlxqo"),
         (40, BLOB_LETTERS),
@@ -35,14 +35,17 @@ fn spelled(rt: HostRuntime) -> Result<(), Fail> {
     ] {
         expect_text(&rt, blob.to_reverse_hex_with_len(hex_len), want);
     }
-    expect!(&rt; [blob.eq_str(BLOB_LETTERS), blob.eq_str(BLOB)] == [true, false]);
-    let shown = format!(in rt.alloc(); "{blob:?}")?;
-    expect!(&rt; !shown.is_empty());
-    Ok(())
 }
 
 #[test]
-fn read_from_text(rt: HostRuntime) -> Result<(), Fail> {
+fn compared_with_text(rt: HostRuntime) {
+    let blob = ChangeId::from(id(&rt, BLOB));
+    expect!(&rt; [blob.eq_str(BLOB_LETTERS), blob.eq_str(BLOB)] == [true, false]);
+    expect_shown(&rt, &blob);
+}
+
+#[test]
+fn read_from_text(rt: HostRuntime) {
     expect_read(
         &rt,
         &[
@@ -53,24 +56,18 @@ fn read_from_text(rt: HostRuntime) -> Result<(), Fail> {
             (BLOB, "Invalid character encountered"),
         ],
     );
-    Ok(())
 }
 
 #[test]
 fn prefixes(rt: HostRuntime) -> Result<(), Fail> {
-    for (letters, digits) in [
+    for &(letters, digits) in &[
         ("LTQM", "e69d"),
         ("ltqmlxq", "e69de29"),
         (BLOB_256_LETTERS, BLOB_256),
+        ("0000", "Invalid hex character"),
+        ("zzzj", "Invalid hex character"),
     ] {
-        expect_text(&rt, Prefix::from_reverse_hex(letters)?, digits);
-    }
-    for letters in ["0000", "zzzj"] {
-        expect_outcome(
-            &rt,
-            Prefix::from_reverse_hex(letters),
-            "Invalid hex character",
-        );
+        expect_outcome(&rt, Prefix::from_reverse_hex(letters), digits);
     }
     let prefix = Prefix::new(id(&rt, BLOB).as_oid(), 7)?;
     expect_text(&rt, prefix.to_reverse_hex(), "ltqmlxq");
@@ -80,7 +77,7 @@ fn prefixes(rt: HostRuntime) -> Result<(), Fail> {
 #[test]
 fn conversions(rt: HostRuntime) {
     let blob = id(&rt, BLOB);
-    for change in [converted::<_, ChangeId>(blob), converted(blob.as_oid())] {
+    for &change in &[converted::<_, ChangeId>(blob), converted(blob.as_oid())] {
         expect!(&rt; converted::<_, ObjectId>(change) == blob);
         expect!(&rt; converted::<_, Prefix>(change) == Prefix::from(blob));
     }
@@ -92,6 +89,11 @@ fn compared(rt: HostRuntime) {
     expect_below(&rt, &tree, &blob);
     expect_same(&rt, &blob, &ChangeId::from(id(&rt, BLOB)));
     expect_fed(&rt, &blob, &[&BLOB_BYTES]);
+}
+
+#[test]
+fn displays_compared(rt: HostRuntime) {
+    let (blob, tree) = (ChangeId::from(id(&rt, BLOB)), ChangeId::from(id(&rt, TREE)));
     // The number of digits asked for counts, not that of the digits printed.
     let (asked_50, asked_100) = (
         blob.to_reverse_hex_with_len(50),

@@ -22,7 +22,7 @@ const FILE: &str = "six_bytes_to_be_hashed";
 fn first_bytes_of_a_file(rt: HostRuntime) -> Result<(), Fail> {
     fs::write(&rt, FILE, b"abcdef")?;
     let path = Path::new(FILE);
-    for (num_bytes, kind, want) in [
+    for &(num_bytes, kind, want) in &[
         (0, Kind::Sha1, EMPTY),
         (3, Kind::Sha1, ABC),
         (3, Kind::Sha256, ABC_256),
@@ -61,12 +61,12 @@ fn expect_failure<F: Files>(
 fn files_that_cannot_be_opened(rt: HostRuntime) -> Result<(), Fail> {
     let name = "not_a_folder";
     fs::write(&rt, name, b"abc")?;
-    for num_bytes in [0, 3] {
-        for kind in KINDS {
+    for &num_bytes in &[0, 3] {
+        for &kind in &KINDS {
             let failing = Opening::failing(&rt, kind);
             expect_failure(&rt, &failing, name, num_bytes, kind, &[]);
         }
-        for (name, kind) in [
+        for &(name, kind) in &[
             ("no_file_of_that_name", ErrorKind::NotFound),
             ("", ErrorKind::NotFound),
             ("not_a_folder/file", ErrorKind::NotADirectory),
@@ -84,7 +84,7 @@ fn files_that_cannot_be_opened(rt: HostRuntime) -> Result<(), Fail> {
 fn files_that_give_no_digest(rt: HostRuntime) -> Result<(), Fail> {
     let name = "three_bytes_to_be_hashed";
     fs::write(&rt, name, b"abc")?;
-    for (name, num_bytes, kind) in [
+    for &(name, num_bytes, kind) in &[
         (name, 4, ErrorKind::UnexpectedEof),
         (name, 70_000, ErrorKind::UnexpectedEof),
         (".", 1, ErrorKind::IsADirectory),

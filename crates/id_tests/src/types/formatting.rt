@@ -53,42 +53,60 @@ fn expect_written(
     expect!(rt; (out.calls, out.flushes) == (calls, 0), calls);
 }
 
+const ALL: usize = usize::MAX;
+
+// Writers, the error, or "" if there is none, how many of five digits or more are taken, and in how
+// many calls: one for each digit at `ALL`.
+const WRITERS: [(usize, Fault, &str, usize, usize); 6] = [
+    (ALL, Fault::Never, "", ALL, 1),
+    (1, Fault::Never, "", ALL, ALL),
+    (ALL, Fault::InterruptedAt(1), "", ALL, 2),
+    (2, Fault::AtCall(3), FAILED, 4, 3),
+    (0, Fault::Never, "failed to write whole buffer", 0, 1),
+    (ALL, Fault::AfterBytes(3), FAILED, 3, 2),
+];
+
 // The digits are written by `write_all`: in one write where there is room, else in several, with
 // another try after an interruption, and until the writer fails.
 fn expect_all_written(rt: &(impl Abort + AllocGlobal), named: &Named<'_>, text: &str) {
-    let (len, whole) = (text.len(), usize::MAX);
-    for (chunk, fault, error, taken, calls) in [
-        (whole, Fault::Never, "", len, 1),
-        (1, Fault::Never, "", len, len),
-        (whole, Fault::InterruptedAt(1), "", len, 2),
-        (2, Fault::AtCall(3), FAILED, 4, 3),
-        (0, Fault::Never, "failed to write whole buffer", 0, 1),
-        (whole, Fault::AfterBytes(3), FAILED, 3, 2),
-    ] {
-        let written = &text.as_bytes()[..taken.min(len)];
+    for &(chunk, fault, error, taken, calls) in &WRITERS {
+        let written = &text.as_bytes()[..taken.min(text.len())];
+        let calls = calls.min(text.len());
         expect_written(rt, named, (chunk, fault), error, written, calls);
     }
-    for kind in KINDS {
+    for &kind in &KINDS {
         if kind != io::ErrorKind::Interrupted {
-            let mut out = Writer::new(rt.alloc(), 9, Fault::Always(kind));
-            expect_kind(rt, named.write_hex_to(&mut out), kind);
-            expect!(rt; (out.calls, out.flushes) == (1, 0), kind);
+            expect_failed(rt, named, kind);
         }
     }
 }
 
+// The first write fails, with an error of that kind, and there is no other.
+fn expect_failed(rt: &(impl Abort + AllocGlobal), named: &Named<'_>, kind: io::ErrorKind) {
+    let mut out = Writer::new(rt.alloc(), 9, Fault::Always(kind));
+    expect_kind(rt, named.write_hex_to(&mut out), kind);
+    expect!(rt; (out.calls, out.flushes) == (1, 0), kind);
+}
+
 #[test]
 fn digits_are_written(rt: HostRuntime) -> Result<(), Fail> {
-    let (blob, wide) = (id(&rt, BLOB), id(&rt, BLOB_256));
-    expect_all_written(&rt, &Named::View(blob.as_oid()), BLOB);
-    expect_all_written(&rt, &Named::View(wide.as_oid()), BLOB_256);
-    expect_all_written(&rt, &Named::Id(blob), BLOB);
-    expect_all_written(&rt, &Named::Id(wide), BLOB_256);
-    expect_all_written(&rt, &Named::Prefix(Prefix::from(wide)), BLOB_256);
+    for &text in &[BLOB, BLOB_256] {
+        let id = id(&rt, text);
+        for named in &[
+            Named::View(id.as_oid()),
+            Named::Id(id),
+            Named::Prefix(Prefix::from(id)),
+        ] {
+            expect_all_written(&rt, named, text);
+        }
+    }
     expect_all_written(&rt, &Named::Prefix(Prefix::from_hex("e69d0")?), "e69d0");
-    // No digits make no write.
-    let none = Named::Prefix(blob.to_prefix(0..0));
+    Ok(())
+}
+
+#[test]
+fn no_digits_make_no_write(rt: HostRuntime) {
+    let none = Named::Prefix(id(&rt, BLOB).to_prefix(0..0));
     let failing = (0, Fault::Always(io::ErrorKind::Other));
     expect_written(&rt, &none, failing, "", b"", 0);
-    Ok(())
 }

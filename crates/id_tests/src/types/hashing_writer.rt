@@ -26,13 +26,13 @@ fn over(rt: &impl AllocGlobal, chunk: usize, fault: Fault) -> io::Write<Writer> 
 #[test]
 fn hashed_as_far_as_it_was_taken(rt: HostRuntime) {
     let mut out = over(&rt, 1, Fault::AtCall(2));
-    for (chunk, bytes, outcome) in [
-        (1, b"blob 0\0".as_slice(), "1"),
-        (1, b"lob 0\0", FAILED),
-        (9, b"lob 0\0", "6"),
+    for &(chunk, text, outcome) in &[
+        (1, "blob 0\0", "1"),
+        (1, "lob 0\0", FAILED),
+        (9, "lob 0\0", "6"),
     ] {
         out.inner.chunk = chunk;
-        expect_outcome(&rt, out.write(bytes), outcome);
+        expect_outcome(&rt, out.write(text.as_bytes()), outcome);
     }
     expect!(&rt; out.inner.calls == 3);
     expect!(&rt; out.inner.bytes.as_slice() == b"blob 0\0".as_slice());
@@ -42,7 +42,7 @@ fn hashed_as_far_as_it_was_taken(rt: HostRuntime) {
 // One write calls the inner writer once. By the method and by the library's trait.
 fn expect_one_write(rt: &(impl Abort + AllocGlobal), bytes: &[u8], chunk: usize, digest: &str) {
     let taken = chunk.min(bytes.len());
-    for by_trait in [false, true] {
+    for &by_trait in &[false, true] {
         let mut out = over(rt, chunk, Fault::Never);
         let outcome = if by_trait {
             written(&mut out, bytes)
@@ -59,7 +59,7 @@ fn expect_one_write(rt: &(impl Abort + AllocGlobal), bytes: &[u8], chunk: usize,
 #[test]
 fn inner_writer_called_once(rt: HostRuntime) {
     let zeros = [0; 131071];
-    for (bytes, chunk, digest) in [
+    for &(bytes, chunk, digest) in &[
         (b"abc".as_slice(), 0, EMPTY),
         (b"abc", 2, "da23614e02469a0d7c7bd1bdab5c9c474b1904dc"),
         (b"abc", 3, ABC),
@@ -75,17 +75,21 @@ fn inner_writer_called_once(rt: HostRuntime) {
 // flush calls it once, by the method and by the library's trait.
 #[test]
 fn errors_are_the_inner_writers(rt: HostRuntime) {
-    for kind in KINDS {
+    for &kind in &KINDS {
         let mut out = over(&rt, 9, Fault::Always(kind));
-        for outcome in [out.write(b"abc"), written(&mut out, b"abc")] {
-            expect_kind(&rt, outcome, kind);
-        }
-        for outcome in [out.flush(), flushed(&mut out)] {
-            expect_kind(&rt, outcome, kind);
-        }
+        expect_kind(&rt, out.write(b"abc"), kind);
+        expect_kind(&rt, written(&mut out, b"abc"), kind);
+        expect_kind(&rt, out.flush(), kind);
+        expect_kind(&rt, flushed(&mut out), kind);
         expect!(&rt; (out.inner.calls, out.inner.flushes) == (2, 2), kind);
         expect_outcome(&rt, out.hash.try_finalize(), EMPTY);
     }
+}
+
+// The flush failed with the device's error.
+fn expect_failed(rt: &(impl Abort + AllocGlobal), outcome: std::io::Result<()>) {
+    let error = outcome.err().expect(rt, "a failed flush returns Ok");
+    expect_text(rt, error, FAILED);
 }
 
 #[test]
@@ -95,10 +99,8 @@ fn flushes_leave_the_hasher(rt: HostRuntime) -> Result<(), Fail> {
     out.flush()?;
     flushed(&mut out)?;
     out.inner.fault = Fault::AtFlush;
-    for outcome in [out.flush(), flushed(&mut out)] {
-        let error = outcome.err().expect(&rt, "a failed flush returns Ok");
-        expect_text(&rt, error, FAILED);
-    }
+    expect_failed(&rt, out.flush());
+    expect_failed(&rt, flushed(&mut out));
     expect!(&rt; (out.inner.flushes, out.inner.calls) == (4, 1));
     expect_outcome(&rt, out.hash.try_finalize(), ABC);
     Ok(())

@@ -11,7 +11,7 @@ const NULL_256: &str = "00000000000000000000000000000000000000000000000000000000
 
 fn expect_well_known(rt: &(impl Abort + AllocGlobal), kind: Kind, texts: [&str; 3]) {
     let [null, blob, tree] = texts;
-    for (id, want) in [
+    for &(id, want) in &[
         (kind.null(), null),
         (kind.null_ref().to_owned(), null),
         (kind.empty_blob(), blob),
@@ -26,40 +26,52 @@ fn expect_well_known(rt: &(impl Abort + AllocGlobal), kind: Kind, texts: [&str; 
     }
 }
 
+// Names, and their kinds; none where an error returns the name.
+const NAMES: [(&str, Option<Kind>); 12] = [
+    ("sha1", Some(Kind::Sha1)),
+    ("SHA1", Some(Kind::Sha1)),
+    ("SHA-1", Some(Kind::Sha1)),
+    ("sha256", Some(Kind::Sha256)),
+    ("SHA256", Some(Kind::Sha256)),
+    ("SHA-256", Some(Kind::Sha256)),
+    ("sha-1", None),
+    ("Sha1", None),
+    ("md5", None),
+    ("", None),
+    ("sha1 ", None),
+    ("SHA-2560", None),
+];
+
 #[test]
-fn names_and_numbers(rt: HostRuntime) {
-    let (sha1, sha256) = (Kind::Sha1, Kind::Sha256);
-    for (name, kind) in [
-        ("sha1", Ok(sha1)),
-        ("SHA1", Ok(sha1)),
-        ("SHA-1", Ok(sha1)),
-        ("sha256", Ok(sha256)),
-        ("SHA256", Ok(sha256)),
-        ("SHA-256", Ok(sha256)),
-        ("sha-1", Err("sha-1")),
-        ("Sha1", Err("Sha1")),
-        ("md5", Err("md5")),
-        ("", Err("")),
-        ("sha1 ", Err("sha1 ")),
-        ("SHA-2560", Err("SHA-2560")),
-    ] {
-        expect!(&rt; Kind::from_str(name) == kind, name);
+fn names(rt: HostRuntime) {
+    for &(name, kind) in &NAMES {
+        expect!(&rt; Kind::from_str(name) == kind.ok_or(name), name);
     }
-    for (number, kind) in [(0, Err(0)), (1, Ok(sha1)), (2, Ok(sha256)), (3, Err(3))] {
+    expect_text(&rt, Kind::Sha1, "sha1");
+    expect_text(&rt, Kind::Sha256, "sha256");
+}
+
+const NUMBERS: [(u8, Result<Kind, u8>); 4] = [
+    (0, Err(0)),
+    (1, Ok(Kind::Sha1)),
+    (2, Ok(Kind::Sha256)),
+    (3, Err(3)),
+];
+
+#[test]
+fn numbers(rt: HostRuntime) {
+    for &(number, kind) in &NUMBERS {
         expect!(&rt; tried(number) == kind, number);
     }
-    expect_text(&rt, sha1, "sha1");
-    expect_text(&rt, sha256, "sha256");
 }
 
 #[test]
 fn lengths(rt: HostRuntime) {
-    let (sha1, sha256) = (Some(Kind::Sha1), Some(Kind::Sha256));
-    for (hex_len, kind) in [
-        (0, sha1),
-        (40, sha1),
-        (41, sha256),
-        (64, sha256),
+    for &(hex_len, kind) in &[
+        (0, Some(Kind::Sha1)),
+        (40, Some(Kind::Sha1)),
+        (41, Some(Kind::Sha256)),
+        (64, Some(Kind::Sha256)),
         (65, None),
     ] {
         expect!(&rt; Kind::from_hex_len(hex_len) == kind, hex_len);

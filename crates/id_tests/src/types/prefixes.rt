@@ -6,7 +6,7 @@ use super::{
 };
 use crate::expecting::expect;
 use gix_hash::prefix::{self, from_hex};
-use gix_hash::{Kind, Prefix};
+use gix_hash::{Kind, ObjectId, Prefix};
 use std::cmp::Ordering;
 use std::process::Abort;
 use std::test::Fail;
@@ -52,7 +52,7 @@ fn beginnings_of_ids(rt: HostRuntime) -> Result<(), Fail> {
 fn beginnings_by_ranges(rt: HostRuntime) {
     let blob = id(&rt, BLOB);
     assert!(rt; 3 <= blob.kind().len_in_bytes());
-    for (prefix, want) in [(blob.to_prefix(0..0), ""), (blob.to_prefix(1..3), "9de2")] {
+    for &(prefix, want) in &[(blob.to_prefix(0..0), ""), (blob.to_prefix(1..3), "9de2")] {
         expect_text(&rt, prefix, want);
     }
 }
@@ -60,7 +60,7 @@ fn beginnings_by_ranges(rt: HostRuntime) {
 // Texts, and what the prefix prints as: lengths and other letters are in `bad_texts`.
 #[test]
 fn read_from_text(rt: HostRuntime) {
-    for (text, want) in [
+    for &(text, want) in &[
         ("e69d", "e69d"),
         ("E69D0", "e69d0"),
         ("35e77c16", "35e77c16"),
@@ -105,7 +105,7 @@ fn read(rt: &impl Abort, digits: &str) -> Prefix {
 // By kind first, then by digits, a shorter prefix first.
 #[test]
 fn order(rt: HostRuntime) {
-    for (lower, upper) in [("e69d", "e69d0"), ("e69d0", "e69e"), ("e69d", "e69e")] {
+    for &(lower, upper) in &[("e69d", "e69d0"), ("e69d0", "e69e"), ("e69d", "e69e")] {
         expect_below(&rt, &read(&rt, lower), &read(&rt, upper));
     }
     let wide = Prefix::from(id(&rt, BLOB_256));
@@ -141,12 +141,16 @@ const PLACES: [(&str, &str, Ordering); 12] = [
     ),
 ];
 
+fn place_of(rt: &impl Abort, prefix: &Prefix, candidate: &ObjectId) -> Ordering {
+    assert!(rt; prefix.hex_len() <= candidate.kind().len_in_hex());
+    prefix.cmp_oid(candidate.as_oid())
+}
+
 #[test]
 fn places_against_ids(rt: HostRuntime) {
-    for (digits, text, place) in PLACES {
-        let (prefix, candidate) = (read(&rt, digits), id(&rt, text));
-        assert!(rt; prefix.hex_len() <= candidate.kind().len_in_hex());
-        expect!(&rt; prefix.cmp_oid(candidate.as_oid()) == place, digits);
+    for &(digits, text, place) in &PLACES {
+        let found = place_of(&rt, &read(&rt, digits), &id(&rt, text));
+        expect!(&rt; found == place, digits);
     }
 }
 

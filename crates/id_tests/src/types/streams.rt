@@ -93,7 +93,7 @@ const PACK_256: &[u8] =
 #[test]
 fn packs_end_in_their_digest(rt: HostRuntime) {
     let empty = digest_of(Kind::Sha1, b"");
-    for (kind, bytes, ends) in [
+    for &(kind, bytes, ends) in &[
         (Kind::Sha1, PACK, true),
         (Kind::Sha256, PACK_256, true),
         (Kind::Sha1, empty.as_slice(), true),
@@ -108,7 +108,7 @@ fn packs_end_in_their_digest(rt: HostRuntime) {
 
 #[test]
 fn only_the_next_bytes_are_read(rt: HostRuntime) {
-    for chunk in [1, 6] {
+    for &chunk in &[1, 6] {
         let mut input = Reader::new(b"abcdef", chunk, Fault::Never);
         let id = bytes(&mut input, 3, Kind::Sha1, &mut NoProgress, &mut Never);
         expect_outcome(&rt, id, ABC);
@@ -256,7 +256,7 @@ fn hashed_without_memory() -> Result<(), Fail> {
 // FIPS 180-4's long example: a million times the letter a.
 #[test]
 fn a_million_bytes(rt: HostRuntime) {
-    for (kind, want) in [
+    for &(kind, want) in &[
         (Kind::Sha1, "34aa973cd4c4daa4f61eeb2bdbad27316534016f"),
         (
             Kind::Sha256,
@@ -272,7 +272,7 @@ fn a_million_bytes(rt: HostRuntime) {
 #[test]
 fn a_reader_that_ends_too_early(rt: HostRuntime) {
     let zeros = [0; 65536];
-    for (given, num_bytes, heard) in [
+    for &(given, num_bytes, heard) in &[
         (b"abc".as_slice(), 5, [Call::Init(Some(5))].as_slice()),
         (
             &zeros,
@@ -310,7 +310,7 @@ fn each_read_fails_in_turn(rt: HostRuntime) {
 #[test]
 fn readers_that_fail_at_the_end(rt: HostRuntime) {
     let zeros = [0; 131071];
-    for (given, chunk, fault, num_bytes, want) in [
+    for &(given, chunk, fault, num_bytes, want) in &[
         (
             zeros.as_slice(),
             30000,
