@@ -77,16 +77,16 @@ fn expect_course_of_command(
 fn commands_stop_at_a_failure(rt: HostRuntime) -> Result<(), Fail> {
     fs::write(&rt, FILE, b"abc")?;
     let never = Fault::Never;
-    for (command, reads, writes) in COMMANDS {
+    for &(command, reads, writes) in &COMMANDS {
         for n in 1..=16 {
-            for fault in [Fault::AtCall(n), Fault::InterruptedAt(n)] {
-                let want = Course::of_fault(n, reads);
-                expect_course_of_command(&rt, command, fault, (WRITTEN, never), want);
-                let want = Course::of_fault(n, writes);
-                expect_course_of_command(&rt, command, never, (WRITTEN, fault), want);
+            let of_reads = Course::of_fault(n, reads);
+            let of_writes = Course::of_fault(n, writes);
+            for &fault in &[Fault::AtCall(n), Fault::InterruptedAt(n)] {
+                expect_course_of_command(&rt, command, fault, (WRITTEN, never), of_reads);
+                expect_course_of_command(&rt, command, never, (WRITTEN, fault), of_writes);
             }
         }
-        for writer in [(0, never), (usize::MAX, Fault::AtFlush)] {
+        for &writer in &[(0, never), (usize::MAX, Fault::AtFlush)] {
             expect_course_of_command(&rt, command, never, writer, Course::Failed);
         }
     }
@@ -94,40 +94,48 @@ fn commands_stop_at_a_failure(rt: HostRuntime) -> Result<(), Fail> {
     Ok(())
 }
 
+fn expect_one_read(rt: &impl Abort, fault: Fault, kind: ErrorKind) {
+    let mut input = Plain::new(Reader::new(b"abc", 3, fault));
+    let mut buf = [0; 3];
+    let outcome = input.read(&mut buf);
+    expect!(rt; matches!(outcome, Err(error) if error.kind() == kind));
+    expect!(rt; input.into_inner().calls == 1);
+}
+
+fn expect_one_write(rt: &(impl Abort + AllocGlobal), fault: Fault, kind: ErrorKind) {
+    let mut out = Plain::new(Writer::new(rt.alloc(), 3, fault));
+    let outcome = out.write(b"abc");
+    expect!(rt; matches!(outcome, Err(error) if error.kind() == kind));
+    expect!(rt; out.into_inner().calls == 1);
+}
+
 // A device over a reader or a writer of the library calls it once, and passes its error on.
 #[test]
-fn devices_ask_once(rt: HostRuntime) -> Result<(), Fail> {
-    for (fault, kind) in [
+fn devices_ask_once(rt: HostRuntime) {
+    for &(fault, kind) in &[
         (Fault::AtCall(1), ErrorKind::Other),
         (Fault::InterruptedAt(1), ErrorKind::Interrupted),
     ] {
-        let mut input = Plain::new(Reader::new(b"abc", 3, fault));
-        let mut buf = [0; 3];
-        let outcome = input.read(&mut buf);
-        expect!(&rt; matches!(outcome, Err(error) if error.kind() == kind));
-        expect!(&rt; input.into_inner().calls == 1);
-        let mut out = Plain::new(Writer::new(rt.alloc(), 3, fault));
-        let outcome = out.write(b"abc");
-        expect!(&rt; matches!(outcome, Err(error) if error.kind() == kind));
-        expect!(&rt; out.into_inner().calls == 1);
+        expect_one_read(&rt, fault, kind);
+        expect_one_write(&rt, fault, kind);
     }
-    Ok(())
+}
+
+fn expect_flush(rt: &(impl Abort + AllocGlobal), chunk: &[u8], fault: Fault, fails: bool) {
+    let writer = Writer::new(rt.alloc(), 3, fault);
+    let buffered = BufWriter::new(rt.alloc(), writer).expect(rt, "no memory for a buffer");
+    let mut out = Plain::new(buffered);
+    let outcomes = (out.write(chunk).is_ok(), out.flush().is_err());
+    expect!(rt; (outcomes, out.failed()) == ((true, fails), fails));
+    let (writer, _) = out.into_inner().into_parts();
+    expect!(rt; writer.flushes == 1 && writer.bytes.as_slice() == chunk);
 }
 
 // A flush reaches the writer, also if nothing was kept back.
 #[test]
-fn flushes_reach_the_writer(rt: HostRuntime) -> Result<(), Fail> {
-    for chunk in [b"".as_slice(), b"abc"] {
-        for (fault, fails) in [(Fault::Never, false), (Fault::AtFlush, true)] {
-            let writer = Writer::new(rt.alloc(), 3, fault);
-            let mut out = Plain::new(BufWriter::new(rt.alloc(), writer)?);
-            expect!(&rt; out.write(chunk).is_ok());
-            expect!(&rt; out.flush().is_err() == fails);
-            expect!(&rt; out.failed() == fails);
-            let (writer, _) = out.into_inner().into_parts();
-            expect!(&rt; writer.flushes == 1);
-            expect!(&rt; writer.bytes.as_slice() == chunk);
-        }
+fn flushes_reach_the_writer(rt: HostRuntime) {
+    for &chunk in &[b"".as_slice(), b"abc"] {
+        expect_flush(&rt, chunk, Fault::Never, false);
+        expect_flush(&rt, chunk, Fault::AtFlush, true);
     }
-    Ok(())
 }

@@ -59,7 +59,7 @@ fn runs_pipes(rt: HostRuntime) {
     let kind = Kind::Sha1;
     let (hash, seal) = (Command::Hash { kind }, Command::Seal { kind });
     let whole = sealed(&rt, b"abc", ABC);
-    for (command, fault, outcome, written, reads) in [
+    for &(command, fault, outcome, written, reads) in &[
         (hash, Fault::Never, "Ok(1)", ABC.as_bytes(), 4),
         (seal, Fault::Never, "Ok(1)", &whole, 4),
         (hash, Fault::AtCall(3), "Err(Input)", b"", 3),
@@ -68,7 +68,7 @@ fn runs_pipes(rt: HostRuntime) {
         let called = expect_run(&rt, command, b"abc", (1, fault), outcome, written);
         expect!(&rt; called == reads, command);
     }
-    for (command, written) in [(hash, ABC.as_bytes()), (seal, &whole)] {
+    for &(command, written) in &[(hash, ABC.as_bytes()), (seal, &whole)] {
         let failing = (1000, Fault::AtFlush);
         expect_flushed(&rt, command, b"abc", failing, "Err(Output)", written, 1);
     }
@@ -79,7 +79,7 @@ fn runs_pipes(rt: HostRuntime) {
 fn hashes_files(rt: HostRuntime) -> Result<(), Fail> {
     let (kind, file) = (Kind::Sha1, "oidtool-hashes-files");
     fs::write(&rt, file, b"abcdef")?;
-    for (path, count, outcome, written) in [
+    for &(path, count, outcome, written) in &[
         (file, 3, "Ok(1)", ABC.as_bytes()),
         (file, 7, "Err(Input)", b""),
         ("oidtool-hashes-no-file", 3, "Err(Input)", b""),

@@ -28,37 +28,43 @@ const NOT_READ: &str = "cannot read";
 
 const TOO_MUCH: &str = "too much input";
 
-fn too_short() -> decode::Error {
-    decode::Error::InvalidHexEncodingLength(2)
-}
+const TOO_SHORT: decode::Error = decode::Error::InvalidHexEncodingLength(2);
 
 // The texts of errors that no run of the program shows in `tools/runs.table`, or only in part.
 #[test]
 fn prints_errors_of_texts(rt: HostRuntime) {
-    let (hex_len, min, kind) = (41, 40, Kind::Sha1);
-    for (error, text) in [
+    for (error, text) in &[
         (FindError::Prefix(from_hex::Error::Invalid), NO_HEX),
         (
             FindError::BadLine {
                 line: 2,
-                error: too_short(),
+                error: TOO_SHORT,
             },
             BAD_LINE,
         ),
         (FindError::Unsorted { line: 3 }, BELOW),
-        (FindError::PrefixTooLong { hex_len, min }, TOO_LONG),
+        (
+            FindError::PrefixTooLong {
+                hex_len: 41,
+                min: 40,
+            },
+            TOO_LONG,
+        ),
         (FindError::Memory, NO_MEMORY),
         (FindError::Output, NOT_WRITTEN),
     ] {
         expect_printed(&rt, error, text);
     }
-    for (error, text) in [
+    for (error, text) in &[
         (FindInError::Prefix(from_hex::Error::Invalid), NO_HEX),
-        (FindInError::OtherKind { kind }, "prefix of kind sha1"),
+        (
+            FindInError::OtherKind { kind: Kind::Sha1 },
+            "prefix of kind sha1",
+        ),
         (
             FindInError::BadLine {
                 line: 2,
-                error: too_short(),
+                error: TOO_SHORT,
             },
             BAD_LINE,
         ),
@@ -73,18 +79,23 @@ fn prints_errors_of_texts(rt: HostRuntime) {
 
 #[test]
 fn prints_errors_of_sources(rt: HostRuntime) {
-    let (hex_len, min) = (41, 40);
-    for (error, text) in [
+    for (error, text) in &[
         (FindFromError::Prefix(from_hex::Error::Invalid), NO_HEX),
         (
             FindFromError::BadLine {
                 line: 2,
-                error: too_short(),
+                error: TOO_SHORT,
             },
             BAD_LINE,
         ),
         (FindFromError::Unsorted { line: 3 }, BELOW),
-        (FindFromError::PrefixTooLong { hex_len, min }, TOO_LONG),
+        (
+            FindFromError::PrefixTooLong {
+                hex_len: 41,
+                min: 40,
+            },
+            TOO_LONG,
+        ),
         (FindFromError::Memory, NO_MEMORY),
         (FindFromError::Output, NOT_WRITTEN),
         (FindFromError::Input, NOT_READ),
@@ -92,7 +103,7 @@ fn prints_errors_of_sources(rt: HostRuntime) {
     ] {
         expect_printed(&rt, error, text);
     }
-    for (error, text) in [
+    for (error, text) in &[
         (SearchError::Memory, NO_MEMORY),
         (SearchError::Output, NOT_WRITTEN),
         (SearchError::Input, NOT_READ),
@@ -100,12 +111,16 @@ fn prints_errors_of_sources(rt: HostRuntime) {
     ] {
         expect_printed(&rt, error, text);
     }
-    for (error, text) in [
+}
+
+#[test]
+fn prints_errors_of_pipes(rt: HostRuntime) {
+    for (error, text) in &[
         (PipeError::Input, NOT_READ),
         (PipeError::Output, NOT_WRITTEN),
         (PipeError::TooMuch, TOO_MUCH),
     ] {
         expect_printed(&rt, error, text);
     }
-    expect_printed(&rt, CommandError::TooMuch, TOO_MUCH);
+    expect_printed(&rt, &CommandError::TooMuch, TOO_MUCH);
 }

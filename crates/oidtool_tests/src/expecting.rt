@@ -30,7 +30,7 @@ pub fn expect_shown<T: Debug + Drop, U: Debug>(
 }
 
 /// The value prints so.
-pub fn expect_printed<T: Display + Drop>(rt: &(impl Abort + AllocGlobal), value: T, want: &str) {
+pub fn expect_printed<T: Display>(rt: &(impl Abort + AllocGlobal), value: &T, want: &str) {
     let text = format!(in rt.alloc(); "{value}").expect(rt, "no memory for a text");
     expect_text(rt, text.as_str(), want, &want)
 }

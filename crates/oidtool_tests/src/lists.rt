@@ -189,7 +189,7 @@ fn expect_list(
     let row = (by, prefix);
     expect_text(rt, found.as_str(), want.0, &row);
     expect_bytes(rt, out.written(), want.1.as_bytes(), &row);
-    for chunk in [1, 7, 41, 42, usize::MAX] {
+    for &chunk in &[1, 7, 41, 42, usize::MAX] {
         expect_from(rt, by, prefix, list, (chunk, Fault::Never), want);
     }
 }
@@ -253,7 +253,7 @@ const ALIKE: [(&[u8], &str, bool); 10] = [
 
 #[test]
 fn reads_lists_alike(rt: HostRuntime) {
-    for by in EACH {
+    for &by in &EACH {
         let (prefix, line) = match by {
             By::Letters => ("vorx", TREE_LETTERS),
             _ => ("4b82", TREE),
@@ -269,7 +269,7 @@ fn reads_lists_alike(rt: HostRuntime) {
 fn reports_the_whole_length_of_a_bad_line(rt: HostRuntime) -> Result<(), Fail> {
     let zeros = vec![in rt.alloc(); b'0'; 70_000]?;
     let want = "Err(BadLine { line: 1, error: InvalidHexEncodingLength(70000) })";
-    for chunk in [4096, 65_536, usize::MAX] {
+    for &chunk in &[4096, 65_536, usize::MAX] {
         let reader = (chunk, Fault::Never);
         expect_from(&rt, By::Hex, "4b82", &zeros, reader, (want, NO_MATCH));
     }
@@ -290,7 +290,7 @@ fn reads_nothing_after_a_bad_line(rt: HostRuntime) {
         ("abc", ended, (1, 0), SHORT, 0),
         ("4b82", unsorted.as_bytes(), (41, 1000), UNSORTED_2, 3),
     ];
-    for (prefix, list, (chunk, after), outcome, calls) in rows {
+    for &(prefix, list, (chunk, after), outcome, calls) in &rows {
         let reader = (chunk, Fault::AfterBytes(after));
         let called = expect_from(&rt, By::Hex, prefix, list, reader, (outcome, NO_MATCH));
         expect!(&rt; called == calls, outcome);
@@ -301,14 +301,14 @@ fn reads_nothing_after_a_bad_line(rt: HostRuntime) {
 #[test]
 fn reports_each_read_that_fails(rt: HostRuntime) {
     let list = text_of(&rt, SHA1);
-    for by in EACH {
+    for &by in &EACH {
         for at in 1..=14 {
             let want = if at < 14 {
                 ("Err(Input)", NO_MATCH)
             } else {
                 ("Ok(1)", by.line())
             };
-            for fault in [Fault::AtCall(at), Fault::InterruptedAt(at)] {
+            for &fault in &[Fault::AtCall(at), Fault::InterruptedAt(at)] {
                 let reader = (7, fault);
                 let calls = expect_from(&rt, by, by.prefix(), list.as_bytes(), reader, want);
                 expect!(&rt; calls == at.min(13), (by, at));
@@ -317,41 +317,52 @@ fn reports_each_read_that_fails(rt: HostRuntime) {
     }
 }
 
-// Ids of SHA-1, each the number of its line.
-fn numbers(alloc: Global, lines: usize) -> Result<String, AllocError> {
+// Ids of SHA-1, each the number of its line, and further lines.
+fn numbers(alloc: Global, lines: usize, more: &[&str]) -> Result<String, AllocError> {
     let mut text = String::new(alloc);
     for n in 0..lines {
         text.push_str(format!(in alloc; "{n:040x}\n")?.as_str())?;
     }
+    for line in more {
+        text.push_str(line)?;
+    }
     Ok(text)
+}
+
+// So many ids of SHA-1 in the list begin with the prefix, and their lines are written.
+fn expect_count(rt: &(impl Abort + AllocGlobal), list: &[u8], prefix: &str, count: usize) {
+    let mut input = FromSlice::new(list);
+    let mut out = Plain::new(Vec::new(rt.alloc()));
+    let found = search_from(
+        rt.alloc(),
+        Search::In(Kind::Sha1),
+        prefix,
+        &mut input,
+        MAX_LEN,
+        &mut out,
+    );
+    expect!(rt; matches!(found, Ok(n) if n == count), prefix);
+    expect!(rt; out.into_inner().len() == count.saturating_mul(41), prefix);
 }
 
 // Lists that are longer than what is read at once: a source is read in chunks of 65536 bytes, which
 // are 1598 lines of 41 bytes and a part of one.
 #[test]
 fn finds_across_parts(rt: HostRuntime) {
-    let mut list = numbers(rt.alloc(), 4000).expect(&rt, "no memory for a list");
-    for (prefix, count) in [
+    let list = numbers(rt.alloc(), 4000, &[]).expect(&rt, "no memory for a list");
+    for &(prefix, count) in &[
         ("0000000000000000000000000000000000000", 4000),
         ("00000000000000000000000000000000000006", 256),
     ] {
-        let mut input = FromSlice::new(list.as_bytes());
-        let mut out = Plain::new(Vec::new(rt.alloc()));
-        let found = search_from(
-            rt.alloc(),
-            Search::In(Kind::Sha1),
-            prefix,
-            &mut input,
-            MAX_LEN,
-            &mut out,
-        );
-        expect!(&rt; matches!(found, Ok(n) if n == count), prefix);
-        expect!(&rt; out.into_inner().len() == count * 41, prefix);
+        expect_count(&rt, list.as_bytes(), prefix, count);
     }
-    for id in [TREE, BLOB, TREE] {
-        list.push_str(id).expect(&rt, "no memory for a list");
-    }
-    for (by, outcome) in [
+}
+
+#[test]
+fn reports_a_bad_order_in_a_later_part(rt: HostRuntime) {
+    let more = [TREE, BLOB, TREE];
+    let list = numbers(rt.alloc(), 4000, &more).expect(&rt, "no memory for a list");
+    for &(by, outcome) in &[
         (By::In(Kind::Sha1), "Err(NotRising { line: 4003 })"),
         (By::Hex, "Err(Unsorted { line: 4003 })"),
     ] {

@@ -32,22 +32,23 @@ pub fn expect_run(
     input.into_inner().calls
 }
 
+const NO_HEX: &str = "Err(Find(Prefix(Invalid)))";
+
 #[test]
 fn runs_commands(rt: HostRuntime) {
     let list = text_of(&rt, &WELL_KNOWN);
     let list = list.as_bytes();
-    let no_hex = "Err(Find(Prefix(Invalid)))";
-    for (command, outcome, written) in [
+    for &(command, outcome, written) in &[
         (Command::Find { prefix: "4b82" }, "Ok(1)", TREE),
-        (Command::Find { prefix: "ltqm" }, no_hex, NO_MATCH),
+        (Command::Find { prefix: "ltqm" }, NO_HEX, NO_MATCH),
         (
             Command::FindChange { letters: "ltqm" },
             "Ok(1)",
             BLOB_LETTERS,
         ),
-        (Command::FindChange { letters: "4b82" }, no_hex, NO_MATCH),
+        (Command::FindChange { letters: "4b82" }, NO_HEX, NO_MATCH),
     ] {
-        for chunk in [1, 41, 1000] {
+        for &chunk in &[1, 41, 1000] {
             let reader = (chunk, Fault::Never);
             expect_run(&rt, command, list, reader, outcome, written.as_bytes());
         }
@@ -60,14 +61,14 @@ fn runs_commands(rt: HostRuntime) {
 fn reports_a_read_that_fails(rt: HostRuntime) {
     let bad_line = "Err(Find(BadLine { line: 1, error: InvalidHexEncodingLength(5) }))";
     let outcomes = [bad_line, "Err(Input)", "Err(Input)"];
-    for ((command, _), outcome) in SEARCHES.into_iter().zip(outcomes) {
+    for (&(command, _), &outcome) in SEARCHES.iter().zip(&outcomes) {
         let reader = (6, Fault::AtCall(2));
         expect_run(&rt, command, b"no id\n", reader, outcome, b"");
     }
     let list = text_of(&rt, &[BLOB, TREE]);
     let unsorted = "Err(Find(Unsorted { line: 2 }))";
     let outcomes = [unsorted, unsorted, "Err(Find(NotRising { line: 2 }))"];
-    for ((command, _), outcome) in SEARCHES.into_iter().zip(outcomes) {
+    for (&(command, _), &outcome) in SEARCHES.iter().zip(&outcomes) {
         let reader = (41, Fault::AtCall(4));
         let reads = expect_run(&rt, command, list.as_bytes(), reader, outcome, b"");
         expect!(&rt; reads == 3, command);
@@ -110,24 +111,24 @@ pub fn expect_flushed(
     expect_shown(rt, ended, outcome, &row);
 }
 
+// Writers, the result of a run, how many bytes of the line are taken, and how often is flushed.
+const WRITERS: [(usize, Fault, &str, usize, usize); 6] = [
+    (1000, Fault::Never, "Ok(1)", usize::MAX, 1),
+    (1, Fault::Never, "Ok(1)", usize::MAX, 1),
+    (0, Fault::Never, "Err(Output)", 0, 0),
+    (1000, Fault::AtCall(1), "Err(Output)", 0, 0),
+    (4, Fault::AfterBytes(10), "Err(Output)", 10, 0),
+    (1000, Fault::AtFlush, "Err(Output)", usize::MAX, 1),
+];
+
 #[test]
 fn flushes_at_the_end(rt: HostRuntime) {
     let list = text_of(&rt, &[TREE, BLOB]);
     let list = list.as_bytes();
-    let output = "Err(Output)";
-    for (command, line) in SEARCHES {
-        let line = line.as_bytes();
-        assert!(&rt; line.len() >= 10);
-        for (chunk, fault, outcome, taken, flushes) in [
-            (1000, Fault::Never, "Ok(1)", line, 1),
-            (1, Fault::Never, "Ok(1)", line, 1),
-            (0, Fault::Never, output, b"", 0),
-            (1000, Fault::AtCall(1), output, b"", 0),
-            (4, Fault::AfterBytes(10), output, &line[..10], 0),
-            (1000, Fault::AtFlush, output, line, 1),
-        ] {
-            let writer = (chunk, fault);
-            expect_flushed(&rt, command, list, writer, outcome, taken, flushes);
+    for &(command, line) in &SEARCHES {
+        for &(chunk, fault, outcome, taken, flushes) in &WRITERS {
+            let taken = &line.as_bytes()[..taken.min(line.len())];
+            expect_flushed(&rt, command, list, (chunk, fault), outcome, taken, flushes);
         }
     }
 }
@@ -156,7 +157,7 @@ fn least_heap(
 
 #[test]
 fn reports_too_little_memory(rt: HostRuntime) -> Result<(), Fail> {
-    for search in SEARCHES {
+    for &search in &SEARCHES {
         // The list text needs memory.
         expect!(&rt; least_heap(&rt, search)? > 0, search);
     }

@@ -98,7 +98,7 @@ fn hashes_and_seals(rt: HostRuntime) {
         (Kind::Sha1, million.as_slice(), MILLION),
         (Kind::Sha256, million.as_slice(), MILLION_256),
     ];
-    for (kind, message, line) in rows {
+    for &(kind, message, line) in &rows {
         expect_digest(&rt, kind, message, line);
         expect_sealed(&rt, kind, message, line);
     }
@@ -117,7 +117,7 @@ fn verified(sealed: &[u8], kind: Kind) -> Result<Result<(), verify::Error>, Fail
 
 #[test]
 fn seals_verifiably(rt: HostRuntime) -> Result<(), Fail> {
-    for (kind, abc, bbc) in [(Kind::Sha1, ABC, BBC), (Kind::Sha256, ABC_256, BBC_256)] {
+    for &(kind, abc, bbc) in &[(Kind::Sha1, ABC, BBC), (Kind::Sha256, ABC_256, BBC_256)] {
         let mut buf = [0; 80];
         let mut out = IntoSlice::new(&mut buf);
         seal(&mut FromSlice::new(b"abc"), &mut out, kind)?;
@@ -174,18 +174,21 @@ fn right(rt: &(impl Abort + AllocGlobal), pipe: Pipe) -> Vec<u8> {
     }
 }
 
+// Devices that take whole chunks, and those that take a byte a call.
+const FINE: (usize, Fault) = (usize::MAX, Fault::Never);
+
+const SINGLE: (usize, Fault) = (1, Fault::Never);
+
 #[test]
 fn ends_over_devices(rt: HostRuntime) {
-    let fine = (usize::MAX, Fault::Never);
-    let single = (1, Fault::Never);
-    for (pipe, read, write, calls) in [
-        (Pipe::Hash, fine, fine, (2, 1)),
-        (Pipe::Hash, single, fine, (4, 1)),
-        (Pipe::Hash, fine, single, (2, 41)),
-        (Pipe::Seal, fine, fine, (2, 2)),
-        (Pipe::Seal, single, fine, (4, 4)),
-        (Pipe::Seal, fine, single, (2, 23)),
-        (Pipe::Seal, single, single, (4, 23)),
+    for &(pipe, read, write, calls) in &[
+        (Pipe::Hash, FINE, FINE, (2, 1)),
+        (Pipe::Hash, SINGLE, FINE, (4, 1)),
+        (Pipe::Hash, FINE, SINGLE, (2, 41)),
+        (Pipe::Seal, FINE, FINE, (2, 2)),
+        (Pipe::Seal, SINGLE, FINE, (4, 4)),
+        (Pipe::Seal, FINE, SINGLE, (2, 23)),
+        (Pipe::Seal, SINGLE, SINGLE, (4, 23)),
     ] {
         let whole = right(&rt, pipe);
         let run = Run {
@@ -266,32 +269,29 @@ fn reports_a_write_that_fails(rt: HostRuntime) {
         expect_failed_write(&rt, Pipe::Seal, n, (1, Fault::AtCall(n)));
         expect_failed_write(&rt, Pipe::Seal, n, (1, Fault::InterruptedAt(n)));
     }
-    for pipe in [Pipe::Hash, Pipe::Seal] {
+    for &pipe in &[Pipe::Hash, Pipe::Seal] {
         expect_failed_write(&rt, pipe, 1, (0, Fault::Never));
     }
 }
 
-// Writers with room for a few bytes, and writers that take all after their error.
+// What writers take that have room for a few bytes, or take all after their error, and how often both
+// devices are called.
+const TAKEN: [(Pipe, Fault, &[u8], (usize, usize)); 6] = [
+    (Pipe::Hash, Fault::AfterBytes(5), b"a9993", (2, 2)),
+    (Pipe::Hash, Fault::AtCall(1), b"", (2, 1)),
+    (Pipe::Seal, Fault::AtCall(1), b"", (1, 1)),
+    (Pipe::Seal, Fault::AtCall(2), b"abc", (2, 2)),
+    (Pipe::Seal, Fault::AfterBytes(2), b"ab", (1, 2)),
+    (Pipe::Seal, Fault::AfterBytes(5), b"abc\xa9\x99", (2, 3)),
+];
+
 #[test]
 fn reports_a_write_of_more_bytes_that_fails(rt: HostRuntime) {
-    let whole = usize::MAX;
-    for (pipe, fault, taken, calls) in [
-        (
-            Pipe::Hash,
-            Fault::AfterBytes(5),
-            b"a9993".as_slice(),
-            (2, 2),
-        ),
-        (Pipe::Hash, Fault::AtCall(1), b"", (2, 1)),
-        (Pipe::Seal, Fault::AtCall(1), b"", (1, 1)),
-        (Pipe::Seal, Fault::AtCall(2), b"abc", (2, 2)),
-        (Pipe::Seal, Fault::AfterBytes(2), b"ab", (1, 2)),
-        (Pipe::Seal, Fault::AfterBytes(5), b"abc\xa9\x99", (2, 3)),
-    ] {
+    for &(pipe, fault, taken, calls) in &TAKEN {
         let run = Run {
             pipe,
-            read: (whole, Fault::Never),
-            write: (whole, fault),
+            read: FINE,
+            write: (usize::MAX, fault),
             outcome: Err(PipeError::Output),
             taken,
             calls,

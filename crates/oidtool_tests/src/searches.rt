@@ -84,7 +84,7 @@ fn next_line(by: By) -> &'static str {
 // Writers that fail at each call and after each byte, of two lines of 41 bytes.
 fn expect_each_failed(rt: &(impl Abort + AllocGlobal), searched: &Searched<'_>) {
     for n in 1..=82 {
-        for fault in [Fault::AtCall(n), Fault::InterruptedAt(n)] {
+        for &fault in &[Fault::AtCall(n), Fault::InterruptedAt(n)] {
             expect_taken(rt, searched, (1, fault), FAILED, n - 1, n);
         }
     }
@@ -96,11 +96,27 @@ fn expect_each_failed(rt: &(impl Abort + AllocGlobal), searched: &Searched<'_>) 
     }
 }
 
+const FOUND: &str = "Ok(2)";
+
+// Writers that take a byte a call, none, all after their error, and as much as there is room. With
+// each the result, how many bytes of two lines of 41 it takes, and in how many calls.
+const WRITERS: [(usize, Fault, &str, usize, usize); 10] = [
+    (1, Fault::Never, FOUND, 82, 82),
+    (0, Fault::Never, FAILED, 0, 1),
+    (7, Fault::AfterBytes(82), FOUND, 82, 12),
+    (usize::MAX, Fault::AtCall(1), FAILED, 0, 1),
+    (usize::MAX, Fault::AtCall(2), FAILED, 41, 2),
+    (usize::MAX, Fault::AfterBytes(10), FAILED, 10, 2),
+    (usize::MAX, Fault::AfterBytes(40), FAILED, 40, 2),
+    (usize::MAX, Fault::AfterBytes(41), FAILED, 41, 2),
+    (usize::MAX, Fault::AfterBytes(82), FOUND, 82, 2),
+    (usize::MAX, Fault::AtFlush, FOUND, 82, 2),
+];
+
 #[test]
 fn report_each_write_that_fails(rt: HostRuntime) {
-    let (found, whole) = ("Ok(2)", usize::MAX);
     let list = text_of(&rt, &[TREE, NEXT_TREE, BLOB, NEXT_BLOB]);
-    for search in SEARCHES {
+    for &search in &SEARCHES {
         let (by, _) = search;
         let lines = text_of(&rt, &[by.line(), next_line(by)]);
         let searched = Searched {
@@ -109,19 +125,7 @@ fn report_each_write_that_fails(rt: HostRuntime) {
             lines: lines.as_bytes(),
         };
         expect_each_failed(&rt, &searched);
-        // Those that take a byte a call, none, all after their error, and as much as there is room.
-        for (chunk, fault, outcome, len, calls) in [
-            (1, Fault::Never, found, 82, 82),
-            (0, Fault::Never, FAILED, 0, 1),
-            (7, Fault::AfterBytes(82), found, 82, 12),
-            (whole, Fault::AtCall(1), FAILED, 0, 1),
-            (whole, Fault::AtCall(2), FAILED, 41, 2),
-            (whole, Fault::AfterBytes(10), FAILED, 10, 2),
-            (whole, Fault::AfterBytes(40), FAILED, 40, 2),
-            (whole, Fault::AfterBytes(41), FAILED, 41, 2),
-            (whole, Fault::AfterBytes(82), found, 82, 2),
-            (whole, Fault::AtFlush, found, 82, 2),
-        ] {
+        for &(chunk, fault, outcome, len, calls) in &WRITERS {
             expect_taken(&rt, &searched, (chunk, fault), outcome, len, calls);
         }
     }
@@ -129,7 +133,7 @@ fn report_each_write_that_fails(rt: HostRuntime) {
 
 #[test]
 fn write_nothing_if_none_is_found(rt: HostRuntime) {
-    for search in SEARCHES {
+    for &search in &SEARCHES {
         let searched = Searched {
             search,
             list: b"5000000000000000000000000000000000000000\n",
@@ -172,7 +176,7 @@ fn granted_within(
 // As the heap grows, each growth is once the first that fails, until none does.
 fn expect_each_failed_growth(rt: &(impl Abort + AllocGlobal), search: Search) -> Result<(), Fail> {
     let mut lists = Vec::new(rt.alloc());
-    for lines in [4, 8, 9] {
+    for &lines in &[4, 8, 9] {
         lists.push(list_of(search.0, rt.alloc(), lines)?)?;
     }
     let mut before = 0;
@@ -193,7 +197,7 @@ fn expect_each_failed_growth(rt: &(impl Abort + AllocGlobal), search: Search) ->
 // found.
 #[test]
 fn report_each_growth_that_fails(rt: HostRuntime) -> Result<(), Fail> {
-    for search in SEARCHES {
+    for &search in &SEARCHES {
         expect_each_failed_growth(&rt, search)?;
     }
     Ok(())

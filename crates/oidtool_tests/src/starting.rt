@@ -121,7 +121,7 @@ fn expect_reported(
     want: &str,
     times: usize,
 ) {
-    for is_closed in [false, true] {
+    for &is_closed in &[false, true] {
         let listener = Listener {
             alloc: rt.alloc(),
             want,
