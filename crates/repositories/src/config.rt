@@ -13,15 +13,25 @@ const OF_VERSION_1: [&str; 3] = ["noop-v1", "refstorage", "relativeworktrees"];
 // Those that version 0 has, too.
 const OF_ANY_VERSION: [&str; 4] = ["noop", "partialclone", "preciousobjects", "worktreeconfig"];
 
+// The variables about the format that are booleans.
+const BOOLEANS: [&str; 3] = [
+    "core.bare",
+    "extensions.preciousobjects",
+    "extensions.worktreeconfig",
+];
+
 /// Why a config says no kind.
 #[derive(Debug, Drop, ThisError)]
 pub enum ConfigError {
     /// A line is no section and no variable. Its number, from 1.
     #[error("bad config line {0}")]
     Line(usize),
-    /// The version of the repository's format is not a number.
+    /// The version of the repository's format is not a number of 32 bits.
     #[error("core.repositoryformatversion is not a number")]
     NoVersion,
+    /// This variable is to be a boolean, and is none.
+    #[error("{0} is neither true nor false")]
+    NoBoolean(&'static str),
     /// The version of the repository's format is above 1.
     #[error("expected git repo version <= 1, found {0}")]
     Version(i64),
@@ -71,8 +81,15 @@ struct Format {
 }
 
 impl Format {
-    // Sets what a variable says.
+    // Sets what a variable says. Names and values end before a NUL, as Git's texts do.
     fn set(&mut self, alloc: Global, name: &[u8], value: Option<&[u8]>) -> Result<(), ConfigError> {
+        let name = before_nul(name);
+        let value = value.map(|value| before_nul(value));
+        if let Some(boolean) = known(&BOOLEANS, name)
+            && !is_boolean(value)
+        {
+            return Err(ConfigError::NoBoolean(boolean));
+        }
         if name == b"core.repositoryformatversion".as_slice() {
             self.version = Some(number(value).ok_or(ConfigError::NoVersion)?);
         } else if name == b"extensions.objectformat".as_slice() {
@@ -107,19 +124,85 @@ impl Format {
     }
 }
 
-// The extension of this name among some, if it is one of them.
-fn known(extensions: &[&'static str], name: &[u8]) -> Option<&'static str> {
-    for extension in extensions {
-        if extension.as_bytes() == name {
-            return Some(*extension);
+// The name among some that is this one, if it is one of them.
+fn known(names: &[&'static str], name: &[u8]) -> Option<&'static str> {
+    for known in names {
+        if known.as_bytes() == name {
+            return Some(*known);
         }
     }
     None
 }
 
-// The number that a value is.
+// The bytes before the first NUL.
+fn before_nul(text: &[u8]) -> &[u8] {
+    match text.iter().position(|byte| *byte == 0) {
+        Some(at) => &text[..at],
+        None => text,
+    }
+}
+
+// The bytes from the first one on that is no blank of C.
+fn after_blanks(text: &[u8]) -> &[u8] {
+    match text
+        .iter()
+        .position(|byte| !matches!(*byte, b' ' | b'\t'..=b'\r'))
+    {
+        Some(at) => &text[at..],
+        None => &[],
+    }
+}
+
+// The number that a value is, as Git reads it: blanks, a sign, digits in base 10, after `0` in base
+// 8 or after `0x` in base 16, and maybe a letter for times 2^10, 2^20 or 2^30. It has 31 bits and a
+// sign.
 fn number(value: Option<&[u8]>) -> Option<i64> {
-    str::from_utf8(value?.trim_ascii_start()).ok()?.parse().ok()
+    let (sign, text) = match after_blanks(value?) {
+        [b'-', rest @ ..] => (-1, rest),
+        [b'+', rest @ ..] => (1, rest),
+        text => (1, text),
+    };
+    let (digits, unit) = match text {
+        [digits @ .., b'k' | b'K'] => (digits, 1 << 10),
+        [digits @ .., b'm' | b'M'] => (digits, 1 << 20),
+        [digits @ .., b'g' | b'G'] => (digits, 1 << 30),
+        _ => (text, 1),
+    };
+    let size = magnitude(digits)?.checked_mul(unit)?;
+    if size <= i64::from(i32::MAX) {
+        size.checked_mul(sign)
+    } else {
+        None
+    }
+}
+
+// The number that digits mean, with the base before them.
+fn magnitude(digits: &[u8]) -> Option<i64> {
+    let (base, digits) = match digits {
+        [b'0', b'x' | b'X', rest @ ..] => (16, rest),
+        [b'0', ..] => (8, digits),
+        _ => (10, digits),
+    };
+    // No second sign, which is no digit.
+    match digits {
+        [first, ..] if first.is_ascii_hexdigit() => {
+            i64::from_str_radix(str::from_utf8(digits).ok()?, base).ok()
+        }
+        _ => None,
+    }
+}
+
+// Whether a value is a boolean: a word for one, a number or no value at all.
+fn is_boolean(value: Option<&[u8]>) -> bool {
+    let Some(text) = value else {
+        return true;
+    };
+    for word in ["", "true", "yes", "on", "false", "no", "off"] {
+        if text.eq_ignore_ascii_case(word.as_bytes()) {
+            return true;
+        }
+    }
+    number(value).is_some()
 }
 
 // The kind that a value names.
@@ -215,8 +298,8 @@ impl<'a> Variables<'a> {
         self.name.clear();
         while let Some(byte) = self.next_byte() {
             match byte {
-                b']' => return self.end_section(),
-                b' ' | b'\t' => return self.read_subsection(),
+                b']' if !self.name.is_empty() => return self.end_section(),
+                b' ' | b'\t' | b'\r' => return self.read_subsection(),
                 b'.' => self.name.push(byte)?,
                 _ if is_key_byte(byte) => self.name.push(byte.to_ascii_lowercase())?,
                 _ => return Err(self.bad_line()),
@@ -229,7 +312,7 @@ impl<'a> Variables<'a> {
     fn read_subsection(&mut self) -> Result<(), ConfigError>
         ensures { length self.new.left.now ≤ length self.old.left.now }
     {
-        while let [b' ' | b'\t', rest @ ..] = self.left {
+        while let [b' ' | b'\t' | b'\r', rest @ ..] = self.left {
             self.left = rest;
         }
         if self.next_byte() != Some(b'"') {

@@ -61,8 +61,21 @@ pub(crate) struct Repository {
     pub(crate) top: String,
 }
 
-// The repository, if there is one.
+// The repository, if there is one. It is looked for from the current folder, and read from the top
+// of its worktree, as by Git: so a relative `$GIT_COMMON_DIR` leads from there.
 pub(crate) fn find_repository<R: Files + Env + AllocGlobal>(
+    rt: &R,
+    given: &Environment,
+) -> Result<Option<Repository>, Error> {
+    let mut found = look_for_repository(rt, given)?;
+    if let (Some(repository), Some(common)) = (&mut found, &given.common) {
+        repository.folder = join(rt, &repository.top, common)?;
+    }
+    Ok(found)
+}
+
+// The repository that the environment names, or that is in the current folder or above it.
+fn look_for_repository<R: Files + Env + AllocGlobal>(
     rt: &R,
     given: &Environment,
 ) -> Result<Option<Repository>, Error> {
@@ -229,6 +242,7 @@ fn has_both<R: Files + AllocGlobal>(
 fn common_of<R: Files + AllocGlobal>(rt: &R, folder: &str) -> Result<String, Error> {
     let path = join(rt, folder, "commondir")?;
     match read_text(rt, &path)? {
+        Some(name) if name.is_empty() => Err(Error::text(rt.alloc(), &path, "empty")),
         Some(name) => {
             let common = join(rt, folder, without_line_ends(&name))?;
             existing_folder(rt, &common)
@@ -250,10 +264,14 @@ fn has_head<R: Files + AllocGlobal>(rt: &R, folder: &str) -> Result<bool, AllocE
     }
 }
 
+// Git reads the first 255 bytes.
 fn is_head(text: &[u8]) -> bool {
-    match text {
-        [b'r', b'e', b'f', b':', name @ ..] => name.trim_ascii_start().starts_with(b"refs/"),
-        _ => text.len() >= 40 && text[..40].iter().all(|digit| digit.is_ascii_hexdigit()),
+    match &text[..text.len().min(255)] {
+        [b'r', b'e', b'f', b':', rest @ ..] => {
+            let name = rest.iter().position(|byte| !b" \t\n\r".contains(byte));
+            name.is_some_and(|at| rest[at..].starts_with(b"refs/"))
+        }
+        text => text.len() >= 40 && text[..40].iter().all(|digit| digit.is_ascii_hexdigit()),
     }
 }
 
