@@ -13,6 +13,7 @@ use std::fs::File;
 use std::os::unix::fs::MetadataExt;
 use std::rt::Files;
 use std::{fs, io, str};
+use streams::ReadAt;
 
 // How many pack indexes are kept open. The others are opened again to be read, so that a store of
 // any number of packs is read with few open files.
@@ -196,7 +197,8 @@ pub(crate) struct OpenIndexes<R: Files<File = File>> {
     // Their paths, in order.
     pub(crate) paths: Vec<String>,
     pub(crate) indexes: Vec<LazyFile<Source<R>>>,
-    // Why others are passed over: they are no pack indexes of version 2 and of the kind.
+    // Why others are passed over: they are no pack indexes of version 2 and of the kind, or their
+    // counts fall.
     pub(crate) passed_over: Vec<Error>,
 }
 
@@ -237,7 +239,8 @@ fn open_all<R: Files<File = File> + AllocGlobal + Clone + Drop>(
     Ok(opened)
 }
 
-// Opens a pack index and adds it, or passes it over if it is none of version 2 and of the kind.
+// Opens a pack index and adds it, or passes it over if it is none of version 2 and of the kind, or
+// its counts fall.
 fn push_opened<R: Files<File = File> + AllocGlobal + Clone + Drop>(
     rt: &R,
     path: &str,
@@ -271,14 +274,42 @@ fn open_index<R: Files<File = File> + AllocGlobal + Clone + Drop>(
 ) -> Result<LazyFile<Source<R>>, Error>
     ensures { IfOk result (λ index. index.kind ≡ kind) }
 {
-    match Source::open(rt, path, stays_open) {
-        Ok(source) => match LazyFile::open(source, kind) {
-            Ok(index) => Ok(index),
-            Err(LazyError::Read(error)) => Err(not_opened(rt, path, error)),
-            Err(error) => Err(Error::index(rt.alloc(), path, error)),
-        },
-        Err(error) => Err(not_opened(rt, path, error)),
+    let source = match open_source(rt, path, stays_open) {
+        Ok(source) => source,
+        Err(error) => return Err(not_opened(rt, path, error)),
+    };
+    let fall = first_fall(&source);
+    match (LazyFile::open(source, kind), fall) {
+        (Ok(index), None) => Ok(index),
+        (Ok(_), Some(byte)) => {
+            let error = LazyError::CountsFall(byte);
+            Err(Error::index(rt.alloc(), path, error))
+        }
+        (Err(LazyError::Read(error)), _) => Err(not_opened(rt, path, error)),
+        (Err(error), _) => Err(Error::index(rt.alloc(), path, error)),
     }
+}
+
+// The first byte whose count in a pack index of version 2 is below the one before it, if its counts
+// can be read. Git reads no index that has one.
+fn first_fall<S: ReadAt>(source: &S) -> Option<u8> {
+    let mut counts = [0; 4 * 256];
+    source.read_exact_at(&mut counts, 8).ok()?;
+    let mut before = 0;
+    for byte in 0..=u8::MAX {
+        let at = 4 * usize::from(byte);
+        let count = u32::from_be_bytes([
+            counts[at],
+            counts[at + 1],
+            counts[at + 2],
+            counts[at + 3],
+        ]);
+        if count < before {
+            return Some(byte);
+        }
+        before = count;
+    }
+    None
 }
 
 // Why a pack index cannot be opened. A link to nothing is there, and so it was not removed.

@@ -99,8 +99,8 @@ impl<R: Files<File = File> + AllocGlobal + Clone + Drop> FolderStore<R> {
     }
 
     /// What was not read: alternates that are missing, are no folders, cannot be read or are nested too
-    /// deep, and pack indexes whose names are not UTF-8 or whose heads are not those of version 2 and
-    /// of the kind. Each has its path, or that of its folder, and why.
+    /// deep, and pack indexes whose names are not UTF-8, whose heads are not those of version 2 and of
+    /// the kind, or whose counts fall. Each has its path, or that of its folder, and why.
     ///
     /// ```
     /// let store = FolderStore::open(rt, &find_objects(rt)?, LooseIds::All)?;
