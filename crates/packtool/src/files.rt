@@ -7,7 +7,7 @@ use crate::failure::{Failure, FileWhy};
 use crate::input::Sha256Checker;
 use crate::words::lossy_text;
 use gix_hash::Kind;
-use pack_index::LazyFile;
+use pack_index::{LazyError, LazyFile};
 use packtool_commands::{
     FileError, Pairing, PairingError, pair, show as show_input, validate, write_ending,
     write_named, write_pairing,
@@ -73,8 +73,8 @@ enum Verdict {
 /// Prints whether a file is right, and returns it: whether a pack index is one and belongs to the
 /// pack beside it, or another file ends with its digest. If the output failed, nothing is printed.
 ///
-/// With no kind it is right in either; a file that is not of SHA-1 is read twice, and standard input
-/// once.
+/// With no kind it is right in either, and a pack index in the one that its length says; a file that
+/// is not of SHA-1 is read twice, and standard input once.
 pub fn check<'a, W: io::Write>(
     rt: &HostRuntime,
     path: &str,
@@ -161,18 +161,16 @@ fn verdict_of_file<'a>(
     kind: Option<Kind>,
 ) -> Result<Verdict, Failure<'a>> {
     let mut file = open(rt, path)?;
-    verdict_of_open(rt, &mut file, path, kind)
-}
-
-// What is said of a file that was opened.
-fn verdict_of_open<'a>(
-    rt: &HostRuntime,
-    file: &mut File,
-    path: &str,
-    kind: Option<Kind>,
-) -> Result<Verdict, Failure<'a>> {
-    if !is_index(&*file, path) {
-        return Ok(Verdict::Ends(ending_in(rt, file, path, kind)?));
+    if !is_index(&file, path) {
+        return Ok(Verdict::Ends(ending_in(rt, &mut file, path, kind)?));
+    }
+    let kind = match kind {
+        Some(kind) => Some(kind),
+        None => kind_by_length(open(rt, path)?),
+    };
+    match index_kind(rt, &mut file, path, kind)? {
+        Ok(kind) => verdict_beside_pack(rt, &mut file, path, kind),
+        Err(error) => Ok(Verdict::Faulty(error)),
     }
     let kind = match index_kind(rt, file, path, kind)? {
         Ok(kind) => kind,
@@ -185,6 +183,14 @@ fn verdict_of_open<'a>(
 fn is_index<S: ReadAt>(source: &S, path: &str) -> bool {
     let mut magic = [0; MAGIC.len()];
     path.ends_with(".idx") || source.read_exact_at(&mut magic, 0).is_ok() && magic == MAGIC
+}
+
+// SHA-256 if a pack index of version 1 or 2 has the length for its names to be of that kind.
+fn kind_by_length(index: File) -> Option<Kind> {
+    match LazyFile::open(index, Kind::Sha256) {
+        Ok(_) | Err(LazyError::Version1) => Some(Kind::Sha256),
+        Err(_) => None,
+    }
 }
 
 // The kind of the names of a pack index, or why it is none.

@@ -16,8 +16,7 @@ mod words;
 use arguments::{FileCommand, Request};
 use clap::ArgMatches;
 use failure::Failure;
-use gix_hash::Kind;
-use output::{buffered, flushed};
+use output::{buffered, flushed, report};
 use std::io::{self, ErrorKind};
 use std::process::ExitCode;
 use streams::Plain;
@@ -43,7 +42,7 @@ fn end(rt: &HostRuntime, outcome: Result<u8, Failure<'_>>) -> ExitCode {
         Ok(status) => ExitCode::from(status),
         Err(Failure::Output(error)) if is_closed_pipe(&error) => ExitCode::from(FOUND),
         Err(failure) => {
-            report(rt, &failure);
+            report(rt, &failure, "");
             ExitCode::from(FAILED)
         }
     }
@@ -52,11 +51,6 @@ fn end(rt: &HostRuntime, outcome: Result<u8, Failure<'_>>) -> ExitCode {
 // Whether nobody reads the output any more.
 fn is_closed_pipe(error: &io::Error) -> bool {
     error.kind() == ErrorKind::BrokenPipe
-}
-
-// Prints a failure. If that fails too, the status still says it.
-fn report(rt: &HostRuntime, failure: &Failure<'_>) {
-    let _ = eprintln!(rt; "packtool: {failure}");
 }
 
 // Runs the command that the words ask for over standard output, and returns the status.
@@ -118,7 +112,19 @@ fn run_over_files<'a>(
     let kind = arguments::kind(matches);
     let mut status = FOUND;
     for path in matches.get_strs("files").unwrap_or(&[]) {
-        status = status.max(run_over_file(rt, command, path, kind, &mut out)?);
+        let outcome = match command {
+            FileCommand::Show => files::show(rt, path, kind, &mut out),
+            FileCommand::Check => files::check(rt, path, kind, &mut out),
+        };
+        match outcome {
+            Ok(true) => {}
+            Ok(false) => status = status.max(NOTHING),
+            Err(Failure::File { path, why }) => {
+                report(rt, &Failure::File { path, why }, "");
+                status = FAILED;
+            }
+            Err(failure) => return Err(failure),
+        }
     }
     match (flushed(status, &mut out), command) {
         (Err(Failure::Output(error)), FileCommand::Check) if is_closed_pipe(&error) => Ok(status),

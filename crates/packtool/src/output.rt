@@ -1,9 +1,42 @@
 //! Standard output, through a buffer.
 
 use crate::failure::Failure;
+use std::alloc::{AllocError, Global};
 use std::cell::Cell;
+use std::fmt::Display;
 use std::io::{self, BufWriter};
 use streams::{BufferedSink, Plain};
+
+/// Prints a line on standard error: the program's name, an error and what is after it. If they have a
+/// backslash, a line feed or a carriage return, the line begins with a backslash and these are
+/// escaped, as names are in the output. If it can't be printed, the status still says it.
+pub fn report(rt: &HostRuntime, error: &impl Display, after: &str) {
+    let line = match format!(in rt.alloc(); "packtool: {error}{after}") {
+        Ok(line) => escaped(rt.alloc(), &line),
+        Err(error) => Err(error),
+    };
+    let _ = match line {
+        Ok(line) => eprintln!(rt; "{line}"),
+        Err(_) => eprintln!(rt; "packtool: out of memory"),
+    };
+}
+
+// A line in which names end no line.
+fn escaped(alloc: Global, text: &str) -> Result<String, AllocError> {
+    let mut line = String::new(alloc);
+    if text.contains(['\\', '\n', '\r']) {
+        line.push('\\')?;
+    }
+    for letter in text.chars() {
+        match letter {
+            '\\' => line.push_str("\\\\")?,
+            '\n' => line.push_str("\\n")?,
+            '\r' => line.push_str("\\r")?,
+            _ => line.push(letter)?,
+        }
+    }
+    Ok(line)
+}
 
 /// A writer that notes that it was called.
 #[derive(Drop)]

@@ -7,7 +7,7 @@ ghost use Rattle.streams.specs.Devices.{plain_failed};
 use crate::arguments::{self, StoreCommand};
 use crate::failure::Failure;
 use crate::files::expect_text;
-use crate::output::{Noting, buffered, flushed};
+use crate::output::{Noting, buffered, flushed, report};
 use crate::words::lossy_text;
 use crate::{FAILED, FOUND, NOTHING};
 use clap::ArgMatches;
@@ -216,7 +216,7 @@ fn status_of<'a, W>(
 // Prints what was passed over, and returns whether the store was read whole, that is nothing was.
 fn report_passed_over(rt: &HostRuntime, store: &FolderStore<HostRuntime>) -> bool {
     for error in store.passed_over() {
-        let _ = eprintln!(rt; "packtool: {error}, passed over");
+        report(rt, error, ", passed over");
     }
     store.passed_over().is_empty()
 }
