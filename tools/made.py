@@ -121,16 +121,16 @@ TWO = {
 }
 # Bytes of the first index, by position and value, and why it is passed over then.
 BAD_HEADS = [
+    # The count of byte 4a, and that of byte 4b.
+    (307, 3, "the count of the first byte 75 is below the one before it"),
+    (311, 3, "the count of the first byte 76 is below the one before it"),
     (0, 0, "the bytes do not begin as a pack index of version 2"),
     (7, 3, "pack indexes of version 3 are not read"),
     (1031, 5, "the tables of the pack index do not fill its bytes"),
 ]
 # And the error of its look-up of `4b`.
 DAMAGED = [
-    # The counts of byte 4a and of byte 4b, and the first byte of the first name.
-    (307, 3, "the count of the first byte 75 is below the one before it"),
-    (311, 5, "the count of the first byte 75 is above the number of names"),
-    (311, 3, "a name that is counted with the first byte 75 has another"),
+    # The first byte of the first name.
     (1032, 0, "a name that is counted with the first byte 75 has another"),
 ]
 
@@ -159,6 +159,10 @@ FOUND_FILES = {
     "r/odd/.git/refs/none": b"",
     "r/link/.git/objects/none": b"",
     "r/link/.git/refs/none": b"",
+    "r/.git/worktrees/empty/HEAD": HEAD,
+    "r/.git/worktrees/empty/commondir": b"",
+    "r/.git/worktrees/folder/HEAD": HEAD,
+    "r/.git/worktrees/folder/commondir/none": b"",
     "w/.git": b"gitdir: ../r/.git/worktrees/w\r\n",
     "w/config": b"[core]\n",
     "text/.git": b"gitdir:../r/.git",
@@ -224,6 +228,8 @@ NOT_FOUND = [
     ("strange", "{room}/strange/.git/config: unknown repository extension found: foo"),
     ("text", "{room}/text/.git: names no folder"),
     ("lost", "{room}/lost/../gone: not a git repository"),
+    ("r/.git/worktrees/empty", "{room}/r/.git/worktrees/empty/commondir: empty"),
+    ("r/.git/worktrees/folder", "{room}/r/.git/worktrees/folder/commondir: Is a directory (os error 21)"),
 ]
 # Paths, and what `find x` says of them as objects folders.
 AT = [
@@ -297,7 +303,7 @@ UNREAD_FILES = {
 # Objects folders that the environment names, what is done in them, and the errors.
 UNREAD = [
     ("gone", "names", "gone: No such file or directory (os error 2)"),
-    ("objects", "find 11", "objects/pack/pack-1.idx: the count of the first byte 17 is below the one before it"),
+    ("objects", "find 11", "objects/pack/pack-1.idx: the count of the first byte 17 is below the one before it, passed over"),
     ("22", "names", "22/22: Not a directory (os error 20)"),
     ("file", "names", "file/pack: Not a directory (os error 20)"),
     ("list", "names", "{room}/list/info/alternates: Is a directory (os error 21)"),
@@ -355,7 +361,21 @@ CONFIGS = [
     ("[core]\nrepositoryformatversion=0\nrepositoryformatversion=2\n", "expected git repo version <= 1, found 2"),
     ("[core]\nrepositoryformatversion=1\n[extensions]\nfoo\nnoop\n", "unknown repository extension found: foo"),
     ("[core]\nrepositoryformatversion=2\n[extensions]\nfoo\n", "expected git repo version <= 1, found 2"),
-    ("\n\n\n\n\n\n\n\n\n\n\n= x", "bad config line 12"),
+    ("\n" * 299 + "= x", "bad config line 300"),
+    ("[]\n", "bad config line 1"),
+    ('[ "a"]\nb=c\n[a\r"b"]\n', "sha1"),
+    ("[core]\nrepositoryformatversion=0x1\n[extensions]\nobjectformat=sha256\0x", "sha256"),
+    ("[core]\nrepositoryformatversion=+01\n[extensions]\nobjectformat=sha256", "sha256"),
+    ('[core]\nrepositoryformatversion="\\t1"\n[extensions "objectformat\0"]\nx=sha256', "sha256"),
+    ("[core]\nrepositoryformatversion=1K\n", "expected git repo version <= 1, found 1024"),
+    ("[core]\nrepositoryformatversion=010\n", "expected git repo version <= 1, found 8"),
+    ("[core]\nrepositoryformatversion=0Xa\n", "expected git repo version <= 1, found 10"),
+    ("[core]\nrepositoryformatversion=1023m\n", "expected git repo version <= 1, found 1072693248"),
+    ("[core]\nrepositoryformatversion=-1g\n[extensions]\nfoo", "sha1"),
+    ("[extensions]\nworktreeConfig=refs\n", "extensions.worktreeconfig is neither true nor false"),
+    ("[extensions]\npreciousObjects=1x\n", "extensions.preciousobjects is neither true nor false"),
+    ("[core]\nbare=truex\n", "core.bare is neither true nor false"),
+    ("[core]\nbare=\n[extensions]\nworktreeConfig=ON\npreciousObjects\nworktreeConfig=-0x1K\n", "sha1"),
     ("[a]\nb_c=1\n", "bad config line 2"),
     (
         '[core]\nrepositoryformatversion=1\n[extensions]\nobjectformat="sha256#"',
@@ -395,6 +415,10 @@ CONFIGS = [
     ("[core]\nx ; y\n", "bad config line 2"),
     ('[core]\nx = "y\n"', "bad config line 2"),
     ("[core]\nx = \\x\n", "bad config line 2"),
+]
+CONFIGS += [
+    (f"[core]\nrepositoryformatversion={text}\n", "core.repositoryformatversion is not a number")
+    for text in ("2g", "08", "0x", "k", "1kb", "+-1", "0x+1", "2147483648", "-2147483648", "1\\n", '"1 "')
 ]
 # Configs with extensions that Git knows from a later version on than 2.39, and what its documentation says of them; the first
 # is one that packtool does not know.

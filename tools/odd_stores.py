@@ -1,0 +1,340 @@
+"""Odd stores that tools/odd makes at random: repositories, configs, environments, objects folders and alternates, right ones,
+some that nobody would make, and broken ones. Loose objects are empty files and pack indexes are made by hand: of both
+nothing is read but the names."""
+
+import os
+import shutil
+from contextlib import suppress
+
+import made
+
+# Of each kind of ids: how many digits they have, and the name of the other kind.
+DIGITS = {"sha1": 40, "sha256": 64}
+OTHER = {"sha1": "sha256", "sha256": "sha1"}
+# The words of a config: each is chosen at random, some oftener.
+SECTIONS = ["[core]"] * 6 + ["[extensions]"] * 6
+SECTIONS += ["[CORE]", "[Extensions]", "[a]", "[core.x]", '[core "x"]', '[a "b\\"]#"]', '[a\t"\\b"]', "[core]\r"]
+SECTIONS += ["[]", "[ core]", "[core", "[core ]", "[core]x=y", '[extensions "noop"]', "[a_b]", "[.]", '[a "b" ]', '[a "b']
+SECTIONS += ['[a\r"b"]', '[ "a"]', '[extensions "objectformat\0"]', '[core "\0"]']
+VERSIONS = ["0"] * 6 + ["1"] * 6
+VERSIONS += ["2", "-1", "0x1", "0X0", "01", "08", "+1", "-0", "1k", "0k", "0g", "1 k", '"1"', '"1 "', '" 1"', "1 ; x", "1#"]
+VERSIONS += ["\\t1", "1\\n", "1\\\n", "\\\n1", "0x", "2147483648", "-2147483649", "0xg", "1\0x", "\0", '1"', "1\\x", "1\t", "1.0"]
+VERSIONS += ["3m", "9m", "x", ""]
+KINDS = ["sha256"] * 6 + ["sha1"] * 3
+KINDS += ["SHA256", "sha512", "", '"sha256"', "sha2\\\n56", "sha256 # x", "sha256\0x", "sha256\\n", 'sha"2"56', '"sha256 "']
+BOOLS = ["true", "false", "yes", "on", "", "TRUE", "0", "1k", "no", "refs", "2x", '"off"', "truex", "\0"]
+KEYS = ["repositoryformatversion", "objectformat", "noop", "noop-v1", "worktreeConfig", "preciousObjects", "partialclone"]
+KEYS += ["foo", "bare", "x-1", "a_b", "1"]
+JUNK = ["", "\n", "# [x]", "; a=b", "  ", "= x", "x", "x ; y", "x = \\x", 'x = "a\nb"', "x = a\\", "\0", "\ufeff", "\f", "x\f= 1"]
+JUNK += ['X9=\\"\\\\\\t', "\r", "x\0 = 1"]
+# Names of what is no loose object, beside those of the other kind.
+NO_OBJECTS = ["tmp_obj_f0K1Cz", "x", ".", "g" * 38, "0" * 37, "0" * 39, "0" * 37 + "G", "0" * 37 + ".", " " + "0" * 37]
+NO_FOLDERS = ["0", "000", "4", "4g", "4B", "AA", "FF", "4b ", "-1", "\u00e9"]
+PACK_FILES = ["x.keep", "x.promisor", "x.rev", "x.bitmap", "x.mtimes", "tmp_idx_x", "tmp_pack_x", "x.idx.lock", "x.IDX", "idx"]
+PACK_FILES += ["multi-pack-index~", "pack-1.idx~"]
+
+
+def chance(rng, share):
+    """Whether something happens that does so this often."""
+    return rng.random() < share
+
+
+def replace(folder):
+    """Puts a file in the place of an empty folder."""
+    folder.rmdir()
+    folder.write_bytes(b"")
+
+
+def config(rng):
+    """The text of a config."""
+    if chance(rng, 0.5):
+        kind, version = rng.choice(["sha1", "sha256"]), rng.choice("11110")
+        text = f"[core]\n\trepositoryformatversion = {version}\n"
+        return text + (f"[extensions]\n\tobjectformat = {kind}\n" if version == "1" else "")
+    lines = ["\ufeff"] if chance(rng, 0.1) else []
+    for _ in range(rng.randrange(6)):
+        lines.append(rng.choice(SECTIONS[:12] if chance(rng, 0.7) else SECTIONS))
+        lines += [variable(rng) if chance(rng, 0.9) else rng.choice(JUNK) for _ in range(rng.randrange(4))]
+    ends = ["\n", "\r\n", "\n\n", " ", "\n\t", "\r"] if chance(rng, 0.2) else ["\n"]
+    return "".join(line + rng.choice(ends) for line in lines)
+
+
+def variable(rng):
+    """A line of a config."""
+    key = rng.choice(KEYS[:2] * 4 + KEYS)
+    values = {"repositoryformatversion": VERSIONS, "objectformat": KINDS, "bare": BOOLS}
+    values |= {"worktreeConfig": BOOLS, "preciousObjects": BOOLS}
+    value = rng.choice(values.get(key, ["x", "", '"a;b"', "a # b"]))
+    spelled = rng.choice([key, key, key.upper(), key.title()])
+    # (Git 2.39 crashes of `partialclone` without a value)
+    if chance(rng, 0.05) and key != "partialclone":
+        return spelled
+    return f"{spelled}{rng.choice(['=', ' = ', chr(9) + '=', ' ='])}{value}"
+
+
+def quoted(rng, path):
+    """A path in quotation marks, with some bytes as octal digits."""
+    letters = {7: "\\a", 9: "\\t", 10: "\\n", 34: '\\"', 92: "\\\\"}
+    spell = lambda byte: f"\\{byte:03o}" if byte > 126 or chance(rng, 0.1) else letters.get(byte, chr(byte))  # noqa: E731
+    return '"' + "".join(spell(byte) for byte in os.fsencode(path)) + '"' + ("x" if chance(rng, 0.05) else "")
+
+
+def spelled(rng, path, start):
+    """A way of writing the path of a folder, from another folder."""
+    text = str(path) if chance(rng, 0.4) else os.path.relpath(path, start)
+    for old, new in [("/", "//"), ("/", "/./"), ("/objects", "/info/../objects")]:
+        text = text.replace(old, new, 1) if chance(rng, 0.1) and not text.startswith("/") else text
+    return text + ("/" if chance(rng, 0.1) else "")
+
+
+class Oddity:
+    """A store in a folder, where a program looks for it, and in which environment."""
+
+    def __init__(self, rng, room):
+        self.rng, self.room = rng, room
+        # Where the program runs, what its environment has, what nobody may read, and in which folders nobody may look at
+        # files.
+        self.cwd, self.env, self.locked, self.unsearched = room, {}, [], []
+        # The folders of objects that were made, and the ids that may be in them.
+        self.objects, self.ids = [], []
+        # Whether nothing leads to it from outside, since its path is not UTF-8, as paths of packtool are.
+        self.is_alone = False
+
+    def write(self, path, content=b""):
+        """Writes a file, unless there is something of this name, or a file in place of its folder."""
+        with suppress(FileExistsError, NotADirectoryError):
+            path.parent.mkdir(parents=True, exist_ok=True)
+            if not path.is_symlink() and not path.exists():
+                path.write_bytes(os.fsencode(content) if isinstance(content, str) else content)
+
+    def head(self):
+        """The text of a `HEAD`, mostly a right one."""
+        rng = self.rng
+        right = ["ref: refs/heads/main\n", "ref:refs/x", "ref: \t\n refs/", "0123456789abcdefABCD" * 2, "f" * 64 + "\n", "f" * 41]
+        wrong = ["ref: heads/main\n", "f" * 39, "", "x", "ref:", "ref: \frefs/x", " ref: refs/x", "g" * 40, "REF: refs/x"]
+        wrong += ["ref: Refs/x", "ref:" + " " * 300 + "refs/x"]
+        return rng.choice(wrong if chance(rng, 0.06) else right)
+
+    def repository(self, folder, text=None):
+        """Makes a folder a repository, or something like it."""
+        rng = self.rng
+        if chance(rng, 0.1):
+            self.write(folder / "x")
+            (folder / "HEAD").symlink_to(rng.choice(["refs/heads/main", "refs/", "main", "/refs/x", "../HEAD"]))
+        elif not chance(rng, 0.03):
+            self.write(folder / "HEAD", self.head())
+        if not chance(rng, 0.03):
+            (folder / "objects").mkdir(parents=True, exist_ok=True)
+        for name in ("refs", "objects"):
+            if chance(rng, 0.03):
+                self.write(folder / name)
+        if not chance(rng, 0.03):
+            self.write(folder / "refs" / "none")
+        if not chance(rng, 0.1):
+            self.write(folder / "config", config(rng) if text is None else text)
+        self.objects.append(folder / "objects")
+
+    def link(self, at, target):
+        """Makes a file `.git` that names a repository."""
+        rng = self.rng
+        begin = rng.choice(["gitdir: "] * 12 + ["gitdir:", "gitdir:\t", "Gitdir: ", " gitdir: ", ""])
+        end = rng.choice(["\n", "", "\r\n", "\n\n", "\r\r\n\n"] * 3 + [" \n", "\nx"])
+        self.write(at, begin + spelled(rng, target, at.parent) + end)
+
+    def make(self):
+        """Makes the repository, in one of many ways, and chooses where the program runs, and in which environment."""
+        rng = self.rng
+        top = self.room / rng.choice(["r", "r s", "r\u00e9", "a\\b", 'q"', "c:d", "r\udcff"])
+        self.is_alone = "\udcff" in top.name
+        form = rng.choice(["worktree", "bare"] if self.is_alone else ["worktree", "bare", "linked", "file", "symlink", "nested"])
+        inner = top if form == "bare" else top / ".git"
+        if form in ("file", "linked", "symlink"):
+            inner = self.room / "elsewhere" / rng.choice(["x.git", ".git"])
+        top.mkdir()
+        self.repository(inner)
+        gitdir = inner
+        if form == "linked":
+            gitdir = inner / "worktrees" / "w"
+            self.write(gitdir / "HEAD", self.head())
+            end = rng.choice(["\n", "", "\r\n", "\n\n", " \n"])
+            common = rng.choice([spelled(rng, inner, gitdir) + end] * 8 + ["\n", ""])
+            self.write(gitdir / "commondir", common)
+        if form == "symlink":
+            (top / ".git").symlink_to(spelled(rng, inner, top).rstrip("/"))
+        elif form in ("file", "linked"):
+            self.link(top / ".git", gitdir)
+        below = [top / "d", top / "d/e/f/g/h/i", inner, inner / "refs", inner / "info"]
+        self.cwd = rng.choice([top, top, top, *below])
+        with suppress(FileExistsError):
+            self.cwd.mkdir(parents=True, exist_ok=True)
+        self.cwd = self.cwd if self.cwd.is_dir() else top
+        if form == "nested":
+            self.repository(rng.choice([top / "d", top / "d/.git", top / "d/e/.git"]))
+        # Where a bare repository is found above, Git reads its config by a relative $GIT_COMMON_DIR from the top, and its
+        # objects from the current folder.
+        is_worktree = form not in ("bare", "nested") and inner not in [self.cwd, *self.cwd.parents]
+        if not self.is_alone:
+            self.environment(gitdir, is_worktree)
+
+    def environment(self, gitdir, is_worktree):
+        """Sets variables of the environment."""
+        rng = self.rng
+        cwd = self.cwd
+        if chance(rng, 0.2):
+            self.env["GIT_DIR"] = rng.choice([spelled(rng, gitdir, cwd)] * 6 + ["", "none", ".git", "."])
+        if chance(rng, 0.08):
+            other = self.room / "common"
+            self.repository(other)
+            path = spelled(rng, other, cwd) if is_worktree else str(other)
+            self.env["GIT_COMMON_DIR"] = rng.choice([path] * 4 + ["", "none", str(gitdir)])
+        if chance(rng, 0.15):
+            other = self.room / "other" / rng.choice(["objects", "o"])
+            other.mkdir(parents=True)
+            self.objects.append(other)
+            self.env["GIT_OBJECT_DIRECTORY"] = rng.choice([str(other)] * 4 + [spelled(rng, other, cwd)] * 2 + ["", "none"])
+        others = {"GIT_CEILING_DIRECTORIES": "/none", "GIT_DEFAULT_HASH": "sha256", "GIT_NAMESPACE": "x"}
+        self.env |= {name: value for name, value in others.items() if chance(rng, 0.03)}
+
+    def clustered(self, kind):
+        """Ids of a kind, many of which share their first digits, and of one first byte."""
+        rng, ids = self.rng, []
+        for _ in range(rng.randrange(1, 40) if chance(rng, 0.98) else 600):
+            begin = rng.choice(ids)[: rng.choice([2, 2, 4, 5, 8, 20, 39])] if ids and (chance(rng, 0.6) or len(ids) > 40) else ""
+            ids.append(begin + "".join(rng.choices("0123456789abcdef", k=DIGITS[kind] - len(begin))))
+        ids += rng.choices(["0" * DIGITS[kind], "f" * DIGITS[kind]], k=rng.randrange(2))
+        return list(dict.fromkeys(ids))
+
+    def fill(self, kind):
+        """Puts objects into all folders of objects, and links them to each other."""
+        rng = self.rng
+        self.ids = self.clustered(kind)
+        chain = [self.room / "lent" / str(number) for number in range(0 if self.is_alone else rng.choice([0, 0, 1, 2, 3, 9]))]
+        self.objects += [path / "objects" for path in chain]
+        for folder in self.objects:
+            if folder.is_dir():
+                self.loose(folder, kind)
+                self.packs(folder, kind)
+        for at, folder in enumerate(self.objects):
+            if folder.is_dir() and not self.is_alone and chance(rng, 0.9 if folder.parent in chain else 0.4):
+                later = [path for path in self.objects[at + 1 :] if path.parent in chain][:1] if chance(rng, 0.8) else []
+                self.write(folder / "info" / "alternates", self.alternates(folder, later))
+        if chance(rng, 0.1):
+            listed = rng.choice(self.objects) / "info" / "alternates"
+            if listed.is_file():
+                listed.unlink()
+                rng.choice([listed.mkdir, lambda: listed.symlink_to("none"), lambda: replace(listed.parent)])()
+        if not self.is_alone and chance(rng, 0.2):
+            paths = [self.alternate(self.cwd, rng.choice(self.objects)) for _ in range(rng.choice([1, 2, 12]))]
+            self.env["GIT_ALTERNATE_OBJECT_DIRECTORIES"] = ":".join(paths)
+        self.lock()
+
+    def loose(self, folder, kind):
+        """Makes loose objects in a folder, and what looks like them."""
+        rng = self.rng
+        for id in rng.sample(self.ids, rng.randrange(len(self.ids) + 1)):
+            self.write(folder / id[:2] / id[2:])
+        for _ in range(rng.choice([0, 0, 1, 3])):
+            id = rng.choice(self.ids)
+            part = folder / id[:2]
+            part.mkdir(exist_ok=True)
+            others = [id[2:] + "0", id[2:-1], id[2:].upper(), id, rng.choice("0f") * (DIGITS[OTHER[kind]] - 2)]
+            other = rng.choice([*NO_OBJECTS, *others])
+            if chance(rng, 0.1):
+                (part / id[2:]).mkdir(exist_ok=True) if not (part / id[2:]).exists() else None
+            elif chance(rng, 0.2) and not os.path.lexists(part / other):
+                (part / other).symlink_to(rng.choice(["none", "../info", id[2:]]))
+            else:
+                self.write(part / other) if other != "." else None
+        for name in rng.sample(NO_FOLDERS, rng.choice([0, 0, 1, 2])):
+            self.write(folder / name / rng.choice(self.ids)[2:])
+        free = [f"{byte:02x}" for byte in range(256) if not (folder / f"{byte:02x}").exists()]
+        if chance(rng, 0.04):
+            self.write(folder / rng.choice(free))
+        if chance(rng, 0.1):
+            (folder / rng.choice(free)).symlink_to(rng.choice(["none", "info", rng.choice(self.ids)[:2]]))
+
+    def packs(self, folder, kind):
+        """Makes packs in a folder, and what looks like them."""
+        rng, pack = self.rng, folder / "pack"
+        if chance(rng, 0.02):
+            self.write(pack)
+            return
+        for number in range(rng.choice([0, 0, 1, 1, 2, 3])):
+            names = [f"pack-{number}", f"pack-{rng.choice(self.ids)}", f"x{number}", "", " ", "pack-1.idx", "a\\b", "\u00e9"]
+            name = rng.choice(names)
+            ids = sorted(rng.sample(self.ids, rng.randrange(1, len(self.ids) + 1)))
+            self.write(pack / f"{name}.idx", self.index(ids, kind))
+            way = rng.choice(["pack"] * 9 + ["none", "folder", "link", "dangling"])
+            target = pack / f"{name}.pack"
+            if way == "pack":
+                self.write(target)
+            with suppress(FileExistsError):
+                if way == "folder":
+                    target.mkdir()
+                elif way in ("link", "dangling"):
+                    target.symlink_to("../../HEAD" if way == "link" else "none")
+        for name in rng.sample(PACK_FILES, rng.choice([0, 0, 1, 3])):
+            self.write(pack / name)
+        if chance(rng, 0.03):
+            self.write(pack / "lone.pack")
+            (pack / "lone.idx").symlink_to("none")
+
+    def index(self, ids, kind):
+        """A pack index of ids, sometimes a bad one."""
+        rng = self.rng
+        rows = [(rng.randrange(12, 1 << 31), id, rng.getrandbits(32)) for id in ids]
+        if chance(rng, 0.1) and len(rows) > 1:
+            rows[0] = (rng.choice([1 << 32, 1 << 31, (1 << 63) - 1]), *rows[0][1:])
+        whole = made.pack_index(rows)
+        if not chance(rng, 0.15):
+            return whole
+        counts = [int.from_bytes(whole[at : at + 4], "big") for at in range(8, 1032, 4)]
+        falls = [at for at in range(1, 256) if counts[at - 1]]
+        ways = [whole[: rng.randrange(len(whole))], whole + b"\0", b"\0" + whole[1:], whole[:7] + b"\3" + whole[8:]]
+        ways += [b"", made.pack_index([(*row[:1], row[1][:8].ljust(DIGITS[OTHER[kind]], "0"), 0) for row in rows])]
+        if falls:
+            at = 8 + 4 * rng.choice(falls)
+            ways += [whole[:at] + bytes(4) + whole[at + 4 :]] * 2
+        if kind == "sha1":
+            ways += [made.version_1([(12, *row[1:]) for row in rows], bytes(20))]
+        return rng.choice(ways)
+
+    def alternate(self, folder, target):
+        """A line of a list of alternates, of a folder that has it."""
+        rng = self.rng
+        path = spelled(rng, target, folder)
+        odd = ["none", "/none/a", "../none/../none", "HEAD", ".", "", "#x", " ", f"{path}\r", f" {path}", '"x', "/", str(folder)]
+        odd += ["../../HEAD", "info"]
+        if chance(rng, 0.25):
+            return rng.choice(odd)
+        return quoted(rng, path) if chance(rng, 0.2) else path
+
+    def alternates(self, folder, later):
+        """A list of alternates of a folder, which has these."""
+        rng = self.rng
+        chosen = [*later, *rng.choices(self.objects, k=rng.choice([0, 0, 1, 2]))]
+        rng.shuffle(chosen)
+        lines = [str(target) if target in later and chance(rng, 0.7) else self.alternate(folder, target) for target in chosen]
+        return "\n".join(lines) + rng.choice(["\n", "\n", "", "\n\n", "\n#"])
+
+    def lock(self):
+        """Takes from all the leave to read a folder or file, if anything."""
+        rng = self.rng
+        if not chance(rng, 0.1):
+            return
+        folder = rng.choice(self.objects)
+        names = ("pack", "info/alternates", "[0-9a-f][0-9a-f]")
+        found = [path for name in names for path in folder.glob(name)] if folder.is_dir() else []
+        if found := [path for path in found if not path.is_symlink()]:
+            self.locked.append(rng.choice(found))
+            self.locked[0].chmod(0)
+            # (a folder may be listed, and yet no file in it be looked at)
+            if len(self.locked[0].name) == 2 and chance(rng, 0.5):
+                self.unsearched.append(self.locked.pop())
+                self.unsearched[0].chmod(0o400)
+
+    def remove(self):
+        """Removes the store."""
+        for path in [*self.locked, *self.unsearched]:
+            path.chmod(0o700)
+        shutil.rmtree(self.room)
