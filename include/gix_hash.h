@@ -30,7 +30,7 @@
 extern "C" {
 #endif
 
-#define GIX_HASH_VERSION "0.4.0"
+#define GIX_HASH_VERSION "0.5.0-dev"
 
 /* gcc warns of bytes that are fewer than their len says, and of what is not initialised. */
 #if defined(__GNUC__) && __GNUC__ >= 10
@@ -136,7 +136,8 @@ typedef struct gix_hash_hasher {
 } gix_hash_hasher;
 
 /* Returns the version of the library that is linked: 10,000 times the first number of GIX_HASH_VERSION,
- * 100 times the second, and the third. */
+ * 100 times the second, and the third. A version that ends in -dev has the numbers of the release that
+ * it becomes. */
 uint32_t gix_hash_version(void);
 
 /* Reads an id from a text of 40 or 64 hex digits in either case.

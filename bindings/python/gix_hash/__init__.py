@@ -27,7 +27,7 @@ from collections.abc import Iterator, Sequence
 from typing import Any, Dict, List, NamedTuple, Optional, Tuple, Type, TypeVar, Union, overload
 
 __all__ = ["Buffer", "Code", "Entry", "Error", "Hasher", "Id", "Kind", "ObjectType", "PackIndex", "Prefix", "SortedDigests"]
-__version__ = "0.4.0"
+__version__ = "0.5.0-dev"
 # What has bytes. (Other objects that do, as an array of bytes, are taken too.)
 Buffer = Union[bytes, bytearray, memoryview, mmap.mmap]
 _T = TypeVar("_T")
