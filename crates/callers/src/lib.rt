@@ -4,6 +4,8 @@
 //! The pages CALLING.md of `gix_hash`, `id_lookup`, `pack_index` and `store_folders` quote it.
 #![tactic(auto)]
 
+/// Branches, found by the first digits of the ids that they point to.
+pub mod branches;
 /// Ids that are compared, verified and printed, and kinds by their names.
 pub mod checking;
 /// The head of a commit.
@@ -18,8 +20,6 @@ pub mod reading;
 pub mod references;
 /// The objects of a repository that a typed name means.
 pub mod resolving;
-/// Runs of a prefix in sorted lists.
-pub mod runs;
 /// Sets and maps of ids.
 pub mod sets;
 /// Ids in any order, sorted as look-ups take them.
