@@ -20,5 +20,5 @@ usage: oidtool find PREFIX | find-change LETTERS | find-in KIND PREFIX | hash KI
 
 A list has an id in hex digits on each line. It is read from standard input, as the bytes to hash or to seal are. KIND is
 sha1 or sha256. The status is 0 if an id was written, 1 if none matches, and 2 for an error, which is printed on
-standard error.
+standard error. DIAGNOSTICS in oidtool(1) says what each error means.
 ";
