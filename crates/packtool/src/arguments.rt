@@ -63,7 +63,7 @@ const COMMANDS: [Row; 5] = [
     Row {
         request: Request::Store(StoreCommand::Where),
         name: "where",
-        about: "Prints the same, each id with every pack and offset, or loose file, that has it",
+        about: "Prints each pack and offset, or loose file, of each id that begins with a prefix",
         arguments: &[Argument::Prefix, Argument::Objects, Argument::Kind],
     },
     Row {
@@ -116,7 +116,6 @@ pub fn command<'a>(alloc: Global) -> Result<Command<'a>, AllocError> {
         .no_binary_name(true)
         .bin_name("packtool")?
         .subcommand_required(true)
-        .disable_help_subcommand(true)
         .after_help(AFTER);
     for row in &COMMANDS {
         program = program.subcommand(subcommand(alloc, row)?)?;

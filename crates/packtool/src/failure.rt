@@ -22,10 +22,10 @@ pub enum Failure<'a> {
         /// Why.
         why: Box<FileWhy>,
     },
-    /// This text is no prefix.
+    /// A text that begins so is no prefix.
     #[error("{text}: not 2 to {most} hex digits")]
     Prefix {
-        /// The text.
+        /// Its beginning.
         text: &'a str,
         /// How many digits an id of the store has.
         most: usize,

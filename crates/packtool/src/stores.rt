@@ -7,8 +7,8 @@ ghost use Rattle.streams.specs.Devices.{plain_failed};
 use crate::arguments::{self, StoreCommand};
 use crate::failure::Failure;
 use crate::files::expect_text;
-use crate::output::{Noting, buffered, flushed, report};
-use crate::words::lossy_text;
+use crate::output::{Noting, buffered, flushed};
+use crate::words::{beginning, lossy_text};
 use crate::{FAILED, FOUND, NOTHING};
 use clap::ArgMatches;
 use gix_hash::{Kind, Prefix};
@@ -275,7 +275,7 @@ fn read_prefix<'a>(matches: &ArgMatches<'a>, kind: Kind) -> Result<Prefix, Failu
     {
         return Ok(prefix);
     }
-    let text = lossy_text(text).unwrap_or(text);
+    let text = beginning(lossy_text(text).unwrap_or(text));
     let most = kind.len_in_hex();
     Err(Failure::Prefix { text, most })
 }

@@ -45,6 +45,11 @@ fn word_of(alloc: Global, bytes: &[u8]) -> Result<String, AllocError> {
     Ok(word)
 }
 
+/// The first bytes of a text, at most 80, up to the end of a character.
+pub fn beginning(text: &str) -> &str {
+    text.get(..text.floor_char_boundary(80)).unwrap_or(text)
+}
+
 /// The text of a word whose argument is not UTF-8, or `None` if it is.
 pub fn lossy_text(word: &str) -> Option<&str> {
     word.strip_suffix('\0')
