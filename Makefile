@@ -21,11 +21,11 @@ $(foreach crate,$(CRATES),$(eval direct_$(crate) := $(filter $(CRATES),$(named_$
 below = $(sort $(foreach low,$(direct_$1),$(low) $(call below,$(low))))
 
 # The crates that the goals need, the lowest first.
-goal_crates = $(or $(filter $1,$(PROGRAMS)),$(if $(filter lib,$1),gix_hash_c,$(PROGRAMS) $(if $(filter install,$1),gix_hash_c)))
+goal_crates = $(or $(filter $1,$(PROGRAMS)),$(if $(filter lib install-lib,$1),gix_hash_c,$(PROGRAMS) $(if $(filter install,$1),gix_hash_c)))
 NEEDED := $(foreach goal,$(or $(MAKECMDGOALS),all),$(call goal_crates,$(goal)))
 export NEEDED := $(filter $(NEEDED) $(foreach crate,$(NEEDED),$(call below,$(crate))),$(CRATES))
 
-.PHONY: all help lib test bench install uninstall clean always $(PROGRAMS)
+.PHONY: all help lib test bench install install-lib uninstall clean always $(PROGRAMS)
 .DELETE_ON_ERROR:
 
 all: $(PROGRAMS)
@@ -35,6 +35,7 @@ help:
 	@echo 'make lib: the library for C, out/libgix_hash.a and out/libgix_hash.so'
 	@echo 'make test: all proofs, edits and tests; make bench: the time and the instructions that the programs take'
 	@echo 'make install PREFIX=/usr/local: programs, man pages, library and bindings; make uninstall: they go'
+	@echo 'make install-lib PREFIX=/usr/local: the library and its bindings alone, which proves no program'
 	@echo 'make clean: all that was built goes'
 
 $(PROGRAMS): %: crates/%/out/built
@@ -71,6 +72,9 @@ bench: $(PROGRAMS)
 
 install: $(PROGRAMS) lib
 	tools/install '$(DESTDIR)' '$(PREFIX)'
+
+install-lib: lib
+	tools/install --lib '$(DESTDIR)' '$(PREFIX)'
 
 uninstall:
 	tools/install --remove '$(DESTDIR)' '$(PREFIX)'

@@ -52,7 +52,7 @@ extern "C" {
 #define GIX_HASH_TAG 4
 
 /* Codes: the name, the number and the meaning of each. From 16 on they say why bytes are not a pack
- * index. "detail" is a number that gix_hash_pack_check writes. */
+ * index. "detail" is a number that gix_hash_pack_check writes, and "at" one of gix_hash_check_sorted. */
 #define GIX_HASH_CODES(CODE) \
     CODE(OK, 0, "success") \
     CODE(BAD_LENGTH, 1, "no id or prefix has this length") \
@@ -61,7 +61,7 @@ extern "C" {
     CODE(NO_ROOM, 4, "the buffer is too short") \
     CODE(TOO_LONG, 5, "the prefix has more digits than ids of the kind") \
     CODE(OUT_OF_RANGE, 6, "the index is not below the number of names") \
-    CODE(UNSORTED, 7, "a digest is below the one before it") \
+    CODE(UNSORTED, 7, "a digest is below the one before it (at: its index)") \
     CODE(NOT_UNIQUE, 8, "another name is the same, so no beginning of this one is unique") \
     CODE(BAD_TYPE, 9, "the type is not one of GIX_HASH_COMMIT to GIX_HASH_TAG") \
     CODE(TOO_SHORT, 16, "fewer bytes than any pack index has") \

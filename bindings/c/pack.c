@@ -13,12 +13,13 @@ static int fail(const char *what, uint32_t code) {
 }
 
 int main(int count, char **words) {
-    if (count != 3) return 2;
+    if (count != 3) return fputs("usage: pack INDEX PREFIX\n", stderr), 2;
     struct stat about;
     int file = open(words[1], O_RDONLY);
     if (file < 0 || fstat(file, &about)) return perror(words[1]), 2;
     size_t len = (size_t)about.st_size;
-    const uint8_t *bytes = mmap(NULL, len, PROT_READ, MAP_PRIVATE, file, 0);
+    /* (an empty file cannot be mapped) */
+    const uint8_t *bytes = len ? mmap(NULL, len, PROT_READ, MAP_PRIVATE, file, 0) : NULL;
     if (bytes == MAP_FAILED) return perror(words[1]), 2;
     uint32_t kind = 0, code = gix_hash_pack_kind(bytes, len, &kind); /* checks the index whole */
     if (code) return fail(words[1], code);

@@ -1,4 +1,7 @@
-"""Builds the wheel of gix_hash for pip (PEP 517), which needs no other package for it, and no network."""
+"""Builds the wheel of gix_hash for pip (PEP 517), which needs no other package for it, and no network.
+
+If the library is in the package, the wheel has it, and is for the platform of config_settings, or else for this machine.
+"""
 
 import base64
 import hashlib
@@ -14,20 +17,27 @@ License: MIT OR Apache-2.0
 Requires-Python: >=3.9
 Classifier: Programming Language :: Python :: Implementation :: CPython
 """
-WHEEL = "Wheel-Version: 1.0\nGenerator: backend\nRoot-Is-Purelib: true\nTag: py3-none-any\n"
+WHEEL = "Wheel-Version: 1.0\nGenerator: backend\nRoot-Is-Purelib: {}\nTag: {}\n"
+LIBRARY = "gix_hash/libgix_hash.so"
 
 
 def build_wheel(wheel_directory, config_settings=None, metadata_directory=None):
-    """Writes the wheel into a folder, and returns its name."""
-    files = {name: (HERE / name).read_bytes() for name in ("gix_hash/__init__.py", "gix_hash/py.typed")}
-    version = re.search(r'__version__ = "(.*)"', files["gix_hash/__init__.py"].decode())[1]
+    """Writes the wheel into a directory, and returns its name. Its bytes depend on those of its files alone."""
+    names = ("gix_hash/__init__.py", "gix_hash/py.typed", LIBRARY)
+    files = {name: (HERE / name).read_bytes() for name in names if (HERE / name).exists()}
+    tag = "py3-none-any"
+    if LIBRARY in files:
+        tag = f"py3-none-{(config_settings or {}).get('platform', 'linux_x86_64')}"
+    version = re.search(r'__version__ = "(.*)"', files["gix_hash/__init__.py"].decode())[1].replace("-dev", ".dev0")
     name = f"nunbirdstand-{version}"
     files[f"{name}.dist-info/METADATA"] = f"{ABOUT}Version: {version}\n".encode()
-    files[f"{name}.dist-info/WHEEL"] = WHEEL.encode()
+    files[f"{name}.dist-info/WHEEL"] = WHEEL.format("false" if LIBRARY in files else "true", tag).encode()
     digests = {file: base64.urlsafe_b64encode(hashlib.sha256(data).digest()).decode() for file, data in files.items()}
     lines = [f"{file},sha256={digests[file].rstrip('=')},{len(data)}\n" for file, data in files.items()]
     files[f"{name}.dist-info/RECORD"] = "".join([*lines, f"{name}.dist-info/RECORD,,\n"]).encode()
-    with zipfile.ZipFile(Path(wheel_directory, f"{name}-py3-none-any.whl"), "w", zipfile.ZIP_DEFLATED) as wheel:
+    with zipfile.ZipFile(Path(wheel_directory, f"{name}-{tag}.whl"), "w") as wheel:
         for file, data in files.items():
-            wheel.writestr(file, data)
-    return f"{name}-py3-none-any.whl"
+            entry = zipfile.ZipInfo(file)  # of 1980
+            entry.external_attr, entry.compress_type = 0o100644 << 16, zipfile.ZIP_DEFLATED
+            wheel.writestr(entry, data)
+    return f"{name}-{tag}.whl"

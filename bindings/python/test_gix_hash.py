@@ -18,7 +18,7 @@ import threading
 import unittest
 
 # Where `make lib` leaves it.
-os.environ.setdefault("GIX_HASH_LIBRARY", str(pathlib.Path(__file__).resolve().parents[2] / "out" / "libgix_hash.so"))
+os.environ.setdefault("GIX_HASH_LIB", str(pathlib.Path(__file__).resolve().parents[2] / "out" / "libgix_hash.so"))
 import gix_hash  # noqa: E402
 from gix_hash import Code, Error, Hasher, Id, Kind, ObjectType, PackIndex, Prefix, SortedDigests  # noqa: E402
 
@@ -144,20 +144,32 @@ class Bindings(unittest.TestCase):
             self.assertEqual((type(made), repr(made), made), (OwnId, f"OwnId('{EMPTY}')", Id(EMPTY)))
         own.__init__("g" * 40)
         self.assertEqual(str(own), EMPTY)
+        self.assertEqual(str(Error(Code.BAD_DIGIT)), "a byte of the text is not a hex digit")
+        self.assertEqual(str(Error(Code.UNSORTED, 7)), "a digest is below the one before it (its index: 7)")
         for error in (Error(Code.BAD_DIGIT), Error(Code.UNSORTED, 7)):
             same = pickle.loads(pickle.dumps(error))
             self.assertEqual((same.code, same.detail, str(same)), (error.code, error.detail, str(error)))
         self.fails(Code.UNKNOWN, 99, gix_hash._check, 99, 5)
 
     def test_library(self):
-        for path, why in (("/nowhere.so", "/nowhere.so"), ("libc.so.6", "gix_hash_")):
-            found = {**os.environ, "GIX_HASH_LIBRARY": path, "PYTHONPATH": os.pathsep.join(sys.path)}
-            ran = subprocess.run([sys.executable, "-c", "import gix_hash"], env=found, stderr=subprocess.PIPE, text=True)
-            self.assertRegex(ran.stderr, f"ImportError: .*{why}.*GIX_HASH_LIBRARY")
+        file = os.environ["GIX_HASH_LIB"]
+        none = {name: text for name, text in os.environ.items() if not name.startswith("GIX_HASH")}
+        none["PYTHONPATH"] = os.pathsep.join(sys.path)
+        for name, path, why in (
+            ("GIX_HASH_LIB", file, None),
+            ("GIX_HASH_LIB", os.path.dirname(file), None),
+            ("GIX_HASH_LIBRARY", file, None),
+            ("GIX_HASH_LIB", "/nowhere.so", "/nowhere.so"),
+            ("GIX_HASH_LIB", "/", "/"),
+            ("GIX_HASH_LIB", "libc.so.6", "gix_hash_"),
+        ):
+            words = [sys.executable, "-c", "import gix_hash"]
+            ran = subprocess.run(words, env={**none, name: path}, stderr=subprocess.PIPE, text=True)
+            self.assertRegex(ran.stderr, f"ImportError: .*{why}.*GIX_HASH_LIB" if why else "^$")
         source = pathlib.Path(gix_hash.__file__).read_text(encoding="utf-8")
-        for version in ("9.9.0", "0.3.9", "0.5.0"):
-            with self.assertRaisesRegex(ImportError, f"is not {version[:3]}: set GIX_HASH_LIBRARY"):
-                exec(source.replace(f'"{gix_hash.__version__}"', f'"{version}"'), {"__name__": "other"})
+        for version in ("9.9.0", "0.3.9", "0.4.0"):
+            with self.assertRaisesRegex(ImportError, f"is not {version[:3]}: set GIX_HASH_LIB"):
+                exec(source.replace(f'"{gix_hash.__version__}"', f'"{version}"'), {"__name__": "other", "__file__": "/"})
         found = {}
         exec("from gix_hash import *", found)
         public = {"Buffer", "Code", "Entry", "Error", "Hasher", "Id", "Kind", "ObjectType", "PackIndex", "Prefix", "SortedDigests"}

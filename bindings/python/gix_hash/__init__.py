@@ -1,7 +1,7 @@
 """Git's object ids over libgix_hash, whose calls are proved; this module is only tested.
 
-Ids are spelled and compared here, and the rest is done by the library. The environment variable GIX_HASH_LIBRARY names its
-file, unless it is installed.
+Ids are spelled and compared here, and the rest is done by the library. It is beside this module or where the loader looks,
+or the environment variable GIX_HASH_LIB is the path of its file, or of the directory that has libgix_hash.so.
 
 Bytes are taken from any object that has them one after the other, as bytes, a memoryview or an mmap, and are not copied. So
 nobody may change them during a call, in which other threads run, nor while a SortedDigests or a PackIndex has them. If the
@@ -55,40 +55,46 @@ class ObjectType(enum.IntEnum):
 
 
 class Code(enum.IntEnum):
-    """What failed. The header gix_hash.h says what each code means."""
+    """What failed, and its text, that of the header gix_hash.h."""
 
-    BAD_LENGTH = 1
-    BAD_DIGIT = 2
-    BAD_KIND = 3
-    NO_ROOM = 4
-    TOO_LONG = 5
-    OUT_OF_RANGE = 6
-    UNSORTED = 7
-    NOT_UNIQUE = 8
-    BAD_TYPE = 9
-    TOO_SHORT = 16
-    VERSION_1 = 17
-    BAD_MAGIC = 18
-    BAD_VERSION = 19
-    WRONG_LENGTH = 20
-    NAMES_FALL = 21
-    WRONG_COUNT = 22
-    NO_OFFSET = 23
-    LONG_OUT_OF_ORDER = 24
-    SPARE_LONG = 25
-    OFFSET_IN_HEADER = 26
-    OFFSET_TOO_HIGH = 27
-    WRONG_CHECKSUM = 28
-    OTHER_KIND = 29
-    UNKNOWN = 2**32 - 1
-    """The library is a later one, and returned a code that is not in this list: the error's detail."""
+    text: str
+
+    def __new__(cls, number: int, text: str = "") -> "Code":
+        code = int.__new__(cls, number)
+        code._value_, code.text = number, text
+        return code
+
+    BAD_LENGTH = 1, "no id or prefix has this length"
+    BAD_DIGIT = 2, "a byte of the text is not a hex digit"
+    BAD_KIND = 3, "the kind is neither GIX_HASH_SHA1 nor GIX_HASH_SHA256"
+    NO_ROOM = 4, "the buffer is too short"
+    TOO_LONG = 5, "the prefix has more digits than ids of the kind"
+    OUT_OF_RANGE = 6, "the index is not below the number of names"
+    UNSORTED = 7, "a digest is below the one before it (at: its index)"
+    NOT_UNIQUE = 8, "another name is the same, so no beginning of this one is unique"
+    BAD_TYPE = 9, "the type is not one of GIX_HASH_COMMIT to GIX_HASH_TAG"
+    TOO_SHORT = 16, "fewer bytes than any pack index has"
+    VERSION_1 = 17, "a pack index of version 1, by its length"
+    BAD_MAGIC = 18, "no pack index: the magic number is missing"
+    BAD_VERSION = 19, "a pack index of another version than 2 (detail: which)"
+    WRONG_LENGTH = 20, "the tables do not fill the bytes"
+    NAMES_FALL = 21, "a name is below the one before it (detail: its index)"
+    WRONG_COUNT = 22, "the names of a first byte are counted wrong (detail: the byte)"
+    NO_OFFSET = 23, "the offset of a name is in no table (detail: its index)"
+    LONG_OUT_OF_ORDER = 24, "a name's long offset is not the next one (detail: its index)"
+    SPARE_LONG = 25, "a long offset is of no name (detail: its number)"
+    OFFSET_IN_HEADER = 26, "the offset of a name is below 12 (detail: its index)"
+    OFFSET_TOO_HIGH = 27, "the offset of a name is 2^63 or more (detail: its index)"
+    WRONG_CHECKSUM = 28, "the last bytes are not the digest of those before them"
+    OTHER_KIND = 29, "a pack index of the other kind (detail: which)"
+    UNKNOWN = 2**32 - 1, "a code of a later library, which is not in this list (detail: which)"
 
 
 class Error(ValueError):
-    """Why a call failed: its code, and the index, byte, version, kind or code that it speaks of, else 0."""
+    """Why a call failed: its code, and the index, byte, version, kind or code that its text speaks of, else 0."""
 
     def __init__(self, code: Code, detail: int = 0):
-        super().__init__(f"{code.name}, {detail}" if detail else code.name)
+        super().__init__(re.sub(r"\((?:detail|at): (.*)\)", rf"(\1: {detail})", code.text))
         self.code, self.detail = code, detail
 
     def __reduce__(self) -> Tuple[Any, ...]:
@@ -145,9 +151,21 @@ def _typed(declared: str) -> Tuple[str, Any]:
 for _name, _listed in re.findall(r"struct (\w+) { (.*?); }", _DECLARED):
     _fields = {"_fields_": [_typed(it) for it in _listed.split(";")]}
     _TYPES[_name] = type(_name, (ctypes.Structure,), _fields)
-# The library is installed under the first two numbers of its version.
+
+
+def _path() -> str:
+    """Where the library is. It is installed under the first two numbers of its version."""
+    # (the second name is that of earlier versions)
+    given = os.environ.get("GIX_HASH_LIB") or os.environ.get("GIX_HASH_LIBRARY")
+    beside = os.path.dirname(__file__)
+    for path in (given, os.path.join(given or beside, "libgix_hash.so")):
+        if path and os.path.isfile(path):
+            return os.path.abspath(path)
+    return given or f"libgix_hash.so.{__version__.rpartition('.')[0]}"
+
+
 try:
-    _lib = ctypes.CDLL(os.environ.get("GIX_HASH_LIBRARY", f"libgix_hash.so.{__version__.rpartition('.')[0]}"))
+    _lib = ctypes.CDLL(_path())
     for _result, _name, _listed in re.findall(r"(\w+) (gix_hash_\w+)\((.*?)\);", " ".join(_DECLARED.split())):
         _call = getattr(_lib, _name)
         _call.restype, _call.argtypes = _TYPES[_result], [_typed(it)[1] for it in _listed.split(",") if it != "void"]
@@ -155,7 +173,7 @@ try:
     if _lib.gix_hash_version() // 100 != 100 * _high + _low:
         raise OSError(f"the version of the library is not {_high}.{_low}")
 except (OSError, AttributeError) as _error:
-    raise ImportError(f"{_error}: set GIX_HASH_LIBRARY to the path of libgix_hash.so") from None
+    raise ImportError(f"{_error}: set GIX_HASH_LIB to the path of libgix_hash.so, or of its directory") from None
 _Id, _Prefix, _Run, _Entry, _Hasher = (_TYPES[f"gix_hash_{it}"] for it in ("id", "prefix", "run", "entry", "hasher"))
 _CODES = frozenset(Code)
 
