@@ -21,11 +21,11 @@ $(foreach crate,$(CRATES),$(eval direct_$(crate) := $(filter $(CRATES),$(named_$
 below = $(sort $(foreach low,$(direct_$1),$(low) $(call below,$(low))))
 
 # The crates that the goals need, the lowest first.
-goal_crates = $(or $(filter $1,$(PROGRAMS)),$(if $(filter lib install-lib,$1),gix_hash_c,$(PROGRAMS) $(if $(filter install,$1),gix_hash_c)))
+goal_crates = $(or $(filter $1,$(PROGRAMS)),$(if $(filter lib install-lib,$1),gix_hash_c,$(PROGRAMS) $(if $(filter install dist,$1),gix_hash_c)))
 NEEDED := $(foreach goal,$(or $(MAKECMDGOALS),all),$(call goal_crates,$(goal)))
 export NEEDED := $(filter $(NEEDED) $(foreach crate,$(NEEDED),$(call below,$(crate))),$(CRATES))
 
-.PHONY: all help lib test bench install install-lib uninstall clean always $(PROGRAMS)
+.PHONY: all help lib test bench install install-lib uninstall dist clean always $(PROGRAMS)
 .DELETE_ON_ERROR:
 
 all: $(PROGRAMS)
@@ -36,6 +36,7 @@ help:
 	@echo 'make test: all proofs, edits and tests; make bench: the time and the instructions that the programs take'
 	@echo 'make install PREFIX=/usr/local: programs, man pages, library and bindings; make uninstall: they go'
 	@echo 'make install-lib PREFIX=/usr/local: the library and its bindings alone, which proves no program'
+	@echo 'make dist: archives for users without the kit, in out/dist'
 	@echo 'make clean: all that was built goes'
 
 $(PROGRAMS): %: crates/%/out/built
@@ -75,6 +76,9 @@ install: $(PROGRAMS) lib
 
 install-lib: lib
 	tools/install --lib '$(DESTDIR)' '$(PREFIX)'
+
+dist: $(PROGRAMS) lib
+	tools/dist
 
 uninstall:
 	tools/install --remove '$(DESTDIR)' '$(PREFIX)'
