@@ -4,7 +4,7 @@ import sys
 
 from gix_hash import Error, PackIndex, Prefix
 
-words = argparse.ArgumentParser(description="Prints the offset and the short name of each id that begins with a prefix.")
+words = argparse.ArgumentParser(description="Prints the offset and the abbreviation of each id that begins with a prefix.")
 words.add_argument("index", type=pathlib.Path)
 words.add_argument("prefix")
 given = words.parse_args()

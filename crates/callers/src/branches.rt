@@ -1,5 +1,5 @@
-//! Branches, which are found by the first digits of the ids that they point to: a struct of one's own
-//! as `Id`.
+//! Branches, which are found by the first digits of the ids that they point to: a struct of one's
+//! own as `Id`.
 
 ghost use Rattle.std.specs.Prelude.{◌≡◌, ◌↔◌, ◌≤◌, ℕ, IfSome, IsSome, length, map, slice_range};
 ghost use Rattle.std.specs.List.Sorted.{IsPermutation};
