@@ -152,7 +152,7 @@ class Bindings(unittest.TestCase):
         self.fails(Code.UNKNOWN, 99, gix_hash._check, 99, 5)
 
     def test_library(self):
-        file = os.environ["GIX_HASH_LIB"]
+        file = gix_hash._path()
         none = {name: text for name, text in os.environ.items() if not name.startswith("GIX_HASH")}
         none["PYTHONPATH"] = os.pathsep.join(sys.path)
         for name, path, why in (
