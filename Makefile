@@ -69,7 +69,7 @@ test:
 
 bench: $(PROGRAMS)
 	$(APART) tools/bench
-	$(APART) tools/instructions
+	$(APART) tools/instructions --calls
 
 install: $(PROGRAMS) lib
 	tools/install '$(DESTDIR)' '$(PREFIX)'
