@@ -416,7 +416,7 @@ class Prefix:
 
 
 class Entry(NamedTuple):
-    """What a pack index contains about an object: its name, where it begins in the pack, and the CRC-32 there."""
+    """What a pack index contains about an object: its id, where it begins in the pack, and the CRC-32 there."""
 
     id: Id
     offset: int
@@ -514,14 +514,14 @@ class PackIndex(_Table[Entry]):
 
     @classmethod
     def of_any_kind(cls, data: Buffer) -> "PackIndex":
-        """The same, of whichever kind the names are. The error is one from TOO_SHORT to WRONG_CHECKSUM."""
+        """The same, of whichever kind the ids are. The error is one from TOO_SHORT to WRONG_CHECKSUM."""
         made = cls.__new__(cls)
         made._hold(cls.kind_of(data), data)
         return made
 
     @staticmethod
     def kind_of(data: Buffer) -> Kind:
-        """The kind of the names of a pack index, which is checked whole. The error is one from TOO_SHORT to WRONG_CHECKSUM."""
+        """The kind of the ids of a pack index, which is checked whole. The error is one from TOO_SHORT to WRONG_CHECKSUM."""
         (held, *given), kind = _bytes(data), ctypes.c_uint32()
         if _lib.gix_hash_pack_kind(*given, kind):
             PackIndex(Kind.SHA1, data)  # raises the same error, with its detail
@@ -544,8 +544,8 @@ class PackIndex(_Table[Entry]):
         return Id._of(made)
 
     def abbreviate(self, at: int) -> int:
-        """The smallest number of first digits, at least 4, with which no other name begins. The error is NOT_UNIQUE for
-        a name that occurs more than once."""
+        """The length of the shortest prefix, of 4 digits or more, with which no other id begins. The error is NOT_UNIQUE
+        for an id that occurs more than once."""
         hex_len = ctypes.c_size_t()
         _check(_lib.gix_hash_pack_abbreviate(*self._given, range(len(self))[operator.index(at)], hex_len))
         return hex_len.value

@@ -38,24 +38,24 @@ codes! {
     BadKind = 3, "the kind is neither SHA-1 nor SHA-256";
     NoRoom = 4, "the buffer is too short";
     TooLong = 5, "the prefix has more digits than ids of the kind";
-    OutOfRange = 6, "the index is not below the number of names";
-    Unsorted = 7, "the digest at index `detail` is below the one before it";
-    NotUnique = 8, "another name is the same";
+    OutOfRange = 6, "the position is not below the number of objects";
+    Unsorted = 7, "the digest at position `detail` is below the one before it";
+    NotUnique = 8, "another object has the same id";
     BadType = 9, "the type of the object is not one of the four";
     TooShort = 16, "the bytes are too few for a pack index";
     Version1 = 17, "the pack index has version 1";
     BadMagic = 18, "the bytes do not begin as a pack index";
     BadVersion = 19, "the pack index has version `detail`, not 2";
     WrongLength = 20, "the tables of the pack index do not fill its bytes";
-    NamesFall = 21, "the name at index `detail` is below the one before it";
-    WrongCount = 22, "the names up to the first byte `detail` are counted wrong";
-    NoOffset = 23, "the name at index `detail` has no offset";
-    LongOutOfOrder = 24, "the long offset of the name at index `detail` is not the next one";
-    SpareLong = 25, "the long offset number `detail` is of no name";
-    OffsetInHeader = 26, "the offset of the name at index `detail` is in the header of the pack";
-    OffsetTooHigh = 27, "the offset of the name at index `detail` is 2^63 or more";
+    NamesFall = 21, "the id at position `detail` is below the one before it";
+    WrongCount = 22, "the fan-out entry of the first byte `detail` is wrong";
+    NoOffset = 23, "the 8-byte offset of the object at position `detail` is missing";
+    LongOutOfOrder = 24, "the 8-byte offset of the object at position `detail` is not the next one";
+    SpareLong = 25, "the 8-byte offset at position `detail` is unused";
+    OffsetInHeader = 26, "the offset of the object at position `detail` is in the header of the pack";
+    OffsetTooHigh = 27, "the offset of the object at position `detail` is 2^63 or more";
     WrongChecksum = 28, "the checksum of the pack index is wrong";
-    OtherKind = 29, "the names of the pack index are of kind `detail`, the other one";
+    OtherKind = 29, "the ids of the pack index are of kind `detail`, the other one";
 }
 
 /// Why a call failed.
