@@ -46,7 +46,7 @@ pub fn resolve<'a>(index: &IdIndex<'a>, name: &str) -> Result<Resolved<'a>, pref
     }
 }
 
-/// Writes the shortest name of an id of an index, and a line feed.
+/// Writes the abbreviation of an id of an index, and a line feed.
 pub fn write_name<W: io::Write>(index: &IdIndex<'_>, at: usize, out: &mut W) -> io::Result<()>
     requires { at < length index.now.ids }
     ensures { OnOk result ((name : List ℕ) × IsShortestName index.now.ids at name

@@ -48,7 +48,7 @@ impl<'a> oid<'a> {
     ghost use Rattle.std.specs.List.{common_prefix_len};
     ghost use Rattle.gix_hash.specs.CommonDigits.{IsCommonLen};
 
-    /// A view of a digest whose length is known to be 20 or 32 bytes.
+    /// A view of a digest. The caller must ensure that it has 20 or 32 bytes.
     pub fn from_bytes_unchecked(bytes: &'a [u8]) -> Self
         requires { IsTrue (is_digest_len (length bytes.now)) }
         ensures { oid_bytes result ≡ bytes.now }
@@ -251,7 +251,8 @@ impl<'a> oid<'a> {
 
     // The digits in front of a buffer, as text.
     pub(crate) fn front_text<'b>(&self, buffer: &'b [u8]) -> &'b str
-        requires { (rest : List ℕ) × (buffer.now ≡ spelling hex_letter (oid_digits self.now) ++ rest) }
+        requires { (rest : List ℕ)
+            × (buffer.now ≡ spelling hex_letter (oid_digits self.now) ++ rest) }
         ensures text { result.now ≡ spelling hex_letter (oid_digits self.now) }
         ensures ascii { IsAscii result.now }
         ensures len { length result.now ≡ hex_len_of (oid_kind self.now) }

@@ -2,7 +2,8 @@
 
 use thiserror::Error as ThisError;
 
-/// A text that is not the digits of an id in the alphabet that it is read in.
+/// The error of reading an id from a text, which is not the digits of one in the alphabet that it
+/// is read in.
 ///
 /// ```
 /// // Neither 40 nor 64 digits.

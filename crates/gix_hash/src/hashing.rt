@@ -7,8 +7,8 @@ pub(crate) mod state;
 use crate::object_id::ObjectId;
 use thiserror::Error as ThisError;
 
-/// Why a hasher gives no digest. No hasher of this crate returns it, since none looks for
-/// collisions.
+/// The error of [`Hasher::try_finalize`](crate::Hasher::try_finalize). No hasher of this crate
+/// returns it, since none looks for collisions.
 ///
 /// ```
 /// match hasher(Kind::Sha1).try_finalize() {

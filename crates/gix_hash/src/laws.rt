@@ -43,8 +43,7 @@ pub fn letters()
         → reverse_letter d ≡ slice_index (codes "zyxwvutsrqponmlk") d }
 {}
 
-/// A text reads as the digits that `digits_read` gives, and as no others; and if it gives none, the
-/// text reads as no list of digits.
+/// `digits_read` returns the only digits that the text spells, or `None` if it spells none.
 pub fn readings(alphabet: Alphabet, text: &[u8])
     ensures some { (digits : List ℕ) → (digits_read (letter_of alphabet) text.now ≡ Some digits)
         ↔ ReadsAs (letter_of alphabet) text.now digits }
@@ -60,7 +59,8 @@ pub fn spelled(alphabet: Alphabet, text: &[u8])
         × (str_to_ascii_lowercase text.now ≡ spelling (letter_of alphabet) digits)) }
 {}
 
-/// The digits of some id of a kind are those that its ids have.
+/// A list of digits is that of some [`ObjectId`] of the kind if and only if it has the kind's
+/// length and each digit is below 16.
 pub fn digits_of_ids(kind: Kind)
     ensures { (digits : List ℕ) → AreIdDigits kind digits
         ↔ ((id : ids.ObjectId) × HasDigits kind digits id) }
@@ -219,8 +219,10 @@ pub fn compare_as_ids(first: &ChangeId, second: &ChangeId)
 pub fn compare_hex_displays<'a>(first: &HexDisplay<'a>, second: &HexDisplay<'a>)
     ensures eq { ⟦<HexDisplay<'a> as PartialEq>⟧.eq first.now second.now
         ≡ cut_eq first.now second.now }
-    ensures cmp { ⟦<HexDisplay<'a> as Ord>⟧.cmp first.now second.now ≡ cut_cmp first.now second.now }
-    ensures hash_input { ⟦<HexDisplay<'a> as Hash>⟧.hash_input first.now ≡ cut_hash_input first.now }
+    ensures cmp { ⟦<HexDisplay<'a> as Ord>⟧.cmp first.now second.now
+        ≡ cut_cmp first.now second.now }
+    ensures hash_input { ⟦<HexDisplay<'a> as Hash>⟧.hash_input first.now
+        ≡ cut_hash_input first.now }
 {}
 
 /// Displays in the letters `z` to `k` are equal and ordered as those in hex, and feed the same to a

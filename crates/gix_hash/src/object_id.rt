@@ -17,6 +17,9 @@ use std::{fmt, io};
 
 /// The id of a Git object: the digest of its header and content.
 ///
+/// Ids are ordered by kind, and then by digits. A sorted list for look-ups wants the order of
+/// digits only: `id_lookup::sort_ids`.
+///
 /// ```
 /// let id = ObjectId::from_hex(b"4b825dc642cb6eb9a060e54bf8d69288fbee4904")?;
 /// println!(rt; "{}", id.to_hex_with_len(7))?;
@@ -96,7 +99,8 @@ impl ObjectId {
         kind.empty_tree()
     }
 
-    /// The id of a digest. The bytes are 20 or 32.
+    /// Copies a digest. The caller must ensure that it has 20 or 32 bytes; nothing panics, in spite
+    /// of the name, which is that of the Rust crate.
     pub fn from_bytes_or_panic(bytes: &[u8]) -> ObjectId
         requires { IsTrue (is_digest_len (length bytes.now)) }
         ensures kind { id_kind result ≡ kind_of_byte_len (length bytes.now) }
@@ -268,7 +272,8 @@ impl ObjectId {
 
     // The digits in front of a buffer, as text.
     fn front_text<'b>(&self, buffer: &'b [u8]) -> &'b str
-        requires { (rest : List ℕ) × (buffer.now ≡ spelling hex_letter (id_digits self.now) ++ rest) }
+        requires { (rest : List ℕ)
+            × (buffer.now ≡ spelling hex_letter (id_digits self.now) ++ rest) }
         ensures text { result.now ≡ spelling hex_letter (id_digits self.now) }
         ensures ascii { IsAscii result.now }
         ensures len { length result.now ≡ hex_len_of (id_kind self.now) }

@@ -1,4 +1,4 @@
-//! Beginnings of ids.
+//! Prefixes of ids.
 
 ghost use Rattle.std.specs.Prelude.{◌≡◌, ◌≤◌, ◌<◌, length, take, IfOk, All};
 ghost use Rattle.std.specs.declared.cmp.Ordering.{Ordering};
@@ -21,7 +21,8 @@ mod order;
 mod packing;
 mod printing;
 
-/// Why an id has no prefix of the number of digits that was asked for.
+/// The error of [`Prefix::new`]: why an id has no prefix of the number of digits that was asked
+/// for.
 ///
 /// ```
 /// // No id has 65 digits.
@@ -46,10 +47,24 @@ pub enum Error {
     },
 }
 
-/// A beginning of an id: a kind, and 0 to 40 or 0 to 64 digits.
+/// A prefix of an id: a kind, and 0 to 40 or 0 to 64 digits.
 ///
 /// It stores the bytes of its digits with zeros after them, as many as the kind's digest has, and
 /// the same digits again as two numbers of 128 bits, by which it compares.
+///
+/// Reading one from a text takes any letter case. The kind is given, or else SHA-1 up to 40 digits
+/// and SHA-256 above:
+///
+/// | Call | Letters | Digits | Kind |
+/// |---|---|---|---|
+/// | [`Prefix::from_hex`] | hex | 4 to 64 | by length |
+/// | [`Prefix::from_hex_nonempty`] | hex | 1 to 64 | by length |
+/// | [`Prefix::from_hex_in`] | hex | 1 to those of the kind | given |
+/// | [`Prefix::from_reverse_hex`] | `z` to `k` | 4 to 64 | by length |
+/// | [`Prefix::from_reverse_hex_nonempty`] | `z` to `k` | 1 to 64 | by length |
+/// | [`Alphabet::read_prefix`] | either | 4 to 64 | by length |
+/// | [`Alphabet::read_prefix_nonempty`] | either | 1 to 64 | by length |
+/// | [`Alphabet::read_beginning`] | either | 0 to those of the kind, as a condition | given |
 ///
 /// ```
 /// let prefix = Prefix::from_hex("4b825dc")?;
@@ -188,8 +203,8 @@ impl Prefix {
         self.hex_len
     }
 
-    /// The place of this prefix against an id: the dictionary order of its digits against as many
-    /// of the candidate's first digits. Kinds are ignored.
+    /// Compares the prefix with as many first digits of `candidate`: `Equal` if the id begins with
+    /// the prefix, `Less` if the prefix sorts before it, `Greater` if after. Kinds are ignored.
     ///
     /// The caller must ensure that the candidate has at least as many digits as the prefix.
     pub fn cmp_oid(&self, candidate: oid<'_>) -> Ordering

@@ -3,7 +3,7 @@
 use crate::object_id::ObjectId;
 use thiserror::Error as ThisError;
 
-/// Two ids that should have been equal.
+/// The error of `verify`: two ids that should have been equal.
 ///
 /// ```
 /// if let Err(why) = id.as_oid().verify(expected.as_oid()) {

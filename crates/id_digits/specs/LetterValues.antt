@@ -13,9 +13,11 @@ lane_of c = ((if nat_le 128 ((c + 198) % 256) then (c + 198) % 256 else min ((bi
 abbrev pub value_of : ℕ → ℕ
 value_of c = unwrap_or (digit_in hex_letter c) (16 + (lane_of c - 16))
 
+-- the values of the letters of a text
 abbrev pub values_of : List ℕ → List ℕ
 values_of text = map value_of text
 
+-- whether a value is that of a digit
 abbrev pub is_digit : ℕ → Bool
 is_digit value = nat_lt value 16
 

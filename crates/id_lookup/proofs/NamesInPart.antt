@@ -1,4 +1,4 @@
--- A member's shortest name is decided among the members that begin as the name has to.
+-- A member's abbreviation is decided among the members that begin as the name has to.
 use Rattle.std.proofs.Common.{◌≡◌, ◌≢◌, ℕ, ◌<◌, ◌≤◌, Bool, true, false, nat_eq, List, [], ◌++◌, length, filter, get_or, take, drop, refl, sym, ap, ◌∙◌, subst, append_assoc, take-append-drop}
 use Rattle.std.specs.List.{starts_with}
 use Rattle.std.proofs.lemmas.Bool.{false≢true}

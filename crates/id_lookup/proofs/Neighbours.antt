@@ -47,7 +47,7 @@ module _ (ids : List (List ℕ)) (sorted : IsSortedIds ids) where
     ];
   }
 
--- so the larger of them and `fewest` is the length of the shortest name
+-- so the larger of them and `fewest` is the length of the abbreviation
 pub shortest : (ids : List (List ℕ)) (fewest at unique len : ℕ) (name : List ℕ) → IsUniqueLen ids at unique → len ≡ max unique fewest
     → len ≤ length (get_or ids at []) → name ≡ take len (get_or ids at []) → IsShortestNameFrom fewest ids at name
 shortest ids fewest at unique len name is_unique is enough name_is =

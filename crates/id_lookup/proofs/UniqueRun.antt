@@ -1,4 +1,4 @@
--- The run of a shortest name contains only its id, and a look-up finds only that id.
+-- The run of an abbreviation contains only its id, and a look-up finds only that id.
 use Rattle.std.proofs.Common.{◌≡◌, ◌≢◌, ℕ, ◌+◌, ◌<◌, ◌≤◌, true, false, List, [], ◌++◌, length, take, drop, get_or, nat_eq, ◌⊎◌, inl, inr, refl, sym, ap, ◌∙◌, arith, take-append-drop}
 use Rattle.std.specs.List.{starts_with}
 use Rattle.std.proofs.lemmas.Bool.{cases_lt, false≢true}
@@ -39,13 +39,13 @@ unique_run prefix ids at sorted inside begins alone = run_is prefix ids sorted (
     ends (inl below) = let here = (whole.members at inside).0 begins in absurd (omega (arith, none (at + 1) (omega arith) (omega arith) (omega arith)))
     ends (inr above) = let here = (whole.members at inside).0 begins in omega arith
 
--- the id of a shortest name begins with it
+-- the id of an abbreviation begins with it
 begins_first : (id name : List ℕ) → name ≡ take (length name) id → starts_with nat_eq id name ≡ true
 begins_first id name first =
     let rest = drop (length name) id in
     (starts_with-BeginsWith id name).1 (rest, sym (ap (λ (front : List ℕ). front ++ rest) first ∙ take-append-drop (length name) id))
 
--- the run of a shortest name is its id
+-- the run of an abbreviation is its id
 pub name_run : (fewest : ℕ) (ids : List (List ℕ)) (at : ℕ) (prefix : KindDigits) → IsSortedIds ids → at < length ids
     → IsShortestNameFrom fewest ids at prefix.digits → IsRun prefix ids (record { start = at; end = at + 1 })
 name_run fewest ids at prefix sorted inside name =

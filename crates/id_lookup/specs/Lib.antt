@@ -1,4 +1,4 @@
--- Sorted lists of ids, the run of a prefix in one, indexes, and the number of binary digits.
+-- Sorted lists of ids, the run of a prefix in one, indexes, and the bit length of a number.
 pub mod Sorted
 pub mod Runs
 pub mod FoundRun

@@ -1,8 +1,8 @@
--- Shortest unique names of the ids of a list, each given by its digits.
+-- Abbreviations of the ids of a list, their shortest unique prefixes. Each id is given by its digits.
 use Rattle.std.specs.Prelude.{◌≡◌, ◌≢◌, ℕ, ◌+◌, ◌<◌, ◌≤◌, true, false, List, [], length, take, nat_eq, slice_index_or}
 use Rattle.std.specs.List.{starts_with, common_prefix_len}
 
--- the name is the shortest beginning of the id at `at`, of at least `fewest` digits, that no other id begins with
+-- the name is the shortest prefix of the id at `at`, of at least `fewest` digits, that no other id begins with
 pub record IsShortestNameFrom (fewest : ℕ) (ids : List (List ℕ)) (at : ℕ) (name : List ℕ) : Type 0 where
   pub first : name ≡ take (length name) (slice_index_or ids at [])
   pub long : fewest ≤ length name

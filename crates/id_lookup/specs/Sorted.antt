@@ -9,7 +9,7 @@ use Rattle.std.specs.List.Sorted.{IsSorted, IsSortedWithin}
 abbrev pub IsSortedIds : List (List ℕ) → Type 0
 IsSortedIds ids = IsSorted (slice_cmp nat_cmp) ids
 
--- `at` is the first index whose id is below the previous one
+-- `at` is the first position whose id is below the previous one
 pub record IsFirstUnsorted (ids : List (List ℕ)) (at : ℕ) : Type 0 where
   pub has_predecessor : 0 < at
   pub in_range : at < length ids

@@ -1,4 +1,4 @@
-//! How many ids of a list have at most a given first byte.
+//! Fan-out tables: how many ids of a list have at most a given first byte.
 
 ghost use Rattle.std.specs.Prelude.{◌≡◌, ℕ, ◌<◌, ◌^◌, All, List, count_by, length, map, slice_index};
 ghost use Rattle.id_lookup.specs.FirstBytes.{IsFanOut, has_first_byte, is_below, is_up_to};
@@ -29,7 +29,7 @@ impl Model for FanOut {
 }
 
 impl FanOut {
-    /// The counts of a list by first bytes, whatever the order of its ids.
+    /// The fan-out table of a list, whatever the order of its ids.
     pub fn of<I: Id>(ids: &[I]) -> FanOut
         ensures { IsFanOut result (map I.digits ids.now) }
     {

@@ -76,7 +76,7 @@ impl Id for [u8; 32] {
     }
 }
 
-// The id at an index of a list.
+// The id at a position of a list.
 pub(crate) fn id_at<I: Id>(ids: &[I], at: usize) -> oid<'_>
     requires { at < length ids.now }
     ensures kind { HoldsAt (λ id. oid_kind result ≡ I.kind id) ids.now at }

@@ -21,9 +21,10 @@ use std::error::Error;
 use std::fmt;
 use std::marker::Model;
 
-/// A list of ids of one kind in strictly increasing order, with the counts of its first bytes.
+/// A list of ids of one kind in strictly increasing order, with its fan-out table.
 ///
-/// It allocates no memory: the counts are a table of fixed size in it.
+/// It does not allocate: the table, of 256 numbers, is in it, so an index takes more than 2 KiB by
+/// value.
 ///
 /// ```
 /// let index = IdIndex::try_new(&list, Kind::Sha1)?;
@@ -51,9 +52,9 @@ impl<'a, I: Id> Model for IdIndex<'a, I> {
 }
 
 impl<'a, I: Id> IdIndex<'a, I> {
-    /// The list as an index of a kind, or the first index whose id is of the other kind
-    /// ([`IndexError::WrongKind`]), or of the kind but not above the previous one
-    /// ([`IndexError::NotRising`]).
+    /// Makes an index of a list of ids of `kind`, and looks at each of them. The error has the
+    /// position of the first id that is of the other kind ([`IndexError::WrongKind`]), or of the
+    /// kind but not above the previous one ([`IndexError::NotRising`]).
     pub fn try_new(ids: &'a [I], kind: Kind) -> Result<IdIndex<'a, I>, IndexError>
         ensures ok { IfOk result (λ index. index
             ≡ record { kind = kind; ids = map I.digits ids.now }) }
@@ -98,7 +99,7 @@ impl<'a, I: Id> IdIndex<'a, I> {
         self.ids.is_empty()
     }
 
-    /// The id at an index.
+    /// The id at position `at`, which must be below `len()`.
     pub fn get(&self, at: usize) -> &I
         requires { at < length self.now.ids }
         ensures value { slice_get self.now.ids at ≡ Some (I.digits result.now) }
@@ -116,7 +117,7 @@ impl<'a, I: Id> IdIndex<'a, I> {
         self.ids
     }
 
-    /// The counts of the ids' first bytes.
+    /// The fan-out table: for each byte, how many ids have at most that first byte.
     pub fn fan_out(&self) -> &FanOut
         ensures { IsFanOut result.now self.now.ids }
     {
@@ -161,8 +162,9 @@ impl<'a, I: Id> IdIndex<'a, I> {
         &ids[run.start..run.end]
     }
 
-    /// The shortest name of the member at an index: its shortest beginning of at least 4 digits
-    /// that no other member begins with. Only its two neighbours are compared with it.
+    /// The abbreviation of the member at position `at`, which must be below `len()`: its shortest
+    /// prefix of at least 4 digits that no other member begins with. Only its two neighbours are
+    /// compared with it.
     pub fn abbreviate(&self, at: usize) -> Prefix
         requires { at < length self.now.ids }
         ensures kind { result.kind ≡ self.now.kind }
@@ -186,7 +188,7 @@ impl<'a, I: Id> IdIndex<'a, I> {
     }
 }
 
-// Whether the id at an index is above the previous one, if there is one.
+// Whether the id at a position is above the previous one, if there is one.
 fn is_above_previous<I: Id>(ids: &[I], at: usize) -> bool
     requires { at < length ids.now }
     ensures { let digits = map I.digits ids.now in
@@ -246,7 +248,7 @@ impl Error for IndexError {}
 pub enum Answer {
     /// No member.
     None,
-    /// Only the member at this index.
+    /// Only the member at this position.
     One(usize),
     /// The members of a run of two or more.
     Many(Run),

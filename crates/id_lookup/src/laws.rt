@@ -41,7 +41,7 @@ pub fn matches_in_parts()
         (record { start = a.start + b.start; end = a.end + b.end }) }
 {}
 
-/// An index finds only the member at an index by the shortest name of that member.
+/// An index finds only the member at a position by the abbreviation of that member.
 pub fn find_own_name<I: Id>(index: &IdIndex<'_, I>, at: usize) -> Answer
     requires { at < length index.now.ids }
     ensures { result ≡ Answer.One at }

@@ -5,11 +5,11 @@
 //! compare the prefix with one member at a time, and count each comparison.
 //!
 //! A list is of any ids that have the trait [`Id`]: of owned ids, or of the bytes of digests of one
-//! kind, such as the table of names in one of Git's pack indexes.
+//! kind, such as the table of ids in one of Git's pack indexes.
 //!
 //! An [`IdIndex`] is such a list of one kind and without duplicates, with a [`FanOut`] of its first
 //! bytes. [`lookup_in`] finds the same run by a search among the ids with the prefix's first byte,
-//! and [`IdIndex::abbreviate`] gives the shortest name of each id.
+//! and [`IdIndex::abbreviate`] gives the abbreviation of each id, its shortest unique prefix.
 #![tactic(auto)]
 
 mod fan_out;

@@ -11,9 +11,9 @@ ghost use Rattle.id_lookup.specs.Runs.{matches};
 ghost use Rattle.id_lookup.specs.ShortNames.{IsShortestNameFrom};
 ghost use Rattle.id_lookup.specs.Sorted.{IsSortedIds};
 
-/// The index of the ids that pass a test is what passes of the index of all ids. The ids that begin
-/// with a prefix of 2 digits or more are found in the part of its first byte. A shortest name is
-/// decided among the ids that pass a test, if all that begin with its first `least` digits pass.
+/// Filtering ids and then sorting them gives the same as sorting and then filtering. The ids that
+/// begin with a prefix of 2 digits or more are found in the part of its first byte. An id's
+/// abbreviation does not depend on ids whose first `least` digits differ from its own.
 pub fn parts()
     ensures part { (kind : kinds.Kind) (p : List ℕ → Bool) (all whole part : List (List ℕ))
         → IsIndexOf kind all whole → IsIndexOf kind (filter p all) part
@@ -24,7 +24,8 @@ pub fn parts()
         → matches digits (part_of (first_byte_of digits) ids) ≡ matches digits ids }
     ensures names { (kind : kinds.Kind) (p : List ℕ → Bool) (least : ℕ) (whole : List (List ℕ))
         (at position : ℕ) (name : List ℕ) → IsIndex kind whole
-        → ((id : List ℕ) → starts_with nat_eq id (take least (slice_index_or whole position [])) ≡ true
+        → ((id : List ℕ)
+        → starts_with nat_eq id (take least (slice_index_or whole position [])) ≡ true
         → p id ≡ true)
         → at < length (filter p whole) → position < length whole
         → slice_index_or whole position [] ≡ slice_index_or (filter p whole) at []

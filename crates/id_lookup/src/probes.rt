@@ -12,7 +12,7 @@ use gix_hash::{ObjectId, Prefix};
 use std::cmp::Ordering;
 use std::marker::Model;
 
-/// A sorted list and a prefix, which can only be compared with one member at a time
+/// A sorted list that can be examined only by comparing one prefix with one member at a time
 /// ([`Probes::ask`]). Each comparison is counted.
 ///
 /// Probes lend no id, cannot be copied, and never count down. So a function that gets a list only
@@ -98,11 +98,12 @@ impl<'a, I: Id> Probes<'a, I> {
         self.asked
     }
 
-    /// Compares the prefix with the member at an index, as [`Prefix::cmp_oid`] does: by the
+    /// Compares the prefix with the member at position `at`, as [`Prefix::cmp_oid`] does: by the
     /// dictionary order of the prefix's digits and as many first digits of the member. `Greater`
     /// means that the prefix comes after the member.
     ///
-    /// The count grows by 1. The list and the prefix stay the same.
+    /// The count grows by 1. The list and the prefix stay the same. `at` must be below `len()`, and
+    /// the count below 2^64 - 1.
     pub fn ask(&mut self, at: usize) -> Ordering
         requires in_range { at < length self.old.ids }
         requires room { self.old.asked + 1 < 2 ^ 64 }

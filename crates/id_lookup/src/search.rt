@@ -21,7 +21,7 @@ use std::cmp::Ordering;
 
 const DIGITS_OF_A_BYTE: usize = 2;
 
-/// A run of indexes of a list, from `start` up to but not including `end`. It is empty if the two
+/// A run of positions of a list, from `start` up to but not including `end`. It is empty if the two
 /// are equal.
 ///
 /// ```
@@ -30,18 +30,18 @@ const DIGITS_OF_A_BYTE: usize = 2;
 /// ```
 #[derive(Clone, Copy, PartialEq, Eq, Debug)]
 pub struct Run {
-    /// The first index.
+    /// The first position.
     pub start: usize,
-    /// The index after the last.
+    /// The position after the last.
     pub end: usize,
 }
 
 // A bound of a run.
 #[derive(Clone, Copy)]
 pub(crate) enum Bound {
-    // The index of its first member.
+    // The position of its first member.
     Start,
-    // The index after its last member.
+    // The position after its last member.
     End,
 }
 
@@ -63,10 +63,10 @@ impl Bound {
 /// The list of the probes is sorted, may contain ids of both kinds and duplicates, and each of its
 /// members has at least as many digits as the prefix. [`Prefix::cmp_oid`] returns `Greater` for
 /// each member before the run, `Equal` for each in it, and `Less` for each after it. If no member
-/// begins with the prefix, the run is empty, at the index where the prefix would be inserted.
+/// begins with the prefix, the run is empty, at the position where the prefix would be inserted.
 ///
-/// It calls `ask` at most twice as often as the number of members has binary digits. The probes
-/// must be new. Their list and prefix stay the same.
+/// It calls `ask` at most 2 · b times, where b is the bit length of the number of members
+/// ([`bits_of`]). The probes must be new. Their list and prefix stay the same.
 pub fn lookup<I: Id>(probes: &mut Probes<'_, I>) -> Run
     requires { probes.old.asked ≡ 0 }
     ensures list { CanProbe probes.old.prefix probes.old.ids }
@@ -190,8 +190,7 @@ pub fn begins_with(id: &ObjectId, prefix: &Prefix) -> bool
     prefix.cmp_oid(id.as_oid()).is_eq()
 }
 
-/// The number of binary digits: the smallest b such that `n` is below the b-th power of two. If `n`
-/// is not 0, a number of at most half of it has fewer.
+/// The bit length of `n`: the smallest b with n < 2^b. Halving a number other than 0 shortens it.
 pub fn bits_of(n: usize) -> u32
     ensures value { result ≡ bits n }
     ensures above { n < 2 ^ bits n }

@@ -1,4 +1,5 @@
-//! The shortest unique names of the ids of a sorted list: the two neighbours of an id decide.
+//! The abbreviations of the ids of a sorted list, their shortest unique prefixes: the two
+//! neighbours of an id decide.
 
 ghost use Rattle.std.specs.Prelude.{◌≡◌, ◌+◌, ◌-◌, ◌<◌, ◌≤◌, ℕ, [], IfSome, IsNone, List, length, map, slice_index_or, max, take};
 ghost use Rattle.gix_hash.specs.Kind.{hex_len_of};
@@ -8,7 +9,7 @@ ghost use Rattle.id_lookup.specs.Sorted.{IsSortedIds};
 use crate::ids::{Id, id_at};
 use gix_hash::Prefix;
 
-// The shortest name of the member at an index, if the list is sorted: its shortest beginning of at
+// The abbreviation of the member at a position, if the list is sorted: its shortest prefix of at
 // least `least` digits that no other member begins with. There is none if the member has fewer.
 pub(crate) fn shortest_name<I: Id>(ids: &[I], at: usize, least: usize) -> Option<Prefix>
     requires in_range { at < length ids.now }
@@ -34,7 +35,7 @@ pub(crate) fn shortest_name<I: Id>(ids: &[I], at: usize, least: usize) -> Option
     Some(Prefix::new(id, hex_len).unwrap())
 }
 
-// How many first digits distinguish the id at an index from all others, if the list is sorted.
+// How many first digits distinguish the id at a position from all others, if the list is sorted.
 fn unique_len<I: Id>(ids: &[I], at: usize) -> usize
     requires { at < length ids.now }
     ensures { IsSortedIds (map I.digits ids.now) → IsUniqueLen (map I.digits ids.now) at result }
@@ -42,7 +43,7 @@ fn unique_len<I: Id>(ids: &[I], at: usize) -> usize
     digits_before(ids, at).max(digits_after(ids, at))
 }
 
-// How many first digits distinguish the id at an index from the previous one, if there is one.
+// How many first digits distinguish the id at a position from the previous one, if there is one.
 fn digits_before<I: Id>(ids: &[I], at: usize) -> usize
     requires { at < length ids.now }
     ensures none { at ≡ 0 → result ≡ 0 }
@@ -54,7 +55,7 @@ fn digits_before<I: Id>(ids: &[I], at: usize) -> usize
     id_at(ids, at).common_hex_len(id_at(ids, at - 1)) + 1
 }
 
-// How many first digits distinguish the id at an index from the next one, if there is one.
+// How many first digits distinguish the id at a position from the next one, if there is one.
 fn digits_after<I: Id>(ids: &[I], at: usize) -> usize
     requires { at < length ids.now }
     ensures none { at + 1 ≡ length ids.now → result ≡ 0 }

@@ -48,7 +48,8 @@ impl<'a, I: Id> Model for SortedIds<'a, I> {
 }
 
 impl<'a, I: Id> SortedIds<'a, I> {
-    /// The list as a sorted one, or the first index whose id is below the previous one.
+    /// Makes a sorted list, and looks at each id. The error has the first position whose id is
+    /// below the previous one.
     pub fn try_new(ids: &'a [I]) -> Result<SortedIds<'a, I>, Unsorted>
         ensures ok { IfOk result (λ list. list ≡ map I.digits ids.now) }
         ensures sorted { IsOk result ↔ IsSortedIds (map I.digits ids.now) }
@@ -80,7 +81,7 @@ impl<'a, I: Id> SortedIds<'a, I> {
         self.ids.is_empty()
     }
 
-    /// The id at an index.
+    /// The id at position `at`, which must be below `len()`.
     pub fn get(&self, at: usize) -> &I
         requires { at < length self.now }
         ensures { slice_get self.now at ≡ Some (I.digits result.now) }
@@ -102,7 +103,7 @@ impl<'a, I: Id> SortedIds<'a, I> {
     /// The run of exactly the members that begin with a prefix.
     ///
     /// The prefix must have at most as many digits as each member: at most `min_hex_len()`. If no
-    /// member begins with it, the run is empty, at the index where the prefix would be inserted.
+    /// member begins with it, the run is empty, at the position where the prefix would be inserted.
     pub fn find(&self, prefix: &Prefix) -> Run
         requires { length prefix.now.digits ≤ least_hex_len self.now }
         ensures { IsRun prefix.now self.now result }
@@ -122,8 +123,9 @@ impl<'a, I: Id> SortedIds<'a, I> {
         &ids[run.start..run.end]
     }
 
-    /// The shortest name of the member at an index: its shortest beginning of at least `least`
-    /// digits that no other member begins with. `least` must be at least 4.
+    /// The abbreviation of the member at position `at`, which must be below `len()`: its shortest
+    /// prefix of at least `least` digits that no other member begins with. `least` must be at least
+    /// 4.
     ///
     /// There is none if another member begins with all digits of this one, as a duplicate does, or
     /// if this one has fewer than `least`. Only its two neighbours are compared with it.
@@ -150,7 +152,7 @@ impl<'a, I: Id> SortedIds<'a, I> {
     }
 }
 
-// Whether the id at an index is below the previous one.
+// Whether the id at a position is below the previous one.
 fn is_below_previous<I: Id>(ids: &[I], at: usize) -> bool
     requires { at < length ids.now }
     ensures { let digits = map I.digits ids.now in
@@ -160,7 +162,7 @@ fn is_below_previous<I: Id>(ids: &[I], at: usize) -> bool
     at > 0 && id_at(ids, at).cmp(&id_at(ids, at - 1)).is_lt()
 }
 
-/// A list that is not sorted.
+/// The error of [`SortedIds::try_new`]: the list is not sorted.
 ///
 /// ```
 /// if let Err(Unsorted { at }) = SortedIds::try_new(&list) {
@@ -169,7 +171,7 @@ fn is_below_previous<I: Id>(ids: &[I], at: usize) -> bool
 /// ```
 #[derive(Debug, Drop)]
 pub struct Unsorted {
-    /// The first index whose id is below the previous one.
+    /// The first position whose id is below the previous one.
     pub at: usize,
 }
 

@@ -8,7 +8,7 @@ use crate::ids::Id;
 
 /// Sorts ids by their digits, whatever their kinds, as [`SortedIds::try_new`] takes them.
 ///
-/// It sorts in place and allocates no memory. Ids with the same digits may be reordered.
+/// It sorts in place and does not allocate. Ids with the same digits may be reordered.
 ///
 /// ```
 /// let mut found = vec![in rt.alloc(); id, expected]?;

@@ -12,7 +12,7 @@ use gix_hash::ObjectId;
 use std::alloc::Allocator;
 
 /// Sorts ids of any kinds in the order of [`ObjectId`], and removes all but one of those that are
-/// equal. It takes no memory.
+/// equal. It does not allocate.
 ///
 /// If the ids are of one kind, then the result is an index of that kind, and
 /// [`IdIndex::try_new`](crate::IdIndex::try_new) accepts it.

@@ -138,7 +138,8 @@ pub fn find_change<A: Allocator, W: Sink>(
     }
 }
 
-/// A law: a result is what a search in a sorted list finds if and only if what it says of the two texts holds.
+/// A law: what a search in a sorted list finds. A result is that if and only if what it says of the
+/// two texts holds.
 pub fn finding_means(alphabet: Alphabet, prefix: &str, list: &[u8])
     ensures { (answer : Result (List (List ℕ)) SearchError)
         → (finding (Search.Sorted alphabet) prefix.now list.now ≡ answer)

@@ -121,7 +121,8 @@ pub fn find_in<A: Allocator, W: Sink>(
     }
 }
 
-/// A law: a result is what a search in ids of one kind finds if and only if what it says of the two texts holds.
+/// A law: what a search in ids of one kind finds. A result is that if and only if what it says of
+/// the two texts holds.
 pub fn finding_in_means(kind: Kind, prefix: &str, list: &[u8])
     ensures { (answer : Result (List (List ℕ)) SearchError)
         → (finding (Search.In kind) prefix.now list.now ≡ answer)

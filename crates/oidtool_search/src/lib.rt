@@ -1,7 +1,7 @@
 //! Prefixes looked up in list texts, which have an id in hex on each line.
 //!
-//! [`find`], [`find_change`] and [`find_in`] search a text in memory, and [`find_from`] what a source
-//! gives. Each is [`search_from`] for one search, with an error of its own.
+//! [`find`], [`find_change`] and [`find_in`] search a text in memory, and [`find_from`] what a
+//! source gives. Each is [`search_from`] for one search, with an error of its own.
 #![tactic(auto)]
 
 mod finding;

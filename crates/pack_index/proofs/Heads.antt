@@ -49,7 +49,7 @@ module _ (bytes head : List ℕ) (front : IsReadAt bytes 0 head) (long : length 
     version = sym (head_word 4 (omega arith)) ∙ version;
   }
 
-  -- where the offsets and the long offsets begin
+  -- where the offsets and the 8-byte offsets begin
   pub offsets_in_head : (kind : Kind) → offsets_at kind head ≡ offsets_at kind bytes
   offsets_in_head kind = ap (λ n. names_at + byte_len_of kind * n + 4 * n) head_count
 

@@ -1,4 +1,4 @@
--- How many names before an index have long offsets.
+-- How many names before an index have 8-byte offsets.
 use Rattle.std.proofs.Common.{◌≡◌, ℕ, ◌+◌, ◌-◌, ◌<◌, ◌≤◌, List, refl, sym, ap, ◌∙◌, add-one, arith}
 use Rattle.std.specs.Prelude.{if◌then◌else◌}
 use Rattle.std.proofs.lemmas.Bool.{le-leb, lt-leb}
@@ -21,7 +21,7 @@ module _ (kind : Kind) (bytes : List ℕ) where
       ap (longs_before kind bytes) (add-one n) ∙ ap (λ b. if b then longs_before kind bytes n + 1 else longs_before kind bytes n) (lt-leb long_word (offset_word kind bytes n) is)
 
   module _ (n word longs next : ℕ) (read : word ≡ offset_word kind bytes n) (counted : longs ≡ longs_before kind bytes n) where
-    -- after a long offset there is one more
+    -- after an 8-byte offset there is one more
     pub long_counted : long_word ≤ word → next ≡ longs + 1 → next ≡ longs_before kind bytes (n + 1)
     long_counted is more = more ∙ ap (λ m. m + 1) counted ∙ sym (one_more n (omega arith))
 

@@ -1,6 +1,6 @@
--- Git's pack index of version 2 (gitformat-pack). Its bytes are: a magic number and the version; for each byte, how many names have at most that
--- first byte; the names, digests of the index's kind; a CRC of four bytes for each name; an offset of four bytes for each; long offsets of eight bytes;
--- the digest of the pack; and the digest of all before it. Numbers are written with the highest byte first.
+-- Git's pack index of version 2 (gitformat-pack). Its bytes are: a magic number and the version; the fan-out table, that is for each byte how many
+-- ids have at most that first byte; the ids of the objects, digests of the index's kind; a CRC of four bytes for each object; an offset of four bytes
+-- for each; 8-byte offsets; the digest of the pack; and the digest of all before it. Numbers are written with the highest byte first.
 use Rattle.std.specs.Prelude.{◌≡◌, ℕ, zero, suc, ◌+◌, ◌-◌, ◌*◌, ◌/◌, ◌%◌, ◌^◌, ◌<◌, ◌≤◌, Bool, nat_le, nat_lt, if◌then◌else◌, List, [], ◌∷◌, count_by, length, map, slice_index, slice_range}
 use Rattle.std.specs.Int.{from_be_bytes, w32}
 use Rattle.std.specs.Simd.{first_chunks}
@@ -12,7 +12,7 @@ use Rattle.id_lookup.specs.FirstBytes.{is_up_to}
 use Rattle.id_lookup.specs.Sorted.{IsSortedIds}
 use Rattle.pack_index.specs.Firsts.{Each}
 
--- what contracts see of a pack index: the kind of its names, and its bytes
+-- what contracts see of a pack index: the kind of its ids, and its bytes
 pub record IndexFile : Type 0 where
   pub kind : Kind
   pub bytes : List ℕ
@@ -21,19 +21,19 @@ pub record IndexFile : Type 0 where
 abbrev pub magic_number : ℕ
 magic_number = 4285812579
 
--- the length of the counts, 256 of four bytes each
+-- the length of the fan-out table, 256 entries of four bytes each
 abbrev pub counts_len : ℕ
 counts_len = 1024
 
--- the length of the smallest index of any version, which is one of version 1 with no names: the counts and two digests
+-- the length of the smallest index of any version, which is one of version 1 with no objects: the fan-out table and two digests
 abbrev pub min_len : Kind → ℕ
 min_len kind = counts_len + 2 * byte_len_of kind
 
--- where the names begin, after the magic number, the version and the counts
+-- where the ids begin, after the magic number, the version and the fan-out table
 abbrev pub names_at : ℕ
 names_at = 1032
 
--- the smallest word that the table of offsets has for a long offset: its highest bit is set
+-- the smallest word of the table of offsets that stands for an 8-byte offset: its highest bit is set
 abbrev pub long_word : ℕ
 long_word = 2147483648
 
@@ -45,15 +45,15 @@ pack_header_len = 12
 abbrev pub digests_in : Kind → List ℕ → List (List ℕ)
 digests_in kind bytes = map digits_of (first_chunks (byte_len_of kind) (length bytes / byte_len_of kind) bytes)
 
--- the number that is written in the four bytes from an index on
+-- the number that is written in the four bytes from a position on
 unfoldable pub word_at : List ℕ → ℕ → ℕ
 word_at bytes at = from_be_bytes w32 (slice_index bytes at ∷ slice_index bytes (at + 1) ∷ slice_index bytes (at + 2) ∷ slice_index bytes (at + 3) ∷ [])
 
--- the number of names: the last count
+-- the number of objects: the last entry of the fan-out table
 abbrev pub count_in : List ℕ → ℕ
 count_in bytes = word_at bytes (names_at - 4)
 
--- where the CRCs begin, after the names
+-- where the CRCs begin, after the ids
 abbrev pub crcs_at : Kind → List ℕ → ℕ
 crcs_at kind bytes = names_at + byte_len_of kind * count_in bytes
 
@@ -61,14 +61,15 @@ crcs_at kind bytes = names_at + byte_len_of kind * count_in bytes
 abbrev pub offsets_at : Kind → List ℕ → ℕ
 offsets_at kind bytes = crcs_at kind bytes + 4 * count_in bytes
 
--- where the long offsets begin, after the offsets of `count` names
+-- where the 8-byte offsets begin, after the offsets of `count` objects
 abbrev pub long_start : Kind → ℕ → ℕ
 long_start kind count = names_at + byte_len_of kind * count + 4 * count + 4 * count
 
+-- where they begin in an index
 abbrev pub long_at : Kind → List ℕ → ℕ
 long_at kind bytes = long_start kind (count_in bytes)
 
--- where the long offsets end, and the digest of the pack begins
+-- where the 8-byte offsets end, and the digest of the pack begins
 abbrev pub tables_end : Kind → List ℕ → ℕ
 tables_end kind bytes = length bytes - 2 * byte_len_of kind
 
@@ -76,33 +77,33 @@ tables_end kind bytes = length bytes - 2 * byte_len_of kind
 abbrev pub digest_at : Kind → List ℕ → ℕ
 digest_at kind bytes = length bytes - byte_len_of kind
 
--- the names, each as its digits
+-- the ids of the objects, each as its digits
 abbrev pub names_in : Kind → List ℕ → List (List ℕ)
 names_in kind bytes = digests_in kind (slice_range bytes names_at (crcs_at kind bytes))
 
--- the CRC of the packed bytes of the object of the name at an index
+-- the CRC of the packed bytes of an object
 abbrev pub crc_in : Kind → List ℕ → ℕ → ℕ
 crc_in kind bytes k = word_at bytes (crcs_at kind bytes + 4 * k)
 
--- what the table of offsets has for the name at an index
+-- what the table of offsets has for an object
 abbrev pub offset_word : Kind → List ℕ → ℕ → ℕ
 offset_word kind bytes k = word_at bytes (offsets_at kind bytes + 4 * k)
 
--- where its long offset is, if it has one
+-- where its 8-byte offset is, if it has one
 abbrev pub long_entry : Kind → List ℕ → ℕ → ℕ
 long_entry kind bytes k = long_at kind bytes + 8 * (offset_word kind bytes k - long_word)
 
--- the offset in the pack of the object of the name at an index: the word if that is below 2 ^ 31, and else the long offset of its number
+-- the offset of an object in the pack: the word if that is below 2 ^ 31, and else the 8-byte offset of that number
 abbrev pub offset_in : Kind → List ℕ → ℕ → ℕ
 offset_in kind bytes k =
     if nat_lt (offset_word kind bytes k) long_word then offset_word kind bytes k
     else 2 ^ 32 * word_at bytes (long_entry kind bytes k) + word_at bytes (long_entry kind bytes k + 4)
 
--- whether the offset of the name at an index is long
+-- whether an object has an 8-byte offset
 abbrev pub is_long : Kind → List ℕ → ℕ → Bool
 is_long kind bytes k = nat_le long_word (offset_word kind bytes k)
 
--- how many of the first n names have long offsets
+-- how many of the first n objects have 8-byte offsets
 unfoldable pub longs_before : Kind → List ℕ → ℕ → ℕ
 longs_before kind bytes zero = 0
 longs_before kind bytes (suc n) = if is_long kind bytes n then longs_before kind bytes n + 1 else longs_before kind bytes n
@@ -113,47 +114,49 @@ pub record HasHead (kind : Kind) (bytes : List ℕ) : Type 0 where
   pub magic : word_at bytes 0 ≡ magic_number
   pub version : word_at bytes 4 ≡ 2
 
--- the tables of `count` names fill `len` bytes up to the digests. There is at most one long offset fewer than names, since the object after the pack's
--- header has none
+-- the tables of `count` objects fill `len` bytes up to the digests. There are fewer 8-byte offsets than objects, since the pack's first object, at
+-- 12, needs none
 pub record FillsBytes (kind : Kind) (count len : ℕ) : Type 0 where
   pub fits : long_start kind count + 2 * byte_len_of kind ≤ len
   pub whole : (len - 2 * byte_len_of kind - long_start kind count) % 8 ≡ 0
   pub most : len - 2 * byte_len_of kind ≤ long_start kind count + 8 * (count - 1)
 
+-- the tables of an index fill its bytes
 abbrev pub HasTables : Kind → List ℕ → Type 0
 HasTables kind bytes = FillsBytes kind (count_in bytes) (length bytes)
 
--- the count of a byte is that of the names
+-- the fan-out entry of a byte is the number of ids with at most that first byte
 abbrev pub HasCount : Kind → List ℕ → ℕ → Type 0
 HasCount kind bytes b = word_at bytes (8 + 4 * b) ≡ count_by (is_up_to b) (names_in kind bytes)
 
--- the offset of the name at an index is in a table
+-- an object's offset is in a table
 abbrev pub HasOffset : Kind → List ℕ → ℕ → Type 0
 HasOffset kind bytes k = long_word ≤ offset_word kind bytes k → long_entry kind bytes k + 8 ≤ tables_end kind bytes
 
--- if it is long, then it is the next one: as many names before have one
+-- if an object has an 8-byte offset, it is the next one: as many objects before have one
 abbrev pub IsNextLong : Kind → List ℕ → ℕ → Type 0
 IsNextLong kind bytes k = long_word ≤ offset_word kind bytes k → offset_word kind bytes k ≡ long_word + longs_before kind bytes k
 
--- each long offset is a name's
+-- each 8-byte offset is an object's
 abbrev pub HasNoSpare : Kind → List ℕ → Type 0
 HasNoSpare kind bytes = tables_end kind bytes ≤ long_at kind bytes + 8 * longs_before kind bytes (count_in bytes)
 
--- the offset of the name at an index is after the pack's header, and a signed number of 64 bits
+-- an object's offset is after the pack's header
 abbrev pub IsPastHeader : Kind → List ℕ → ℕ → Type 0
 IsPastHeader kind bytes k = pack_header_len ≤ offset_in kind bytes k
 
+-- an object's offset is a signed number of 64 bits
 abbrev pub IsSigned : Kind → List ℕ → ℕ → Type 0
 IsSigned kind bytes k = offset_in kind bytes k < 2 ^ 63
 
--- the tables contain names that are sorted and counted. No name is below the previous one; one may occur twice
+-- the ids are sorted, and the fan-out table is right. No id is below the previous one; one may occur twice
 pub record HasNames (kind : Kind) (bytes : List ℕ) : Type 0 where
   pub head : HasHead kind bytes
   pub tables : HasTables kind bytes
   pub sorted : IsSortedIds (names_in kind bytes)
   pub counts : Each (HasCount kind bytes) 256
 
--- each name has an offset, and the long ones are used in the order of names
+-- each object has an offset, and the 8-byte ones are used in the order of objects
 pub record HasOffsets (kind : Kind) (bytes : List ℕ) : Type 0 where
   pub in_table : Each (HasOffset kind bytes) (count_in bytes)
   pub in_order : Each (IsNextLong kind bytes) (count_in bytes)
@@ -161,7 +164,7 @@ pub record HasOffsets (kind : Kind) (bytes : List ℕ) : Type 0 where
   pub past_header : Each (IsPastHeader kind bytes) (count_in bytes)
   pub signed : Each (IsSigned kind bytes) (count_in bytes)
 
--- the bytes are a pack index whose names are of the kind, and end in the digest of all before it
+-- the bytes are a pack index whose ids are of the kind, and end in the digest of all before it
 pub record IsPackIndex (kind : Kind) (bytes : List ℕ) : Type 0 where
   pub names : HasNames kind bytes
   pub offsets : HasOffsets kind bytes

@@ -10,23 +10,24 @@ use Rattle.pack_index.specs.Refusal.{other_than, version_1_len}
 use Rattle.pack_index.specs.declared.lazy_error.LazyError.{LazyError}
 use Rattle.pack_index.specs.declared.lazy_error.LazyError.TheVariants.{Read, Memory, TooShort, Version1, BadMagic, BadVersion, OtherKind, WrongLength, CountsFall, CountTooHigh, WrongCount, NoOffset}
 
--- what contracts see: the kind of the names, their number as the last count says, all bytes if they are known, and whether a read of them may fail
+-- what contracts see: the kind of the ids, their number as the last fan-out entry says, all bytes if they are known, and whether a read of them may
+-- fail
 pub record LazyIndex : Type 0 where
   pub kind : Kind
   pub count : ℕ
   pub content : Option (List ℕ)
   pub can_fail : Bool
 
--- how many names are counted before those with the first byte
+-- where the ids with the first byte begin, by the fan-out table
 abbrev pub bucket_start : List ℕ → ℕ → ℕ
 bucket_start bytes zero = 0
 bucket_start bytes (suc before) = word_at bytes (8 + 4 * before)
 
--- and how many up to the last of them
+-- and where they end
 abbrev pub bucket_end : List ℕ → ℕ → ℕ
 bucket_end bytes byte = word_at bytes (8 + 4 * byte)
 
--- the names that are counted with the first byte
+-- the ids with the first byte, by the fan-out table
 abbrev pub counted_with : Kind → List ℕ → ℕ → List (List ℕ)
 counted_with kind bytes byte = slice_range (names_in kind bytes) (bucket_start bytes byte) (bucket_end bytes byte)
 
@@ -34,19 +35,19 @@ counted_with kind bytes byte = slice_range (names_in kind bytes) (bucket_start b
 abbrev pub HaveFirstByte : ℕ → List (List ℕ) → Type 0
 HaveFirstByte byte ids = All (λ id. IsTrue (has_first_byte byte id)) ids
 
--- the counts of a first byte are in order and at most the number of names, and each name that is counted with it has it
+-- the fan-out entries around a first byte are in order and at most the number of objects, and each id between them has that first byte
 pub record HasBucket (kind : Kind) (bytes : List ℕ) (byte : ℕ) : Type 0 where
   pub in_order : bucket_start bytes byte ≤ bucket_end bytes byte
   pub inside : bucket_end bytes byte ≤ count_in bytes
   pub first : HaveFirstByte byte (counted_with kind bytes byte)
 
--- what contracts see of a bucket: the kind of its names, the index of the first of them in the pack index, and the names
+-- what contracts see of a bucket: the kind of its ids, the position of the first of them in the pack index, and the ids
 pub record BucketNames : Type 0 where
   pub kind : Kind
   pub start : ℕ
   pub names : List (List ℕ)
 
--- they are the names that are counted with the first byte, and all that have it if the counts are right
+-- they are the ids with the first byte by the fan-out table, and all that have it if the table is right
 pub record AreCounted (kind : Kind) (bytes : List ℕ) (byte : ℕ) (bucket : BucketNames) : Type 0 where
   pub right : HasBucket kind bytes byte
   pub start : bucket.start ≡ bucket_start bytes byte
@@ -61,7 +62,7 @@ pub record IsBucketOf (index : LazyIndex) (byte : ℕ) (bucket : BucketNames) : 
   pub first : HaveFirstByte byte bucket.names
   pub known : (bytes : List ℕ) → index.content ≡ Some bytes → AreCounted index.kind bytes byte bucket
 
--- the id of these digits is at this index, and at none before it of the names that are counted with its first byte
+-- the id of these digits is at this position, and at none before it of those with its first byte by the fan-out table
 pub record IsFirstCounted (kind : Kind) (bytes digits : List ℕ) (at : ℕ) : Type 0 where
   pub from : bucket_start bytes (first_byte_of digits) ≤ at
   pub to : at < bucket_end bytes (first_byte_of digits)
@@ -87,7 +88,7 @@ IsHeadFault can_fail kind bytes (OtherKind other) =
 IsHeadFault can_fail kind bytes WrongLength = HasHead kind bytes × (¬ HasTables kind bytes) × ¬ HasTables (other_than kind) bytes
 IsHeadFault can_fail kind bytes _ = ⊥
 
--- why the names that are counted with a first byte are not read: the cause holds of that byte, and none before it
+-- why the ids with a first byte are not read: the cause holds of that byte, and none before it
 abbrev pub IsBucketFault : Bool → Kind → List ℕ → ℕ → LazyError → Type 0
 IsBucketFault can_fail kind bytes byte (Read e) = IsTrue can_fail
 IsBucketFault can_fail kind bytes byte (Memory e) = Unit {0}
@@ -99,7 +100,7 @@ IsBucketFault can_fail kind bytes byte (WrongCount b) =
     × ¬ HaveFirstByte byte (counted_with kind bytes byte)
 IsBucketFault can_fail kind bytes byte _ = ⊥
 
--- why the offset of the name at an index is not read
+-- why an object's offset is not read
 abbrev pub IsOffsetFault : Bool → Kind → List ℕ → ℕ → LazyError → Type 0
 IsOffsetFault can_fail kind bytes at (Read e) = IsTrue can_fail
 IsOffsetFault can_fail kind bytes at (NoOffset k) = (k ≡ at) × (at < count_in bytes) × ¬ HasOffset kind bytes at

@@ -10,7 +10,7 @@ use Rattle.pack_index.specs.Format.{HasCount, HasHead, HasNames, HasNoSpare, Has
 use Rattle.pack_index.specs.declared.error.Error.{Error}
 use Rattle.pack_index.specs.declared.error.Error.TheVariants.{OtherKind, TooShort, Version1, BadMagic, BadVersion, WrongLength, NamesFall, WrongCount, NoOffset, LongOutOfOrder, SpareLong, OffsetInHeader, OffsetTooHigh, WrongChecksum}
 
--- how long an index of version 1 is, which has no magic number: the counts, the names each after an offset of four bytes, and the digests
+-- how long an index of version 1 is, which has no magic number: the fan-out table, the ids each after an offset of four bytes, and the digests
 abbrev pub version_1_len : Kind → List ℕ → ℕ
 version_1_len kind bytes = counts_len + byte_len_of kind * word_at bytes (counts_len - 4) + 4 * word_at bytes (counts_len - 4) + 2 * byte_len_of kind
 
@@ -40,6 +40,7 @@ IsFault kind bytes (OffsetTooHigh at) =
     × Each (IsPastHeader kind bytes) (count_in bytes) × IsFirstNot (IsSigned kind bytes) (count_in bytes) at
 IsFault kind bytes WrongChecksum = HasNames kind bytes × HasOffsets kind bytes × ¬ EndsInDigest kind bytes
 
+-- the other kind
 abbrev pub other_than : Kind → Kind
 other_than Sha1 = Sha256
 other_than Sha256 = Sha1

@@ -16,12 +16,12 @@ pub(crate) const MAGIC: u32 = 0xff74_4f63;
 
 pub(crate) const VERSION: u32 = 2;
 
-// The length of the counts, with which an index of version 1 begins.
+// The length of the fan-out table, with which an index of version 1 begins.
 pub(crate) const COUNTS_LEN: usize = 1024;
 
-/// Checks that the bytes begin as a pack index of version 2, and that its tables fill them.
-/// Otherwise the error is the first one that holds of those from [`Error::TooShort`] to
-/// [`Error::WrongLength`].
+/// Checks that the bytes begin as a pack index of version 2, and that its tables fill them: not its
+/// ids, offsets and checksum. Otherwise the error is the first one that holds of those from
+/// [`Error::TooShort`] to [`Error::WrongLength`].
 pub fn check_tables(bytes: &[u8], kind: Kind) -> Result<(), Error>
     ensures head { OnOk result (HasHead kind bytes.now) }
     ensures tables { OnOk result (HasTables kind bytes.now) }
@@ -48,7 +48,7 @@ pub fn check_tables(bytes: &[u8], kind: Kind) -> Result<(), Error>
     Ok(())
 }
 
-/// How many bytes an index of version 1 has, by its last count.
+/// How many bytes an index of version 1 has, by its last fan-out entry.
 pub(crate) fn version_1_len(bytes: &[u8], kind: Kind) -> usize
     requires { names_at ≤ length bytes.now }
     ensures { result ≡ version_1_len kind bytes.now }
@@ -71,7 +71,8 @@ pub(crate) fn other_than(kind: Kind) -> Kind
     }
 }
 
-// Whether the tables of as many names as the head counts fill `len` bytes up to the digests.
+// Whether the tables of as many objects as the last fan-out entry says fill `len` bytes up to the
+// digests.
 pub(crate) fn fills_bytes(head: &[u8], kind: Kind, len: u64) -> bool
     requires head { names_at ≤ length head.now }
     requires enough { min_len kind ≤ len }
@@ -83,7 +84,7 @@ pub(crate) fn fills_bytes(head: &[u8], kind: Kind, len: u64) -> bool
     long <= end && (end - long) % 8 == 0 && end <= long + 8 * most
 }
 
-// The first byte whose count is not that of the names.
+// The first byte whose fan-out entry is wrong.
 pub(crate) fn first_wrong_count(bytes: &[u8], fan_out: &FanOut, kind: Kind) -> Option<u8>
     requires tables { HasTables kind bytes.now }
     requires fan_out { IsFanOut fan_out.now (names_in kind bytes.now) }
@@ -98,7 +99,7 @@ pub(crate) fn first_wrong_count(bytes: &[u8], fan_out: &FanOut, kind: Kind) -> O
     None
 }
 
-// The first name that has no offset.
+// The first object whose offset is in no table.
 pub(crate) fn first_without_offset(bytes: &[u8], kind: Kind) -> Option<usize>
     requires { HasTables kind bytes.now }
     ensures { MatchOption result (Each (HasOffset kind bytes.now) (count_in bytes.now))
@@ -112,7 +113,7 @@ pub(crate) fn first_without_offset(bytes: &[u8], kind: Kind) -> Option<usize>
     None
 }
 
-/// Whether the offset of the name at an index is in a table.
+/// Whether the offset of object `at`, which must be below the number of objects, is in a table.
 pub fn has_offset(bytes: &[u8], kind: Kind, at: usize) -> bool
     requires tables { HasTables kind bytes.now }
     requires in_range { at < count_in bytes.now }

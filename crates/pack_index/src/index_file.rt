@@ -54,8 +54,12 @@ impl<'a> Model for File<'a> {
 }
 
 impl<'a> File<'a> {
-    /// The bytes as a pack index whose names are of a kind. The error is the first cause for which
-    /// they are not.
+    /// Checks `bytes` as a pack index of version 2 with ids of `kind`, whole: header, lengths,
+    /// order, fan-out table, offsets and checksum. Returns the first [`Error`] that applies,
+    /// `OtherKind` before all.
+    ///
+    /// It reads and hashes all bytes, and once more for the other kind if they are no index of this
+    /// one.
     pub fn try_new(bytes: &'a [u8], kind: Kind) -> Result<File<'a>, Error>
         ensures ok { IfOk result (λ file. file ≡ record { kind = kind; bytes = bytes.now }) }
         ensures accepted { IsOk result ↔ IsPackIndex kind bytes.now }
@@ -96,7 +100,7 @@ impl<'a> File<'a> {
         })
     }
 
-    /// The kind of the names.
+    /// The kind of the ids.
     pub fn object_hash(&self) -> Kind
         ensures kind { result ≡ self.now.kind }
         ensures index { IsPackIndex self.now.kind self.now.bytes }
@@ -104,14 +108,14 @@ impl<'a> File<'a> {
         self.kind
     }
 
-    /// The number of names.
+    /// The number of objects.
     pub fn num_objects(&self) -> usize
         ensures { result ≡ length (names_in self.now.kind self.now.bytes) }
     {
         self.names.len()
     }
 
-    /// The name at an index.
+    /// The id of object `at`, which must be below `num_objects()`.
     pub fn oid_at_index(&self, at: usize) -> oid<'_>
         requires { at < length (names_in self.now.kind self.now.bytes) }
         ensures { HoldsAt (λ id. oid_digits result ≡ id)
@@ -120,7 +124,7 @@ impl<'a> File<'a> {
         self.names.get(at)
     }
 
-    /// The offset in the pack of the object of the name at an index.
+    /// The offset of object `at` in the pack, in bytes. `at` must be below `num_objects()`.
     pub fn pack_offset_at_index(&self, at: usize) -> u64
         requires { at < length (names_in self.now.kind self.now.bytes) }
         ensures { result ≡ offset_in self.now.kind self.now.bytes at }
@@ -128,7 +132,7 @@ impl<'a> File<'a> {
         offset_in(self.bytes, self.kind, at)
     }
 
-    /// The CRC-32 of the packed bytes of the object of the name at an index.
+    /// The CRC-32 of object `at`, as stored in the pack. `at` must be below `num_objects()`.
     pub fn crc32_at_index(&self, at: usize) -> u32
         requires { at < length (names_in self.now.kind self.now.bytes) }
         ensures { result ≡ crc_in self.now.kind self.now.bytes at }
@@ -136,11 +140,11 @@ impl<'a> File<'a> {
         crc_in(self.bytes, self.kind, at)
     }
 
-    /// The run of exactly the names that begin with a prefix, by
-    /// [`lookup_in`](id_lookup::lookup_in) over the file's own counts.
+    /// The run of exactly the ids that begin with a prefix, by [`lookup_in`](id_lookup::lookup_in)
+    /// over the file's own fan-out table.
     ///
-    /// The prefix must have the index's kind. A name that occurs twice is two members of the run.
-    /// No clause says how many names are compared.
+    /// The prefix must have the index's kind. An id that occurs twice is two members of the run. No
+    /// clause says how many ids are compared, here and by the calls that look up in this run.
     pub fn find_prefix(&self, prefix: &Prefix) -> Run
         requires { prefix.now.kind ≡ self.now.kind }
         ensures { IsRun prefix.now (names_in self.now.kind self.now.bytes) result }
@@ -150,8 +154,8 @@ impl<'a> File<'a> {
         self.names.find(&self.fan_out, prefix)
     }
 
-    /// Which names begin with a prefix: none, one, or a run of more, as of [`File::find_prefix`].
-    /// No clause says how many names are compared.
+    /// Which ids begin with a prefix: none, one, or a run of more. The prefix must have the index's
+    /// kind.
     pub fn lookup_prefix(&self, prefix: &Prefix) -> Answer
         requires { prefix.now.kind ≡ self.now.kind }
         ensures { IsAnswer prefix.now (names_in self.now.kind self.now.bytes) result }
@@ -164,8 +168,8 @@ impl<'a> File<'a> {
         }
     }
 
-    /// The index of a name, the first one if it occurs more than once, or `None` if it does not
-    /// occur. No clause says how many names are compared.
+    /// The position of an id, the first one if it occurs more than once, or `None` if it does not
+    /// occur.
     pub fn lookup(&self, id: oid<'_>) -> Option<usize>
         ensures { let names = names_in self.now.kind self.now.bytes in
             MatchOption result ((k : ℕ) → k < length names
@@ -184,8 +188,8 @@ impl<'a> File<'a> {
         Some(run.start)
     }
 
-    /// The shortest name of the object at an index: the shortest beginning of its name of at least
-    /// 4 digits that no other name begins with. A name that occurs twice has none.
+    /// The abbreviation of object `at`, which must be below `num_objects()`: its shortest prefix of
+    /// at least 4 digits that no other id begins with. An id that occurs twice has none.
     pub fn abbreviate(&self, at: usize) -> Option<Prefix>
         requires { at < length (names_in self.now.kind self.now.bytes) }
         ensures kind { IfSome result (λ name. name.kind ≡ self.now.kind) }

@@ -6,7 +6,7 @@ ghost use Rattle.pack_index.specs.Format.{crcs_at, names_at, names_in};
 
 use crate::index_file::File;
 
-/// The names of a pack index, one after the other, are the bytes of its table of names.
+/// The ids of a pack index, one after the other, are the bytes of its table of ids.
 pub fn names_in_a_row(file: &File<'_>)
     ensures { flat_map (λ name. name) (names_in file.now.kind file.now.bytes)
         ≡ digits_of (slice_range file.now.bytes names_at (crcs_at file.now.kind file.now.bytes)) }

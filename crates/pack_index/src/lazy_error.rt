@@ -9,8 +9,7 @@ use std::io;
 use thiserror::Error as ThisError;
 
 /// Why a [`LazyFile`](crate::LazyFile) is not opened, or does not give what was asked. Of several
-/// causes in the bytes the first in the order of the variants is reported. Indexes of names are
-/// counted from 0.
+/// causes in the bytes the first in the order of the variants is reported. Positions count from 0.
 ///
 /// ```
 /// let why = LazyFile::open(&b"PACK"[..], Kind::Sha1);
@@ -28,7 +27,7 @@ pub enum LazyError {
     #[error("the bytes are too few for a pack index")]
     TooShort,
     /// The bytes do not begin with the magic number of version 2 and later, and are as many as an
-    /// index of version 1 has, by its last count.
+    /// index of version 1 has, by its last fan-out entry.
     #[error("pack indexes of version 1 are not read")]
     Version1,
     /// The bytes do not begin with the magic number, nor are they as long as an index of version 1.
@@ -37,24 +36,23 @@ pub enum LazyError {
     /// The version after the magic number is this, and not 2.
     #[error("pack indexes of version {0} are not read")]
     BadVersion(u32),
-    /// The tables of as many names as are counted fill the bytes up to the digests if the names are
-    /// of this kind, the other one, and not otherwise.
+    /// The length fits an index with ids of this kind, the other one, and not one of the kind that
+    /// was asked for.
     #[error("the names of the pack index are of the kind {0}")]
     OtherKind(Kind),
-    /// The tables of as many names as are counted do not fill the bytes up to the digests, of
-    /// whichever kind the names are.
+    /// The length fits no index of either kind with as many objects as the last fan-out entry says.
     #[error("the tables of the pack index do not fill its bytes")]
     WrongLength,
-    /// The count of this byte is below that of the byte before it.
+    /// The fan-out entry of this byte is below the one before it.
     #[error("the count of the first byte {0} is below the one before it")]
     CountsFall(u8),
-    /// The count of this byte is above the number of names.
+    /// The fan-out entry of this byte is above the last one, the number of objects.
     #[error("the count of the first byte {0} is above the number of names")]
     CountTooHigh(u8),
-    /// A name that is counted with this first byte has another.
+    /// An id that has this first byte by the fan-out table has another.
     #[error("a name that is counted with the first byte {0} has another")]
     WrongCount(u8),
-    /// The name at this index has a long offset, and there is none of its number.
+    /// The entry of the object at this position points past the end of the table of 8-byte offsets.
     #[error("the name at position {0} has no offset")]
     NoOffset(usize),
 }

@@ -1,7 +1,7 @@
 //! Git's pack indexes of version 2, over their bytes.
 //!
-//! A [`File`] is made of bytes that were checked once: their tables, order, counts, offsets and
-//! checksum. Opening allocates no memory and copies no name. The names are looked up by
+//! A [`File`] is made of bytes that were checked once: their tables, order, fan-out table, offsets
+//! and checksum. Opening does not allocate and copies no id. The ids are looked up by
 //! [`lookup_in`](id_lookup::lookup_in) where they are stored, and the index has the offset of each
 //! object in the pack.
 #![tactic(auto)]

@@ -1,4 +1,4 @@
-//! The names of a pack index, which are of one kind.
+//! The ids of a pack index, which are of one kind.
 
 ghost use Rattle.std.specs.Prelude.{◌≡◌, ◌↔◌, ◌+◌, ◌<◌, ◌≤◌, ℕ, [], List, IfErr, IfOk, IfSome, IsNone, IsOk, length, slice_index_or};
 ghost use Rattle.std.specs.List.{HoldsAt};
@@ -62,7 +62,7 @@ impl<'a> Names<'a> {
         }
     }
 
-    // The shortest name of the member at an index, if it has one.
+    // The abbreviation of the member at a position, if it has one.
     pub(crate) fn abbreviate(&self, at: usize) -> Option<Prefix>
         requires { at < length (list_of self.now) }
         ensures kind { IfSome result (λ name. hex_len_of name.kind
@@ -79,7 +79,7 @@ impl<'a> Names<'a> {
         }
     }
 
-    // The run of a prefix, among the names with its first byte.
+    // The run of a prefix, among the ids with its first byte.
     pub(crate) fn find(&self, fan_out: &FanOut, prefix: &Prefix) -> Run
         requires fan_out { IsFanOut fan_out.now (list_of self.now) }
         requires enough_digits { length prefix.now.digits ≤ least_hex_len (list_of self.now) }

@@ -16,7 +16,8 @@ const PACK_HEADER_LEN: u64 = 12;
 // The smallest number that is not a signed one of 64 bits.
 const UNSIGNED: u64 = 0x8000_0000_0000_0000;
 
-// Whether each name has an offset in the pack, and the long ones are used in the order of names.
+// Whether each object has an offset in the pack, and the 8-byte ones are used in the order of
+// objects.
 pub(crate) fn check_offsets(bytes: &[u8], kind: Kind) -> Result<(), Error>
     requires { HasNames kind bytes.now }
     ensures offsets { OnOk result (HasOffsets kind bytes.now) }
@@ -41,7 +42,7 @@ pub(crate) fn check_offsets(bytes: &[u8], kind: Kind) -> Result<(), Error>
     Ok(())
 }
 
-// How many names have long offsets, or the first name whose long offset is not the next one.
+// How many objects have 8-byte offsets, or the first whose 8-byte offset is not the next one.
 fn count_longs(bytes: &[u8], kind: Kind) -> Result<usize, usize>
     requires { HasTables kind bytes.now }
     ensures count { IfOk result (λ longs. longs
@@ -63,7 +64,7 @@ fn count_longs(bytes: &[u8], kind: Kind) -> Result<usize, usize>
     Ok(longs)
 }
 
-// The first name whose offset is in the header of the pack.
+// The first object whose offset is in the header of the pack.
 fn first_in_header(bytes: &[u8], kind: Kind) -> Option<usize>
     requires tables { HasTables kind bytes.now }
     requires offsets { Each (HasOffset kind bytes.now) (count_in bytes.now) }
@@ -78,7 +79,7 @@ fn first_in_header(bytes: &[u8], kind: Kind) -> Option<usize>
     None
 }
 
-// The first name whose offset is not a signed number.
+// The first object whose offset is not a signed number.
 fn first_too_high(bytes: &[u8], kind: Kind) -> Option<usize>
     requires tables { HasTables kind bytes.now }
     requires offsets { Each (HasOffset kind bytes.now) (count_in bytes.now) }

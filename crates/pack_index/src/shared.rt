@@ -1,4 +1,4 @@
-//! Names of a pack index with the same offset.
+//! Objects of a pack index with the same offset.
 
 ghost use Rattle.std.specs.Prelude.{IfOk, MatchOption, length};
 ghost use Rattle.pack_index.specs.Format.{names_in};
@@ -9,11 +9,11 @@ use std::alloc::{AllocError, Allocator};
 use std::collections::BTreeMap;
 
 impl<'a> File<'a> {
-    /// Two names with the same offset, each by its index: the first name whose offset an earlier
-    /// one has, after that earlier one. `None` if and only if all offsets differ. No pack has an
-    /// index with two such names, since no two of its objects begin at one offset.
+    /// Two objects with the same offset, each by its position: the first object whose offset an
+    /// earlier one has, after that earlier one. `None` if and only if all offsets differ. No pack
+    /// has an index with two such objects, since no two begin at one offset.
     ///
-    /// The call takes memory for all offsets, and fails only if there is not enough.
+    /// The call allocates memory for all offsets, and fails only if there is not enough.
     pub fn shared_offset<A: Allocator + Clone>(
         &self,
         alloc: A,

@@ -8,13 +8,13 @@ ghost use Rattle.pack_index.specs.Lazy.{bucket_end, bucket_start};
 use gix_hash::Kind;
 use id_lookup::Run;
 
-/// Where the names begin.
+/// Where the ids begin, in bytes from the start of the index.
 pub const NAMES_AT: usize = 1032;
 
-/// The smallest word that the table of offsets has for a long offset.
+/// The smallest word of the table of offsets that stands for an 8-byte offset.
 pub(crate) const LONG: u32 = 0x8000_0000;
 
-// The number that is written in the four bytes from an index on, the highest first.
+// The number that is written in the four bytes from a position on, the highest first.
 #[tactic(auto, unfolding(crate::specs::Format::word_at))]
 pub(crate) fn word_at(bytes: &[u8], at: usize) -> u32
     requires { at + 4 ≤ length bytes.now }
@@ -23,7 +23,7 @@ pub(crate) fn word_at(bytes: &[u8], at: usize) -> u32
     u32::from_be_bytes([bytes[at], bytes[at + 1], bytes[at + 2], bytes[at + 3]])
 }
 
-// The number that is written in the eight bytes from an index on.
+// The number that is written in the eight bytes from a position on.
 pub(crate) fn long_word_at(bytes: &[u8], at: usize) -> u64
     requires { at + 8 ≤ length bytes.now }
     ensures { result ≡ 2 ^ 32 * word_at bytes.now at + word_at bytes.now (at + 4) }
@@ -31,7 +31,7 @@ pub(crate) fn long_word_at(bytes: &[u8], at: usize) -> u64
     0x1_0000_0000 * u64::from(word_at(bytes, at)) + u64::from(word_at(bytes, at + 4))
 }
 
-/// The number of names.
+/// The number of objects.
 pub fn count_in(bytes: &[u8]) -> u32
     requires { names_at ≤ length bytes.now }
     ensures { result ≡ count_in bytes.now }
@@ -39,7 +39,7 @@ pub fn count_in(bytes: &[u8]) -> u32
     word_at(bytes, NAMES_AT - 4)
 }
 
-/// The number of names with at most a first byte, as the index counts them.
+/// The fan-out entry of a byte: the number of ids with at most that first byte.
 pub fn up_to_in(bytes: &[u8], byte: u8) -> u32
     requires { names_at ≤ length bytes.now }
     ensures { result ≡ word_at bytes.now (8 + 4 * byte) }
@@ -47,8 +47,8 @@ pub fn up_to_in(bytes: &[u8], byte: u8) -> u32
     word_at(bytes, 8 + 4 * usize::from(byte))
 }
 
-/// The indexes of the names that are counted with first bytes from `first` to `last`. If the counts
-/// are wrong, they may be indexes of no names, and `end` may be below `start`.
+/// The positions of the ids with first bytes from `first` to `last`, by the fan-out table. If that
+/// is wrong, they may be positions of no ids, and `end` may be below `start`.
 pub fn counted_in(bytes: &[u8], first: u8, last: u8) -> Run
     requires { names_at ≤ length bytes.now }
     ensures start { result.start ≡ bucket_start bytes.now first }
@@ -65,7 +65,7 @@ pub fn counted_in(bytes: &[u8], first: u8, last: u8) -> Run
     }
 }
 
-/// Where the CRCs begin, after the names.
+/// Where the CRCs begin and the ids end, in bytes from the start of the index.
 pub fn crcs_at(bytes: &[u8], kind: Kind) -> usize
     requires { names_at ≤ length bytes.now }
     ensures start { result ≡ crcs_at kind bytes.now }
@@ -88,7 +88,7 @@ pub(crate) fn offsets_at(bytes: &[u8], kind: Kind) -> usize
     crcs_at(bytes, kind) + 4 * count_in(bytes) as usize
 }
 
-// Where the long offsets begin.
+// Where the 8-byte offsets begin.
 pub(crate) fn long_at(bytes: &[u8], kind: Kind) -> usize
     requires { names_at ≤ length bytes.now }
     ensures start { result ≡ long_at kind bytes.now }
@@ -97,7 +97,7 @@ pub(crate) fn long_at(bytes: &[u8], kind: Kind) -> usize
     offsets_at(bytes, kind) + 4 * count_in(bytes) as usize
 }
 
-// Where the long offsets end.
+// Where the 8-byte offsets end.
 pub(crate) fn tables_end(bytes: &[u8], kind: Kind) -> usize
     requires { 2 * byte_len_of kind ≤ length bytes.now }
     ensures { result ≡ tables_end kind bytes.now }
@@ -113,7 +113,7 @@ pub(crate) fn digest_at(bytes: &[u8], kind: Kind) -> usize
     bytes.len() - kind.len_in_bytes()
 }
 
-/// The CRC of the object of the name at an index.
+/// The CRC-32 of object `at`, as stored in the index.
 pub fn crc_in(bytes: &[u8], kind: Kind, at: usize) -> u32
     requires tables { HasTables kind bytes.now }
     requires in_range { at < count_in bytes.now }
@@ -122,7 +122,7 @@ pub fn crc_in(bytes: &[u8], kind: Kind, at: usize) -> u32
     word_at(bytes, crcs_at(bytes, kind) + 4 * at)
 }
 
-// The word that the table of offsets has for the name at an index.
+// The word that the table of offsets has for object `at`.
 pub(crate) fn offset_word(bytes: &[u8], kind: Kind, at: usize) -> u32
     requires tables { HasTables kind bytes.now }
     requires in_range { at < count_in bytes.now }
@@ -131,7 +131,7 @@ pub(crate) fn offset_word(bytes: &[u8], kind: Kind, at: usize) -> u32
     word_at(bytes, offsets_at(bytes, kind) + 4 * at)
 }
 
-/// Where the object of the name at an index begins in the pack.
+/// The offset of object `at` in the pack, in bytes.
 pub fn offset_in(bytes: &[u8], kind: Kind, at: usize) -> u64
     requires tables { HasTables kind bytes.now }
     requires in_range { at < count_in bytes.now }

@@ -1,4 +1,4 @@
--- What contracts see of the devices over slices and over readers and writers of the standard library.
+-- What contracts see of sources and sinks over slices, and over readers and writers of the standard library.
 use Rattle.std.specs.Prelude.{◌-◌, ℕ, Bool, List, Option, Some, None, Result, Ok, Err, is_some, take, length}
 use Rattle.std.specs.declared.io.Error.{Error}
 use Rattle.streams.specs.declared.from_slice.FromSlice.{FromSlice}
@@ -22,7 +22,7 @@ slice_failed sink = sink.failed
 abbrev pub room_in : IntoSlice → ℕ
 room_in sink = length sink.buf.now - sink.len
 
--- the reader or writer of a device
+-- the reader or writer below a `Plain`
 abbrev pub plain_inner : {T : Type 0} → Plain T → T
 plain_inner sink = sink.inner
 

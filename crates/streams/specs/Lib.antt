@@ -1,4 +1,4 @@
--- What is read and written: by devices, as lines of ids, and by hashing, sealing and checking.
+-- What is read and written: by sources and sinks, as lines of ids, and by hashing, sealing and checking.
 pub mod Writing
 pub mod Devices
 pub mod Source

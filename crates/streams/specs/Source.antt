@@ -4,12 +4,12 @@ use Rattle.std.specs.Io.KnownBytes.{Consumes, IsAtEnd}
 use Rattle.streams.specs.declared.pipe.PipeError.{PipeError}
 use Rattle.streams.specs.declared.pipe.PipeError.TheVariants.{Input, Output, TooMuch}
 
--- these bytes were read
+-- these bytes, fewer than 2 ^ 61, were read
 pub record HasRead (old new : Option (List ℕ)) (bytes : List ℕ) : Type 0 where
   pub gives : Consumes old new bytes
   pub short : length bytes < 2 ^ 61
 
--- these bytes were read, and none remain
+-- these bytes, fewer than 2 ^ 61, were read, and none remain
 pub record HasReadAll (old new : Option (List ℕ)) (bytes : List ℕ) : Type 0 where
   pub gives : Consumes old new bytes
   pub at_end : IsAtEnd new
@@ -19,7 +19,7 @@ pub record HasReadAll (old new : Option (List ℕ)) (bytes : List ℕ) : Type 0 
 abbrev pub max_len : ℕ
 max_len = 2 ^ 61 - 1
 
--- these bytes were read, which are more
+-- these bytes, 2 ^ 61 or more, were read
 pub record HasReadTooMuch (old new : Option (List ℕ)) (bytes : List ℕ) : Type 0 where
   pub too_long : 2 ^ 61 ≤ length bytes
   pub gives : Consumes old new bytes

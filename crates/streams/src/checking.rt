@@ -16,7 +16,7 @@ const MAX_DIGEST_LEN: usize = 32;
 // The length of a chunk and of a digest that is held back before it.
 const BUFFER_LEN: usize = CHUNK_LEN + MAX_DIGEST_LEN;
 
-/// How bytes end.
+/// Whether a message ends with its own digest, as [`check`] found.
 ///
 /// ```
 /// if let Ending::Sealed(id) = check(&mut input, Kind::Sha1)? {
@@ -25,11 +25,11 @@ const BUFFER_LEN: usize = CHUNK_LEN + MAX_DIGEST_LEN;
 /// ```
 #[derive(Clone, Copy, Debug)]
 pub enum Ending {
-    /// With the digest of all bytes before it, which is this.
+    /// It ends with the digest of all bytes before it, which is this.
     Sealed(ObjectId),
-    /// With others.
+    /// It does not, or is shorter than a digest.
     Unsealed {
-        /// The digest of all bytes but the last, as many as a digest has.
+        /// The digest of all but the last 20 or 32 bytes; of the empty message, if there are fewer.
         digest: ObjectId,
         /// Those last bytes, or `None` if there are fewer bytes than a digest has.
         last: Option<ObjectId>,

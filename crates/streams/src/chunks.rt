@@ -9,9 +9,9 @@ use crate::source::{MAX_LEN, Source};
 /// Reads the next chunk into the start of a non-empty buffer and returns its length, which is 0 at
 /// the end of the source. `total` is the number of bytes read so far.
 ///
-/// The error is [`PipeError::Input`] if the read fails, and [`PipeError::TooMuch`] if the chunk
-/// makes the total more than [`MAX_LEN`]. Both leave `total` as it was. The source must not have
-/// failed before.
+/// The error is [`PipeError::Input`] if the read fails, and [`PipeError::TooMuch`] if the chunk,
+/// which was read, makes the total more than [`MAX_LEN`]. Both leave `total` as it was. The source
+/// must not have failed before.
 ///
 /// ```
 /// let mut buf = [0; CHUNK_LEN];

@@ -43,8 +43,8 @@ impl From<WriteFailed> for PipeError {
     }
 }
 
-/// Reads the source to its end, and writes the digest of its bytes: the lowercase hex digits and a
-/// line feed.
+/// Reads the source to its end, and writes the line of the digest of its bytes: the lowercase hex
+/// digits and a line feed.
 ///
 /// Each error is returned exactly when its cause holds: [`PipeError::Input`] if a read returns an
 /// error, [`PipeError::Output`] if a write fails, [`PipeError::TooMuch`] if the source has more

@@ -1,4 +1,4 @@
-//! Devices over the library's readers and writers.
+//! Sources and sinks over the library's readers and writers.
 
 ghost use Rattle.std.specs.Prelude.{◌≡◌, ◌<◌, ◌||◌, None, false, is_err, length, IfOk, IfSome, IsSome, OnErr};
 ghost use Rattle.std.specs.IoError.{error_kind};
@@ -12,8 +12,9 @@ use crate::source::Source;
 use std::alloc::Allocator;
 use std::io::{self, BufWriter, Write};
 
-/// A source over a reader of the standard library, or a sink over a writer. The bytes that remain,
-/// and those that were taken, are what the reader or writer says of them.
+/// A [`Source`] over a reader or a [`Sink`] over a writer of the standard library, which keeps the
+/// first error. The bytes that remain, and those that were taken, are what the reader or writer
+/// says of them.
 ///
 /// ```
 /// let mut input = Plain::new(rt.reader());
@@ -29,7 +30,7 @@ pub struct Plain<T> {
 impl<T> Plain<T> {
     ghost use Rattle.streams.specs.Devices.{plain_error, plain_failed, plain_inner};
 
-    /// A device that has not failed.
+    /// A source or sink that has not failed.
     pub fn new(inner: T) -> Self
         ensures not_failed { plain_failed result ≡ false }
         ensures inner { plain_inner result ≡ inner }

@@ -14,7 +14,8 @@ const MAX_LINE_LEN: usize = 65;
 
 /// Writes a line for each id: its digits and a line feed.
 ///
-/// It stops at the first write that fails, after a proper beginning of the lines.
+/// It stops at the first write that fails, after a proper prefix of the lines. The sink must not
+/// have failed before.
 pub fn write_ids<W: Sink>(
     alphabet: Alphabet,
     ids: &[ObjectId],
@@ -30,7 +31,8 @@ pub fn write_ids<W: Sink>(
     Ok(())
 }
 
-/// Writes the line of an id: its digits and a line feed.
+/// Writes the line of an id: its digits and a line feed. After an error a proper prefix of the line
+/// was written. The sink must not have failed before.
 pub fn write_id<W: Sink>(alphabet: Alphabet, id: &ObjectId, out: &mut W) -> Result<(), WriteFailed>
     requires { W.has_failed out.old ≡ false }
     ensures { Wrote W.taken W.has_failed out.old out.new result

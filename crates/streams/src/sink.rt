@@ -23,7 +23,7 @@ pub trait Sink {
     /// least one byte.
     ghost has_failed: { Self → Bool };
 
-    /// Takes a beginning of the bytes, and returns its length.
+    /// Takes a prefix of the bytes, and returns its length.
     fn write(&mut self, bytes: &[u8]) -> io::Result<usize>
         ensures bound { WritesAtMost result bytes.now }
         ensures bytes { WriteAppends (taken self.old) (taken self.new) result bytes.now }
@@ -56,7 +56,7 @@ pub trait BufferedSink: Sink {
         ensures flushed { OnOk result (kept_back self.new ≡ []) };
 }
 
-/// A writer failed.
+/// The error of a call that only writes: a write failed.
 ///
 /// ```
 /// if let Err(WriteFailed) = write_all(&mut out, b"4b82") {
@@ -66,7 +66,8 @@ pub trait BufferedSink: Sink {
 #[derive(Clone, Copy, Debug)]
 pub struct WriteFailed;
 
-/// Writes all of the bytes, by as many writes as needed, and stops at the first that fails.
+/// Writes all of the bytes, by as many writes as needed, and stops at the first that fails. After
+/// an error a proper prefix of the bytes was written. The sink must not have failed before.
 pub fn write_all<W: Sink>(out: &mut W, bytes: &[u8]) -> Result<(), WriteFailed>
     requires { W.has_failed out.old ≡ false }
     ensures { Wrote W.taken W.has_failed out.old out.new result bytes.now }

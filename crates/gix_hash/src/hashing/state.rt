@@ -8,13 +8,13 @@ use crate::kind::Kind;
 use crate::object_id::ObjectId;
 use sha2::Digest;
 
-/// How far SHA-1 has come.
+/// The state of a SHA-1 computation.
 #[derive(Drop)]
 pub struct Sha1State {
     state: sha1::Sha1,
 }
 
-/// How far SHA-256 has come.
+/// The state of a SHA-256 computation.
 #[derive(Drop)]
 pub struct Sha256State {
     state: sha2::Sha256,

@@ -2,7 +2,7 @@
 
 ghost use Rattle.std.specs.Prelude.{◌≡◌, Bool, false};
 
-/// What is asked, after each chunk of a stream, whether to stop there.
+/// A cancellation check, which is called after each chunk of a stream.
 ///
 /// An implementation specifies the call by `answers`: a relation of its value before the call, the
 /// returned `bool`, and its value after the call.

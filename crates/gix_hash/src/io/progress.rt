@@ -3,7 +3,7 @@
 ghost use Rattle.std.specs.Prelude.{◌≡◌};
 ghost use Rattle.gix_hash.specs.Streams.{ProgressCall, Init, IncBy, ShowThroughput};
 
-/// What is called with how far the reading of a stream has come, in bytes.
+/// Receives how far the reading of a stream has come, in bytes.
 ///
 /// An implementation specifies its calls by `hears`: a relation of its value before a call, the
 /// call, and its value after the call.

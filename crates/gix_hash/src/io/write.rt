@@ -14,8 +14,8 @@ use std::io;
 /// A writer that passes what is written on to an inner writer, and hashes the bytes that the inner
 /// writer accepts.
 ///
-/// If it is fresh and its fields are only read, its hasher was fed all that the inner writer
-/// accepted since.
+/// As long as its fields are only read, the hasher has been fed exactly the bytes that the inner
+/// writer accepted.
 ///
 /// ```
 /// let mut out = Write::new(file, Kind::Sha1);

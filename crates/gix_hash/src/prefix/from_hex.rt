@@ -2,7 +2,7 @@
 
 use thiserror::Error as ThisError;
 
-/// A text that is not the digits of a prefix.
+/// The error of reading a prefix from a text, which is not the digits of one.
 ///
 /// ```
 /// let why = Prefix::from_hex("4b8");

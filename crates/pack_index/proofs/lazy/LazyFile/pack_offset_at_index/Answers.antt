@@ -10,7 +10,7 @@ use Rattle.pack_index.proofs.lazy.LazyFile.pack_offset_at_index.Given.{Over}
 use Rattle.pack_index.proofs.lazy.LazyFile.pack_offset_at_index.Goals.{After-from-2}
 use Rattle.pack_index.proofs.lazy.LazyFile.pack_offset_at_index.Goals as goal
 
--- where the long offset is, and where all of them end
+-- where the 8-byte offset is, and where all of them end
 long_starts : (g : Over) (c : After-from-2 g) (bytes : List ℕ) → c.args.self.now.content ≡ Some bytes
     → (c.long_at.result + 8 * c.from-2.result ≡ long_at c.args.self.now.kind bytes + 8 * (c.in_ok-word.word - long_word))
     × (c.self.inside.end ≡ tables_end c.args.self.now.kind bytes)
