@@ -3,8 +3,11 @@
  * and ids of objects, look-ups in sorted tables of digests, and pack indexes. Link libgix_hash;
  * docs/BINDINGS.md says how.
  *
- * A len is a number of bytes, a hex_len a number of hex digits, of which a byte has two. Indexes
- * count from 0.
+ * A len is a number of bytes, a hex_len a number of hex digits, of which a byte has two. A position
+ * counts from 0.
+ *
+ * SHA-1 is computed without the detection of collisions that Git has: where others make the bytes, an
+ * equal id is no proof of equal bytes.
  *
  * No function allocates memory or keeps anything between calls, so any thread may call any function at
  * any time. Every call is safe and returns, whatever the values are, if the caller ensures that
@@ -60,22 +63,22 @@ extern "C" {
     CODE(BAD_KIND, 3, "the kind is neither GIX_HASH_SHA1 nor GIX_HASH_SHA256") \
     CODE(NO_ROOM, 4, "the buffer is too short") \
     CODE(TOO_LONG, 5, "the prefix has more digits than ids of the kind") \
-    CODE(OUT_OF_RANGE, 6, "the index is not below the number of names") \
+    CODE(OUT_OF_RANGE, 6, "the position is not below the number of objects") \
     CODE(UNSORTED, 7, "a digest is below the one before it (at: its index)") \
-    CODE(NOT_UNIQUE, 8, "another name is the same, so no beginning of this one is unique") \
+    CODE(NOT_UNIQUE, 8, "another object has the same id, so none of its prefixes is unique") \
     CODE(BAD_TYPE, 9, "the type is not one of GIX_HASH_COMMIT to GIX_HASH_TAG") \
     CODE(TOO_SHORT, 16, "fewer bytes than any pack index has") \
     CODE(VERSION_1, 17, "a pack index of version 1, by its length") \
     CODE(BAD_MAGIC, 18, "no pack index: the magic number is missing") \
     CODE(BAD_VERSION, 19, "a pack index of another version than 2 (detail: which)") \
     CODE(WRONG_LENGTH, 20, "the tables do not fill the bytes") \
-    CODE(NAMES_FALL, 21, "a name is below the one before it (detail: its index)") \
-    CODE(WRONG_COUNT, 22, "the names of a first byte are counted wrong (detail: the byte)") \
-    CODE(NO_OFFSET, 23, "the offset of a name is in no table (detail: its index)") \
-    CODE(LONG_OUT_OF_ORDER, 24, "a name's long offset is not the next one (detail: its index)") \
-    CODE(SPARE_LONG, 25, "a long offset is of no name (detail: its number)") \
-    CODE(OFFSET_IN_HEADER, 26, "the offset of a name is below 12 (detail: its index)") \
-    CODE(OFFSET_TOO_HIGH, 27, "the offset of a name is 2^63 or more (detail: its index)") \
+    CODE(NAMES_FALL, 21, "an object id is below the one before it (detail: its position)") \
+    CODE(WRONG_COUNT, 22, "an entry of the fan-out table is wrong (detail: its first byte)") \
+    CODE(NO_OFFSET, 23, "an object's 8-byte offset is missing (detail: the object's position)") \
+    CODE(LONG_OUT_OF_ORDER, 24, "an object's 8-byte offset is not the next one (detail: the object's position)") \
+    CODE(SPARE_LONG, 25, "an 8-byte offset is unused (detail: its position)") \
+    CODE(OFFSET_IN_HEADER, 26, "an object's offset is below 12 (detail: the object's position)") \
+    CODE(OFFSET_TOO_HIGH, 27, "an object's offset is 2^63 or more (detail: the object's position)") \
     CODE(WRONG_CHECKSUM, 28, "the last bytes are not the digest of those before them") \
     CODE(OTHER_KIND, 29, "a pack index of the other kind (detail: which)")
 
@@ -95,7 +98,7 @@ static inline const char *gix_hash_code_text(uint32_t code) {
     return "no code of gix_hash.h";
 }
 
-/* No order, where -1, 0 and 1 are orders. */
+/* Returned by the comparisons for bad arguments, in place of -1, 0 or 1. */
 #define GIX_HASH_NO_ORDER 2
 
 /* An id. The 12 bytes after a digest of SHA-1 are not read, and are written as zeros. */
@@ -111,14 +114,14 @@ typedef struct gix_hash_prefix {
     uint8_t bytes[32];
 } gix_hash_prefix;
 
-/* The indexes from start up to end, without end. The run is empty if they are equal. */
+/* The positions start..end, a half-open range. The run is empty if they are equal. */
 typedef struct gix_hash_run {
     size_t start;
     size_t end;
 } gix_hash_run;
 
 /* What a pack index contains about an object: the byte of the pack at which it begins, the CRC-32 of
- * the packed object, and its name. */
+ * the packed object, and its id. */
 typedef struct gix_hash_entry {
     uint64_t offset;
     uint32_t crc;
@@ -127,7 +130,7 @@ typedef struct gix_hash_entry {
 
 /* A hash function at work on a message, which comes in pieces. Any values are safe, but only those that
  * gix_hash_hasher_new and gix_hash_hasher_update wrote stand for a message. A copy of the struct is a
- * hasher of its own. What is in words, count and block may change with the version. */
+ * hasher of its own. What words, count and block contain may change with the version. */
 typedef struct gix_hash_hasher {
     uint32_t kind;
     uint32_t words[8];
@@ -209,7 +212,7 @@ GIX_HASH_READS(1) GIX_HASH_WRITES(2)
 uint32_t gix_hash_hasher_finish(const gix_hash_hasher *hasher, gix_hash_id *id);
 
 /* Computes the id of an object from its type and its bytes, as git hash-object does: the digest of the
- * name of the type, a blank, len in decimal, a zero, and the bytes. For an object that comes in pieces,
+ * name of the type, a space, len in decimal, a zero, and the bytes. For an object that comes in pieces,
  * feed the same to a hasher. Whether the bytes are a tree, a commit or a tag is not checked.
  * Returns GIX_HASH_OK, GIX_HASH_BAD_KIND or GIX_HASH_BAD_TYPE. */
 GIX_HASH_READS(3, 4) GIX_HASH_WRITES(5)
@@ -217,13 +220,14 @@ uint32_t gix_hash_object_id(uint32_t kind, uint32_t object_type, const uint8_t *
 
 /* Tests whether a table of digests of a kind, one after the other, is sorted. Duplicates are fine, and a
  * part of a digest at the end is not read. Takes time proportional to len.
- * Returns GIX_HASH_OK, GIX_HASH_BAD_KIND, or GIX_HASH_UNSORTED with the first index whose digest is
- * below the one before it in *at. */
+ * Returns GIX_HASH_OK, GIX_HASH_BAD_KIND, or GIX_HASH_UNSORTED with the first position whose digest
+ * is below the one before it in *at. */
 GIX_HASH_READS(2, 3) GIX_HASH_WRITES(4)
 uint32_t gix_hash_check_sorted(uint32_t kind, const uint8_t *table, size_t len, size_t *at);
 
-/* Finds the digests of a sorted table that begin with a prefix. If none does, the run is empty, at the
- * index where the prefix would be. If the table is not sorted, the run is some run of its indexes.
+/* Finds the digests of a sorted table that begin with a prefix, in time logarithmic in len. If none
+ * does, the run is empty, at the position where the prefix would be. If the table is not sorted, the
+ * run is unspecified, but in range.
  * Returns GIX_HASH_OK, GIX_HASH_BAD_KIND, GIX_HASH_BAD_LENGTH or GIX_HASH_TOO_LONG. */
 GIX_HASH_READS(2, 3) GIX_HASH_READS(4) GIX_HASH_WRITES(5)
 uint32_t gix_hash_find(uint32_t kind, const uint8_t *table, size_t len, const gix_hash_prefix *prefix, gix_hash_run *run);
@@ -234,8 +238,8 @@ uint32_t gix_hash_find(uint32_t kind, const uint8_t *table, size_t len, const gi
 GIX_HASH_READS(1, 2) GIX_HASH_WRITES(3)
 uint32_t gix_hash_pack_kind(const uint8_t *bytes, size_t len, uint32_t *kind);
 
-/* Checks whether bytes are a pack index of version 2 with names of a kind, as Git reads it: tables,
- * order, counts, offsets and checksum. Takes time proportional to len.
+/* Checks whether bytes are a pack index of version 2 with ids of a kind, as Git reads it: lengths,
+ * order, fan-out table, offsets and checksum. Takes time proportional to len.
  * Returns GIX_HASH_OK, GIX_HASH_BAD_KIND, GIX_HASH_OTHER_KIND, or the first of the codes from
  * GIX_HASH_TOO_SHORT to GIX_HASH_WRONG_CHECKSUM that applies, with its detail, if it has one, in
  * *detail.
@@ -247,11 +251,11 @@ uint32_t gix_hash_pack_kind(const uint8_t *bytes, size_t len, uint32_t *kind);
 GIX_HASH_READS(2, 3) GIX_HASH_WRITES(4)
 uint32_t gix_hash_pack_check(uint32_t kind, const uint8_t *bytes, size_t len, uint64_t *detail);
 
-/* Gets the number of names. */
+/* Gets the number of objects. */
 GIX_HASH_READS(2, 3) GIX_HASH_WRITES(4)
 uint32_t gix_hash_pack_count(uint32_t kind, const uint8_t *bytes, size_t len, size_t *count);
 
-/* Gets the offset, the CRC-32 and the name at an index.
+/* Gets the offset, the CRC-32 and the id of the object at a position.
  * Also returns GIX_HASH_OUT_OF_RANGE or GIX_HASH_NO_OFFSET, after the codes above. */
 GIX_HASH_READS(2, 3) GIX_HASH_WRITES(5)
 uint32_t gix_hash_pack_entry(uint32_t kind, const uint8_t *bytes, size_t len, size_t at, gix_hash_entry *entry);
@@ -261,14 +265,14 @@ uint32_t gix_hash_pack_entry(uint32_t kind, const uint8_t *bytes, size_t len, si
 GIX_HASH_READS(2, 3) GIX_HASH_WRITES(5)
 uint32_t gix_hash_pack_id(uint32_t kind, const uint8_t *bytes, size_t len, size_t at, gix_hash_id *id);
 
-/* Finds the names that begin with a prefix, as gix_hash_find does.
+/* Finds the objects whose ids begin with a prefix, as gix_hash_find does.
  * Also returns GIX_HASH_BAD_LENGTH or GIX_HASH_TOO_LONG, right after GIX_HASH_BAD_KIND. */
 GIX_HASH_READS(2, 3) GIX_HASH_READS(4) GIX_HASH_WRITES(5)
 uint32_t gix_hash_pack_find(uint32_t kind, const uint8_t *bytes, size_t len, const gix_hash_prefix *prefix, gix_hash_run *run);
 
-/* Gets the number of digits of the shortest unique name of the object at an index: the smallest number,
- * at least 4, of its first digits with which no other name begins. For any bytes it is at most the
- * number of digits of the kind, 40 or 64.
+/* Gets the length in digits of the abbreviation of the object at a position: its shortest prefix of 4
+ * digits or more with which no other id of the index begins. For any bytes it is at most 40 or 64, by
+ * the kind. Takes constant time.
  * Also returns GIX_HASH_OUT_OF_RANGE or GIX_HASH_NOT_UNIQUE, after the codes above. */
 GIX_HASH_READS(2, 3) GIX_HASH_WRITES(5)
 uint32_t gix_hash_pack_abbreviate(uint32_t kind, const uint8_t *bytes, size_t len, size_t at, size_t *hex_len);

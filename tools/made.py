@@ -63,20 +63,20 @@ BROKEN = [
     (0, 0, "the bytes do not begin as a pack index"),
     (7, 3, "pack indexes of version 3 are not read"),
     # The count of byte 1, and that of byte 255.
-    (15, 200, "the names up to the first byte 1 are counted wrong"),
+    (15, 200, "the fan-out entry of the first byte 01 is wrong"),
     (1031, 20, "the tables of the pack index do not fill its bytes"),
     # The first byte of the second name, and the highest of the third offset.
-    (1052, 0, "the name at position 1 is below the one before it"),
-    (1544, 128, "the name at position 2 has no offset"),
+    (1052, 0, "the id at position 1 is below the one before it"),
+    (1544, 128, "the object at position 2 has no offset"),
     # The last byte of the pack's digest, and the last of all.
     (1639, 0, "the checksum of the pack index is wrong"),
     (1659, 0, "the checksum of the pack index is wrong"),
     # Others whose errors have another number: the highest byte of the version, the count of byte 254, the first byte of the
     # last name, and the highest of the last offset.
     (4, 1, "pack indexes of version 16777218 are not read"),
-    (1027, 22, "the names up to the first byte 254 are counted wrong"),
-    (1432, 0, "the name at position 20 is below the one before it"),
-    (1616, 128, "the name at position 20 has no offset"),
+    (1027, 22, "the fan-out entry of the first byte fe is wrong"),
+    (1432, 0, "the id at position 20 is below the one before it"),
+    (1616, 128, "the object at position 20 has no offset"),
 ]
 # The lengths to which it is cut: one byte less than any index has, one less than one of version 2, and one less than it has.
 CUT = [
@@ -87,25 +87,25 @@ CUT = [
 # Bytes of longs.idx, whose 4 names have long offsets but the second, as many as there may be. The checksum is made right.
 RESEALED = [
     # The last bytes of the words of the first name and of the third: their numbers are 1 and 0.
-    (1131, 1, "the long offset of the name at position 0 is not the next one"),
-    (1139, 0, "the long offset of the name at position 2 is not the next one"),
+    (1131, 1, "the 8-byte offset of the object at position 0 is not the next one"),
+    (1139, 0, "the 8-byte offset of the object at position 2 is not the next one"),
     # That of the fourth: its number is 3. Then its word is short, and a long offset is spare.
-    (1143, 3, "the name at position 3 has no offset"),
-    (1140, 0, "the long offset at position 2 is of no name"),
+    (1143, 3, "the object at position 3 has no offset"),
+    (1140, 0, "the 8-byte offset at position 2 is unused"),
     # The second name's offset is 11, then 13.
-    (1135, 11, "the offset of the name at position 1 is in the header of the pack"),
+    (1135, 11, "the offset of the object at position 1 is in the header of the pack"),
     (1135, 13, ""),
     # The last byte of the first long offset, and the highest of all three.
-    (1151, 11, "the offset of the name at position 0 is in the header of the pack"),
+    (1151, 11, "the offset of the object at position 0 is in the header of the pack"),
     (1151, 12, ""),
-    (1152, 128, "the offset of the name at position 2 is 2^63 or more"),
+    (1152, 128, "the offset of the object at position 2 is 2^63 or more"),
     (1152, 127, ""),
 ]
 # Whole files that are read as what they are not, or are no index of version 2 that Git's reader takes: one has as many long
 # offsets as names.
 OTHERS = [
-    ("sha1.idx", "sha256", "the names of the pack index are of the kind sha1"),
-    ("sha256.idx", "sha1", "the names of the pack index are of the kind sha256"),
+    ("sha1.idx", "sha256", "the ids of the pack index are of the kind sha1"),
+    ("sha256.idx", "sha1", "the ids of the pack index are of the kind sha256"),
     ("version-1.idx", "sha1", "pack indexes of version 1 are not read"),
     ("version-1-none.idx", "sha1", "pack indexes of version 1 are not read"),
     ("all-long.idx", "sha1", "the tables of the pack index do not fill its bytes"),
@@ -122,8 +122,8 @@ TWO = {
 # Bytes of the first index, by position and value, and why it is passed over then.
 BAD_HEADS = [
     # The count of byte 4a, and that of byte 4b.
-    (307, 3, "the count of the first byte 75 is below the one before it"),
-    (311, 3, "the count of the first byte 76 is below the one before it"),
+    (307, 3, "the fan-out entry of the first byte 4b is below the one before it"),
+    (311, 3, "the fan-out entry of the first byte 4c is below the one before it"),
     (0, 0, "the bytes do not begin as a pack index of version 2"),
     (7, 3, "pack indexes of version 3 are not read"),
     (1031, 5, "the tables of the pack index do not fill its bytes"),
@@ -131,7 +131,7 @@ BAD_HEADS = [
 # And the error of its look-up of `4b`.
 DAMAGED = [
     # The first byte of the first name.
-    (1032, 0, "a name that is counted with the first byte 75 has another"),
+    (1032, 0, "an id among those with the first byte 4b has another"),
 ]
 
 SHA256 = b"[core]\nrepositoryformatversion = 1\n[extensions]\n\tobjectformat = sha256\n"
@@ -226,7 +226,7 @@ FOUND = [
 # Folders in which Git finds none either, and the errors.
 NOT_FOUND = [
     ("strange", "{room}/strange/.git/config: unknown repository extension found: foo"),
-    ("text", "{room}/text/.git: names no folder"),
+    ("text", "{room}/text/.git: names no directory"),
     ("lost", "{room}/lost/../gone: not a git repository"),
     ("r/.git/worktrees/empty", "{room}/r/.git/worktrees/empty/commondir: empty"),
     ("r/.git/worktrees/folder", "{room}/r/.git/worktrees/folder/commondir: Is a directory (os error 21)"),
@@ -288,7 +288,7 @@ LENT = [
 """,
     ),
 ]
-LENT_ERROR = '{room}/a "b"/objects/../../gone: No such file or directory (os error 2), passed over'
+LENT_ERROR = '{room}/a "b"/objects/../../gone: No such file or directory (os error 2), skipped'
 
 # Files of objects folders that cannot be read. The index has one name, and counts another for the first byte 16.
 UNREAD_FILES = {
@@ -303,7 +303,7 @@ UNREAD_FILES = {
 # Objects folders that the environment names, what is done in them, and the errors.
 UNREAD = [
     ("gone", "names", "gone: No such file or directory (os error 2)"),
-    ("objects", "find 11", "objects/pack/pack-1.idx: the count of the first byte 17 is below the one before it, passed over"),
+    ("objects", "find 11", "objects/pack/pack-1.idx: the fan-out entry of the first byte 11 is below the one before it, skipped"),
     ("22", "names", "22/22: Not a directory (os error 20)"),
     ("file", "names", "file/pack: Not a directory (os error 20)"),
     ("list", "names", "{room}/list/info/alternates: Is a directory (os error 21)"),

@@ -22,7 +22,7 @@ pub struct SortedDigests<'a> {
 }
 
 impl<'a> SortedDigests<'a> {
-    /// Checks the order. The error is `Unsorted`, with the first index whose digest is below the one
+    /// Checks the order. The error is `Unsorted`, with the first position whose digest is below the one
     /// before it. A part of a digest at the end is left out.
     pub fn new(kind: Kind, table: &'a [u8]) -> Result<SortedDigests<'a>, Error> {
         let mut at = 0;
@@ -125,7 +125,7 @@ impl<'a> PackIndex<'a> {
         Ok(PackIndex { kind, bytes })
     }
 
-    /// The same, of whichever kind the names are. The error is one from `TooShort` to `WrongChecksum`.
+    /// The same, of whichever kind the ids are. The error is one from `TooShort` to `WrongChecksum`.
     pub fn of_any_kind(bytes: &'a [u8]) -> Result<PackIndex<'a>, Error> {
         let mut number = 0;
         // SAFETY: the slice is valid for its length.
@@ -137,13 +137,13 @@ impl<'a> PackIndex<'a> {
         }
     }
 
-    /// The kind of the names.
+    /// The kind of the ids.
     #[must_use]
     pub fn kind(&self) -> Kind {
         self.kind
     }
 
-    /// The number of names.
+    /// The number of objects.
     #[must_use]
     pub fn len(&self) -> usize {
         let (kind, bytes, mut count) = (self.kind as u32, self.bytes, 0);
@@ -159,7 +159,7 @@ impl<'a> PackIndex<'a> {
         self.len() == 0
     }
 
-    /// What the index contains about the object at an index, or `None` from the number of names on.
+    /// What the index contains about the object at a position, or `None` if it is not below `len`.
     #[must_use]
     pub fn get(&self, at: usize) -> Option<Entry> {
         let (kind, bytes, mut entry) = (self.kind as u32, self.bytes, raw::Entry::default());
@@ -179,13 +179,13 @@ impl<'a> PackIndex<'a> {
         (code == 0).then_some(Id(id))
     }
 
-    /// All that the index contains, in the order of names.
+    /// All that the index contains, in the order of ids.
     #[must_use]
     pub fn iter(&self) -> Entries<'a> {
         Entries { index: *self, left: 0..self.len() }
     }
 
-    /// The indexes of the names that begin with a prefix. The error is `TooLong`.
+    /// The positions of the objects whose ids begin with a prefix. The error is `TooLong`.
     pub fn find(&self, prefix: &Prefix) -> Result<Range<usize>, Error> {
         let (kind, bytes, mut run) = (self.kind as u32, self.bytes, raw::Run::default());
         // SAFETY: the slice is valid for its length.

@@ -64,6 +64,7 @@ abbrev pub SpellingAnswer : Bool → KindDigits → ℕ → List ℕ → List �
 SpellingAnswer true id code old new = (code ≡ NO_ROOM) × (new ≡ old)
 SpellingAnswer false id code old new = (code ≡ OK) × (new ≡ spelling hex_letter id.digits ++ drop (hex_len_of id.kind) old)
 
+-- the result of spelling an id, which is none if its kind is bad
 abbrev pub HexAnswer : Option KindDigits → ℕ → List ℕ → List ℕ → Type 0
 HexAnswer None code old new = (code ≡ BAD_KIND) × (new ≡ old)
 HexAnswer (Some id) code old new = SpellingAnswer (nat_lt (length old) (hex_len_of id.kind)) id code old new

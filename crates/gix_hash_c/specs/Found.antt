@@ -25,6 +25,7 @@ abbrev pub FoundBy : Bool → List ℕ → List (List ℕ) → ℕ → Run → R
 FoundBy true digits ids code old new = (code ≡ TOO_LONG) × (new ≡ old)
 FoundBy false digits ids code old new = (code ≡ OK) × IsRunIfSorted digits ids new
 
+-- the result of a look-up in a table, whose kind or prefix may be bad
 abbrev pub FindAnswer : Option Kind → List ℕ → Option (List ℕ) → ℕ → Run → Run → Type 0
 FindAnswer None table prefix code old new = (code ≡ BAD_KIND) × (new ≡ old)
 FindAnswer (Some kind) table None code old new = (code ≡ BAD_LENGTH) × (new ≡ old)

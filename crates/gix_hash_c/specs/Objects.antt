@@ -13,7 +13,7 @@ type_name n =
     if n == 1 then Some (codes "commit") else if n == 2 then Some (codes "tree")
     else if n == 3 then Some (codes "blob") else if n == 4 then Some (codes "tag") else None
 
--- what the id of an object is the digest of: its type's name, a blank, its length in decimal, a zero, and its bytes
+-- what the id of an object is the digest of: its type's name, a space, its length in decimal, a zero, and its bytes
 abbrev pub object_bytes : List ℕ → List ℕ → List ℕ
 object_bytes name bytes = name ++ 32 ∷ decimal (length bytes) ++ 0 ∷ bytes
 

@@ -89,6 +89,7 @@ IsNoEntry kind bytes at code =
     ((code ≡ OUT_OF_RANGE) × IsLaidOut kind bytes × (count_in bytes ≤ at))
     ⊎ (((code ≡ cause_number (NoOffset at)) × IsLaidOut kind bytes × (at < count_in bytes) × (¬ HasOffset kind bytes at)) ⊎ IsTablesFault kind bytes code)
 
+-- the result of reading an entry
 abbrev pub EntryAnswer : Option Kind → List ℕ → ℕ → ℕ → Entry → Entry → Type 0
 EntryAnswer None bytes at code old new = (code ≡ BAD_KIND) × (new ≡ old)
 EntryAnswer (Some kind) bytes at code old new =
@@ -116,7 +117,7 @@ PackFindAnswer (Some kind) bytes (Some digits) code old new =
     ⊎ ((length digits ≤ hex_len_of kind) × (((code ≡ OK) × IsLaidOut kind bytes × IsRunIfSorted digits (names_in kind bytes) new)
     ⊎ ((new ≡ old) × IsTablesFault kind bytes code)))
 
--- as many first digits are the shortest name at an index, if the names are sorted
+-- as many first digits are the abbreviation at an index, if the names are sorted
 abbrev pub IsShortest : Kind → List ℕ → ℕ → ℕ → Type 0
 IsShortest kind bytes at hex_len =
     IsSortedIds (names_in kind bytes) → IsShortestName (names_in kind bytes) at (take hex_len (slice_index_or (names_in kind bytes) at []))
@@ -128,6 +129,7 @@ IsNameless kind bytes at code =
     × (IsSortedIds (names_in kind bytes) → (name : List ℕ) → ¬ IsShortestName (names_in kind bytes) at name))
     ⊎ IsNoName kind bytes at code
 
+-- the result of abbreviating
 abbrev pub ShortestAnswer : Option Kind → List ℕ → ℕ → ℕ → ℕ → ℕ → Type 0
 ShortestAnswer None bytes at code old new = (code ≡ BAD_KIND) × (new ≡ old)
 ShortestAnswer (Some kind) bytes at code old new =

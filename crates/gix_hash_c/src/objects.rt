@@ -10,7 +10,7 @@ use crate::ids::{Id, to_c};
 use gix_hash::{Kind, ObjectId, hasher};
 use itoa::Buffer;
 
-/// The id of an object: the digest of the name of its type, a blank, the number of its bytes in
+/// The id of an object: the digest of the name of its type, a space, the number of its bytes in
 /// decimal, a zero, and the bytes. The types are 1 for a commit, 2 for a tree, 3 for a blob and 4
 /// for a tag. An error leaves `id` as it was: `BAD_KIND`, or else `BAD_TYPE`.
 #[unsafe(no_mangle)]

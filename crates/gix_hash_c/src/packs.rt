@@ -1,5 +1,5 @@
-//! Pack indexes over their bytes. C keeps only the bytes, so each call tests again the head and the
-//! lengths of the tables. So none reads outside of the bytes, whatever they are.
+//! Pack indexes over their bytes. C keeps only the bytes, so each call tests again the header and
+//! the lengths of the tables. So none reads outside of the bytes, whatever they are.
 
 ghost use Rattle.std.specs.Prelude.{◌≡◌, ◌<◌, ◌≤◌, [], IfErr, IfSome, IsNone, OnOk, ℕ, List, length, slice_index_or, slice_range, take};
 ghost use Rattle.gix_hash.specs.Kind.{hex_len_of};
@@ -36,12 +36,13 @@ pub struct Entry {
     pub offset: u64,
     /// The CRC-32 of the packed object.
     pub crc: u32,
-    /// Its name.
+    /// Its id.
     pub id: Id,
 }
 
-/// Checks a whole pack index: tables, order, counts, offsets and checksum. An error is `BAD_KIND`,
-/// or the number of the cause, with its detail if it has one. Otherwise `detail` stays as it was.
+/// Checks a whole pack index: lengths, order, fan-out table, offsets and checksum. An error is
+/// `BAD_KIND`, or the number of the cause, with its detail if it has one. Otherwise `detail` stays
+/// as it was.
 #[unsafe(no_mangle)]
 pub extern "C" fn gix_hash_pack_check(kind: u32, bytes: &[u8], detail: &mut u64) -> u32
     ensures { CheckAnswer (kind_of_number kind) bytes.now result detail.old detail.new }
@@ -58,8 +59,8 @@ pub extern "C" fn gix_hash_pack_check(kind: u32, bytes: &[u8], detail: &mut u64)
     }
 }
 
-/// The kind of which the bytes are a pack index: its number. An error is the number of the cause for
-/// which they are none of SHA-1, and leaves `kind` as it was.
+/// The number of the kind whose ids the index holds. An error is the number of the cause for which
+/// the bytes are no index of SHA-1, and leaves `kind` as it was.
 #[unsafe(no_mangle)]
 pub extern "C" fn gix_hash_pack_kind(bytes: &[u8], kind: &mut u32) -> u32
     ensures { PackKindAnswer bytes.now result kind.old kind.new }
@@ -77,7 +78,7 @@ pub extern "C" fn gix_hash_pack_kind(bytes: &[u8], kind: &mut u32) -> u32
     }
 }
 
-/// The number of names. An error leaves `count` as it was.
+/// The number of objects. An error leaves `count` as it was.
 #[unsafe(no_mangle)]
 pub extern "C" fn gix_hash_pack_count(kind: u32, bytes: &[u8], count: &mut usize) -> u32
     ensures { LenAnswer (kind_of_number kind) bytes.now result count.old count.new }
@@ -94,7 +95,7 @@ pub extern "C" fn gix_hash_pack_count(kind: u32, bytes: &[u8], count: &mut usize
     }
 }
 
-/// What an index contains about the object at an index. An error leaves `entry` as it was.
+/// What an index contains about the object at a position. An error leaves `entry` as it was.
 #[unsafe(no_mangle)]
 pub extern "C" fn gix_hash_pack_entry(kind: u32, bytes: &[u8], at: usize, entry: &mut Entry) -> u32
     ensures { EntryAnswer (kind_of_number kind) bytes.now at result entry.old entry.new }
@@ -137,7 +138,7 @@ pub extern "C" fn gix_hash_pack_id(kind: u32, bytes: &[u8], at: usize, id: &mut 
     OK
 }
 
-/// The run of a prefix among the names. An error leaves `run` as it was.
+/// The run of a prefix among the ids. An error leaves `run` as it was.
 #[unsafe(no_mangle)]
 pub extern "C" fn gix_hash_pack_find(kind: u32, bytes: &[u8], prefix: &Prefix, run: &mut Run) -> u32
     ensures { PackFindAnswer (kind_of_number kind) bytes.now (prefix_in prefix.now) result
@@ -159,8 +160,8 @@ pub extern "C" fn gix_hash_pack_find(kind: u32, bytes: &[u8], prefix: &Prefix, r
     OK
 }
 
-/// The number of first digits, at least 4, with which no other name begins. An error leaves
-/// `hex_len` as it was.
+/// The length of the abbreviation, the shortest prefix of 4 digits or more with which no other id
+/// begins. An error leaves `hex_len` as it was.
 #[unsafe(no_mangle)]
 pub extern "C" fn gix_hash_pack_abbreviate(
     kind: u32,
@@ -229,7 +230,7 @@ fn detail_of(error: Error, old: u64) -> u64
     }
 }
 
-// Whether the bytes have the head and the tables of an index.
+// Whether the bytes have the header and the tables of an index.
 fn tables(kind: Kind, bytes: &[u8]) -> Result<(), u32>
     ensures head { OnOk result (HasHead kind bytes.now) }
     ensures tables { OnOk result (HasTables kind bytes.now) }
@@ -241,7 +242,7 @@ fn tables(kind: Kind, bytes: &[u8]) -> Result<(), u32>
     }
 }
 
-// The bytes of the names.
+// The bytes of the ids.
 fn names(kind: Kind, bytes: &[u8]) -> &[u8]
     requires { HasTables kind bytes.now }
     ensures { result.now ≡ slice_range bytes.now names_at (crcs_at kind bytes.now) }
@@ -269,7 +270,7 @@ fn guess(bytes: &[u8], prefix: &gix_hash::Prefix) -> id_lookup::Run
     }
 }
 
-// The name at an index of a table.
+// The id at a position of a table.
 fn name_at(kind: Kind, table: &[u8], at: usize) -> Id
     requires { at < length (digests_in kind table.now) }
     ensures { HoldsId (kind_digits kind (slice_index_or (digests_in kind table.now) at [])) result }
@@ -280,7 +281,7 @@ fn name_at(kind: Kind, table: &[u8], at: usize) -> Id
     }
 }
 
-// The length of the shortest name at an index of a table.
+// The length of the abbreviation at a position of a table.
 fn shortest_at(kind: Kind, table: &[u8], at: usize) -> Option<usize>
     requires { at < length (digests_in kind table.now) }
     ensures long { IfSome result (λ hex_len. 4 ≤ hex_len) }

@@ -13,7 +13,7 @@ use Rattle.id_lookup.specs.declared.search.Bound.TheVariants.{Start, End}
 use Rattle.id_lookup.specs.Bounds.{is_before_bound}
 use Rattle.id_lookup.specs.Sorted.{IsSortedIds}
 
--- if two lists with equal or greater heads are in order, and their tails in order make others so, the others are in order
+-- if two lists with equal or greater headers are in order, and their tails in order make others so, the others are in order
 then_not_less : (o p q : Ordering) → (is_lt p ≡ false → is_lt q ≡ false) → is_lt (ordering_then o p) ≡ false → is_lt (ordering_then o q) ≡ false
 then_not_less Less p q f h = h
 then_not_less Equal p q f h = f h

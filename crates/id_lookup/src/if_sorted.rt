@@ -13,8 +13,9 @@ use crate::search::{Bound, Run};
 use crate::short_names::shortest_name;
 use gix_hash::Prefix;
 
-/// The run of the members that begin with a prefix, if the list is sorted: that of
-/// [`SortedIds::find`](crate::SortedIds::find). For another list it is some run of its indexes.
+/// The run of the members that begin with a prefix, by binary search of a list that is assumed to
+/// be sorted: that of [`SortedIds::find`](crate::SortedIds::find). If the list is not sorted, the
+/// run is unspecified, but in range.
 ///
 /// The caller must ensure that the prefix has at most as many digits as each member.
 ///
@@ -33,9 +34,8 @@ pub fn find_if_sorted<I: Id>(ids: &[I], prefix: &Prefix) -> Run
     find_if_sorted_near(ids, prefix, Run { start: 0, end })
 }
 
-/// As [`find_if_sorted`], but it searches first among the indexes of a guess, and then in parts
-/// beside it that double in length. So a guess near the run spares comparisons, and no guess
-/// changes the result.
+/// As [`find_if_sorted`], but it searches first among the positions of a guess. A guess that
+/// contains the run spares comparisons. If the list is sorted, it changes only the number of these.
 ///
 /// The caller must ensure that the prefix has at most as many digits as each member.
 ///
@@ -135,7 +135,7 @@ fn part_up_to<I: Id>(ids: &[I], prefix: &Prefix, mut low: usize, last: usize) ->
     }
 }
 
-// Whether the bound of the run is after the member at an index, if the list is sorted.
+// Whether the bound of the run is after the member at a position, if the list is sorted.
 fn is_after<I: Id>(ids: &[I], prefix: &Prefix, bound: Bound, at: usize) -> bool
     requires enough_digits { length prefix.now.digits ≤ least_hex_len (map I.digits ids.now) }
     requires in_range { at < length ids.now }
@@ -174,9 +174,10 @@ fn bound_if_sorted<I: Id>(
     low
 }
 
-/// The shortest name of the member at an index, if the list is sorted: that of
-/// [`SortedIds::abbreviate_from`](crate::SortedIds::abbreviate_from), of at least 4 digits. For
-/// another list it is some beginning of the member, of at least 4 digits.
+/// The abbreviation of the member at position `at`, which must be below the length, of a list that
+/// is assumed to be sorted: that of
+/// [`SortedIds::abbreviate_from`](crate::SortedIds::abbreviate_from), of at least 4 digits. If the
+/// list is not sorted, it is some prefix of the member, of at least 4 digits.
 ///
 /// ```
 /// let name = abbreviate_if_sorted(list, 0);

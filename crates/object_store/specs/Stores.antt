@@ -66,6 +66,7 @@ IsLocationFault can_fail kind bytes digits error = IsBucketFault can_fail kind b
 abbrev pub HaveLocations : StoreView → List ℕ → Type 0
 HaveLocations view digits = All (IfKnown (λ bytes. HasLocation view.kind bytes digits)) view.packs
 
+-- why the locations of an id are not read: the first pack index with a fault, and that fault
 abbrev pub IsLocateFault : StoreView → List ℕ → Error → Type 0
 IsLocateFault view digits error =
     IsFirstFault (λ bytes. HasLocation view.kind bytes digits) (λ can_fail bytes why. IsLocationFault can_fail view.kind bytes digits why) view.packs error

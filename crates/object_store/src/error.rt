@@ -18,15 +18,16 @@ use thiserror::Error as ThisError;
 /// ```
 #[derive(Debug, Drop, ThisError)]
 pub enum Error {
-    /// A pack index cannot be read, or is damaged where it was read, and none before it is.
+    /// A pack index cannot be read, is damaged where it was read, or memory for its ids ran out
+    /// (`LazyError::Memory`); and none before it.
     #[error("pack index {at}: {error}")]
     Index {
-        /// Its index among those of the store, from 0.
+        /// Its position among those of the store, from 0.
         at: usize,
         /// Why.
         error: LazyError,
     },
-    /// There is not enough memory.
+    /// There is not enough memory for the result.
     #[error("out of memory")]
     Memory(AllocError),
 }

@@ -21,8 +21,9 @@ use std::alloc::{AllocError, Allocator};
 
 /// The ids of a store that begin with a prefix, each once, in order.
 ///
-/// The prefix has 2 digits or more, and the store's kind. Of each pack index only the names with
-/// the prefix's first byte are read. Memory is taken for these, and for the ids that are found.
+/// The prefix must have 2 digits or more, and the store's kind. Of each pack index only the ids
+/// with the prefix's first byte are read. The call allocates memory for these, and for the ids that
+/// are found.
 ///
 /// ```
 /// for id in lookup_prefix(rt.alloc(), &store, &prefix)?.iter() {
@@ -46,7 +47,7 @@ pub fn lookup_prefix<S: Store, A: Allocator + Copy>(
     Ok(part.lookup_prefix(alloc, prefix)?)
 }
 
-// Adds the names of buckets of a kind that are asked for.
+// Adds the ids of buckets of a kind that are asked for.
 pub(crate) fn push_packed<A: Allocator>(
     ids: &mut Vec<ObjectId, A>,
     buckets: &[Bucket<A>],

@@ -41,12 +41,12 @@ pub enum Location {
     Loose,
 }
 
-/// All locations of an object: one in each pack whose index has its name, in the order of
+/// All locations of an object: one in each pack whose index has its id, in the order of
 /// [`Store::indexes`], and last [`Location::Loose`] if it is a loose object. The id has the store's
 /// kind.
 ///
-/// If a pack index has the name more than once, the offset is that of the first. Of each pack index
-/// only the names with the id's first byte are read, and then, once all are, the offset.
+/// If a pack index has the id more than once, the offset is that of the first. Of each pack index
+/// only the ids with this first byte are read, and then, once all are, the offset.
 ///
 /// ```
 /// let locations = locate(rt.alloc(), &store, &id)?;
@@ -141,7 +141,7 @@ fn push<A: Allocator>(
     Ok(locations.push(location)?)
 }
 
-// The offset in its pack of the object of an id, if the pack index has its name.
+// The offset in its pack of the object of an id, if the pack index has it.
 fn packed_offset<S: ReadAt + Drop, A: Allocator>(
     index: &LazyFile<S>,
     bucket: &Bucket<A>,

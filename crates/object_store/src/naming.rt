@@ -1,4 +1,4 @@
-//! Shortest names in a whole store.
+//! Abbreviations in a whole store.
 
 ghost use Rattle.std.specs.Prelude.{◌≡◌, ◌≢◌, ◌≤◌, ◌<◌, ◌↔◌, ℕ, [], All, Contains, List, IfErr, IfOk, IfSome, IsTrue, MatchOption, Some, length, map, slice_get, slice_index_or, take};
 ghost use Rattle.gix_hash.specs.Digits.{first_byte_of};
@@ -17,7 +17,7 @@ use gix_hash::{Kind, ObjectId, Prefix};
 use id_lookup::IdIndex;
 use std::alloc::{AllocError, Allocator};
 
-/// An id with its shortest name.
+/// An id with its abbreviation.
 ///
 /// ```
 /// for named in names(rt.alloc(), &store, 0x4b, 4)?.iter() {
@@ -32,10 +32,10 @@ pub struct NamedId {
     pub name: Prefix,
 }
 
-/// The ids of a store with a first byte, each once, in order, with their shortest names in the
-/// whole store: of at least `least` digits, from 4 up to all of the kind.
+/// The ids of a store with a first byte, each once, in order, with their abbreviations in the whole
+/// store, of at least `least` digits. `least` must be from 4 to 40 or 64, by the kind.
 ///
-/// No other id begins with a name, and a name is as short as that allows. The calls for all 256
+/// No other id begins with an abbreviation, which is as short as that allows. The calls for all 256
 /// bytes give all ids of the store, in order.
 ///
 /// ```
@@ -66,10 +66,10 @@ pub fn names<S: Store, A: Allocator + Copy>(
     Ok(name_all(alloc, &ids, store.object_hash(), least)?)
 }
 
-/// The shortest name of an id in a store, of at least `least` digits, from 4 up to all of the kind;
-/// or `None` if the store does not have the id. The id has the store's kind.
+/// The abbreviation of an id in a store, of at least `least` digits; or `None` if the store does
+/// not have the id. `least` must be from 4 to 40 or 64, by the kind. The id has the store's kind.
 ///
-/// Of each pack index only the names with the id's first byte are read.
+/// Of each pack index only the ids with this first byte are read.
 ///
 /// ```
 /// if let Some(name) = abbreviate(rt.alloc(), &store, &id, 7)? {
@@ -111,7 +111,7 @@ fn front_of(id: &ObjectId, least: usize) -> Prefix
     Prefix::new(id.as_oid(), least).unwrap()
 }
 
-// Each id of an index with its shortest name there.
+// Each id of an index with its abbreviation there.
 fn name_all<A: Allocator>(
     alloc: A,
     ids: &[ObjectId],
@@ -136,7 +136,7 @@ fn name_all<A: Allocator>(
     Ok(named)
 }
 
-// The id at a position of an index with its shortest name there.
+// The id at a position of an index with its abbreviation there.
 fn name_at(ids: &[ObjectId], index: &IdIndex<'_>, at: usize, least: usize) -> NamedId
     requires in_range { at < length ids.now }
     requires index { index.now.ids ≡ map id_digits ids.now }
@@ -153,7 +153,7 @@ fn name_at(ids: &[ObjectId], index: &IdIndex<'_>, at: usize, least: usize) -> Na
     }
 }
 
-// The shortest name of an id in an index of its kind, if the index has it.
+// The abbreviation of an id in an index of its kind, if the index has it.
 fn name_in(ids: &[ObjectId], id: &ObjectId, least: usize) -> Option<Prefix>
     requires index { IsIndex (id_kind id.now) (map id_digits ids.now) }
     requires enough { 4 ≤ least }

@@ -1,4 +1,4 @@
-//! The names of a store with one first byte.
+//! The ids of a store with one first byte.
 
 ghost use Rattle.std.specs.Prelude.{◌≡◌, ◌∷◌, [], ◌++◌, ◌≤◌, IfErr, IfOk, OnOk, length};
 ghost use Rattle.gix_hash.specs.Digits.{first_byte_of};
@@ -19,8 +19,7 @@ use pack_index::Bucket;
 use std::alloc::{AllocError, Allocator};
 use std::marker::Model;
 
-/// The names of a store with one first byte, read once. Look-ups among them read nothing but
-/// offsets.
+/// The ids of a store with one first byte, read once. Look-ups among them read nothing but offsets.
 ///
 /// ```
 /// let part = Part::read(rt.alloc(), &store, prefix.as_oid().first_byte())?;
@@ -48,8 +47,9 @@ impl<'s, S: Store, A: Allocator> Model for Part<'s, S, A> {
 }
 
 impl<'s, S: Store, A: Allocator + Copy> Part<'s, S, A> {
-    /// The names of a store with a first byte, of which memory is taken for all. An error is that
-    /// of the first pack index that cannot be read, or is damaged where it is read.
+    /// Reads the ids of a store with a first byte, and allocates memory for all. The error is that
+    /// of the first pack index that cannot be read, is damaged where it is read, or for whose ids
+    /// there is no memory.
     pub fn read(alloc: A, store: &'s S, byte: u8) -> Result<Part<'s, S, A>, Error>
         ensures part { IfOk result (λ part. part
             ≡ record { store = S.view store.now; byte = byte }) }

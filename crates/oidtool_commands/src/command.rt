@@ -85,7 +85,7 @@ impl fmt::Display for ArgError<'_> {
 }
 
 /// Reads the words after the program's name: first the command and the number of its words, then a
-/// kind, then a number. It takes no memory.
+/// kind, then a number. It does not allocate.
 pub fn read_command<'a>(words: &[&'a str]) -> Result<Command<'a>, ArgError<'a>>
     ensures asked { IfOk result (AsksFor (texts_of words.now)) }
     ensures refused { IfErr result (IsWordsRefusal (texts_of words.now)) }

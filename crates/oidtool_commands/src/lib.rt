@@ -5,9 +5,9 @@
 //! file. [`command_line_args`] returns the words that the program was started with, and [`report`]
 //! prints an error, a [`Failure`], and returns the exit status.
 //!
-//! [`search_from`] is the search behind three of the commands. It searches a list text, which has an
-//! id in hex on each line, chunk by chunk for any [`Search`], and writes the matching ids to a sink,
-//! a line for each.
+//! [`search_from`] is the search that three of the commands run. It searches a list text, which has
+//! an id in hex on each line, chunk by chunk for any [`Search`], and writes the matching ids to a
+//! sink, a line for each.
 #![tactic(auto)]
 
 mod command;

@@ -18,8 +18,8 @@ use streams::{BufferedSink, Source};
 /// ids written: the matches of a command that finds, and the one digest of another command.
 ///
 /// All but `hash-file` read the input in chunks. `find` reads none after the chunk in which the
-/// first bad line of its list ends; the others read to the end, also after an error found earlier.
-/// `hash-file` reads the file, and leaves the input as it is.
+/// first bad line of its list ends; `find-change` and `find-in` read to the end also after a
+/// rejected prefix or line. `hash-file` reads the file, and leaves the input as it is.
 ///
 /// `Output` is returned if and only if the writer failed, at a write or at the flush. `Input` is
 /// returned if and only if the input failed, but for `hash-file`, which returns it if its file

@@ -73,8 +73,8 @@ impl Search {
 /// [`SearchError::Input`] is returned if and only if the source failed, and [`SearchError::Output`]
 /// if and only if the writer did; under another error nothing was written. [`SearchError::TooMuch`]
 /// is returned if more than `most` bytes were read and no bad line ended within the first of them,
-/// and [`SearchError::Memory`] only if the prefix and the first line are read. Source and writer
-/// must not have failed before.
+/// and [`SearchError::Memory`] only after the prefix and the first line were accepted. Source and
+/// writer must not have failed before.
 pub fn search_from<A: Allocator, R: Source, W: Sink>(
     alloc: A,
     search: Search,

@@ -38,8 +38,8 @@ pub fn exit_status<E>(outcome: &Result<usize, E>) -> u8
     }
 }
 
-/// Prints an error on standard error, as its text and a line feed, and returns the exit status. The
-/// status is the same if the text cannot be printed.
+/// Returns the exit status of `outcome`. If it is an error, first prints its text and a line feed
+/// on standard error; the status is the same if these cannot be printed.
 pub fn report<E: fmt::Display + Drop>(rt: &impl Eprint, outcome: Result<usize, E>) -> ExitCode
     ensures { ended_with result ≡ status_of outcome }
 {

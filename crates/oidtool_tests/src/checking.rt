@@ -34,8 +34,8 @@ const NO_OBJECTS: &[u8] =
 const NO_OBJECTS_256: &[u8] =
     b"PACK\0\0\0\x02\0\0\0\0\x7e\xd8\x90\xd8\xa4\x57\x60\xf3\xee\xcf\x73\x04\x5b\x1d\x10\x47\x08\x5a\xf4\x77\x6d\xc6\x83\xd7\x8e\xac\x82\x20\x3d\xf1\x99\x3f";
 
-// Checks the bytes, at most `chunk` a read: they end with the digest of the line if it is given, and
-// otherwise with other bytes, which are as many as a digest has unless there are fewer.
+// Checks the bytes, at most `chunk` a read: they end with the digest of the line if it is given,
+// and otherwise with other bytes, which are as many as a digest has unless there are fewer.
 fn expect_check(
     rt: &(impl Abort + AllocGlobal),
     kind: Kind,

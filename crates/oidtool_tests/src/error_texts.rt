@@ -55,6 +55,10 @@ fn prints_errors_of_texts(rt: HostRuntime) {
     ] {
         expect_printed(&rt, error, text);
     }
+}
+
+#[test]
+fn prints_errors_of_texts_of_one_kind(rt: HostRuntime) {
     for (error, text) in &[
         (FindInError::Prefix(from_hex::Error::Invalid), NO_HEX),
         (

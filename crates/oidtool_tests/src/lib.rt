@@ -1,5 +1,6 @@
-//! Tests of `streams`, `oidtool_search` and `oidtool_commands`, by public calls only, as `oidtool` uses
-//! them: what no clause says of worked examples, texts, and devices and memory that fail.
+//! Tests of `streams`, `oidtool_search` and `oidtool_commands`, by public calls only, as `oidtool`
+//! uses them: what no clause says of worked examples, texts, and readers, writers and memory that
+//! fail.
 #![tactic(auto)]
 
 #[cfg(test)]

@@ -274,8 +274,8 @@ fn reports_a_write_that_fails(rt: HostRuntime) {
     }
 }
 
-// What writers take that have room for a few bytes, or take all after their error, and how often both
-// devices are called.
+// What writers take that have room for a few bytes, or take all after their error, and how often
+// both devices are called.
 const TAKEN: [(Pipe, Fault, &[u8], (usize, usize)); 6] = [
     (Pipe::Hash, Fault::AfterBytes(5), b"a9993", (2, 2)),
     (Pipe::Hash, Fault::AtCall(1), b"", (2, 1)),

@@ -183,7 +183,7 @@ fn expect_each_failed_growth(rt: &(impl Abort + AllocGlobal), search: Search) ->
     for units in 0..1000 {
         let granted = granted_within(rt, search, &lists, units)?;
         let steps = granted.abs_diff(before);
-        // No growth is passed over.
+        // No growth is skipped.
         expect!(rt; steps <= 1, (search, units));
         if granted == 3 {
             return Ok(());

@@ -1,4 +1,4 @@
-//! The names of a pack index with a first byte.
+//! The ids of a pack index with a first byte.
 
 ghost use Rattle.std.specs.Prelude.{◌≡◌, ◌≢◌, ◌<◌, ◌≤◌, ◌↔◌, ℕ, [], IsTrue, MatchOption, length, map, slice_index_or};
 ghost use Rattle.gix_hash.specs.Oid.{oid_digits};
@@ -13,7 +13,7 @@ use std::alloc::Allocator;
 use std::cell::Cell;
 use std::marker::Model;
 
-/// The names of a pack index that are counted with a first byte, read once, in the order of the
+/// The ids of a pack index with a first byte, by its fan-out table, read once, in the order of the
 /// index. [`LazyFile::lookup`](crate::LazyFile::lookup) finds an id among them.
 ///
 /// ```
@@ -25,7 +25,7 @@ pub struct Bucket<A: Allocator> {
     kind: Kind,
     // The index of the first of them in the pack index.
     start: usize,
-    // The names, one after the other.
+    // The ids, one after the other.
     table: Vec<u8, A>,
     // If not, an id is compared with each of them.
     is_sorted: bool,
@@ -53,7 +53,7 @@ impl<A: Allocator> Model for Bucket<A> {
 }
 
 impl<A: Allocator> Bucket<A> {
-    // The names of a table, of which the first is at an index.
+    // The ids of a table, of which the first is at a position.
     pub(crate) fn new(table: Vec<u8, A>, kind: Kind, start: usize) -> Bucket<A>
         ensures { result ≡ record {
           kind = kind;
@@ -71,14 +71,14 @@ impl<A: Allocator> Bucket<A> {
         }
     }
 
-    /// The kind of the names.
+    /// The kind of the ids.
     pub fn kind(&self) -> Kind
         ensures { result ≡ self.now.kind }
     {
         self.kind
     }
 
-    /// The names, one after the other: 20 or 32 bytes each.
+    /// The ids, one after the other: 20 or 32 bytes each.
     pub fn names(&self) -> &[u8]
         ensures { digests_in self.now.kind result.now ≡ self.now.names }
     {

@@ -14,7 +14,7 @@ use thiserror::Error as ThisError;
 #[derive(Clone, Copy, PartialEq, Eq, Debug, ThisError)]
 pub enum Error {
     /// The bytes are a pack index of version 2 with ids of this kind, the other one.
-    #[error("the names of the pack index are of the kind {0}")]
+    #[error("the ids of the pack index are of the kind {0}")]
     OtherKind(Kind),
     /// There are fewer bytes than the smallest index of any version has: 1024, and two digests.
     #[error("the bytes are too few for a pack index")]
@@ -35,30 +35,30 @@ pub enum Error {
     #[error("the tables of the pack index do not fill its bytes")]
     WrongLength,
     /// The id at this position is the first that is below the previous one.
-    #[error("the name at position {0} is below the one before it")]
+    #[error("the id at position {0} is below the one before it")]
     NamesFall(usize),
     /// The fan-out entry of this byte is the first that is not the number of ids with at most that
     /// first byte. So if entries fall, one is wrong.
-    #[error("the names up to the first byte {0} are counted wrong")]
+    #[error("the fan-out entry of the first byte {0:02x} is wrong")]
     WrongCount(u8),
     /// The object at this position is the first whose entry points past the end of the table of
     /// 8-byte offsets.
-    #[error("the name at position {0} has no offset")]
+    #[error("the object at position {0} has no offset")]
     NoOffset(usize),
     /// The object at this position is the first whose entry is not the next of the table of 8-byte
     /// offsets.
-    #[error("the long offset of the name at position {0} is not the next one")]
+    #[error("the 8-byte offset of the object at position {0} is not the next one")]
     LongOutOfOrder(usize),
     /// The 8-byte offset at this position is the first that no object has.
-    #[error("the long offset at position {0} is of no name")]
+    #[error("the 8-byte offset at position {0} is unused")]
     SpareLong(usize),
     /// The object at this position is the first whose offset is below 12, in the header of the
     /// pack.
-    #[error("the offset of the name at position {0} is in the header of the pack")]
+    #[error("the offset of the object at position {0} is in the header of the pack")]
     OffsetInHeader(usize),
     /// The object at this position is the first whose offset is 2^63 or more, so it does not fit an
     /// `off_t`.
-    #[error("the offset of the name at position {0} is 2^63 or more")]
+    #[error("the offset of the object at position {0} is 2^63 or more")]
     OffsetTooHigh(usize),
     /// The last bytes are not the digest of all before them.
     #[error("the checksum of the pack index is wrong")]

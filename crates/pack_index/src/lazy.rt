@@ -25,8 +25,8 @@ use std::marker::Model;
 use streams::ReadAt;
 
 /// A pack index of Git, of version 2, that is read at positions: its first 1032 bytes as it is
-/// opened, and then only what a call needs. Neither its checksum nor the order of its names is
-/// checked. Indexes of names are counted from 0.
+/// opened, and then only what a call needs. Neither its checksum nor the order of its ids is
+/// checked. Positions count from 0.
 ///
 /// ```
 /// let index = LazyFile::open(idx, Kind::Sha1)?;
@@ -39,9 +39,9 @@ use streams::ReadAt;
 pub struct LazyFile<S: ReadAt> {
     source: S,
     kind: Kind,
-    // The magic number, the version and the counts.
+    // The magic number, the version and the fan-out table.
     head: [u8; NAMES_AT],
-    // Where the long offsets end.
+    // Where the 8-byte offsets end.
     end: u64,
 }
 
@@ -66,8 +66,11 @@ impl<S: ReadAt> Model for LazyFile<S> {
 }
 
 impl<S: ReadAt + Drop> LazyFile<S> {
-    /// The bytes of a source as a pack index whose names are of a kind. Only their number and the
+    /// Opens the bytes of a source as a pack index with ids of a kind. Only their number and the
     /// first 1032 are looked at.
+    ///
+    /// The errors are `Read`, `TooShort`, `Version1`, `BadMagic`, `BadVersion`, `OtherKind` and
+    /// `WrongLength`.
     pub fn open(source: S, kind: Kind) -> Result<LazyFile<S>, LazyError>
         ensures kind { IfOk result (λ file. file.kind ≡ kind) }
         ensures content { IfOk result (λ file. file.content ≡ S.content source) }
@@ -93,14 +96,14 @@ impl<S: ReadAt + Drop> LazyFile<S> {
         })
     }
 
-    /// The kind of the names.
+    /// The kind of the ids.
     pub fn object_hash(&self) -> Kind
         ensures { result ≡ self.now.kind }
     {
         self.kind
     }
 
-    /// The number of names, as the last count says.
+    /// The number of objects, as the last fan-out entry says.
     pub fn num_objects(&self) -> u32
         ensures count { result ≡ self.now.count }
         ensures bytes { (bytes : List ℕ) → self.now.content ≡ Some bytes
@@ -111,10 +114,11 @@ impl<S: ReadAt + Drop> LazyFile<S> {
         count_in(&self.head)
     }
 
-    /// The names with a first byte. Nothing else is read.
+    /// Reads the ids whose first byte is `byte`, by the fan-out table, into memory of `alloc`: 20
+    /// or 32 bytes each. Nothing else is read.
     ///
-    /// They are the names that are counted with the byte. If the counts are right, as in each pack
-    /// index, they are all names with that first byte.
+    /// If the fan-out table is right, as in each pack index, they are all ids with that first byte.
+    /// The errors are `Read`, `Memory`, `CountsFall`, `CountTooHigh` and `WrongCount`.
     pub fn bucket<A: Allocator>(&self, alloc: A, byte: u8) -> Result<Bucket<A>, LazyError>
         ensures bucket { IfOk result (IsBucketOf self.now byte) }
         ensures err { IfErr result (λ e. (bytes : List ℕ) → self.now.content ≡ Some bytes
@@ -127,8 +131,8 @@ impl<S: ReadAt + Drop> LazyFile<S> {
         Ok(Bucket::new(table, self.kind, run.start))
     }
 
-    /// The index of a name, the first one if it occurs more than once, or `None` if it does not
-    /// occur. It is looked up in the bucket of its first byte, and nothing is read. If the names
+    /// The position of an id, the first one if it occurs more than once, or `None` if it does not
+    /// occur. It is looked up in the bucket of its first byte, and nothing is read. If the ids
     /// there are not sorted, it is compared with each of them.
     pub fn lookup<A: Allocator>(&self, bucket: &Bucket<A>, id: oid<'_>) -> Option<u32>
         requires { IsBucketOf self.now (first_byte_of (oid_digits id)) bucket.now }
@@ -153,8 +157,9 @@ impl<S: ReadAt + Drop> LazyFile<S> {
         }
     }
 
-    /// The offset in the pack of the object of the name at an index. One number is read, and a
-    /// second one if the offset is long.
+    /// The offset of object `at` in the pack, in bytes; `at` must be below `num_objects()`. One
+    /// number is read, and a second one if it is an 8-byte offset. The errors are `Read` and
+    /// `NoOffset`.
     pub fn pack_offset_at_index(&self, at: u32) -> Result<u64, LazyError>
         requires { at < self.now.count }
         ensures has { IfOk result (λ _. (bytes : List ℕ) → self.now.content ≡ Some bytes
@@ -177,7 +182,7 @@ impl<S: ReadAt + Drop> LazyFile<S> {
         Ok(long_word_at(&long, 0))
     }
 
-    // What the table of offsets has for the name at an index.
+    // What the table of offsets has for object `at`.
     fn read_offset_word(&self, at: u32) -> Result<u32, LazyError>
         requires { at < self.now.count }
         ensures word { IfOk result (λ word. (bytes : List ℕ) → self.now.content ≡ Some bytes
@@ -191,7 +196,7 @@ impl<S: ReadAt + Drop> LazyFile<S> {
         Ok(word_at(&word, 0))
     }
 
-    // The indexes of the names that are counted with a first byte.
+    // The positions of the ids with a first byte, by the fan-out table.
     fn run_of(&self, byte: u8) -> Result<Run, LazyError>
         ensures start { IfOk result (λ run. (bytes : List ℕ) → self.now.content ≡ Some bytes
             → run.start ≡ bucket_start bytes byte) }
@@ -213,7 +218,7 @@ impl<S: ReadAt + Drop> LazyFile<S> {
         Ok(run)
     }
 
-    // The names of the run of a first byte, one after the other, if all of them have that byte.
+    // The ids of the run of a first byte, one after the other, if all of them have that byte.
     fn read_bucket<A: Allocator>(
         &self,
         alloc: A,
@@ -250,7 +255,7 @@ impl<S: ReadAt + Drop> LazyFile<S> {
         Ok(table)
     }
 
-    // The names of a run, one after the other.
+    // The ids of a run, one after the other.
     fn read_names<A: Allocator>(&self, alloc: A, run: &Run) -> Result<Vec<u8, A>, LazyError>
         requires in_order { run.now.start ≤ run.now.end }
         requires inside { run.now.end ≤ self.now.count }
@@ -273,7 +278,7 @@ impl<S: ReadAt + Drop> LazyFile<S> {
     }
 }
 
-// Whether a head, and the length of all bytes, are those of a pack index.
+// Whether a header, and the length of all bytes, are those of a pack index.
 fn check_head(head: &[u8], kind: Kind, len: u64) -> Result<(), LazyError>
     requires head { length head.now ≡ 1032 }
     requires enough { min_len kind ≤ len }
@@ -312,7 +317,7 @@ fn bad_magic(head: &[u8], kind: Kind, len: u64) -> LazyError
     }
 }
 
-// Why the tables of names of a kind do not fill the bytes: those of the other kind do, or neither.
+// Why the tables of ids of a kind do not fill the bytes: those of the other kind do, or neither.
 fn wrong_length(head: &[u8], kind: Kind, len: u64) -> LazyError
     requires { length head.now ≡ 1032 }
     ensures { (bytes : List ℕ) → IsReadAt bytes 0 head.now → len ≡ length bytes

@@ -38,22 +38,22 @@ pub enum LazyError {
     BadVersion(u32),
     /// The length fits an index with ids of this kind, the other one, and not one of the kind that
     /// was asked for.
-    #[error("the names of the pack index are of the kind {0}")]
+    #[error("the ids of the pack index are of the kind {0}")]
     OtherKind(Kind),
     /// The length fits no index of either kind with as many objects as the last fan-out entry says.
     #[error("the tables of the pack index do not fill its bytes")]
     WrongLength,
     /// The fan-out entry of this byte is below the one before it.
-    #[error("the count of the first byte {0} is below the one before it")]
+    #[error("the fan-out entry of the first byte {0:02x} is below the one before it")]
     CountsFall(u8),
     /// The fan-out entry of this byte is above the last one, the number of objects.
-    #[error("the count of the first byte {0} is above the number of names")]
+    #[error("the fan-out entry of the first byte {0:02x} is above the number of objects")]
     CountTooHigh(u8),
     /// An id that has this first byte by the fan-out table has another.
-    #[error("a name that is counted with the first byte {0} has another")]
+    #[error("an id among those with the first byte {0:02x} has another")]
     WrongCount(u8),
     /// The entry of the object at this position points past the end of the table of 8-byte offsets.
-    #[error("the name at position {0} has no offset")]
+    #[error("the object at position {0} has no offset")]
     NoOffset(usize),
 }
 

@@ -33,7 +33,8 @@ pub enum FileCommand {
     Check,
 }
 
-// A row of the table of commands: what a command asks for, its name, what its help says of it, and its arguments.
+// A row of the table of commands: what a command asks for, its name, what its help says of it, and
+// its arguments.
 #[derive(Clone, Copy)]
 struct Row {
     request: Request,
@@ -69,13 +70,13 @@ const COMMANDS: [Row; 5] = [
     Row {
         request: Request::Store(StoreCommand::Names),
         name: "names",
-        about: "Prints each id of the store after its shortest name that no other id begins with",
+        about: "Prints each id of the store after its shortest unique prefix",
         arguments: &[Argument::Least, Argument::Objects, Argument::Kind],
     },
     Row {
         request: Request::Files(FileCommand::Show),
         name: "show",
-        about: "Prints offset, id and CRC of each name of pack indexes, as git show-index does",
+        about: "Prints offset, id and CRC of each object of pack indexes, as git show-index does",
         arguments: &[Argument::Indexes, Argument::Kind],
     },
     Row {
@@ -151,14 +152,14 @@ fn arg_of<'a>(alloc: Global, argument: Argument) -> Arg<'a> {
         Argument::Least => Arg::new(alloc, "least")
             .long("least")
             .value_name("N")
-            .help("The fewest digits of a name")
+            .help("The fewest digits of an abbreviation")
             .value_parser(value_parser!(u8).range(4..=64))
             .default_value("4"),
         Argument::Objects => Arg::new(alloc, "objects")
             .long("objects")
             .value_name("DIR")
             .help(
-                "The objects folder [default: $GIT_OBJECT_DIRECTORY, or .git/objects here or above]",
+                "The object directory [default: the repository's, by $GIT_OBJECT_DIRECTORY, $GIT_DIR or from here upwards]",
             ),
         Argument::Kind => Arg::new(alloc, "kind")
             .long("kind")

@@ -8,7 +8,7 @@ use thiserror::Error as ThisError;
 /// Why a command stops.
 #[derive(Debug, Drop, ThisError)]
 pub enum Failure<'a> {
-    /// The repository or its objects folder is not found, or cannot be read.
+    /// The repository or its object directory is not found, or cannot be read.
     #[error("{0}")]
     Repository(repositories::Error),
     /// The store cannot be read.
@@ -68,7 +68,7 @@ pub enum FileWhy {
     /// Its name is not UTF-8, which paths are.
     #[error("the name is not UTF-8")]
     NotText,
-    /// It is a folder, a pipe or a device.
+    /// It is a directory, a pipe or a device.
     #[error("not a regular file")]
     NotRegular,
     /// It is no pack index.

@@ -19,8 +19,9 @@ use streams::{Ending, PipeError, Plain, ReadAt, Retrying, check as check_input};
 // How a pack index begins, of version 2 and later.
 const MAGIC: [u8; 4] = *b"\xfftOc";
 
-// The length of that, the version and the 256 counts of a pack index, of which the last is that of all
-// its names. Each name has at most 32 bytes, a CRC of 4 and an offset of 4 or 12. Two digests follow.
+// The length of that, the version and the 256 counts of a pack index, of which the last is that of
+// all its names. Each name has at most 32 bytes, a CRC of 4 and an offset of 4 or 12. Two digests
+// follow.
 const HEAD_LEN: usize = 8 + 256 * 4;
 
 /// Prints the names of a pack index, and returns whether there is one.
@@ -65,16 +66,16 @@ enum Verdict {
     Faulty(pack_index::Error),
     // It is a right pack index, and whether it belongs to the pack beside it, if there is one.
     Index(Option<Pairing>),
-    // It is a right pack index and belongs to the pack, but has this offset, at which no object of the
-    // pack is.
+    // It is a right pack index and belongs to the pack, but has this offset, at which no object of
+    // the pack is.
     Beyond(u64),
 }
 
 /// Prints whether a file is right, and returns it: whether a pack index is one and belongs to the
 /// pack beside it, or another file ends with its digest. If the output failed, nothing is printed.
 ///
-/// With no kind it is right in either, and a pack index in the one that its length says; a file that
-/// is not of SHA-1 is read twice, and standard input once.
+/// With no kind it is right in either, and a pack index in the one that its length says; a file
+/// that is not of SHA-1 is read twice, and standard input once.
 pub fn check<'a, W: io::Write>(
     rt: &HostRuntime,
     path: &str,
@@ -122,21 +123,30 @@ fn write_verdict<'a, W: io::Write>(
     Ok(())
 }
 
-// What is said of standard input. Its first bytes decide whether it is a pack index; of one no more is
-// read than its counts allow. Any other input is hashed as it is read.
+// What is said of standard input. Its first bytes decide whether it is a pack index; of one no more
+// is read than its counts allow. Any other input is hashed as it is read.
 fn verdict_of_input<'a>(rt: &HostRuntime, kind: Option<Kind>) -> Result<Verdict, Failure<'a>> {
-    let path = "-";
     let mut reader = Retrying::new(rt.reader());
     let mut head = Vec::new(rt.alloc());
-    (&mut reader)
-        .take(HEAD_LEN as u64)
-        .read_to_end(&mut head)
-        .map_err(|error| unreadable(rt, path, error))?;
-    let mut input = Cursor::new(&head[..]).chain(reader);
-    if !is_index(&&head[..], path) {
+    if let Err(error) = (&mut reader).take(HEAD_LEN as u64).read_to_end(&mut head) {
+        return Err(unreadable(rt, "-", error));
+    }
+    verdict_after_head(rt, &head, reader, kind)
+}
+
+// The same, after the first bytes were read.
+fn verdict_after_head<'a, R: io::Read + Drop>(
+    rt: &HostRuntime,
+    head: &[u8],
+    rest: R,
+    kind: Option<Kind>,
+) -> Result<Verdict, Failure<'a>> {
+    let path = "-";
+    let mut input = Cursor::new(head).chain(rest);
+    if !is_index(&head, path) {
         return Ok(Verdict::Ends(ending_once(rt, &mut input, path, kind)?));
     }
-    let one_more = most_index_len(&head).saturating_add(1);
+    let one_more = most_index_len(head).saturating_add(1);
     match index_kind(rt, &mut input.take(one_more), path, kind)? {
         Ok(_) => Ok(Verdict::Index(None)),
         Err(error) => Ok(Verdict::Faulty(error)),
@@ -161,17 +171,24 @@ fn verdict_of_file<'a>(
     kind: Option<Kind>,
 ) -> Result<Verdict, Failure<'a>> {
     let mut file = open(rt, path)?;
-    if !is_index(&file, path) {
-        return Ok(Verdict::Ends(ending_in(rt, &mut file, path, kind)?));
+    verdict_of_open(rt, &mut file, path, kind)
+}
+
+// What is said of a file that was opened. If no kind was asked for, the length of a pack index says
+// it.
+fn verdict_of_open<'a>(
+    rt: &HostRuntime,
+    file: &mut File,
+    path: &str,
+    kind: Option<Kind>,
+) -> Result<Verdict, Failure<'a>> {
+    if !is_index(&*file, path) {
+        return Ok(Verdict::Ends(ending_in(rt, file, path, kind)?));
     }
     let kind = match kind {
         Some(kind) => Some(kind),
         None => kind_by_length(open(rt, path)?),
     };
-    match index_kind(rt, &mut file, path, kind)? {
-        Ok(kind) => verdict_beside_pack(rt, &mut file, path, kind),
-        Err(error) => Ok(Verdict::Faulty(error)),
-    }
     let kind = match index_kind(rt, file, path, kind)? {
         Ok(kind) => kind,
         Err(error) => return Ok(Verdict::Faulty(error)),
@@ -267,8 +284,8 @@ fn ending_of<'a, R: io::Read>(
     }
 }
 
-// What is said of a right pack index: whether it belongs to the pack beside it, if there is one, and
-// whether its offsets may be in it.
+// What is said of a right pack index: whether it belongs to the pack beside it, if there is one,
+// and whether its offsets may be in it.
 fn verdict_beside_pack<'a>(
     rt: &HostRuntime,
     index: &mut File,

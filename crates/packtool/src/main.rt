@@ -16,6 +16,7 @@ mod words;
 use arguments::{FileCommand, Request};
 use clap::ArgMatches;
 use failure::Failure;
+use gix_hash::Kind;
 use output::{buffered, flushed, report};
 use std::io::{self, ErrorKind};
 use std::process::ExitCode;
@@ -112,19 +113,7 @@ fn run_over_files<'a>(
     let kind = arguments::kind(matches);
     let mut status = FOUND;
     for path in matches.get_strs("files").unwrap_or(&[]) {
-        let outcome = match command {
-            FileCommand::Show => files::show(rt, path, kind, &mut out),
-            FileCommand::Check => files::check(rt, path, kind, &mut out),
-        };
-        match outcome {
-            Ok(true) => {}
-            Ok(false) => status = status.max(NOTHING),
-            Err(Failure::File { path, why }) => {
-                report(rt, &Failure::File { path, why }, "");
-                status = FAILED;
-            }
-            Err(failure) => return Err(failure),
-        }
+        status = status.max(run_over_file(rt, command, path, kind, &mut out)?);
     }
     match (flushed(status, &mut out), command) {
         (Err(Failure::Output(error)), FileCommand::Check) if is_closed_pipe(&error) => Ok(status),
@@ -148,7 +137,7 @@ fn run_over_file<'a, W: io::Write>(
         Ok(true) => Ok(FOUND),
         Ok(false) => Ok(NOTHING),
         Err(failure) if matches!(failure, Failure::File { .. }) => {
-            report(rt, &failure);
+            report(rt, &failure, "");
             Ok(FAILED)
         }
         Err(failure) => Err(failure),

@@ -7,8 +7,8 @@ use std::fmt::Display;
 use std::io::{self, BufWriter};
 use streams::{BufferedSink, Plain};
 
-/// Prints a line on standard error: the program's name, an error and what is after it. If they have a
-/// backslash, a line feed or a carriage return, the line begins with a backslash and these are
+/// Prints a line on standard error: the program's name, an error and what is after it. If they have
+/// a backslash, a line feed or a carriage return, the line begins with a backslash and these are
 /// escaped, as names are in the output. If it can't be printed, the status still says it.
 pub fn report(rt: &HostRuntime, error: &impl Display, after: &str) {
     let line = match format!(in rt.alloc(); "packtool: {error}{after}") {

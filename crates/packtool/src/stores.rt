@@ -7,7 +7,7 @@ ghost use Rattle.streams.specs.Devices.{plain_failed};
 use crate::arguments::{self, StoreCommand};
 use crate::failure::Failure;
 use crate::files::expect_text;
-use crate::output::{Noting, buffered, flushed};
+use crate::output::{Noting, buffered, flushed, report};
 use crate::words::{beginning, lossy_text};
 use crate::{FAILED, FOUND, NOTHING};
 use clap::ArgMatches;
@@ -23,9 +23,9 @@ use streams::Plain;
 // How often a command begins.
 const MAX_TRIES: usize = 10;
 
-/// Runs `find`, `where` or `names`, and returns the status. If a pack index is gone that was listed,
-/// it begins again over the store as it is then, unless something may have been written to standard
-/// output.
+/// Runs `find`, `where` or `names`, and returns the status. If a pack index is gone that was
+/// listed, it begins again over the store as it is then, unless something may have been written to
+/// standard output.
 pub fn run<'a>(
     rt: &HostRuntime,
     command: StoreCommand,
@@ -35,7 +35,7 @@ pub fn run<'a>(
     run_over(rt, &folder, command, matches)
 }
 
-// Runs a command over an objects folder, and returns the status.
+// Runs a command over an object directory, and returns the status.
 fn run_over<'a>(
     rt: &HostRuntime,
     folder: &ObjectsFolder,
@@ -124,9 +124,9 @@ fn write_locations<'a, W: io::Write>(
     status_of(rt, store, ran, out)
 }
 
-// Writes the lines of `names`, and returns the status. The ids with one first byte are written before
-// those with the next are read, and no name depends on ids with another. So if a pack index is gone,
-// the store is opened again for the bytes that are left.
+// Writes the lines of `names`, and returns the status. The ids with one first byte are written
+// before those with the next are read, and no name depends on ids with another. So if a pack index
+// is gone, the store is opened again for the bytes that are left.
 fn write_all_names<'a, W: io::Write>(
     rt: &HostRuntime,
     folder: &ObjectsFolder,
@@ -152,8 +152,8 @@ fn write_all_names<'a, W: io::Write>(
     Ok(status_if(is_whole, any))
 }
 
-// The ids of a store with a first byte, with their names. If a pack index is gone, the store is opened
-// again; if something was passed over in it until then, it was not read whole.
+// The ids of a store with a first byte, with their names. If a pack index is gone, the store is
+// opened again; if something was skipped in it until then, it was not read whole.
 fn names_of<'a>(
     rt: &HostRuntime,
     folder: &ObjectsFolder,
@@ -213,10 +213,10 @@ fn status_of<'a, W>(
     Ok(status_if(report_passed_over(rt, store), any))
 }
 
-// Prints what was passed over, and returns whether the store was read whole, that is nothing was.
+// Prints what was skipped, and returns whether the store was read whole, that is nothing was.
 fn report_passed_over(rt: &HostRuntime, store: &FolderStore<HostRuntime>) -> bool {
     for error in store.passed_over() {
-        report(rt, error, ", passed over");
+        report(rt, error, ", skipped");
     }
     store.passed_over().is_empty()
 }
@@ -230,8 +230,8 @@ fn status_if(is_whole: bool, any: bool) -> u8 {
     }
 }
 
-// The objects folder that was asked for, or else the one that Git would find, with the kind that was
-// asked for.
+// The object directory that was asked for, or else the one that Git would find, with the kind that
+// was asked for.
 fn objects_folder<'a>(
     rt: &HostRuntime,
     matches: &ArgMatches<'a>,
@@ -249,7 +249,7 @@ fn objects_folder<'a>(
     Ok(folder)
 }
 
-// The fewest digits of a name that were asked for.
+// The fewest digits of an abbreviation that were asked for.
 fn read_least<'a>(matches: &ArgMatches<'a>, kind: Kind) -> Result<usize, Failure<'a>>
     ensures least { IfOk result (λ least. 4 ≤ least) }
     ensures most { IfOk result (λ least. least ≤ hex_len_of kind) }

@@ -12,12 +12,12 @@ use Rattle.object_store.specs.declared.locations.Location.TheVariants.{Packed, L
 use Rattle.object_store.specs.Views.{StoreView}
 use Rattle.packtool_commands.specs.Escaping.{escape_mark, escaped}
 
--- what is after the path: the offset in a pack after a blank, if there is one, and a line feed
+-- what is after the path: the offset in a pack after a space, if there is one, and a line feed
 abbrev pub location_end : Option ℕ → List ℕ
 location_end (Some offset) = 32 ∷ decimal offset ++ 10 ∷ []
 location_end None = 10 ∷ []
 
--- the id in hex, a blank, the path of the file, and the offset; a backslash before them if a byte of the path is escaped
+-- the id in hex, a space, the path of the file, and the offset; a backslash before them if a byte of the path is escaped
 abbrev pub location_line : List ℕ → List ℕ → Option ℕ → List ℕ
 location_line id path offset = escape_mark path ++ ((spelling hex_letter id ++ 32 ∷ []) ++ (escaped path ++ location_end offset))
 

@@ -1,4 +1,4 @@
--- The lines of the ids of a store, each with its shortest name.
+-- The lines of the ids of a store, each with its abbreviation.
 use Rattle.std.specs.Prelude.{◌≡◌, ◌≢◌, ◌↔◌, ℕ, Bool, Option, List, [], ◌∷◌, ◌++◌, All, IsTrue, flat_map, map}
 use Rattle.std.specs.Io.KnownBytes.{Appends}
 use Rattle.std.specs.List.{range_with_len}
@@ -9,7 +9,7 @@ use Rattle.id_lookup.specs.IndexOf.{part_of}
 use Rattle.object_store.specs.Stores.{IsNameIn}
 use Rattle.object_store.specs.declared.naming.NamedId.{NamedId}
 
--- the texts of a name and an id in a line: a blank between them, and a line feed
+-- the texts of a name and an id in a line: a space between them, and a line feed
 unfoldable pub line_of_name : List ℕ → List ℕ → List ℕ
 line_of_name name id = name ++ 32 ∷ id ++ 10 ∷ []
 
@@ -21,7 +21,7 @@ name_line n = line_of_name (spelling hex_letter n.name.digits) (spelling hex_let
 abbrev pub parts_below : ℕ → List (List ℕ) → List (List ℕ)
 parts_below n ids = flat_map (λ byte. part_of byte ids) (range_with_len 0 n)
 
--- these are the ids of the whole store whose first byte is below n, each with its shortest name there
+-- these are the ids of the whole store whose first byte is below n, each with its abbreviation there
 pub record AreNamedBelow (n least : ℕ) (whole : List (List ℕ)) (named : List NamedId) : Type 0 where
   pub ids : map (λ (m : NamedId). id_digits m.id) named ≡ parts_below n whole
   pub names : All (λ (m : NamedId). IsNameIn least whole (id_digits m.id) m.name.digits) named

@@ -46,7 +46,8 @@ pub fn find<S: Store, A: Allocator + Copy, W: Sink>(
         (first_byte_of prefix.now.digits))) }
     ensures untouched { IfErr result (λ e. e ≢ StoreError.Output → out.new ≡ out.old) }
     ensures output { IsErrOf result StoreError.Output ↔ (W.has_failed out.new ≡ true) }
-    ensures part { IsErrOf result StoreError.Output → (whole : List (List ℕ)) → Holds (S.view store.now) whole
+    ensures part { IsErrOf result StoreError.Output → (whole : List (List ℕ))
+        → Holds (S.view store.now) whole
         → AppendsPart (W.taken out.old) (W.taken out.new)
         (printed hex_letter (matches prefix.now.digits whole)) }
 {

@@ -1,12 +1,12 @@
 //! The commands of `packtool`, over any store, reader, writer and allocator.
 //!
 //! [`find`] writes the ids of a store that begin with a prefix, [`locate`] the locations of these,
-//! and [`names`] all ids after their shortest names. [`write_location`] writes one location, and
-//! [`write_names`] the lines of some ids.
-//! [`show`] writes the lines of a pack index as `git show-index` does. [`validate`] says whether a
-//! file is a pack index, [`write_ending`] writes whether a file ends with its digest,
-//! [`write_pairing`] whether a pack index belongs to the pack beside it, as [`pair`] finds, and
-//! [`write_named`] another line of a file. They escape names as `sha1sum` does.
+//! and [`names`] all ids after their abbreviations. [`write_location`] writes one location, and
+//! [`write_names`] the lines of some ids. [`show`] writes the lines of a pack index as `git
+//! show-index` does. [`validate`] says whether a file is a pack index, [`write_ending`] writes
+//! whether a file ends with its digest, [`write_pairing`] whether a pack index belongs to the pack
+//! beside it, as [`pair`] finds, and [`write_named`] another line of a file. They escape names as
+//! `sha1sum` does.
 #![tactic(auto)]
 
 mod ending;

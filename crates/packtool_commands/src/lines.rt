@@ -24,14 +24,14 @@ use streams::Ending;
 /// between and after them.
 pub(crate) const MAX_LINE_LEN: usize = 97;
 
-/// The length of the longest line of a name and its id: 64 digits of each, a blank and a line feed.
+/// The length of the longest line of a name and its id: 64 digits of each, a space and a line feed.
 pub(crate) const MAX_NAMES_LEN: usize = 130;
 
 /// The length of the longest verdict: two ids of 64 digits, and 61 bytes around them.
 pub(crate) const MAX_VERDICT_LEN: usize = 189;
 
-/// The lengths of the longest parts of the line of a location before the path and after it: an id and
-/// a blank, and a blank, an offset of 20 digits and a line feed.
+/// The lengths of the longest parts of the line of a location before the path and after it: an id
+/// and a space, and a space, an offset of 20 digits and a line feed.
 pub(crate) const MAX_START_LEN: usize = 65;
 
 pub(crate) const MAX_END_LEN: usize = 22;
@@ -188,7 +188,7 @@ fn put_digest(before: &[u8], id: &ObjectId, after: &[u8], line: &mut [u8]) -> us
     put(line, id_end, after)
 }
 
-/// Writes an id and a blank to the start of the buffer, and returns their length.
+/// Writes an id and a space to the start of the buffer, and returns their length.
 pub(crate) fn put_location_start(id: &ObjectId, line: &mut [u8]) -> usize
     requires { length line.old ≡ MAX_START_LEN }
     ensures len { result ≤ MAX_START_LEN }

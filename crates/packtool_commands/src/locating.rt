@@ -19,10 +19,10 @@ use object_store::{Location, Part, StorePaths};
 use std::alloc::Allocator;
 use streams::{Sink, WriteFailed, write_all};
 
-/// Writes a line for each location of each id of a store that begins with a prefix: the ids in order,
-/// each once; the locations of one in the order of [`object_store::locate`]; and of a loose object a
-/// line for each file. Paths are escaped as by [`write_location`](crate::write_location). Returns whether
-/// there is such an id.
+/// Writes a line for each location of each id of a store that begins with a prefix: the ids in
+/// order, each once; the locations of one in the order of [`object_store::locate`]; and of a loose
+/// object a line for each file. Paths are escaped as by [`write_location`](crate::write_location).
+/// Returns whether there is such an id.
 ///
 /// The prefix has 2 digits or more, and the store's kind. Of each pack index the names with its
 /// first byte are read once. The lines of an id are written before the offsets of the next are
@@ -43,7 +43,8 @@ pub fn locate<S: StorePaths, A: Allocator + Copy, W: Sink>(
     requires enough { 2 ≤ length prefix.now.digits }
     requires kind { prefix.now.kind ≡ (S.view store.now).kind }
     requires output { W.has_failed out.old ≡ false }
-    ensures located { IfOk result (λ any. (whole : List (List ℕ)) → (h : Holds (S.view store.now) whole)
+    ensures located { IfOk result (λ any. (whole : List (List ℕ))
+        → (h : Holds (S.view store.now) whole)
         → HasLocated (lines_of_locations (S.pack_path store.now) (S.loose_paths store.now)
         (S.view store.now) h.indexes) (matches prefix.now.digits whole) any
         (W.taken out.old) (W.taken out.new)) }
@@ -134,8 +135,8 @@ fn write_loose<W: Sink>(id: &ObjectId, paths: &[String], out: &mut W) -> Result<
     Ok(())
 }
 
-/// Writes the line of an object's location: the id, a blank, the path of the file that has it, and, of
-/// a pack, a blank and the offset there. The path is escaped as by
+/// Writes the line of an object's location: the id, a space, the path of the file that has it, and,
+/// of a pack, a space and the offset there. The path is escaped as by
 /// [`write_named`](crate::write_named), so no path looks like a further line.
 ///
 /// It stops at the first write that fails, after a proper beginning of the line. The sink must not

@@ -1,4 +1,4 @@
-//! The ids of a store after their shortest names.
+//! The ids of a store after their abbreviations.
 
 ghost use Rattle.std.specs.Prelude.{◌≡◌, ◌≢◌, ◌↔◌, ◌⊎◌, ◌≤◌, ℕ, List, [], false, true, flat_map, IfErr, IfOk, IsErrOf, IsTrue};
 ghost use Rattle.gix_hash.specs.Kind.{hex_len_of};
@@ -18,9 +18,9 @@ use streams::{Sink, WriteFailed, write_all};
 // The number of first bytes.
 const BYTES: usize = 256;
 
-/// Writes a line for each id of a store, in order: its shortest unique name in the whole store, of
-/// at least `least` digits, from 4 up to all of the kind; a blank; the id; and a line feed. Returns
-/// whether there is one.
+/// Writes a line for each id of a store, in order: its abbreviation in the whole store, of at least
+/// `least` digits, from 4 up to all of the kind; a space; the id; and a line feed. Returns whether
+/// there is one.
 ///
 /// The ids with a first byte are written before those with the next are read. Under an error a
 /// beginning of the right lines was written. [`StoreError::Output`] is returned if and only if a
@@ -64,8 +64,8 @@ fn is_any(before: bool, named: &[NamedId]) -> bool
     before || !named.is_empty()
 }
 
-/// Writes a line for each id, in their order, as [`names`] does: its name, a blank, the id, and a line
-/// feed. So a caller whose store may change can open it again between two first bytes.
+/// Writes a line for each id, in their order, as [`names`] does: its name, a space, the id, and a
+/// line feed. So a caller whose store may change can open it again between two first bytes.
 ///
 /// It stops at the first write that fails, after a proper beginning of the lines. The sink must not
 /// have failed before.

@@ -16,9 +16,9 @@ use std::alloc::Allocator;
 use streams::{CHUNK_LEN, Sink, Source, WriteFailed, write_all};
 
 /// Reads a pack index of version 2 to its end, and writes a line for each of its names, in their
-/// order, as `git show-index` does: the object's offset in the pack, in decimal; a blank; the id in
-/// hex; a blank; the CRC-32 of the packed object as eight hex digits in brackets; and a line feed.
-/// Returns whether there is one. With no kind, the names may be of either.
+/// order, as `git show-index` does: the object's offset in the pack, in decimal; a space; the id in
+/// hex; a space; the CRC-32 of the packed object as eight hex digits in parentheses; and a line
+/// feed. Returns whether there is one. With no kind, the names may be of either.
 ///
 /// Nothing is written before the input is known to be an index. [`FileError::Input`] is returned if
 /// and only if a read fails, and [`FileError::Output`] if and only if a write fails, after a proper
@@ -55,8 +55,8 @@ pub fn show<A: Allocator, R: Source, W: Sink>(
 /// Reads a pack index of version 2 to its end, and returns the kind of its names. With no kind,
 /// they may be of either.
 ///
-/// [`FileError::Index`] says why the bytes are none. [`FileError::Input`] is returned if and only if
-/// a read fails, and [`FileError::Output`] never. The input must not have failed before.
+/// [`FileError::Index`] says why the bytes are none. [`FileError::Input`] is returned if and only
+/// if a read fails, and [`FileError::Output`] never. The input must not have failed before.
 ///
 /// ```
 /// let kind = validate(rt.alloc(), None, &mut input)?;

@@ -22,7 +22,7 @@ const SECOND: [&str; 3] = [
     "4b90000000000000000000000000000000000000",
 ];
 
-// The long offsets of the second pack, of its first two names.
+// The 8-byte offsets of the second pack, of its first two names.
 const LONGS: [u64; 2] = [0x1_0000_000c, 0x7fff_ffff_ffff_ffff];
 
 const LOOSE: [&str; 3] = [
@@ -41,7 +41,7 @@ pub const FOUND: [&str; 3] = [
 /// An id that is in both packs and loose.
 pub const EVERYWHERE: &str = "4b825dc642cb6eb9a060e54bf8d69288fbee4904";
 
-/// Its shortest name of 4 digits or more.
+/// Its abbreviation of 4 digits or more.
 pub const NAME: &str = "4b825dc";
 
 /// Its locations. Its offset in the second pack is a long one.

@@ -46,7 +46,7 @@ fn expect_locations(rt: &impl Abort, found: &[Location], want: &[Location]) {
     expect!(rt; *found == *want);
 }
 
-// The shortest name of an object in a store of the id's kind, of 4 digits or more.
+// The abbreviation of an object in a store of the id's kind, of 4 digits or more.
 fn name_of<S: Store, A: Allocator + Copy>(
     rt: &impl Abort,
     alloc: A,

@@ -158,7 +158,7 @@ impl StorePaths for Memory<'_> {
         if pack == 0 { "1.pack" } else { "2.pack" }
     }
 
-    // A file in each of two folders.
+    // A file in each of two directories.
     fn loose_paths(&self, _id: &ObjectId) -> Result<Vec<String>, AllocError> {
         let first = String::from_str(self.alloc, "a/loose")?;
         let second = String::from_str(self.alloc, "b/loose")?;

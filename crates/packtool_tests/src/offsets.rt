@@ -34,7 +34,7 @@ fn names_of_an_index(rt: HostRuntime) -> Result<(), Fail> {
     Ok(())
 }
 
-// The first name has a long offset. The second has 3073, and the third 3074.
+// The first name has an 8-byte offset. The second has 3073, and the third 3074.
 #[test]
 fn offsets_that_two_names_share(rt: HostRuntime) -> Result<(), Fail> {
     let ids = ids_of(&rt, &NAMES)?;

@@ -13,7 +13,7 @@ use streams::{IntoSlice, Sink};
 const FOUND: &str =
     "4b825d0000000000000000000000000000000000\n4b825dc642cb6eb9a060e54bf8d69288fbee4904\n";
 
-// The second id has a long offset in the second pack, and two loose files.
+// The second id has an 8-byte offset in the second pack, and two loose files.
 const LOCATED: &str = "4b825d0000000000000000000000000000000000 1.pack 3072
 4b825dc642cb6eb9a060e54bf8d69288fbee4904 1.pack 3073
 4b825dc642cb6eb9a060e54bf8d69288fbee4904 2.pack 9223372036854775807

@@ -1,7 +1,6 @@
 //! Texts of errors.
 
 use crate::expecting::expect_printed;
-use git_texts::config::ConfigError;
 use packtool_commands::{FileError, StoreError};
 use repositories::config::ConfigError;
 use std::alloc::AllocError;
@@ -14,4 +13,9 @@ fn texts_of_errors(rt: HostRuntime) {
     expect_printed(&rt, FileError::Output, "cannot write");
     expect_printed(&rt, StoreError::Output, "cannot write");
     expect_printed(&rt, ConfigError::Memory(AllocError), "out of memory");
+    expect_printed(
+        &rt,
+        repositories::Error::Memory(AllocError),
+        "out of memory",
+    );
 }

@@ -8,7 +8,7 @@ abbrev pub is_comment : List ℕ → Bool
 is_comment [] = false
 is_comment (first ∷ rest) = first == 35
 
--- the list begins with a quoted path, and this is its rest: after the path one byte is passed over, mostly the separator
+-- the list begins with a quoted path, and this is its rest: after the path one byte is skipped, mostly the separator
 abbrev pub HasQuotedPath : List ℕ → List ℕ → List ℕ → Type 0
 HasQuotedPath list path rest = (after : List ℕ) × IsQuoted list path after × (rest ≡ drop 1 after)
 

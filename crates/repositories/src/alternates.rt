@@ -1,4 +1,4 @@
-//! Lists of alternates: other objects folders, whose objects a repository borrows.
+//! Lists of alternates: other object directories, whose objects a repository borrows.
 
 ghost use Rattle.std.specs.Prelude.{◌≡◌, ◌≢◌, ◌==◌, ◌-◌, ◌<◌, ◌≤◌, [], ◌∷◌, ◌++◌, ℕ, List, OnOk, not, filter, IfOk, IfSome, MatchOption, drop, length, map};
 ghost use Rattle.std.specs.List.{after_first, before_first, position};
@@ -11,10 +11,9 @@ use std::alloc::{AllocError, Allocator};
 /// The paths that a list of alternates names, in order, as Git takes them from it: the lines of
 /// `objects/info/alternates`, or what `$GIT_ALTERNATE_OBJECT_DIRECTORIES` has between colons.
 ///
-/// Empty paths and comments, which begin with `#`, are passed over. What begins with a quotation
-/// mark is unquoted (C's escapes, with bytes as three octal digits), up to the closing one, after
-/// which one byte is passed over, mostly the separator. If it is not quoted right, it is the path
-/// itself.
+/// Empty paths and comments, which begin with `#`, are skipped. What begins with a quotation mark
+/// is unquoted (C's escapes, with bytes as three octal digits), up to the closing one, after which
+/// one byte is skipped, mostly the separator. If it is not quoted right, it is the path itself.
 ///
 /// ```
 /// let list = b"../../main/.git/objects\n# more\n\"../caf\\303\\251\"\n";

@@ -260,7 +260,7 @@ impl<'a> Variables<'a> {
         Ok(None)
     }
 
-    // The next byte. A carriage return before a line feed is passed over.
+    // The next byte. A carriage return before a line feed is skipped.
     fn next_byte(&mut self) -> Option<u8>
         ensures bound { length self.new.left.now ≤ length self.old.left.now }
         ensures fewer { IfSome result (λ _. length self.new.left.now < length self.old.left.now) }
@@ -308,7 +308,7 @@ impl<'a> Variables<'a> {
         Err(self.bad_line())
     }
 
-    // Reads the name of a subsection, after a blank.
+    // Reads the name of a subsection, after a space.
     fn read_subsection(&mut self) -> Result<(), ConfigError>
         ensures { length self.new.left.now ≤ length self.old.left.now }
     {

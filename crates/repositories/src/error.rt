@@ -1,11 +1,11 @@
-//! Why a repository, its objects folder or one of its files cannot be found or read.
+//! Why a repository, its object directory or one of its files cannot be found or read.
 
 use crate::config::ConfigError;
 use std::alloc::{AllocError, Global};
 use std::io;
 use thiserror::Error as ThisError;
 
-/// Why a repository, its objects folder or an alternate is not found or read.
+/// Why a repository, its object directory or an alternate is not found or read.
 ///
 /// ```
 /// if let Err(error) = find_objects(rt) {
@@ -22,11 +22,11 @@ pub enum Error {
     Memory(#[from(alloc)] AllocError),
 }
 
-/// What is missing, wrong or cannot be read. The text of each cause in a folder or file begins with
-/// its path.
+/// What is missing, wrong or cannot be read. The text of each cause in a directory or file begins
+/// with its path.
 #[derive(Debug, Drop, ThisError)]
 pub enum Cause {
-    /// A folder or file cannot be read.
+    /// A directory or file cannot be read.
     #[error("{path}: {error}")]
     File {
         /// Its path.
@@ -34,7 +34,7 @@ pub enum Cause {
         /// Why.
         error: io::Error,
     },
-    /// A file of the repository does not say what it is to say.
+    /// A file, variable or alternate that cannot be used.
     #[error("{path}: {why}")]
     Text {
         /// Its path.
@@ -50,27 +50,27 @@ pub enum Cause {
         /// Why.
         error: ConfigError,
     },
-    /// A folder is no objects folder.
+    /// A directory is no object directory.
     #[error("{path}: no object store")]
     NoStore {
         /// Its path.
         path: String,
     },
-    /// A folder is no objects folder, but has one.
+    /// A directory is no object directory, but has one.
     #[error("{path}: no object store: try {objects}")]
     NoStoreButIn {
         /// Its path.
         path: String,
-        /// The path of the objects folder in it.
+        /// The path of the object directory in it.
         objects: String,
     },
-    /// Neither the current folder nor one above it has a repository.
-    #[error("no git repository in this folder or above it")]
+    /// Neither the current directory nor one above it has a repository.
+    #[error("no git repository in this directory or above it")]
     NoRepository,
 }
 
 impl Error {
-    /// The error that a folder or file cannot be read, or `Memory` if that is why.
+    /// The error that a directory or file cannot be read, or `Memory` if that is why.
     pub fn file(alloc: Global, path: &str, error: io::Error) -> Error {
         match String::from_str(alloc, path) {
             Ok(path) if error.kind() != io::ErrorKind::OutOfMemory => {
@@ -104,7 +104,8 @@ impl Error {
         }
     }
 
-    /// The system's number of the error by which a folder or file cannot be read, if there is one.
+    /// The system's number of the error by which a directory or file cannot be read, if there is
+    /// one.
     pub fn raw_os_error(&self) -> Option<i32> {
         let Error::Cause(cause) = self else {
             return None;

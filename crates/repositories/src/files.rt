@@ -8,7 +8,7 @@ use std::path::Path;
 use std::rt::Files;
 use std::{fs, io};
 
-/// A path below a folder, or the path itself if it is absolute.
+/// A path below a directory, or the path itself if it is absolute.
 ///
 /// ```
 /// let packs = join(rt, &folder.path, "pack")?;
@@ -17,7 +17,7 @@ pub fn join(rt: &impl AllocGlobal, folder: &str, path: &str) -> Result<String, A
     Ok(Path::new(folder).join(rt.alloc(), path)?.into_string())
 }
 
-// Whether a call failed because there is no such folder or file.
+// Whether a call failed because there is no such directory or file.
 pub(crate) fn is_missing(error: &io::Error) -> bool {
     matches!(
         error.kind(),
@@ -49,7 +49,7 @@ pub(crate) fn read_text<R: Files + AllocGlobal>(
     }
 }
 
-// The absolute path of a folder, without links; the same path if that is not UTF-8.
+// The absolute path of a directory, without links; the same path if that is not UTF-8.
 pub(crate) fn real_folder<R: Files + AllocGlobal>(rt: &R, path: &str) -> io::Result<String> {
     let real = match fs::canonicalize(rt, path) {
         Ok(real) => real.into_string(),
@@ -65,7 +65,7 @@ pub(crate) fn real_folder<R: Files + AllocGlobal>(rt: &R, path: &str) -> io::Res
     }
 }
 
-// The same, where a folder that is not there is an error.
+// The same, where a directory that is not there is an error.
 pub(crate) fn existing_folder<R: Files + AllocGlobal>(rt: &R, path: &str) -> Result<String, Error> {
     match real_folder(rt, path) {
         Ok(real) => Ok(real),
@@ -73,7 +73,7 @@ pub(crate) fn existing_folder<R: Files + AllocGlobal>(rt: &R, path: &str) -> Res
     }
 }
 
-// The path of the folder in which a path is, if it has one.
+// The path of the directory in which a path is, if it has one.
 pub(crate) fn parent(path: &str) -> Option<&str> {
     match Path::new(path).parent() {
         Some(folder) => Some(folder.as_str()),
@@ -81,7 +81,7 @@ pub(crate) fn parent(path: &str) -> Option<&str> {
     }
 }
 
-// Whether a folder has one of this name.
+// Whether a directory has one of this name.
 pub(crate) fn has_folder<R: Files + AllocGlobal>(
     rt: &R,
     folder: &str,
@@ -90,13 +90,13 @@ pub(crate) fn has_folder<R: Files + AllocGlobal>(
     Ok(Path::new(&join(rt, folder, name)?).is_dir(rt))
 }
 
-// The kind of a repository's ids by its config in a folder. SHA-1 if there is no config.
+// The kind of a repository's ids by its config in a directory. SHA-1 if there is no config.
 pub(crate) fn kind_by_config<R: Files + AllocGlobal>(rt: &R, folder: &str) -> Result<Kind, Error> {
     Ok(kind_if_config(rt, folder)?.unwrap_or(Kind::Sha1))
 }
 
-// The kind of the ids of an objects folder by the config beside it. SHA-1 if there is no config. If
-// the folder is a link, the config is beside the folder, or else beside the link.
+// The kind of the ids of an object directory by the config beside it. SHA-1 if there is no config.
+// If the directory is a link, the config is beside the directory, or else beside the link.
 pub(crate) fn kind_beside<R: Files + AllocGlobal>(rt: &R, objects: &str) -> Result<Kind, Error> {
     let above = join(rt, objects, "..")?;
     match kind_if_config(rt, &above)? {
@@ -105,7 +105,7 @@ pub(crate) fn kind_beside<R: Files + AllocGlobal>(rt: &R, objects: &str) -> Resu
     }
 }
 
-// The kind by the config in a folder, or `None` if there is no config.
+// The kind by the config in a directory, or `None` if there is no config.
 fn kind_if_config<R: Files + AllocGlobal>(rt: &R, folder: &str) -> Result<Option<Kind>, Error> {
     let path = join(rt, folder, "config")?;
     let Some(text) = read_bytes(rt, &path)? else {

@@ -1,4 +1,4 @@
-//! Objects folders: the one of the repository that a program runs in, and others by their paths.
+//! Object directories: the one of the repository that a program runs in, and others by their paths.
 
 use crate::alternates::alternate_paths;
 use crate::error::{Cause, Error};
@@ -13,7 +13,7 @@ use std::{fs, io};
 
 const ALTERNATES: &str = "GIT_ALTERNATE_OBJECT_DIRECTORIES";
 
-/// An objects folder that was found, and the kind of its ids.
+/// An object directory that was found, and the kind of its ids.
 ///
 /// ```
 /// let folder = find_objects(rt)?;
@@ -21,20 +21,22 @@ const ALTERNATES: &str = "GIT_ALTERNATE_OBJECT_DIRECTORIES";
 /// ```
 #[derive(Debug, Drop)]
 pub struct ObjectsFolder {
-    /// The path of the folder.
+    /// The path of the directory.
     pub path: String,
-    /// The kind that the repository's config says.
+    /// The kind of all ids: by the config, or SHA-1 without one. A caller may set another.
     pub kind: Kind,
-    /// The objects folders that the environment adds to its alternates.
+    /// The object directories that the environment adds to its alternates.
     pub alternates: Vec<String>,
 }
 
 impl ObjectsFolder {
-    /// The objects folder at a path, with the kind that the config beside it says. It is SHA-1 if
+    /// The object directory at a path, with the kind that the config beside it says. It is SHA-1 if
     /// there is no config. The environment adds no alternates.
     ///
-    /// A folder is an objects folder if it has the folder `pack`, the file `info/alternates` or a
-    /// folder of loose objects.
+    /// A directory is an object directory if it has the directory `pack`, the file
+    /// `info/alternates` or a fan-out directory.
+    ///
+    /// The errors are `NoStore`, `NoStoreButIn`, `File` and `Config`, and `Memory`.
     ///
     /// ```
     /// let folder = ObjectsFolder::at(rt, ".git/objects")?;
@@ -53,21 +55,24 @@ impl ObjectsFolder {
     }
 }
 
-/// Finds the objects folder of the repository that a program runs in, as Git does.
+/// Finds the object directory of the repository that a program runs in, as Git does, but
+/// `$GIT_CEILING_DIRECTORIES`, `$GIT_DISCOVERY_ACROSS_FILESYSTEM` and `safe.directory` are ignored.
 ///
-/// The repository is that of `$GIT_DIR`, or else of the current folder or the first above it that
-/// has one: as `.git`, which is a folder or a file that names one, or as a bare repository. The
-/// worktrees of a repository share its objects; `$GIT_COMMON_DIR` is taken in place of the folder
-/// that they share. `$GIT_OBJECT_DIRECTORY` is taken in place of the repository's own objects
-/// folder, and the folders of `$GIT_ALTERNATE_OBJECT_DIRECTORIES` are alternates. Relative ones are
-/// taken from the folder that has `.git`, if the repository is found there. One of the variables that
-/// name a folder is an error if it is empty.
+/// The repository is that of `$GIT_DIR`, or else of the current directory or the first above it
+/// that has one: as `.git`, which is a directory or a gitfile, or as a bare repository. The
+/// worktrees of a repository share its objects; `$GIT_COMMON_DIR` is taken in place of the
+/// directory that they share. `$GIT_OBJECT_DIRECTORY` is taken in place of the repository's own
+/// object directory, and the directories of `$GIT_ALTERNATE_OBJECT_DIRECTORIES` are alternates.
+/// Relative ones are taken from the directory that has `.git`, if the repository is found there.
+/// One of the variables that name a directory is an error if it is empty.
+///
+/// The errors are `NoRepository`, `Text`, `File` and `Config`, and `Memory`.
 pub fn find_objects<R: Files + Env + AllocGlobal>(rt: &R) -> Result<ObjectsFolder, Error> {
     let given = Environment::read(rt)?;
     find_given(rt, &given)
 }
 
-// The objects folder that Git finds in an environment.
+// The object directory that Git finds in an environment.
 fn find_given<R: Files + Env + AllocGlobal>(
     rt: &R,
     given: &Environment,
@@ -78,7 +83,7 @@ fn find_given<R: Files + Env + AllocGlobal>(
     }
 }
 
-// The objects folder of a repository.
+// The object directory of a repository.
 fn objects_of<R: Files + Env + AllocGlobal>(
     rt: &R,
     given: &Environment,
@@ -96,7 +101,7 @@ fn objects_of<R: Files + Env + AllocGlobal>(
     })
 }
 
-// The objects folder that the environment names, where there is no repository.
+// The object directory that the environment names, where there is no repository.
 fn objects_given<R: Files + Env + AllocGlobal>(
     rt: &R,
     given: &Environment,
@@ -112,7 +117,7 @@ fn objects_given<R: Files + Env + AllocGlobal>(
     })
 }
 
-// The folders that `$GIT_ALTERNATE_OBJECT_DIRECTORIES` names, relative to a folder.
+// The directories that `$GIT_ALTERNATE_OBJECT_DIRECTORIES` names, relative to a directory.
 fn alternates(rt: &(impl Env + AllocGlobal), top: &str) -> Result<Vec<String>, Error> {
     let mut folders = Vec::new(rt.alloc());
     if let Some(list) = variable(rt, ALTERNATES)? {
@@ -121,7 +126,7 @@ fn alternates(rt: &(impl Env + AllocGlobal), top: &str) -> Result<Vec<String>, E
     Ok(folders)
 }
 
-// Adds the folders that a list of the environment names, relative to a folder.
+// Adds the directories that a list of the environment names, relative to a directory.
 fn push_given(
     rt: &impl AllocGlobal,
     top: &str,
@@ -136,7 +141,7 @@ fn push_given(
     Ok(())
 }
 
-// Whether a folder is an objects folder.
+// Whether a directory is an object directory.
 fn is_store<R: Files + AllocGlobal>(rt: &R, path: &str) -> Result<bool, AllocError> {
     Ok(
         has_folder(rt, path, "pack")?
@@ -145,7 +150,7 @@ fn is_store<R: Files + AllocGlobal>(rt: &R, path: &str) -> Result<bool, AllocErr
     )
 }
 
-// Whether a folder has one of loose objects.
+// Whether a directory has a fan-out directory.
 fn has_loose_folder<R: Files + AllocGlobal>(rt: &R, path: &str) -> Result<bool, AllocError> {
     for byte in 0..=u8::MAX {
         if has_folder(rt, path, &format!(in rt.alloc(); "{byte:02x}")?)? {
@@ -155,7 +160,7 @@ fn has_loose_folder<R: Files + AllocGlobal>(rt: &R, path: &str) -> Result<bool, 
     Ok(false)
 }
 
-// Why a folder is no objects folder.
+// Why a directory is no object directory.
 fn no_store<R: Files + AllocGlobal>(rt: &R, path: &str) -> Result<Error, AllocError> {
     let alloc = rt.alloc();
     match fs::metadata(rt, path) {
@@ -165,7 +170,7 @@ fn no_store<R: Files + AllocGlobal>(rt: &R, path: &str) -> Result<Error, AllocEr
     }
 }
 
-// That a folder is no objects folder, and the one that it has.
+// That a directory is no object directory, and the one that it has.
 fn no_store_but<R: Files + AllocGlobal>(rt: &R, path: &str) -> Result<Cause, AllocError> {
     let objects = store_in(rt, path)?;
     let path = String::from_str(rt.alloc(), path)?;
@@ -175,7 +180,7 @@ fn no_store_but<R: Files + AllocGlobal>(rt: &R, path: &str) -> Result<Cause, All
     })
 }
 
-// The objects folder of a repository or worktree at a path, if there is one.
+// The object directory of a repository or worktree at a path, if there is one.
 fn store_in<R: Files + AllocGlobal>(rt: &R, path: &str) -> Result<Option<String>, AllocError> {
     for name in ["objects", ".git/objects"] {
         let objects = join(rt, path, name)?;

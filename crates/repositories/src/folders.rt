@@ -1,4 +1,4 @@
-//! An objects folder and its alternates.
+//! An object directory and its alternates.
 
 use crate::alternates::alternate_paths;
 use crate::error::Error;
@@ -8,25 +8,25 @@ use std::alloc::AllocError;
 use std::rt::Files;
 use std::{io, str};
 
-// How many levels of alternates are read, as by Git: those of the folder itself, and five more, each
-// named by the one before.
+// How many levels of alternates are read, as by Git: those of the directory itself, and five more,
+// each named by the one before.
 const LEVELS: u8 = 6;
 
-/// An objects folder and its alternates, each once.
+/// An object directory and its alternates, each once.
 #[derive(Drop)]
 pub struct Folders {
-    /// The path of the folder as it was given, and the absolute paths of the alternates.
+    /// The path of the directory as it was given, and the absolute paths of the alternates.
     pub paths: Vec<String>,
-    /// Why other alternates are passed over: they are missing, are no folders, cannot be read or are
-    /// nested too deep. Each has its path.
+    /// Why other alternates are skipped: they are missing, are no directories, cannot be read or
+    /// are nested too deep. Each has its path.
     pub passed_over: Vec<Error>,
 }
 
-/// An objects folder and its alternates: those of the environment, and then those of its list, as
+/// An object directory and its alternates: those of the environment, and then those of its list, as
 /// Git links them.
 ///
-/// The alternates are read as by Git: each once, and nested up to 5 times. The folder has to be
-/// there, and the list of a folder has to be readable if it is there.
+/// The alternates are read as by Git: each once, and nested up to 5 times. The directory has to be
+/// there, and the list of a directory has to be readable if it is there.
 ///
 /// ```
 /// let folders = with_alternates(rt, &find_objects(rt)?)?;
@@ -46,7 +46,7 @@ pub fn with_alternates<R: Files + AllocGlobal>(
     Ok(found)
 }
 
-// Adds an objects folder and its alternates.
+// Adds an object directory and its alternates.
 fn push_all<R: Files + AllocGlobal>(
     rt: &R,
     objects: &ObjectsFolder,
@@ -61,8 +61,8 @@ fn push_all<R: Files + AllocGlobal>(
     Ok(())
 }
 
-// Adds an objects folder by its absolute path, the alternates of the environment, and those of its
-// list.
+// Adds an object directory by its absolute path, the alternates of the environment, and those of
+// its list.
 fn push_with_alternates<R: Files + AllocGlobal>(
     rt: &R,
     real: &str,
@@ -75,7 +75,7 @@ fn push_with_alternates<R: Files + AllocGlobal>(
     push_folders(rt, &alternates, LEVELS, found)
 }
 
-// Adds folders, and their alternates, of so many levels together.
+// Adds directories, and their alternates, of so many levels together.
 fn push_folders<R: Files + AllocGlobal>(
     rt: &R,
     paths: &[String],
@@ -92,7 +92,7 @@ fn push_folders<R: Files + AllocGlobal>(
     Ok(())
 }
 
-// Adds a folder, and returns its alternates. Returns none if it is there already, or is passed over:
+// Adds a directory, and returns its alternates. Returns none if it is there already, or is skipped:
 // it cannot be read, or no level is left.
 fn push_folder<R: Files + AllocGlobal>(
     rt: &R,
@@ -115,7 +115,7 @@ fn push_folder<R: Files + AllocGlobal>(
     }
 }
 
-// Adds a folder by its absolute path, and returns its alternates.
+// Adds a directory by its absolute path, and returns its alternates.
 fn push_real<R: Files + AllocGlobal>(
     rt: &R,
     real: &str,
@@ -125,7 +125,7 @@ fn push_real<R: Files + AllocGlobal>(
     Ok(Some(alternates_of(rt, real, &mut found.passed_over)?))
 }
 
-// Why an alternate is passed over that is no folder, or that cannot be read.
+// Why an alternate is skipped that is no directory, or that cannot be read.
 fn unusable(rt: &impl AllocGlobal, path: &str, error: io::Error) -> Result<Error, Error> {
     if error.kind() == io::ErrorKind::OutOfMemory {
         return Err(Error::Memory(AllocError));
@@ -139,7 +139,7 @@ fn unusable(rt: &impl AllocGlobal, path: &str, error: io::Error) -> Result<Error
     }
 }
 
-// The paths in the list of alternates of a folder. Those that are not UTF-8 are passed over.
+// The paths in the list of alternates of a directory. Those that are not UTF-8 are skipped.
 fn alternates_of<R: Files + AllocGlobal>(
     rt: &R,
     folder: &str,
@@ -153,7 +153,7 @@ fn alternates_of<R: Files + AllocGlobal>(
     Ok(paths)
 }
 
-// Adds the paths that the list of a folder names, which is given by its path and its text.
+// Adds the paths that the list of a directory names, which is given by its path and its text.
 fn push_listed(
     rt: &impl AllocGlobal,
     folder: &str,
@@ -169,7 +169,7 @@ fn push_listed(
     Ok(())
 }
 
-// Adds a path that the list of a folder names, if it is UTF-8, and returns whether it is.
+// Adds a path that the list of a directory names, if it is UTF-8, and returns whether it is.
 pub(crate) fn push_path(
     rt: &impl AllocGlobal,
     folder: &str,

@@ -2,8 +2,8 @@
 //! object ids: paths of loose objects, lists of alternates, a repository's format in its config,
 //! and ids in lines.
 //!
-//! [`find_objects`] finds the objects folder of the repository that a program runs in, and
-//! [`with_alternates`] the folders whose objects it borrows.
+//! [`find_objects`] finds the object directory of the repository that a program runs in, and
+//! [`with_alternates`] the directories whose objects it borrows.
 #![tactic(auto)]
 
 /// Lists of alternates.

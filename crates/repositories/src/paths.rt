@@ -1,5 +1,5 @@
-//! Where loose objects lie below the folder `objects` (gitrepository-layout): in a folder of their
-//! first two digits.
+//! Where loose objects lie below the directory `objects` (gitrepository-layout): in a directory of
+//! their first two digits.
 
 ghost use Rattle.std.specs.Prelude.{◌≡◌, ◌≢◌, ◌≤◌, ◌+◌, ◌++◌, take, ℕ, List, OnOk, MatchOption, length};
 ghost use Rattle.std.specs.Io.KnownBytes.{Appends};
@@ -11,7 +11,8 @@ use crate::printed::{after_key, read_printed};
 use gix_hash::{Kind, ObjectId};
 use std::io;
 
-/// Writes the path of a loose object.
+/// Writes `4b/825dc6..`, the path of a loose object below the object directory, in lowercase and
+/// with no line feed. The error is the writer's.
 pub fn write_loose_path<W: io::Write>(id: &ObjectId, out: &mut W) -> io::Result<()>
     ensures { OnOk result (Appends (W.contents out.old) (W.contents out.new)
         (loose_path (id_digits id.now))) }
@@ -24,7 +25,8 @@ pub fn write_loose_path<W: io::Write>(id: &ObjectId, out: &mut W) -> io::Result<
     Ok(())
 }
 
-/// The id of the loose object at a path, or `None` if the path is that of no id of the kind.
+/// The id of the loose object at a path, which is relative to the object directory, in lowercase
+/// and with `/`; or `None` if the path is that of no id of the kind.
 pub fn read_loose_path(kind: Kind, path: &[u8]) -> Option<ObjectId>
     ensures { MatchOption result ((digits : List ℕ) → AreIdDigits kind digits
         → path.now ≢ loose_path digits)

@@ -9,7 +9,8 @@ use std::path::Path;
 use std::rt::{Env, Files};
 use std::{env, fs, io};
 
-// How many folders are looked at by relative paths. A path has at most 4,096 bytes, three for each.
+// How many directories are looked at by relative paths. A path has at most 4,096 bytes, three for
+// each.
 const MAX_ABOVE: usize = 4096 / 3;
 
 // What the environment says of the repository.
@@ -17,7 +18,7 @@ const MAX_ABOVE: usize = 4096 / 3;
 pub(crate) struct Environment {
     // `$GIT_DIR`.
     dir: Option<String>,
-    // `$GIT_COMMON_DIR`, the folder with the objects, the references and the config.
+    // `$GIT_COMMON_DIR`, the directory with the objects, the references and the config.
     common: Option<String>,
     // `$GIT_OBJECT_DIRECTORY`.
     pub(crate) objects: Option<String>,
@@ -33,7 +34,8 @@ impl Environment {
     }
 }
 
-// The path that is the value of a variable, if it is set. An empty one is no path of this folder.
+// The path that is the value of a variable, if it is set. An empty one is no path of this
+// directory.
 fn path_variable(rt: &(impl Env + AllocGlobal), name: &str) -> Result<Option<String>, Error> {
     match variable(rt, name)? {
         Some(path) if path.is_empty() => Err(Error::text(rt.alloc(), name, "empty")),
@@ -54,15 +56,15 @@ pub(crate) fn variable(rt: &(impl Env + AllocGlobal), name: &str) -> Result<Opti
 // A repository that was found.
 #[derive(Drop)]
 pub(crate) struct Repository {
-    // The folder with its objects, references and config.
+    // The directory with its objects, references and config.
     pub(crate) folder: String,
     // From where relative paths of the environment lead: the top of its worktree, if it was found
-    // there, since Git goes there first. It is empty for the current folder.
+    // there, since Git goes there first. It is empty for the current directory.
     pub(crate) top: String,
 }
 
-// The repository, if there is one. It is looked for from the current folder, and read from the top
-// of its worktree, as by Git: so a relative `$GIT_COMMON_DIR` leads from there.
+// The repository, if there is one. It is looked for from the current directory, and read from the
+// top of its worktree, as by Git: so a relative `$GIT_COMMON_DIR` leads from there.
 pub(crate) fn find_repository<R: Files + Env + AllocGlobal>(
     rt: &R,
     given: &Environment,
@@ -74,7 +76,7 @@ pub(crate) fn find_repository<R: Files + Env + AllocGlobal>(
     Ok(found)
 }
 
-// The repository that the environment names, or that is in the current folder or above it.
+// The repository that the environment names, or that is in the current directory or above it.
 fn look_for_repository<R: Files + Env + AllocGlobal>(
     rt: &R,
     given: &Environment,
@@ -89,7 +91,7 @@ fn look_for_repository<R: Files + Env + AllocGlobal>(
     }
 }
 
-// The repository of a folder, or of the first above it that has one.
+// The repository of a directory, or of the first above it that has one.
 fn find_from<R: Files + AllocGlobal>(
     rt: &R,
     given: &Environment,
@@ -106,7 +108,7 @@ fn find_from<R: Files + AllocGlobal>(
     Ok(None)
 }
 
-// The same by relative paths, for a current folder whose path is not UTF-8.
+// The same by relative paths, for a current directory whose path is not UTF-8.
 fn find_above<R: Files + AllocGlobal>(
     rt: &R,
     given: &Environment,
@@ -121,7 +123,7 @@ fn find_above<R: Files + AllocGlobal>(
     Ok(None)
 }
 
-// Lets a path lead to the folder above, and returns whether it does.
+// Lets a path lead to the directory above, and returns whether it does.
 fn go_up<R: Files + AllocGlobal>(rt: &R, folder: &mut String) -> Result<bool, AllocError> {
     let above = join(rt, folder, "..")?;
     if is_highest(rt, folder, &above) {
@@ -131,7 +133,7 @@ fn go_up<R: Files + AllocGlobal>(rt: &R, folder: &mut String) -> Result<bool, Al
     Ok(true)
 }
 
-// Whether no other folder above this one can be seen. The folder above the root is the root.
+// Whether no other directory above this one can be seen. The directory above the root is the root.
 fn is_highest<R: Files + AllocGlobal>(rt: &R, folder: &str, above: &str) -> bool {
     match (fs::metadata(rt, folder), fs::metadata(rt, above)) {
         (Ok(folder), Ok(above)) => folder.dev() == above.dev() && folder.ino() == above.ino(),
@@ -139,8 +141,8 @@ fn is_highest<R: Files + AllocGlobal>(rt: &R, folder: &str, above: &str) -> bool
     }
 }
 
-// The repository of a folder, if it has one: as `.git`, which is a folder or a file that names one,
-// or else as a bare repository.
+// The repository of a directory, if it has one: as `.git`, which is a directory or a gitfile, or
+// else as a bare repository.
 fn repository_in<R: Files + AllocGlobal>(
     rt: &R,
     given: &Environment,
@@ -155,7 +157,7 @@ fn repository_in<R: Files + AllocGlobal>(
     }
 }
 
-// The repository that a folder has as `.git`.
+// The repository that a directory has as `.git`.
 fn repository_of_worktree<R: Files + AllocGlobal>(
     rt: &R,
     given: &Environment,
@@ -175,7 +177,7 @@ fn with_top(rt: &impl AllocGlobal, folder: String, top: &str) -> Result<Option<R
     Ok(Some(Repository { folder, top }))
 }
 
-// The repository that is a folder, or the one that a file names.
+// The repository that is a directory, or the one that a file names.
 fn required<R: Files + AllocGlobal>(
     rt: &R,
     given: &Environment,
@@ -192,7 +194,7 @@ fn required<R: Files + AllocGlobal>(
     }
 }
 
-// The folder that a file `.git` names.
+// The directory that a file `.git` names.
 fn named_by<R: Files + AllocGlobal>(rt: &R, path: &str) -> Result<String, Error> {
     if let Some(text) = read_text(rt, path)?
         && let Some(name) = text.strip_prefix("gitdir: ")
@@ -200,10 +202,10 @@ fn named_by<R: Files + AllocGlobal>(rt: &R, path: &str) -> Result<String, Error>
         let folder = parent(path).unwrap_or("");
         return Ok(join(rt, folder, without_line_ends(name))?);
     }
-    Err(Error::text(rt.alloc(), path, "names no folder"))
+    Err(Error::text(rt.alloc(), path, "names no directory"))
 }
 
-// The repository that is a folder with `HEAD`, by the folder with its objects and references;
+// The repository that is a directory with `HEAD`, by the directory with its objects and references;
 // `None` if there are none. Objects that the environment names need not be there.
 fn repository_at<R: Files + AllocGlobal>(
     rt: &R,
@@ -224,8 +226,8 @@ fn repository_at<R: Files + AllocGlobal>(
     }
 }
 
-// Whether there are the objects that the environment names, or else those of a folder, and the
-// references of the folder.
+// Whether there are the objects that the environment names, or else those of a directory, and the
+// references of the directory.
 fn has_both<R: Files + AllocGlobal>(
     rt: &R,
     given: &Environment,
@@ -238,7 +240,7 @@ fn has_both<R: Files + AllocGlobal>(
     Ok(has_objects && has_folder(rt, folder, "refs")?)
 }
 
-// The folder that the file `commondir` of a worktree names, or else the folder itself.
+// The directory that the file `commondir` of a worktree names, or else the directory itself.
 fn common_of<R: Files + AllocGlobal>(rt: &R, folder: &str) -> Result<String, Error> {
     let path = join(rt, folder, "commondir")?;
     match read_text(rt, &path)? {
@@ -251,8 +253,8 @@ fn common_of<R: Files + AllocGlobal>(rt: &R, folder: &str) -> Result<String, Err
     }
 }
 
-// Whether a folder has a `HEAD` of a repository: a link to a reference, which need not be there, or
-// a file that names a reference or begins with an id.
+// Whether a directory has a `HEAD` of a repository: a link to a reference, which need not be there,
+// or a file that names a reference or begins with an id.
 fn has_head<R: Files + AllocGlobal>(rt: &R, folder: &str) -> Result<bool, AllocError> {
     let path = join(rt, folder, "HEAD")?;
     if let Ok(reference) = fs::read_link(rt, &path) {

@@ -1,2 +1,2 @@
--- Object stores in folders.
+-- Object stores in directories.
 pub mod LoosePaths

@@ -1,12 +1,12 @@
-//! Why a store in folders cannot be opened or read.
+//! Why a store in directories cannot be opened or read.
 
 use pack_index::LazyError;
 use std::alloc::{AllocError, Global};
 use std::io;
 use thiserror::Error as ThisError;
 
-/// Why a store in folders is not opened, or a look-up in it fails. Each error of a folder or file
-/// begins with its path.
+/// Why a store in directories is not opened, or a look-up in it fails. Each error of a directory or
+/// file begins with its path.
 ///
 /// ```
 /// if let Err(error) = FolderStore::open(rt, &find_objects(rt)?, LooseIds::All) {
@@ -15,7 +15,7 @@ use thiserror::Error as ThisError;
 /// ```
 #[derive(Debug, Drop, ThisError)]
 pub enum Error {
-    /// A folder or file cannot be read, or does not say what it is to say.
+    /// A directory or file cannot be read, or does not say what it is to say.
     #[error("{0}")]
     Repository(repositories::Error),
     /// A pack index cannot be read, or is damaged where it was read.
@@ -30,7 +30,8 @@ pub enum Error {
     /// anew. The store is to be opened again.
     ///
     /// ```
-    /// if let Err(Error::Gone { path }) = FolderStore::open(rt, &find_objects(rt)?, LooseIds::All) {
+    /// let folder = find_objects(rt)?;
+    /// if let Err(Error::Gone { path }) = FolderStore::open(rt, &folder, LooseIds::All) {
     ///     println!(rt; "{path}: open the store again")?;
     /// }
     /// ```
@@ -39,11 +40,11 @@ pub enum Error {
         /// Its path.
         path: String,
     },
-    /// A folder of packs or the alternates of the store were changed while it was read, each time
-    /// anew. The store is to be opened again.
+    /// A directory of packs or the alternates of the store were changed while it was read, each
+    /// time anew. The store is to be opened again.
     #[error("{path}: changed while it was read")]
     Changed {
-        /// The path of the folder.
+        /// The path of the directory.
         path: String,
     },
     /// There is not enough memory.
@@ -61,7 +62,7 @@ impl From<repositories::Error> for Error {
 }
 
 impl Error {
-    // A folder or file cannot be read.
+    // A directory or file cannot be read.
     pub(crate) fn file(alloc: Global, path: &str, error: io::Error) -> Error {
         Error::from(repositories::Error::file(alloc, path, error))
     }
@@ -84,7 +85,7 @@ impl Error {
         }
     }
 
-    // A folder was changed while the store was read.
+    // A directory was changed while the store was read.
     pub(crate) fn changed(alloc: Global, path: &str) -> Error {
         match String::from_str(alloc, path) {
             Ok(path) => Error::Changed { path },
@@ -92,7 +93,8 @@ impl Error {
         }
     }
 
-    // The system's number of the error by which a folder or file cannot be read, if there is one.
+    // The system's number of the error by which a directory or file cannot be read, if there is
+    // one.
     pub(crate) fn raw_os_error(&self) -> Option<i32> {
         match self {
             Error::Repository(error) => error.raw_os_error(),

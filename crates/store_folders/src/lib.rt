@@ -1,7 +1,7 @@
-//! Object stores in folders, as Git has them (gitrepository-layout).
+//! Object stores in directories, as Git has them (gitrepository-layout).
 //!
 //! [`FolderStore`] is an [`object_store::Store`]: the pack indexes and the loose objects of an
-//! objects folder and of its alternates, as `repositories` finds them.
+//! object directory and of its alternates, as `repositories` finds them.
 #![tactic(auto)]
 
 mod error;

@@ -1,4 +1,4 @@
-//! The names in folders.
+//! The names in directories.
 
 use crate::error::Error;
 use repositories::join;
@@ -6,8 +6,8 @@ use std::io;
 use std::io::{BufReader, Read};
 use std::rt::Files;
 
-// The names in a folder, each ended by a NUL, or none if the folder is missing. They are bytes: a
-// name need not be UTF-8.
+// The names in a directory, each ended by a NUL, or none if the directory is missing. They are
+// bytes: a name need not be UTF-8.
 pub(crate) fn names_in<R: Files + AllocGlobal>(rt: &R, folder: &str) -> Result<Vec<u8>, Error> {
     match read_names(rt, folder) {
         Ok(names) => Ok(names),
@@ -17,10 +17,10 @@ pub(crate) fn names_in<R: Files + AllocGlobal>(rt: &R, folder: &str) -> Result<V
 }
 
 fn read_names<R: Files + AllocGlobal>(rt: &R, folder: &str) -> io::Result<Vec<u8>> {
-    // A path that ends in a slash leads to a folder by a link, too.
+    // A path that ends in a slash leads to a directory by a link, too.
     let path = join(rt, folder, "")?;
     let mut names = Vec::new(rt.alloc());
-    // A folder is read by chunks that have room for any name, which are those of a `BufReader`.
+    // A directory is read by chunks that have room for any name, which are those of a `BufReader`.
     let mut dir = BufReader::new(rt.alloc(), rt.open_dir(&path)?)?;
     dir.read_to_end(&mut names)?;
     Ok(names)

@@ -1,4 +1,4 @@
-//! The loose objects in objects folders, by the names of their files.
+//! The loose objects in object directories, by the names of their files.
 
 ghost use Rattle.std.specs.Prelude.{◌≡◌, ◌++◌, All, IfOk, IfSome, OnOk, map, string_bytes};
 ghost use Rattle.gix_hash.specs.ObjectId.{id_digits, id_kind};
@@ -8,6 +8,7 @@ use crate::error::Error;
 use crate::listing::names_in;
 use gix_hash::{Kind, ObjectId};
 use object_store::LooseTable;
+use repositories::paths::{read_loose_path, write_loose_path};
 use std::alloc::{AllocError, Global};
 use std::rt::Files;
 
@@ -25,7 +26,7 @@ pub enum LooseIds {
     WithFirstByte(u8),
 }
 
-// An objects folder, and the ids of its loose objects.
+// An object directory, and the ids of its loose objects.
 #[derive(Drop)]
 pub(crate) struct LooseFolder {
     pub(crate) path: String,
@@ -40,7 +41,7 @@ pub(crate) struct LooseObjects {
     pub(crate) table: LooseTable,
 }
 
-// Lists the loose objects in objects folders.
+// Lists the loose objects in object directories.
 pub(crate) fn list_loose<R: Files + AllocGlobal>(
     rt: &R,
     paths: &[String],
@@ -60,7 +61,7 @@ pub(crate) fn list_loose<R: Files + AllocGlobal>(
     Ok(LooseObjects { folders, table })
 }
 
-// Lists the loose objects in an objects folder.
+// Lists the loose objects in an object directory.
 fn list_folder<R: Files + AllocGlobal>(
     rt: &R,
     path: &str,
@@ -76,7 +77,7 @@ fn list_folder<R: Files + AllocGlobal>(
     Ok(LooseFolder { path, table })
 }
 
-// Adds the ids of the loose objects in an objects folder.
+// Adds the ids of the loose objects in an object directory.
 fn push_folder<R: Files + AllocGlobal>(
     rt: &R,
     folder: &str,
@@ -97,8 +98,8 @@ fn push_folder<R: Files + AllocGlobal>(
     Ok(())
 }
 
-// Adds the ids of the loose objects in an objects folder that have a first byte. Names that are no
-// loose object's are passed over, as those of temporary files and names in capitals.
+// Adds the ids of the loose objects in an object directory that have a first byte. Names that are
+// no loose object's are skipped, as those of temporary files and names in capitals.
 fn push_part<R: Files + AllocGlobal>(
     rt: &R,
     folder: &str,
@@ -114,8 +115,8 @@ fn push_part<R: Files + AllocGlobal>(
     Ok(push_ids(kind, byte, &names, ids)?)
 }
 
-// Adds the ids of the loose objects whose files have these names, each ended by a NUL, in the folder
-// of a first byte.
+// Adds the ids of the loose objects whose files have these names, each ended by a NUL, in the
+// directory of a first byte.
 fn push_ids(kind: Kind, byte: u8, names: &[u8], ids: &mut Vec<ObjectId>) -> Result<(), AllocError>
     ensures { OnOk result (All (λ id. id_kind id ≡ kind) ids.old.items
         → All (λ id. id_kind id ≡ kind) ids.new.items) }
@@ -128,7 +129,7 @@ fn push_ids(kind: Kind, byte: u8, names: &[u8], ids: &mut Vec<ObjectId>) -> Resu
     Ok(())
 }
 
-// The id of the loose object whose file has this name, in the folder of a first byte.
+// The id of the loose object whose file has this name, in the directory of a first byte.
 fn loose_id(kind: Kind, byte: u8, name: &[u8]) -> Option<ObjectId>
     ensures { IfSome result (λ id. id_kind id ≡ kind) }
 {
@@ -145,7 +146,7 @@ fn loose_id(kind: Kind, byte: u8, name: &[u8]) -> Option<ObjectId>
 
 const HEX: [u8; 16] = *b"0123456789abcdef";
 
-// Adds the path of the file of a loose object in an objects folder, if it is there.
+// Adds the path of the file of a loose object in an object directory, if it is there.
 pub(crate) fn push_path(
     alloc: Global,
     folder: &LooseFolder,
@@ -161,7 +162,7 @@ pub(crate) fn push_path(
     Ok(())
 }
 
-// The path of the file of a loose object in an objects folder.
+// The path of the file of a loose object in an object directory.
 pub(crate) fn loose_path(alloc: Global, folder: &str, id: &ObjectId) -> Result<String, AllocError>
     ensures { IfOk result (λ path. string_bytes path ≡ path_in folder.now (id_digits id.now)) }
 {
@@ -170,7 +171,7 @@ pub(crate) fn loose_path(alloc: Global, folder: &str, id: &ObjectId) -> Result<S
     let Ok(()) = write_loose_path(id, &mut path) else {
         return Err(AllocError);
     };
-    // It is UTF-8, as the folder's and the digits are.
+    // It is UTF-8, as the directory's and the digits are.
     match String::from_utf8(path) {
         Ok(path) => Ok(path),
         Err(_) => Err(AllocError),

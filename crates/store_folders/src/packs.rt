@@ -1,4 +1,4 @@
-//! The pack indexes in objects folders.
+//! The pack indexes in object directories.
 
 ghost use Rattle.std.specs.Prelude.{◌≡◌, All, IfOk, OnOk};
 
@@ -22,25 +22,25 @@ const MAX_OPEN: usize = 64;
 // The system's error of a process that has as many open files as it may have: EMFILE.
 const TOO_MANY_OPEN: i32 = 24;
 
-// The pack indexes that objects folders had as they were listed.
+// The pack indexes that object directories had as they were listed.
 #[derive(Drop)]
 pub(crate) struct PackIndexes {
-    // Their paths, in the order of the folders, and by path.
+    // Their paths, in the order of the directories, and by path.
     pub(crate) paths: Vec<String>,
-    // Why others are passed over.
+    // Why others are skipped.
     pub(crate) passed_over: Vec<Error>,
-    // The folders that they are in, in order.
+    // The directories that they are in, in order.
     folders: Vec<PackFolder>,
 }
 
-// A folder of packs, and its state after it was listed, or `None` if it was missing.
+// A directory of packs, and its state after it was listed, or `None` if it was missing.
 #[derive(Drop)]
 struct PackFolder {
     path: String,
     state: Option<FolderState>,
 }
 
-// Which folder it is, and when a name last came or went in it.
+// Which directory it is, and when a name last came or went in it.
 #[derive(Clone, Copy, PartialEq)]
 struct FolderState {
     dev: u64,
@@ -49,7 +49,7 @@ struct FolderState {
 }
 
 impl PackIndexes {
-    // Those in objects folders, with or without packs.
+    // Those in object directories, with or without packs.
     pub(crate) fn list<R: Files + AllocGlobal>(
         rt: &R,
         folders: &[String],
@@ -86,7 +86,8 @@ impl PackIndexes {
         }
     }
 
-    // Fails if a folder has changed since it was listed for an earlier list, of the same folders.
+    // Fails if a directory has changed since it was listed for an earlier list, of the same
+    // directories.
     pub(crate) fn expect_unchanged(
         &self,
         alloc: Global,
@@ -112,7 +113,7 @@ impl PackIndexes {
     }
 }
 
-// The state of a folder, or `None` if it is missing.
+// The state of a directory, or `None` if it is missing.
 fn state_of<R: Files + AllocGlobal>(rt: &R, path: &str) -> Result<Option<FolderState>, Error> {
     match fs::metadata(rt, path) {
         Ok(found) => Ok(Some(FolderState {
@@ -125,7 +126,7 @@ fn state_of<R: Files + AllocGlobal>(rt: &R, path: &str) -> Result<Option<FolderS
     }
 }
 
-// The paths of the pack indexes in a folder of packs, in order.
+// The paths of the pack indexes in a directory of packs, in order.
 fn indexes_in<R: Files + AllocGlobal>(
     rt: &R,
     folder: &str,
@@ -142,7 +143,7 @@ fn indexes_in<R: Files + AllocGlobal>(
     Ok(paths)
 }
 
-// Adds the path of the pack index of this name in a folder. It is passed over if it is not UTF-8, as
+// Adds the path of the pack index of this name in a directory. It is skipped if it is not UTF-8, as
 // paths are.
 fn push_index(
     rt: &impl AllocGlobal,
@@ -197,7 +198,7 @@ pub(crate) struct OpenIndexes<R: Files<File = File>> {
     // Their paths, in order.
     pub(crate) paths: Vec<String>,
     pub(crate) indexes: Vec<LazyFile<Source<R>>>,
-    // Why others are passed over: they are no pack indexes of version 2 and of the kind, or their
+    // Why others are skipped: they are no pack indexes of version 2 and of the kind, or their
     // counts fall.
     pub(crate) passed_over: Vec<Error>,
 }
@@ -274,7 +275,7 @@ fn open_index<R: Files<File = File> + AllocGlobal + Clone + Drop>(
 ) -> Result<LazyFile<Source<R>>, Error>
     ensures { IfOk result (λ index. index.kind ≡ kind) }
 {
-    let source = match open_source(rt, path, stays_open) {
+    let source = match Source::open(rt, path, stays_open) {
         Ok(source) => source,
         Err(error) => return Err(not_opened(rt, path, error)),
     };

@@ -1,11 +1,9 @@
-//! An object store in folders.
+//! An object store in directories.
 
 ghost use Rattle.std.specs.Prelude.{◌≡◌, All, IfOk};
 ghost use Rattle.gix_hash.specs.ObjectId.{id_kind};
 
 use crate::error::Error;
-use crate::finding::ObjectsFolder;
-use crate::folders::{Folders, with_alternates};
 use crate::loose::{LooseIds, LooseObjects, list_loose, loose_path, push_path};
 use crate::packs::{OpenIndexes, PackIndexes, open_indexes, pack_paths};
 use crate::source::Source;
@@ -22,8 +20,8 @@ use std::{fs, io};
 // How often a store that changes while it is read is read.
 const MAX_TRIES: usize = 100;
 
-/// The object store of an objects folder and its alternates, as it was when it was opened: the pack
-/// indexes whose packs are there, and the ids of loose objects. A look-up lists nothing.
+/// The object store of an object directory and its alternates, as it was when it was opened: the
+/// pack indexes whose packs are there, and the ids of loose objects. A look-up lists nothing.
 ///
 /// ```
 /// let store = FolderStore::open(rt, &find_objects(rt)?, LooseIds::All)?;
@@ -43,15 +41,16 @@ pub struct FolderStore<R: Files<File = File>> {
 }
 
 impl<R: Files<File = File> + AllocGlobal + Clone + Drop> FolderStore<R> {
-    /// Opens the store of an objects folder, whose ids are of the folder's kind.
+    /// Opens the store of an object directory, whose ids are of the directory's kind.
     ///
-    /// No object is missed that is packed meanwhile, as by `git gc`. If a pack index is removed while
-    /// the store is opened, a folder of packs is changed or an alternate comes or goes, the store is
-    /// read again; the 100th time [`Error::Gone`] or [`Error::Changed`] is returned.
+    /// No object is missed that is packed meanwhile, as by `git gc`. If a pack index is removed
+    /// while the store is opened, a directory of packs is changed or an alternate comes or goes,
+    /// the store is read again; the 100th time [`Error::Gone`] or [`Error::Changed`] is returned.
     ///
-    /// The folder's alternates are read as by Git: each once, and nested up to 5 times. Those that
-    /// cannot be used are passed over ([`FolderStore::passed_over`]). A folder `pack` or of loose
-    /// objects may be missing. Any other failure is an error.
+    /// The directory's alternates are read as by Git: each once, and nested up to 5 times. Those
+    /// that cannot be used are skipped ([`FolderStore::passed_over`]). A missing directory `pack`
+    /// or fan-out directory is no error; any other failure is one, with the path ([`Error::File`],
+    /// [`Error::Text`], [`Error::Memory`]).
     ///
     /// ```
     /// let store = FolderStore::open(rt, &ObjectsFolder::at(rt, ".git/objects")?, LooseIds::All)?;
@@ -98,21 +97,21 @@ impl<R: Files<File = File> + AllocGlobal + Clone + Drop> FolderStore<R> {
         })
     }
 
-    /// What was not read: alternates that are missing, are no folders, cannot be read or are nested too
-    /// deep, and pack indexes whose names are not UTF-8, whose heads are not those of version 2 and of
-    /// the kind, or whose counts fall. Each has its path, or that of its folder, and why.
+    /// What was not read: alternates that are missing, are no directories, cannot be read or are
+    /// nested too deep, and pack indexes whose file names are not UTF-8 or whose headers are not
+    /// those of version 2 and of the kind. Each has its path, or that of its directory, and why.
     ///
     /// ```
     /// let store = FolderStore::open(rt, &find_objects(rt)?, LooseIds::All)?;
     /// for error in store.passed_over() {
-    ///     println!(rt; "{error}, passed over")?;
+    ///     println!(rt; "{error}, skipped")?;
     /// }
     /// ```
     pub fn passed_over(&self) -> &[Error] {
         &self.passed_over
     }
 
-    /// The path of the pack index at this index among `indexes()`, if there is one.
+    /// The path of the pack index at this position among `indexes()`, if there is one.
     pub fn index_path(&self, at: usize) -> Option<&str> {
         self.paths.get(at).map(|path| path.as_str())
     }
@@ -146,7 +145,7 @@ impl<R: Files<File = File> + AllocGlobal + Clone + Drop> FolderStore<R> {
         Ok(())
     }
 
-    // Checks the file of a loose object in a folder.
+    // Checks the file of a loose object in a directory.
     fn check_loose_file(&self, folder: &str, id: &ObjectId) -> Result<(), Error> {
         let path = loose_path(self.rt.alloc(), folder, id)?;
         let Err(error) = fs::metadata(&self.rt, path.as_str()) else {
@@ -164,13 +163,13 @@ impl<R: Files<File = File> + AllocGlobal + Clone + Drop> FolderStore<R> {
     }
 }
 
-// Lists the pack indexes and the loose objects in objects folders. The order makes that no object is
-// missed that is there all the time. One that is packed is in a pack before its loose file is
-// removed, and in the new pack before the old one is: so the loose objects are listed before the
-// packs. One that is taken out of a pack is loose before the pack is removed: so the packs are listed
-// before the loose objects too, and none of them may be gone after. A pack may have come and gone in
-// between, with objects that were loose before and are loose again: so no folder of packs may have
-// changed.
+// Lists the pack indexes and the loose objects in object directories. The order makes that no
+// object is missed that is there all the time. One that is packed is in a pack before its loose
+// file is removed, and in the new pack before the old one is: so the loose objects are listed
+// before the packs. One that is taken out of a pack is loose before the pack is removed: so the
+// packs are listed before the loose objects too, and none of them may be gone after. A pack may
+// have come and gone in between, with objects that were loose before and are loose again: so no
+// directory of packs may have changed.
 fn list<R: Files + AllocGlobal>(
     rt: &R,
     folders: &[String],
@@ -187,8 +186,8 @@ fn list<R: Files + AllocGlobal>(
     Ok((after, loose))
 }
 
-// Fails if the alternates of a folder are not these any more: one that came later may have got
-// objects that the folder had, and had no more as it was listed.
+// Fails if the alternates of a directory are not these any more: one that came later may have got
+// objects that the directory had, and had no more as it was listed.
 fn expect_alternates<R: Files + AllocGlobal>(
     rt: &R,
     folder: &ObjectsFolder,
@@ -201,7 +200,7 @@ fn expect_alternates<R: Files + AllocGlobal>(
     }
 }
 
-// Why alternates are passed over.
+// Why alternates are skipped.
 fn alternates_passed_over(
     rt: &impl AllocGlobal,
     folders: Folders,
@@ -257,7 +256,7 @@ impl<R: Files<File = File> + AllocGlobal + Clone + Drop> StorePaths for FolderSt
         }
     }
 
-    // In the order of the folders.
+    // In the order of the directories.
     fn loose_paths(&self, id: &ObjectId) -> Result<Vec<String>, AllocError> {
         let alloc = self.rt.alloc();
         let mut paths = Vec::new(alloc);

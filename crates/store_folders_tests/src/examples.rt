@@ -58,7 +58,7 @@ const TYPED: [(&str, Option<usize>); 5] = [
     ("g", None),
 ];
 
-// The short name is by `git rev-parse --short=4`.
+// The abbreviation is by `git rev-parse --short=4`.
 #[test]
 fn typed_names(rt: HostRuntime) -> Result<(), Fail> {
     let mut ids = ids_of(&rt, &OBJECTS)?;

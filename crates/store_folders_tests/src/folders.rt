@@ -1,4 +1,4 @@
-//! Stores in folders, which are made where the tests run.
+//! Stores in directories, which are made where the tests run.
 
 use gix_hash::Kind;
 use repositories::ObjectsFolder;
@@ -37,7 +37,7 @@ fn index_of(rt: &impl AllocGlobal, ids: &[&str]) -> Result<Vec<u8>, Fail> {
     Ok(pack_index(rt.alloc(), Kind::Sha1, &ids_of(rt, ids)?, &[])?)
 }
 
-/// Makes empty files, files and pack indexes, and the folders that they are in.
+/// Makes empty files, files and pack indexes, and the directories that they are in.
 pub fn make<R: Files + AllocGlobal>(
     rt: &R,
     empty: &[&str],
@@ -56,7 +56,7 @@ pub fn make<R: Files + AllocGlobal>(
     Ok(())
 }
 
-/// The store of an objects folder, with all its loose objects.
+/// The store of an object directory, with all its loose objects.
 pub fn open<R: Files<File = File> + AllocGlobal + Clone + Drop>(
     rt: &R,
     objects: &str,

@@ -1,4 +1,4 @@
-//! Long files, as sources.
+//! Files, as sources.
 
 use crate::expecting::expect;
 use gix_hash::Kind;
@@ -8,9 +8,10 @@ use std::fs::File;
 use std::os::unix::fs::FileExt;
 use std::test::Fail;
 use store_folders::Source;
+use streams::ReadAt;
 
-// A file of 2^32 + 40 bytes, of which all are zeros but the last, two digests. It is read at its end
-// only.
+// A file of 2^32 + 40 bytes, of which all are zeros but the last, two digests. It is read at its
+// end only.
 #[test]
 fn files_are_longer_than_32_bits_count(rt: HostRuntime) -> Result<(), Fail> {
     let (kind, path) = (Kind::Sha1, "longer_than_32_bits_count");
@@ -18,19 +19,32 @@ fn files_are_longer_than_32_bits_count(rt: HostRuntime) -> Result<(), Fail> {
     let file = File::create_new(&rt, path)?;
     file.write_all_at(tree.as_slice(), 1 << 32)?;
     file.write_all_at(blob.as_slice(), (1 << 32) + 20)?;
-    let path = String::from_str(rt.alloc(), path)?;
-    for source in [
-        Source::Open(fs::open(&rt, path.as_str())?),
-        Source::AtEachRead {
-            rt: rt.clone()?,
-            path: path.clone()?,
-        },
-    ] {
+    for stays_open in [true, false] {
+        let source = Source::open(&rt, path, stays_open)?;
         let Ok(Pairing::Other { named, found }) = pair(&source, &source, kind) else {
             return Err(Fail::new("it cannot be read"));
         };
         expect!(&rt; named == tree && found == Some(blob));
     }
-    fs::remove_file(&rt, path.as_str())?;
+    fs::remove_file(&rt, path)?;
+    Ok(())
+}
+
+// A file that does not stay open has the bytes that were read last, and no others once it is gone.
+#[test]
+fn bytes_that_were_read_are_kept(rt: HostRuntime) -> Result<(), Fail> {
+    let path = "bytes_that_were_read_are_kept";
+    for stays_open in [true, false] {
+        let file = File::create_new(&rt, path)?;
+        file.write_all_at(b"last", 20_000)?;
+        let source = Source::open(&rt, path, stays_open)?;
+        let mut bytes = [0; 4];
+        source.read_exact_at(&mut bytes, 16_380)?;
+        fs::remove_file(&rt, path)?;
+        source.read_exact_at(&mut bytes, 16_380)?;
+        expect!(&rt; source.read_exact_at(&mut bytes, 20_000).is_ok() == stays_open);
+        expect!(&rt; (bytes == *b"last") == stays_open);
+        expect!(&rt; source.read_exact_at(&mut bytes, 20_001).is_err());
+    }
     Ok(())
 }

@@ -2,11 +2,11 @@
 //! between them.
 //!
 //! A [`Source`] is read from and a [`Sink`] written to. Both know whether a call failed, so that a
-//! contract can say that an error is returned if and only if its device failed. [`FromSlice`] and
-//! [`IntoSlice`] are devices over slices, and [`Plain`] is one over a reader or writer of `std`, such
-//! as a [`Retrying`]. A source is read in chunks ([`next_chunk`]), and ids are written as lines. A
-//! stream is hashed ([`hash_all`]), sealed with its digest ([`seal`]) or checked to be sealed
-//! ([`check`]).
+//! contract can say that an error is returned if and only if one of them failed. [`FromSlice`] and
+//! [`IntoSlice`] are a source and a sink over slices, and [`Plain`] is either over a reader or
+//! writer of `std`, such as a [`Retrying`]. A source is read in chunks ([`next_chunk`]), and ids
+//! are written as lines. A stream is hashed ([`hash_all`]), sealed with its digest ([`seal`]) or
+//! checked to be sealed ([`check`]).
 #![tactic(auto)]
 
 mod checking;

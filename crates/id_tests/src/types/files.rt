@@ -79,7 +79,7 @@ fn files_that_cannot_be_opened(rt: HostRuntime) -> Result<(), Fail> {
     Ok(())
 }
 
-// A folder opens, and can't be read.
+// A directory opens, and can't be read.
 #[test]
 fn files_that_give_no_digest(rt: HostRuntime) -> Result<(), Fail> {
     let name = "three_bytes_to_be_hashed";

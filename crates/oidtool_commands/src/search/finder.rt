@@ -16,8 +16,8 @@ use crate::search::query::Query;
 use gix_hash::ObjectId;
 use std::alloc::Allocator;
 
-/// Searches a list of ids that comes in parts. It keeps the ids that are found, the first error of
-/// the order, the smallest number of digits, and the last id.
+/// Searches a list of ids that comes in parts. It keeps the ids that are found, the first id that
+/// is out of order, the smallest number of digits, and the last id.
 #[derive(Drop)]
 pub struct Finder<A: Allocator> {
     count: usize,

@@ -142,7 +142,7 @@ impl Query {
         self.prefix.cmp_oid(end.as_oid()).is_gt()
     }
 
-    /// The error of a list in order whose ids have at least so many digits.
+    /// The error of a list in order whose shortest id has `min` digits.
     pub fn error_of_all(&self, min: usize) -> Option<SearchError>
         ensures { (ids : List (List ℕ)) → IsLeast self.now.search min ids
             → result ≡ error_of_all self.now.search self.now.prefix.digits ids }

@@ -22,7 +22,7 @@ const SHA1_LINE: usize = 41;
 
 const SHA256_LINE: usize = 65;
 
-/// The ids that are found in the list text that the source gives to its end, of at most so many
+/// The ids that are found in the list text that the source gives to its end, of at most `most`
 /// bytes. The ids whose lines end in a chunk are looked up together, and only those that are found
 /// are kept.
 ///
@@ -81,8 +81,8 @@ fn search_chunk<A: Allocator>(
     requires empty { reader.old.ids.items ≡ [] }
     requires count { finder.old.count ≡ reader.old.dropped }
     requires room { reader.old.dropped + reader.old.len + length chunk.now < 2 ^ 64 }
-    ensures ok { OnOk result (Searches query.now.search query.now.prefix.digits reader.old reader.new
-        finder.old finder.new chunk.now) }
+    ensures ok { OnOk result (Searches query.now.search query.now.prefix.digits
+        reader.old reader.new finder.old finder.new chunk.now) }
     ensures err { IfErr result (IsRefusedIn query.now.search query.now.prefix.digits reader.old
         finder.old chunk.now) }
 {
@@ -103,8 +103,8 @@ fn read_chunk<A: Allocator>(
     requires empty { reader.old.ids.items ≡ [] }
     requires count { finder.old.count ≡ reader.old.dropped }
     requires room { reader.old.dropped + reader.old.len + length chunk.now < 2 ^ 64 }
-    ensures ok { OnOk result (Searches query.now.search query.now.prefix.digits reader.old reader.new
-        finder.old finder.new chunk.now) }
+    ensures ok { OnOk result (Searches query.now.search query.now.prefix.digits
+        reader.old reader.new finder.old finder.new chunk.now) }
     ensures err { IfErr result (IsRefusedIn query.now.search query.now.prefix.digits reader.old
         finder.old chunk.now) }
 {
