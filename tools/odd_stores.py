@@ -241,7 +241,7 @@ class Oddity:
             other = rng.choice([*NO_OBJECTS, *others])
             if chance(rng, 0.1):
                 (part / id[2:]).mkdir(exist_ok=True) if not (part / id[2:]).exists() else None
-            elif chance(rng, 0.2) and not (part / other).exists():
+            elif chance(rng, 0.2) and not os.path.lexists(part / other):
                 (part / other).symlink_to(rng.choice(["none", "../info", id[2:]]))
             else:
                 self.write(part / other) if other != "." else None

@@ -13,7 +13,7 @@ use std::marker::Model;
 /// found without a look at the others.
 ///
 /// ```
-/// let loose = LooseTable::new(ids, Kind::Sha1);
+/// let loose = LooseTable::new(vec![in rt.alloc(); id]?, id.kind());
 /// println!(rt; "{} begin with 4b", loose.with_first_byte(0x4b).len())?;
 /// ```
 #[derive(Drop)]

@@ -11,7 +11,7 @@ use std::{fs, io};
 /// A path below a directory, or the path itself if it is absolute.
 ///
 /// ```
-/// let packs = join(rt, &folder.path, "pack")?;
+/// let packs = join(rt, ".git/objects", "pack")?;
 /// ```
 pub fn join(rt: &impl AllocGlobal, folder: &str, path: &str) -> Result<String, AllocError> {
     Ok(Path::new(folder).join(rt.alloc(), path)?.into_string())

@@ -20,7 +20,8 @@ const CLOSED_LEN: usize = 16384;
 /// what is kept, or of nothing, reads no file.
 ///
 /// ```
-/// let index = LazyFile::open(Source::open(rt, "pack-1.idx", true)?, Kind::Sha1)?;
+/// let source = store_folders::Source::open(rt, "pack-1.idx", true)?;
+/// let index = pack_index::LazyFile::open(source, Kind::Sha1)?;
 /// ```
 #[derive(Drop)]
 pub struct Source<R> {

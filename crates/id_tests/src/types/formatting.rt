@@ -101,12 +101,9 @@ fn digits_are_written(rt: HostRuntime) -> Result<(), Fail> {
         }
     }
     expect_all_written(&rt, &Named::Prefix(Prefix::from_hex("e69d0")?), "e69d0");
-    Ok(())
-}
-
-#[test]
-fn no_digits_make_no_write(rt: HostRuntime) {
+    // No digits make no write.
     let none = Named::Prefix(id(&rt, BLOB).to_prefix(0..0));
     let failing = (0, Fault::Always(io::ErrorKind::Other));
     expect_written(&rt, &none, failing, "", b"", 0);
+    Ok(())
 }
