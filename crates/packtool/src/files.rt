@@ -126,27 +126,18 @@ fn write_verdict<'a, W: io::Write>(
 // What is said of standard input. Its first bytes decide whether it is a pack index; of one no more
 // is read than its counts allow. Any other input is hashed as it is read.
 fn verdict_of_input<'a>(rt: &HostRuntime, kind: Option<Kind>) -> Result<Verdict, Failure<'a>> {
+    let path = "-";
     let mut reader = Retrying::new(rt.reader());
     let mut head = Vec::new(rt.alloc());
-    if let Err(error) = (&mut reader).take(HEAD_LEN as u64).read_to_end(&mut head) {
-        return Err(unreadable(rt, "-", error));
-    }
-    verdict_after_head(rt, &head, reader, kind)
-}
-
-// The same, after the first bytes were read.
-fn verdict_after_head<'a, R: io::Read + Drop>(
-    rt: &HostRuntime,
-    head: &[u8],
-    rest: R,
-    kind: Option<Kind>,
-) -> Result<Verdict, Failure<'a>> {
-    let path = "-";
-    let mut input = Cursor::new(head).chain(rest);
-    if !is_index(&head, path) {
+    (&mut reader)
+        .take(HEAD_LEN as u64)
+        .read_to_end(&mut head)
+        .map_err(|error| unreadable(rt, path, error))?;
+    let mut input = Cursor::new(&head[..]).chain(reader);
+    if !is_index(&&head[..], path) {
         return Ok(Verdict::Ends(ending_once(rt, &mut input, path, kind)?));
     }
-    let one_more = most_index_len(head).saturating_add(1);
+    let one_more = most_index_len(&head).saturating_add(1);
     match index_kind(rt, &mut input.take(one_more), path, kind)? {
         Ok(_) => Ok(Verdict::Index(None)),
         Err(error) => Ok(Verdict::Faulty(error)),
