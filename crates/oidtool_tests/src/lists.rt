@@ -329,7 +329,7 @@ fn numbers(alloc: Global, lines: usize, more: &[&str]) -> Result<String, AllocEr
     Ok(text)
 }
 
-// So many ids of SHA-1 in the list begin with the prefix, and their lines are written.
+// `count` ids of SHA-1 in the list begin with the prefix, and their lines are written.
 fn expect_count(rt: &(impl Abort + AllocGlobal), list: &[u8], prefix: &str, count: usize) {
     let mut input = FromSlice::new(list);
     let mut out = Plain::new(Vec::new(rt.alloc()));

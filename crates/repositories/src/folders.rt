@@ -75,7 +75,7 @@ fn push_with_alternates<R: Files + AllocGlobal>(
     push_folders(rt, &alternates, LEVELS, found)
 }
 
-// Adds directories, and their alternates, of so many levels together.
+// Adds directories and their alternates, `levels` levels together.
 fn push_folders<R: Files + AllocGlobal>(
     rt: &R,
     paths: &[String],

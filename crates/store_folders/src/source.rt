@@ -80,7 +80,7 @@ impl<R: Files<File = File> + AllocGlobal + Clone> Source<R> {
 }
 
 impl<R: Files<File = File>> Source<R> {
-    // Reads and keeps at most so many bytes, from a position on. If memory runs out, none are read.
+    // Reads and keeps at most `most` bytes, from a position on. If memory runs out, none are read.
     fn keep(&self, start: u64, most: usize) -> io::Result<()>
         requires { most ≤ 16384 }
     {
@@ -93,7 +93,7 @@ impl<R: Files<File = File>> Source<R> {
         Ok(())
     }
 
-    // So many bytes of zero.
+    // `len` bytes of zero.
     fn zeros(&self, len: usize) -> Result<Vec<u8>, AllocError> {
         Ok(vec![in self.alloc; 0; len]?)
     }

@@ -60,7 +60,7 @@ impl Read for Names {
     }
 }
 
-// Directories in which files are moved as they are listed, and of which so many reads are left.
+// Directories in which files are moved as they are listed, with the number of reads that are left.
 struct Moving<'a, R> {
     rt: &'a R,
     moves: &'a [Move],
@@ -210,7 +210,7 @@ fn expect_in_order<R: Files<File = File> + AllocGlobal + Clone + Drop>(
     }
 }
 
-// Opens the store with these moves and so many reads of directories, and compares the ids that are
+// Opens the store with these moves and `left` reads of directories, and compares the ids that are
 // found, or the error.
 fn expect_opened<R: Abort + Files<File = File> + AllocGlobal>(
     rt: &R,
