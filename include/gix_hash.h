@@ -62,12 +62,12 @@ extern "C" {
     CODE(BAD_DIGIT, 2, "a byte of the text is not a hex digit") \
     CODE(BAD_KIND, 3, "the kind is neither GIX_HASH_SHA1 nor GIX_HASH_SHA256") \
     CODE(NO_ROOM, 4, "the buffer is too short") \
-    CODE(TOO_LONG, 5, "the prefix has more digits than ids of the kind") \
+    CODE(PREFIX_TOO_LONG, 5, "the prefix has more digits than ids of the kind") \
     CODE(OUT_OF_RANGE, 6, "the position is not below the number of objects") \
     CODE(UNSORTED, 7, "a digest is below the one before it (at: its index)") \
     CODE(NOT_UNIQUE, 8, "another object has the same id, so none of its prefixes is unique") \
     CODE(BAD_TYPE, 9, "the type is not one of GIX_HASH_COMMIT to GIX_HASH_TAG") \
-    CODE(TOO_SHORT, 16, "fewer bytes than any pack index has") \
+    CODE(INDEX_TOO_SHORT, 16, "fewer bytes than any pack index has") \
     CODE(VERSION_1, 17, "a pack index of version 1, by its length") \
     CODE(BAD_MAGIC, 18, "no pack index: the magic number is missing") \
     CODE(BAD_VERSION, 19, "a pack index of another version than 2 (detail: which)") \
@@ -228,7 +228,7 @@ uint32_t gix_hash_check_sorted(uint32_t kind, const uint8_t *table, size_t len, 
 /* Finds the digests of a sorted table that begin with a prefix, in time logarithmic in len. If none
  * does, the run is empty, at the position where the prefix would be. If the table is not sorted, the
  * run is unspecified, but in range.
- * Returns GIX_HASH_OK, GIX_HASH_BAD_KIND, GIX_HASH_BAD_LENGTH or GIX_HASH_TOO_LONG. */
+ * Returns GIX_HASH_OK, GIX_HASH_BAD_KIND, GIX_HASH_BAD_LENGTH or GIX_HASH_PREFIX_TOO_LONG. */
 GIX_HASH_READS(2, 3) GIX_HASH_READS(4) GIX_HASH_WRITES(5)
 uint32_t gix_hash_find(uint32_t kind, const uint8_t *table, size_t len, const gix_hash_prefix *prefix, gix_hash_run *run);
 
@@ -241,12 +241,12 @@ uint32_t gix_hash_pack_kind(const uint8_t *bytes, size_t len, uint32_t *kind);
 /* Checks whether bytes are a pack index of version 2 with ids of a kind, as Git reads it: lengths,
  * order, fan-out table, offsets and checksum. Takes time proportional to len.
  * Returns GIX_HASH_OK, GIX_HASH_BAD_KIND, GIX_HASH_OTHER_KIND, or the first of the codes from
- * GIX_HASH_TOO_SHORT to GIX_HASH_WRONG_CHECKSUM that applies, with its detail, if it has one, in
+ * GIX_HASH_INDEX_TOO_SHORT to GIX_HASH_WRONG_CHECKSUM that applies, with its detail, if it has one, in
  * *detail.
  *
  * The functions below are for bytes that this one accepted, and say what the index contains. They test
  * only the kind, the magic number, the version and the lengths of the tables, in constant time, and
- * return GIX_HASH_BAD_KIND, or a code from GIX_HASH_TOO_SHORT to GIX_HASH_WRONG_LENGTH. They are safe
+ * return GIX_HASH_BAD_KIND, or a code from GIX_HASH_INDEX_TOO_SHORT to GIX_HASH_WRONG_LENGTH. They are safe
  * for any bytes, so it is no danger if the bytes changed since the check. */
 GIX_HASH_READS(2, 3) GIX_HASH_WRITES(4)
 uint32_t gix_hash_pack_check(uint32_t kind, const uint8_t *bytes, size_t len, uint64_t *detail);
@@ -266,7 +266,7 @@ GIX_HASH_READS(2, 3) GIX_HASH_WRITES(5)
 uint32_t gix_hash_pack_id(uint32_t kind, const uint8_t *bytes, size_t len, size_t at, gix_hash_id *id);
 
 /* Finds the objects whose ids begin with a prefix, as gix_hash_find does.
- * Also returns GIX_HASH_BAD_LENGTH or GIX_HASH_TOO_LONG, right after GIX_HASH_BAD_KIND. */
+ * Also returns GIX_HASH_BAD_LENGTH or GIX_HASH_PREFIX_TOO_LONG, right after GIX_HASH_BAD_KIND. */
 GIX_HASH_READS(2, 3) GIX_HASH_READS(4) GIX_HASH_WRITES(5)
 uint32_t gix_hash_pack_find(uint32_t kind, const uint8_t *bytes, size_t len, const gix_hash_prefix *prefix, gix_hash_run *run);
 

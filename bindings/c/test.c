@@ -129,12 +129,12 @@ static void test_errors(void) {
     CHECK(0, gix_hash_id_to_hex(&id, buffer, 63) == GIX_HASH_NO_ROOM && !strcmp((char *)buffer, "kept"));
     CHECK(0, gix_hash_id_cmp(&id, &none) == GIX_HASH_NO_ORDER && gix_hash_prefix_cmp_id(&prefix, &none) == GIX_HASH_NO_ORDER);
     CHECK(0, gix_hash_prefix_cmp_id(&empty, &id) == GIX_HASH_NO_ORDER);
-    CHECK(0, gix_hash_find(1, fall, 40, &prefix, &run) == GIX_HASH_TOO_LONG);
+    CHECK(0, gix_hash_find(1, fall, 40, &prefix, &run) == GIX_HASH_PREFIX_TOO_LONG);
     CHECK(0, gix_hash_find(1, fall, 40, &empty, &run) == GIX_HASH_BAD_LENGTH);
-    CHECK(0, gix_hash_pack_find(1, fall, 60, &prefix, &run) == GIX_HASH_TOO_LONG);
+    CHECK(0, gix_hash_pack_find(1, fall, 60, &prefix, &run) == GIX_HASH_PREFIX_TOO_LONG);
     CHECK(0, gix_hash_pack_find(1, fall, 60, &empty, &run) == GIX_HASH_BAD_LENGTH);
     for (uint32_t kind = 0; kind < 4; kind++) {
-        uint32_t code = kind == 1 || kind == 2 ? GIX_HASH_TOO_SHORT : GIX_HASH_BAD_KIND;
+        uint32_t code = kind == 1 || kind == 2 ? GIX_HASH_INDEX_TOO_SHORT : GIX_HASH_BAD_KIND;
         CHECK(kind, gix_hash_pack_check(kind, fall, 60, &detail) == code && detail == 7);
         CHECK(kind, gix_hash_pack_count(kind, fall, 60, &number) == code);
         CHECK(kind, gix_hash_pack_entry(kind, fall, 60, 0, &entry) == code && entry.offset == 5);
@@ -200,7 +200,7 @@ static void test_nothing(void) {
     gix_hash_entry entry = {0};
     size_t number = 6;
     uint64_t detail = 7;
-    uint32_t kind = 8, none = GIX_HASH_TOO_SHORT;
+    uint32_t kind = 8, none = GIX_HASH_INDEX_TOO_SHORT;
     CHECK(0, gix_hash_id_from_hex(NULL, 0, &id) == GIX_HASH_BAD_LENGTH);
     CHECK(0, gix_hash_prefix_from_hex(NULL, 0, &prefix) == GIX_HASH_BAD_LENGTH);
     CHECK(0, gix_hash_id_to_hex(&id, NULL, 0) == GIX_HASH_NO_ROOM);
@@ -216,7 +216,7 @@ static void test_nothing(void) {
 /* Copies of an index with one byte changed, and of another length, with the code and the detail. */
 static const struct { size_t at; uint8_t byte; long cut; uint32_t code; uint64_t detail; } broken[] = {
     {0, 0, 0, GIX_HASH_BAD_MAGIC, 7},           {7, 3, 0, GIX_HASH_BAD_VERSION, 3},
-    {0, 0xff, 1, GIX_HASH_WRONG_LENGTH, 7},     {0, 0xff, 900, GIX_HASH_TOO_SHORT, 7},
+    {0, 0xff, 1, GIX_HASH_WRONG_LENGTH, 7},     {0, 0xff, 900, GIX_HASH_INDEX_TOO_SHORT, 7},
     {1032, 0xff, 0, GIX_HASH_NAMES_FALL, 1},    {11, 9, 0, GIX_HASH_WRONG_COUNT, 0},
 };
 

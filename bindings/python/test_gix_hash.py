@@ -127,7 +127,7 @@ class Bindings(unittest.TestCase):
             digits = (str(one) if rng.random() < 0.5 else str(other))[: rng.randint(1, 40)]
             front = str(other)[: len(digits)]
             self.assertEqual(Prefix(digits).cmp(other), (digits > front) - (digits < front))
-        self.fails(Code.TOO_LONG, 0, Prefix(EMPTY[:41]).cmp, Id(EMPTY[:40]))
+        self.fails(Code.PREFIX_TOO_LONG, 0, Prefix(EMPTY[:41]).cmp, Id(EMPTY[:40]))
 
     def test_values(self):
         for make in (Id, Prefix):
@@ -258,7 +258,7 @@ class Bindings(unittest.TestCase):
         self.assertEqual([repeats.count(one), *(repeats.index(one, start) for start in (0, 1, -2))], [3, 0, 1, 2])
         self.assertRaises(ValueError, repeats.index, one, 3)
         self.assertRaises(ValueError, repeats.index, repeats[3], 0, 3)
-        self.fails(Code.TOO_LONG, 0, SortedDigests(Kind.SHA1, b"").find, Prefix(EMPTY))
+        self.fails(Code.PREFIX_TOO_LONG, 0, SortedDigests(Kind.SHA1, b"").find, Prefix(EMPTY))
         self.fails(Code.BAD_MAGIC, 0, PackIndex.kind_of, bytes(2000))
         self.fails(Code.UNSORTED, 1, SortedDigests, Kind.SHA1, b"2" * 20 + b"1" * 20)
 

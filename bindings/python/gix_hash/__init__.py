@@ -68,12 +68,12 @@ class Code(enum.IntEnum):
     BAD_DIGIT = 2, "a byte of the text is not a hex digit"
     BAD_KIND = 3, "the kind is neither GIX_HASH_SHA1 nor GIX_HASH_SHA256"
     NO_ROOM = 4, "the buffer is too short"
-    TOO_LONG = 5, "the prefix has more digits than ids of the kind"
+    PREFIX_TOO_LONG = 5, "the prefix has more digits than ids of the kind"
     OUT_OF_RANGE = 6, "the position is not below the number of objects"
     UNSORTED = 7, "a digest is below the one before it (at: its index)"
     NOT_UNIQUE = 8, "another object has the same id, so none of its prefixes is unique"
     BAD_TYPE = 9, "the type is not one of GIX_HASH_COMMIT to GIX_HASH_TAG"
-    TOO_SHORT = 16, "fewer bytes than any pack index has"
+    INDEX_TOO_SHORT = 16, "fewer bytes than any pack index has"
     VERSION_1 = 17, "a pack index of version 1, by its length"
     BAD_MAGIC = 18, "no pack index: the magic number is missing"
     BAD_VERSION = 19, "a pack index of another version than 2 (detail: which)"
@@ -394,9 +394,9 @@ class Prefix:
 
     def cmp(self, other: Id) -> int:
         """The order of the prefix and as many first digits of an id: -1, 1, or 0 if and only if the id begins with the
-        prefix. The error is TOO_LONG if the id has fewer digits."""
+        prefix. The error is PREFIX_TOO_LONG if the id has fewer digits."""
         order = int(_lib.gix_hash_prefix_cmp_id(self._prefix, _only(Id, other)._struct))
-        _check(Code.TOO_LONG if order == 2 else 0)
+        _check(Code.PREFIX_TOO_LONG if order == 2 else 0)
         return order
 
     def __str__(self) -> str:
@@ -455,7 +455,7 @@ class _Table(Sequence[_T]):
         return map(self._item, range(len(self)))
 
     def find(self, prefix: Prefix) -> range:
-        """The indexes of the ids that begin with a prefix. The error is TOO_LONG."""
+        """The indexes of the ids that begin with a prefix. The error is PREFIX_TOO_LONG."""
         run = _Run()
         _check(self._call(*self._given, _only(Prefix, prefix)._prefix, run))
         return range(run.start, run.end)
@@ -502,7 +502,7 @@ class SortedDigests(_Table[Id]):
 
 class PackIndex(_Table[Entry]):
     """A pack index of version 2, as a sequence of entries, where `in`, `index` and `count` also take an id. The error is
-    OTHER_KIND, or one from TOO_SHORT to WRONG_CHECKSUM. The bytes are not copied, so nobody may change them, and an mmap is
+    OTHER_KIND, or one from INDEX_TOO_SHORT to WRONG_CHECKSUM. The bytes are not copied, so nobody may change them, and an mmap is
     closed after this is gone."""
 
     _call = _lib.gix_hash_pack_find
@@ -514,14 +514,14 @@ class PackIndex(_Table[Entry]):
 
     @classmethod
     def of_any_kind(cls, data: Buffer) -> "PackIndex":
-        """The same, of whichever kind the ids are. The error is one from TOO_SHORT to WRONG_CHECKSUM."""
+        """The same, of whichever kind the ids are. The error is one from INDEX_TOO_SHORT to WRONG_CHECKSUM."""
         made = cls.__new__(cls)
         made._hold(cls.kind_of(data), data)
         return made
 
     @staticmethod
     def kind_of(data: Buffer) -> Kind:
-        """The kind of the ids of a pack index, which is checked whole. The error is one from TOO_SHORT to WRONG_CHECKSUM."""
+        """The kind of the ids of a pack index, which is checked whole. The error is one from INDEX_TOO_SHORT to WRONG_CHECKSUM."""
         (held, *given), kind = _bytes(data), ctypes.c_uint32()
         if _lib.gix_hash_pack_kind(*given, kind):
             PackIndex(Kind.SHA1, data)  # raises the same error, with its detail

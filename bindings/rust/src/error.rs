@@ -37,12 +37,12 @@ codes! {
     BadDigit = 2, "a byte of the text is not a hex digit";
     BadKind = 3, "the kind is neither SHA-1 nor SHA-256";
     NoRoom = 4, "the buffer is too short";
-    TooLong = 5, "the prefix has more digits than ids of the kind";
+    PrefixTooLong = 5, "the prefix has more digits than ids of the kind";
     OutOfRange = 6, "the position is not below the number of objects";
     Unsorted = 7, "the digest at position `detail` is below the one before it";
     NotUnique = 8, "another object has the same id";
     BadType = 9, "the type of the object is not one of the four";
-    TooShort = 16, "the bytes are too few for a pack index";
+    IndexTooShort = 16, "the bytes are too few for a pack index";
     Version1 = 17, "the pack index has version 1";
     BadMagic = 18, "the bytes do not begin as a pack index";
     BadVersion = 19, "the pack index has version `detail`, not 2";

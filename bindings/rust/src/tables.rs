@@ -61,7 +61,7 @@ impl<'a> SortedDigests<'a> {
         self.iter().nth(at)
     }
 
-    /// The indexes of the digests that begin with a prefix. The error is `TooLong`.
+    /// The indexes of the digests that begin with a prefix. The error is `PrefixTooLong`.
     pub fn find(&self, prefix: &Prefix) -> Result<Range<usize>, Error> {
         let (kind, table, mut run) = (self.kind as u32, self.table, raw::Run::default());
         // SAFETY: the slice is valid for its length.
@@ -116,7 +116,7 @@ pub struct PackIndex<'a> {
 }
 
 impl<'a> PackIndex<'a> {
-    /// Checks the whole index. The error is `OtherKind`, or one from `TooShort` to `WrongChecksum`.
+    /// Checks the whole index. The error is `OtherKind`, or one from `IndexTooShort` to `WrongChecksum`.
     pub fn new(kind: Kind, bytes: &'a [u8]) -> Result<PackIndex<'a>, Error> {
         let mut detail = 0;
         // SAFETY: the slice is valid for its length.
@@ -125,7 +125,7 @@ impl<'a> PackIndex<'a> {
         Ok(PackIndex { kind, bytes })
     }
 
-    /// The same, of whichever kind the ids are. The error is one from `TooShort` to `WrongChecksum`.
+    /// The same, of whichever kind the ids are. The error is one from `IndexTooShort` to `WrongChecksum`.
     pub fn of_any_kind(bytes: &'a [u8]) -> Result<PackIndex<'a>, Error> {
         let mut number = 0;
         // SAFETY: the slice is valid for its length.
@@ -185,7 +185,7 @@ impl<'a> PackIndex<'a> {
         Entries { index: *self, left: 0..self.len() }
     }
 
-    /// The positions of the objects whose ids begin with a prefix. The error is `TooLong`.
+    /// The positions of the objects whose ids begin with a prefix. The error is `PrefixTooLong`.
     pub fn find(&self, prefix: &Prefix) -> Result<Range<usize>, Error> {
         let (kind, bytes, mut run) = (self.kind as u32, self.bytes, raw::Run::default());
         // SAFETY: the slice is valid for its length.

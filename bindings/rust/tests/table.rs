@@ -165,7 +165,7 @@ fn indexes() {
             (index.get(len), index.id(len), digests.get(len), code(index.abbreviate(len))),
             (None, None, None, Some(Code::OutOfRange))
         );
-        let too_long = (kind == Kind::Sha1).then_some(Code::TooLong);
+        let too_long = (kind == Kind::Sha1).then_some(Code::PrefixTooLong);
         assert_eq!(code(index.find(&EMPTY.parse().unwrap())), too_long);
         let other = if kind == Kind::Sha1 { Kind::Sha256 } else { Kind::Sha1 };
         assert_eq!(

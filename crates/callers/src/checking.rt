@@ -67,7 +67,7 @@ pub fn pack_name(alloc: Global, digest: oid<'_>) -> Result<String, AllocError>
 }
 
 /// The entry of a fan-out table, of 256 counts by the first byte, under which an id falls.
-pub fn fan_out_entry(id: &ObjectId) -> usize
+pub fn fan_out_position(id: &ObjectId) -> usize
     ensures { result ≡ first_byte_of (id_digits id.now) }
 {
     usize::from(id.first_byte())

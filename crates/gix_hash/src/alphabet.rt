@@ -62,7 +62,7 @@ impl Alphabet {
             return Err(from_hex::Error::TooShort { hex_len: 0 });
         }
         match Kind::from_hex_len(text.len()) {
-            Some(kind) => self.read_beginning(kind, text.as_bytes()),
+            Some(kind) => self.read_prefix_in(kind, text.as_bytes()),
             None => Err(from_hex::Error::TooLong {
                 hex_len: text.len(),
             }),
@@ -73,7 +73,7 @@ impl Alphabet {
     /// only error is [`from_hex::Error::Invalid`], for a byte that is no letter.
     ///
     /// The caller must ensure that the text is no longer than the spelling of an id of the kind.
-    pub fn read_beginning(self, kind: Kind, text: &[u8]) -> Result<Prefix, from_hex::Error>
+    pub fn read_prefix_in(self, kind: Kind, text: &[u8]) -> Result<Prefix, from_hex::Error>
         requires { length text.now ≤ hex_len_of kind }
         ensures { result ≡ ok_or (option_map (kind_digits kind)
             (digits_read (letter_of self) text.now)) from_hex.Error.Invalid }
@@ -106,7 +106,7 @@ impl Alphabet {
     pub fn read_id(self, text: &[u8]) -> Result<ObjectId, decode::Error>
         ensures { result_digits result ≡ full_read (letter_of self) text.now }
     {
-        match self.find_id(text) {
+        match self.read_id_opt(text) {
             Some(id) => Ok(id),
             None => match text.len() {
                 40 | 64 => Err(decode::Error::Invalid),
@@ -118,7 +118,7 @@ impl Alphabet {
     /// Reads 40 or 64 digits as [`Alphabet::read_id`] does, and returns `None` if that fails.
     /// A list has an id on each line, and an `Option` of it takes fewer steps than a `Result`.
     #[inline(always)]
-    pub fn find_id(self, text: &[u8]) -> Option<ObjectId>
+    pub fn read_id_opt(self, text: &[u8]) -> Option<ObjectId>
         ensures { option_map whole_of result ≡ result_ok (full_read (letter_of self) text.now) }
     {
         match text.len() {

@@ -64,7 +64,7 @@ pub enum Error {
 /// | [`Prefix::from_reverse_hex_nonempty`] | `z` to `k` | 1 to 64 | by length |
 /// | [`Alphabet::read_prefix`] | either | 4 to 64 | by length |
 /// | [`Alphabet::read_prefix_nonempty`] | either | 1 to 64 | by length |
-/// | [`Alphabet::read_beginning`] | either | 0 to those of the kind, as a condition | given |
+/// | [`Alphabet::read_prefix_in`] | either | 0 to those of the kind, as a condition | given |
 ///
 /// ```
 /// let prefix = Prefix::from_hex("4b825dc")?;
@@ -182,7 +182,7 @@ impl Prefix {
         if text.is_empty() {
             return Err(from_hex::Error::TooShort { hex_len: 0 });
         }
-        Alphabet::Hex.read_beginning(kind, text.as_bytes())
+        Alphabet::Hex.read_prefix_in(kind, text.as_bytes())
     }
 
     /// The digits with zeros after them, as an id of the prefix's kind.

@@ -16,8 +16,8 @@ BAD_KIND = 3
 abbrev pub NO_ROOM : ℕ
 NO_ROOM = 4
 
-abbrev pub TOO_LONG : ℕ
-TOO_LONG = 5
+abbrev pub PREFIX_TOO_LONG : ℕ
+PREFIX_TOO_LONG = 5
 
 abbrev pub OUT_OF_RANGE : ℕ
 OUT_OF_RANGE = 6

@@ -8,7 +8,7 @@ use Rattle.id_lookup.specs.Sorted.{IsSortedIds, IsFirstUnsorted}
 use Rattle.id_lookup.specs.declared.search.Run as found
 use Rattle.pack_index.specs.Format.{digests_in}
 use Rattle.gix_hash_c.specs.declared.look_up.Run.{Run}
-use Rattle.gix_hash_c.specs.Codes.{BAD_KIND, BAD_LENGTH, OK, TOO_LONG, UNSORTED}
+use Rattle.gix_hash_c.specs.Codes.{BAD_KIND, BAD_LENGTH, OK, PREFIX_TOO_LONG, UNSORTED}
 
 -- a run of C's as one of `id_lookup`
 abbrev pub run_in : Run → found.Run
@@ -22,7 +22,7 @@ pub record IsRunIfSorted (digits : List ℕ) (ids : List (List ℕ)) (run : Run)
 
 -- what a look-up returns, and leaves, by whether there are too many digits
 abbrev pub FoundBy : Bool → List ℕ → List (List ℕ) → ℕ → Run → Run → Type 0
-FoundBy true digits ids code old new = (code ≡ TOO_LONG) × (new ≡ old)
+FoundBy true digits ids code old new = (code ≡ PREFIX_TOO_LONG) × (new ≡ old)
 FoundBy false digits ids code old new = (code ≡ OK) × IsRunIfSorted digits ids new
 
 -- the result of a look-up in a table, whose kind or prefix may be bad

@@ -6,7 +6,7 @@ use Rattle.gix_hash.specs.declared.kind.Kind.{Kind}
 use Rattle.gix_hash.specs.declared.kind.Kind.TheVariants.{Sha1, Sha256}
 use Rattle.id_lookup.specs.ShortNames.{IsShortestName}
 use Rattle.id_lookup.specs.Sorted.{IsSortedIds}
-use Rattle.pack_index.specs.Format.{HasHead, HasOffset, HasTables, IsPackIndex, count_in, crc_in, names_in, offset_in}
+use Rattle.pack_index.specs.Format.{HasHead, HasOffset, HasTables, IsPackIndex, crc_in, names_in, num_objects, offset_in}
 use Rattle.pack_index.specs.Refusal.{IsFault, IsRefusal}
 use Rattle.pack_index.specs.declared.error.Error.{Error}
 use Rattle.pack_index.specs.declared.error.Error.TheVariants.{OtherKind, TooShort, Version1, BadMagic, BadVersion, WrongLength, NamesFall, WrongCount, NoOffset, LongOutOfOrder, SpareLong, OffsetInHeader, OffsetTooHigh, WrongChecksum}
@@ -15,7 +15,7 @@ use Rattle.gix_hash_c.specs.Found.{IsRunIfSorted}
 use Rattle.gix_hash_c.specs.declared.ids.Id.{Id}
 use Rattle.gix_hash_c.specs.declared.look_up.Run.{Run}
 use Rattle.gix_hash_c.specs.declared.packs.Entry.{Entry}
-use Rattle.gix_hash_c.specs.Codes.{BAD_KIND, BAD_LENGTH, NOT_UNIQUE, OK, OUT_OF_RANGE, TOO_LONG}
+use Rattle.gix_hash_c.specs.Codes.{BAD_KIND, BAD_LENGTH, NOT_UNIQUE, OK, OUT_OF_RANGE, PREFIX_TOO_LONG}
 
 -- the number of a cause for which bytes are no pack index
 abbrev pub cause_number : Error → ℕ
@@ -86,26 +86,26 @@ pub record IsEntry (kind : Kind) (bytes : List ℕ) (at : ℕ) (entry : Entry) :
 -- why there is none
 abbrev pub IsNoEntry : Kind → List ℕ → ℕ → ℕ → Type 0
 IsNoEntry kind bytes at code =
-    ((code ≡ OUT_OF_RANGE) × IsLaidOut kind bytes × (count_in bytes ≤ at))
-    ⊎ (((code ≡ cause_number (NoOffset at)) × IsLaidOut kind bytes × (at < count_in bytes) × (¬ HasOffset kind bytes at)) ⊎ IsTablesFault kind bytes code)
+    ((code ≡ OUT_OF_RANGE) × IsLaidOut kind bytes × (num_objects bytes ≤ at))
+    ⊎ (((code ≡ cause_number (NoOffset at)) × IsLaidOut kind bytes × (at < num_objects bytes) × (¬ HasOffset kind bytes at)) ⊎ IsTablesFault kind bytes code)
 
 -- the result of reading an entry
 abbrev pub EntryAnswer : Option Kind → List ℕ → ℕ → ℕ → Entry → Entry → Type 0
 EntryAnswer None bytes at code old new = (code ≡ BAD_KIND) × (new ≡ old)
 EntryAnswer (Some kind) bytes at code old new =
-    ((code ≡ OK) × IsLaidOut kind bytes × (at < count_in bytes) × HasOffset kind bytes at × IsEntry kind bytes at new)
+    ((code ≡ OK) × IsLaidOut kind bytes × (at < num_objects bytes) × HasOffset kind bytes at × IsEntry kind bytes at new)
     ⊎ ((new ≡ old) × IsNoEntry kind bytes at code)
 
 -- why there is no name at an index
 abbrev pub IsNoName : Kind → List ℕ → ℕ → ℕ → Type 0
 IsNoName kind bytes at code =
-    ((code ≡ OUT_OF_RANGE) × IsLaidOut kind bytes × (count_in bytes ≤ at)) ⊎ IsTablesFault kind bytes code
+    ((code ≡ OUT_OF_RANGE) × IsLaidOut kind bytes × (num_objects bytes ≤ at)) ⊎ IsTablesFault kind bytes code
 
 -- the name at an index
 abbrev pub NameAnswer : Option Kind → List ℕ → ℕ → ℕ → Id → Id → Type 0
 NameAnswer None bytes at code old new = (code ≡ BAD_KIND) × (new ≡ old)
 NameAnswer (Some kind) bytes at code old new =
-    ((code ≡ OK) × IsLaidOut kind bytes × (at < count_in bytes) × HoldsId (kind_digits kind (slice_index_or (names_in kind bytes) at [])) new)
+    ((code ≡ OK) × IsLaidOut kind bytes × (at < num_objects bytes) × HoldsId (kind_digits kind (slice_index_or (names_in kind bytes) at [])) new)
     ⊎ ((new ≡ old) × IsNoName kind bytes at code)
 
 -- the run of a prefix
@@ -113,7 +113,7 @@ abbrev pub PackFindAnswer : Option Kind → List ℕ → Option (List ℕ) → �
 PackFindAnswer None bytes prefix code old new = (code ≡ BAD_KIND) × (new ≡ old)
 PackFindAnswer (Some kind) bytes None code old new = (code ≡ BAD_LENGTH) × (new ≡ old)
 PackFindAnswer (Some kind) bytes (Some digits) code old new =
-    ((code ≡ TOO_LONG) × (hex_len_of kind < length digits) × (new ≡ old))
+    ((code ≡ PREFIX_TOO_LONG) × (hex_len_of kind < length digits) × (new ≡ old))
     ⊎ ((length digits ≤ hex_len_of kind) × (((code ≡ OK) × IsLaidOut kind bytes × IsRunIfSorted digits (names_in kind bytes) new)
     ⊎ ((new ≡ old) × IsTablesFault kind bytes code)))
 
@@ -125,7 +125,7 @@ IsShortest kind bytes at hex_len =
 -- why there is none
 abbrev pub IsNameless : Kind → List ℕ → ℕ → ℕ → Type 0
 IsNameless kind bytes at code =
-    ((code ≡ NOT_UNIQUE) × IsLaidOut kind bytes × (at < count_in bytes)
+    ((code ≡ NOT_UNIQUE) × IsLaidOut kind bytes × (at < num_objects bytes)
     × (IsSortedIds (names_in kind bytes) → (name : List ℕ) → ¬ IsShortestName (names_in kind bytes) at name))
     ⊎ IsNoName kind bytes at code
 
@@ -133,5 +133,5 @@ IsNameless kind bytes at code =
 abbrev pub ShortestAnswer : Option Kind → List ℕ → ℕ → ℕ → ℕ → ℕ → Type 0
 ShortestAnswer None bytes at code old new = (code ≡ BAD_KIND) × (new ≡ old)
 ShortestAnswer (Some kind) bytes at code old new =
-    ((code ≡ OK) × IsLaidOut kind bytes × (at < count_in bytes) × (4 ≤ new) × (new ≤ hex_len_of kind) × IsShortest kind bytes at new)
+    ((code ≡ OK) × IsLaidOut kind bytes × (at < num_objects bytes) × (4 ≤ new) × (new ≤ hex_len_of kind) × IsShortest kind bytes at new)
     ⊎ ((new ≡ old) × IsNameless kind bytes at code)

@@ -17,7 +17,7 @@ pub(crate) const BAD_KIND: u32 = 3;
 
 pub(crate) const NO_ROOM: u32 = 4;
 
-pub(crate) const TOO_LONG: u32 = 5;
+pub(crate) const PREFIX_TOO_LONG: u32 = 5;
 
 pub(crate) const OUT_OF_RANGE: u32 = 6;
 
@@ -27,7 +27,7 @@ pub(crate) const NOT_UNIQUE: u32 = 8;
 
 pub(crate) const BAD_TYPE: u32 = 9;
 
-pub(crate) const TOO_SHORT: u32 = 16;
+pub(crate) const INDEX_TOO_SHORT: u32 = 16;
 
 pub(crate) const VERSION_1: u32 = 17;
 

@@ -8,10 +8,10 @@ ghost use Rattle.pack_index.specs.Format.{digests_in};
 ghost use Rattle.gix_hash_c.specs.Face.{kind_of_number, prefix_in};
 ghost use Rattle.gix_hash_c.specs.Found.{FindAnswer, IsRunIfSorted, SortedAnswer};
 
-use crate::codes::{BAD_KIND, BAD_LENGTH, OK, TOO_LONG, UNSORTED, kind_of};
+use crate::codes::{BAD_KIND, BAD_LENGTH, OK, PREFIX_TOO_LONG, UNSORTED, kind_of};
 use crate::prefixes::{Prefix, prefix_of};
 use gix_hash::Kind;
-use id_lookup::{SortedIds, Unsorted, find_if_sorted_near};
+use id_lookup::{SortedIds, Unsorted, find_assuming_sorted_near};
 
 /// The indexes from `start` up to `end`, counted from 0.
 #[repr(C)]
@@ -42,7 +42,7 @@ pub extern "C" fn gix_hash_check_sorted(kind: u32, table: &[u8], at: &mut usize)
 }
 
 /// The run of a prefix among the digests of a kind in a table. An error leaves `run` as it was:
-/// `BAD_KIND`, `BAD_LENGTH` or else `TOO_LONG`.
+/// `BAD_KIND`, `BAD_LENGTH` or else `PREFIX_TOO_LONG`.
 #[unsafe(no_mangle)]
 pub extern "C" fn gix_hash_find(kind: u32, table: &[u8], prefix: &Prefix, run: &mut Run) -> u32
     ensures { FindAnswer (kind_of_number kind) table.now (prefix_in prefix.now) result
@@ -55,7 +55,7 @@ pub extern "C" fn gix_hash_find(kind: u32, table: &[u8], prefix: &Prefix, run: &
         return BAD_LENGTH;
     };
     if prefix.hex_len() > kind.len_in_hex() {
-        return TOO_LONG;
+        return PREFIX_TOO_LONG;
     }
     let all = id_lookup::Run {
         start: 0,
@@ -87,8 +87,8 @@ pub(crate) fn find_in(
     ensures { IsRunIfSorted prefix.now.digits (digests_in kind table.now) result }
 {
     let run = match kind {
-        Kind::Sha1 => find_if_sorted_near::<[u8; 20]>(table.as_chunks().0, prefix, guess),
-        Kind::Sha256 => find_if_sorted_near::<[u8; 32]>(table.as_chunks().0, prefix, guess),
+        Kind::Sha1 => find_assuming_sorted_near::<[u8; 20]>(table.as_chunks().0, prefix, guess),
+        Kind::Sha256 => find_assuming_sorted_near::<[u8; 32]>(table.as_chunks().0, prefix, guess),
     };
     Run {
         start: run.start,

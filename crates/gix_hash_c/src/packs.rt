@@ -6,22 +6,23 @@ ghost use Rattle.gix_hash.specs.Kind.{hex_len_of};
 ghost use Rattle.gix_hash.specs.Prefix.{kind_digits};
 ghost use Rattle.id_lookup.specs.ShortNames.{IsShortestName};
 ghost use Rattle.id_lookup.specs.Sorted.{IsSortedIds};
-ghost use Rattle.pack_index.specs.Format.{HasHead, HasTables, crcs_at, digests_in, names_at, names_in};
+ghost use Rattle.pack_index.specs.Format.{HasHead, HasTables, crc_table_start, digests_in, names_in, names_start};
 ghost use Rattle.gix_hash_c.specs.Face.{HoldsId, kind_of_number, prefix_in};
 ghost use Rattle.gix_hash_c.specs.Packs.{CheckAnswer, EntryAnswer, IsTablesFault, LenAnswer, NameAnswer, PackFindAnswer, PackKindAnswer, ShortestAnswer, cause_number, detail_of};
 
 use crate::codes::{
-    BAD_KIND, BAD_LENGTH, BAD_MAGIC, BAD_VERSION, LONG_OUT_OF_ORDER, NAMES_FALL, NO_OFFSET,
-    NOT_UNIQUE, OFFSET_IN_HEADER, OFFSET_TOO_HIGH, OK, OTHER_KIND, OUT_OF_RANGE, SPARE_LONG,
-    TOO_LONG, TOO_SHORT, VERSION_1, WRONG_CHECKSUM, WRONG_COUNT, WRONG_LENGTH, kind_of,
+    BAD_KIND, BAD_LENGTH, BAD_MAGIC, BAD_VERSION, INDEX_TOO_SHORT, LONG_OUT_OF_ORDER, NAMES_FALL,
+    NO_OFFSET, NOT_UNIQUE, OFFSET_IN_HEADER, OFFSET_TOO_HIGH, OK, OTHER_KIND, OUT_OF_RANGE,
+    PREFIX_TOO_LONG, SPARE_LONG, VERSION_1, WRONG_CHECKSUM, WRONG_COUNT, WRONG_LENGTH, kind_of,
 };
 use crate::ids::{Id, to_c};
 use crate::look_up::{Run, find_in};
 use crate::prefixes::{Prefix, prefix_of};
 use gix_hash::{Kind, ObjectId};
-use id_lookup::abbreviate_if_sorted;
+use id_lookup::abbreviate_assuming_sorted;
 use pack_index::tables::{
-    NAMES_AT, check_tables, count_in, counted_in, crc_in, crcs_at, has_offset, offset_in,
+    NAMES_START, bucket_range, check_tables, crc_in, crc_table_start, has_offset, num_objects,
+    offset_in,
 };
 use pack_index::{Error, File};
 
@@ -86,7 +87,7 @@ pub extern "C" fn gix_hash_pack_count(kind: u32, bytes: &[u8], count: &mut usize
     match kind_of(kind) {
         Some(kind) => match tables(kind, bytes) {
             Ok(()) => {
-                *count = count_in(bytes) as usize;
+                *count = num_objects(bytes) as usize;
                 OK
             }
             Err(cause) => cause,
@@ -106,7 +107,7 @@ pub extern "C" fn gix_hash_pack_entry(kind: u32, bytes: &[u8], at: usize, entry:
     if let Err(cause) = tables(kind, bytes) {
         return cause;
     }
-    if at >= count_in(bytes) as usize {
+    if at >= num_objects(bytes) as usize {
         return OUT_OF_RANGE;
     }
     if !has_offset(bytes, kind, at) {
@@ -131,7 +132,7 @@ pub extern "C" fn gix_hash_pack_id(kind: u32, bytes: &[u8], at: usize, id: &mut 
     if let Err(cause) = tables(kind, bytes) {
         return cause;
     }
-    if at >= count_in(bytes) as usize {
+    if at >= num_objects(bytes) as usize {
         return OUT_OF_RANGE;
     }
     *id = name_at(kind, names(kind, bytes), at);
@@ -151,7 +152,7 @@ pub extern "C" fn gix_hash_pack_find(kind: u32, bytes: &[u8], prefix: &Prefix, r
         return BAD_LENGTH;
     };
     if prefix.hex_len() > kind.len_in_hex() {
-        return TOO_LONG;
+        return PREFIX_TOO_LONG;
     }
     if let Err(cause) = tables(kind, bytes) {
         return cause;
@@ -177,7 +178,7 @@ pub extern "C" fn gix_hash_pack_abbreviate(
     if let Err(cause) = tables(kind, bytes) {
         return cause;
     }
-    if at >= count_in(bytes) as usize {
+    if at >= num_objects(bytes) as usize {
         return OUT_OF_RANGE;
     }
     match shortest_at(kind, names(kind, bytes), at) {
@@ -194,7 +195,7 @@ fn cause_of(error: Error) -> u32
     ensures { result ≡ cause_number error }
 {
     match error {
-        Error::TooShort => TOO_SHORT,
+        Error::TooShort => INDEX_TOO_SHORT,
         Error::Version1 => VERSION_1,
         Error::BadMagic => BAD_MAGIC,
         Error::BadVersion(_) => BAD_VERSION,
@@ -245,19 +246,19 @@ fn tables(kind: Kind, bytes: &[u8]) -> Result<(), u32>
 // The bytes of the ids.
 fn names(kind: Kind, bytes: &[u8]) -> &[u8]
     requires { HasTables kind bytes.now }
-    ensures { result.now ≡ slice_range bytes.now names_at (crcs_at kind bytes.now) }
+    ensures { result.now ≡ slice_range bytes.now names_start (crc_table_start kind bytes.now) }
 {
-    &bytes[NAMES_AT..crcs_at(bytes, kind)]
+    &bytes[NAMES_START..crc_table_start(bytes, kind)]
 }
 
 // About where the names with the prefix are: by the counts those with its first byte, and among
 // these by its next digits, as if they were spread evenly. This guess changes no result.
 fn guess(bytes: &[u8], prefix: &gix_hash::Prefix) -> id_lookup::Run
-    requires { names_at ≤ length bytes.now }
+    requires { names_start ≤ length bytes.now }
 {
     let first = prefix.as_oid().first_byte();
     let other_digits = if prefix.hex_len() == 1 { 15 } else { 0 };
-    let counted = counted_in(bytes, first, first | other_digits);
+    let counted = bucket_range(bytes, first, first | other_digits);
     let bytes = prefix.as_oid().as_bytes();
     let next = u32::from_be_bytes([bytes[1], bytes[2], bytes[3], bytes[4]]);
     let size = counted.end.saturating_sub(counted.start);
@@ -293,8 +294,8 @@ fn shortest_at(kind: Kind, table: &[u8], at: usize) -> Option<usize>
         → (name : List ℕ) → ¬ IsShortestName (digests_in kind table.now) at name }
 {
     let name = match kind {
-        Kind::Sha1 => abbreviate_if_sorted::<[u8; 20]>(table.as_chunks().0, at),
-        Kind::Sha256 => abbreviate_if_sorted::<[u8; 32]>(table.as_chunks().0, at),
+        Kind::Sha1 => abbreviate_assuming_sorted::<[u8; 20]>(table.as_chunks().0, at),
+        Kind::Sha256 => abbreviate_assuming_sorted::<[u8; 32]>(table.as_chunks().0, at),
     };
     match name {
         Some(name) => Some(name.hex_len()),

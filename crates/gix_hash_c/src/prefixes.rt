@@ -34,7 +34,7 @@ pub extern "C" fn gix_hash_prefix_from_hex(text: &[u8], prefix: &mut Prefix) -> 
     if len == 0 || len > 64 {
         return BAD_LENGTH;
     }
-    match Alphabet::Hex.read_beginning(Kind::Sha256, text) {
+    match Alphabet::Hex.read_prefix_in(Kind::Sha256, text) {
         Ok(read) => {
             let mut bytes = [0; 32];
             bytes.copy_from_slice(read.as_oid().as_bytes());

@@ -12,9 +12,9 @@
 //! and [`IdIndex::abbreviate`] gives the abbreviation of each id, its shortest unique prefix.
 #![tactic(auto)]
 
+mod assuming_sorted;
 mod fan_out;
 mod ids;
-mod if_sorted;
 mod index;
 pub mod laws;
 mod part_laws;
@@ -25,9 +25,11 @@ mod sorted;
 mod sorting;
 mod unique;
 
+pub use assuming_sorted::{
+    abbreviate_assuming_sorted, find_assuming_sorted, find_assuming_sorted_near,
+};
 pub use fan_out::FanOut;
 pub use ids::Id;
-pub use if_sorted::{abbreviate_if_sorted, find_if_sorted, find_if_sorted_near};
 pub use index::{Answer, IdIndex, IndexError};
 pub use probes::Probes;
 pub use search::{Run, begins_with, bits_of, lookup, lookup_in};

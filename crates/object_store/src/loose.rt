@@ -6,7 +6,7 @@ ghost use Rattle.id_lookup.specs.FirstBytes.{is_below};
 ghost use Rattle.id_lookup.specs.IndexOf.{IsIndexOf, part_of};
 
 use gix_hash::{Kind, ObjectId, Prefix};
-use id_lookup::{FanOut, find_if_sorted, laws, sort_unique};
+use id_lookup::{FanOut, find_assuming_sorted, laws, sort_unique};
 use std::marker::Model;
 
 /// The ids of loose objects, each once, in order. Those with a first byte, and a single one, are
@@ -87,7 +87,7 @@ impl LooseTable {
         if id.kind() != self.kind {
             return false;
         }
-        let run = find_if_sorted(&self.ids, &Prefix::from(*id));
+        let run = find_assuming_sorted(&self.ids, &Prefix::from(*id));
         run.start != run.end
     }
 }

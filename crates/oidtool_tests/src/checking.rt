@@ -5,7 +5,7 @@ use crate::expecting::{expect, expect_printed};
 use crate::sealing::{ABC, ABC_256, EMPTY, EMPTY_256, sealed};
 use gix_hash::Kind;
 use std::process::Abort;
-use streams::{Ending, PipeError, Plain, Source, check};
+use streams::{Ending, PipeError, Plain, Source, check_seal};
 use test_devices::{Fault, Reader};
 
 // The digests of that many letters `a`, by the programs `sha1sum` and `sha256sum`. A source is read
@@ -45,7 +45,7 @@ fn expect_check(
 ) {
     let mut input = Plain::new(Reader::new(bytes, chunk, Fault::Never));
     let row = (kind, bytes.len(), chunk, line);
-    match check(&mut input, kind) {
+    match check_seal(&mut input, kind) {
         Ok(Ending::Sealed(id)) => {
             let text = format!(in rt.alloc(); "{id}\n").expect(rt, "no memory for a text");
             expect!(rt; line == Some(text.as_str()), row);
@@ -131,7 +131,7 @@ fn finds_what_is_not_sealed(rt: HostRuntime) {
 #[test]
 fn gives_both_digests(rt: HostRuntime) {
     let mut input = Plain::new(Reader::new(b"abc0123456789abcdefghij", 5, Fault::Never));
-    match check(&mut input, Kind::Sha1) {
+    match check_seal(&mut input, Kind::Sha1) {
         Ok(
             Ending::Unsealed {
                 digest,
@@ -152,7 +152,7 @@ fn reports_a_read_that_fails(rt: HostRuntime) {
     for n in 1..=24 {
         for &fault in &[Fault::AtCall(n), Fault::InterruptedAt(n)] {
             let mut input = Plain::new(Reader::new(&whole, 1, fault));
-            expect!(&rt; matches!(check(&mut input, Kind::Sha1), Err(PipeError::Input)), n);
+            expect!(&rt; matches!(check_seal(&mut input, Kind::Sha1), Err(PipeError::Input)), n);
             expect!(&rt; input.failed(), n);
             expect!(&rt; input.into_inner().calls == n, n);
         }

@@ -15,7 +15,7 @@ use Rattle.id_lookup.proofs.FilterCounted.{filter_counted}
 use Rattle.id_lookup.proofs.FirstByteCounts.{count_by-below_0, count_by-up_to, up_to_step}
 use Rattle.id_lookup.proofs.PartsInOrder.{below-next, part-run}
 use Rattle.pack_index.specs.Firsts.{Each}
-use Rattle.pack_index.specs.Format.{HasCount, HasTables, IsPackIndex, count_in, crcs_at, digests_in, names_in}
+use Rattle.pack_index.specs.Format.{HasCount, HasTables, IsPackIndex, crc_table_start, digests_in, names_in, num_objects}
 use Rattle.pack_index.specs.Lazy.{HaveFirstByte, IsBucketFault, IsReadOrMemory, bucket_end, bucket_start, counted_with}
 use Rattle.pack_index.specs.declared.lazy_error.LazyError.{LazyError}
 use Rattle.pack_index.specs.declared.lazy_error.LazyError.TheVariants.{Read, Memory, CountsFall, CountTooHigh, WrongCount}
@@ -86,24 +86,24 @@ count_has kind bytes (suc b) counts small =
     omega (arith, counts (suc b) small, counts b (omega arith), step, ap (λ n. count_by (is_up_to n) (names_in kind bytes)) before)
 
 module _ (kind : Kind) (byte : ℕ) (bytes found : List ℕ) (start end : ℕ) (tables : HasTables kind bytes)
-    (starts : start ≡ bucket_start bytes byte) (ends : end ≡ bucket_end bytes byte) (rise : start ≤ end) (inside : end ≤ count_in bytes)
+    (starts : start ≡ bucket_start bytes byte) (ends : end ≡ bucket_end bytes byte) (rise : start ≤ end) (inside : end ≤ num_objects bytes)
     (stands : IsReadAt bytes (1032 + byte_len_of kind * start) found) (long : length found ≡ byte_len_of kind * (end - start)) where
   -- the names there are the digests that were read
   pub here : slice_range (names_in kind bytes) start end ≡ digests_in kind found
   here =
       let k = end - start in
-      let r = count_in bytes - end in
-      let all : start + (k + r) ≡ count_in bytes = omega (arith, rise, inside) in
-      let count : length (slice_range bytes 1032 (crcs_at kind bytes)) / byte_len_of kind ≡ count_in bytes =
-      ap (λ m. m / byte_len_of kind) (length-table kind bytes tables) ∙ as_many kind (count_in bytes) in
-      let size : crcs_at kind bytes - 1032 ≡ byte_len_of kind * count_in bytes = omega arith in
-      let table : slice_range bytes 1032 (crcs_at kind bytes) ≡ take (byte_len_of kind * (start + (k + r))) (drop 1032 bytes) =
+      let r = num_objects bytes - end in
+      let all : start + (k + r) ≡ num_objects bytes = omega (arith, rise, inside) in
+      let count : length (slice_range bytes 1032 (crc_table_start kind bytes)) / byte_len_of kind ≡ num_objects bytes =
+      ap (λ m. m / byte_len_of kind) (length-table kind bytes tables) ∙ as_many kind (num_objects bytes) in
+      let size : crc_table_start kind bytes - 1032 ≡ byte_len_of kind * num_objects bytes = omega arith in
+      let table : slice_range bytes 1032 (crc_table_start kind bytes) ≡ take (byte_len_of kind * (start + (k + r))) (drop 1032 bytes) =
       ap (λ m. take m (drop 1032 bytes)) (size ∙ ap (λ m. byte_len_of kind * m) (sym all)) in
       let read : found ≡ take (byte_len_of kind * k + 0) (drop (1032 + byte_len_of kind * start) bytes) =
       stands.same ∙ ap (λ m. take m (drop (1032 + byte_len_of kind * start) bytes)) (omega (arith, long)) in
       let read_count : length found / byte_len_of kind ≡ k = ap (λ m. m / byte_len_of kind) long ∙ as_many kind k in
       let left : slice_range (names_in kind bytes) start end ≡ map digits_of (first_chunks (byte_len_of kind) k (drop (1032 + byte_len_of kind * start) bytes)) =
-      ap (λ m. take k (drop start (map digits_of (first_chunks (byte_len_of kind) m (slice_range bytes 1032 (crcs_at kind bytes)))))) (count ∙ sym all)
+      ap (λ m. take k (drop start (map digits_of (first_chunks (byte_len_of kind) m (slice_range bytes 1032 (crc_table_start kind bytes)))))) (count ∙ sym all)
       ∙ ap (λ (xs : List ℕ). take k (drop start (map digits_of (first_chunks (byte_len_of kind) (start + (k + r)) xs)))) table
       ∙ ap (take k) (drop-map digits_of start (first_chunks (byte_len_of kind) (start + (k + r)) (take (byte_len_of kind * (start + (k + r))) (drop 1032 bytes))))
       ∙ take-map digits_of k (drop start (first_chunks (byte_len_of kind) (start + (k + r)) (take (byte_len_of kind * (start + (k + r))) (drop 1032 bytes))))
@@ -120,7 +120,7 @@ module _ (kind : Kind) (byte : ℕ) (bytes found : List ℕ) (start end : ℕ) (
 
 -- if each has the byte, they are all that have it
 pub counted_all : (kind : Kind) (byte : ℕ) (bytes : List ℕ) → HasTables kind bytes → Each (HasCount kind bytes) 256 → byte < 256
-    → bucket_start bytes byte ≤ bucket_end bytes byte → bucket_end bytes byte ≤ count_in bytes
+    → bucket_start bytes byte ≤ bucket_end bytes byte → bucket_end bytes byte ≤ num_objects bytes
     → HaveFirstByte byte (counted_with kind bytes byte) → counted_with kind bytes byte ≡ part_of byte (names_in kind bytes)
 counted_all kind byte bytes tables counts small rise inside first =
     filter_counted (has_first_byte byte) (names_in kind bytes) (bucket_start bytes byte) (bucket_end bytes byte) rise
@@ -134,7 +134,7 @@ second_digit (b ∷ bytes) = omega arith
 
 second_digits : (kind : Kind) (bytes : List ℕ) → All (λ id. slice_index id 1 < 16) (names_in kind bytes)
 second_digits kind bytes =
-    let table = slice_range bytes 1032 (crcs_at kind bytes) in
+    let table = slice_range bytes 1032 (crc_table_start kind bytes) in
     All-map (λ id. slice_index id 1 < 16) digits_of (first_chunks (byte_len_of kind) (length table / byte_len_of kind) table)
     (λ k d low. second_digit (get_or (first_chunks (byte_len_of kind) (length table / byte_len_of kind) table) k d))
 
@@ -143,7 +143,7 @@ module _ (kind : Kind) (bytes : List ℕ) (byte : ℕ) (index : IsPackIndex kind
   counts_rise : bucket_start bytes byte ≤ bucket_end bytes byte
   counts_rise = omega (arith, count_has kind bytes byte index.names.counts small)
 
-  counts_inside : bucket_end bytes byte ≤ count_in bytes
+  counts_inside : bucket_end bytes byte ≤ num_objects bytes
   counts_inside = omega (arith, index.names.counts byte small, count_by-le-length (is_up_to byte) (names_in kind bytes), length-names_in kind bytes index.names.tables)
 
   start_counted : bucket_start bytes byte ≡ count_by (is_below byte) (names_in kind bytes)

@@ -9,13 +9,13 @@ use Rattle.gix_hash.specs.declared.Kind.TheVariants.{Sha1, Sha256}
 use Rattle.std.specs.Simd.{first_chunks}
 use Rattle.gix_hash.specs.Digits.{digits_of}
 use Rattle.id_lookup.specs.Sorted.{least_hex_len}
-use Rattle.pack_index.specs.Format.{HasTables, count_in, crcs_at, digests_in, names_at, names_in}
+use Rattle.pack_index.specs.Format.{HasTables, crc_table_start, digests_in, names_in, names_start, num_objects}
 
 -- their bytes
-pub length-table : (kind : Kind) (bytes : List ℕ) → HasTables kind bytes → length (slice_range bytes names_at (crcs_at kind bytes)) ≡ byte_len_of kind * count_in bytes
+pub length-table : (kind : Kind) (bytes : List ℕ) → HasTables kind bytes → length (slice_range bytes names_start (crc_table_start kind bytes)) ≡ byte_len_of kind * num_objects bytes
 length-table kind bytes tables =
-    let behind = length-drop names_at bytes in
-    length-take-le (crcs_at kind bytes - names_at) (drop names_at bytes) (omega (arith, tables.fits)) ∙ omega arith
+    let behind = length-drop names_start bytes in
+    length-take-le (crc_table_start kind bytes - names_start) (drop names_start bytes) (omega (arith, tables.fits)) ∙ omega arith
 
 pub as_many : (kind : Kind) (n : ℕ) → byte_len_of kind * n / byte_len_of kind ≡ n
 as_many Sha1 n = omega arith
@@ -30,10 +30,10 @@ length-digests_in kind bytes =
     length-map (first_chunks (byte_len_of kind) (length bytes / byte_len_of kind) bytes) digits_of ∙ length-first_chunks (byte_len_of kind) (length bytes / byte_len_of kind) bytes
 
 -- as many as are counted
-pub length-names_in : (kind : Kind) (bytes : List ℕ) → HasTables kind bytes → length (names_in kind bytes) ≡ count_in bytes
+pub length-names_in : (kind : Kind) (bytes : List ℕ) → HasTables kind bytes → length (names_in kind bytes) ≡ num_objects bytes
 length-names_in kind bytes tables =
-    length-digests_in kind (slice_range bytes names_at (crcs_at kind bytes)) ∙ ap (λ n. n / byte_len_of kind) (length-table kind bytes tables)
-    ∙ as_many kind (count_in bytes)
+    length-digests_in kind (slice_range bytes names_start (crc_table_start kind bytes)) ∙ ap (λ n. n / byte_len_of kind) (length-table kind bytes tables)
+    ∙ as_many kind (num_objects bytes)
 
 -- two digits a byte
 length-digits_of : (bytes : List ℕ) → length (digits_of bytes) ≡ 2 * length bytes
@@ -97,8 +97,8 @@ row n (suc k) bytes exact =
     ∙ sym (digits_of-append (take n bytes) (drop n bytes)) ∙ ap digits_of (take-append-drop n bytes)
 
 pub names_row : (kind : Kind) (bytes : List ℕ) → HasTables kind bytes
-    → flat_map (λ name. name) (names_in kind bytes) ≡ digits_of (slice_range bytes names_at (crcs_at kind bytes))
+    → flat_map (λ name. name) (names_in kind bytes) ≡ digits_of (slice_range bytes names_start (crc_table_start kind bytes))
 names_row kind bytes tables =
-    let table = slice_range bytes names_at (crcs_at kind bytes) in
-    let count = ap (λ n. n / byte_len_of kind) (length-table kind bytes tables) ∙ as_many kind (count_in bytes) in
+    let table = slice_range bytes names_start (crc_table_start kind bytes) in
+    let count = ap (λ n. n / byte_len_of kind) (length-table kind bytes tables) ∙ as_many kind (num_objects bytes) in
     row (byte_len_of kind) (length table / byte_len_of kind) table (length-table kind bytes tables ∙ ap (λ n. byte_len_of kind * n) (sym count))

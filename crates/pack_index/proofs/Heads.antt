@@ -6,7 +6,7 @@ use Rattle.std.proofs.lemmas.List.{get_or-take, get_or-drop}
 use Rattle.gix_hash.specs.Kind.{byte_len_of}
 use Rattle.gix_hash.specs.declared.Kind.{Kind}
 use Rattle.gix_hash.specs.declared.Kind.TheVariants.{Sha1, Sha256}
-use Rattle.pack_index.specs.Format.{FillsBytes, HasHead, HasTables, count_in, counts_len, long_at, magic_number, min_len, names_at, offsets_at, word_at}
+use Rattle.pack_index.specs.Format.{FillsBytes, HasHead, HasTables, counts_len, long_table_start, magic_number, min_len, names_start, num_objects, offset_table_start, word_at}
 use Rattle.pack_index.specs.Lazy.{IsHeadFault, bucket_start, bucket_end}
 use Rattle.pack_index.specs.declared.lazy_error.LazyError.{LazyError}
 use Rattle.pack_index.specs.declared.lazy_error.LazyError.TheVariants.{Read}
@@ -32,7 +32,7 @@ module _ (bytes head : List ℕ) (front : IsReadAt bytes 0 head) (long : length 
   pub head_word : (at : ℕ) → at + 4 ≤ 1032 → word_at head at ≡ word_at bytes at
   head_word at low = word_within bytes 0 head front at (omega (arith, long)) ∙ ap (word_at bytes) (zero-add at)
 
-  pub head_count : count_in head ≡ count_in bytes
+  pub head_count : num_objects head ≡ num_objects bytes
   head_count = head_word 1028 (omega arith)
 
   pub start_in_head : (byte : ℕ) → byte < 256 → bucket_start head byte ≡ bucket_start bytes byte
@@ -50,17 +50,17 @@ module _ (bytes head : List ℕ) (front : IsReadAt bytes 0 head) (long : length 
   }
 
   -- where the offsets and the 8-byte offsets begin
-  pub offsets_in_head : (kind : Kind) → offsets_at kind head ≡ offsets_at kind bytes
-  offsets_in_head kind = ap (λ n. names_at + byte_len_of kind * n + 4 * n) head_count
+  pub offsets_in_head : (kind : Kind) → offset_table_start kind head ≡ offset_table_start kind bytes
+  offsets_in_head kind = ap (λ n. names_start + byte_len_of kind * n + 4 * n) head_count
 
-  pub long_in_head : (kind : Kind) → long_at kind head ≡ long_at kind bytes
-  long_in_head kind = ap (λ n. names_at + byte_len_of kind * n + 4 * n + 4 * n) head_count
+  pub long_in_head : (kind : Kind) → long_table_start kind head ≡ long_table_start kind bytes
+  long_in_head kind = ap (λ n. names_start + byte_len_of kind * n + 4 * n + 4 * n) head_count
 
   -- the head and the length say whether the tables fill the bytes
-  pub tables_by_head : (kind : Kind) (len : ℕ) → len ≡ length bytes → FillsBytes kind (count_in head) len → HasTables kind bytes
+  pub tables_by_head : (kind : Kind) (len : ℕ) → len ≡ length bytes → FillsBytes kind (num_objects head) len → HasTables kind bytes
   tables_by_head kind len same fills = rw (← same, ← head_count) fills
 
-  pub head_by_tables : (kind : Kind) (len : ℕ) → len ≡ length bytes → HasTables kind bytes → FillsBytes kind (count_in head) len
+  pub head_by_tables : (kind : Kind) (len : ℕ) → len ≡ length bytes → HasTables kind bytes → FillsBytes kind (num_objects head) len
   head_by_tables kind len same tables = rw (same, head_count) tables
 
   -- how long an index of version 1 is, by the count in the head

@@ -12,7 +12,7 @@ use Rattle.id_lookup.specs.IndexOf.{part_of}
 use Rattle.id_lookup.proofs.Filtering.{filter_all, three_parts}
 use Rattle.id_lookup.proofs.Filters.{contains_kept}
 use Rattle.pack_index.specs.Firsts.{Each}
-use Rattle.pack_index.specs.Format.{HasCount, HasTables, count_in, names_in}
+use Rattle.pack_index.specs.Format.{HasCount, HasTables, names_in, num_objects}
 use Rattle.pack_index.specs.Lazy.{AreCounted, BucketNames, IsFirstCounted, bucket_end, bucket_start, counted_with}
 use Rattle.pack_index.specs.Names.{IsFirstIndexOf}
 use Rattle.pack_index.proofs.Counted.{length-names_in}
@@ -31,7 +31,7 @@ pub record IsRunOf (kind : Kind) (bytes id : List ℕ) (start end : ℕ) (found 
   pub from : start ≡ bucket_start bytes (first_byte_of id)
   pub to : end ≡ bucket_end bytes (first_byte_of id)
   pub rise : start ≤ end
-  pub inside : end ≤ count_in bytes
+  pub inside : end ≤ num_objects bytes
   pub same : found ≡ counted_with kind bytes (first_byte_of id)
   pub part : Each (HasCount kind bytes) 256 → found ≡ part_of (first_byte_of id) (names_in kind bytes)
   pub long : length found ≡ end - start

@@ -2,25 +2,25 @@
 use Rattle.std.proofs.Common.{◌≡◌, ℕ, ◌+◌, ◌-◌, ◌*◌, ◌^◌, ◌<◌, ◌≤◌, List, length, sym, ap, ◌∙◌, arith}
 use Rattle.std.proofs.lemmas.Bool.{cond-false, le-ltb}
 use Rattle.gix_hash.specs.declared.Kind.{Kind}
-use Rattle.pack_index.specs.Format.{HasOffset, HasTables, count_in, long_at, long_entry, long_word, offset_in, offset_word, offsets_at, tables_end, word_at}
+use Rattle.pack_index.specs.Format.{HasOffset, HasTables, long_entry, long_table_start, long_word, num_objects, offset_in, offset_table_start, offset_word, tables_end, word_at}
 use Rattle.pack_index.proofs.Heads.{head_count, offsets_in_head, word_within}
 use Rattle.streams.specs.ReadAt.{IsReadAt}
 
 -- the word that was read is that of the name
-pub word_is : (kind : Kind) (bytes head short : List ℕ) (at from : ℕ) → IsReadAt bytes 0 head → length head ≡ 1032 → from ≡ offsets_at kind head + 4 * at
+pub word_is : (kind : Kind) (bytes head short : List ℕ) (at from : ℕ) → IsReadAt bytes 0 head → length head ≡ 1032 → from ≡ offset_table_start kind head + 4 * at
     → IsReadAt bytes from short → length short ≡ 4 → word_at short 0 ≡ offset_word kind bytes at
 word_is kind bytes head short at from front whole begins read four =
-    let same : from + 0 ≡ offsets_at kind bytes + 4 * at = omega (arith, begins, offsets_in_head bytes head front whole kind) in
+    let same : from + 0 ≡ offset_table_start kind bytes + 4 * at = omega (arith, begins, offsets_in_head bytes head front whole kind) in
     word_within bytes from short read 0 (omega (arith, four)) ∙ ap (word_at bytes) same
 
 -- and it is in the bytes
-pub word_inside : (kind : Kind) (bytes head : List ℕ) (at from : ℕ) → IsReadAt bytes 0 head → length head ≡ 1032 → HasTables kind bytes → at < count_in head
-    → from ≡ offsets_at kind head + 4 * at → from + 4 ≤ length bytes
+pub word_inside : (kind : Kind) (bytes head : List ℕ) (at from : ℕ) → IsReadAt bytes 0 head → length head ≡ 1032 → HasTables kind bytes → at < num_objects head
+    → from ≡ offset_table_start kind head + 4 * at → from + 4 ≤ length bytes
 word_inside kind bytes head at from front whole tables low begins =
     omega (arith, low, begins, tables.fits, offsets_in_head bytes head front whole kind, head_count bytes head front whole)
 
 module _ (kind : Kind) (bytes : List ℕ) (at word : ℕ) (is : word ≡ offset_word kind bytes at) where
-  module _ (high : long_word ≤ word) (start : ℕ) (starts : start ≡ long_at kind bytes + 8 * (word - long_word)) where
+  module _ (high : long_word ≤ word) (start : ℕ) (starts : start ≡ long_table_start kind bytes + 8 * (word - long_word)) where
     start_is : start ≡ long_entry kind bytes at
     start_is = omega (arith, starts, is)
 

@@ -30,8 +30,8 @@ abbrev pub min_len : Kind → ℕ
 min_len kind = counts_len + 2 * byte_len_of kind
 
 -- where the ids begin, after the magic number, the version and the fan-out table
-abbrev pub names_at : ℕ
-names_at = 1032
+abbrev pub names_start : ℕ
+names_start = 1032
 
 -- the smallest word of the table of offsets that stands for an 8-byte offset: its highest bit is set
 abbrev pub long_word : ℕ
@@ -50,24 +50,24 @@ unfoldable pub word_at : List ℕ → ℕ → ℕ
 word_at bytes at = from_be_bytes w32 (slice_index bytes at ∷ slice_index bytes (at + 1) ∷ slice_index bytes (at + 2) ∷ slice_index bytes (at + 3) ∷ [])
 
 -- the number of objects: the last entry of the fan-out table
-abbrev pub count_in : List ℕ → ℕ
-count_in bytes = word_at bytes (names_at - 4)
+abbrev pub num_objects : List ℕ → ℕ
+num_objects bytes = word_at bytes (names_start - 4)
 
 -- where the CRCs begin, after the ids
-abbrev pub crcs_at : Kind → List ℕ → ℕ
-crcs_at kind bytes = names_at + byte_len_of kind * count_in bytes
+abbrev pub crc_table_start : Kind → List ℕ → ℕ
+crc_table_start kind bytes = names_start + byte_len_of kind * num_objects bytes
 
 -- where the offsets begin
-abbrev pub offsets_at : Kind → List ℕ → ℕ
-offsets_at kind bytes = crcs_at kind bytes + 4 * count_in bytes
+abbrev pub offset_table_start : Kind → List ℕ → ℕ
+offset_table_start kind bytes = crc_table_start kind bytes + 4 * num_objects bytes
 
 -- where the 8-byte offsets begin, after the offsets of `count` objects
 abbrev pub long_start : Kind → ℕ → ℕ
-long_start kind count = names_at + byte_len_of kind * count + 4 * count + 4 * count
+long_start kind count = names_start + byte_len_of kind * count + 4 * count + 4 * count
 
 -- where they begin in an index
-abbrev pub long_at : Kind → List ℕ → ℕ
-long_at kind bytes = long_start kind (count_in bytes)
+abbrev pub long_table_start : Kind → List ℕ → ℕ
+long_table_start kind bytes = long_start kind (num_objects bytes)
 
 -- where the 8-byte offsets end, and the digest of the pack begins
 abbrev pub tables_end : Kind → List ℕ → ℕ
@@ -79,19 +79,19 @@ digest_at kind bytes = length bytes - byte_len_of kind
 
 -- the ids of the objects, each as its digits
 abbrev pub names_in : Kind → List ℕ → List (List ℕ)
-names_in kind bytes = digests_in kind (slice_range bytes names_at (crcs_at kind bytes))
+names_in kind bytes = digests_in kind (slice_range bytes names_start (crc_table_start kind bytes))
 
 -- the CRC of the packed bytes of an object
 abbrev pub crc_in : Kind → List ℕ → ℕ → ℕ
-crc_in kind bytes k = word_at bytes (crcs_at kind bytes + 4 * k)
+crc_in kind bytes k = word_at bytes (crc_table_start kind bytes + 4 * k)
 
 -- what the table of offsets has for an object
 abbrev pub offset_word : Kind → List ℕ → ℕ → ℕ
-offset_word kind bytes k = word_at bytes (offsets_at kind bytes + 4 * k)
+offset_word kind bytes k = word_at bytes (offset_table_start kind bytes + 4 * k)
 
 -- where its 8-byte offset is, if it has one
 abbrev pub long_entry : Kind → List ℕ → ℕ → ℕ
-long_entry kind bytes k = long_at kind bytes + 8 * (offset_word kind bytes k - long_word)
+long_entry kind bytes k = long_table_start kind bytes + 8 * (offset_word kind bytes k - long_word)
 
 -- the offset of an object in the pack: the word if that is below 2 ^ 31, and else the 8-byte offset of that number
 abbrev pub offset_in : Kind → List ℕ → ℕ → ℕ
@@ -123,7 +123,7 @@ pub record FillsBytes (kind : Kind) (count len : ℕ) : Type 0 where
 
 -- the tables of an index fill its bytes
 abbrev pub HasTables : Kind → List ℕ → Type 0
-HasTables kind bytes = FillsBytes kind (count_in bytes) (length bytes)
+HasTables kind bytes = FillsBytes kind (num_objects bytes) (length bytes)
 
 -- the fan-out entry of a byte is the number of ids with at most that first byte
 abbrev pub HasCount : Kind → List ℕ → ℕ → Type 0
@@ -139,7 +139,7 @@ IsNextLong kind bytes k = long_word ≤ offset_word kind bytes k → offset_word
 
 -- each 8-byte offset is an object's
 abbrev pub HasNoSpare : Kind → List ℕ → Type 0
-HasNoSpare kind bytes = tables_end kind bytes ≤ long_at kind bytes + 8 * longs_before kind bytes (count_in bytes)
+HasNoSpare kind bytes = tables_end kind bytes ≤ long_table_start kind bytes + 8 * longs_before kind bytes (num_objects bytes)
 
 -- an object's offset is after the pack's header
 abbrev pub IsPastHeader : Kind → List ℕ → ℕ → Type 0
@@ -158,11 +158,11 @@ pub record HasNames (kind : Kind) (bytes : List ℕ) : Type 0 where
 
 -- each object has an offset, and the 8-byte ones are used in the order of objects
 pub record HasOffsets (kind : Kind) (bytes : List ℕ) : Type 0 where
-  pub in_table : Each (HasOffset kind bytes) (count_in bytes)
-  pub in_order : Each (IsNextLong kind bytes) (count_in bytes)
+  pub in_table : Each (HasOffset kind bytes) (num_objects bytes)
+  pub in_order : Each (IsNextLong kind bytes) (num_objects bytes)
   pub no_spare : HasNoSpare kind bytes
-  pub past_header : Each (IsPastHeader kind bytes) (count_in bytes)
-  pub signed : Each (IsSigned kind bytes) (count_in bytes)
+  pub past_header : Each (IsPastHeader kind bytes) (num_objects bytes)
+  pub signed : Each (IsSigned kind bytes) (num_objects bytes)
 
 -- the bytes are a pack index whose ids are of the kind, and end in the digest of all before it
 pub record IsPackIndex (kind : Kind) (bytes : List ℕ) : Type 0 where

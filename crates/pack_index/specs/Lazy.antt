@@ -5,7 +5,7 @@ use Rattle.gix_hash.specs.declared.Kind.{Kind}
 use Rattle.id_lookup.specs.FirstBytes.{has_first_byte}
 use Rattle.id_lookup.specs.IndexOf.{part_of}
 use Rattle.pack_index.specs.Firsts.{Each}
-use Rattle.pack_index.specs.Format.{HasCount, HasHead, HasOffset, HasTables, count_in, magic_number, min_len, names_in, word_at}
+use Rattle.pack_index.specs.Format.{HasCount, HasHead, HasOffset, HasTables, magic_number, min_len, names_in, num_objects, word_at}
 use Rattle.pack_index.specs.Refusal.{other_than, version_1_len}
 use Rattle.pack_index.specs.declared.lazy_error.LazyError.{LazyError}
 use Rattle.pack_index.specs.declared.lazy_error.LazyError.TheVariants.{Read, Memory, TooShort, Version1, BadMagic, BadVersion, OtherKind, WrongLength, CountsFall, CountTooHigh, WrongCount, NoOffset}
@@ -38,7 +38,7 @@ HaveFirstByte byte ids = All (λ id. IsTrue (has_first_byte byte id)) ids
 -- the fan-out entries around a first byte are in order and at most the number of objects, and each id between them has that first byte
 pub record HasBucket (kind : Kind) (bytes : List ℕ) (byte : ℕ) : Type 0 where
   pub in_order : bucket_start bytes byte ≤ bucket_end bytes byte
-  pub inside : bucket_end bytes byte ≤ count_in bytes
+  pub inside : bucket_end bytes byte ≤ num_objects bytes
   pub first : HaveFirstByte byte (counted_with kind bytes byte)
 
 -- what contracts see of a bucket: the kind of its ids, the position of the first of them in the pack index, and the ids
@@ -94,14 +94,14 @@ IsBucketFault can_fail kind bytes byte (Read e) = IsTrue can_fail
 IsBucketFault can_fail kind bytes byte (Memory e) = Unit {0}
 IsBucketFault can_fail kind bytes byte (CountsFall b) = (b ≡ byte) × (byte < 256) × (bucket_end bytes byte < bucket_start bytes byte)
 IsBucketFault can_fail kind bytes byte (CountTooHigh b) =
-    (b ≡ byte) × (byte < 256) × (bucket_start bytes byte ≤ bucket_end bytes byte) × (count_in bytes < bucket_end bytes byte)
+    (b ≡ byte) × (byte < 256) × (bucket_start bytes byte ≤ bucket_end bytes byte) × (num_objects bytes < bucket_end bytes byte)
 IsBucketFault can_fail kind bytes byte (WrongCount b) =
-    (b ≡ byte) × (byte < 256) × (bucket_start bytes byte ≤ bucket_end bytes byte) × (bucket_end bytes byte ≤ count_in bytes)
+    (b ≡ byte) × (byte < 256) × (bucket_start bytes byte ≤ bucket_end bytes byte) × (bucket_end bytes byte ≤ num_objects bytes)
     × ¬ HaveFirstByte byte (counted_with kind bytes byte)
 IsBucketFault can_fail kind bytes byte _ = ⊥
 
 -- why an object's offset is not read
 abbrev pub IsOffsetFault : Bool → Kind → List ℕ → ℕ → LazyError → Type 0
 IsOffsetFault can_fail kind bytes at (Read e) = IsTrue can_fail
-IsOffsetFault can_fail kind bytes at (NoOffset k) = (k ≡ at) × (at < count_in bytes) × ¬ HasOffset kind bytes at
+IsOffsetFault can_fail kind bytes at (NoOffset k) = (k ≡ at) × (at < num_objects bytes) × ¬ HasOffset kind bytes at
 IsOffsetFault can_fail kind bytes at _ = ⊥

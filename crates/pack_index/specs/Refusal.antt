@@ -6,7 +6,7 @@ use Rattle.gix_hash.specs.declared.Kind.{Kind}
 use Rattle.gix_hash.specs.declared.Kind.TheVariants.{Sha1, Sha256}
 use Rattle.id_lookup.specs.Sorted.{IsFirstUnsorted, IsSortedIds}
 use Rattle.pack_index.specs.Firsts.{Each, IsFirstNot}
-use Rattle.pack_index.specs.Format.{HasCount, HasHead, HasNames, HasNoSpare, HasOffset, HasOffsets, HasTables, IsNextLong, IsPackIndex, IsPastHeader, IsSigned, count_in, counts_len, longs_before, magic_number, min_len, names_in, word_at}
+use Rattle.pack_index.specs.Format.{HasCount, HasHead, HasNames, HasNoSpare, HasOffset, HasOffsets, HasTables, IsNextLong, IsPackIndex, IsPastHeader, IsSigned, counts_len, longs_before, magic_number, min_len, names_in, num_objects, word_at}
 use Rattle.pack_index.specs.declared.error.Error.{Error}
 use Rattle.pack_index.specs.declared.error.Error.TheVariants.{OtherKind, TooShort, Version1, BadMagic, BadVersion, WrongLength, NamesFall, WrongCount, NoOffset, LongOutOfOrder, SpareLong, OffsetInHeader, OffsetTooHigh, WrongChecksum}
 
@@ -26,18 +26,18 @@ IsFault kind bytes WrongLength = HasHead kind bytes × ¬ HasTables kind bytes
 IsFault kind bytes (NamesFall at) = HasHead kind bytes × HasTables kind bytes × IsFirstUnsorted (names_in kind bytes) at
 IsFault kind bytes (WrongCount b) =
     HasHead kind bytes × HasTables kind bytes × IsSortedIds (names_in kind bytes) × IsFirstNot (HasCount kind bytes) 256 b
-IsFault kind bytes (NoOffset at) = HasNames kind bytes × IsFirstNot (HasOffset kind bytes) (count_in bytes) at
+IsFault kind bytes (NoOffset at) = HasNames kind bytes × IsFirstNot (HasOffset kind bytes) (num_objects bytes) at
 IsFault kind bytes (LongOutOfOrder at) =
-    HasNames kind bytes × Each (HasOffset kind bytes) (count_in bytes) × IsFirstNot (IsNextLong kind bytes) (count_in bytes) at
+    HasNames kind bytes × Each (HasOffset kind bytes) (num_objects bytes) × IsFirstNot (IsNextLong kind bytes) (num_objects bytes) at
 IsFault kind bytes (SpareLong number) =
-    HasNames kind bytes × Each (HasOffset kind bytes) (count_in bytes) × Each (IsNextLong kind bytes) (count_in bytes)
-    × (number ≡ longs_before kind bytes (count_in bytes)) × ¬ HasNoSpare kind bytes
+    HasNames kind bytes × Each (HasOffset kind bytes) (num_objects bytes) × Each (IsNextLong kind bytes) (num_objects bytes)
+    × (number ≡ longs_before kind bytes (num_objects bytes)) × ¬ HasNoSpare kind bytes
 IsFault kind bytes (OffsetInHeader at) =
-    HasNames kind bytes × Each (HasOffset kind bytes) (count_in bytes) × Each (IsNextLong kind bytes) (count_in bytes) × HasNoSpare kind bytes
-    × IsFirstNot (IsPastHeader kind bytes) (count_in bytes) at
+    HasNames kind bytes × Each (HasOffset kind bytes) (num_objects bytes) × Each (IsNextLong kind bytes) (num_objects bytes) × HasNoSpare kind bytes
+    × IsFirstNot (IsPastHeader kind bytes) (num_objects bytes) at
 IsFault kind bytes (OffsetTooHigh at) =
-    HasNames kind bytes × Each (HasOffset kind bytes) (count_in bytes) × Each (IsNextLong kind bytes) (count_in bytes) × HasNoSpare kind bytes
-    × Each (IsPastHeader kind bytes) (count_in bytes) × IsFirstNot (IsSigned kind bytes) (count_in bytes) at
+    HasNames kind bytes × Each (HasOffset kind bytes) (num_objects bytes) × Each (IsNextLong kind bytes) (num_objects bytes) × HasNoSpare kind bytes
+    × Each (IsPastHeader kind bytes) (num_objects bytes) × IsFirstNot (IsSigned kind bytes) (num_objects bytes) at
 IsFault kind bytes WrongChecksum = HasNames kind bytes × HasOffsets kind bytes × ¬ EndsInDigest kind bytes
 
 -- the other kind

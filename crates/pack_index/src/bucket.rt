@@ -8,7 +8,7 @@ ghost use Rattle.pack_index.specs.Names.{IsFirstIndexOf};
 
 use crate::names::{Names, all_digits};
 use gix_hash::{Kind, oid};
-use id_lookup::{Id, Run, find_if_sorted_near, laws};
+use id_lookup::{Id, Run, find_assuming_sorted_near, laws};
 use std::alloc::Allocator;
 use std::cell::Cell;
 use std::marker::Model;
@@ -134,7 +134,7 @@ fn position_in<I: Id>(ids: &[I], id: oid<'_>, is_sorted: bool, near: &Cell<usize
     if start < ids.len() && is_at(ids, start, id) {
         end = start + 1;
     }
-    let run = find_if_sorted_near(ids, &prefix, Run { start, end });
+    let run = find_assuming_sorted_near(ids, &prefix, Run { start, end });
     near.set(run.end);
     if run.start == run.end {
         return None;

@@ -4,11 +4,14 @@ ghost use Rattle.std.specs.Prelude.{◌≡◌, ◌↔◌, ◌+◌, ◌*◌, ◌<
 ghost use Rattle.gix_hash.specs.Kind.{byte_len_of};
 ghost use Rattle.id_lookup.specs.FirstBytes.{IsFanOut};
 ghost use Rattle.pack_index.specs.Firsts.{Each, IsFirstNot};
-ghost use Rattle.pack_index.specs.Format.{FillsBytes, HasCount, HasHead, HasOffset, HasTables, count_in, min_len, names_at, names_in};
+ghost use Rattle.pack_index.specs.Format.{FillsBytes, HasCount, HasHead, HasOffset, HasTables, min_len, names_in, names_start, num_objects};
 ghost use Rattle.pack_index.specs.Refusal.{IsFault, other_than, version_1_len};
 
 use crate::error::Error;
-use crate::words::{LONG, NAMES_AT, count_in, long_at, offset_word, tables_end, up_to_in, word_at};
+use crate::words::{
+    LONG, NAMES_START, fan_out_entry, long_table_start, num_objects, offset_word, tables_end,
+    word_at,
+};
 use gix_hash::Kind;
 use id_lookup::FanOut;
 
@@ -50,10 +53,10 @@ pub fn check_tables(bytes: &[u8], kind: Kind) -> Result<(), Error>
 
 /// How many bytes an index of version 1 has, by its last fan-out entry.
 pub(crate) fn version_1_len(bytes: &[u8], kind: Kind) -> usize
-    requires { names_at ≤ length bytes.now }
+    requires { names_start ≤ length bytes.now }
     ensures { result ≡ version_1_len kind bytes.now }
 {
-    let count = word_at(bytes, NAMES_AT - 12) as usize;
+    let count = word_at(bytes, NAMES_START - 12) as usize;
     let names = match kind {
         Kind::Sha1 => 20 * count,
         Kind::Sha256 => 32 * count,
@@ -74,13 +77,13 @@ pub(crate) fn other_than(kind: Kind) -> Kind
 // Whether the tables of as many objects as the last fan-out entry says fill `len` bytes up to the
 // digests.
 pub(crate) fn fills_bytes(head: &[u8], kind: Kind, len: u64) -> bool
-    requires head { names_at ≤ length head.now }
+    requires head { names_start ≤ length head.now }
     requires enough { min_len kind ≤ len }
-    ensures { IsTrue result ↔ FillsBytes kind (count_in head.now) len }
+    ensures { IsTrue result ↔ FillsBytes kind (num_objects head.now) len }
 {
-    let long = long_at(head, kind) as u64;
+    let long = long_table_start(head, kind) as u64;
     let end = len - 2 * kind.len_in_bytes() as u64;
-    let most = u64::from(count_in(head)).saturating_sub(1);
+    let most = u64::from(num_objects(head)).saturating_sub(1);
     long <= end && (end - long) % 8 == 0 && end <= long + 8 * most
 }
 
@@ -92,7 +95,7 @@ pub(crate) fn first_wrong_count(bytes: &[u8], fan_out: &FanOut, kind: Kind) -> O
         (IsFirstNot (HasCount kind bytes.now) 256) }
 {
     for byte in 0..=255 {
-        if up_to_in(bytes, byte) as usize != fan_out.up_to(byte) {
+        if fan_out_entry(bytes, byte) as usize != fan_out.up_to(byte) {
             return Some(byte);
         }
     }
@@ -102,10 +105,10 @@ pub(crate) fn first_wrong_count(bytes: &[u8], fan_out: &FanOut, kind: Kind) -> O
 // The first object whose offset is in no table.
 pub(crate) fn first_without_offset(bytes: &[u8], kind: Kind) -> Option<usize>
     requires { HasTables kind bytes.now }
-    ensures { MatchOption result (Each (HasOffset kind bytes.now) (count_in bytes.now))
-        (IsFirstNot (HasOffset kind bytes.now) (count_in bytes.now)) }
+    ensures { MatchOption result (Each (HasOffset kind bytes.now) (num_objects bytes.now))
+        (IsFirstNot (HasOffset kind bytes.now) (num_objects bytes.now)) }
 {
-    for at in 0..count_in(bytes) as usize {
+    for at in 0..num_objects(bytes) as usize {
         if !has_offset(bytes, kind, at) {
             return Some(at);
         }
@@ -116,10 +119,10 @@ pub(crate) fn first_without_offset(bytes: &[u8], kind: Kind) -> Option<usize>
 /// Whether the offset of object `at`, which must be below the number of objects, is in a table.
 pub fn has_offset(bytes: &[u8], kind: Kind, at: usize) -> bool
     requires tables { HasTables kind bytes.now }
-    requires in_range { at < count_in bytes.now }
+    requires in_range { at < num_objects bytes.now }
     ensures { IsTrue result ↔ HasOffset kind bytes.now at }
 {
     let word = offset_word(bytes, kind, at);
     let end = tables_end(bytes, kind);
-    word < LONG || long_at(bytes, kind) + 8 * (word - LONG) as usize + 8 <= end
+    word < LONG || long_table_start(bytes, kind) + 8 * (word - LONG) as usize + 8 <= end
 }

@@ -16,7 +16,7 @@ use crate::checks::{check_tables, first_wrong_count, other_than};
 use crate::error::Error;
 use crate::names::{Names, all_digits};
 use crate::offsets::check_offsets;
-use crate::words::{NAMES_AT, crc_in, crcs_at, digest_at, offset_in, tables_end};
+use crate::words::{NAMES_START, crc_in, crc_table_start, digest_at, offset_in, tables_end};
 use gix_hash::{Kind, Prefix, ends_in_digest, oid};
 use id_lookup::{Answer, FanOut, Run, laws};
 use std::marker::Model;
@@ -80,7 +80,7 @@ impl<'a> File<'a> {
         ensures err { IfErr result (IsFault kind bytes.now) }
     {
         check_tables(bytes, kind)?;
-        let names = match Names::try_new(&bytes[NAMES_AT..crcs_at(bytes, kind)], kind) {
+        let names = match Names::try_new(&bytes[NAMES_START..crc_table_start(bytes, kind)], kind) {
             Ok(names) => names,
             Err(unsorted) => return Err(Error::NamesFall(unsorted.at)),
         };

@@ -7,7 +7,7 @@ ghost use Rattle.gix_hash.specs.Oid.{oid_digits};
 ghost use Rattle.id_lookup.specs.FirstBytes.{has_first_byte};
 ghost use Rattle.id_lookup.specs.IndexOf.{part_of};
 ghost use Rattle.pack_index.specs.Firsts.{Each};
-ghost use Rattle.pack_index.specs.Format.{HasCount, HasHead, HasOffset, HasTables, count_in, digests_in, magic_number, min_len, names_in, offset_in, offset_word, word_at};
+ghost use Rattle.pack_index.specs.Format.{HasCount, HasHead, HasOffset, HasTables, digests_in, magic_number, min_len, names_in, num_objects, offset_in, offset_word, word_at};
 ghost use Rattle.pack_index.specs.Lazy.{HasBucket, HaveFirstByte, IsBucketFault, IsBucketOf, IsFirstCounted, IsHeadFault, IsOffsetFault, IsReadOrMemory, bucket_end, bucket_start, counted_with};
 ghost use Rattle.pack_index.specs.Names.{IsFirstIndexOf};
 ghost use Rattle.streams.specs.ReadAt.{IsReadAt};
@@ -16,7 +16,8 @@ use crate::bucket::Bucket;
 use crate::checks::{COUNTS_LEN, MAGIC, VERSION, fills_bytes, other_than, version_1_len};
 use crate::lazy_error::LazyError;
 use crate::words::{
-    LONG, NAMES_AT, count_in, counted_in, long_at, long_word_at, offsets_at, word_at,
+    LONG, NAMES_START, bucket_range, long_table_start, long_word_at, num_objects,
+    offset_table_start, word_at,
 };
 use gix_hash::{Kind, oid};
 use id_lookup::{Id, Run};
@@ -40,14 +41,14 @@ pub struct LazyFile<S: ReadAt> {
     source: S,
     kind: Kind,
     // The magic number, the version and the fan-out table.
-    head: [u8; NAMES_AT],
+    head: [u8; NAMES_START],
     // Where the 8-byte offsets end.
     end: u64,
 }
 
 impl<S: ReadAt> Model for LazyFile<S> {
     ghost use Rattle.std.specs.Prelude.{◌≡◌, ℕ, List, Some};
-    ghost use Rattle.pack_index.specs.Format.{HasHead, HasTables, count_in, tables_end};
+    ghost use Rattle.pack_index.specs.Format.{HasHead, HasTables, num_objects, tables_end};
     ghost use Rattle.pack_index.specs.Lazy.{LazyIndex};
     ghost use Rattle.streams.specs.ReadAt.{IsReadAt};
 
@@ -55,7 +56,7 @@ impl<S: ReadAt> Model for LazyFile<S> {
 
     ghost view = { λ file. record {
       kind = file.kind;
-      count = count_in file.head;
+      count = num_objects file.head;
       content = S.content file.source;
       can_fail = S.can_fail file.source;
     } };
@@ -84,7 +85,7 @@ impl<S: ReadAt + Drop> LazyFile<S> {
         if len < (COUNTS_LEN + 2 * kind.len_in_bytes()) as u64 {
             return Err(LazyError::TooShort);
         }
-        let mut head = [0; NAMES_AT];
+        let mut head = [0; NAMES_START];
         source.read_exact_at(&mut head, 0)?;
         check_head(&head, kind, len)?;
         let end = len - 2 * kind.len_in_bytes() as u64;
@@ -107,11 +108,11 @@ impl<S: ReadAt + Drop> LazyFile<S> {
     pub fn num_objects(&self) -> u32
         ensures count { result ≡ self.now.count }
         ensures bytes { (bytes : List ℕ) → self.now.content ≡ Some bytes
-            → result ≡ count_in bytes }
+            → result ≡ num_objects bytes }
         ensures tables { (bytes : List ℕ) → self.now.content ≡ Some bytes
             → HasTables self.now.kind bytes }
     {
-        count_in(&self.head)
+        num_objects(&self.head)
     }
 
     /// Reads the ids whose first byte is `byte`, by the fan-out table, into memory of `alloc`: 20
@@ -173,7 +174,7 @@ impl<S: ReadAt + Drop> LazyFile<S> {
         if word < LONG {
             return Ok(u64::from(word));
         }
-        let start = long_at(&self.head, self.kind) as u64 + 8 * u64::from(word - LONG);
+        let start = long_table_start(&self.head, self.kind) as u64 + 8 * u64::from(word - LONG);
         if start + 8 > self.end {
             return Err(LazyError::NoOffset(at as usize));
         }
@@ -191,7 +192,7 @@ impl<S: ReadAt + Drop> LazyFile<S> {
             → IsOffsetFault self.now.can_fail self.now.kind bytes at e) }
     {
         let mut word = [0; 4];
-        let start = offsets_at(&self.head, self.kind) + 4 * at as usize;
+        let start = offset_table_start(&self.head, self.kind) + 4 * at as usize;
         self.source.read_exact_at(&mut word, start as u64)?;
         Ok(word_at(&word, 0))
     }
@@ -207,7 +208,7 @@ impl<S: ReadAt + Drop> LazyFile<S> {
         ensures err { IfErr result (λ e. (bytes : List ℕ) → self.now.content ≡ Some bytes
             → IsBucketFault self.now.can_fail self.now.kind bytes byte e) }
     {
-        let run = counted_in(&self.head, byte, byte);
+        let run = bucket_range(&self.head, byte, byte);
         if run.end < run.start {
             return Err(LazyError::CountsFall(byte));
         }
@@ -266,14 +267,14 @@ impl<S: ReadAt + Drop> LazyFile<S> {
         ensures err { IfErr result (λ e. (bytes : List ℕ) → self.now.content ≡ Some bytes
             → IsReadOrMemory self.now.can_fail e) }
     {
-        let _count = count_in(&self.head);
+        let _count = num_objects(&self.head);
         let (at, len) = match self.kind {
             Kind::Sha1 => (20 * run.start, 20 * (run.end - run.start)),
             Kind::Sha256 => (32 * run.start, 32 * (run.end - run.start)),
         };
         let mut table = vec![in alloc; 0; len]?;
         self.source
-            .read_exact_at(&mut table, (NAMES_AT + at) as u64)?;
+            .read_exact_at(&mut table, (NAMES_START + at) as u64)?;
         Ok(table)
     }
 }

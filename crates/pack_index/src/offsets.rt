@@ -2,12 +2,12 @@
 
 ghost use Rattle.std.specs.Prelude.{◌≡◌, ◌+◌, ◌*◌, ◌^◌, ◌<◌, ◌≤◌, IfErr, IfOk, MatchOption, OnOk, length};
 ghost use Rattle.pack_index.specs.Firsts.{Each, IsFirstNot};
-ghost use Rattle.pack_index.specs.Format.{HasNames, HasOffset, HasOffsets, HasTables, IsNextLong, IsPastHeader, IsSigned, count_in, longs_before};
+ghost use Rattle.pack_index.specs.Format.{HasNames, HasOffset, HasOffsets, HasTables, IsNextLong, IsPastHeader, IsSigned, longs_before, num_objects};
 ghost use Rattle.pack_index.specs.Refusal.{IsFault};
 
 use crate::checks::first_without_offset;
 use crate::error::Error;
-use crate::words::{LONG, count_in, long_at, offset_in, offset_word, tables_end};
+use crate::words::{LONG, long_table_start, num_objects, offset_in, offset_word, tables_end};
 use gix_hash::Kind;
 
 // The length of a pack's header.
@@ -30,7 +30,7 @@ pub(crate) fn check_offsets(bytes: &[u8], kind: Kind) -> Result<(), Error>
         Ok(longs) => longs,
         Err(at) => return Err(Error::LongOutOfOrder(at)),
     };
-    if long_at(bytes, kind) + 8 * longs < tables_end(bytes, kind) {
+    if long_table_start(bytes, kind) + 8 * longs < tables_end(bytes, kind) {
         return Err(Error::SpareLong(longs));
     }
     if let Some(at) = first_in_header(bytes, kind) {
@@ -46,13 +46,13 @@ pub(crate) fn check_offsets(bytes: &[u8], kind: Kind) -> Result<(), Error>
 fn count_longs(bytes: &[u8], kind: Kind) -> Result<usize, usize>
     requires { HasTables kind bytes.now }
     ensures count { IfOk result (λ longs. longs
-        ≡ longs_before kind bytes.now (count_in bytes.now)) }
+        ≡ longs_before kind bytes.now (num_objects bytes.now)) }
     ensures small { IfOk result (λ longs. longs < 2 ^ 32) }
-    ensures order { OnOk result (Each (IsNextLong kind bytes.now) (count_in bytes.now)) }
-    ensures err { IfErr result (IsFirstNot (IsNextLong kind bytes.now) (count_in bytes.now)) }
+    ensures order { OnOk result (Each (IsNextLong kind bytes.now) (num_objects bytes.now)) }
+    ensures err { IfErr result (IsFirstNot (IsNextLong kind bytes.now) (num_objects bytes.now)) }
 {
     let mut longs = 0;
-    for at in 0..count_in(bytes) as usize {
+    for at in 0..num_objects(bytes) as usize {
         let word = offset_word(bytes, kind, at);
         if word >= LONG {
             if (word - LONG) as usize != longs {
@@ -67,11 +67,11 @@ fn count_longs(bytes: &[u8], kind: Kind) -> Result<usize, usize>
 // The first object whose offset is in the header of the pack.
 fn first_in_header(bytes: &[u8], kind: Kind) -> Option<usize>
     requires tables { HasTables kind bytes.now }
-    requires offsets { Each (HasOffset kind bytes.now) (count_in bytes.now) }
-    ensures { MatchOption result (Each (IsPastHeader kind bytes.now) (count_in bytes.now))
-        (IsFirstNot (IsPastHeader kind bytes.now) (count_in bytes.now)) }
+    requires offsets { Each (HasOffset kind bytes.now) (num_objects bytes.now) }
+    ensures { MatchOption result (Each (IsPastHeader kind bytes.now) (num_objects bytes.now))
+        (IsFirstNot (IsPastHeader kind bytes.now) (num_objects bytes.now)) }
 {
-    for at in 0..count_in(bytes) as usize {
+    for at in 0..num_objects(bytes) as usize {
         if offset_in(bytes, kind, at) < PACK_HEADER_LEN {
             return Some(at);
         }
@@ -82,11 +82,11 @@ fn first_in_header(bytes: &[u8], kind: Kind) -> Option<usize>
 // The first object whose offset is not a signed number.
 fn first_too_high(bytes: &[u8], kind: Kind) -> Option<usize>
     requires tables { HasTables kind bytes.now }
-    requires offsets { Each (HasOffset kind bytes.now) (count_in bytes.now) }
-    ensures { MatchOption result (Each (IsSigned kind bytes.now) (count_in bytes.now))
-        (IsFirstNot (IsSigned kind bytes.now) (count_in bytes.now)) }
+    requires offsets { Each (HasOffset kind bytes.now) (num_objects bytes.now) }
+    ensures { MatchOption result (Each (IsSigned kind bytes.now) (num_objects bytes.now))
+        (IsFirstNot (IsSigned kind bytes.now) (num_objects bytes.now)) }
 {
-    for at in 0..count_in(bytes) as usize {
+    for at in 0..num_objects(bytes) as usize {
         if offset_in(bytes, kind, at) >= UNSIGNED {
             return Some(at);
         }

@@ -3,10 +3,12 @@
 //!
 //! ```
 //! let names = match check_tables(content, Kind::Sha1) {
-//!     Ok(()) => &content[NAMES_AT..crcs_at(content, Kind::Sha1)],
+//!     Ok(()) => &content[NAMES_START..crc_table_start(content, Kind::Sha1)],
 //!     Err(error) => return Err(error.into()),
 //! };
 //! ```
 
 pub use crate::checks::{check_tables, has_offset};
-pub use crate::words::{NAMES_AT, count_in, counted_in, crc_in, crcs_at, offset_in, up_to_in};
+pub use crate::words::{
+    NAMES_START, bucket_range, crc_in, crc_table_start, fan_out_entry, num_objects, offset_in,
+};

@@ -2,14 +2,14 @@
 
 ghost use Rattle.std.specs.Prelude.{◌≡◌, ◌+◌, ◌*◌, ◌<◌, ◌≤◌, ◌^◌, length};
 ghost use Rattle.gix_hash.specs.Kind.{byte_len_of};
-ghost use Rattle.pack_index.specs.Format.{HasOffset, HasTables, count_in, crc_in, crcs_at, digest_at, long_at, names_at, offset_in, offset_word, offsets_at, tables_end, word_at};
+ghost use Rattle.pack_index.specs.Format.{HasOffset, HasTables, crc_in, crc_table_start, digest_at, long_table_start, names_start, num_objects, offset_in, offset_table_start, offset_word, tables_end, word_at};
 ghost use Rattle.pack_index.specs.Lazy.{bucket_end, bucket_start};
 
 use gix_hash::Kind;
 use id_lookup::Run;
 
 /// Where the ids begin, in bytes from the start of the index.
-pub const NAMES_AT: usize = 1032;
+pub const NAMES_START: usize = 1032;
 
 /// The smallest word of the table of offsets that stands for an 8-byte offset.
 pub(crate) const LONG: u32 = 0x8000_0000;
@@ -32,16 +32,16 @@ pub(crate) fn long_word_at(bytes: &[u8], at: usize) -> u64
 }
 
 /// The number of objects.
-pub fn count_in(bytes: &[u8]) -> u32
-    requires { names_at ≤ length bytes.now }
-    ensures { result ≡ count_in bytes.now }
+pub fn num_objects(bytes: &[u8]) -> u32
+    requires { names_start ≤ length bytes.now }
+    ensures { result ≡ num_objects bytes.now }
 {
-    word_at(bytes, NAMES_AT - 4)
+    word_at(bytes, NAMES_START - 4)
 }
 
 /// The fan-out entry of a byte: the number of ids with at most that first byte.
-pub fn up_to_in(bytes: &[u8], byte: u8) -> u32
-    requires { names_at ≤ length bytes.now }
+pub fn fan_out_entry(bytes: &[u8], byte: u8) -> u32
+    requires { names_start ≤ length bytes.now }
     ensures { result ≡ word_at bytes.now (8 + 4 * byte) }
 {
     word_at(bytes, 8 + 4 * usize::from(byte))
@@ -49,52 +49,52 @@ pub fn up_to_in(bytes: &[u8], byte: u8) -> u32
 
 /// The positions of the ids with first bytes from `first` to `last`, by the fan-out table. If that
 /// is wrong, they may be positions of no ids, and `end` may be below `start`.
-pub fn counted_in(bytes: &[u8], first: u8, last: u8) -> Run
-    requires { names_at ≤ length bytes.now }
+pub fn bucket_range(bytes: &[u8], first: u8, last: u8) -> Run
+    requires { names_start ≤ length bytes.now }
     ensures start { result.start ≡ bucket_start bytes.now first }
     ensures end { result.end ≡ bucket_end bytes.now last }
 {
     let below = if first == 0 {
         0
     } else {
-        up_to_in(bytes, first - 1)
+        fan_out_entry(bytes, first - 1)
     };
     Run {
         start: below as usize,
-        end: up_to_in(bytes, last) as usize,
+        end: fan_out_entry(bytes, last) as usize,
     }
 }
 
 /// Where the CRCs begin and the ids end, in bytes from the start of the index.
-pub fn crcs_at(bytes: &[u8], kind: Kind) -> usize
-    requires { names_at ≤ length bytes.now }
-    ensures start { result ≡ crcs_at kind bytes.now }
+pub fn crc_table_start(bytes: &[u8], kind: Kind) -> usize
+    requires { names_start ≤ length bytes.now }
+    ensures start { result ≡ crc_table_start kind bytes.now }
     ensures small { result < 2 ^ 40 }
 {
-    let count = count_in(bytes) as usize;
+    let count = num_objects(bytes) as usize;
     let len = match kind {
         Kind::Sha1 => 20 * count,
         Kind::Sha256 => 32 * count,
     };
-    NAMES_AT + len
+    NAMES_START + len
 }
 
 // Where the offsets begin.
-pub(crate) fn offsets_at(bytes: &[u8], kind: Kind) -> usize
-    requires { names_at ≤ length bytes.now }
-    ensures start { result ≡ offsets_at kind bytes.now }
+pub(crate) fn offset_table_start(bytes: &[u8], kind: Kind) -> usize
+    requires { names_start ≤ length bytes.now }
+    ensures start { result ≡ offset_table_start kind bytes.now }
     ensures small { result < 2 ^ 41 }
 {
-    crcs_at(bytes, kind) + 4 * count_in(bytes) as usize
+    crc_table_start(bytes, kind) + 4 * num_objects(bytes) as usize
 }
 
 // Where the 8-byte offsets begin.
-pub(crate) fn long_at(bytes: &[u8], kind: Kind) -> usize
-    requires { names_at ≤ length bytes.now }
-    ensures start { result ≡ long_at kind bytes.now }
+pub(crate) fn long_table_start(bytes: &[u8], kind: Kind) -> usize
+    requires { names_start ≤ length bytes.now }
+    ensures start { result ≡ long_table_start kind bytes.now }
     ensures small { result < 2 ^ 42 }
 {
-    offsets_at(bytes, kind) + 4 * count_in(bytes) as usize
+    offset_table_start(bytes, kind) + 4 * num_objects(bytes) as usize
 }
 
 // Where the 8-byte offsets end.
@@ -116,25 +116,25 @@ pub(crate) fn digest_at(bytes: &[u8], kind: Kind) -> usize
 /// The CRC-32 of object `at`, as stored in the index.
 pub fn crc_in(bytes: &[u8], kind: Kind, at: usize) -> u32
     requires tables { HasTables kind bytes.now }
-    requires in_range { at < count_in bytes.now }
+    requires in_range { at < num_objects bytes.now }
     ensures { result ≡ crc_in kind bytes.now at }
 {
-    word_at(bytes, crcs_at(bytes, kind) + 4 * at)
+    word_at(bytes, crc_table_start(bytes, kind) + 4 * at)
 }
 
 // The word that the table of offsets has for object `at`.
 pub(crate) fn offset_word(bytes: &[u8], kind: Kind, at: usize) -> u32
     requires tables { HasTables kind bytes.now }
-    requires in_range { at < count_in bytes.now }
+    requires in_range { at < num_objects bytes.now }
     ensures { result ≡ offset_word kind bytes.now at }
 {
-    word_at(bytes, offsets_at(bytes, kind) + 4 * at)
+    word_at(bytes, offset_table_start(bytes, kind) + 4 * at)
 }
 
 /// The offset of object `at` in the pack, in bytes.
 pub fn offset_in(bytes: &[u8], kind: Kind, at: usize) -> u64
     requires tables { HasTables kind bytes.now }
-    requires in_range { at < count_in bytes.now }
+    requires in_range { at < num_objects bytes.now }
     requires has { HasOffset kind bytes.now at }
     ensures { result ≡ offset_in kind bytes.now at }
 {
@@ -142,5 +142,8 @@ pub fn offset_in(bytes: &[u8], kind: Kind, at: usize) -> u64
     if word < LONG {
         return u64::from(word);
     }
-    long_word_at(bytes, long_at(bytes, kind) + 8 * (word - LONG) as usize)
+    long_word_at(
+        bytes,
+        long_table_start(bytes, kind) + 8 * (word - LONG) as usize,
+    )
 }

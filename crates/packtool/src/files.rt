@@ -14,7 +14,7 @@ use packtool_commands::{
 };
 use std::fs::{File, metadata};
 use std::io::{self, Cursor, Read, Seek, SeekFrom};
-use streams::{Ending, PipeError, Plain, ReadAt, Retrying, check as check_input};
+use streams::{Ending, PipeError, Plain, ReadAt, Retrying, check_seal};
 
 // How a pack index begins, of version 2 and later.
 const MAGIC: [u8; 4] = *b"\xfftOc";
@@ -268,7 +268,7 @@ fn ending_of<'a, R: io::Read>(
     kind: Kind,
 ) -> Result<Ending, Failure<'a>> {
     let mut input = Plain::new(reader);
-    match check_input(&mut input, kind) {
+    match check_seal(&mut input, kind) {
         Ok(ending) => Ok(ending),
         Err(PipeError::TooMuch) => Err(failure(rt, path, FileWhy::TooMuch)),
         Err(_) => Err(unread(rt, path, FileError::Input, &input)),

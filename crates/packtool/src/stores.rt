@@ -148,7 +148,7 @@ fn write_all_names<'a, W: io::Write>(
         }
         any = any || !named.is_empty();
     }
-    is_whole = report_passed_over(rt, store) && is_whole;
+    is_whole = report_skipped(rt, store) && is_whole;
     Ok(status_if(is_whole, any))
 }
 
@@ -175,7 +175,7 @@ fn names_of<'a>(
                 error => return Err(Failure::Store(error)),
             },
         }
-        *is_whole = report_passed_over(rt, store) && *is_whole;
+        *is_whole = report_skipped(rt, store) && *is_whole;
         *store = FolderStore::open(rt, folder, LooseIds::All)?;
     }
     match names(rt.alloc(), store, byte, least) {
@@ -210,15 +210,15 @@ fn status_of<'a, W>(
         Err(StoreError::Store(error)) => return Err(Failure::Store(store.with_path(error))),
         Err(StoreError::Output) => return Err(Failure::of_output(out)),
     };
-    Ok(status_if(report_passed_over(rt, store), any))
+    Ok(status_if(report_skipped(rt, store), any))
 }
 
 // Prints what was skipped, and returns whether the store was read whole, that is nothing was.
-fn report_passed_over(rt: &HostRuntime, store: &FolderStore<HostRuntime>) -> bool {
-    for error in store.passed_over() {
+fn report_skipped(rt: &HostRuntime, store: &FolderStore<HostRuntime>) -> bool {
+    for error in store.skipped() {
         report(rt, error, ", skipped");
     }
-    store.passed_over().is_empty()
+    store.skipped().is_empty()
 }
 
 // The status if a store was read whole, and has an id.

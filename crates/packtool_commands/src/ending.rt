@@ -16,7 +16,7 @@ use streams::{Ending, Sink, WriteFailed};
 /// have failed before.
 ///
 /// ```
-/// let ending = streams::check(&mut input, Kind::Sha1)?;
+/// let ending = streams::check_seal(&mut input, Kind::Sha1)?;
 /// if write_ending("pack-1.idx", &ending, &mut out).is_err() {
 ///     println!(rt; "the line is not written whole")?;
 /// }

@@ -19,7 +19,7 @@ pub struct Folders {
     pub paths: Vec<String>,
     /// Why other alternates are skipped: they are missing, are no directories, cannot be read or
     /// are nested too deep. Each has its path.
-    pub passed_over: Vec<Error>,
+    pub skipped: Vec<Error>,
 }
 
 /// An object directory and its alternates: those of the environment, and then those of its list, as
@@ -40,7 +40,7 @@ pub fn with_alternates<R: Files + AllocGlobal>(
 ) -> Result<Folders, Error> {
     let mut found = Folders {
         paths: Vec::new(rt.alloc()),
-        passed_over: Vec::new(rt.alloc()),
+        skipped: Vec::new(rt.alloc()),
     };
     push_all(rt, objects, &mut found)?;
     Ok(found)
@@ -71,7 +71,7 @@ fn push_with_alternates<R: Files + AllocGlobal>(
 ) -> Result<(), Error> {
     found.paths.push(String::from_str(rt.alloc(), real)?)?;
     push_folders(rt, given, LEVELS, found)?;
-    let alternates = alternates_of(rt, real, &mut found.passed_over)?;
+    let alternates = alternates_of(rt, real, &mut found.skipped)?;
     push_folders(rt, &alternates, LEVELS, found)
 }
 
@@ -104,12 +104,12 @@ fn push_folder<R: Files + AllocGlobal>(
         Ok(real) if found.paths.contains(&real) => Ok(None),
         Ok(_) if levels == 0 => {
             let error = Error::text(rt.alloc(), path, "nested more than 5 deep");
-            found.passed_over.push(error)?;
+            found.skipped.push(error)?;
             Ok(None)
         }
         Ok(real) => push_real(rt, &real, found),
         Err(error) => {
-            found.passed_over.push(unusable(rt, path, error)?)?;
+            found.skipped.push(unusable(rt, path, error)?)?;
             Ok(None)
         }
     }
@@ -122,7 +122,7 @@ fn push_real<R: Files + AllocGlobal>(
     found: &mut Folders,
 ) -> Result<Option<Vec<String>>, Error> {
     found.paths.push(String::from_str(rt.alloc(), real)?)?;
-    Ok(Some(alternates_of(rt, real, &mut found.passed_over)?))
+    Ok(Some(alternates_of(rt, real, &mut found.skipped)?))
 }
 
 // Why an alternate is skipped that is no directory, or that cannot be read.
@@ -143,12 +143,12 @@ fn unusable(rt: &impl AllocGlobal, path: &str, error: io::Error) -> Result<Error
 fn alternates_of<R: Files + AllocGlobal>(
     rt: &R,
     folder: &str,
-    passed_over: &mut Vec<Error>,
+    skipped: &mut Vec<Error>,
 ) -> Result<Vec<String>, Error> {
     let mut paths = Vec::new(rt.alloc());
     let list = join(rt, folder, "info/alternates")?;
     if let Some(text) = read_bytes(rt, &list)? {
-        push_listed(rt, folder, (&list, &text), &mut paths, passed_over)?;
+        push_listed(rt, folder, (&list, &text), &mut paths, skipped)?;
     }
     Ok(paths)
 }
@@ -159,11 +159,11 @@ fn push_listed(
     folder: &str,
     (list, text): (&str, &[u8]),
     paths: &mut Vec<String>,
-    passed_over: &mut Vec<Error>,
+    skipped: &mut Vec<Error>,
 ) -> Result<(), Error> {
     for path in &alternate_paths(rt.alloc(), text, b'\n')? {
         if !push_path(rt, folder, path, paths)? {
-            passed_over.push(Error::text(rt.alloc(), list, "a path is not UTF-8"))?;
+            skipped.push(Error::text(rt.alloc(), list, "a path is not UTF-8"))?;
         }
     }
     Ok(())

@@ -28,7 +28,7 @@ pub(crate) struct PackIndexes {
     // Their paths, in the order of the directories, and by path.
     pub(crate) paths: Vec<String>,
     // Why others are skipped.
-    pub(crate) passed_over: Vec<Error>,
+    pub(crate) skipped: Vec<Error>,
     // The directories that they are in, in order.
     folders: Vec<PackFolder>,
 }
@@ -56,12 +56,12 @@ impl PackIndexes {
     ) -> Result<PackIndexes, Error> {
         let mut indexes = PackIndexes {
             paths: Vec::new(rt.alloc()),
-            passed_over: Vec::new(rt.alloc()),
+            skipped: Vec::new(rt.alloc()),
             folders: Vec::with_capacity(rt.alloc(), folders.len())?,
         };
         for folder in folders {
             let path = join(rt, folder, "pack")?;
-            let mut paths = indexes_in(rt, &path, &mut indexes.passed_over)?;
+            let mut paths = indexes_in(rt, &path, &mut indexes.skipped)?;
             indexes.paths.append(&mut paths)?;
             let state = state_of(rt, &path)?;
             indexes.folders.push(PackFolder { path, state })?;
@@ -130,13 +130,13 @@ fn state_of<R: Files + AllocGlobal>(rt: &R, path: &str) -> Result<Option<FolderS
 fn indexes_in<R: Files + AllocGlobal>(
     rt: &R,
     folder: &str,
-    passed_over: &mut Vec<Error>,
+    skipped: &mut Vec<Error>,
 ) -> Result<Vec<String>, Error> {
     let names = names_in(rt, folder)?;
     let mut paths = Vec::new(rt.alloc());
     for name in names.split(|byte| *byte == 0) {
         if name.ends_with(b".idx") {
-            push_index(rt, folder, name, &mut paths, passed_over)?;
+            push_index(rt, folder, name, &mut paths, skipped)?;
         }
     }
     paths.sort_unstable();
@@ -150,13 +150,13 @@ fn push_index(
     folder: &str,
     name: &[u8],
     paths: &mut Vec<String>,
-    passed_over: &mut Vec<Error>,
+    skipped: &mut Vec<Error>,
 ) -> Result<(), AllocError> {
     match str::from_utf8(name) {
         Ok(name) => paths.push(join(rt, folder, name)?)?,
         Err(_) => {
             let why = "the name of a pack index is not UTF-8";
-            passed_over.push(Error::text(rt.alloc(), folder, why))?;
+            skipped.push(Error::text(rt.alloc(), folder, why))?;
         }
     }
     Ok(())
@@ -200,7 +200,7 @@ pub(crate) struct OpenIndexes<R: Files<File = File>> {
     pub(crate) indexes: Vec<LazyFile<Source<R>>>,
     // Why others are skipped: they are no pack indexes of version 2 and of the kind, or their
     // counts fall.
-    pub(crate) passed_over: Vec<Error>,
+    pub(crate) skipped: Vec<Error>,
 }
 
 // Opens pack indexes whose names are of a kind. If too many files are open, none stays open.
@@ -232,7 +232,7 @@ fn open_all<R: Files<File = File> + AllocGlobal + Clone + Drop>(
     let mut opened = OpenIndexes {
         paths: Vec::with_capacity(rt.alloc(), paths.len())?,
         indexes: Vec::with_capacity(rt.alloc(), paths.len())?,
-        passed_over: Vec::new(rt.alloc()),
+        skipped: Vec::new(rt.alloc()),
     };
     for (at, path) in paths.iter().enumerate() {
         push_opened(rt, path, at < most_open, kind, &mut opened)?;
@@ -259,7 +259,7 @@ fn push_opened<R: Files<File = File> + AllocGlobal + Clone + Drop>(
             Ok(())
         }
         Err(error) if error.is_damage() => {
-            opened.passed_over.push(error)?;
+            opened.skipped.push(error)?;
             Ok(())
         }
         Err(error) => Err(error),

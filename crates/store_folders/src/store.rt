@@ -31,7 +31,7 @@ const MAX_TRIES: usize = 100;
 pub struct FolderStore<R: Files<File = File>> {
     rt: R,
     kind: Kind,
-    passed_over: Vec<Error>,
+    skipped: Vec<Error>,
     paths: Vec<String>,
     packs: Vec<String>,
     indexes: Vec<LazyFile<Source<R>>>,
@@ -48,7 +48,7 @@ impl<R: Files<File = File> + AllocGlobal + Clone + Drop> FolderStore<R> {
     /// the store is read again; the 100th time [`Error::Gone`] or [`Error::Changed`] is returned.
     ///
     /// The directory's alternates are read as by Git: each once, and nested up to 5 times. Those
-    /// that cannot be used are skipped ([`FolderStore::passed_over`]). A missing directory `pack`
+    /// that cannot be used are skipped ([`FolderStore::skipped`]). A missing directory `pack`
     /// or fan-out directory is no error; any other failure is one, with the path ([`Error::File`],
     /// [`Error::Text`], [`Error::Memory`]).
     ///
@@ -77,19 +77,19 @@ impl<R: Files<File = File> + AllocGlobal + Clone + Drop> FolderStore<R> {
         expect_alternates(rt, folder, &folders)?;
         let opened = open_indexes(rt, &listed.with_packs(rt)?, kind)?;
         let packs = pack_paths(rt.alloc(), &opened.paths)?;
-        let mut passed_over = alternates_passed_over(rt, folders)?;
-        let mut unnamed = listed.passed_over;
-        passed_over.append(&mut unnamed)?;
+        let mut skipped = skipped_alternates(rt, folders)?;
+        let mut unnamed = listed.skipped;
+        skipped.append(&mut unnamed)?;
         let OpenIndexes {
             paths,
             indexes,
-            passed_over: mut damaged,
+            skipped: mut damaged,
         } = opened;
-        passed_over.append(&mut damaged)?;
+        skipped.append(&mut damaged)?;
         Ok(FolderStore {
             rt: rt.clone()?,
             kind,
-            passed_over,
+            skipped,
             paths,
             packs,
             indexes,
@@ -103,12 +103,12 @@ impl<R: Files<File = File> + AllocGlobal + Clone + Drop> FolderStore<R> {
     ///
     /// ```
     /// let store = FolderStore::open(rt, &find_objects(rt)?, LooseIds::All)?;
-    /// for error in store.passed_over() {
+    /// for error in store.skipped() {
     ///     println!(rt; "{error}, skipped")?;
     /// }
     /// ```
-    pub fn passed_over(&self) -> &[Error] {
-        &self.passed_over
+    pub fn skipped(&self) -> &[Error] {
+        &self.skipped
     }
 
     /// The path of the pack index at this position among `indexes()`, if there is one.
@@ -201,12 +201,9 @@ fn expect_alternates<R: Files + AllocGlobal>(
 }
 
 // Why alternates are skipped.
-fn alternates_passed_over(
-    rt: &impl AllocGlobal,
-    folders: Folders,
-) -> Result<Vec<Error>, AllocError> {
-    let mut errors = Vec::with_capacity(rt.alloc(), folders.passed_over.len())?;
-    for error in folders.passed_over {
+fn skipped_alternates(rt: &impl AllocGlobal, folders: Folders) -> Result<Vec<Error>, AllocError> {
+    let mut errors = Vec::with_capacity(rt.alloc(), folders.skipped.len())?;
+    for error in folders.skipped {
         errors.push(Error::from(error))?;
     }
     Ok(errors)

@@ -16,10 +16,10 @@ const MAX_DIGEST_LEN: usize = 32;
 // The length of a chunk and of a digest that is held back before it.
 const BUFFER_LEN: usize = CHUNK_LEN + MAX_DIGEST_LEN;
 
-/// Whether a message ends with its own digest, as [`check`] found.
+/// Whether a message ends with its own digest, as [`check_seal`] found.
 ///
 /// ```
-/// if let Ending::Sealed(id) = check(&mut input, Kind::Sha1)? {
+/// if let Ending::Sealed(id) = check_seal(&mut input, Kind::Sha1)? {
 ///     println!(rt; "{id}")?;
 /// }
 /// ```
@@ -44,13 +44,13 @@ pub enum Ending {
 /// [`PipeError::Output`] is never returned. The source must not have failed before.
 ///
 /// ```
-/// let ending = check(&mut input, Kind::Sha1)?;
+/// let ending = check_seal(&mut input, Kind::Sha1)?;
 /// println!(rt; "{}", matches!(ending, Ending::Sealed(_)))?;
 /// ```
 // The hasher gets all but the last bytes, as many as a digest has, which are held back at the start
 // of the buffer. Not inlined, so that the buffer is on the stack only while this runs.
 #[inline(never)]
-pub fn check<R: Source>(input: &mut R, kind: Kind) -> Result<Ending, PipeError>
+pub fn check_seal<R: Source>(input: &mut R, kind: Kind) -> Result<Ending, PipeError>
     requires { R.has_failed input.old ≡ false }
     ensures checked { IfOk result (λ ending. (bytes : List ℕ)
         × HasReadAll (R.remaining input.old) (R.remaining input.new) bytes

@@ -9,7 +9,7 @@ ghost use Rattle.gix_hash.specs.ObjectId.{id_bytes};
 use gix_hash::Kind;
 use gix_hash::hashing_laws::digests;
 
-/// Which bytes [`check`](crate::check) finds sealed: all that [`seal`](crate::seal) writes, and
+/// Which bytes [`check_seal`](crate::check_seal) finds sealed: all that [`seal`](crate::seal) writes, and
 /// none that are fewer than a digest has. Bytes of at least that length are right if and only if
 /// their end is the digest of what is before it. So exactly one digest is right after any bytes,
 /// and no change of the last byte is.

@@ -52,7 +52,7 @@ impl<T> Plain<T> {
     ///
     /// ```
     /// let mut input = Plain::new(rt.reader());
-    /// if let Err(PipeError::Input) = check(&mut input, Kind::Sha1)
+    /// if let Err(PipeError::Input) = check_seal(&mut input, Kind::Sha1)
     ///     && let Some(why) = input.error()
     /// {
     ///     println!(rt; "{why}")?;

@@ -266,7 +266,7 @@ fn id_line_at(kind: Kind, chunk: &[u8], at: usize) -> Option<(ObjectId, usize)>
     if chunk.len() - at <= digits || chunk[at + digits] != LINE_FEED {
         return None;
     }
-    match Alphabet::Hex.find_id(&chunk[at..at + digits]) {
+    match Alphabet::Hex.read_id_opt(&chunk[at..at + digits]) {
         Some(id) => Some((id, at + digits + 1)),
         None => None,
     }

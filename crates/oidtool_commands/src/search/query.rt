@@ -95,8 +95,8 @@ impl Query {
         if lines.is_empty() || !self.takes_length(LINE - 1) {
             return None;
         }
-        let first = Alphabet::Hex.find_id(&lines[0][..LINE - 1])?;
-        let end = Alphabet::Hex.find_id(&lines[lines.len() - 1][..LINE - 1])?;
+        let first = Alphabet::Hex.read_id_opt(&lines[0][..LINE - 1])?;
+        let end = Alphabet::Hex.read_id_opt(&lines[lines.len() - 1][..LINE - 1])?;
         if !self.is_outside(&first, &end) {
             return None;
         }

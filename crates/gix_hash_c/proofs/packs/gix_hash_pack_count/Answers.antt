@@ -7,5 +7,5 @@ returns-in-Ok c =
     rw (sym c.in-Some.ensures) (inl (
       refl,
       (c.in-Ok.ensures.head, c.in-Ok.ensures.tables),
-      c.count_in.ensures ∙ sym (length-names_in c.in-Some.kind c.args.bytes.now c.in-Ok.ensures.tables),
+      c.num_objects.ensures ∙ sym (length-names_in c.in-Some.kind c.args.bytes.now c.in-Ok.ensures.tables),
     ))

@@ -1,12 +1,12 @@
 use Rattle.std.proofs.Common.{◌<◌, inl, inr, refl, sym, ◌∙◌, arith}
 use Rattle.std.proofs.lemmas.Bool.{false≢true}
-use Rattle.pack_index.specs.Format.{count_in}
+use Rattle.pack_index.specs.Format.{num_objects}
 use Rattle.pack_index.proofs.Counted.{length-names_in}
 use Rattle.gix_hash_c.proofs.packs.gix_hash_pack_entry.Goals as goal
 
 pub returns-then-not-has_offset : goal.returns-then-not-has_offset
 returns-then-not-has_offset c =
-    let inside : c.args.at < count_in c.args.bytes.now = omega (arith, c.if-at-count_in.false, c.count_in.ensures) in
+    let inside : c.args.at < num_objects c.args.bytes.now = omega (arith, c.if-at-num_objects.false, c.num_objects.ensures) in
     rw (sym c.in-Some.ensures) (inr (
       refl,
       inr (inl (
@@ -19,4 +19,4 @@ returns-then-not-has_offset c =
 
 pub name_at-requires : goal.name_at-requires
 name_at-requires c =
-    rw c.names.ensures (omega (arith, c.if-at-count_in.false, c.count_in.ensures, length-names_in c.in-Some.kind c.args.bytes.now c.in_default-tables.ensures.tables))
+    rw c.names.ensures (omega (arith, c.if-at-num_objects.false, c.num_objects.ensures, length-names_in c.in-Some.kind c.args.bytes.now c.in_default-tables.ensures.tables))

@@ -18,10 +18,10 @@ pub returns-in-Some-clause-in_range : goal.returns-in-Some-clause-in_range
 returns-in-Some-clause-in_range c = elim c.match-kind.branch [
   | in-Sha1 w ↦
       let same = ap (λ (chunks : List (List ℕ)). map digits_of chunks) w.as_chunks.ensures.front ∙ ap (λ kind. digests_in kind c.args.table.now) (sym w.in-Sha1.is) in
-      let kind = subst (λ name. IfSome name (λ (p : KindDigits). hex_len_of p.kind ≡ length (slice_index_or (map digits_of w.as_chunks.result.0.now) c.args.at []))) (sym w.name-is ∙ c.in-Some.is) w.abbreviate_if_sorted-name.ensures.kind in
+      let kind = subst (λ name. IfSome name (λ (p : KindDigits). hex_len_of p.kind ≡ length (slice_index_or (map digits_of w.as_chunks.result.0.now) c.args.at []))) (sym w.name-is ∙ c.in-Some.is) w.abbreviate_assuming_sorted-name.ensures.kind in
       omega (arith, c.hex_len.ensures.at_most_kind, all_digits c.args.kind c.args.table.now _ c.args.at _ same c.requires kind)
   | in-Sha256 w ↦
       let same = ap (λ (chunks : List (List ℕ)). map digits_of chunks) w.as_chunks-in-Sha256.ensures.front ∙ ap (λ kind. digests_in kind c.args.table.now) (sym w.in-Sha256.is) in
-      let kind = subst (λ name. IfSome name (λ (p : KindDigits). hex_len_of p.kind ≡ length (slice_index_or (map digits_of w.as_chunks-in-Sha256.result.0.now) c.args.at []))) (sym w.name-is ∙ c.in-Some.is) w.abbreviate_if_sorted-name-in-Sha256.ensures.kind in
+      let kind = subst (λ name. IfSome name (λ (p : KindDigits). hex_len_of p.kind ≡ length (slice_index_or (map digits_of w.as_chunks-in-Sha256.result.0.now) c.args.at []))) (sym w.name-is ∙ c.in-Some.is) w.abbreviate_assuming_sorted-name-in-Sha256.ensures.kind in
       omega (arith, c.hex_len.ensures.at_most_kind, all_digits c.args.kind c.args.table.now _ c.args.at _ same c.requires kind)
 ]

@@ -22,8 +22,8 @@ returns-then-ne c = (
       (c.kind.ensures.len ∙ ap hex_len_of (sym c.kind.ensures.value)) here),
 )
 
-pub find_if_sorted-run-requires : goal.find_if_sorted-run-requires
-find_if_sorted-run-requires c =
+pub find_assuming_sorted-run-requires : goal.find_assuming_sorted-run-requires
+find_assuming_sorted-run-requires c =
     let least = index_least c.self.inside.kind (map id_digits c.self.inside.ids.items) c.self.invariant.0 in
     let long : length c.from.result.digits ≡ hex_len_of c.self.inside.kind =
     ap (λ (p : KindDigits). length p.digits) c.from.ensures ∙ c.kind.ensures.len
@@ -38,8 +38,8 @@ returns c =
     let digits : c.from.result.digits ≡ id_digits c.args.id.now = ap (λ (p : KindDigits). p.digits) c.from.ensures in
     let long : length c.from.result.digits ≡ hex_len_of kind =
     ap length digits ∙ c.kind.ensures.len ∙ ap hex_len_of (sym c.kind.ensures.value ∙ no_other c.kind.result kind (sym c.ne.ensures ∙ c.if-ne.false)) in
-    let run = c.find_if_sorted-run.result in
-    let decides = run_decides kind (map id_digits ids) index c.from.result run (c.find_if_sorted-run.ensures.run (index-sorted kind (map id_digits ids) index)) c.find_if_sorted-run.ensures.rises long in
+    let run = c.find_assuming_sorted-run.result in
+    let decides = run_decides kind (map id_digits ids) index c.from.result run (c.find_assuming_sorted-run.ensures.run (index-sorted kind (map id_digits ids) index)) c.find_assuming_sorted-run.ensures.rises long in
     subst (λ (ds : List ℕ). IsTrue (not (nat_eq run.start run.end)) ↔ Contains c.args.self.now.ids ds) digits
     (subst (λ (xs : List (List ℕ)). IsTrue (not (nat_eq run.start run.end)) ↔ Contains xs c.from.result.digits)
     (ap (map id_digits) c.deref.ensures.value ∙ ap (λ (x : Index). x.ids) c.self.view_is) decides)

@@ -1,7 +1,7 @@
 use Rattle.std.proofs.Common.{◌≡◌, ◌<◌, [], length, get_or, subst, sym}
 use Rattle.std.specs.Prelude.{slice_range}
 use Rattle.gix_hash.specs.Kind.{hex_len_of}
-use Rattle.pack_index.specs.Format.{crcs_at, names_at, names_in}
+use Rattle.pack_index.specs.Format.{crc_table_start, names_in, names_start}
 use Rattle.pack_index.specs.Names.{list_of}
 use Rattle.pack_index.proofs.Counted.{length-digests_in_at}
 use Rattle.pack_index.proofs.Looked.{named_kind}
@@ -14,5 +14,5 @@ returns-clause-kind c =
     let at = c.args.at in
     let inside : at < length (names_in kind bytes) = rw (← c.self.view_is) at c.requires in
     let long = subst (λ names. length (get_or names at []) ≡ hex_len_of kind) (sym c.self.invariant.1)
-    (length-digests_in_at kind (slice_range bytes names_at (crcs_at kind bytes)) at inside) in
+    (length-digests_in_at kind (slice_range bytes names_start (crc_table_start kind bytes)) at inside) in
     rw (← c.self.view_is) (named_kind kind (list_of c.self.inside.names) at c.abbreviate.result long c.abbreviate.ensures.kind)

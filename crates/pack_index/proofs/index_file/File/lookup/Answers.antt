@@ -1,7 +1,7 @@
 use Rattle.std.proofs.Common.{length, sym, ap, subst, ◌∙◌}
 use Rattle.gix_hash.specs.Kind.{hex_len_of}
 use Rattle.gix_hash.specs.Prefix.{KindDigits}
-use Rattle.pack_index.specs.Format.{IndexFile, crcs_at, names_at, names_in}
+use Rattle.pack_index.specs.Format.{IndexFile, crc_table_start, names_in, names_start}
 use Rattle.pack_index.specs.Names.{IsFirstIndexOf}
 use Rattle.std.specs.Prelude.{slice_range}
 use Rattle.id_lookup.proofs.Indexes.{no_other}
@@ -12,7 +12,7 @@ use Rattle.pack_index.proofs.index_file.File.lookup.Goals as goal
 pub returns-then-ne : goal.returns-then-ne
 returns-then-ne c = λ k inside same.
     let file = c.args.self.now in
-    let long = length-digests_in_at file.kind (slice_range file.bytes names_at (crcs_at file.kind file.bytes)) k inside in
+    let long = length-digests_in_at file.kind (slice_range file.bytes names_start (crc_table_start file.kind file.bytes)) k inside in
     let own = sym (ap (λ (f : IndexFile). f.kind) c.self.view_is) in
     kinds_differ c.kind.result c.self.inside.kind (sym c.ne.ensures ∙ c.if-ne.true)
     (ap hex_len_of c.kind.ensures.value ∙ sym c.kind.ensures.len ∙ sym (ap length same) ∙ long ∙ ap hex_len_of own)
@@ -31,6 +31,6 @@ returns c =
     ∙ no_other c.kind.result c.self.inside.kind (sym c.ne.ensures ∙ c.if-ne.false) ∙ ap (λ (f : IndexFile). f.kind) c.self.view_is in
     subst (λ ds. IsFirstIndexOf names ds c.find_prefix-run.result.start) digits
     (present c.all_digits-prefix.result names c.find_prefix-run.result c.find_prefix-run.ensures c.beginnings.ensures.digits
-    (λ k inside. length-digests_in_at file.kind (slice_range file.bytes names_at (crcs_at file.kind file.bytes)) k inside
+    (λ k inside. length-digests_in_at file.kind (slice_range file.bytes names_start (crc_table_start file.kind file.bytes)) k inside
     ∙ sym (ap hex_len_of kind) ∙ ap hex_len_of (ap (λ (p : KindDigits). p.kind) c.all_digits-prefix.ensures) ∙ sym c.kind.ensures.len ∙ sym (ap length digits))
     c.if-run.false)

@@ -2,7 +2,7 @@ use Rattle.std.proofs.Common.{◌≡◌, ◌∙◌, ℕ, ◌+◌, ◌-◌, ◌*�
 use Rattle.std.specs.Prelude.{IsTrue}
 use Rattle.std.proofs.lemmas.Result.{err_from_is_err_and}
 use Rattle.gix_hash.specs.declared.Kind.{Kind}
-use Rattle.pack_index.specs.Format.{long_at, long_word, tables_end}
+use Rattle.pack_index.specs.Format.{long_table_start, long_word, tables_end}
 use Rattle.pack_index.specs.Lazy.{LazyIndex}
 use Rattle.pack_index.proofs.Heads.{head_count, long_in_head}
 use Rattle.pack_index.proofs.ReadOffsets.{has_long, long_offset, no_long}
@@ -12,13 +12,13 @@ use Rattle.pack_index.proofs.lazy.LazyFile.pack_offset_at_index.Goals as goal
 
 -- where the 8-byte offset is, and where all of them end
 long_starts : (g : Over) (c : After-from-2 g) (bytes : List ℕ) → c.args.self.now.content ≡ Some bytes
-    → (c.long_at.result + 8 * c.from-2.result ≡ long_at c.args.self.now.kind bytes + 8 * (c.in_ok-word.word - long_word))
+    → (c.long_table_start.result + 8 * c.from-2.result ≡ long_table_start c.args.self.now.kind bytes + 8 * (c.in_ok-word.word - long_word))
     × (c.self.inside.end ≡ tables_end c.args.self.now.kind bytes)
 long_starts g c bytes is =
     let inv = c.self.invariant bytes (rw (← c.self.view_is) at is) in
     let kind : c.self.inside.kind ≡ c.args.self.now.kind = ap (λ (f : LazyIndex). f.kind) c.self.view_is in
     let whole : length c.self.inside.head ≡ 1032 = first_of (search rules, omega arith) in
-    let starts = c.long_at.ensures.start ∙ long_in_head bytes c.self.inside.head inv.0 whole c.self.inside.kind ∙ ap (λ (k : Kind). long_at k bytes) kind in
+    let starts = c.long_table_start.ensures.start ∙ long_in_head bytes c.self.inside.head inv.0 whole c.self.inside.kind ∙ ap (λ (k : Kind). long_table_start k bytes) kind in
     (omega (arith, starts, c.from-2.ensures), inv.2 ∙ ap (λ (k : Kind). tables_end k bytes) kind)
 
 pub returns-then-start-self-clause-err : goal.returns-then-start-self-clause-err

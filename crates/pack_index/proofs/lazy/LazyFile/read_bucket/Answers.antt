@@ -1,7 +1,7 @@
 use Rattle.std.proofs.Common.{◌≡◌, ◌∙◌, ◌-◌, ◌*◌, ◌/◌, ◌≤◌, ℕ, List, Some, length, refl, sym, ap, subst, arith}
 use Rattle.std.proofs.lemmas.Bool.{false≢true}
 use Rattle.gix_hash.specs.Kind.{byte_len_of}
-use Rattle.pack_index.specs.Format.{count_in, digests_in}
+use Rattle.pack_index.specs.Format.{digests_in, num_objects}
 use Rattle.pack_index.specs.Lazy.{HasBucket, HaveFirstByte, bucket_end, bucket_start, counted_with}
 use Rattle.pack_index.proofs.Buckets.{counted_all, read_names}
 use Rattle.pack_index.proofs.Counted.{as_many, length-digests_in}
@@ -11,13 +11,13 @@ use Rattle.pack_index.proofs.lazy.LazyFile.read_bucket.Goals as goal
 
 -- the counts are right, and the names that were read are those that are counted
 found : (g : Over) (c : After-have_first_byte g) (bytes : List ℕ) → c.args.self.now.content ≡ Some bytes
-    → (bucket_start bytes c.args.byte ≤ bucket_end bytes c.args.byte) × (bucket_end bytes c.args.byte ≤ count_in bytes)
+    → (bucket_start bytes c.args.byte ≤ bucket_end bytes c.args.byte) × (bucket_end bytes c.args.byte ≤ num_objects bytes)
     × (digests_in c.args.self.now.kind c.in_ok-table.table.items ≡ counted_with c.args.self.now.kind bytes c.args.byte)
     × (digests_in c.object_hash-kind.result c.deref.result.now ≡ counted_with c.args.self.now.kind bytes c.args.byte)
 found g c bytes is =
     let start = c.requires.start bytes is in
     let end = c.requires.end bytes is in
-    let inside : c.args.run.now.end ≤ count_in bytes = omega (arith, c.requires.inside, c.num_objects-count.ensures.count, c.num_objects-count.ensures.bytes bytes is) in
+    let inside : c.args.run.now.end ≤ num_objects bytes = omega (arith, c.requires.inside, c.num_objects-count.ensures.count, c.num_objects-count.ensures.bytes bytes is) in
     let names = read_names c.args.self.now.kind c.args.byte bytes c.in_ok-table.table.items c.args.run.now.start c.args.run.now.end
     (c.num_objects-count.ensures.tables bytes is) start end c.requires.in_order inside (c.in_ok-table.ensures.names bytes is) c.in_ok-table.ensures.len in
     (omega (arith, start, end, c.requires.in_order), omega (arith, inside, end), names, (λ i. digests_in (c.object_hash-kind.ensures i) (c.deref.ensures.value i)) ∙ names)

@@ -3,7 +3,7 @@ use Rattle.std.proofs.lemmas.Result.{err_from_is_err_and}
 use Rattle.std.specs.Prelude.{IsTrue}
 use Rattle.gix_hash.specs.declared.Kind.{Kind}
 use Rattle.gix_hash.specs.declared.Kind.TheVariants.{Sha1, Sha256}
-use Rattle.pack_index.specs.Format.{HasTables, count_in}
+use Rattle.pack_index.specs.Format.{HasTables, num_objects}
 use Rattle.pack_index.specs.Lazy.{LazyIndex}
 use Rattle.pack_index.proofs.Heads.{head_count}
 use Rattle.pack_index.proofs.lazy.LazyFile.read_names.Goals as goal
@@ -15,7 +15,7 @@ returns-in_err-read_exact_at-clause-err g c =
     rw (failed.1, failed.2) (λ bytes is.
     let inv = c.self.invariant bytes (rw (← c.self.view_is) at is) in
     let whole : length c.self.inside.head ≡ 1032 = first_of (search rules, omega arith) in
-    let inside : c.args.run.now.end ≤ count_in bytes =
+    let inside : c.args.run.now.end ≤ num_objects bytes =
     omega (arith, c.requires.inside, ap (λ (f : LazyIndex). f.count) c.self.view_is, head_count bytes c.self.inside.head inv.0 whole) in
     let len = c.deref_mut.ensures.len in
     subst (λ (f : LazyIndex). IsTrue f.can_fail) c.self.view_is

@@ -2,7 +2,7 @@ use Rattle.std.proofs.Common.{◌≡◌, ◌∙◌, ◌+◌, ◌*◌, ◌<◌, l
 use Rattle.std.proofs.lemmas.Result.{err_from_is_err_and}
 use Rattle.std.specs.Prelude.{IsTrue}
 use Rattle.gix_hash.specs.declared.Kind.{Kind}
-use Rattle.pack_index.specs.Format.{count_in, offsets_at}
+use Rattle.pack_index.specs.Format.{num_objects, offset_table_start}
 use Rattle.pack_index.specs.Lazy.{LazyIndex}
 use Rattle.pack_index.proofs.ReadOffsets.{word_inside, word_is}
 use Rattle.pack_index.proofs.lazy.LazyFile.read_offset_word.Goals as goal
@@ -12,9 +12,9 @@ returns-clause-word g c = λ bytes is.
     let known = rw (← c.self.view_is) at is in
     let kind : c.self.inside.kind ≡ c.args.self.now.kind = ap (λ (f : LazyIndex). f.kind) c.self.view_is in
     let whole : length c.self.inside.head ≡ 1032 = first_of (search rules, omega arith) in
-    let begins = ap (λ n. n + 4 * c.args.at) (c.offsets_at.ensures.start ∙ ap (λ (k : Kind). offsets_at k c.self.inside.head) kind) in
+    let begins = ap (λ n. n + 4 * c.args.at) (c.offset_table_start.ensures.start ∙ ap (λ (k : Kind). offset_table_start k c.self.inside.head) kind) in
     c.word_at.ensures
-    ∙ word_is c.args.self.now.kind bytes c.self.inside.head c.read_exact_at.new.buf c.args.at (c.offsets_at.result + 4 * c.args.at) (c.self.invariant bytes known).0 whole begins
+    ∙ word_is c.args.self.now.kind bytes c.self.inside.head c.read_exact_at.new.buf c.args.at (c.offset_table_start.result + 4 * c.args.at) (c.self.invariant bytes known).0 whole begins
     (c.in_ok-read_exact_at.ensures.bytes bytes known) (first_of (search rules, omega arith))
 
 pub returns-in_err-read_exact_at-clause-err : goal.returns-in_err-read_exact_at-clause-err
@@ -23,8 +23,8 @@ returns-in_err-read_exact_at-clause-err g c =
     rw (failed.1, failed.2) (λ bytes is.
     let inv = c.self.invariant bytes (rw (← c.self.view_is) at is) in
     let whole : length c.self.inside.head ≡ 1032 = first_of (search rules, omega arith) in
-    let low : c.args.at < count_in c.self.inside.head = omega (arith, c.requires, ap (λ (f : LazyIndex). f.count) c.self.view_is) in
-    let begins = ap (λ n. n + 4 * c.args.at) c.offsets_at.ensures.start in
+    let low : c.args.at < num_objects c.self.inside.head = omega (arith, c.requires, ap (λ (f : LazyIndex). f.count) c.self.view_is) in
+    let begins = ap (λ n. n + 4 * c.args.at) c.offset_table_start.ensures.start in
     subst (λ (f : LazyIndex). IsTrue f.can_fail) c.self.view_is
     (c.in_err-read_exact_at.ensures.err bytes (rw (← c.self.view_is) at is)
-    (word_inside c.self.inside.kind bytes c.self.inside.head c.args.at (c.offsets_at.result + 4 * c.args.at) inv.0 whole inv.1 low begins)))
+    (word_inside c.self.inside.kind bytes c.self.inside.head c.args.at (c.offset_table_start.result + 4 * c.args.at) inv.0 whole inv.1 low begins)))

@@ -3,7 +3,7 @@ use Rattle.std.proofs.lemmas.List.{length-map}
 use Rattle.gix_hash.specs.Prefix.{place}
 use Rattle.id_lookup.proofs.Least.{least_hex_len-le}
 use Rattle.id_lookup.proofs.Placed.{before_bound_at}
-use Rattle.id_lookup.proofs.if_sorted.is_after.Goals as goal
+use Rattle.id_lookup.proofs.assuming_sorted.is_after.Goals as goal
 
 pub cmp_oid-requires : goal.cmp_oid-requires
 cmp_oid-requires g c =

@@ -1,7 +1,7 @@
 use Rattle.std.proofs.Common.{refl}
 use Rattle.gix_hash.specs.Alphabet.{letter_of}
 use Rattle.gix_hash.proofs.FrontReading.{first_read}
-use Rattle.gix_hash.proofs.alphabet.Alphabet.read_beginning.Goals as goal
+use Rattle.gix_hash.proofs.alphabet.Alphabet.read_prefix_in.Goals as goal
 
 pub padded-requires-clause-zeros : goal.padded-requires-clause-zeros
 padded-requires-clause-zeros c =

@@ -2,7 +2,7 @@ use Rattle.std.proofs.Common.{◌≤◌, map}
 use Rattle.id_lookup.specs.Bounds.{bound_of}
 use Rattle.id_lookup.specs.Sorted.{IsSortedIds}
 use Rattle.id_lookup.specs.declared.search.Bound.TheVariants.{Start}
-use Rattle.id_lookup.proofs.if_sorted.part_up_to.Given as goal
+use Rattle.id_lookup.proofs.assuming_sorted.part_up_to.Given as goal
 
 abbrev pub invariant-loop-low : goal.invariant-loop-low
 invariant-loop-low g l = record {

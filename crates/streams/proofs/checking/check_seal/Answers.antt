@@ -7,7 +7,7 @@ use Rattle.gix_hash.specs.Hashing.{digest}
 use Rattle.streams.specs.Sealed.{IsEnding}
 use Rattle.streams.specs.Source.{HasReadCounted}
 use Rattle.streams.proofs.SealedLemmas.{byte_len_of-most, ends_as, length-held, length-read, fed_and_held, held_again}
-use Rattle.streams.proofs.checking.check.Goals as goal
+use Rattle.streams.proofs.checking.check_seal.Goals as goal
 
 pub returns-then-len-eq0-clause-checked : goal.returns-then-len-eq0-clause-checked
 returns-then-len-eq0-clause-checked g c =

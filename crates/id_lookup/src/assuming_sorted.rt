@@ -21,9 +21,9 @@ use gix_hash::Prefix;
 ///
 /// ```
 /// // The table was checked when it was made.
-/// let run = find_if_sorted(table.as_chunks::<20>().0, &prefix);
+/// let run = find_assuming_sorted(table.as_chunks::<20>().0, &prefix);
 /// ```
-pub fn find_if_sorted<I: Id>(ids: &[I], prefix: &Prefix) -> Run
+pub fn find_assuming_sorted<I: Id>(ids: &[I], prefix: &Prefix) -> Run
     requires { length prefix.now.digits ≤ least_hex_len (map I.digits ids.now) }
     ensures rises { result.start ≤ result.end }
     ensures in_range { result.end ≤ length ids.now }
@@ -31,10 +31,10 @@ pub fn find_if_sorted<I: Id>(ids: &[I], prefix: &Prefix) -> Run
         → IsRun prefix.now (map I.digits ids.now) result }
 {
     let end = ids.len();
-    find_if_sorted_near(ids, prefix, Run { start: 0, end })
+    find_assuming_sorted_near(ids, prefix, Run { start: 0, end })
 }
 
-/// As [`find_if_sorted`], but it searches first among the positions of a guess. A guess that
+/// As [`find_assuming_sorted`], but it searches first among the positions of a guess. A guess that
 /// contains the run spares comparisons. If the list is sorted, it changes only the number of these.
 ///
 /// The caller must ensure that the prefix has at most as many digits as each member.
@@ -42,9 +42,9 @@ pub fn find_if_sorted<I: Id>(ids: &[I], prefix: &Prefix) -> Run
 /// ```
 /// // By the counts of the table, only these digests have the prefix's first byte.
 /// let guess = Run { start: 270, end: 290 };
-/// let run = find_if_sorted_near(table.as_chunks::<20>().0, &prefix, guess);
+/// let run = find_assuming_sorted_near(table.as_chunks::<20>().0, &prefix, guess);
 /// ```
-pub fn find_if_sorted_near<I: Id>(ids: &[I], prefix: &Prefix, guess: Run) -> Run
+pub fn find_assuming_sorted_near<I: Id>(ids: &[I], prefix: &Prefix, guess: Run) -> Run
     requires { length prefix.now.digits ≤ least_hex_len (map I.digits ids.now) }
     ensures rises { result.start ≤ result.end }
     ensures in_range { result.end ≤ length ids.now }
@@ -52,9 +52,9 @@ pub fn find_if_sorted_near<I: Id>(ids: &[I], prefix: &Prefix, guess: Run) -> Run
         → IsRun prefix.now (map I.digits ids.now) result }
 {
     let near = part_near(ids, prefix, guess);
-    let start = bound_if_sorted(ids, prefix, Bound::Start, near.start, near.end);
+    let start = bound_assuming_sorted(ids, prefix, Bound::Start, near.start, near.end);
     let from = part_from(ids, prefix, Bound::End, start, start);
-    let end = bound_if_sorted(ids, prefix, Bound::End, from.start, from.end);
+    let end = bound_assuming_sorted(ids, prefix, Bound::End, from.start, from.end);
     Run { start, end }
 }
 
@@ -146,7 +146,7 @@ fn is_after<I: Id>(ids: &[I], prefix: &Prefix, bound: Bound, at: usize) -> bool
 }
 
 // The bound of the run, if the list is sorted and the bound is from `low` to `high`.
-fn bound_if_sorted<I: Id>(
+fn bound_assuming_sorted<I: Id>(
     ids: &[I],
     prefix: &Prefix,
     bound: Bound,
@@ -180,9 +180,9 @@ fn bound_if_sorted<I: Id>(
 /// list is not sorted, it is some prefix of the member, of at least 4 digits.
 ///
 /// ```
-/// let name = abbreviate_if_sorted(list, 0);
+/// let name = abbreviate_assuming_sorted(list, 0);
 /// ```
-pub fn abbreviate_if_sorted<I: Id>(ids: &[I], at: usize) -> Option<Prefix>
+pub fn abbreviate_assuming_sorted<I: Id>(ids: &[I], at: usize) -> Option<Prefix>
     requires { at < length ids.now }
     ensures kind { IfSome result (λ name. hex_len_of name.kind
         ≡ length (slice_index_or (map I.digits ids.now) at [])) }

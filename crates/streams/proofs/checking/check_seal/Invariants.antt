@@ -3,7 +3,7 @@ use Rattle.std.specs.Prelude.{min}
 use Rattle.gix_hash.specs.Hashing.{WasFed, hasher_kind}
 use Rattle.gix_hash.specs.Kind.{byte_len_of}
 use Rattle.streams.specs.Source.{HasReadCounted}
-use Rattle.streams.proofs.checking.check.Given as goal
+use Rattle.streams.proofs.checking.check_seal.Given as goal
 
 -- the hasher was fed what the source gave, but for as many last bytes as a digest has, which are held back
 abbrev pub invariant-chunks : goal.invariant-chunks
