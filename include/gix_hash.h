@@ -64,7 +64,7 @@ extern "C" {
     CODE(NO_ROOM, 4, "the buffer is too short") \
     CODE(PREFIX_TOO_LONG, 5, "the prefix has more digits than ids of the kind") \
     CODE(OUT_OF_RANGE, 6, "the position is not below the number of objects") \
-    CODE(UNSORTED, 7, "a digest is below the one before it (at: its index)") \
+    CODE(UNSORTED, 7, "a digest is below the one before it (at: its position)") \
     CODE(NOT_UNIQUE, 8, "another object has the same id, so none of its prefixes is unique") \
     CODE(BAD_TYPE, 9, "the type is not one of GIX_HASH_COMMIT to GIX_HASH_TAG") \
     CODE(INDEX_TOO_SHORT, 16, "fewer bytes than any pack index has") \
@@ -260,7 +260,7 @@ uint32_t gix_hash_pack_count(uint32_t kind, const uint8_t *bytes, size_t len, si
 GIX_HASH_READS(2, 3) GIX_HASH_WRITES(5)
 uint32_t gix_hash_pack_entry(uint32_t kind, const uint8_t *bytes, size_t len, size_t at, gix_hash_entry *entry);
 
-/* Gets the name at an index.
+/* Gets the id of the object at a position.
  * Also returns GIX_HASH_OUT_OF_RANGE, after the codes above. */
 GIX_HASH_READS(2, 3) GIX_HASH_WRITES(5)
 uint32_t gix_hash_pack_id(uint32_t kind, const uint8_t *bytes, size_t len, size_t at, gix_hash_id *id);

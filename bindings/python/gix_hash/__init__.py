@@ -70,7 +70,7 @@ class Code(enum.IntEnum):
     NO_ROOM = 4, "the buffer is too short"
     PREFIX_TOO_LONG = 5, "the prefix has more digits than ids of the kind"
     OUT_OF_RANGE = 6, "the position is not below the number of objects"
-    UNSORTED = 7, "a digest is below the one before it (at: its index)"
+    UNSORTED = 7, "a digest is below the one before it (at: its position)"
     NOT_UNIQUE = 8, "another object has the same id, so none of its prefixes is unique"
     BAD_TYPE = 9, "the type is not one of GIX_HASH_COMMIT to GIX_HASH_TAG"
     INDEX_TOO_SHORT = 16, "fewer bytes than any pack index has"
@@ -455,7 +455,7 @@ class _Table(Sequence[_T]):
         return map(self._item, range(len(self)))
 
     def find(self, prefix: Prefix) -> range:
-        """The indexes of the ids that begin with a prefix. The error is PREFIX_TOO_LONG."""
+        """The positions of the ids that begin with a prefix. The error is PREFIX_TOO_LONG."""
         run = _Run()
         _check(self._call(*self._given, _only(Prefix, prefix)._prefix, run))
         return range(run.start, run.end)
@@ -538,7 +538,7 @@ class PackIndex(_Table[Entry]):
         return Entry(Id._of(entry.id), entry.offset, entry.crc)
 
     def id(self, at: int) -> Id:
-        """The name at an index."""
+        """The id of the object at a position."""
         made = _Id()
         _check(_lib.gix_hash_pack_id(*self._given, range(len(self))[operator.index(at)], made))
         return Id._of(made)

@@ -55,13 +55,13 @@ impl<'a> SortedDigests<'a> {
         self.table.chunks_exact(self.kind.len_in_bytes()).map(id_of)
     }
 
-    /// The digest at an index, or `None` from the number of digests on.
+    /// The digest at a position, or `None` from the number of digests on.
     #[must_use]
     pub fn get(&self, at: usize) -> Option<Id> {
         self.iter().nth(at)
     }
 
-    /// The indexes of the digests that begin with a prefix. The error is `PrefixTooLong`.
+    /// The positions of the digests that begin with a prefix. The error is `PrefixTooLong`.
     pub fn find(&self, prefix: &Prefix) -> Result<Range<usize>, Error> {
         let (kind, table, mut run) = (self.kind as u32, self.table, raw::Run::default());
         // SAFETY: the slice is valid for its length.
@@ -169,7 +169,7 @@ impl<'a> PackIndex<'a> {
         (code == 0).then_some(Entry { id: Id(entry.id), offset: entry.offset, crc: entry.crc })
     }
 
-    /// The name at an index, or `None` from the number of names on.
+    /// The id of the object at a position, or `None` from the number of objects on.
     #[must_use]
     pub fn id(&self, at: usize) -> Option<Id> {
         let (kind, bytes, mut id) = (self.kind as u32, self.bytes, raw::Id::default());

@@ -77,7 +77,7 @@ LenAnswer (Some kind) bytes code old new =
     ((code ≡ OK) × IsLaidOut kind bytes × (new ≡ length (names_in kind bytes)))
     ⊎ ((new ≡ old) × IsTablesFault kind bytes code)
 
--- what the tables contain at an index
+-- what the tables contain at a position
 pub record IsEntry (kind : Kind) (bytes : List ℕ) (at : ℕ) (entry : Entry) : Type 0 where
   pub offset : entry.offset ≡ offset_in kind bytes at
   pub crc : entry.crc ≡ crc_in kind bytes at
@@ -96,12 +96,12 @@ EntryAnswer (Some kind) bytes at code old new =
     ((code ≡ OK) × IsLaidOut kind bytes × (at < num_objects bytes) × HasOffset kind bytes at × IsEntry kind bytes at new)
     ⊎ ((new ≡ old) × IsNoEntry kind bytes at code)
 
--- why there is no name at an index
+-- why there is no object at a position
 abbrev pub IsNoName : Kind → List ℕ → ℕ → ℕ → Type 0
 IsNoName kind bytes at code =
     ((code ≡ OUT_OF_RANGE) × IsLaidOut kind bytes × (num_objects bytes ≤ at)) ⊎ IsTablesFault kind bytes code
 
--- the name at an index
+-- the id of the object at a position
 abbrev pub NameAnswer : Option Kind → List ℕ → ℕ → ℕ → Id → Id → Type 0
 NameAnswer None bytes at code old new = (code ≡ BAD_KIND) × (new ≡ old)
 NameAnswer (Some kind) bytes at code old new =
@@ -117,7 +117,7 @@ PackFindAnswer (Some kind) bytes (Some digits) code old new =
     ⊎ ((length digits ≤ hex_len_of kind) × (((code ≡ OK) × IsLaidOut kind bytes × IsRunIfSorted digits (names_in kind bytes) new)
     ⊎ ((new ≡ old) × IsTablesFault kind bytes code)))
 
--- as many first digits are the abbreviation at an index, if the names are sorted
+-- as many first digits are the abbreviation of the object at a position, if the ids are sorted
 abbrev pub IsShortest : Kind → List ℕ → ℕ → ℕ → Type 0
 IsShortest kind bytes at hex_len =
     IsSortedIds (names_in kind bytes) → IsShortestName (names_in kind bytes) at (take hex_len (slice_index_or (names_in kind bytes) at []))

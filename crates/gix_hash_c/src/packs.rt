@@ -121,7 +121,7 @@ pub extern "C" fn gix_hash_pack_entry(kind: u32, bytes: &[u8], at: usize, entry:
     OK
 }
 
-/// The name at an index. An error leaves `id` as it was.
+/// The id of the object at a position. An error leaves `id` as it was.
 #[unsafe(no_mangle)]
 pub extern "C" fn gix_hash_pack_id(kind: u32, bytes: &[u8], at: usize, id: &mut Id) -> u32
     ensures { NameAnswer (kind_of_number kind) bytes.now at result id.old id.new }

@@ -210,12 +210,12 @@ fn is_above_previous<I: Id>(ids: &[I], at: usize) -> bool
 pub enum IndexError {
     /// An id is of the other kind.
     WrongKind {
-        /// The index of that id, the first that is rejected.
+        /// The position of that id, the first that is rejected.
         at: usize,
     },
     /// An id is not above the previous one.
     NotRising {
-        /// The index of that id, the first that is rejected.
+        /// The position of that id, the first that is rejected.
         at: usize,
     },
 }

@@ -80,9 +80,9 @@ pub fn lookup<I: Id>(probes: &mut Probes<'_, I>) -> Run
 
 /// As [`lookup`], by a search among only the members with the prefix's first byte.
 ///
-/// It calls `ask` at most twice as often as the number of those has binary digits, and never for a
-/// prefix of fewer than two digits. The probes must be new, and the fan-out that of their list, as
-/// when both are from one [`IdIndex`](crate::IdIndex).
+/// It calls `ask` at most 2 · b times, where b is the bit length of the number of those, and never
+/// for a prefix of fewer than two digits. The probes must be new, and the fan-out table that of
+/// their list, as when both are from one [`IdIndex`](crate::IdIndex).
 pub fn lookup_in<I: Id>(fan_out: &FanOut, probes: &mut Probes<'_, I>) -> Run
     requires fresh { probes.old.asked ≡ 0 }
     requires fan_out { IsFanOut fan_out.now probes.old.ids }

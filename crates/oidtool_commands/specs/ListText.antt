@@ -40,7 +40,7 @@ IsListRefusal text error = ⊥
 abbrev pub IsLineOf : List ℕ → List ℕ → Type 0
 IsLineOf line digits = (kind : Kind) × (full_read hex_letter line ≡ Ok (kind_digits kind digits))
 
--- each line of the text reads as the id at its index
+-- each line of the text reads as the id at its position
 abbrev pub IsListOf : List ℕ → List (List ℕ) → Type 0
 IsListOf text ids = AllZip IsLineOf (lines_of text) ids
 

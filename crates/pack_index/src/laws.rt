@@ -8,8 +8,8 @@ use crate::index_file::File;
 
 /// The ids of a pack index, one after the other, are the bytes of its table of ids.
 pub fn names_in_a_row(file: &File<'_>)
-    ensures { flat_map (λ name. name) (names_in file.now.kind file.now.bytes)
-        ≡ digits_of (slice_range file.now.bytes names_start (crc_table_start file.now.kind file.now.bytes)) }
+    ensures { flat_map (λ name. name) (names_in file.now.kind file.now.bytes) ≡ digits_of
+        (slice_range file.now.bytes names_start (crc_table_start file.now.kind file.now.bytes)) }
 {
     // Its contract says that the bytes are a pack index.
     let _kind = file.object_hash();

@@ -31,7 +31,7 @@ pub(crate) fn long_word_at(bytes: &[u8], at: usize) -> u64
     0x1_0000_0000 * u64::from(word_at(bytes, at)) + u64::from(word_at(bytes, at + 4))
 }
 
-/// The number of objects.
+/// The number of objects, the last entry of the fan-out table.
 pub fn num_objects(bytes: &[u8]) -> u32
     requires { names_start ≤ length bytes.now }
     ensures { result ≡ num_objects bytes.now }
@@ -113,7 +113,7 @@ pub(crate) fn digest_at(bytes: &[u8], kind: Kind) -> usize
     bytes.len() - kind.len_in_bytes()
 }
 
-/// The CRC-32 of object `at`, as stored in the index.
+/// The CRC-32 of object `at`, which must be below the number of objects, as stored in the index.
 pub fn crc_in(bytes: &[u8], kind: Kind, at: usize) -> u32
     requires tables { HasTables kind bytes.now }
     requires in_range { at < num_objects bytes.now }
@@ -131,7 +131,8 @@ pub(crate) fn offset_word(bytes: &[u8], kind: Kind, at: usize) -> u32
     word_at(bytes, offset_table_start(bytes, kind) + 4 * at)
 }
 
-/// The offset of object `at` in the pack, in bytes.
+/// The offset of object `at` in the pack, in bytes. `at` must be below the number of objects, and
+/// have an offset: [`has_offset`](crate::tables::has_offset).
 pub fn offset_in(bytes: &[u8], kind: Kind, at: usize) -> u64
     requires tables { HasTables kind bytes.now }
     requires in_range { at < num_objects bytes.now }

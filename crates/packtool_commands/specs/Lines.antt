@@ -7,7 +7,7 @@ use Rattle.gix_hash.specs.declared.Kind.{Kind}
 use Rattle.hex.specs.Hex.{encode_lower}
 use Rattle.pack_index.specs.Format.{crc_in, names_in, offset_in}
 
--- the digits of the name at an index
+-- the digits of the id of the object at a position
 abbrev pub name_at : Kind → List ℕ → ℕ → List ℕ
 name_at kind bytes k = slice_index_or (names_in kind bytes) k []
 
@@ -19,7 +19,7 @@ crc_text crc = encode_lower (to_be_bytes w32 crc)
 unfoldable pub line_of : List ℕ → List ℕ → List ℕ → List ℕ
 line_of offset id crc = offset ++ 32 ∷ id ++ 32 ∷ 40 ∷ crc ++ 41 ∷ 10 ∷ []
 
--- the line of the name at an index: its offset in decimal, its id in hex, and its CRC
+-- the line of the object at a position: its offset in decimal, its id in hex, and its CRC
 abbrev pub index_line : Kind → List ℕ → ℕ → List ℕ
 index_line kind bytes k = line_of (decimal (offset_in kind bytes k)) (spelling hex_letter (name_at kind bytes k)) (crc_text (crc_in kind bytes k))
 

@@ -42,7 +42,8 @@ const MAX_ID_LEN: usize = 64;
 // The digits of a CRC.
 const CRC_LEN: usize = 8;
 
-/// Writes the line of the name at an index to the start of the buffer, and returns its length.
+/// Writes the line of the object at a position to the start of the buffer, and returns its
+/// length.
 pub(crate) fn put_index_line(file: &File<'_>, at: usize, line: &mut [u8]) -> usize
     requires location { at < length (names_in file.now.kind file.now.bytes) }
     requires room { length line.old ≡ MAX_LINE_LEN }

@@ -36,7 +36,8 @@ impl ObjectsFolder {
     /// A directory is an object directory if it has the directory `pack`, the file
     /// `info/alternates` or a fan-out directory.
     ///
-    /// The errors are `NoStore`, `NoStoreButIn`, `File` and `Config`, and `Memory`.
+    /// The errors are [`Error::Memory`] and the causes [`Cause::NoStore`], [`Cause::NoStoreButIn`],
+    /// [`Cause::File`] and [`Cause::Config`].
     ///
     /// ```
     /// let folder = ObjectsFolder::at(rt, ".git/objects")?;
@@ -66,7 +67,8 @@ impl ObjectsFolder {
 /// Relative ones are taken from the directory that has `.git`, if the repository is found there.
 /// One of the variables that name a directory is an error if it is empty.
 ///
-/// The errors are `NoRepository`, `Text`, `File` and `Config`, and `Memory`.
+/// The errors are [`Error::Memory`] and the causes [`Cause::NoRepository`], [`Cause::Text`],
+/// [`Cause::File`] and [`Cause::Config`].
 pub fn find_objects<R: Files + Env + AllocGlobal>(rt: &R) -> Result<ObjectsFolder, Error> {
     let given = Environment::read(rt)?;
     find_given(rt, &given)

@@ -25,8 +25,9 @@ pub struct Folders {
 /// An object directory and its alternates: those of the environment, and then those of its list, as
 /// Git links them.
 ///
-/// The alternates are read as by Git: each once, and nested up to 5 times. The directory has to be
-/// there, and the list of a directory has to be readable if it is there.
+/// The alternates are read as by Git: each once, and nested up to 5 times. The errors are
+/// `Memory`, and the cause `File` if the directory is not there, or the list of a directory is
+/// there and cannot be read.
 ///
 /// ```
 /// let folders = with_alternates(rt, &find_objects(rt)?)?;

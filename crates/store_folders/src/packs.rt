@@ -240,8 +240,8 @@ fn open_all<R: Files<File = File> + AllocGlobal + Clone + Drop>(
     Ok(opened)
 }
 
-// Opens a pack index and adds it, or passes it over if it is none of version 2 and of the kind, or
-// its counts fall.
+// Opens a pack index and adds it, or skips it if it is none of version 2 and of the kind, or its
+// fan-out entries fall.
 fn push_opened<R: Files<File = File> + AllocGlobal + Clone + Drop>(
     rt: &R,
     path: &str,

@@ -48,9 +48,10 @@ impl<R: Files<File = File> + AllocGlobal + Clone + Drop> FolderStore<R> {
     /// the store is read again; the 100th time [`Error::Gone`] or [`Error::Changed`] is returned.
     ///
     /// The directory's alternates are read as by Git: each once, and nested up to 5 times. Those
-    /// that cannot be used are skipped ([`FolderStore::skipped`]). A missing directory `pack`
-    /// or fan-out directory is no error; any other failure is one, with the path ([`Error::File`],
-    /// [`Error::Text`], [`Error::Memory`]).
+    /// that cannot be used are skipped ([`FolderStore::skipped`]). A missing directory `pack` or
+    /// fan-out directory is no error; any other failure is one, with the path:
+    /// [`Error::Repository`], or [`Error::Index`] for a pack index that cannot be read. So is
+    /// [`Error::Memory`].
     ///
     /// ```
     /// let store = FolderStore::open(rt, &ObjectsFolder::at(rt, ".git/objects")?, LooseIds::All)?;
@@ -128,7 +129,8 @@ impl<R: Files<File = File> + AllocGlobal + Clone + Drop> FolderStore<R> {
     }
 
     /// Checks the files of the loose objects whose ids begin with a prefix: one that is a link to
-    /// nothing is an error with its path. A file that was removed since it was listed is none.
+    /// nothing is an [`Error::Repository`] with its path. A file that was removed since it was
+    /// listed is no error. The only other error is [`Error::Memory`].
     ///
     /// ```
     /// let store = FolderStore::open(rt, &find_objects(rt)?, LooseIds::All)?;

@@ -9,10 +9,10 @@ ghost use Rattle.gix_hash.specs.ObjectId.{id_bytes};
 use gix_hash::Kind;
 use gix_hash::hashing_laws::digests;
 
-/// Which bytes [`check_seal`](crate::check_seal) finds sealed: all that [`seal`](crate::seal) writes, and
-/// none that are fewer than a digest has. Bytes of at least that length are right if and only if
-/// their end is the digest of what is before it. So exactly one digest is right after any bytes,
-/// and no change of the last byte is.
+/// Which bytes [`check_seal`](crate::check_seal) finds sealed: all that [`seal`](crate::seal)
+/// writes, and none that are fewer than a digest has. Bytes of at least that length are right if
+/// and only if their end is the digest of what is before it. So exactly one digest is right after
+/// any bytes, and no change of the last byte is.
 pub fn sealed_bytes(kind: Kind)
     ensures written { (message : List ℕ) → EndsInDigest kind (sealed kind message) }
     ensures least { (bytes : List ℕ) → EndsInDigest kind bytes → byte_len_of kind ≤ length bytes }
