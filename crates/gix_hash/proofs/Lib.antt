@@ -6,7 +6,6 @@ mod CommonBeginnings
 pub mod Equalities
 mod FrontReading
 mod HexReading
-mod HexSpelling
 pub mod IdDigits
 mod IdFacts
 mod KeptDigits

@@ -22,7 +22,13 @@ use Rattle.gix_hash.specs.declared.object_id.ObjectId.{ObjectId}
 use Rattle.gix_hash.proofs.IdFacts.{length-oid}
 use Rattle.gix_hash.proofs.KindFacts.{same_kind}
 
--- the reverse letters by their table
+-- the hex letters by their table
+pub hex_letter-table : (d : ℕ) → d < 16 → hex_letter d ≡ slice_index (codes "0123456789abcdef") d
+hex_letter-table d h =
+    eqb-true (hex_letter d) (slice_index (codes "0123456789abcdef") d)
+    (agree_below_at (λ k. hex_letter k == slice_index (codes "0123456789abcdef") k) (λ k. true) 16 d refl h)
+
+-- and the reverse letters by theirs
 pub reverse_letter-table : (d : ℕ) → d < 16 → reverse_letter d ≡ slice_index (codes "zyxwvutsrqponmlk") d
 reverse_letter-table d h =
     eqb-true (reverse_letter d) (slice_index (codes "zyxwvutsrqponmlk") d)

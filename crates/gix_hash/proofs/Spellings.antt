@@ -1,11 +1,12 @@
 -- Spellings of ids.
-use Rattle.std.proofs.Common.{◌++◌, ◌≡◌, ◌<◌, ℕ, List, length, take, min, subst, sym, ap, ◌∙◌}
+use Rattle.std.proofs.Common.{◌++◌, ◌≡◌, ◌<◌, ℕ, ◌*◌, List, length, take, drop, min, subst, sym, ap, ◌∙◌}
 use Rattle.std.specs.Prelude.{All, IsAscii}
-use Rattle.std.proofs.lemmas.List.{take_at}
-use Rattle.id_digits.specs.Digits.{spelling, hex_letter}
+use Rattle.std.proofs.lemmas.List.{take_at, drop_at}
+use Rattle.id_digits.specs.Digits.{digits_of, spelling, hex_letter}
 use Rattle.gix_hash.specs.Kind.{hex_len_of}
 use Rattle.gix_hash.specs.Oid.{oid_digits, oid_kind}
 use Rattle.gix_hash.specs.declared.borrowed.oid.{oid}
+use Rattle.id_digits.proofs.ByteDigits.{length-digits_of}
 use Rattle.id_digits.proofs.Spellings.{IsAscii-hex_digits, length-spelling, take-spelling}
 use Rattle.gix_hash.proofs.IdFacts.{length-oid}
 
@@ -22,3 +23,11 @@ pub take-put_id : (letter : ℕ → ℕ) (n cut : ℕ) (id : oid) (buffer rest :
 take-put_id letter n cut id buffer rest put is =
     let most : cut ≡ min n (length (oid_digits id)) = is ∙ ap (min n) (sym (length-oid id)) in
     rw (put, most) (take-spelling letter n (oid_digits id) rest)
+
+-- the letters in front of a buffer, and what is after them
+pub cut_and_rest : (ds bytes buffer : List ℕ) → ds ≡ digits_of bytes
+    → (take (2 * length bytes) (spelling hex_letter ds ++ drop (2 * length bytes) buffer) ≡ spelling hex_letter ds)
+    × (drop (2 * length bytes) (spelling hex_letter ds ++ drop (2 * length bytes) buffer) ≡ drop (2 * length bytes) buffer)
+cut_and_rest ds bytes buffer are =
+    let len = length-spelling hex_letter ds ∙ ap length are ∙ length-digits_of bytes in
+    (take_at _ _ (2 * length bytes) len, drop_at _ _ (2 * length bytes) len)

@@ -17,7 +17,7 @@ use crate::decode;
 use crate::kind::Kind;
 use crate::object_id::ObjectId;
 use crate::prefix::{Prefix, from_hex};
-use id_digits::{read_digest, to_hex_letters, to_reverse_letters};
+use id_digits::{read_digest, spell_digest, to_hex_letters, to_reverse_letters};
 
 /// An alphabet of sixteen letters for the digits 0 to 15. Texts are read in any letter case, and
 /// spelled in lowercase.
@@ -190,7 +190,7 @@ impl Alphabet {
         ensures len { length (oid_digits id.entry) ≡ hex_len_of (oid_kind id.entry) }
     {
         let bytes = id.as_bytes();
-        hex::encode_to_slice(bytes, &mut buffer[..2 * bytes.len()]).unwrap();
+        spell_digest(bytes, &mut buffer[..2 * bytes.len()]);
         if let Alphabet::Reverse = self {
             to_reverse_letters(&mut buffer[..2 * bytes.len()]);
         }

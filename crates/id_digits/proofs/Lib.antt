@@ -4,6 +4,7 @@ pub mod DigitOrder
 mod FirstWords
 mod LanePacking
 mod LaneReading
+mod LaneSpelling
 mod LaneValues
 mod LineOrder
 pub mod ReadLines

@@ -12,6 +12,7 @@ mod lines;
 mod order;
 mod reading;
 mod reverse;
+mod spelling;
 mod words;
 
 pub use common::common_digits;
@@ -20,4 +21,5 @@ pub use lines::are_sorted_lines;
 pub use order::digest_cmp;
 pub use reading::read_digest;
 pub use reverse::{to_hex_letters, to_reverse_letters};
+pub use spelling::spell_digest;
 pub use words::Words;
