@@ -1,4 +1,5 @@
 mod LineLemmas
+mod KeptLines
 mod ShownLemmas
 mod NamedLemmas
 mod LocationLemmas

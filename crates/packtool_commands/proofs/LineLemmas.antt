@@ -15,6 +15,14 @@ line_parts offset id crc l1 l2 l3 l4 l5 l6 e1 e2 e3 e4 e5 e6 =
     e5 ∙ ap (λ (l : List ℕ). l ++ crc) (e4 ∙ ap (λ (l : List ℕ). l ++ 32 ∷ 40 ∷ []) h3) ∙ append_assoc (offset ++ 32 ∷ id) (32 ∷ 40 ∷ []) crc in
     e6 ∙ ap (λ (l : List ℕ). l ++ 41 ∷ 10 ∷ []) h5
 
+-- and after others that line is after them
+pub line_after : (front offset id crc : List ℕ) → line_of (front ++ offset) id crc ≡ front ++ line_of offset id crc
+unfolding line_of
+line_after front offset id crc =
+    let first = append_assoc front offset (32 ∷ id) in
+    let second = ap (λ (l : List ℕ). l ++ 32 ∷ 40 ∷ crc) first ∙ append_assoc front (offset ++ 32 ∷ id) (32 ∷ 40 ∷ crc) in
+    ap (λ (l : List ℕ). l ++ 41 ∷ 10 ∷ []) second ∙ append_assoc front (offset ++ 32 ∷ id ++ 32 ∷ 40 ∷ crc) (41 ∷ 10 ∷ [])
+
 -- the line of the same offset, id and CRC
 pub same_line : (offset offset' : ℕ) (id id' : List ℕ) (crc crc' : ℕ) → offset ≡ offset' → id ≡ id' → crc ≡ crc'
     → line_of (decimal offset) (spelling hex_letter id) (crc_text crc) ≡ line_of (decimal offset') (spelling hex_letter id') (crc_text crc')
@@ -28,3 +36,9 @@ unfolding line_of_name
 name_parts name id l1 l2 l3 l4 e1 e2 e3 e4 =
     let h3 : l3 ≡ name ++ 32 ∷ id = e3 ∙ ap (λ (l : List ℕ). l ++ id) (e2 ∙ ap (λ (l : List ℕ). l ++ 32 ∷ []) e1) ∙ append_assoc name (32 ∷ []) id in
     e4 ∙ ap (λ (l : List ℕ). l ++ 10 ∷ []) h3
+
+-- and after others it is after them
+pub name_after : (front name id : List ℕ) → line_of_name (front ++ name) id ≡ front ++ line_of_name name id
+unfolding line_of_name
+name_after front name id =
+    ap (λ (l : List ℕ). l ++ 10 ∷ []) (append_assoc front name (32 ∷ id)) ∙ append_assoc front (name ++ 32 ∷ id) (10 ∷ [])

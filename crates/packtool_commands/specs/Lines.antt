@@ -1,11 +1,18 @@
 -- The lines of a pack index, as `git show-index` prints them.
-use Rattle.std.specs.Prelude.{ℕ, List, [], ◌∷◌, ◌++◌, decimal, flat_map, length, slice_index_or}
+use Rattle.std.specs.Prelude.{◌≡◌, ℕ, Option, List, [], ◌∷◌, ◌++◌, decimal, flat_map, length, slice_index_or}
 use Rattle.std.specs.Int.{to_be_bytes, w32}
+use Rattle.std.specs.Io.KnownBytes.{Appends}
 use Rattle.std.specs.List.{range_with_len}
 use Rattle.gix_hash.specs.Digits.{hex_letter, spelling}
 use Rattle.gix_hash.specs.declared.Kind.{Kind}
 use Rattle.hex.specs.Hex.{encode_lower}
 use Rattle.pack_index.specs.Format.{crc_in, names_in, offset_in}
+
+-- of the lines so far all were written but the last, which are kept back
+pub record KeepsBack (old new : Option (List ℕ)) (kept lines : List ℕ) : Type 0 where
+  pub written : List ℕ
+  pub all : lines ≡ written ++ kept
+  pub appends : Appends old new written
 
 -- the digits of the id of the object at a position
 abbrev pub name_at : Kind → List ℕ → ℕ → List ℕ

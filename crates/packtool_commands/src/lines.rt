@@ -1,15 +1,16 @@
 //! Lines, put together in a buffer.
 
-ghost use Rattle.std.specs.Prelude.{◌≡◌, ◌+◌, ◌<◌, ◌≤◌, [], ◌∷◌, ◌++◌, Some, decimal, length, take};
+ghost use Rattle.std.specs.Prelude.{◌≡◌, ◌+◌, ◌<◌, ◌≤◌, [], ◌∷◌, ◌++◌, Some, IfOk, OnErr, OnOk, decimal, false, true, length, take};
 ghost use Rattle.gix_hash.specs.Digits.{hex_letter, spelling};
 ghost use Rattle.gix_hash.specs.ObjectId.{id_digits};
 ghost use Rattle.gix_hash.specs.Oid.{oid_digits};
 ghost use Rattle.pack_index.specs.Format.{names_in};
 ghost use Rattle.packtool_commands.specs.Ending.{hex_of, verdict};
-ghost use Rattle.packtool_commands.specs.Lines.{crc_text, index_line, line_of};
+ghost use Rattle.packtool_commands.specs.Lines.{KeepsBack, crc_text, index_line, line_of};
 ghost use Rattle.packtool_commands.specs.Names.{name_line};
 ghost use Rattle.packtool_commands.specs.Pairing.{pairing_verdict};
 ghost use Rattle.packtool_commands.specs.Locations.{location_end};
+ghost use Rattle.streams.specs.Writing.{AppendsPart};
 
 use crate::pairing::Pairing;
 use gix_hash::{Alphabet, ObjectId, oid};
@@ -18,14 +19,14 @@ use id_lookup::begins_with;
 use itoa::Buffer;
 use object_store::NamedId;
 use pack_index::File;
-use streams::Ending;
+use streams::{Ending, Sink, WriteFailed, write_all};
 
-/// The length of the longest line: an offset of 20 digits, an id of 64, a CRC of 8, and five bytes
-/// between and after them.
-pub(crate) const MAX_LINE_LEN: usize = 97;
+/// The length of a buffer for lines that are written together.
+pub(crate) const LINES_LEN: usize = 16384;
 
 /// The length of the longest line of a name and its id: 64 digits of each, a space and a line feed.
-pub(crate) const MAX_NAMES_LEN: usize = 130;
+/// That of an offset of 20 digits, an id and a CRC of 8 is shorter.
+pub(crate) const MAX_LINE_LEN: usize = 130;
 
 /// The length of the longest verdict: two ids of 64 digits, and 61 bytes around them.
 pub(crate) const MAX_VERDICT_LEN: usize = 189;
@@ -42,30 +43,56 @@ const MAX_ID_LEN: usize = 64;
 // The digits of a CRC.
 const CRC_LEN: usize = 8;
 
-/// Writes the line of the object at a position to the start of the buffer, and returns its
-/// length.
-pub(crate) fn put_index_line(file: &File<'_>, at: usize, line: &mut [u8]) -> usize
-    requires location { at < length (names_in file.now.kind file.now.bytes) }
-    requires room { length line.old ≡ MAX_LINE_LEN }
-    ensures len { result ≤ MAX_LINE_LEN }
-    ensures text { take result line.new ≡ index_line file.now.kind file.now.bytes at }
+/// The position at which the next line has room in a buffer of lines that end at a position: there,
+/// or if the buffer is nearly full, at its start, after these lines were written.
+pub(crate) fn next_line_at<W: Sink>(
+    lines: &[u8],
+    end: usize,
+    out: &mut W,
+) -> Result<usize, WriteFailed>
+    requires lines { length lines.now ≡ LINES_LEN }
+    requires end { end ≤ LINES_LEN }
+    requires output { W.has_failed out.old ≡ false }
+    ensures room { IfOk result (λ at. at + MAX_LINE_LEN ≤ LINES_LEN) }
+    ensures kept { IfOk result (λ at.
+        KeepsBack (W.taken out.old) (W.taken out.new) (take at lines.now) (take end lines.now)) }
+    ensures not_failed { OnOk result (W.has_failed out.new ≡ false) }
+    ensures part { OnErr result (AppendsPart (W.taken out.old) (W.taken out.new)
+        (take end lines.now)) }
+    ensures failed { OnErr result (W.has_failed out.new ≡ true) }
 {
-    let offset = file.pack_offset_at_index(at);
-    let id = file.oid_at_index(at);
-    let crc = file.crc32_at_index(at);
-    put_offset_id_crc(offset, id, crc, line)
+    if end + MAX_LINE_LEN <= LINES_LEN {
+        return Ok(end);
+    }
+    write_all(out, &lines[..end])?;
+    Ok(0)
 }
 
-// Writes a line of these parts to the start of the buffer, and returns its length.
-fn put_offset_id_crc(offset: u64, id: oid<'_>, crc: u32, line: &mut [u8]) -> usize
-    requires { length line.old ≡ MAX_LINE_LEN }
-    ensures len { result ≤ MAX_LINE_LEN }
+/// Writes the line of the object at an index into the buffer at a position, and returns where it
+/// ends.
+pub(crate) fn put_index_line(line: &mut [u8], at: usize, file: &File<'_>, index: usize) -> usize
+    requires location { index < length (names_in file.now.kind file.now.bytes) }
+    requires room { at + MAX_LINE_LEN ≤ length line.old }
+    ensures most { result ≤ at + MAX_LINE_LEN }
     ensures text { take result line.new
-        ≡ line_of (decimal offset) (spelling hex_letter (oid_digits id.entry)) (crc_text crc) }
+        ≡ take at line.old ++ index_line file.now.kind file.now.bytes index }
+{
+    let offset = file.pack_offset_at_index(index);
+    let id = file.oid_at_index(index);
+    let crc = file.crc32_at_index(index);
+    put_offset_id_crc(line, at, offset, id, crc)
+}
+
+// Writes a line of these parts into the buffer at a position, and returns where it ends.
+fn put_offset_id_crc(line: &mut [u8], at: usize, offset: u64, id: oid<'_>, crc: u32) -> usize
+    requires { at + MAX_LINE_LEN ≤ length line.old }
+    ensures most { result ≤ at + MAX_LINE_LEN }
+    ensures text { take result line.new ≡ take at line.old
+        ++ line_of (decimal offset) (spelling hex_letter (oid_digits id.entry)) (crc_text crc) }
 {
     let mut number = Buffer::new();
     let offset = number.format(offset).as_bytes();
-    let offset_end = put(line, 0, offset);
+    let offset_end = put(line, at, offset);
     let id_at = put(line, offset_end, b" ");
     let id_end = put_id(line, id_at, id);
     let crc_at = put(line, id_end, b" (");
@@ -73,35 +100,36 @@ fn put_offset_id_crc(offset: u64, id: oid<'_>, crc: u32, line: &mut [u8]) -> usi
     put(line, crc_end, b")\n")
 }
 
-/// Writes the line of an id and its name to the start of the buffer, and returns its length.
-pub(crate) fn put_name_line(named: &NamedId, line: &mut [u8]) -> usize
-    requires { length line.old ≡ MAX_NAMES_LEN }
-    ensures len { result ≤ MAX_NAMES_LEN }
-    ensures text { take result line.new ≡ name_line named.now }
+/// Writes the line of an id and its name into the buffer at a position, and returns where it ends.
+pub(crate) fn put_name_line(line: &mut [u8], at: usize, named: &NamedId) -> usize
+    requires { at + MAX_LINE_LEN ≤ length line.old }
+    ensures most { result ≤ at + MAX_LINE_LEN }
+    ensures text { take result line.new ≡ take at line.old ++ name_line named.now }
 {
     let mut letters = [0; MAX_ID_LEN];
     let end = put_id(&mut letters, 0, named.id.as_oid());
     let id = &letters[..end];
-    let name_end = put_name(line, named, id);
+    let name_end = put_name(line, at, named, id);
     let id_at = put(line, name_end, b" ");
     let id_end = put(line, id_at, id);
     put(line, id_end, b"\n")
 }
 
-// Writes the name of an id to the start of the buffer, and returns its length. The name is copied
-// from the letters of the id, if these begin with it.
-fn put_name(line: &mut [u8], named: &NamedId, id: &[u8]) -> usize
-    requires room { MAX_ID_LEN ≤ length line.old }
+// Writes the name of an id into the buffer at a position, and returns where it ends. The name is
+// copied from the letters of the id, if these begin with it.
+fn put_name(line: &mut [u8], at: usize, named: &NamedId, id: &[u8]) -> usize
+    requires room { at + MAX_ID_LEN ≤ length line.old }
     requires id { id.now ≡ hex_of named.now.id }
-    ensures most { result ≤ MAX_ID_LEN }
-    ensures text { take result line.new ≡ spelling hex_letter named.now.name.digits }
+    ensures most { result ≤ at + MAX_ID_LEN }
+    ensures text { take result line.new
+        ≡ take at line.old ++ spelling hex_letter named.now.name.digits }
 {
     let len = named.name.hex_len();
     if len <= named.id.kind().len_in_hex() && begins_with(&named.id, &named.name) {
-        return put(line, 0, &id[..len]);
+        return put(line, at, &id[..len]);
     }
-    named.name.put_hex(line);
-    len
+    named.name.put_hex(&mut line[at..]);
+    at + len
 }
 
 /// Writes what is said of a checked file after its name to the start of the buffer, and returns its

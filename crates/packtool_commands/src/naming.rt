@@ -10,7 +10,7 @@ ghost use Rattle.packtool_commands.specs.declared.error.StoreError.{StoreError};
 ghost use Rattle.streams.specs.Writing.{Wrote};
 
 use crate::error::StoreError;
-use crate::lines::{MAX_NAMES_LEN, put_name_line};
+use crate::lines::{LINES_LEN, next_line_at, put_name_line};
 use object_store::{NamedId, Store};
 use std::alloc::Allocator;
 use streams::{Sink, WriteFailed, write_all};
@@ -76,14 +76,16 @@ fn is_any(before: bool, named: &[NamedId]) -> bool
 ///     println!(rt; "the lines are not written whole")?;
 /// }
 /// ```
+#[inline(never)]
 pub fn write_names<W: Sink>(named: &[NamedId], out: &mut W) -> Result<(), WriteFailed>
     requires { W.has_failed out.old ≡ false }
     ensures { Wrote W.taken W.has_failed out.old out.new result (flat_map name_line named.now) }
 {
-    let mut line = [0; MAX_NAMES_LEN];
+    let mut lines = [0; LINES_LEN];
+    let mut end = 0;
     for id in named {
-        let len = put_name_line(id, &mut line);
-        write_all(out, &line[..len])?;
+        let at = next_line_at(&lines, end, out)?;
+        end = put_name_line(&mut lines, at, id);
     }
-    Ok(())
+    write_all(out, &lines[..end])
 }

@@ -9,7 +9,7 @@ ghost use Rattle.packtool_commands.specs.Showing.{HasShown, HasShownPart, IsOpen
 ghost use Rattle.packtool_commands.specs.declared.error.FileError.{FileError};
 
 use crate::error::FileError;
-use crate::lines::{MAX_LINE_LEN, put_index_line};
+use crate::lines::{LINES_LEN, next_line_at, put_index_line};
 use gix_hash::Kind;
 use pack_index::File;
 use std::alloc::Allocator;
@@ -101,19 +101,21 @@ fn open(bytes: &[u8], kind: Option<Kind>) -> Result<File<'_>, pack_index::Error>
     }
 }
 
-// Writes the lines of an index.
+// Writes the lines of an index. Not inlined, so that they are on the stack only while this runs.
+#[inline(never)]
 fn write_lines<W: Sink>(file: &File<'_>, out: &mut W) -> Result<(), WriteFailed>
     requires { W.has_failed out.old ≡ false }
     ensures { Wrote W.taken W.has_failed out.old out.new result
         (index_lines file.now.kind file.now.bytes) }
 {
-    let mut line = [0; MAX_LINE_LEN];
+    let mut lines = [0; LINES_LEN];
+    let mut end = 0;
     let count = file.num_objects();
-    for at in 0..count {
-        let len = put_index_line(file, at, &mut line);
-        write_all(out, &line[..len])?;
+    for index in 0..count {
+        let at = next_line_at(&lines, end, out)?;
+        end = put_index_line(&mut lines, at, file, index);
     }
-    Ok(())
+    write_all(out, &lines[..end])
 }
 
 // Reads the source to its end. Not inlined, so that the chunk is on the stack only while this runs.

@@ -1,10 +1,29 @@
-use Rattle.std.proofs.Common.{ap, subst, ◌∙◌}
-use Rattle.streams.specs.Writing.{Wrote}
-use Rattle.streams.proofs.WritingLemmas.{Wrote-line}
+use Rattle.std.proofs.Common.{ℕ, List, ◌++◌, take, sym, ap, subst, ◌∙◌, arith}
+use Rattle.std.specs.List.{flat_map}
+use Rattle.std.proofs.lemmas.List.{take_all}
+use Rattle.object_store.proofs.Held.{flat_map-take}
+use Rattle.packtool_commands.specs.Lines.{KeepsBack}
 use Rattle.packtool_commands.specs.Names.{name_line}
+use Rattle.packtool_commands.proofs.KeptLines.{keeps_more, keeps_stop, keeps_written, lines_split}
+use Rattle.streams.specs.Writing.{Wrote}
 use Rattle.packtool_commands.proofs.naming.write_names.Goals as goal
 
-pub returns-in_err-write_all : goal.returns-in_err-write_all
-returns-in_err-write_all g c =
-    Wrote-line _ name_line c.args.named.now c.loop-id.id-index c.id-item.result c.loop-id-test.true c.from_residual.ensures.0 c.loop-id.invariant.0
-    (subst (Wrote _ _ _ _ _) (c.put_name_line-len.ensures.text ∙ ap name_line c.id-item.is) c.in_err-write_all.ensures)
+pub loop-id-preserved : goal.loop-id-preserved
+loop-id-preserved g c =
+    let text = c.put_name_line-end.ensures.text ∙ ap (λ (l : List ℕ). take c.in_ok-at.at c.loop-id.lines ++ l) (ap name_line c.id-item.is) in (
+      subst (KeepsBack _ _ _) (sym (flat_map-take name_line c.args.named.now c.loop-id.id-index _ c.loop-id-test.true))
+          (keeps_more _ _ _ _ _ _ _ _ c.loop-id.invariant.0 c.in_ok-at.ensures.kept text),
+      c.in_ok-at.ensures.not_failed,
+      omega (arith, c.in_ok-at.ensures.room, c.put_name_line-end.ensures.most),
+    )
+
+pub returns-in_err-at : goal.returns-in_err-at
+returns-in_err-at g c =
+    subst (Wrote _ _ _ _ _) (sym (lines_split name_line c.args.named.now c.loop-id.id-index))
+    (keeps_stop c.loop-id.out _ _ _ _ c.from_residual.ensures.0 c.loop-id.invariant.0 c.in_err-at.ensures.part c.in_err-at.ensures.failed)
+
+pub returns : goal.returns
+returns g c =
+    keeps_written _ _ _
+    (subst (KeepsBack _ _ _) (ap (flat_map name_line) (take_all c.loop-id.id-index c.args.named.now c.loop-id-test.false)) c.loop-id.invariant.0)
+    c.write_all.ensures

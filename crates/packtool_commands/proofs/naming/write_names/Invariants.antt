@@ -1,9 +1,11 @@
-use Rattle.std.proofs.Common.{◌≡◌, false, take}
+use Rattle.std.proofs.Common.{◌≡◌, ◌≤◌, false, take}
 use Rattle.std.specs.List.{flat_map}
-use Rattle.std.specs.Io.KnownBytes.{Appends}
+use Rattle.packtool_commands.specs.Lines.{KeepsBack}
 use Rattle.packtool_commands.specs.Names.{name_line}
 use Rattle.packtool_commands.proofs.naming.write_names.Given as goal
 
 abbrev pub invariant-loop-id : goal.invariant-loop-id
 invariant-loop-id g l =
-    Appends (g.W.Sink.taken l.fn.out) (g.W.Sink.taken l.out) (flat_map name_line (take l.id-index l.named)) × (g.W.Sink.has_failed l.out ≡ false)
+    KeepsBack (g.W.Sink.taken l.fn.out) (g.W.Sink.taken l.out) (take l.end l.lines) (flat_map name_line (take l.id-index l.named))
+    × (g.W.Sink.has_failed l.out ≡ false)
+    × (l.end ≤ 16384)

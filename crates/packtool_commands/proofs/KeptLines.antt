@@ -1,0 +1,46 @@
+-- Lines of which the last are kept back, to be written together.
+use Rattle.std.proofs.Common.{◌≡◌, ℕ, Bool, true, Option, List, [], ◌++◌, take, drop, Result, Err, refl, sym, ap, subst, ◌∙◌, append-nil, append_assoc, take-append-drop}
+use Rattle.std.specs.Prelude.{IsErr}
+use Rattle.std.specs.List.{flat_map}
+use Rattle.std.specs.Io.KnownBytes.{Appends}
+use Rattle.std.proofs.lemmas.Grind.{flat_map-append}
+use Rattle.std.proofs.KnownBytes.{Appends-trans, Appends-nil}
+use Rattle.streams.specs.Writing.{AppendsPart, Wrote}
+use Rattle.streams.specs.declared.sink.WriteFailed.{WriteFailed}
+use Rattle.streams.proofs.WritingLemmas.{Wrote-stop, Wrote-then}
+use Rattle.packtool_commands.specs.Lines.{KeepsBack}
+
+-- all of them
+pub keeps_all : (a : Option (List ℕ)) (lines : List ℕ) → KeepsBack a a lines lines
+keeps_all a lines = record { written = []; all = refl; appends = Appends-nil a }
+
+-- or none, if all were written
+pub keeps_none : (a b : Option (List ℕ)) (lines : List ℕ) → Appends a b lines → KeepsBack a b [] lines
+keeps_none a b lines appends = record { written = lines; all = sym (append-nil lines); appends = appends }
+
+-- another line after those that are kept, or after the last of them
+pub keeps_more : (a b c : Option (List ℕ)) (kept last next lines line : List ℕ) → KeepsBack a b kept lines → KeepsBack b c last kept → next ≡ last ++ line
+    → KeepsBack a c next (lines ++ line)
+keeps_more a b c kept last next lines line before after is = record {
+  written = before.written ++ after.written;
+  all = ap (λ (l : List ℕ). l ++ line) (before.all ∙ ap (λ (l : List ℕ). before.written ++ l) after.all ∙ sym (append_assoc before.written after.written last))
+      ∙ append_assoc (before.written ++ after.written) last line ∙ ap (λ (l : List ℕ). (before.written ++ after.written) ++ l) (sym is);
+  appends = Appends-trans a b c before.written after.written before.appends after.appends;
+}
+
+-- where the lines that are kept are written, so are all
+pub keeps_written : {S : Type 0} {taken : S → Option (List ℕ)} {has_failed : S → Bool} {a b c : S} (r : Result (Unit {0}) WriteFailed) (kept lines : List ℕ)
+    → KeepsBack (taken a) (taken b) kept lines → Wrote taken has_failed b c r kept → Wrote taken has_failed a c r lines
+keeps_written r kept lines before w = subst (Wrote _ _ _ _ r) (sym before.all) (Wrote-then r before.written kept before.appends w)
+
+-- and where that stops, so does the write of all and more
+pub keeps_stop : {S : Type 0} {taken : S → Option (List ℕ)} {has_failed : S → Bool} {a c : S} (b : S) (r : Result (Unit {0}) WriteFailed)
+    (kept lines more : List ℕ) → IsErr r → KeepsBack (taken a) (taken b) kept lines → AppendsPart (taken b) (taken c) kept → has_failed c ≡ true
+    → Wrote taken has_failed a c r (lines ++ more)
+keeps_stop {S} {taken} {has_failed} {a} {c} b r kept lines more is before part failed =
+    let stopped : Wrote taken has_failed b c (Err (record {})) kept = record { written = tt; not_failed = tt; part = part; failed = failed } in
+    Wrote-stop r lines more is (keeps_written (Err (record {})) kept lines before stopped)
+
+-- the lines of the first elements, and those of the rest
+pub lines_split : {X : Type 0} (line : X → List ℕ) (xs : List X) (k : ℕ) → flat_map line xs ≡ flat_map line (take k xs) ++ flat_map line (drop k xs)
+lines_split line xs k = ap (flat_map line) (sym (take-append-drop k xs)) ∙ flat_map-append line (take k xs) (drop k xs)
