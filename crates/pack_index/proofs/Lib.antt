@@ -6,6 +6,7 @@ mod Heads
 mod Longs
 mod Looked
 pub mod LookedUp
+pub mod Matched
 mod ReadOffsets
 mod Refusals
 mod Seen

@@ -1,20 +1,25 @@
 //! The ids of a pack index with a first byte.
 
-ghost use Rattle.std.specs.Prelude.{◌≡◌, ◌≢◌, ◌<◌, ◌≤◌, ◌↔◌, ℕ, [], IsTrue, MatchOption, length, map, slice_index_or};
+ghost use Rattle.std.specs.Prelude.{◌≡◌, ◌≢◌, ◌*◌, ◌<◌, ◌≤◌, ◌↔◌, ◌++◌, ℕ, [], All, IsTrue, MatchOption, OnOk, length, map, nat_eq, slice_index_or, slice_range};
+ghost use Rattle.std.specs.List.{starts_with};
+ghost use Rattle.gix_hash.specs.Kind.{byte_len_of, hex_len_of};
+ghost use Rattle.gix_hash.specs.ObjectId.{id_digits, id_kind};
 ghost use Rattle.gix_hash.specs.Oid.{oid_digits};
+ghost use Rattle.id_lookup.specs.Runs.{matches};
 ghost use Rattle.id_lookup.specs.Sorted.{IsSortedIds, least_hex_len};
 ghost use Rattle.pack_index.specs.Format.{digests_in};
 ghost use Rattle.pack_index.specs.Names.{IsFirstIndexOf};
 
 use crate::names::{Names, all_digits};
-use gix_hash::{Kind, oid};
-use id_lookup::{Id, Run, find_assuming_sorted_near, laws};
-use std::alloc::Allocator;
+use gix_hash::{Kind, ObjectId, Prefix, oid};
+use id_lookup::{Id, Run, find_assuming_sorted, find_assuming_sorted_near, laws};
+use std::alloc::{AllocError, Allocator};
 use std::cell::Cell;
 use std::marker::Model;
 
 /// The ids of a pack index with a first byte, by its fan-out table, read once, in the order of the
-/// index. [`LazyFile::lookup`](crate::LazyFile::lookup) finds an id among them.
+/// index. [`LazyFile::lookup`](crate::LazyFile::lookup) finds an id among them, and
+/// [`Bucket::push_matches`] those that begin with a prefix.
 ///
 /// ```
 /// let bucket = LazyFile::open(idx, Kind::Sha1)?.bucket(rt.alloc(), 0x4b)?;
@@ -35,7 +40,8 @@ pub struct Bucket<A: Allocator> {
 }
 
 impl<A: Allocator> Model for Bucket<A> {
-    ghost use Rattle.std.specs.Prelude.{◌≡◌, IsTrue};
+    ghost use Rattle.std.specs.Prelude.{◌≡◌, ◌*◌, IsTrue, length};
+    ghost use Rattle.gix_hash.specs.Kind.{byte_len_of};
     ghost use Rattle.id_lookup.specs.Sorted.{IsSortedIds};
     ghost use Rattle.pack_index.specs.Format.{digests_in};
     ghost use Rattle.pack_index.specs.Lazy.{BucketNames};
@@ -48,13 +54,16 @@ impl<A: Allocator> Model for Bucket<A> {
       names = digests_in bucket.kind bucket.table.items;
     } };
 
-    ghost invariant = { λ bucket. IsTrue bucket.is_sorted
-        → IsSortedIds (digests_in bucket.kind bucket.table.items) };
+    ghost invariant = { λ bucket. (IsTrue bucket.is_sorted
+        → IsSortedIds (digests_in bucket.kind bucket.table.items))
+        × (length bucket.table.items ≡ byte_len_of bucket.kind
+        * length (digests_in bucket.kind bucket.table.items)) };
 }
 
 impl<A: Allocator> Bucket<A> {
-    // The ids of a table, of which the first is at a position.
+    // The ids of a table, of which the first is at a position, and nothing after them.
     pub(crate) fn new(table: Vec<u8, A>, kind: Kind, start: usize) -> Bucket<A>
+        requires { length table.items ≡ byte_len_of kind * length (digests_in kind table.items) }
         ensures { result ≡ record {
           kind = kind;
           start = start;
@@ -78,11 +87,39 @@ impl<A: Allocator> Bucket<A> {
         self.kind
     }
 
-    /// The ids, one after the other: 20 or 32 bytes each.
+    /// The ids, one after the other: 20 or 32 bytes each, and no byte after them.
     pub fn names(&self) -> &[u8]
-        ensures { digests_in self.now.kind result.now ≡ self.now.names }
+        ensures names { digests_in self.now.kind result.now ≡ self.now.names }
+        ensures len { length result.now ≡ byte_len_of self.now.kind * length self.now.names }
     {
         &self.table
+    }
+
+    /// Adds those that begin with a prefix to a list of ids, in their order. The prefix has at most
+    /// as many digits as the ids.
+    ///
+    /// If the ids are sorted, as in each pack index, they are found by binary search. If not, each
+    /// of them is compared.
+    pub fn push_matches<B: Allocator>(
+        &self,
+        prefix: &Prefix,
+        ids: &mut Vec<ObjectId, B>,
+    ) -> Result<(), AllocError>
+        requires { length prefix.now.digits ≤ hex_len_of self.now.kind }
+        ensures digits { OnOk result (map id_digits ids.new.items
+            ≡ map id_digits ids.old.items ++ matches prefix.now.digits self.now.names) }
+        ensures kinds { OnOk result (All (λ id. id_kind id ≡ self.now.kind) ids.old.items
+            → All (λ id. id_kind id ≡ self.now.kind) ids.new.items) }
+    {
+        let (table, kind, is_sorted) = (&self.table, self.kind, self.is_sorted);
+        match kind {
+            Kind::Sha1 => {
+                push_found::<[u8; 20], B>(table.as_chunks().0, kind, is_sorted, prefix, ids)
+            }
+            Kind::Sha256 => {
+                push_found::<[u8; 32], B>(table.as_chunks().0, kind, is_sorted, prefix, ids)
+            }
+        }
     }
 
     // The index of the first of them in the pack index.
@@ -164,4 +201,75 @@ fn is_at<I: Id>(ids: &[I], at: usize, id: oid<'_>) -> bool
         ↔ (slice_index_or (map I.digits ids.now) at [] ≡ oid_digits id.entry) }
 {
     ids[at].as_oid() == id
+}
+
+// Adds the ids of a list of one kind that begin with a prefix, which are a run if it is sorted.
+fn push_found<I: Id, A: Allocator>(
+    list: &[I],
+    kind: Kind,
+    is_sorted: bool,
+    prefix: &Prefix,
+    ids: &mut Vec<ObjectId, A>,
+) -> Result<(), AllocError>
+    requires sorted { IsTrue is_sorted → IsSortedIds (map I.digits list.now) }
+    requires enough_digits { length prefix.now.digits ≤ least_hex_len (map I.digits list.now) }
+    requires fits { length prefix.now.digits ≤ hex_len_of kind }
+    requires kinds { All (λ id. I.kind id ≡ kind) list.now }
+    ensures digits { OnOk result (map id_digits ids.new.items
+        ≡ map id_digits ids.old.items ++ matches prefix.now.digits (map I.digits list.now)) }
+    ensures kinds { OnOk result (All (λ id. id_kind id ≡ kind) ids.old.items
+        → All (λ id. id_kind id ≡ kind) ids.new.items) }
+{
+    let run = run_of(list, is_sorted, prefix);
+    push_each(&list[run.start..run.end], kind, prefix, ids)
+}
+
+// A run of a list in which are all ids that begin with a prefix: theirs if the list is sorted, or
+// the whole list.
+fn run_of<I: Id>(list: &[I], is_sorted: bool, prefix: &Prefix) -> Run
+    requires sorted { IsTrue is_sorted → IsSortedIds (map I.digits list.now) }
+    requires enough_digits { length prefix.now.digits ≤ least_hex_len (map I.digits list.now) }
+    ensures rises { result.start ≤ result.end }
+    ensures in_range { result.end ≤ length list.now }
+    ensures all { matches prefix.now.digits (map I.digits
+        (slice_range list.now result.start result.end))
+        ≡ matches prefix.now.digits (map I.digits list.now) }
+{
+    if is_sorted {
+        return find_assuming_sorted(list, prefix);
+    }
+    Run {
+        start: 0,
+        end: list.len(),
+    }
+}
+
+// Adds the ids of a list of one kind that begin with a prefix, each of which is compared.
+fn push_each<I: Id, A: Allocator>(
+    list: &[I],
+    kind: Kind,
+    prefix: &Prefix,
+    ids: &mut Vec<ObjectId, A>,
+) -> Result<(), AllocError>
+    requires fits { length prefix.now.digits ≤ hex_len_of kind }
+    requires kinds { All (λ id. I.kind id ≡ kind) list.now }
+    ensures digits { OnOk result (map id_digits ids.new.items
+        ≡ map id_digits ids.old.items ++ matches prefix.now.digits (map I.digits list.now)) }
+    ensures kinds { OnOk result (All (λ id. id_kind id ≡ kind) ids.old.items
+        → All (λ id. id_kind id ≡ kind) ids.new.items) }
+{
+    for id in list {
+        if begins_with(id, prefix) {
+            ids.push(id.as_oid().to_owned())?;
+        }
+    }
+    Ok(())
+}
+
+// Whether an id begins with a prefix.
+fn begins_with<I: Id>(id: &I, prefix: &Prefix) -> bool
+    requires { length prefix.now.digits ≤ hex_len_of (I.kind id.now) }
+    ensures { result ≡ starts_with nat_eq (I.digits id.now) prefix.now.digits }
+{
+    prefix.cmp_oid(id.as_oid()).is_eq()
 }

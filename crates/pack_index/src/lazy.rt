@@ -239,6 +239,8 @@ impl<S: ReadAt + Drop> LazyFile<S> {
             → digests_in self.now.kind table.items ≡ part_of byte (names_in self.now.kind bytes)) }
         ensures len { IfOk result (λ table. length (digests_in self.now.kind table.items)
             ≡ run.now.end - run.now.start) }
+        ensures bytes { IfOk result (λ table. length table.items
+            ≡ byte_len_of self.now.kind * (run.now.end - run.now.start)) }
         ensures first { IfOk result (λ table.
             HaveFirstByte byte (digests_in self.now.kind table.items)) }
         ensures sound { IfOk result (λ _. (bytes : List ℕ) → self.now.content ≡ Some bytes

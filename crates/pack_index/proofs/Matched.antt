@@ -1,0 +1,24 @@
+-- The ids of a run are those that match.
+use Rattle.std.proofs.Common.{◌≡◌, ℕ, ◌-◌, List, map, take, drop, sym, ap, ◌∙◌}
+use Rattle.std.proofs.lemmas.List.{take-map, drop-map}
+use Rattle.std.specs.List.{slice_range, starts_with}
+use Rattle.std.specs.Prelude.{nat_eq}
+use Rattle.gix_hash.specs.Prefix.{KindDigits}
+use Rattle.id_lookup.specs.FoundRun.{IsRun}
+use Rattle.id_lookup.specs.Runs.{matches}
+use Rattle.id_lookup.specs.declared.search.Run.{Run}
+use Rattle.id_lookup.proofs.Filters.{filter_within}
+
+-- the ids of the run, by their digits
+pub run_matches : {I : Type 0} (digits : I → List ℕ) (prefix : KindDigits) (ids : List I) (run : Run) → IsRun prefix (map digits ids) run
+    → map digits (slice_range ids run.start run.end) ≡ matches prefix.digits (map digits ids)
+run_matches digits prefix ids run found =
+    sym (take-map digits (run.end - run.start) (drop run.start ids)) ∙ sym (ap (take (run.end - run.start)) (drop-map digits run.start ids))
+    ∙ found.found
+
+-- all of them match
+pub run_all_match : {I : Type 0} (digits : I → List ℕ) (prefix : KindDigits) (ids : List I) (run : Run) → IsRun prefix (map digits ids) run
+    → matches prefix.digits (map digits (slice_range ids run.start run.end)) ≡ matches prefix.digits (map digits ids)
+run_all_match digits prefix ids run found =
+    let p : List ℕ → _ = λ id. starts_with nat_eq id prefix.digits in
+    ap (matches prefix.digits) (run_matches digits prefix ids run found) ∙ filter_within p p (λ id passes. passes) (map digits ids)

@@ -1,0 +1,10 @@
+use Rattle.std.proofs.Common.{◌≡◌, ◌++◌, map, take}
+use Rattle.std.specs.List.{All}
+use Rattle.gix_hash.specs.ObjectId.{id_digits, id_kind}
+use Rattle.id_lookup.specs.Runs.{matches}
+use Rattle.pack_index.proofs.bucket.push_each.Given as goal
+
+abbrev pub invariant-loop-id : goal.invariant-loop-id
+invariant-loop-id g l =
+    (map id_digits l.ids.items ≡ map id_digits l.fn.ids.items ++ matches l.prefix.digits (map g.I.Id.digits (take l.id-index l.list)))
+    × (All (λ id. id_kind id ≡ l.fn.kind) l.fn.ids.items → All (λ id. id_kind id ≡ l.fn.kind) l.ids.items)
