@@ -1,7 +1,8 @@
-pub mod Asked
 pub mod Held
 pub mod Located
 pub mod Named
 pub mod PartNames
 pub mod LocationMembers
 pub mod LooseParts
+pub mod TwoDigits
+pub mod Pending

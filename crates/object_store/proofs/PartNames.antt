@@ -1,6 +1,7 @@
 -- What the buckets of a first byte have of a store.
 use Rattle.std.proofs.Common.{◌≡◌, ℕ, zero, suc, ◌+◌, ◌<◌, ◌≤◌, ◌⊎◌, inl, inr, Bool, true, None, Some, List, [], ◌∷◌, ◌++◌, length, get_or, map, filter, take, refl, sym, ap, ◌∙◌, subst, arith, append_assoc}
-use Rattle.std.specs.List.{All, Contains, flat_map}
+use Rattle.std.specs.List.{All, Contains, flat_map, starts_with}
+use Rattle.std.specs.Prelude.{nat_eq}
 use Rattle.std.proofs.Math.Seq.{get_or-append_seam}
 use Rattle.std.proofs.lemmas.Bool.{cases_lt}
 use Rattle.std.proofs.lemmas.List.{get_or-map, get_or-take, get_or_append_left, get_or_default, length-append, length-map, length-take-le, take_all}
@@ -10,14 +11,12 @@ use Rattle.gix_hash.specs.ObjectId.{id_digits}
 use Rattle.gix_hash.specs.declared.Kind.{Kind}
 use Rattle.gix_hash.specs.declared.ObjectId.{ObjectId}
 use Rattle.id_lookup.specs.IndexOf.{IsIndexOf, part_of}
-use Rattle.id_lookup.proofs.Beginnings.{test_same}
+use Rattle.id_lookup.specs.Runs.{matches}
+use Rattle.id_lookup.proofs.Beginnings.{first_byte_of-begins, matches-part, same_test, test_same}
 use Rattle.id_lookup.proofs.Filters.{contains_kept, kept_passes}
 use Rattle.object_store.specs.Parts.{AreBuckets, AreFirstBuckets, HavePassing}
 use Rattle.object_store.specs.Stores.{IfKnown}
 use Rattle.object_store.specs.Views.{StoreView}
-use Rattle.object_store.specs.Wanted.{passes, wanted_byte, wanted_len}
-use Rattle.object_store.specs.declared.wanted.Wanted.{Wanted}
-use Rattle.object_store.proofs.Asked.{filter-part, passes-byte}
 use Rattle.object_store.proofs.Held.{IsPackAt, as_many, filter-flat_map, flat_map-take, known_at}
 use Rattle.pack_index.specs.Firsts.{Each}
 use Rattle.pack_index.specs.Format.{HasCount, IsPackIndex, names_in}
@@ -71,8 +70,8 @@ bucket_more p buckets k bucket first old new low here before all =
     all ∙ (λ i. before i ++ f (here i)) ∙ append_assoc first (flat_map f (take k buckets)) (f (get_or buckets k bucket))
     ∙ ap (λ (rest : List (List ℕ)). first ++ rest) (sym (flat_map-take f buckets k bucket low))
 
-module _ (view : StoreView) (wanted : Wanted) (buckets : List BucketNames) (kinds : All (λ (p : LazyIndex). p.kind ≡ view.kind) view.packs)
-    (long : 2 ≤ wanted_len wanted) (are : AreBuckets view (wanted_byte wanted) buckets) where
+module _ (view : StoreView) (digits : List ℕ) (buckets : List BucketNames) (kinds : All (λ (p : LazyIndex). p.kind ≡ view.kind) view.packs)
+    (long : 2 ≤ length digits) (are : AreBuckets view (first_byte_of digits) buckets) where
   abbrev kind : Kind
   kind = view.kind
 
@@ -82,12 +81,12 @@ module _ (view : StoreView) (wanted : Wanted) (buckets : List BucketNames) (kind
   -- what is asked for of them is that of the pack indexes
   module _ (indexes : List (List ℕ)) (same : map (λ (p : LazyIndex). p.content) packs ≡ map Some indexes) (each : All (IsPackIndex kind) indexes) where
     names_upto : (n : ℕ) → n ≤ length packs
-        → flat_map (λ (b : BucketNames). filter (passes wanted) b.names) (take n buckets) ≡ flat_map (λ bytes. filter (passes wanted) (names_in kind bytes)) (take n indexes)
+        → flat_map (λ (b : BucketNames). matches digits b.names) (take n buckets) ≡ flat_map (λ bytes. matches digits (names_in kind bytes)) (take n indexes)
     names_upto zero low = refl
     names_upto (suc n) low =
         let content : LazyIndex → _ = λ (p : LazyIndex). p.content in
-        let f : BucketNames → List (List ℕ) = λ b. filter (passes wanted) b.names in
-        let g : List ℕ → List (List ℕ) = λ bytes. filter (passes wanted) (names_in kind bytes) in
+        let f : BucketNames → List (List ℕ) = λ b. matches digits b.names in
+        let g : List ℕ → List (List ℕ) = λ bytes. matches digits (names_in kind bytes) in
         let p : LazyIndex = record { kind = kind; count = 0; content = None; can_fail = true } in
         let b : BucketNames = record { kind = kind; start = 0; names = [] } in
         let bytes = get_or indexes n [] in
@@ -97,31 +96,31 @@ module _ (view : StoreView) (wanted : Wanted) (buckets : List BucketNames) (kind
         let of_kind : (get_or packs n p).kind ≡ kind = kinds n p (omega (arith, low)) in
         let counts : Each (HasCount (get_or packs n p).kind bytes) 256 = subst (λ (k : Kind). Each (HasCount k bytes) 256) (sym of_kind) (each n [] inside).names.counts in
         let here : f (get_or buckets n b) ≡ g bytes =
-        ap (filter (passes wanted)) (counted.part counts ∙ ap (λ (k : Kind). part_of (wanted_byte wanted) (names_in k bytes)) of_kind) ∙ filter-part wanted (names_in kind bytes) long in
+        ap (matches digits) (counted.part counts ∙ ap (λ (k : Kind). part_of (first_byte_of digits) (names_in k bytes)) of_kind) ∙ matches-part digits (names_in kind bytes) long in
         let next : suc n ≡ n + 1 = omega arith in
         ap (λ m. flat_map f (take m buckets)) next ∙ flat_map-take f buckets n b (omega (arith, low, are.as_many))
         ∙ (λ i. names_upto n (omega (arith, low)) i ++ here i) ∙ sym (flat_map-take g indexes n [] inside) ∙ ap (λ m. flat_map g (take m indexes)) (sym next)
 
-    pub part_names : flat_map (λ (b : BucketNames). filter (passes wanted) b.names) buckets ≡ flat_map (λ bytes. filter (passes wanted) (names_in kind bytes)) indexes
+    pub part_names : flat_map (λ (b : BucketNames). matches digits b.names) buckets ≡ flat_map (λ bytes. matches digits (names_in kind bytes)) indexes
     part_names =
-        let f : BucketNames → List (List ℕ) = λ b. filter (passes wanted) b.names in
-        let g : List ℕ → List (List ℕ) = λ bytes. filter (passes wanted) (names_in kind bytes) in
+        let f : BucketNames → List (List ℕ) = λ b. matches digits b.names in
+        let g : List ℕ → List (List ℕ) = λ bytes. matches digits (names_in kind bytes) in
         let many = as_many (λ (p : LazyIndex). p.content) packs indexes same in
         ap (flat_map f) (sym (take_all (length packs) buckets (omega (arith, are.as_many)))) ∙ names_upto (length packs) (omega arith)
         ∙ ap (flat_map g) (take_all (length packs) indexes (omega (arith, many)))
 
   -- each name that is counted and asked for was gathered
   pub have_wanted : (loose ids : List (List ℕ))
-      → IsIndexOf kind (flat_map (λ (b : BucketNames). filter (passes wanted) b.names) buckets ++ loose) ids → HavePassing view (passes wanted) ids
+      → IsIndexOf kind (flat_map (λ (b : BucketNames). matches digits b.names) buckets ++ loose) ids → HavePassing view (λ id. starts_with nat_eq id digits) ids
   have_wanted loose ids index k d low bytes known id at counted begins =
-      let f : BucketNames → List (List ℕ) = λ b. filter (passes wanted) b.names in
+      let f : BucketNames → List (List ℕ) = λ b. matches digits b.names in
       let b : BucketNames = record { kind = kind; start = 0; names = [] } in
       let inside : k < length buckets = omega (arith, low, are.as_many) in
-      let byte : first_byte_of id ≡ wanted_byte wanted = test_same (first_byte_of id) (wanted_byte wanted) (passes-byte wanted long id begins) in
+      let byte : first_byte_of id ≡ first_byte_of digits = test_same (first_byte_of id) (first_byte_of digits) (same_test (first_byte_of id) (first_byte_of digits) (first_byte_of-begins id digits long begins)) in
       let here = (are.each k d b inside).known bytes known in
       let there = subst (λ (x : Kind). IsFirstCounted x bytes id at) (sym (kinds k d low)) counted in
       let kept : Contains (f (get_or buckets k b)) id =
-      contains_kept (passes wanted) (get_or buckets k b).names id (counted_within (get_or packs k d).kind bytes id (wanted_byte wanted) at (get_or buckets k b) here byte there) begins in
+      contains_kept (λ id. starts_with nat_eq id digits) (get_or buckets k b).names id (counted_within (get_or packs k d).kind bytes id (first_byte_of digits) at (get_or buckets k b) here byte there) begins in
       (index.members id).1 (Contains-append_left (flat_map f buckets) loose id (in_flat_map f buckets k b id inside kept))
     where
       in_flat_map : {X : Type 0} (f : X → List (List ℕ)) (xs : List X) (k : ℕ) (d : X) (id : List ℕ) → k < length xs → Contains (f (get_or xs k d)) id → Contains (flat_map f xs) id

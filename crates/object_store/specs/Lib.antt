@@ -1,6 +1,5 @@
 -- Object stores and the ids that they hold.
 pub mod Views
-pub mod Wanted
 pub mod Stores
 pub mod Locations
 pub mod Parts

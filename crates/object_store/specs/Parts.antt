@@ -1,14 +1,17 @@
 -- The names of a store with one first byte, and what is found among them.
-use Rattle.std.specs.Prelude.{◌≡◌, ℕ, ◌<◌, All, Bool, Contains, IsTrue, List, filter, length, map, nat_eq, slice_index_or}
+use Rattle.std.specs.Prelude.{◌≡◌, ℕ, ◌<◌, ◌≤◌, All, Bool, Contains, IsTrue, List, None, Option, Some, filter, length, map, nat_eq, slice_index_or}
 use Rattle.std.specs.List.{starts_with}
 use Rattle.gix_hash.specs.Digits.{first_byte_of}
 use Rattle.gix_hash.specs.ObjectId.{id_digits, id_kind}
+use Rattle.gix_hash.specs.Prefix.{KindDigits}
 use Rattle.gix_hash.specs.declared.ObjectId.{ObjectId}
 use Rattle.id_lookup.specs.Index.{IsIndex}
 use Rattle.pack_index.specs.Lazy.{BucketNames, IsBucketOf, IsFirstCounted, LazyIndex}
 use Rattle.object_store.specs.Locations.{locations_of}
-use Rattle.object_store.specs.Stores.{HaveBuckets, HaveLocations, Holds, IfKnown}
+use Rattle.object_store.specs.Stores.{HaveBuckets, HaveLocations, Holds, IfKnown, IsStoreFault}
 use Rattle.object_store.specs.Views.{StoreView}
+use Rattle.object_store.specs.declared.error.Error.{Error}
+use Rattle.object_store.specs.declared.error.Error.TheVariants.{Index, Memory}
 use Rattle.object_store.specs.declared.locations.Location.{Location}
 
 -- each of the first buckets is that of the pack index at its position
@@ -39,6 +42,37 @@ pub record ArePassing (view : StoreView) (byte : ℕ) (p : List ℕ → Bool) (i
 -- as those that begin with the digits
 abbrev pub AreMatches : StoreView → List ℕ → List ObjectId → Type 0
 AreMatches view digits ids = ArePassing view (first_byte_of digits) (λ id. starts_with nat_eq id digits) ids
+
+-- a prefix that is looked up in the part of its first byte: it has 2 digits or more, and the store's kind
+pub record CanLookUp (view : StoreView) (prefix : KindDigits) : Type 0 where
+  pub enough : 2 ≤ length prefix.digits
+  pub kind : prefix.kind ≡ view.kind
+
+-- a list for each prefix: the ids that begin with it
+pub record AreMatchesOfEach (view : StoreView) (prefixes : List KindDigits) (found : List (List ObjectId)) : Type 0 where
+  pub as_many : length found ≡ length prefixes
+  pub each : (k : ℕ) (prefix : KindDigits) (ids : List ObjectId) → k < length prefixes → AreMatches view (slice_index_or prefixes k prefix).digits (slice_index_or found k ids)
+
+-- why several prefixes are not looked up: the names with the first byte of one of them are not read, or memory ran out
+abbrev pub IsFaultOfOne : StoreView → List KindDigits → Error → Type 0
+IsFaultOfOne view prefixes (Index at error) = (prefix : KindDigits) × Contains prefixes prefix × IsStoreFault view (first_byte_of prefix.digits) (Index at error)
+IsFaultOfOne view prefixes (Memory error) = Unit {0}
+
+-- a prefix is not looked up yet, and has this first byte; or the ids that begin with it were found
+abbrev pub IsFoundOrPending : StoreView → KindDigits → Option ℕ → List ObjectId → Type 0
+IsFoundOrPending view prefix (Some byte) ids = byte ≡ first_byte_of prefix.digits
+IsFoundOrPending view prefix None ids = AreMatches view prefix.digits ids
+
+-- so is each of several prefixes
+pub record AreFoundOrPending (view : StoreView) (prefixes : List KindDigits) (pending : List (Option ℕ)) (found : List (List ObjectId)) : Type 0 where
+  pub pending_len : length pending ≡ length prefixes
+  pub found_len : length found ≡ length prefixes
+  pub each : (k : ℕ) (prefix : KindDigits) (byte : Option ℕ) (ids : List ObjectId) → k < length prefixes
+      → IsFoundOrPending view (slice_index_or prefixes k prefix) (slice_index_or pending k byte) (slice_index_or found k ids)
+
+-- those that were found before still are
+abbrev pub StayFound : (old new : List (Option ℕ)) → Type 0
+StayFound old new = (k : ℕ) → slice_index_or old k None ≡ None → slice_index_or new k None ≡ None
 
 -- all locations of the object of these digits
 pub record AreLocations (view : StoreView) (digits : List ℕ) (locations : List Location) : Type 0 where

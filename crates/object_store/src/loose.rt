@@ -1,16 +1,19 @@
 //! The ids of loose objects.
 
-ghost use Rattle.std.specs.Prelude.{◌≡◌, ◌↔◌, All, Contains, IsTrue, count_by, map};
+ghost use Rattle.std.specs.Prelude.{◌≡◌, ◌<◌, ◌≤◌, ◌↔◌, All, Contains, IsTrue, count_by, length, map};
+ghost use Rattle.gix_hash.specs.Kind.{hex_len_of};
 ghost use Rattle.gix_hash.specs.ObjectId.{id_digits, id_kind};
 ghost use Rattle.id_lookup.specs.FirstBytes.{is_below};
+ghost use Rattle.id_lookup.specs.Index.{IsIndex};
 ghost use Rattle.id_lookup.specs.IndexOf.{IsIndexOf, part_of};
+ghost use Rattle.id_lookup.specs.Runs.{matches};
 
 use gix_hash::{Kind, ObjectId, Prefix};
 use id_lookup::{FanOut, find_assuming_sorted, laws, sort_unique};
 use std::marker::Model;
 
-/// The ids of loose objects, each once, in order. Those with a first byte, and a single one, are
-/// found without a look at the others.
+/// The ids of loose objects, each once, in order. Those with a first byte, those that begin with a
+/// prefix, and a single one, are found without a look at the others.
 ///
 /// ```
 /// let loose = LooseTable::new(vec![in rt.alloc(); id]?, id.kind());
@@ -54,6 +57,7 @@ impl LooseTable {
     pub fn ids(&self) -> &[ObjectId]
         ensures ids { map id_digits result.now ≡ self.now.ids }
         ensures kinds { All (λ id. id_kind id ≡ self.now.kind) result.now }
+        ensures digits { All (λ id. All (λ d. d < 16) id) self.now.ids }
     {
         &self.ids
     }
@@ -61,12 +65,25 @@ impl LooseTable {
     /// Those with a first byte, in order.
     pub fn with_first_byte(&self, byte: u8) -> &[ObjectId]
         ensures ids { map id_digits result.now ≡ part_of byte self.now.ids }
+        ensures index { IsIndex self.now.kind (map id_digits result.now) }
         ensures kinds { All (λ id. id_kind id ≡ self.now.kind) result.now }
     {
         laws::parts_in_order();
         let start = self.below(byte);
         let end = self.fan_out.up_to(byte);
         &self.ids[start..end]
+    }
+
+    /// Those that begin with a prefix of 2 digits or more and of the kind, in order.
+    pub fn beginning_with(&self, prefix: &Prefix) -> &[ObjectId]
+        requires enough { 2 ≤ length prefix.now.digits }
+        requires fits { length prefix.now.digits ≤ hex_len_of self.now.kind }
+        ensures ids { map id_digits result.now ≡ matches prefix.now.digits self.now.ids }
+        ensures kinds { All (λ id. id_kind id ≡ self.now.kind) result.now }
+    {
+        let ids = self.with_first_byte(prefix.as_oid().first_byte());
+        let run = find_assuming_sorted(ids, prefix);
+        &ids[run.start..run.end]
     }
 
     // How many have a lower first byte.

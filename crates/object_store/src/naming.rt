@@ -1,6 +1,6 @@
 //! Abbreviations in a whole store.
 
-ghost use Rattle.std.specs.Prelude.{◌≡◌, ◌≢◌, ◌≤◌, ◌<◌, ◌↔◌, ℕ, [], All, Contains, List, IfErr, IfOk, IfSome, IsTrue, MatchOption, Some, length, map, slice_get, slice_index_or, take};
+ghost use Rattle.std.specs.Prelude.{◌≡◌, ◌≢◌, ◌≤◌, ◌<◌, ◌/◌, ◌%◌, ◌↔◌, ℕ, [], ◌∷◌, All, Contains, List, IfErr, IfOk, IfSome, IsTrue, MatchOption, Some, length, map, slice_get, slice_index_or, take};
 ghost use Rattle.gix_hash.specs.Digits.{first_byte_of};
 ghost use Rattle.gix_hash.specs.Kind.{hex_len_of};
 ghost use Rattle.gix_hash.specs.ObjectId.{id_digits, id_kind};
@@ -12,7 +12,6 @@ ghost use Rattle.object_store.specs.Stores.{HaveBuckets, Holds, IsNameIn, IsOfKi
 use crate::error::Error;
 use crate::part::Part;
 use crate::store::Store;
-use crate::wanted::Wanted;
 use gix_hash::{Kind, ObjectId, Prefix};
 use id_lookup::IdIndex;
 use std::alloc::{AllocError, Allocator};
@@ -62,8 +61,20 @@ pub fn names<S: Store, A: Allocator + Copy>(
     ensures sound { IfOk result (λ _. HaveBuckets (S.view store.now) byte) }
     ensures err { IfErr result (IsStoreFault (S.view store.now) byte) }
 {
-    let ids = Part::read(alloc, store, byte)?.gather(alloc, &Wanted::FirstByte(byte))?;
-    Ok(name_all(alloc, &ids, store.object_hash(), least)?)
+    // The contract of this call says that the digits of loose ids are below 16.
+    let _loose = store.loose().ids();
+    let kind = store.object_hash();
+    let ids = Part::read(alloc, store, byte)?.lookup_prefix(alloc, &two_digits(kind, byte))?;
+    Ok(name_all(alloc, &ids, kind, least)?)
+}
+
+// The prefix of a kind that all ids with a first byte begin with.
+fn two_digits(kind: Kind, byte: u8) -> Prefix
+    ensures kind { result.kind ≡ kind }
+    ensures digits { result.digits ≡ byte / 16 ∷ byte % 16 ∷ [] }
+    ensures byte { first_byte_of result.digits ≡ byte }
+{
+    Prefix::from_packed_digits(kind, &[byte], 2).unwrap()
 }
 
 /// The abbreviation of an id in a store, of at least `least` digits; or `None` if the store does
@@ -96,7 +107,7 @@ pub fn abbreviate<S: Store, A: Allocator + Copy>(
 {
     let front = front_of(id, least);
     let part = Part::read(alloc, store, id.first_byte())?;
-    let ids = part.gather(alloc, &Wanted::BeginsWith(front))?;
+    let ids = part.lookup_prefix(alloc, &front)?;
     Ok(name_in(&ids, id, least))
 }
 
@@ -104,6 +115,7 @@ pub fn abbreviate<S: Store, A: Allocator + Copy>(
 fn front_of(id: &ObjectId, least: usize) -> Prefix
     requires enough { 4 ≤ least }
     requires fits { least ≤ hex_len_of (id_kind id.now) }
+    ensures kind { result.kind ≡ id_kind id.now }
     ensures digits { result.digits ≡ take least (id_digits id.now) }
     ensures len { length result.digits ≡ least }
     ensures byte { first_byte_of result.digits ≡ first_byte_of (id_digits id.now) }

@@ -2,17 +2,14 @@
 
 ghost use Rattle.std.specs.Prelude.{◌≡◌, ◌∷◌, [], ◌++◌, ◌≤◌, IfErr, IfOk, OnOk, length};
 ghost use Rattle.gix_hash.specs.Digits.{first_byte_of};
-ghost use Rattle.gix_hash.specs.Kind.{hex_len_of};
 ghost use Rattle.gix_hash.specs.ObjectId.{id_digits, id_kind};
-ghost use Rattle.object_store.specs.Parts.{AreLocations, AreMatches, ArePassing};
+ghost use Rattle.object_store.specs.Parts.{AreLocations, AreMatches};
 ghost use Rattle.object_store.specs.Stores.{HaveBuckets, IsLocateFault, IsStoreFault};
-ghost use Rattle.object_store.specs.Wanted.{passes, wanted_byte, wanted_len};
 
 use crate::error::Error;
-use crate::gathering::{push_packed, push_wanted};
+use crate::gathering::{push_all, push_packed};
 use crate::locations::{Location, locate_in};
 use crate::store::Store;
-use crate::wanted::Wanted;
 use gix_hash::{ObjectId, Prefix};
 use id_lookup::sort_unique;
 use pack_index::Bucket;
@@ -79,9 +76,23 @@ impl<'s, S: Store, A: Allocator + Copy> Part<'s, S, A> {
         requires kind { prefix.now.kind ≡ self.now.store.kind }
         ensures { IfOk result (λ ids. AreMatches self.now.store prefix.now.digits ids.items) }
     {
-        // The contract of this call says that the prefix has at most as many digits as its kind.
+        // The contracts of these calls say how many digits the prefix has at most, and that the
+        // pack indexes have the store's kind.
         let _hex_len = prefix.hex_len();
-        self.gather(alloc, &Wanted::BeginsWith(*prefix))
+        let _packs = self.store.indexes();
+        let kind = self.store.object_hash();
+        let mut ids = Vec::new(alloc);
+        push_packed(&mut ids, &self.buckets, kind, prefix)?;
+        push_all(&mut ids, self.store.loose().beginning_with(prefix), kind)?;
+        sort_unique(&mut ids);
+        Ok(ids)
+    }
+
+    // The first byte that was read.
+    pub(crate) fn byte(&self) -> u8
+        ensures { result ≡ self.now.byte }
+    {
+        self.byte
     }
 
     /// All locations of an object of the store whose id has the first byte that was read, as
@@ -94,25 +105,6 @@ impl<'s, S: Store, A: Allocator + Copy> Part<'s, S, A> {
         ensures err { IfErr result (IsLocateFault self.now.store (id_digits id.now)) }
     {
         locate_in(alloc, self.store, &self.buckets, id)
-    }
-
-    // The ids of the store that are asked for, each once, in order.
-    pub(crate) fn gather(&self, alloc: A, wanted: &Wanted) -> Result<Vec<ObjectId, A>, AllocError>
-        requires byte { wanted_byte wanted.now ≡ self.now.byte }
-        requires enough { 2 ≤ wanted_len wanted.now }
-        requires fits { wanted_len wanted.now ≤ hex_len_of self.now.store.kind }
-        ensures { IfOk result (λ ids. ArePassing self.now.store (wanted_byte wanted.now)
-            (passes wanted.now) ids.items) }
-    {
-        // Its contract says that the pack indexes have the store's kind.
-        let _packs = self.store.indexes();
-        let kind = self.store.object_hash();
-        let mut ids = Vec::new(alloc);
-        push_packed(&mut ids, &self.buckets, kind, wanted)?;
-        let loose = self.store.loose().with_first_byte(self.byte);
-        push_wanted(&mut ids, loose, wanted, kind)?;
-        sort_unique(&mut ids);
-        Ok(ids)
     }
 }
 

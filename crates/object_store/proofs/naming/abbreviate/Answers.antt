@@ -1,4 +1,4 @@
-use Rattle.std.proofs.Common.{◌∙◌, List, ℕ, map, ap, subst}
+use Rattle.std.proofs.Common.{◌∙◌, List, ℕ, map, ap, sym, subst}
 use Rattle.gix_hash.specs.ObjectId.{id_digits}
 use Rattle.id_lookup.specs.Runs.{matches}
 use Rattle.object_store.specs.Parts.{AreMatches}
@@ -15,3 +15,6 @@ returns-clause-name g c = λ whole h.
 
 pub returns-clause-sound : goal.returns-clause-sound
 returns-clause-sound g c = subst (HaveBuckets (g.S.Store.view c.args.store.now)) c.first_byte.ensures c.in_ok-part.ensures.sound
+
+pub lookup_prefix-requires-clause-kind : goal.lookup_prefix-requires-clause-kind
+lookup_prefix-requires-clause-kind g c = c.front_of-front.ensures.kind ∙ c.requires.kind ∙ sym (ap (λ (p : PartView). p.store.kind) c.in_ok-part.ensures.part)

@@ -1,9 +1,10 @@
-use Rattle.std.proofs.Common.{◌∙◌, ap, map, arith}
+use Rattle.std.proofs.Common.{◌∙◌, ap, map, sym, subst, arith}
 use Rattle.std.specs.List.{count_by}
 use Rattle.gix_hash.specs.ObjectId.{id_digits}
 use Rattle.id_lookup.proofs.Indexes.{index-sorted}
-use Rattle.id_lookup.specs.FirstBytes.{is_up_to}
-use Rattle.id_lookup.specs.Index.{Index}
+use Rattle.id_lookup.proofs.SameMembers.{index-filter}
+use Rattle.id_lookup.specs.FirstBytes.{has_first_byte, is_up_to}
+use Rattle.id_lookup.specs.Index.{Index, IsIndex}
 use Rattle.object_store.proofs.LooseParts.{part_bounds, part_slice}
 use Rattle.object_store.proofs.loose.LooseTable.with_first_byte.Goals as goal
 
@@ -27,3 +28,8 @@ slice_bounds-result-start c =
     part_bounds c.deref.result.now c.args.self.now.ids c.args.byte c.below-start.result c.up_to-end.result (ap (map id_digits) c.deref.ensures.value ∙ ids) c.below-start.ensures
     (c.up_to-end.ensures.count _ c.self.invariant.1 ∙ ap (count_by (is_up_to c.args.byte)) ids) in
     omega (arith, bounds.0, bounds.1, c.deref.ensures.len)
+
+pub returns-clause-index : goal.returns-clause-index
+returns-clause-index c =
+    let index : IsIndex c.args.self.now.kind c.args.self.now.ids = subst (λ (x : Index). IsIndex x.kind x.ids) c.self.view_is c.self.invariant.0 in
+    subst (IsIndex c.args.self.now.kind) (sym (returns-clause-ids c)) (index-filter c.args.self.now.kind (has_first_byte c.args.byte) c.args.self.now.ids index)

@@ -1,0 +1,30 @@
+use Rattle.std.proofs.Common.{◌≡◌, ◌∙◌, ℕ, List, map, refl, ap, arith}
+use Rattle.gix_hash.specs.Digits.{first_byte_of}
+use Rattle.gix_hash.specs.ObjectId.{id_digits}
+use Rattle.id_lookup.proofs.Beginnings.{first_byte_of-begins, matches-part}
+use Rattle.id_lookup.proofs.Spelled.{starts_with-BeginsWith}
+use Rattle.gix_hash.specs.Kind.{hex_len_of}
+use Rattle.gix_hash.specs.Prefix.{padded}
+use Rattle.id_lookup.proofs.Indexes.{index-sorted}
+use Rattle.id_lookup.specs.IndexOf.{part_of}
+use Rattle.id_lookup.specs.Runs.{matches}
+use Rattle.object_store.proofs.LooseParts.{index_least}
+use Rattle.pack_index.proofs.Matched.{run_matches}
+use Rattle.object_store.proofs.loose.LooseTable.beginning_with.Goals as goal
+
+pub find_assuming_sorted-run-requires : goal.find_assuming_sorted-run-requires
+find_assuming_sorted-run-requires c =
+    let least = index_least c.args.self.now.kind (map id_digits c.with_first_byte-ids.result.now) c.with_first_byte-ids.ensures.index in
+    omega (arith, least, c.requires.fits)
+
+pub returns-clause-ids : goal.returns-clause-ids
+returns-clause-ids c =
+    let ids = c.with_first_byte-ids.result.now in
+    let digits = c.args.prefix.now.digits in
+    let zeros : List ℕ = padded (hex_len_of c.args.prefix.now.kind) digits in
+    let begins = (starts_with-BeginsWith zeros digits).1 (_, refl) in
+    let byte : c.first_byte.result ≡ first_byte_of digits =
+    c.first_byte.ensures ∙ ap first_byte_of c.as_oid.ensures.digits ∙ first_byte_of-begins zeros digits c.requires.enough begins in
+    run_matches id_digits c.args.prefix.now ids c.find_assuming_sorted-run.result
+    (c.find_assuming_sorted-run.ensures.run (index-sorted c.args.self.now.kind (map id_digits ids) c.with_first_byte-ids.ensures.index))
+    ∙ ap (matches digits) (c.with_first_byte-ids.ensures.ids ∙ ap (λ b. part_of b c.args.self.now.ids) byte) ∙ matches-part digits c.args.self.now.ids c.requires.enough

@@ -1,0 +1,21 @@
+use Rattle.std.proofs.Common.{◌≡◌, ◌∙◌, ◌≤◌, ◌∷◌, [], take, ap, arith}
+use Rattle.gix_hash.specs.Digits.{digits_of, first_byte_of}
+use Rattle.gix_hash.specs.Kind.{hex_len_of}
+use Rattle.gix_hash.specs.Prefix.{KindDigits, kind_digits}
+use Rattle.gix_hash.specs.declared.Kind.{Kind}
+use Rattle.gix_hash.specs.declared.Kind.TheVariants.{Sha1, Sha256}
+use Rattle.object_store.proofs.naming.two_digits.Goals as goal
+
+two : (kind : Kind) → 2 ≤ hex_len_of kind
+two Sha1 = omega arith
+two Sha256 = omega arith
+
+pub returns-clause-digits : goal.returns-clause-digits
+unfolding digits_of
+returns-clause-digits c =
+    let made : c.unwrap.result ≡ kind_digits c.args.kind (take 2 (digits_of (c.args.byte ∷ []))) =
+    let read = c.from_packed_digits.ensures.some (two c.args.kind) (omega arith) in let unwrapped = c.unwrap.ensures in cc in
+    ap (λ (p : KindDigits). p.digits) made
+
+pub returns-clause-byte : goal.returns-clause-byte
+returns-clause-byte c = ap first_byte_of (returns-clause-digits c) ∙ omega arith
