@@ -1,2 +1,4 @@
 mod Entries
+mod Picked
 mod Quoted
+mod ReadSoFar

@@ -1,4 +1,9 @@
 pub mod Alternates
+pub mod Configs
+pub mod Formats
+pub mod KindInConfig
+pub mod Numbers
 pub mod Paths
 pub mod Printed
 pub mod Quoting
+pub mod Variables
