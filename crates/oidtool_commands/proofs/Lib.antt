@@ -7,4 +7,4 @@ mod IdLines
 mod SkippedLines
 mod ChunkLemmas
 mod SourceReads
-pub mod StopLemmas
+mod StopLemmas

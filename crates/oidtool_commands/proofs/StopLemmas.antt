@@ -1,5 +1,5 @@
 -- A search stops where the reading stops, or at the end of what it is given.
-use Rattle.std.proofs.Common.{◌≡◌, ◌≢◌, ◌↔◌, false, true, Bool, ℕ, inl, inr, Option, Some, None, List, [], ◌++◌, length, map, refl, sym, ap, ◌∙◌, append_assoc, append-nil, subst, arith, Result, Ok, Err, IfOk, IfErr, IsErrAnd, IsErrOf, IsOk}
+use Rattle.std.proofs.Common.{◌≡◌, ◌≢◌, ◌↔◌, false, true, Bool, ℕ, inl, inr, Option, List, [], ◌++◌, length, map, refl, sym, ap, ◌∙◌, subst, arith, Result, Ok, Err, IfOk, IfErr, IsErrAnd, IsErrOf, IsOk}
 use Rattle.std.proofs.lemmas.Bool.{false≢true}
 use Rattle.std.specs.Result.{MatchResult, result_map_both}
 use Rattle.std.specs.Io.KnownBytes.{Appends}
@@ -35,23 +35,6 @@ settled_map settled follows = record {
 -- nothing that never holds is settled
 settled_never : {P : List ℕ → Type 0} {most : ℕ} {old new : Option (List ℕ)} → ((text : List ℕ) → P text → ⊥) → IsSettled P most old new → ⊥
 settled_never never settled = elim settled.holds [ inl whatever ↦ never (settled.text ++ []) (whatever []) | inr at_end ↦ never settled.text at_end.0 ]
-
--- what is settled of a source with a known text holds of it, and so does what holds of all of it
-pub settled_whole : (P : List ℕ → Type 0) (most : ℕ) (text : List ℕ) (new : Option (List ℕ)) → IsSettled P most (Some text) new → P text
-settled_whole P most xs None settled = absurd settled.gives
-settled_whole P most xs (Some ys) settled = elim settled.holds [
-  | inl whatever ↦ subst P (sym (append_assoc settled.text settled.rest ys) ∙ sym settled.gives) (whatever (settled.rest ++ ys))
-  | inr at_end ↦
-      let all : xs ≡ settled.text =
-      settled.gives ∙ ap (λ l. (settled.text ++ settled.rest) ++ l) at_end.1
-      ∙ append-nil (settled.text ++ settled.rest) ∙ ap (λ l. settled.text ++ l) at_end.2 ∙ append-nil settled.text in
-      subst P (sym all) at_end.0
-]
-
-pub all_whole : (P : List ℕ → Type 0) (most : ℕ) (text : List ℕ) (new : Option (List ℕ)) → HoldsOfAll P most (Some text) new → P text
-all_whole P most xs None all = absurd all.gives
-all_whole P most xs (Some ys) all =
-    let same : xs ≡ all.text = all.gives ∙ ap (λ l. all.text ++ l) all.at_end ∙ append-nil all.text in subst P (sym same) all.holds
 
 -- an error of the list text stops the search, and is none of a read
 refused_stops : (search : Search) (digits : List ℕ) (most : ℕ) (old new : Option (List ℕ)) (error : SearchError)

@@ -1,6 +1,6 @@
 //! The command line.
 
-ghost use Rattle.std.specs.Prelude.{◌≡◌, [], ◌∷◌, IfOk, IfErr};
+ghost use Rattle.std.specs.Prelude.{[], ◌∷◌, IfOk, IfErr};
 ghost use Rattle.gix_hash.specs.Kind.{IsNameOf};
 ghost use Rattle.oidtool_commands.specs.Command.{AsksFor, IsNumberOf, IsKindRefusal, IsNumberRefusal, IsWordsRefusal, texts_of};
 

@@ -4,7 +4,7 @@ ghost use Rattle.std.specs.Prelude.{◌≡◌, ◌≢◌, ◌↔◌, ℕ, List, 
 ghost use Rattle.gix_hash.specs.declared.Kind.{Kind};
 ghost use Rattle.oidtool_search.specs.Errors.{cause_in};
 ghost use Rattle.oidtool_commands.specs.Searching.{finding, ResultHolds};
-ghost use Rattle.oidtool_commands.specs.Stopping.{Fails, Finds, From, IsOfText, IsOwn, Text};
+ghost use Rattle.oidtool_commands.specs.Stopping.{Fails, Finds, IsOfText, IsOwn, Text};
 ghost use Rattle.oidtool_commands.specs.declared.SearchError.{SearchError};
 ghost use Rattle.oidtool_search.specs.declared.finding_in.FindInError.{FindInError};
 ghost use Rattle.oidtool_commands.specs.declared.Search.{Search};

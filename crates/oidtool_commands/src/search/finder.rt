@@ -4,7 +4,6 @@ ghost use Rattle.std.specs.Prelude.{false, IsTrue, ◌≡◌, ◌≢◌, ◌+◌
 ghost use Rattle.std.specs.Option.{option_map};
 ghost use Rattle.std.specs.Result.{result_map_both};
 ghost use Rattle.gix_hash.specs.ObjectId.{id_digits};
-ghost use Rattle.gix_hash.specs.Prefix.{KindDigits};
 ghost use Rattle.id_digits.specs.SortedLines.{is_line_len};
 ghost use Rattle.oidtool_commands.specs.Searching.{last_or, found_among, HasFound};
 ghost use Rattle.oidtool_commands.specs.Skipping.{HasSkipped};
