@@ -34,12 +34,6 @@ error_of_search search.Input = command.Input
 error_of_search search.TooMuch = command.TooMuch
 error_of_search error = command.Find error
 
--- a search fails: with its own error, or, after all lines were written, at the flush
-abbrev pub SearchFails : Search → List ℕ → Option (List ℕ) → Option (List ℕ) → Option (List ℕ) → Option (List ℕ) → CommandError → Type 0
-SearchFails search prefix input input' old new e =
-    ((error : SearchError) × (e ≡ error_of_search error) × Fails search prefix (From max_len input input') error old new)
-    ⊎ ((e ≡ command.Output) × (count : ℕ) × Finds search prefix (From max_len input input') old new count)
-
 -- the rest of the input was read to its end, or more than 2^61 - 1 bytes of it
 abbrev pub IsDrained : Option (List ℕ) → Option (List ℕ) → Type 0
 IsDrained input input' = (bytes : List ℕ) × (HasReadAll input input' bytes ⊎ HasReadTooMuch input input' bytes)
@@ -51,40 +45,26 @@ ReadsOn (search.Prefix error) input stop input' = IsDrained input input'
 ReadsOn (search.BadLine n error) input stop input' = IsDrained stop input'
 ReadsOn error input stop input' = input' ≡ stop
 
--- a search that reads its input to the end fails: at a read, with its own error where it stopped, or at the flush
+-- a search that reads its input to the end fails: at a read, or with its own error where it stopped
 abbrev pub SearchToEndFails : Search → List ℕ → Option (List ℕ) → Option (List ℕ) → Option (List ℕ) → Option (List ℕ) → CommandError → Type 0
 SearchToEndFails search prefix input input' old new e =
     (e ≡ command.Input)
     ⊎ ((error : SearchError) × (stop : Option (List ℕ)) × (e ≡ error_of_search error)
     × Fails search prefix (From max_len input stop) error old new × ReadsOn error input stop input')
-    ⊎ ((e ≡ command.Output) × (count : ℕ) × Finds search prefix (From max_len input input') old new count)
 
 -- all of the input was read, and what is made of it was written
 abbrev pub Writes : (List ℕ → List ℕ) → Option (List ℕ) → Option (List ℕ) → Option (List ℕ) → Option (List ℕ) → Type 0
 Writes make input input' old new = (message : List ℕ) × HasReadAll input input' message × Appends old new (make message)
 
--- hashing fails: with its own error, or at the flush
-abbrev pub HashFails : Kind → Option (List ℕ) → Option (List ℕ) → Option (List ℕ) → Option (List ℕ) → CommandError → Type 0
-HashFails kind input input' old new e =
-    ((error : PipeError) × (e ≡ error_of_pipe error) × HashingFails error kind input input' old new)
-    ⊎ ((e ≡ command.Output) × Writes (digest_line kind) input input' old new)
-
--- sealing fails: with its own error, or at the flush
-abbrev pub SealFails : Kind → Option (List ℕ) → Option (List ℕ) → Option (List ℕ) → Option (List ℕ) → CommandError → Type 0
-SealFails kind input input' old new e =
-    ((error : PipeError) × (e ≡ error_of_pipe error) × SealingFails error kind input input' old new)
-    ⊎ ((e ≡ command.Output) × Writes (sealed kind) input input' old new)
-
 -- the line of the digest of so many bytes was written
 abbrev pub WritesOfFile : Kind → ℕ → Option (List ℕ) → Option (List ℕ) → Type 0
 WritesOfFile kind len old new = (message : List ℕ) × (length message ≡ len) × Appends old new (digest_line kind message)
 
--- hashing a file fails: the file gives no digest, or a write fails, or the flush
+-- hashing a file fails: the file gives no digest, or a write fails
 abbrev pub HashFileFails : Kind → ℕ → Option (List ℕ) → Option (List ℕ) → CommandError → Type 0
 HashFileFails kind len old new e =
     (e ≡ command.Input)
     ⊎ ((e ≡ command.Output) × (message : List ℕ) × (length message ≡ len) × AppendsPart old new (digest_line kind message))
-    ⊎ ((e ≡ command.Output) × WritesOfFile kind len old new)
 
 -- what a command has done that returns a number
 abbrev pub Does : Command → Option (List ℕ) → Option (List ℕ) → Option (List ℕ) → Option (List ℕ) → ℕ → Type 0
@@ -95,14 +75,20 @@ Does (Hash kind) input input' old new count = Writes (digest_line kind) input in
 Does (HashFile kind len path) input input' old new count = WritesOfFile kind len old new × (count ≡ 1)
 Does (Seal kind) input input' old new count = Writes (sealed kind) input input' old new × (count ≡ 1)
 
--- how it fails
+-- how it fails before the flush
+abbrev pub FailsUnflushed : Command → Option (List ℕ) → Option (List ℕ) → Option (List ℕ) → Option (List ℕ) → CommandError → Type 0
+FailsUnflushed (Find prefix) input input' old new e =
+    (error : SearchError) × (e ≡ error_of_search error) × Fails (Sorted Hex) prefix.now (From max_len input input') error old new
+FailsUnflushed (FindChange letters) input input' old new e = SearchToEndFails (Sorted Reverse) letters.now input input' old new e
+FailsUnflushed (FindIn kind prefix) input input' old new e = SearchToEndFails (In kind) prefix.now input input' old new e
+FailsUnflushed (Hash kind) input input' old new e = (error : PipeError) × (e ≡ error_of_pipe error) × HashingFails error kind input input' old new
+FailsUnflushed (HashFile kind len path) input input' old new e = HashFileFails kind len old new e
+FailsUnflushed (Seal kind) input input' old new e = (error : PipeError) × (e ≡ error_of_pipe error) × SealingFails error kind input input' old new
+
+-- how it fails: so, or, after all was written, at the flush
 abbrev pub FailsTo : Command → Option (List ℕ) → Option (List ℕ) → Option (List ℕ) → Option (List ℕ) → CommandError → Type 0
-FailsTo (Find prefix) = SearchFails (Sorted Hex) prefix.now
-FailsTo (FindChange letters) = SearchToEndFails (Sorted Reverse) letters.now
-FailsTo (FindIn kind prefix) = SearchToEndFails (In kind) prefix.now
-FailsTo (Hash kind) = HashFails kind
-FailsTo (HashFile kind len path) = λ input input'. HashFileFails kind len
-FailsTo (Seal kind) = SealFails kind
+FailsTo asked input input' old new e =
+    FailsUnflushed asked input input' old new e ⊎ ((e ≡ command.Output) × (count : ℕ) × Does asked input input' old new count)
 
 -- whether a command reads the input, and not a file
 abbrev pub reads_input : Command → Bool

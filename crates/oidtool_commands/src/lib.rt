@@ -11,9 +11,7 @@
 #![tactic(auto)]
 
 mod command;
-mod digests;
 mod error;
-mod flushing;
 mod running;
 mod search;
 mod searching;

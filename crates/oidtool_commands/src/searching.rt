@@ -1,44 +1,19 @@
-//! The commands that search the list text of the input.
+//! The searches that read the input to its end.
 
-ghost use Rattle.std.specs.Prelude.{◌≡◌, ◌≢◌, ◌↔◌, [], true, false, IfOk, IfErr, OnOk, IsErrOf};
-ghost use Rattle.oidtool_commands.specs.Running.{IsDrained, SearchFails, SearchToEndFails};
+ghost use Rattle.std.specs.Prelude.{◌≡◌, ◌≢◌, ◌↔◌, true, false, IfOk, IfErr, OnOk, IsErrOf};
+ghost use Rattle.oidtool_commands.specs.Running.{IsDrained, SearchToEndFails};
 ghost use Rattle.oidtool_commands.specs.declared.error.CommandError.{CommandError};
 ghost use Rattle.oidtool_commands.specs.Stopping.{Finds, From};
 
 use crate::error::CommandError;
-use crate::flushing::flush;
 use crate::search::error::SearchError;
 use crate::search::{Search, search_from};
 use std::alloc::Allocator;
-use streams::{BufferedSink, CHUNK_LEN, MAX_LEN, PipeError, Source, next_chunk};
+use streams::{CHUNK_LEN, MAX_LEN, PipeError, Sink, Source, next_chunk};
 
-/// Writes a line for each id of the list that begins with the prefix, and returns their number.
-/// Nothing is read after the chunk in which the first bad line ends.
-pub fn search<A: Allocator, R: Source, W: BufferedSink>(
-    alloc: A,
-    search: Search,
-    prefix: &str,
-    input: &mut R,
-    out: &mut W,
-) -> Result<usize, CommandError>
-    requires input { R.has_failed input.old ≡ false }
-    requires output { W.has_failed out.old ≡ false }
-    ensures done { IfOk result (Finds search prefix.now
-        (From MAX_LEN (R.remaining input.old) (R.remaining input.new))
-        (W.taken out.old) (W.taken out.new)) }
-    ensures failed { IfErr result (SearchFails search prefix.now
-        (R.remaining input.old) (R.remaining input.new) (W.taken out.old) (W.taken out.new)) }
-    ensures flushed { OnOk result (W.kept_back out.new ≡ []) }
-    ensures untouched { IfErr result (λ e. e ≢ CommandError.Output → out.new ≡ out.old) }
-    ensures input { IsErrOf result CommandError.Input ↔ (R.has_failed input.new ≡ true) }
-    ensures output { IsErrOf result CommandError.Output ↔ (W.has_failed out.new ≡ true) }
-{
-    let count = search_from(alloc, search, prefix, input, MAX_LEN, out)?;
-    flush(count, out)
-}
-
-/// The same, and reads the input to its end also if the search stops at the prefix or at a line.
-pub fn search_to_end<A: Allocator, R: Source, W: BufferedSink>(
+/// Searches the list text of the input, as [`search_from`] does, and reads the input to its end also
+/// if the search stops at the prefix or at a line.
+pub fn search_to_end<A: Allocator, R: Source, W: Sink>(
     alloc: A,
     search: Search,
     prefix: &str,
@@ -52,13 +27,12 @@ pub fn search_to_end<A: Allocator, R: Source, W: BufferedSink>(
         (W.taken out.old) (W.taken out.new)) }
     ensures failed { IfErr result (SearchToEndFails search prefix.now
         (R.remaining input.old) (R.remaining input.new) (W.taken out.old) (W.taken out.new)) }
-    ensures flushed { OnOk result (W.kept_back out.new ≡ []) }
     ensures untouched { IfErr result (λ e. e ≢ CommandError.Output → out.new ≡ out.old) }
     ensures input { IsErrOf result CommandError.Input ↔ (R.has_failed input.new ≡ true) }
     ensures output { IsErrOf result CommandError.Output ↔ (W.has_failed out.new ≡ true) }
 {
     match search_from(alloc, search, prefix, input, MAX_LEN, out) {
-        Ok(count) => flush(count, out),
+        Ok(count) => Ok(count),
         Err(error @ (SearchError::Prefix(_) | SearchError::BadLine { .. })) => {
             drain(input)?;
             Err(CommandError::Find(error))
