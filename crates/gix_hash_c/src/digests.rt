@@ -1,4 +1,4 @@
-//! Digests.
+//! Digests of bytes, for C.
 
 ghost use Rattle.std.specs.Prelude.{option_map};
 ghost use Rattle.gix_hash.specs.Hashing.{digest};

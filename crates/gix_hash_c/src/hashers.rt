@@ -1,4 +1,4 @@
-//! Hashers that C keeps, and feeds in pieces.
+//! Hashers that C keeps, and feeds in chunks.
 
 ghost use Rattle.std.specs.Prelude.{◌≡◌};
 ghost use Rattle.gix_hash_c.specs.Face.{kind_of_number};

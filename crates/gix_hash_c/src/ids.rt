@@ -1,9 +1,8 @@
 //! Ids for C.
 
-ghost use Rattle.std.specs.Prelude.{◌≡◌, MatchOption, Some, None, option_map, take};
-ghost use Rattle.id_digits.specs.Digits.{digits_of, hex_letter};
+ghost use Rattle.std.specs.Prelude.{◌≡◌, MatchOption, Some, None, option_map};
+ghost use Rattle.id_digits.specs.Digits.{hex_letter};
 ghost use Rattle.gix_hash.specs.IdReading.{full_read, whole_of};
-ghost use Rattle.gix_hash.specs.Kind.{byte_len_of};
 ghost use Rattle.gix_hash.specs.Oid.{oid_digits, oid_kind};
 ghost use Rattle.gix_hash.specs.Prefix.{kind_digits};
 ghost use Rattle.gix_hash.specs.WellKnown.{empty_blob_digits, empty_tree_digits, null_digits};

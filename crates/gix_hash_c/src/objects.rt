@@ -1,6 +1,6 @@
 //! Ids of Git's objects, from their types and contents.
 
-ghost use Rattle.std.specs.Prelude.{◌≡◌, ◌∷◌, ◌++◌, MatchOption, Some, None, decimal, length};
+ghost use Rattle.std.specs.Prelude.{◌≡◌, MatchOption, Some, None, decimal};
 ghost use Rattle.gix_hash.specs.Hashing.{digest};
 ghost use Rattle.gix_hash_c.specs.Face.{kind_of_number};
 ghost use Rattle.gix_hash_c.specs.Objects.{ObjectAnswer, object_bytes, type_name};

@@ -6,7 +6,7 @@ ghost use Rattle.gix_hash.specs.Kind.{hex_len_of};
 ghost use Rattle.gix_hash.specs.Prefix.{kind_digits};
 ghost use Rattle.id_lookup.specs.ShortNames.{IsShortestName};
 ghost use Rattle.id_lookup.specs.Sorted.{IsSortedIds};
-ghost use Rattle.pack_index.specs.Format.{HasHead, HasTables, crc_table_start, digests_in, names_in, names_start};
+ghost use Rattle.pack_index.specs.Format.{HasHead, HasTables, crc_table_start, digests_in, names_start};
 ghost use Rattle.gix_hash_c.specs.Face.{HoldsId, kind_of_number, prefix_in};
 ghost use Rattle.gix_hash_c.specs.Packs.{CheckAnswer, EntryAnswer, IsTablesFault, LenAnswer, NameAnswer, PackFindAnswer, PackKindAnswer, ShortestAnswer, cause_number, detail_of};
 
