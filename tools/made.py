@@ -124,7 +124,7 @@ BAD_HEADS = [
     # The count of byte 4a, and that of byte 4b.
     (307, 3, "the fan-out entry of the first byte 4b is below the one before it"),
     (311, 3, "the fan-out entry of the first byte 4c is below the one before it"),
-    (0, 0, "the bytes do not begin as a pack index of version 2"),
+    (0, 0, "the bytes do not begin as a pack index"),
     (7, 3, "pack indexes of version 3 are not read"),
     (1031, 5, "the tables of the pack index do not fill its bytes"),
 ]

@@ -7,6 +7,7 @@ use Rattle.id_lookup.specs.IndexOf.{IsIndexOf}
 use Rattle.id_lookup.specs.ShortNames.{IsShortestNameFrom}
 use Rattle.pack_index.specs.Format.{HasOffset, IsPackIndex, names_in}
 use Rattle.pack_index.specs.Lazy as lazy
+pub use Rattle.pack_index.specs.Lazy.{IfKnown}
 use Rattle.pack_index.specs.Lazy.{HasBucket, IsBucketFault, IsFirstCounted, LazyIndex}
 use Rattle.pack_index.specs.declared.lazy_error.LazyError.{LazyError}
 use Rattle.pack_index.specs.declared.lazy_error.LazyError.TheVariants.{NoOffset}
@@ -29,10 +30,6 @@ IsNameIn least whole id name = (position : ℕ) → position < length whole → 
 -- the id and its name are of the kind
 abbrev pub IsOfKind : Kind → NamedId → Type 0
 IsOfKind kind named = (id_kind named.id ≡ kind) × (named.name.kind ≡ kind)
-
--- a fact of the bytes of a pack index, if they are known
-abbrev pub IfKnown : (List ℕ → Type 0) → LazyIndex → Type 0
-IfKnown P pack = (bytes : List ℕ) → pack.content ≡ Some bytes → P bytes
 
 -- why a look-up fails that asks the pack indexes in order: the one at the index has the fault, where a read of it may fail or not, and those before it
 -- have what is asked for

@@ -1,16 +1,15 @@
 -- The numbers in the head of a pack index are those of all its bytes.
-use Rattle.std.proofs.Common.{◌≡◌, Bool, false, ℕ, zero, suc, ◌+◌, ◌-◌, ◌*◌, ◌<◌, ◌≤◌, List, [], ◌∷◌, length, get_or, take, drop, refl, sym, ap, ◌∙◌, arith, zero-add}
+use Rattle.std.proofs.Common.{◌≡◌, ℕ, zero, suc, ◌+◌, ◌-◌, ◌*◌, ◌<◌, ◌≤◌, List, [], ◌∷◌, length, get_or, take, drop, refl, sym, ap, ◌∙◌, arith, zero-add}
 use Rattle.std.specs.Int.{from_be_bytes, w32}
-use Rattle.std.proofs.lemmas.Bool.{false≢true}
 use Rattle.std.proofs.lemmas.List.{get_or-take, get_or-drop}
 use Rattle.gix_hash.specs.Kind.{byte_len_of}
 use Rattle.gix_hash.specs.declared.Kind.{Kind}
 use Rattle.gix_hash.specs.declared.Kind.TheVariants.{Sha1, Sha256}
-use Rattle.pack_index.specs.Format.{FillsBytes, HasHead, HasTables, counts_len, long_table_start, magic_number, min_len, names_start, num_objects, offset_table_start, word_at}
-use Rattle.pack_index.specs.Lazy.{IsHeadFault, bucket_start, bucket_end}
-use Rattle.pack_index.specs.declared.lazy_error.LazyError.{LazyError}
-use Rattle.pack_index.specs.declared.lazy_error.LazyError.TheVariants.{Read}
-use Rattle.pack_index.specs.Refusal.{version_1_len}
+use Rattle.pack_index.specs.Format.{BeginsIndex, FillsBytes, HasHead, HasTables, long_table_start, min_len, names_start, num_objects, offset_table_start, word_at}
+use Rattle.pack_index.specs.Lazy.{bucket_start, bucket_end}
+use Rattle.pack_index.specs.Refusal.{IsHeadFault, other_than}
+use Rattle.pack_index.specs.declared.error.Error.{Error}
+use Rattle.pack_index.specs.declared.error.Error.TheVariants.{OtherKind, TooShort, Version1, BadMagic, BadVersion, WrongLength}
 use Rattle.streams.specs.ReadAt.{IsReadAt}
 
 -- a number in bytes that were read
@@ -42,13 +41,6 @@ module _ (bytes head : List ℕ) (front : IsReadAt bytes 0 head) (long : length 
   pub end_in_head : (byte : ℕ) → byte < 256 → bucket_end head byte ≡ bucket_end bytes byte
   end_in_head byte low = head_word (8 + 4 * byte) (omega arith)
 
-  pub has_head : (kind : Kind) (len : ℕ) → len ≡ length bytes → min_len kind ≤ len → word_at head 0 ≡ magic_number → word_at head 4 ≡ 2 → HasHead kind bytes
-  has_head kind len same enough magic version = record {
-    enough = omega (arith, same, enough);
-    magic = sym (head_word 0 (omega arith)) ∙ magic;
-    version = sym (head_word 4 (omega arith)) ∙ version;
-  }
-
   -- where the offsets and the 8-byte offsets begin
   pub offsets_in_head : (kind : Kind) → offset_table_start kind head ≡ offset_table_start kind bytes
   offsets_in_head kind = ap (λ n. names_start + byte_len_of kind * n + 4 * n) head_count
@@ -56,24 +48,32 @@ module _ (bytes head : List ℕ) (front : IsReadAt bytes 0 head) (long : length 
   pub long_in_head : (kind : Kind) → long_table_start kind head ≡ long_table_start kind bytes
   long_in_head kind = ap (λ n. names_start + byte_len_of kind * n + 4 * n + 4 * n) head_count
 
-  -- the head and the length say whether the tables fill the bytes
+  -- what is said of the head and the length holds of the bytes
+  pub begins : (kind : Kind) (len : ℕ) → len ≡ length bytes → BeginsIndex kind head len → HasHead kind bytes
+  begins kind len same is = record {
+    enough = omega (arith, same, is.enough);
+    magic = sym (head_word 0 (omega arith)) ∙ is.magic;
+    version = sym (head_word 4 (omega arith)) ∙ is.version;
+  }
+
   pub tables_by_head : (kind : Kind) (len : ℕ) → len ≡ length bytes → FillsBytes kind (num_objects head) len → HasTables kind bytes
   tables_by_head kind len same fills = rw (← same, ← head_count) fills
 
-  pub head_by_tables : (kind : Kind) (len : ℕ) → len ≡ length bytes → HasTables kind bytes → FillsBytes kind (num_objects head) len
+  head_by_tables : (kind : Kind) (len : ℕ) → len ≡ length bytes → HasTables kind bytes → FillsBytes kind (num_objects head) len
   head_by_tables kind len same tables = rw (same, head_count) tables
 
-  -- how long an index of version 1 is, by the count in the head
-  pub version_1_in_head : (kind : Kind) → version_1_len kind head ≡ version_1_len kind bytes
-  version_1_in_head kind =
-      ap (λ n. counts_len + byte_len_of kind * n + 4 * n + 2 * byte_len_of kind) (head_word 1020 (omega arith))
+  pub head_fault : (kind : Kind) (len : ℕ) → len ≡ length bytes → (e : Error) → IsHeadFault kind head len e → IsHeadFault kind bytes (length bytes) e
+  head_fault kind len same TooShort fault = rw (← same) fault
+  head_fault kind len same Version1 fault = rw (← same, ← head_word 0 (omega arith), ← head_word 1020 (omega arith)) fault
+  head_fault kind len same BadMagic fault = rw (← same, ← head_word 0 (omega arith), ← head_word 1020 (omega arith)) fault
+  head_fault kind len same (BadVersion version) fault = rw (← same, ← head_word 0 (omega arith), ← head_word 4 (omega arith)) fault
+  head_fault kind len same (OtherKind other) (is, not_full, name, fits) =
+      (begins kind len same is, λ has. not_full (head_by_tables kind len same has), name, tables_by_head (other_than kind) len same fits)
+  head_fault kind len same WrongLength (is, not_full, none) =
+      (begins kind len same is, λ has. not_full (head_by_tables kind len same has), λ has. none (head_by_tables (other_than kind) len same has))
+  head_fault kind len same _ fault = fault
 
 -- as many bytes as the smallest index has contain a head
 pub head_inside : (kind : Kind) (len : ℕ) → min_len kind ≤ len → 1032 ≤ len
 head_inside Sha1 len enough = omega arith
 head_inside Sha256 len enough = omega arith
-
--- a fault of the bytes is one whether a read of them may fail or not
-pub head_fault : (can_fail : Bool) (kind : Kind) (bytes : List ℕ) (e : LazyError) → IsHeadFault false kind bytes e → IsHeadFault can_fail kind bytes e
-head_fault can_fail kind bytes (Read e) fault = absurd (false≢true fault)
-head_fault can_fail kind bytes _ fault = fault

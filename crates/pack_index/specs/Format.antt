@@ -108,11 +108,15 @@ unfoldable pub longs_before : Kind → List ℕ → ℕ → ℕ
 longs_before kind bytes zero = 0
 longs_before kind bytes (suc n) = if is_long kind bytes n then longs_before kind bytes n + 1 else longs_before kind bytes n
 
--- the bytes are no fewer than the smallest index, and begin as one of version 2
-pub record HasHead (kind : Kind) (bytes : List ℕ) : Type 0 where
-  pub enough : min_len kind ≤ length bytes
-  pub magic : word_at bytes 0 ≡ magic_number
-  pub version : word_at bytes 4 ≡ 2
+-- the first of `len` bytes are those of an index of version 2, and there are no fewer than the smallest index has
+pub record BeginsIndex (kind : Kind) (first : List ℕ) (len : ℕ) : Type 0 where
+  pub enough : min_len kind ≤ len
+  pub magic : word_at first 0 ≡ magic_number
+  pub version : word_at first 4 ≡ 2
+
+-- the bytes begin as an index of version 2
+abbrev pub HasHead : Kind → List ℕ → Type 0
+HasHead kind bytes = BeginsIndex kind bytes (length bytes)
 
 -- the tables of `count` objects fill `len` bytes up to the digests. There are fewer 8-byte offsets than objects, since the pack's first object, at
 -- 12, needs none

@@ -5,10 +5,10 @@ use Rattle.gix_hash.specs.declared.Kind.{Kind}
 use Rattle.id_lookup.specs.FirstBytes.{has_first_byte}
 use Rattle.id_lookup.specs.IndexOf.{part_of}
 use Rattle.pack_index.specs.Firsts.{Each}
-use Rattle.pack_index.specs.Format.{HasCount, HasHead, HasOffset, HasTables, magic_number, min_len, names_in, num_objects, word_at}
-use Rattle.pack_index.specs.Refusal.{other_than, version_1_len}
+use Rattle.pack_index.specs.Format.{HasCount, HasOffset, names_in, num_objects, word_at}
+use Rattle.pack_index.specs.Refusal.{IsHeadFault}
 use Rattle.pack_index.specs.declared.lazy_error.LazyError.{LazyError}
-use Rattle.pack_index.specs.declared.lazy_error.LazyError.TheVariants.{Read, Memory, TooShort, Version1, BadMagic, BadVersion, OtherKind, WrongLength, CountsFall, CountTooHigh, WrongCount, NoOffset}
+use Rattle.pack_index.specs.declared.lazy_error.LazyError.TheVariants.{Read, Memory, Head, CountsFall, CountTooHigh, WrongCount, NoOffset}
 
 -- what contracts see: the kind of the ids, their number as the last fan-out entry says, all bytes if they are known, and whether a read of them may
 -- fail
@@ -17,6 +17,10 @@ pub record LazyIndex : Type 0 where
   pub count : ℕ
   pub content : Option (List ℕ)
   pub can_fail : Bool
+
+-- a statement holds of the bytes of a pack index, if they are known
+abbrev pub IfKnown : (List ℕ → Type 0) → LazyIndex → Type 0
+IfKnown P index = (bytes : List ℕ) → index.content ≡ Some bytes → P bytes
 
 -- where the ids with the first byte begin, by the fan-out table
 abbrev pub bucket_start : List ℕ → ℕ → ℕ
@@ -60,7 +64,7 @@ pub record IsBucketOf (index : LazyIndex) (byte : ℕ) (bucket : BucketNames) : 
   pub kind : bucket.kind ≡ index.kind
   pub inside : bucket.start + length bucket.names ≤ index.count
   pub first : HaveFirstByte byte bucket.names
-  pub known : (bytes : List ℕ) → index.content ≡ Some bytes → AreCounted index.kind bytes byte bucket
+  pub known : IfKnown (λ bytes. AreCounted index.kind bytes byte bucket) index
 
 -- the id of these digits is at this position, and at none before it of those with its first byte by the fan-out table
 pub record IsFirstCounted (kind : Kind) (bytes digits : List ℕ) (at : ℕ) : Type 0 where
@@ -75,18 +79,11 @@ IsReadOrMemory can_fail (Read e) = IsTrue can_fail
 IsReadOrMemory can_fail (Memory e) = Unit {0}
 IsReadOrMemory can_fail _ = ⊥
 
--- why bytes are not opened, of which a read may fail or not: the cause holds, and none before it
-abbrev pub IsHeadFault : Bool → Kind → List ℕ → LazyError → Type 0
-IsHeadFault can_fail kind bytes (Read e) = IsTrue can_fail
-IsHeadFault can_fail kind bytes TooShort = length bytes < min_len kind
-IsHeadFault can_fail kind bytes Version1 = (min_len kind ≤ length bytes) × (word_at bytes 0 ≢ magic_number) × (length bytes ≡ version_1_len kind bytes)
-IsHeadFault can_fail kind bytes BadMagic = (min_len kind ≤ length bytes) × (word_at bytes 0 ≢ magic_number) × (length bytes ≢ version_1_len kind bytes)
-IsHeadFault can_fail kind bytes (BadVersion version) =
-    (min_len kind ≤ length bytes) × (word_at bytes 0 ≡ magic_number) × (version ≡ word_at bytes 4) × (version ≢ 2)
-IsHeadFault can_fail kind bytes (OtherKind other) =
-    HasHead kind bytes × (¬ HasTables kind bytes) × (other ≡ other_than kind) × HasTables (other_than kind) bytes
-IsHeadFault can_fail kind bytes WrongLength = HasHead kind bytes × (¬ HasTables kind bytes) × ¬ HasTables (other_than kind) bytes
-IsHeadFault can_fail kind bytes _ = ⊥
+-- why bytes are not opened, of which a read may fail or not
+abbrev pub IsOpenFault : Bool → Kind → List ℕ → LazyError → Type 0
+IsOpenFault can_fail kind bytes (Read e) = IsTrue can_fail
+IsOpenFault can_fail kind bytes (Head error) = IsHeadFault kind bytes (length bytes) error
+IsOpenFault can_fail kind bytes _ = ⊥
 
 -- why the ids with a first byte are not read: the cause holds of that byte, and none before it
 abbrev pub IsBucketFault : Bool → Kind → List ℕ → ℕ → LazyError → Type 0

@@ -1,11 +1,10 @@
 //! What is checked of the bytes of a pack index.
 
 ghost use Rattle.std.specs.Prelude.{◌≡◌, ◌↔◌, ◌+◌, ◌*◌, ◌<◌, ◌≤◌, IfErr, IsTrue, MatchOption, OnOk, length};
-ghost use Rattle.gix_hash.specs.Kind.{byte_len_of};
 ghost use Rattle.id_lookup.specs.FirstBytes.{IsFanOut};
 ghost use Rattle.pack_index.specs.Firsts.{Each, IsFirstNot};
-ghost use Rattle.pack_index.specs.Format.{FillsBytes, HasCount, HasHead, HasOffset, HasTables, min_len, names_in, names_start, num_objects};
-ghost use Rattle.pack_index.specs.Refusal.{IsFault, other_than, version_1_len};
+ghost use Rattle.pack_index.specs.Format.{BeginsIndex, FillsBytes, HasCount, HasHead, HasOffset, HasTables, min_len, names_in, names_start, num_objects};
+ghost use Rattle.pack_index.specs.Refusal.{IsFault, IsHeadFault, other_than, version_1_len};
 
 use crate::error::Error;
 use crate::words::{
@@ -15,9 +14,9 @@ use crate::words::{
 use gix_hash::Kind;
 use id_lookup::FanOut;
 
-pub(crate) const MAGIC: u32 = 0xff74_4f63;
+const MAGIC: u32 = 0xff74_4f63;
 
-pub(crate) const VERSION: u32 = 2;
+const VERSION: u32 = 2;
 
 // The length of the fan-out table, with which an index of version 1 begins.
 pub(crate) const COUNTS_LEN: usize = 1024;
@@ -34,25 +33,45 @@ pub fn check_tables(bytes: &[u8], kind: Kind) -> Result<(), Error>
     if bytes.len() < COUNTS_LEN + 2 * kind.len_in_bytes() {
         return Err(Error::TooShort);
     }
-    if word_at(bytes, 0) != MAGIC {
-        return Err(if bytes.len() == version_1_len(bytes, kind) {
+    match check_head(bytes, kind, bytes.len() as u64) {
+        Err(Error::OtherKind(_)) => Err(Error::WrongLength),
+        result => result,
+    }
+}
+
+// Checks the first of `len` bytes, at least the head of an index, and that its tables fill them.
+// The error is the first one that holds of those from `OtherKind` to `WrongLength`.
+pub(crate) fn check_head(first: &[u8], kind: Kind, len: u64) -> Result<(), Error>
+    requires head { names_start ≤ length first.now }
+    requires enough { min_len kind ≤ len }
+    ensures head { OnOk result (BeginsIndex kind first.now len) }
+    ensures tables { OnOk result (FillsBytes kind (num_objects first.now) len) }
+    ensures err { IfErr result (IsHeadFault kind first.now len) }
+{
+    if word_at(first, 0) != MAGIC {
+        return Err(if len == version_1_len(first, kind) as u64 {
             Error::Version1
         } else {
             Error::BadMagic
         });
     }
-    let version = word_at(bytes, 4);
+    let version = word_at(first, 4);
     if version != VERSION {
         return Err(Error::BadVersion(version));
     }
-    if !fills_bytes(bytes, kind, bytes.len() as u64) {
-        return Err(Error::WrongLength);
+    if fills_bytes(first, kind, len) {
+        return Ok(());
     }
-    Ok(())
+    let other = other_than(kind);
+    Err(if fills_bytes(first, other, len) {
+        Error::OtherKind(other)
+    } else {
+        Error::WrongLength
+    })
 }
 
-/// How many bytes an index of version 1 has, by its last fan-out entry.
-pub(crate) fn version_1_len(bytes: &[u8], kind: Kind) -> usize
+// How many bytes an index of version 1 has, by its last fan-out entry.
+fn version_1_len(bytes: &[u8], kind: Kind) -> usize
     requires { names_start ≤ length bytes.now }
     ensures { result ≡ version_1_len kind bytes.now }
 {
@@ -64,7 +83,7 @@ pub(crate) fn version_1_len(bytes: &[u8], kind: Kind) -> usize
     COUNTS_LEN + names + 4 * count + 2 * kind.len_in_bytes()
 }
 
-/// The other kind.
+// The other kind.
 pub(crate) fn other_than(kind: Kind) -> Kind
     ensures { result ≡ other_than kind }
 {
@@ -74,17 +93,15 @@ pub(crate) fn other_than(kind: Kind) -> Kind
     }
 }
 
-// Whether the tables of as many objects as the last fan-out entry says fill `len` bytes up to the
-// digests.
-pub(crate) fn fills_bytes(head: &[u8], kind: Kind, len: u64) -> bool
-    requires head { names_start ≤ length head.now }
-    requires enough { min_len kind ≤ len }
-    ensures { IsTrue result ↔ FillsBytes kind (num_objects head.now) len }
+// Whether the tables of as many objects as the last fan-out entry says, and the digests, fill `len`
+// bytes.
+fn fills_bytes(first: &[u8], kind: Kind, len: u64) -> bool
+    requires { names_start ≤ length first.now }
+    ensures { IsTrue result ↔ FillsBytes kind (num_objects first.now) len }
 {
-    let long = long_table_start(head, kind) as u64;
-    let end = len - 2 * kind.len_in_bytes() as u64;
-    let most = u64::from(num_objects(head)).saturating_sub(1);
-    long <= end && (end - long) % 8 == 0 && end <= long + 8 * most
+    let least = long_table_start(first, kind) as u64 + 2 * kind.len_in_bytes() as u64;
+    let most = u64::from(num_objects(first)).saturating_sub(1);
+    least <= len && (len - least) % 8 == 0 && len <= least + 8 * most
 }
 
 // The first byte whose fan-out entry is wrong.

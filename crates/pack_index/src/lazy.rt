@@ -1,19 +1,20 @@
 //! Pack indexes that are read at positions, and not whole.
 
-ghost use Rattle.std.specs.Prelude.{◌≡◌, ◌≢◌, ◌↔◌, ◌+◌, ◌-◌, ◌*◌, ◌<◌, ◌≤◌, ℕ, [], All, IfErr, IfOk, IfSome, IsTrue, List, MatchOption, OnOk, Some, false, length, map, slice_index_or};
+ghost use Rattle.std.specs.Prelude.{◌≡◌, ◌≢◌, ◌↔◌, ◌+◌, ◌-◌, ◌*◌, ◌<◌, ◌≤◌, ℕ, [], All, IfErr, IfOk, IfSome, IsTrue, List, MatchOption, OnOk, Some, length, slice_index_or};
 ghost use Rattle.gix_hash.specs.Digits.{first_byte_of};
 ghost use Rattle.gix_hash.specs.Kind.{byte_len_of};
 ghost use Rattle.gix_hash.specs.Oid.{oid_digits};
 ghost use Rattle.id_lookup.specs.FirstBytes.{has_first_byte};
 ghost use Rattle.id_lookup.specs.IndexOf.{part_of};
 ghost use Rattle.pack_index.specs.Firsts.{Each};
-ghost use Rattle.pack_index.specs.Format.{HasCount, HasHead, HasOffset, HasTables, digests_in, magic_number, min_len, names_in, num_objects, offset_in, offset_word, word_at};
-ghost use Rattle.pack_index.specs.Lazy.{HasBucket, HaveFirstByte, IsBucketFault, IsBucketOf, IsFirstCounted, IsHeadFault, IsOffsetFault, IsReadOrMemory, bucket_end, bucket_start, counted_with};
+ghost use Rattle.pack_index.specs.Format.{HasCount, HasHead, HasOffset, HasTables, digests_in, names_in, num_objects, offset_in, offset_word, word_at};
+ghost use Rattle.pack_index.specs.Lazy.{HasBucket, HaveFirstByte, IfKnown, IsBucketFault, IsBucketOf, IsFirstCounted, IsOffsetFault, IsOpenFault, IsReadOrMemory, bucket_end, bucket_start, counted_with};
 ghost use Rattle.pack_index.specs.Names.{IsFirstIndexOf};
 ghost use Rattle.streams.specs.ReadAt.{IsReadAt};
 
 use crate::bucket::Bucket;
-use crate::checks::{COUNTS_LEN, MAGIC, VERSION, fills_bytes, other_than, version_1_len};
+use crate::checks::{COUNTS_LEN, check_head};
+use crate::error::Error;
 use crate::lazy_error::LazyError;
 use crate::words::{
     LONG, NAMES_START, bucket_range, long_table_start, long_word_at, num_objects,
@@ -70,8 +71,7 @@ impl<S: ReadAt + Drop> LazyFile<S> {
     /// Opens the bytes of a source as a pack index with ids of a kind. Only their number and the
     /// first 1032 are looked at.
     ///
-    /// The errors are `Read`, `TooShort`, `Version1`, `BadMagic`, `BadVersion`, `OtherKind` and
-    /// `WrongLength`.
+    /// The errors are `Read` and `Head`.
     pub fn open(source: S, kind: Kind) -> Result<LazyFile<S>, LazyError>
         ensures kind { IfOk result (λ file. file.kind ≡ kind) }
         ensures content { IfOk result (λ file. file.content ≡ S.content source) }
@@ -79,11 +79,11 @@ impl<S: ReadAt + Drop> LazyFile<S> {
         ensures head { IfOk result (λ file. (bytes : List ℕ) → S.content source ≡ Some bytes
             → HasHead kind bytes) }
         ensures err { IfErr result (λ e. (bytes : List ℕ) → S.content source ≡ Some bytes
-            → IsHeadFault (S.can_fail source) kind bytes e) }
+            → IsOpenFault (S.can_fail source) kind bytes e) }
     {
         let len = source.len()?;
         if len < (COUNTS_LEN + 2 * kind.len_in_bytes()) as u64 {
-            return Err(LazyError::TooShort);
+            return Err(LazyError::Head(Error::TooShort));
         }
         let mut head = [0; NAMES_START];
         source.read_exact_at(&mut head, 0)?;
@@ -107,10 +107,8 @@ impl<S: ReadAt + Drop> LazyFile<S> {
     /// The number of objects, as the last fan-out entry says.
     pub fn num_objects(&self) -> u32
         ensures count { result ≡ self.now.count }
-        ensures bytes { (bytes : List ℕ) → self.now.content ≡ Some bytes
-            → result ≡ num_objects bytes }
-        ensures tables { (bytes : List ℕ) → self.now.content ≡ Some bytes
-            → HasTables self.now.kind bytes }
+        ensures bytes { IfKnown (λ bytes. result ≡ num_objects bytes) self.now }
+        ensures tables { IfKnown (HasTables self.now.kind) self.now }
     {
         num_objects(&self.head)
     }
@@ -122,8 +120,8 @@ impl<S: ReadAt + Drop> LazyFile<S> {
     /// The errors are `Read`, `Memory`, `CountsFall`, `CountTooHigh` and `WrongCount`.
     pub fn bucket<A: Allocator>(&self, alloc: A, byte: u8) -> Result<Bucket<A>, LazyError>
         ensures bucket { IfOk result (IsBucketOf self.now byte) }
-        ensures err { IfErr result (λ e. (bytes : List ℕ) → self.now.content ≡ Some bytes
-            → IsBucketFault self.now.can_fail self.now.kind bytes byte e) }
+        ensures err { IfErr result (λ e. IfKnown (λ bytes.
+            IsBucketFault self.now.can_fail self.now.kind bytes byte e) self.now) }
     {
         // Its contract says how many names there are.
         let _count = self.num_objects();
@@ -138,17 +136,15 @@ impl<S: ReadAt + Drop> LazyFile<S> {
     pub fn lookup<A: Allocator>(&self, bucket: &Bucket<A>, id: oid<'_>) -> Option<u32>
         requires { IsBucketOf self.now (first_byte_of (oid_digits id)) bucket.now }
         ensures in_range { IfSome result (λ at. at < self.now.count) }
-        ensures name { IfSome result (λ at. (bytes : List ℕ) → self.now.content ≡ Some bytes
-            → slice_index_or (names_in self.now.kind bytes) at [] ≡ oid_digits id.entry) }
-        ensures found { (bytes : List ℕ) → self.now.content ≡ Some bytes
-            → Each (HasCount self.now.kind bytes) 256
+        ensures name { IfSome result (λ at. IfKnown (λ bytes.
+            slice_index_or (names_in self.now.kind bytes) at [] ≡ oid_digits id.entry) self.now) }
+        ensures found { IfKnown (λ bytes. Each (HasCount self.now.kind bytes) 256
             → let names = names_in self.now.kind bytes in
             MatchOption result ((k : ℕ) → k < length names
             → slice_index_or names k [] ≢ oid_digits id.entry)
-            (IsFirstIndexOf names (oid_digits id.entry)) }
-        ensures counted { (bytes : List ℕ) → self.now.content ≡ Some bytes
-            → (at : ℕ) → (result ≡ Some at)
-            ↔ IsFirstCounted self.now.kind bytes (oid_digits id.entry) at }
+            (IsFirstIndexOf names (oid_digits id.entry))) self.now }
+        ensures counted { IfKnown (λ bytes. (at : ℕ) → (result ≡ Some at)
+            ↔ IsFirstCounted self.now.kind bytes (oid_digits id.entry) at) self.now }
     {
         // Its contract says how many names there are.
         let _count = self.num_objects();
@@ -163,12 +159,11 @@ impl<S: ReadAt + Drop> LazyFile<S> {
     /// `NoOffset`.
     pub fn pack_offset_at_index(&self, at: u32) -> Result<u64, LazyError>
         requires { at < self.now.count }
-        ensures has { IfOk result (λ _. (bytes : List ℕ) → self.now.content ≡ Some bytes
-            → HasOffset self.now.kind bytes at) }
-        ensures offset { IfOk result (λ offset. (bytes : List ℕ) → self.now.content ≡ Some bytes
-            → offset ≡ offset_in self.now.kind bytes at) }
-        ensures err { IfErr result (λ e. (bytes : List ℕ) → self.now.content ≡ Some bytes
-            → IsOffsetFault self.now.can_fail self.now.kind bytes at e) }
+        ensures has { OnOk result (IfKnown (λ bytes. HasOffset self.now.kind bytes at) self.now) }
+        ensures offset { IfOk result (λ offset. IfKnown (λ bytes.
+            offset ≡ offset_in self.now.kind bytes at) self.now) }
+        ensures err { IfErr result (λ e. IfKnown (λ bytes.
+            IsOffsetFault self.now.can_fail self.now.kind bytes at e) self.now) }
     {
         let word = self.read_offset_word(at)?;
         if word < LONG {
@@ -186,10 +181,10 @@ impl<S: ReadAt + Drop> LazyFile<S> {
     // What the table of offsets has for object `at`.
     fn read_offset_word(&self, at: u32) -> Result<u32, LazyError>
         requires { at < self.now.count }
-        ensures word { IfOk result (λ word. (bytes : List ℕ) → self.now.content ≡ Some bytes
-            → word ≡ offset_word self.now.kind bytes at) }
-        ensures err { IfErr result (λ e. (bytes : List ℕ) → self.now.content ≡ Some bytes
-            → IsOffsetFault self.now.can_fail self.now.kind bytes at e) }
+        ensures word { IfOk result (λ word. IfKnown (λ bytes.
+            word ≡ offset_word self.now.kind bytes at) self.now) }
+        ensures err { IfErr result (λ e. IfKnown (λ bytes.
+            IsOffsetFault self.now.can_fail self.now.kind bytes at e) self.now) }
     {
         let mut word = [0; 4];
         let start = offset_table_start(&self.head, self.kind) + 4 * at as usize;
@@ -199,14 +194,14 @@ impl<S: ReadAt + Drop> LazyFile<S> {
 
     // The positions of the ids with a first byte, by the fan-out table.
     fn run_of(&self, byte: u8) -> Result<Run, LazyError>
-        ensures start { IfOk result (λ run. (bytes : List ℕ) → self.now.content ≡ Some bytes
-            → run.start ≡ bucket_start bytes byte) }
-        ensures end { IfOk result (λ run. (bytes : List ℕ) → self.now.content ≡ Some bytes
-            → run.end ≡ bucket_end bytes byte) }
+        ensures start { IfOk result (λ run. IfKnown (λ bytes.
+            run.start ≡ bucket_start bytes byte) self.now) }
+        ensures end { IfOk result (λ run. IfKnown (λ bytes.
+            run.end ≡ bucket_end bytes byte) self.now) }
         ensures in_order { IfOk result (λ run. run.start ≤ run.end) }
         ensures inside { IfOk result (λ run. run.end ≤ self.now.count) }
-        ensures err { IfErr result (λ e. (bytes : List ℕ) → self.now.content ≡ Some bytes
-            → IsBucketFault self.now.can_fail self.now.kind bytes byte e) }
+        ensures err { IfErr result (λ e. IfKnown (λ bytes.
+            IsBucketFault self.now.can_fail self.now.kind bytes byte e) self.now) }
     {
         let run = bucket_range(&self.head, byte, byte);
         if run.end < run.start {
@@ -228,25 +223,24 @@ impl<S: ReadAt + Drop> LazyFile<S> {
     ) -> Result<Vec<u8, A>, LazyError>
         requires in_order { run.now.start ≤ run.now.end }
         requires inside { run.now.end ≤ self.now.count }
-        requires start { (bytes : List ℕ) → self.now.content ≡ Some bytes
-            → run.now.start ≡ bucket_start bytes byte }
-        requires end { (bytes : List ℕ) → self.now.content ≡ Some bytes
-            → run.now.end ≡ bucket_end bytes byte }
-        ensures names { IfOk result (λ table. (bytes : List ℕ) → self.now.content ≡ Some bytes
-            → digests_in self.now.kind table.items ≡ counted_with self.now.kind bytes byte) }
-        ensures part { IfOk result (λ table. (bytes : List ℕ) → self.now.content ≡ Some bytes
-            → Each (HasCount self.now.kind bytes) 256
-            → digests_in self.now.kind table.items ≡ part_of byte (names_in self.now.kind bytes)) }
+        requires start { IfKnown (λ bytes. run.now.start ≡ bucket_start bytes byte) self.now }
+        requires end { IfKnown (λ bytes. run.now.end ≡ bucket_end bytes byte) self.now }
+        ensures names { IfOk result (λ table. IfKnown (λ bytes.
+            digests_in self.now.kind table.items
+            ≡ counted_with self.now.kind bytes byte) self.now) }
+        ensures part { IfOk result (λ table. IfKnown (λ bytes.
+            Each (HasCount self.now.kind bytes) 256 → digests_in self.now.kind table.items
+            ≡ part_of byte (names_in self.now.kind bytes)) self.now) }
         ensures len { IfOk result (λ table. length (digests_in self.now.kind table.items)
             ≡ run.now.end - run.now.start) }
         ensures bytes { IfOk result (λ table. length table.items
             ≡ byte_len_of self.now.kind * (run.now.end - run.now.start)) }
         ensures first { IfOk result (λ table.
             HaveFirstByte byte (digests_in self.now.kind table.items)) }
-        ensures sound { IfOk result (λ _. (bytes : List ℕ) → self.now.content ≡ Some bytes
-            → HasBucket self.now.kind bytes byte) }
-        ensures err { IfErr result (λ e. (bytes : List ℕ) → self.now.content ≡ Some bytes
-            → IsBucketFault self.now.can_fail self.now.kind bytes byte e) }
+        ensures sound { OnOk result (IfKnown (λ bytes.
+            HasBucket self.now.kind bytes byte) self.now) }
+        ensures err { IfErr result (λ e. IfKnown (λ bytes.
+            IsBucketFault self.now.can_fail self.now.kind bytes byte e) self.now) }
     {
         // The contracts of these calls say how many names there are, and of which kind.
         let _count = self.num_objects();
@@ -262,12 +256,12 @@ impl<S: ReadAt + Drop> LazyFile<S> {
     fn read_names<A: Allocator>(&self, alloc: A, run: &Run) -> Result<Vec<u8, A>, LazyError>
         requires in_order { run.now.start ≤ run.now.end }
         requires inside { run.now.end ≤ self.now.count }
-        ensures names { IfOk result (λ table. (bytes : List ℕ) → self.now.content ≡ Some bytes
-            → IsReadAt bytes (1032 + byte_len_of self.now.kind * run.now.start) table.items) }
+        ensures names { IfOk result (λ table. IfKnown (λ bytes. IsReadAt bytes
+            (1032 + byte_len_of self.now.kind * run.now.start) table.items) self.now) }
         ensures len { IfOk result (λ table. length table.items
             ≡ byte_len_of self.now.kind * (run.now.end - run.now.start)) }
-        ensures err { IfErr result (λ e. (bytes : List ℕ) → self.now.content ≡ Some bytes
-            → IsReadOrMemory self.now.can_fail e) }
+        ensures err { IfErr result (λ e. IfKnown (λ _.
+            IsReadOrMemory self.now.can_fail e) self.now) }
     {
         let _count = num_objects(&self.head);
         let (at, len) = match self.kind {
@@ -278,60 +272,6 @@ impl<S: ReadAt + Drop> LazyFile<S> {
         self.source
             .read_exact_at(&mut table, (NAMES_START + at) as u64)?;
         Ok(table)
-    }
-}
-
-// Whether a header, and the length of all bytes, are those of a pack index.
-fn check_head(head: &[u8], kind: Kind, len: u64) -> Result<(), LazyError>
-    requires head { length head.now ≡ 1032 }
-    requires enough { min_len kind ≤ len }
-    ensures head { OnOk result ((bytes : List ℕ) → IsReadAt bytes 0 head.now
-        → len ≡ length bytes → HasHead kind bytes) }
-    ensures tables { OnOk result ((bytes : List ℕ) → IsReadAt bytes 0 head.now
-        → len ≡ length bytes → HasTables kind bytes) }
-    ensures err { IfErr result (λ e. (bytes : List ℕ) → IsReadAt bytes 0 head.now
-        → len ≡ length bytes → IsHeadFault false kind bytes e) }
-{
-    let magic = word_at(head, 0);
-    if magic != MAGIC {
-        return Err(bad_magic(head, kind, len));
-    }
-    let version = word_at(head, 4);
-    if version != VERSION {
-        return Err(LazyError::BadVersion(version));
-    }
-    if !fills_bytes(head, kind, len) {
-        return Err(wrong_length(head, kind, len));
-    }
-    Ok(())
-}
-
-// Why bytes do not begin with the magic number: they are of version 1, or no index.
-fn bad_magic(head: &[u8], kind: Kind, len: u64) -> LazyError
-    requires head { length head.now ≡ 1032 }
-    requires enough { min_len kind ≤ len }
-    ensures { (bytes : List ℕ) → IsReadAt bytes 0 head.now → len ≡ length bytes
-        → word_at bytes 0 ≢ magic_number → IsHeadFault false kind bytes result }
-{
-    if len == version_1_len(head, kind) as u64 {
-        LazyError::Version1
-    } else {
-        LazyError::BadMagic
-    }
-}
-
-// Why the tables of ids of a kind do not fill the bytes: those of the other kind do, or neither.
-fn wrong_length(head: &[u8], kind: Kind, len: u64) -> LazyError
-    requires { length head.now ≡ 1032 }
-    ensures { (bytes : List ℕ) → IsReadAt bytes 0 head.now → len ≡ length bytes
-        → HasHead kind bytes → ¬ HasTables kind bytes → IsHeadFault false kind bytes result }
-{
-    let other = other_than(kind);
-    let is_enough = len >= (COUNTS_LEN + 2 * other.len_in_bytes()) as u64;
-    if is_enough && fills_bytes(head, other, len) {
-        LazyError::OtherKind(other)
-    } else {
-        LazyError::WrongLength
     }
 }
 

@@ -3,7 +3,7 @@
 ghost use Rattle.std.specs.Prelude.{◌≡◌};
 ghost use Rattle.pack_index.specs.declared.lazy_error.LazyError.TheVariants as errors;
 
-use gix_hash::Kind;
+use crate::error::Error;
 use std::alloc::AllocError;
 use std::io;
 use thiserror::Error as ThisError;
@@ -13,7 +13,7 @@ use thiserror::Error as ThisError;
 ///
 /// ```
 /// let why = LazyFile::open(&b"PACK"[..], Kind::Sha1);
-/// assert!(rt; matches!(why, Err(LazyError::TooShort)));
+/// assert!(rt; matches!(why, Err(LazyError::Head(Error::TooShort))));
 /// ```
 #[derive(Debug, Drop, ThisError)]
 pub enum LazyError {
@@ -23,26 +23,11 @@ pub enum LazyError {
     /// There is not enough memory.
     #[error("out of memory")]
     Memory(AllocError),
-    /// There are fewer bytes than the smallest index of any version has: 1024, and two digests.
-    #[error("the bytes are too few for a pack index")]
-    TooShort,
-    /// The bytes do not begin with the magic number of version 2 and later, and are as many as an
-    /// index of version 1 has, by its last fan-out entry.
-    #[error("pack indexes of version 1 are not read")]
-    Version1,
-    /// The bytes do not begin with the magic number, nor are they as long as an index of version 1.
-    #[error("the bytes do not begin as a pack index of version 2")]
-    BadMagic,
-    /// The version after the magic number is this, and not 2.
-    #[error("pack indexes of version {0} are not read")]
-    BadVersion(u32),
-    /// The length fits an index with ids of this kind, the other one, and not one of the kind that
-    /// was asked for.
-    #[error("the ids of the pack index are of the kind {0}")]
-    OtherKind(Kind),
-    /// The length fits no index of either kind with as many objects as the last fan-out entry says.
-    #[error("the tables of the pack index do not fill its bytes")]
-    WrongLength,
+    /// The bytes do not begin as an index of version 2 with ids of the kind, or have no length of
+    /// one. The cause is one from [`Error::OtherKind`] to [`Error::WrongLength`]. `OtherKind` says
+    /// that the length fits the other kind, and `WrongLength` that it fits neither.
+    #[error("{0}")]
+    Head(Error),
     /// The fan-out entry of this byte is below the one before it.
     #[error("the fan-out entry of the first byte {0:02x} is below the one before it")]
     CountsFall(u8),
@@ -70,5 +55,13 @@ impl From<AllocError> for LazyError {
 
     fn from(error: AllocError) -> Self {
         LazyError::Memory(error)
+    }
+}
+
+impl From<Error> for LazyError {
+    ghost from_gives = { λ error made. made ≡ errors.Head error };
+
+    fn from(error: Error) -> Self {
+        LazyError::Head(error)
     }
 }

@@ -1,6 +1,6 @@
 //! What is checked of the offsets of a pack index.
 
-ghost use Rattle.std.specs.Prelude.{◌≡◌, ◌+◌, ◌*◌, ◌^◌, ◌<◌, ◌≤◌, IfErr, IfOk, MatchOption, OnOk, length};
+ghost use Rattle.std.specs.Prelude.{◌≡◌, ◌+◌, ◌*◌, ◌^◌, ◌<◌, IfErr, IfOk, MatchOption, OnOk, length};
 ghost use Rattle.pack_index.specs.Firsts.{Each, IsFirstNot};
 ghost use Rattle.pack_index.specs.Format.{HasNames, HasOffset, HasOffsets, HasTables, IsNextLong, IsPastHeader, IsSigned, longs_before, num_objects};
 ghost use Rattle.pack_index.specs.Refusal.{IsFault};

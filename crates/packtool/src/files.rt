@@ -196,7 +196,7 @@ fn is_index<S: ReadAt>(source: &S, path: &str) -> bool {
 // SHA-256 if a pack index of version 1 or 2 has the length for its names to be of that kind.
 fn kind_by_length(index: File) -> Option<Kind> {
     match LazyFile::open(index, Kind::Sha256) {
-        Ok(_) | Err(LazyError::Version1) => Some(Kind::Sha256),
+        Ok(_) | Err(LazyError::Head(pack_index::Error::Version1)) => Some(Kind::Sha256),
         Err(_) => None,
     }
 }

@@ -1,6 +1,6 @@
-use Rattle.std.proofs.Common.{arith}
+use Rattle.std.proofs.Common.{◌≡◌, length, arith, rules}
 use Rattle.std.proofs.lemmas.Result.{err_from_is_err_and}
-use Rattle.pack_index.proofs.Heads.{head_fault, head_inside}
+use Rattle.pack_index.proofs.Heads.{begins, head_fault, head_inside, tables_by_head}
 use Rattle.pack_index.proofs.lazy.LazyFile.open.Goals as goal
 
 pub returns-in_err-read_exact_at-clause-err : goal.returns-in_err-read_exact_at-clause-err
@@ -12,5 +12,19 @@ returns-in_err-read_exact_at-clause-err g c =
 pub returns-in_err-check_head-clause-err : goal.returns-in_err-check_head-clause-err
 returns-in_err-check_head-clause-err g c =
     let failed = err_from_is_err_and c.from_residual-in_err-check_head.result c.from_residual-in_err-check_head.ensures.1 in
+    let long : length c.read_exact_at.new.buf ≡ 1032 = first_of (search rules, omega arith) in
     rw (failed.1, failed.2) (λ bytes is.
-    head_fault _ _ bytes _ (c.in_err-check_head.ensures.err bytes (c.in_ok-read_exact_at.ensures.bytes bytes is) (c.in_ok-len.ensures.len bytes is)))
+    head_fault bytes c.read_exact_at.new.buf (c.in_ok-read_exact_at.ensures.bytes bytes is) long c.args.kind c.in_ok-len.len (c.in_ok-len.ensures.len bytes is) _ c.in_err-check_head.ensures.err)
+
+pub returns-clause-head : goal.returns-clause-head
+returns-clause-head g c =
+    let long : length c.read_exact_at.new.buf ≡ 1032 = first_of (search rules, omega arith) in
+    λ bytes is. begins bytes c.read_exact_at.new.buf (c.in_ok-read_exact_at.ensures.bytes bytes is) long c.args.kind c.in_ok-len.len (c.in_ok-len.ensures.len bytes is) c.in_ok-check_head.ensures.head
+
+pub invariant_of-result : goal.invariant_of-result
+invariant_of-result g c =
+    let long : length c.read_exact_at.new.buf ≡ 1032 = first_of (search rules, omega arith) in
+    λ bytes is.
+    let front = c.in_ok-read_exact_at.ensures.bytes bytes is in
+    let same = c.in_ok-len.ensures.len bytes is in
+    (front, tables_by_head bytes c.read_exact_at.new.buf front long c.args.kind c.in_ok-len.len same c.in_ok-check_head.ensures.tables, omega (arith, same, c.len_in_bytes-2.ensures))
