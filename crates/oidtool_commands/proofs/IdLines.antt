@@ -1,5 +1,5 @@
 -- Sorted lines of full ids: the ids that they read as, and what is known of these.
-use Rattle.std.proofs.Common.{◌≡◌, ◌⊎◌, inl, inr, ℕ, zero, suc, ◌+◌, ◌-◌, ◌*◌, ◌<◌, ◌≤◌, Bool, true, false, nat_eq, if◌then◌else◌, IsTrue, Option, Some, None, Result, Ok, Err, List, [], ◌∷◌, map, length, take, get_or, refl, sym, ap, ◌∙◌, arith, Less, Equal, Greater}
+use Rattle.std.proofs.Common.{◌≡◌, ◌⊎◌, inl, inr, ℕ, zero, suc, ◌+◌, ◌-◌, ◌<◌, ◌≤◌, Bool, true, false, nat_eq, if◌then◌else◌, IsTrue, Option, Some, None, Result, Ok, Err, List, [], ◌∷◌, map, length, take, get_or, refl, sym, ap, ◌∙◌, arith, Less, Equal, Greater}
 use Rattle.std.proofs.lemmas.Bool.Decides.{nat_tests}
 use Rattle.std.proofs.lemmas.Cmp.{nat_list_cmp_total}
 use Rattle.std.proofs.lemmas.List.{length-map, get_or-map}
@@ -20,6 +20,7 @@ use Rattle.gix_hash.specs.declared.ObjectId.{ObjectId}
 use Rattle.gix_hash.specs.declared.ObjectId.TheVariants as id
 use Rattle.gix_hash.specs.declared.decode.Error.{Error}
 use Rattle.gix_hash.specs.declared.decode.Error.TheVariants.{InvalidHexEncodingLength, Invalid}
+use Rattle.gix_hash.proofs.KindFacts.{hex_len_of-bytes}
 use Rattle.id_digits.specs.LetterValues.{value_of, packed}
 use Rattle.id_digits.specs.SortedLines.{is_line_len, line_values, may_follow, IsIdLine, AreSortedLines}
 use Rattle.id_digits.proofs.ReadLines.{length-letters, packed_line, line_reads}
@@ -32,7 +33,7 @@ use Rattle.oidtool_commands.specs.declared.search.error.SearchError.TheVariants.
 use Rattle.oidtool_commands.specs.declared.search.Search.{Search}
 use Rattle.oidtool_commands.specs.declared.search.Search.TheVariants.{Sorted, In}
 use Rattle.oidtool_commands.proofs.FinderLemmas.{last_or-at}
-use Rattle.oidtool_commands.proofs.Orders.{IsUpTo, in_order_after}
+use Rattle.oidtool_commands.proofs.Orders.{IsUpTo, in_order_after, less}
 
 -- the kind of the ids in lines of a length
 pub kind_of_line : (len : ℕ) → IsTrue (is_line_len len) → (kind : Kind) × (len - 1 ≡ hex_len_of kind)
@@ -41,10 +42,6 @@ kind_of_line len is = by (nat_eq len 41) refl
     by : (b : Bool) → nat_eq len 41 ≡ b → (kind : Kind) × (len - 1 ≡ hex_len_of kind)
     by true short = let same : len - 1 ≡ 40 = grind (arith, nat_tests, short) in (Sha1, same)
     by false long = let same : len - 1 ≡ 64 = grind (arith, nat_tests, is, long) in (Sha256, same)
-
-two_a_byte : (kind : Kind) → hex_len_of kind ≡ 2 * byte_len_of kind
-two_a_byte Sha1 = refl
-two_a_byte Sha256 = refl
 
 -- the id of a kind that has these bytes
 abbrev made : Kind → List ℕ → ObjectId
@@ -75,7 +72,7 @@ count kind lines = length-map (ids_of kind lines) id_digits ∙ length-map lines
 
 digits_are : (kind : Kind) (line : List ℕ) → IsIdLine (hex_len_of kind) line → id_digits (id_of kind line) ≡ line_values (hex_len_of kind) line
 digits_are kind line is =
-    made_digits kind (packed (line_values (hex_len_of kind) line)) ∙ packed_line (byte_len_of kind) (hex_len_of kind) line (two_a_byte kind) is
+    made_digits kind (packed (line_values (hex_len_of kind) line)) ∙ packed_line (byte_len_of kind) (hex_len_of kind) line (hex_len_of-bytes kind) is
 
 count_digits : (kind : Kind) (line : List ℕ) → IsIdLine (hex_len_of kind) line → length (id_digits (id_of kind line)) ≡ hex_len_of kind
 count_digits kind line is = ap length (digits_are kind line is) ∙ length-map (take (hex_len_of kind) line) value_of ∙ length-letters (hex_len_of kind) line is
@@ -85,7 +82,7 @@ line_of_id kind line is =
     let n = hex_len_of kind in
     record {
       feed = is.feed;
-      reads = rw (length-letters n line is, line_reads (byte_len_of kind) n line (two_a_byte kind) is) (made_whole kind (packed (line_values n line)));
+      reads = rw (length-letters n line is, line_reads (byte_len_of kind) n line (hex_len_of-bytes kind) is) (made_whole kind (packed (line_values n line)));
     }
 
 are_lines : (kind : Kind) (repeats : Bool) (previous : List ℕ) (lines : List (List ℕ)) → AreSortedLines (hex_len_of kind) repeats previous lines
@@ -122,11 +119,6 @@ not_below Less h = refl
 not_below Equal h = refl
 not_below Greater h = cc h
 
-is_less : (o : Ordering) → is_lt o ≡ true → o ≡ Less
-is_less Less h = refl
-is_less Equal h = cc h
-is_less Greater h = cc h
-
 -- the ids are in order
 in_order : (search : Search) (kind : Kind) (lines : List (List ℕ)) → TakesLength search (hex_len_of kind)
     → AreSortedLines (hex_len_of kind) (allows_repeats search) [] lines → IsUpTo search (length (digits_in kind lines)) (digits_in kind lines)
@@ -140,7 +132,7 @@ in_order (In other) kind lines takes h = record {
   kinds = λ k d low high. length_at kind false [] lines h k d (omega (arith, high, count kind lines)) ∙ takes;
   rises = λ k d high.
       let next : k + 1 ≡ suc k = omega arith in
-      rw next (is_less _ (follows_at kind false [] lines h k d (omega (arith, high, count kind lines))));
+      rw next (less _ (follows_at kind false [] lines h k d (omega (arith, high, count kind lines))));
 }
 
 are_sorted : (search : Search) (ids : List (List ℕ)) → IsUpTo search (length ids) ids → IsSortedIds ids

@@ -83,7 +83,8 @@ first_is search last n (id ∷ ids) (Some error) (suc at, why, within, before, h
 abbrev is_below : List ℕ → List ℕ → Bool
 is_below a b = is_lt (slice_cmp nat_cmp a b)
 
-less : (o : Ordering) → is_lt o ≡ true → o ≡ Less
+-- an order whose test for Less holds is Less
+pub less : (o : Ordering) → is_lt o ≡ true → o ≡ Less
 less Less h = refl
 less Equal h = cc h
 less Greater h = cc h

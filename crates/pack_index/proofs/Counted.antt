@@ -1,5 +1,5 @@
 -- How many names the bytes of a pack index have, and how many digits each.
-use Rattle.std.proofs.Common.{◌≡◌, ℕ, ◌-◌, ◌%◌, ◌++◌, ◌*◌, ◌/◌, ◌<◌, ◌≤◌, zero, suc, List, [], ◌∷◌, length, map, get_or, take, drop, refl, sym, ap, subst, ◌∙◌, arith, length-drop, take-append-drop}
+use Rattle.std.proofs.Common.{◌≡◌, ℕ, ◌-◌, ◌++◌, ◌*◌, ◌/◌, ◌<◌, ◌≤◌, zero, suc, List, [], length, map, get_or, take, drop, refl, sym, ap, subst, ◌∙◌, arith, length-drop, take-append-drop}
 use Rattle.std.specs.Prelude.{flat_map, slice_range}
 use Rattle.std.proofs.Math.Nat.{mul-suc}
 use Rattle.std.proofs.lemmas.List.{length-map, length-take-le, nil_from_length}
@@ -8,6 +8,8 @@ use Rattle.gix_hash.specs.declared.Kind.{Kind}
 use Rattle.gix_hash.specs.declared.Kind.TheVariants.{Sha1, Sha256}
 use Rattle.std.specs.Simd.{first_chunks}
 use Rattle.gix_hash.specs.Digits.{digits_of}
+use Rattle.id_digits.proofs.ByteDigits.{length-digits_of}
+use Rattle.id_digits.proofs.Packing.{digits_of-append}
 use Rattle.id_lookup.specs.Sorted.{least_hex_len}
 use Rattle.pack_index.specs.Format.{HasTables, crc_table_start, digests_in, names_in, names_start, num_objects}
 
@@ -34,12 +36,6 @@ pub length-names_in : (kind : Kind) (bytes : List ℕ) → HasTables kind bytes 
 length-names_in kind bytes tables =
     length-digests_in kind (slice_range bytes names_start (crc_table_start kind bytes)) ∙ ap (λ n. n / byte_len_of kind) (length-table kind bytes tables)
     ∙ as_many kind (num_objects bytes)
-
--- two digits a byte
-length-digits_of : (bytes : List ℕ) → length (digits_of bytes) ≡ 2 * length bytes
-unfolding digits_of
-length-digits_of [] = refl
-length-digits_of (b ∷ bytes) = let rest = length-digits_of bytes in omega arith
 
 -- a prefix of the kind has at most as many digits as each of the names
 reach : (n k : ℕ) (bytes : List ℕ) → n ≤ 32 → n * k ≤ length bytes → 2 * n ≤ least_hex_len (map digits_of (first_chunks n k bytes))
@@ -80,12 +76,6 @@ module _ (kind : Kind) (bytes : List ℕ) (chunks : List (List ℕ)) (is : chunk
   chunks-long =
       subst (λ (xs : List (List ℕ)). (k : ℕ) → k < length (map digits_of xs) → length (get_or (map digits_of xs) k []) ≡ hex_len_of kind) (sym is)
       (length-digests_in_at kind bytes)
-
--- digits of bytes in two parts
-digits_of-append : (front back : List ℕ) → digits_of (front ++ back) ≡ digits_of front ++ digits_of back
-unfolding digits_of
-digits_of-append [] back = refl
-digits_of-append (b ∷ front) back = ap (λ (rest : List ℕ). (b / 16) ∷ (b % 16) ∷ rest) (digits_of-append front back)
 
 -- whole digests, one after the other, are the bytes
 row : (n k : ℕ) (bytes : List ℕ) → length bytes ≡ n * k → flat_map (λ name. name) (map digits_of (first_chunks n k bytes)) ≡ digits_of bytes
