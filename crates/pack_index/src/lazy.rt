@@ -5,10 +5,9 @@ ghost use Rattle.gix_hash.specs.Digits.{first_byte_of};
 ghost use Rattle.gix_hash.specs.Kind.{byte_len_of};
 ghost use Rattle.gix_hash.specs.Oid.{oid_digits};
 ghost use Rattle.id_lookup.specs.FirstBytes.{has_first_byte};
-ghost use Rattle.id_lookup.specs.IndexOf.{part_of};
 ghost use Rattle.pack_index.specs.Firsts.{Each};
 ghost use Rattle.pack_index.specs.Format.{HasCount, HasHead, HasOffset, HasTables, digests_in, names_in, num_objects, offset_in, offset_word, word_at};
-ghost use Rattle.pack_index.specs.Lazy.{HasBucket, HaveFirstByte, IfKnown, IsBucketFault, IsBucketOf, IsFirstCounted, IsOffsetFault, IsOpenFault, IsReadOrMemory, bucket_end, bucket_start, counted_with};
+ghost use Rattle.pack_index.specs.Lazy.{HaveFirstByte, IfKnown, IsBucketFault, IsBucketOf, IsFirstCounted, IsOffsetFault, IsOpenFault, IsReadOrMemory, bucket_end, bucket_start};
 ghost use Rattle.pack_index.specs.Names.{IsFirstIndexOf};
 ghost use Rattle.streams.specs.ReadAt.{IsReadAt};
 
@@ -123,11 +122,15 @@ impl<S: ReadAt + Drop> LazyFile<S> {
         ensures err { IfErr result (λ e. IfKnown (λ bytes.
             IsBucketFault self.now.can_fail self.now.kind bytes byte e) self.now) }
     {
-        // Its contract says how many names there are.
+        // The contracts of these calls say how many names there are, and of which kind.
         let _count = self.num_objects();
+        let kind = self.object_hash();
         let run = self.run_of(byte)?;
-        let table = self.read_bucket(alloc, byte, &run)?;
-        Ok(Bucket::new(table, self.kind, run.start))
+        let table = self.read_names(alloc, &run)?;
+        if !have_first_byte(&table, kind, byte) {
+            return Err(LazyError::WrongCount(byte));
+        }
+        Ok(Bucket::new(table, kind, run.start))
     }
 
     /// The position of an id, the first one if it occurs more than once, or `None` if it does not
@@ -212,44 +215,6 @@ impl<S: ReadAt + Drop> LazyFile<S> {
             return Err(LazyError::CountTooHigh(byte));
         }
         Ok(run)
-    }
-
-    // The ids of the run of a first byte, one after the other, if all of them have that byte.
-    fn read_bucket<A: Allocator>(
-        &self,
-        alloc: A,
-        byte: u8,
-        run: &Run,
-    ) -> Result<Vec<u8, A>, LazyError>
-        requires in_order { run.now.start ≤ run.now.end }
-        requires inside { run.now.end ≤ self.now.count }
-        requires start { IfKnown (λ bytes. run.now.start ≡ bucket_start bytes byte) self.now }
-        requires end { IfKnown (λ bytes. run.now.end ≡ bucket_end bytes byte) self.now }
-        ensures names { IfOk result (λ table. IfKnown (λ bytes.
-            digests_in self.now.kind table.items
-            ≡ counted_with self.now.kind bytes byte) self.now) }
-        ensures part { IfOk result (λ table. IfKnown (λ bytes.
-            Each (HasCount self.now.kind bytes) 256 → digests_in self.now.kind table.items
-            ≡ part_of byte (names_in self.now.kind bytes)) self.now) }
-        ensures len { IfOk result (λ table. length (digests_in self.now.kind table.items)
-            ≡ run.now.end - run.now.start) }
-        ensures bytes { IfOk result (λ table. length table.items
-            ≡ byte_len_of self.now.kind * (run.now.end - run.now.start)) }
-        ensures first { IfOk result (λ table.
-            HaveFirstByte byte (digests_in self.now.kind table.items)) }
-        ensures sound { OnOk result (IfKnown (λ bytes.
-            HasBucket self.now.kind bytes byte) self.now) }
-        ensures err { IfErr result (λ e. IfKnown (λ bytes.
-            IsBucketFault self.now.can_fail self.now.kind bytes byte e) self.now) }
-    {
-        // The contracts of these calls say how many names there are, and of which kind.
-        let _count = self.num_objects();
-        let kind = self.object_hash();
-        let table = self.read_names(alloc, run)?;
-        if !have_first_byte(&table, kind, byte) {
-            return Err(LazyError::WrongCount(byte));
-        }
-        Ok(table)
     }
 
     // The ids of a run, one after the other.
