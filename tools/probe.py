@@ -155,3 +155,14 @@ def index_of(ids):
     crcs, offsets = rng.randbytes(4 * len(names)), struct.pack(f">{len(names)}I", *offsets)
     index = b"".join((head, *names, crcs, offsets, bytes(20)))
     return index + hashlib.sha1(index).digest()
+
+
+def make_objects(objects, packs, loose):
+    """Makes these packs, which have an index and no object, and these loose objects, which are empty, in an object directory."""
+    (objects / "pack").mkdir(exist_ok=True)
+    for number, ids in enumerate(packs):
+        (objects / "pack" / f"pack-{number}.idx").write_bytes(index_of(ids))
+        (objects / "pack" / f"pack-{number}.pack").touch()
+    for digits in loose:
+        (objects / digits[:2]).mkdir(exist_ok=True)
+        (objects / digits[:2] / digits[2:]).touch()
