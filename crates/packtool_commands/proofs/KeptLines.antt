@@ -1,22 +1,14 @@
 -- Lines of which the last are kept back, to be written together.
-use Rattle.std.proofs.Common.{◌≡◌, ℕ, Bool, true, Option, List, [], ◌++◌, take, drop, Result, Err, refl, sym, ap, subst, ◌∙◌, append-nil, append_assoc, take-append-drop}
+use Rattle.std.proofs.Common.{◌≡◌, ℕ, Bool, true, Option, List, ◌++◌, take, drop, Result, Err, sym, ap, subst, ◌∙◌, append_assoc, take-append-drop}
 use Rattle.std.specs.Prelude.{IsErr}
 use Rattle.std.specs.List.{flat_map}
 use Rattle.std.specs.Io.KnownBytes.{Appends}
 use Rattle.std.proofs.lemmas.Grind.{flat_map-append}
-use Rattle.std.proofs.KnownBytes.{Appends-trans, Appends-nil}
+use Rattle.std.proofs.KnownBytes.{Appends-trans}
 use Rattle.streams.specs.Writing.{AppendsPart, Wrote}
 use Rattle.streams.specs.declared.sink.WriteFailed.{WriteFailed}
 use Rattle.streams.proofs.WritingLemmas.{Wrote-stop, Wrote-then}
 use Rattle.packtool_commands.specs.Lines.{KeepsBack}
-
--- all of them
-pub keeps_all : (a : Option (List ℕ)) (lines : List ℕ) → KeepsBack a a lines lines
-keeps_all a lines = record { written = []; all = refl; appends = Appends-nil a }
-
--- or none, if all were written
-pub keeps_none : (a b : Option (List ℕ)) (lines : List ℕ) → Appends a b lines → KeepsBack a b [] lines
-keeps_none a b lines appends = record { written = lines; all = sym (append-nil lines); appends = appends }
 
 -- another line after those that are kept, or after the last of them
 pub keeps_more : (a b c : Option (List ℕ)) (kept last next lines line : List ℕ) → KeepsBack a b kept lines → KeepsBack b c last kept → next ≡ last ++ line
