@@ -11,7 +11,7 @@ use crate::search::{Search, search_from};
 use std::alloc::Allocator;
 use streams::{CHUNK_LEN, MAX_LEN, PipeError, Sink, Source, next_chunk};
 
-/// Searches the list text of the input, as [`search_from`] does, and reads the input to its end also
+/// Searches the list text of the input as [`search_from`] does, and reads the input to its end also
 /// if the search stops at the prefix or at a line.
 pub fn search_to_end<A: Allocator, R: Source, W: Sink>(
     alloc: A,
