@@ -1,4 +1,5 @@
 -- What the commands print, and what they reject.
+pub mod Asking
 pub mod Ending
 pub mod Escaping
 pub mod Finding

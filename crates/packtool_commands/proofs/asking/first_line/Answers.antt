@@ -1,0 +1,7 @@
+use Rattle.std.proofs.Common.{◌∷◌, ◌∙◌, sym}
+use Rattle.packtool_commands.specs.Asking.{lines_of}
+use Rattle.packtool_commands.proofs.AskingLemmas.{lines_step}
+use Rattle.packtool_commands.proofs.asking.first_line.Goals as goal
+
+pub returns-clause-lines : goal.returns-clause-lines
+returns-clause-lines c = lines_step c.args.text.now c.requires ∙ (λ i. sym c.split_line.ensures.line i ∷ lines_of (sym c.split_line.ensures.rest i))

@@ -1,0 +1,10 @@
+use Rattle.std.proofs.Common.{◌≡◌, ◌∙◌, ◌++◌, append-nil, ap, length, rules, sym}
+use Rattle.packtool_commands.specs.Asking.{prefixes_of}
+use Rattle.packtool_commands.proofs.AskingLemmas.{lines_at_end}
+use Rattle.packtool_commands.proofs.asking.prefixes_in.Goals as goal
+
+pub returns : goal.returns
+returns g c =
+    let none : length c.loop-rest.rest.now ≡ 0 = search rules in
+    sym (append-nil c.loop-rest.prefixes.items) ∙ ap (λ ls. c.loop-rest.prefixes.items ++ prefixes_of c.args.kind ls) (sym (lines_at_end c.loop-rest.rest.now none))
+    ∙ c.loop-rest.invariant

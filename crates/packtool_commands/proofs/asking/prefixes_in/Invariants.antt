@@ -1,0 +1,9 @@
+use Rattle.std.proofs.Common.{◌≡◌, ◌++◌, length}
+use Rattle.packtool_commands.specs.Asking.{lines_of, prefixes_of}
+use Rattle.packtool_commands.proofs.asking.prefixes_in.Given as goal
+
+abbrev pub invariant-loop-rest : goal.invariant-loop-rest
+invariant-loop-rest g l = l.prefixes.items ++ prefixes_of l.kind (lines_of l.rest) ≡ prefixes_of l.kind (lines_of l.lines)
+
+abbrev pub decreases-loop-rest : goal.decreases-loop-rest
+decreases-loop-rest g l = length l.rest

@@ -1,0 +1,282 @@
+//! The ids of a store that begin with each of many prefixes, which are the lines of a text.
+
+ghost use Rattle.std.specs.Prelude.{◌≡◌, ◌≢◌, ◌++◌, ◌-◌, ◌<◌, ◌≤◌, ◌↔◌, ◌∷◌, ◌&&◌, ℕ, List, IfErr, IfOk, IsErrOf, OnErr, OnOk, false, flat_map, length, map, true};
+ghost use Rattle.std.specs.List.{after_first, before_first, position};
+ghost use Rattle.std.specs.Io.KnownBytes.{Appends};
+ghost use Rattle.gix_hash.specs.Digits.{hex_letter, spelling};
+ghost use Rattle.gix_hash.specs.ObjectId.{id_digits};
+ghost use Rattle.object_store.specs.Parts.{IsFaultOfOne};
+ghost use Rattle.object_store.specs.Stores.{Holds};
+ghost use Rattle.packtool_commands.specs.Asking.{HasAnswered, HasAnsweredMatches, HaveAllBuckets, answer_to, answers_by, answers_in, are_answers_by, found_answer, is_answer_to, is_found, is_line_feed, line_with, lines_of, lists_after, prefix_of, prefixes_of};
+ghost use Rattle.packtool_commands.specs.Finding.{IsFaultOf};
+ghost use Rattle.packtool_commands.specs.declared.error.StoreError.{StoreError};
+ghost use Rattle.streams.specs.Writing.{AppendsPart, Wrote};
+
+use crate::error::StoreError;
+use gix_hash::{Alphabet, Kind, ObjectId, Prefix};
+use object_store::{Store, lookup_prefixes};
+use std::alloc::{AllocError, Allocator};
+use streams::{Sink, WriteFailed, write_all, write_id};
+
+/// What [`find_each`] answers to a prefix.
+///
+/// ```
+/// let all = find_each(rt.alloc(), &store, b"4b8\n4b9\n", Answers::All, &mut out)?;
+/// ```
+#[derive(Clone, Copy, PartialEq, Eq, Debug)]
+pub enum Answers {
+    /// Each id that begins with it, after the line as it is and a space.
+    All,
+    /// The one id that begins with it.
+    One,
+}
+
+/// Writes an answer for each line of a text, in order: the ids of a store that begin with it.
+/// Returns whether each line found what is asked for: an id, or for [`Answers::One`] a single one.
+///
+/// A line ends in a line feed, which the last may lack. It is a prefix if it has 2 hex digits or
+/// more, in either letter case, at most as many as ids of the store's kind, and no other byte. The
+/// answer to any other line is the line and ` bad`, that to a prefix of no id the line and
+/// ` missing`, and for [`Answers::One`] that to a prefix of several ids the line and ` ambiguous`.
+///
+/// Of each pack index the names with a first byte are read once. Nothing is written before all ids
+/// are found. [`StoreError::Output`] is returned if and only if a write fails, after a proper
+/// beginning of the answers. The sink must not have failed before.
+///
+/// ```
+/// if !find_each(rt.alloc(), &store, b"4b8\n4b9\n", Answers::One, &mut out)? {
+///     println!(rt; "not each of the two is one id")?;
+/// }
+/// ```
+pub fn find_each<S: Store, A: Allocator + Copy, W: Sink>(
+    alloc: A,
+    store: &S,
+    lines: &[u8],
+    answers: Answers,
+    out: &mut W,
+) -> Result<bool, StoreError>
+    requires { W.has_failed out.old ≡ false }
+    ensures found { IfOk result (λ all. (whole : List (List ℕ)) → Holds (S.view store.now) whole
+        → HasAnswered answers (S.view store.now).kind whole (lines_of lines.now) all
+        (W.taken out.old) (W.taken out.new)) }
+    ensures matches { IfOk result (λ all. HasAnsweredMatches answers (S.view store.now)
+        (lines_of lines.now) all (W.taken out.old) (W.taken out.new)) }
+    ensures sound { IfOk result (λ _. HaveAllBuckets (S.view store.now)
+        (prefixes_of (S.view store.now).kind (lines_of lines.now))) }
+    ensures refused { IfErr result (IsFaultOf (IsFaultOfOne (S.view store.now)
+        (prefixes_of (S.view store.now).kind (lines_of lines.now)))) }
+    ensures untouched { IfErr result (λ e. e ≢ StoreError.Output → out.new ≡ out.old) }
+    ensures output { IsErrOf result StoreError.Output ↔ (W.has_failed out.new ≡ true) }
+    ensures part { IsErrOf result StoreError.Output → (whole : List (List ℕ))
+        → Holds (S.view store.now) whole
+        → AppendsPart (W.taken out.old) (W.taken out.new)
+        (answers_in answers (S.view store.now).kind whole (lines_of lines.now)) }
+{
+    let kind = store.object_hash();
+    let prefixes = prefixes_in(alloc, kind, lines)?;
+    let found = lookup_prefixes(alloc, store, &prefixes)?;
+    Ok(write_answers(kind, lines, &found, answers, out)?)
+}
+
+// The prefixes among the lines of a text.
+fn prefixes_in<A: Allocator>(
+    alloc: A,
+    kind: Kind,
+    lines: &[u8],
+) -> Result<Vec<Prefix, A>, AllocError>
+    ensures { IfOk result (λ prefixes. prefixes.items ≡ prefixes_of kind (lines_of lines.now)) }
+{
+    let mut prefixes = Vec::new(alloc);
+    let mut rest = lines;
+    while !rest.is_empty() {
+        let (line, after) = first_line(rest);
+        if let Some(prefix) = prefix_in(kind, line) {
+            prefixes.push(prefix)?;
+        }
+        rest = after;
+    }
+    Ok(prefixes)
+}
+
+// The first line of a text that is not empty, and what is after its line feed.
+fn first_line(text: &[u8]) -> (&[u8], &[u8])
+    requires { 0 < length text.now }
+    ensures lines { lines_of text.now ≡ result.0.now ∷ lines_of result.1.now }
+    ensures fewer { length result.1.now < length text.now }
+{
+    let (line, rest) = split_line(text);
+    (line, rest)
+}
+
+// What is before the first line feed, and after it.
+fn split_line(text: &[u8]) -> (&[u8], &[u8])
+    ensures line { result.0.now ≡ before_first is_line_feed text.now }
+    ensures rest { result.1.now ≡ after_first is_line_feed text.now }
+    ensures fewer { length result.1.now ≤ length text.now - 1 }
+{
+    match line_feed_in(text) {
+        Some(at) => (&text[..at], &text[at + 1..]),
+        None => (text, &[]),
+    }
+}
+
+// Where the first line feed is.
+fn line_feed_in(text: &[u8]) -> Option<usize>
+    ensures { result ≡ position is_line_feed text.now }
+{
+    text.iter().position(|byte| *byte == b'\n')
+}
+
+// The prefix that a line is.
+fn prefix_in(kind: Kind, line: &[u8]) -> Option<Prefix>
+    ensures { result ≡ prefix_of kind line.now }
+{
+    if line.len() > kind.len_in_hex() {
+        return None;
+    }
+    match Alphabet::Hex.read_prefix_in(kind, line) {
+        Ok(prefix) if prefix.hex_len() >= 2 => Some(prefix),
+        _ => None,
+    }
+}
+
+// Writes the answers to the lines of a text, by the ids that begin with each prefix among them.
+// Returns whether each found what is asked for.
+fn write_answers<A: Allocator, W: Sink>(
+    kind: Kind,
+    lines: &[u8],
+    found: &[Vec<ObjectId, A>],
+    answers: Answers,
+    out: &mut W,
+) -> Result<bool, WriteFailed>
+    requires enough { length found.now ≡ length (prefixes_of kind (lines_of lines.now)) }
+    requires output { W.has_failed out.old ≡ false }
+    ensures written { OnOk result (Appends (W.taken out.old) (W.taken out.new)
+        (answers_by answers kind (lines_of lines.now)
+        (map (λ ids. map id_digits ids.items) found.now))) }
+    ensures all { IfOk result (λ all. all ≡ are_answers_by answers kind (lines_of lines.now)
+        (map (λ ids. map id_digits ids.items) found.now)) }
+    ensures not_failed { OnOk result (W.has_failed out.new ≡ false) }
+    ensures part { OnErr result (AppendsPart (W.taken out.old) (W.taken out.new)
+        (answers_by answers kind (lines_of lines.now)
+        (map (λ ids. map id_digits ids.items) found.now))) }
+    ensures failed { OnErr result (W.has_failed out.new ≡ true) }
+{
+    let mut all = true;
+    let mut rest = lines;
+    let mut left = found;
+    while !rest.is_empty() {
+        let (line, after) = first_line(rest);
+        let is_prefix = prefix_in(kind, line).is_some();
+        write_answer(line, is_prefix, left, answers, out)?;
+        all = are_answered(all, is_prefix, left, answers);
+        left = lists_after(is_prefix, left);
+        rest = after;
+    }
+    Ok(all)
+}
+
+// The lists of ids after that of a line.
+fn lists_after<A: Allocator>(is_prefix: bool, found: &[Vec<ObjectId, A>]) -> &[Vec<ObjectId, A>]
+    requires { is_prefix ≡ true → 0 < length found.now }
+    ensures { result.now ≡ lists_after is_prefix found.now }
+{
+    if is_prefix { &found[1..] } else { found }
+}
+
+// Whether the lines before a line find what is asked for, and it does, by the first list of ids if
+// it is a prefix.
+fn are_answered<A: Allocator>(
+    before: bool,
+    is_prefix: bool,
+    found: &[Vec<ObjectId, A>],
+    answers: Answers,
+) -> bool
+    requires { is_prefix ≡ true → 0 < length found.now }
+    ensures { result ≡ (before && is_answer_to answers is_prefix
+        (map (λ ids. map id_digits ids.items) found.now)) }
+{
+    before && is_prefix && has_found(&found[0], answers)
+}
+
+// Whether these ids are what is asked for.
+fn has_found(ids: &[ObjectId], answers: Answers) -> bool
+    ensures { result ≡ is_found answers (map id_digits ids.now) }
+{
+    match answers {
+        Answers::All => !ids.is_empty(),
+        Answers::One => ids.len() == 1,
+    }
+}
+
+// Writes the answer to a line, by the first list of ids if it is a prefix.
+fn write_answer<A: Allocator, W: Sink>(
+    line: &[u8],
+    is_prefix: bool,
+    found: &[Vec<ObjectId, A>],
+    answers: Answers,
+    out: &mut W,
+) -> Result<(), WriteFailed>
+    requires enough { is_prefix ≡ true → 0 < length found.now }
+    requires output { W.has_failed out.old ≡ false }
+    ensures { Wrote W.taken W.has_failed out.old out.new result (answer_to answers line.now is_prefix
+        (map (λ ids. map id_digits ids.items) found.now)) }
+{
+    if is_prefix {
+        write_found(line, &found[0], answers, out)
+    } else {
+        write_two(line, b" bad\n", out)
+    }
+}
+
+// Writes the answer to a prefix, by the ids that begin with it.
+fn write_found<W: Sink>(
+    line: &[u8],
+    ids: &[ObjectId],
+    answers: Answers,
+    out: &mut W,
+) -> Result<(), WriteFailed>
+    requires { W.has_failed out.old ≡ false }
+    ensures { Wrote W.taken W.has_failed out.old out.new result
+        (found_answer answers line.now (map id_digits ids.now)) }
+{
+    if ids.is_empty() {
+        return write_two(line, b" missing\n", out);
+    }
+    match answers {
+        Answers::All => write_each(line, ids, out),
+        Answers::One if ids.len() == 1 => write_id(Alphabet::Hex, &ids[0], out),
+        Answers::One => write_two(line, b" ambiguous\n", out),
+    }
+}
+
+// Writes each id after a line.
+fn write_each<W: Sink>(line: &[u8], ids: &[ObjectId], out: &mut W) -> Result<(), WriteFailed>
+    requires { W.has_failed out.old ≡ false }
+    ensures { Wrote W.taken W.has_failed out.old out.new result
+        (flat_map (λ id. line_with line.now (spelling hex_letter (id_digits id))) ids.now) }
+{
+    for id in ids {
+        write_after(line, id, out)?;
+    }
+    Ok(())
+}
+
+// Writes an id after a line.
+fn write_after<W: Sink>(line: &[u8], id: &ObjectId, out: &mut W) -> Result<(), WriteFailed>
+    requires { W.has_failed out.old ≡ false }
+    ensures { Wrote W.taken W.has_failed out.old out.new result
+        (line_with line.now (spelling hex_letter (id_digits id.now))) }
+{
+    write_two(line, b" ", out)?;
+    write_id(Alphabet::Hex, id, out)
+}
+
+// Writes two texts, one after the other.
+fn write_two<W: Sink>(first: &[u8], second: &[u8], out: &mut W) -> Result<(), WriteFailed>
+    requires { W.has_failed out.old ≡ false }
+    ensures { Wrote W.taken W.has_failed out.old out.new result (first.now ++ second.now) }
+{
+    write_all(out, first)?;
+    write_all(out, second)
+}
