@@ -219,8 +219,8 @@ fn write_answer<A: Allocator, W: Sink>(
 ) -> Result<(), WriteFailed>
     requires enough { is_prefix ≡ true → 0 < length found.now }
     requires output { W.has_failed out.old ≡ false }
-    ensures { Wrote W.taken W.has_failed out.old out.new result (answer_to answers line.now is_prefix
-        (map (λ ids. map id_digits ids.items) found.now)) }
+    ensures { Wrote W.taken W.has_failed out.old out.new result
+        (answer_to answers line.now is_prefix (map (λ ids. map id_digits ids.items) found.now)) }
 {
     if is_prefix {
         write_found(line, &found[0], answers, out)
