@@ -101,6 +101,13 @@ RESEALED = [
     (1152, 128, "the offset of the object at position 2 is 2^63 or more"),
     (1152, 127, ""),
 ]
+# Bytes of sha256.idx, by position and value, and what `check` says of the changed index on standard input: as of a file, the
+# length says the kind.
+CHECKED = [
+    # The first byte of the second name, and the last of all.
+    (1064, 0, "the id at position 1 is below the one before it"),
+    (-1, 0, "the checksum of the pack index is wrong"),
+]
 # Whole files that are read as what they are not, or are no index of version 2 that Git's reader takes: one has as many long
 # offsets as names.
 OTHERS = [

@@ -7,7 +7,7 @@ use crate::failure::{Failure, FileWhy};
 use crate::input::Sha256Checker;
 use crate::words::lossy_text;
 use gix_hash::Kind;
-use pack_index::{LazyError, LazyFile};
+use pack_index::{File as IndexFile, LazyError, LazyFile};
 use packtool_commands::{
     FileError, Pairing, PairingError, pair, show as show_input, validate, write_ending,
     write_named, write_pairing,
@@ -128,19 +128,37 @@ fn write_verdict<'a, W: io::Write>(
 fn verdict_of_input<'a>(rt: &HostRuntime, kind: Option<Kind>) -> Result<Verdict, Failure<'a>> {
     let path = "-";
     let mut reader = Retrying::new(rt.reader());
-    let mut head = Vec::new(rt.alloc());
-    (&mut reader)
-        .take(HEAD_LEN as u64)
-        .read_to_end(&mut head)
-        .map_err(|error| unreadable(rt, path, error))?;
-    let mut input = Cursor::new(&head[..]).chain(reader);
-    if !is_index(&&head[..], path) {
+    let mut bytes = Vec::new(rt.alloc());
+    read_more(rt, &mut reader, HEAD_LEN as u64, &mut bytes)?;
+    if !is_index(&&bytes[..], path) {
+        let mut input = Cursor::new(&bytes[..]).chain(reader);
         return Ok(Verdict::Ends(ending_once(rt, &mut input, path, kind)?));
     }
-    let one_more = most_index_len(&head).saturating_add(1);
-    match index_kind(rt, &mut input.take(one_more), path, kind)? {
-        Ok(_) => Ok(Verdict::Index(None)),
-        Err(error) => Ok(Verdict::Faulty(error)),
+    let rest = most_index_len(&bytes).saturating_sub(HEAD_LEN as u64);
+    read_more(rt, &mut reader, rest.saturating_add(1), &mut bytes)?;
+    Ok(verdict_of_bytes(&bytes, kind))
+}
+
+// Reads at most so many bytes of standard input, and puts them after those that were read.
+fn read_more<'a, R: io::Read>(
+    rt: &HostRuntime,
+    reader: &mut R,
+    most: u64,
+    bytes: &mut Vec<u8>,
+) -> Result<(), Failure<'a>> {
+    match reader.take(most).read_to_end(bytes) {
+        Ok(_) => Ok(()),
+        Err(error) => Err(unreadable(rt, "-", error)),
+    }
+}
+
+// What is said of the bytes of a pack index with no pack beside it. If no kind was asked for, their
+// number says it.
+fn verdict_of_bytes(bytes: &[u8], kind: Option<Kind>) -> Verdict {
+    let kind = kind.or(kind_by_length(bytes)).unwrap_or(Kind::Sha1);
+    match IndexFile::try_new(bytes, kind) {
+        Ok(_) => Verdict::Index(None),
+        Err(error) => Verdict::Faulty(error),
     }
 }
 
@@ -194,7 +212,7 @@ fn is_index<S: ReadAt>(source: &S, path: &str) -> bool {
 }
 
 // SHA-256 if a pack index of version 1 or 2 has the length for its names to be of that kind.
-fn kind_by_length(index: File) -> Option<Kind> {
+fn kind_by_length<S: ReadAt + Drop>(index: S) -> Option<Kind> {
     match LazyFile::open(index, Kind::Sha256) {
         Ok(_) | Err(LazyError::Head(pack_index::Error::Version1)) => Some(Kind::Sha256),
         Err(_) => None,
