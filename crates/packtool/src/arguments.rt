@@ -47,6 +47,9 @@ struct Row {
 #[derive(Clone, Copy)]
 enum Argument {
     Prefix,
+    PrefixOrLines,
+    Lines,
+    One,
     Indexes,
     Files,
     Least,
@@ -59,7 +62,13 @@ const COMMANDS: [Row; 5] = [
         request: Request::Store(StoreCommand::Find),
         name: "find",
         about: "Prints each id of the store that begins with a prefix",
-        arguments: &[Argument::Prefix, Argument::Objects, Argument::Kind],
+        arguments: &[
+            Argument::PrefixOrLines,
+            Argument::Lines,
+            Argument::One,
+            Argument::Objects,
+            Argument::Kind,
+        ],
     },
     Row {
         request: Request::Store(StoreCommand::Where),
@@ -131,18 +140,28 @@ fn subcommand<'a>(alloc: Global, row: &Row) -> Result<Command<'a>, AllocError> {
         .about(row.about)
         .after_help(AFTER);
     for argument in row.arguments {
-        command = command.arg(arg_of(alloc, *argument))?;
+        command = command.arg(arg_of(alloc, *argument)?)?;
     }
     Ok(command)
 }
 
 // An argument of a command.
-fn arg_of<'a>(alloc: Global, argument: Argument) -> Arg<'a> {
-    match argument {
-        Argument::Prefix => Arg::new(alloc, "prefix")
-            .value_name("PREFIX")
-            .help("2 hex digits or more")
-            .required(true),
+fn arg_of<'a>(alloc: Global, argument: Argument) -> Result<Arg<'a>, AllocError> {
+    Ok(match argument {
+        Argument::Prefix => prefix(alloc).required(true),
+        Argument::PrefixOrLines => prefix(alloc)
+            .required_unless_present("stdin")?
+            .conflicts_with("stdin")?,
+        Argument::Lines => Arg::new(alloc, "stdin")
+            .long("stdin")
+            .help("Reads a prefix from each line of standard input")
+            .action(ArgAction::SetTrue),
+        Argument::One => Arg::new(alloc, "one")
+            .long("one")
+            .help("With --stdin: prints a line for each prefix, as git cat-file --batch-check does")
+            .action(ArgAction::SetTrue)
+            .requires_arg("stdin")?
+            .conflicts_with("prefix")?,
         Argument::Indexes => files(alloc)
             .value_name("INDEX")
             .help("A pack index of version 2; - is standard input"),
@@ -166,7 +185,14 @@ fn arg_of<'a>(alloc: Global, argument: Argument) -> Arg<'a> {
             .value_name("KIND")
             .help("The kind of ids [default: what the repository or the file has]")
             .value_parser(["sha1", "sha256"].as_slice()),
-    }
+    })
+}
+
+// A prefix.
+fn prefix<'a>(alloc: Global) -> Arg<'a> {
+    Arg::new(alloc, "prefix")
+        .value_name("PREFIX")
+        .help("2 hex digits or more")
 }
 
 // The paths of files, one or more.

@@ -44,6 +44,17 @@ pub enum Failure<'a> {
         /// Its number among the arguments, from 1.
         number: usize,
     },
+    /// Standard input cannot be read.
+    #[error("standard input: {0}")]
+    Input(io::Error),
+    /// A line of standard input is longer than a chunk.
+    #[error("standard input: line {number} has more than {most} bytes")]
+    LongLine {
+        /// Its number, from 1.
+        number: u64,
+        /// How many bytes a line may have, without its line feed.
+        most: usize,
+    },
     /// Standard output cannot be written.
     #[error("standard output: {0}")]
     Output(io::Error),

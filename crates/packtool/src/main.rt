@@ -9,6 +9,7 @@ mod arguments;
 mod failure;
 mod files;
 mod input;
+mod lines;
 mod output;
 mod stores;
 mod words;

@@ -7,18 +7,20 @@ ghost use Rattle.streams.specs.Devices.{plain_failed};
 use crate::arguments::{self, StoreCommand};
 use crate::failure::Failure;
 use crate::files::expect_text;
+use crate::lines::LineReader;
 use crate::output::{Noting, buffered, flushed, report};
 use crate::words::{beginning, lossy_text};
 use crate::{FAILED, FOUND, NOTHING};
 use clap::ArgMatches;
 use gix_hash::{Kind, Prefix};
 use object_store::{NamedId, names};
-use packtool_commands::{StoreError, find, locate, write_names};
+use packtool_commands::{Answers, StoreError, find, find_each, locate, write_names};
 use repositories::{ObjectsFolder, find_objects};
+use std::alloc::AllocError;
 use std::cell::Cell;
 use std::io;
 use store_folders::{Error, FolderStore, LooseIds};
-use streams::Plain;
+use streams::{Plain, Retrying};
 
 // How often a command begins.
 const MAX_TRIES: usize = 10;
@@ -26,38 +28,73 @@ const MAX_TRIES: usize = 10;
 /// Runs `find`, `where` or `names`, and returns the status. If a pack index is gone that was
 /// listed, it begins again over the store as it is then, unless something may have been written to
 /// standard output.
+///
+/// With `--stdin`, which only `find` has, it does so for each chunk of lines, and returns the worst
+/// status.
 pub fn run<'a>(
     rt: &HostRuntime,
     command: StoreCommand,
     matches: &ArgMatches<'a>,
 ) -> Result<u8, Failure<'a>> {
     let folder = objects_folder(rt, matches)?;
-    run_over(rt, &folder, command, matches)
+    let mut reported = Vec::new(rt.alloc());
+    if matches.get_flag("stdin") {
+        run_over_input(rt, &folder, command, matches, &mut reported)
+    } else {
+        run_over(rt, &folder, command, matches, None, &mut reported)
+    }
 }
 
-// Runs a command over an object directory, and returns the status.
+// Runs a command over the lines of standard input. A chunk of them is looked up in the store as it
+// is after they were read, and its output is written before more is read.
+fn run_over_input<'a>(
+    rt: &HostRuntime,
+    folder: &ObjectsFolder,
+    command: StoreCommand,
+    matches: &ArgMatches<'a>,
+    reported: &mut Vec<String>,
+) -> Result<u8, Failure<'a>> {
+    let mut input = LineReader::new(rt.alloc(), Retrying::new(rt.reader()))?;
+    let mut status = FOUND;
+    for _ in 0..u64::MAX {
+        if !input.next()? {
+            break;
+        }
+        let lines = Some(input.lines());
+        status = status.max(run_over(rt, folder, command, matches, lines, reported)?);
+    }
+    Ok(status)
+}
+
+// Runs a command over an object directory, and returns the status: for these lines of standard
+// input, or for what the words say.
 fn run_over<'a>(
     rt: &HostRuntime,
     folder: &ObjectsFolder,
     command: StoreCommand,
     matches: &ArgMatches<'a>,
+    lines: Option<&[u8]>,
+    reported: &mut Vec<String>,
 ) -> Result<u8, Failure<'a>> {
     let is_written = Cell::new(false);
     for _ in 1..MAX_TRIES {
-        let ended = run_once(rt, folder, command, matches, &is_written);
+        let ended = run_once(rt, folder, command, matches, lines, reported, &is_written);
         if is_written.get() || !is_gone(&ended) {
             return ended;
         }
     }
-    run_once(rt, folder, command, matches, &is_written)
+    run_once(rt, folder, command, matches, lines, reported, &is_written)
 }
 
-// Runs a command, and returns the status. It also says whether something may have been written.
+// Runs a command once, and returns the status. It also says whether something may have been
+// written.
 fn run_once<'a>(
     rt: &HostRuntime,
     folder: &ObjectsFolder,
     command: StoreCommand,
     matches: &ArgMatches<'a>,
+    lines: Option<&[u8]>,
+    reported: &mut Vec<String>,
     is_written: &Cell<bool>,
 ) -> Result<u8, Failure<'a>> {
     let output = Noting {
@@ -65,7 +102,10 @@ fn run_once<'a>(
         is_written,
     };
     let mut out = buffered(rt, output)?;
-    let ran = write_lines(rt, folder, command, matches, &mut out);
+    let ran = match lines {
+        None => write_lines(rt, folder, command, matches, reported, &mut out),
+        Some(lines) => write_each(rt, folder, matches, lines, reported, &mut out),
+    };
     if is_gone(&ran) && !is_written.get() {
         // The lines in the buffer are dropped, not written.
         drop(out.into_inner().into_parts());
@@ -85,6 +125,7 @@ fn write_lines<'a, W: io::Write>(
     folder: &ObjectsFolder,
     command: StoreCommand,
     matches: &ArgMatches<'a>,
+    reported: &mut Vec<String>,
     out: &mut Plain<W>,
 ) -> Result<u8, Failure<'a>> {
     if out.failed() {
@@ -94,18 +135,40 @@ fn write_lines<'a, W: io::Write>(
         StoreCommand::Find => {
             let (store, prefix) = open_part(rt, folder, matches)?;
             let ran = find(rt.alloc(), &store, &prefix, out);
-            status_of(rt, &store, ran, out)
+            status_of(rt, &store, ran, reported, out)
         }
         StoreCommand::Where => {
             let (store, prefix) = open_part(rt, folder, matches)?;
-            write_locations(rt, &store, &prefix, out)
+            write_locations(rt, &store, &prefix, reported, out)
         }
         StoreCommand::Names => {
             let least = read_least(matches, folder.kind)?;
             let mut store = FolderStore::open(rt, folder, LooseIds::All)?;
-            write_all_names(rt, folder, least, &mut store, out)
+            write_all_names(rt, folder, least, &mut store, reported, out)
         }
     }
+}
+
+// Opens the store, and writes what each of the lines finds in it, for `find`.
+fn write_each<'a, W: io::Write>(
+    rt: &HostRuntime,
+    folder: &ObjectsFolder,
+    matches: &ArgMatches<'a>,
+    lines: &[u8],
+    reported: &mut Vec<String>,
+    out: &mut Plain<W>,
+) -> Result<u8, Failure<'a>> {
+    if out.failed() {
+        return Err(Failure::of_output(out));
+    }
+    let answers = if matches.get_flag("one") {
+        Answers::One
+    } else {
+        Answers::All
+    };
+    let store = FolderStore::open(rt, folder, loose_of(lines))?;
+    let ran = find_each(rt.alloc(), &store, lines, answers, out);
+    status_of(rt, &store, ran, reported, out)
 }
 
 // Writes the lines of `where`, and returns the status.
@@ -113,6 +176,7 @@ fn write_locations<'a, W: io::Write>(
     rt: &HostRuntime,
     store: &FolderStore<HostRuntime>,
     prefix: &Prefix,
+    reported: &mut Vec<String>,
     out: &mut Plain<W>,
 ) -> Result<u8, Failure<'a>>
     requires output { plain_failed out.old ≡ false }
@@ -121,7 +185,7 @@ fn write_locations<'a, W: io::Write>(
 {
     store.check_loose_files(prefix)?;
     let ran = locate(rt.alloc(), store, prefix, out);
-    status_of(rt, store, ran, out)
+    status_of(rt, store, ran, reported, out)
 }
 
 // Writes the lines of `names`, and returns the status. The ids with one first byte are written
@@ -132,6 +196,7 @@ fn write_all_names<'a, W: io::Write>(
     folder: &ObjectsFolder,
     least: usize,
     store: &mut FolderStore<HostRuntime>,
+    reported: &mut Vec<String>,
     out: &mut Plain<W>,
 ) -> Result<u8, Failure<'a>>
     requires output { plain_failed out.old ≡ false }
@@ -142,13 +207,13 @@ fn write_all_names<'a, W: io::Write>(
     let mut any = false;
     let mut is_whole = true;
     for byte in 0..=u8::MAX {
-        let named = names_of(rt, folder, byte, least, store, &mut is_whole)?;
+        let named = names_of(rt, folder, byte, least, store, reported, &mut is_whole)?;
         if write_names(&named, out).is_err() {
             return Err(Failure::of_output(out));
         }
         any = any || !named.is_empty();
     }
-    is_whole = report_skipped(rt, store) && is_whole;
+    is_whole = report_skipped(rt, store, reported)? && is_whole;
     Ok(status_if(is_whole, any))
 }
 
@@ -160,6 +225,7 @@ fn names_of<'a>(
     byte: u8,
     least: usize,
     store: &mut FolderStore<HostRuntime>,
+    reported: &mut Vec<String>,
     is_whole: &mut bool,
 ) -> Result<Vec<NamedId>, Failure<'a>>
     requires kind { store.old.kind ≡ folder.now.kind }
@@ -175,7 +241,7 @@ fn names_of<'a>(
                 error => return Err(Failure::Store(error)),
             },
         }
-        *is_whole = report_skipped(rt, store) && *is_whole;
+        *is_whole = report_skipped(rt, store, reported)? && *is_whole;
         *store = FolderStore::open(rt, folder, LooseIds::All)?;
     }
     match names(rt.alloc(), store, byte, least) {
@@ -198,11 +264,36 @@ fn open_part<'a>(
     Ok((FolderStore::open(rt, folder, loose)?, prefix))
 }
 
+// The loose objects that lines may ask for: those with the first byte that all prefixes have, or
+// all. A line that begins with no byte is no prefix.
+fn loose_of(lines: &[u8]) -> LooseIds {
+    let mut shared = None;
+    for line in lines.split(|byte| *byte == b'\n') {
+        match (shared, first_byte(line)) {
+            (_, None) => {}
+            (None, first) => shared = first,
+            (Some(one), Some(first)) if one == first => {}
+            _ => return LooseIds::All,
+        }
+    }
+    match shared {
+        Some(byte) => LooseIds::WithFirstByte(byte),
+        None => LooseIds::WithFirstByte(0),
+    }
+}
+
+// The byte whose two hex digits a line begins with, if it does.
+fn first_byte(line: &[u8]) -> Option<u8> {
+    let text = str::from_utf8(line.get(..2)?).ok()?;
+    u8::from_str_radix(text, 16).ok()
+}
+
 // The status of a command that ran over a store.
 fn status_of<'a, W>(
     rt: &HostRuntime,
     store: &FolderStore<HostRuntime>,
     ran: Result<bool, StoreError>,
+    reported: &mut Vec<String>,
     out: &Plain<W>,
 ) -> Result<u8, Failure<'a>> {
     let any = match ran {
@@ -210,15 +301,24 @@ fn status_of<'a, W>(
         Err(StoreError::Store(error)) => return Err(Failure::Store(store.with_path(error))),
         Err(StoreError::Output) => return Err(Failure::of_output(out)),
     };
-    Ok(status_if(report_skipped(rt, store), any))
+    Ok(status_if(report_skipped(rt, store, reported)?, any))
 }
 
-// Prints what was skipped, and returns whether the store was read whole, that is nothing was.
-fn report_skipped(rt: &HostRuntime, store: &FolderStore<HostRuntime>) -> bool {
+// Prints what was skipped, unless it is reported already, and returns whether the store was read
+// whole, that is nothing was.
+fn report_skipped(
+    rt: &HostRuntime,
+    store: &FolderStore<HostRuntime>,
+    reported: &mut Vec<String>,
+) -> Result<bool, AllocError> {
     for error in store.skipped() {
-        report(rt, error, ", skipped");
+        let text = format!(in rt.alloc(); "{error}")?;
+        if !reported.contains(&text) {
+            report(rt, error, ", skipped");
+            reported.push(text)?;
+        }
     }
-    store.skipped().is_empty()
+    Ok(store.skipped().is_empty())
 }
 
 // The status if a store was read whole, and has an id.
