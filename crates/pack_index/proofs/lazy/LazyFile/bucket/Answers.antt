@@ -36,7 +36,7 @@ new-requires g c =
     let here = (goal.at.new-requires g c).After-have_first_byte in
     let table = c.in_ok-table.table.items in
     subst (λ kind. length table ≡ byte_len_of kind * length (digests_in kind table)) (sym c.object_hash-kind.ensures)
-        (c.in_ok-table.ensures.len ∙ ap (λ n. byte_len_of c.args.self.now.kind * n) (sym (as_many_names g here)))
+    (c.in_ok-table.ensures.len ∙ ap (λ n. byte_len_of c.args.self.now.kind * n) (sym (as_many_names g here)))
 
 pub returns-then-not-have_first_byte-clause-err : goal.returns-then-not-have_first_byte-clause-err
 returns-then-not-have_first_byte-clause-err g c = λ bytes is.
