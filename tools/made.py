@@ -323,8 +323,8 @@ CHAIN_LISTS = {
     1: b"../0\n../0\n../0\n../2\n",
     6: b"../7\n../0\n../4\n",
 }
+# Each text is printed once, so also that of two paths which are not UTF-8.
 CHAIN_ERRORS = [
-    "{room}/0/info/alternates: a path is not UTF-8",
     "{room}/0/info/alternates: a path is not UTF-8",
     "{room}/0/../gone: No such file or directory (os error 2)",
     "{room}/6/../7: nested more than 5 deep",

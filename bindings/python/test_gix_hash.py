@@ -145,7 +145,7 @@ class Bindings(unittest.TestCase):
         own.__init__("g" * 40)
         self.assertEqual(str(own), EMPTY)
         self.assertEqual(str(Error(Code.BAD_DIGIT)), "a byte of the text is not a hex digit")
-        self.assertEqual(str(Error(Code.UNSORTED, 7)), "a digest is below the one before it (its index: 7)")
+        self.assertEqual(str(Error(Code.UNSORTED, 7)), "a digest is below the one before it (its position: 7)")
         for error in (Error(Code.BAD_DIGIT), Error(Code.UNSORTED, 7)):
             same = pickle.loads(pickle.dumps(error))
             self.assertEqual((same.code, same.detail, str(same)), (error.code, error.detail, str(error)))
