@@ -9,13 +9,13 @@ JOBS := $(shell { printf '%s' "$$MAKEFLAGS" | tr ' ' '\0'; cat /proc/$$PPID/cmdl
     tools/jobs 3000 3000)
 MAKEFLAGS += --no-builtin-rules $(JOBS:%=--jobs=%)
 
-# Each crate with those that it depends on, as NAME:LOW:LOW..
-LISTED := $(shell sed -E 's/ *\#.*//; s/ staticlib:/:/; s/:? +/:/g' crates.txt)
+# Each crate with its kind and those that it depends on, as NAME:KIND:LOW:LOW..
+LISTED := $(shell tools/crates | tr ' ' :)
 CRATES := $(foreach line,$(LISTED),$(firstword $(subst :, ,$(line))))
 
 # named_CRATE: the libraries that it depends on; direct_CRATE: those of this repository; below CRATE: those that these depend
 # on, too.
-split = $(eval named_$(firstword $1) := $(wordlist 2,$(words $1),$1))
+split = $(eval named_$(firstword $1) := $(wordlist 3,$(words $1),$1))
 $(foreach line,$(LISTED),$(call split,$(subst :, ,$(line))))
 $(foreach crate,$(CRATES),$(eval direct_$(crate) := $(filter $(CRATES),$(named_$(crate)))))
 below = $(sort $(foreach low,$(direct_$1),$(low) $(call below,$(low))))

@@ -36,6 +36,12 @@ def read(name):
     return (ROOT / name).read_text(encoding="utf-8")
 
 
+def crate_uses():
+    """The crates, each with the libraries that crates.txt names for it, in its order."""
+    listed = subprocess.run([ROOT / "tools" / "crates"], stdout=subprocess.PIPE, encoding="utf-8", check=True).stdout
+    return {name: libraries for name, _, *libraries in map(str.split, listed.splitlines())}
+
+
 def count(results):
     """Prints a line for each result, a text and whether it passed, and then their counts. Returns the status."""
     passed = failed = 0
