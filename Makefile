@@ -49,7 +49,7 @@ endef
 $(foreach crate,$(CRATES),$(eval $(call rules,$(crate))))
 
 # The library for C: what the crate gix_hash_c exports, by the version of the header.
-VERSION := $(shell sed -nE 's/.*GIX_HASH_VERSION "(.*)"/\1/p' include/gix_hash.h)
+VERSION := $(file < VERSION)
 SONAME := libgix_hash.so.$(basename $(VERSION))
 lib: out/libgix_hash.a out/$(SONAME)
 
