@@ -3,11 +3,9 @@
 # each other. tools/prove finds out by checksums whether it has to be, so make always calls it.
 PROGRAMS := oidtool packtool
 PREFIX ?= /usr/local
-# As many jobs as there are processors, and memory for: a crate may take 3 GB. But none if the caller said how many. (While
-# make reads a Makefile, only its own words say that, and those of the make that calls it.)
-JOBS := $(shell { printf '%s' "$$MAKEFLAGS" | tr ' ' '\0'; cat /proc/$$PPID/cmdline; } | grep -zqE '^(-[a-z]*j|--jobs)' || \
-    tools/jobs 3000 3000)
-MAKEFLAGS += --no-builtin-rules $(JOBS:%=--jobs=%)
+# As many jobs as there are processors, and memory for: a crate may take 3 GB. To make, a -j of the caller's own goes first; one
+# in the environment, as a make has it that calls this one, does not.
+MAKEFLAGS += --no-builtin-rules $(shell echo " $$MAKEFLAGS" | grep -qE ' -(-jobs|[a-z]*j)' || echo "-j$$(tools/jobs 3000 3000)")
 
 # Each crate with its kind and those that it depends on, as NAME:KIND:LOW:LOW..
 LISTED := $(shell tools/crates | tr ' ' :)
