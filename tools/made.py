@@ -1,10 +1,10 @@
 """Stores and pack indexes that tools/stores makes by hand, and what packtool says of them. {room} is the folder in which
 they are made, and paths are below it."""
 
-import hashlib
 import struct
 import zlib
-from typing import Optional
+
+from probe import pack_index, sealed
 
 # Ids of objects, of which nothing is read but their names.
 PACKED = "4b825dc642cb6eb9a060e54bf8d69288fbee4904"
@@ -16,27 +16,6 @@ IDS = {"sha1": f"4b{'0' * 38}", "sha256": f"4b{'0' * 62}"}
 # What `find x` says in a store of each kind.
 NO_PREFIX = {kind: f"x: not 2 to {len(id)} hex digits" for kind, id in IDS.items()}
 
-Row = tuple[int, str, int]
-
-
-def pack_index(rows: list[Row], longs: Optional[list[int]] = None, pack: Optional[bytes] = None) -> bytes:
-    """The bytes of a pack index of version 2 of sorted rows, each an offset, an id in hex and a CRC. Offsets are long at
-    these positions, and else from 2^31 on. The pack's digest is zeros if it is not given."""
-    digest = hashlib.sha1 if len(rows[0][1]) == 40 else hashlib.sha256
-    names = [bytes.fromhex(id) for _, id, _ in rows]
-    is_long = [at in longs if longs is not None else offset >> 31 > 0 for at, (offset, _, _) in enumerate(rows)]
-    counts = [sum(name[0] <= byte for name in names) for byte in range(256)]
-    words = [(1 << 31) + sum(is_long[:at]) if is_long[at] else offset for at, (offset, _, _) in enumerate(rows)]
-    parts = [b"\xfftOc\0\0\0\2", struct.pack(">256I", *counts), *names]
-    parts += [struct.pack(">I", crc) for _, _, crc in rows] + [struct.pack(">I", word) for word in words]
-    parts += [struct.pack(">Q", offset) for at, (offset, _, _) in enumerate(rows) if is_long[at]]
-    return sealed(b"".join(parts) + (pack or bytes(digest().digest_size)), digest)
-
-
-def sealed(body: bytes, digest=hashlib.sha1) -> bytes:
-    """The bytes with their digest after them."""
-    return body + digest(body).digest()
-
 
 def index_of(ids: list[str], longs: tuple[int, ...] = ()) -> bytes:
     """A pack index of these sorted ids. The first offsets are these, and each other is 3072 and the position of its id."""
@@ -44,7 +23,7 @@ def index_of(ids: list[str], longs: tuple[int, ...] = ()) -> bytes:
     return pack_index([(offset, id, 0) for offset, id in zip(offsets, ids)])
 
 
-def version_1(rows: list[Row], pack: bytes) -> bytes:
+def version_1(rows: list[tuple[int, str, int]], pack: bytes) -> bytes:
     """The bytes of a pack index of version 1."""
     counts = [sum(bytes.fromhex(id)[0] <= byte for _, id, _ in rows) for byte in range(256)]
     names = b"".join(struct.pack(">I", offset) + bytes.fromhex(id) for offset, id, _ in rows)

@@ -7,9 +7,9 @@ import shutil
 from contextlib import suppress
 
 import made
+from probe import DIGITS, pack_index
 
-# Of each kind of ids: how many digits they have, and the name of the other kind.
-DIGITS = {"sha1": 40, "sha256": 64}
+# Of each kind of ids the other one.
 OTHER = {"sha1": "sha256", "sha256": "sha1"}
 # The words of a config: each is chosen at random, some oftener.
 SECTIONS = ["[core]"] * 6 + ["[extensions]"] * 6
@@ -285,13 +285,13 @@ class Oddity:
         rows = [(rng.randrange(12, 1 << 31), id, rng.getrandbits(32)) for id in ids]
         if chance(rng, 0.1) and len(rows) > 1:
             rows[0] = (rng.choice([1 << 32, 1 << 31, (1 << 63) - 1]), *rows[0][1:])
-        whole = made.pack_index(rows)
+        whole = pack_index(rows)
         if not chance(rng, 0.15):
             return whole
         counts = [int.from_bytes(whole[at : at + 4], "big") for at in range(8, 1032, 4)]
         falls = [at for at in range(1, 256) if counts[at - 1]]
         ways = [whole[: rng.randrange(len(whole))], whole + b"\0", b"\0" + whole[1:], whole[:7] + b"\3" + whole[8:]]
-        ways += [b"", made.pack_index([(*row[:1], row[1][:8].ljust(DIGITS[OTHER[kind]], "0"), 0) for row in rows])]
+        ways += [b"", pack_index([(*row[:1], row[1][:8].ljust(DIGITS[OTHER[kind]], "0"), 0) for row in rows])]
         if falls:
             at = 8 + 4 * rng.choice(falls)
             ways += [whole[:at] + bytes(4) + whole[at + 4 :]] * 2

@@ -1,5 +1,5 @@
 """What the tools share: counts of what passed, how other programs are started, edits of sources, a program that is
-compiled in a copy of this repository's crates, and ids."""
+compiled in a copy of this repository's crates, and ids, pack indexes and stores."""
 
 import bisect
 import contextlib
@@ -13,6 +13,7 @@ import struct
 import subprocess
 import sys
 import tempfile
+import threading
 from pathlib import Path
 
 ROOT = Path(__file__).resolve().parent.parent
@@ -23,12 +24,27 @@ CLEAN = {key: value for key, value in os.environ.items() if not key.startswith((
 CLEAN |= {"GIT_CONFIG_GLOBAL": os.devnull, "GIT_CONFIG_NOSYSTEM": "1"}
 # What takes longer than so many seconds has failed.
 LIMIT = 1800
+# Takes from root the power to read what has the mode 000.
+POWERLESS = ["setpriv", "--bounding-set=-dac_override,-dac_read_search"] if os.geteuid() == 0 else []
+# Of each kind of ids how many digits they have, and the letters of a change id, from that of the digit 0 on.
+DIGITS = {"sha1": 40, "sha256": 64}
+LETTERS = str.maketrans("0123456789abcdef", "zyxwvutsrqponmlk")
 # An error of the compiler: /room/crates/x/src/y.rt:5:7: error[private-field]: ..
 ERROR = re.compile(r"^([^:\n]+):(\d+):\d+: error\[([^\]\n]+)\]", re.MULTILINE)
 
-# Temporary folders are removed as at any other end.
-for ending in (signal.SIGTERM, signal.SIGHUP):
-    signal.signal(ending, lambda number, _: sys.exit(128 + number))
+# Whether this program is stopped. Then its threads start no further command, and temporary folders are removed as at any other
+# end.
+STOPPED = threading.Event()
+
+
+def stop(number, _):
+    """Ends this program by a signal."""
+    STOPPED.set()
+    sys.exit(128 + number)
+
+
+for ending in (signal.SIGTERM, signal.SIGHUP, signal.SIGINT):
+    signal.signal(ending, stop)
 
 
 def read(name):
@@ -65,15 +81,25 @@ def started(words, limit=LIMIT, **options):
             child.terminate()
 
 
-def git(folder, *words, given=b"", env=None):
+def ran(*words, cwd=None, env=None, given=b"", limits=(), seconds=LIMIT):
+    """What a command prints, its errors and its status; with these limits of prlimit(1). Bytes that are not UTF-8 are as Python has
+    them in paths."""
+    if STOPPED.is_set():
+        raise OSError("stopped")
+    words = ["prlimit", *limits, *words] if limits else words
+    options = {"cwd": cwd, "env": CLEAN | (env or {}), "stdin": subprocess.PIPE, "stderr": subprocess.PIPE}
+    with started(words, seconds, **options) as child:
+        printed, errors = (it.decode("utf-8", "surrogateescape") for it in child.communicate(given))
+    return printed, errors, child.returncode
+
+
+def git(folder, *words, **how):
     """What git prints in a folder, as the user n. It packs nothing by itself."""
     words = ["git", "-c", "gc.auto=0", "-c", "user.name=n", "-c", "user.email=e", *words]
-    options = {"cwd": folder, "env": CLEAN | (env or {}), "stdin": subprocess.PIPE, "stderr": subprocess.PIPE}
-    with started(words, **options) as child:
-        printed, errors = child.communicate(given)
-    if child.returncode:
-        raise OSError(f"{' '.join(map(str, words))}: {errors.decode(errors='replace')}")
-    return printed.decode()
+    printed, errors, status = ran(*words, cwd=folder, **how)
+    if status:
+        raise OSError(f"{' '.join(map(str, words))}: {errors}")
+    return printed
 
 
 def changes(edit):
@@ -149,18 +175,64 @@ def sorted_ids(size, id_lens):
         yield f"{word:016x}{rng.randbytes(rng.choice(id_lens) - 8).hex()}"
 
 
-def index_of(ids):
-    """A pack index of version 2 of sorted ids of SHA-1 in hex, each with a random CRC and an offset of its own."""
-    names = [bytes.fromhex(digits) for digits in ids]
-    rng = random.Random(len(names))
+def sealed(body, digest=hashlib.sha1):
+    """The bytes with their digest after them."""
+    return body + digest(body).digest()
+
+
+def pack_index(rows, longs=None, pack=None):
+    """The bytes of a pack index of version 2 of sorted rows, each an offset, an id in hex and a CRC. Offsets are long at
+    these positions, and else from 2^31 on. The pack's digest is zeros if it is not given."""
+    digest = hashlib.sha1 if len(rows[0][1]) == 40 else hashlib.sha256
+    names = [bytes.fromhex(id) for _, id, _ in rows]
+    is_long = [at in longs if longs is not None else offset >> 31 > 0 for at, (offset, _, _) in enumerate(rows)]
     firsts = [name[0] for name in names]
-    fan_out = [bisect.bisect_right(firsts, byte) for byte in range(256)]
-    offsets = [12 + 40 * position for position in range(len(names))]
+    counts = [bisect.bisect_right(firsts, byte) for byte in range(256)]
+    words = [(1 << 31) + sum(is_long[:at]) if is_long[at] else offset for at, (offset, _, _) in enumerate(rows)]
+    parts = [b"\xfftOc\0\0\0\2", struct.pack(">256I", *counts), *names]
+    parts += [struct.pack(f">{len(rows)}I", *(crc for _, _, crc in rows)), struct.pack(f">{len(rows)}I", *words)]
+    parts += [struct.pack(">Q", offset) for at, (offset, _, _) in enumerate(rows) if is_long[at]]
+    return sealed(b"".join(parts) + (pack or bytes(digest().digest_size)), digest)
+
+
+def index_of(ids):
+    """A pack index of sorted ids, each with a random CRC and an offset of its own."""
+    ids = list(ids)
+    rng = random.Random(len(ids))
+    offsets = [12 + 40 * position for position in range(len(ids))]
     rng.shuffle(offsets)
-    head = b"\xfftOc" + struct.pack(">257I", 2, *fan_out)
-    crcs, offsets = rng.randbytes(4 * len(names)), struct.pack(f">{len(names)}I", *offsets)
-    index = b"".join((head, *names, crcs, offsets, bytes(20)))
-    return index + hashlib.sha1(index).digest()
+    return pack_index([(offset, id, rng.getrandbits(32)) for offset, id in zip(offsets, ids)])
+
+
+def shortest(ids):
+    """The lines of `names` for sorted ids: each after its shortest beginning, of 4 digits or more, that no other one has."""
+    shared = [len(os.path.commonprefix(pair)) for pair in zip(ids, ids[1:])]
+    needed = [max(pair) + 1 for pair in zip([0, *shared], [*shared, 0])]
+    return "".join(f"{id[: max(4, size)]} {id}\n" for id, size in zip(ids, needed))
+
+
+def listed(cwd, env=None):
+    """The ids of all objects, sorted, by git."""
+    return sorted(set(git(cwd, "cat-file", "--batch-all-objects", "--batch-check=%(objectname)", env=env).split()))
+
+
+def make_blobs(folder, kind, packs, packed, loose, seed=0):
+    """Makes a bare repository with that many blobs in packs, and loose ones."""
+    git(folder.parent, "init", "--quiet", "--bare", f"--object-format={kind}", folder)
+    texts = [f"{seed} {number}" for number in range(packed)]
+    for at in range(packs):
+        given = "".join(f"blob\ndata {len(text)}\n{text}\n" for text in texts[at::packs])
+        git(folder, "-c", "fastimport.unpackLimit=0", "fast-import", "--quiet", given=given.encode())
+    add_loose(folder, f"{seed} loose", loose)
+
+
+def add_loose(folder, name, size):
+    """Adds loose blobs, and returns their ids."""
+    with tempfile.TemporaryDirectory() as room:
+        paths = [Path(room, str(number)) for number in range(size)]
+        for path in paths:
+            path.write_text(f"{name} {path.name}", encoding="utf-8")
+        return git(folder, "hash-object", "-w", "--stdin-paths", given="".join(f"{path}\n" for path in paths).encode()).split()
 
 
 def make_objects(objects, packs, loose):
