@@ -32,14 +32,16 @@ LETTERS = str.maketrans("0123456789abcdef", "zyxwvutsrqponmlk")
 # An error of the compiler: /room/crates/x/src/y.rt:5:7: error[private-field]: ..
 ERROR = re.compile(r"^([^:\n]+):(\d+):\d+: error\[([^\]\n]+)\]", re.MULTILINE)
 
-# Whether this program is stopped. Then its threads start no further command, and temporary folders are removed as at any other
-# end.
-STOPPED = threading.Event()
+# Whether this program is stopped, and the commands that run. They end then, its threads start no other, and temporary folders are
+# removed as at any other end.
+STOPPED, RUNNING = threading.Event(), set()
 
 
 def stop(number, _):
     """Ends this program by a signal."""
     STOPPED.set()
+    for child in list(RUNNING):
+        child.terminate()
     sys.exit(128 + number)
 
 
@@ -59,7 +61,7 @@ def crate_uses():
 
 
 def count(results):
-    """Prints a line for each result, a text and whether it passed, and then their counts. Returns the status."""
+    """Prints a line for each result, a text and whether it passed, and then their counts. Returns the status, 1 if any failed."""
     passed = failed = 0
     for text, holds in results:
         print(text, flush=True)
@@ -75,9 +77,11 @@ def started(words, limit=LIMIT, **options):
     after so many seconds, and end when the block is left."""
     words = ["timeout", "-s", "KILL", str(limit), *words]
     with subprocess.Popen(words, **{"env": CLEAN, "stdout": subprocess.PIPE, **options}) as child:
+        RUNNING.add(child)
         try:
             yield child
         finally:
+            RUNNING.remove(child)
             child.terminate()
 
 
