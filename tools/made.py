@@ -85,7 +85,7 @@ RESEALED = [
 CHECKED = [
     # The first byte of the second name, and the last of all.
     (1064, 0, "the id at position 1 is below the one before it"),
-    (-1, 0, "the checksum of the pack index is wrong"),
+    (1935, 0, "the checksum of the pack index is wrong"),
 ]
 # Whole files that are read as what they are not, or are no index of version 2 that Git's reader takes: one has as many long
 # offsets as names.
