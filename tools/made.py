@@ -114,11 +114,8 @@ BAD_HEADS = [
     (7, 3, "pack indexes of version 3 are not read"),
     (1031, 5, "the tables of the pack index do not fill its bytes"),
 ]
-# And the error of its look-up of `4b`.
-DAMAGED = [
-    # The first byte of the first name.
-    (1032, 0, "an id among those with the first byte 4b has another"),
-]
+# The first byte of its first name, and the error of its look-up of `4b` then.
+DAMAGED = [(1032, 0, "an id among those with the first byte 4b has another")]
 
 SHA256 = b"[core]\nrepositoryformatversion = 1\n[extensions]\n\tobjectformat = sha256\n"
 HEAD = b"ref: refs/heads/main\n"

@@ -15,6 +15,7 @@ import sys
 import tempfile
 import threading
 from pathlib import Path
+from subprocess import STDOUT
 
 ROOT = Path(__file__).resolve().parent.parent
 PROGRAM = "probe"
@@ -24,6 +25,8 @@ CLEAN = {key: value for key, value in os.environ.items() if not key.startswith((
 CLEAN |= {"GIT_CONFIG_GLOBAL": os.devnull, "GIT_CONFIG_NOSYSTEM": "1"}
 # What takes longer than so many seconds has failed.
 LIMIT = 1800
+# How many blobs a store has in its packs, if nobody says it.
+PACKED = 3000
 # Takes from root the power to read what has the mode 000.
 POWERLESS = ["setpriv", "--bounding-set=-dac_override,-dac_read_search"] if os.geteuid() == 0 else []
 # Of each kind of ids how many digits they have, and the letters of a change id, from that of the digit 0 on.
@@ -85,15 +88,15 @@ def started(words, limit=LIMIT, **options):
             child.terminate()
 
 
-def ran(*words, cwd=None, env=None, given=b"", limits=(), seconds=LIMIT):
-    """What a command prints, its errors and its status; with these limits of prlimit(1). Bytes that are not UTF-8 are as Python has
-    them in paths."""
+def ran(*words, cwd=None, env=None, given=b"", limits=(), seconds=LIMIT, stderr=subprocess.PIPE):
+    """What a command prints, its errors, or with STDOUT none, since they are in what it prints, and its status; with these limits of
+    prlimit(1). Bytes that are not UTF-8 are as Python has them in paths."""
     if STOPPED.is_set():
         raise OSError("stopped")
     words = ["prlimit", *limits, *words] if limits else words
-    options = {"cwd": cwd, "env": CLEAN | (env or {}), "stdin": subprocess.PIPE, "stderr": subprocess.PIPE}
+    options = {"cwd": cwd, "env": CLEAN | (env or {}), "stdin": subprocess.PIPE, "stderr": stderr}
     with started(words, seconds, **options) as child:
-        printed, errors = (it.decode("utf-8", "surrogateescape") for it in child.communicate(given))
+        printed, errors = ((it or b"").decode("utf-8", "surrogateescape") for it in child.communicate(given))
     return printed, errors, child.returncode
 
 
@@ -152,10 +155,8 @@ def room_with(crates, sources):
 def compiled(room, verb="try"):
     """Compiles the program with all crates below it, and proves nothing. Returns the status, the output, and its
     errors, each with its file and line. The verb `run` also proves and runs it."""
-    options = {"cwd": room / "crates" / PROGRAM, "stdin": subprocess.DEVNULL, "stderr": subprocess.STDOUT}
-    with started(["rt", verb], encoding="utf-8", errors="replace", **options) as child:
-        output = child.communicate()[0]
-    return child.returncode, output, [(file, int(line), name) for file, line, name in ERROR.findall(output)]
+    output, _, status = ran("rt", verb, cwd=room / "crates" / PROGRAM, stderr=STDOUT)
+    return status, output, [(file, int(line), name) for file, line, name in ERROR.findall(output)]
 
 
 def print_end(output):
@@ -220,8 +221,8 @@ def listed(cwd, env=None):
     return sorted(set(git(cwd, "cat-file", "--batch-all-objects", "--batch-check=%(objectname)", env=env).split()))
 
 
-def make_blobs(folder, kind, packs, packed, loose, seed=0):
-    """Makes a bare repository with that many blobs in packs, and loose ones."""
+def make_blobs(folder, kind, packs=2, packed=PACKED, loose=200, seed=0):
+    """Makes a bare repository with that many packs, blobs in them, and loose blobs."""
     git(folder.parent, "init", "--quiet", "--bare", f"--object-format={kind}", folder)
     texts = [f"{seed} {number}" for number in range(packed)]
     for at in range(packs):
