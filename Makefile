@@ -3,8 +3,8 @@
 # each other. tools/prove finds out by checksums whether it has to be, so make always calls it.
 PROGRAMS := oidtool packtool
 PREFIX ?= /usr/local
-# As many jobs as there are processors, and memory for: a crate may take 3 GB. To make, a -j of the caller's own goes first; one
-# in the environment, as a make has it that calls this one, does not.
+# As many jobs as there are processors, and memory for: a crate may take 3 GB. But a -j of the caller's goes first: make sees to
+# that among its own words, and this to one in the environment, where a make that calls this one leaves it.
 MAKEFLAGS += --no-builtin-rules $(shell echo " $$MAKEFLAGS" | grep -qE ' -(-jobs|[a-z]*j)' || echo "-j$$(tools/jobs 3000 3000)")
 
 # Each crate with its kind and those that it depends on, as NAME:KIND:LOW:LOW..

@@ -128,7 +128,7 @@ typedef struct gix_hash_entry {
     gix_hash_id id;
 } gix_hash_entry;
 
-/* A hash function at work on a message, which comes in pieces. Any values are safe, but only those that
+/* A hash function at work on a message, which comes in chunks. Any values are safe, but only those that
  * gix_hash_hasher_new and gix_hash_hasher_update wrote stand for a message. A copy of the struct is a
  * hasher of its own. What words, count and block contain may change with the version. */
 typedef struct gix_hash_hasher {
@@ -212,7 +212,7 @@ GIX_HASH_READS(1) GIX_HASH_WRITES(2)
 uint32_t gix_hash_hasher_finish(const gix_hash_hasher *hasher, gix_hash_id *id);
 
 /* Computes the id of an object from its type and its bytes, as git hash-object does: the digest of the
- * name of the type, a space, len in decimal, a zero, and the bytes. For an object that comes in pieces,
+ * name of the type, a space, len in decimal, a zero, and the bytes. For an object that comes in chunks,
  * feed the same to a hasher. Whether the bytes are a tree, a commit or a tag is not checked.
  * Returns GIX_HASH_OK, GIX_HASH_BAD_KIND or GIX_HASH_BAD_TYPE. */
 GIX_HASH_READS(3, 4) GIX_HASH_WRITES(5)

@@ -445,7 +445,7 @@ static void test_objects(const char *name, uint32_t kind) {
     if (git) pclose(git);
 }
 
-/* Messages in pieces of 0 to 199 bytes have the digests of their beginnings, also in copies. */
+/* Messages in chunks of 0 to 199 bytes have the digests of their beginnings, also in copies. */
 static void test_hashers(uint32_t kind) {
     for (size_t row = 0; row < 50; row++) {
         gix_hash_hasher hasher, copy;

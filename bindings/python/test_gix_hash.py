@@ -82,13 +82,13 @@ class Bindings(unittest.TestCase):
                     self.assertNotEqual(ours.id(), copied.id())
             for word in ("name", "digest_size", "block_size"):
                 self.assertEqual(getattr(ours, word), getattr(wanted, word))
-            whole, pieces = Hasher(kind, bytes(1 << 24)), Hasher(kind)
-            threads = [threading.Thread(target=pieces.update, args=(bytes(1 << 20),)) for _ in range(16)]
+            whole, chunks = Hasher(kind, bytes(1 << 24)), Hasher(kind)
+            threads = [threading.Thread(target=chunks.update, args=(bytes(1 << 20),)) for _ in range(16)]
             for each in threads:
                 each.start()
             for each in threads:
                 each.join()
-            self.assertEqual(pieces.id(), whole.id())
+            self.assertEqual(chunks.id(), whole.id())
         self.assertRaises(ValueError, Hasher, 3)
 
     def test_objects(self):

@@ -315,7 +315,7 @@ class Id:
 
 
 class Hasher:
-    """A hash function at work on a message, which comes in pieces, with what objects of hashlib have. Threads may share one.
+    """A hash function at work on a message, which comes in chunks, with what objects of hashlib have. Threads may share one.
 
     >>> hasher = Hasher(Kind.SHA1, b"blob 3\\0")
     >>> hasher.update(b"abc")

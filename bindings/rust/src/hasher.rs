@@ -1,10 +1,10 @@
-//! Digests of messages that come in pieces, and ids of objects.
+//! Digests of messages that come in chunks, and ids of objects.
 
 use crate::{raw, Id, Kind};
 use std::fmt;
 use std::io;
 
-/// A hash function at work on a message, which comes in pieces. As a writer it never fails.
+/// A hash function at work on a message, which comes in chunks. As a writer it never fails.
 ///
 /// ```
 /// # use nunbirdstand::{Hasher, Id, Kind, ObjectType};

@@ -67,14 +67,14 @@ fn digests() {
 }
 
 #[test]
-fn pieces() {
+fn chunks() {
     let message: Vec<u8> = (0..1000u32).map(|n| (n % 251) as u8).collect();
     for kind in [Kind::Sha1, Kind::Sha256] {
         for size in 1..=130 {
             let mut hasher = Hasher::new(kind);
-            for (at, piece) in message.chunks(size).enumerate() {
+            for (at, chunk) in message.chunks(size).enumerate() {
                 assert_eq!(hasher.finish(), Id::digest(kind, &message[..at * size]));
-                hasher.write_all(piece).unwrap();
+                hasher.write_all(chunk).unwrap();
             }
             let mut other = hasher.clone();
             other.update(b"more");

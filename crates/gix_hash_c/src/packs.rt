@@ -26,7 +26,7 @@ use pack_index::tables::{
 };
 use pack_index::{Error, File};
 
-// How many names before and after a place are searched first.
+// How many names before and after a position are searched first.
 const NEAR: usize = 8;
 
 /// What an index contains about an object.

@@ -58,7 +58,7 @@ pub fn find_assuming_sorted_near<I: Id>(ids: &[I], prefix: &Prefix, guess: Run) 
     Run { start, end }
 }
 
-// A part with the start of the run, if the list is sorted: the guess, or one beside it, or the
+// A part with the start of the run, if the list is sorted: the guess, or one next to it, or the
 // whole list if the guess is no run of its positions.
 fn part_near<I: Id>(ids: &[I], prefix: &Prefix, guess: Run) -> Run
     requires { length prefix.now.digits ≤ least_hex_len (map I.digits ids.now) }

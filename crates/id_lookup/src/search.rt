@@ -46,7 +46,7 @@ pub(crate) enum Bound {
 }
 
 impl Bound {
-    // Whether the bound comes after a member, by the place of the prefix against that member.
+    // Whether the bound comes after a member, by how the prefix compares with that member.
     pub(crate) fn comes_after(self, place: Ordering) -> bool
         ensures { result ≡ is_before_bound self place }
     {

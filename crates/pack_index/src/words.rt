@@ -11,7 +11,7 @@ use id_lookup::Run;
 /// Where the ids begin, in bytes from the start of the index.
 pub const NAMES_START: usize = 1032;
 
-/// The smallest word of the table of offsets that stands for an 8-byte offset.
+/// The smallest word of the table of offsets that refers to an 8-byte offset.
 pub(crate) const LONG: u32 = 0x8000_0000;
 
 // The number that is written in the four bytes from a position on, the highest first.
