@@ -181,11 +181,7 @@ FOUND_FILES = {
     "folders/config/none": b"",
 }
 # Links: heads of a reference that is not there and of none, and objects.
-FOUND_LINKS = {
-    "linked/.git/HEAD": "refs/heads/main",
-    "linked/.git/objects": "../../r/.git/objects",
-    "r/link/.git/HEAD": "main",
-}
+FOUND_LINKS = {"linked/.git/HEAD": "refs/heads/main", "linked/.git/objects": "../../r/.git/objects", "r/link/.git/HEAD": "main"}
 # Objects folders that have a loose object of each kind.
 FOUND_OBJECTS = ["r/.git/objects", "bare/objects", "both/.git/objects", "both/objects", "detached/.git/objects"]
 # Folders, and the objects folder that is found from there, with its kind.

@@ -13,9 +13,12 @@ fn main() {
     let directories = match given {
         Some(file) if file.is_file() => vec![file.parent().unwrap().to_path_buf()],
         Some(directory) => vec![directory],
-        None => ["lib", "../../out", "../../../lib", "/usr/local/lib"].map(|it| Path::new(&here).join(it)).to_vec(),
+        None => ["lib", "../../out", "../../../lib", "/usr/local/lib"]
+            .map(|it| Path::new(&here).join(it))
+            .to_vec(),
     };
-    let Some(directory) = directories.iter().find(|directory| directory.join("libgix_hash.a").exists()) else {
+    let Some(directory) = directories.iter().find(|directory| directory.join("libgix_hash.a").exists())
+    else {
         panic!(
             "libgix_hash.a is not in {directories:?}: set GIX_HASH_LIB to its absolute path, or run `make lib` first"
         );
