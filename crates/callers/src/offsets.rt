@@ -4,7 +4,7 @@ ghost use Rattle.std.specs.Prelude.{◌≡◌, ◌↔◌, ℕ, IfSome, IsNone};
 ghost use Rattle.pack_index.specs.Format.{offset_in};
 ghost use Rattle.callers.specs.Offsets.{IsOnlyMatch};
 
-use gix_hash::{Alphabet, Kind, Prefix, laws};
+use gix_hash::{Kind, Prefix};
 use id_lookup::Answer;
 use pack_index::File;
 
@@ -16,8 +16,6 @@ pub fn typed_offset(bytes: &[u8], kind: Kind, typed: &str) -> Option<u64>
         × (offset ≡ offset_in kind bytes.now at)) }
     ensures none { IsNone result ↔ ((at : ℕ) → ¬ IsOnlyMatch kind bytes.now typed.now at) }
 {
-    // The prefix that is read has the kind.
-    laws::prefix_readings_in(kind, Alphabet::Hex, typed);
     let Ok(prefix) = Prefix::from_hex_in(kind, typed) else {
         return None;
     };

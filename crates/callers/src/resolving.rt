@@ -17,10 +17,10 @@ pub fn resolve<R: Files<File = File> + Env + AllocGlobal + Clone + Drop>(
     let Ok(prefix) = Prefix::from_hex_in(folder.kind, typed) else {
         return Ok(None);
     };
-    if prefix.hex_len() < 2 || prefix.as_oid().kind() != folder.kind {
+    if prefix.hex_len() < 2 {
         return Ok(None);
     }
-    let loose = LooseIds::WithFirstByte(prefix.as_oid().first_byte());
+    let loose = LooseIds::WithFirstByte(prefix.first_byte());
     let store = FolderStore::open(rt, &folder, loose)?;
     match lookup_prefix(rt.alloc(), &store, &prefix) {
         Ok(ids) if ids.len() == 1 => Ok(Some(ids[0])),

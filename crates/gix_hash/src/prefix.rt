@@ -2,7 +2,7 @@
 
 ghost use Rattle.std.specs.Prelude.{◌≡◌, ◌≤◌, ◌<◌, length, take, IfOk, All};
 ghost use Rattle.std.specs.declared.cmp.Ordering.{Ordering};
-ghost use Rattle.id_digits.specs.Digits.{hex_letter, reverse_letter};
+ghost use Rattle.id_digits.specs.Digits.{first_byte_of, hex_letter, reverse_letter};
 ghost use Rattle.gix_hash.specs.Kind.{hex_len_of};
 ghost use Rattle.gix_hash.specs.Prefix.{place, padded};
 ghost use Rattle.gix_hash.specs.PrefixReading.{prefix_read, prefix_read_in};
@@ -172,7 +172,8 @@ impl Prefix {
     /// Returns [`from_hex::Error::TooShort`] for an empty text, [`from_hex::Error::TooLong`] for
     /// more bytes, and otherwise [`from_hex::Error::Invalid`] if some byte is no digit.
     pub fn from_hex_in(kind: Kind, text: &str) -> Result<Prefix, from_hex::Error>
-        ensures { result ≡ prefix_read_in kind hex_letter text.now }
+        ensures read { result ≡ prefix_read_in kind hex_letter text.now }
+        ensures kind { IfOk result (λ prefix. prefix.kind ≡ kind) }
     {
         if text.len() > kind.len_in_hex() {
             return Err(from_hex::Error::TooLong {
@@ -191,6 +192,14 @@ impl Prefix {
         ensures digits { oid_digits result ≡ padded (hex_len_of self.now.kind) self.now.digits }
     {
         self.bytes.as_oid()
+    }
+
+    /// The first byte of [`Prefix::as_oid`]: that of each id that begins with the prefix, if it has
+    /// 2 digits or more.
+    pub fn first_byte(&self) -> u8
+        ensures { result ≡ first_byte_of self.now.digits }
+    {
+        self.as_oid().first_byte()
     }
 
     /// The number of digits.

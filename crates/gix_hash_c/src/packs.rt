@@ -256,7 +256,7 @@ fn names(kind: Kind, bytes: &[u8]) -> &[u8]
 fn guess(bytes: &[u8], prefix: &gix_hash::Prefix) -> id_lookup::Run
     requires { names_start ≤ length bytes.now }
 {
-    let first = prefix.as_oid().first_byte();
+    let first = prefix.first_byte();
     let other_digits = if prefix.hex_len() == 1 { 15 } else { 0 };
     let counted = bucket_range(bytes, first, first | other_digits);
     let bytes = prefix.as_oid().as_bytes();

@@ -1,5 +1,5 @@
 -- The place of a prefix against an id, by the id's first byte.
-use Rattle.std.proofs.Common.{◌≡◌, ℕ, zero, suc, ◌+◌, ◌-◌, ◌*◌, ◌++◌, replicate, ◌<◌, ◌≤◌, true, List, [], ◌∷◌, length, get_or, slice_index, inl, inr, refl, sym, arith, true≢false}
+use Rattle.std.proofs.Common.{◌≡◌, ℕ, ◌+◌, ◌*◌, ◌<◌, ◌≤◌, true, List, [], ◌∷◌, length, slice_index, inl, inr, refl, sym, arith, true≢false}
 use Rattle.std.specs.declared.cmp.Ordering.{Ordering}
 use Rattle.std.specs.declared.cmp.Ordering.TheVariants.{Less, Equal, Greater}
 use Rattle.std.specs.List.{All}
@@ -8,7 +8,7 @@ use Rattle.std.specs.Cmp.{ranks}
 use Rattle.std.proofs.lemmas.Bool.{cases_lt}
 use Rattle.std.proofs.lemmas.List.{get_or_past}
 use Rattle.gix_hash.specs.Digits.{first_byte_of}
-use Rattle.gix_hash.specs.Prefix.{place, padded}
+use Rattle.gix_hash.specs.Prefix.{place}
 
 -- each digit is below 16, and what is read after the last one too
 abbrev pub AreDigits : List ℕ → Type 0
@@ -98,19 +98,3 @@ unfolding last_byte_of
 last_byte_of-first [] h = absurd (omega arith)
 last_byte_of-first (d ∷ []) h = absurd (omega arith)
 last_byte_of-first (d ∷ e ∷ ps) h = refl
-
--- zeros after digits do not change what is read at an index
-get_or-zeros : (n k : ℕ) → get_or {A = ℕ} (replicate n 0) k 0 ≡ 0
-get_or-zeros zero k = refl
-get_or-zeros (suc n) zero = refl
-get_or-zeros (suc n) (suc k) = get_or-zeros n k
-
-get_or-padded : (digits : List ℕ) (n k : ℕ) → get_or (digits ++ replicate n 0) k 0 ≡ get_or digits k 0
-get_or-padded [] n k = get_or-zeros n k
-get_or-padded (d ∷ digits) n zero = refl
-get_or-padded (d ∷ digits) n (suc k) = get_or-padded digits n k
-
--- nor the first byte
-pub first_byte_of-padded : (n : ℕ) (digits : List ℕ) → first_byte_of (padded n digits) ≡ first_byte_of digits
-first_byte_of-padded n digits =
-    rw (get_or-padded digits (n - length digits) 0, get_or-padded digits (n - length digits) 1) refl

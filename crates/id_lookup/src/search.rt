@@ -107,7 +107,7 @@ fn candidates<I: Id>(fan_out: &FanOut, probes: &Probes<'_, I>) -> Run
     ensures can_probe { CanProbe probes.now.prefix probes.now.ids }
 {
     let prefix = probes.prefix();
-    let first = prefix.as_oid().first_byte();
+    let first = prefix.first_byte();
     let last = last_byte(first, prefix.hex_len());
     Run {
         start: fan_out.below(first),

@@ -81,7 +81,7 @@ impl LooseTable {
         ensures ids { map id_digits result.now ≡ matches prefix.now.digits self.now.ids }
         ensures kinds { All (λ id. id_kind id ≡ self.now.kind) result.now }
     {
-        let ids = self.with_first_byte(prefix.as_oid().first_byte());
+        let ids = self.with_first_byte(prefix.first_byte());
         let run = find_assuming_sorted(ids, prefix);
         &ids[run.start..run.end]
     }

@@ -19,7 +19,7 @@ pub fn find<S: Store, A: Allocator + Copy>(
 ) -> Result<Vec<ObjectId, A>, Error> {
     let kind = store.object_hash();
     let prefix = Prefix::from_hex_in(kind, prefix).expect(rt, "no prefix");
-    assert!(rt; prefix.hex_len() >= 2 && prefix.as_oid().kind() == kind);
+    assert!(rt; prefix.hex_len() >= 2);
     lookup_prefix(alloc, store, &prefix)
 }
 

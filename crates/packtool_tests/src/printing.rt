@@ -55,7 +55,7 @@ fn run(
         return names(rt.alloc(), store, 6, out);
     };
     let prefix = Prefix::from_hex_in(kind, prefix).expect(rt, "no prefix");
-    assert!(rt; prefix.hex_len() >= 2 && prefix.as_oid().kind() == kind);
+    assert!(rt; prefix.hex_len() >= 2);
     match asked {
         Asked::Find(_) => find(rt.alloc(), store, &prefix, out),
         _ => locate(rt.alloc(), store, &prefix, out),

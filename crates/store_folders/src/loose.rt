@@ -15,7 +15,7 @@ use std::rt::Files;
 /// Which loose objects of a store are listed as it is opened: those that will be asked for.
 ///
 /// ```
-/// let loose = LooseIds::WithFirstByte(prefix.as_oid().first_byte());
+/// let loose = LooseIds::WithFirstByte(prefix.first_byte());
 /// let store = FolderStore::open(rt, &find_objects(rt)?, loose)?;
 /// ```
 #[derive(Clone, Copy, Debug)]

@@ -8,8 +8,7 @@ use Rattle.callers.proofs.offsets.typed_offset.Goals as goal
 
 pub lookup_prefix-requires : goal.lookup_prefix-requires
 lookup_prefix-requires c =
-    let reading = (c.prefix_readings_in.ensures.ok c.in-Ok.prefix).0 (sym c.in-Ok.ensures) in
-    reading.same_kind ∙ sym (ap (λ (file : IndexFile). file.kind) c.in-Ok-try_new.ensures.ok)
+    c.in-Ok.ensures.kind ∙ sym (ap (λ (file : IndexFile). file.kind) c.in-Ok-try_new.ensures.ok)
 
 pub returns-in-One-clause-none : goal.returns-in-One-clause-none
 returns-in-One-clause-none c =
@@ -17,7 +16,7 @@ returns-in-One-clause-none c =
     let at = c.in-One.at in
     let run = subst (λ (file : IndexFile). IsRun prefix (names_in file.kind file.bytes) (record { start = at; end = at + 1 })) c.in-Ok-try_new.ensures.ok c.in-One.ensures in (
       λ no. absurd (true≢false no),
-      λ none. absurd (none at (record { prefix = prefix; reads = sym c.in-Ok.ensures; index = c.in-Ok-try_new.ensures.accepted.0 refl; run = run })),
+      λ none. absurd (none at (record { prefix = prefix; reads = sym c.in-Ok.ensures.read; index = c.in-Ok-try_new.ensures.accepted.0 refl; run = run })),
     )
 
 pub returns-in-None : goal.returns-in-None
@@ -29,7 +28,7 @@ returns-in-None c =
       offset = tt;
       none = (
         λ no at only.
-            let same : only.prefix ≡ prefix = cc (only.reads, c.in-Ok.ensures) in
+            let same : only.prefix ≡ prefix = cc (only.reads, c.in-Ok.ensures.read) in
             not_one prefix names c.lookup_prefix.result answer c.in-None.is at (subst (λ (p : KindDigits). IsRun p names (record { start = at; end = at + 1 })) same only.run),
         λ none. refl,
       );

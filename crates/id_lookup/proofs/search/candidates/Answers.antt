@@ -1,10 +1,9 @@
 use Rattle.std.proofs.Common.{◌≡◌, ap, ◌∙◌}
 use Rattle.std.specs.List.{count_by}
 use Rattle.gix_hash.specs.Digits.{first_byte_of}
-use Rattle.gix_hash.specs.Kind.{hex_len_of}
 use Rattle.id_lookup.specs.FirstBytes.{is_below, is_up_to}
 use Rattle.id_lookup.proofs.FirstByteCounts.{are_candidates}
-use Rattle.id_lookup.proofs.FirstByteOrder.{are_digits, first_byte_of-padded, last_byte_is, last_byte_of}
+use Rattle.id_lookup.proofs.FirstByteOrder.{are_digits, last_byte_is, last_byte_of}
 use Rattle.id_lookup.proofs.search.candidates.Goals as goal
 
 pub returns-clause-part : goal.returns-clause-part
@@ -13,9 +12,7 @@ returns-clause-part g c =
     let ids = c.args.probes.now.ids in
     let small = rw c.prefix-prefix.ensures.value at c.hex_len.ensures.digits_in_range in
     let len = rw c.prefix-prefix.ensures.value at c.hex_len.ensures.value in
-    let padding = rw c.prefix-prefix.ensures.value at c.as_oid.ensures.digits in
-    let first : c.first_byte-first.result ≡ first_byte_of prefix.digits =
-    c.first_byte-first.ensures ∙ ap first_byte_of padding ∙ first_byte_of-padded (hex_len_of prefix.kind) prefix.digits in
+    let first : c.first_byte-first.result ≡ first_byte_of prefix.digits = rw c.prefix-prefix.ensures.value at c.first_byte-first.ensures in
     let last : c.last_byte-last.result ≡ last_byte_of prefix.digits =
     last_byte_is _ _ _ _ len first c.last_byte-last.ensures.none c.last_byte-last.ensures.one c.last_byte-last.ensures.more in
     are_candidates prefix ids c.prefix-prefix.ensures.can_probe (are_digits _ small) c.requires.digits _

@@ -21,10 +21,6 @@ pub returns-clause-ids : goal.returns-clause-ids
 returns-clause-ids c =
     let ids = c.with_first_byte-ids.result.now in
     let digits = c.args.prefix.now.digits in
-    let zeros : List ℕ = padded (hex_len_of c.args.prefix.now.kind) digits in
-    let begins = (starts_with-BeginsWith zeros digits).1 (_, refl) in
-    let byte : c.first_byte.result ≡ first_byte_of digits =
-    c.first_byte.ensures ∙ ap first_byte_of c.as_oid.ensures.digits ∙ first_byte_of-begins zeros digits c.requires.enough begins in
     run_matches id_digits c.args.prefix.now ids c.find_assuming_sorted-run.result
     (c.find_assuming_sorted-run.ensures.run (index-sorted c.args.self.now.kind (map id_digits ids) c.with_first_byte-ids.ensures.index))
-    ∙ ap (matches digits) (c.with_first_byte-ids.ensures.ids ∙ ap (λ b. part_of b c.args.self.now.ids) byte) ∙ matches-part digits c.args.self.now.ids c.requires.enough
+    ∙ ap (matches digits) (c.with_first_byte-ids.ensures.ids ∙ ap (λ b. part_of b c.args.self.now.ids) c.first_byte.ensures) ∙ matches-part digits c.args.self.now.ids c.requires.enough
