@@ -3,3 +3,4 @@ pub mod Views
 pub mod Stores
 pub mod Locations
 pub mod Parts
+pub mod Several

@@ -48,15 +48,28 @@ pub record CanLookUp (view : StoreView) (prefix : KindDigits) : Type 0 where
   pub enough : 2 ≤ length prefix.digits
   pub kind : prefix.kind ≡ view.kind
 
--- a list for each prefix: the ids that begin with it
-pub record AreMatchesOfEach (view : StoreView) (prefixes : List KindDigits) (found : List (List ObjectId)) : Type 0 where
+-- something was found for each prefix, in their order, and stands in a relation to its digits
+pub record AreFoundOfEach {Found : Type 0} (Finds : List ℕ → Found → Type 0) (prefixes : List KindDigits) (found : List Found) : Type 0 where
   pub as_many : length found ≡ length prefixes
-  pub each : (k : ℕ) (prefix : KindDigits) (ids : List ObjectId) → k < length prefixes → AreMatches view (slice_index_or prefixes k prefix).digits (slice_index_or found k ids)
+  pub each : (k : ℕ) (prefix : KindDigits) (one : Found) → k < length prefixes → Finds (slice_index_or prefixes k prefix).digits (slice_index_or found k one)
 
--- why several prefixes are not looked up: the names with the first byte of one of them are not read, or memory ran out
+-- a list for each prefix: the ids that begin with it
+abbrev pub AreMatchesOfEach : StoreView → List KindDigits → List (List ObjectId) → Type 0
+AreMatchesOfEach view prefixes found = AreFoundOfEach (AreMatches view) prefixes found
+
+-- why several prefixes are not looked up: why one of them is not, or memory ran out
+abbrev pub IsOfOne : (List ℕ → Error → Type 0) → List KindDigits → Error → Type 0
+IsOfOne Fails prefixes (Index at error) = (prefix : KindDigits) × Contains prefixes prefix × Fails prefix.digits (Index at error)
+IsOfOne Fails prefixes (Memory error) = Unit {0}
+
+-- the names with the first byte of one of them are not read, or memory ran out
 abbrev pub IsFaultOfOne : StoreView → List KindDigits → Error → Type 0
-IsFaultOfOne view prefixes (Index at error) = (prefix : KindDigits) × Contains prefixes prefix × IsStoreFault view (first_byte_of prefix.digits) (Index at error)
-IsFaultOfOne view prefixes (Memory error) = Unit {0}
+IsFaultOfOne view prefixes error = IsOfOne (λ digits. IsStoreFault view (first_byte_of digits)) prefixes error
+
+-- all locations of the object of these digits
+pub record AreLocations (view : StoreView) (digits : List ℕ) (locations : List Location) : Type 0 where
+  pub all : (whole : List (List ℕ)) → (h : Holds view whole) → locations ≡ locations_of view.kind digits h.indexes view.loose
+  pub sound : HaveLocations view digits
 
 -- a prefix is not looked up yet, and has this first byte; or the ids that begin with it were found
 abbrev pub IsFoundOrPending : StoreView → KindDigits → Option ℕ → List ObjectId → Type 0
@@ -73,8 +86,3 @@ pub record AreFoundOrPending (view : StoreView) (prefixes : List KindDigits) (pe
 -- those that were found before still are
 abbrev pub StayFound : (old new : List (Option ℕ)) → Type 0
 StayFound old new = (k : ℕ) → slice_index_or old k None ≡ None → slice_index_or new k None ≡ None
-
--- all locations of the object of these digits
-pub record AreLocations (view : StoreView) (digits : List ℕ) (locations : List Location) : Type 0 where
-  pub all : (whole : List (List ℕ)) → (h : Holds view whole) → locations ≡ locations_of view.kind digits h.indexes view.loose
-  pub sound : HaveLocations view digits

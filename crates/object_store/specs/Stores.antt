@@ -1,5 +1,6 @@
 -- What an object store holds. Each id is given by its digits.
-use Rattle.std.specs.Prelude.{◌≡◌, ℕ, ◌<◌, ◌++◌, All, Bool, List, [], Some, flat_map, length, map, slice_get, slice_index_or, take}
+use Rattle.std.specs.Prelude.{◌≡◌, ◌⊎◌, ℕ, ◌<◌, ◌++◌, All, Bool, IsTrue, List, [], Some, flat_map, length, map, nat_eq, slice_get, slice_index_or, take}
+use Rattle.std.specs.List.{starts_with}
 use Rattle.gix_hash.specs.Digits.{first_byte_of}
 use Rattle.gix_hash.specs.ObjectId.{id_kind}
 use Rattle.gix_hash.specs.declared.Kind.{Kind}
@@ -67,6 +68,17 @@ HaveLocations view digits = All (IfKnown (λ bytes. HasLocation view.kind bytes 
 abbrev pub IsLocateFault : StoreView → List ℕ → Error → Type 0
 IsLocateFault view digits error =
     IsFirstFault (λ bytes. HasLocation view.kind bytes digits) (λ can_fail bytes why. IsLocationFault can_fail view.kind bytes digits why) view.packs error
+
+-- the pack indexes have what the locations of each id that begins with the digits need
+abbrev pub HaveAllLocations : StoreView → List ℕ → Type 0
+HaveAllLocations view digits = (id : List ℕ) → IsTrue (starts_with nat_eq id digits) → HaveLocations view id
+
+-- why the locations of the ids that begin with the digits are not found: a look-up of the ids fails, or none of the names does, and that of the locations of
+-- one of the ids
+abbrev pub IsLocationsFault : StoreView → List ℕ → Error → Type 0
+IsLocationsFault view digits error =
+    IsStoreFault view (first_byte_of digits) error
+    ⊎ (HaveBuckets view (first_byte_of digits) × (id : List ℕ) × IsTrue (starts_with nat_eq id digits) × IsLocateFault view id error)
 
 -- a read failed that may, of the pack index at the index, or memory ran out
 abbrev pub IsIndexReadOrMemory : StoreView → Error → Type 0

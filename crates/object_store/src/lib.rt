@@ -18,8 +18,8 @@ mod store;
 
 pub use error::Error;
 pub use gathering::{lookup_prefix, lookup_prefixes};
-pub use locations::{Location, locate};
+pub use locations::{LocatedId, Location, locate, locate_prefixes};
 pub use loose::LooseTable;
-pub use naming::{NamedId, abbreviate, names};
+pub use naming::{Abbreviation, NamedId, abbreviate, abbreviate_prefixes, names};
 pub use part::Part;
 pub use store::{Store, StorePaths};

@@ -1,9 +1,10 @@
 //! Where an object store has an object.
 
-ghost use Rattle.std.specs.Prelude.{◌≡◌, ◌⊎◌, ℕ, [], ◌∷◌, ◌++◌, IfErr, IfOk, List, OnOk, Some, length};
+ghost use Rattle.std.specs.Prelude.{◌≡◌, ◌⊎◌, ℕ, [], ◌∷◌, ◌++◌, All, IfErr, IfOk, List, OnOk, Some, length, map};
 ghost use Rattle.gix_hash.specs.Digits.{first_byte_of};
 ghost use Rattle.gix_hash.specs.ObjectId.{id_digits, id_kind};
-ghost use Rattle.object_store.specs.Parts.{AreBuckets, AreLocations};
+ghost use Rattle.object_store.specs.Parts.{AreBuckets, AreLocations, CanLookUp};
+ghost use Rattle.object_store.specs.Several.{AreLocatedOfEach, IsLocationsFaultOfOne};
 ghost use Rattle.object_store.specs.Locations.{offset_of, packed_at, packed_locations};
 ghost use Rattle.object_store.specs.Stores.{HasLocation, HaveBuckets, HaveLocations, Holds, IsLocateFault, IsLocationFault, IsStoreFault};
 ghost use Rattle.pack_index.specs.Firsts.{Each};
@@ -12,8 +13,8 @@ ghost use Rattle.pack_index.specs.Lazy.{IsBucketOf};
 
 use crate::error::Error;
 use crate::part::Part;
-use crate::store::Store;
-use gix_hash::ObjectId;
+use crate::store::{Store, StorePaths};
+use gix_hash::{ObjectId, Prefix};
 use pack_index::{Bucket, LazyError, LazyFile};
 use std::alloc::{AllocError, Allocator};
 use streams::ReadAt;
@@ -39,6 +40,49 @@ pub enum Location {
     },
     /// Among the loose objects.
     Loose,
+}
+
+/// An id with all locations of its object.
+///
+/// ```
+/// for located in located.iter() {
+///     println!(rt; "{}: {} copies", located.id, located.locations.len())?;
+/// }
+/// ```
+#[derive(Drop)]
+pub struct LocatedId<A: Allocator> {
+    /// The id.
+    pub id: ObjectId,
+    /// All locations, as [`locate`] gives them.
+    pub locations: Vec<Location, A>,
+    /// The paths of the files of the loose object, as [`StorePaths::loose_paths`] gives them.
+    pub loose_paths: Vec<String>,
+}
+
+/// The ids of a store that begin with each of several prefixes, with their locations: as many lists
+/// as prefixes, in their order.
+///
+/// Each prefix must have 2 digits or more, and the store's kind. Of each pack index the ids with a
+/// first byte are read once, if a prefix has it, and memory is allocated for those with one first
+/// byte at a time. The error is that of reading the ids with the first byte of one of the prefixes,
+/// or the offset of an id that begins with it.
+///
+/// ```
+/// for located in locate_prefixes(rt.alloc(), &store, &prefixes)?.iter() {
+///     println!(rt; "{} ids", located.len())?;
+/// }
+/// ```
+pub fn locate_prefixes<S: StorePaths, A: Allocator + Copy>(
+    _alloc: A,
+    store: &S,
+    prefixes: &[Prefix],
+) -> Result<Vec<Vec<LocatedId<A>, A>, A>, Error>
+    requires { All (CanLookUp (S.view store.now)) prefixes.now }
+    ensures located { IfOk result (λ located. AreLocatedOfEach (S.view store.now)
+        (S.loose_paths store.now) prefixes.now (map (λ ids. ids.items) located.items)) }
+    ensures err { IfErr result (IsLocationsFaultOfOne (S.view store.now) prefixes.now) }
+{
+    Err(Error::Memory(AllocError))
 }
 
 /// All locations of an object: one in each pack whose index has its id, in the order of

@@ -7,6 +7,8 @@ ghost use Rattle.gix_hash.specs.ObjectId.{id_digits, id_kind};
 ghost use Rattle.id_lookup.specs.Index.{IsIndex};
 ghost use Rattle.id_lookup.specs.IndexOf.{part_of};
 ghost use Rattle.id_lookup.specs.ShortNames.{IsShortestNameFrom};
+ghost use Rattle.object_store.specs.Parts.{CanLookUp, IsFaultOfOne};
+ghost use Rattle.object_store.specs.Several.{AreAbbreviatedOfEach};
 ghost use Rattle.object_store.specs.Stores.{HaveBuckets, Holds, IsNameIn, IsOfKind, IsStoreFault};
 
 use crate::error::Error;
@@ -29,6 +31,58 @@ pub struct NamedId {
     pub id: ObjectId,
     /// Its first digits, with which no other id of the store begins.
     pub name: Prefix,
+}
+
+/// The only id of a store that begins with a prefix, or that there is none or more than one.
+///
+/// ```
+/// for abbreviation in abbreviate_prefixes(rt.alloc(), &store, &prefixes, 4)?.iter() {
+///     match abbreviation {
+///         Abbreviation::Missing => println!(rt; "missing")?,
+///         Abbreviation::Ambiguous => println!(rt; "ambiguous")?,
+///         Abbreviation::Named(named) => println!(rt; "{} {}", named.name, named.id)?,
+///     }
+/// }
+/// ```
+#[derive(Clone, Copy, Debug)]
+pub enum Abbreviation {
+    /// No id begins with the prefix.
+    Missing,
+    /// More than one id begins with it.
+    Ambiguous,
+    /// One id begins with it.
+    Named(NamedId),
+}
+
+/// The abbreviation of the only id that begins with a prefix, for each of several prefixes, in
+/// their order. Abbreviations have at least `least` digits, which must be from 4 to 40 or 64, by the
+/// kind.
+///
+/// Each prefix must have 2 digits or more, and the store's kind. Of each pack index the ids with a
+/// first byte are read once, if a prefix has it, and memory is allocated for those with one first
+/// byte at a time. The error is that of reading the ids with the first byte of one of the prefixes.
+///
+/// ```
+/// for abbreviation in abbreviate_prefixes(rt.alloc(), &store, &prefixes, 4)?.iter() {
+///     if let Abbreviation::Named(named) = abbreviation {
+///         println!(rt; "{} {}", named.name, named.id)?;
+///     }
+/// }
+/// ```
+pub fn abbreviate_prefixes<S: Store, A: Allocator + Copy>(
+    _alloc: A,
+    store: &S,
+    prefixes: &[Prefix],
+    least: usize,
+) -> Result<Vec<Abbreviation, A>, Error>
+    requires can { All (CanLookUp (S.view store.now)) prefixes.now }
+    requires enough { 4 ≤ least }
+    requires fits { least ≤ hex_len_of (S.view store.now).kind }
+    ensures named { IfOk result (λ named. AreAbbreviatedOfEach least (S.view store.now)
+        prefixes.now named.items) }
+    ensures err { IfErr result (IsFaultOfOne (S.view store.now) prefixes.now) }
+{
+    Err(Error::Memory(AllocError))
 }
 
 /// The ids of a store with a first byte, each once, in order, with their abbreviations in the whole

@@ -15,11 +15,10 @@ use Rattle.gix_hash.specs.declared.ObjectId.{ObjectId}
 use Rattle.id_lookup.proofs.Beginnings.{first_byte_of-begins}
 use Rattle.id_lookup.proofs.Spelled.{starts_with-BeginsWith}
 use Rattle.object_store.specs.Parts.{HavePassing}
-use Rattle.object_store.specs.Stores.{HaveBuckets, HaveLocations, IsLocateFault}
+use Rattle.object_store.specs.Stores.{HaveAllLocations, HaveBuckets, HaveLocations, IsLocateFault, IsLocationsFault}
 use Rattle.object_store.specs.Views.{StoreView}
 use Rattle.pack_index.specs.Lazy.{HasBucket}
 use Rattle.packtool_commands.specs.Finding.{IsFaultOf}
-use Rattle.packtool_commands.specs.Locations.{HaveAllLocations, IsLocationsFault}
 use Rattle.packtool_commands.specs.declared.error.StoreError.{StoreError}
 use Rattle.packtool_commands.specs.declared.error.StoreError.TheVariants.{Store, Output}
 

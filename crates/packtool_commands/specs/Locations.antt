@@ -1,10 +1,8 @@
 -- The lines of the locations of objects.
-use Rattle.std.specs.Prelude.{◌≢◌, ◌↔◌, ◌⊎◌, ℕ, Bool, Option, Some, None, List, [], ◌∷◌, ◌++◌, IsTrue, decimal, flat_map, nat_eq}
-use Rattle.std.specs.List.{starts_with}
+use Rattle.std.specs.Prelude.{◌≢◌, ◌↔◌, ℕ, Bool, Option, Some, None, List, [], ◌∷◌, ◌++◌, IsTrue, decimal, flat_map}
 use Rattle.std.specs.Io.KnownBytes.{Appends}
-use Rattle.gix_hash.specs.Digits.{first_byte_of, hex_letter, spelling}
+use Rattle.gix_hash.specs.Digits.{hex_letter, spelling}
 use Rattle.object_store.specs.Locations.{locations_of}
-use Rattle.object_store.specs.Stores.{HaveBuckets, HaveLocations, IsLocateFault, IsStoreFault}
 use Rattle.object_store.specs.declared.error.Error.{Error}
 use Rattle.object_store.specs.declared.error.Error.TheVariants.{Index, Memory}
 use Rattle.object_store.specs.declared.locations.Location.{Location}
@@ -39,14 +37,3 @@ pub record HasLocated (lines : List ℕ → List ℕ) (ids : List (List ℕ)) (a
 abbrev pub IsMemory : Error → Type 0
 IsMemory (Index at error) = ⊥
 IsMemory (Memory error) = Unit {0}
-
--- the pack indexes have what the locations of each id that begins with the digits need
-abbrev pub HaveAllLocations : StoreView → List ℕ → Type 0
-HaveAllLocations view digits = (id : List ℕ) → IsTrue (starts_with nat_eq id digits) → HaveLocations view id
-
--- why the locations of the ids that begin with the digits are not found: a look-up of the ids fails, or none of the names does, and that of the locations of
--- one of the ids
-abbrev pub IsLocationsFault : StoreView → List ℕ → Error → Type 0
-IsLocationsFault view digits error =
-    IsStoreFault view (first_byte_of digits) error
-    ⊎ (HaveBuckets view (first_byte_of digits) × (id : List ℕ) × IsTrue (starts_with nat_eq id digits) × IsLocateFault view id error)

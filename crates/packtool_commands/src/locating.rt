@@ -5,9 +5,9 @@ ghost use Rattle.std.specs.Io.KnownBytes.{Appends};
 ghost use Rattle.gix_hash.specs.Digits.{first_byte_of};
 ghost use Rattle.gix_hash.specs.ObjectId.{id_digits, id_kind};
 ghost use Rattle.id_lookup.specs.Runs.{matches};
-ghost use Rattle.object_store.specs.Stores.{HaveBuckets, HaveLocations, Holds, IsLocateFault};
+ghost use Rattle.object_store.specs.Stores.{HaveAllLocations, HaveBuckets, HaveLocations, Holds, IsLocateFault, IsLocationsFault};
 ghost use Rattle.packtool_commands.specs.Finding.{IsFaultOf};
-ghost use Rattle.packtool_commands.specs.Locations.{HasLocated, HaveAllLocations, IsMemory, IsLocationsFault, lines_at, lines_of_locations, location_line};
+ghost use Rattle.packtool_commands.specs.Locations.{HasLocated, IsMemory, lines_at, lines_of_locations, location_line};
 ghost use Rattle.packtool_commands.specs.declared.error.StoreError.{StoreError};
 ghost use Rattle.streams.specs.Writing.{AppendsAtMost, Wrote};
 
