@@ -6,3 +6,5 @@ pub mod LocationMembers
 pub mod LooseParts
 pub mod TwoDigits
 pub mod Pending
+mod Abbreviated
+mod LocatedIds

@@ -71,17 +71,14 @@ pub record AreLocations (view : StoreView) (digits : List ℕ) (locations : List
   pub all : (whole : List (List ℕ)) → (h : Holds view whole) → locations ≡ locations_of view.kind digits h.indexes view.loose
   pub sound : HaveLocations view digits
 
--- a prefix is not looked up yet, and has this first byte; or the ids that begin with it were found
-abbrev pub IsFoundOrPending : StoreView → KindDigits → Option ℕ → List ObjectId → Type 0
-IsFoundOrPending view prefix (Some byte) ids = byte ≡ first_byte_of prefix.digits
-IsFoundOrPending view prefix None ids = AreMatches view prefix.digits ids
-
--- so is each of several prefixes
-pub record AreFoundOrPending (view : StoreView) (prefixes : List KindDigits) (pending : List (Option ℕ)) (found : List (List ObjectId)) : Type 0 where
+-- each of several prefixes is not looked up yet, and has this first byte; or something was found for it, which stands in the relation to its digits
+pub record AreFoundOrPending {Found : Type 0} (Finds : List ℕ → Found → Type 0) (prefixes : List KindDigits) (pending : List (Option ℕ)) (found : List Found) : Type 0 where
   pub pending_len : length pending ≡ length prefixes
   pub found_len : length found ≡ length prefixes
-  pub each : (k : ℕ) (prefix : KindDigits) (byte : Option ℕ) (ids : List ObjectId) → k < length prefixes
-      → IsFoundOrPending view (slice_index_or prefixes k prefix) (slice_index_or pending k byte) (slice_index_or found k ids)
+  pub bytes : (k : ℕ) (prefix : KindDigits) (byte : ℕ) → k < length prefixes → slice_index_or pending k None ≡ Some byte
+      → first_byte_of (slice_index_or prefixes k prefix).digits ≡ byte
+  pub each : (k : ℕ) (prefix : KindDigits) (one : Found) → k < length prefixes → slice_index_or pending k None ≡ None
+      → Finds (slice_index_or prefixes k prefix).digits (slice_index_or found k one)
 
 -- those that were found before still are
 abbrev pub StayFound : (old new : List (Option ℕ)) → Type 0

@@ -1,16 +1,15 @@
 //! The ids of a store that begin with a prefix, or with each of several.
 
-ghost use Rattle.std.specs.Prelude.{◌≡◌, ◌≤◌, ◌<◌, ◌+◌, ◌++◌, ℕ, All, List, IfErr, IfOk, None, OnOk, flat_map, length, map, slice_index_or};
+ghost use Rattle.std.specs.Prelude.{◌≡◌, ◌≤◌, ◌++◌, All, IfErr, IfOk, OnOk, flat_map, length, map};
 ghost use Rattle.gix_hash.specs.Digits.{first_byte_of};
 ghost use Rattle.gix_hash.specs.Kind.{hex_len_of};
 ghost use Rattle.gix_hash.specs.ObjectId.{id_digits, id_kind};
-ghost use Rattle.gix_hash.specs.Prefix.{KindDigits};
-ghost use Rattle.gix_hash.specs.declared.ObjectId.{ObjectId};
 ghost use Rattle.id_lookup.specs.Runs.{matches};
-ghost use Rattle.object_store.specs.Parts.{AreFoundOrPending, AreMatches, AreMatchesOfEach, CanLookUp, IsFaultOfOne, StayFound};
+ghost use Rattle.object_store.specs.Parts.{AreMatches, AreMatchesOfEach, CanLookUp, IsFaultOfOne};
 ghost use Rattle.object_store.specs.Stores.{IsStoreFault};
 ghost use Rattle.pack_index.specs.Lazy.{BucketNames};
 
+use crate::each::{LookUp, look_up_each};
 use crate::error::Error;
 use crate::part::Part;
 use crate::store::Store;
@@ -67,119 +66,37 @@ pub fn lookup_prefixes<S: Store, A: Allocator + Copy>(
         (map (λ ids. ids.items) found.items)) }
     ensures err { IfErr result (IsFaultOfOne (S.view store.now) prefixes.now) }
 {
-    let mut found = empty_lists(alloc, prefixes)?;
-    let mut pending = first_bytes(alloc, prefixes)?;
-    for at in 0..prefixes.len() {
-        look_up_part(alloc, store, prefixes, at, &mut pending, &mut found)?;
+    look_up_each(alloc, store, prefixes, &Matching { alloc })
+}
+
+// Looks up the ids that begin with a prefix.
+#[derive(Drop)]
+struct Matching<A: Allocator> {
+    alloc: A,
+}
+
+impl<S: Store, A: Allocator + Copy> LookUp<S, A> for Matching<A> {
+    ghost use Rattle.gix_hash.specs.Digits.{first_byte_of};
+    ghost use Rattle.object_store.specs.Parts.{AreMatches};
+    ghost use Rattle.object_store.specs.Stores.{IsStoreFault};
+
+    type Found = Vec<ObjectId, A>;
+
+    ghost fits = { λ _ _. Unit {0} };
+
+    ghost finds = { λ _ view digits ids. AreMatches view digits ids.items };
+
+    ghost fails = { λ _ view digits error. IsStoreFault view (first_byte_of digits) error };
+
+    fn nothing(&self) -> Vec<ObjectId, A> {
+        Vec::new(self.alloc)
     }
-    Ok(found)
-}
 
-// An empty list for each prefix.
-fn empty_lists<A: Allocator + Copy>(
-    alloc: A,
-    prefixes: &[Prefix],
-) -> Result<Vec<Vec<ObjectId, A>, A>, AllocError>
-    ensures { IfOk result (λ lists. length lists.items ≡ length prefixes.now) }
-{
-    let mut lists = Vec::with_capacity(alloc, prefixes.len())?;
-    for _at in 0..prefixes.len() {
-        lists.push(Vec::new(alloc))?;
+    fn look_up(&self, part: &Part<'_, S, A>, prefix: &Prefix) -> Result<Vec<ObjectId, A>, Error> {
+        Ok(part.lookup_prefix(self.alloc, prefix)?)
     }
-    Ok(lists)
-}
 
-// The first byte of each prefix.
-fn first_bytes<A: Allocator + Copy>(
-    alloc: A,
-    prefixes: &[Prefix],
-) -> Result<Vec<Option<u8>, A>, AllocError>
-    requires { All (λ (prefix : KindDigits). 2 ≤ length prefix.digits) prefixes.now }
-    ensures { IfOk result (λ bytes. bytes.items
-        ≡ map (λ (prefix : KindDigits). Some (first_byte_of prefix.digits)) prefixes.now) }
-{
-    let mut bytes = Vec::with_capacity(alloc, prefixes.len())?;
-    for prefix in prefixes {
-        bytes.push(Some(prefix.as_oid().first_byte()))?;
-    }
-    Ok(bytes)
-}
-
-// Looks up the prefix at a position and those after it that have its first byte, unless it is
-// found.
-fn look_up_part<S: Store, A: Allocator + Copy>(
-    alloc: A,
-    store: &S,
-    prefixes: &[Prefix],
-    at: usize,
-    pending: &mut Vec<Option<u8>, A>,
-    found: &mut Vec<Vec<ObjectId, A>, A>,
-) -> Result<(), Error>
-    requires can { All (CanLookUp (S.view store.now)) prefixes.now }
-    requires in_range { at < length prefixes.now }
-    requires each { AreFoundOrPending (S.view store.now) prefixes.now pending.old.items
-        (map (λ ids. ids.items) found.old.items) }
-    ensures each { OnOk result (AreFoundOrPending (S.view store.now) prefixes.now
-        pending.new.items (map (λ ids. ids.items) found.new.items)) }
-    ensures stay { OnOk result (StayFound pending.old.items pending.new.items) }
-    ensures at { OnOk result (slice_index_or pending.new.items at None ≡ None) }
-    ensures err { IfErr result (IsFaultOfOne (S.view store.now) prefixes.now) }
-{
-    let Some(byte) = pending[at] else {
-        return Ok(());
-    };
-    let part = Part::read(alloc, store, byte)?;
-    look_up_at(alloc, &part, prefixes, at, pending, found)?;
-    Ok(look_up_after(alloc, &part, prefixes, at, pending, found)?)
-}
-
-// Looks up the prefixes after a position that have the first byte of a part.
-fn look_up_after<S: Store, A: Allocator + Copy>(
-    alloc: A,
-    part: &Part<'_, S, A>,
-    prefixes: &[Prefix],
-    at: usize,
-    pending: &mut Vec<Option<u8>, A>,
-    found: &mut Vec<Vec<ObjectId, A>, A>,
-) -> Result<(), AllocError>
-    requires can { All (CanLookUp part.now.store) prefixes.now }
-    requires in_range { at < length prefixes.now }
-    requires each { AreFoundOrPending part.now.store prefixes.now pending.old.items
-        (map (λ ids. ids.items) found.old.items) }
-    ensures each { OnOk result (AreFoundOrPending part.now.store prefixes.now pending.new.items
-        (map (λ ids. ids.items) found.new.items)) }
-    ensures stay { OnOk result (StayFound pending.old.items pending.new.items) }
-{
-    for next in at + 1..prefixes.len() {
-        if pending[next] == Some(part.byte()) {
-            look_up_at(alloc, part, prefixes, next, pending, found)?;
-        }
-    }
-    Ok(())
-}
-
-// Looks up the prefix at a position, which has the first byte of a part.
-fn look_up_at<S: Store, A: Allocator + Copy>(
-    alloc: A,
-    part: &Part<'_, S, A>,
-    prefixes: &[Prefix],
-    at: usize,
-    pending: &mut Vec<Option<u8>, A>,
-    found: &mut Vec<Vec<ObjectId, A>, A>,
-) -> Result<(), AllocError>
-    requires can { All (CanLookUp part.now.store) prefixes.now }
-    requires in_range { at < length prefixes.now }
-    requires byte { slice_index_or pending.old.items at None ≡ Some part.now.byte }
-    requires each { AreFoundOrPending part.now.store prefixes.now pending.old.items
-        (map (λ ids. ids.items) found.old.items) }
-    ensures each { OnOk result (AreFoundOrPending part.now.store prefixes.now pending.new.items
-        (map (λ ids. ids.items) found.new.items)) }
-    ensures stay { OnOk result (StayFound pending.old.items pending.new.items) }
-    ensures at { OnOk result (slice_index_or pending.new.items at None ≡ None) }
-{
-    found[at] = part.lookup_prefix(alloc, &prefixes[at])?;
-    pending[at] = None;
-    Ok(())
+    ghost unread = { λ _ view digits error fault. fault };
 }
 
 // Adds the ids of buckets of a kind that begin with a prefix.

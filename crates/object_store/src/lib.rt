@@ -1,12 +1,14 @@
 //! The ids of a whole object store: of its pack indexes and its loose objects.
 //!
 //! An id's first byte decides its part of the store, one of 256. A prefix of 2 digits or more is
-//! looked up in one part ([`lookup_prefix`], [`lookup_prefixes`]). An abbreviation of 4 digits or
-//! more is decided in one ([`abbreviate`], [`names`]). So a look-up reads about 1/256 of the ids,
-//! and a walk over all ids allocates memory for one part at a time. A [`Part`] is read once for
-//! several look-ups. A program implements [`Store`] over its directories.
+//! looked up in one part ([`lookup_prefix`]). An abbreviation of 4 digits or more is decided in one
+//! ([`abbreviate`], [`names`]). So a look-up reads about 1/256 of the ids, and a walk over all ids
+//! allocates memory for one part at a time. Several prefixes are looked up together
+//! ([`lookup_prefixes`], [`locate_prefixes`], [`abbreviate_prefixes`]), and a [`Part`] is read once
+//! for several look-ups. A program implements [`Store`] over its directories.
 #![tactic(auto)]
 
+mod each;
 mod error;
 mod gathering;
 pub mod laws;

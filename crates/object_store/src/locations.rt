@@ -1,16 +1,17 @@
 //! Where an object store has an object.
 
-ghost use Rattle.std.specs.Prelude.{◌≡◌, ◌⊎◌, ℕ, [], ◌∷◌, ◌++◌, All, IfErr, IfOk, List, OnOk, Some, length, map};
+ghost use Rattle.std.specs.Prelude.{◌≡◌, ◌⊎◌, ℕ, [], ◌∷◌, ◌++◌, ◌≤◌, All, IfErr, IfOk, List, OnOk, Some, length, map};
 ghost use Rattle.gix_hash.specs.Digits.{first_byte_of};
 ghost use Rattle.gix_hash.specs.ObjectId.{id_digits, id_kind};
-ghost use Rattle.object_store.specs.Parts.{AreBuckets, AreLocations, CanLookUp};
-ghost use Rattle.object_store.specs.Several.{AreLocatedOfEach, IsLocationsFaultOfOne};
+ghost use Rattle.object_store.specs.Parts.{AreBuckets, AreLocations, AreMatches, CanLookUp};
+ghost use Rattle.object_store.specs.Several.{AreLocated, AreLocatedOfEach, IsLocationsFaultOfOne};
 ghost use Rattle.object_store.specs.Locations.{offset_of, packed_at, packed_locations};
-ghost use Rattle.object_store.specs.Stores.{HasLocation, HaveBuckets, HaveLocations, Holds, IsLocateFault, IsLocationFault, IsStoreFault};
+ghost use Rattle.object_store.specs.Stores.{HasLocation, HaveBuckets, HaveLocations, Holds, IsLocateFault, IsLocationFault, IsLocationsFault, IsStoreFault};
 ghost use Rattle.pack_index.specs.Firsts.{Each};
 ghost use Rattle.pack_index.specs.Format.{HasCount};
 ghost use Rattle.pack_index.specs.Lazy.{IsBucketOf};
 
+use crate::each::{LookUp, look_up_each};
 use crate::error::Error;
 use crate::part::Part;
 use crate::store::{Store, StorePaths};
@@ -73,7 +74,7 @@ pub struct LocatedId<A: Allocator> {
 /// }
 /// ```
 pub fn locate_prefixes<S: StorePaths, A: Allocator + Copy>(
-    _alloc: A,
+    alloc: A,
     store: &S,
     prefixes: &[Prefix],
 ) -> Result<Vec<Vec<LocatedId<A>, A>, A>, Error>
@@ -82,7 +83,73 @@ pub fn locate_prefixes<S: StorePaths, A: Allocator + Copy>(
         (S.loose_paths store.now) prefixes.now (map (λ ids. ids.items) located.items)) }
     ensures err { IfErr result (IsLocationsFaultOfOne (S.view store.now) prefixes.now) }
 {
-    Err(Error::Memory(AllocError))
+    look_up_each(alloc, store, prefixes, &Locating { alloc, store })
+}
+
+// Looks up the locations of the ids that begin with a prefix.
+#[derive(Drop)]
+struct Locating<'s, S: StorePaths, A: Allocator> {
+    alloc: A,
+    store: &'s S,
+}
+
+impl<S: StorePaths, A: Allocator + Copy> LookUp<S, A> for Locating<'_, S, A> {
+    ghost use Rattle.object_store.specs.Several.{AreLocated};
+    ghost use Rattle.object_store.specs.Stores.{IsLocationsFault};
+    ghost use Rattle.std.proofs.Common.{inl};
+
+    type Found = Vec<LocatedId<A>, A>;
+
+    ghost fits = { λ _ _. Unit {0} };
+
+    ghost finds = { λ it view digits located.
+        AreLocated view (S.loose_paths it.store.now) digits located.items };
+
+    ghost fails = { λ _ view digits error. IsLocationsFault view digits error };
+
+    fn nothing(&self) -> Vec<LocatedId<A>, A> {
+        Vec::new(self.alloc)
+    }
+
+    fn look_up(
+        &self,
+        part: &Part<'_, S, A>,
+        prefix: &Prefix,
+    ) -> Result<Vec<LocatedId<A>, A>, Error> {
+        let ids = part.lookup_prefix(self.alloc, prefix)?;
+        locate_each(self.alloc, self.store, part, &ids, prefix)
+    }
+
+    ghost unread = { λ _ view digits error fault. inl fault };
+}
+
+// The ids of a part that begin with a prefix, with their locations.
+fn locate_each<S: StorePaths, A: Allocator + Copy>(
+    alloc: A,
+    store: &S,
+    part: &Part<'_, S, A>,
+    ids: &[ObjectId],
+    prefix: &Prefix,
+) -> Result<Vec<LocatedId<A>, A>, Error>
+    requires enough { 2 ≤ length prefix.now.digits }
+    requires byte { first_byte_of prefix.now.digits ≡ part.now.byte }
+    requires ids { AreMatches part.now.store prefix.now.digits ids.now }
+    ensures located { IfOk result (λ located. AreLocated part.now.store
+        (S.loose_paths store.now) prefix.now.digits located.items) }
+    ensures err { IfErr result (IsLocationsFault part.now.store prefix.now.digits) }
+{
+    let mut located = Vec::new(alloc);
+    for id in ids {
+        let locations = part.locate(alloc, id)?;
+        let loose_paths = store.loose_paths(id)?;
+        let one = LocatedId {
+            id: *id,
+            locations,
+            loose_paths,
+        };
+        push(&mut located, one)?;
+    }
+    Ok(located)
 }
 
 /// All locations of an object: one in each pack whose index has its id, in the order of
@@ -175,14 +242,11 @@ fn push_packed<A: Allocator>(
     }
 }
 
-// Adds a location.
-fn push<A: Allocator>(
-    locations: &mut Vec<Location, A>,
-    location: Location,
-) -> Result<(), AllocError>
-    ensures { OnOk result (locations.new.items ≡ locations.old.items ++ location ∷ []) }
+// Adds an item to a list.
+fn push<T: Drop, A: Allocator>(items: &mut Vec<T, A>, item: T) -> Result<(), AllocError>
+    ensures { OnOk result (items.new.items ≡ items.old.items ++ item ∷ []) }
 {
-    Ok(locations.push(location)?)
+    Ok(items.push(item)?)
 }
 
 // The offset in its pack of the object of an id, if the pack index has it.

@@ -8,9 +8,10 @@ ghost use Rattle.id_lookup.specs.Index.{IsIndex};
 ghost use Rattle.id_lookup.specs.IndexOf.{part_of};
 ghost use Rattle.id_lookup.specs.ShortNames.{IsShortestNameFrom};
 ghost use Rattle.object_store.specs.Parts.{CanLookUp, IsFaultOfOne};
-ghost use Rattle.object_store.specs.Several.{AreAbbreviatedOfEach};
+ghost use Rattle.object_store.specs.Several.{AreAbbreviatedOfEach, IsAbbreviationOfKind};
 ghost use Rattle.object_store.specs.Stores.{HaveBuckets, Holds, IsNameIn, IsOfKind, IsStoreFault};
 
+use crate::each::{LookUp, look_up_each};
 use crate::error::Error;
 use crate::part::Part;
 use crate::store::Store;
@@ -70,7 +71,7 @@ pub enum Abbreviation {
 /// }
 /// ```
 pub fn abbreviate_prefixes<S: Store, A: Allocator + Copy>(
-    _alloc: A,
+    alloc: A,
     store: &S,
     prefixes: &[Prefix],
     least: usize,
@@ -82,7 +83,70 @@ pub fn abbreviate_prefixes<S: Store, A: Allocator + Copy>(
         prefixes.now named.items) }
     ensures err { IfErr result (IsFaultOfOne (S.view store.now) prefixes.now) }
 {
-    Err(Error::Memory(AllocError))
+    look_up_each(alloc, store, prefixes, &Abbreviating { alloc, least })
+}
+
+// Looks up the abbreviation of the only id that begins with a prefix.
+#[derive(Drop)]
+struct Abbreviating<A: Allocator> {
+    alloc: A,
+    // The smallest number of digits of an abbreviation.
+    least: usize,
+}
+
+impl<S: Store, A: Allocator + Copy> LookUp<S, A> for Abbreviating<A> {
+    ghost use Rattle.std.specs.Prelude.{◌≤◌};
+    ghost use Rattle.gix_hash.specs.Digits.{first_byte_of};
+    ghost use Rattle.gix_hash.specs.Kind.{hex_len_of};
+    ghost use Rattle.object_store.specs.Several.{IsAbbreviated};
+    ghost use Rattle.object_store.specs.Stores.{IsStoreFault};
+
+    type Found = Abbreviation;
+
+    ghost fits = { λ it view. (4 ≤ it.least) × (it.least ≤ hex_len_of view.kind) };
+
+    ghost finds = { λ it view digits found. IsAbbreviated it.least view digits found };
+
+    ghost fails = { λ _ view digits error. IsStoreFault view (first_byte_of digits) error };
+
+    fn nothing(&self) -> Abbreviation {
+        Abbreviation::Missing
+    }
+
+    fn look_up(&self, part: &Part<'_, S, A>, prefix: &Prefix) -> Result<Abbreviation, Error> {
+        let ids = part.lookup_prefix(self.alloc, prefix)?;
+        match ids.as_slice() {
+            [] => Ok(Abbreviation::Missing),
+            [id] => Ok(name_only(self.alloc, part, id, self.least)?),
+            _ => Ok(Abbreviation::Ambiguous),
+        }
+    }
+
+    ghost unread = { λ _ view digits error fault. fault };
+}
+
+// The abbreviation of an id, which a part has.
+fn name_only<S: Store, A: Allocator + Copy>(
+    alloc: A,
+    part: &Part<'_, S, A>,
+    id: &ObjectId,
+    least: usize,
+) -> Result<Abbreviation, AllocError>
+    requires byte { first_byte_of (id_digits id.now) ≡ part.now.byte }
+    requires kind { id_kind id.now ≡ part.now.store.kind }
+    requires enough { 4 ≤ least }
+    requires fits { least ≤ hex_len_of part.now.store.kind }
+    ensures name { IfOk result (λ found. (whole : List (List ℕ)) → Holds part.now.store whole
+        → Contains whole (id_digits id.now) → (named : NamedId)
+        × (found ≡ Abbreviation.Named named) × (named.id ≡ id.now)
+        × IsNameIn least whole (id_digits id.now) named.name.digits) }
+    ensures kind { IfOk result (IsAbbreviationOfKind part.now.store.kind) }
+{
+    Ok(match part.abbreviate(alloc, id, least)? {
+        Some(name) => Abbreviation::Named(NamedId { id: *id, name }),
+        // It is there: of an id that was found this is not returned.
+        None => Abbreviation::Missing,
+    })
 }
 
 /// The ids of a store with a first byte, each once, in order, with their abbreviations in the whole
@@ -159,14 +223,12 @@ pub fn abbreviate<S: Store, A: Allocator + Copy>(
     ensures err { IfErr result (IsStoreFault (S.view store.now)
         (first_byte_of (id_digits id.now))) }
 {
-    let front = front_of(id, least);
     let part = Part::read(alloc, store, id.first_byte())?;
-    let ids = part.lookup_prefix(alloc, &front)?;
-    Ok(name_in(&ids, id, least))
+    Ok(part.abbreviate(alloc, id, least)?)
 }
 
 // The first digits of an id.
-fn front_of(id: &ObjectId, least: usize) -> Prefix
+pub(crate) fn front_of(id: &ObjectId, least: usize) -> Prefix
     requires enough { 4 ≤ least }
     requires fits { least ≤ hex_len_of (id_kind id.now) }
     ensures kind { result.kind ≡ id_kind id.now }
@@ -220,7 +282,7 @@ fn name_at(ids: &[ObjectId], index: &IdIndex<'_>, at: usize, least: usize) -> Na
 }
 
 // The abbreviation of an id in an index of its kind, if the index has it.
-fn name_in(ids: &[ObjectId], id: &ObjectId, least: usize) -> Option<Prefix>
+pub(crate) fn name_in(ids: &[ObjectId], id: &ObjectId, least: usize) -> Option<Prefix>
     requires index { IsIndex (id_kind id.now) (map id_digits ids.now) }
     requires enough { 4 ≤ least }
     requires fits { least ≤ hex_len_of (id_kind id.now) }

@@ -1,14 +1,16 @@
 //! The ids of a store with one first byte.
 
-ghost use Rattle.std.specs.Prelude.{◌≡◌, ◌∷◌, [], ◌++◌, ◌≤◌, IfErr, IfOk, OnOk, length};
+ghost use Rattle.std.specs.Prelude.{◌≡◌, ◌∷◌, [], ◌++◌, ◌≤◌, ℕ, Contains, IfErr, IfOk, IfSome, List, MatchOption, OnOk, length};
 ghost use Rattle.gix_hash.specs.Digits.{first_byte_of};
+ghost use Rattle.gix_hash.specs.Kind.{hex_len_of};
 ghost use Rattle.gix_hash.specs.ObjectId.{id_digits, id_kind};
 ghost use Rattle.object_store.specs.Parts.{AreLocations, AreMatches};
-ghost use Rattle.object_store.specs.Stores.{HaveBuckets, IsLocateFault, IsStoreFault};
+ghost use Rattle.object_store.specs.Stores.{HaveBuckets, Holds, IsLocateFault, IsNameIn, IsStoreFault};
 
 use crate::error::Error;
 use crate::gathering::{push_all, push_packed};
 use crate::locations::{Location, locate_in};
+use crate::naming::{front_of, name_in};
 use crate::store::Store;
 use gix_hash::{ObjectId, Prefix};
 use id_lookup::sort_unique;
@@ -86,6 +88,28 @@ impl<'s, S: Store, A: Allocator + Copy> Part<'s, S, A> {
         push_all(&mut ids, self.store.loose().beginning_with(prefix), kind)?;
         sort_unique(&mut ids);
         Ok(ids)
+    }
+
+    /// The abbreviation of an id whose first byte was read, of at least `least` digits, as
+    /// [`abbreviate`](crate::abbreviate) gives it.
+    pub fn abbreviate(
+        &self,
+        alloc: A,
+        id: &ObjectId,
+        least: usize,
+    ) -> Result<Option<Prefix>, AllocError>
+        requires byte { first_byte_of (id_digits id.now) ≡ self.now.byte }
+        requires kind { id_kind id.now ≡ self.now.store.kind }
+        requires enough { 4 ≤ least }
+        requires fits { least ≤ hex_len_of self.now.store.kind }
+        ensures name { IfOk result (λ name. (whole : List (List ℕ)) → Holds self.now.store whole
+            → MatchOption name (¬ Contains whole (id_digits id.now))
+            (λ name. IsNameIn least whole (id_digits id.now) name.digits)) }
+        ensures kind { IfOk result (λ name. IfSome name (λ name.
+            name.kind ≡ self.now.store.kind)) }
+    {
+        let ids = self.lookup_prefix(alloc, &front_of(id, least))?;
+        Ok(name_in(&ids, id, least))
     }
 
     // The first byte that was read.

@@ -1,0 +1,6 @@
+use Rattle.object_store.specs.Parts.{AreFoundOrPending, StayFound}
+use Rattle.object_store.proofs.each.look_up_after.Given as goal
+
+abbrev pub invariant-loop-next : goal.invariant-loop-next
+invariant-loop-next g l =
+    AreFoundOrPending (g.L.LookUp.finds l.look_up l.part.store) l.prefixes l.pending.items l.found.items × StayFound l.fn.pending.items l.pending.items

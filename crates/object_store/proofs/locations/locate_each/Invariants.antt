@@ -1,0 +1,8 @@
+use Rattle.std.proofs.Common.{◌≡◌, map, take}
+use Rattle.std.specs.List.{All}
+use Rattle.object_store.specs.Several.{IsLocated}
+use Rattle.object_store.proofs.locations.locate_each.Given as goal
+
+abbrev pub invariant-loop-id : goal.invariant-loop-id
+invariant-loop-id g l =
+    (map (λ located. located.id) l.located.items ≡ take l.id-index l.ids) × All (IsLocated l.part.store (g.S.StorePaths.loose_paths l.store)) l.located.items

@@ -1,0 +1,185 @@
+//! Look-ups of several prefixes, for which each part of the store is read once.
+
+ghost use Rattle.std.specs.Prelude.{◌≡◌, ◌≤◌, ◌<◌, ◌+◌, All, IfErr, IfOk, None, OnOk, Some, length, map, slice_index_or};
+ghost use Rattle.gix_hash.specs.Digits.{first_byte_of};
+ghost use Rattle.gix_hash.specs.Prefix.{KindDigits};
+ghost use Rattle.object_store.specs.Parts.{AreFoundOfEach, AreFoundOrPending, CanLookUp, IsOfOne, StayFound};
+
+use crate::error::Error;
+use crate::part::Part;
+use crate::store::Store;
+use gix_hash::Prefix;
+use std::alloc::{AllocError, Allocator};
+
+// What is looked up of a prefix, in the part of its first byte.
+pub(crate) trait LookUp<S: Store, A: Allocator + Copy> {
+    ghost use Rattle.std.specs.Prelude.{◌≡◌, ℕ, IfErr, IfOk, List};
+    ghost use Rattle.gix_hash.specs.Digits.{first_byte_of};
+    ghost use Rattle.object_store.specs.Parts.{CanLookUp};
+    ghost use Rattle.object_store.specs.Stores.{IsStoreFault};
+    ghost use Rattle.object_store.specs.Views.{StoreView};
+    ghost use Rattle.object_store.specs.declared.error.Error.{Error as StoreError};
+
+    // What is found.
+    type Found: Drop;
+
+    // What it asks of a store.
+    ghost fits: { Self → StoreView → Type 0 };
+
+    // What of a store is found of a prefix of these digits.
+    ghost finds: { Self → StoreView → List ℕ → Self.Found → Type 0 };
+
+    // Why it is not found.
+    ghost fails: { Self → StoreView → List ℕ → StoreError → Type 0 };
+
+    // Takes the place of what is not found yet.
+    fn nothing(&self) -> Self::Found;
+
+    // Looks a prefix up.
+    fn look_up(&self, part: &Part<'_, S, A>, prefix: &Prefix) -> Result<Self::Found, Error>
+        requires fits { fits self.now part.now.store }
+        requires byte { first_byte_of prefix.now.digits ≡ part.now.byte }
+        requires can { CanLookUp part.now.store prefix.now }
+        ensures found { IfOk result (finds self.now part.now.store prefix.now.digits) }
+        ensures err { IfErr result (fails self.now part.now.store prefix.now.digits) };
+
+    // It is not found if the part is not read.
+    ghost unread: { (it : Self) (view : StoreView) (digits : List ℕ) (error : StoreError)
+        → IsStoreFault view (first_byte_of digits) error → fails it view digits error };
+}
+
+// What is found of each of several prefixes, in their order. Of each pack index the ids with a
+// first byte are read once, if a prefix has it.
+pub(crate) fn look_up_each<S: Store, A: Allocator + Copy, L: LookUp<S, A>>(
+    alloc: A,
+    store: &S,
+    prefixes: &[Prefix],
+    look_up: &L,
+) -> Result<Vec<L::Found, A>, Error>
+    requires can { All (CanLookUp (S.view store.now)) prefixes.now }
+    requires fits { L.fits look_up.now (S.view store.now) }
+    ensures found { IfOk result (λ found. AreFoundOfEach
+        (L.finds look_up.now (S.view store.now)) prefixes.now found.items) }
+    ensures err { IfErr result (IsOfOne (L.fails look_up.now (S.view store.now)) prefixes.now) }
+{
+    let mut found = nothings(alloc, prefixes, look_up)?;
+    let mut pending = first_bytes(alloc, prefixes)?;
+    for at in 0..prefixes.len() {
+        look_up_part(alloc, store, prefixes, at, &mut pending, &mut found, look_up)?;
+    }
+    Ok(found)
+}
+
+// What takes the place of what is not found yet, for each prefix.
+fn nothings<S: Store, A: Allocator + Copy, L: LookUp<S, A>>(
+    alloc: A,
+    prefixes: &[Prefix],
+    look_up: &L,
+) -> Result<Vec<L::Found, A>, AllocError>
+    ensures { IfOk result (λ found. length found.items ≡ length prefixes.now) }
+{
+    let mut found = Vec::with_capacity(alloc, prefixes.len())?;
+    for _at in 0..prefixes.len() {
+        found.push(look_up.nothing())?;
+    }
+    Ok(found)
+}
+
+// The first byte of each prefix.
+fn first_bytes<A: Allocator + Copy>(
+    alloc: A,
+    prefixes: &[Prefix],
+) -> Result<Vec<Option<u8>, A>, AllocError>
+    requires { All (λ (prefix : KindDigits). 2 ≤ length prefix.digits) prefixes.now }
+    ensures { IfOk result (λ bytes. bytes.items
+        ≡ map (λ (prefix : KindDigits). Some (first_byte_of prefix.digits)) prefixes.now) }
+{
+    let mut bytes = Vec::with_capacity(alloc, prefixes.len())?;
+    for prefix in prefixes {
+        bytes.push(Some(prefix.as_oid().first_byte()))?;
+    }
+    Ok(bytes)
+}
+
+// Looks up the prefix at a position and those after it that have its first byte, unless it is
+// found.
+fn look_up_part<S: Store, A: Allocator + Copy, L: LookUp<S, A>>(
+    alloc: A,
+    store: &S,
+    prefixes: &[Prefix],
+    at: usize,
+    pending: &mut Vec<Option<u8>, A>,
+    found: &mut Vec<L::Found, A>,
+    look_up: &L,
+) -> Result<(), Error>
+    requires can { All (CanLookUp (S.view store.now)) prefixes.now }
+    requires fits { L.fits look_up.now (S.view store.now) }
+    requires in_range { at < length prefixes.now }
+    requires each { AreFoundOrPending (L.finds look_up.now (S.view store.now)) prefixes.now
+        pending.old.items found.old.items }
+    ensures each { OnOk result (AreFoundOrPending (L.finds look_up.now (S.view store.now))
+        prefixes.now pending.new.items found.new.items) }
+    ensures stay { OnOk result (StayFound pending.old.items pending.new.items) }
+    ensures at { OnOk result (slice_index_or pending.new.items at None ≡ None) }
+    ensures err { IfErr result (IsOfOne (L.fails look_up.now (S.view store.now)) prefixes.now) }
+{
+    let Some(byte) = pending[at] else {
+        return Ok(());
+    };
+    let part = Part::read(alloc, store, byte)?;
+    look_up_at(&part, prefixes, at, pending, found, look_up)?;
+    look_up_after(&part, prefixes, at, pending, found, look_up)
+}
+
+// Looks up the prefixes after a position that have the first byte of a part.
+fn look_up_after<S: Store, A: Allocator + Copy, L: LookUp<S, A>>(
+    part: &Part<'_, S, A>,
+    prefixes: &[Prefix],
+    at: usize,
+    pending: &mut Vec<Option<u8>, A>,
+    found: &mut Vec<L::Found, A>,
+    look_up: &L,
+) -> Result<(), Error>
+    requires can { All (CanLookUp part.now.store) prefixes.now }
+    requires fits { L.fits look_up.now part.now.store }
+    requires in_range { at < length prefixes.now }
+    requires each { AreFoundOrPending (L.finds look_up.now part.now.store) prefixes.now
+        pending.old.items found.old.items }
+    ensures each { OnOk result (AreFoundOrPending (L.finds look_up.now part.now.store)
+        prefixes.now pending.new.items found.new.items) }
+    ensures stay { OnOk result (StayFound pending.old.items pending.new.items) }
+    ensures err { IfErr result (IsOfOne (L.fails look_up.now part.now.store) prefixes.now) }
+{
+    for next in at + 1..prefixes.len() {
+        if pending[next] == Some(part.byte()) {
+            look_up_at(part, prefixes, next, pending, found, look_up)?;
+        }
+    }
+    Ok(())
+}
+
+// Looks up the prefix at a position, which has the first byte of a part.
+fn look_up_at<S: Store, A: Allocator + Copy, L: LookUp<S, A>>(
+    part: &Part<'_, S, A>,
+    prefixes: &[Prefix],
+    at: usize,
+    pending: &mut Vec<Option<u8>, A>,
+    found: &mut Vec<L::Found, A>,
+    look_up: &L,
+) -> Result<(), Error>
+    requires can { All (CanLookUp part.now.store) prefixes.now }
+    requires fits { L.fits look_up.now part.now.store }
+    requires in_range { at < length prefixes.now }
+    requires byte { slice_index_or pending.old.items at None ≡ Some part.now.byte }
+    requires each { AreFoundOrPending (L.finds look_up.now part.now.store) prefixes.now
+        pending.old.items found.old.items }
+    ensures each { OnOk result (AreFoundOrPending (L.finds look_up.now part.now.store)
+        prefixes.now pending.new.items found.new.items) }
+    ensures stay { OnOk result (StayFound pending.old.items pending.new.items) }
+    ensures at { OnOk result (slice_index_or pending.new.items at None ≡ None) }
+    ensures err { IfErr result (IsOfOne (L.fails look_up.now part.now.store) prefixes.now) }
+{
+    found[at] = look_up.look_up(part, &prefixes[at])?;
+    pending[at] = None;
+    Ok(())
+}
