@@ -1,6 +1,6 @@
 //! Look-ups of several prefixes, for which each part of the store is read once.
 
-ghost use Rattle.std.specs.Prelude.{◌≡◌, ◌≤◌, ◌<◌, ◌+◌, All, IfErr, IfOk, None, OnOk, Some, length, map, slice_index_or};
+ghost use Rattle.std.specs.Prelude.{◌≡◌, ◌<◌, ◌+◌, All, IfErr, IfOk, None, OnOk, Some, length, map, slice_index_or};
 ghost use Rattle.gix_hash.specs.Digits.{first_byte_of};
 ghost use Rattle.gix_hash.specs.Prefix.{KindDigits};
 ghost use Rattle.object_store.specs.Parts.{AreFoundOfEach, AreFoundOrPending, CanLookUp, IsOfOne, StayFound};
@@ -90,13 +90,12 @@ fn first_bytes<A: Allocator + Copy>(
     alloc: A,
     prefixes: &[Prefix],
 ) -> Result<Vec<Option<u8>, A>, AllocError>
-    requires { All (λ (prefix : KindDigits). 2 ≤ length prefix.digits) prefixes.now }
     ensures { IfOk result (λ bytes. bytes.items
         ≡ map (λ (prefix : KindDigits). Some (first_byte_of prefix.digits)) prefixes.now) }
 {
     let mut bytes = Vec::with_capacity(alloc, prefixes.len())?;
     for prefix in prefixes {
-        bytes.push(Some(prefix.as_oid().first_byte()))?;
+        bytes.push(Some(prefix.first_byte()))?;
     }
     Ok(bytes)
 }

@@ -40,7 +40,7 @@ pub fn lookup_prefix<S: Store, A: Allocator + Copy>(
     ensures err { IfErr result (IsStoreFault (S.view store.now)
         (first_byte_of prefix.now.digits)) }
 {
-    let part = Part::read(alloc, store, prefix.as_oid().first_byte())?;
+    let part = Part::read(alloc, store, prefix.first_byte())?;
     Ok(part.lookup_prefix(alloc, prefix)?)
 }
 

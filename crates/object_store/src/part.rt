@@ -21,7 +21,7 @@ use std::marker::Model;
 /// The ids of a store with one first byte, read once. Look-ups among them read nothing but offsets.
 ///
 /// ```
-/// let part = Part::read(rt.alloc(), &store, prefix.as_oid().first_byte())?;
+/// let part = Part::read(rt.alloc(), &store, prefix.first_byte())?;
 /// for id in part.lookup_prefix(rt.alloc(), &prefix)?.iter() {
 ///     println!(rt; "{id}: {} locations", part.locate(rt.alloc(), id)?.len())?;
 /// }
