@@ -1,16 +1,16 @@
--- The lines of a text and their answers, one after the other.
-use Rattle.std.proofs.Common.{◌≡◌, ℕ, zero, suc, ◌+◌, ◌<◌, ◌≤◌, ◌⊎◌, inl, inr, Bool, true, false, ◌&&◌, nat_lt, Option, None, Some, List, [], ◌∷◌, ◌++◌, length, get_or, map, refl, sym, ap, ◌∙◌, arith}
-use Rattle.std.specs.Prelude.{if◌then◌else◌}
+-- The lines of a text and what is printed for them, one after the other.
+use Rattle.std.proofs.Common.{◌≡◌, ◌≢◌, ℕ, zero, suc, ◌+◌, ◌<◌, ◌≤◌, ◌⊎◌, inl, inr, Bool, true, false, ◌&&◌, nat_lt, Option, None, Some, List, [], ◌∷◌, ◌++◌, length, get_or, map, refl, sym, ap, ◌∙◌, arith}
+use Rattle.std.specs.Prelude.{codes, if◌then◌else◌}
 use Rattle.std.specs.List.{All, after_first, before_first, flat_map, position_or_len, slice_split}
 use Rattle.std.specs.Option.{is_some, option_map, option_to_list}
 use Rattle.std.proofs.lemmas.Bool.{cases_lt, ne_eqb}
 use Rattle.std.proofs.lemmas.Bool.Decides.{nat_tests}
-use Rattle.std.proofs.lemmas.List.{drop-map, length-drop, nil_from_length, take_all}
+use Rattle.std.proofs.lemmas.List.{length-drop, nil_from_length, take_all}
 use Rattle.std.proofs.lemmas.List.Elements.{All-append}
 use Rattle.std.proofs.lemmas.List.Folds.{flat_map-map}
 use Rattle.std.proofs.lemmas.List.Splits.{length-slice_split, slice_split_first, slice_split_none}
 use Rattle.std.proofs.lemmas.List.Sums.{fails_before_first}
-use Rattle.gix_hash.specs.Digits.{hex_letter, spelling}
+use Rattle.gix_hash.specs.Digits.{hex_letter}
 use Rattle.gix_hash.specs.Kind.{hex_len_of}
 use Rattle.gix_hash.specs.ObjectId.{id_digits}
 use Rattle.gix_hash.specs.Prefix.{KindDigits, kind_digits}
@@ -18,12 +18,16 @@ use Rattle.gix_hash.specs.Reading.{digits_read}
 use Rattle.gix_hash.specs.declared.Kind.{Kind}
 use Rattle.gix_hash.specs.declared.ObjectId.{ObjectId}
 use Rattle.id_lookup.specs.Runs.{matches}
-use Rattle.object_store.specs.Parts.{AreMatchesOfEach, CanLookUp}
+use Rattle.object_store.specs.Parts.{AreFoundOfEach, AreMatchesOfEach, CanLookUp}
+use Rattle.object_store.specs.Several.{AreAbbreviatedOfEach, AreLocatedOfEach, IsAbbreviatedIn}
 use Rattle.object_store.specs.Stores.{Holds}
 use Rattle.object_store.specs.Views.{StoreView}
-use Rattle.packtool_commands.specs.Asking.{HaveAllBuckets, answer_to, answers_by, are_answers_by, found_answer, is_answer_to, is_line_feed, line_with, lines_of, lists_after, of_two, prefix_of, prefixes_of, without_empty_last}
+use Rattle.object_store.specs.declared.locations.LocatedId.{LocatedId}
+use Rattle.object_store.specs.declared.naming.Abbreviation.{Abbreviation}
+use Rattle.object_store.specs.declared.naming.Abbreviation.TheVariants.{Missing}
+use Rattle.packtool_commands.specs.Asking.{HaveAllBuckets, answer_to, answers_by, answers_in, are_answers_by, are_answers_in, found_text, id_line, is_answer_to, is_found, is_line_feed, line_with, lines_of, lists_after, of_two, prefix_of, prefixes_of, without_empty_last}
 use Rattle.packtool_commands.specs.declared.asking.Answers.{Answers}
-use Rattle.packtool_commands.specs.declared.asking.Answers.TheVariants.{All as AllOfThem}
+use Rattle.packtool_commands.specs.declared.asking.Answers.TheVariants.{All as AllOfThem, One as OneOfThem}
 
 more_parts : (part : List ℕ) (parts : List (List ℕ)) → 0 < length parts → without_empty_last (part ∷ parts) ≡ part ∷ without_empty_last parts
 more_parts part [] some = absurd (omega (arith, some))
@@ -62,17 +66,36 @@ lines_step text some = by (cases_lt (position_or_len is_line_feed text) (length 
         ap without_empty_last one ∙ last_part text some
         ∙ (λ i. sym whole i ∷ without_empty_last (slice_split is_line_feed (sym none i)))
 
--- all ids after a line, if there is one
-pub found_all : (answers : Answers) (line : List ℕ) (ids : List ObjectId) → answers ≡ AllOfThem → 0 < length ids
-    → flat_map (λ id. line_with line (spelling hex_letter (id_digits id))) ids ≡ found_answer answers line (map id_digits ids)
-found_all answers line [] all some = absurd (omega (arith, some))
-found_all answers line (id ∷ ids) all some =
-    sym (flat_map-map (λ digits. line_with line (spelling hex_letter digits)) id_digits (id ∷ ids))
-    ∙ ap (λ a. found_answer a line (map id_digits (id ∷ ids))) (sym all)
+-- all that was found after a line, if there is something
+pub found_all : {X : Type 0} (text : Option (List ℕ) → X → List ℕ) (answers : Answers) (line : List ℕ) (found : List X) → answers ≡ AllOfThem → 0 < length found
+    → flat_map (text (Some line)) found ≡ found_text text answers line found
+found_all text answers line [] all some = absurd (omega (arith, some))
+found_all text answers line (x ∷ found) all some = ap (λ a. found_text text a line (x ∷ found)) (sym all)
 
-pub lists_after-map : {X Y : Type 0} (f : X → Y) (p : Bool) (xs : List X) → lists_after p (map f xs) ≡ map f (lists_after p xs)
-lists_after-map f false xs = refl
-lists_after-map f true xs = drop-map f 1 xs
+-- the one thing that was found
+pub found_one : {X : Type 0} (text : Option (List ℕ) → X → List ℕ) (answers : Answers) (line : List ℕ) (found : List X) (x : X) → answers ≡ OneOfThem → length found ≡ 1
+    → x ≡ get_or found 0 x → text None x ≡ found_text text answers line found
+found_one text answers line [] x one many first = absurd (omega (arith, many))
+found_one text answers line (y ∷ []) x one many first = ap (text None) first ∙ ap (λ a. found_text text a line (y ∷ [])) (sym one)
+found_one text answers line (y ∷ (other ∷ found)) x one many first = absurd (omega (arith, many))
+
+-- more than one
+pub found_many : {X : Type 0} (text : Option (List ℕ) → X → List ℕ) (answers : Answers) (line : List ℕ) (found : List X) → answers ≡ OneOfThem → 0 < length found
+    → length found ≢ 1 → line_with line (codes "ambiguous") ≡ found_text text answers line found
+found_many text answers line [] one some many = absurd (omega (arith, some))
+found_many text answers line (x ∷ []) one some many = absurd (many refl)
+found_many text answers line (x ∷ (other ∷ found)) one some many = ap (λ a. found_text text a line (x ∷ (other ∷ found))) (sym one)
+
+-- what is printed for a prefix, and whether it has what is asked for, by the first of what was found
+pub answer_to-first : {X : Type 0} (text : List ℕ → X → List ℕ) (line : List ℕ) (p : Bool) (found : List X) (x : X) → p ≡ true → 0 < length found → x ≡ get_or found 0 x
+    → text line x ≡ answer_to text line p found
+answer_to-first text line p [] x is some first = absurd (omega (arith, some))
+answer_to-first text line p (y ∷ found) x is some first = ap (text line) first ∙ ap (λ q. answer_to text line q (y ∷ found)) (sym is)
+
+pub is_answer_to-first : {X : Type 0} (is_wanted : X → Bool) (p : Bool) (found : List X) (x : X) → p ≡ true → 0 < length found → x ≡ get_or found 0 x
+    → is_wanted x ≡ is_answer_to is_wanted p found
+is_answer_to-first is_wanted p [] x is some first = absurd (omega (arith, some))
+is_answer_to-first is_wanted p (y ∷ found) x is some first = ap is_wanted first ∙ ap (λ q. is_answer_to is_wanted q (y ∷ found)) (sym is)
 
 pub and_true : (a : Bool) → (a && true) ≡ a
 and_true true = refl
@@ -82,15 +105,17 @@ pub and_assoc : (a b c : Bool) → ((a && b) && c) ≡ (a && (b && c))
 and_assoc true b c = refl
 and_assoc false b c = refl
 
-module _ (answers : Answers) (kind : Kind) (rest after : List (List ℕ)) (line : List ℕ) (p : Bool) (is : rest ≡ line ∷ after) (same : p ≡ is_some (prefix_of kind line)) where
-  -- the answer to a line, and those after it
-  pub answers_step : (lists : List (List (List ℕ))) → answers_by answers kind rest lists ≡ answer_to answers line p lists ++ answers_by answers kind after (lists_after p lists)
-  answers_step lists =
-      ap (λ ls. answers_by answers kind ls lists) is ∙ ap (λ q. answer_to answers line q lists ++ answers_by answers kind after (lists_after q lists)) (sym same)
+module _ (kind : Kind) (rest after : List (List ℕ)) (line : List ℕ) (p : Bool) (is : rest ≡ line ∷ after) (same : p ≡ is_some (prefix_of kind line)) where
+  -- what is printed for a line, and for those after it
+  pub answers_step : {X : Type 0} (found : List X) (text : List ℕ → X → List ℕ)
+      → answers_by text kind rest found ≡ answer_to text line p found ++ answers_by text kind after (lists_after p found)
+  answers_step found text =
+      ap (λ ls. answers_by text kind ls found) is ∙ ap (λ q. answer_to text line q found ++ answers_by text kind after (lists_after q found)) (sym same)
 
-  pub are_answers_step : (lists : List (List (List ℕ))) → are_answers_by answers kind rest lists ≡ (is_answer_to answers p lists && are_answers_by answers kind after (lists_after p lists))
-  are_answers_step lists =
-      ap (λ ls. are_answers_by answers kind ls lists) is ∙ ap (λ q. is_answer_to answers q lists && are_answers_by answers kind after (lists_after q lists)) (sym same)
+  pub are_answers_step : {X : Type 0} (found : List X) (is_wanted : X → Bool)
+      → are_answers_by is_wanted kind rest found ≡ (is_answer_to is_wanted p found && are_answers_by is_wanted kind after (lists_after p found))
+  are_answers_step found is_wanted =
+      ap (λ ls. are_answers_by is_wanted kind ls found) is ∙ ap (λ q. is_answer_to is_wanted q found && are_answers_by is_wanted kind after (lists_after q found)) (sym same)
 
   -- as many lists are left as prefixes
   pub as_many_left : {X : Type 0} (left : List X) → length left ≡ length (prefixes_of kind rest) → length (lists_after p left) ≡ length (prefixes_of kind after)
@@ -131,6 +156,31 @@ can_look_up view (line ∷ lines) = All-append (CanLookUp view) (option_to_list 
     one : All (CanLookUp view) (option_to_list (prefix_of view.kind line))
     one = fits (nat_lt (hex_len_of view.kind) (length line))
 
+-- what is printed for lines, by what has what was found
+pub answers_by-map : {X Y : Type 0} (text : List ℕ → Y → List ℕ) (f : X → Y) (kind : Kind) (lines : List (List ℕ)) (found : List X)
+    → answers_by (λ line x. text line (f x)) kind lines found ≡ answers_by text kind lines (map f found)
+answers_by-map text f kind [] found = refl
+answers_by-map {X} text f kind (line ∷ lines) found = by (is_some (prefix_of kind line)) found (answers_by-map text f kind lines)
+  where
+    by : (p : Bool) (found : List X) → ((rest : List X) → answers_by (λ line x. text line (f x)) kind lines rest ≡ answers_by text kind lines (map f rest))
+        → answer_to (λ line x. text line (f x)) line p found ++ answers_by (λ line x. text line (f x)) kind lines (lists_after p found)
+        ≡ answer_to text line p (map f found) ++ answers_by text kind lines (lists_after p (map f found))
+    by false found after = ap (λ (rest : List ℕ). line_with line (codes "bad") ++ rest) (after found)
+    by true [] after = after []
+    by true (x ∷ found) after = ap (λ (rest : List ℕ). text line (f x) ++ rest) (after found)
+
+pub are_answers_by-map : {X Y : Type 0} (is_wanted : Y → Bool) (f : X → Y) (kind : Kind) (lines : List (List ℕ)) (found : List X)
+    → are_answers_by (λ x. is_wanted (f x)) kind lines found ≡ are_answers_by is_wanted kind lines (map f found)
+are_answers_by-map is_wanted f kind [] found = refl
+are_answers_by-map {X} is_wanted f kind (line ∷ lines) found = by (is_some (prefix_of kind line)) found (are_answers_by-map is_wanted f kind lines)
+  where
+    by : (p : Bool) (found : List X) → ((rest : List X) → are_answers_by (λ x. is_wanted (f x)) kind lines rest ≡ are_answers_by is_wanted kind lines (map f rest))
+        → (is_answer_to (λ x. is_wanted (f x)) p found && are_answers_by (λ x. is_wanted (f x)) kind lines (lists_after p found))
+        ≡ (is_answer_to is_wanted p (map f found) && are_answers_by is_wanted kind lines (lists_after p (map f found)))
+    by false found after = refl
+    by true [] after = refl
+    by true (x ∷ found) after = ap (λ b. is_wanted (f x) && b) (after found)
+
 same_lists : {X Y Z : Type 0} (f : X → Z) (g : Y → Z) (xs : List X) (ys : List Y) → length xs ≡ length ys
     → ((k : ℕ) (x : X) (y : Y) → k < length ys → f (get_or xs k x) ≡ g (get_or ys k y)) → map f xs ≡ map g ys
 same_lists f g [] [] many each = refl
@@ -141,10 +191,6 @@ same_lists f g (x ∷ xs) (y ∷ ys) many each =
     let rest = same_lists f g xs ys (omega (arith, many)) (λ k a b low. each (suc k) a b (omega (arith, low))) in
     (λ i. first i ∷ rest i)
 
-pub map_twice : {X Y Z : Type 0} (f : Y → Z) (g : X → Y) (xs : List X) → map f (map g xs) ≡ map (λ x. f (g x)) xs
-map_twice f g [] = refl
-map_twice f g (x ∷ xs) = ap (λ zs. f (g x) ∷ zs) (map_twice f g xs)
-
 -- the lists that were found are those of a store that holds these ids
 pub found_in : (view : StoreView) (whole : List (List ℕ)) (prefixes : List KindDigits) (found : List (List ObjectId)) → Holds view whole
     → AreMatchesOfEach view prefixes found → map (map id_digits) found ≡ map (λ (prefix : KindDigits). matches prefix.digits whole) prefixes
@@ -152,5 +198,49 @@ found_in view whole prefixes found h are =
     same_lists (map id_digits) (λ (prefix : KindDigits). matches prefix.digits whole) found prefixes are.as_many
     (λ k ids prefix low. (are.each k prefix ids low).found whole h)
 
+-- what is printed by things is what is printed by what they have
+found_text-map : {X Y : Type 0} (text : Option (List ℕ) → Y → List ℕ) (f : X → Y) (answers : Answers) (line : List ℕ) (found : List X)
+    → found_text (λ l x. text l (f x)) answers line found ≡ found_text text answers line (map f found)
+found_text-map text f AllOfThem line [] = refl
+found_text-map text f AllOfThem line (x ∷ found) = sym (flat_map-map (text (Some line)) f (x ∷ found))
+found_text-map text f OneOfThem line [] = refl
+found_text-map text f OneOfThem line (x ∷ []) = refl
+found_text-map text f OneOfThem line (x ∷ (other ∷ found)) = refl
+
+is_found-map : {X Y : Type 0} (f : X → Y) (answers : Answers) (found : List X) → is_found answers found ≡ is_found answers (map f found)
+is_found-map f AllOfThem [] = refl
+is_found-map f AllOfThem (x ∷ found) = refl
+is_found-map f OneOfThem [] = refl
+is_found-map f OneOfThem (x ∷ []) = refl
+is_found-map f OneOfThem (x ∷ (other ∷ found)) = refl
+
+module _ (view : StoreView) (whole : List (List ℕ)) (lines : List (List ℕ)) (found : List (List ObjectId)) (h : Holds view whole)
+    (are : AreMatchesOfEach view (prefixes_of view.kind lines) found) (answers : Answers) where
+  -- what is printed by the ids that were found is what is printed in a store that holds these ids
+  pub text_in : answers_by (found_text (λ line (id : ObjectId). id_line line (id_digits id)) answers) view.kind lines found ≡ answers_in answers view.kind whole lines
+  text_in =
+      (λ i. answers_by (λ line ids. found_text-map id_line id_digits answers line ids i) view.kind lines found)
+      ∙ answers_by-map (found_text id_line answers) (map id_digits) view.kind lines found
+      ∙ ap (λ (ls : List (List (List ℕ))). answers_by (found_text id_line answers) view.kind lines ls) (found_in view whole (prefixes_of view.kind lines) found h are)
+
+  pub all_in : are_answers_by (λ (ids : List ObjectId). is_found answers ids) view.kind lines found ≡ are_answers_in answers view.kind whole lines
+  all_in =
+      (λ i. are_answers_by (λ ids. is_found-map id_digits answers ids i) view.kind lines found)
+      ∙ are_answers_by-map (is_found answers) (map id_digits) view.kind lines found
+      ∙ ap (λ (ls : List (List (List ℕ))). are_answers_by (is_found answers) view.kind lines ls) (found_in view whole (prefixes_of view.kind lines) found h are)
+
 pub all_sound : (view : StoreView) (prefixes : List KindDigits) (found : List (List ObjectId)) → AreMatchesOfEach view prefixes found → HaveAllBuckets view prefixes
 all_sound view prefixes found are k prefix low = (are.each k prefix [] low).sound
+
+-- those of several prefixes in a store that holds these ids
+pub abbreviated_in : (least : ℕ) (view : StoreView) (whole : List (List ℕ)) (prefixes : List KindDigits) (named : List Abbreviation) → Holds view whole
+    → AreAbbreviatedOfEach least view prefixes named → AreFoundOfEach (IsAbbreviatedIn least whole) prefixes named
+abbreviated_in least view whole prefixes named h are = record { as_many = are.as_many; each = λ k prefix one low. (are.each k prefix one low).found whole h }
+
+pub abbreviated_sound : (least : ℕ) (view : StoreView) (prefixes : List KindDigits) (named : List Abbreviation) → AreAbbreviatedOfEach least view prefixes named
+    → HaveAllBuckets view prefixes
+abbreviated_sound least view prefixes named are k prefix low = (are.each k prefix Missing low).sound
+
+pub located_sound : {A : Type 0} (view : StoreView) (loose_paths : List ℕ → List (List ℕ)) (prefixes : List KindDigits) (located : List (List (LocatedId A)))
+    → AreLocatedOfEach view loose_paths prefixes located → HaveAllBuckets view prefixes
+located_sound view loose_paths prefixes located are k prefix low = (are.each k prefix [] low).ids.sound

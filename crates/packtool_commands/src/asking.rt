@@ -1,13 +1,11 @@
 //! The ids of a store that begin with each of many prefixes, which are the lines of a text.
 
-ghost use Rattle.std.specs.Prelude.{◌≡◌, ◌≢◌, ◌++◌, ◌-◌, ◌<◌, ◌≤◌, ◌↔◌, ◌∷◌, ◌&&◌, ℕ, List, IfErr, IfOk, IsErrOf, OnErr, OnOk, false, flat_map, length, map, true};
+ghost use Rattle.std.specs.Prelude.{◌≡◌, ◌≢◌, ◌++◌, ◌-◌, ◌<◌, ◌≤◌, ◌↔◌, ◌∷◌, ◌&&◌, ℕ, List, IfErr, IfOk, IsErrOf, OnErr, OnOk, Some, false, flat_map, length, option_copied, true};
 ghost use Rattle.std.specs.List.{after_first, before_first, position};
 ghost use Rattle.std.specs.Io.KnownBytes.{Appends};
-ghost use Rattle.gix_hash.specs.Digits.{hex_letter, spelling};
-ghost use Rattle.gix_hash.specs.ObjectId.{id_digits};
 ghost use Rattle.object_store.specs.Parts.{IsFaultOfOne};
 ghost use Rattle.object_store.specs.Stores.{Holds};
-ghost use Rattle.packtool_commands.specs.Asking.{HasAnswered, HasAnsweredMatches, HaveAllBuckets, answer_to, answers_by, answers_in, are_answers_by, found_answer, is_answer_to, is_found, is_line_feed, line_with, lines_of, lists_after, prefix_of, prefixes_of};
+ghost use Rattle.packtool_commands.specs.Asking.{HasAnswered, HasAnsweredMatches, HaveAllBuckets, answer_to, answers_by, answers_in, are_answers_by, found_text, front_text, is_answer_to, is_line_feed, lines_of, lists_after, prefix_of, prefixes_of};
 ghost use Rattle.packtool_commands.specs.Finding.{IsFaultOf};
 ghost use Rattle.packtool_commands.specs.declared.error.StoreError.{StoreError};
 ghost use Rattle.streams.specs.Writing.{AppendsPart, Wrote};
@@ -75,11 +73,15 @@ pub fn find_each<S: Store, A: Allocator + Copy, W: Sink>(
     let kind = store.object_hash();
     let prefixes = prefixes_in(alloc, kind, lines)?;
     let found = lookup_prefixes(alloc, store, &prefixes)?;
-    Ok(write_answers(kind, lines, &found, answers, out)?)
+    let form = Listed {
+        answers,
+        entry: IdEntry,
+    };
+    Ok(write_answers(kind, lines, &found, &form, out)?)
 }
 
-// The prefixes among the lines of a text.
-fn prefixes_in<A: Allocator>(
+/// The prefixes among the lines of a text.
+pub(crate) fn prefixes_in<A: Allocator>(
     alloc: A,
     kind: Kind,
     lines: &[u8],
@@ -140,26 +142,46 @@ fn prefix_in(kind: Kind, line: &[u8]) -> Option<Prefix>
     }
 }
 
-// Writes the answers to the lines of a text, by the ids that begin with each prefix among them.
-// Returns whether each found what is asked for.
-fn write_answers<A: Allocator, W: Sink>(
+/// How what is found for a prefix, a `T`, is printed.
+pub(crate) trait Form<T> {
+    ghost use Rattle.std.specs.Prelude.{◌≡◌, ℕ, Bool, List, false};
+    ghost use Rattle.streams.specs.Writing.{Wrote};
+
+    /// What is printed for a line that is a prefix.
+    ghost text: { Self → List ℕ → T → List ℕ };
+
+    /// Whether what was found is what is asked for.
+    ghost is_found: { Self → T → Bool };
+
+    /// Writes what is printed for a line that is a prefix.
+    fn write<W: Sink>(&self, line: &[u8], found: &T, out: &mut W) -> Result<(), WriteFailed>
+        requires { W.has_failed out.old ≡ false }
+        ensures { Wrote W.taken W.has_failed out.old out.new result
+            (text self.now line.now found.now) };
+
+    /// Whether what was found is what is asked for.
+    fn is_found(&self, found: &T) -> bool
+        ensures { result ≡ is_found self.now found.now };
+}
+
+/// Writes what is printed for each line of a text, by what was found for each prefix among them.
+/// Returns whether each found what is asked for.
+pub(crate) fn write_answers<T, F: Form<T>, W: Sink>(
     kind: Kind,
     lines: &[u8],
-    found: &[Vec<ObjectId, A>],
-    answers: Answers,
+    found: &[T],
+    form: &F,
     out: &mut W,
 ) -> Result<bool, WriteFailed>
     requires enough { length found.now ≡ length (prefixes_of kind (lines_of lines.now)) }
     requires output { W.has_failed out.old ≡ false }
     ensures written { OnOk result (Appends (W.taken out.old) (W.taken out.new)
-        (answers_by answers kind (lines_of lines.now)
-        (map (λ ids. map id_digits ids.items) found.now))) }
-    ensures all { IfOk result (λ all. all ≡ are_answers_by answers kind (lines_of lines.now)
-        (map (λ ids. map id_digits ids.items) found.now)) }
+        (answers_by (F.text form.now) kind (lines_of lines.now) found.now)) }
+    ensures all { IfOk result (λ all. all ≡ are_answers_by (F.is_found form.now) kind
+        (lines_of lines.now) found.now) }
     ensures not_failed { OnOk result (W.has_failed out.new ≡ false) }
     ensures part { OnErr result (AppendsPart (W.taken out.old) (W.taken out.new)
-        (answers_by answers kind (lines_of lines.now)
-        (map (λ ids. map id_digits ids.items) found.now))) }
+        (answers_by (F.text form.now) kind (lines_of lines.now) found.now)) }
     ensures failed { OnErr result (W.has_failed out.new ≡ true) }
 {
     let mut all = true;
@@ -168,112 +190,182 @@ fn write_answers<A: Allocator, W: Sink>(
     while !rest.is_empty() {
         let (line, after) = first_line(rest);
         let is_prefix = prefix_in(kind, line).is_some();
-        write_answer(line, is_prefix, left, answers, out)?;
-        all = are_answered(all, is_prefix, left, answers);
+        write_answer(line, is_prefix, left, form, out)?;
+        all = are_answered(all, is_prefix, left, form);
         left = lists_after(is_prefix, left);
         rest = after;
     }
     Ok(all)
 }
 
-// The lists of ids after that of a line.
-fn lists_after<A: Allocator>(is_prefix: bool, found: &[Vec<ObjectId, A>]) -> &[Vec<ObjectId, A>]
+// What was found for the lines after one.
+fn lists_after<T>(is_prefix: bool, found: &[T]) -> &[T]
     requires { is_prefix ≡ true → 0 < length found.now }
     ensures { result.now ≡ lists_after is_prefix found.now }
 {
     if is_prefix { &found[1..] } else { found }
 }
 
-// Whether the lines before a line find what is asked for, and it does, by the first list of ids if
-// it is a prefix.
-fn are_answered<A: Allocator>(
-    before: bool,
-    is_prefix: bool,
-    found: &[Vec<ObjectId, A>],
-    answers: Answers,
-) -> bool
+// Whether the lines before a line find what is asked for, and it does, by the first of what was
+// found if it is a prefix.
+fn are_answered<T, F: Form<T>>(before: bool, is_prefix: bool, found: &[T], form: &F) -> bool
     requires { is_prefix ≡ true → 0 < length found.now }
-    ensures { result ≡ (before && is_answer_to answers is_prefix
-        (map (λ ids. map id_digits ids.items) found.now)) }
+    ensures { result ≡ (before && is_answer_to (F.is_found form.now) is_prefix found.now) }
 {
-    before && is_prefix && has_found(&found[0], answers)
+    before && is_prefix && form.is_found(&found[0])
 }
 
-// Whether these ids are what is asked for.
-fn has_found(ids: &[ObjectId], answers: Answers) -> bool
-    ensures { result ≡ is_found answers (map id_digits ids.now) }
-{
-    match answers {
-        Answers::All => !ids.is_empty(),
-        Answers::One => ids.len() == 1,
-    }
-}
-
-// Writes the answer to a line, by the first list of ids if it is a prefix.
-fn write_answer<A: Allocator, W: Sink>(
+// Writes what is printed for a line, by the first of what was found if it is a prefix.
+fn write_answer<T, F: Form<T>, W: Sink>(
     line: &[u8],
     is_prefix: bool,
-    found: &[Vec<ObjectId, A>],
-    answers: Answers,
+    found: &[T],
+    form: &F,
     out: &mut W,
 ) -> Result<(), WriteFailed>
     requires enough { is_prefix ≡ true → 0 < length found.now }
     requires output { W.has_failed out.old ≡ false }
     ensures { Wrote W.taken W.has_failed out.old out.new result
-        (answer_to answers line.now is_prefix (map (λ ids. map id_digits ids.items) found.now)) }
+        (answer_to (F.text form.now) line.now is_prefix found.now) }
 {
     if is_prefix {
-        write_found(line, &found[0], answers, out)
+        form.write(line, &found[0], out)
     } else {
         write_two(line, b" bad\n", out)
     }
 }
 
-// Writes the answer to a prefix, by the ids that begin with it.
-fn write_found<W: Sink>(
+/// How one thing that is found, an `X`, is printed.
+pub(crate) trait Entry<X> {
+    ghost use Rattle.std.specs.Prelude.{◌≡◌, ℕ, List, Option, false, option_copied};
+    ghost use Rattle.streams.specs.Writing.{Wrote};
+
+    /// What is printed for it, after a line or nothing.
+    ghost text: { Self → Option (List ℕ) → X → List ℕ };
+
+    /// Writes it, after a line or nothing.
+    fn write_after<W: Sink>(
+        &self,
+        line: Option<&[u8]>,
+        item: &X,
+        out: &mut W,
+    ) -> Result<(), WriteFailed>
+        requires { W.has_failed out.old ≡ false }
+        ensures { Wrote W.taken W.has_failed out.old out.new result
+            (text self.now (option_copied line.entry) item.now) };
+}
+
+/// How a list of what is found is printed: all of it, or the only one.
+#[derive(Drop)]
+pub(crate) struct Listed<E> {
+    /// What is asked for.
+    pub(crate) answers: Answers,
+    /// How each is printed.
+    pub(crate) entry: E,
+}
+
+impl<X, A: Allocator, E: Entry<X>> Form<Vec<X, A>> for Listed<E> {
+    ghost use Rattle.packtool_commands.specs.Asking.{found_text, is_found};
+
+    ghost text = { λ form line found. found_text (E.text form.entry) form.answers line found.items };
+
+    ghost is_found = { λ form found. is_found form.answers found.items };
+
+    fn write<W: Sink>(
+        &self,
+        line: &[u8],
+        found: &Vec<X, A>,
+        out: &mut W,
+    ) -> Result<(), WriteFailed> {
+        write_found(line, found, self.answers, &self.entry, out)
+    }
+
+    fn is_found(&self, found: &Vec<X, A>) -> bool {
+        match self.answers {
+            Answers::All => !found.is_empty(),
+            Answers::One => found.len() == 1,
+        }
+    }
+}
+
+// Writes what is printed for a prefix, by the things that were found.
+fn write_found<X, E: Entry<X>, W: Sink>(
     line: &[u8],
-    ids: &[ObjectId],
+    found: &[X],
     answers: Answers,
+    entry: &E,
     out: &mut W,
 ) -> Result<(), WriteFailed>
     requires { W.has_failed out.old ≡ false }
     ensures { Wrote W.taken W.has_failed out.old out.new result
-        (found_answer answers line.now (map id_digits ids.now)) }
+        (found_text (E.text entry.now) answers line.now found.now) }
 {
-    if ids.is_empty() {
+    if found.is_empty() {
         return write_two(line, b" missing\n", out);
     }
     match answers {
-        Answers::All => write_each(line, ids, out),
-        Answers::One if ids.len() == 1 => write_id(Alphabet::Hex, &ids[0], out),
+        Answers::All => write_each(line, found, entry, out),
+        Answers::One if found.len() == 1 => entry.write_after(None, &found[0], out),
         Answers::One => write_two(line, b" ambiguous\n", out),
     }
 }
 
-// Writes each id after a line.
-fn write_each<W: Sink>(line: &[u8], ids: &[ObjectId], out: &mut W) -> Result<(), WriteFailed>
+// Writes each of some things after a line.
+fn write_each<X, E: Entry<X>, W: Sink>(
+    line: &[u8],
+    found: &[X],
+    entry: &E,
+    out: &mut W,
+) -> Result<(), WriteFailed>
     requires { W.has_failed out.old ≡ false }
     ensures { Wrote W.taken W.has_failed out.old out.new result
-        (flat_map (λ id. line_with line.now (spelling hex_letter (id_digits id))) ids.now) }
+        (flat_map (E.text entry.now (Some line.now)) found.now) }
 {
-    for id in ids {
-        write_after(line, id, out)?;
+    for item in found {
+        entry.write_after(Some(line), item, out)?;
     }
     Ok(())
 }
 
-// Writes an id after a line.
-fn write_after<W: Sink>(line: &[u8], id: &ObjectId, out: &mut W) -> Result<(), WriteFailed>
-    requires { W.has_failed out.old ≡ false }
-    ensures { Wrote W.taken W.has_failed out.old out.new result
-        (line_with line.now (spelling hex_letter (id_digits id.now))) }
-{
-    write_two(line, b" ", out)?;
-    write_id(Alphabet::Hex, id, out)
+// How an id is printed.
+#[derive(Drop)]
+struct IdEntry;
+
+impl Entry<ObjectId> for IdEntry {
+    ghost use Rattle.gix_hash.specs.ObjectId.{id_digits};
+    ghost use Rattle.packtool_commands.specs.Asking.{id_line};
+
+    ghost text = { λ _ line id. id_line line (id_digits id) };
+
+    fn write_after<W: Sink>(
+        &self,
+        line: Option<&[u8]>,
+        id: &ObjectId,
+        out: &mut W,
+    ) -> Result<(), WriteFailed> {
+        write_front(line, out)?;
+        write_id(Alphabet::Hex, id, out)
+    }
 }
 
-// Writes two texts, one after the other.
-fn write_two<W: Sink>(first: &[u8], second: &[u8], out: &mut W) -> Result<(), WriteFailed>
+/// Writes what is before a result: a line and a space, or nothing.
+pub(crate) fn write_front<W: Sink>(line: Option<&[u8]>, out: &mut W) -> Result<(), WriteFailed>
+    requires { W.has_failed out.old ≡ false }
+    ensures { Wrote W.taken W.has_failed out.old out.new result
+        (front_text (option_copied line.entry)) }
+{
+    match line {
+        Some(line) => write_two(line, b" ", out),
+        None => Ok(()),
+    }
+}
+
+/// Writes two texts, one after the other.
+pub(crate) fn write_two<W: Sink>(
+    first: &[u8],
+    second: &[u8],
+    out: &mut W,
+) -> Result<(), WriteFailed>
     requires { W.has_failed out.old ≡ false }
     ensures { Wrote W.taken W.has_failed out.old out.new result (first.now ++ second.now) }
 {

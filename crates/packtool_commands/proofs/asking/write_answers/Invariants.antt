@@ -1,6 +1,5 @@
-use Rattle.std.proofs.Common.{◌≡◌, ◌++◌, ◌&&◌, ℕ, List, false, length, map}
+use Rattle.std.proofs.Common.{◌≡◌, ◌++◌, ◌&&◌, ℕ, List, false, length}
 use Rattle.std.specs.Io.KnownBytes.{Appends}
-use Rattle.gix_hash.specs.ObjectId.{id_digits}
 use Rattle.packtool_commands.specs.Asking.{answers_by, are_answers_by, lines_of, prefixes_of}
 use Rattle.packtool_commands.proofs.asking.write_answers.Given as goal
 
@@ -9,10 +8,8 @@ invariant-loop-rest g l =
     (length l.left ≡ length (prefixes_of l.kind (lines_of l.rest)))
     × (g.W.Sink.has_failed l.out ≡ false)
     × ((w : List ℕ) × Appends (g.W.Sink.taken l.fn.out) (g.W.Sink.taken l.out) w
-    × (w ++ answers_by l.answers l.kind (lines_of l.rest) (map (λ ids. map id_digits ids.items) l.left)
-    ≡ answers_by l.answers l.kind (lines_of l.lines) (map (λ ids. map id_digits ids.items) l.found)))
-    × ((l.all && are_answers_by l.answers l.kind (lines_of l.rest) (map (λ ids. map id_digits ids.items) l.left))
-    ≡ are_answers_by l.answers l.kind (lines_of l.lines) (map (λ ids. map id_digits ids.items) l.found))
+    × (w ++ answers_by (g.F.Form.text l.form) l.kind (lines_of l.rest) l.left ≡ answers_by (g.F.Form.text l.form) l.kind (lines_of l.lines) l.found))
+    × ((l.all && are_answers_by (g.F.Form.is_found l.form) l.kind (lines_of l.rest) l.left) ≡ are_answers_by (g.F.Form.is_found l.form) l.kind (lines_of l.lines) l.found)
 
 abbrev pub decreases-loop-rest : goal.decreases-loop-rest
 decreases-loop-rest g l = length l.rest
