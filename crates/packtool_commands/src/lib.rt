@@ -27,6 +27,6 @@ pub use error::{FileError, StoreError};
 pub use escaping::write_named;
 pub use finding::find;
 pub use locating::{locate, write_location};
-pub use naming::{names, write_names};
+pub use naming::{name_each, names, write_names};
 pub use pairing::{Pairing, PairingError, pair, write_pairing};
 pub use showing::{show, validate};

@@ -13,7 +13,7 @@ ghost use Rattle.packtool_commands.specs.Locations.{location_end};
 ghost use Rattle.streams.specs.Writing.{AppendsPart};
 
 use crate::pairing::Pairing;
-use gix_hash::{Alphabet, ObjectId, oid};
+use gix_hash::{Alphabet, ObjectId, Prefix, oid};
 use hex::encode_to_slice;
 use id_lookup::begins_with;
 use itoa::Buffer;
@@ -36,6 +36,9 @@ pub(crate) const MAX_VERDICT_LEN: usize = 189;
 pub(crate) const MAX_START_LEN: usize = 65;
 
 pub(crate) const MAX_END_LEN: usize = 22;
+
+/// The length of the longest line of a name only: 64 digits and a line feed.
+pub(crate) const MAX_NAME_LEN: usize = 65;
 
 // The most digits of an id.
 const MAX_ID_LEN: usize = 64;
@@ -130,6 +133,17 @@ fn put_name(line: &mut [u8], at: usize, named: &NamedId, id: &[u8]) -> usize
     }
     named.name.put_hex(&mut line[at..]);
     at + len
+}
+
+/// Writes a prefix in hex and a line feed to the start of the buffer, and returns their length.
+pub(crate) fn put_prefix(prefix: &Prefix, line: &mut [u8]) -> usize
+    requires { length line.old ≡ MAX_NAME_LEN }
+    ensures len { result ≤ MAX_NAME_LEN }
+    ensures text { take result line.new ≡ spelling hex_letter prefix.now.digits ++ 10 ∷ [] }
+{
+    let len = prefix.hex_len();
+    prefix.put_hex(line);
+    put(line, len, b"\n")
 }
 
 /// Writes what is said of a checked file after its name to the start of the buffer, and returns its

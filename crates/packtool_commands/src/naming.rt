@@ -1,17 +1,22 @@
-//! The ids of a store after their abbreviations.
+//! The abbreviations of the ids of a store.
 
-ghost use Rattle.std.specs.Prelude.{◌≡◌, ◌≢◌, ◌↔◌, ◌⊎◌, ◌≤◌, ℕ, List, [], false, true, flat_map, IfErr, IfOk, IsErrOf, IsTrue};
+ghost use Rattle.std.specs.Prelude.{◌≡◌, ◌≢◌, ◌↔◌, ◌⊎◌, ◌≤◌, ◌∷◌, ◌++◌, ℕ, List, [], false, true, flat_map, IfErr, IfOk, IsErrOf, IsTrue};
+ghost use Rattle.gix_hash.specs.Digits.{hex_letter, spelling};
 ghost use Rattle.gix_hash.specs.Kind.{hex_len_of};
+ghost use Rattle.object_store.specs.Parts.{IsFaultOfOne};
 ghost use Rattle.object_store.specs.Stores.{HaveBuckets, Holds};
 ghost use Rattle.pack_index.specs.Firsts.{Each};
+ghost use Rattle.packtool_commands.specs.Asking.{HaveAllBuckets, lines_of, prefixes_of};
 ghost use Rattle.packtool_commands.specs.Finding.{IsFaultOf, IsWalkFault};
-ghost use Rattle.packtool_commands.specs.Names.{HasNamedAtMost, HasNamedBelow, name_line};
+ghost use Rattle.packtool_commands.specs.Names.{HasNamedAtMost, HasNamedBelow, HasNamedEach, HasNamedEachIn, HasNamedPart, name_line};
 ghost use Rattle.packtool_commands.specs.declared.error.StoreError.{StoreError};
 ghost use Rattle.streams.specs.Writing.{Wrote};
 
+use crate::asking::{Form, prefixes_in, write_answers, write_two};
 use crate::error::StoreError;
-use crate::lines::{LINES_LEN, next_line_at, put_name_line};
-use object_store::{NamedId, Store};
+use crate::lines::{LINES_LEN, MAX_NAME_LEN, next_line_at, put_name_line, put_prefix};
+use gix_hash::Prefix;
+use object_store::{Abbreviation, NamedId, Store, abbreviate_prefixes};
 use std::alloc::Allocator;
 use streams::{Sink, WriteFailed, write_all};
 
@@ -88,4 +93,90 @@ pub fn write_names<W: Sink>(named: &[NamedId], out: &mut W) -> Result<(), WriteF
         end = put_name_line(&mut lines, at, id);
     }
     write_all(out, &lines[..end])
+}
+
+/// Writes for each line of a text, in order, the abbreviation of the only id of a store that begins
+/// with it, of at least `least` digits, from 4 up to all of the kind; and a line feed. Returns
+/// whether each line is a prefix of exactly one id. `git rev-parse --short` prints the same.
+///
+/// Which lines are prefixes is said at [`find_each`](crate::find_each). For any other line the line
+/// and ` bad` are written, for a prefix of no id the line and ` missing`, and for a prefix of
+/// several ids the line and ` ambiguous`.
+///
+/// Of each pack index the names with a first byte are read once. Nothing is written before all ids
+/// are found. [`StoreError::Output`] is returned if and only if a write fails, after a proper
+/// beginning of the text. The sink must not have failed before.
+///
+/// ```
+/// if !name_each(rt.alloc(), &store, b"4b8\n4b9\n", 7, &mut out)? {
+///     println!(rt; "not each of the two is a prefix of exactly one id")?;
+/// }
+/// ```
+pub fn name_each<S: Store, A: Allocator + Copy, W: Sink>(
+    alloc: A,
+    store: &S,
+    lines: &[u8],
+    least: usize,
+    out: &mut W,
+) -> Result<bool, StoreError>
+    requires enough { 4 ≤ least }
+    requires fits { least ≤ hex_len_of (S.view store.now).kind }
+    requires output { W.has_failed out.old ≡ false }
+    ensures found { IfOk result (λ all. (whole : List (List ℕ)) → Holds (S.view store.now) whole
+        → HasNamedEachIn least (S.view store.now).kind whole (lines_of lines.now) all
+        (W.taken out.old) (W.taken out.new)) }
+    ensures named { IfOk result (λ all. HasNamedEach least (S.view store.now)
+        (lines_of lines.now) all (W.taken out.old) (W.taken out.new)) }
+    ensures sound { IfOk result (λ _. HaveAllBuckets (S.view store.now)
+        (prefixes_of (S.view store.now).kind (lines_of lines.now))) }
+    ensures refused { IfErr result (IsFaultOf (IsFaultOfOne (S.view store.now)
+        (prefixes_of (S.view store.now).kind (lines_of lines.now)))) }
+    ensures untouched { IfErr result (λ e. e ≢ StoreError.Output → out.new ≡ out.old) }
+    ensures output { IsErrOf result StoreError.Output ↔ (W.has_failed out.new ≡ true) }
+    ensures part { IsErrOf result StoreError.Output → HasNamedPart least (S.view store.now)
+        (lines_of lines.now) (W.taken out.old) (W.taken out.new) }
+{
+    let kind = store.object_hash();
+    let prefixes = prefixes_in(alloc, kind, lines)?;
+    let named = abbreviate_prefixes(alloc, store, &prefixes, least)?;
+    Ok(write_answers(kind, lines, &named, &AbbreviationForm, out)?)
+}
+
+// How the abbreviation of the only id that begins with a prefix is printed.
+struct AbbreviationForm;
+
+impl Form<Abbreviation> for AbbreviationForm {
+    ghost use Rattle.packtool_commands.specs.Names.{abbreviation_text, is_named};
+
+    ghost text = { λ _ line found. abbreviation_text line found };
+
+    ghost is_found = { λ _ found. is_named found };
+
+    fn write<W: Sink>(
+        &self,
+        line: &[u8],
+        found: &Abbreviation,
+        out: &mut W,
+    ) -> Result<(), WriteFailed> {
+        match found {
+            Abbreviation::Missing => write_two(line, b" missing\n", out),
+            Abbreviation::Ambiguous => write_two(line, b" ambiguous\n", out),
+            Abbreviation::Named(named) => write_prefix(&named.name, out),
+        }
+    }
+
+    fn is_found(&self, found: &Abbreviation) -> bool {
+        matches!(found, Abbreviation::Named(_))
+    }
+}
+
+// Writes a prefix in hex and a line feed.
+fn write_prefix<W: Sink>(prefix: &Prefix, out: &mut W) -> Result<(), WriteFailed>
+    requires { W.has_failed out.old ≡ false }
+    ensures { Wrote W.taken W.has_failed out.old out.new result
+        (spelling hex_letter prefix.now.digits ++ 10 ∷ []) }
+{
+    let mut line = [0; MAX_NAME_LEN];
+    let len = put_prefix(prefix, &mut line);
+    write_all(out, &line[..len])
 }
