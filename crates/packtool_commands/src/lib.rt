@@ -26,7 +26,7 @@ pub use ending::write_ending;
 pub use error::{FileError, StoreError};
 pub use escaping::write_named;
 pub use finding::find;
-pub use locating::{locate, write_location};
+pub use locating::{locate, locate_each, write_location};
 pub use naming::{name_each, names, write_names};
 pub use pairing::{Pairing, PairingError, pair, write_pairing};
 pub use showing::{show, validate};

@@ -1,21 +1,24 @@
 //! The locations of the objects of a store, a line for each.
 
-ghost use Rattle.std.specs.Prelude.{◌≡◌, ◌↔◌, ◌≤◌, ◌++◌, ℕ, List, None, Some, false, true, flat_map, length, string_bytes, IfErr, IfOk, IsErrOf, OnOk, OnErr};
+ghost use Rattle.std.specs.Prelude.{◌≡◌, ◌≢◌, ◌↔◌, ◌≤◌, ◌++◌, ℕ, List, None, Some, false, true, flat_map, length, map, option_copied, string_bytes, IfErr, IfOk, IsErrOf, OnOk, OnErr};
 ghost use Rattle.std.specs.Io.KnownBytes.{Appends};
 ghost use Rattle.gix_hash.specs.Digits.{first_byte_of};
 ghost use Rattle.gix_hash.specs.ObjectId.{id_digits, id_kind};
 ghost use Rattle.id_lookup.specs.Runs.{matches};
+ghost use Rattle.object_store.specs.Several.{IsLocationsFaultOfOne};
 ghost use Rattle.object_store.specs.Stores.{HaveAllLocations, HaveBuckets, HaveLocations, Holds, IsLocateFault, IsLocationsFault};
+ghost use Rattle.packtool_commands.specs.Asking.{HaveAllBuckets, lines_of, prefixes_of};
 ghost use Rattle.packtool_commands.specs.Finding.{IsFaultOf};
-ghost use Rattle.packtool_commands.specs.Locations.{HasLocated, IsMemory, lines_at, lines_of_locations, location_line};
+ghost use Rattle.packtool_commands.specs.Locations.{HasLocated, HasLocatedEach, HasLocatedPart, IsMemory, lines_at, lines_at_after, lines_of_locations, location_line, location_line_after};
 ghost use Rattle.packtool_commands.specs.declared.error.StoreError.{StoreError};
 ghost use Rattle.streams.specs.Writing.{AppendsAtMost, Wrote};
 
+use crate::asking::{Answers, Entry, Listed, prefixes_in, write_answers, write_front};
 use crate::error::StoreError;
 use crate::escaping::{write_before, write_mark};
 use crate::lines::{MAX_END_LEN, MAX_START_LEN, put_location_end, put_location_start};
 use gix_hash::{ObjectId, Prefix};
-use object_store::{Location, Part, StorePaths};
+use object_store::{LocatedId, Location, Part, StorePaths, locate_prefixes};
 use std::alloc::Allocator;
 use streams::{Sink, WriteFailed, write_all};
 
@@ -118,19 +121,143 @@ fn write_lines_at<S: StorePaths, W: Sink>(
         Location::Packed { pack, offset } => {
             write_location(id, store.pack_path(pack), Some(offset), out)?;
         }
-        Location::Loose => write_loose(id, &store.loose_paths(id)?, out)?,
+        Location::Loose => write_loose(None, id, &store.loose_paths(id)?, out)?,
     }
     Ok(())
 }
 
-// Writes the lines of the files of a loose object.
-fn write_loose<W: Sink>(id: &ObjectId, paths: &[String], out: &mut W) -> Result<(), WriteFailed>
+/// Writes what is located for each line of a text, in order. Returns whether each line found what is
+/// asked for: an id, or for [`Answers::One`] a single one.
+///
+/// For [`Answers::All`] the lines of [`locate`] are written for a prefix, each after the line as it
+/// is and a space; and for [`Answers::One`] those of the only id that begins with it, as they are. A
+/// backslash that marks an escaped path is the first byte, before the line. Which lines are prefixes
+/// is said at [`find_each`](crate::find_each). For any other line the line and ` bad` are written,
+/// for a prefix of no id the line and ` missing`, and for [`Answers::One`] and a prefix of several
+/// ids the line and ` ambiguous`.
+///
+/// Of each pack index the names with a first byte are read once. Nothing is written before all
+/// locations are found. [`StoreError::Output`] is returned if and only if a write fails, after a
+/// proper beginning of the text. The sink must not have failed before.
+///
+/// ```
+/// if !locate_each(rt.alloc(), &store, b"4b8\n4b9\n", Answers::One, &mut out)? {
+///     println!(rt; "not each of the two is one id")?;
+/// }
+/// ```
+pub fn locate_each<S: StorePaths, A: Allocator + Copy, W: Sink>(
+    alloc: A,
+    store: &S,
+    lines: &[u8],
+    answers: Answers,
+    out: &mut W,
+) -> Result<bool, StoreError>
+    requires { W.has_failed out.old ≡ false }
+    ensures located { IfOk result (λ all. HasLocatedEach A answers (S.pack_path store.now)
+        (S.loose_paths store.now) (S.view store.now) (lines_of lines.now) all
+        (W.taken out.old) (W.taken out.new)) }
+    ensures sound { IfOk result (λ _. HaveAllBuckets (S.view store.now)
+        (prefixes_of (S.view store.now).kind (lines_of lines.now))) }
+    ensures refused { IfErr result (IsFaultOf (IsLocationsFaultOfOne (S.view store.now)
+        (prefixes_of (S.view store.now).kind (lines_of lines.now)))) }
+    ensures untouched { IfErr result (λ e. e ≢ StoreError.Output → out.new ≡ out.old) }
+    ensures output { IsErrOf result StoreError.Output ↔ (W.has_failed out.new ≡ true) }
+    ensures part { IsErrOf result StoreError.Output → HasLocatedPart A answers
+        (S.pack_path store.now) (S.loose_paths store.now) (S.view store.now)
+        (lines_of lines.now) (W.taken out.old) (W.taken out.new) }
+{
+    let kind = store.object_hash();
+    let prefixes = prefixes_in(alloc, kind, lines)?;
+    let located = locate_prefixes(alloc, store, &prefixes)?;
+    let form = Listed {
+        answers,
+        entry: LocationsEntry { store },
+    };
+    Ok(write_answers(kind, lines, &located, &form, out)?)
+}
+
+// How an id is printed with its locations in a store: a line for each.
+#[derive(Drop)]
+struct LocationsEntry<'s, S> {
+    store: &'s S,
+}
+
+impl<S: StorePaths, A: Allocator> Entry<LocatedId<A>> for LocationsEntry<'_, S> {
+    ghost use Rattle.packtool_commands.specs.Locations.{located_lines};
+
+    ghost text = { λ entry line located. located_lines (S.pack_path entry.store.now) line located };
+
+    fn write_after<W: Sink>(
+        &self,
+        line: Option<&[u8]>,
+        located: &LocatedId<A>,
+        out: &mut W,
+    ) -> Result<(), WriteFailed> {
+        let LocatedId {
+            id,
+            locations,
+            loose_paths,
+        } = located;
+        write_all_after(line, self.store, id, locations, loose_paths, out)
+    }
+}
+
+// Writes the lines of some locations of an object, each after a line of a text or nothing.
+fn write_all_after<S: StorePaths, W: Sink>(
+    line: Option<&[u8]>,
+    store: &S,
+    id: &ObjectId,
+    locations: &[Location],
+    loose_paths: &[String],
+    out: &mut W,
+) -> Result<(), WriteFailed>
+    requires { W.has_failed out.old ≡ false }
+    ensures { Wrote W.taken W.has_failed out.old out.new result (flat_map
+        (lines_at_after (option_copied line.entry) (S.pack_path store.now)
+        (map string_bytes loose_paths.now) (id_digits id.now)) locations.now) }
+{
+    for location in locations {
+        write_at_after(line, store, id, *location, loose_paths, out)?;
+    }
+    Ok(())
+}
+
+// Writes the lines of one location of an object, each after a line of a text or nothing.
+fn write_at_after<S: StorePaths, W: Sink>(
+    line: Option<&[u8]>,
+    store: &S,
+    id: &ObjectId,
+    location: Location,
+    loose_paths: &[String],
+    out: &mut W,
+) -> Result<(), WriteFailed>
     requires { W.has_failed out.old ≡ false }
     ensures { Wrote W.taken W.has_failed out.old out.new result
-        (flat_map (λ path. location_line (id_digits id.now) (string_bytes path) None) paths.now) }
+        (lines_at_after (option_copied line.entry) (S.pack_path store.now)
+        (map string_bytes loose_paths.now) (id_digits id.now) location) }
+{
+    match location {
+        Location::Packed { pack, offset } => {
+            write_location_after(line, id, store.pack_path(pack), Some(offset), out)
+        }
+        Location::Loose => write_loose(line, id, loose_paths, out),
+    }
+}
+
+// Writes the lines of the files of a loose object, each after a line of a text or nothing.
+fn write_loose<W: Sink>(
+    line: Option<&[u8]>,
+    id: &ObjectId,
+    paths: &[String],
+    out: &mut W,
+) -> Result<(), WriteFailed>
+    requires { W.has_failed out.old ≡ false }
+    ensures { Wrote W.taken W.has_failed out.old out.new result (flat_map
+        (λ path. location_line_after (option_copied line.entry) (id_digits id.now) (string_bytes path)
+        None) paths.now) }
 {
     for path in paths {
-        write_location(id, path.as_str(), None, out)?;
+        write_location_after(line, id, path.as_str(), None, out)?;
     }
     Ok(())
 }
@@ -157,11 +284,27 @@ pub fn write_location<W: Sink>(
     ensures { Wrote W.taken W.has_failed out.old out.new result
         (location_line (id_digits id.now) path.now offset) }
 {
+    write_location_after(None, id, path, offset, out)
+}
+
+// Writes the line of an object's location after a line of a text or nothing.
+fn write_location_after<W: Sink>(
+    line: Option<&[u8]>,
+    id: &ObjectId,
+    path: &str,
+    offset: Option<u64>,
+    out: &mut W,
+) -> Result<(), WriteFailed>
+    requires { W.has_failed out.old ≡ false }
+    ensures { Wrote W.taken W.has_failed out.old out.new result
+        (location_line_after (option_copied line.entry) (id_digits id.now) path.now offset) }
+{
     let mut start = [0; MAX_START_LEN];
     let start_len = put_location_start(id, &mut start);
     let mut end = [0; MAX_END_LEN];
     let end_len = put_location_end(offset, &mut end);
     write_mark(path, out)?;
+    write_front(line, out)?;
     write_all(out, &start[..start_len])?;
     write_before(path, &end[..end_len], out)
 }

@@ -1,14 +1,14 @@
 use Rattle.std.proofs.Common.{List, ℕ, None, ap, subst, ◌∙◌}
-use Rattle.std.specs.Prelude.{string_bytes}
+use Rattle.std.specs.Prelude.{option_copied, string_bytes}
 use Rattle.gix_hash.specs.ObjectId.{id_digits}
 use Rattle.streams.specs.Writing.{Wrote}
 use Rattle.streams.proofs.WritingLemmas.{Wrote-line}
-use Rattle.packtool_commands.specs.Locations.{location_line}
+use Rattle.packtool_commands.specs.Locations.{location_line_after}
 use Rattle.packtool_commands.proofs.locating.write_loose.Goals as goal
 
-pub returns-in_err-write_location : goal.returns-in_err-write_location
-returns-in_err-write_location g c =
-    let line : List ℕ → List ℕ = λ path. location_line (id_digits c.args.id.now) path None in
+pub returns-in_err-write_location_after : goal.returns-in_err-write_location_after
+returns-in_err-write_location_after g c =
+    let line : List ℕ → List ℕ = λ path. location_line_after (option_copied c.args.line) (id_digits c.args.id.now) path None in
     Wrote-line _ (λ path. line (string_bytes path)) c.args.paths.now c.loop-path.path-index c.path-item.result c.loop-path-test.true c.from_residual.ensures.0
     c.loop-path.invariant.0
-    (subst (Wrote _ _ _ _ _) (ap line (c.as_str.ensures.value ∙ ap string_bytes c.path-item.is)) c.in_err-write_location.ensures)
+    (subst (Wrote _ _ _ _ _) (ap line (c.as_str.ensures.value ∙ ap string_bytes c.path-item.is)) c.in_err-write_location_after.ensures)
