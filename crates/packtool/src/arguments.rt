@@ -47,7 +47,6 @@ struct Row {
 #[derive(Clone, Copy)]
 enum Argument {
     Prefix,
-    PrefixOrLines,
     Lines,
     One,
     Indexes,
@@ -63,7 +62,7 @@ const COMMANDS: [Row; 5] = [
         name: "find",
         about: "Prints each id of the store that begins with a prefix",
         arguments: &[
-            Argument::PrefixOrLines,
+            Argument::Prefix,
             Argument::Lines,
             Argument::One,
             Argument::Objects,
@@ -74,13 +73,24 @@ const COMMANDS: [Row; 5] = [
         request: Request::Store(StoreCommand::Where),
         name: "where",
         about: "Prints each pack and offset, or loose file, of each id that begins with a prefix",
-        arguments: &[Argument::Prefix, Argument::Objects, Argument::Kind],
+        arguments: &[
+            Argument::Prefix,
+            Argument::Lines,
+            Argument::One,
+            Argument::Objects,
+            Argument::Kind,
+        ],
     },
     Row {
         request: Request::Store(StoreCommand::Names),
         name: "names",
         about: "Prints each id of the store after its shortest unique prefix",
-        arguments: &[Argument::Least, Argument::Objects, Argument::Kind],
+        arguments: &[
+            Argument::Lines,
+            Argument::Least,
+            Argument::Objects,
+            Argument::Kind,
+        ],
     },
     Row {
         request: Request::Files(FileCommand::Show),
@@ -148,8 +158,9 @@ fn subcommand<'a>(alloc: Global, row: &Row) -> Result<Command<'a>, AllocError> {
 // An argument of a command.
 fn arg_of<'a>(alloc: Global, argument: Argument) -> Result<Arg<'a>, AllocError> {
     Ok(match argument {
-        Argument::Prefix => prefix(alloc).required(true),
-        Argument::PrefixOrLines => prefix(alloc)
+        Argument::Prefix => Arg::new(alloc, "prefix")
+            .value_name("PREFIX")
+            .help("2 hex digits or more")
             .required_unless_present("stdin")?
             .conflicts_with("stdin")?,
         Argument::Lines => Arg::new(alloc, "stdin")
@@ -158,7 +169,7 @@ fn arg_of<'a>(alloc: Global, argument: Argument) -> Result<Arg<'a>, AllocError> 
             .action(ArgAction::SetTrue),
         Argument::One => Arg::new(alloc, "one")
             .long("one")
-            .help("With --stdin: prints a line for each prefix, as git cat-file --batch-check does")
+            .help("With --stdin: wants one id of each prefix, as git cat-file --batch-check does")
             .action(ArgAction::SetTrue)
             .requires_arg("stdin")?
             .conflicts_with("prefix")?,
@@ -186,13 +197,6 @@ fn arg_of<'a>(alloc: Global, argument: Argument) -> Result<Arg<'a>, AllocError> 
             .help("The kind of ids [default: what the repository or the file has]")
             .value_parser(["sha1", "sha256"].as_slice()),
     })
-}
-
-// A prefix.
-fn prefix<'a>(alloc: Global) -> Arg<'a> {
-    Arg::new(alloc, "prefix")
-        .value_name("PREFIX")
-        .help("2 hex digits or more")
 }
 
 // The paths of files, one or more.

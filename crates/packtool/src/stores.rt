@@ -13,8 +13,10 @@ use crate::words::{beginning, lossy_text};
 use crate::{FAILED, FOUND, NOTHING};
 use clap::ArgMatches;
 use gix_hash::{Kind, Prefix};
-use object_store::{NamedId, names};
-use packtool_commands::{Answers, StoreError, find, find_each, locate, write_names};
+use object_store::{NamedId, Store, names};
+use packtool_commands::{
+    Answers, StoreError, find, find_each, locate, locate_each, name_each, prefixes_in, write_names,
+};
 use repositories::{ObjectsFolder, find_objects};
 use std::alloc::AllocError;
 use std::cell::Cell;
@@ -29,14 +31,17 @@ const MAX_TRIES: usize = 10;
 /// listed, it begins again over the store as it is then, unless something may have been written to
 /// standard output.
 ///
-/// With `--stdin`, which only `find` has, it does so for each chunk of lines, and returns the worst
-/// status.
+/// With `--stdin` it does so for each chunk of lines, and returns the worst status.
 pub fn run<'a>(
     rt: &HostRuntime,
     command: StoreCommand,
     matches: &ArgMatches<'a>,
 ) -> Result<u8, Failure<'a>> {
     let folder = objects_folder(rt, matches)?;
+    if matches!(command, StoreCommand::Names) {
+        // (also if no line comes that asks for a name)
+        read_least(matches, folder.kind)?;
+    }
     let mut reported = Vec::new(rt.alloc());
     if matches.get_flag("stdin") {
         run_over_input(rt, &folder, command, matches, &mut reported)
@@ -104,7 +109,7 @@ fn run_once<'a>(
     let mut out = buffered(rt, output)?;
     let ran = match lines {
         None => write_lines(rt, folder, command, matches, reported, &mut out),
-        Some(lines) => write_each(rt, folder, matches, lines, reported, &mut out),
+        Some(lines) => write_each(rt, folder, command, matches, lines, reported, &mut out),
     };
     if is_gone(&ran) && !is_written.get() {
         // The lines in the buffer are dropped, not written.
@@ -149,10 +154,11 @@ fn write_lines<'a, W: io::Write>(
     }
 }
 
-// Opens the store, and writes what each of the lines finds in it, for `find`.
+// Opens the store, and writes what each of the lines finds in it.
 fn write_each<'a, W: io::Write>(
     rt: &HostRuntime,
     folder: &ObjectsFolder,
+    command: StoreCommand,
     matches: &ArgMatches<'a>,
     lines: &[u8],
     reported: &mut Vec<String>,
@@ -167,8 +173,30 @@ fn write_each<'a, W: io::Write>(
         Answers::All
     };
     let store = FolderStore::open(rt, folder, loose_of(lines))?;
-    let ran = find_each(rt.alloc(), &store, lines, answers, out);
+    let ran = match command {
+        StoreCommand::Find => find_each(rt.alloc(), &store, lines, answers, out),
+        StoreCommand::Where => {
+            check_loose_files(rt, &store, lines)?;
+            locate_each(rt.alloc(), &store, lines, answers, out)
+        }
+        StoreCommand::Names => {
+            let least = read_least(matches, folder.kind)?;
+            name_each(rt.alloc(), &store, lines, least, out)
+        }
+    };
     status_of(rt, &store, ran, reported, out)
+}
+
+// Checks the files of the loose objects that the lines find in a store, for `where`.
+fn check_loose_files<'a>(
+    rt: &HostRuntime,
+    store: &FolderStore<HostRuntime>,
+    lines: &[u8],
+) -> Result<(), Failure<'a>> {
+    for prefix in &prefixes_in(rt.alloc(), store.object_hash(), lines)? {
+        store.check_loose_files(prefix)?;
+    }
+    Ok(())
 }
 
 // Writes the lines of `where`, and returns the status.
@@ -260,7 +288,7 @@ fn open_part<'a>(
     ensures kind { IfOk result (λ part. part.1.kind ≡ part.0.kind) }
 {
     let prefix = read_prefix(matches, folder.kind)?;
-    let loose = LooseIds::WithFirstByte(prefix.as_oid().first_byte());
+    let loose = LooseIds::WithFirstByte(prefix.first_byte());
     Ok((FolderStore::open(rt, folder, loose)?, prefix))
 }
 
@@ -371,7 +399,6 @@ fn read_prefix<'a>(matches: &ArgMatches<'a>, kind: Kind) -> Result<Prefix, Failu
     let text = matches.get_str("prefix").unwrap_or("");
     if let Ok(prefix) = Prefix::from_hex_in(kind, text)
         && prefix.hex_len() >= 2
-        && prefix.as_oid().kind() == kind
     {
         return Ok(prefix);
     }

@@ -138,7 +138,7 @@ impl<R: Files<File = File> + AllocGlobal + Clone + Drop> FolderStore<R> {
     /// ```
     pub fn check_loose_files(&self, prefix: &Prefix) -> Result<(), Error> {
         for folder in &self.loose.folders {
-            for id in folder.table.ids() {
+            for id in may_begin_with(&folder.table, prefix) {
                 if begins_with(id, prefix) {
                     self.check_loose_file(&folder.path, id)?;
                 }
@@ -209,6 +209,16 @@ fn skipped_alternates(rt: &impl AllocGlobal, folders: Folders) -> Result<Vec<Err
         errors.push(Error::from(error))?;
     }
     Ok(errors)
+}
+
+// The ids of a table among which are those that begin with a prefix: the ones with its first byte,
+// if it has one.
+fn may_begin_with<'a>(table: &'a LooseTable, prefix: &Prefix) -> &'a [ObjectId] {
+    if prefix.hex_len() < 2 {
+        table.ids()
+    } else {
+        table.with_first_byte(prefix.first_byte())
+    }
 }
 
 // Whether an id begins with a prefix.
