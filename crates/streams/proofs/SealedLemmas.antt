@@ -12,7 +12,7 @@ use Rattle.gix_hash.specs.ObjectId.{id_bytes}
 use Rattle.gix_hash.specs.declared.Kind.{Kind}
 use Rattle.gix_hash.specs.declared.Kind.TheVariants.{Sha1, Sha256}
 use Rattle.gix_hash.specs.declared.ObjectId.{ObjectId}
-use Rattle.streams.specs.Sealed.{HasEnding, IsEnding}
+use Rattle.streams.specs.Sealed.{AreAllBelow, HasEnding, IsEnding}
 use Rattle.streams.specs.declared.checking.Ending.{Ending}
 use Rattle.streams.specs.declared.checking.Ending.TheVariants.{Sealed, Unsealed}
 
@@ -70,41 +70,51 @@ sealed-last kind lens front byte other first second =
     let last : other ∷ [] ≡ byte ∷ [] = same.1 in
     cc
 
--- bytes of which as many are held back as a digest has, or all of fewer, are not sealed if those held back are no digest of the others
-pub unsealed : (kind : Kind) → HaveLength kind → (message tail : List ℕ) (total held : ℕ) → length message + held ≡ total
-    → held ≡ min (byte_len_of kind) total → length tail ≡ held → id_bytes (digest kind message) ≢ tail → ¬ EndsInDigest kind (message ++ tail)
-unsealed kind lens message tail total held counted is_held len differ is_sealed =
-    let full : length tail ≡ byte_len_of kind =
-    omega (arith, counted, is_held, len, length-append message tail, sealed-length kind lens (message ++ tail) is_sealed) in
-    differ (sym (sealed-end kind lens message tail full is_sealed))
+-- no digest of a kind has more than 32 bytes
+byte_len_of-most : (kind : Kind) → byte_len_of kind ≤ 32
+byte_len_of-most Sha1 = omega arith
+byte_len_of-most Sha256 = omega arith
 
--- all bytes are held back if those are fewer than a digest has
-all-held : (kind : Kind) (message last : List ℕ) (total held : ℕ) → length message + held ≡ total → held ≡ min (byte_len_of kind) total
-    → length last ≡ held → length last < byte_len_of kind → message ≡ []
-all-held kind message last total held counted is_held len fewer =
-    let none : length message ≡ 0 = omega (arith, counted, is_held, len, fewer) in
-    nil_from_length message none
+-- bytes of which as many are the last as a digest has, or all of fewer, are not sealed if those are no digest of the others
+unsealed : (kind : Kind) → HaveLength kind → (message last : List ℕ) → length last ≤ byte_len_of kind → AreAllBelow (byte_len_of kind) message last
+    → id_bytes (digest kind message) ≢ last → ¬ EndsInDigest kind (message ++ last)
+unsealed kind lens message last most all differ is_sealed =
+    let none : length last < byte_len_of kind → length message ≡ 0 = λ fewer. ap length (all fewer) in
+    let full : length last ≡ byte_len_of kind =
+    grind (arith, length-append message last, sealed-length kind lens (message ++ last) is_sealed) in
+    differ (sym (sealed-end kind lens message last full is_sealed))
 
--- how the bytes end whose last are held back
-pub ends_as : (kind : Kind) → HaveLength kind → (message last : List ℕ) (total held : ℕ) → length message + held ≡ total
-    → held ≡ min (byte_len_of kind) total → length last ≡ held → (id : ObjectId) → id ≡ digest kind message → (ending : Ending)
-    → IsEnding kind id last ending → HasEnding kind (message ++ last) ending
-ends_as kind lens message last total held counted is_held len id digest_is (Sealed found) is =
+-- how the bytes end whose last are these
+ends_as : (kind : Kind) → HaveLength kind → (message last : List ℕ) → length last ≤ byte_len_of kind → AreAllBelow (byte_len_of kind) message last
+    → (id : ObjectId) → id ≡ digest kind message → (ending : Ending) → IsEnding kind id last ending → HasEnding kind (message ++ last) ending
+ends_as kind lens message last most all id digest_is (Sealed found) is =
     (message, ap (λ (tail : List ℕ). message ++ tail) (sym is.1 ∙ ap id_bytes digest_is), is.0 ∙ digest_is)
-ends_as kind lens message last total held counted is_held len id digest_is (Unsealed other found) is = record {
+ends_as kind lens message last most all id digest_is (Unsealed other found) is = record {
   message = message;
   last = last;
   parts = refl;
-  all = all-held kind message last total held counted is_held len;
-  not_sealed = unsealed kind lens message last total held counted is_held len (λ same. is.1 (ap id_bytes digest_is ∙ same));
+  all = all;
+  not_sealed = unsealed kind lens message last most all (λ same. is.1 (ap id_bytes digest_is ∙ same));
   digest_is = is.0 ∙ digest_is;
   last_is = is.2;
 }
 
--- no digest of a kind has more than 32 bytes
-pub byte_len_of-most : (kind : Kind) → byte_len_of kind ≤ 32
-byte_len_of-most Sha1 = omega arith
-byte_len_of-most Sha256 = omega arith
+-- the same, where more bytes were held back: those before the last, as many as a digest has, belong to the message
+pub ends_after : (kind : Kind) → HaveLength kind → (message held more last : List ℕ) → held ≡ more ++ last → AreAllBelow 32 message held
+    → length more ≡ length held - byte_len_of kind → (id : ObjectId) → id ≡ digest kind (message ++ more) → (ending : Ending)
+    → IsEnding kind id last ending → HasEnding kind (message ++ held) ending
+ends_after kind lens message held more last parts all cut id digest_is ending is =
+    let most = byte_len_of-most kind in
+    let len : length held ≡ length more + length last = ap length parts ∙ length-append more last in
+    let none : AreAllBelow (byte_len_of kind) (message ++ more) last = λ fewer.
+    rw (all (omega arith)) (nil_from_length more (omega arith)) in
+    rw (parts, ← append_assoc) (ends_as kind lens (message ++ more) last (omega arith) none id digest_is ending is)
+
+-- all bytes are held back if those are fewer than the longest digest has
+pub all-held : (message last : List ℕ) (total held : ℕ) → length message + held ≡ total → held ≡ min 32 total → length last ≡ held
+    → AreAllBelow 32 message last
+all-held message last total held counted is_held len fewer =
+    nil_from_length message (omega (arith, counted, is_held, len, fewer))
 
 -- what is held back has as many bytes as it is said to
 pub length-held : (message buf : List ℕ) (held : ℕ) → held ≤ length buf → length (message ++ take held buf) ≡ length message + held

@@ -1,11 +1,12 @@
 -- Which bytes are sealed, and how bytes end.
-use Rattle.std.specs.Prelude.{◌≡◌, ◌≢◌, ◌<◌, ℕ, Option, Some, None, List, [], ◌++◌, length}
+use Rattle.std.specs.Prelude.{◌≡◌, ◌≢◌, ◌<◌, ◌⊎◌, ℕ, Option, Some, None, List, [], ◌++◌, length}
 use Rattle.gix_hash.specs.Digits.{digits_of}
-use Rattle.gix_hash.specs.Hashing.{digest, sealed, EndsInDigest}
+use Rattle.gix_hash.specs.Hashing.{digest, sealed, EndsInDigest, hasher_kind, WasFed}
 use Rattle.gix_hash.specs.Kind.{byte_len_of}
 use Rattle.gix_hash.specs.ObjectId.{id_bytes, id_digits}
 use Rattle.gix_hash.specs.declared.Kind.{Kind}
 use Rattle.gix_hash.specs.declared.ObjectId.{ObjectId}
+use Rattle.gix_hash.specs.declared.Hasher.{Hasher}
 use Rattle.streams.specs.declared.checking.Ending.{Ending}
 use Rattle.streams.specs.declared.checking.Ending.TheVariants.{Sealed, Unsealed}
 
@@ -34,3 +35,24 @@ pub record IsUnsealed (kind : Kind) (bytes : List ℕ) (id : ObjectId) (found : 
 abbrev pub HasEnding : Kind → List ℕ → Ending → Type 0
 HasEnding kind bytes (Sealed id) = (message : List ℕ) × (bytes ≡ sealed kind message) × (id ≡ digest kind message)
 HasEnding kind bytes (Unsealed id found) = IsUnsealed kind bytes id found
+
+-- how the bytes end, if they may end with a digest of either kind: with that of the first kind, or else with that of the second; with neither, as for the first
+abbrev pub HasEndingOfEither : Kind → Kind → List ℕ → Ending → Type 0
+HasEndingOfEither first second bytes (Sealed id) = HasEnding first bytes (Sealed id) ⊎ ((¬ EndsInDigest first bytes) × HasEnding second bytes (Sealed id))
+HasEndingOfEither first second bytes (Unsealed id found) = HasEnding first bytes (Unsealed id found) × (¬ EndsInDigest second bytes)
+
+-- the same, if there is a second kind
+abbrev pub HasEndingOf : Kind → Option Kind → List ℕ → Ending → Type 0
+HasEndingOf first None bytes ending = HasEnding first bytes ending
+HasEndingOf first (Some second) bytes ending = HasEndingOfEither first second bytes ending
+
+-- the hasher of that kind was fed the message, if there is one
+abbrev pub AreFed : Option Kind → Option Hasher → List ℕ → Type 0
+AreFed None None message = Unit {0}
+AreFed None (Some hasher) message = ⊥
+AreFed (Some kind) None message = ⊥
+AreFed (Some kind) (Some hasher) message = (hasher_kind hasher ≡ kind) × WasFed hasher message
+
+-- the last bytes are fewer than these only if no message is before them
+abbrev pub AreAllBelow : ℕ → List ℕ → List ℕ → Type 0
+AreAllBelow least message last = length last < least → message ≡ []

@@ -1,14 +1,15 @@
 //! Checking a stream of bytes that ends with the digest of all before it.
 
-ghost use Rattle.std.specs.Prelude.{◌≡◌, ◌↔◌, ◌≤◌, ℕ, List, None, false, true, length, OnOk, IfOk, IfErr, IsErrOf};
+ghost use Rattle.std.specs.Prelude.{◌≡◌, ◌↔◌, ◌≤◌, ◌++◌, ℕ, List, Option, None, false, true, length, OnOk, IfOk, IfErr, IsErrOf};
+ghost use Rattle.gix_hash.specs.Hashing.{hasher_kind, WasFed};
 ghost use Rattle.gix_hash.specs.Kind.{byte_len_of};
 ghost use Rattle.streams.specs.Source.{HasReadAll};
 ghost use Rattle.streams.specs.Pipe.{HashingFails};
-ghost use Rattle.streams.specs.Sealed.{HasEnding, IsEnding};
+ghost use Rattle.streams.specs.Sealed.{AreAllBelow, AreFed, HasEnding, HasEndingOf, HasEndingOfEither, IsEnding};
 
 use crate::{CHUNK_LEN, PipeError, Source, next_chunk};
 use gix_hash::hashing_laws::digests;
-use gix_hash::{Kind, ObjectId, hasher};
+use gix_hash::{Hasher, Kind, ObjectId, hasher};
 
 // The length of the longest digest, that of SHA-256.
 const MAX_DIGEST_LEN: usize = 32;
@@ -47,9 +48,6 @@ pub enum Ending {
 /// let ending = check_seal(&mut input, Kind::Sha1)?;
 /// println!(rt; "{}", matches!(ending, Ending::Sealed(_)))?;
 /// ```
-// The hasher gets all but the last bytes, as many as a digest has, which are held back at the start
-// of the buffer. Not inlined, so that the buffer is on the stack only while this runs.
-#[inline(never)]
 pub fn check_seal<R: Source>(input: &mut R, kind: Kind) -> Result<Ending, PipeError>
     requires { R.has_failed input.old ≡ false }
     ensures checked { IfOk result (λ ending. (bytes : List ℕ)
@@ -61,25 +59,108 @@ pub fn check_seal<R: Source>(input: &mut R, kind: Kind) -> Result<Ending, PipeEr
     ensures stopped { IfErr result (λ e. HashingFails e kind (R.remaining input.old)
         (R.remaining input.new) None None) }
 {
-    let digest_len = kind.len_in_bytes();
-    let mut hasher = hasher(kind);
+    check(input, kind, None)
+}
+
+/// Reads the source to its end, once, and checks whether its bytes end with the SHA-1 digest of all
+/// bytes before it, or else with the SHA-256 digest. If they end with neither, the result is that
+/// of [`check_seal`] for SHA-1.
+///
+/// The errors are those of [`check_seal`]. The source must not have failed before.
+///
+/// ```
+/// if let Ending::Sealed(id) = check_either(&mut input)? {
+///     println!(rt; "{id}, of the kind {}", id.kind())?;
+/// }
+/// ```
+pub fn check_either<R: Source>(input: &mut R) -> Result<Ending, PipeError>
+    requires { R.has_failed input.old ≡ false }
+    ensures checked { IfOk result (λ ending. (bytes : List ℕ)
+        × HasReadAll (R.remaining input.old) (R.remaining input.new) bytes
+        × HasEndingOfEither Kind.Sha1 Kind.Sha256 bytes ending) }
+    ensures reads { OnOk result (R.has_failed input.new ≡ false) }
+    ensures input { IsErrOf result PipeError.Input ↔ (R.has_failed input.new ≡ true) }
+    ensures output { ¬ (IsErrOf result PipeError.Output) }
+    ensures stopped { IfErr result (λ e. HashingFails e Kind.Sha1 (R.remaining input.old)
+        (R.remaining input.new) None None) }
+{
+    check(input, Kind::Sha1, Some(Kind::Sha256))
+}
+
+// Checks for a digest of the kind, and else for one of the other kind, if there is one. The hashers
+// get all but the last bytes, as many as the longest digest has, which are held back at the start
+// of the buffer. Not inlined, so that the buffer is on the stack only while this runs.
+#[inline(never)]
+fn check<R: Source>(input: &mut R, kind: Kind, other: Option<Kind>) -> Result<Ending, PipeError>
+    requires { R.has_failed input.old ≡ false }
+    ensures checked { IfOk result (λ ending. (bytes : List ℕ)
+        × HasReadAll (R.remaining input.old) (R.remaining input.new) bytes
+        × HasEndingOf kind other bytes ending) }
+    ensures reads { OnOk result (R.has_failed input.new ≡ false) }
+    ensures input { IsErrOf result PipeError.Input ↔ (R.has_failed input.new ≡ true) }
+    ensures output { ¬ (IsErrOf result PipeError.Output) }
+    ensures stopped { IfErr result (λ e. HashingFails e kind (R.remaining input.old)
+        (R.remaining input.new) None None) }
+{
+    let mut first = hasher(kind);
+    let mut second = other.map(|kind| hasher(kind));
     let mut total: u64 = 0;
     let mut buf = [0; BUFFER_LEN];
     let mut held = 0;
     'chunks: loop {
         let len = next_chunk(input, &mut total, &mut buf[held..held + CHUNK_LEN])?;
         if len == 0 {
-            let Ok(id) = hasher.try_finalize() else {
-                unreachable!();
-            };
-            digests(kind);
-            return Ok(compared(kind, id, &buf[..held]));
+            let last = &buf[..held];
+            let ending = ending_of(kind, first, last);
+            return Ok(or_else(ending, other, second, last));
         }
         let end = held + len;
-        let fed = end.saturating_sub(digest_len);
-        hasher.update(&buf[..fed]);
+        let fed = end.saturating_sub(MAX_DIGEST_LEN);
+        first.update(&buf[..fed]);
+        update(&mut second, &buf[..fed]);
         buf.copy_within(fed..end, 0);
         held = end - fed;
+    }
+}
+
+// Feeds a hasher, if there is one.
+fn update(hasher: &mut Option<Hasher>, bytes: &[u8])
+    ensures { (kind : Option Kind) (message : List ℕ) → AreFed kind hasher.old message
+        → AreFed kind hasher.new (message ++ bytes.now) }
+{
+    if let Some(hasher) = hasher {
+        hasher.update(bytes);
+    }
+}
+
+// How a message ends that has these last bytes, which are all if they are fewer than the longest
+// digest has. The hasher was fed those before them.
+fn ending_of(kind: Kind, mut hasher: Hasher, last: &[u8]) -> Ending
+    ensures { (message : List ℕ) → hasher_kind hasher ≡ kind → WasFed hasher message
+        → AreAllBelow MAX_DIGEST_LEN message last.now
+        → HasEnding kind (message ++ last.now) result }
+{
+    let (more, last) = last.split_at(last.len().saturating_sub(kind.len_in_bytes()));
+    hasher.update(more);
+    let Ok(digest) = hasher.try_finalize() else {
+        unreachable!();
+    };
+    digests(kind);
+    compared(kind, digest, last)
+}
+
+// The same if it does not end so, but may end with the digest of another kind.
+fn or_else(ending: Ending, other: Option<Kind>, hasher: Option<Hasher>, last: &[u8]) -> Ending
+    ensures { (kind : Kind) (message : List ℕ) → HasEnding kind (message ++ last.now) ending
+        → AreFed other hasher message → AreAllBelow MAX_DIGEST_LEN message last.now
+        → HasEndingOf kind other (message ++ last.now) result }
+{
+    match (ending, other, hasher) {
+        (Ending::Unsealed { .. }, Some(kind), Some(hasher)) => match ending_of(kind, hasher, last) {
+            Ending::Unsealed { .. } => ending,
+            sealed => sealed,
+        },
+        _ => ending,
     }
 }
 

@@ -6,7 +6,7 @@
 //! [`IntoSlice`] are a source and a sink over slices, and [`Plain`] is either over a reader or
 //! writer of `std`, such as a [`Retrying`]. A source is read in chunks ([`next_chunk`]), and ids
 //! are written as lines. A stream is hashed ([`hash_all`]), sealed with its digest ([`seal`]) or
-//! checked to be sealed ([`check_seal`]).
+//! checked to be sealed ([`check_seal`], [`check_either`]).
 #![tactic(auto)]
 
 mod checking;
@@ -22,7 +22,7 @@ mod retrying;
 mod sink;
 mod source;
 
-pub use checking::{Ending, check_seal};
+pub use checking::{Ending, check_either, check_seal};
 pub use chunks::next_chunk;
 pub use from_slice::FromSlice;
 pub use into_slice::IntoSlice;

@@ -1,18 +1,19 @@
 use Rattle.std.proofs.Common.{◌≡◌, ℕ, ◌+◌, ◌-◌, ◌^◌, List, ◌++◌, length, take, false}
 use Rattle.std.specs.Prelude.{min}
 use Rattle.gix_hash.specs.Hashing.{WasFed, hasher_kind}
-use Rattle.gix_hash.specs.Kind.{byte_len_of}
+use Rattle.streams.specs.Sealed.{AreFed}
 use Rattle.streams.specs.Source.{HasReadCounted}
-use Rattle.streams.proofs.checking.check_seal.Given as goal
+use Rattle.streams.proofs.checking.check.Given as goal
 
--- the hasher was fed what the source gave, but for as many last bytes as a digest has, which are held back
+-- the hashers were fed what the source gave, but for the last 32 bytes, which are held back
 abbrev pub invariant-chunks : goal.invariant-chunks
 invariant-chunks g l = (message : List ℕ) × record {
   counted : length message + l.held ≡ l.total;
-  held : l.held ≡ min (byte_len_of l.fn.kind) l.total;
+  held : l.held ≡ min 32 l.total;
   reads : g.R.Source.has_failed l.input ≡ false;
-  kind : hasher_kind l.hasher ≡ l.fn.kind;
-  fed : WasFed l.hasher message;
+  kind : hasher_kind l.first ≡ l.fn.kind;
+  fed : WasFed l.first message;
+  too : AreFed l.fn.other l.second message;
   given : HasReadCounted (g.R.Source.remaining l.fn.input) (g.R.Source.remaining l.input) (message ++ take l.held l.buf) l.total;
 }
 
