@@ -17,6 +17,11 @@ pub pending_byte : {F : Type 0} (Finds : List ℕ → F → Type 0) (prefixes : 
     → first_byte_of prefix.digits ≡ byte
 pending_byte Finds prefixes pending found at byte prefix are low is some = ap (λ (p : KindDigits). first_byte_of p.digits) is ∙ are.bytes at prefix byte low some
 
+-- the byte of one that was read, and is pending
+pub byte_read : (pending : List (Option ℕ)) (at byte : ℕ) (read : Option ℕ) → at < length pending → read ≡ get_or pending at read → read ≡ Some byte
+    → get_or pending at None ≡ Some byte
+byte_read pending at byte read low is some = get_or_default pending at None read low ∙ sym is ∙ some
+
 -- one more is found
 pub found_one : {F : Type 0} (Finds : List ℕ → F → Type 0) (prefixes : List KindDigits) (pending : List (Option ℕ)) (found : List F) (at : ℕ) (prefix : KindDigits) (one : F)
     → AreFoundOrPending Finds prefixes pending found → at < length prefixes → prefix ≡ get_or prefixes at prefix → Finds prefix.digits one

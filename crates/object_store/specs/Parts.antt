@@ -48,7 +48,7 @@ pub record CanLookUp (view : StoreView) (prefix : KindDigits) : Type 0 where
   pub enough : 2 ≤ length prefix.digits
   pub kind : prefix.kind ≡ view.kind
 
--- something was found for each prefix, in their order, and stands in a relation to its digits
+-- what was found for each prefix, in their order, has the relation to its digits
 pub record AreFoundOfEach {Found : Type 0} (Finds : List ℕ → Found → Type 0) (prefixes : List KindDigits) (found : List Found) : Type 0 where
   pub as_many : length found ≡ length prefixes
   pub each : (k : ℕ) (prefix : KindDigits) (one : Found) → k < length prefixes → Finds (slice_index_or prefixes k prefix).digits (slice_index_or found k one)
@@ -71,7 +71,7 @@ pub record AreLocations (view : StoreView) (digits : List ℕ) (locations : List
   pub all : (whole : List (List ℕ)) → (h : Holds view whole) → locations ≡ locations_of view.kind digits h.indexes view.loose
   pub sound : HaveLocations view digits
 
--- each of several prefixes is not looked up yet, and has this first byte; or something was found for it, which stands in the relation to its digits
+-- each of several prefixes is not looked up yet, and has this first byte; or what was found for it has the relation to its digits
 pub record AreFoundOrPending {Found : Type 0} (Finds : List ℕ → Found → Type 0) (prefixes : List KindDigits) (pending : List (Option ℕ)) (found : List Found) : Type 0 where
   pub pending_len : length pending ≡ length prefixes
   pub found_len : length found ≡ length prefixes

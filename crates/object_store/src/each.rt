@@ -33,7 +33,7 @@ pub(crate) trait LookUp<S: Store, A: Allocator + Copy> {
     ghost fails: { Self → StoreView → List ℕ → StoreError → Type 0 };
 
     // Takes the place of what is not found yet.
-    fn nothing(&self) -> Self::Found;
+    fn placeholder(&self) -> Self::Found;
 
     // Looks a prefix up.
     fn look_up(&self, part: &Part<'_, S, A>, prefix: &Prefix) -> Result<Self::Found, Error>
@@ -62,16 +62,24 @@ pub(crate) fn look_up_each<S: Store, A: Allocator + Copy, L: LookUp<S, A>>(
         (L.finds look_up.now (S.view store.now)) prefixes.now found.items) }
     ensures err { IfErr result (IsOfOne (L.fails look_up.now (S.view store.now)) prefixes.now) }
 {
-    let mut found = nothings(alloc, prefixes, look_up)?;
+    let mut found = placeholders(alloc, prefixes, look_up)?;
     let mut pending = first_bytes(alloc, prefixes)?;
     for at in 0..prefixes.len() {
-        look_up_part(alloc, store, prefixes, at, &mut pending, &mut found, look_up)?;
+        look_up_part(
+            alloc,
+            store,
+            prefixes,
+            at,
+            &mut pending,
+            &mut found,
+            look_up,
+        )?;
     }
     Ok(found)
 }
 
 // What takes the place of what is not found yet, for each prefix.
-fn nothings<S: Store, A: Allocator + Copy, L: LookUp<S, A>>(
+fn placeholders<S: Store, A: Allocator + Copy, L: LookUp<S, A>>(
     alloc: A,
     prefixes: &[Prefix],
     look_up: &L,
@@ -80,7 +88,7 @@ fn nothings<S: Store, A: Allocator + Copy, L: LookUp<S, A>>(
 {
     let mut found = Vec::with_capacity(alloc, prefixes.len())?;
     for _at in 0..prefixes.len() {
-        found.push(look_up.nothing())?;
+        found.push(look_up.placeholder())?;
     }
     Ok(found)
 }

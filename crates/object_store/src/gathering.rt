@@ -88,7 +88,7 @@ impl<S: Store, A: Allocator + Copy> LookUp<S, A> for Matching<A> {
 
     ghost fails = { λ _ view digits error. IsStoreFault view (first_byte_of digits) error };
 
-    fn nothing(&self) -> Vec<ObjectId, A> {
+    fn placeholder(&self) -> Vec<ObjectId, A> {
         Vec::new(self.alloc)
     }
 

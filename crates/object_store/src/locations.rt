@@ -107,7 +107,7 @@ impl<S: StorePaths, A: Allocator + Copy> LookUp<S, A> for Locating<'_, S, A> {
 
     ghost fails = { λ _ view digits error. IsLocationsFault view digits error };
 
-    fn nothing(&self) -> Vec<LocatedId<A>, A> {
+    fn placeholder(&self) -> Vec<LocatedId<A>, A> {
         Vec::new(self.alloc)
     }
 

@@ -109,7 +109,7 @@ impl<S: Store, A: Allocator + Copy> LookUp<S, A> for Abbreviating<A> {
 
     ghost fails = { λ _ view digits error. IsStoreFault view (first_byte_of digits) error };
 
-    fn nothing(&self) -> Abbreviation {
+    fn placeholder(&self) -> Abbreviation {
         Abbreviation::Missing
     }
 
@@ -144,7 +144,7 @@ fn name_only<S: Store, A: Allocator + Copy>(
 {
     Ok(match part.abbreviate(alloc, id, least)? {
         Some(name) => Abbreviation::Named(NamedId { id: *id, name }),
-        // It is there: of an id that was found this is not returned.
+        // Not for an id that the store has.
         None => Abbreviation::Missing,
     })
 }

@@ -1,12 +1,11 @@
-use Rattle.std.proofs.Common.{◌≡◌, ◌∙◌, ◌<◌, [], Some, None, ap, arith, get_or, sym, subst}
+use Rattle.std.proofs.Common.{◌≡◌, [], Some, None, ap, arith, get_or, sym, subst}
 use Rattle.std.specs.List.{All}
-use Rattle.std.proofs.lemmas.List.{get_or_default}
 use Rattle.std.proofs.lemmas.Result.{err_from_is_err_and}
 use Rattle.gix_hash.specs.Prefix.{KindDigits}
 use Rattle.object_store.specs.Parts.{CanLookUp}
 use Rattle.object_store.specs.Stores.{IsStoreFault}
 use Rattle.object_store.specs.Views.{PartView, StoreView}
-use Rattle.object_store.proofs.Pending.{one_fault}
+use Rattle.object_store.proofs.Pending.{byte_read, one_fault}
 use Rattle.object_store.proofs.each.look_up_part.Goals as goal
 use Rattle.object_store.proofs.each.look_up_part.Given.{Over}
 use Rattle.object_store.proofs.each.look_up_part.Goals.{In_ok-part}
@@ -18,8 +17,7 @@ returns-in_err-part-clause-err g c =
     let none : KindDigits = record { kind = view.kind; digits = [] } in
     let prefix = get_or c.args.prefixes.now c.args.at none in
     let some : get_or c.args.pending.now.items c.args.at None ≡ Some c.in-Some.byte =
-    get_or_default c.args.pending.now.items c.args.at None c.index.result.now (omega (arith, c.requires.in_range, c.requires.each.pending_len))
-    ∙ sym c.index.ensures ∙ c.in-Some.is in
+    byte_read c.args.pending.now.items c.args.at c.in-Some.byte c.index.result.now (omega (arith, c.requires.in_range, c.requires.each.pending_len)) c.index.ensures c.in-Some.is in
     let fault = subst (λ b. IsStoreFault view b c.in_err-part.field-0.0) (sym (c.requires.each.bytes c.args.at none c.in-Some.byte c.requires.in_range some)) c.in_err-part.ensures.err in
     rw (failed.1, failed.2)
     (one_fault (g.L.LookUp.fails c.args.look_up.now view) c.args.prefixes.now c.args.at none c.in_err-part.field-0.0 c.requires.in_range
