@@ -13,7 +13,6 @@ use Rattle.gix_hash.specs.Digits.{first_byte_of}
 use Rattle.gix_hash.specs.ObjectId.{id_digits}
 use Rattle.gix_hash.specs.declared.ObjectId.{ObjectId}
 use Rattle.id_lookup.proofs.Beginnings.{first_byte_of-begins}
-use Rattle.id_lookup.proofs.Spelled.{starts_with-BeginsWith}
 use Rattle.object_store.specs.Parts.{HavePassing}
 use Rattle.object_store.specs.Stores.{HaveAllLocations, HaveBuckets, HaveLocations, IsLocateFault, IsLocationsFault}
 use Rattle.object_store.specs.Views.{StoreView}
@@ -50,10 +49,6 @@ AppendsAtMost-item a b c line xs k d within before last =
           ∙ ap (λ (more : List ℕ). front ++ more) (append_assoc last.part last.rest after) ∙ sym (append_assoc front last.part (last.rest ++ after));
       written = Appends-trans a b c front last.part before last.written;
     }
-
--- digits with others after them have their first byte
-pub first_of_padded : (id digits rest : List ℕ) → id ≡ digits ++ rest → 2 ≤ length digits → first_byte_of id ≡ first_byte_of digits
-first_of_padded id digits rest is two = first_byte_of-begins id digits two ((starts_with-BeginsWith id digits).1 (rest, is))
 
 -- where the ids that were found have locations, all ids that begin with the digits have what their locations need
 pub all_locations : (view : StoreView) (digits : List ℕ) (ids : List ObjectId) → HavePassing view (λ id. starts_with nat_eq id digits) (map id_digits ids)

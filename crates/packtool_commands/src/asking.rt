@@ -80,8 +80,12 @@ pub fn find_each<S: Store, A: Allocator + Copy, W: Sink>(
     Ok(write_answers(kind, lines, &found, &form, out)?)
 }
 
-/// The prefixes among the lines of a text.
-pub(crate) fn prefixes_in<A: Allocator>(
+/// The prefixes of a kind among the lines of a text, in order: those that [`find_each`] looks up.
+///
+/// ```
+/// println!(rt; "{}", prefixes_in(rt.alloc(), Kind::Sha1, b"4b8\n4b9\n")?.len())?;
+/// ```
+pub fn prefixes_in<A: Allocator>(
     alloc: A,
     kind: Kind,
     lines: &[u8],

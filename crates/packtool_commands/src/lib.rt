@@ -21,7 +21,7 @@ mod naming;
 mod pairing;
 mod showing;
 
-pub use asking::{Answers, find_each};
+pub use asking::{Answers, find_each, prefixes_in};
 pub use ending::write_ending;
 pub use error::{FileError, StoreError};
 pub use escaping::write_named;

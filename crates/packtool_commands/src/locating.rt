@@ -62,7 +62,7 @@ pub fn locate<S: StorePaths, A: Allocator + Copy, W: Sink>(
         (lines_of_locations (S.pack_path store.now) (S.loose_paths store.now) (S.view store.now)
         h.indexes) (matches prefix.now.digits whole))) }
 {
-    let part = Part::read(alloc, store, prefix.as_oid().first_byte())?;
+    let part = Part::read(alloc, store, prefix.first_byte())?;
     let ids = part.lookup_prefix(alloc, prefix)?;
     for id in &ids {
         write_locations(alloc, store, &part, id, out)?;

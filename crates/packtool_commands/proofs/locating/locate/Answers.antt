@@ -7,7 +7,6 @@ use Rattle.std.proofs.lemmas.Result.{err_from_is_err_and}
 use Rattle.std.proofs.lemmas.List.Elements.{All-more}
 use Rattle.streams.specs.Writing.{AppendsAtMost}
 use Rattle.gix_hash.specs.ObjectId.{id_digits}
-use Rattle.gix_hash.specs.Oid.{oid_digits}
 use Rattle.gix_hash.specs.declared.ObjectId.{ObjectId}
 use Rattle.id_lookup.specs.Runs.{matches}
 use Rattle.id_lookup.proofs.Beginnings.{first_byte_of-begins}
@@ -17,7 +16,7 @@ use Rattle.object_store.specs.Views.{PartView, StoreView}
 use Rattle.streams.proofs.WritingLemmas.{OnErr-of}
 use Rattle.packtool_commands.specs.Locations.{lines_of_locations}
 use Rattle.packtool_commands.proofs.NamedLemmas.{Appends-item}
-use Rattle.packtool_commands.proofs.LocationLemmas.{AppendsAtMost-item, all_locations, first_of_padded, has_texts, locations_fault, same_lines}
+use Rattle.packtool_commands.proofs.LocationLemmas.{AppendsAtMost-item, all_locations, has_texts, locations_fault, same_lines}
 use Rattle.packtool_commands.proofs.locating.locate.Goals as goal
 
 pub returns-in_err-write_locations-clause-part : goal.returns-in_err-write_locations-clause-part
@@ -77,7 +76,7 @@ write_locations-requires-clause-byte g c =
     let begin : All (λ (id : ObjectId). IsTrue (starts_with nat_eq (id_digits id) digits)) c.deref-id-items.result.now =
     subst (All (λ (id : ObjectId). IsTrue (starts_with nat_eq (id_digits id) digits))) (sym c.deref-id-items.ensures.value) c.in_ok-ids.ensures.pass in
     first_byte_of-begins _ digits c.requires.enough (begin c.loop-id.id-index _ c.loop-id-test.true)
-    ∙ sym (ap (λ (p : PartView). p.byte) c.in_ok-part.ensures.part ∙ c.first_byte.ensures ∙ first_of_padded (oid_digits c.as_oid.result) digits _ c.as_oid.ensures.digits c.requires.enough)
+    ∙ sym (ap (λ (p : PartView). p.byte) c.in_ok-part.ensures.part ∙ c.first_byte.ensures)
 
 pub returns-clause-locations : goal.returns-clause-locations
 returns-clause-locations g c =
