@@ -4,7 +4,6 @@ ghost use Rattle.std.specs.Prelude.{◌≡◌, false};
 ghost use Rattle.streams.specs.Devices.{plain_failed};
 
 use crate::failure::{Failure, FileWhy};
-use crate::input::Sha256Checker;
 use crate::words::lossy_text;
 use gix_hash::Kind;
 use pack_index::{File as IndexFile, LazyError, LazyFile};
@@ -14,7 +13,7 @@ use packtool_commands::{
 };
 use std::fs::{File, metadata};
 use std::io::{self, Cursor, Read, Seek, SeekFrom};
-use streams::{Ending, PipeError, Plain, ReadAt, Retrying, check_seal};
+use streams::{Ending, PipeError, Plain, ReadAt, Retrying, check_either, check_seal};
 
 // How a pack index begins, of version 2 and later.
 const MAGIC: [u8; 4] = *b"\xfftOc";
@@ -124,7 +123,7 @@ fn write_verdict<'a, W: io::Write>(
 }
 
 // What is said of standard input. Its first bytes decide whether it is a pack index; of one no more
-// is read than its counts allow. Any other input is hashed as it is read.
+// is read than its counts allow.
 fn verdict_of_input<'a>(rt: &HostRuntime, kind: Option<Kind>) -> Result<Verdict, Failure<'a>> {
     let path = "-";
     let mut reader = Retrying::new(rt.reader());
@@ -132,7 +131,7 @@ fn verdict_of_input<'a>(rt: &HostRuntime, kind: Option<Kind>) -> Result<Verdict,
     read_more(rt, &mut reader, HEAD_LEN as u64, &mut bytes)?;
     if !is_index(&&bytes[..], path) {
         let mut input = Cursor::new(&bytes[..]).chain(reader);
-        return Ok(Verdict::Ends(ending_once(rt, &mut input, path, kind)?));
+        return Ok(Verdict::Ends(ending_of(rt, &mut input, path, kind)?));
     }
     let rest = most_index_len(&bytes).saturating_sub(HEAD_LEN as u64);
     read_more(rt, &mut reader, rest.saturating_add(1), &mut bytes)?;
@@ -239,54 +238,41 @@ fn index_kind<'a, R: io::Read>(
 }
 
 // How a file ends, for the kind, or with no kind for the one in which it is right, if there is one.
+// What ends with its SHA-1 is hashed once, and any other file is read again for its SHA-256.
 fn ending_in<'a, R: io::Read + Seek>(
     rt: &HostRuntime,
     reader: &mut R,
     path: &str,
     kind: Option<Kind>,
 ) -> Result<Ending, Failure<'a>> {
-    let ending = ending_of(rt, reader, path, kind.unwrap_or(Kind::Sha1))?;
+    let ending = ending_of(rt, reader, path, kind.or(Some(Kind::Sha1)))?;
     if kind.is_some() || is_sealed(&ending) {
         return Ok(ending);
     }
     if let Err(error) = reader.seek(SeekFrom::Start(0)) {
         return Err(unreadable(rt, path, error));
     }
-    let other = ending_of(rt, reader, path, Kind::Sha256)?;
+    let other = ending_of(rt, reader, path, Some(Kind::Sha256))?;
     Ok(if is_sealed(&other) { other } else { ending })
-}
-
-// The same of an input that is read only once.
-fn ending_once<'a, R: io::Read>(
-    rt: &HostRuntime,
-    reader: &mut R,
-    path: &str,
-    kind: Option<Kind>,
-) -> Result<Ending, Failure<'a>> {
-    if let Some(kind) = kind {
-        return ending_of(rt, reader, path, kind);
-    }
-    let mut both = Sha256Checker::new(reader);
-    let ending = ending_of(rt, &mut both, path, Kind::Sha1)?;
-    match both.sealed() {
-        Some(digest) if !is_sealed(&ending) => Ok(Ending::Sealed(digest)),
-        _ => Ok(ending),
-    }
 }
 
 fn is_sealed(ending: &Ending) -> bool {
     matches!(ending, Ending::Sealed(_))
 }
 
-// How the rest of a file ends.
+// How the rest of a file ends, for the kind, or with no kind for the one in which it is right.
 fn ending_of<'a, R: io::Read>(
     rt: &HostRuntime,
     reader: &mut R,
     path: &str,
-    kind: Kind,
+    kind: Option<Kind>,
 ) -> Result<Ending, Failure<'a>> {
     let mut input = Plain::new(reader);
-    match check_seal(&mut input, kind) {
+    let ending = match kind {
+        Some(kind) => check_seal(&mut input, kind),
+        None => check_either(&mut input),
+    };
+    match ending {
         Ok(ending) => Ok(ending),
         Err(PipeError::TooMuch) => Err(failure(rt, path, FileWhy::TooMuch)),
         Err(_) => Err(unread(rt, path, FileError::Input, &input)),

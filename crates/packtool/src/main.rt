@@ -8,7 +8,6 @@
 mod arguments;
 mod failure;
 mod files;
-mod input;
 mod lines;
 mod output;
 mod stores;
