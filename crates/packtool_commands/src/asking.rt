@@ -1,4 +1,4 @@
-//! The ids of a store that begin with each of many prefixes, which are the lines of a text.
+//! What is found in a store for each line of a text, and the ids that begin with each.
 
 ghost use Rattle.std.specs.Prelude.{◌≡◌, ◌≢◌, ◌++◌, ◌-◌, ◌<◌, ◌≤◌, ◌↔◌, ◌∷◌, ◌&&◌, ℕ, List, IfErr, IfOk, IsErrOf, OnErr, OnOk, Some, false, flat_map, length, option_copied, true};
 ghost use Rattle.std.specs.List.{after_first, before_first, position};
@@ -16,7 +16,7 @@ use object_store::{Store, lookup_prefixes};
 use std::alloc::{AllocError, Allocator};
 use streams::{Sink, WriteFailed, write_all, write_id};
 
-/// What [`find_each`] answers to a prefix.
+/// What [`find_each`] and [`locate_each`](crate::locate_each) print for a prefix.
 ///
 /// ```
 /// let all = find_each(rt.alloc(), &store, b"4b8\n4b9\n", Answers::All, &mut out)?;
@@ -29,17 +29,17 @@ pub enum Answers {
     One,
 }
 
-/// Writes an answer for each line of a text, in order: the ids of a store that begin with it.
-/// Returns whether each line found what is asked for: an id, or for [`Answers::One`] a single one.
+/// Writes for each line of a text, in order, the ids of a store that begin with it. Returns whether
+/// each line found what is asked for: an id, or for [`Answers::One`] a single one.
 ///
 /// A line ends in a line feed, which the last may lack. It is a prefix if it has 2 hex digits or
-/// more, in either letter case, at most as many as ids of the store's kind, and no other byte. The
-/// answer to any other line is the line and ` bad`, that to a prefix of no id the line and
-/// ` missing`, and for [`Answers::One`] that to a prefix of several ids the line and ` ambiguous`.
+/// more, in either letter case, at most as many as ids of the store's kind, and no other byte. For
+/// any other line the line and ` bad` are written, for a prefix of no id the line and ` missing`,
+/// and for [`Answers::One`] and a prefix of several ids the line and ` ambiguous`.
 ///
 /// Of each pack index the names with a first byte are read once. Nothing is written before all ids
 /// are found. [`StoreError::Output`] is returned if and only if a write fails, after a proper
-/// beginning of the answers. The sink must not have failed before.
+/// beginning of the text. The sink must not have failed before.
 ///
 /// ```
 /// if !find_each(rt.alloc(), &store, b"4b8\n4b9\n", Answers::One, &mut out)? {
@@ -271,7 +271,7 @@ pub(crate) struct Listed<E> {
 impl<X, A: Allocator, E: Entry<X>> Form<Vec<X, A>> for Listed<E> {
     ghost use Rattle.packtool_commands.specs.Asking.{found_text, is_found};
 
-    ghost text = { λ form line found. found_text (E.text form.entry) form.answers line found.items };
+    ghost text = { λ form line ids. found_text (E.text form.entry) form.answers line ids.items };
 
     ghost is_found = { λ form found. is_found form.answers found.items };
 

@@ -126,15 +126,14 @@ fn write_lines_at<S: StorePaths, W: Sink>(
     Ok(())
 }
 
-/// Writes what is located for each line of a text, in order. Returns whether each line found what is
-/// asked for: an id, or for [`Answers::One`] a single one.
+/// Writes for each line of a text, in order, the locations of the ids of a store that begin with it.
+/// Returns whether each line found what is asked for: an id, or for [`Answers::One`] a single one.
 ///
-/// For [`Answers::All`] the lines of [`locate`] are written for a prefix, each after the line as it
-/// is and a space; and for [`Answers::One`] those of the only id that begins with it, as they are. A
-/// backslash that marks an escaped path is the first byte, before the line. Which lines are prefixes
-/// is said at [`find_each`](crate::find_each). For any other line the line and ` bad` are written,
-/// for a prefix of no id the line and ` missing`, and for [`Answers::One`] and a prefix of several
-/// ids the line and ` ambiguous`.
+/// For a prefix the lines of [`locate`] are written: with [`Answers::All`] each after the line as it
+/// is and a space, and with [`Answers::One`] those of the only id, as they are. The backslash of an
+/// escaped path is the first byte, before the line. What a prefix is, and what is written for any
+/// other line, for a prefix of no id, and for [`Answers::One`] and a prefix of several ids, is said
+/// at [`find_each`](crate::find_each).
 ///
 /// Of each pack index the names with a first byte are read once. Nothing is written before all
 /// locations are found. [`StoreError::Output`] is returned if and only if a write fails, after a
@@ -185,7 +184,7 @@ struct LocationsEntry<'s, S> {
 impl<S: StorePaths, A: Allocator> Entry<LocatedId<A>> for LocationsEntry<'_, S> {
     ghost use Rattle.packtool_commands.specs.Locations.{located_lines};
 
-    ghost text = { λ entry line located. located_lines (S.pack_path entry.store.now) line located };
+    ghost text = { λ entry line id. located_lines (S.pack_path entry.store.now) line id };
 
     fn write_after<W: Sink>(
         &self,
@@ -253,8 +252,8 @@ fn write_loose<W: Sink>(
 ) -> Result<(), WriteFailed>
     requires { W.has_failed out.old ≡ false }
     ensures { Wrote W.taken W.has_failed out.old out.new result (flat_map
-        (λ path. location_line_after (option_copied line.entry) (id_digits id.now) (string_bytes path)
-        None) paths.now) }
+        (λ path. location_line_after (option_copied line.entry) (id_digits id.now)
+        (string_bytes path) None) paths.now) }
 {
     for path in paths {
         write_location_after(line, id, path.as_str(), None, out)?;

@@ -8,6 +8,8 @@
 #[cfg(test)]
 mod content;
 #[cfg(test)]
+mod each_line;
+#[cfg(test)]
 mod expecting;
 #[cfg(test)]
 mod file_lines;
