@@ -39,12 +39,6 @@ def chance(rng, share):
     return rng.random() < share
 
 
-def replace(folder):
-    """Puts a file in the place of an empty folder."""
-    folder.rmdir()
-    folder.write_bytes(b"")
-
-
 def config(rng):
     """The text of a config."""
     if chance(rng, 0.5):
@@ -222,7 +216,8 @@ class Oddity:
             listed = rng.choice(self.objects) / "info" / "alternates"
             if listed.is_file():
                 listed.unlink()
-                rng.choice([listed.mkdir, lambda: listed.symlink_to("none"), lambda: replace(listed.parent)])()
+                file = lambda: (listed.parent.rmdir(), listed.parent.write_bytes(b""))  # noqa: E731
+                rng.choice([listed.mkdir, lambda: listed.symlink_to("none"), file])()
         if not self.is_alone and chance(rng, 0.2):
             paths = [self.alternate(self.cwd, rng.choice(self.objects)) for _ in range(rng.choice([1, 2, 12]))]
             self.env["GIT_ALTERNATE_OBJECT_DIRECTORIES"] = ":".join(paths)

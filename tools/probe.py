@@ -40,11 +40,18 @@ ERROR = re.compile(r"^([^:\n]+):(\d+):\d+: error\[([^\]\n]+)\]", re.MULTILINE)
 STOPPED, RUNNING = threading.Event(), set()
 
 
+def end(child, number=signal.SIGTERM):
+    """Ends a command, if it still runs, and all that it started."""
+    with contextlib.suppress(ProcessLookupError):
+        if child.poll() is None:
+            os.killpg(child.pid, number)
+
+
 def stop(number, _):
     """Ends this program by a signal."""
     STOPPED.set()
     for child in list(RUNNING):
-        child.terminate()
+        end(child)
     sys.exit(128 + number)
 
 
@@ -78,14 +85,16 @@ def count(results):
 def started(words, limit=LIMIT, **options):
     """A command that runs in the environment CLEAN, or in that of the options. It and all that it started are killed
     after so many seconds, and end when the block is left."""
-    words = ["timeout", "-s", "KILL", str(limit), *words]
-    with subprocess.Popen(words, **{"env": CLEAN, "stdout": subprocess.PIPE, **options}) as child:
+    with subprocess.Popen(words, **{"env": CLEAN, "stdout": subprocess.PIPE, "start_new_session": True, **options}) as child:
+        timer = threading.Timer(limit, end, (child, signal.SIGKILL))
+        timer.start()
         RUNNING.add(child)
         try:
             yield child
         finally:
+            timer.cancel()
             RUNNING.remove(child)
-            child.terminate()
+            end(child)
 
 
 def ran(*words, cwd=None, env=None, given=b"", limits=(), seconds=LIMIT, stderr=subprocess.PIPE):
