@@ -3,9 +3,8 @@
 
 ghost use Rattle.std.specs.Prelude.{◌≡◌, ◌↔◌, ◌≤◌, ℕ, IfSome, IsSome, length, map, slice_range};
 ghost use Rattle.std.specs.List.Sorted.{IsPermutation};
-ghost use Rattle.gix_hash.specs.ObjectId.{id_digits};
-ghost use Rattle.id_lookup.specs.FoundRun.{IsRun};
-ghost use Rattle.id_lookup.specs.Sorted.{IsSortedIds, least_hex_len};
+ghost use Rattle.gix_hash.specs.Ids.{id_digits};
+ghost use Rattle.id_lookup.specs.Runs.{IsRun, IsSortedIds, least_hex_len};
 ghost use Rattle.callers.specs.declared.branches.Branch.{Branch};
 
 use gix_hash::{ObjectId, Prefix, oid};
@@ -21,7 +20,7 @@ pub struct Branch<'a> {
 }
 
 impl Id for Branch<'_> {
-    ghost use Rattle.gix_hash.specs.ObjectId.{id_digits, id_kind};
+    ghost use Rattle.gix_hash.specs.Ids.{id_digits, id_kind};
     ghost use Rattle.callers.specs.declared.branches.Branch.{Branch};
 
     ghost kind = { λ b. id_kind b.id };

@@ -3,9 +3,8 @@
 ghost use Rattle.std.specs.Prelude.{◌≡◌, ◌↔◌, ◌∷◌, ◌++◌, [], Any, IfErr, IfOk, IsOk, IsTrue, MatchOption, OnOk, codes, string_bytes};
 ghost use Rattle.std.specs.Io.KnownBytes.{Appends};
 ghost use Rattle.gix_hash.specs.Digits.{first_byte_of, hex_letter, spelling};
-ghost use Rattle.gix_hash.specs.Kind.{hex_len_of, IsNameOf, IsNoName};
-ghost use Rattle.gix_hash.specs.ObjectId.{id_digits};
-ghost use Rattle.gix_hash.specs.Oid.{oid_digits};
+ghost use Rattle.gix_hash.specs.Kinds.{hex_len_of, IsNameOf, IsNoName};
+ghost use Rattle.gix_hash.specs.Ids.{id_digits, oid_digits};
 ghost use Rattle.gix_hash.specs.declared.Kind.{Kind};
 
 use gix_hash::{Kind, ObjectId, oid, verify};

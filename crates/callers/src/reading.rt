@@ -4,13 +4,10 @@ ghost use Rattle.std.specs.Prelude.{◌≡◌, ◌≤◌, ◌<◌, ◌↔◌, Is
 ghost use Rattle.std.specs.Result.{IsOkAnd};
 ghost use Rattle.std.specs.Str.{str_to_ascii_lowercase};
 ghost use Rattle.std.specs.declared.cmp.Ordering.{Ordering};
-ghost use Rattle.gix_hash.specs.Digits.{digits_of, hex_letter, spelling};
-ghost use Rattle.gix_hash.specs.IdReading.{whole_of, IsFullReading, IsFullRefusal};
-ghost use Rattle.gix_hash.specs.Kind.{hex_len_of, is_digest_len, kind_of_byte_len};
-ghost use Rattle.gix_hash.specs.ObjectId.{id_digits, id_kind};
-ghost use Rattle.gix_hash.specs.Oid.{oid_digits, oid_kind};
-ghost use Rattle.gix_hash.specs.Prefix.{place};
-ghost use Rattle.gix_hash.specs.PrefixReading.{prefix_read};
+ghost use Rattle.gix_hash.specs.Digits.{digits_of, hex_letter, is_digest_len, place, spelling};
+ghost use Rattle.gix_hash.specs.Reading.{IsFullReading, IsFullRefusal, prefix_read, whole_of};
+ghost use Rattle.gix_hash.specs.Kinds.{hex_len_of, kind_of_byte_len};
+ghost use Rattle.gix_hash.specs.Ids.{id_digits, id_kind, oid_digits, oid_kind};
 
 use gix_hash::{Alphabet, ObjectId, Prefix, decode, laws, oid};
 

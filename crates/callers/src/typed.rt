@@ -2,9 +2,9 @@
 
 ghost use Rattle.std.specs.Prelude.{◌≡◌, IfErr, IfOk, Err, Ok, map};
 ghost use Rattle.gix_hash.specs.Digits.{hex_letter};
-ghost use Rattle.gix_hash.specs.ObjectId.{id_digits};
-ghost use Rattle.gix_hash.specs.Prefix.{KindDigits};
-ghost use Rattle.gix_hash.specs.PrefixReading.{prefix_read_in};
+ghost use Rattle.gix_hash.specs.Ids.{id_digits};
+ghost use Rattle.gix_hash.specs.Prefixes.{KindDigits};
+ghost use Rattle.gix_hash.specs.Reading.{prefix_read_in};
 ghost use Rattle.id_lookup.specs.Runs.{matches};
 
 use gix_hash::prefix::from_hex::Error;

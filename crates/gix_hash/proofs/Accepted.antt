@@ -3,8 +3,7 @@ use Rattle.std.proofs.Common.{◌∙◌, ℕ, List, [], ◌∷◌, ◌++◌, Opt
 use Rattle.std.proofs.KnownBytes.{Appends-nil, Appends-trans}
 use Rattle.std.proofs.lemmas.List.{append-nil}
 use Rattle.std.proofs.lemmas.List.Concat.{flat_map-cons}
-use Rattle.gix_hash.specs.HashingWriter.{WritesAndFeeds, WriterCall, accepted_by, accepted, WriterStep}
-use Rattle.gix_hash.specs.Streams.{Reaches}
+use Rattle.gix_hash.specs.Hashing.{Reaches, WriterCall, WriterStep, WritesAndFeeds, accepted, accepted_by}
 use Rattle.gix_hash.specs.declared.io.write.Write.{Write}
 
 module _ {T : Type 0} (contents : T → Option (List ℕ)) where

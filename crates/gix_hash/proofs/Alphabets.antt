@@ -3,7 +3,7 @@ use Rattle.std.proofs.Common.{ℕ, ◌<◌, arith}
 use Rattle.std.proofs.lemmas.Bool.Decides.{nat_tests}
 use Rattle.gix_hash.specs.declared.alphabet.Alphabet.{Alphabet}
 use Rattle.gix_hash.specs.declared.alphabet.Alphabet.TheVariants.{Hex, Reverse}
-use Rattle.gix_hash.specs.Alphabet.{letter_of}
+use Rattle.gix_hash.specs.Reading.{letter_of}
 
 -- letters are ASCII
 pub letter_of-ascii : (alphabet : Alphabet) (d : ℕ) → d < 16 → letter_of alphabet d < 128

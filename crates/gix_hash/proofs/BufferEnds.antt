@@ -1,7 +1,7 @@
 -- How a buffer ends that a text borrows from. Assumes `Logic`.
 use Rattle.std.proofs.Common.{◌≡◌, List, [], ◌∷◌, ℕ, MutBor, refl}
 use Rattle.std.specs.Prelude.{⊤}
-use Rattle.gix_hash.specs.LentText.{EndsAs}
+use Rattle.gix_hash.specs.Loans.{EndsAs}
 use mathlib.Core.Option.{none}
 use seplogic.Ra.Ura.{Ura}
 use base.Stored.{coded_list}

@@ -2,7 +2,7 @@
 use Rattle.std.proofs.Common.{◌≡◌, ℕ, zero, suc, ◌+◌, ◌-◌, ◌*◌, ◌/◌, ◌%◌, ◌<◌, ◌≤◌, min, [], ◌∷◌, ◌++◌, length, take, replicate, get_or, refl, arith, length-append}
 use Rattle.std.proofs.lemmas.List.{length-replicate, take_more}
 use Rattle.std.proofs.lemmas.Grind.{common_steps}
-use Rattle.gix_hash.specs.Streams.{chunks, last_chunk}
+use Rattle.gix_hash.specs.Hashing.{chunks, last_chunk}
 
 length-last_chunk : (r : ℕ) → length (last_chunk r) ≡ min r 1
 unfolding last_chunk

@@ -4,8 +4,7 @@ use Rattle.std.specs.List.{common_prefix_len}
 use Rattle.std.proofs.lemmas.Bool.Decides.{nat_tests}
 use Rattle.std.proofs.lemmas.List.{length-take-le}
 use Rattle.std.proofs.lemmas.List.Sums.{common_prefix_len-le}
-use Rattle.gix_hash.specs.Prefix.{BeginsWith}
-use Rattle.gix_hash.specs.CommonDigits.{IsCommonLen}
+use Rattle.gix_hash.specs.Prefixes.{BeginsWith, IsCommonLen}
 
 abbrev common : List ℕ → List ℕ → ℕ
 common = common_prefix_len nat_eq

@@ -6,10 +6,9 @@ use Rattle.std.proofs.lemmas.List.Folds.{list_any-from_Any}
 use Rattle.std.proofs.lemmas.Map.Views.{Contains-from_any}
 use Rattle.std.specs.Cmp.Lexicographic.{pointwise, bytes_decides}
 use Rattle.std.proofs.lemmas.Bool.{and_parts, eq-eqb}
-use Rattle.gix_hash.specs.Kind.{number_of, kind_by_number}
-use Rattle.gix_hash.specs.ObjectId.{id_kind, id_digits, id_eq}
-use Rattle.gix_hash.specs.Oid.{oid_digits, oid_eq}
-use Rattle.gix_hash.specs.Prefix.{KindDigits, prefix_eq}
+use Rattle.gix_hash.specs.Kinds.{number_of, kind_by_number}
+use Rattle.gix_hash.specs.Ids.{id_digits, id_eq, id_kind, oid_digits, oid_eq}
+use Rattle.gix_hash.specs.Prefixes.{KindDigits, prefix_eq}
 use Rattle.gix_hash.specs.PrefixBytes.{packed, id_of, id_of-parts}
 use Rattle.gix_hash.specs.declared.borrowed.oid.{oid}
 use Rattle.gix_hash.specs.declared.kind.Kind.{Kind}

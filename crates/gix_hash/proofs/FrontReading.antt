@@ -2,11 +2,9 @@
 use Rattle.std.proofs.Common.{◌≡◌, ℕ, suc, ◌*◌, ◌<◌, Bool, true, false, ◌&&◌, List, [], ◌∷◌, ◌++◌, length, take, drop, get_or, slice_set, replicate, refl, sym, ap, ◌∙◌, arith, drop-cons, Option, Some, None, if◌then◌else◌}
 use Rattle.std.specs.Option.{option_map}
 use Rattle.std.proofs.lemmas.List.{drop_all, take_all, take-append-drop}
-use Rattle.id_digits.specs.Digits.{digits_of, hex_letter}
+use Rattle.id_digits.specs.Digits.{digit_below, digit_in, digits_of, digits_read, hex_letter, padded, put_digit}
 use Rattle.id_digits.proofs.Packing.{padded-bytes, padded-half}
 use Rattle.id_digits.proofs.ReadingFacts.{length-digits_read}
-use Rattle.gix_hash.specs.Prefix.{padded}
-use Rattle.gix_hash.specs.Reading.{digit_below, digit_in, digits_read, put_digit}
 use Rattle.gix_hash.proofs.Packing.{take-padded}
 
 -- the digits, from the same with zeros after them

@@ -7,8 +7,7 @@ use Rattle.std.proofs.lemmas.Bool.Decides.{nat_tests}
 use Rattle.hex.specs.Hex.{hex_digit_value, digit_or_error, decode_pairs, decode_sized, ◌>>=◌}
 use Rattle.hex.proofs.Pairs.{decode_sized-pairs}
 use Rattle.hex.specs.declared.error.FromHexError.{FromHexError}
-use Rattle.id_digits.specs.Digits.{digits_of, hex_letter, IsLetterOf}
-use Rattle.gix_hash.specs.Reading.{digit_in, digits_read, put_digit}
+use Rattle.id_digits.specs.Digits.{IsLetterOf, digit_in, digits_of, digits_read, hex_letter, put_digit}
 use Rattle.id_digits.proofs.ReadingFacts.{hex_alphabet, digit_in-is, digit_in-letter}
 
 -- the digit of a letter, as `hex` finds it, has that letter

@@ -8,14 +8,13 @@ use Rattle.sha2.specs.Sha256 as sha256
 use Rattle.id_digits.proofs.ByteDigits.{length-digits_of}
 use Rattle.id_digits.proofs.Spellings.{All-digits_of}
 use Rattle.id_digits.specs.Digits.{digits_of}
-use Rattle.gix_hash.specs.Kind.{byte_len_of}
-use Rattle.gix_hash.specs.ObjectId.{id_bytes, id_digits}
+use Rattle.gix_hash.specs.Kinds.{byte_len_of}
+use Rattle.gix_hash.specs.Ids.{AreIdDigits, HasDigits, id_bytes, id_digits}
 use Rattle.gix_hash.specs.declared.kind.Kind.{Kind}
 use Rattle.gix_hash.specs.declared.kind.Kind.TheVariants.{Sha1, Sha256}
 use Rattle.gix_hash.specs.declared.object_id.ObjectId.{ObjectId}
 use Rattle.gix_hash.specs.declared.object_id.ObjectId.TheVariants as ids
 use Rattle.gix_hash.specs.Hashing.{digest}
-use Rattle.gix_hash.specs.IdDigits.{AreIdDigits, HasDigits}
 
 -- digits taken two by two are those of bytes
 bytes_with : (n : ℕ) (digits : List ℕ) → length digits ≡ 2 * n → All (λ d. d < 16) digits

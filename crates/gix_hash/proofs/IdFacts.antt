@@ -1,9 +1,8 @@
 -- What the bytes of an id say of its digits.
 use Rattle.std.proofs.Common.{◌≡◌, ℕ, ◌<◌, List, length, sym, ap, ◌∙◌, subst, arith}
 use Rattle.std.specs.Prelude.{All}
-use Rattle.gix_hash.specs.Kind.{hex_len_of, byte_len_of}
-use Rattle.gix_hash.specs.ObjectId.{id_kind, id_bytes, id_digits}
-use Rattle.gix_hash.specs.Oid.{oid_kind, oid_bytes, oid_digits}
+use Rattle.gix_hash.specs.Kinds.{hex_len_of, byte_len_of}
+use Rattle.gix_hash.specs.Ids.{id_bytes, id_digits, id_kind, oid_bytes, oid_digits, oid_kind}
 use Rattle.gix_hash.specs.declared.borrowed.oid.{oid}
 use Rattle.gix_hash.specs.declared.object_id.ObjectId.{ObjectId}
 use Rattle.gix_hash.proofs.KindFacts.{hex_len_of-bytes, hex_len_of-kind}

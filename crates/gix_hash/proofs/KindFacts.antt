@@ -2,7 +2,8 @@
 use Rattle.std.proofs.Common.{◌≡◌, ℕ, ◌*◌, refl, arith}
 use Rattle.std.specs.Prelude.{IsTrue}
 use Rattle.std.proofs.lemmas.Bool.Decides.{nat_tests}
-use Rattle.gix_hash.specs.Kind.{hex_len_of, byte_len_of, is_digest_len, kind_of_byte_len}
+use Rattle.gix_hash.specs.Kinds.{hex_len_of, byte_len_of, kind_of_byte_len}
+use Rattle.id_digits.specs.Digits.{is_digest_len}
 use Rattle.gix_hash.specs.declared.kind.Kind.{Kind}
 use Rattle.gix_hash.specs.declared.kind.Kind.TheVariants.{Sha1, Sha256}
 

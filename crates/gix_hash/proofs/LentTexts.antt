@@ -4,7 +4,7 @@
 --     lends            it runs to `post`, if the tokens, what is owned at the end and the `ensures` give `post`
 use Rattle.std.proofs.Common.{◌≡◌, ℕ, ◌≤◌, List, [], ◌∷◌, ◌++◌, Bor, MutBor, length, refl, ap, w8}
 use Rattle.std.specs.Prelude.{IsAscii}
-use Rattle.gix_hash.specs.LentText.{EndsAs}
+use Rattle.gix_hash.specs.Loans.{EndsAs}
 use Rattle.gix_hash.proofs.BufferEnds.{ends}
 use mir.Syntax.{Ty, Lifetime, Callee, Fn, named, erased, imm, mut, ty_ref, ty_int, local, value_local, place, field, deref, copy, addr_of, aggregate, assign, call, seq, return}
 use mir.Val.{Val, vptr}

@@ -5,7 +5,7 @@ use Rattle.std.proofs.Math.Nat.{eq-or-lt_of_le}
 use Rattle.std.specs.List.{sum}
 use Rattle.std.proofs.lemmas.List.Sums.{sum_by-cons}
 use Rattle.std.proofs.lemmas.List.Elements.{All-nil, All-cons, All-head, All-tail}
-use Rattle.gix_hash.specs.Streams.{chunks, last_chunk, IsChunkLen, AreChunks}
+use Rattle.gix_hash.specs.Hashing.{chunks, last_chunk, IsChunkLen, AreChunks}
 
 abbrev IsFull : ℕ → Type 0
 IsFull len = len ≡ 65535

@@ -7,7 +7,8 @@ use Rattle.std.specs.Ordering.{is_eq}
 use Rattle.std.proofs.lemmas.Bool.{cases_lt}
 use Rattle.std.proofs.lemmas.Cmp.{nat_list_cmp_total}
 use Rattle.std.proofs.lemmas.List.{take_at, take-append-drop, take-append-le}
-use Rattle.gix_hash.specs.Prefix.{place, BeginsWith}
+use Rattle.id_digits.specs.Digits.{place}
+use Rattle.gix_hash.specs.Prefixes.{BeginsWith}
 
 -- if the place of a prefix is Equal, its digits are the first of the id
 pub first_from_place : (p c : List ℕ) → place p c ≡ Equal → p ≡ take (length p) c

@@ -2,7 +2,7 @@
 use Rattle.std.proofs.Common.{◌≡◌, ℕ, ◌+◌, ◌-◌, ◌*◌, ◌<◌, Bool, false, min, List, [], ◌∷◌, ◌++◌, length, refl}
 use Rattle.std.proofs.lemmas.Fn.{FoldsTo-push}
 use Rattle.std.proofs.lemmas.List.{replicate-append-replicate, map-append}
-use Rattle.gix_hash.specs.Streams.{Reaches, ProgressCall, IncBy, heard, all_false}
+use Rattle.gix_hash.specs.Hashing.{Reaches, ProgressCall, IncBy, heard, all_false}
 use Rattle.gix_hash.proofs.Chunks.{take-chunks}
 
 -- no call was made

@@ -5,14 +5,11 @@ use Rattle.std.specs.Char.{to_ascii_lowercase}
 use Rattle.std.proofs.lemmas.Bool.Decides.{nat_tests}
 use Rattle.std.proofs.lemmas.List.{length-map}
 use borrow.Author.Tests.{ltb-true}
-use Rattle.gix_hash.specs.Alphabet.{letter_of}
-use Rattle.id_digits.specs.Digits.{spelling}
-use Rattle.gix_hash.specs.IdReading.{full_read, whole_of, IsFullReading, IsFullRefusal}
-use Rattle.gix_hash.specs.Kind.{hex_len_of, kind_of_full_len, kind_of_hex_len, IsFullLen}
-use Rattle.gix_hash.specs.ObjectId.{id_kind, id_digits}
-use Rattle.gix_hash.specs.Prefix.{KindDigits, kind_digits}
-use Rattle.gix_hash.specs.PrefixReading.{prefix_read, prefix_read_in, IsPrefixReading, IsPrefixRefusal, IsReadingIn, IsRefusalIn}
-use Rattle.gix_hash.specs.Reading.{reading_of, digits_read}
+use Rattle.gix_hash.specs.Reading.{IsFullReading, IsFullRefusal, IsPrefixReading, IsPrefixRefusal, IsReadingIn, IsRefusalIn, full_read, letter_of, prefix_read, prefix_read_in, reading_of, whole_of}
+use Rattle.id_digits.specs.Digits.{digits_read, spelling}
+use Rattle.gix_hash.specs.Kinds.{hex_len_of, kind_of_full_len, kind_of_hex_len, IsFullLen}
+use Rattle.gix_hash.specs.Ids.{AreIdDigits, id_digits, id_kind}
+use Rattle.gix_hash.specs.Prefixes.{KindDigits, kind_digits}
 use Rattle.gix_hash.specs.declared.alphabet.Alphabet.{Alphabet}
 use Rattle.gix_hash.specs.declared.alphabet.Alphabet.TheVariants.{Hex, Reverse}
 use Rattle.gix_hash.specs.declared.decode.Error as decode
@@ -24,7 +21,6 @@ use Rattle.gix_hash.specs.declared.prefix.from_hex.Error as from_hex
 use Rattle.gix_hash.specs.declared.prefix.from_hex.Error.TheVariants.{TooShort, TooLong, Invalid}
 use Rattle.id_digits.proofs.ReverseLetters.{reverse_alphabet}
 use Rattle.id_digits.proofs.ReadingFacts.{IsAlphabet, hex_alphabet, digits_read-ReadsAs, ReadsAs-digits_read, IsUnreadable-digits_read, digits_read-IsUnreadable}
-use Rattle.gix_hash.specs.IdDigits.{AreIdDigits}
 use Rattle.gix_hash.proofs.SpellingLaws.{ReadsAs-lowered, lowercase_spelling}
 
 -- both alphabets are alphabets

@@ -8,13 +8,12 @@ use Rattle.std.specs.Char.{to_ascii_lowercase}
 use Rattle.std.proofs.lemmas.Bool.{agree_below_at}
 use Rattle.std.proofs.lemmas.Bool.Decides.{nat_tests}
 use Rattle.std.proofs.lemmas.List.Elements.{All-nil, All-cons, All-head, All-tail}
-use Rattle.gix_hash.specs.Alphabet.{letter_of}
+use Rattle.gix_hash.specs.Reading.{letter_of}
 use Rattle.id_digits.specs.Digits.{hex_letter, reverse_letter, spelling, ReadsAs}
 use Rattle.gix_hash.proofs.Equalities.{id_eq-parts, oid_eq-digits, prefix_eq-parts}
-use Rattle.gix_hash.specs.Kind.{hex_len_of, number_of}
-use Rattle.gix_hash.specs.ObjectId.{id_kind, id_digits, id_eq, id_cmp}
-use Rattle.gix_hash.specs.Oid.{oid_kind, oid_digits, oid_eq}
-use Rattle.gix_hash.specs.Prefix.{KindDigits, prefix_eq}
+use Rattle.gix_hash.specs.Kinds.{hex_len_of, number_of}
+use Rattle.gix_hash.specs.Ids.{id_cmp, id_digits, id_eq, id_kind, oid_digits, oid_eq, oid_kind}
+use Rattle.gix_hash.specs.Prefixes.{KindDigits, prefix_eq}
 use Rattle.gix_hash.specs.declared.alphabet.Alphabet.{Alphabet}
 use Rattle.gix_hash.specs.declared.alphabet.Alphabet.TheVariants.{Hex, Reverse}
 use Rattle.gix_hash.specs.declared.borrowed.oid.{oid}

@@ -3,8 +3,8 @@ use Rattle.std.proofs.Common.{◌++◌, ◌≡◌, ◌<◌, ℕ, ◌*◌, List, 
 use Rattle.std.specs.Prelude.{All, IsAscii}
 use Rattle.std.proofs.lemmas.List.{take_at, drop_at}
 use Rattle.id_digits.specs.Digits.{digits_of, spelling, hex_letter}
-use Rattle.gix_hash.specs.Kind.{hex_len_of}
-use Rattle.gix_hash.specs.Oid.{oid_digits, oid_kind}
+use Rattle.gix_hash.specs.Kinds.{hex_len_of}
+use Rattle.gix_hash.specs.Ids.{oid_digits, oid_kind}
 use Rattle.gix_hash.specs.declared.borrowed.oid.{oid}
 use Rattle.id_digits.proofs.ByteDigits.{length-digits_of}
 use Rattle.id_digits.proofs.Spellings.{IsAscii-hex_digits, length-spelling, take-spelling}

@@ -1,22 +1,9 @@
 -- The model: an id is a kind and a list of digits, and bytes are read two digits a byte. Then hashing.
 pub use Rattle.id_digits.specs.Digits
-pub use Rattle.id_digits.specs.Words
 pub mod Reading
-pub mod Kind
-pub mod Oid
-pub mod ObjectId
-pub mod Prefix
-pub mod PrefixReading
+pub mod Kinds
+pub mod Ids
+pub mod Prefixes
 pub mod PrefixBytes
-pub mod IdReading
-pub mod CutId
-pub mod WellKnown
-pub mod ByteLengths
-pub mod Loan
-pub mod LentText
-pub mod Alphabet
-pub mod CommonDigits
+pub mod Loans
 pub mod Hashing
-pub mod IdDigits
-pub mod Streams
-pub mod HashingWriter

@@ -5,11 +5,10 @@ use Rattle.std.specs.Hash as fed
 use Rattle.std.specs.Cmp.Lexicographic.{pointwise, bytes_decides}
 use Rattle.std.proofs.lemmas.Bool.{and_parts}
 use Rattle.std.proofs.lemmas.List.{length-replicate, length-take-le}
-use Rattle.id_digits.specs.Digits.{digits_of}
-use Rattle.gix_hash.specs.Kind.{hex_len_of, number_of, kind_by_number}
-use Rattle.gix_hash.specs.ObjectId.{id_kind, id_digits}
-use Rattle.gix_hash.specs.Prefix.{KindDigits, padded, prefix_eq}
-use Rattle.id_digits.specs.Words.{words_of}
+use Rattle.id_digits.specs.Digits.{digits_of, padded, words_of}
+use Rattle.gix_hash.specs.Kinds.{hex_len_of, number_of, kind_by_number}
+use Rattle.gix_hash.specs.Ids.{id_kind, id_digits}
+use Rattle.gix_hash.specs.Prefixes.{KindDigits, prefix_eq}
 use Rattle.gix_hash.specs.declared.kind.Kind.{Kind}
 use Rattle.gix_hash.specs.declared.kind.Kind.TheVariants as kinds
 use Rattle.gix_hash.specs.declared.object_id.ObjectId.{ObjectId}

@@ -3,12 +3,10 @@
 ghost use Rattle.std.specs.Prelude.{◌≡◌, ◌≤◌, ◌*◌, ◌++◌, Some, None, IsTrue, if◌then◌else◌, length, drop, replicate};
 ghost use Rattle.std.specs.Option.{ok_or, option_map};
 ghost use Rattle.std.specs.Result.{result_ok};
-ghost use Rattle.id_digits.specs.Digits.{digits_of, spelling, hex_letter, reverse_letter};
-ghost use Rattle.gix_hash.specs.Kind.{hex_len_of, is_digest_len};
-ghost use Rattle.gix_hash.specs.Prefix.{kind_digits, padded};
-ghost use Rattle.gix_hash.specs.PrefixReading.{prefix_read};
-ghost use Rattle.gix_hash.specs.Reading.{digits_read};
-ghost use Rattle.gix_hash.specs.Alphabet.{letter_of};
+ghost use Rattle.id_digits.specs.Digits.{digits_of, digits_read, hex_letter, is_digest_len, padded, reverse_letter, spelling};
+ghost use Rattle.gix_hash.specs.Kinds.{hex_len_of};
+ghost use Rattle.gix_hash.specs.Prefixes.{kind_digits};
+ghost use Rattle.gix_hash.specs.Reading.{letter_of, prefix_read};
 ghost use Rattle.gix_hash.specs.declared.decode.Error as decode;
 ghost use Rattle.gix_hash.specs.declared.prefix.from_hex.Error as from_hex;
 
@@ -35,8 +33,8 @@ pub enum Alphabet {
 }
 
 impl Alphabet {
-    ghost use Rattle.gix_hash.specs.IdReading.{full_read, result_digits, whole_of};
-    ghost use Rattle.gix_hash.specs.Oid.{oid_digits, oid_kind};
+    ghost use Rattle.gix_hash.specs.Reading.{full_read, result_digits, whole_of};
+    ghost use Rattle.gix_hash.specs.Ids.{oid_digits, oid_kind};
 
     /// Reads a prefix of 4 to 64 digits. Its kind is SHA-1 up to 40 digits, and SHA-256 above.
     ///

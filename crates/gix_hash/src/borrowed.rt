@@ -5,8 +5,8 @@ ghost use Rattle.std.proofs.Common.{rules};
 ghost use Rattle.std.specs.Cmp.{partial_order_from_own_ties};
 ghost use Rattle.std.specs.Cmp.Rules.{comparing};
 ghost use Rattle.std.specs.Ordering.{as_partial_cmp};
-ghost use Rattle.id_digits.specs.Digits.{first_byte_of, spelling, hex_letter};
-ghost use Rattle.gix_hash.specs.Kind.{is_digest_len, hex_len_of};
+ghost use Rattle.id_digits.specs.Digits.{first_byte_of, hex_letter, is_digest_len, spelling};
+ghost use Rattle.gix_hash.specs.Kinds.{hex_len_of};
 
 use crate::alphabet::Alphabet;
 use crate::ascii::ascii_text;
@@ -38,15 +38,12 @@ pub struct oid<'a> {
 }
 
 impl<'a> oid<'a> {
-    ghost use Rattle.gix_hash.specs.CutId.{cut_of, shown_digits};
-    ghost use Rattle.gix_hash.specs.ObjectId.{id_kind, id_digits};
-    ghost use Rattle.gix_hash.specs.Oid.{oid_bytes, oid_digits, oid_kind};
-    ghost use Rattle.gix_hash.specs.WellKnown.{null_digits, empty_blob_digits, empty_tree_digits};
+    ghost use Rattle.gix_hash.specs.Ids.{cut_of, empty_blob_digits, empty_tree_digits, id_digits, id_kind, null_digits, oid_bytes, oid_digits, oid_kind, shown_digits};
     ghost use Rattle.std.specs.Io.KnownBytes.{Appends};
     ghost use Rattle.std.specs.Borrow.{sem};
-    ghost use Rattle.gix_hash.specs.LentText.{EndsAs};
+    ghost use Rattle.gix_hash.specs.Loans.{EndsAs};
     ghost use Rattle.std.specs.List.{common_prefix_len};
-    ghost use Rattle.gix_hash.specs.CommonDigits.{IsCommonLen};
+    ghost use Rattle.gix_hash.specs.Prefixes.{IsCommonLen};
 
     /// A view of a digest. The caller must ensure that it has 20 or 32 bytes.
     pub fn from_bytes_unchecked(bytes: &'a [u8]) -> Self
@@ -276,7 +273,7 @@ impl<'a> oid<'a> {
 }
 
 impl PartialEq for oid<'_> {
-    ghost use Rattle.gix_hash.specs.Oid.{oid_eq};
+    ghost use Rattle.gix_hash.specs.Ids.{oid_eq};
 
     ghost eq = { oid_eq };
 
@@ -293,7 +290,7 @@ impl Eq for oid<'_> {
 }
 
 impl PartialOrd for oid<'_> {
-    ghost use Rattle.gix_hash.specs.Oid.{oid_cmp};
+    ghost use Rattle.gix_hash.specs.Ids.{oid_cmp};
 
     ghost partial_cmp = { as_partial_cmp oid_cmp };
 
@@ -306,7 +303,7 @@ impl PartialOrd for oid<'_> {
 }
 
 impl Ord for oid<'_> {
-    ghost use Rattle.gix_hash.specs.Oid.{oid_cmp};
+    ghost use Rattle.gix_hash.specs.Ids.{oid_cmp};
 
     ghost cmp = { oid_cmp };
 
@@ -326,7 +323,7 @@ impl Ord for oid<'_> {
 impl fmt::Display for oid<'_> {
     ghost use Rattle.std.specs.Prelude.{Some};
     ghost use Rattle.id_digits.specs.Digits.{spelling, hex_letter};
-    ghost use Rattle.gix_hash.specs.Oid.{oid_digits};
+    ghost use Rattle.gix_hash.specs.Ids.{oid_digits};
 
     ghost output = { λ id. Some (spelling hex_letter (oid_digits id)) };
 
@@ -350,7 +347,7 @@ impl fmt::Debug for oid<'_> {
 
 /// Feeds the bytes of the digest in one write, without a length.
 impl Hash for oid<'_> {
-    ghost use Rattle.gix_hash.specs.Oid.{oid_hash_input, same_oid_input};
+    ghost use Rattle.gix_hash.specs.Ids.{oid_hash_input, same_oid_input};
 
     ghost hash_input = { oid_hash_input };
 
@@ -364,8 +361,8 @@ impl Hash for oid<'_> {
 /// As [`oid::try_from_bytes`].
 impl<'a> TryFrom<&'a [u8]> for oid<'a> {
     ghost use Rattle.std.specs.Prelude.{◌≡◌, MatchResult};
-    ghost use Rattle.gix_hash.specs.Oid.{oid_bytes};
-    ghost use Rattle.gix_hash.specs.ByteLengths.{IsLengthRefusal};
+    ghost use Rattle.gix_hash.specs.Ids.{oid_bytes};
+    ghost use Rattle.gix_hash.specs.Kinds.{IsLengthRefusal};
 
     type Error = Error;
 
@@ -379,7 +376,7 @@ impl<'a> TryFrom<&'a [u8]> for oid<'a> {
 
 impl<'a> From<&'a [u8; 20]> for oid<'a> {
     ghost use Rattle.std.specs.Prelude.{◌≡◌};
-    ghost use Rattle.gix_hash.specs.Oid.{oid_bytes};
+    ghost use Rattle.gix_hash.specs.Ids.{oid_bytes};
 
     ghost from_gives = { λ bytes id. oid_bytes id ≡ bytes.now };
 
@@ -390,7 +387,7 @@ impl<'a> From<&'a [u8; 20]> for oid<'a> {
 
 impl<'a> From<&'a [u8; 32]> for oid<'a> {
     ghost use Rattle.std.specs.Prelude.{◌≡◌};
-    ghost use Rattle.gix_hash.specs.Oid.{oid_bytes};
+    ghost use Rattle.gix_hash.specs.Ids.{oid_bytes};
 
     ghost from_gives = { λ bytes id. oid_bytes id ≡ bytes.now };
 

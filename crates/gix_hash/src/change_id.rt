@@ -1,10 +1,9 @@
 //! Ids in the letters by which Jujutsu spells change ids.
 
 ghost use Rattle.std.specs.Prelude.{◌≡◌, ◌≤◌, ◌<◌, ◌↔◌, ◌++◌, All, IsTrue, length, drop};
-ghost use Rattle.gix_hash.specs.CutId.{asked_len, cut_kind, shown_digits, whole_digits};
+ghost use Rattle.gix_hash.specs.Ids.{asked_len, cut_kind, id_bytes, id_digits, id_kind, shown_digits, whole_digits};
 ghost use Rattle.id_digits.specs.Digits.{reverse_letter, spelling};
-ghost use Rattle.gix_hash.specs.Kind.{hex_len_of, byte_len_of};
-ghost use Rattle.gix_hash.specs.ObjectId.{id_bytes, id_digits, id_kind};
+ghost use Rattle.gix_hash.specs.Kinds.{hex_len_of, byte_len_of};
 
 use crate::alphabet::Alphabet;
 use crate::borrowed::oid;
@@ -40,8 +39,8 @@ impl Model for ChangeId {
 }
 
 impl ChangeId {
-    ghost use Rattle.gix_hash.specs.IdReading.{full_read, result_digits};
-    ghost use Rattle.gix_hash.specs.Oid.{oid_kind, oid_digits};
+    ghost use Rattle.gix_hash.specs.Reading.{full_read, result_digits};
+    ghost use Rattle.gix_hash.specs.Ids.{oid_kind, oid_digits};
 
     /// Reads 40 or 64 of the letters `z` to `k`, in any letter case, as an id of SHA-1 or SHA-256.
     ///
@@ -139,7 +138,7 @@ impl ChangeId {
 impl fmt::Display for ChangeId {
     ghost use Rattle.std.specs.Prelude.{Some};
     ghost use Rattle.id_digits.specs.Digits.{reverse_letter, spelling};
-    ghost use Rattle.gix_hash.specs.ObjectId.{id_digits};
+    ghost use Rattle.gix_hash.specs.Ids.{id_digits};
 
     ghost output = { λ change. Some (spelling reverse_letter (id_digits change)) };
 
@@ -154,7 +153,7 @@ impl fmt::Display for ChangeId {
 impl FromStr for ChangeId {
     ghost use Rattle.std.specs.Prelude.{◌≡◌};
     ghost use Rattle.id_digits.specs.Digits.{reverse_letter};
-    ghost use Rattle.gix_hash.specs.IdReading.{full_read, result_digits};
+    ghost use Rattle.gix_hash.specs.Reading.{full_read, result_digits};
 
     type Err = decode::Error;
 
@@ -177,8 +176,7 @@ impl From<ObjectId> for ChangeId {
 
 impl<'a> From<oid<'a>> for ChangeId {
     ghost use Rattle.std.specs.Prelude.{◌≡◌};
-    ghost use Rattle.gix_hash.specs.ObjectId.{id_kind, id_digits};
-    ghost use Rattle.gix_hash.specs.Oid.{oid_kind, oid_digits};
+    ghost use Rattle.gix_hash.specs.Ids.{id_digits, id_kind, oid_digits, oid_kind};
 
     ghost from_gives = { λ id change. (id_kind change ≡ oid_kind id)
         × (id_digits change ≡ oid_digits id) };
@@ -201,7 +199,7 @@ impl From<ChangeId> for ObjectId {
 /// All digits of the id.
 impl From<ChangeId> for Prefix {
     ghost use Rattle.std.specs.Prelude.{◌≡◌};
-    ghost use Rattle.gix_hash.specs.ObjectId.{id_kind, id_digits};
+    ghost use Rattle.gix_hash.specs.Ids.{id_kind, id_digits};
 
     ghost from_gives = { λ change prefix. prefix
         ≡ record { kind = id_kind change; digits = id_digits change } };

@@ -2,7 +2,7 @@
 
 ghost use Rattle.std.specs.Prelude.{◌≡◌, ◌≤◌, ◌↔◌, IsTrue, IsAscii, length};
 ghost use Rattle.id_digits.specs.Digits.{spelling, hex_letter};
-ghost use Rattle.gix_hash.specs.Alphabet.{letter_of};
+ghost use Rattle.gix_hash.specs.Reading.{letter_of};
 
 use crate::alphabet::Alphabet;
 use crate::ascii::ascii_text;
@@ -19,7 +19,7 @@ pub struct CutId<'a> {
 }
 
 impl<'a> CutId<'a> {
-    ghost use Rattle.gix_hash.specs.CutId.{cut_of, shown_digits};
+    ghost use Rattle.gix_hash.specs.Ids.{cut_of, shown_digits};
 
     // The first `hex_len` digits of an id.
     pub(crate) fn new(inner: oid<'a>, hex_len: usize) -> CutId<'a>
@@ -72,7 +72,7 @@ impl<'a> Model for HexDisplay<'a> {
 }
 
 impl<'a> HexDisplay<'a> {
-    ghost use Rattle.gix_hash.specs.CutId.{cut_of, shown_digits};
+    ghost use Rattle.gix_hash.specs.Ids.{cut_of, shown_digits};
 
     // A display of the first `hex_len` digits of an id.
     pub(crate) fn new(id: oid<'a>, hex_len: usize) -> HexDisplay<'a>
@@ -94,7 +94,7 @@ impl<'a> HexDisplay<'a> {
 impl fmt::Display for HexDisplay<'_> {
     ghost use Rattle.std.specs.Prelude.{Some};
     ghost use Rattle.id_digits.specs.Digits.{spelling, hex_letter};
-    ghost use Rattle.gix_hash.specs.CutId.{shown_digits};
+    ghost use Rattle.gix_hash.specs.Ids.{shown_digits};
 
     ghost output = { λ display. Some (spelling hex_letter (shown_digits display)) };
 
@@ -130,7 +130,7 @@ impl<'a> Model for ReverseHexDisplay<'a> {
 }
 
 impl<'a> ReverseHexDisplay<'a> {
-    ghost use Rattle.gix_hash.specs.CutId.{cut_of, shown_digits};
+    ghost use Rattle.gix_hash.specs.Ids.{cut_of, shown_digits};
     ghost use Rattle.id_digits.specs.Digits.{reverse_letter};
 
     /// The id for printing its first `hex_len` digits in the letters `z` to `k`, or all if it has
@@ -155,7 +155,7 @@ impl<'a> ReverseHexDisplay<'a> {
 impl fmt::Display for ReverseHexDisplay<'_> {
     ghost use Rattle.std.specs.Prelude.{Some};
     ghost use Rattle.id_digits.specs.Digits.{reverse_letter, spelling};
-    ghost use Rattle.gix_hash.specs.CutId.{shown_digits};
+    ghost use Rattle.gix_hash.specs.Ids.{shown_digits};
 
     ghost output = { λ display. Some (spelling reverse_letter (shown_digits display)) };
 

@@ -3,13 +3,9 @@
 
 ghost use Rattle.std.specs.Prelude.{◌≡◌, ◌↔◌, ◌<◌, ℕ, All, Bool, List, [], ◌∷◌, ◌++◌, map, length, codes};
 ghost use Rattle.std.specs.List.{concat};
-ghost use Rattle.gix_hash.specs.Hashing.{digest, WasFed};
-ghost use Rattle.gix_hash.specs.HashingWriter.{WritesAndFeeds, WriterCall, WriterStep, accepted};
-ghost use Rattle.gix_hash.specs.IdDigits.{AreIdDigits};
-ghost use Rattle.gix_hash.specs.Streams.{Reaches, AreChunks, chunks, all_false};
-ghost use Rattle.gix_hash.specs.Kind.{byte_len_of};
-ghost use Rattle.gix_hash.specs.ObjectId.{id_bytes, id_digits, id_kind};
-ghost use Rattle.gix_hash.specs.WellKnown.{empty_blob_digits, empty_tree_digits};
+ghost use Rattle.gix_hash.specs.Hashing.{AreChunks, Reaches, WasFed, WriterCall, WriterStep, WritesAndFeeds, accepted, all_false, chunks, digest};
+ghost use Rattle.gix_hash.specs.Ids.{AreIdDigits, empty_blob_digits, empty_tree_digits, id_bytes, id_digits, id_kind};
+ghost use Rattle.gix_hash.specs.Kinds.{byte_len_of};
 
 use crate::hashing;
 use crate::hashing::start::hasher;

@@ -6,7 +6,7 @@ ghost use Rattle.std.specs.Cmp.{partial_order_from_own_ties};
 ghost use Rattle.std.specs.Cmp.Rules.{comparing, hashing};
 ghost use Rattle.std.specs.Hash as fed;
 ghost use Rattle.std.specs.Ordering.{nat_cmp, on, as_partial_cmp};
-ghost use Rattle.gix_hash.specs.Kind.{number_of, hex_len_of, byte_len_of, kind_of_hex_len, name_of, IsNameOf, IsNoName};
+ghost use Rattle.gix_hash.specs.Kinds.{number_of, hex_len_of, byte_len_of, kind_of_hex_len, name_of, IsNameOf, IsNoName};
 
 use crate::borrowed::oid;
 use crate::object_id::ObjectId;
@@ -110,12 +110,11 @@ impl Kind {
     }
 }
 
-// The ids that Git names without an object at hand. The check computes their digits.
-#[tactic(auto, unfolding(crate::specs::Reading::digit_below, id_digits::specs::Digits::digits_of))]
+// The ids that Git names without an object at hand.
+#[tactic(auto, // The check computes their digits.
+unfolding(id_digits::specs::Digits::digit_below, id_digits::specs::Digits::digits_of))]
 impl Kind {
-    ghost use Rattle.gix_hash.specs.ObjectId.{id_kind, id_digits};
-    ghost use Rattle.gix_hash.specs.Oid.{oid_kind, oid_digits};
-    ghost use Rattle.gix_hash.specs.WellKnown.{null_digits, empty_blob_digits, empty_tree_digits};
+    ghost use Rattle.gix_hash.specs.Ids.{empty_blob_digits, empty_tree_digits, id_digits, id_kind, null_digits, oid_digits, oid_kind};
 
     /// The id whose digits are all zero.
     pub fn null(&self) -> ObjectId
@@ -239,7 +238,7 @@ impl Ord for Kind {
 /// Git's multi-pack-index and commit-graph. Any other number is the error.
 impl TryFrom<u8> for Kind {
     ghost use Rattle.std.specs.Prelude.{◌≡◌, MatchResult};
-    ghost use Rattle.gix_hash.specs.Kind.{number_of, IsNoNumber};
+    ghost use Rattle.gix_hash.specs.Kinds.{number_of, IsNoNumber};
 
     type Error = u8;
 

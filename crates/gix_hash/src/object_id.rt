@@ -35,19 +35,15 @@ pub enum ObjectId {
 impl ObjectId {
     ghost use Rattle.std.specs.Prelude.{◌↔◌, ◌++◌, ℕ, List, IsTrue, IsOk, IfErr, OnOk, IsAscii, drop};
     ghost use Rattle.std.specs.Borrow.{sem};
-    ghost use Rattle.gix_hash.specs.LentText.{EndsAs};
+    ghost use Rattle.gix_hash.specs.Loans.{EndsAs, LendsDigest};
     ghost use Rattle.std.specs.Io.KnownBytes.{Appends};
     ghost use Rattle.std.specs.List.{common_prefix_len};
     ghost use Rattle.std.specs.Prelude.{nat_eq};
-    ghost use Rattle.gix_hash.specs.CommonDigits.{IsCommonLen};
-    ghost use Rattle.id_digits.specs.Digits.{digits_of, first_byte_of, hex_letter, spelling};
-    ghost use Rattle.gix_hash.specs.CutId.{asked_len, cut_kind, shown_digits, whole_digits};
-    ghost use Rattle.gix_hash.specs.Loan.{LendsDigest};
-    ghost use Rattle.gix_hash.specs.WellKnown.{null_digits, empty_blob_digits, empty_tree_digits};
-    ghost use Rattle.gix_hash.specs.IdReading.{full_read, result_digits};
-    ghost use Rattle.gix_hash.specs.Kind.{byte_len_of, hex_len_of, is_digest_len, kind_of_byte_len};
-    ghost use Rattle.gix_hash.specs.ObjectId.{id_bytes, id_kind, id_digits};
-    ghost use Rattle.gix_hash.specs.Oid.{oid_digits, oid_kind};
+    ghost use Rattle.gix_hash.specs.Prefixes.{IsCommonLen};
+    ghost use Rattle.id_digits.specs.Digits.{digits_of, first_byte_of, hex_letter, is_digest_len, spelling};
+    ghost use Rattle.gix_hash.specs.Ids.{asked_len, cut_kind, empty_blob_digits, empty_tree_digits, id_bytes, id_digits, id_kind, null_digits, oid_digits, oid_kind, shown_digits, whole_digits};
+    ghost use Rattle.gix_hash.specs.Reading.{full_read, result_digits};
+    ghost use Rattle.gix_hash.specs.Kinds.{byte_len_of, hex_len_of, kind_of_byte_len};
 
     /// Reads 40 or 64 hex digits, in any letter case, as an id of SHA-1 or SHA-256.
     ///
@@ -325,7 +321,7 @@ const fn with_range(bytes: &[u8]) -> &[u8]
 impl fmt::Display for ObjectId {
     ghost use Rattle.std.specs.Prelude.{Some};
     ghost use Rattle.id_digits.specs.Digits.{spelling, hex_letter};
-    ghost use Rattle.gix_hash.specs.ObjectId.{id_digits};
+    ghost use Rattle.gix_hash.specs.Ids.{id_digits};
 
     ghost output = { λ id. Some (spelling hex_letter (id_digits id)) };
 
@@ -345,7 +341,7 @@ impl fmt::Debug for ObjectId {
 impl PartialEq for ObjectId {
     ghost use Rattle.std.proofs.Common.{rules};
     ghost use Rattle.std.specs.Cmp.Rules.{comparing};
-    ghost use Rattle.gix_hash.specs.ObjectId.{id_eq};
+    ghost use Rattle.gix_hash.specs.Ids.{id_eq};
 
     ghost eq = { id_eq };
 
@@ -368,7 +364,7 @@ impl PartialOrd for ObjectId {
     ghost use Rattle.std.specs.Cmp.{partial_order_from_own_ties};
     ghost use Rattle.std.specs.Cmp.Rules.{comparing};
     ghost use Rattle.std.specs.Ordering.{as_partial_cmp};
-    ghost use Rattle.gix_hash.specs.ObjectId.{id_cmp};
+    ghost use Rattle.gix_hash.specs.Ids.{id_cmp};
 
     ghost partial_cmp = { as_partial_cmp id_cmp };
 
@@ -384,7 +380,7 @@ impl PartialOrd for ObjectId {
 impl Ord for ObjectId {
     ghost use Rattle.std.proofs.Common.{rules};
     ghost use Rattle.std.specs.Cmp.Rules.{comparing};
-    ghost use Rattle.gix_hash.specs.ObjectId.{id_cmp};
+    ghost use Rattle.gix_hash.specs.Ids.{id_cmp};
 
     ghost cmp = { id_cmp };
 
@@ -403,7 +399,7 @@ impl Ord for ObjectId {
 
 /// Feeds the bytes of the digest in one write, without a length.
 impl Hash for ObjectId {
-    ghost use Rattle.gix_hash.specs.ObjectId.{id_hash_input, same_id_input};
+    ghost use Rattle.gix_hash.specs.Ids.{id_hash_input, same_id_input};
 
     ghost hash_input = { id_hash_input };
 
@@ -418,7 +414,7 @@ impl Hash for ObjectId {
 impl FromStr for ObjectId {
     ghost use Rattle.std.specs.Prelude.{◌≡◌};
     ghost use Rattle.id_digits.specs.Digits.{hex_letter};
-    ghost use Rattle.gix_hash.specs.IdReading.{full_read, result_digits};
+    ghost use Rattle.gix_hash.specs.Reading.{full_read, result_digits};
 
     type Err = decode::Error;
 
@@ -453,8 +449,7 @@ impl From<[u8; 32]> for ObjectId {
 
 impl<'a> From<oid<'a>> for ObjectId {
     ghost use Rattle.std.specs.Prelude.{◌≡◌};
-    ghost use Rattle.gix_hash.specs.ObjectId.{id_kind, id_digits};
-    ghost use Rattle.gix_hash.specs.Oid.{oid_kind, oid_digits};
+    ghost use Rattle.gix_hash.specs.Ids.{id_digits, id_kind, oid_digits, oid_kind};
 
     ghost from_gives = { λ id owned. (id_kind owned ≡ oid_kind id)
         × (id_digits owned ≡ oid_digits id) };
@@ -468,10 +463,9 @@ impl<'a> From<oid<'a>> for ObjectId {
 /// 32.
 impl<'a> TryFrom<&'a [u8]> for ObjectId {
     ghost use Rattle.std.specs.Prelude.{◌≡◌, MatchResult, length};
-    ghost use Rattle.gix_hash.specs.Kind.{kind_of_byte_len};
+    ghost use Rattle.gix_hash.specs.Kinds.{IsLengthRefusal, kind_of_byte_len};
     ghost use Rattle.id_digits.specs.Digits.{digits_of};
-    ghost use Rattle.gix_hash.specs.ObjectId.{id_kind, id_digits};
-    ghost use Rattle.gix_hash.specs.ByteLengths.{IsLengthRefusal};
+    ghost use Rattle.gix_hash.specs.Ids.{id_kind, id_digits};
 
     type Error = Error;
 

@@ -2,10 +2,9 @@
 
 ghost use Rattle.std.specs.Prelude.{◌≡◌, ◌≤◌, ◌<◌, length, take, IfOk, All};
 ghost use Rattle.std.specs.declared.cmp.Ordering.{Ordering};
-ghost use Rattle.id_digits.specs.Digits.{first_byte_of, hex_letter, reverse_letter};
-ghost use Rattle.gix_hash.specs.Kind.{hex_len_of};
-ghost use Rattle.gix_hash.specs.Prefix.{place, padded};
-ghost use Rattle.gix_hash.specs.PrefixReading.{prefix_read, prefix_read_in};
+ghost use Rattle.id_digits.specs.Digits.{first_byte_of, hex_letter, padded, place, reverse_letter};
+ghost use Rattle.gix_hash.specs.Kinds.{hex_len_of};
+ghost use Rattle.gix_hash.specs.Reading.{prefix_read, prefix_read_in};
 
 use crate::alphabet::Alphabet;
 use crate::borrowed::oid;
@@ -80,7 +79,7 @@ pub struct Prefix {
 }
 
 impl Model for Prefix {
-    ghost use Rattle.gix_hash.specs.Prefix.{KindDigits};
+    ghost use Rattle.gix_hash.specs.Prefixes.{KindDigits};
 
     ghost Value = { KindDigits };
 
@@ -96,7 +95,7 @@ impl Model for Prefix {
 }
 
 impl Prefix {
-    ghost use Rattle.gix_hash.specs.Oid.{oid_kind, oid_digits};
+    ghost use Rattle.gix_hash.specs.Ids.{oid_kind, oid_digits};
 
     /// The minimum number of digits for [`Prefix::new`] and [`Prefix::from_hex`].
     pub const MIN_HEX_LEN: usize = 4;
@@ -226,7 +225,7 @@ impl Prefix {
 
 /// All digits of the id.
 impl From<ObjectId> for Prefix {
-    ghost use Rattle.gix_hash.specs.ObjectId.{id_kind, id_digits};
+    ghost use Rattle.gix_hash.specs.Ids.{id_kind, id_digits};
 
     ghost from_gives = { λ id prefix. prefix
         ≡ record { kind = id_kind id; digits = id_digits id } };
@@ -240,7 +239,7 @@ impl From<ObjectId> for Prefix {
 impl<'a> TryFrom<&'a str> for Prefix {
     ghost use Rattle.std.specs.Prelude.{◌≡◌};
     ghost use Rattle.id_digits.specs.Digits.{hex_letter};
-    ghost use Rattle.gix_hash.specs.PrefixReading.{prefix_read};
+    ghost use Rattle.gix_hash.specs.Reading.{prefix_read};
 
     type Error = from_hex::Error;
 

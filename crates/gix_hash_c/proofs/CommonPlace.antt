@@ -6,11 +6,11 @@ use Rattle.std.specs.Ordering.{nat_cmp, ordering_then}
 use Rattle.std.specs.Cmp.Lexicographic.{slice_cmp}
 use Rattle.std.proofs.lemmas.Bool.Decides.{nat_tests}
 use Rattle.std.proofs.lemmas.List.{length-take-le, take-take}
-use Rattle.id_digits.specs.Digits.{digits_of}
+use Rattle.gix_hash.specs.Digits.{digits_of, place}
 use Rattle.id_digits.proofs.ByteDigits.{length-digits_of, take-digits_of}
 use Rattle.id_lookup.proofs.FirstByteOrder.{by_cmp}
-use Rattle.gix_hash.specs.Kind.{hex_len_of}
-use Rattle.gix_hash.specs.Prefix.{KindDigits, place}
+use Rattle.gix_hash.specs.Kinds.{hex_len_of}
+use Rattle.gix_hash.specs.Prefixes.{KindDigits}
 use Rattle.gix_hash_c.specs.Face.{place_number, prefix_in}
 
 abbrev common : List ℕ → List ℕ → ℕ

@@ -3,11 +3,10 @@ use Rattle.std.proofs.Common.{◌≡◌, ℕ, ◌≤◌, Bool, true, false, nat_
 use Rattle.std.specs.Prelude.{nat_le}
 use Rattle.std.specs.Option.{ok_or, option_map}
 use Rattle.std.proofs.lemmas.Bool.Decides.{nat_tests}
-use Rattle.id_digits.specs.Digits.{digits_of, hex_letter}
-use Rattle.gix_hash.specs.Kind.{hex_len_of, kind_of_hex_len}
-use Rattle.gix_hash.specs.Prefix.{KindDigits, kind_digits, padded}
-use Rattle.gix_hash.specs.PrefixReading.{prefix_read}
-use Rattle.gix_hash.specs.Reading.{digits_read}
+use Rattle.gix_hash.specs.Digits.{digits_of, digits_read, hex_letter, padded}
+use Rattle.gix_hash.specs.Kinds.{hex_len_of, kind_of_hex_len}
+use Rattle.gix_hash.specs.Prefixes.{KindDigits, kind_digits}
+use Rattle.gix_hash.specs.Reading.{prefix_read}
 use Rattle.gix_hash.specs.declared.kind.Kind.{Kind}
 use Rattle.gix_hash.specs.declared.kind.Kind.TheVariants.{Sha1, Sha256}
 use Rattle.gix_hash.specs.declared.prefix.from_hex.Error.TheVariants.{Invalid}

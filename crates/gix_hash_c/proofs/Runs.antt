@@ -1,13 +1,12 @@
 -- Runs of digits, whatever kind the prefix has that they are of.
 use Rattle.std.proofs.Common.{◌≡◌, ℕ, ◌≤◌, List, length, map, subst, arith}
 use Rattle.std.proofs.lemmas.List.{length-map}
-use Rattle.id_digits.specs.Digits.{digits_of}
-use Rattle.gix_hash.specs.Prefix.{KindDigits, kind_digits}
+use Rattle.gix_hash.specs.Digits.{digits_of}
+use Rattle.gix_hash.specs.Prefixes.{KindDigits, kind_digits}
 use Rattle.gix_hash.specs.declared.kind.Kind.{Kind}
-use Rattle.id_lookup.specs.FoundRun.{IsRun}
-use Rattle.id_lookup.specs.Sorted.{IsSortedIds}
+use Rattle.id_lookup.specs.Runs.{IsRun, IsSortedIds}
 use Rattle.id_lookup.specs.declared.search.Run as found
-use Rattle.gix_hash_c.specs.Found.{IsRunIfSorted, run_in}
+use Rattle.gix_hash_c.specs.LookUps.{IsRunIfSorted, run_in}
 use Rattle.gix_hash_c.specs.declared.look_up.Run.{Run}
 
 pub same_run : (prefix : KindDigits) (kind : Kind) (ids : List (List ℕ)) (run : found.Run) → IsRun prefix ids run → IsRun (kind_digits kind prefix.digits) ids run

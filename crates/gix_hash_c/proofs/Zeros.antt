@@ -1,7 +1,6 @@
 -- The digits of a digest in 32 bytes.
 use Rattle.std.proofs.Common.{◌≡◌, ℕ, ◌-◌, List, ◌++◌, length, replicate, sym, ap, ◌∙◌, arith, append-nil}
-use Rattle.id_digits.specs.Digits.{digits_of}
-use Rattle.id_digits.specs.Beginnings.{padded}
+use Rattle.gix_hash.specs.Digits.{digits_of, padded}
 use Rattle.id_digits.proofs.Packing.{digits_of-append, digits_of-zeros}
 use Rattle.id_digits.proofs.ByteDigits.{length-digits_of}
 

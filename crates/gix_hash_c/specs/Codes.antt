@@ -1,4 +1,4 @@
--- The numbers of the codes, as the header has them. `Packs` has those of the causes for which bytes are no pack index.
+-- The numbers of the codes, as the header has them. `LookUps` has those of the causes for which bytes are no pack index.
 use Rattle.std.specs.Prelude.{ℕ}
 
 abbrev pub OK : ℕ

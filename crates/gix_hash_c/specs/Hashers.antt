@@ -1,18 +1,30 @@
 -- What a hasher of C stands for, and what the functions on hashers return and leave.
-use Rattle.std.specs.Prelude.{◌≡◌, ℕ, List, [], ◌++◌, Option, Some, None, take}
+use Rattle.std.specs.Prelude.{[], ℕ, ◌++◌, ◌==◌, ◌∷◌, ◌≡◌, List, None, Option, Some, codes, decimal, if◌then◌else◌, length, take}
 use Rattle.sha1.specs.Sha1.{Holds}
-use Rattle.sha1.specs.declared.Sha1 as sha1
 use Rattle.sha2.specs.Hashers.{Holds256}
+use Rattle.sha1.specs.declared.Sha1 as sha1
 use Rattle.sha2.specs.declared.Sha256 as sha256
 use Rattle.gix_hash.specs.Hashing.{digest}
-use Rattle.gix_hash.specs.IdReading.{whole_of}
-use Rattle.gix_hash.specs.Kind.{number_of}
+use Rattle.gix_hash.specs.Kinds.{number_of}
+use Rattle.gix_hash.specs.Reading.{whole_of}
 use Rattle.gix_hash.specs.declared.kind.Kind.{Kind}
 use Rattle.gix_hash.specs.declared.kind.Kind.TheVariants.{Sha1, Sha256}
-use Rattle.gix_hash_c.specs.Codes.{BAD_KIND, OK}
+use Rattle.gix_hash_c.specs.Codes.{BAD_KIND, BAD_TYPE, OK}
 use Rattle.gix_hash_c.specs.Face.{HoldsId}
 use Rattle.gix_hash_c.specs.declared.hashers.Hasher.{Hasher}
 use Rattle.gix_hash_c.specs.declared.ids.Id.{Id}
+use Rattle.gix_hash_c.specs.declared.states.Sha1Fields.{Sha1Fields}
+use Rattle.gix_hash_c.specs.declared.states.Sha256Fields.{Sha256Fields}
+
+-- The states of the hash functions, by their fields.
+
+-- the state of SHA-1 with these fields
+abbrev pub sha1_of : Sha1Fields → sha1.Sha1
+sha1_of fields = record { h = fields.h; buffer = fields.buffer; total = fields.total }
+
+-- the state of SHA-256 with these fields
+abbrev pub sha256_of : Sha256Fields → sha256.Sha256
+sha256_of fields = record { core = record { h = fields.core.h; buffer = fields.core.buffer; total = fields.core.total } }
 
 -- the state of SHA-1 in a hasher
 abbrev pub sha1_in : Hasher → sha1.Sha1
@@ -48,3 +60,22 @@ abbrev pub FinishAnswer : Option Kind → Hasher → ℕ → Id → Id → Type 
 FinishAnswer None hasher code old new = (code ≡ BAD_KIND) × (new ≡ old)
 FinishAnswer (Some kind) hasher code old new =
     (code ≡ OK) × ((message : List ℕ) → WasFed kind hasher message → HoldsId (whole_of (digest kind message)) new)
+
+-- The ids of Git's objects.
+
+-- the name of a type of objects, by the number that it has in packs
+abbrev pub type_name : ℕ → Option (List ℕ)
+type_name n =
+    if n == 1 then Some (codes "commit") else if n == 2 then Some (codes "tree")
+    else if n == 3 then Some (codes "blob") else if n == 4 then Some (codes "tag") else None
+
+-- what the id of an object is the digest of: its type's name, a space, its length in decimal, a zero, and its bytes
+abbrev pub object_bytes : List ℕ → List ℕ → List ℕ
+object_bytes name bytes = name ++ 32 ∷ decimal (length bytes) ++ 0 ∷ bytes
+
+-- what is returned of an object's id, and left
+abbrev pub ObjectAnswer : Option Kind → Option (List ℕ) → List ℕ → ℕ → Id → Id → Type 0
+ObjectAnswer None name bytes code old new = (code ≡ BAD_KIND) × (new ≡ old)
+ObjectAnswer (Some kind) None bytes code old new = (code ≡ BAD_TYPE) × (new ≡ old)
+ObjectAnswer (Some kind) (Some name) bytes code old new =
+    (code ≡ OK) × HoldsId (whole_of (digest kind (object_bytes name bytes))) new

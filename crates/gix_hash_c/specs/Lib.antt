@@ -1,7 +1,4 @@
 pub mod Codes
 pub mod Face
-pub mod Found
+pub mod LookUps
 pub mod Hashers
-pub mod Objects
-pub mod Packs
-pub mod States

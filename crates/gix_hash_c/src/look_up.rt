@@ -2,11 +2,11 @@
 //! result is the run of the prefix.
 
 ghost use Rattle.std.specs.Prelude.{◌≤◌, IfSome, IsNone, length};
-ghost use Rattle.gix_hash.specs.Kind.{hex_len_of};
-ghost use Rattle.id_lookup.specs.Sorted.{IsFirstUnsorted, IsSortedIds};
+ghost use Rattle.gix_hash.specs.Kinds.{hex_len_of};
+ghost use Rattle.id_lookup.specs.Runs.{IsFirstUnsorted, IsSortedIds};
 ghost use Rattle.pack_index.specs.Format.{digests_in};
 ghost use Rattle.gix_hash_c.specs.Face.{kind_of_number, prefix_in};
-ghost use Rattle.gix_hash_c.specs.Found.{FindAnswer, IsRunIfSorted, SortedAnswer};
+ghost use Rattle.gix_hash_c.specs.LookUps.{FindAnswer, IsRunIfSorted, SortedAnswer};
 
 use crate::codes::{BAD_KIND, BAD_LENGTH, OK, PREFIX_TOO_LONG, UNSORTED, kind_of};
 use crate::prefixes::{Prefix, prefix_of};

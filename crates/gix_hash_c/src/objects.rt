@@ -3,7 +3,7 @@
 ghost use Rattle.std.specs.Prelude.{◌≡◌, MatchOption, Some, None, decimal};
 ghost use Rattle.gix_hash.specs.Hashing.{digest};
 ghost use Rattle.gix_hash_c.specs.Face.{kind_of_number};
-ghost use Rattle.gix_hash_c.specs.Objects.{ObjectAnswer, object_bytes, type_name};
+ghost use Rattle.gix_hash_c.specs.Hashers.{ObjectAnswer, object_bytes, type_name};
 
 use crate::codes::{BAD_KIND, BAD_TYPE, OK, kind_of};
 use crate::ids::{Id, to_c};

@@ -5,7 +5,7 @@
 //! way round: that they lie alike is proved.
 
 ghost use Rattle.std.specs.Prelude.{◌≡◌};
-ghost use Rattle.gix_hash_c.specs.States.{sha1_of, sha256_of};
+ghost use Rattle.gix_hash_c.specs.Hashers.{sha1_of, sha256_of};
 
 use sha1::Sha1;
 use sha2::Sha256;

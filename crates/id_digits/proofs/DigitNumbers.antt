@@ -5,8 +5,7 @@ use Rattle.std.proofs.Math.Nat.{pow-suc, mul-le-mul_right, add-mul, mul_assoc}
 use Rattle.std.proofs.lemmas.Nat.{pow-add, div-mul-add, mod-mul-add}
 use Rattle.std.proofs.lemmas.List.{drop_all, drop-replicate, length-take, get_or-drop}
 use Rattle.std.proofs.lemmas.List.Elements.{All-head, All-tail, All-drop}
-use Rattle.id_digits.specs.Digits.{digits_of}
-use Rattle.id_digits.specs.Words.{word}
+use Rattle.id_digits.specs.Digits.{digits_of, word}
 use Rattle.id_digits.proofs.ByteDigits.{length-digits_of}
 
 -- digits are below sixteen

@@ -6,9 +6,7 @@ use Rattle.std.specs.Cmp.Lexicographic.{slice_cmp}
 use Rattle.std.proofs.lemmas.Bool.Decides.{nat_tests}
 use Rattle.std.proofs.lemmas.List.{take_all, length-drop}
 use Rattle.std.proofs.lemmas.List.Elements.{All-tail}
-use Rattle.id_digits.specs.Digits.{digits_of}
-use Rattle.id_digits.specs.DigestLengths.{is_digest_len}
-use Rattle.id_digits.specs.Words.{word}
+use Rattle.id_digits.specs.Digits.{digits_of, is_digest_len, word}
 use Rattle.id_digits.proofs.DigitNumbers.{AreDigits, word-zero, word-cons, word_lt}
 use Rattle.id_digits.proofs.DigitOrder.{slice_cmp-digits_of}
 use Rattle.id_digits.proofs.NumberParts.{then_assoc, then_decided, cmp_parts}

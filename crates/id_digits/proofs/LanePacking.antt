@@ -6,7 +6,7 @@ use Rattle.std.proofs.lemmas.Simd.{pick_l_whole}
 use Rattle.std.specs.List.{list_all, range_with_len}
 use Rattle.std.specs.Simd.Lanes.{pick_l}
 use Rattle.id_digits.specs.Digits.{digits_of}
-use Rattle.id_digits.specs.LetterValues.{is_digit, packed}
+use Rattle.id_digits.specs.Letters.{is_digit, packed}
 
 -- the lanes of two vectors that were shuffled together, packed
 pub packed-lanes : (front back : List ℕ) → length front ≡ 16 → length back ≡ 16

@@ -8,10 +8,8 @@ use Rattle.std.specs.Prelude.{IsTrue}
 use Rattle.std.specs.List.{list_all}
 use borrow.Rule.Slice.PartMut.{post_of}
 use Rattle.std.specs.Simd.Lanes.{put_chunk}
-use Rattle.id_digits.specs.Digits.{digits_of, hex_letter}
-use Rattle.id_digits.specs.DigestLengths.{is_digest_len}
-use Rattle.id_digits.specs.LetterValues.{lane_of, value_of, values_of, is_digit, packed}
-use Rattle.id_digits.specs.Reading.{digit_in, digits_read, put_digit}
+use Rattle.id_digits.specs.Digits.{digit_in, digits_of, digits_read, hex_letter, is_digest_len, put_digit}
+use Rattle.id_digits.specs.Letters.{lane_of, value_of, values_of, is_digit, packed}
 use Rattle.id_digits.proofs.ReadingFacts.{digit_in-letter}
 use Rattle.id_digits.proofs.LanePacking.{length-packed, digits_of-packed, packed-take, packed-drop}
 

@@ -7,7 +7,7 @@ use Rattle.std.proofs.lemmas.Simd.{map-map, mask_l-mod, tops_compared}
 use Rattle.std.specs.List.{list_all}
 use Rattle.std.specs.Prelude.{nat_eq}
 use Rattle.std.specs.Simd.Lanes.{sel_l, mask_l, top, zip2, Each1}
-use Rattle.id_digits.specs.LetterValues.{is_digit}
+use Rattle.id_digits.specs.Letters.{is_digit}
 
 -- lanes chosen between two maps by a map of tests
 sel_l-map : (m : ℕ → Bool) (g h : ℕ → ℕ) (v : List ℕ) → sel_l (map m v) (map g v) (map h v) ≡ map (λ x. cond (m x) (g x) (h x)) v

@@ -9,12 +9,8 @@ use Rattle.std.specs.List.{list_all}
 use Rattle.std.specs.Option.{unwrap_or}
 use Rattle.std.specs.Cmp.Lexicographic.{slice_cmp, pointwise, bytes_decides}
 use Rattle.std.specs.declared.cmp.Ordering.{Ordering}
-use Rattle.id_digits.specs.DigestLengths.{is_digest_len}
-use Rattle.id_digits.specs.Digits.{digits_of, hex_letter}
-use Rattle.id_digits.specs.LetterValues.{value_of, values_of, is_digit, lane_of}
-use Rattle.id_digits.specs.Reading.{digit_in, digits_read}
-use Rattle.id_digits.specs.SortedLines.{is_line_len, line_values, may_follow, IsIdLine, AreSortedLines}
-use Rattle.id_digits.specs.Words.{word}
+use Rattle.id_digits.specs.Digits.{digit_in, digits_of, digits_read, hex_letter, is_digest_len, word}
+use Rattle.id_digits.specs.Letters.{AreSortedLines, IsIdLine, is_digit, is_line_len, lane_of, line_values, may_follow, value_of, values_of}
 use Rattle.id_digits.proofs.DigitNumbers.{AreDigits, word-zero, word-nil, word-cons, word_lt}
 use Rattle.id_digits.proofs.DigitOrder.{slice_cmp-digits_of}
 use Rattle.id_digits.proofs.LaneReading.{sixteen, tested, first_values, both_digits, digits_read-values}

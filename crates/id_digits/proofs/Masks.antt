@@ -3,7 +3,7 @@ use Rattle.std.proofs.Common.{◌≡◌, ℕ, ◌+◌, ◌-◌, ◌*◌, ◌/◌
 use Rattle.std.proofs.lemmas.Bool.{cases_lt}
 use Rattle.std.proofs.lemmas.Nat.Bits.{and_high_mask, ones_shl}
 use borrow.Author.Tests.{le-ltb, lt-ltb}
-use Rattle.id_digits.specs.Words.{word}
+use Rattle.id_digits.specs.Digits.{word}
 use Rattle.id_digits.proofs.DigitNumbers.{AreDigits, pow16, word_lt, word-cut}
 
 -- ones for the bits of the first d of 32 digits, from a shift that may take all out

@@ -3,8 +3,7 @@ use Rattle.std.proofs.Common.{◌≡◌, ℕ, zero, suc, ◌<◌, ◌≤◌, ◌
 use Rattle.std.specs.Char.{to_ascii_lowercase}
 use Rattle.std.proofs.lemmas.Bool.Decides.{nat_tests}
 use Rattle.std.proofs.lemmas.List.Elements.{length_all_zip}
-use Rattle.id_digits.specs.Digits.{hex_letter, IsLetterOf, ReadsAs, IsUnreadable}
-use Rattle.id_digits.specs.Reading.{digit_below, digit_in, digits_read, put_digit}
+use Rattle.id_digits.specs.Digits.{IsLetterOf, IsUnreadable, ReadsAs, digit_below, digit_in, digits_read, hex_letter, put_digit}
 
 -- an alphabet: sixteen distinct letters
 pub record IsAlphabet (letter : ℕ → ℕ) : Type 0 where

@@ -6,9 +6,8 @@ use Rattle.std.proofs.lemmas.Bool.Decides.{nat_tests}
 use Rattle.std.proofs.lemmas.List.{get_or_default}
 use Rattle.std.proofs.lemmas.List.Edits.{map_over_more}
 use Rattle.std.proofs.lemmas.List.Elements.{All-head, All-tail}
-use Rattle.id_digits.specs.ReverseLetters.{hex_of_reverse, reverse_of_hex}
-use Rattle.id_digits.specs.Digits.{hex_letter, reverse_letter, spelling}
-use Rattle.id_digits.specs.Reading.{digit_in, digits_read}
+use Rattle.id_digits.specs.Letters.{hex_of_reverse, reverse_of_hex}
+use Rattle.id_digits.specs.Digits.{digit_in, digits_read, hex_letter, reverse_letter, spelling}
 use Rattle.id_digits.proofs.ReadingFacts.{IsAlphabet, hex_alphabet, digit_in-is, digit_in-letter}
 
 -- the reverse letters are distinct

@@ -6,8 +6,7 @@ use Rattle.std.specs.Cmp.Lexicographic.{slice_cmp}
 use Rattle.std.proofs.lemmas.Bool.Decides.{nat_tests}
 use Rattle.std.proofs.lemmas.List.{drop-take, length-take-le, take-take}
 use Rattle.std.proofs.lemmas.List.Elements.{All-tail, All-drop, All-take}
-use Rattle.id_digits.specs.Words.{word}
-use Rattle.id_digits.specs.Beginnings.{place}
+use Rattle.id_digits.specs.Digits.{place, word}
 use Rattle.id_digits.proofs.NumberParts.{then_assoc, then_equal, cmp_parts}
 use Rattle.id_digits.proofs.DigitNumbers.{AreDigits, word-nil, word-cons, word_lt, word-split, word-take}
 

@@ -1,8 +1,7 @@
 //! Digits packed into bytes, with zeros after them.
 
 ghost use Rattle.std.specs.Prelude.{◌≡◌, ◌≤◌, ◌*◌, length, take, replicate};
-ghost use Rattle.id_digits.specs.Beginnings.{padded};
-ghost use Rattle.id_digits.specs.Digits.{digits_of};
+ghost use Rattle.id_digits.specs.Digits.{digits_of, padded};
 
 /// Copies the first `hex_len` digits of `front` into zeros: whole bytes, and at an odd number the
 /// high half of one more.

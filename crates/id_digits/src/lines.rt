@@ -3,9 +3,8 @@
 ghost use Rattle.std.specs.Prelude.{◌≡◌, ◌*◌, ◌-◌, ◌/◌, [], IsTrue, length};
 ghost use Rattle.std.specs.Ordering.{nat_cmp};
 ghost use Rattle.std.specs.Cmp.Lexicographic.{slice_cmp};
-ghost use Rattle.id_digits.specs.DigestLengths.{is_digest_len};
-ghost use Rattle.id_digits.specs.LetterValues.{values_of};
-ghost use Rattle.id_digits.specs.SortedLines.{is_line_len, may_follow, AreSortedLines};
+ghost use Rattle.id_digits.specs.Digits.{is_digest_len};
+ghost use Rattle.id_digits.specs.Letters.{AreSortedLines, is_line_len, may_follow, values_of};
 
 use crate::order::{digest_cmp, first_word};
 use crate::reading::{LETTERS, are_digits, greater, read_digest, values_at};

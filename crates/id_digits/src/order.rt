@@ -3,9 +3,7 @@
 ghost use Rattle.std.specs.Prelude.{◌≡◌, ◌≤◌, IsTrue, length};
 ghost use Rattle.std.specs.Ordering.{nat_cmp};
 ghost use Rattle.std.specs.Cmp.Lexicographic.{slice_cmp};
-ghost use Rattle.id_digits.specs.Digits.{digits_of};
-ghost use Rattle.id_digits.specs.DigestLengths.{is_digest_len};
-ghost use Rattle.id_digits.specs.Words.{word};
+ghost use Rattle.id_digits.specs.Digits.{digits_of, is_digest_len, word};
 
 use std::cmp::Ordering;
 

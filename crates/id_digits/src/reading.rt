@@ -2,10 +2,8 @@
 
 ghost use Rattle.std.specs.Prelude.{◌≡◌, ◌≤◌, ◌+◌, ◌-◌, ◌*◌, ◌++◌, ◌&&◌, IsTrue, Some, None, if◌then◌else◌, length, take, drop};
 ghost use Rattle.std.specs.List.{list_all};
-ghost use Rattle.id_digits.specs.Digits.{digits_of, hex_letter};
-ghost use Rattle.id_digits.specs.DigestLengths.{is_digest_len};
-ghost use Rattle.id_digits.specs.LetterValues.{values_of, is_digit, packed};
-ghost use Rattle.id_digits.specs.Reading.{digits_read};
+ghost use Rattle.id_digits.specs.Digits.{digits_of, digits_read, hex_letter, is_digest_len};
+ghost use Rattle.id_digits.specs.Letters.{values_of, is_digit, packed};
 
 use std::simd::prelude::*;
 use std::simd::u8x16;

@@ -1,7 +1,7 @@
 //! The letters of one alphabet for those of the other: `z` down to `k` for `0` to `f`.
 
 ghost use Rattle.std.specs.Prelude.{◌≡◌, map};
-ghost use Rattle.id_digits.specs.ReverseLetters.{hex_of_reverse, reverse_of_hex};
+ghost use Rattle.id_digits.specs.Letters.{hex_of_reverse, reverse_of_hex};
 
 /// Replaces each letter `z` to `k`, in any letter case, by the hex letter of its digit, and any
 /// other byte by one that is no hex letter.

@@ -2,8 +2,7 @@
 
 ghost use Rattle.std.specs.Prelude.{◌≡◌, ◌≤◌, ◌+◌, ◌*◌, ◌%◌, IsTrue, length, map, take, drop};
 ghost use Rattle.std.specs.Simd.Lanes.{put_chunk};
-ghost use Rattle.id_digits.specs.Digits.{digits_of, hex_letter, spelling};
-ghost use Rattle.id_digits.specs.DigestLengths.{is_digest_len};
+ghost use Rattle.id_digits.specs.Digits.{digits_of, hex_letter, is_digest_len, spelling};
 
 use std::simd::prelude::*;
 use std::simd::{u8x16, u8x32};

@@ -1,10 +1,7 @@
 //! Digits as two numbers of 128 bits, which compare as the digits do.
 
 ghost use Rattle.std.specs.Prelude.{◌≡◌, ◌≤◌, ◌<◌, ◌-◌, ◌*◌, ◌^◌, ℕ, List, All, IsTrue, length, drop};
-ghost use Rattle.id_digits.specs.Digits.{digits_of};
-ghost use Rattle.id_digits.specs.Beginnings.{place};
-ghost use Rattle.id_digits.specs.DigestLengths.{is_digest_len};
-ghost use Rattle.id_digits.specs.Words.{word, words_of};
+ghost use Rattle.id_digits.specs.Digits.{digits_of, is_digest_len, place, word, words_of};
 
 use std::cmp::Ordering;
 

@@ -3,10 +3,9 @@ use Rattle.std.proofs.Common.{◌≡◌, ℕ, ◌≤◌, true, nat_eq, List, [],
 use Rattle.std.specs.List.{starts_with}
 use Rattle.std.proofs.lemmas.Bool.Decides.{nat_tests}
 use Rattle.gix_hash.specs.Digits.{first_byte_of}
-use Rattle.id_lookup.specs.FirstBytes.{has_first_byte}
-use Rattle.id_lookup.specs.Runs.{matches}
+use Rattle.id_lookup.specs.Runs.{has_first_byte, matches}
 use Rattle.id_lookup.proofs.Spelled.{starts_with-BeginsWith}
-use Rattle.id_lookup.specs.IndexOf.{part_of}
+use Rattle.id_lookup.specs.Indexes.{part_of}
 use Rattle.id_lookup.proofs.Filters.{filter_within}
 
 first_byte_of-append : (digits rest : List ℕ) → 2 ≤ length digits → first_byte_of (digits ++ rest) ≡ first_byte_of digits

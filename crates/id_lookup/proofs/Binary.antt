@@ -5,7 +5,7 @@ use Rattle.std.proofs.Math.Pow.{pow_mono}
 use Rattle.std.proofs.lemmas.Bool.{cases_lt}
 use Rattle.std.proofs.lemmas.Nat.{leading_length}
 use Rattle.std.specs.Int.Count.{count_leading_zeros}
-use Rattle.id_lookup.specs.Bits.{halvings_within, bits}
+use Rattle.id_lookup.specs.Runs.{halvings_within, bits}
 
 -- as many doublings reach above n
 halvings-above : (most n : ℕ) → n ≤ most → n < 2 ^ halvings_within most n

@@ -5,12 +5,9 @@ use Rattle.std.proofs.lemmas.Bool.{le-leb, leb-true, lt-ltb, ltb-true}
 use Rattle.std.proofs.lemmas.Bool.Decides.{nat_tests}
 use Rattle.std.proofs.lemmas.List.Sums.{count_by-le-length, count_by_more_no, count_by_more_yes}
 use Rattle.std.proofs.lemmas.List.Elements.{All-head, All-tail}
-use Rattle.gix_hash.specs.Digits.{first_byte_of}
-use Rattle.gix_hash.specs.Prefix.{KindDigits, place}
-use Rattle.id_lookup.specs.Bounds.{bound_of, is_before_bound}
-use Rattle.id_lookup.specs.Candidates.{AreCandidates}
-use Rattle.id_lookup.specs.FirstBytes.{is_up_to, is_below, has_first_byte}
-use Rattle.id_lookup.specs.Probing.{CanProbe}
+use Rattle.gix_hash.specs.Digits.{first_byte_of, place}
+use Rattle.gix_hash.specs.Prefixes.{KindDigits}
+use Rattle.id_lookup.specs.Runs.{AreCandidates, CanProbe, bound_of, has_first_byte, is_before_bound, is_below, is_up_to}
 use Rattle.id_lookup.specs.declared.search.Bound.TheVariants.{Start, End}
 use Rattle.id_lookup.specs.declared.search.Run.{Run}
 use Rattle.id_lookup.proofs.Counting.{count_by-cons, count_by-split}

@@ -7,8 +7,7 @@ use Rattle.std.specs.Ordering.{nat_cmp, is_gt, is_ge, ordering_then, MatchOrderi
 use Rattle.std.specs.Cmp.{ranks}
 use Rattle.std.proofs.lemmas.Bool.{cases_lt}
 use Rattle.std.proofs.lemmas.List.{get_or_past}
-use Rattle.gix_hash.specs.Digits.{first_byte_of}
-use Rattle.gix_hash.specs.Prefix.{place}
+use Rattle.gix_hash.specs.Digits.{first_byte_of, place}
 
 -- each digit is below 16, and what is read after the last one too
 abbrev pub AreDigits : List ℕ → Type 0

@@ -10,16 +10,14 @@ use Rattle.std.proofs.lemmas.Cmp.{nat_list_cmp_total}
 use Rattle.std.proofs.lemmas.List.{get_or_default}
 use Rattle.std.proofs.lemmas.List.Elements.{AllWithin-more}
 pub use Rattle.gix_hash.proofs.KindFacts.{same_kind}
-use Rattle.gix_hash.specs.Kind.{hex_len_of, kind_by_number, number_of}
-use Rattle.gix_hash.specs.Prefix.{KindDigits}
+use Rattle.gix_hash.specs.Kinds.{hex_len_of, kind_by_number, number_of}
+use Rattle.gix_hash.specs.Prefixes.{KindDigits}
 use Rattle.gix_hash.specs.declared.Kind.{Kind}
-use Rattle.id_lookup.specs.FoundRun.{IsRun}
+use Rattle.id_lookup.specs.Runs.{CanProbe, IsRun, IsSortedIds}
 use Rattle.id_lookup.specs.declared.search.Run.{Run}
 use Rattle.id_lookup.specs.declared.index.IndexError.{IndexError}
 use Rattle.id_lookup.specs.declared.index.IndexError.TheVariants.{WrongKind, NotRising}
-use Rattle.id_lookup.specs.Index.{IsIndex, IsIndexUpTo, IsWrongKind, IsNotRising, IsFirstIndexError}
-use Rattle.id_lookup.specs.Probing.{CanProbe}
-use Rattle.id_lookup.specs.Sorted.{IsSortedIds}
+use Rattle.id_lookup.specs.Indexes.{IsIndex, IsIndexUpTo, IsWrongKind, IsNotRising, IsFirstIndexError}
 
 -- an index is sorted
 pub index-sorted : (kind : Kind) (ids : List (List ℕ)) → IsIndex kind ids → IsSortedIds ids

@@ -1,6 +1,6 @@
 -- Comparisons change only the count of probes.
 use Rattle.std.proofs.Common.{◌≡◌, ℕ, sym, ap, ◌∙◌}
-use Rattle.id_lookup.specs.Probing.{Probing}
+use Rattle.id_lookup.specs.Runs.{Probing}
 
 -- if q differs from p, and r from q, only in the count, then r differs from p only in the count
 pub kept : (p q r : Probing) (n : ℕ) → q ≡ record p { asked = q.asked } → r ≡ record q { asked = n } → r ≡ record p { asked = r.asked }

@@ -1,7 +1,7 @@
 -- The smallest number of digits of an id of a list.
 use Rattle.std.proofs.Common.{◌≡◌, ℕ, zero, suc, ◌≤◌, ◌<◌, min, List, [], ◌∷◌, length, get_or, take, refl, arith}
 use Rattle.std.specs.List.{All}
-use Rattle.id_lookup.specs.Sorted.{least_hex_len}
+use Rattle.id_lookup.specs.Runs.{least_hex_len}
 
 -- no member has fewer digits
 pub least_hex_len-le : (ids : List (List ℕ)) → All (λ id. least_hex_len ids ≤ length id) ids

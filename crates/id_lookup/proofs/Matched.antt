@@ -2,9 +2,8 @@
 use Rattle.std.proofs.Common.{◌≡◌, ℕ, ◌-◌, List, map, take, drop, sym, ap, ◌∙◌}
 use Rattle.std.proofs.lemmas.List.{take-map, drop-map}
 use Rattle.std.specs.List.{slice_range}
-use Rattle.gix_hash.specs.Prefix.{KindDigits}
-use Rattle.id_lookup.specs.FoundRun.{IsRun}
-use Rattle.id_lookup.specs.Runs.{matches}
+use Rattle.gix_hash.specs.Prefixes.{KindDigits}
+use Rattle.id_lookup.specs.Runs.{IsRun, matches}
 use Rattle.id_lookup.specs.declared.search.Run.{Run}
 
 -- the ids of the run, by their digits

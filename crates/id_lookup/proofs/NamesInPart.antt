@@ -5,8 +5,7 @@ use Rattle.std.proofs.lemmas.Bool.{false≢true}
 use Rattle.std.proofs.lemmas.List.{get_or_default, take-take}
 use Rattle.std.proofs.lemmas.List.Elements.{Contains-get_or}
 use Rattle.gix_hash.specs.declared.Kind.{Kind}
-use Rattle.id_lookup.specs.Index.{IsIndex}
-use Rattle.id_lookup.specs.ShortNames.{IsShortestNameFrom}
+use Rattle.id_lookup.specs.Indexes.{IsIndex, IsShortestNameFrom}
 use Rattle.id_lookup.proofs.Spelled.{starts_with-BeginsWith}
 use Rattle.id_lookup.proofs.Filters.{contains_kept, contains_had}
 use Rattle.id_lookup.proofs.SameMembers.{index-filter, one_position}

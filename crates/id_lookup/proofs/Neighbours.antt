@@ -7,12 +7,11 @@ use Rattle.std.proofs.lemmas.Bool.{cases_lt, false≢true}
 use Rattle.std.proofs.lemmas.Cmp.{nat_list_cmp_total}
 use Rattle.std.proofs.lemmas.List.{length-take, length-take-le, take-take}
 use Rattle.std.proofs.lemmas.List.Sorted.{sorted_far, ranks_by}
-use Rattle.gix_hash.specs.Kind.{hex_len_of}
+use Rattle.gix_hash.specs.Kinds.{hex_len_of}
 use Rattle.gix_hash.specs.declared.Kind.{Kind}
-use Rattle.id_lookup.specs.Index.{IsIndex}
-use Rattle.id_lookup.specs.ShortNames.{IsShortestNameFrom, IsUniqueLen, common_at}
+use Rattle.id_lookup.specs.Indexes.{IsIndex, IsShortestNameFrom, IsUniqueLen, common_at}
 use Rattle.id_lookup.proofs.CommonDigits.{common-between, common-differ, common-symm, begins-common, begins-apart}
-use Rattle.id_lookup.specs.Sorted.{IsSortedIds}
+use Rattle.id_lookup.specs.Runs.{IsSortedIds}
 use Rattle.id_lookup.proofs.Indexes.{index-pairs}
 
 module _ (ids : List (List ℕ)) (sorted : IsSortedIds ids) where

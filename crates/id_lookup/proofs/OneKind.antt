@@ -10,12 +10,12 @@ use Rattle.std.proofs.lemmas.List.{get_or-map, length-map}
 use Rattle.std.proofs.lemmas.List.Kept.{AllPairs-cons}
 use Rattle.std.proofs.lemmas.Map.Keys.{sorted_tail}
 use Rattle.std.proofs.lemmas.Map.Views.{All-after_first}
-use Rattle.gix_hash.specs.Kind.{hex_len_of, number_of}
-use Rattle.gix_hash.specs.ObjectId.{id_cmp, id_digits, id_kind, id_kind_number}
+use Rattle.gix_hash.specs.Kinds.{hex_len_of, number_of}
+use Rattle.gix_hash.specs.Ids.{id_cmp, id_digits, id_kind, id_kind_number}
 use Rattle.gix_hash.specs.declared.Kind.{Kind}
 use Rattle.gix_hash.specs.declared.ObjectId.{ObjectId}
 use Rattle.gix_hash.specs.declared.ObjectId.TheVariants.{Sha1}
-use Rattle.id_lookup.specs.Index.{IsIndex}
+use Rattle.id_lookup.specs.Indexes.{IsIndex}
 use Rattle.id_lookup.proofs.Indexes.{same_kind}
 
 -- a list that is sorted by a test of what f gives is mapped to a sorted one

@@ -10,7 +10,7 @@ use Rattle.std.proofs.lemmas.Bool.{cases_lt, false≢true}
 use Rattle.std.proofs.lemmas.Cmp.{nat_list_cmp_total}
 use Rattle.std.proofs.lemmas.List.{get_or_default}
 use Rattle.std.proofs.lemmas.List.Sorted.{sorted_far, ranks_by}
-use Rattle.id_lookup.specs.Sorted.{IsSortedIds}
+use Rattle.id_lookup.specs.Runs.{IsSortedIds}
 
 -- an order is not Less if and only if the test for Less fails
 not_less : (o : Ordering) → o ≢ Less → is_lt o ≡ false

@@ -5,9 +5,9 @@ use Rattle.std.specs.Ordering.{is_eq, is_gt, is_ge}
 use Rattle.std.specs.Cmp.Lexicographic.{texts_ties}
 use Rattle.std.specs.declared.cmp.Ordering.{Ordering}
 use Rattle.std.specs.declared.cmp.Ordering.TheVariants.{Less, Equal, Greater}
-use Rattle.gix_hash.specs.Prefix.{KindDigits, place}
-use Rattle.id_lookup.specs.Runs.{matches}
-use Rattle.id_lookup.specs.Sorted.{IsSortedIds}
+use Rattle.gix_hash.specs.Prefixes.{KindDigits}
+use Rattle.gix_hash.specs.Digits.{place}
+use Rattle.id_lookup.specs.Runs.{IsSortedIds, matches}
 use Rattle.id_lookup.specs.declared.search.Bound.TheVariants.{Start, End}
 use Rattle.id_lookup.proofs.Rising.{bound_partitions}
 

@@ -4,10 +4,9 @@ use Rattle.std.specs.List.{count_by, flat_map, starts_with}
 use Rattle.std.specs.Ordering.{is_gt}
 use Rattle.std.proofs.lemmas.List.Elements.{filter-append}
 use Rattle.std.proofs.lemmas.List.Sums.{sum_by-append}
-use Rattle.gix_hash.specs.Prefix.{KindDigits, place}
-use Rattle.id_lookup.specs.FoundRun.{IsRun}
-use Rattle.id_lookup.specs.Runs.{begins_with, matches}
-use Rattle.id_lookup.specs.Sorted.{IsSortedIds}
+use Rattle.gix_hash.specs.Prefixes.{KindDigits}
+use Rattle.gix_hash.specs.Digits.{place}
+use Rattle.id_lookup.specs.Runs.{IsRun, IsSortedIds, begins_with, matches}
 use Rattle.id_lookup.specs.declared.search.Run.{Run}
 use Rattle.id_lookup.proofs.Placed.{bound_of-end, run_is}
 

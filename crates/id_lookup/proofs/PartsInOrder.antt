@@ -11,12 +11,11 @@ use Rattle.std.proofs.lemmas.List.{drop-drop, get_or-take, get_or-drop, length-t
 use Rattle.std.proofs.lemmas.List.Sorted.{sorted_far, ranks_by}
 use Rattle.std.proofs.lemmas.List.Sums.{count_by-le-length}
 use Rattle.gix_hash.specs.Digits.{first_byte_of}
-use Rattle.id_lookup.specs.FirstBytes.{has_first_byte, is_below, is_up_to}
-use Rattle.id_lookup.specs.Sorted.{IsSortedIds}
+use Rattle.id_lookup.specs.Runs.{IsSortedIds, has_first_byte, is_below, is_up_to}
 use Rattle.id_lookup.proofs.Counting.{passes_below}
 use Rattle.id_lookup.proofs.FirstByteCounts.{count_by-below_0, count_by-up_to, up_to_step}
 use Rattle.id_lookup.proofs.FirstByteOrder.{by_cmp}
-use Rattle.id_lookup.specs.IndexOf.{part_of}
+use Rattle.id_lookup.specs.Indexes.{part_of}
 use Rattle.id_lookup.proofs.FilterCounted.{count_all, filter_counted}
 
 tests_le : (a b : ℕ) → leb a b ≡ true → a ≤ b

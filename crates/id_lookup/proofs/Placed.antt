@@ -9,13 +9,11 @@ use Rattle.std.specs.Cmp.Lexicographic.{texts_ties}
 use Rattle.std.proofs.lemmas.List.Sums.{count_by-le-length}
 use Rattle.std.proofs.lemmas.Bool.Decides.{nat_tests}
 use Rattle.std.proofs.lemmas.List.{get_or-take, get_or-drop, length-take, length-drop}
-use Rattle.gix_hash.specs.Prefix.{KindDigits, place}
+use Rattle.gix_hash.specs.Prefixes.{KindDigits}
+use Rattle.gix_hash.specs.Digits.{place}
 use Rattle.id_lookup.specs.declared.search.Bound.{Bound}
 use Rattle.id_lookup.specs.declared.search.Bound.TheVariants.{Start, End}
-use Rattle.id_lookup.specs.Runs.{begins_with, matches}
-use Rattle.id_lookup.specs.Sorted.{IsSortedIds}
-use Rattle.id_lookup.specs.Bounds.{is_before_bound, bound_of}
-use Rattle.id_lookup.specs.FoundRun.{IsRun}
+use Rattle.id_lookup.specs.Runs.{IsRun, IsSortedIds, begins_with, bound_of, is_before_bound, matches}
 use Rattle.id_lookup.specs.declared.search.Run.{Run}
 use Rattle.id_lookup.proofs.Filtering.{filter_run}
 use Rattle.id_lookup.proofs.Counting.{count_by-split, passes_below}

@@ -9,11 +9,10 @@ use Rattle.std.proofs.lemmas.Bool.{cases_lt}
 use Rattle.std.proofs.lemmas.Cmp.{nat_list_cmp_total, tied_itself}
 use Rattle.std.proofs.lemmas.List.Elements.{All-filter, AllWithin-from_all, All-from_all_within}
 use Rattle.std.proofs.lemmas.List.Kept.{AllPairs-filter}
-use Rattle.gix_hash.specs.Kind.{hex_len_of}
+use Rattle.gix_hash.specs.Kinds.{hex_len_of}
 use Rattle.gix_hash.specs.declared.Kind.{Kind}
-use Rattle.id_lookup.specs.Index.{IsIndex}
+use Rattle.id_lookup.specs.Indexes.{IsIndex, IsIndexOf}
 use Rattle.id_lookup.proofs.Indexes.{index-pairs}
-use Rattle.id_lookup.specs.IndexOf.{IsIndexOf}
 use Rattle.id_lookup.proofs.Filters.{contains_kept, contains_had, kept_passes}
 
 abbrev Below : List ℕ → List ℕ → Type 0

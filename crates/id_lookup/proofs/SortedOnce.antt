@@ -10,12 +10,12 @@ use Rattle.std.proofs.lemmas.List.Elements.{All-contains, Contains-get_or}
 use Rattle.std.proofs.lemmas.List.Kept.{Contains-dedup, Contains-from_dedup, IsStrictlySortedBy-dedup}
 use Rattle.std.proofs.lemmas.List.Sorted.{Contains-permutation, IsPermutation-sym}
 use Rattle.gix_hash.proofs.Equalities.{id_eq-same}
-use Rattle.gix_hash.specs.Kind.{hex_len_of}
-use Rattle.gix_hash.specs.ObjectId.{id_cmp, id_digits, id_eq, id_kind}
+use Rattle.gix_hash.specs.Kinds.{hex_len_of}
+use Rattle.gix_hash.specs.Ids.{id_cmp, id_digits, id_eq, id_kind}
 use Rattle.gix_hash.specs.declared.Kind.{Kind}
 use Rattle.gix_hash.specs.declared.ObjectId.{ObjectId}
 use Rattle.id_lookup.proofs.OneKind.{index-of_kind}
-use Rattle.id_lookup.specs.IndexOf.{IsIndexOf}
+use Rattle.id_lookup.specs.Indexes.{IsIndexOf}
 
 -- the order of ids is total, and the ids that are equal are those that it ties
 id_cmp_total : IsTotalOrder id_cmp

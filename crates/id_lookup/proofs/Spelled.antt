@@ -9,8 +9,8 @@ use Rattle.std.proofs.lemmas.Bool.Decides.{Decides-eqb, nat_tests}
 use Rattle.std.specs.Bool.{Decides}
 use Rattle.std.proofs.lemmas.List.{take-map, length-map, take-append-drop}
 use Rattle.std.proofs.Math.Seq.{take-append_seam}
-use Rattle.gix_hash.specs.Digits.{hex_letter, spelling}
-use Rattle.gix_hash.specs.Prefix.{KindDigits, BeginsWith, place}
+use Rattle.gix_hash.specs.Digits.{hex_letter, place, spelling}
+use Rattle.gix_hash.specs.Prefixes.{KindDigits, BeginsWith}
 use Rattle.id_lookup.specs.Runs.{begins_with}
 
 -- distinct numbers have distinct letters

@@ -2,12 +2,9 @@
 use Rattle.std.proofs.Common.{◌≡◌, ◌≢◌, ℕ, ◌+◌, ◌<◌, ◌≤◌, true, false, List, [], ◌++◌, length, take, drop, get_or, nat_eq, ◌⊎◌, inl, inr, refl, sym, ap, ◌∙◌, arith, take-append-drop}
 use Rattle.std.specs.List.{starts_with}
 use Rattle.std.proofs.lemmas.Bool.{cases_lt, false≢true}
-use Rattle.gix_hash.specs.Prefix.{KindDigits}
-use Rattle.id_lookup.specs.Bounds.{bound_of}
-use Rattle.id_lookup.specs.FoundRun.{IsRun}
-use Rattle.id_lookup.specs.Runs.{begins_with}
-use Rattle.id_lookup.specs.ShortNames.{IsShortestNameFrom}
-use Rattle.id_lookup.specs.Sorted.{IsSortedIds}
+use Rattle.gix_hash.specs.Prefixes.{KindDigits}
+use Rattle.id_lookup.specs.Runs.{IsRun, IsSortedIds, begins_with, bound_of}
+use Rattle.id_lookup.specs.Indexes.{IsShortestNameFrom}
 use Rattle.id_lookup.specs.declared.search.Bound.TheVariants.{Start, End}
 use Rattle.id_lookup.proofs.Placed.{run_is}
 use Rattle.id_lookup.proofs.Spelled.{starts_with-BeginsWith, starts_with-spelling}

@@ -2,11 +2,9 @@
 //! sorted one return what [`SortedIds`](crate::SortedIds) returns.
 
 ghost use Rattle.std.specs.Prelude.{◌≡◌, ◌+◌, ◌<◌, ◌≤◌, ℕ, [], List, IfSome, IsNone, length, map, nat_lt, slice_index_or, take};
-ghost use Rattle.gix_hash.specs.Kind.{hex_len_of};
-ghost use Rattle.id_lookup.specs.Bounds.{bound_of};
-ghost use Rattle.id_lookup.specs.FoundRun.{IsRun};
-ghost use Rattle.id_lookup.specs.ShortNames.{IsShortestName};
-ghost use Rattle.id_lookup.specs.Sorted.{IsSortedIds, least_hex_len};
+ghost use Rattle.gix_hash.specs.Kinds.{hex_len_of};
+ghost use Rattle.id_lookup.specs.Runs.{IsRun, IsSortedIds, bound_of, least_hex_len};
+ghost use Rattle.id_lookup.specs.Indexes.{IsShortestName};
 
 use crate::ids::{Id, id_at};
 use crate::search::{Bound, Run};

@@ -1,7 +1,7 @@
 //! Fan-out tables: how many ids of a list have at most a given first byte.
 
 ghost use Rattle.std.specs.Prelude.{◌≡◌, ℕ, ◌<◌, ◌^◌, All, List, count_by, length, map, slice_index};
-ghost use Rattle.id_lookup.specs.FirstBytes.{IsFanOut, has_first_byte, is_below, is_up_to};
+ghost use Rattle.id_lookup.specs.Runs.{IsFanOut, has_first_byte, is_below, is_up_to};
 
 use crate::ids::{Id, id_at};
 use std::marker::Model;

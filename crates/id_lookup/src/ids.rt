@@ -2,9 +2,9 @@
 
 ghost use Rattle.std.specs.Prelude.{◌≡◌, ◌<◌, ℕ, All, List, length, map};
 ghost use Rattle.std.specs.List.{HoldsAt};
-ghost use Rattle.gix_hash.specs.Kind.{hex_len_of};
+ghost use Rattle.gix_hash.specs.Kinds.{hex_len_of};
 ghost use Rattle.gix_hash.specs.declared.Kind.{Kind};
-ghost use Rattle.gix_hash.specs.Oid.{oid_digits, oid_kind};
+ghost use Rattle.gix_hash.specs.Ids.{oid_digits, oid_kind};
 
 use gix_hash::{ObjectId, oid};
 
@@ -33,7 +33,7 @@ pub trait Id {
 }
 
 impl Id for ObjectId {
-    ghost use Rattle.gix_hash.specs.ObjectId.{id_digits, id_kind};
+    ghost use Rattle.gix_hash.specs.Ids.{id_digits, id_kind};
 
     ghost kind = { id_kind };
 

@@ -4,12 +4,9 @@ ghost use Rattle.std.specs.Prelude.{◌≡◌, ◌↔◌, ◌+◌, ◌-◌, ◌<
 ghost use Rattle.std.specs.Cmp.Lexicographic.{slice_cmp};
 ghost use Rattle.std.specs.Ordering.{nat_cmp};
 ghost use Rattle.std.specs.declared.cmp.Ordering.{Ordering};
-ghost use Rattle.gix_hash.specs.Kind.{hex_len_of};
-ghost use Rattle.id_lookup.specs.FirstBytes.{IsFanOut};
-ghost use Rattle.id_lookup.specs.FoundRun.{IsRun};
-ghost use Rattle.id_lookup.specs.Runs.{matches};
-ghost use Rattle.id_lookup.specs.ShortNames.{IsShortestName, IsShortestNameFrom};
-ghost use Rattle.id_lookup.specs.Index.{IsAnswer, IsFirstIndexError, IsIndex};
+ghost use Rattle.gix_hash.specs.Kinds.{hex_len_of};
+ghost use Rattle.id_lookup.specs.Runs.{IsFanOut, IsRun, matches};
+ghost use Rattle.id_lookup.specs.Indexes.{IsAnswer, IsFirstIndexError, IsIndex, IsShortestName, IsShortestNameFrom};
 
 use crate::fan_out::FanOut;
 use crate::ids::{Id, id_at};
@@ -39,8 +36,8 @@ pub struct IdIndex<'a, I: Id = ObjectId> {
 
 impl<'a, I: Id> Model for IdIndex<'a, I> {
     ghost use Rattle.std.specs.Prelude.{◌≡◌, All, map};
-    ghost use Rattle.id_lookup.specs.FirstBytes.{IsFanOut};
-    ghost use Rattle.id_lookup.specs.Index.{Index, IsIndex};
+    ghost use Rattle.id_lookup.specs.Runs.{IsFanOut};
+    ghost use Rattle.id_lookup.specs.Indexes.{Index, IsIndex};
 
     ghost Value = { Index };
 

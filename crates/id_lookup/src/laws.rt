@@ -3,12 +3,11 @@
 ghost use Rattle.std.specs.Prelude.{◌≡◌, ◌↔◌, ◌+◌, ◌++◌, ◌<◌, ℕ, List, All, IsTrue, flat_map, length, map};
 ghost use Rattle.std.specs.List.Sorted.{IsStrictlySortedBy};
 ghost use Rattle.std.specs.declared.cmp.Ordering.{Ordering};
-ghost use Rattle.gix_hash.specs.ObjectId.{id_cmp, id_digits, id_kind};
-ghost use Rattle.gix_hash.specs.Prefix.{KindDigits, BeginsWith, place};
-ghost use Rattle.id_lookup.specs.FoundRun.{IsRun};
-ghost use Rattle.id_lookup.specs.Index.{IsIndex};
-ghost use Rattle.id_lookup.specs.Runs.{begins_with, matches};
-ghost use Rattle.id_lookup.specs.Sorted.{IsSortedIds};
+ghost use Rattle.gix_hash.specs.Ids.{id_cmp, id_digits, id_kind};
+ghost use Rattle.gix_hash.specs.Prefixes.{KindDigits, BeginsWith};
+ghost use Rattle.gix_hash.specs.Digits.{place};
+ghost use Rattle.id_lookup.specs.Runs.{IsRun, IsSortedIds, begins_with, matches};
+ghost use Rattle.id_lookup.specs.Indexes.{IsIndex};
 ghost use Rattle.id_lookup.specs.declared.search.Run.{Run};
 
 use crate::ids::Id;

@@ -4,12 +4,8 @@ ghost use Rattle.std.specs.Prelude.{◌≡◌, ◌≤◌, ◌<◌, ℕ, Bool, tr
 ghost use Rattle.std.specs.List.{range_with_len, starts_with};
 ghost use Rattle.gix_hash.specs.Digits.{first_byte_of};
 ghost use Rattle.gix_hash.specs.declared.kind.Kind as kinds;
-ghost use Rattle.id_lookup.specs.FirstBytes.{is_below, is_up_to};
-ghost use Rattle.id_lookup.specs.Index.{IsIndex};
-ghost use Rattle.id_lookup.specs.IndexOf.{IsIndexOf, part_of};
-ghost use Rattle.id_lookup.specs.Runs.{matches};
-ghost use Rattle.id_lookup.specs.ShortNames.{IsShortestNameFrom};
-ghost use Rattle.id_lookup.specs.Sorted.{IsSortedIds};
+ghost use Rattle.id_lookup.specs.Runs.{IsSortedIds, is_below, is_up_to, matches};
+ghost use Rattle.id_lookup.specs.Indexes.{IsIndex, IsIndexOf, IsShortestNameFrom, part_of};
 
 /// Filtering ids and then sorting them gives the same as sorting and then filtering. The ids that
 /// begin with a prefix of 2 digits or more are found in the part of its first byte. An id's

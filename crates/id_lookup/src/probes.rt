@@ -2,9 +2,8 @@
 
 ghost use Rattle.std.specs.Prelude.{◌≡◌, ◌↔◌, ◌+◌, ◌<◌, ◌≤◌, ◌^◌, IsTrue, length, map};
 ghost use Rattle.std.specs.List.{HoldsAt};
-ghost use Rattle.gix_hash.specs.Prefix.{place};
-ghost use Rattle.id_lookup.specs.Sorted.{least_hex_len};
-ghost use Rattle.id_lookup.specs.Probing.{CanProbe};
+ghost use Rattle.gix_hash.specs.Digits.{place};
+ghost use Rattle.id_lookup.specs.Runs.{CanProbe, least_hex_len};
 
 use crate::ids::{Id, id_at};
 use crate::sorted::SortedIds;
@@ -32,7 +31,7 @@ pub struct Probes<'a, I: Id = ObjectId> {
 
 impl<'a, I: Id> Model for Probes<'a, I> {
     ghost use Rattle.std.specs.Prelude.{map};
-    ghost use Rattle.id_lookup.specs.Probing.{Probing, CanProbe};
+    ghost use Rattle.id_lookup.specs.Runs.{Probing, CanProbe};
 
     ghost Value = { Probing };
 

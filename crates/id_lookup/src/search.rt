@@ -1,17 +1,11 @@
 //! The run of a prefix in a sorted list, by two binary searches.
 
 ghost use Rattle.std.specs.Prelude.{◌≡◌, ◌↔◌, ℕ, ◌+◌, ◌-◌, ◌*◌, ◌^◌, ◌<◌, ◌≤◌, IsTrue, count_by, length};
-ghost use Rattle.id_lookup.specs.Bits.{bits};
-ghost use Rattle.id_lookup.specs.Probing.{CanProbe};
-ghost use Rattle.gix_hash.specs.Digits.{hex_letter, spelling};
-ghost use Rattle.gix_hash.specs.Kind.{hex_len_of};
-ghost use Rattle.gix_hash.specs.ObjectId.{id_digits, id_kind};
-ghost use Rattle.gix_hash.specs.Prefix.{BeginsWith, place};
-ghost use Rattle.id_lookup.specs.Runs.{begins_with};
-ghost use Rattle.id_lookup.specs.FoundRun.{IsRun};
-ghost use Rattle.id_lookup.specs.Bounds.{is_before_bound, bound_of};
-ghost use Rattle.id_lookup.specs.Candidates.{AreCandidates};
-ghost use Rattle.id_lookup.specs.FirstBytes.{IsFanOut, shares_first_byte};
+ghost use Rattle.id_lookup.specs.Runs.{AreCandidates, CanProbe, IsFanOut, IsRun, begins_with, bits, bound_of, is_before_bound, shares_first_byte};
+ghost use Rattle.gix_hash.specs.Digits.{hex_letter, place, spelling};
+ghost use Rattle.gix_hash.specs.Kinds.{hex_len_of};
+ghost use Rattle.gix_hash.specs.Ids.{id_digits, id_kind};
+ghost use Rattle.gix_hash.specs.Prefixes.{BeginsWith};
 
 use crate::fan_out::FanOut;
 use crate::ids::Id;

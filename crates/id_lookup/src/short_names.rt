@@ -2,9 +2,9 @@
 //! neighbours of an id decide.
 
 ghost use Rattle.std.specs.Prelude.{◌≡◌, ◌+◌, ◌-◌, ◌<◌, ◌≤◌, ℕ, [], IfSome, IsNone, List, length, map, slice_index_or, max, take};
-ghost use Rattle.gix_hash.specs.Kind.{hex_len_of};
-ghost use Rattle.id_lookup.specs.ShortNames.{IsShortestNameFrom, IsUniqueLen, common_at};
-ghost use Rattle.id_lookup.specs.Sorted.{IsSortedIds};
+ghost use Rattle.gix_hash.specs.Kinds.{hex_len_of};
+ghost use Rattle.id_lookup.specs.Indexes.{IsShortestNameFrom, IsUniqueLen, common_at};
+ghost use Rattle.id_lookup.specs.Runs.{IsSortedIds};
 
 use crate::ids::{Id, id_at};
 use gix_hash::Prefix;

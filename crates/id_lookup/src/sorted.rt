@@ -4,11 +4,9 @@ ghost use Rattle.std.specs.Prelude.{◌≡◌, ◌≢◌, ◌↔◌, ℕ, ◌+�
 ghost use Rattle.std.specs.Cmp.Lexicographic.{slice_cmp};
 ghost use Rattle.std.specs.Ordering.{nat_cmp};
 ghost use Rattle.std.specs.declared.cmp.Ordering.{Ordering};
-ghost use Rattle.gix_hash.specs.Kind.{hex_len_of};
-ghost use Rattle.id_lookup.specs.FoundRun.{IsRun};
-ghost use Rattle.id_lookup.specs.Runs.{matches};
-ghost use Rattle.id_lookup.specs.ShortNames.{IsShortestNameFrom};
-ghost use Rattle.id_lookup.specs.Sorted.{IsSortedIds, IsFirstUnsorted, least_hex_len};
+ghost use Rattle.gix_hash.specs.Kinds.{hex_len_of};
+ghost use Rattle.id_lookup.specs.Runs.{IsFirstUnsorted, IsRun, IsSortedIds, least_hex_len, matches};
+ghost use Rattle.id_lookup.specs.Indexes.{IsShortestNameFrom};
 
 use crate::ids::{Id, id_at};
 use crate::probes::Probes;
@@ -39,7 +37,7 @@ impl<'a, I: Id> Model for SortedIds<'a, I> {
 
     ghost Value = { List (List ℕ) };
 
-    ghost use Rattle.id_lookup.specs.Sorted.{IsSortedIds, least_hex_len};
+    ghost use Rattle.id_lookup.specs.Runs.{IsSortedIds, least_hex_len};
 
     ghost view = { λ list. map I.digits list.ids.now };
 

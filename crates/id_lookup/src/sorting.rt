@@ -2,7 +2,7 @@
 
 ghost use Rattle.std.specs.Prelude.{map};
 ghost use Rattle.std.specs.List.Sorted.{IsPermutation};
-ghost use Rattle.id_lookup.specs.Sorted.{IsSortedIds};
+ghost use Rattle.id_lookup.specs.Runs.{IsSortedIds};
 
 use crate::ids::Id;
 

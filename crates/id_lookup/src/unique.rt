@@ -2,11 +2,11 @@
 
 ghost use Rattle.std.specs.Prelude.{◌≡◌, ◌↔◌, All, Contains, length, map};
 ghost use Rattle.std.specs.List.Sorted.{IsStrictlySortedBy};
-ghost use Rattle.gix_hash.specs.Kind.{hex_len_of};
-ghost use Rattle.gix_hash.specs.ObjectId.{id_cmp, id_digits, id_kind};
+ghost use Rattle.gix_hash.specs.Kinds.{hex_len_of};
+ghost use Rattle.gix_hash.specs.Ids.{id_cmp, id_digits, id_kind};
 ghost use Rattle.gix_hash.specs.declared.ObjectId.{ObjectId as Id};
 ghost use Rattle.gix_hash.specs.declared.kind.Kind as kinds;
-ghost use Rattle.id_lookup.specs.IndexOf.{IsIndexOf};
+ghost use Rattle.id_lookup.specs.Indexes.{IsIndexOf};
 
 use gix_hash::ObjectId;
 use std::alloc::Allocator;

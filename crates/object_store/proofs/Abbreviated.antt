@@ -2,14 +2,12 @@
 use Rattle.std.proofs.Common.{◌≡◌, ◌∙◌, ℕ, suc, ◌<◌, true, nat_eq, List, [], ◌∷◌, length, filter, get_or, map, refl, sym, ap, subst, arith}
 use Rattle.std.specs.List.{All, Contains, starts_with}
 use Rattle.std.proofs.lemmas.List.Elements.{Contains-push}
-use Rattle.gix_hash.specs.ObjectId.{id_digits}
+use Rattle.gix_hash.specs.Ids.{id_digits}
 use Rattle.gix_hash.specs.declared.ObjectId.{ObjectId}
 use Rattle.id_lookup.specs.Runs.{matches}
 use Rattle.id_lookup.proofs.Filters.{contains_had}
-use Rattle.object_store.specs.Parts.{AreMatches}
+use Rattle.object_store.specs.Stores.{AreMatches, Holds, IsNameIn, StoreView}
 use Rattle.object_store.specs.Several.{IsAbbreviated, IsAbbreviatedIn, IsAbbreviationOfKind}
-use Rattle.object_store.specs.Stores.{Holds, IsNameIn}
-use Rattle.object_store.specs.Views.{StoreView}
 use Rattle.object_store.specs.declared.naming.Abbreviation.{Abbreviation}
 use Rattle.object_store.specs.declared.naming.Abbreviation.TheVariants.{Named}
 use Rattle.object_store.specs.declared.naming.NamedId.{NamedId}

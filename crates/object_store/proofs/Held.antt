@@ -7,15 +7,14 @@ use Rattle.std.proofs.lemmas.List.Elements.{All-more, filter-append}
 use Rattle.gix_hash.specs.Digits.{first_byte_of}
 use Rattle.gix_hash.specs.declared.Kind.{Kind}
 use Rattle.id_lookup.proofs.SameMembers.{part_is}
-use Rattle.id_lookup.specs.IndexOf.{IsIndexOf}
-use Rattle.object_store.specs.Stores.{HasLocation, Holds, IfKnown, IsFirstFault, IsLocateFault, IsIndexReadOrMemory, IsLocationFault, IsStoreFault}
-use Rattle.object_store.specs.Views.{StoreView}
+use Rattle.id_lookup.specs.Indexes.{IsIndexOf}
+use Rattle.object_store.specs.Stores.{HasLocation, Holds, IsFirstFault, IsIndexReadOrMemory, IsLocateFault, IsLocationFault, IsStoreFault, StoreView}
+use Rattle.pack_index.specs.Lazy.{HasBucket, IfKnown, IsBucketFault, LazyIndex}
 use Rattle.object_store.specs.declared.error.Error.{Error}
 use Rattle.object_store.specs.declared.error.Error.TheVariants.{Index, Memory}
 use Rattle.pack_index.proofs.Buckets.{no_bucket_fault}
 use Rattle.pack_index.specs.Format.{IsPackIndex, names_in}
 use Rattle.pack_index.specs.Lazy as lazy
-use Rattle.pack_index.specs.Lazy.{HasBucket, IsBucketFault, LazyIndex}
 use Rattle.pack_index.specs.declared.lazy_error.LazyError.{LazyError}
 use Rattle.pack_index.specs.declared.lazy_error.LazyError.TheVariants.{NoOffset}
 

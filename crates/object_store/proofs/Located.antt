@@ -8,16 +8,13 @@ use Rattle.std.proofs.lemmas.Bool.{false_from_ne_true, le-ltb, lt-ltb}
 use Rattle.std.proofs.lemmas.List.Sums.{position_or_len_is}
 use Rattle.gix_hash.specs.Digits.{first_byte_of}
 use Rattle.gix_hash.specs.declared.Kind.{Kind}
-use Rattle.object_store.specs.Locations.{offset_of, packed_at, packed_locations}
-use Rattle.object_store.specs.Stores.{HasLocation, IsLocationFault}
+use Rattle.object_store.specs.Stores.{HasLocation, IsLocationFault, offset_of, packed_at, packed_locations}
 use Rattle.object_store.specs.declared.locations.Location.{Location}
 use Rattle.object_store.proofs.Held.{IsPackAt, as_many, known_at}
-use Rattle.pack_index.specs.Firsts.{Each}
-use Rattle.pack_index.specs.Format.{HasCount, HasOffset, IsPackIndex, names_in, offset_in}
+use Rattle.pack_index.specs.Format.{Each, HasCount, HasOffset, IsFirstIndexOf, IsPackIndex, names_in, offset_in}
 use Rattle.pack_index.specs.Lazy.{HasBucket, IsFirstCounted, IsOffsetFault, LazyIndex}
 use Rattle.pack_index.specs.declared.lazy_error.LazyError.{LazyError}
 use Rattle.pack_index.specs.declared.lazy_error.LazyError.TheVariants.{NoOffset, Read}
-use Rattle.pack_index.specs.Names.{IsFirstIndexOf}
 
 -- the first name that is the id
 name_at : (names : List (List ℕ)) (id : List ℕ) (at : ℕ) → at ≤ length names → ((k : ℕ) → k < at → get_or names k [] ≢ id)

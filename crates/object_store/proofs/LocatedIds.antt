@@ -3,12 +3,10 @@ use Rattle.std.proofs.Common.{◌≡◌, ◌∙◌, ℕ, ◌+◌, ◌<◌, inr, 
 use Rattle.std.specs.List.{All}
 use Rattle.std.proofs.lemmas.List.{map-append, take_more}
 use Rattle.std.proofs.lemmas.List.Elements.{All-push}
-use Rattle.gix_hash.specs.ObjectId.{id_digits}
+use Rattle.gix_hash.specs.Ids.{id_digits}
 use Rattle.gix_hash.specs.declared.ObjectId.{ObjectId}
-use Rattle.object_store.specs.Parts.{AreMatches}
+use Rattle.object_store.specs.Stores.{AreMatches, IsLocateFault, IsLocationsFault, StoreView}
 use Rattle.object_store.specs.Several.{IsLocated}
-use Rattle.object_store.specs.Stores.{IsLocateFault, IsLocationsFault}
-use Rattle.object_store.specs.Views.{StoreView}
 use Rattle.object_store.specs.declared.error.Error.{Error}
 use Rattle.object_store.specs.declared.locations.LocatedId.{LocatedId}
 

@@ -10,7 +10,7 @@ use Rattle.std.proofs.lemmas.List.Folds.{Any-from_list_any, list_any-from_Any}
 use Rattle.std.proofs.lemmas.List.Quantifiers.{position-Some}
 use Rattle.std.proofs.lemmas.Option.{none-some, same_Some}
 use Rattle.gix_hash.specs.declared.Kind.{Kind}
-use Rattle.object_store.specs.Locations.{HasObjectAt, offset_of, packed_at, packed_locations, locations_of}
+use Rattle.object_store.specs.Stores.{HasObjectAt, offset_of, packed_at, packed_locations, locations_of}
 use Rattle.object_store.specs.declared.locations.Location.{Location}
 use Rattle.object_store.specs.declared.locations.Location.TheVariants.{Packed, Loose}
 use Rattle.object_store.proofs.Located.{offset_some}

@@ -9,9 +9,9 @@ use Rattle.std.proofs.lemmas.List.{drop-map, length-append, length-drop, length-
 use Rattle.std.proofs.lemmas.List.Elements.{All-contains, All-from_all_within, Contains-get_or}
 use Rattle.std.proofs.lemmas.List.Folds.{Any-from_list_any, list_any-from_Any}
 use Rattle.std.proofs.lemmas.List.Sums.{count_by-le-length}
-use Rattle.gix_hash.specs.Kind.{hex_len_of, number_of}
-use Rattle.gix_hash.specs.ObjectId.{id_digits}
-use Rattle.gix_hash.specs.Prefix.{KindDigits}
+use Rattle.gix_hash.specs.Kinds.{hex_len_of, number_of}
+use Rattle.gix_hash.specs.Ids.{id_digits}
+use Rattle.gix_hash.specs.Prefixes.{KindDigits}
 use Rattle.gix_hash.specs.declared.Kind.{Kind}
 use Rattle.gix_hash.specs.declared.Kind.TheVariants.{Sha1, Sha256}
 use Rattle.gix_hash.specs.declared.ObjectId.{ObjectId}
@@ -19,12 +19,8 @@ use Rattle.id_lookup.proofs.Filters.{contains_had, contains_kept, kept_passes}
 use Rattle.id_lookup.proofs.FirstByteCounts.{count_by-up_to}
 use Rattle.id_lookup.proofs.Indexes.{not_other, same_kind}
 use Rattle.id_lookup.proofs.Spelled.{starts_with-BeginsWith}
-use Rattle.id_lookup.specs.FirstBytes.{is_below, is_up_to}
-use Rattle.id_lookup.specs.FoundRun.{IsRun}
-use Rattle.id_lookup.specs.Index.{IsIndex}
-use Rattle.id_lookup.specs.IndexOf.{part_of}
-use Rattle.id_lookup.specs.Runs.{matches}
-use Rattle.id_lookup.specs.Sorted.{least_hex_len}
+use Rattle.id_lookup.specs.Runs.{IsRun, is_below, is_up_to, least_hex_len, matches}
+use Rattle.id_lookup.specs.Indexes.{IsIndex, part_of}
 use Rattle.id_lookup.specs.declared.search.Run.{Run}
 
 -- the ids with a first byte, by how many come before them

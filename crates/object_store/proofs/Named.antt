@@ -9,16 +9,13 @@ use Rattle.std.proofs.lemmas.Option.{get_or_from_slice_get}
 use Rattle.std.proofs.lemmas.List.{get_or_append_left, get_or_default, get_or-map, length-append, length-map, length-take-le, map-append}
 use Rattle.std.proofs.lemmas.List.Elements.{Contains-get_or}
 use Rattle.gix_hash.specs.Digits.{first_byte_of}
-use Rattle.gix_hash.specs.Kind.{hex_len_of}
-use Rattle.gix_hash.specs.ObjectId.{id_digits}
-use Rattle.gix_hash.specs.Prefix.{KindDigits}
+use Rattle.gix_hash.specs.Kinds.{hex_len_of}
+use Rattle.gix_hash.specs.Ids.{id_digits}
+use Rattle.gix_hash.specs.Prefixes.{KindDigits}
 use Rattle.gix_hash.specs.declared.Kind.{Kind}
 use Rattle.gix_hash.specs.declared.ObjectId.{ObjectId}
-use Rattle.id_lookup.specs.FirstBytes.{has_first_byte}
-use Rattle.id_lookup.specs.Index.{IsIndex}
-use Rattle.id_lookup.specs.IndexOf.{part_of}
-use Rattle.id_lookup.specs.Runs.{matches}
-use Rattle.id_lookup.specs.ShortNames.{IsShortestNameFrom}
+use Rattle.id_lookup.specs.Runs.{has_first_byte, matches}
+use Rattle.id_lookup.specs.Indexes.{IsIndex, IsShortestNameFrom, part_of}
 use Rattle.id_lookup.proofs.Beginnings.{first_byte_of-begins, same_test, test_same}
 use Rattle.id_lookup.proofs.Filters.{contains_kept, kept_passes}
 use Rattle.id_lookup.proofs.NamesInPart.{name-whole}

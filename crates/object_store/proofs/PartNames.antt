@@ -7,20 +7,17 @@ use Rattle.std.proofs.lemmas.Bool.{cases_lt}
 use Rattle.std.proofs.lemmas.List.{get_or-map, get_or-take, get_or_append_left, get_or_default, length-append, length-map, length-take-le, take_all}
 use Rattle.std.proofs.lemmas.List.Elements.{Contains-append_left, Contains-append_right, Contains-get_or, filter-append}
 use Rattle.gix_hash.specs.Digits.{first_byte_of}
-use Rattle.gix_hash.specs.ObjectId.{id_digits}
+use Rattle.gix_hash.specs.Ids.{id_digits}
 use Rattle.gix_hash.specs.declared.Kind.{Kind}
 use Rattle.gix_hash.specs.declared.ObjectId.{ObjectId}
-use Rattle.id_lookup.specs.IndexOf.{IsIndexOf, part_of}
+use Rattle.id_lookup.specs.Indexes.{IsIndexOf, part_of}
 use Rattle.id_lookup.specs.Runs.{matches}
 use Rattle.id_lookup.proofs.Beginnings.{first_byte_of-begins, matches-part, same_test, test_same}
 use Rattle.id_lookup.proofs.Filters.{contains_kept, kept_passes}
-use Rattle.object_store.specs.Parts.{AreBuckets, AreFirstBuckets, HavePassing}
-use Rattle.object_store.specs.Stores.{IfKnown}
-use Rattle.object_store.specs.Views.{StoreView}
+use Rattle.object_store.specs.Stores.{AreBuckets, AreFirstBuckets, HavePassing, StoreView}
+use Rattle.pack_index.specs.Lazy.{BucketNames, HasBucket, IfKnown, IsBucketOf, IsFirstCounted, LazyIndex}
 use Rattle.object_store.proofs.Held.{IsPackAt, as_many, filter-flat_map, flat_map-take, known_at}
-use Rattle.pack_index.specs.Firsts.{Each}
-use Rattle.pack_index.specs.Format.{HasCount, IsPackIndex, names_in}
-use Rattle.pack_index.specs.Lazy.{BucketNames, HasBucket, IsBucketOf, IsFirstCounted, LazyIndex}
+use Rattle.pack_index.specs.Format.{Each, HasCount, IsPackIndex, names_in}
 use Rattle.pack_index.proofs.LookedUp.{counted_within}
 
 -- one bucket more

@@ -5,9 +5,9 @@ use Rattle.std.proofs.lemmas.Bool.{cases_lt}
 use Rattle.std.proofs.lemmas.List.Elements.{Contains-get_or}
 use Rattle.std.proofs.lemmas.List.{get_or_default, get_or-map, get_or-set_same, get_or-set_other, length-map, length-set}
 use Rattle.gix_hash.specs.Digits.{first_byte_of}
-use Rattle.gix_hash.specs.Prefix.{KindDigits}
+use Rattle.gix_hash.specs.Prefixes.{KindDigits}
 use Rattle.gix_hash.specs.declared.Kind.{Kind}
-use Rattle.object_store.specs.Parts.{AreFoundOfEach, AreFoundOrPending, IsOfOne, StayFound}
+use Rattle.object_store.specs.Stores.{AreFoundOfEach, AreFoundOrPending, IsOfOne, StayFound}
 use Rattle.object_store.specs.declared.error.Error.{Error}
 use Rattle.object_store.specs.declared.error.Error.TheVariants.{Index, Memory}
 

@@ -4,16 +4,14 @@ use Rattle.std.specs.Prelude.{slice_index}
 use Rattle.std.specs.List.{All, flat_map, starts_with}
 use Rattle.std.proofs.lemmas.List.Elements.{All-append, All-contains, All-from_all_within, All-head, All-map, All-tail, Contains-get_or}
 use Rattle.gix_hash.specs.Digits.{digits_of, first_byte_of}
-use Rattle.gix_hash.specs.Kind.{hex_len_of}
+use Rattle.gix_hash.specs.Kinds.{hex_len_of}
 use Rattle.gix_hash.specs.declared.Kind.{Kind}
 use Rattle.gix_hash.specs.declared.Kind.TheVariants.{Sha1, Sha256}
-use Rattle.id_lookup.specs.FirstBytes.{has_first_byte}
-use Rattle.id_lookup.specs.IndexOf.{part_of}
-use Rattle.id_lookup.specs.Runs.{matches}
+use Rattle.id_lookup.specs.Runs.{has_first_byte, matches}
+use Rattle.id_lookup.specs.Indexes.{part_of}
 use Rattle.id_lookup.proofs.Beginnings.{first_byte_of-begins, same_test, test_same}
 use Rattle.id_lookup.proofs.Spelled.{starts_with-BeginsWith}
-use Rattle.object_store.specs.Stores.{Holds}
-use Rattle.object_store.specs.Views.{StoreView}
+use Rattle.object_store.specs.Stores.{Holds, StoreView}
 use Rattle.pack_index.specs.Format.{names_in}
 
 -- the second digit of an id is below 16

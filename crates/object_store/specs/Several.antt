@@ -2,13 +2,11 @@
 use Rattle.std.specs.Prelude.{◌≡◌, ℕ, ◌<◌, List, [], ◌∷◌, length, map, string_bytes}
 use Rattle.std.specs.List.{All}
 use Rattle.gix_hash.specs.Digits.{first_byte_of}
-use Rattle.gix_hash.specs.ObjectId.{id_digits}
-use Rattle.gix_hash.specs.Prefix.{KindDigits}
+use Rattle.gix_hash.specs.Ids.{id_digits}
+use Rattle.gix_hash.specs.Prefixes.{KindDigits}
 use Rattle.gix_hash.specs.declared.Kind.{Kind}
 use Rattle.id_lookup.specs.Runs.{matches}
-use Rattle.object_store.specs.Parts.{AreFoundOfEach, AreLocations, AreMatches, IsOfOne}
-use Rattle.object_store.specs.Stores.{HaveBuckets, Holds, IsLocationsFault, IsNameIn, IsOfKind}
-use Rattle.object_store.specs.Views.{StoreView}
+use Rattle.object_store.specs.Stores.{AreFoundOfEach, AreLocations, AreMatches, HaveBuckets, Holds, IsLocationsFault, IsNameIn, IsOfKind, IsOfOne, StoreView}
 use Rattle.object_store.specs.declared.error.Error.{Error}
 use Rattle.object_store.specs.declared.locations.LocatedId.{LocatedId}
 use Rattle.object_store.specs.declared.naming.Abbreviation.{Abbreviation}

@@ -2,8 +2,8 @@
 
 ghost use Rattle.std.specs.Prelude.{◌≡◌, ◌<◌, ◌+◌, All, IfErr, IfOk, None, OnOk, Some, length, map, slice_index_or};
 ghost use Rattle.gix_hash.specs.Digits.{first_byte_of};
-ghost use Rattle.gix_hash.specs.Prefix.{KindDigits};
-ghost use Rattle.object_store.specs.Parts.{AreFoundOfEach, AreFoundOrPending, CanLookUp, IsOfOne, StayFound};
+ghost use Rattle.gix_hash.specs.Prefixes.{KindDigits};
+ghost use Rattle.object_store.specs.Stores.{AreFoundOfEach, AreFoundOrPending, CanLookUp, IsOfOne, StayFound};
 
 use crate::error::Error;
 use crate::part::Part;
@@ -15,9 +15,7 @@ use std::alloc::{AllocError, Allocator};
 pub(crate) trait LookUp<S: Store, A: Allocator + Copy> {
     ghost use Rattle.std.specs.Prelude.{◌≡◌, ℕ, IfErr, IfOk, List};
     ghost use Rattle.gix_hash.specs.Digits.{first_byte_of};
-    ghost use Rattle.object_store.specs.Parts.{CanLookUp};
-    ghost use Rattle.object_store.specs.Stores.{IsStoreFault};
-    ghost use Rattle.object_store.specs.Views.{StoreView};
+    ghost use Rattle.object_store.specs.Stores.{CanLookUp, IsStoreFault, StoreView};
     ghost use Rattle.object_store.specs.declared.error.Error.{Error as StoreError};
 
     // What is found.

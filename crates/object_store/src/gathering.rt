@@ -2,11 +2,10 @@
 
 ghost use Rattle.std.specs.Prelude.{◌≡◌, ◌≤◌, ◌++◌, All, IfErr, IfOk, OnOk, flat_map, length, map};
 ghost use Rattle.gix_hash.specs.Digits.{first_byte_of};
-ghost use Rattle.gix_hash.specs.Kind.{hex_len_of};
-ghost use Rattle.gix_hash.specs.ObjectId.{id_digits, id_kind};
+ghost use Rattle.gix_hash.specs.Kinds.{hex_len_of};
+ghost use Rattle.gix_hash.specs.Ids.{id_digits, id_kind};
 ghost use Rattle.id_lookup.specs.Runs.{matches};
-ghost use Rattle.object_store.specs.Parts.{AreMatches, AreMatchesOfEach, CanLookUp, IsFaultOfOne};
-ghost use Rattle.object_store.specs.Stores.{IsStoreFault};
+ghost use Rattle.object_store.specs.Stores.{AreMatches, AreMatchesOfEach, CanLookUp, IsFaultOfOne, IsStoreFault};
 ghost use Rattle.pack_index.specs.Lazy.{BucketNames};
 
 use crate::each::{LookUp, look_up_each};
@@ -77,8 +76,7 @@ struct Matching<A: Allocator> {
 
 impl<S: Store, A: Allocator + Copy> LookUp<S, A> for Matching<A> {
     ghost use Rattle.gix_hash.specs.Digits.{first_byte_of};
-    ghost use Rattle.object_store.specs.Parts.{AreMatches};
-    ghost use Rattle.object_store.specs.Stores.{IsStoreFault};
+    ghost use Rattle.object_store.specs.Stores.{AreMatches, IsStoreFault};
 
     type Found = Vec<ObjectId, A>;
 

@@ -2,11 +2,9 @@
 
 ghost use Rattle.std.specs.Prelude.{◌↔◌, ℕ, ◌<◌, Contains, List, [], length, slice_index_or};
 ghost use Rattle.gix_hash.specs.declared.Kind.{Kind};
-ghost use Rattle.object_store.specs.Locations.{HasObjectAt, locations_of};
-ghost use Rattle.object_store.specs.Stores.{Holds, IsLocateFault, IsIndexReadOrMemory, IsStoreFault};
+ghost use Rattle.object_store.specs.Stores.{HasObjectAt, Holds, IsIndexReadOrMemory, IsLocateFault, IsStoreFault, StoreView, locations_of};
 ghost use Rattle.object_store.specs.declared.error.Error.{Error as StoreError};
 ghost use Rattle.object_store.specs.declared.locations.Location.TheVariants.{Packed, Loose};
-ghost use Rattle.object_store.specs.Views.{StoreView};
 
 /// If the bytes of a store are known and are those of pack indexes, then a look-up fails only
 /// because memory runs out, or a read fails of a pack index that is read from what may fail.

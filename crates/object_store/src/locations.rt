@@ -2,13 +2,10 @@
 
 ghost use Rattle.std.specs.Prelude.{◌≡◌, ◌⊎◌, ℕ, [], ◌∷◌, ◌++◌, ◌≤◌, All, IfErr, IfOk, List, OnOk, Some, length, map};
 ghost use Rattle.gix_hash.specs.Digits.{first_byte_of};
-ghost use Rattle.gix_hash.specs.ObjectId.{id_digits, id_kind};
-ghost use Rattle.object_store.specs.Parts.{AreBuckets, AreLocations, AreMatches, CanLookUp};
+ghost use Rattle.gix_hash.specs.Ids.{id_digits, id_kind};
+ghost use Rattle.object_store.specs.Stores.{AreBuckets, AreLocations, AreMatches, CanLookUp, HasLocation, HaveBuckets, HaveLocations, Holds, IsLocateFault, IsLocationFault, IsLocationsFault, IsStoreFault, offset_of, packed_at, packed_locations};
 ghost use Rattle.object_store.specs.Several.{AreLocated, AreLocatedOfEach, IsLocationsFaultOfOne};
-ghost use Rattle.object_store.specs.Locations.{offset_of, packed_at, packed_locations};
-ghost use Rattle.object_store.specs.Stores.{HasLocation, HaveBuckets, HaveLocations, Holds, IsLocateFault, IsLocationFault, IsLocationsFault, IsStoreFault};
-ghost use Rattle.pack_index.specs.Firsts.{Each};
-ghost use Rattle.pack_index.specs.Format.{HasCount};
+ghost use Rattle.pack_index.specs.Format.{Each, HasCount};
 ghost use Rattle.pack_index.specs.Lazy.{IsBucketOf};
 
 use crate::each::{LookUp, look_up_each};

@@ -1,12 +1,10 @@
 //! The ids of loose objects.
 
 ghost use Rattle.std.specs.Prelude.{◌≡◌, ◌<◌, ◌≤◌, ◌↔◌, All, Contains, IsTrue, count_by, length, map};
-ghost use Rattle.gix_hash.specs.Kind.{hex_len_of};
-ghost use Rattle.gix_hash.specs.ObjectId.{id_digits, id_kind};
-ghost use Rattle.id_lookup.specs.FirstBytes.{is_below};
-ghost use Rattle.id_lookup.specs.Index.{IsIndex};
-ghost use Rattle.id_lookup.specs.IndexOf.{IsIndexOf, part_of};
-ghost use Rattle.id_lookup.specs.Runs.{matches};
+ghost use Rattle.gix_hash.specs.Kinds.{hex_len_of};
+ghost use Rattle.gix_hash.specs.Ids.{id_digits, id_kind};
+ghost use Rattle.id_lookup.specs.Runs.{is_below, matches};
+ghost use Rattle.id_lookup.specs.Indexes.{IsIndex, IsIndexOf, part_of};
 
 use gix_hash::{Kind, ObjectId, Prefix};
 use id_lookup::{FanOut, find_assuming_sorted, laws, sort_unique};
@@ -28,9 +26,9 @@ pub struct LooseTable {
 
 impl Model for LooseTable {
     ghost use Rattle.std.specs.Prelude.{◌≡◌, All, map};
-    ghost use Rattle.gix_hash.specs.ObjectId.{id_digits, id_kind};
-    ghost use Rattle.id_lookup.specs.FirstBytes.{IsFanOut};
-    ghost use Rattle.id_lookup.specs.Index.{Index, IsIndex};
+    ghost use Rattle.gix_hash.specs.Ids.{id_digits, id_kind};
+    ghost use Rattle.id_lookup.specs.Runs.{IsFanOut};
+    ghost use Rattle.id_lookup.specs.Indexes.{Index, IsIndex};
 
     ghost Value = { Index };
 

@@ -2,14 +2,11 @@
 
 ghost use Rattle.std.specs.Prelude.{◌≡◌, ◌≢◌, ◌≤◌, ◌<◌, ◌/◌, ◌%◌, ◌↔◌, ℕ, [], ◌∷◌, All, Contains, List, IfErr, IfOk, IfSome, IsTrue, MatchOption, Some, length, map, slice_get, slice_index_or, take};
 ghost use Rattle.gix_hash.specs.Digits.{first_byte_of};
-ghost use Rattle.gix_hash.specs.Kind.{hex_len_of};
-ghost use Rattle.gix_hash.specs.ObjectId.{id_digits, id_kind};
-ghost use Rattle.id_lookup.specs.Index.{IsIndex};
-ghost use Rattle.id_lookup.specs.IndexOf.{part_of};
-ghost use Rattle.id_lookup.specs.ShortNames.{IsShortestNameFrom};
-ghost use Rattle.object_store.specs.Parts.{CanLookUp, IsFaultOfOne};
+ghost use Rattle.gix_hash.specs.Kinds.{hex_len_of};
+ghost use Rattle.gix_hash.specs.Ids.{id_digits, id_kind};
+ghost use Rattle.id_lookup.specs.Indexes.{IsIndex, IsShortestNameFrom, part_of};
+ghost use Rattle.object_store.specs.Stores.{CanLookUp, HaveBuckets, Holds, IsFaultOfOne, IsNameIn, IsOfKind, IsStoreFault};
 ghost use Rattle.object_store.specs.Several.{AreAbbreviatedOfEach, IsAbbreviationOfKind};
-ghost use Rattle.object_store.specs.Stores.{HaveBuckets, Holds, IsNameIn, IsOfKind, IsStoreFault};
 
 use crate::each::{LookUp, look_up_each};
 use crate::error::Error;
@@ -56,8 +53,8 @@ pub enum Abbreviation {
 }
 
 /// The abbreviation of the only id that begins with a prefix, for each of several prefixes, in
-/// their order. Abbreviations have at least `least` digits, which must be from 4 to 40 or 64, by the
-/// kind.
+/// their order. Abbreviations have at least `least` digits, which must be from 4 to 40 or 64, by
+/// the kind.
 ///
 /// Each prefix must have 2 digits or more, and the store's kind. Of each pack index the ids with a
 /// first byte are read once, if a prefix has it, and memory is allocated for those with one first
@@ -97,7 +94,7 @@ struct Abbreviating<A: Allocator> {
 impl<S: Store, A: Allocator + Copy> LookUp<S, A> for Abbreviating<A> {
     ghost use Rattle.std.specs.Prelude.{◌≤◌};
     ghost use Rattle.gix_hash.specs.Digits.{first_byte_of};
-    ghost use Rattle.gix_hash.specs.Kind.{hex_len_of};
+    ghost use Rattle.gix_hash.specs.Kinds.{hex_len_of};
     ghost use Rattle.object_store.specs.Several.{IsAbbreviated};
     ghost use Rattle.object_store.specs.Stores.{IsStoreFault};
 

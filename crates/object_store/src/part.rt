@@ -2,10 +2,9 @@
 
 ghost use Rattle.std.specs.Prelude.{◌≡◌, ◌∷◌, [], ◌++◌, ◌≤◌, ℕ, Contains, IfErr, IfOk, IfSome, List, MatchOption, OnOk, length};
 ghost use Rattle.gix_hash.specs.Digits.{first_byte_of};
-ghost use Rattle.gix_hash.specs.Kind.{hex_len_of};
-ghost use Rattle.gix_hash.specs.ObjectId.{id_digits, id_kind};
-ghost use Rattle.object_store.specs.Parts.{AreLocations, AreMatches};
-ghost use Rattle.object_store.specs.Stores.{HaveBuckets, Holds, IsLocateFault, IsNameIn, IsStoreFault};
+ghost use Rattle.gix_hash.specs.Kinds.{hex_len_of};
+ghost use Rattle.gix_hash.specs.Ids.{id_digits, id_kind};
+ghost use Rattle.object_store.specs.Stores.{AreLocations, AreMatches, HaveBuckets, Holds, IsLocateFault, IsNameIn, IsStoreFault};
 
 use crate::error::Error;
 use crate::gathering::{push_all, push_packed};
@@ -35,8 +34,7 @@ pub struct Part<'s, S: Store, A: Allocator> {
 }
 
 impl<'s, S: Store, A: Allocator> Model for Part<'s, S, A> {
-    ghost use Rattle.object_store.specs.Parts.{AreBuckets};
-    ghost use Rattle.object_store.specs.Views.{PartView};
+    ghost use Rattle.object_store.specs.Stores.{AreBuckets, PartView};
 
     ghost Value = { PartView };
 

@@ -17,7 +17,7 @@ use streams::ReadAt;
 /// ```
 pub trait Store {
     ghost use Rattle.std.specs.Prelude.{◌≡◌, All};
-    ghost use Rattle.object_store.specs.Views.{StoreView};
+    ghost use Rattle.object_store.specs.Stores.{StoreView};
 
     /// What the bytes of a pack index are read from.
     type Source: ReadAt + Drop;
@@ -50,7 +50,7 @@ pub trait Store {
 /// ```
 pub trait StorePaths: Store {
     ghost use Rattle.std.specs.Prelude.{◌≡◌, ℕ, IfOk, List, map, string_bytes};
-    ghost use Rattle.gix_hash.specs.ObjectId.{id_digits};
+    ghost use Rattle.gix_hash.specs.Ids.{id_digits};
 
     /// The path of each pack, by the position of its pack index.
     ghost pack_path: { Self → ℕ → List ℕ };

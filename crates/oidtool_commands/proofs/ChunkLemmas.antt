@@ -7,24 +7,20 @@ use Rattle.std.proofs.lemmas.Grind.{flat_map-append}
 use Rattle.std.specs.Prelude.{All, IsOk, flat_map}
 use Rattle.std.specs.List.{slice_range}
 use Rattle.std.specs.Result.{result_ok}
-use Rattle.gix_hash.specs.Digits.{hex_letter}
-use Rattle.gix_hash.specs.IdReading.{full_read, whole_of}
-use Rattle.gix_hash.specs.Kind.{kind_of_full_len}
-use Rattle.gix_hash.specs.ObjectId.{id_digits}
-use Rattle.gix_hash.specs.Prefix.{KindDigits}
-use Rattle.gix_hash.specs.Reading.{digit_below, digit_in, digits_read, put_digit, reading_of}
+use Rattle.gix_hash.specs.Digits.{digit_below, digit_in, digits_read, hex_letter, put_digit}
+use Rattle.gix_hash.specs.Reading.{full_read, reading_of, whole_of}
+use Rattle.gix_hash.specs.Kinds.{kind_of_full_len}
+use Rattle.gix_hash.specs.Ids.{id_digits}
+use Rattle.gix_hash.specs.Prefixes.{KindDigits}
 use Rattle.gix_hash.specs.declared.decode.Error.{Error}
 use Rattle.gix_hash.specs.declared.decode.Error.TheVariants.{InvalidHexEncodingLength, Invalid}
 use Rattle.gix_hash.specs.declared.Kind.{Kind}
 use Rattle.gix_hash.specs.declared.ObjectId.{ObjectId}
-use Rattle.oidtool_commands.specs.Lines.{is_line_feed, lines_of}
-use Rattle.oidtool_commands.specs.ListChunks.{IsLine, ended, NoBadLineEnded, HasTaken, HasIdLine, Takes}
-use Rattle.oidtool_commands.specs.ListText.{prepend_line, ids_read, list_read, IsFirstRead, IsListRefusal}
+use Rattle.oidtool_commands.specs.Lists.{HasIdLine, HasTaken, IsFirstRead, IsLine, IsListRefusal, NoBadLineEnded, Takes, ended, ids_read, is_line_feed, lines_of, lines_of-nil, list_read, prepend_line}
 use Rattle.oidtool_commands.specs.declared.search.error.SearchError.{SearchError}
 use Rattle.oidtool_commands.specs.declared.search.list_reader.ListReader.{ListReader}
 use Rattle.oidtool_commands.specs.declared.search.error.SearchError.TheVariants.{BadLine, Memory}
 use Rattle.oidtool_commands.proofs.LineLemmas.{lines_of-ended, lines_of-last}
-use Rattle.oidtool_commands.specs.Lines.{lines_of-nil}
 use Rattle.std.proofs.lemmas.List.{nil_from_length}
 
 -- whole lines, and then more

@@ -1,11 +1,11 @@
 -- Words by their number, and words that are rejected.
 use Rattle.std.proofs.Common.{ℕ, List, [], ◌∷◌, refl}
 use Rattle.std.specs.Prelude.{codes}
-use Rattle.gix_hash.specs.Kind.{IsNameOf}
+use Rattle.gix_hash.specs.Kinds.{IsNameOf}
 use Rattle.gix_hash.specs.declared.Kind.{Kind}
 use Rattle.oidtool_commands.specs.declared.command.ArgError.{ArgError}
 use Rattle.oidtool_commands.specs.declared.command.ArgError.TheVariants.{Usage, BadKind, BadNumber}
-use Rattle.oidtool_commands.specs.Command.{TakesKind, IsKindRefusal, IsNumberRefusal, IsWordsRefusal}
+use Rattle.oidtool_commands.specs.Commands.{TakesKind, IsKindRefusal, IsNumberRefusal, IsWordsRefusal}
 
 -- a word that is rejected as a kind, in the words of its command
 pub refuses_kind : (words : List (List ℕ)) (word : List ℕ) (e : ArgError) → TakesKind words word → IsKindRefusal word e → IsWordsRefusal words e

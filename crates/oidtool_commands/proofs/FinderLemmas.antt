@@ -7,11 +7,10 @@ use Rattle.std.proofs.lemmas.List.Sums.{length-filter, count_by-le-length}
 use Rattle.std.specs.Option.{option_map, option_or, is_some}
 use Rattle.std.specs.Prelude.{nat_eq}
 use Rattle.std.specs.List.{starts_with}
-use Rattle.gix_hash.specs.ObjectId.{id_digits}
+use Rattle.gix_hash.specs.Ids.{id_digits}
 use Rattle.gix_hash.specs.declared.ObjectId.{ObjectId}
-use Rattle.id_lookup.specs.Runs.{matches}
-use Rattle.id_lookup.specs.Sorted.{least_hex_len}
-use Rattle.oidtool_commands.specs.Searching.{order_error, error_of_all, first_refused, last_or, IsLeast, HasFound}
+use Rattle.id_lookup.specs.Runs.{least_hex_len, matches}
+use Rattle.oidtool_commands.specs.Searches.{order_error, error_of_all, first_refused, last_or, IsLeast, HasFound}
 use Rattle.oidtool_commands.specs.declared.search.error.SearchError.{SearchError}
 use Rattle.oidtool_commands.specs.declared.search.error.SearchError.TheVariants.{PrefixTooLong}
 use Rattle.oidtool_commands.specs.declared.search.finder.Finder.{Finder}

@@ -8,12 +8,11 @@ use Rattle.std.specs.Result.{result_ok}
 use Rattle.std.specs.Ordering.{nat_cmp, is_lt, is_le, ordering_reverse}
 use Rattle.std.specs.Cmp.Lexicographic.{slice_cmp}
 use Rattle.std.specs.declared.cmp.Ordering.{Ordering}
-use Rattle.gix_hash.specs.Digits.{digits_of, hex_letter}
-use Rattle.gix_hash.specs.IdReading.{full_read, whole_of}
-use Rattle.gix_hash.specs.Kind.{hex_len_of, byte_len_of, kind_of_full_len}
-use Rattle.gix_hash.specs.ObjectId.{id_digits}
-use Rattle.gix_hash.specs.Prefix.{KindDigits, place}
-use Rattle.gix_hash.specs.Reading.{reading_of}
+use Rattle.gix_hash.specs.Digits.{digits_of, hex_letter, place}
+use Rattle.gix_hash.specs.Reading.{full_read, reading_of, whole_of}
+use Rattle.gix_hash.specs.Kinds.{hex_len_of, byte_len_of, kind_of_full_len}
+use Rattle.gix_hash.specs.Ids.{id_digits}
+use Rattle.gix_hash.specs.Prefixes.{KindDigits}
 use Rattle.gix_hash.specs.declared.Kind.{Kind}
 use Rattle.gix_hash.specs.declared.Kind.TheVariants.{Sha1, Sha256}
 use Rattle.gix_hash.specs.declared.ObjectId.{ObjectId}
@@ -21,14 +20,12 @@ use Rattle.gix_hash.specs.declared.ObjectId.TheVariants as id
 use Rattle.gix_hash.specs.declared.decode.Error.{Error}
 use Rattle.gix_hash.specs.declared.decode.Error.TheVariants.{InvalidHexEncodingLength, Invalid}
 use Rattle.gix_hash.proofs.KindFacts.{hex_len_of-bytes}
-use Rattle.id_digits.specs.LetterValues.{value_of, packed}
-use Rattle.id_digits.specs.SortedLines.{is_line_len, line_values, may_follow, IsIdLine, AreSortedLines}
+use Rattle.id_digits.specs.Letters.{AreSortedLines, IsIdLine, is_line_len, line_values, may_follow, packed, value_of}
 use Rattle.id_digits.proofs.ReadLines.{length-letters, packed_line, line_reads}
-use Rattle.id_lookup.specs.Sorted.{IsSortedIds, least_hex_len}
+use Rattle.id_lookup.specs.Runs.{IsSortedIds, least_hex_len}
 use Rattle.id_lookup.proofs.Indexes.{index-sorted}
 use Rattle.id_lookup.proofs.OutsidePrefixes.{no_matches}
-use Rattle.oidtool_commands.specs.Searching.{late_error, IsLeast}
-use Rattle.oidtool_commands.specs.Skipping.{TakesLength, allows_repeats, IsLineOfId, AreLinesOf, CanSkip}
+use Rattle.oidtool_commands.specs.Searches.{AreLinesOf, CanSkip, IsLeast, IsLineOfId, TakesLength, allows_repeats, late_error}
 use Rattle.oidtool_commands.specs.declared.search.error.SearchError.TheVariants.{Unsorted, NotRising}
 use Rattle.oidtool_commands.specs.declared.search.Search.{Search}
 use Rattle.oidtool_commands.specs.declared.search.Search.TheVariants.{Sorted, In}

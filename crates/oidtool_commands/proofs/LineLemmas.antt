@@ -4,7 +4,7 @@ use Rattle.std.proofs.lemmas.List.Splits.{slice_split_at, slice_split_none, leng
 use Rattle.std.proofs.lemmas.Bool.Decides.{nat_tests}
 use Rattle.std.specs.Prelude.{All}
 use Rattle.std.specs.List.{slice_split}
-use Rattle.oidtool_commands.specs.Lines.{lines_of, is_line_feed, without_empty_last}
+use Rattle.oidtool_commands.specs.Lists.{lines_of, is_line_feed, without_empty_last}
 
 -- a first part that ends is followed by the other lines
 pub without_empty_last-cons : (part : List ℕ) (parts : List (List ℕ)) → parts ≢ [] → without_empty_last (part ∷ parts) ≡ part ∷ without_empty_last parts

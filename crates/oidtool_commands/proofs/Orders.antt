@@ -8,11 +8,11 @@ use Rattle.std.specs.Ordering.{nat_cmp, is_lt}
 use Rattle.std.specs.Cmp.Lexicographic.{slice_cmp}
 use Rattle.std.specs.declared.cmp.Ordering.{Ordering}
 use Rattle.std.specs.declared.cmp.Ordering.TheVariants.{Less, Equal, Greater}
-use Rattle.gix_hash.specs.Kind.{hex_len_of}
+use Rattle.gix_hash.specs.Kinds.{hex_len_of}
 use Rattle.gix_hash.specs.declared.Kind.{Kind}
-use Rattle.id_lookup.specs.Index.{IsIndexUpTo, IsWrongKind, IsNotRising}
-use Rattle.id_lookup.specs.Sorted.{IsFirstUnsorted}
-use Rattle.oidtool_commands.specs.Searching.{order_error, first_refused, is_above, late_error}
+use Rattle.id_lookup.specs.Indexes.{IsIndexUpTo, IsWrongKind, IsNotRising}
+use Rattle.id_lookup.specs.Runs.{IsFirstUnsorted}
+use Rattle.oidtool_commands.specs.Searches.{order_error, first_refused, is_above, late_error}
 use Rattle.oidtool_commands.specs.declared.search.error.SearchError.{SearchError}
 use Rattle.oidtool_commands.specs.declared.search.error.SearchError.TheVariants.{Unsorted, WrongKind, NotRising}
 use Rattle.oidtool_commands.specs.declared.search.Search.{Search}

@@ -6,15 +6,13 @@ use Rattle.std.specs.List.{AllZip}
 use Rattle.std.specs.Option.{option_or}
 use Rattle.std.specs.Prelude.{All}
 use Rattle.gix_hash.specs.Digits.{hex_letter}
-use Rattle.gix_hash.specs.IdReading.{full_read}
-use Rattle.gix_hash.specs.Prefix.{KindDigits}
+use Rattle.gix_hash.specs.Reading.{full_read}
+use Rattle.gix_hash.specs.Prefixes.{KindDigits}
 use Rattle.gix_hash.specs.declared.decode.Error.{Error}
 use Rattle.gix_hash.specs.declared.prefix.from_hex.Error.{Error as PrefixError}
-use Rattle.id_lookup.specs.Runs.{matches}
-use Rattle.id_lookup.specs.Sorted.{least_hex_len}
-use Rattle.oidtool_commands.specs.Lines.{lines_of}
-use Rattle.oidtool_commands.specs.ListText.{prepend_line, ids_read, list_read, IsLineOf, IsFirstBad}
-use Rattle.oidtool_commands.specs.Searching.{IsSearch, error_of_all, error_or, finding, first_refused, found_among, found_texts, prefix_of, FoundHolds, ResultHolds}
+use Rattle.id_lookup.specs.Runs.{least_hex_len, matches}
+use Rattle.oidtool_commands.specs.Lists.{IsFirstBad, IsLineOf, ids_read, lines_of, list_read, prepend_line}
+use Rattle.oidtool_commands.specs.Searches.{IsSearch, error_of_all, error_or, finding, first_refused, found_among, found_texts, prefix_of, FoundHolds, ResultHolds}
 use Rattle.oidtool_commands.specs.declared.search.error.SearchError.{SearchError}
 use Rattle.oidtool_commands.specs.declared.search.error.SearchError.TheVariants.{Prefix, BadLine, Unsorted, PrefixTooLong, WrongKind, NotRising}
 use Rattle.oidtool_commands.specs.declared.search.Search.{Search}

@@ -6,14 +6,12 @@ use Rattle.std.proofs.Math.Nat.{suc-mul}
 use Rattle.std.specs.Prelude.{OnOk}
 use Rattle.std.specs.List.{slice_range}
 use Rattle.std.specs.Simd.{first_chunks}
-use Rattle.gix_hash.specs.IdReading.{whole_of}
-use Rattle.gix_hash.specs.ObjectId.{id_digits}
+use Rattle.gix_hash.specs.Reading.{whole_of}
+use Rattle.gix_hash.specs.Ids.{id_digits}
 use Rattle.gix_hash.specs.declared.ObjectId.{ObjectId}
-use Rattle.id_digits.specs.SortedLines.{is_line_len}
-use Rattle.oidtool_commands.specs.ListChunks.{HasTaken, HasIdLine, Takes, IsRefusalAfter, ended}
-use Rattle.oidtool_commands.specs.ListText.{IsListRefusal}
-use Rattle.oidtool_commands.specs.Skipping.{AreLinesOf, HasSkipped, HasSearched, Searches, IsRefusedIn}
-use Rattle.oidtool_commands.specs.Searching.{HasFound}
+use Rattle.id_digits.specs.Letters.{is_line_len}
+use Rattle.oidtool_commands.specs.Lists.{HasIdLine, HasTaken, IsListRefusal, IsRefusalAfter, Takes, ended}
+use Rattle.oidtool_commands.specs.Searches.{AreLinesOf, HasFound, HasSearched, HasSkipped, IsRefusedIn, Searches}
 use Rattle.oidtool_commands.specs.declared.search.error.SearchError.{SearchError}
 use Rattle.oidtool_commands.specs.declared.search.error.SearchError.TheVariants.{Memory}
 use Rattle.oidtool_commands.specs.declared.search.finder.Finder.{Finder}

@@ -5,8 +5,8 @@ use Rattle.std.proofs.KnownBytes.{Consumes-nil, Consumes-trans, Consumes-kept}
 use Rattle.std.specs.Io.KnownBytes.{Consumes, Keeps, IsAtEnd}
 use Rattle.std.proofs.Math.Seq.{take-append_seam}
 use Rattle.gix_hash.specs.declared.ObjectId.{ObjectId}
-use Rattle.oidtool_commands.specs.Stopping.{HoldsOfAll, IsSettled, GivesGoodLines, GivesTooMuch}
-use Rattle.oidtool_commands.specs.ListChunks.{HasTaken, NoBadLineEnded}
+use Rattle.oidtool_commands.specs.Searches.{HoldsOfAll, IsSettled, GivesGoodLines, GivesTooMuch}
+use Rattle.oidtool_commands.specs.Lists.{HasTaken, NoBadLineEnded}
 use Rattle.oidtool_commands.proofs.ChunkLemmas.{no_bad_line}
 
 -- the reader has taken all bytes read so far, and `room` bytes more are the most that it may

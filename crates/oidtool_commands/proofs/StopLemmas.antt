@@ -4,15 +4,14 @@ use Rattle.std.proofs.lemmas.Bool.{false≢true}
 use Rattle.std.specs.Result.{MatchResult, result_map_both}
 use Rattle.std.specs.Io.KnownBytes.{Appends}
 use Rattle.std.proofs.lemmas.List.{length-map}
-use Rattle.gix_hash.specs.ObjectId.{id_digits}
+use Rattle.gix_hash.specs.Ids.{id_digits}
 use Rattle.gix_hash.specs.declared.ObjectId.{ObjectId}
-use Rattle.streams.specs.Printing.{printed}
+use Rattle.streams.specs.Streams.{printed}
 use Rattle.oidtool_commands.specs.declared.search.query.Query.{Query}
-use Rattle.gix_hash.specs.Prefix.{KindDigits}
+use Rattle.gix_hash.specs.Prefixes.{KindDigits}
 use Rattle.gix_hash.specs.declared.prefix.from_hex.Error.{Error as PrefixError}
-use Rattle.oidtool_commands.specs.ListText.{list_read, IsListRefusal}
-use Rattle.oidtool_commands.specs.Searching.{found_among, found_in_list, found_texts, letter_for, prefix_of}
-use Rattle.oidtool_commands.specs.Stopping.{Given, From, Fails, Finds, HoldsOfAll, IsOwn, IsSettled, OfAll, Stops}
+use Rattle.oidtool_commands.specs.Lists.{list_read, IsListRefusal}
+use Rattle.oidtool_commands.specs.Searches.{Fails, Finds, From, Given, HoldsOfAll, IsOwn, IsSettled, OfAll, Stops, found_among, found_in_list, found_texts, letter_for, prefix_of}
 use Rattle.oidtool_commands.specs.declared.search.error.SearchError.{SearchError}
 use Rattle.oidtool_commands.specs.declared.search.error.SearchError.TheVariants.{Prefix, BadLine, Unsorted, PrefixTooLong, WrongKind, NotRising, Memory, Output, Input}
 use Rattle.oidtool_commands.specs.declared.search.Search.{Search}

@@ -1,8 +1,8 @@
 //! The command line.
 
 ghost use Rattle.std.specs.Prelude.{[], ◌∷◌, IfOk, IfErr};
-ghost use Rattle.gix_hash.specs.Kind.{IsNameOf};
-ghost use Rattle.oidtool_commands.specs.Command.{AsksFor, IsNumberOf, IsKindRefusal, IsNumberRefusal, IsWordsRefusal, texts_of};
+ghost use Rattle.gix_hash.specs.Kinds.{IsNameOf};
+ghost use Rattle.oidtool_commands.specs.Commands.{AsksFor, IsNumberOf, IsKindRefusal, IsNumberRefusal, IsWordsRefusal, texts_of};
 
 use gix_hash::Kind;
 use std::fmt;

@@ -37,7 +37,7 @@ pub enum CommandError {
 }
 
 impl From<PipeError> for CommandError {
-    ghost use Rattle.oidtool_commands.specs.Running.{error_of_pipe};
+    ghost use Rattle.oidtool_commands.specs.Commands.{error_of_pipe};
 
     ghost from_gives = { λ error e. e ≡ error_of_pipe error };
 
@@ -51,7 +51,7 @@ impl From<PipeError> for CommandError {
 }
 
 impl From<SearchError> for CommandError {
-    ghost use Rattle.oidtool_commands.specs.Running.{error_of_search};
+    ghost use Rattle.oidtool_commands.specs.Commands.{error_of_search};
 
     ghost from_gives = { λ error e. e ≡ error_of_search error };
 

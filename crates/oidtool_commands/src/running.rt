@@ -1,7 +1,7 @@
 //! Running a command over a reader and a writer.
 
 ghost use Rattle.std.specs.Prelude.{◌≡◌, ◌≢◌, ◌↔◌, [], true, false, IfOk, IfErr, OnOk, IsErrOf};
-ghost use Rattle.oidtool_commands.specs.Running.{Does, FailsTo, FailsUnflushed, HashFileFails, WritesOfFile, copies, reads_input};
+ghost use Rattle.oidtool_commands.specs.Commands.{Does, FailsTo, FailsUnflushed, HashFileFails, WritesOfFile, copies, reads_input};
 ghost use Rattle.oidtool_commands.specs.declared.error.CommandError.{CommandError};
 
 use crate::command::Command;

@@ -1,9 +1,9 @@
 //! The searches that read the input to its end.
 
 ghost use Rattle.std.specs.Prelude.{◌≡◌, ◌≢◌, ◌↔◌, true, false, IfOk, IfErr, OnOk, IsErrOf};
-ghost use Rattle.oidtool_commands.specs.Running.{IsDrained, SearchToEndFails};
+ghost use Rattle.oidtool_commands.specs.Commands.{IsDrained, SearchToEndFails};
 ghost use Rattle.oidtool_commands.specs.declared.error.CommandError.{CommandError};
-ghost use Rattle.oidtool_commands.specs.Stopping.{Finds, From};
+ghost use Rattle.oidtool_commands.specs.Searches.{Finds, From};
 
 use crate::error::CommandError;
 use crate::search::error::SearchError;

@@ -2,7 +2,7 @@
 
 ghost use Rattle.std.specs.Prelude.{◌≡◌};
 ghost use Rattle.std.specs.Process.{exit_status as ended_with};
-ghost use Rattle.oidtool_commands.specs.Status.{status_of};
+ghost use Rattle.oidtool_commands.specs.Commands.{status_of};
 
 use crate::command::ArgError;
 use crate::error::CommandError;

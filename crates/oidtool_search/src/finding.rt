@@ -3,8 +3,7 @@
 ghost use Rattle.std.specs.Prelude.{◌≡◌, ◌≢◌, ◌↔◌, ℕ, List, Result, true, false, IfOk, IfErr, IsErrOf};
 ghost use Rattle.gix_hash.specs.declared.Alphabet.{Alphabet};
 ghost use Rattle.oidtool_search.specs.Errors.{cause_of};
-ghost use Rattle.oidtool_commands.specs.Searching.{finding, ResultHolds};
-ghost use Rattle.oidtool_commands.specs.Stopping.{Fails, Finds, IsOfText, IsOwn, Text};
+ghost use Rattle.oidtool_commands.specs.Searches.{Fails, Finds, IsOfText, IsOwn, ResultHolds, Text, finding};
 ghost use Rattle.oidtool_commands.specs.declared.SearchError.{SearchError};
 ghost use Rattle.oidtool_search.specs.declared.finding.FindError.{FindError};
 ghost use Rattle.oidtool_commands.specs.declared.Search.{Search};

@@ -3,8 +3,7 @@
 ghost use Rattle.std.specs.Prelude.{◌≡◌, ◌≢◌, ◌↔◌, true, false, IsErr, IfOk, IfErr, IsErrOf};
 ghost use Rattle.gix_hash.specs.declared.Alphabet.{Alphabet};
 ghost use Rattle.oidtool_search.specs.Errors.{cause_from};
-ghost use Rattle.oidtool_commands.specs.Searching.{prefix_of};
-ghost use Rattle.oidtool_commands.specs.Stopping.{Fails, Finds, From, IsOwn};
+ghost use Rattle.oidtool_commands.specs.Searches.{Fails, Finds, From, IsOwn, prefix_of};
 ghost use Rattle.oidtool_search.specs.declared.finding_from.FindFromError.{FindFromError};
 ghost use Rattle.oidtool_commands.specs.declared.Search.{Search};
 

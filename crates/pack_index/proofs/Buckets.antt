@@ -7,20 +7,19 @@ use Rattle.std.proofs.lemmas.List.{take-take, drop-drop, drop-take, take-map, dr
 use Rattle.std.proofs.lemmas.List.Elements.{All-map, filter_passes}
 use Rattle.std.proofs.lemmas.List.Sums.{count_by-le-length}
 use Rattle.gix_hash.specs.Digits.{digits_of}
-use Rattle.gix_hash.specs.Kind.{byte_len_of}
+use Rattle.gix_hash.specs.Kinds.{byte_len_of}
 use Rattle.gix_hash.specs.declared.Kind.{Kind}
-use Rattle.id_lookup.specs.FirstBytes.{has_first_byte, is_below, is_up_to}
-use Rattle.id_lookup.specs.IndexOf.{part_of}
+use Rattle.id_lookup.specs.Runs.{has_first_byte, is_below, is_up_to}
+use Rattle.id_lookup.specs.Indexes.{part_of}
 use Rattle.id_lookup.proofs.FilterCounted.{filter_counted}
 use Rattle.id_lookup.proofs.FirstByteCounts.{count_by-below_0, count_by-up_to, up_to_step}
 use Rattle.id_lookup.proofs.PartsInOrder.{below-next, part-run}
-use Rattle.pack_index.specs.Firsts.{Each}
-use Rattle.pack_index.specs.Format.{HasCount, HasTables, IsPackIndex, crc_table_start, digests_in, names_in, num_objects}
+use Rattle.pack_index.specs.Format.{Each, HasCount, HasTables, IsPackIndex, crc_table_start, digests_in, names_in, num_objects}
 use Rattle.pack_index.specs.Lazy.{HaveFirstByte, IsBucketFault, IsReadOrMemory, bucket_end, bucket_start, counted_with}
 use Rattle.pack_index.specs.declared.lazy_error.LazyError.{LazyError}
 use Rattle.pack_index.specs.declared.lazy_error.LazyError.TheVariants.{Read, Memory, CountsFall, CountTooHigh, WrongCount}
 use Rattle.pack_index.proofs.Counted.{length-names_in, length-table, as_many}
-use Rattle.streams.specs.ReadAt.{IsReadAt}
+use Rattle.streams.specs.Streams.{IsReadAt}
 
 -- the digests in bytes have the first byte
 pub digests_first : (kind : Kind) (byte : ℕ) (bytes : List ℕ) (chunks : List (List ℕ))

@@ -2,7 +2,7 @@
 use Rattle.std.proofs.Common.{◌≡◌, ℕ, ◌+◌, List, drop, length, take, refl, sym, ap, ◌∙◌, arith, length-append}
 use Rattle.std.proofs.lemmas.List.{drop_at, take_at}
 use Rattle.gix_hash.specs.Hashing.{EndsInDigest, digest}
-use Rattle.gix_hash.specs.ObjectId.{id_bytes}
+use Rattle.gix_hash.specs.Ids.{id_bytes}
 use Rattle.gix_hash.specs.declared.Kind.{Kind}
 use Rattle.gix_hash.proofs.IdDigits.{digest-HasDigits}
 use Rattle.pack_index.specs.Format.{digest_at}

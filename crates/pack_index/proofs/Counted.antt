@@ -3,14 +3,14 @@ use Rattle.std.proofs.Common.{◌≡◌, ℕ, ◌-◌, ◌++◌, ◌*◌, ◌/�
 use Rattle.std.specs.Prelude.{flat_map, slice_range}
 use Rattle.std.proofs.Math.Nat.{mul-suc}
 use Rattle.std.proofs.lemmas.List.{length-map, length-take-le, nil_from_length}
-use Rattle.gix_hash.specs.Kind.{byte_len_of, hex_len_of}
+use Rattle.gix_hash.specs.Kinds.{byte_len_of, hex_len_of}
 use Rattle.gix_hash.specs.declared.Kind.{Kind}
 use Rattle.gix_hash.specs.declared.Kind.TheVariants.{Sha1, Sha256}
 use Rattle.std.specs.Simd.{first_chunks}
 use Rattle.gix_hash.specs.Digits.{digits_of}
 use Rattle.id_digits.proofs.ByteDigits.{length-digits_of}
 use Rattle.id_digits.proofs.Packing.{digits_of-append}
-use Rattle.id_lookup.specs.Sorted.{least_hex_len}
+use Rattle.id_lookup.specs.Runs.{least_hex_len}
 use Rattle.pack_index.specs.Format.{HasTables, crc_table_start, digests_in, names_in, names_start, num_objects}
 
 -- their bytes

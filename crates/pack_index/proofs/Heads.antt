@@ -2,15 +2,14 @@
 use Rattle.std.proofs.Common.{◌≡◌, ℕ, zero, suc, ◌+◌, ◌-◌, ◌*◌, ◌<◌, ◌≤◌, List, [], ◌∷◌, length, get_or, take, drop, refl, sym, ap, ◌∙◌, arith, zero-add}
 use Rattle.std.specs.Int.{from_be_bytes, w32}
 use Rattle.std.proofs.lemmas.List.{get_or-take, get_or-drop}
-use Rattle.gix_hash.specs.Kind.{byte_len_of}
+use Rattle.gix_hash.specs.Kinds.{byte_len_of}
 use Rattle.gix_hash.specs.declared.Kind.{Kind}
 use Rattle.gix_hash.specs.declared.Kind.TheVariants.{Sha1, Sha256}
-use Rattle.pack_index.specs.Format.{BeginsIndex, FillsBytes, HasHead, HasTables, long_table_start, min_len, names_start, num_objects, offset_table_start, word_at}
+use Rattle.pack_index.specs.Format.{BeginsIndex, FillsBytes, HasHead, HasTables, IsHeadFault, long_table_start, min_len, names_start, num_objects, offset_table_start, other_than, word_at}
 use Rattle.pack_index.specs.Lazy.{bucket_start, bucket_end}
-use Rattle.pack_index.specs.Refusal.{IsHeadFault, other_than}
 use Rattle.pack_index.specs.declared.error.Error.{Error}
 use Rattle.pack_index.specs.declared.error.Error.TheVariants.{OtherKind, TooShort, Version1, BadMagic, BadVersion, WrongLength}
-use Rattle.streams.specs.ReadAt.{IsReadAt}
+use Rattle.streams.specs.Streams.{IsReadAt}
 
 -- a number in bytes that were read
 pub word_within : (bytes : List ℕ) (at : ℕ) (found : List ℕ) → IsReadAt bytes at found → (k : ℕ) → k + 4 ≤ length found → word_at found k ≡ word_at bytes (at + k)

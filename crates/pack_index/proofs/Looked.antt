@@ -3,14 +3,13 @@ use Rattle.std.proofs.Common.{◌≡◌, ◌≢◌, ℕ, ◌<◌, ◌≤◌, tru
 use Rattle.std.specs.Prelude.{◌↔◌, IfSome, IsTrue}
 use Rattle.std.proofs.lemmas.List.{length-append, nil_from_length}
 use Rattle.std.proofs.lemmas.Bool.{false≢true}
-use Rattle.gix_hash.specs.Kind.{hex_len_of, number_of}
-use Rattle.gix_hash.specs.Prefix.{KindDigits, BeginsWith}
+use Rattle.gix_hash.specs.Kinds.{hex_len_of, number_of}
+use Rattle.gix_hash.specs.Prefixes.{KindDigits, BeginsWith}
 use Rattle.gix_hash.specs.declared.Kind.{Kind}
-use Rattle.id_lookup.specs.FoundRun.{IsRun}
-use Rattle.id_lookup.specs.Runs.{begins_with}
+use Rattle.id_lookup.specs.Runs.{IsRun, begins_with}
 use Rattle.id_lookup.specs.declared.search.Run.{Run}
 use Rattle.id_lookup.proofs.Indexes.{not_other, same_kind}
-use Rattle.pack_index.specs.Names.{IsFirstIndexOf}
+use Rattle.pack_index.specs.Format.{IsFirstIndexOf}
 
 -- what begins with a list of its own length is that list
 same_length : (xs ys rest : List ℕ) → xs ≡ ys ++ rest → length xs ≡ length ys → xs ≡ ys

@@ -7,14 +7,12 @@ use Rattle.std.proofs.lemmas.List.{get_or-drop, get_or-take, get_or_default, len
 use Rattle.std.proofs.lemmas.List.Elements.{filter-append, filter_passes}
 use Rattle.gix_hash.specs.Digits.{first_byte_of}
 use Rattle.gix_hash.specs.declared.Kind.{Kind}
-use Rattle.id_lookup.specs.FirstBytes.{has_first_byte}
-use Rattle.id_lookup.specs.IndexOf.{part_of}
+use Rattle.id_lookup.specs.Runs.{has_first_byte}
+use Rattle.id_lookup.specs.Indexes.{part_of}
 use Rattle.id_lookup.proofs.Filtering.{filter_all, three_parts}
 use Rattle.id_lookup.proofs.Filters.{contains_kept}
-use Rattle.pack_index.specs.Firsts.{Each}
-use Rattle.pack_index.specs.Format.{HasCount, HasTables, names_in, num_objects}
+use Rattle.pack_index.specs.Format.{Each, HasCount, HasTables, IsFirstIndexOf, names_in, num_objects}
 use Rattle.pack_index.specs.Lazy.{AreCounted, BucketNames, IsFirstCounted, bucket_end, bucket_start, counted_with}
-use Rattle.pack_index.specs.Names.{IsFirstIndexOf}
 use Rattle.pack_index.proofs.Counted.{length-names_in}
 
 -- an id has one first index

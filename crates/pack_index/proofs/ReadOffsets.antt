@@ -4,7 +4,7 @@ use Rattle.std.proofs.lemmas.Bool.{cond-false, le-ltb}
 use Rattle.gix_hash.specs.declared.Kind.{Kind}
 use Rattle.pack_index.specs.Format.{HasOffset, HasTables, long_entry, long_table_start, long_word, num_objects, offset_in, offset_table_start, offset_word, tables_end, word_at}
 use Rattle.pack_index.proofs.Heads.{head_count, offsets_in_head, word_within}
-use Rattle.streams.specs.ReadAt.{IsReadAt}
+use Rattle.streams.specs.Streams.{IsReadAt}
 
 -- the word that was read is that of the name
 pub word_is : (kind : Kind) (bytes head short : List ℕ) (at from : ℕ) → IsReadAt bytes 0 head → length head ≡ 1032 → from ≡ offset_table_start kind head + 4 * at

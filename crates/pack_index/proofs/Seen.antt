@@ -3,7 +3,7 @@ use Rattle.std.proofs.Common.{◌≡◌, ◌≢◌, ℕ, ◌<◌, Option}
 use Rattle.std.specs.Prelude.{MatchOption}
 use Rattle.std.specs.BTreeMap.{BTreeMap, get}
 use Rattle.std.specs.Ordering.{nat_cmp}
-use Rattle.pack_index.specs.Firsts.{Each}
+use Rattle.pack_index.specs.Format.{Each}
 
 module _ (offset : ℕ → ℕ) where
   -- what is known of a number by what a map has at it

@@ -1,16 +1,27 @@
 -- Git's pack index of version 2 (gitformat-pack). Its bytes are: a magic number and the version; the fan-out table, that is for each byte how many
 -- ids have at most that first byte; the ids of the objects, digests of the index's kind; a CRC of four bytes for each object; an offset of four bytes
 -- for each; 8-byte offsets; the digest of the pack; and the digest of all before it. Numbers are written with the highest byte first.
-use Rattle.std.specs.Prelude.{◌≡◌, ℕ, zero, suc, ◌+◌, ◌-◌, ◌*◌, ◌/◌, ◌%◌, ◌^◌, ◌<◌, ◌≤◌, Bool, nat_le, nat_lt, if◌then◌else◌, List, [], ◌∷◌, count_by, length, map, slice_index, slice_range}
+use Rattle.std.specs.Prelude.{[], ℕ, ◌%◌, ◌*◌, ◌+◌, ◌-◌, ◌/◌, ◌<◌, ◌^◌, ◌∷◌, ◌≡◌, ◌≢◌, ◌≤◌, ◌⊎◌, Bool, List, count_by, if◌then◌else◌, length, map, nat_le, nat_lt, slice_index, slice_index_or, slice_range, suc, zero}
 use Rattle.std.specs.Int.{from_be_bytes, w32}
 use Rattle.std.specs.Simd.{first_chunks}
 use Rattle.gix_hash.specs.Digits.{digits_of}
 use Rattle.gix_hash.specs.Hashing.{EndsInDigest}
-use Rattle.gix_hash.specs.Kind.{byte_len_of}
+use Rattle.gix_hash.specs.Kinds.{byte_len_of}
 use Rattle.gix_hash.specs.declared.Kind.{Kind}
-use Rattle.id_lookup.specs.FirstBytes.{is_up_to}
-use Rattle.id_lookup.specs.Sorted.{IsSortedIds}
-use Rattle.pack_index.specs.Firsts.{Each}
+use Rattle.gix_hash.specs.declared.Kind.TheVariants.{Sha1, Sha256}
+use Rattle.id_lookup.specs.Runs.{IsFirstUnsorted, IsSortedIds, is_up_to}
+use Rattle.pack_index.specs.declared.error.Error.{Error}
+use Rattle.pack_index.specs.declared.error.Error.TheVariants.{BadMagic, BadVersion, LongOutOfOrder, NamesFall, NoOffset, OffsetInHeader, OffsetTooHigh, OtherKind, SpareLong, TooShort, Version1, WrongChecksum, WrongCount, WrongLength}
+use Rattle.pack_index.specs.declared.names.Names.{Names}
+use Rattle.pack_index.specs.declared.names.Names.TheVariants as lists
+
+-- each number below n is P
+abbrev pub Each : (ℕ → Type 0) → ℕ → Type 0
+Each P n = (k : ℕ) → k < n → P k
+
+-- the number is the first below n that is not P
+abbrev pub IsFirstNot : (ℕ → Type 0) → ℕ → ℕ → Type 0
+IsFirstNot P n at = (at < n) × Each P at × ¬ P at
 
 -- what contracts see of a pack index: the kind of its ids, and its bytes
 pub record IndexFile : Type 0 where
@@ -173,3 +184,81 @@ pub record IsPackIndex (kind : Kind) (bytes : List ℕ) : Type 0 where
   pub names : HasNames kind bytes
   pub offsets : HasOffsets kind bytes
   pub checksum : EndsInDigest kind bytes
+
+-- The ids of a pack index, as a sorted list of digests of either kind.
+
+-- what contracts see of them: their digits
+abbrev pub list_of : Names → List (List ℕ)
+list_of (lists.Sha1 ids) = ids
+list_of (lists.Sha256 ids) = ids
+
+-- the id of these digits is at this position, and at none before it
+pub record IsFirstIndexOf (names : List (List ℕ)) (digits : List ℕ) (at : ℕ) : Type 0 where
+  pub in_range : at < length names
+  pub same : slice_index_or names at [] ≡ digits
+  pub first : (k : ℕ) → k < at → slice_index_or names k [] ≢ digits
+
+-- Objects of a pack index with the same offset.
+
+-- no two of the first n objects have the same offset
+abbrev pub HaveOwnOffsets : Kind → List ℕ → ℕ → Type 0
+HaveOwnOffsets kind bytes n = (i j : ℕ) → i < j → j < n → offset_in kind bytes i ≢ offset_in kind bytes j
+
+-- the second object is the first whose offset an earlier object has, and that is the first object
+pub record IsFirstShared (kind : Kind) (bytes : List ℕ) (first second : ℕ) : Type 0 where
+  pub in_order : first < second
+  pub in_range : second < length (names_in kind bytes)
+  pub same : offset_in kind bytes first ≡ offset_in kind bytes second
+  pub own_before : HaveOwnOffsets kind bytes second
+
+-- Why bytes are not a pack index.
+
+-- how long an index of version 1 is, which has no magic number: the fan-out table, the ids each after an offset of four bytes, and the digests
+abbrev pub version_1_len : Kind → List ℕ → ℕ
+version_1_len kind bytes = counts_len + byte_len_of kind * word_at bytes (counts_len - 4) + 4 * word_at bytes (counts_len - 4) + 2 * byte_len_of kind
+
+-- the other kind
+abbrev pub other_than : Kind → Kind
+other_than Sha1 = Sha256
+other_than Sha256 = Sha1
+
+-- what is wrong with the first of `len` bytes, at least 1032 if there are as many as an index has, or with `len`: the fault holds, and none before it
+abbrev pub IsHeadFault : Kind → List ℕ → ℕ → Error → Type 0
+IsHeadFault kind first len TooShort = len < min_len kind
+IsHeadFault kind first len Version1 = (min_len kind ≤ len) × (word_at first 0 ≢ magic_number) × (len ≡ version_1_len kind first)
+IsHeadFault kind first len BadMagic = (min_len kind ≤ len) × (word_at first 0 ≢ magic_number) × (len ≢ version_1_len kind first)
+IsHeadFault kind first len (BadVersion version) =
+    (min_len kind ≤ len) × (word_at first 0 ≡ magic_number) × (version ≡ word_at first 4) × (version ≢ 2)
+IsHeadFault kind first len (OtherKind other) =
+    BeginsIndex kind first len × (¬ FillsBytes kind (num_objects first) len) × (other ≡ other_than kind) × FillsBytes (other_than kind) (num_objects first) len
+IsHeadFault kind first len WrongLength =
+    BeginsIndex kind first len × (¬ FillsBytes kind (num_objects first) len) × ¬ FillsBytes (other_than kind) (num_objects first) len
+IsHeadFault kind first len _ = ⊥
+
+-- the fault holds, and none before it, so bytes have at most one
+abbrev pub IsFault : Kind → List ℕ → Error → Type 0
+IsFault kind bytes (OtherKind other) = ⊥
+IsFault kind bytes WrongLength = HasHead kind bytes × ¬ HasTables kind bytes
+IsFault kind bytes (NamesFall at) = HasHead kind bytes × HasTables kind bytes × IsFirstUnsorted (names_in kind bytes) at
+IsFault kind bytes (WrongCount b) =
+    HasHead kind bytes × HasTables kind bytes × IsSortedIds (names_in kind bytes) × IsFirstNot (HasCount kind bytes) 256 b
+IsFault kind bytes (NoOffset at) = HasNames kind bytes × IsFirstNot (HasOffset kind bytes) (num_objects bytes) at
+IsFault kind bytes (LongOutOfOrder at) =
+    HasNames kind bytes × Each (HasOffset kind bytes) (num_objects bytes) × IsFirstNot (IsNextLong kind bytes) (num_objects bytes) at
+IsFault kind bytes (SpareLong number) =
+    HasNames kind bytes × Each (HasOffset kind bytes) (num_objects bytes) × Each (IsNextLong kind bytes) (num_objects bytes)
+    × (number ≡ longs_before kind bytes (num_objects bytes)) × ¬ HasNoSpare kind bytes
+IsFault kind bytes (OffsetInHeader at) =
+    HasNames kind bytes × Each (HasOffset kind bytes) (num_objects bytes) × Each (IsNextLong kind bytes) (num_objects bytes) × HasNoSpare kind bytes
+    × IsFirstNot (IsPastHeader kind bytes) (num_objects bytes) at
+IsFault kind bytes (OffsetTooHigh at) =
+    HasNames kind bytes × Each (HasOffset kind bytes) (num_objects bytes) × Each (IsNextLong kind bytes) (num_objects bytes) × HasNoSpare kind bytes
+    × Each (IsPastHeader kind bytes) (num_objects bytes) × IsFirstNot (IsSigned kind bytes) (num_objects bytes) at
+IsFault kind bytes WrongChecksum = HasNames kind bytes × HasOffsets kind bytes × ¬ EndsInDigest kind bytes
+IsFault kind bytes error = IsHeadFault kind bytes (length bytes) error
+
+-- why bytes are rejected as a pack index of the kind: they are one of the other kind and none of this, or they are of neither and this is the first fault
+abbrev pub IsRefusal : Kind → List ℕ → Error → Type 0
+IsRefusal kind bytes error =
+    ((error ≡ OtherKind (other_than kind)) × IsPackIndex (other_than kind) bytes × ¬ IsPackIndex kind bytes)
+    ⊎ ((¬ IsPackIndex (other_than kind) bytes) × IsFault kind bytes error)

@@ -2,11 +2,9 @@
 use Rattle.std.specs.Prelude.{◌≡◌, ◌≢◌, ℕ, zero, suc, ◌+◌, ◌*◌, ◌<◌, ◌≤◌, Bool, IsTrue, Option, Some, List, [], All, length, slice_index_or, slice_range}
 use Rattle.gix_hash.specs.Digits.{first_byte_of}
 use Rattle.gix_hash.specs.declared.Kind.{Kind}
-use Rattle.id_lookup.specs.FirstBytes.{has_first_byte}
-use Rattle.id_lookup.specs.IndexOf.{part_of}
-use Rattle.pack_index.specs.Firsts.{Each}
-use Rattle.pack_index.specs.Format.{HasCount, HasOffset, names_in, num_objects, word_at}
-use Rattle.pack_index.specs.Refusal.{IsHeadFault}
+use Rattle.id_lookup.specs.Runs.{has_first_byte}
+use Rattle.id_lookup.specs.Indexes.{part_of}
+use Rattle.pack_index.specs.Format.{Each, HasCount, HasOffset, IsHeadFault, names_in, num_objects, word_at}
 use Rattle.pack_index.specs.declared.lazy_error.LazyError.{LazyError}
 use Rattle.pack_index.specs.declared.lazy_error.LazyError.TheVariants.{Read, Memory, Head, CountsFall, CountTooHigh, WrongCount, NoOffset}
 

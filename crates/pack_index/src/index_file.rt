@@ -3,14 +3,10 @@
 ghost use Rattle.std.specs.Prelude.{◌≡◌, ◌≢◌, ◌↔◌, ◌+◌, ◌<◌, ℕ, [], Err, IfErr, IfOk, IsOk, MatchOption, drop, length, slice_index_or, slice_range, take, IfSome, IsNone, List, OnOk};
 ghost use Rattle.std.specs.List.{HoldsAt};
 ghost use Rattle.gix_hash.specs.Hashing.{digest};
-ghost use Rattle.gix_hash.specs.ObjectId.{id_bytes};
-ghost use Rattle.gix_hash.specs.Oid.{oid_bytes, oid_digits};
-ghost use Rattle.id_lookup.specs.Index.{IsAnswer};
-ghost use Rattle.id_lookup.specs.ShortNames.{IsShortestName};
-ghost use Rattle.id_lookup.specs.FoundRun.{IsRun};
-ghost use Rattle.pack_index.specs.Format.{IsPackIndex, crc_in, digest_at, names_in, offset_in, tables_end};
-ghost use Rattle.pack_index.specs.Names.{IsFirstIndexOf};
-ghost use Rattle.pack_index.specs.Refusal.{IsFault, IsRefusal, other_than};
+ghost use Rattle.gix_hash.specs.Ids.{id_bytes, oid_bytes, oid_digits};
+ghost use Rattle.id_lookup.specs.Indexes.{IsAnswer, IsShortestName};
+ghost use Rattle.id_lookup.specs.Runs.{IsRun};
+ghost use Rattle.pack_index.specs.Format.{IsFault, IsFirstIndexOf, IsPackIndex, IsRefusal, crc_in, digest_at, names_in, offset_in, other_than, tables_end};
 
 use crate::checks::{check_tables, first_wrong_count, other_than};
 use crate::error::Error;
@@ -40,9 +36,8 @@ pub struct File<'a> {
 
 impl<'a> Model for File<'a> {
     ghost use Rattle.std.specs.Prelude.{◌≡◌};
-    ghost use Rattle.id_lookup.specs.FirstBytes.{IsFanOut};
-    ghost use Rattle.pack_index.specs.Format.{IndexFile, IsPackIndex, names_in};
-    ghost use Rattle.pack_index.specs.Names.{list_of};
+    ghost use Rattle.id_lookup.specs.Runs.{IsFanOut};
+    ghost use Rattle.pack_index.specs.Format.{IndexFile, IsPackIndex, list_of, names_in};
 
     ghost Value = { IndexFile };
 

@@ -2,14 +2,12 @@
 
 ghost use Rattle.std.specs.Prelude.{◌≡◌, ◌≢◌, ◌↔◌, ◌+◌, ◌-◌, ◌*◌, ◌<◌, ◌≤◌, ℕ, [], All, IfErr, IfOk, IfSome, IsTrue, List, MatchOption, OnOk, Some, length, slice_index_or};
 ghost use Rattle.gix_hash.specs.Digits.{first_byte_of};
-ghost use Rattle.gix_hash.specs.Kind.{byte_len_of};
-ghost use Rattle.gix_hash.specs.Oid.{oid_digits};
-ghost use Rattle.id_lookup.specs.FirstBytes.{has_first_byte};
-ghost use Rattle.pack_index.specs.Firsts.{Each};
-ghost use Rattle.pack_index.specs.Format.{HasCount, HasHead, HasOffset, HasTables, digests_in, names_in, num_objects, offset_in, offset_word, word_at};
+ghost use Rattle.gix_hash.specs.Kinds.{byte_len_of};
+ghost use Rattle.gix_hash.specs.Ids.{oid_digits};
+ghost use Rattle.id_lookup.specs.Runs.{has_first_byte};
+ghost use Rattle.pack_index.specs.Format.{Each, HasCount, HasHead, HasOffset, HasTables, IsFirstIndexOf, digests_in, names_in, num_objects, offset_in, offset_word, word_at};
 ghost use Rattle.pack_index.specs.Lazy.{HaveFirstByte, IfKnown, IsBucketFault, IsBucketOf, IsFirstCounted, IsOffsetFault, IsOpenFault, IsReadOrMemory, bucket_end, bucket_start};
-ghost use Rattle.pack_index.specs.Names.{IsFirstIndexOf};
-ghost use Rattle.streams.specs.ReadAt.{IsReadAt};
+ghost use Rattle.streams.specs.Streams.{IsReadAt};
 
 use crate::bucket::Bucket;
 use crate::checks::{COUNTS_LEN, check_head};
@@ -50,7 +48,7 @@ impl<S: ReadAt> Model for LazyFile<S> {
     ghost use Rattle.std.specs.Prelude.{◌≡◌, ℕ, List, Some};
     ghost use Rattle.pack_index.specs.Format.{HasHead, HasTables, num_objects, tables_end};
     ghost use Rattle.pack_index.specs.Lazy.{LazyIndex};
-    ghost use Rattle.streams.specs.ReadAt.{IsReadAt};
+    ghost use Rattle.streams.specs.Streams.{IsReadAt};
 
     ghost Value = { LazyIndex };
 

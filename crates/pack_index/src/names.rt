@@ -2,14 +2,11 @@
 
 ghost use Rattle.std.specs.Prelude.{◌≡◌, ◌↔◌, ◌+◌, ◌<◌, ◌≤◌, ℕ, [], List, IfErr, IfOk, IfSome, IsNone, IsOk, length, slice_index_or};
 ghost use Rattle.std.specs.List.{HoldsAt};
-ghost use Rattle.gix_hash.specs.Kind.{hex_len_of};
-ghost use Rattle.gix_hash.specs.Oid.{oid_digits, oid_kind};
-ghost use Rattle.id_lookup.specs.FirstBytes.{IsFanOut};
-ghost use Rattle.id_lookup.specs.FoundRun.{IsRun};
-ghost use Rattle.id_lookup.specs.ShortNames.{IsShortestName};
-ghost use Rattle.id_lookup.specs.Sorted.{IsFirstUnsorted, IsSortedIds, least_hex_len};
-ghost use Rattle.pack_index.specs.Format.{digests_in};
-ghost use Rattle.pack_index.specs.Names.{list_of};
+ghost use Rattle.gix_hash.specs.Kinds.{hex_len_of};
+ghost use Rattle.gix_hash.specs.Ids.{oid_digits, oid_kind};
+ghost use Rattle.id_lookup.specs.Runs.{IsFanOut, IsFirstUnsorted, IsRun, IsSortedIds, least_hex_len};
+ghost use Rattle.id_lookup.specs.Indexes.{IsShortestName};
+ghost use Rattle.pack_index.specs.Format.{digests_in, list_of};
 
 use gix_hash::{Kind, Prefix, oid};
 use id_lookup::{FanOut, Id, Probes, Run, SortedIds, Unsorted, lookup_in};

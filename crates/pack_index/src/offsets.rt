@@ -1,9 +1,7 @@
 //! What is checked of the offsets of a pack index.
 
 ghost use Rattle.std.specs.Prelude.{◌≡◌, ◌+◌, ◌*◌, ◌^◌, ◌<◌, IfErr, IfOk, MatchOption, OnOk, length};
-ghost use Rattle.pack_index.specs.Firsts.{Each, IsFirstNot};
-ghost use Rattle.pack_index.specs.Format.{HasNames, HasOffset, HasOffsets, HasTables, IsNextLong, IsPastHeader, IsSigned, longs_before, num_objects};
-ghost use Rattle.pack_index.specs.Refusal.{IsFault};
+ghost use Rattle.pack_index.specs.Format.{Each, HasNames, HasOffset, HasOffsets, HasTables, IsFault, IsFirstNot, IsNextLong, IsPastHeader, IsSigned, longs_before, num_objects};
 
 use crate::checks::first_without_offset;
 use crate::error::Error;

@@ -1,8 +1,7 @@
 //! Objects of a pack index with the same offset.
 
 ghost use Rattle.std.specs.Prelude.{IfOk, MatchOption, length};
-ghost use Rattle.pack_index.specs.Format.{names_in};
-ghost use Rattle.pack_index.specs.Shared.{HaveOwnOffsets, IsFirstShared};
+ghost use Rattle.pack_index.specs.Format.{HaveOwnOffsets, IsFirstShared, names_in};
 
 use crate::index_file::File;
 use std::alloc::{AllocError, Allocator};

@@ -1,7 +1,7 @@
 //! Commands over a store.
 
 ghost use Rattle.std.specs.Prelude.{◌≡◌, ◌≤◌, false, length, IfOk, OnOk};
-ghost use Rattle.gix_hash.specs.Kind.{hex_len_of};
+ghost use Rattle.gix_hash.specs.Kinds.{hex_len_of};
 ghost use Rattle.streams.specs.Devices.{plain_failed};
 
 use crate::arguments::{self, StoreCommand};

@@ -10,22 +10,19 @@ use Rattle.std.proofs.lemmas.List.Elements.{All-append}
 use Rattle.std.proofs.lemmas.List.Folds.{flat_map-map}
 use Rattle.std.proofs.lemmas.List.Splits.{length-slice_split, slice_split_first, slice_split_none}
 use Rattle.std.proofs.lemmas.List.Sums.{fails_before_first}
-use Rattle.gix_hash.specs.Digits.{hex_letter}
-use Rattle.gix_hash.specs.Kind.{hex_len_of}
-use Rattle.gix_hash.specs.ObjectId.{id_digits}
-use Rattle.gix_hash.specs.Prefix.{KindDigits, kind_digits}
-use Rattle.gix_hash.specs.Reading.{digits_read}
+use Rattle.gix_hash.specs.Digits.{digits_read, hex_letter}
+use Rattle.gix_hash.specs.Kinds.{hex_len_of}
+use Rattle.gix_hash.specs.Ids.{id_digits}
+use Rattle.gix_hash.specs.Prefixes.{KindDigits, kind_digits}
 use Rattle.gix_hash.specs.declared.Kind.{Kind}
 use Rattle.gix_hash.specs.declared.ObjectId.{ObjectId}
 use Rattle.id_lookup.specs.Runs.{matches}
-use Rattle.object_store.specs.Parts.{AreFoundOfEach, AreMatchesOfEach, CanLookUp}
+use Rattle.object_store.specs.Stores.{AreFoundOfEach, AreMatchesOfEach, CanLookUp, Holds, StoreView}
 use Rattle.object_store.specs.Several.{AreAbbreviatedOfEach, AreLocatedOfEach, IsAbbreviatedIn}
-use Rattle.object_store.specs.Stores.{Holds}
-use Rattle.object_store.specs.Views.{StoreView}
 use Rattle.object_store.specs.declared.locations.LocatedId.{LocatedId}
 use Rattle.object_store.specs.declared.naming.Abbreviation.{Abbreviation}
 use Rattle.object_store.specs.declared.naming.Abbreviation.TheVariants.{Missing}
-use Rattle.packtool_commands.specs.Asking.{HaveAllBuckets, answer_to, answers_by, answers_in, are_answers_by, are_answers_in, found_text, id_line, is_answer_to, is_found, is_line_feed, line_with, lines_of, lists_after, of_two, prefix_of, prefixes_of, without_empty_last}
+use Rattle.packtool_commands.specs.Stores.{HaveAllBuckets, answer_to, answers_by, answers_in, are_answers_by, are_answers_in, found_text, id_line, is_answer_to, is_found, is_line_feed, line_with, lines_of, lists_after, of_two, prefix_of, prefixes_of, without_empty_last}
 use Rattle.packtool_commands.specs.declared.asking.Answers.{Answers}
 use Rattle.packtool_commands.specs.declared.asking.Answers.TheVariants.{All as AllOfThem, One as OneOfThem}
 

@@ -4,7 +4,7 @@ use Rattle.std.specs.Prelude.{◌==◌, ◌||◌, if◌then◌else◌}
 use Rattle.std.specs.List.{All, list_any}
 use Rattle.std.proofs.lemmas.Bool.{eqb-false, false≢true}
 use Rattle.std.proofs.lemmas.List.Elements.{All-append, All-cons, All-nil}
-use Rattle.packtool_commands.specs.Escaping.{escape_mark, escape_of, escaped, is_special, named}
+use Rattle.packtool_commands.specs.Files.{escape_mark, escape_of, escaped, is_special, named}
 
 -- of three tests that fail none chooses
 plain-tests : (a b c : Bool) (x y z plain : List ℕ) → (a || (b || c)) ≡ false → (if a then x else if b then y else if c then z else plain) ≡ plain

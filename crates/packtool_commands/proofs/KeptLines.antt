@@ -4,10 +4,10 @@ use Rattle.std.specs.Prelude.{IsErr}
 use Rattle.std.specs.List.{flat_map}
 use Rattle.std.proofs.lemmas.Grind.{flat_map-append}
 use Rattle.std.proofs.KnownBytes.{Appends-trans}
-use Rattle.streams.specs.Writing.{AppendsPart, Wrote}
+use Rattle.streams.specs.Streams.{AppendsPart, Wrote}
 use Rattle.streams.specs.declared.sink.WriteFailed.{WriteFailed}
 use Rattle.streams.proofs.WritingLemmas.{Wrote-stop, Wrote-then}
-use Rattle.packtool_commands.specs.Lines.{KeepsBack}
+use Rattle.packtool_commands.specs.Files.{KeepsBack}
 
 -- another line after those that are kept, or after the last of them
 pub keeps_more : (a b c : Option (List ℕ)) (kept last next lines line : List ℕ) → KeepsBack a b kept lines → KeepsBack b c last kept → next ≡ last ++ line

@@ -2,8 +2,8 @@
 use Rattle.std.proofs.Common.{◌≡◌, ℕ, List, [], ◌∷◌, ◌++◌, ap, ◌∙◌, append_assoc}
 use Rattle.std.specs.Prelude.{decimal}
 use Rattle.gix_hash.specs.Digits.{hex_letter, spelling}
-use Rattle.packtool_commands.specs.Lines.{crc_text, line_of}
-use Rattle.packtool_commands.specs.Names.{line_of_name}
+use Rattle.packtool_commands.specs.Files.{crc_text, line_of}
+use Rattle.packtool_commands.specs.Stores.{line_of_name}
 
 -- parts that were put one after the other are a line
 pub line_parts : (offset id crc l1 l2 l3 l4 l5 l6 : List ℕ) → l1 ≡ offset → l2 ≡ l1 ++ 32 ∷ [] → l3 ≡ l2 ++ id → l4 ≡ l3 ++ 32 ∷ 40 ∷ [] → l5 ≡ l4 ++ crc

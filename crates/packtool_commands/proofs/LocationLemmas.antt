@@ -7,17 +7,15 @@ use Rattle.std.proofs.KnownBytes.{Appends-trans}
 use Rattle.std.proofs.lemmas.Bool.{eq-eqb, false≢true, ne_eqb}
 use Rattle.std.proofs.lemmas.List.Elements.{All-map}
 use Rattle.std.proofs.lemmas.List.Folds.{flat_map-map}
-use Rattle.streams.specs.Writing.{AppendsAtMost}
+use Rattle.streams.specs.Streams.{AppendsAtMost}
 use Rattle.streams.proofs.WritingLemmas.{lines_around}
 use Rattle.gix_hash.specs.Digits.{first_byte_of}
-use Rattle.gix_hash.specs.ObjectId.{id_digits}
+use Rattle.gix_hash.specs.Ids.{id_digits}
 use Rattle.gix_hash.specs.declared.ObjectId.{ObjectId}
 use Rattle.id_lookup.proofs.Beginnings.{first_byte_of-begins}
-use Rattle.object_store.specs.Parts.{HavePassing}
-use Rattle.object_store.specs.Stores.{HaveAllLocations, HaveBuckets, HaveLocations, IsLocateFault, IsLocationsFault}
-use Rattle.object_store.specs.Views.{StoreView}
+use Rattle.object_store.specs.Stores.{HaveAllLocations, HaveBuckets, HaveLocations, HavePassing, IsLocateFault, IsLocationsFault, StoreView}
 use Rattle.pack_index.specs.Lazy.{HasBucket}
-use Rattle.packtool_commands.specs.Finding.{IsFaultOf}
+use Rattle.packtool_commands.specs.Stores.{IsFaultOf}
 use Rattle.packtool_commands.specs.declared.error.StoreError.{StoreError}
 use Rattle.packtool_commands.specs.declared.error.StoreError.TheVariants.{Store, Output}
 

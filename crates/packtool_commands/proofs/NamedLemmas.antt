@@ -9,13 +9,13 @@ use Rattle.std.proofs.lemmas.List.{map-append, map-id}
 use Rattle.std.proofs.lemmas.List.Folds.{flat_map-map}
 use Rattle.std.proofs.lemmas.List.FromFn.{map-range_with_len_more, take-map-range_with_len}
 use Rattle.std.proofs.lemmas.List.Elements.{All-append}
-use Rattle.gix_hash.specs.ObjectId.{id_digits}
-use Rattle.id_lookup.specs.IndexOf.{part_of}
+use Rattle.gix_hash.specs.Ids.{id_digits}
+use Rattle.id_lookup.specs.Indexes.{part_of}
 use Rattle.object_store.proofs.Held.{flat_map-take}
 use Rattle.object_store.specs.Stores.{IsNameIn}
 use Rattle.object_store.specs.declared.naming.NamedId.{NamedId}
-use Rattle.packtool_commands.specs.Names.{AreNamedBelow, HasNamedAtMost, HasNamedBelow, name_line, parts_below}
-use Rattle.streams.specs.Writing.{AppendsAtMost, AppendsPart}
+use Rattle.packtool_commands.specs.Stores.{AreNamedBelow, HasNamedAtMost, HasNamedBelow, name_line, parts_below}
+use Rattle.streams.specs.Streams.{AppendsAtMost, AppendsPart}
 use Rattle.streams.proofs.WritingLemmas.{AppendsPart-after, part_written}
 
 -- one line more

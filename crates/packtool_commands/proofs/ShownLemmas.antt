@@ -3,7 +3,7 @@ use Rattle.std.proofs.Common.{◌≡◌, ℕ, Option, Some, None, List, append-n
 use Rattle.std.specs.Io.KnownBytes.{Consumes, IsAtEnd}
 use Rattle.gix_hash.specs.declared.Kind.{Kind}
 use Rattle.pack_index.specs.Format.{IndexFile, IsPackIndex}
-use Rattle.packtool_commands.specs.Showing.{IsOpenedAs}
+use Rattle.packtool_commands.specs.Files.{IsOpenedAs}
 
 -- the bytes read to the end of a source are all its bytes
 pub read_whole : (P : List ℕ → Type 0) (a b : Option (List ℕ)) (items : List ℕ) → Consumes a b items → IsAtEnd b → P items → IfSome a P

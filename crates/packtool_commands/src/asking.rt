@@ -3,12 +3,10 @@
 ghost use Rattle.std.specs.Prelude.{◌≡◌, ◌≢◌, ◌++◌, ◌-◌, ◌<◌, ◌≤◌, ◌↔◌, ◌∷◌, ◌&&◌, ℕ, List, IfErr, IfOk, IsErrOf, OnErr, OnOk, Some, false, flat_map, length, option_copied, true};
 ghost use Rattle.std.specs.List.{after_first, before_first, position};
 ghost use Rattle.std.specs.Io.KnownBytes.{Appends};
-ghost use Rattle.object_store.specs.Parts.{IsFaultOfOne};
-ghost use Rattle.object_store.specs.Stores.{Holds};
-ghost use Rattle.packtool_commands.specs.Asking.{HasAnswered, HasAnsweredMatches, HaveAllBuckets, answer_to, answers_by, answers_in, are_answers_by, found_text, front_text, is_answer_to, is_line_feed, lines_of, lists_after, prefix_of, prefixes_of};
-ghost use Rattle.packtool_commands.specs.Finding.{IsFaultOf};
+ghost use Rattle.object_store.specs.Stores.{Holds, IsFaultOfOne};
+ghost use Rattle.packtool_commands.specs.Stores.{HasAnswered, HasAnsweredMatches, HaveAllBuckets, IsFaultOf, answer_to, answers_by, answers_in, are_answers_by, found_text, front_text, is_answer_to, is_line_feed, lines_of, lists_after, prefix_of, prefixes_of};
 ghost use Rattle.packtool_commands.specs.declared.error.StoreError.{StoreError};
-ghost use Rattle.streams.specs.Writing.{AppendsPart, Wrote};
+ghost use Rattle.streams.specs.Streams.{AppendsPart, Wrote};
 
 use crate::error::StoreError;
 use gix_hash::{Alphabet, Kind, ObjectId, Prefix};
@@ -149,7 +147,7 @@ fn prefix_in(kind: Kind, line: &[u8]) -> Option<Prefix>
 /// How what is found for a prefix, a `T`, is printed.
 pub(crate) trait Form<T> {
     ghost use Rattle.std.specs.Prelude.{◌≡◌, ℕ, Bool, List, false};
-    ghost use Rattle.streams.specs.Writing.{Wrote};
+    ghost use Rattle.streams.specs.Streams.{Wrote};
 
     /// What is printed for a line that is a prefix.
     ghost text: { Self → List ℕ → T → List ℕ };
@@ -242,7 +240,7 @@ fn write_answer<T, F: Form<T>, W: Sink>(
 /// How one thing that is found, an `X`, is printed.
 pub(crate) trait Entry<X> {
     ghost use Rattle.std.specs.Prelude.{◌≡◌, ℕ, List, Option, false, option_copied};
-    ghost use Rattle.streams.specs.Writing.{Wrote};
+    ghost use Rattle.streams.specs.Streams.{Wrote};
 
     /// What is printed for it, after a line or nothing.
     ghost text: { Self → Option (List ℕ) → X → List ℕ };
@@ -269,7 +267,7 @@ pub(crate) struct Listed<E> {
 }
 
 impl<X, A: Allocator, E: Entry<X>> Form<Vec<X, A>> for Listed<E> {
-    ghost use Rattle.packtool_commands.specs.Asking.{found_text, is_found};
+    ghost use Rattle.packtool_commands.specs.Stores.{found_text, is_found};
 
     ghost text = { λ form line ids. found_text (E.text form.entry) form.answers line ids.items };
 
@@ -336,8 +334,8 @@ fn write_each<X, E: Entry<X>, W: Sink>(
 struct IdEntry;
 
 impl Entry<ObjectId> for IdEntry {
-    ghost use Rattle.gix_hash.specs.ObjectId.{id_digits};
-    ghost use Rattle.packtool_commands.specs.Asking.{id_line};
+    ghost use Rattle.gix_hash.specs.Ids.{id_digits};
+    ghost use Rattle.packtool_commands.specs.Stores.{id_line};
 
     ghost text = { λ _ line id. id_line line (id_digits id) };
 

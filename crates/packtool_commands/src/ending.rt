@@ -1,9 +1,8 @@
 //! The lines of checked files.
 
 ghost use Rattle.std.specs.Prelude.{◌≡◌, false};
-ghost use Rattle.packtool_commands.specs.Ending.{verdict};
-ghost use Rattle.packtool_commands.specs.Escaping.{named};
-ghost use Rattle.streams.specs.Writing.{Wrote};
+ghost use Rattle.packtool_commands.specs.Files.{named, verdict};
+ghost use Rattle.streams.specs.Streams.{Wrote};
 
 use crate::escaping::write_named;
 use crate::lines::{MAX_VERDICT_LEN, put_verdict};

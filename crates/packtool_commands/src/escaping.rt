@@ -3,8 +3,8 @@
 
 ghost use Rattle.std.specs.Prelude.{◌≡◌, ◌++◌, false};
 ghost use Rattle.std.specs.List.{list_any};
-ghost use Rattle.packtool_commands.specs.Escaping.{escape_mark, escape_of, escaped, is_special, named};
-ghost use Rattle.streams.specs.Writing.{Wrote};
+ghost use Rattle.packtool_commands.specs.Files.{escape_mark, escape_of, escaped, is_special, named};
+ghost use Rattle.streams.specs.Streams.{Wrote};
 
 use streams::{Sink, WriteFailed, write_all};
 
@@ -32,7 +32,7 @@ pub(crate) fn write_mark<W: Sink>(name: &str, out: &mut W) -> Result<(), WriteFa
 }
 
 // Writes what is printed for a byte of a name.
-#[tactic(auto, unfolding(crate::specs::Escaping::escape_of))]
+#[tactic(auto, unfolding(crate::specs::Files::escape_of))]
 fn write_escape<W: Sink>(byte: u8, out: &mut W) -> Result<(), WriteFailed>
     requires { W.has_failed out.old ≡ false }
     ensures { Wrote W.taken W.has_failed out.old out.new result (escape_of byte) }

@@ -4,10 +4,9 @@ ghost use Rattle.std.specs.Prelude.{◌≡◌, ◌≢◌, ◌↔◌, ◌≤◌, 
 ghost use Rattle.gix_hash.specs.Digits.{first_byte_of, hex_letter};
 ghost use Rattle.id_lookup.specs.Runs.{matches};
 ghost use Rattle.object_store.specs.Stores.{HaveBuckets, Holds, IsStoreFault};
-ghost use Rattle.packtool_commands.specs.Finding.{HasPrinted, HasPrintedMatches, IsFaultOf};
+ghost use Rattle.packtool_commands.specs.Stores.{HasPrinted, HasPrintedMatches, IsFaultOf};
 ghost use Rattle.packtool_commands.specs.declared.error.StoreError.{StoreError};
-ghost use Rattle.streams.specs.Printing.{printed};
-ghost use Rattle.streams.specs.Writing.{AppendsPart};
+ghost use Rattle.streams.specs.Streams.{AppendsPart, printed};
 
 use crate::error::StoreError;
 use gix_hash::{Alphabet, Prefix};

@@ -3,7 +3,7 @@
 
 ghost use Rattle.std.specs.Prelude.{◌≡◌, ◌≢◌, ◌++◌, false, ℕ, All, List};
 ghost use Rattle.std.specs.List.{list_any};
-ghost use Rattle.packtool_commands.specs.Escaping.{escape_mark, escaped, is_special, named};
+ghost use Rattle.packtool_commands.specs.Files.{escape_mark, escaped, is_special, named};
 
 /// How a name is printed by [`write_named`](crate::write_named): with no line feed, so that no name
 /// looks like a further line; and as it is if it has no byte that is escaped.

@@ -2,15 +2,11 @@
 
 ghost use Rattle.std.specs.Prelude.{◌≡◌, ◌+◌, ◌<◌, ◌≤◌, [], ◌∷◌, ◌++◌, Some, IfOk, OnErr, OnOk, decimal, false, true, length, take};
 ghost use Rattle.gix_hash.specs.Digits.{hex_letter, spelling};
-ghost use Rattle.gix_hash.specs.ObjectId.{id_digits};
-ghost use Rattle.gix_hash.specs.Oid.{oid_digits};
+ghost use Rattle.gix_hash.specs.Ids.{id_digits, oid_digits};
 ghost use Rattle.pack_index.specs.Format.{names_in};
-ghost use Rattle.packtool_commands.specs.Ending.{hex_of, verdict};
-ghost use Rattle.packtool_commands.specs.Lines.{KeepsBack, crc_text, index_line, line_of};
-ghost use Rattle.packtool_commands.specs.Names.{name_line};
-ghost use Rattle.packtool_commands.specs.Pairing.{pairing_verdict};
-ghost use Rattle.packtool_commands.specs.Locations.{location_end};
-ghost use Rattle.streams.specs.Writing.{AppendsPart};
+ghost use Rattle.packtool_commands.specs.Files.{KeepsBack, crc_text, hex_of, index_line, line_of, pairing_verdict, verdict};
+ghost use Rattle.packtool_commands.specs.Stores.{location_end, name_line};
+ghost use Rattle.streams.specs.Streams.{AppendsPart};
 
 use crate::pairing::Pairing;
 use gix_hash::{Alphabet, ObjectId, Prefix, oid};
@@ -281,7 +277,7 @@ fn put_id(line: &mut [u8], at: usize, id: oid<'_>) -> usize
 }
 
 // Writes a CRC's eight hex digits into the buffer at a position, and returns where they end.
-#[tactic(auto, unfolding(crate::specs::Lines::crc_text))]
+#[tactic(auto, unfolding(crate::specs::Files::crc_text))]
 fn put_crc(line: &mut [u8], at: usize, crc: u32) -> usize
     requires { at + CRC_LEN ≤ length line.old }
     ensures end { result ≡ at + CRC_LEN }

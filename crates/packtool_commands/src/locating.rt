@@ -3,15 +3,13 @@
 ghost use Rattle.std.specs.Prelude.{◌≡◌, ◌≢◌, ◌↔◌, ◌≤◌, ◌++◌, ℕ, List, None, Some, false, true, flat_map, length, map, option_copied, string_bytes, IfErr, IfOk, IsErrOf, OnOk, OnErr};
 ghost use Rattle.std.specs.Io.KnownBytes.{Appends};
 ghost use Rattle.gix_hash.specs.Digits.{first_byte_of};
-ghost use Rattle.gix_hash.specs.ObjectId.{id_digits, id_kind};
+ghost use Rattle.gix_hash.specs.Ids.{id_digits, id_kind};
 ghost use Rattle.id_lookup.specs.Runs.{matches};
 ghost use Rattle.object_store.specs.Several.{IsLocationsFaultOfOne};
 ghost use Rattle.object_store.specs.Stores.{HaveAllLocations, HaveBuckets, HaveLocations, Holds, IsLocateFault, IsLocationsFault};
-ghost use Rattle.packtool_commands.specs.Asking.{HaveAllBuckets, lines_of, prefixes_of};
-ghost use Rattle.packtool_commands.specs.Finding.{IsFaultOf};
-ghost use Rattle.packtool_commands.specs.Locations.{HasLocated, HasLocatedEach, HasLocatedPart, IsMemory, lines_at, lines_at_after, lines_of_locations, location_line, location_line_after};
+ghost use Rattle.packtool_commands.specs.Stores.{HasLocated, HasLocatedEach, HasLocatedPart, HaveAllBuckets, IsFaultOf, IsMemory, lines_at, lines_at_after, lines_of, lines_of_locations, location_line, location_line_after, prefixes_of};
 ghost use Rattle.packtool_commands.specs.declared.error.StoreError.{StoreError};
-ghost use Rattle.streams.specs.Writing.{AppendsAtMost, Wrote};
+ghost use Rattle.streams.specs.Streams.{AppendsAtMost, Wrote};
 
 use crate::asking::{Answers, Entry, Listed, prefixes_in, write_answers, write_front};
 use crate::error::StoreError;
@@ -126,14 +124,15 @@ fn write_lines_at<S: StorePaths, W: Sink>(
     Ok(())
 }
 
-/// Writes for each line of a text, in order, the locations of the ids of a store that begin with it.
-/// Returns whether each line found what is asked for: an id, or for [`Answers::One`] a single one.
+/// Writes for each line of a text, in order, the locations of the ids of a store that begin with
+/// it. Returns whether each line found what is asked for: an id, or for [`Answers::One`] a single
+/// one.
 ///
-/// For a prefix the lines of [`locate`] are written: with [`Answers::All`] each after the line as it
-/// is and a space, and with [`Answers::One`] those of the only id, as they are. The backslash of an
-/// escaped path is the first byte, before the line. What a prefix is, and what is written for any
-/// other line, for a prefix of no id, and for [`Answers::One`] and a prefix of several ids, is said
-/// at [`find_each`](crate::find_each).
+/// For a prefix the lines of [`locate`] are written: with [`Answers::All`] each after the line as
+/// it is and a space, and with [`Answers::One`] those of the only id, as they are. The backslash of
+/// an escaped path is the first byte, before the line. What a prefix is, and what is written for
+/// any other line, for a prefix of no id, and for [`Answers::One`] and a prefix of several ids, is
+/// said at [`find_each`](crate::find_each).
 ///
 /// Of each pack index the names with a first byte are read once. Nothing is written before all
 /// locations are found. [`StoreError::Output`] is returned if and only if a write fails, after a
@@ -182,7 +181,7 @@ struct LocationsEntry<'s, S> {
 }
 
 impl<S: StorePaths, A: Allocator> Entry<LocatedId<A>> for LocationsEntry<'_, S> {
-    ghost use Rattle.packtool_commands.specs.Locations.{located_lines};
+    ghost use Rattle.packtool_commands.specs.Stores.{located_lines};
 
     ghost text = { λ entry line id. located_lines (S.pack_path entry.store.now) line id };
 

@@ -2,15 +2,12 @@
 
 ghost use Rattle.std.specs.Prelude.{◌≡◌, ◌≢◌, ◌↔◌, ◌⊎◌, ◌≤◌, ◌∷◌, ◌++◌, ℕ, List, [], false, true, flat_map, IfErr, IfOk, IsErrOf, IsTrue};
 ghost use Rattle.gix_hash.specs.Digits.{hex_letter, spelling};
-ghost use Rattle.gix_hash.specs.Kind.{hex_len_of};
-ghost use Rattle.object_store.specs.Parts.{IsFaultOfOne};
-ghost use Rattle.object_store.specs.Stores.{HaveBuckets, Holds};
-ghost use Rattle.pack_index.specs.Firsts.{Each};
-ghost use Rattle.packtool_commands.specs.Asking.{HaveAllBuckets, lines_of, prefixes_of};
-ghost use Rattle.packtool_commands.specs.Finding.{IsFaultOf, IsWalkFault};
-ghost use Rattle.packtool_commands.specs.Names.{HasNamedAtMost, HasNamedBelow, HasNamedEach, HasNamedEachIn, HasNamedPart, name_line};
+ghost use Rattle.gix_hash.specs.Kinds.{hex_len_of};
+ghost use Rattle.object_store.specs.Stores.{HaveBuckets, Holds, IsFaultOfOne};
+ghost use Rattle.pack_index.specs.Format.{Each};
+ghost use Rattle.packtool_commands.specs.Stores.{HasNamedAtMost, HasNamedBelow, HasNamedEach, HasNamedEachIn, HasNamedPart, HaveAllBuckets, IsFaultOf, IsWalkFault, lines_of, name_line, prefixes_of};
 ghost use Rattle.packtool_commands.specs.declared.error.StoreError.{StoreError};
-ghost use Rattle.streams.specs.Writing.{Wrote};
+ghost use Rattle.streams.specs.Streams.{Wrote};
 
 use crate::asking::{Form, prefixes_in, write_answers, write_two};
 use crate::error::StoreError;
@@ -146,7 +143,7 @@ pub fn name_each<S: Store, A: Allocator + Copy, W: Sink>(
 struct AbbreviationForm;
 
 impl Form<Abbreviation> for AbbreviationForm {
-    ghost use Rattle.packtool_commands.specs.Names.{abbreviation_text, is_named};
+    ghost use Rattle.packtool_commands.specs.Stores.{abbreviation_text, is_named};
 
     ghost text = { λ _ line found. abbreviation_text line found };
 

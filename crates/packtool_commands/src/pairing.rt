@@ -2,9 +2,8 @@
 
 ghost use Rattle.std.specs.Prelude.{◌≡◌, ◌≤◌, ℕ, List, Some, false, IfErr, IfOk, OnErr};
 ghost use Rattle.gix_hash.specs.declared.Kind.{Kind};
-ghost use Rattle.packtool_commands.specs.Escaping.{named};
-ghost use Rattle.packtool_commands.specs.Pairing.{IsDigest, IsOfWhatMayFail, IsPairing, MayFail, last_digest_but, pairing_verdict};
-ghost use Rattle.streams.specs.Writing.{Wrote};
+ghost use Rattle.packtool_commands.specs.Files.{IsDigest, IsOfWhatMayFail, IsPairing, MayFail, last_digest_but, named, pairing_verdict};
+ghost use Rattle.streams.specs.Streams.{Wrote};
 
 use crate::escaping::write_named;
 use crate::lines::{MAX_VERDICT_LEN, put_pairing};

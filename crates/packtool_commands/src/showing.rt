@@ -2,10 +2,9 @@
 
 ghost use Rattle.std.specs.Prelude.{◌≡◌, ◌≢◌, ◌↔◌, ◌⊎◌, [], false, true, IfErr, IfOk, IfSome, IsErrOf, IsTrue, OnOk};
 ghost use Rattle.std.specs.Io.KnownBytes.{Consumes, IsAtEnd};
-ghost use Rattle.streams.specs.Writing.{Wrote};
+ghost use Rattle.streams.specs.Streams.{Wrote};
 ghost use Rattle.pack_index.specs.Format.{names_in};
-ghost use Rattle.packtool_commands.specs.Lines.{index_lines};
-ghost use Rattle.packtool_commands.specs.Showing.{HasShown, HasShownPart, IsOpenedAs, IsRefusalAs, IsFileRefusal};
+ghost use Rattle.packtool_commands.specs.Files.{HasShown, HasShownPart, IsFileRefusal, IsOpenedAs, IsRefusalAs, index_lines};
 ghost use Rattle.packtool_commands.specs.declared.error.FileError.{FileError};
 
 use crate::error::FileError;

@@ -7,12 +7,12 @@ use Rattle.std.proofs.lemmas.List.{length-take, nil_from_length, take-append-le}
 use Rattle.std.proofs.lemmas.List.Edits.{take-paste}
 use borrow.Rule.Slice.PartMut.{put_mid, post_of}
 use Rattle.gix_hash.specs.Hashing.{digest, EndsInDigest}
-use Rattle.gix_hash.specs.Kind.{byte_len_of}
-use Rattle.gix_hash.specs.ObjectId.{id_bytes}
+use Rattle.gix_hash.specs.Kinds.{byte_len_of}
+use Rattle.gix_hash.specs.Ids.{id_bytes}
 use Rattle.gix_hash.specs.declared.Kind.{Kind}
 use Rattle.gix_hash.specs.declared.Kind.TheVariants.{Sha1, Sha256}
 use Rattle.gix_hash.specs.declared.ObjectId.{ObjectId}
-use Rattle.streams.specs.Sealed.{AreAllBelow, HasEnding, IsEnding}
+use Rattle.streams.specs.Streams.{AreAllBelow, HasEnding, IsEnding}
 use Rattle.streams.specs.declared.checking.Ending.{Ending}
 use Rattle.streams.specs.declared.checking.Ending.TheVariants.{Sealed, Unsealed}
 

@@ -5,7 +5,7 @@ use Rattle.std.proofs.lemmas.List.{length-drop, take_all}
 use Rattle.std.proofs.Math.Seq.{take-add}
 use Rattle.std.proofs.KnownBytes.{Appends-trans}
 use Rattle.std.specs.Io.KnownBytes.{Appends, Keeps}
-use Rattle.streams.specs.Writing.{AppendsPart, write_fails}
+use Rattle.streams.specs.Streams.{AppendsPart, write_fails}
 use Rattle.streams.proofs.WritingLemmas.{Appends-kept}
 
 -- the bytes before an index, and then the first ones from there on

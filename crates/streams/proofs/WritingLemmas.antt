@@ -6,7 +6,7 @@ use Rattle.std.proofs.Common.{refl, sym, ap, subst, ◌∙◌, append_assoc, add
 use Rattle.std.proofs.KnownBytes.{Appends-trans}
 use Rattle.std.proofs.Math.Seq.{drop-cons}
 use Rattle.std.proofs.lemmas.Grind.{flat_map-append}
-use Rattle.streams.specs.Writing.{AppendsPart, AppendsAtMost, Wrote}
+use Rattle.streams.specs.Streams.{AppendsPart, AppendsAtMost, Wrote}
 use Rattle.streams.specs.declared.sink.WriteFailed.{WriteFailed}
 
 -- what is kept has grown by nothing

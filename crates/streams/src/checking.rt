@@ -2,10 +2,8 @@
 
 ghost use Rattle.std.specs.Prelude.{◌≡◌, ◌↔◌, ◌≤◌, ◌++◌, ℕ, List, Option, None, false, true, length, OnOk, IfOk, IfErr, IsErrOf};
 ghost use Rattle.gix_hash.specs.Hashing.{hasher_kind, WasFed};
-ghost use Rattle.gix_hash.specs.Kind.{byte_len_of};
-ghost use Rattle.streams.specs.Source.{HasReadAll};
-ghost use Rattle.streams.specs.Pipe.{HashingFails};
-ghost use Rattle.streams.specs.Sealed.{AreAllBelow, AreFed, HasEnding, HasEndingOf, HasEndingOfEither, IsEnding};
+ghost use Rattle.gix_hash.specs.Kinds.{byte_len_of};
+ghost use Rattle.streams.specs.Streams.{AreAllBelow, AreFed, HasEnding, HasEndingOf, HasEndingOfEither, HasReadAll, HashingFails, IsEnding};
 
 use crate::{CHUNK_LEN, PipeError, Source, next_chunk};
 use gix_hash::hashing_laws::digests;

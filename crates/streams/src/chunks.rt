@@ -1,7 +1,7 @@
 //! Reading a source chunk by chunk, and counting its bytes.
 
 ghost use Rattle.std.specs.Prelude.{◌≡◌, ◌+◌, ◌≤◌, ◌<◌, ◌++◌, ◌↔◌, ℕ, List, Option, false, true, length, take, IfOk, IfErr, OnOk, IsErrOf};
-ghost use Rattle.streams.specs.Source.{ChunkFails, HasReadAll, HasReadCounted};
+ghost use Rattle.streams.specs.Streams.{ChunkFails, HasReadAll, HasReadCounted};
 
 use crate::pipe::PipeError;
 use crate::source::{MAX_LEN, Source};

@@ -3,7 +3,7 @@
 ghost use Rattle.std.specs.Prelude.{◌≡◌, ◌≤◌, ◌-◌, ◌||◌, false, [], min, length, Some, Ok};
 ghost use Rattle.std.specs.Io.{WritesAtMost};
 ghost use Rattle.std.specs.Io.KnownBytes.{WriteAppends};
-ghost use Rattle.streams.specs.Writing.{write_fails};
+ghost use Rattle.streams.specs.Streams.{write_fails};
 
 use crate::sink::{BufferedSink, Sink};
 use std::io;

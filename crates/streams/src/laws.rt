@@ -3,8 +3,8 @@
 
 ghost use Rattle.std.specs.Prelude.{◌≡◌, ◌≢◌, ◌↔◌, ◌≤◌, ℕ, List, [], ◌∷◌, ◌++◌, length};
 ghost use Rattle.gix_hash.specs.Hashing.{digest, sealed, EndsInDigest};
-ghost use Rattle.gix_hash.specs.Kind.{byte_len_of};
-ghost use Rattle.gix_hash.specs.ObjectId.{id_bytes};
+ghost use Rattle.gix_hash.specs.Kinds.{byte_len_of};
+ghost use Rattle.gix_hash.specs.Ids.{id_bytes};
 
 use gix_hash::Kind;
 use gix_hash::hashing_laws::digests;

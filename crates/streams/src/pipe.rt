@@ -3,8 +3,7 @@
 ghost use Rattle.std.specs.Prelude.{◌≡◌, ◌≢◌, ◌↔◌, ℕ, List, false, true, OnOk, IfOk, IfErr, IsErrOf};
 ghost use Rattle.std.specs.Io.KnownBytes.{Appends};
 ghost use Rattle.gix_hash.specs.Hashing.{digest, sealed};
-ghost use Rattle.streams.specs.Pipe.{digest_line, HashingFails, SealingFails};
-ghost use Rattle.streams.specs.Source.{HasReadAll};
+ghost use Rattle.streams.specs.Streams.{HasReadAll, HashingFails, SealingFails, digest_line};
 
 use crate::printing::write_id;
 use crate::{CHUNK_LEN, Sink, Source, WriteFailed, next_chunk, write_all};

@@ -5,7 +5,7 @@ ghost use Rattle.std.specs.IoError.{error_kind};
 ghost use Rattle.std.specs.declared.io.ErrorKind.{ErrorKind};
 ghost use Rattle.std.specs.Io.{ReadsAtMost, WritesAtMost};
 ghost use Rattle.std.specs.Io.KnownBytes.{ReadConsumes, WriteAppends};
-ghost use Rattle.streams.specs.Writing.{write_fails};
+ghost use Rattle.streams.specs.Streams.{write_fails};
 
 use crate::sink::{BufferedSink, Sink};
 use crate::source::Source;

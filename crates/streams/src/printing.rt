@@ -1,10 +1,9 @@
 //! Writing ids, a line for each.
 
 ghost use Rattle.std.specs.Prelude.{◌≡◌, ◌≤◌, false, map, length, take};
-ghost use Rattle.gix_hash.specs.ObjectId.{id_digits};
-ghost use Rattle.gix_hash.specs.Alphabet.{letter_of};
-ghost use Rattle.streams.specs.Printing.{line_of, printed};
-ghost use Rattle.streams.specs.Writing.{Wrote};
+ghost use Rattle.gix_hash.specs.Ids.{id_digits};
+ghost use Rattle.gix_hash.specs.Reading.{letter_of};
+ghost use Rattle.streams.specs.Streams.{Wrote, line_of, printed};
 
 use crate::{Sink, WriteFailed, write_all};
 use gix_hash::{Alphabet, ObjectId};

@@ -13,7 +13,7 @@ use std::os::unix::fs::FileExt;
 /// ```
 pub trait ReadAt {
     ghost use Rattle.std.specs.Prelude.{◌≡◌, ◌+◌, ◌≤◌, ℕ, Bool, List, Option, Some, OnErr, OnOk, IfOk, IsTrue, length};
-    ghost use Rattle.streams.specs.ReadAt.{IsReadAt};
+    ghost use Rattle.streams.specs.Streams.{IsReadAt};
 
     /// All bytes, or `None`, which claims nothing.
     ghost content: { Self → Option (List ℕ) };

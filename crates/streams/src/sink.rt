@@ -3,7 +3,7 @@
 ghost use Rattle.std.specs.Prelude.{◌≡◌, ◌||◌, [], false, is_err, OnOk};
 ghost use Rattle.std.specs.Io.{WritesAtMost};
 ghost use Rattle.std.specs.Io.KnownBytes.{WriteAppends};
-ghost use Rattle.streams.specs.Writing.{write_fails, Wrote};
+ghost use Rattle.streams.specs.Streams.{write_fails, Wrote};
 
 use std::io;
 

@@ -1,9 +1,8 @@
 //! The digest of the first bytes of a file.
 
 ghost use Rattle.std.specs.Prelude.{◌≡◌, ℕ, List, length, IfOk, OnOk, IfErr};
-ghost use Rattle.gix_hash.specs.Hashing.{digest};
-ghost use Rattle.gix_hash.specs.ObjectId.{id_kind};
-ghost use Rattle.gix_hash.specs.Streams.{Reaches, FileStopsWith, chunks, heard_all, all_false};
+ghost use Rattle.gix_hash.specs.Hashing.{FileStopsWith, Reaches, all_false, chunks, digest, heard_all};
+ghost use Rattle.gix_hash.specs.Ids.{id_kind};
 
 use super::stream::bytes;
 use super::{Error, Interrupt, Progress};

@@ -1,7 +1,7 @@
 //! Reporting how far the reading of a stream has come.
 
 ghost use Rattle.std.specs.Prelude.{◌≡◌};
-ghost use Rattle.gix_hash.specs.Streams.{ProgressCall, Init, IncBy, ShowThroughput};
+ghost use Rattle.gix_hash.specs.Hashing.{ProgressCall, Init, IncBy, ShowThroughput};
 
 /// Receives how far the reading of a stream has come, in bytes.
 ///

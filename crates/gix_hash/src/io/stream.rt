@@ -1,8 +1,7 @@
 //! The digest of the next bytes of a reader.
 
 ghost use Rattle.std.specs.Prelude.{◌≡◌, ◌++◌, ℕ, List, length, IfOk, OnOk, IfErr};
-ghost use Rattle.gix_hash.specs.Hashing.{digest, hasher_kind, WasFed};
-ghost use Rattle.gix_hash.specs.Streams.{Reaches, ReadsNext, StopsWith, chunks, heard_all, all_false};
+ghost use Rattle.gix_hash.specs.Hashing.{Reaches, ReadsNext, StopsWith, WasFed, all_false, chunks, digest, hasher_kind, heard_all};
 
 use super::{Error, Interrupt, Progress};
 use crate::hashing::start::hasher;

@@ -3,8 +3,7 @@
 ghost use Rattle.std.specs.Prelude.{◌≡◌, [], OnErr};
 ghost use Rattle.std.specs.Io.{WritesAtMost};
 ghost use Rattle.std.specs.Io.KnownBytes.{Keeps, WriteAppends};
-ghost use Rattle.gix_hash.specs.Hashing.{hasher_kind, WasFed};
-ghost use Rattle.gix_hash.specs.HashingWriter.{WriterStep, Wrote, Flushed};
+ghost use Rattle.gix_hash.specs.Hashing.{Flushed, WasFed, WriterStep, Wrote, hasher_kind};
 
 use crate::hashing::start::hasher;
 use crate::hashing::state::Hasher;

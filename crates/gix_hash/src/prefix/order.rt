@@ -7,7 +7,7 @@ use std::hash::{Hash, Hasher};
 impl PartialEq for Prefix {
     ghost use Rattle.std.proofs.Common.{rules};
     ghost use Rattle.std.specs.Cmp.Rules.{comparing};
-    ghost use Rattle.gix_hash.specs.Prefix.{prefix_eq};
+    ghost use Rattle.gix_hash.specs.Prefixes.{prefix_eq};
 
     ghost eq = { prefix_eq };
 
@@ -30,7 +30,7 @@ impl PartialOrd for Prefix {
     ghost use Rattle.std.specs.Cmp.{partial_order_from_own_ties};
     ghost use Rattle.std.specs.Cmp.Rules.{comparing};
     ghost use Rattle.std.specs.Ordering.{as_partial_cmp};
-    ghost use Rattle.gix_hash.specs.Prefix.{prefix_cmp};
+    ghost use Rattle.gix_hash.specs.Prefixes.{prefix_cmp};
 
     ghost partial_cmp = { as_partial_cmp prefix_cmp };
 
@@ -46,7 +46,7 @@ impl PartialOrd for Prefix {
 impl Ord for Prefix {
     ghost use Rattle.std.proofs.Common.{rules};
     ghost use Rattle.std.specs.Cmp.Rules.{comparing};
-    ghost use Rattle.gix_hash.specs.Prefix.{prefix_cmp};
+    ghost use Rattle.gix_hash.specs.Prefixes.{prefix_cmp};
 
     ghost cmp = { prefix_cmp };
 

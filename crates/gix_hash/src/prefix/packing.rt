@@ -1,10 +1,10 @@
 //! Prefixes made of digits.
 
 ghost use Rattle.std.specs.Prelude.{◌≡◌, ◌≤◌, ◌<◌, ◌*◌, length, take};
-ghost use Rattle.id_digits.specs.Digits.{digits_of};
-ghost use Rattle.gix_hash.specs.Kind.{hex_len_of, byte_len_of};
-ghost use Rattle.gix_hash.specs.ObjectId.{id_kind, id_digits};
-ghost use Rattle.gix_hash.specs.Prefix.{kind_digits, padded};
+ghost use Rattle.id_digits.specs.Digits.{digits_of, padded};
+ghost use Rattle.gix_hash.specs.Kinds.{hex_len_of, byte_len_of};
+ghost use Rattle.gix_hash.specs.Ids.{id_kind, id_digits};
+ghost use Rattle.gix_hash.specs.Prefixes.{kind_digits};
 
 use super::Prefix;
 use crate::kind::Kind;

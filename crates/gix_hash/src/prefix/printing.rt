@@ -3,11 +3,10 @@
 ghost use Rattle.std.specs.Prelude.{◌≡◌, ◌≤◌, ◌↔◌, ◌++◌, ℕ, List, length, drop, IsTrue, IsAscii, OnOk};
 ghost use Rattle.std.specs.Borrow.{sem};
 ghost use Rattle.std.specs.Io.KnownBytes.{Appends};
-ghost use Rattle.gix_hash.specs.CutId.{asked_len, cut_kind, shown_digits, whole_digits};
-ghost use Rattle.id_digits.specs.Digits.{hex_letter, spelling};
-ghost use Rattle.gix_hash.specs.Kind.{hex_len_of};
-ghost use Rattle.gix_hash.specs.LentText.{EndsAs};
-ghost use Rattle.gix_hash.specs.Prefix.{padded};
+ghost use Rattle.gix_hash.specs.Ids.{asked_len, cut_kind, shown_digits, whole_digits};
+ghost use Rattle.id_digits.specs.Digits.{hex_letter, padded, spelling};
+ghost use Rattle.gix_hash.specs.Kinds.{hex_len_of};
+ghost use Rattle.gix_hash.specs.Loans.{EndsAs};
 
 use super::Prefix;
 use crate::alphabet::Alphabet;

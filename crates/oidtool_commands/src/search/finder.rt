@@ -3,10 +3,9 @@
 ghost use Rattle.std.specs.Prelude.{false, IsTrue, ◌≡◌, ◌≢◌, ◌+◌, ◌-◌, ◌^◌, ◌<◌, ℕ, List, [], ◌++◌, map, length, IfErr, OnOk};
 ghost use Rattle.std.specs.Option.{option_map};
 ghost use Rattle.std.specs.Result.{result_map_both};
-ghost use Rattle.gix_hash.specs.ObjectId.{id_digits};
-ghost use Rattle.id_digits.specs.SortedLines.{is_line_len};
-ghost use Rattle.oidtool_commands.specs.Searching.{last_or, found_among, HasFound};
-ghost use Rattle.oidtool_commands.specs.Skipping.{HasSkipped};
+ghost use Rattle.gix_hash.specs.Ids.{id_digits};
+ghost use Rattle.id_digits.specs.Letters.{is_line_len};
+ghost use Rattle.oidtool_commands.specs.Searches.{HasFound, HasSkipped, found_among, last_or};
 ghost use Rattle.oidtool_commands.specs.declared.search.error.SearchError.{SearchError};
 ghost use Rattle.oidtool_commands.specs.declared.search.Search.{Search};
 

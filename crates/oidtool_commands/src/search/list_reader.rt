@@ -3,11 +3,9 @@
 ghost use Rattle.std.specs.Prelude.{◌≡◌, ◌↔◌, ℕ, false, MatchOption, ◌+◌, ◌^◌, ◌<◌, ◌≤◌, List, [], ◌∷◌, ◌++◌, map, take, drop, length, IfOk, IfErr, IfSome, OnOk};
 ghost use Rattle.std.specs.List.{position, slice_range};
 ghost use Rattle.gix_hash.specs.Digits.{hex_letter};
-ghost use Rattle.gix_hash.specs.IdReading.{full_read, result_digits};
-ghost use Rattle.gix_hash.specs.ObjectId.{id_digits};
-ghost use Rattle.oidtool_commands.specs.Lines.{is_line_feed};
-ghost use Rattle.oidtool_commands.specs.ListChunks.{HasTaken, HasIdLine, IsRefusalAfter, Takes};
-ghost use Rattle.oidtool_commands.specs.ListText.{list_read, IsListRefusal};
+ghost use Rattle.gix_hash.specs.Reading.{full_read, result_digits};
+ghost use Rattle.gix_hash.specs.Ids.{id_digits};
+ghost use Rattle.oidtool_commands.specs.Lists.{HasIdLine, HasTaken, IsListRefusal, IsRefusalAfter, Takes, is_line_feed, list_read};
 
 use crate::search::error::SearchError;
 use gix_hash::{Alphabet, Kind, ObjectId, decode};

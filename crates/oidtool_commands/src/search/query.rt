@@ -3,14 +3,13 @@
 ghost use Rattle.std.specs.Prelude.{◌⊎◌, IsTrue, IfSome, ◌≡◌, ◌+◌, ◌-◌, ◌^◌, ◌<◌, ◌≤◌, ℕ, List, None, Some, map, length, IfOk, IfErr, OnOk};
 ghost use Rattle.std.specs.Option.{option_map};
 ghost use Rattle.std.specs.declared.cmp.Ordering.TheVariants.{Less, Greater};
-ghost use Rattle.gix_hash.specs.Kind.{hex_len_of};
-ghost use Rattle.gix_hash.specs.ObjectId.{id_digits, id_kind};
-ghost use Rattle.gix_hash.specs.Prefix.{place};
-ghost use Rattle.id_digits.specs.SortedLines.{is_line_len};
-ghost use Rattle.id_lookup.specs.Index.{IsIndex};
+ghost use Rattle.gix_hash.specs.Kinds.{hex_len_of};
+ghost use Rattle.gix_hash.specs.Ids.{id_digits, id_kind};
+ghost use Rattle.gix_hash.specs.Digits.{place};
+ghost use Rattle.id_digits.specs.Letters.{is_line_len};
+ghost use Rattle.id_lookup.specs.Indexes.{IsIndex};
 ghost use Rattle.id_lookup.specs.Runs.{matches};
-ghost use Rattle.oidtool_commands.specs.Searching.{IsFor, IsLeast, error_of_all, first_refused, late_error};
-ghost use Rattle.oidtool_commands.specs.Skipping.{CanSkip, TakesLength, allows_repeats};
+ghost use Rattle.oidtool_commands.specs.Searches.{CanSkip, IsFor, IsLeast, TakesLength, allows_repeats, error_of_all, first_refused, late_error};
 ghost use Rattle.oidtool_commands.specs.declared.search.Search.{Search};
 
 use crate::search::Search;

@@ -1,10 +1,8 @@
 use Rattle.std.proofs.Common.{◌≡◌, [], ◌∷◌, ◌++◌, codes, refl}
 use Rattle.sha1.specs.Sha1 as fips1
 use Rattle.sha2.specs.Sha256 as fips256
-use Rattle.id_digits.specs.Digits.{digits_of}
-use Rattle.gix_hash.specs.Reading.{digit_below}
-use Rattle.gix_hash.specs.ObjectId.{id_digits}
-use Rattle.gix_hash.specs.WellKnown.{empty_blob_digits, empty_tree_digits}
+use Rattle.id_digits.specs.Digits.{digit_below, digits_of}
+use Rattle.gix_hash.specs.Ids.{empty_blob_digits, empty_tree_digits, id_digits}
 use Rattle.gix_hash.specs.declared.kind.Kind.{Kind}
 use Rattle.gix_hash.specs.declared.kind.Kind.TheVariants.{Sha1, Sha256}
 use Rattle.gix_hash.specs.Hashing.{digest}

@@ -1,4 +1,4 @@
-use Rattle.gix_hash.specs.Alphabet.{letter_of}
+use Rattle.gix_hash.specs.Reading.{letter_of}
 use Rattle.gix_hash.proofs.ReadingLaws.{letter_of-alphabet, prefix_read_in-printed}
 use Rattle.gix_hash.proofs.laws.read_prefix_back_in_kind.Goals as goal
 

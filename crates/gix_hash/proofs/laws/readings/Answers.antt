@@ -1,4 +1,4 @@
-use Rattle.gix_hash.specs.Alphabet.{letter_of}
+use Rattle.gix_hash.specs.Reading.{letter_of}
 use Rattle.id_digits.proofs.ReadingFacts.{ReadsAs-digits_read, digits_read-ReadsAs, IsUnreadable-digits_read, digits_read-IsUnreadable}
 use Rattle.gix_hash.proofs.ReadingLaws.{letter_of-alphabet}
 use Rattle.gix_hash.proofs.laws.readings.Goals as goal

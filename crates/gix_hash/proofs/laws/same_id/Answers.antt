@@ -1,6 +1,6 @@
 use Rattle.std.proofs.Common.{ap}
 use Rattle.gix_hash.proofs.Equalities.{same_id}
-use Rattle.gix_hash.specs.IdReading.{whole_of}
+use Rattle.gix_hash.specs.Reading.{whole_of}
 use Rattle.gix_hash.proofs.laws.same_id.Goals as goal
 
 pub returns : goal.returns

@@ -1,4 +1,4 @@
-use Rattle.gix_hash.specs.Alphabet.{letter_of}
+use Rattle.gix_hash.specs.Reading.{letter_of}
 use Rattle.gix_hash.proofs.SpellingLaws.{ReadsAs-is}
 use Rattle.gix_hash.proofs.laws.spelled.Goals as goal
 

@@ -1,6 +1,5 @@
 use Rattle.std.proofs.Common.{refl}
-use Rattle.gix_hash.specs.Reading.{digit_below}
-use Rattle.id_digits.specs.Words.{word}
+use Rattle.id_digits.specs.Digits.{digit_below, word}
 use Rattle.gix_hash.proofs.laws.words_written_out.Goals as goal
 
 pub returns-clause-seven : goal.returns-clause-seven

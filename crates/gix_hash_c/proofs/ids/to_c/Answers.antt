@@ -1,6 +1,6 @@
 use Rattle.std.proofs.Common.{◌≡◌, ◌∙◌, length, refl, sym, ap}
-use Rattle.gix_hash.specs.Kind.{byte_len_of}
-use Rattle.gix_hash.specs.ObjectId.{id_bytes, id_kind}
+use Rattle.gix_hash.specs.Kinds.{byte_len_of}
+use Rattle.gix_hash.specs.Ids.{id_bytes, id_kind}
 use Rattle.gix_hash.specs.declared.object_id.ObjectId.{ObjectId}
 use Rattle.gix_hash_c.proofs.Zeros.{none_behind, zeros_behind}
 use Rattle.gix_hash_c.proofs.ids.to_c.Goals as goal

@@ -1,6 +1,6 @@
 use Rattle.std.proofs.Common.{◌≤◌, ℕ, List, length, map, sym, ap, ◌∙◌, subst, arith}
-use Rattle.id_digits.specs.Digits.{digits_of}
-use Rattle.gix_hash.specs.Kind.{hex_len_of}
+use Rattle.gix_hash.specs.Digits.{digits_of}
+use Rattle.gix_hash.specs.Kinds.{hex_len_of}
 use Rattle.gix_hash.specs.declared.kind.Kind.TheVariants.{Sha1, Sha256}
 use Rattle.pack_index.specs.Format.{digests_in}
 use Rattle.pack_index.proofs.Counted.{digests_in-reach}

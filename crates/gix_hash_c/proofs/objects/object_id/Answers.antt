@@ -1,7 +1,7 @@
 use Rattle.std.proofs.Common.{◌≡◌, [], ◌∷◌, ◌++◌, refl, sym, ap, ◌∙◌}
 use Rattle.std.proofs.lemmas.List.{append_assoc}
 use Rattle.gix_hash.specs.Hashing.{digest, hasher_kind}
-use Rattle.gix_hash_c.specs.Objects.{object_bytes}
+use Rattle.gix_hash_c.specs.Hashers.{object_bytes}
 use Rattle.gix_hash_c.proofs.objects.object_id.Goals as goal
 
 pub returns : goal.returns

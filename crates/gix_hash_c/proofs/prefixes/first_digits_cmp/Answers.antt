@@ -3,10 +3,10 @@ use Rattle.std.specs.List.{common_prefix_len}
 use Rattle.std.specs.Ordering.{nat_cmp}
 use Rattle.std.specs.Cmp.Lexicographic.{slice_cmp}
 use Rattle.std.proofs.lemmas.List.{length-take-le}
-use Rattle.id_digits.specs.Digits.{digits_of}
+use Rattle.gix_hash.specs.Digits.{digits_of}
 use Rattle.id_digits.proofs.ByteDigits.{length-digits_of}
-use Rattle.gix_hash.specs.Kind.{byte_len_of}
-use Rattle.gix_hash.specs.Oid.{oid_digits, oid_kind}
+use Rattle.gix_hash.specs.Kinds.{byte_len_of}
+use Rattle.gix_hash.specs.Ids.{oid_digits, oid_kind}
 use Rattle.gix_hash.specs.declared.kind.Kind.{Kind}
 use Rattle.gix_hash.specs.declared.kind.Kind.TheVariants.{Sha1, Sha256}
 use Rattle.gix_hash.proofs.KindFacts.{hex_len_of-bytes}

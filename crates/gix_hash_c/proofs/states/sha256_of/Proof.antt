@@ -1,6 +1,6 @@
 -- What lies at the fields is read as a state: the cell of one is a cell of the other, since structs with the same fields lie alike.
 use Rattle.gix_hash_c.proofs.Recast.{[], ◌∷◌, refl, Ty, proved, ftrue, fat, full_share, unnamed, tables, ‵, ◌⊛◌, at_ret, ◌$◌, ◌∵◌, !, qed, done, move, keep, use1, split, join, suffices, enter, of_opd, addr, load, look, stop, from, first, blocks, exec, returns, alloc_all, pass_all, free_all, look_at, get, through, sets, sets_last, take_at, give_at, env, yes, plain, nothing, Stays, walk_of, says, stay_dropped, Goes-dropped, ends_at}
-use Rattle.gix_hash_c.specs.States.{sha256_of}
+use Rattle.gix_hash_c.specs.Hashers.{sha256_of}
 use Rattle.gix_hash_c.specs.contracts.states.Sha256Fields.{the_row as In}
 use Rattle.gix_hash_c.proofs.states.Sha256Fields.TheLaws as given
 use Rattle.sha2.proofs.Sha256.TheLaws as made

@@ -3,9 +3,8 @@ use Rattle.std.proofs.lemmas.Bool.{and_parts}
 use Rattle.std.proofs.lemmas.List.{get_or_default}
 use Rattle.std.specs.Ordering.{nat_cmp}
 use Rattle.std.specs.Cmp.Lexicographic.{slice_cmp}
-use Rattle.id_digits.specs.Digits.{digits_of}
-use Rattle.id_digits.specs.SortedLines.{line_values, may_follow, IsIdLine}
-use Rattle.id_digits.specs.Words.{word}
+use Rattle.id_digits.specs.Digits.{digits_of, word}
+use Rattle.id_digits.specs.Letters.{line_values, may_follow, IsIdLine}
 use Rattle.id_digits.proofs.LineOrder.{line_of, line_before, line_before-is, line_word, word_none, word_follows, letters_tested, one_more, none_left, is_so}
 use Rattle.id_digits.proofs.lines.are_sorted_lines.Goals as goal
 use Rattle.id_digits.proofs.lines.are_sorted_lines.Goals.{else-word-before-via-then-word-before+else-not-is_in_order, then-at-eq0, else-at-eq0, else-word-before-via-else-word-before}

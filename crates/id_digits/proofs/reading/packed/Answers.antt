@@ -1,4 +1,4 @@
-use Rattle.id_digits.specs.LetterValues.{packed}
+use Rattle.id_digits.specs.Letters.{packed}
 use Rattle.id_digits.proofs.LanePacking.{packed-lanes}
 use Rattle.id_digits.proofs.reading.packed.Goals as goal
 

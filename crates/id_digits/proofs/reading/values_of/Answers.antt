@@ -1,8 +1,8 @@
 use Rattle.std.proofs.Common.{ℕ, leb, cond, refl}
 use Rattle.std.proofs.lemmas.Simd.{zip2_splat, zip2_of_maps, splat_is_map}
-use Rattle.id_digits.specs.LetterValues.{value_of}
+use Rattle.id_digits.specs.Letters.{value_of}
 use Rattle.id_digits.proofs.LaneValues.{selected, same_lanes}
-use Rattle.id_digits.specs.Reading.{digit_below}
+use Rattle.id_digits.specs.Digits.{digit_below}
 use Rattle.id_digits.proofs.reading.values_of.Goals as goal
 
 pub returns : goal.returns

@@ -1,5 +1,5 @@
 use Rattle.std.proofs.Common.{◌≡◌, ◌++◌, map, take, drop}
-use Rattle.id_digits.specs.ReverseLetters.{hex_of_reverse}
+use Rattle.id_digits.specs.Letters.{hex_of_reverse}
 use Rattle.id_digits.proofs.reverse.to_hex_letters.Given as goal
 
 abbrev pub invariant-loop-letter : goal.invariant-loop-letter

@@ -1,5 +1,5 @@
 use Rattle.std.proofs.Common.{◌≡◌, ◌++◌, map, take, drop}
-use Rattle.id_digits.specs.ReverseLetters.{reverse_of_hex}
+use Rattle.id_digits.specs.Letters.{reverse_of_hex}
 use Rattle.id_digits.proofs.reverse.to_reverse_letters.Given as goal
 
 abbrev pub invariant-loop-letter : goal.invariant-loop-letter

@@ -1,6 +1,5 @@
 use Rattle.std.proofs.Common.{◌-◌, ◌≤◌, map}
-use Rattle.id_lookup.specs.Bounds.{bound_of}
-use Rattle.id_lookup.specs.Sorted.{IsSortedIds}
+use Rattle.id_lookup.specs.Runs.{IsSortedIds, bound_of}
 use Rattle.id_lookup.proofs.assuming_sorted.bound_assuming_sorted.Given as goal
 
 abbrev pub invariant-loop-low : goal.invariant-loop-low

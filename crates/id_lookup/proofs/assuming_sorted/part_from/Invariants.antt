@@ -1,6 +1,5 @@
 use Rattle.std.proofs.Common.{◌≡◌, ◌-◌, ◌≤◌, length, map}
-use Rattle.id_lookup.specs.Bounds.{bound_of}
-use Rattle.id_lookup.specs.Sorted.{IsSortedIds}
+use Rattle.id_lookup.specs.Runs.{IsSortedIds, bound_of}
 use Rattle.id_lookup.proofs.assuming_sorted.part_from.Given as goal
 
 abbrev pub invariant-loop-high : goal.invariant-loop-high

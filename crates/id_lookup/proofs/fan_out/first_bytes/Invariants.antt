@@ -1,6 +1,6 @@
 use Rattle.std.proofs.Common.{◌≡◌, ℕ, ◌<◌, [], get_or, take, length, map}
 use Rattle.std.specs.List.{All, count_by}
-use Rattle.id_lookup.specs.FirstBytes.{has_first_byte}
+use Rattle.id_lookup.specs.Runs.{has_first_byte}
 use Rattle.id_lookup.proofs.fan_out.first_bytes.Given as goal
 
 abbrev pub invariant-loop-at : goal.invariant-loop-at

@@ -1,7 +1,7 @@
 use Rattle.std.proofs.Common.{◌≡◌, length, arith}
 use Rattle.std.specs.List.{All}
-use Rattle.gix_hash.specs.Kind.{hex_len_of}
-use Rattle.gix_hash.specs.ObjectId.{id_digits, id_kind}
+use Rattle.gix_hash.specs.Kinds.{hex_len_of}
+use Rattle.gix_hash.specs.Ids.{id_digits, id_kind}
 use Rattle.id_lookup.proofs.OneKind.{index-of_kind, kind-of_index}
 use Rattle.id_lookup.proofs.laws.strictly_sorted.Goals as goal
 

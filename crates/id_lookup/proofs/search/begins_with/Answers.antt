@@ -1,7 +1,7 @@
 use Rattle.std.proofs.Common.{sym, ap, ◌∙◌}
 use Rattle.std.specs.Ordering.{is_eq}
 use Rattle.gix_hash.specs.Digits.{hex_letter, spelling}
-use Rattle.gix_hash.specs.ObjectId.{id_digits}
+use Rattle.gix_hash.specs.Ids.{id_digits}
 use Rattle.id_lookup.proofs.Spelled.{begins_with-place, starts_with-spelling, starts_with-BeginsWith}
 use Rattle.id_lookup.proofs.search.begins_with.Goals as goal
 

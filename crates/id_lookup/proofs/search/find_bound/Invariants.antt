@@ -1,6 +1,5 @@
 use Rattle.std.proofs.Common.{◌≡◌, ◌+◌, ◌-◌, ◌≤◌}
-use Rattle.id_lookup.specs.Bits.{bits}
-use Rattle.id_lookup.specs.Bounds.{bound_of}
+use Rattle.id_lookup.specs.Runs.{bits, bound_of}
 use Rattle.id_lookup.proofs.search.find_bound.Given as goal
 
 abbrev pub invariant-loop-low : goal.invariant-loop-low

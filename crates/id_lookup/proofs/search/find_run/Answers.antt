@@ -1,5 +1,5 @@
 use Rattle.std.proofs.Common.{◌-◌, ap, arith}
-use Rattle.id_lookup.specs.Probing.{Probing}
+use Rattle.id_lookup.specs.Runs.{Probing}
 use Rattle.id_lookup.proofs.Binary.{bits-mono, bits-usize}
 use Rattle.id_lookup.proofs.Placed.{bound_of-end, run_is}
 use Rattle.id_lookup.proofs.search.find_run.Goals as goal

@@ -1,8 +1,8 @@
 use Rattle.std.proofs.Common.{◌≡◌, length, sym}
 use Rattle.std.proofs.lemmas.List.Elements.{All-same}
 use Rattle.std.proofs.lemmas.List.Filters.{dedup_is}
-use Rattle.gix_hash.specs.Kind.{hex_len_of}
-use Rattle.gix_hash.specs.ObjectId.{id_digits, id_kind}
+use Rattle.gix_hash.specs.Kinds.{hex_len_of}
+use Rattle.gix_hash.specs.Ids.{id_digits, id_kind}
 use Rattle.id_lookup.proofs.SortedOnce.{kept_kinds, kept_members, kept_strict, index_of_sorted}
 use Rattle.id_lookup.proofs.unique.sort_unique.Goals as goal
 

@@ -1,6 +1,6 @@
 use Rattle.std.proofs.Common.{◌≡◌, Some, map, take}
 use Rattle.gix_hash.specs.Digits.{first_byte_of}
-use Rattle.gix_hash.specs.Prefix.{KindDigits}
+use Rattle.gix_hash.specs.Prefixes.{KindDigits}
 use Rattle.object_store.proofs.each.first_bytes.Given as goal
 
 abbrev pub invariant-loop-prefix : goal.invariant-loop-prefix

@@ -1,4 +1,4 @@
-use Rattle.object_store.specs.Parts.{AreFoundOrPending, StayFound}
+use Rattle.object_store.specs.Stores.{AreFoundOrPending, StayFound}
 use Rattle.object_store.proofs.each.look_up_after.Given as goal
 
 abbrev pub invariant-loop-next : goal.invariant-loop-next

@@ -1,5 +1,5 @@
 use Rattle.std.proofs.Common.{◌≡◌, ◌<◌, ℕ, None, get_or}
-use Rattle.object_store.specs.Parts.{AreFoundOrPending}
+use Rattle.object_store.specs.Stores.{AreFoundOrPending}
 use Rattle.object_store.proofs.each.look_up_each.Given as goal
 
 abbrev pub invariant-loop-at : goal.invariant-loop-at

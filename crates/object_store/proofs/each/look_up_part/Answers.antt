@@ -1,10 +1,8 @@
 use Rattle.std.proofs.Common.{◌≡◌, [], Some, None, ap, arith, get_or, sym, subst}
 use Rattle.std.specs.List.{All}
 use Rattle.std.proofs.lemmas.Result.{err_from_is_err_and}
-use Rattle.gix_hash.specs.Prefix.{KindDigits}
-use Rattle.object_store.specs.Parts.{CanLookUp}
-use Rattle.object_store.specs.Stores.{IsStoreFault}
-use Rattle.object_store.specs.Views.{PartView, StoreView}
+use Rattle.gix_hash.specs.Prefixes.{KindDigits}
+use Rattle.object_store.specs.Stores.{CanLookUp, IsStoreFault, PartView, StoreView}
 use Rattle.object_store.proofs.Pending.{byte_read, one_fault}
 use Rattle.object_store.proofs.each.look_up_part.Goals as goal
 use Rattle.object_store.proofs.each.look_up_part.Given.{Over}

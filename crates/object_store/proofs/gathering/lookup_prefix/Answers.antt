@@ -1,6 +1,5 @@
 use Rattle.std.proofs.Common.{ap, subst}
-use Rattle.object_store.specs.Parts.{AreMatches}
-use Rattle.object_store.specs.Views.{PartView, StoreView}
+use Rattle.object_store.specs.Stores.{AreMatches, PartView, StoreView}
 use Rattle.object_store.proofs.gathering.lookup_prefix.Goals as goal
 
 pub returns-clause-matches : goal.returns-clause-matches

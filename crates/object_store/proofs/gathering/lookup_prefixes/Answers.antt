@@ -1,4 +1,4 @@
-use Rattle.object_store.specs.Parts.{AreMatches}
+use Rattle.object_store.specs.Stores.{AreMatches}
 use Rattle.object_store.proofs.Pending.{items_of_each}
 use Rattle.object_store.proofs.gathering.lookup_prefixes.Goals as goal
 

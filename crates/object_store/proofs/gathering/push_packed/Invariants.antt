@@ -1,6 +1,6 @@
 use Rattle.std.proofs.Common.{◌≡◌, ◌++◌, map, take}
 use Rattle.std.specs.List.{All, flat_map}
-use Rattle.gix_hash.specs.ObjectId.{id_digits, id_kind}
+use Rattle.gix_hash.specs.Ids.{id_digits, id_kind}
 use Rattle.id_lookup.specs.Runs.{matches}
 use Rattle.pack_index.specs.Lazy.{BucketNames}
 use Rattle.object_store.proofs.gathering.push_packed.Given as goal

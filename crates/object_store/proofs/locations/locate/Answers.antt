@@ -1,9 +1,7 @@
 use Rattle.std.proofs.Common.{ap, inr, subst}
 use Rattle.std.proofs.lemmas.Result.{err_from_is_err_and}
-use Rattle.gix_hash.specs.ObjectId.{id_digits}
-use Rattle.object_store.specs.Parts.{AreLocations}
-use Rattle.object_store.specs.Stores.{IsLocateFault}
-use Rattle.object_store.specs.Views.{PartView, StoreView}
+use Rattle.gix_hash.specs.Ids.{id_digits}
+use Rattle.object_store.specs.Stores.{AreLocations, IsLocateFault, PartView, StoreView}
 use Rattle.object_store.proofs.locations.locate.Goals as goal
 
 pub returns-in_err-locate-clause-err : goal.returns-in_err-locate-clause-err

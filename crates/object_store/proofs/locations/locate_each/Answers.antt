@@ -2,7 +2,7 @@ use Rattle.std.proofs.Common.{◌∙◌, [], refl, sym, subst}
 use Rattle.std.proofs.lemmas.List.{take_all}
 use Rattle.std.proofs.lemmas.Result.{err_from_is_err_and}
 use Rattle.gix_hash.specs.declared.ObjectId.TheVariants.{Sha1}
-use Rattle.object_store.specs.Parts.{AreMatches}
+use Rattle.object_store.specs.Stores.{AreMatches}
 use Rattle.object_store.proofs.LocatedIds.{fault_of_found, located_more}
 use Rattle.object_store.proofs.locations.locate_each.Goals as goal
 

@@ -1,7 +1,6 @@
 use Rattle.std.proofs.Common.{◌≡◌, ◌∙◌, ap, length, arith}
-use Rattle.gix_hash.specs.ObjectId.{id_digits}
-use Rattle.object_store.specs.Locations.{packed_locations}
-use Rattle.object_store.specs.Stores.{HasLocation, IsLocationFault}
+use Rattle.gix_hash.specs.Ids.{id_digits}
+use Rattle.object_store.specs.Stores.{HasLocation, IsLocationFault, packed_locations}
 use Rattle.object_store.proofs.Held.{as_many, fault_at, have_all, have_more, pack_at}
 use Rattle.object_store.proofs.Located.{location_more}
 use Rattle.pack_index.specs.Lazy.{LazyIndex}

@@ -1,8 +1,8 @@
 use Rattle.std.proofs.Common.{◌≡◌, List, ℕ, take}
 use Rattle.std.specs.List.{All}
-use Rattle.gix_hash.specs.ObjectId.{id_digits}
-use Rattle.object_store.specs.Locations.{packed_locations}
-use Rattle.object_store.specs.Stores.{HasLocation, Holds, IfKnown}
+use Rattle.gix_hash.specs.Ids.{id_digits}
+use Rattle.object_store.specs.Stores.{HasLocation, Holds, packed_locations}
+use Rattle.pack_index.specs.Lazy.{IfKnown}
 use Rattle.object_store.proofs.locations.packed_locations.Given as goal
 
 abbrev pub invariant-loop-pack : goal.invariant-loop-pack

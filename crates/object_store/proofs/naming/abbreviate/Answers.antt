@@ -1,9 +1,8 @@
 use Rattle.std.proofs.Common.{ℕ, List, ap, subst}
 use Rattle.std.specs.List.{Contains}
 use Rattle.std.specs.Prelude.{MatchOption}
-use Rattle.gix_hash.specs.ObjectId.{id_digits}
-use Rattle.object_store.specs.Stores.{HaveBuckets, Holds, IsNameIn}
-use Rattle.object_store.specs.Views.{PartView, StoreView}
+use Rattle.gix_hash.specs.Ids.{id_digits}
+use Rattle.object_store.specs.Stores.{HaveBuckets, Holds, IsNameIn, PartView, StoreView}
 use Rattle.object_store.proofs.naming.abbreviate.Goals as goal
 
 pub returns-clause-name : goal.returns-clause-name

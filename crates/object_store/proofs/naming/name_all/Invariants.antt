@@ -1,7 +1,7 @@
 use Rattle.std.proofs.Common.{◌≡◌, ℕ, ◌<◌, length, map, get_or, take}
 use Rattle.std.specs.List.{All}
-use Rattle.gix_hash.specs.ObjectId.{id_digits}
-use Rattle.id_lookup.specs.ShortNames.{IsShortestNameFrom}
+use Rattle.gix_hash.specs.Ids.{id_digits}
+use Rattle.id_lookup.specs.Indexes.{IsShortestNameFrom}
 use Rattle.object_store.specs.Stores.{IsOfKind}
 use Rattle.object_store.specs.declared.naming.NamedId.{NamedId}
 use Rattle.object_store.proofs.naming.name_all.Given as goal

@@ -1,5 +1,5 @@
 use Rattle.std.proofs.Common.{◌≢◌, ℕ, ◌<◌, [], get_or}
-use Rattle.gix_hash.specs.ObjectId.{id_digits}
+use Rattle.gix_hash.specs.Ids.{id_digits}
 use Rattle.object_store.proofs.naming.name_in.Given as goal
 
 abbrev pub invariant-loop-at : goal.invariant-loop-at

@@ -1,12 +1,10 @@
 use Rattle.std.proofs.Common.{◌<◌, ◌∙◌, ℕ, List, map, ap, sym, subst}
 use Rattle.std.specs.List.{All}
-use Rattle.gix_hash.specs.ObjectId.{id_digits}
+use Rattle.gix_hash.specs.Ids.{id_digits}
 use Rattle.gix_hash.specs.declared.Kind.{Kind}
-use Rattle.id_lookup.specs.Index.{Index, IsIndex}
+use Rattle.id_lookup.specs.Indexes.{Index, IsIndex}
 use Rattle.id_lookup.specs.Runs.{matches}
-use Rattle.object_store.specs.Parts.{AreMatches}
-use Rattle.object_store.specs.Stores.{IsOfKind}
-use Rattle.object_store.specs.Views.{PartView, StoreView}
+use Rattle.object_store.specs.Stores.{AreMatches, IsOfKind, PartView, StoreView}
 use Rattle.object_store.proofs.Named.{named_digits, names_in_part}
 use Rattle.object_store.proofs.TwoDigits.{part_two}
 use Rattle.object_store.proofs.naming.names.Goals as goal

@@ -1,8 +1,8 @@
 use Rattle.std.proofs.Common.{ℕ, Option, List, inr, refl}
 use Rattle.std.specs.Io.KnownBytes.{Keeps}
 use Rattle.gix_hash.specs.declared.Alphabet.TheVariants.{Hex, Reverse}
-use Rattle.oidtool_commands.specs.Running.{Does}
-use Rattle.oidtool_commands.specs.Stopping.{Finds, From}
+use Rattle.oidtool_commands.specs.Commands.{Does}
+use Rattle.oidtool_commands.specs.Searches.{Finds, From}
 use Rattle.oidtool_commands.specs.declared.command.Command.{Command}
 use Rattle.oidtool_commands.specs.declared.command.Command.TheVariants.{Find, FindChange, FindIn, Hash, HashFile, Seal}
 use Rattle.oidtool_commands.specs.declared.search.Search.{Search}

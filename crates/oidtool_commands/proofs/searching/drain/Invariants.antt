@@ -1,5 +1,5 @@
 use Rattle.std.proofs.Common.{◌≡◌, ◌-◌, ◌^◌, List, ℕ, false}
-use Rattle.streams.specs.Source.{HasReadCounted}
+use Rattle.streams.specs.Streams.{HasReadCounted}
 use Rattle.oidtool_commands.proofs.searching.drain.Given as goal
 
 -- these bytes were read

@@ -1,6 +1,6 @@
 use Rattle.std.proofs.Common.{◌≡◌, ◌++◌, map, take}
 use Rattle.std.specs.List.{All}
-use Rattle.gix_hash.specs.ObjectId.{id_digits, id_kind}
+use Rattle.gix_hash.specs.Ids.{id_digits, id_kind}
 use Rattle.id_lookup.specs.Runs.{matches}
 use Rattle.pack_index.proofs.bucket.push_each.Given as goal
 

@@ -1,6 +1,5 @@
 use Rattle.std.proofs.Common.{◌≡◌, ◌≤◌}
-use Rattle.pack_index.specs.Firsts.{Each}
-use Rattle.pack_index.specs.Format.{IsNextLong, longs_before}
+use Rattle.pack_index.specs.Format.{Each, IsNextLong, longs_before}
 use Rattle.pack_index.proofs.offsets.count_longs.Given as goal
 
 abbrev pub invariant-loop-at : goal.invariant-loop-at

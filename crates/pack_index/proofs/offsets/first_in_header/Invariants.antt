@@ -1,5 +1,4 @@
-use Rattle.pack_index.specs.Firsts.{Each}
-use Rattle.pack_index.specs.Format.{IsPastHeader}
+use Rattle.pack_index.specs.Format.{Each, IsPastHeader}
 use Rattle.pack_index.proofs.offsets.first_in_header.Given as goal
 
 abbrev pub invariant-loop-at : goal.invariant-loop-at

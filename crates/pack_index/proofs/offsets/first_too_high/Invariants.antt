@@ -1,5 +1,4 @@
-use Rattle.pack_index.specs.Firsts.{Each}
-use Rattle.pack_index.specs.Format.{IsSigned}
+use Rattle.pack_index.specs.Format.{Each, IsSigned}
 use Rattle.pack_index.proofs.offsets.first_too_high.Given as goal
 
 abbrev pub invariant-loop-at : goal.invariant-loop-at

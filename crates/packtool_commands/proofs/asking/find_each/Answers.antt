@@ -2,12 +2,12 @@ use Rattle.std.proofs.Common.{◌≡◌, ◌∙◌, ℕ, Bool, List, Vec, ap, ma
 use Rattle.std.specs.List.{All}
 use Rattle.std.specs.Io.KnownBytes.{Appends}
 use Rattle.std.proofs.lemmas.Result.{err_from_is_err_and}
-use Rattle.gix_hash.specs.ObjectId.{id_digits}
-use Rattle.gix_hash.specs.Prefix.{KindDigits}
+use Rattle.gix_hash.specs.Ids.{id_digits}
+use Rattle.gix_hash.specs.Prefixes.{KindDigits}
 use Rattle.gix_hash.specs.declared.ObjectId.{ObjectId}
-use Rattle.object_store.specs.Parts.{AreMatchesOfEach, CanLookUp, IsFaultOfOne}
-use Rattle.streams.specs.Writing.{AppendsPart}
-use Rattle.packtool_commands.specs.Asking.{answers_by, are_answers_by, found_text, id_line, is_found, lines_of, prefixes_of}
+use Rattle.object_store.specs.Stores.{AreMatchesOfEach, CanLookUp, IsFaultOfOne}
+use Rattle.streams.specs.Streams.{AppendsPart}
+use Rattle.packtool_commands.specs.Stores.{answers_by, are_answers_by, found_text, id_line, is_found, lines_of, prefixes_of}
 use Rattle.packtool_commands.proofs.AskingLemmas.{all_in, all_sound, answers_by-map, are_answers_by-map, can_look_up, text_in}
 use Rattle.packtool_commands.proofs.asking.find_each.Goals as goal
 

@@ -1,5 +1,5 @@
 use Rattle.std.proofs.Common.{◌∷◌, ◌∙◌, sym}
-use Rattle.packtool_commands.specs.Asking.{lines_of}
+use Rattle.packtool_commands.specs.Stores.{lines_of}
 use Rattle.packtool_commands.proofs.AskingLemmas.{lines_step}
 use Rattle.packtool_commands.proofs.asking.first_line.Goals as goal
 

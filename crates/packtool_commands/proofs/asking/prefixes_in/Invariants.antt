@@ -1,5 +1,5 @@
 use Rattle.std.proofs.Common.{◌≡◌, ◌++◌, length}
-use Rattle.packtool_commands.specs.Asking.{lines_of, prefixes_of}
+use Rattle.packtool_commands.specs.Stores.{lines_of, prefixes_of}
 use Rattle.packtool_commands.proofs.asking.prefixes_in.Given as goal
 
 abbrev pub invariant-loop-rest : goal.invariant-loop-rest

@@ -1,5 +1,5 @@
 use Rattle.std.proofs.Common.{Some, ap, subst}
-use Rattle.streams.specs.Writing.{Wrote}
+use Rattle.streams.specs.Streams.{Wrote}
 use Rattle.streams.proofs.WritingLemmas.{Wrote-line}
 use Rattle.packtool_commands.proofs.asking.write_each.Goals as goal
 

@@ -1,5 +1,5 @@
 use Rattle.std.proofs.Common.{◌<◌, length, rules, subst}
-use Rattle.streams.specs.Writing.{Wrote}
+use Rattle.streams.specs.Streams.{Wrote}
 use Rattle.packtool_commands.proofs.AskingLemmas.{found_all}
 use Rattle.packtool_commands.proofs.asking.write_found.Goals as goal
 

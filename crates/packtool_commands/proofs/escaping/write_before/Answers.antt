@@ -1,5 +1,5 @@
 use Rattle.streams.proofs.WritingLemmas.{Wrote-stop, Wrote-then}
-use Rattle.packtool_commands.specs.Escaping.{escaped}
+use Rattle.packtool_commands.specs.Files.{escaped}
 use Rattle.packtool_commands.proofs.escaping.write_before.Goals as goal
 
 pub returns-in_err-write_escaped : goal.returns-in_err-write_escaped

@@ -1,7 +1,7 @@
 use Rattle.std.proofs.Common.{ap, subst, sym, ◌∙◌}
-use Rattle.streams.specs.Writing.{Wrote}
+use Rattle.streams.specs.Streams.{Wrote}
 use Rattle.streams.proofs.WritingLemmas.{Wrote-line}
-use Rattle.packtool_commands.specs.Escaping.{escape_of, escaped}
+use Rattle.packtool_commands.specs.Files.{escape_of, escaped}
 use Rattle.packtool_commands.proofs.EscapeLemmas.{escaped-plain}
 use Rattle.packtool_commands.proofs.escaping.write_escaped.Goals as goal
 

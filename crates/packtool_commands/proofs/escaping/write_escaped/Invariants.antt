@@ -1,7 +1,7 @@
 use Rattle.std.proofs.Common.{◌≡◌, false, take}
 use Rattle.std.specs.List.{flat_map}
 use Rattle.std.specs.Io.KnownBytes.{Appends}
-use Rattle.packtool_commands.specs.Escaping.{escape_of}
+use Rattle.packtool_commands.specs.Files.{escape_of}
 use Rattle.packtool_commands.proofs.escaping.write_escaped.Given as goal
 
 abbrev pub invariant-loop-byte : goal.invariant-loop-byte

@@ -1,5 +1,5 @@
 use Rattle.streams.proofs.WritingLemmas.{Wrote-stop, Wrote-then}
-use Rattle.packtool_commands.specs.Escaping.{escape_mark}
+use Rattle.packtool_commands.specs.Files.{escape_mark}
 use Rattle.packtool_commands.proofs.escaping.write_named.Goals as goal
 
 pub returns-in_err-write_mark : goal.returns-in_err-write_mark

@@ -1,9 +1,9 @@
 use Rattle.std.proofs.Common.{List, map, subst}
 use Rattle.std.specs.Io.KnownBytes.{Appends}
 use Rattle.gix_hash.specs.Digits.{hex_letter}
-use Rattle.gix_hash.specs.ObjectId.{id_digits}
+use Rattle.gix_hash.specs.Ids.{id_digits}
 use Rattle.gix_hash.specs.declared.ObjectId.{ObjectId}
-use Rattle.streams.specs.Printing.{printed}
+use Rattle.streams.specs.Streams.{printed}
 use Rattle.packtool_commands.proofs.finding.find.Goals as goal
 
 pub returns-clause-matches : goal.returns-clause-matches

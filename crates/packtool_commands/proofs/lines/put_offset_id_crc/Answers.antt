@@ -1,8 +1,8 @@
 use Rattle.std.proofs.Common.{ℕ, List, ◌++◌, take, ap, ◌∙◌}
 use Rattle.std.specs.Prelude.{decimal}
 use Rattle.gix_hash.specs.Digits.{hex_letter, spelling}
-use Rattle.gix_hash.specs.Oid.{oid_digits}
-use Rattle.packtool_commands.specs.Lines.{crc_text}
+use Rattle.gix_hash.specs.Ids.{oid_digits}
+use Rattle.packtool_commands.specs.Files.{crc_text}
 use Rattle.packtool_commands.proofs.LineLemmas.{line_parts, line_after}
 use Rattle.packtool_commands.proofs.lines.put_offset_id_crc.Goals as goal
 

@@ -5,16 +5,14 @@ use Rattle.std.specs.Io.KnownBytes.{Appends}
 use Rattle.std.proofs.lemmas.List.{take_all}
 use Rattle.std.proofs.lemmas.Result.{err_from_is_err_and}
 use Rattle.std.proofs.lemmas.List.Elements.{All-more}
-use Rattle.streams.specs.Writing.{AppendsAtMost}
-use Rattle.gix_hash.specs.ObjectId.{id_digits}
+use Rattle.streams.specs.Streams.{AppendsAtMost}
+use Rattle.gix_hash.specs.Ids.{id_digits}
 use Rattle.gix_hash.specs.declared.ObjectId.{ObjectId}
 use Rattle.id_lookup.specs.Runs.{matches}
 use Rattle.id_lookup.proofs.Beginnings.{first_byte_of-begins}
-use Rattle.object_store.specs.Parts.{AreMatches, HavePassing}
-use Rattle.object_store.specs.Stores.{HaveLocations}
-use Rattle.object_store.specs.Views.{PartView, StoreView}
+use Rattle.object_store.specs.Stores.{AreMatches, HaveLocations, HavePassing, PartView, StoreView}
 use Rattle.streams.proofs.WritingLemmas.{OnErr-of}
-use Rattle.packtool_commands.specs.Locations.{lines_of_locations}
+use Rattle.packtool_commands.specs.Stores.{lines_of_locations}
 use Rattle.packtool_commands.proofs.NamedLemmas.{Appends-item}
 use Rattle.packtool_commands.proofs.LocationLemmas.{AppendsAtMost-item, all_locations, has_texts, locations_fault, same_lines}
 use Rattle.packtool_commands.proofs.locating.locate.Goals as goal

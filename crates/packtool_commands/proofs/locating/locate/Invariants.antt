@@ -1,10 +1,10 @@
 use Rattle.std.proofs.Common.{◌≡◌, ℕ, List, false, take}
 use Rattle.std.specs.List.{All, flat_map}
 use Rattle.std.specs.Io.KnownBytes.{Appends}
-use Rattle.gix_hash.specs.ObjectId.{id_digits}
+use Rattle.gix_hash.specs.Ids.{id_digits}
 use Rattle.gix_hash.specs.declared.ObjectId.{ObjectId}
 use Rattle.object_store.specs.Stores.{HaveLocations, Holds}
-use Rattle.packtool_commands.specs.Locations.{lines_of_locations}
+use Rattle.packtool_commands.specs.Stores.{lines_of_locations}
 use Rattle.packtool_commands.proofs.locating.locate.Given as goal
 
 abbrev pub invariant-loop-id : goal.invariant-loop-id

@@ -2,13 +2,12 @@ use Rattle.std.proofs.Common.{◌≡◌, ◌∙◌, ℕ, Bool, List, Vec, ap, ma
 use Rattle.std.specs.List.{All}
 use Rattle.std.specs.Io.KnownBytes.{Appends}
 use Rattle.std.proofs.lemmas.Result.{err_from_is_err_and}
-use Rattle.gix_hash.specs.Prefix.{KindDigits}
-use Rattle.object_store.specs.Parts.{CanLookUp}
+use Rattle.gix_hash.specs.Prefixes.{KindDigits}
+use Rattle.object_store.specs.Stores.{CanLookUp}
 use Rattle.object_store.specs.Several.{AreLocatedOfEach, IsLocationsFaultOfOne}
 use Rattle.object_store.specs.declared.locations.LocatedId.{LocatedId}
-use Rattle.streams.specs.Writing.{AppendsPart}
-use Rattle.packtool_commands.specs.Asking.{answers_by, are_answers_by, found_text, is_found, lines_of, prefixes_of}
-use Rattle.packtool_commands.specs.Locations.{located_lines}
+use Rattle.streams.specs.Streams.{AppendsPart}
+use Rattle.packtool_commands.specs.Stores.{answers_by, are_answers_by, found_text, is_found, lines_of, located_lines, prefixes_of}
 use Rattle.packtool_commands.proofs.AskingLemmas.{answers_by-map, are_answers_by-map, can_look_up, located_sound}
 use Rattle.packtool_commands.proofs.locating.locate_each.Goals as goal
 

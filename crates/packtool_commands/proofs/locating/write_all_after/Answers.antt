@@ -1,9 +1,9 @@
 use Rattle.std.proofs.Common.{List, ℕ, map}
 use Rattle.std.specs.Prelude.{option_copied, string_bytes}
-use Rattle.gix_hash.specs.ObjectId.{id_digits}
+use Rattle.gix_hash.specs.Ids.{id_digits}
 use Rattle.object_store.specs.declared.locations.Location.{Location}
 use Rattle.streams.proofs.WritingLemmas.{Wrote-line}
-use Rattle.packtool_commands.specs.Locations.{lines_at_after}
+use Rattle.packtool_commands.specs.Stores.{lines_at_after}
 use Rattle.packtool_commands.proofs.NamedLemmas.{Appends-item}
 use Rattle.packtool_commands.proofs.locating.write_all_after.Goals as goal
 

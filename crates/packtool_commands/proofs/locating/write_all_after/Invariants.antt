@@ -2,8 +2,8 @@ use Rattle.std.proofs.Common.{◌≡◌, false, map, take}
 use Rattle.std.specs.Prelude.{option_copied, string_bytes}
 use Rattle.std.specs.List.{flat_map}
 use Rattle.std.specs.Io.KnownBytes.{Appends}
-use Rattle.gix_hash.specs.ObjectId.{id_digits}
-use Rattle.packtool_commands.specs.Locations.{lines_at_after}
+use Rattle.gix_hash.specs.Ids.{id_digits}
+use Rattle.packtool_commands.specs.Stores.{lines_at_after}
 use Rattle.packtool_commands.proofs.locating.write_all_after.Given as goal
 
 abbrev pub invariant-loop-location : goal.invariant-loop-location

@@ -1,8 +1,8 @@
 use Rattle.std.proofs.Common.{List, ℕ, None, map, refl, subst}
 use Rattle.std.specs.Prelude.{option_copied, string_bytes}
-use Rattle.gix_hash.specs.ObjectId.{id_digits}
-use Rattle.streams.specs.Writing.{Wrote}
-use Rattle.packtool_commands.specs.Locations.{location_line_after}
+use Rattle.gix_hash.specs.Ids.{id_digits}
+use Rattle.streams.specs.Streams.{Wrote}
+use Rattle.packtool_commands.specs.Stores.{location_line_after}
 use Rattle.packtool_commands.proofs.LocationLemmas.{same_lines}
 use Rattle.packtool_commands.proofs.locating.write_at_after.Goals as goal
 

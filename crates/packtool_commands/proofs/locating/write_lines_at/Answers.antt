@@ -2,10 +2,10 @@ use Rattle.std.proofs.Common.{List, ℕ, Some, None, ap, subst, ◌∙◌}
 use Rattle.std.specs.Prelude.{string_bytes}
 use Rattle.std.specs.List.{flat_map}
 use Rattle.std.specs.Io.KnownBytes.{Appends}
-use Rattle.gix_hash.specs.ObjectId.{id_digits}
-use Rattle.streams.specs.Writing.{AppendsPart}
+use Rattle.gix_hash.specs.Ids.{id_digits}
+use Rattle.streams.specs.Streams.{AppendsPart}
 use Rattle.streams.proofs.WritingLemmas.{OnErr-of, part_written}
-use Rattle.packtool_commands.specs.Locations.{location_line}
+use Rattle.packtool_commands.specs.Stores.{location_line}
 use Rattle.packtool_commands.proofs.LocationLemmas.{same_lines}
 use Rattle.packtool_commands.proofs.locating.write_lines_at.Goals as goal
 

@@ -2,11 +2,11 @@ use Rattle.std.proofs.Common.{List, ℕ, ◌∷◌, [], ◌++◌, ap, subst}
 use Rattle.std.specs.Prelude.{option_copied}
 use Rattle.std.specs.Io.KnownBytes.{Appends}
 use Rattle.gix_hash.specs.Digits.{hex_letter, spelling}
-use Rattle.gix_hash.specs.ObjectId.{id_digits}
-use Rattle.streams.specs.Writing.{Wrote}
+use Rattle.gix_hash.specs.Ids.{id_digits}
+use Rattle.streams.specs.Streams.{Wrote}
 use Rattle.streams.proofs.WritingLemmas.{Wrote-stop, Wrote-then}
-use Rattle.packtool_commands.specs.Asking.{front_text}
-use Rattle.packtool_commands.specs.Escaping.{escape_mark, escaped}
+use Rattle.packtool_commands.specs.Stores.{front_text}
+use Rattle.packtool_commands.specs.Files.{escape_mark, escaped}
 use Rattle.packtool_commands.proofs.locating.write_location_after.Goals as goal
 
 pub returns-in_err-write_mark : goal.returns-in_err-write_mark

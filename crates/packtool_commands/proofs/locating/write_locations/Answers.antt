@@ -3,14 +3,12 @@ use Rattle.std.proofs.lemmas.Result.{err_from_is_err_and}
 use Rattle.std.specs.List.{flat_map}
 use Rattle.std.specs.Io.KnownBytes.{Appends}
 use Rattle.std.proofs.lemmas.List.{take_all}
-use Rattle.streams.specs.Writing.{AppendsAtMost}
-use Rattle.gix_hash.specs.ObjectId.{id_digits}
+use Rattle.streams.specs.Streams.{AppendsAtMost}
+use Rattle.gix_hash.specs.Ids.{id_digits}
 use Rattle.object_store.specs.declared.locations.Location.{Location}
-use Rattle.object_store.specs.Parts.{AreLocations}
-use Rattle.object_store.specs.Stores.{HaveLocations, IsLocateFault}
-use Rattle.object_store.specs.Views.{StoreView}
+use Rattle.object_store.specs.Stores.{AreLocations, HaveLocations, IsLocateFault, StoreView}
 use Rattle.streams.proofs.WritingLemmas.{OnErr-of}
-use Rattle.packtool_commands.specs.Locations.{lines_at}
+use Rattle.packtool_commands.specs.Stores.{lines_at}
 use Rattle.packtool_commands.proofs.NamedLemmas.{Appends-item}
 use Rattle.packtool_commands.proofs.LocationLemmas.{AppendsAtMost-item}
 use Rattle.packtool_commands.proofs.locating.write_locations.Goals as goal

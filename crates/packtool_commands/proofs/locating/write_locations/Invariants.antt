@@ -1,8 +1,8 @@
 use Rattle.std.proofs.Common.{◌≡◌, false, take}
 use Rattle.std.specs.List.{flat_map}
 use Rattle.std.specs.Io.KnownBytes.{Appends}
-use Rattle.gix_hash.specs.ObjectId.{id_digits}
-use Rattle.packtool_commands.specs.Locations.{lines_at}
+use Rattle.gix_hash.specs.Ids.{id_digits}
+use Rattle.packtool_commands.specs.Stores.{lines_at}
 use Rattle.packtool_commands.proofs.locating.write_locations.Given as goal
 
 abbrev pub invariant-loop-location : goal.invariant-loop-location

@@ -1,9 +1,9 @@
 use Rattle.std.proofs.Common.{List, ℕ, None, ap, subst, ◌∙◌}
 use Rattle.std.specs.Prelude.{option_copied, string_bytes}
-use Rattle.gix_hash.specs.ObjectId.{id_digits}
-use Rattle.streams.specs.Writing.{Wrote}
+use Rattle.gix_hash.specs.Ids.{id_digits}
+use Rattle.streams.specs.Streams.{Wrote}
 use Rattle.streams.proofs.WritingLemmas.{Wrote-line}
-use Rattle.packtool_commands.specs.Locations.{location_line_after}
+use Rattle.packtool_commands.specs.Stores.{location_line_after}
 use Rattle.packtool_commands.proofs.locating.write_loose.Goals as goal
 
 pub returns-in_err-write_location_after : goal.returns-in_err-write_location_after

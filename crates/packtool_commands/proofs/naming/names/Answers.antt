@@ -1,11 +1,11 @@
 use Rattle.std.proofs.Common.{◌≡◌, ◌≢◌, ◌↔◌, ◌⊎◌, List, [], subst, arith, flat_map, IsTrue, below_more}
 use Rattle.std.proofs.lemmas.Result.{err_from_is_err_and}
 use Rattle.std.specs.Io.KnownBytes.{Appends}
-use Rattle.streams.specs.Writing.{AppendsPart}
+use Rattle.streams.specs.Streams.{AppendsPart}
 use Rattle.object_store.specs.Stores.{HaveBuckets}
-use Rattle.pack_index.specs.Firsts.{Each}
+use Rattle.pack_index.specs.Format.{Each}
 use Rattle.object_store.specs.declared.naming.NamedId.{NamedId}
-use Rattle.packtool_commands.specs.Names.{HasNamedBelow, name_line}
+use Rattle.packtool_commands.specs.Stores.{HasNamedBelow, name_line}
 use Rattle.packtool_commands.proofs.NamedLemmas.{has_named_more, named_at_most, named_part}
 use Rattle.packtool_commands.proofs.naming.names.Goals as goal
 

@@ -1,7 +1,7 @@
 use Rattle.std.proofs.Common.{◌≡◌, false, List, ℕ}
 use Rattle.object_store.specs.Stores.{HaveBuckets, Holds}
-use Rattle.pack_index.specs.Firsts.{Each}
-use Rattle.packtool_commands.specs.Names.{HasNamedBelow}
+use Rattle.pack_index.specs.Format.{Each}
+use Rattle.packtool_commands.specs.Stores.{HasNamedBelow}
 use Rattle.packtool_commands.proofs.naming.names.Given as goal
 
 abbrev pub invariant-loop-byte : goal.invariant-loop-byte

@@ -2,10 +2,10 @@ use Rattle.std.proofs.Common.{ℕ, List, ◌++◌, take, sym, ap, subst, ◌∙�
 use Rattle.std.specs.List.{flat_map}
 use Rattle.std.proofs.lemmas.List.{take_all}
 use Rattle.object_store.proofs.Held.{flat_map-take}
-use Rattle.packtool_commands.specs.Lines.{KeepsBack}
-use Rattle.packtool_commands.specs.Names.{name_line}
+use Rattle.packtool_commands.specs.Files.{KeepsBack}
+use Rattle.packtool_commands.specs.Stores.{name_line}
 use Rattle.packtool_commands.proofs.KeptLines.{keeps_more, keeps_stop, keeps_written, lines_split}
-use Rattle.streams.specs.Writing.{Wrote}
+use Rattle.streams.specs.Streams.{Wrote}
 use Rattle.packtool_commands.proofs.naming.write_names.Goals as goal
 
 pub loop-id-preserved : goal.loop-id-preserved

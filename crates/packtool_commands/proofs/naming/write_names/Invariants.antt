@@ -1,7 +1,7 @@
 use Rattle.std.proofs.Common.{◌≡◌, ◌≤◌, false, take}
 use Rattle.std.specs.List.{flat_map}
-use Rattle.packtool_commands.specs.Lines.{KeepsBack}
-use Rattle.packtool_commands.specs.Names.{name_line}
+use Rattle.packtool_commands.specs.Files.{KeepsBack}
+use Rattle.packtool_commands.specs.Stores.{name_line}
 use Rattle.packtool_commands.proofs.naming.write_names.Given as goal
 
 abbrev pub invariant-loop-id : goal.invariant-loop-id

@@ -1,5 +1,5 @@
 use Rattle.std.proofs.Common.{ℕ, List, subst}
-use Rattle.packtool_commands.specs.Showing.{IsOpenedAs}
+use Rattle.packtool_commands.specs.Files.{IsOpenedAs}
 use Rattle.packtool_commands.proofs.ShownLemmas.{opened_kind, read_whole}
 use Rattle.packtool_commands.proofs.showing.validate.Goals as goal
 

@@ -1,10 +1,10 @@
 use Rattle.std.proofs.Common.{◌≡◌, length, sym, ap, subst, ◌∙◌, append_assoc, arith}
 use Rattle.std.specs.List.{flat_map, range_with_len}
 use Rattle.pack_index.specs.Format.{names_in}
-use Rattle.packtool_commands.specs.Lines.{KeepsBack, index_line}
+use Rattle.packtool_commands.specs.Files.{KeepsBack, index_line}
 use Rattle.packtool_commands.proofs.KeptLines.{keeps_more, keeps_stop, keeps_written}
 use Rattle.packtool_commands.proofs.NamedLemmas.{lines-at, lines-more}
-use Rattle.streams.specs.Writing.{Wrote}
+use Rattle.streams.specs.Streams.{Wrote}
 use Rattle.packtool_commands.proofs.showing.write_lines.Goals as goal
 
 pub loop-index-preserved : goal.loop-index-preserved

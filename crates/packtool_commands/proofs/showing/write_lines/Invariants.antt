@@ -1,6 +1,6 @@
 use Rattle.std.proofs.Common.{◌≡◌, ◌≤◌, false, take}
 use Rattle.std.specs.List.{flat_map, range_with_len}
-use Rattle.packtool_commands.specs.Lines.{KeepsBack, index_line}
+use Rattle.packtool_commands.specs.Files.{KeepsBack, index_line}
 use Rattle.packtool_commands.proofs.showing.write_lines.Given as goal
 
 abbrev pub invariant-loop-index : goal.invariant-loop-index

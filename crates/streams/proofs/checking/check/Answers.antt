@@ -3,7 +3,7 @@ use Rattle.std.specs.Prelude.{min}
 use Rattle.std.proofs.lemmas.List.{length-take}
 use Rattle.std.proofs.lemmas.Slice.{take-put_mid_below}
 use borrow.Rule.Slice.PartMut.{put_mid}
-use Rattle.streams.specs.Source.{HasReadCounted}
+use Rattle.streams.specs.Streams.{HasReadCounted}
 use Rattle.streams.proofs.SealedLemmas.{all-held, length-held, length-read, fed_and_held, held_again}
 use Rattle.streams.proofs.checking.check.Goals as goal
 

@@ -1,8 +1,7 @@
 use Rattle.std.proofs.Common.{◌≡◌, ℕ, ◌+◌, ◌-◌, ◌^◌, List, ◌++◌, length, take, false}
 use Rattle.std.specs.Prelude.{min}
 use Rattle.gix_hash.specs.Hashing.{WasFed, hasher_kind}
-use Rattle.streams.specs.Sealed.{AreFed}
-use Rattle.streams.specs.Source.{HasReadCounted}
+use Rattle.streams.specs.Streams.{AreFed, HasReadCounted}
 use Rattle.streams.proofs.checking.check.Given as goal
 
 -- the hashers were fed what the source gave, but for the last 32 bytes, which are held back

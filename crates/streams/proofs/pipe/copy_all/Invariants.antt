@@ -1,7 +1,7 @@
 use Rattle.std.proofs.Common.{◌≡◌, ◌-◌, ◌^◌, List, ℕ, false}
 use Rattle.std.specs.Io.KnownBytes.{Appends}
 use Rattle.gix_hash.specs.Hashing.{WasFed, hasher_kind}
-use Rattle.streams.specs.Source.{HasReadCounted}
+use Rattle.streams.specs.Streams.{HasReadCounted}
 use Rattle.streams.proofs.pipe.copy_all.Given as goal
 
 -- the sink and the hasher took what the source gave

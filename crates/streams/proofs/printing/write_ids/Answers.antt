@@ -1,11 +1,10 @@
 use Rattle.std.proofs.Common.{subst, sym}
 use Rattle.std.specs.Io.KnownBytes.{Appends}
 use Rattle.std.proofs.lemmas.List.Folds.{flat_map-map}
-use Rattle.gix_hash.specs.Alphabet.{letter_of}
-use Rattle.gix_hash.specs.ObjectId.{id_digits}
+use Rattle.gix_hash.specs.Reading.{letter_of}
+use Rattle.gix_hash.specs.Ids.{id_digits}
 use Rattle.gix_hash.specs.declared.ObjectId.{ObjectId}
-use Rattle.streams.specs.Printing.{line_of}
-use Rattle.streams.specs.Writing.{Wrote}
+use Rattle.streams.specs.Streams.{Wrote, line_of}
 use Rattle.streams.proofs.WritingLemmas.{Wrote-line}
 use Rattle.streams.proofs.printing.write_ids.Goals as goal
 

@@ -1,6 +1,6 @@
 use Rattle.std.proofs.Common.{length, refl}
 use Rattle.id_digits.specs.Digits.{digits_of}
-use Rattle.gix_hash.specs.Oid.{oid_bytes}
+use Rattle.gix_hash.specs.Ids.{oid_bytes}
 use Rattle.id_digits.proofs.ReverseLetters.{spelling-reverse_of_hex}
 use Rattle.gix_hash.proofs.Spellings.{cut_and_rest}
 use Rattle.gix_hash.proofs.KindFacts.{hex_len_of-kind}

@@ -1,5 +1,5 @@
 use Rattle.std.proofs.Common.{refl}
-use Rattle.gix_hash.specs.Alphabet.{letter_of}
+use Rattle.gix_hash.specs.Reading.{letter_of}
 use Rattle.gix_hash.proofs.FrontReading.{first_read}
 use Rattle.gix_hash.proofs.alphabet.Alphabet.read_prefix_in.Goals as goal
 

@@ -1,6 +1,6 @@
 use Rattle.std.proofs.Common.{sym, ap, ◌∙◌}
-use Rattle.gix_hash.specs.Kind.{hex_len_of}
-use Rattle.gix_hash.specs.Oid.{oid_digits}
+use Rattle.gix_hash.specs.Kinds.{hex_len_of}
+use Rattle.gix_hash.specs.Ids.{oid_digits}
 use Rattle.gix_hash.proofs.Spellings.{IsAscii-front}
 use Rattle.gix_hash.proofs.borrowed.oid.front_text.Goals as goal
 

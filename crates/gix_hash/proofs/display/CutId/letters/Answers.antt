@@ -1,11 +1,10 @@
 use Rattle.std.proofs.Common.{◌≡◌, ℕ, ◌<◌, take, min, subst, sym, ap, ◌∙◌}
 use Rattle.std.specs.Prelude.{IsAscii}
 use Rattle.std.proofs.lemmas.List.Elements.{All-take}
-use Rattle.gix_hash.specs.Alphabet.{letter_of}
-use Rattle.gix_hash.specs.CutId.{shown_digits}
+use Rattle.gix_hash.specs.Reading.{letter_of}
+use Rattle.gix_hash.specs.Ids.{oid_bytes, oid_digits, shown_digits}
 use Rattle.id_digits.specs.Digits.{spelling}
-use Rattle.gix_hash.specs.Kind.{hex_len_of}
-use Rattle.gix_hash.specs.Oid.{oid_bytes, oid_digits}
+use Rattle.gix_hash.specs.Kinds.{hex_len_of}
 use Rattle.gix_hash.proofs.Alphabets.{letter_of-ascii}
 use Rattle.id_digits.proofs.Spellings.{All-digits_of, IsAscii-spelling}
 use Rattle.gix_hash.proofs.Spellings.{take-put_id}

@@ -3,7 +3,7 @@ use Rattle.std.proofs.lemmas.List.{append-nil, length-take}
 use Rattle.std.proofs.lemmas.Result.{err_from_is_err_and}
 use Rattle.std.proofs.KnownBytes.{Consumes-nil, Consumes-trans}
 use Rattle.gix_hash.specs.declared.io.error.Error.TheVariants as errors
-use Rattle.gix_hash.specs.Streams.{chunks}
+use Rattle.gix_hash.specs.Hashing.{chunks}
 use Rattle.gix_hash.proofs.Chunks.{chunk_is_there, chunks_end}
 use Rattle.gix_hash.proofs.Made.{ok-kept, err-made}
 use Rattle.gix_hash.proofs.Reaching.{Reaches-none, Reaches-more, heard-more, all_false-more}

@@ -1,6 +1,5 @@
 use Rattle.std.proofs.Common.{◌≡◌, ℕ, List, ◌++◌, length, ◌-◌, ◌*◌, ◌≤◌}
-use Rattle.gix_hash.specs.Hashing.{hasher_kind, WasFed}
-use Rattle.gix_hash.specs.Streams.{Reaches, ReadsNext, chunks, heard, all_false}
+use Rattle.gix_hash.specs.Hashing.{Reaches, ReadsNext, WasFed, all_false, chunks, hasher_kind, heard}
 use Rattle.gix_hash.proofs.io.stream.bytes_with_hasher.Given as goal
 
 -- j chunks were read, reported, fed to the hasher and followed by a call of the interruption; these are their bytes

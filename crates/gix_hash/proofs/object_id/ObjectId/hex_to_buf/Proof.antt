@@ -2,8 +2,8 @@
 use Rattle.std.proofs.Common.{[], ◌∷◌, length, drop, refl}
 use Rattle.id_digits.specs.Digits.{spelling, hex_letter}
 use Rattle.std.proofs.raw_atomic.Walks.{proved, leaves}
-use Rattle.gix_hash.specs.Kind.{hex_len_of}
-use Rattle.gix_hash.specs.ObjectId.{id_digits, id_kind}
+use Rattle.gix_hash.specs.Kinds.{hex_len_of}
+use Rattle.gix_hash.specs.Ids.{id_digits, id_kind}
 use Rattle.gix_hash.specs.contracts.object_id.ObjectId as id_type
 use Rattle.gix_hash.proofs.object_id.ObjectId.TheLaws as id_laws
 use Rattle.gix_hash.proofs.LentTexts.{lends}

@@ -1,7 +1,7 @@
 use Rattle.std.proofs.Common.{◌≡◌, ℕ, List, take, Equal}
 use Rattle.std.proofs.lemmas.List.{length-take, take_min}
 use Rattle.std.proofs.lemmas.Cmp.{tied_itself, nat_list_cmp_total}
-use Rattle.gix_hash.specs.Prefix.{place}
+use Rattle.id_digits.specs.Digits.{place}
 use Rattle.gix_hash.proofs.prefix.Prefix.new.Goals as goal
 
 -- the place of the first digits of an id is Equal

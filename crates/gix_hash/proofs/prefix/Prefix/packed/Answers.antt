@@ -1,7 +1,7 @@
 use Rattle.std.proofs.Common.{◌≡◌, take, ap, ◌∙◌}
 use Rattle.id_digits.specs.Digits.{digits_of}
-use Rattle.gix_hash.specs.ObjectId.{id_digits}
-use Rattle.gix_hash.specs.Prefix.{kind_digits}
+use Rattle.gix_hash.specs.Ids.{id_digits}
+use Rattle.gix_hash.specs.Prefixes.{kind_digits}
 use Rattle.gix_hash.proofs.Packing.{length-first, take-padded}
 use Rattle.gix_hash.proofs.prefix.Prefix.packed.Goals as goal
 

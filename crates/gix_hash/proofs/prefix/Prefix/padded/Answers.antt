@@ -1,9 +1,7 @@
 use Rattle.std.proofs.Common.{◌≡◌, ◌<◌, ◌-◌, ℕ, List, length, ap, subst, ◌∙◌}
 use Rattle.std.specs.Prelude.{All}
-use Rattle.id_digits.specs.Digits.{digits_of}
-use Rattle.gix_hash.specs.ObjectId.{id_bytes}
-use Rattle.gix_hash.specs.Prefix.{padded}
-use Rattle.id_digits.specs.Words.{words_of}
+use Rattle.id_digits.specs.Digits.{digits_of, padded, words_of}
+use Rattle.gix_hash.specs.Ids.{id_bytes}
 use Rattle.id_digits.proofs.DigitNumbers.{word-padded, word-padded_from}
 use Rattle.id_digits.proofs.Spellings.{All-digits_of}
 use Rattle.gix_hash.proofs.prefix.Prefix.padded.Goals as goal

@@ -1,7 +1,7 @@
 use Rattle.std.proofs.Common.{◌≡◌, ◌<◌, ◌≤◌, Bool, true, false, [], length, map, max, refl, arith}
 use Rattle.std.specs.Prelude.{is_some}
-use Rattle.gix_hash.specs.Kind.{hex_len_of}
-use Rattle.id_lookup.specs.Sorted.{IsSortedIds}
+use Rattle.gix_hash.specs.Kinds.{hex_len_of}
+use Rattle.id_lookup.specs.Runs.{IsSortedIds}
 use Rattle.id_lookup.proofs.Indexes.{index-sorted}
 use Rattle.id_lookup.proofs.Neighbours.{name_fits}
 use Rattle.id_lookup.proofs.UniqueRun.{name_run}

@@ -1,6 +1,6 @@
 use Rattle.std.proofs.Common.{◌≡◌, map}
 use Rattle.std.specs.List.{AllWithin}
-use Rattle.id_lookup.specs.Index.{IsIndexUpTo}
+use Rattle.id_lookup.specs.Indexes.{IsIndexUpTo}
 use Rattle.id_lookup.proofs.index.IdIndex.try_new.Given as goal
 
 abbrev pub invariant-loop-at : goal.invariant-loop-at

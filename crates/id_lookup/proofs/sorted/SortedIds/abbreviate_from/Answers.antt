@@ -1,8 +1,8 @@
 use Rattle.std.proofs.Common.{map}
 use Rattle.std.proofs.lemmas.Option.{IfSome_then}
-use Rattle.gix_hash.specs.Prefix.{KindDigits}
-use Rattle.id_lookup.specs.ShortNames.{IsShortestNameFrom}
-use Rattle.id_lookup.specs.Sorted.{IsSortedIds}
+use Rattle.gix_hash.specs.Prefixes.{KindDigits}
+use Rattle.id_lookup.specs.Indexes.{IsShortestNameFrom}
+use Rattle.id_lookup.specs.Runs.{IsSortedIds}
 use Rattle.id_lookup.proofs.UniqueRun.{name_run}
 use Rattle.id_lookup.proofs.sorted.SortedIds.abbreviate_from.Goals as goal
 

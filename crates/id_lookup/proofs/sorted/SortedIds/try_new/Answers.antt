@@ -4,7 +4,7 @@ use Rattle.std.proofs.lemmas.List.{length-map}
 use Rattle.std.specs.Ordering.{nat_cmp}
 use Rattle.std.specs.Cmp.Lexicographic.{slice_cmp}
 use Rattle.std.specs.declared.cmp.Ordering.TheVariants.{Less}
-use Rattle.gix_hash.specs.Kind.{hex_len_of}
+use Rattle.gix_hash.specs.Kinds.{hex_len_of}
 use Rattle.id_lookup.proofs.Least.{least_hex_len-take}
 use Rattle.id_lookup.proofs.Ordered.{sorted_more}
 use Rattle.id_lookup.proofs.sorted.SortedIds.try_new.Goals as goal

@@ -2,7 +2,7 @@ use Rattle.std.proofs.Common.{◌≡◌, map, take}
 use Rattle.std.specs.Ordering.{nat_cmp, is_lt}
 use Rattle.std.specs.Cmp.Lexicographic.{slice_cmp}
 use Rattle.std.specs.List.Sorted.{IsSortedWithin}
-use Rattle.id_lookup.specs.Sorted.{least_hex_len}
+use Rattle.id_lookup.specs.Runs.{least_hex_len}
 use Rattle.id_lookup.proofs.sorted.SortedIds.try_new.Given as goal
 
 abbrev pub invariant-loop-at : goal.invariant-loop-at

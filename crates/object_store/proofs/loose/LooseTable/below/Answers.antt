@@ -1,10 +1,10 @@
 use Rattle.std.proofs.Common.{◌≡◌, ◌-◌, ◌∙◌, suc, map, ap, sym, arith}
-use Rattle.gix_hash.specs.ObjectId.{id_digits}
+use Rattle.gix_hash.specs.Ids.{id_digits}
 use Rattle.std.specs.List.{count_by}
 use Rattle.id_lookup.proofs.FirstByteCounts.{count_by-below_0}
 use Rattle.id_lookup.proofs.PartsInOrder.{below-next}
-use Rattle.id_lookup.specs.FirstBytes.{is_below}
-use Rattle.id_lookup.specs.Index.{Index}
+use Rattle.id_lookup.specs.Runs.{is_below}
+use Rattle.id_lookup.specs.Indexes.{Index}
 use Rattle.object_store.proofs.loose.LooseTable.below.Goals as goal
 
 pub returns-then-byte-eq0 : goal.returns-then-byte-eq0

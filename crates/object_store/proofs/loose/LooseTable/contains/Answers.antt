@@ -2,13 +2,13 @@ use Rattle.std.proofs.Common.{◌≡◌, ◌∙◌, ◌≤◌, not, nat_eq, List
 use Rattle.std.specs.Prelude.{◌↔◌, IsTrue}
 use Rattle.std.specs.List.{Contains}
 use Rattle.std.proofs.lemmas.Bool.{false≢true}
-use Rattle.gix_hash.specs.Kind.{hex_len_of}
-use Rattle.gix_hash.specs.ObjectId.{id_digits}
-use Rattle.gix_hash.specs.Prefix.{KindDigits}
+use Rattle.gix_hash.specs.Kinds.{hex_len_of}
+use Rattle.gix_hash.specs.Ids.{id_digits}
+use Rattle.gix_hash.specs.Prefixes.{KindDigits}
 use Rattle.gix_hash.specs.declared.ObjectId.{ObjectId}
 use Rattle.id_lookup.proofs.Indexes.{index-sorted, no_other}
-use Rattle.id_lookup.specs.Index.{Index, IsIndex}
-use Rattle.id_lookup.specs.Sorted.{least_hex_len}
+use Rattle.id_lookup.specs.Indexes.{Index, IsIndex}
+use Rattle.id_lookup.specs.Runs.{least_hex_len}
 use Rattle.object_store.proofs.LooseParts.{index_least, no_other_kind, run_decides}
 use Rattle.object_store.proofs.loose.LooseTable.contains.Goals as goal
 

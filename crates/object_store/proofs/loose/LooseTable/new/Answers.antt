@@ -1,7 +1,7 @@
 use Rattle.std.proofs.Common.{List, map, subst}
-use Rattle.gix_hash.specs.ObjectId.{id_digits}
+use Rattle.gix_hash.specs.Ids.{id_digits}
 use Rattle.gix_hash.specs.declared.ObjectId.{ObjectId}
-use Rattle.id_lookup.specs.FirstBytes.{IsFanOut}
+use Rattle.id_lookup.specs.Runs.{IsFanOut}
 use Rattle.object_store.proofs.loose.LooseTable.new.Goals as goal
 
 pub invariant_of-result : goal.invariant_of-result

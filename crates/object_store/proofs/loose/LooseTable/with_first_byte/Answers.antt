@@ -1,10 +1,10 @@
 use Rattle.std.proofs.Common.{◌∙◌, ap, map, sym, subst, arith}
 use Rattle.std.specs.List.{count_by}
-use Rattle.gix_hash.specs.ObjectId.{id_digits}
+use Rattle.gix_hash.specs.Ids.{id_digits}
 use Rattle.id_lookup.proofs.Indexes.{index-sorted}
 use Rattle.id_lookup.proofs.SameMembers.{index-filter}
-use Rattle.id_lookup.specs.FirstBytes.{has_first_byte, is_up_to}
-use Rattle.id_lookup.specs.Index.{Index, IsIndex}
+use Rattle.id_lookup.specs.Runs.{has_first_byte, is_up_to}
+use Rattle.id_lookup.specs.Indexes.{Index, IsIndex}
 use Rattle.object_store.proofs.LooseParts.{part_bounds, part_slice}
 use Rattle.object_store.proofs.loose.LooseTable.with_first_byte.Goals as goal
 

@@ -1,5 +1,5 @@
 use Rattle.std.proofs.Common.{◌∙◌, List, ℕ, map, ap}
-use Rattle.gix_hash.specs.ObjectId.{id_digits}
+use Rattle.gix_hash.specs.Ids.{id_digits}
 use Rattle.id_lookup.specs.Runs.{matches}
 use Rattle.object_store.proofs.Named.{name_of_id}
 use Rattle.object_store.proofs.part.Part.abbreviate.Goals as goal

@@ -2,14 +2,12 @@ use Rattle.std.proofs.Common.{◌≡◌, ◌∙◌, ◌++◌, List, ℕ, ap, map
 use Rattle.std.specs.List.{All, flat_map, starts_with}
 use Rattle.std.specs.Prelude.{nat_eq}
 use Rattle.gix_hash.specs.Digits.{first_byte_of}
-use Rattle.gix_hash.specs.ObjectId.{id_digits, id_kind}
+use Rattle.gix_hash.specs.Ids.{id_digits, id_kind}
 use Rattle.gix_hash.specs.declared.Kind.{Kind}
 use Rattle.gix_hash.specs.declared.ObjectId.{ObjectId}
-use Rattle.id_lookup.specs.Index.{Index}
-use Rattle.id_lookup.specs.IndexOf.{IsIndexOf}
+use Rattle.id_lookup.specs.Indexes.{Index, IsIndexOf}
 use Rattle.pack_index.specs.Lazy.{BucketNames}
-use Rattle.object_store.specs.Parts.{AreBuckets}
-use Rattle.object_store.specs.Views.{PartView}
+use Rattle.object_store.specs.Stores.{AreBuckets, PartView}
 use Rattle.id_lookup.specs.Runs.{matches}
 use Rattle.object_store.proofs.Held.{held}
 use Rattle.object_store.proofs.PartNames.{all_pass, are_of_kind, have_wanted, part_names}

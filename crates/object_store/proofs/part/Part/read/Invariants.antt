@@ -1,5 +1,5 @@
 use Rattle.std.proofs.Common.{◌≡◌, length}
-use Rattle.object_store.specs.Parts.{AreFirstBuckets}
+use Rattle.object_store.specs.Stores.{AreFirstBuckets}
 use Rattle.object_store.proofs.part.Part.read.Given as goal
 
 abbrev pub invariant-loop-at : goal.invariant-loop-at

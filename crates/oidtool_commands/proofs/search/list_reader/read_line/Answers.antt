@@ -1,6 +1,6 @@
 use Rattle.std.proofs.Common.{ap, sym, ◌∙◌}
 use Rattle.gix_hash.specs.Digits.{hex_letter}
-use Rattle.gix_hash.specs.IdReading.{full_read}
+use Rattle.gix_hash.specs.Reading.{full_read}
 use Rattle.oidtool_commands.proofs.ChunkLemmas.{long_line, short_line}
 use Rattle.oidtool_commands.proofs.search.list_reader.read_line.Goals as goal
 

@@ -3,9 +3,9 @@ use Rattle.std.proofs.Common.{◌≡◌, ◌≢◌, ◌<◌, ◌≤◌, ◌∙�
 use Rattle.std.proofs.lemmas.List.{map-append}
 use Rattle.std.proofs.lemmas.Result.{err_from_is_err_and}
 use Rattle.std.specs.Io.KnownBytes.{Consumes}
-use Rattle.gix_hash.specs.ObjectId.{id_digits}
-use Rattle.oidtool_commands.specs.ListText.{IsListRefusal}
-use Rattle.oidtool_commands.specs.Stopping.{From}
+use Rattle.gix_hash.specs.Ids.{id_digits}
+use Rattle.oidtool_commands.specs.Lists.{IsListRefusal}
+use Rattle.oidtool_commands.specs.Searches.{From}
 use Rattle.oidtool_commands.proofs.SkippedLines.{has_searched}
 use Rattle.oidtool_commands.proofs.ChunkLemmas.{first_of_list}
 use Rattle.oidtool_commands.proofs.SourceReads.{none_taken, stopped_good, holds_of_all, settled_of_all, settled, too_much, taken_chunk, split_read, bytes_left, not_failed}

@@ -1,7 +1,7 @@
 use Rattle.std.proofs.Common.{◌≡◌, ◌+◌, ◌≤◌, ◌++◌, List, [], map, length, false}
-use Rattle.gix_hash.specs.ObjectId.{id_digits}
+use Rattle.gix_hash.specs.Ids.{id_digits}
 use Rattle.gix_hash.specs.declared.ObjectId.{ObjectId}
-use Rattle.oidtool_commands.specs.Searching.{HasFound}
+use Rattle.oidtool_commands.specs.Searches.{HasFound}
 use Rattle.oidtool_commands.proofs.SourceReads.{IsTaken}
 use Rattle.oidtool_commands.proofs.search.reading.find_in_source.Given as goal
 

@@ -1,8 +1,7 @@
 use Rattle.std.proofs.Common.{◌≡◌, drop, take, subst, ◌∙◌, arith}
 use Rattle.std.proofs.lemmas.Grind.{common_steps}
 use Rattle.gix_hash.specs.Hashing.{digest}
-use Rattle.gix_hash.specs.ObjectId.{id_bytes}
-use Rattle.gix_hash.specs.Oid.{oid_bytes}
+use Rattle.gix_hash.specs.Ids.{id_bytes, oid_bytes}
 use Rattle.pack_index.specs.Format.{IndexFile, digest_at}
 use Rattle.pack_index.proofs.Checksums.{checksum_of}
 use Rattle.pack_index.proofs.index_file.File.index_checksum.Goals as goal

@@ -1,8 +1,7 @@
 use Rattle.std.proofs.Common.{length, sym, ap, subst, ◌∙◌}
-use Rattle.gix_hash.specs.Kind.{hex_len_of}
-use Rattle.gix_hash.specs.Prefix.{KindDigits}
-use Rattle.pack_index.specs.Format.{IndexFile, crc_table_start, names_in, names_start}
-use Rattle.pack_index.specs.Names.{IsFirstIndexOf}
+use Rattle.gix_hash.specs.Kinds.{hex_len_of}
+use Rattle.gix_hash.specs.Prefixes.{KindDigits}
+use Rattle.pack_index.specs.Format.{IndexFile, IsFirstIndexOf, crc_table_start, names_in, names_start}
 use Rattle.std.specs.Prelude.{slice_range}
 use Rattle.id_lookup.proofs.Indexes.{no_other}
 use Rattle.pack_index.proofs.Counted.{length-digests_in_at}

@@ -1,5 +1,5 @@
 use Rattle.std.proofs.Common.{◌≡◌, ◌+◌, List, ℕ, Some, length, arith}
-use Rattle.gix_hash.specs.Oid.{oid_digits}
+use Rattle.gix_hash.specs.Ids.{oid_digits}
 use Rattle.pack_index.proofs.LookedUp.{IsRunOf, found_first, none_counted, not_found, some_counted}
 use Rattle.pack_index.proofs.lazy.LazyFile.lookup.Given.{Over}
 use Rattle.pack_index.proofs.lazy.LazyFile.lookup.Goals.{After-position}

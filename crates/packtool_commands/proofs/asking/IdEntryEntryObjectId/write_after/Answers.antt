@@ -1,9 +1,9 @@
 use Rattle.std.specs.Prelude.{option_copied}
 use Rattle.gix_hash.specs.Digits.{hex_letter}
-use Rattle.gix_hash.specs.ObjectId.{id_digits}
-use Rattle.streams.specs.Printing.{line_of}
+use Rattle.gix_hash.specs.Ids.{id_digits}
+use Rattle.streams.specs.Streams.{line_of}
 use Rattle.streams.proofs.WritingLemmas.{Wrote-stop, Wrote-then}
-use Rattle.packtool_commands.specs.Asking.{front_text}
+use Rattle.packtool_commands.specs.Stores.{front_text}
 use Rattle.packtool_commands.proofs.asking.IdEntryEntryObjectId.write_after.Goals as goal
 
 pub returns-in_err-write_front : goal.returns-in_err-write_front

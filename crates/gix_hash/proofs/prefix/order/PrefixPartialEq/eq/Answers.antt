@@ -1,7 +1,7 @@
 use Rattle.std.proofs.Common.{sym, ◌∙◌, ap, is_eq}
 use Rattle.std.specs.Cmp.{both_tied, unsigned_ties}
 use Rattle.std.specs.Cmp.Lexicographic.{texts_ties}
-use Rattle.gix_hash.specs.Prefix.{prefix_kind_number}
+use Rattle.gix_hash.specs.Prefixes.{prefix_kind_number}
 use Rattle.gix_hash.proofs.prefix.order.PrefixPartialEq.eq.Goals as goal
 
 pub returns : goal.returns

@@ -1,6 +1,6 @@
 use Rattle.std.proofs.Common.{[], ap, ◌∙◌, arith, sym}
 use Rattle.std.proofs.lemmas.Result.{err_from_is_err_and}
-use Rattle.oidtool_commands.specs.ListText.{ids_read}
+use Rattle.oidtool_commands.specs.Lists.{ids_read}
 use Rattle.oidtool_commands.proofs.ChunkLemmas.{list_taken, lines_of-unended, refuses_same}
 use Rattle.oidtool_commands.proofs.search.list_reader.ListReader.finish.Goals as goal
 use Rattle.oidtool_commands.proofs.search.list_reader.ListReader.finish.Goals.{then-self-gt0+in_ok-end_line, else-self-gt0}

@@ -1,5 +1,5 @@
 use Rattle.std.proofs.Common.{◌-◌, ◌≤◌, length, take}
-use Rattle.oidtool_commands.specs.ListChunks.{Takes}
+use Rattle.oidtool_commands.specs.Lists.{Takes}
 use Rattle.oidtool_commands.proofs.search.list_reader.ListReader.take_chunk.Given as goal
 
 abbrev pub invariant-loop-at : goal.invariant-loop-at

@@ -2,7 +2,7 @@ use Rattle.std.proofs.Common.{◌≡◌, ◌-◌, ◌<◌, Ok, [], length, take,
 use Rattle.std.proofs.lemmas.Bool.Decides.{nat_tests}
 use Rattle.std.proofs.lemmas.List.{get_or_default}
 use Rattle.gix_hash.specs.Digits.{hex_letter}
-use Rattle.gix_hash.specs.IdReading.{full_read, whole_of}
+use Rattle.gix_hash.specs.Reading.{full_read, whole_of}
 use Rattle.oidtool_commands.proofs.FinderLemmas.{is_none}
 use Rattle.oidtool_commands.proofs.IdLines.{can_skip, found_reads}
 use Rattle.oidtool_commands.proofs.search.query.Query.find_skippable.Goals as goal

@@ -1,7 +1,9 @@
 -- The kinds of digest, with their numbers and lengths.
-pub use Rattle.id_digits.specs.DigestLengths.{is_digest_len}
-use Rattle.std.proofs.Common.{◌≡◌, arith}
-use Rattle.std.specs.Prelude.{ℕ, nat_le, ◌==◌, if◌then◌else◌, Option, Some, None, List, [], ◌∷◌, ◌≢◌, Contains, codes}
+use Rattle.std.specs.Prelude.{[], ℕ, ◌==◌, ◌∷◌, ◌≡◌, ◌≢◌, Contains, List, None, Option, Some, codes, false, if◌then◌else◌, length, nat_le}
+use Rattle.std.proofs.Common.{arith}
+use Rattle.id_digits.specs.Digits.{is_digest_len}
+use Rattle.gix_hash.specs.declared.error.Error.{Error}
+use Rattle.gix_hash.specs.declared.error.Error.TheVariants.{InvalidByteSliceLength}
 use Rattle.gix_hash.specs.declared.kind.Kind.{Kind}
 use Rattle.gix_hash.specs.declared.kind.Kind.TheVariants.{Sha1, Sha256}
 
@@ -61,3 +63,7 @@ IsNoName name = (kind : Kind) → ¬ IsNameOf name kind
 -- the number is no kind's
 abbrev pub IsNoNumber : ℕ → Type 0
 IsNoNumber number = (kind : Kind) → number_of kind ≢ number
+
+-- no kind has digests of this length, and the error contains the length
+abbrev pub IsLengthRefusal : List ℕ → Error → Type 0
+IsLengthRefusal bytes error = (is_digest_len (length bytes) ≡ false) × (error ≡ InvalidByteSliceLength (length bytes))

@@ -1,10 +1,9 @@
--- What contracts see of a prefix.
-pub use Rattle.id_digits.specs.Beginnings.{place, padded}
-use Rattle.std.specs.Prelude.{◌≡◌, ℕ, Bool, List, ◌++◌, nat_eq}
+-- What contracts see of prefixes.
+use Rattle.std.specs.Prelude.{ℕ, ◌++◌, ◌≡◌, ◌≤◌, Bool, List, length, nat_eq}
+use Rattle.std.specs.Cmp.Lexicographic.{pointwise, slice_cmp}
+use Rattle.std.specs.Ordering.{eq_of_both, nat_cmp, on, then_cmp}
 use Rattle.std.specs.declared.cmp.Ordering.{Ordering}
-use Rattle.std.specs.Ordering.{nat_cmp, on, eq_of_both, then_cmp}
-use Rattle.std.specs.Cmp.Lexicographic.{slice_cmp, pointwise}
-use Rattle.gix_hash.specs.Kind.{number_of}
+use Rattle.gix_hash.specs.Kinds.{number_of}
 use Rattle.gix_hash.specs.declared.kind.Kind.{Kind}
 
 -- a kind and digits: those of a prefix, or all of an id's
@@ -35,3 +34,8 @@ prefix_cmp = then_cmp (on prefix_kind_number nat_cmp) (on prefix_digits (slice_c
 -- the digits of an id are those of a prefix followed by some more
 abbrev pub BeginsWith : List ℕ → List ℕ → Type 0
 BeginsWith id prefix = (rest : List ℕ) × (id ≡ prefix ++ rest)
+
+-- both lists begin with some n digits, and with no more
+pub record IsCommonLen (first second : List ℕ) (n : ℕ) : Type 0 where
+  pub shared : (digits : List ℕ) × (length digits ≡ n) × BeginsWith first digits × BeginsWith second digits
+  pub longest : (digits : List ℕ) → BeginsWith first digits → BeginsWith second digits → length digits ≤ n

@@ -1,21 +1,51 @@
--- What is returned for the bytes of a pack index. All calls but the whole check test only the head and the lengths of the tables.
-use Rattle.std.specs.Prelude.{◌≡◌, ℕ, ◌<◌, ◌≤◌, ◌⊎◌, List, [], Option, Some, None, length, slice_index_or, take}
-use Rattle.gix_hash.specs.Kind.{hex_len_of, number_of}
-use Rattle.gix_hash.specs.Prefix.{kind_digits}
+-- What look-ups in a table of digests return.
+use Rattle.std.specs.Prelude.{[], ℕ, ◌<◌, ◌≡◌, ◌≤◌, ◌⊎◌, Bool, List, None, Option, Some, false, length, nat_lt, slice_index_or, take, true}
+use Rattle.gix_hash.specs.Kinds.{hex_len_of, number_of}
+use Rattle.gix_hash.specs.Prefixes.{kind_digits}
 use Rattle.gix_hash.specs.declared.kind.Kind.{Kind}
 use Rattle.gix_hash.specs.declared.kind.Kind.TheVariants.{Sha1, Sha256}
-use Rattle.id_lookup.specs.ShortNames.{IsShortestName}
-use Rattle.id_lookup.specs.Sorted.{IsSortedIds}
-use Rattle.pack_index.specs.Format.{HasHead, HasOffset, HasTables, IsPackIndex, crc_in, names_in, num_objects, offset_in}
-use Rattle.pack_index.specs.Refusal.{IsFault, IsRefusal}
+use Rattle.id_lookup.specs.Indexes.{IsShortestName}
+use Rattle.id_lookup.specs.Runs.{IsFirstUnsorted, IsRun, IsSortedIds}
+use Rattle.id_lookup.specs.declared.search.Run as found
+use Rattle.pack_index.specs.Format.{HasHead, HasOffset, HasTables, IsFault, IsPackIndex, IsRefusal, crc_in, digests_in, names_in, num_objects, offset_in}
 use Rattle.pack_index.specs.declared.error.Error.{Error}
-use Rattle.pack_index.specs.declared.error.Error.TheVariants.{OtherKind, TooShort, Version1, BadMagic, BadVersion, WrongLength, NamesFall, WrongCount, NoOffset, LongOutOfOrder, SpareLong, OffsetInHeader, OffsetTooHigh, WrongChecksum}
+use Rattle.pack_index.specs.declared.error.Error.TheVariants.{BadMagic, BadVersion, LongOutOfOrder, NamesFall, NoOffset, OffsetInHeader, OffsetTooHigh, OtherKind, SpareLong, TooShort, Version1, WrongChecksum, WrongCount, WrongLength}
+use Rattle.gix_hash_c.specs.Codes.{BAD_KIND, BAD_LENGTH, NOT_UNIQUE, OK, OUT_OF_RANGE, PREFIX_TOO_LONG, UNSORTED}
 use Rattle.gix_hash_c.specs.Face.{HoldsId}
-use Rattle.gix_hash_c.specs.Found.{IsRunIfSorted}
 use Rattle.gix_hash_c.specs.declared.ids.Id.{Id}
 use Rattle.gix_hash_c.specs.declared.look_up.Run.{Run}
 use Rattle.gix_hash_c.specs.declared.packs.Entry.{Entry}
-use Rattle.gix_hash_c.specs.Codes.{BAD_KIND, BAD_LENGTH, NOT_UNIQUE, OK, OUT_OF_RANGE, PREFIX_TOO_LONG}
+
+-- a run of C's as one of `id_lookup`
+abbrev pub run_in : Run → found.Run
+run_in run = record { start = run.start; end = run.end }
+
+-- the run of some digits, if the ids are sorted; else some run of their indexes
+pub record IsRunIfSorted (digits : List ℕ) (ids : List (List ℕ)) (run : Run) : Type 0 where
+  pub rises : run.start ≤ run.end
+  pub in_range : run.end ≤ length ids
+  pub is : (kind : Kind) → IsSortedIds ids → IsRun (kind_digits kind digits) ids (run_in run)
+
+-- what a look-up returns, and leaves, by whether there are too many digits
+abbrev pub FoundBy : Bool → List ℕ → List (List ℕ) → ℕ → Run → Run → Type 0
+FoundBy true digits ids code old new = (code ≡ PREFIX_TOO_LONG) × (new ≡ old)
+FoundBy false digits ids code old new = (code ≡ OK) × IsRunIfSorted digits ids new
+
+-- the result of a look-up in a table, whose kind or prefix may be bad
+abbrev pub FindAnswer : Option Kind → List ℕ → Option (List ℕ) → ℕ → Run → Run → Type 0
+FindAnswer None table prefix code old new = (code ≡ BAD_KIND) × (new ≡ old)
+FindAnswer (Some kind) table None code old new = (code ≡ BAD_LENGTH) × (new ≡ old)
+FindAnswer (Some kind) table (Some digits) code old new =
+    FoundBy (nat_lt (hex_len_of kind) (length digits)) digits (digests_in kind table) code old new
+
+-- what the test of an order returns, and leaves
+abbrev pub SortedAnswer : Option Kind → List ℕ → ℕ → ℕ → ℕ → Type 0
+SortedAnswer None table code old new = (code ≡ BAD_KIND) × (new ≡ old)
+SortedAnswer (Some kind) table code old new =
+    ((code ≡ OK) × IsSortedIds (digests_in kind table) × (new ≡ old))
+    ⊎ ((code ≡ UNSORTED) × IsFirstUnsorted (digests_in kind table) new)
+
+-- What is returned for the bytes of a pack index. All calls but the whole check test only the head and the lengths of the tables.
 
 -- the number of a cause for which bytes are no pack index
 abbrev pub cause_number : Error → ℕ

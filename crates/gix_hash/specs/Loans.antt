@@ -1,9 +1,10 @@
--- The loan of an id's bytes.
-use Rattle.std.specs.Prelude.{ℕ, List}
-use Rattle.std.specs.Borrow.{Lends, MutBor, Fml, Array, u8}
+-- What is lent: the bytes of an id, and a text in a buffer.
+use Rattle.std.specs.Prelude.{ℕ, ⊤, ◌≡◌, List}
+use Rattle.std.specs.Borrow.{Array, Fml, Lends, MutBor, follows_so, u8}
+use mathlib.Core.Option.{none}
+use Rattle.gix_hash.specs.contracts.object_id.ObjectId.{the_row}
 use Rattle.gix_hash.specs.declared.object_id.ObjectId.{ObjectId}
 use Rattle.gix_hash.specs.declared.object_id.ObjectId.TheVariants.{Sha1, Sha256}
-use Rattle.gix_hash.specs.contracts.object_id.ObjectId.{the_row}
 
 -- the id of the same kind with other bytes
 abbrev pub with_bytes : ObjectId → List ℕ → ObjectId
@@ -13,3 +14,7 @@ with_bytes (Sha256 old) bytes = Sha256 bytes
 -- the lent bytes at the end of the loan are the digest afterwards
 abbrev pub LendsDigest : MutBor ObjectId → MutBor (List ℕ) → Fml
 LendsDigest id lent = Lends the_row (Array u8 0) id lent (with_bytes id.now)
+
+-- the buffer holds these bytes once nothing borrows from it
+abbrev pub EndsAs : MutBor (List ℕ) → List ℕ → Fml
+EndsAs buffer bytes = follows_so (Array u8 0) (Array u8 0) buffer.ghost_name none (λ _ _. ⊤) (λ last. last ≡ bytes)

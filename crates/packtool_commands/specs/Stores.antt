@@ -1,0 +1,294 @@
+-- What is printed of the ids of a store, and why that fails.
+use Rattle.std.specs.Prelude.{[], ℕ, ◌&&◌, ◌++◌, ◌<◌, ◌==◌, ◌↔◌, ◌∷◌, ◌≡◌, ◌≢◌, All, Bool, IsTrue, List, None, Option, Some, codes, decimal, drop, false, flat_map, if◌then◌else◌, length, map, nat_lt, string_bytes, true}
+use Rattle.std.specs.Io.KnownBytes.{Appends}
+use Rattle.std.specs.List.{range_with_len, slice_split}
+use Rattle.std.specs.Option.{is_some, option_map, option_to_list}
+use Rattle.gix_hash.specs.Digits.{digits_read, first_byte_of, hex_letter, spelling}
+use Rattle.gix_hash.specs.Ids.{id_digits}
+use Rattle.gix_hash.specs.Kinds.{hex_len_of}
+use Rattle.gix_hash.specs.Prefixes.{KindDigits, kind_digits}
+use Rattle.gix_hash.specs.declared.Kind.{Kind}
+use Rattle.gix_hash.specs.declared.ObjectId.{ObjectId}
+use Rattle.streams.specs.Streams.{AppendsAtMost, AppendsPart, printed}
+use Rattle.id_lookup.specs.Indexes.{part_of}
+use Rattle.id_lookup.specs.Runs.{matches}
+use Rattle.pack_index.specs.Format.{Each}
+use Rattle.object_store.specs.Several.{AreAbbreviatedOfEach, AreLocatedOfEach, IsAbbreviatedIn}
+use Rattle.object_store.specs.Stores.{AreFoundOfEach, AreMatches, AreMatchesOfEach, HaveBuckets, IsNameIn, IsStoreFault, StoreView, locations_of}
+use Rattle.object_store.specs.declared.error.Error.{Error}
+use Rattle.object_store.specs.declared.error.Error.TheVariants.{Index, Memory}
+use Rattle.object_store.specs.declared.locations.LocatedId.{LocatedId}
+use Rattle.object_store.specs.declared.locations.Location.{Location}
+use Rattle.object_store.specs.declared.locations.Location.TheVariants.{Loose, Packed}
+use Rattle.object_store.specs.declared.naming.Abbreviation.{Abbreviation}
+use Rattle.object_store.specs.declared.naming.Abbreviation.TheVariants.{Ambiguous, Missing, Named}
+use Rattle.object_store.specs.declared.naming.NamedId.{NamedId}
+use Rattle.packtool_commands.specs.Files.{escape_mark, escaped}
+use Rattle.packtool_commands.specs.declared.asking.Answers.{Answers}
+use Rattle.packtool_commands.specs.declared.asking.Answers.TheVariants as answers_of
+use Rattle.packtool_commands.specs.declared.error.StoreError.{StoreError}
+use Rattle.packtool_commands.specs.declared.error.StoreError.TheVariants.{Output, Store}
+
+-- a line was written for each of the ids, and whether there is one was returned
+pub record HasPrinted (ids : List (List ℕ)) (any : Bool) (old new : Option (List ℕ)) : Type 0 where
+  pub found : IsTrue any ↔ (ids ≢ [])
+  pub written : Appends old new (printed hex_letter ids)
+
+-- a line was written for each id that begins with the digits of those that were read, whatever is known of the bytes
+pub record HasPrintedMatches (view : StoreView) (digits : List ℕ) (old new : Option (List ℕ)) : Type 0 where
+  pub ids : List ObjectId
+  pub are_matches : AreMatches view digits ids
+  pub written : Appends old new (printed hex_letter (map id_digits ids))
+
+-- what an error says of a store: what its own error does, and a failed write nothing
+abbrev pub IsFaultOf : (Error → Type 0) → StoreError → Type 0
+IsFaultOf IsItsFault (Store error) = IsItsFault error
+IsFaultOf IsItsFault Output = Unit {0}
+
+-- why a walk over the first bytes fails: a look-up with one of them does, and those with the lower ones do not
+abbrev pub IsWalkFault : StoreView → Error → Type 0
+IsWalkFault view error = (byte : ℕ) × (byte < 256) × Each (HaveBuckets view) byte × IsStoreFault view byte error
+
+-- What is printed for many prefixes, which are the lines of a text.
+
+-- the byte that ends a line
+abbrev pub is_line_feed : ℕ → Bool
+is_line_feed b = b == 10
+
+-- the parts, the last only if it is not empty
+abbrev pub without_empty_last : List (List ℕ) → List (List ℕ)
+without_empty_last [] = []
+without_empty_last (part ∷ []) = if length part == 0 then [] else part ∷ []
+without_empty_last (part ∷ (next ∷ parts)) = part ∷ without_empty_last (next ∷ parts)
+
+-- the lines of a text without their line feeds, which the last may lack
+unfoldable pub lines_of : List ℕ → List (List ℕ)
+lines_of text = without_empty_last (slice_split is_line_feed text)
+
+-- a prefix that has 2 digits or more
+abbrev pub of_two : Option KindDigits → Option KindDigits
+of_two None = None
+of_two (Some prefix) = if nat_lt (length prefix.digits) 2 then None else Some prefix
+
+-- the prefix that a line is: its digits in hex, in either letter case, from 2 up to as many as ids of the kind have
+abbrev pub prefix_of : Kind → List ℕ → Option KindDigits
+prefix_of kind line = if nat_lt (hex_len_of kind) (length line) then None else of_two (option_map (kind_digits kind) (digits_read hex_letter line))
+
+-- the prefixes among lines
+abbrev pub prefixes_of : Kind → List (List ℕ) → List KindDigits
+prefixes_of kind lines = flat_map (λ line. option_to_list (prefix_of kind line)) lines
+
+-- a line, a space, a text and a line feed
+abbrev pub line_with : List ℕ → List ℕ → List ℕ
+line_with line text = line ++ (32 ∷ (text ++ 10 ∷ []))
+
+-- what is before a result: a line and a space, or nothing
+abbrev pub front_text : Option (List ℕ) → List ℕ
+front_text None = []
+front_text (Some line) = line ++ 32 ∷ []
+
+-- an id in hex and a line feed, after a line or nothing
+abbrev pub id_line : Option (List ℕ) → List ℕ → List ℕ
+id_line line id = front_text line ++ (spelling hex_letter id ++ 10 ∷ [])
+
+-- what is printed for a prefix by what was found, where each thing that was found has a text: all of it, each after the line, or the only one; or that there is
+-- none, or more than one
+abbrev pub found_text : {X : Type 0} → (Option (List ℕ) → X → List ℕ) → Answers → List ℕ → List X → List ℕ
+found_text text answers_of.All line [] = line_with line (codes "missing")
+found_text text answers_of.All line (x ∷ xs) = flat_map (text (Some line)) (x ∷ xs)
+found_text text answers_of.One line [] = line_with line (codes "missing")
+found_text text answers_of.One line (x ∷ []) = text None x
+found_text text answers_of.One line (x ∷ (other ∷ xs)) = line_with line (codes "ambiguous")
+
+-- whether that is what is asked for: at least one thing, or exactly one
+abbrev pub is_found : {X : Type 0} → Answers → List X → Bool
+is_found answers_of.All [] = false
+is_found answers_of.All (x ∷ xs) = true
+is_found answers_of.One [] = false
+is_found answers_of.One (x ∷ []) = true
+is_found answers_of.One (x ∷ (other ∷ xs)) = false
+
+-- what is printed for a line that is a prefix or not, by the first of what was found
+abbrev pub answer_to : {X : Type 0} → (List ℕ → X → List ℕ) → List ℕ → Bool → List X → List ℕ
+answer_to text line false found = line_with line (codes "bad")
+answer_to text line true [] = []
+answer_to text line true (x ∷ found) = text line x
+
+-- whether it has what is asked for
+abbrev pub is_answer_to : {X : Type 0} → (X → Bool) → Bool → List X → Bool
+is_answer_to is_wanted false found = false
+is_answer_to is_wanted true [] = false
+is_answer_to is_wanted true (x ∷ found) = is_wanted x
+
+-- what was found for the lines after it: a prefix takes one
+abbrev pub lists_after : {X : Type 0} → Bool → List X → List X
+lists_after false found = found
+lists_after true found = drop 1 found
+
+-- what is printed for lines, by what was found for each that is a prefix
+abbrev pub answers_by : {X : Type 0} → (List ℕ → X → List ℕ) → Kind → List (List ℕ) → List X → List ℕ
+answers_by text kind [] found = []
+answers_by text kind (line ∷ lines) found =
+    answer_to text line (is_some (prefix_of kind line)) found ++ answers_by text kind lines (lists_after (is_some (prefix_of kind line)) found)
+
+-- whether each has what is asked for
+abbrev pub are_answers_by : {X : Type 0} → (X → Bool) → Kind → List (List ℕ) → List X → Bool
+are_answers_by is_wanted kind [] found = true
+are_answers_by is_wanted kind (line ∷ lines) found =
+    is_answer_to is_wanted (is_some (prefix_of kind line)) found && are_answers_by is_wanted kind lines (lists_after (is_some (prefix_of kind line)) found)
+
+-- what is printed for lines in a store that holds these ids: each prefix is looked up
+abbrev pub answers_in : Answers → Kind → List (List ℕ) → List (List ℕ) → List ℕ
+answers_in answers kind whole lines =
+    answers_by (found_text id_line answers) kind lines (map (λ (prefix : KindDigits). matches prefix.digits whole) (prefixes_of kind lines))
+
+-- whether each has what is asked for
+abbrev pub are_answers_in : Answers → Kind → List (List ℕ) → List (List ℕ) → Bool
+are_answers_in answers kind whole lines = are_answers_by (is_found answers) kind lines (map (λ (prefix : KindDigits). matches prefix.digits whole) (prefixes_of kind lines))
+
+-- what is printed for lines was written, and whether each has what is asked for was returned
+pub record HasAnswered (answers : Answers) (kind : Kind) (whole lines : List (List ℕ)) (all : Bool) (old new : Option (List ℕ)) : Type 0 where
+  pub found : all ≡ are_answers_in answers kind whole lines
+  pub written : Appends old new (answers_in answers kind whole lines)
+
+-- the same by what was found for the prefixes among them, whatever is known of the bytes
+pub record HasAnsweredBy {X : Type 0} (AreFound : List X → Type 0) (text : List ℕ → X → List ℕ) (is_wanted : X → Bool) (kind : Kind) (lines : List (List ℕ))
+    (all : Bool) (old new : Option (List ℕ)) : Type 0 where
+  pub results : List X
+  pub are_found : AreFound results
+  pub found : all ≡ are_answers_by is_wanted kind lines results
+  pub written : Appends old new (answers_by text kind lines results)
+
+-- a proper beginning of it was written
+pub record HasAnsweredPart {X : Type 0} (AreFound : List X → Type 0) (text : List ℕ → X → List ℕ) (kind : Kind) (lines : List (List ℕ)) (old new : Option (List ℕ)) :
+    Type 0 where
+  pub results : List X
+  pub are_found : AreFound results
+  pub written : AppendsPart old new (answers_by text kind lines results)
+
+-- the ids that begin with each prefix were found and printed
+abbrev pub HasAnsweredMatches : Answers → StoreView → List (List ℕ) → Bool → Option (List ℕ) → Option (List ℕ) → Type 0
+HasAnsweredMatches answers view lines all old new =
+    HasAnsweredBy (AreMatchesOfEach view (prefixes_of view.kind lines)) (found_text (λ line (id : ObjectId). id_line line (id_digits id)) answers)
+    (λ (ids : List ObjectId). is_found answers ids) view.kind lines all old new
+
+-- the pack indexes have the names that are counted with the first byte of each prefix
+abbrev pub HaveAllBuckets : StoreView → List KindDigits → Type 0
+HaveAllBuckets view prefixes = All (λ (prefix : KindDigits). HaveBuckets view (first_byte_of prefix.digits)) prefixes
+
+-- The lines of the ids of a store, each with its abbreviation.
+
+-- the texts of a name and an id in a line: a space between them, and a line feed
+unfoldable pub line_of_name : List ℕ → List ℕ → List ℕ
+line_of_name name id = name ++ 32 ∷ id ++ 10 ∷ []
+
+-- the line of an id: its name and the id, both in hex
+abbrev pub name_line : NamedId → List ℕ
+name_line n = line_of_name (spelling hex_letter n.name.digits) (spelling hex_letter (id_digits n.id))
+
+-- the ids whose first byte is below n, a byte after the other
+abbrev pub parts_below : ℕ → List (List ℕ) → List (List ℕ)
+parts_below n ids = flat_map (λ byte. part_of byte ids) (range_with_len 0 n)
+
+-- these are the ids of the whole store whose first byte is below n, each with its abbreviation there
+pub record AreNamedBelow (n least : ℕ) (whole : List (List ℕ)) (named : List NamedId) : Type 0 where
+  pub ids : map (λ (m : NamedId). id_digits m.id) named ≡ parts_below n whole
+  pub names : All (λ (m : NamedId). IsNameIn least whole (id_digits m.id) m.name.digits) named
+
+-- their lines were written, and whether there is one is this
+pub record HasNamedBelow (n least : ℕ) (whole : List (List ℕ)) (any : Bool) (old new : Option (List ℕ)) : Type 0 where
+  pub named : List NamedId
+  pub are_named : AreNamedBelow n least whole named
+  pub found : IsTrue any ↔ (named ≢ [])
+  pub written : Appends old new (flat_map name_line named)
+
+-- a beginning of such lines was written, or all
+pub record HasNamedAtMost (least : ℕ) (whole : List (List ℕ)) (old new : Option (List ℕ)) : Type 0 where
+  pub n : ℕ
+  pub named : List NamedId
+  pub are_named : AreNamedBelow n least whole named
+  pub written : AppendsAtMost old new (flat_map name_line named)
+
+-- what is printed for a line that is a prefix: the abbreviation of the only id that begins with it
+abbrev pub abbreviation_text : List ℕ → Abbreviation → List ℕ
+abbreviation_text line Missing = line_with line (codes "missing")
+abbreviation_text line Ambiguous = line_with line (codes "ambiguous")
+abbreviation_text line (Named named) = spelling hex_letter named.name.digits ++ 10 ∷ []
+
+-- whether there is one
+abbrev pub is_named : Abbreviation → Bool
+is_named Missing = false
+is_named Ambiguous = false
+is_named (Named named) = true
+
+-- the abbreviations for the prefixes among lines were found and printed, and whether each line has one was returned
+abbrev pub HasNamedEach : ℕ → StoreView → List (List ℕ) → Bool → Option (List ℕ) → Option (List ℕ) → Type 0
+HasNamedEach least view lines all old new =
+    HasAnsweredBy (AreAbbreviatedOfEach least view (prefixes_of view.kind lines)) abbreviation_text is_named view.kind lines all old new
+
+-- so in a store that holds these ids
+abbrev pub HasNamedEachIn : ℕ → Kind → List (List ℕ) → List (List ℕ) → Bool → Option (List ℕ) → Option (List ℕ) → Type 0
+HasNamedEachIn least kind whole lines all old new =
+    HasAnsweredBy (AreFoundOfEach (IsAbbreviatedIn least whole) (prefixes_of kind lines)) abbreviation_text is_named kind lines all old new
+
+-- a proper beginning of it was printed
+abbrev pub HasNamedPart : ℕ → StoreView → List (List ℕ) → Option (List ℕ) → Option (List ℕ) → Type 0
+HasNamedPart least view lines old new = HasAnsweredPart (AreAbbreviatedOfEach least view (prefixes_of view.kind lines)) abbreviation_text view.kind lines old new
+
+-- The lines of the locations of objects.
+
+-- what is after the path: the offset in a pack after a space, if there is one, and a line feed
+abbrev pub location_end : Option ℕ → List ℕ
+location_end (Some offset) = 32 ∷ decimal offset ++ 10 ∷ []
+location_end None = 10 ∷ []
+
+-- the id in hex, a space, the path of the file, and the offset, after a line of a text or nothing; a backslash before all if a byte of the path is escaped
+abbrev pub location_line_after : Option (List ℕ) → List ℕ → List ℕ → Option ℕ → List ℕ
+location_line_after line id path offset = escape_mark path ++ (front_text line ++ ((spelling hex_letter id ++ 32 ∷ []) ++ (escaped path ++ location_end offset)))
+
+-- the line of a location that is after nothing
+abbrev pub location_line : List ℕ → List ℕ → Option ℕ → List ℕ
+location_line id path offset = location_line_after None id path offset
+
+-- the lines of a location: one of a pack, and one of each file of a loose object
+abbrev pub lines_at_after : Option (List ℕ) → (ℕ → List ℕ) → List (List ℕ) → List ℕ → Location → List ℕ
+lines_at_after line pack_path loose_paths id (Packed pack offset) = location_line_after line id (pack_path pack) (Some offset)
+lines_at_after line pack_path loose_paths id Loose = flat_map (λ path. location_line_after line id path None) loose_paths
+
+-- those that are after nothing, in a store with these paths
+abbrev pub lines_at : (ℕ → List ℕ) → (List ℕ → List (List ℕ)) → List ℕ → Location → List ℕ
+lines_at pack_path loose_paths id location = lines_at_after None pack_path (loose_paths id) id location
+
+-- the lines of all locations of an object, in a store with these paths and bytes of pack indexes
+abbrev pub lines_of_locations : (ℕ → List ℕ) → (List ℕ → List (List ℕ)) → StoreView → List (List ℕ) → List ℕ → List ℕ
+lines_of_locations pack_path loose_paths view indexes id = flat_map (lines_at pack_path loose_paths id) (locations_of view.kind id indexes view.loose)
+
+-- the lines of each of the ids were written, and whether there is one was returned
+pub record HasLocated (lines : List ℕ → List ℕ) (ids : List (List ℕ)) (any : Bool) (old new : Option (List ℕ)) : Type 0 where
+  pub found : IsTrue any ↔ (ids ≢ [])
+  pub written : Appends old new (flat_map lines ids)
+
+-- memory ran out
+abbrev pub IsMemory : Error → Type 0
+IsMemory (Index at error) = ⊥
+IsMemory (Memory error) = Unit {0}
+
+-- the lines of the locations of an id, each after a line of a text or nothing
+abbrev pub located_lines : {A : Type 0} → (ℕ → List ℕ) → Option (List ℕ) → LocatedId A → List ℕ
+located_lines pack_path line located =
+    flat_map (lines_at_after line pack_path (map string_bytes located.loose_paths.items) (id_digits located.id)) located.locations.items
+
+-- the ids that begin with each prefix among lines were found, and the lines of their locations printed, and whether each line has what is asked for was
+-- returned; A is the type of the allocator of what was found
+abbrev pub HasLocatedEach : (A : Type 0) → Answers → (ℕ → List ℕ) → (List ℕ → List (List ℕ)) → StoreView → List (List ℕ) → Bool → Option (List ℕ)
+    → Option (List ℕ) → Type 0
+HasLocatedEach A answers pack_path loose_paths view lines all old new =
+    HasAnsweredBy {X = List (LocatedId A)} (AreLocatedOfEach view loose_paths (prefixes_of view.kind lines)) (found_text (located_lines pack_path) answers)
+    (is_found answers) view.kind lines all old new
+
+-- a proper beginning of it was printed
+abbrev pub HasLocatedPart : (A : Type 0) → Answers → (ℕ → List ℕ) → (List ℕ → List (List ℕ)) → StoreView → List (List ℕ) → Option (List ℕ)
+    → Option (List ℕ) → Type 0
+HasLocatedPart A answers pack_path loose_paths view lines old new =
+    HasAnsweredPart {X = List (LocatedId A)} (AreLocatedOfEach view loose_paths (prefixes_of view.kind lines)) (found_text (located_lines pack_path) answers)
+    view.kind lines old new
