@@ -1,4 +1,5 @@
 mod Entries
+mod LoosePaths
 mod Picked
 mod Quoted
 mod ReadSoFar
