@@ -159,6 +159,7 @@ FOUND_FILES = {
     "both/refs/none": b"",
     "both/.git/HEAD": b"ref:\t refs/heads/main",
     "both/.git/refs/none": b"",
+    "both/.git/config.worktree": SHA256,
     "detached/.git/HEAD": b"4b825DC642cb6eb9a060e54bf8d69288fbee4904",
     "detached/.git/config": b"[user]\nname = J\xf6rg\n",
     "detached/.git/refs/none": b"",
@@ -244,8 +245,10 @@ LENT_FILES = {
     "main/objects/info/alternates": rb'"../../a \"b\"/objects"',
     'a "b"/objects/pack/pack-1.idx': index_of([FIRST, BOTH, f"4c{'0' * 38}"], (0x1_0000_000C, LAST_OFFSET)),
     'a "b"/objects/pack/pack-1.pack': b"",
+    f'a "b"/objects/4b/{BOTH[2:]}': b"",
     'a "b"/objects/info/alternates': b"# none\n\n../../gone\n../../main/objects\n../../third/objects\n"
     b"../../third/../third/objects\n",
+    "third/objects/info": b"",
     f"third/objects/4b/{SECOND[2:]}": b"",
     f"third/objects/4b/{BOTH[2:]}": b"",
 }
@@ -262,11 +265,19 @@ LENT = [
 {BOTH} main/objects/pack/pack-1.pack 3073
 {BOTH} {{room}}/a "b"/objects/pack/pack-1.pack 9223372036854775807
 {BOTH} main/objects/4b/{BOTH[2:]}
+{BOTH} {{room}}/a "b"/objects/4b/{BOTH[2:]}
 {BOTH} {{room}}/third/objects/4b/{BOTH[2:]}
 {LOOSE} main/objects/4b/{LOOSE[2:]}
 """,
     ),
 ]
+# What `where 4b9` prints if the environment names the third as an alternate: its alternates come first.
+LENT_BY_ENVIRONMENT = f"""{BOTH} main/objects/pack/pack-1.pack 3073
+{BOTH} {{room}}/a "b"/objects/pack/pack-1.pack 9223372036854775807
+{BOTH} main/objects/4b/{BOTH[2:]}
+{BOTH} {{room}}/third/objects/4b/{BOTH[2:]}
+{BOTH} {{room}}/a "b"/objects/4b/{BOTH[2:]}
+"""
 LENT_ERROR = '{room}/a "b"/objects/../../gone: No such file or directory (os error 2), skipped'
 
 # Files of objects folders that cannot be read. The index has one name, and counts another for the first byte 16.
@@ -288,11 +299,13 @@ UNREAD = [
     ("list", "names", "{room}/list/info/alternates: Is a directory (os error 21)"),
 ]
 
-# A chain of alternates, of which the last two are nested too deep, and alternates that are none.
+# A chain of alternates, of which the eighth is nested too deep, and the ninth is one of the third's, too; and alternates that
+# are none.
 CHAIN = 9
 CHAIN_LISTS = {
     0: f"../gone\n../1\n../1\r\n../0/00/{'0' * 37}a\n".encode() + b"../\xff\n../\xfe\n",
     1: b"../0\n../0\n../0\n../2\n",
+    2: b"../3\n../8\n",
     6: b"../7\n../0\n../4\n",
 }
 # Each text is printed once, so also that of two paths which are not UTF-8.
@@ -331,6 +344,7 @@ ALTERNATES: list[tuple[str, str, list[str]]] = [
     (":", ":a::b\nc:", ["a", "b\nc"]),
     (":", r'"a:\"b":c', ['a:"b', "c"]),
     (":", "#a:b", ["b"]),
+    (":", ":".join("abcdefghij"), list("abcdefghij")),
 ]
 
 # Configs, and the kinds or errors by Git (`git rev-parse --show-object-format`); the texts of errors are packtool's own.
