@@ -299,8 +299,8 @@ UNREAD = [
     ("list", "names", "{room}/list/info/alternates: Is a directory (os error 21)"),
 ]
 
-# A chain of alternates, of which the eighth is nested too deep, and the ninth is one of the third's, too; and alternates that
-# are none.
+# A chain of alternates, of which the eighth is nested too deep, and the ninth is one of the third's, too; alternates that
+# are none, and a pack index that is none.
 CHAIN = 9
 CHAIN_LISTS = {
     0: f"../gone\n../1\n../1\r\n../0/00/{'0' * 37}a\n".encode() + b"../\xff\n../\xfe\n",
@@ -315,6 +315,7 @@ CHAIN_ERRORS = [
     "{room}/6/../7: nested more than 5 deep",
     "{room}/0/../1: its line ends in a carriage return",
     f"{{room}}/0/../0/00/{'0' * 37}a: not a directory",
+    "{room}/3/pack/x.idx: the bytes are too few for a pack index",
 ]
 
 # Lists of alternates, and the paths that Git takes from them: files `info/alternates`, and values of
