@@ -1,6 +1,6 @@
 -- The only id that begins with a prefix.
-use Rattle.std.proofs.Common.{◌≡◌, ◌∙◌, ℕ, suc, ◌<◌, true, nat_eq, List, [], ◌∷◌, length, filter, get_or, map, refl, sym, ap, subst, arith}
-use Rattle.std.specs.List.{All, Contains, starts_with}
+use Rattle.std.proofs.Common.{◌≡◌, ◌∙◌, ℕ, nat_eq, List, [], ◌∷◌, length, get_or, map, sym, ap, subst, arith}
+use Rattle.std.specs.List.{Contains, starts_with}
 use Rattle.std.proofs.lemmas.List.Elements.{Contains-push}
 use Rattle.gix_hash.specs.Ids.{id_digits}
 use Rattle.gix_hash.specs.declared.ObjectId.{ObjectId}

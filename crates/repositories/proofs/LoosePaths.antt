@@ -20,7 +20,7 @@ written a b c d (x ∷ (y ∷ digits)) rest buffer n is len most folder slash fi
     let count : length letters ≡ n - 2 = omega (arith, length-map digits hex_letter, len) in
     let others : take (n - 2) (drop 2 buffer) ≡ letters = ap (λ l. take (n - 2) (drop 2 l)) is ∙ take_at letters rest (n - 2) count in
     Appends-trans a b d _ (47 ∷ letters) (subst (Appends a b) (ap (take 2) is) folder)
-        (Appends-trans b c d (47 ∷ []) letters slash (subst (Appends c d) others file))
+    (Appends-trans b c d (47 ∷ []) letters slash (subst (Appends c d) others file))
 
 -- the ids of a kind have two digits or more
 pub two_or_more : (kind : Kind) → 2 ≤ hex_len_of kind

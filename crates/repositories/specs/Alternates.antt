@@ -1,5 +1,5 @@
 -- The paths that a list of alternates names.
-use Rattle.std.specs.Prelude.{◌≡◌, ◌≢◌, ◌⊎◌, ℕ, Bool, true, false, List, [], ◌∷◌, ◌==◌, not, drop, filter, length, if◌then◌else◌}
+use Rattle.std.specs.Prelude.{◌≡◌, ◌≢◌, ◌⊎◌, ℕ, Bool, false, List, [], ◌∷◌, ◌==◌, not, drop, filter, length, if◌then◌else◌}
 use Rattle.std.specs.List.{after_first, before_first}
 use Rattle.repositories.specs.Quoting.{IsQuoted}
 

@@ -1,5 +1,5 @@
 -- Texts that Git quotes as C does.
-use Rattle.std.specs.Prelude.{◌≡◌, ◌≢◌, ℕ, ◌+◌, ◌-◌, ◌*◌, ◌&&◌, Bool, ◌==◌, nat_le, if◌then◌else◌, Option, Some, None, List, [], ◌∷◌, drop}
+use Rattle.std.specs.Prelude.{◌≡◌, ℕ, ◌+◌, ◌-◌, ◌*◌, ◌&&◌, Bool, ◌==◌, nat_le, if◌then◌else◌, Option, Some, None, List, [], ◌∷◌}
 use Rattle.std.specs.Option.{option_map}
 
 -- the byte that a letter after a backslash means

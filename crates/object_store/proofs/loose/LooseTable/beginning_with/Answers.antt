@@ -1,9 +1,6 @@
-use Rattle.std.proofs.Common.{◌≡◌, ◌∙◌, ℕ, List, map, refl, ap, arith}
-use Rattle.gix_hash.specs.Digits.{first_byte_of, padded}
+use Rattle.std.proofs.Common.{◌∙◌, map, ap, arith}
 use Rattle.gix_hash.specs.Ids.{id_digits}
-use Rattle.id_lookup.proofs.Beginnings.{first_byte_of-begins, matches-part}
-use Rattle.id_lookup.proofs.Spelled.{starts_with-BeginsWith}
-use Rattle.gix_hash.specs.Kinds.{hex_len_of}
+use Rattle.id_lookup.proofs.Beginnings.{matches-part}
 use Rattle.id_lookup.proofs.Indexes.{index-sorted}
 use Rattle.id_lookup.specs.Indexes.{part_of}
 use Rattle.id_lookup.specs.Runs.{matches}

@@ -1,4 +1,4 @@
-use Rattle.std.proofs.Common.{◌∙◌, ◌≤◌, ap, sym, arith, length}
+use Rattle.std.proofs.Common.{◌∙◌, ap, sym, arith}
 use Rattle.gix_hash.specs.Kinds.{hex_len_of}
 use Rattle.gix_hash.specs.declared.Kind.TheVariants.{Sha1, Sha256}
 use Rattle.pack_index.specs.Lazy.{BucketNames}
