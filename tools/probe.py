@@ -86,6 +86,9 @@ def started(words, limit=LIMIT, **options):
     """A command that runs in the environment CLEAN, or in that of the options. It and all that it started are killed
     after so many seconds, and end when the block is left."""
     with subprocess.Popen(words, **{"env": CLEAN, "stdout": subprocess.PIPE, "start_new_session": True, **options}) as child:
+        # (where the kernel shares processors by sessions, of which the command is one, nice(1) alone says nothing)
+        with contextlib.suppress(OSError):
+            Path(f"/proc/{child.pid}/autogroup").write_text(str(os.nice(0)), encoding="ascii")
         timer = threading.Timer(limit, end, (child, signal.SIGKILL))
         timer.start()
         RUNNING.add(child)
