@@ -43,8 +43,10 @@ pub enum Location {
 /// An id with all locations of its object.
 ///
 /// ```
-/// for located in located.iter() {
-///     println!(rt; "{}: {} copies", located.id, located.locations.len())?;
+/// for ids in locate_prefixes(rt.alloc(), &store, &prefixes)?.iter() {
+///     for located in ids.iter() {
+///         println!(rt; "{}: {} copies", located.id, located.locations.len())?;
+///     }
 /// }
 /// ```
 #[derive(Drop)]
