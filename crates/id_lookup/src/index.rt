@@ -173,6 +173,7 @@ impl<'a, I: Id> IdIndex<'a, I> {
 
     /// As [`IdIndex::abbreviate`], but of at least `least` digits. These must be at least 4, and at
     /// most as many as an id of the kind has.
+    #[inline(always)]
     pub fn abbreviate_from(&self, at: usize, least: usize) -> Prefix
         requires in_range { at < length self.now.ids }
         requires enough { 4 ≤ least }

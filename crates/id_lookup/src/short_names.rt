@@ -11,6 +11,7 @@ use gix_hash::Prefix;
 
 // The abbreviation of the member at a position, if the list is sorted: its shortest prefix of at
 // least `least` digits that no other member begins with. There is none if the member has fewer.
+#[inline(always)]
 pub(crate) fn shortest_name<I: Id>(ids: &[I], at: usize, least: usize) -> Option<Prefix>
     requires in_range { at < length ids.now }
     requires enough { 4 ≤ least }
