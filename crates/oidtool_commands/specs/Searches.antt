@@ -196,7 +196,7 @@ IsRefusedIn search digits reader finder bytes error = (text more : List ℕ) →
 
 -- Where a search stops in what it is given, and what it has written then.
 
--- what a search is given: a text, or the bytes of a source before and after at most so many of them were taken
+-- what a search is given: a text, or the bytes of a source before and after, of which at most this number was taken
 pub data Given : Type 0 where
   Text : List ℕ → Given
   From : ℕ → Option (List ℕ) → Option (List ℕ) → Given
