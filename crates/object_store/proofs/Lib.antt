@@ -6,5 +6,6 @@ pub mod LocationMembers
 pub mod LooseParts
 pub mod TwoDigits
 pub mod Pending
+mod Places
 mod Abbreviated
 mod LocatedIds

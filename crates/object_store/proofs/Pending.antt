@@ -83,17 +83,6 @@ pub all_found : {F : Type 0} (Finds : List ℕ → F → Type 0) (prefixes : Lis
     → AreFoundOrPending Finds prefixes pending found → ((k : ℕ) → k < length prefixes → get_or pending k None ≡ None) → AreFoundOfEach Finds prefixes found
 all_found Finds prefixes pending found are done = record { as_many = are.found_len; each = λ k p one less. are.each k p one less (done k less) }
 
--- one more position is found
-pub more_found : (old new : List (Option ℕ)) (at : ℕ) → ((k : ℕ) → k < at → get_or old k None ≡ None) → StayFound old new → get_or new at None ≡ None
-    → (k : ℕ) → k < at + 1 → get_or new k None ≡ None
-more_found old new at before stay here k low = by (cases_lt k at)
-  where
-    by : ((k < at) ⊎ (at ≤ k)) → get_or new k None ≡ None
-    by (inl below) = stay k (before k below)
-    by (inr from) =
-        let same : k ≡ at = omega (arith, from, low) in
-        ap (λ n. get_or new n None) same ∙ here
-
 -- why the prefix at a position is not looked up is why one of them is not
 pub one_fault : (Fails : List ℕ → Error → Type 0) (prefixes : List KindDigits) (at : ℕ) (prefix : KindDigits) (error : Error) → at < length prefixes
     → Fails (get_or prefixes at prefix).digits error → IsOfOne Fails prefixes error

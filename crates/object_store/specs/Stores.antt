@@ -196,3 +196,8 @@ pub record AreFoundOrPending {Found : Type 0} (Finds : List ℕ → Found → Ty
 -- those that were found before still are
 abbrev pub StayFound : (old new : List (Option ℕ)) → Type 0
 StayFound old new = (k : ℕ) → slice_index_or old k None ≡ None → slice_index_or new k None ≡ None
+
+-- the places of n positions: each is after a key, and no other one
+pub record ArePlaces (n : ℕ) (places : List (ℕ × ℕ)) : Type 0 where
+  pub in_range : All (λ (place : ℕ × ℕ). place.1 < n) places
+  pub all : (k : ℕ) → k < n → (key : ℕ) × Contains places (key, k)

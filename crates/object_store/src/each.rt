@@ -1,9 +1,9 @@
 //! Look-ups of several prefixes, for which each part of the store is read once.
 
-ghost use Rattle.std.specs.Prelude.{◌≡◌, ◌<◌, ◌+◌, All, IfErr, IfOk, None, OnOk, Some, length, map, slice_index_or};
+ghost use Rattle.std.specs.Prelude.{◌≡◌, ◌<◌, ℕ, All, IfErr, IfOk, None, OnOk, Some, length, map, slice_index_or};
 ghost use Rattle.gix_hash.specs.Digits.{first_byte_of};
 ghost use Rattle.gix_hash.specs.Prefixes.{KindDigits};
-ghost use Rattle.object_store.specs.Stores.{AreFoundOfEach, AreFoundOrPending, CanLookUp, IsOfOne, StayFound};
+ghost use Rattle.object_store.specs.Stores.{AreFoundOfEach, AreFoundOrPending, ArePlaces, CanLookUp, IsOfOne, StayFound};
 
 use crate::error::Error;
 use crate::part::Part;
@@ -62,12 +62,14 @@ pub(crate) fn look_up_each<S: Store, A: Allocator + Copy, L: LookUp<S, A>>(
 {
     let mut found = placeholders(alloc, prefixes, look_up)?;
     let mut pending = first_bytes(alloc, prefixes)?;
-    for at in 0..prefixes.len() {
+    let places = in_order(alloc, prefixes)?;
+    for place in 0..places.len() {
         look_up_part(
             alloc,
             store,
             prefixes,
-            at,
+            places[place].1,
+            &places[place + 1..],
             &mut pending,
             &mut found,
             look_up,
@@ -106,13 +108,38 @@ fn first_bytes<A: Allocator + Copy>(
     Ok(bytes)
 }
 
-// Looks up the prefix at a position and those after it that have its first byte, unless it is
-// found.
+// The positions of prefixes, each after a key, in the order of the prefixes. So those with one
+// first byte follow each other, and a search for one begins near where it ends.
+fn in_order<A: Allocator>(
+    alloc: A,
+    prefixes: &[Prefix],
+) -> Result<Vec<(u64, usize), A>, AllocError>
+    ensures { IfOk result (λ places. ArePlaces (length prefixes.now) places.items) }
+{
+    let mut places = Vec::with_capacity(alloc, prefixes.len())?;
+    for at in 0..prefixes.len() {
+        places.push((key_of(&prefixes[at]), at))?;
+    }
+    places.sort_unstable();
+    Ok(places)
+}
+
+// The first eight bytes of a prefix, with zeros after its digits.
+fn key_of(prefix: &Prefix) -> u64 {
+    match prefix.as_oid().as_bytes().first_chunk() {
+        Some(bytes) => u64::from_be_bytes(*bytes),
+        None => 0,
+    }
+}
+
+// Looks up the prefix at a position and those at the next places that have its first byte, unless
+// it is found.
 fn look_up_part<S: Store, A: Allocator + Copy, L: LookUp<S, A>>(
     alloc: A,
     store: &S,
     prefixes: &[Prefix],
     at: usize,
+    next: &[(u64, usize)],
     pending: &mut Vec<Option<u8>, A>,
     found: &mut Vec<L::Found, A>,
     look_up: &L,
@@ -120,6 +147,7 @@ fn look_up_part<S: Store, A: Allocator + Copy, L: LookUp<S, A>>(
     requires can { All (CanLookUp (S.view store.now)) prefixes.now }
     requires fits { L.fits look_up.now (S.view store.now) }
     requires in_range { at < length prefixes.now }
+    requires next { All (λ (place : ℕ × ℕ). place.1 < length prefixes.now) next.now }
     requires each { AreFoundOrPending (L.finds look_up.now (S.view store.now)) prefixes.now
         pending.old.items found.old.items }
     ensures each { OnOk result (AreFoundOrPending (L.finds look_up.now (S.view store.now))
@@ -133,21 +161,21 @@ fn look_up_part<S: Store, A: Allocator + Copy, L: LookUp<S, A>>(
     };
     let part = Part::read(alloc, store, byte)?;
     look_up_at(&part, prefixes, at, pending, found, look_up)?;
-    look_up_after(&part, prefixes, at, pending, found, look_up)
+    look_up_next(&part, prefixes, next, pending, found, look_up)
 }
 
-// Looks up the prefixes after a position that have the first byte of a part.
-fn look_up_after<S: Store, A: Allocator + Copy, L: LookUp<S, A>>(
+// Looks up the prefixes at places, as long as these have the first byte of a part.
+fn look_up_next<S: Store, A: Allocator + Copy, L: LookUp<S, A>>(
     part: &Part<'_, S, A>,
     prefixes: &[Prefix],
-    at: usize,
+    places: &[(u64, usize)],
     pending: &mut Vec<Option<u8>, A>,
     found: &mut Vec<L::Found, A>,
     look_up: &L,
 ) -> Result<(), Error>
     requires can { All (CanLookUp part.now.store) prefixes.now }
     requires fits { L.fits look_up.now part.now.store }
-    requires in_range { at < length prefixes.now }
+    requires in_range { All (λ (place : ℕ × ℕ). place.1 < length prefixes.now) places.now }
     requires each { AreFoundOrPending (L.finds look_up.now part.now.store) prefixes.now
         pending.old.items found.old.items }
     ensures each { OnOk result (AreFoundOrPending (L.finds look_up.now part.now.store)
@@ -155,10 +183,12 @@ fn look_up_after<S: Store, A: Allocator + Copy, L: LookUp<S, A>>(
     ensures stay { OnOk result (StayFound pending.old.items pending.new.items) }
     ensures err { IfErr result (IsOfOne (L.fails look_up.now part.now.store) prefixes.now) }
 {
-    for next in at + 1..prefixes.len() {
-        if pending[next] == Some(part.byte()) {
-            look_up_at(part, prefixes, next, pending, found, look_up)?;
+    for place in 0..places.len() {
+        let at = places[place].1;
+        if pending[at] != Some(part.byte()) {
+            break;
         }
+        look_up_at(part, prefixes, at, pending, found, look_up)?;
     }
     Ok(())
 }

@@ -137,7 +137,7 @@ fn locate_each<S: StorePaths, A: Allocator + Copy>(
         (S.loose_paths store.now) prefix.now.digits located.items) }
     ensures err { IfErr result (IsLocationsFault part.now.store prefix.now.digits) }
 {
-    let mut located = Vec::new(alloc);
+    let mut located = Vec::with_capacity(alloc, ids.len())?;
     for id in ids {
         let locations = part.locate(alloc, id)?;
         let loose_paths = store.loose_paths(id)?;

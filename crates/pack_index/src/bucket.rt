@@ -9,7 +9,7 @@ ghost use Rattle.pack_index.specs.Format.{IsFirstIndexOf, digests_in};
 
 use crate::names::{Names, all_digits};
 use gix_hash::{Kind, ObjectId, Prefix, oid};
-use id_lookup::{Id, Run, find_assuming_sorted, find_assuming_sorted_near, laws};
+use id_lookup::{Id, Run, find_assuming_sorted_near, laws};
 use std::alloc::{AllocError, Allocator};
 use std::cell::Cell;
 use std::marker::Model;
@@ -108,13 +108,14 @@ impl<A: Allocator> Bucket<A> {
         ensures kinds { OnOk result (All (λ id. id_kind id ≡ self.now.kind) ids.old.items
             → All (λ id. id_kind id ≡ self.now.kind) ids.new.items) }
     {
-        let (table, kind, is_sorted) = (&self.table, self.kind, self.is_sorted);
+        let (table, kind, near) = (&self.table, self.kind, &self.near);
+        let is_sorted = self.is_sorted;
         match kind {
             Kind::Sha1 => {
-                push_found::<[u8; 20], B>(table.as_chunks().0, kind, is_sorted, prefix, ids)
+                push_found::<[u8; 20], B>(table.as_chunks().0, kind, is_sorted, near, prefix, ids)
             }
             Kind::Sha256 => {
-                push_found::<[u8; 32], B>(table.as_chunks().0, kind, is_sorted, prefix, ids)
+                push_found::<[u8; 32], B>(table.as_chunks().0, kind, is_sorted, near, prefix, ids)
             }
         }
     }
@@ -205,6 +206,7 @@ fn push_found<I: Id, A: Allocator>(
     list: &[I],
     kind: Kind,
     is_sorted: bool,
+    near: &Cell<usize>,
     prefix: &Prefix,
     ids: &mut Vec<ObjectId, A>,
 ) -> Result<(), AllocError>
@@ -217,13 +219,18 @@ fn push_found<I: Id, A: Allocator>(
     ensures kinds { OnOk result (All (λ id. id_kind id ≡ kind) ids.old.items
         → All (λ id. id_kind id ≡ kind) ids.new.items) }
 {
-    let run = run_of(list, is_sorted, prefix);
+    let run = run_of(list, is_sorted, near, prefix);
+    if ids.is_empty() {
+        // (no more than they need: most prefixes are those of one id)
+        ids.reserve_exact(run.end - run.start)?;
+    }
     push_each(&list[run.start..run.end], kind, prefix, ids)
 }
 
 // A run of a list in which are all ids that begin with a prefix: theirs if the list is sorted, or
-// the whole list.
-fn run_of<I: Id>(list: &[I], is_sorted: bool, prefix: &Prefix) -> Run
+// the whole list. A sorted list is searched first at an index, which is then where the search
+// ended.
+fn run_of<I: Id>(list: &[I], is_sorted: bool, near: &Cell<usize>, prefix: &Prefix) -> Run
     requires sorted { IsTrue is_sorted → IsSortedIds (map I.digits list.now) }
     requires enough_digits { length prefix.now.digits ≤ least_hex_len (map I.digits list.now) }
     ensures rises { result.start ≤ result.end }
@@ -232,13 +239,16 @@ fn run_of<I: Id>(list: &[I], is_sorted: bool, prefix: &Prefix) -> Run
         (slice_range list.now result.start result.end))
         ≡ matches prefix.now.digits (map I.digits list.now) }
 {
-    if is_sorted {
-        return find_assuming_sorted(list, prefix);
+    if !is_sorted {
+        return Run {
+            start: 0,
+            end: list.len(),
+        };
     }
-    Run {
-        start: 0,
-        end: list.len(),
-    }
+    let start = near.get();
+    let run = find_assuming_sorted_near(list, prefix, Run { start, end: start });
+    near.set(run.end);
+    run
 }
 
 // Adds the ids of a list of one kind that begin with a prefix, each of which is compared.

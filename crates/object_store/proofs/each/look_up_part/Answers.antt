@@ -27,5 +27,5 @@ can g c = subst (λ (v : StoreView). All (CanLookUp v) c.args.prefixes.now) (sym
 pub look_up_at-requires-clause-can : goal.look_up_at-requires-clause-can
 look_up_at-requires-clause-can g c = can g (goal.at.look_up_at-requires-clause-can g c).In_ok-part
 
-pub look_up_after-requires-clause-can : goal.look_up_after-requires-clause-can
-look_up_after-requires-clause-can g c = can g (goal.at.look_up_after-requires-clause-can g c).In_ok-part
+pub look_up_next-requires-clause-can : goal.look_up_next-requires-clause-can
+look_up_next-requires-clause-can g c = can g (goal.at.look_up_next-requires-clause-can g c).In_ok-part

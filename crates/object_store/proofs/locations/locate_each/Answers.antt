@@ -1,14 +1,21 @@
-use Rattle.std.proofs.Common.{◌∙◌, [], refl, sym, subst}
+use Rattle.std.proofs.Common.{◌∙◌, [], get_or, refl, sym, subst}
 use Rattle.std.proofs.lemmas.List.{take_all}
 use Rattle.std.proofs.lemmas.Result.{err_from_is_err_and}
+use Rattle.gix_hash.specs.Ids.{id_digits}
 use Rattle.gix_hash.specs.declared.ObjectId.TheVariants.{Sha1}
 use Rattle.object_store.specs.Stores.{AreMatches}
 use Rattle.object_store.proofs.LocatedIds.{fault_of_found, located_more}
+use Rattle.id_lookup.proofs.Beginnings.{first_byte_of-begins}
 use Rattle.object_store.proofs.locations.locate_each.Goals as goal
+
+pub locate-requires-clause-byte : goal.locate-requires-clause-byte
+locate-requires-clause-byte g c =
+    first_byte_of-begins (id_digits (get_or c.args.ids.now c.loop-id.id-index (Sha1 []))) c.args.prefix.now.digits c.requires.enough
+    (c.requires.ids.pass c.loop-id.id-index (Sha1 []) c.loop-id-test.true) ∙ c.requires.byte
 
 pub returns-in_err-locations-clause-err : goal.returns-in_err-locations-clause-err
 returns-in_err-locations-clause-err g c =
-    let failed = err_from_is_err_and c.from_residual.result c.from_residual.ensures.1 in
+    let failed = err_from_is_err_and c.from_residual-in_err-locations.result c.from_residual-in_err-locations.ensures.1 in
     rw (failed.1, failed.2)
     (fault_of_found c.args.part.now.store c.args.prefix.now.digits c.args.ids.now c.loop-id.id-index (Sha1 []) c.in_err-locations.field-0.0 c.requires.ids
     c.loop-id-test.true c.in_err-locations.ensures.err)
