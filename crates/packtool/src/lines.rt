@@ -9,11 +9,16 @@ use std::io;
 /// The most bytes of a chunk, and so of a line with its line feed.
 pub const MAX_LEN: usize = 1 << 20;
 
-// The most lines of a chunk.
-const MAX_LINES: u64 = 65536;
+// The length of the buffer, until a line does not fit it.
+const BUF_LEN: usize = 1 << 18;
+
+// The most lines of a chunk, where a short one counts as several.
+const MAX_COST: usize = 1 << 15;
 
 /// A reader whose lines are looked up in chunks: the whole lines that one read completes, at most
-/// 65,536 of them. The beginning of a line that has not ended is kept for the next chunk.
+/// 32,768 of them. A line of 4, 3 or 2 digits counts as 8, 128 or 2,048, since it may find as many
+/// ids: so what a chunk finds takes little memory. The beginning of a line that has not ended is
+/// kept for the next chunk.
 #[derive(Drop)]
 pub struct LineReader<R> {
     reader: R,
@@ -33,8 +38,8 @@ impl<R: io::Read> LineReader<R> {
     where
         R: Drop,
     {
-        let mut buf = Vec::new(alloc);
-        buf.resize(MAX_LEN, 0)?;
+        let mut buf = Vec::with_capacity(alloc, BUF_LEN)?;
+        lengthen(&mut buf)?;
         Ok(LineReader {
             reader,
             buf,
@@ -83,8 +88,8 @@ impl<R: io::Read> LineReader<R> {
     fn find_chunk(&mut self, from: usize)
         requires { from ≤ self.old.filled }
     {
-        let (len, count) = whole_lines(&self.buf[from..self.filled]);
-        self.chunk_len = if count == 0 { 0 } else { from + len };
+        let (len, count) = whole_lines(&self.buf[..self.filled], from);
+        self.chunk_len = len;
         self.count = self.count.saturating_add(count);
     }
 
@@ -93,9 +98,12 @@ impl<R: io::Read> LineReader<R> {
         ensures { self.old.filled ≤ self.new.filled }
     {
         if self.filled == self.buf.len() {
-            let number = self.count.saturating_add(1);
-            let most = MAX_LEN - 1;
-            return Err(Failure::LongLine { number, most });
+            if self.buf.len() >= MAX_LEN {
+                let number = self.count.saturating_add(1);
+                let most = MAX_LEN - 1;
+                return Err(Failure::LongLine { number, most });
+            }
+            lengthen(&mut self.buf)?;
         }
         match self.reader.read(&mut self.buf[self.filled..]) {
             Ok(count) => {
@@ -117,21 +125,47 @@ impl<R: io::Read> LineReader<R> {
     }
 }
 
-// The length of the whole lines with which bytes begin, with their line feeds, and their number, at
-// most as many as a chunk has.
-fn whole_lines(bytes: &[u8]) -> (usize, u64)
+// Makes a buffer longer.
+fn lengthen(buf: &mut Vec<u8>) -> Result<(), AllocError>
+    ensures { vec_len buf.old ≤ vec_len buf.new }
+{
+    let zeros = [0; 1 << 14];
+    for _at in 0..BUF_LEN / zeros.len() {
+        buf.extend_from_slice(&zeros)?;
+    }
+    Ok(())
+}
+
+// The length of the whole lines of a chunk, with their line feeds, and their number. There is no
+// line feed before `from`.
+fn whole_lines(bytes: &[u8], from: usize) -> (usize, u64)
+    requires { from ≤ length bytes.now }
     ensures { result.0 ≤ length bytes.now }
 {
     let mut len = 0;
     let mut count = 0;
-    for at in 0..bytes.len() {
+    let mut cost = 0;
+    for at in from..bytes.len() {
         if bytes[at] == b'\n' {
+            cost += cost_of(at - len);
             len = at + 1;
             count += 1;
-            if count == MAX_LINES {
+            if cost >= MAX_COST {
                 break;
             }
         }
     }
     (len, count)
+}
+
+// How many lines one of a length counts as. A prefix of fewer digits begins 16 times as many ids.
+fn cost_of(len: usize) -> usize
+    ensures { result ≤ 2048 }
+{
+    match len {
+        2 => 2048,
+        3 => 128,
+        4 => 8,
+        _ => 1,
+    }
 }

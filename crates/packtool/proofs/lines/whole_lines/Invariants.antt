@@ -1,5 +1,5 @@
-use Rattle.std.proofs.Common.{◌≤◌, length}
+use Rattle.std.proofs.Common.{◌<◌, ◌≤◌}
 use Rattle.packtool.proofs.lines.whole_lines.Given as goal
 
 abbrev pub invariant-loop-at : goal.invariant-loop-at
-invariant-loop-at l = (l.len ≤ length l.bytes) × (l.count ≤ l.at)
+invariant-loop-at l = (l.len ≤ l.at) × (l.count ≤ l.at) × (l.cost < 32768)
