@@ -9,7 +9,9 @@ use std::io;
 /// The most bytes of a chunk, and so of a line with its line feed.
 pub const MAX_LEN: usize = 1 << 20;
 
-// The length of the buffer, until a line does not fit it.
+// The length of the buffer at first, and the most until a line does not fit it. Its pages cost more
+// time than a short input.
+const FIRST_LEN: usize = 1 << 14;
 const BUF_LEN: usize = 1 << 18;
 
 // The most lines of a chunk, where a short one counts as several.
@@ -26,6 +28,8 @@ pub struct LineReader<R> {
     // How many bytes of the buffer were read, and how many of these are the lines of the chunk.
     filled: usize,
     chunk_len: usize,
+    // Whether the last read filled the buffer.
+    has_more: bool,
     // How many lines the chunks had until now.
     count: u64,
     ghost in_bounds: { filled ≤ vec_len buf },
@@ -38,13 +42,14 @@ impl<R: io::Read> LineReader<R> {
     where
         R: Drop,
     {
-        let mut buf = Vec::with_capacity(alloc, BUF_LEN)?;
-        lengthen(&mut buf)?;
+        let mut buf = Vec::new(alloc);
+        buf.extend_from_slice(&[0; FIRST_LEN])?;
         Ok(LineReader {
             reader,
             buf,
             filled: 0,
             chunk_len: 0,
+            has_more: false,
             count: 0,
         })
     }
@@ -97,17 +102,19 @@ impl<R: io::Read> LineReader<R> {
     fn read<'a>(&mut self) -> Result<bool, Failure<'a>>
         ensures { self.old.filled ≤ self.new.filled }
     {
-        if self.filled == self.buf.len() {
-            if self.buf.len() >= MAX_LEN {
-                let number = self.count.saturating_add(1);
-                let most = MAX_LEN - 1;
-                return Err(Failure::LongLine { number, most });
-            }
+        let is_full = self.filled == self.buf.len();
+        if is_full && self.buf.len() >= MAX_LEN {
+            let number = self.count.saturating_add(1);
+            let most = MAX_LEN - 1;
+            return Err(Failure::LongLine { number, most });
+        }
+        if is_full || self.has_more && self.buf.len() < BUF_LEN {
             lengthen(&mut self.buf)?;
         }
         match self.reader.read(&mut self.buf[self.filled..]) {
             Ok(count) => {
                 self.filled += count;
+                self.has_more = self.filled == self.buf.len();
                 Ok(count > 0)
             }
             Err(error) => Err(Failure::Input(error)),
@@ -125,12 +132,12 @@ impl<R: io::Read> LineReader<R> {
     }
 }
 
-// Makes a buffer longer.
+// Makes a buffer four times as long.
 fn lengthen(buf: &mut Vec<u8>) -> Result<(), AllocError>
     ensures { vec_len buf.old ≤ vec_len buf.new }
 {
-    let zeros = [0; 1 << 14];
-    for _at in 0..BUF_LEN / zeros.len() {
+    let zeros = [0; FIRST_LEN];
+    for _at in 0..buf.len() / zeros.len() * 3 {
         buf.extend_from_slice(&zeros)?;
     }
     Ok(())
