@@ -15,12 +15,12 @@ const FIRST_LEN: usize = 1 << 14;
 const BUF_LEN: usize = 1 << 18;
 
 // The most lines of a chunk, where a short one counts as several.
-const MAX_COST: usize = 1 << 15;
+const MAX_COST: usize = 1 << 13;
 
 /// A reader whose lines are looked up in chunks: the whole lines that one read completes, at most
-/// 32,768 of them. A line of 4, 3 or 2 digits counts as 8, 128 or 2,048, since it may find as many
-/// ids: so what a chunk finds takes little memory. The beginning of a line that has not ended is
-/// kept for the next chunk.
+/// 8,192 of them. A line of 4, 3 or 2 digits counts as 4, 64 or 1,024, since it may find many ids:
+/// so what a chunk finds takes little memory. The beginning of a line that has not ended is kept
+/// for the next chunk.
 #[derive(Drop)]
 pub struct LineReader<R> {
     reader: R,
@@ -167,12 +167,12 @@ fn whole_lines(bytes: &[u8], from: usize) -> (usize, u64)
 
 // How many lines one of a length counts as. A prefix of fewer digits begins 16 times as many ids.
 fn cost_of(len: usize) -> usize
-    ensures { result ≤ 2048 }
+    ensures { result ≤ 1024 }
 {
     match len {
-        2 => 2048,
-        3 => 128,
-        4 => 8,
+        2 => 1024,
+        3 => 64,
+        4 => 4,
         _ => 1,
     }
 }
