@@ -1,7 +1,8 @@
 // live COUNTS K COMMAND .. -- PROGRAM ARGS: runs a program, and stops it as it begins its K-th call that names, reads or
-// writes a file, while sh runs the command; K may be 0, which is no call, and there may be further pairs. The calls of the
-// loader, before the first of rt_sigaction, are not counted. The number of calls is written to the file COUNTS. The status
-// is the program's, 124 after 30 seconds, and 125 if a command failed.
+// writes a file, while sh runs the command; K may be 0, which is no call, and there may be further pairs. If the command is
+// the number of an error, the call fails with it instead. The calls of the loader, before the first of rt_sigaction, are not
+// counted. The number of calls is written to the file COUNTS. The status is the program's, 124 after 30 seconds, and 125 if
+// a command failed.
 #define _GNU_SOURCE
 #include <linux/filter.h>
 #include <linux/seccomp.h>
@@ -13,6 +14,7 @@
 #include <sys/prctl.h>
 #include <sys/ptrace.h>
 #include <sys/syscall.h>
+#include <sys/user.h>
 #include <sys/wait.h>
 #include <unistd.h>
 
@@ -43,6 +45,15 @@ static int stop_before_calls(void) {
     return prctl(PR_SET_NO_NEW_PRIVS, 1, 0, 0, 0) == 0 && prctl(PR_SET_SECCOMP, SECCOMP_MODE_FILTER, &all) == 0;
 }
 
+// Makes the call that begins fail with an error. Returns whether that failed.
+static int refuse(long error) {
+    struct user_regs_struct registers;
+    if (ptrace(PTRACE_GETREGS, program, 0, &registers) != 0) return 1;
+    registers.orig_rax = -1;
+    registers.rax = -error;
+    return ptrace(PTRACE_SETREGS, program, 0, &registers) != 0;
+}
+
 int main(int words, char **word) {
     int last = 2;
     while (last < words && strcmp(word[last], "--") != 0) last++;
@@ -68,8 +79,10 @@ int main(int words, char **word) {
             is_started |= call == 0;
             if (!is_started || call == 0) continue;
             count++;
-            for (int at = 2; at < last; at += 2)
-                if (atol(word[at]) == count) failed |= system(word[at + 1]) != 0;
+            for (int at = 2; at < last; at += 2) {
+                long error = atol(word[at + 1]);
+                if (atol(word[at]) == count) failed |= error > 0 ? refuse(error) : system(word[at + 1]) != 0;
+            }
         } else if (WSTOPSIG(status) != SIGTRAP && WSTOPSIG(status) != SIGSTOP) {
             sent = WSTOPSIG(status);
         }

@@ -239,6 +239,7 @@ LENT_FILES = {
     "main/objects/pack/pack-1.pack": b"",
     f"main/objects/4b/{LOOSE[2:]}": b"",
     f"main/objects/4b/{BOTH[2:]}": b"",
+    f"main/objects/00/{'0' * 38}": b"",
     "main/objects/4b/tmp_obj_f0K1Cz": b"",
     "main/objects/4b/0A000000000000000000000000000000000000": b"",
     "main/objects/4c/ffffffffffffffffffffffffffffffffffffff": b"",
@@ -257,6 +258,7 @@ LENT = [
     ("find 4b", f"{FIRST}\n{SECOND}\n{PACKED}\n{BOTH}\n{LOOSE}\n"),
     ("find 4b9", f"{BOTH}\n"),
     ("find 4b0300", ""),
+    ("where 00", f"{'0' * 40} main/objects/00/{'0' * 38}\n"),
     (
         "where 4b",
         f"""{FIRST} {{room}}/a "b"/objects/pack/pack-1.pack 4294967308
