@@ -265,7 +265,8 @@ uint32_t gix_hash_pack_entry(uint32_t kind, const uint8_t *bytes, size_t len, si
 GIX_HASH_READS(2, 3) GIX_HASH_WRITES(5)
 uint32_t gix_hash_pack_id(uint32_t kind, const uint8_t *bytes, size_t len, size_t at, gix_hash_id *id);
 
-/* Finds the objects whose ids begin with a prefix, as gix_hash_find does.
+/* Finds the objects whose ids begin with a prefix, as gix_hash_find does. An id that is in the index twice
+ * is a run of two: the prefix means one id if the first and the last of its run are equal.
  * Also returns GIX_HASH_BAD_LENGTH or GIX_HASH_PREFIX_TOO_LONG, right after GIX_HASH_BAD_KIND. */
 GIX_HASH_READS(2, 3) GIX_HASH_READS(4) GIX_HASH_WRITES(5)
 uint32_t gix_hash_pack_find(uint32_t kind, const uint8_t *bytes, size_t len, const gix_hash_prefix *prefix, gix_hash_run *run);
