@@ -5,7 +5,7 @@ use std::alloc::{AllocError, Global};
 use std::cell::Cell;
 use std::fmt::Display;
 use std::io::{self, BufWriter};
-use streams::{BufferedSink, Plain};
+use streams::{BufferedSink, Plain, Retrying};
 
 /// Prints a line on standard error: the program's name, an error and what is after it. If they have
 /// a backslash, a line feed or a carriage return, the line begins with a backslash and these are
@@ -58,12 +58,12 @@ impl<W: io::Write> io::Write for Noting<'_, W> {
     }
 }
 
-/// A buffer before a writer.
+/// A buffer before a writer, whose calls are tried again if they are interrupted.
 pub fn buffered<'a, W: io::Write + Drop>(
     rt: &HostRuntime,
     inner: W,
-) -> Result<Plain<BufWriter<W>>, Failure<'a>> {
-    match BufWriter::new(rt.alloc(), inner) {
+) -> Result<Plain<BufWriter<Retrying<W>>>, Failure<'a>> {
+    match BufWriter::new(rt.alloc(), Retrying::new(inner)) {
         Ok(writer) => Ok(Plain::new(writer)),
         Err(_) => Err(Failure::Memory),
     }
