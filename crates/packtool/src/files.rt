@@ -31,7 +31,7 @@ pub fn show<'a, W: io::Write>(
     out: &mut Plain<W>,
 ) -> Result<bool, Failure<'a>> {
     if path == "-" {
-        show_from(rt, path, kind, Retrying::new(rt.reader()), out)
+        show_from(rt, path, kind, rt.reader(), out)
     } else {
         show_from(rt, path, kind, open(rt, path)?, out)
     }
@@ -48,7 +48,7 @@ fn show_from<'a, R: io::Read + Drop, W: io::Write>(
     if out.failed() {
         return Err(Failure::of_output(out));
     }
-    let mut input = Plain::new(reader);
+    let mut input = Plain::new(Retrying::new(reader));
     match show_input(rt.alloc(), kind, &mut input, out) {
         Ok(any) => Ok(any),
         Err(FileError::Output) => Err(Failure::of_output(out)),
@@ -225,7 +225,7 @@ fn index_kind<'a, R: io::Read>(
     path: &str,
     kind: Option<Kind>,
 ) -> Result<Result<Kind, pack_index::Error>, Failure<'a>> {
-    let mut input = Plain::new(reader);
+    let mut input = Plain::new(Retrying::new(reader));
     match validate(rt.alloc(), kind, &mut input) {
         Ok(kind) => Ok(Ok(kind)),
         // Such an index may be right.
@@ -267,7 +267,7 @@ fn ending_of<'a, R: io::Read>(
     path: &str,
     kind: Option<Kind>,
 ) -> Result<Ending, Failure<'a>> {
-    let mut input = Plain::new(reader);
+    let mut input = Plain::new(Retrying::new(reader));
     let ending = match kind {
         Some(kind) => check_seal(&mut input, kind),
         None => check_either(&mut input),
