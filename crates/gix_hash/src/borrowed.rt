@@ -1,6 +1,6 @@
 //! Ids that borrow their bytes.
 
-ghost use Rattle.std.specs.Prelude.{IsOk, IfOk, IfErr, OnOk, ◌≡◌, ◌≤◌, ◌<◌, ◌↔◌, ◌++◌, ◌*◌, ℕ, List, IsTrue, IsAscii, All, length, drop, slice_range, nat_eq};
+ghost use Rattle.std.specs.Prelude.{IsOk, IfOk, IfErr, OnOk, ◌≡◌, ◌≤◌, ◌<◌, ◌↔◌, ◌++◌, ◌*◌, ℕ, List, IsTrue, IsAscii, All, length, drop, slice_range, nat_eq, Some, MatchResult};
 ghost use Rattle.std.proofs.Common.{rules};
 ghost use Rattle.std.specs.Cmp.{partial_order_from_own_ties};
 ghost use Rattle.std.specs.Cmp.Rules.{comparing};
@@ -321,8 +321,6 @@ impl Ord for oid<'_> {
 
 /// Prints the digits in lowercase hex, whatever width, fill and precision are asked for.
 impl fmt::Display for oid<'_> {
-    ghost use Rattle.std.specs.Prelude.{Some};
-    ghost use Rattle.id_digits.specs.Digits.{spelling, hex_letter};
     ghost use Rattle.gix_hash.specs.Ids.{oid_digits};
 
     ghost output = { λ id. Some (spelling hex_letter (oid_digits id)) };
@@ -360,7 +358,6 @@ impl Hash for oid<'_> {
 
 /// As [`oid::try_from_bytes`].
 impl<'a> TryFrom<&'a [u8]> for oid<'a> {
-    ghost use Rattle.std.specs.Prelude.{◌≡◌, MatchResult};
     ghost use Rattle.gix_hash.specs.Ids.{oid_bytes};
     ghost use Rattle.gix_hash.specs.Kinds.{IsLengthRefusal};
 
@@ -375,7 +372,6 @@ impl<'a> TryFrom<&'a [u8]> for oid<'a> {
 }
 
 impl<'a> From<&'a [u8; 20]> for oid<'a> {
-    ghost use Rattle.std.specs.Prelude.{◌≡◌};
     ghost use Rattle.gix_hash.specs.Ids.{oid_bytes};
 
     ghost from_gives = { λ bytes id. oid_bytes id ≡ bytes.now };
@@ -386,7 +382,6 @@ impl<'a> From<&'a [u8; 20]> for oid<'a> {
 }
 
 impl<'a> From<&'a [u8; 32]> for oid<'a> {
-    ghost use Rattle.std.specs.Prelude.{◌≡◌};
     ghost use Rattle.gix_hash.specs.Ids.{oid_bytes};
 
     ghost from_gives = { λ bytes id. oid_bytes id ≡ bytes.now };

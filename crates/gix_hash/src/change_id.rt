@@ -1,6 +1,6 @@
 //! Ids in the letters by which Jujutsu spells change ids.
 
-ghost use Rattle.std.specs.Prelude.{◌≡◌, ◌≤◌, ◌<◌, ◌↔◌, ◌++◌, All, IsTrue, length, drop};
+ghost use Rattle.std.specs.Prelude.{◌≡◌, ◌≤◌, ◌<◌, ◌↔◌, ◌++◌, All, IsTrue, length, drop, Some};
 ghost use Rattle.gix_hash.specs.Ids.{asked_len, cut_kind, id_bytes, id_digits, id_kind, shown_digits, whole_digits};
 ghost use Rattle.id_digits.specs.Digits.{reverse_letter, spelling};
 ghost use Rattle.gix_hash.specs.Kinds.{hex_len_of, byte_len_of};
@@ -136,10 +136,6 @@ impl ChangeId {
 
 /// Prints the digits in the letters `z` to `k`, whatever width, fill and precision are asked for.
 impl fmt::Display for ChangeId {
-    ghost use Rattle.std.specs.Prelude.{Some};
-    ghost use Rattle.id_digits.specs.Digits.{reverse_letter, spelling};
-    ghost use Rattle.gix_hash.specs.Ids.{id_digits};
-
     ghost output = { λ change. Some (spelling reverse_letter (id_digits change)) };
 
     ghost styled_output = { λ change _. Some (spelling reverse_letter (id_digits change)) };
@@ -151,8 +147,6 @@ impl fmt::Display for ChangeId {
 
 /// As [`ChangeId::from_reverse_hex`].
 impl FromStr for ChangeId {
-    ghost use Rattle.std.specs.Prelude.{◌≡◌};
-    ghost use Rattle.id_digits.specs.Digits.{reverse_letter};
     ghost use Rattle.gix_hash.specs.Reading.{full_read, result_digits};
 
     type Err = decode::Error;
@@ -165,8 +159,6 @@ impl FromStr for ChangeId {
 }
 
 impl From<ObjectId> for ChangeId {
-    ghost use Rattle.std.specs.Prelude.{◌≡◌};
-
     ghost from_gives = { λ id change. change ≡ id };
 
     fn from(id: ObjectId) -> ChangeId {
@@ -175,8 +167,7 @@ impl From<ObjectId> for ChangeId {
 }
 
 impl<'a> From<oid<'a>> for ChangeId {
-    ghost use Rattle.std.specs.Prelude.{◌≡◌};
-    ghost use Rattle.gix_hash.specs.Ids.{id_digits, id_kind, oid_digits, oid_kind};
+    ghost use Rattle.gix_hash.specs.Ids.{oid_digits, oid_kind};
 
     ghost from_gives = { λ id change. (id_kind change ≡ oid_kind id)
         × (id_digits change ≡ oid_digits id) };
@@ -187,8 +178,6 @@ impl<'a> From<oid<'a>> for ChangeId {
 }
 
 impl From<ChangeId> for ObjectId {
-    ghost use Rattle.std.specs.Prelude.{◌≡◌};
-
     ghost from_gives = { λ change id. id ≡ change };
 
     fn from(change: ChangeId) -> ObjectId {
@@ -198,9 +187,6 @@ impl From<ChangeId> for ObjectId {
 
 /// All digits of the id.
 impl From<ChangeId> for Prefix {
-    ghost use Rattle.std.specs.Prelude.{◌≡◌};
-    ghost use Rattle.gix_hash.specs.Ids.{id_kind, id_digits};
-
     ghost from_gives = { λ change prefix. prefix
         ≡ record { kind = id_kind change; digits = id_digits change } };
 

@@ -1,7 +1,7 @@
 //! Ids cut to a number of digits, for printing.
 
-ghost use Rattle.std.specs.Prelude.{◌≡◌, ◌≤◌, ◌↔◌, IsTrue, IsAscii, length};
-ghost use Rattle.id_digits.specs.Digits.{spelling, hex_letter};
+ghost use Rattle.std.specs.Prelude.{◌≡◌, ◌≤◌, ◌↔◌, IsTrue, IsAscii, length, Some};
+ghost use Rattle.id_digits.specs.Digits.{spelling, hex_letter, reverse_letter};
 ghost use Rattle.gix_hash.specs.Reading.{letter_of};
 
 use crate::alphabet::Alphabet;
@@ -92,8 +92,6 @@ impl<'a> HexDisplay<'a> {
 
 /// Prints the first digits in lowercase hex, whatever width, fill and precision are asked for.
 impl fmt::Display for HexDisplay<'_> {
-    ghost use Rattle.std.specs.Prelude.{Some};
-    ghost use Rattle.id_digits.specs.Digits.{spelling, hex_letter};
     ghost use Rattle.gix_hash.specs.Ids.{shown_digits};
 
     ghost output = { λ display. Some (spelling hex_letter (shown_digits display)) };
@@ -131,7 +129,6 @@ impl<'a> Model for ReverseHexDisplay<'a> {
 
 impl<'a> ReverseHexDisplay<'a> {
     ghost use Rattle.gix_hash.specs.Ids.{cut_of, shown_digits};
-    ghost use Rattle.id_digits.specs.Digits.{reverse_letter};
 
     /// The id for printing its first `hex_len` digits in the letters `z` to `k`, or all if it has
     /// fewer.
@@ -153,8 +150,6 @@ impl<'a> ReverseHexDisplay<'a> {
 /// Prints the first digits in the letters `z` to `k`, whatever width, fill and precision are asked
 /// for.
 impl fmt::Display for ReverseHexDisplay<'_> {
-    ghost use Rattle.std.specs.Prelude.{Some};
-    ghost use Rattle.id_digits.specs.Digits.{reverse_letter, spelling};
     ghost use Rattle.gix_hash.specs.Ids.{shown_digits};
 
     ghost output = { λ display. Some (spelling reverse_letter (shown_digits display)) };

@@ -237,8 +237,7 @@ impl Ord for Kind {
 /// Reads the number of a kind: 1 for SHA-1, 2 for SHA-256, as the versions of the hash function in
 /// Git's multi-pack-index and commit-graph. Any other number is the error.
 impl TryFrom<u8> for Kind {
-    ghost use Rattle.std.specs.Prelude.{◌≡◌, MatchResult};
-    ghost use Rattle.gix_hash.specs.Kinds.{number_of, IsNoNumber};
+    ghost use Rattle.gix_hash.specs.Kinds.{IsNoNumber};
 
     type Error = u8;
 

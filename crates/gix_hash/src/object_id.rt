@@ -1,6 +1,12 @@
 //! Ids that own their bytes.
 
-ghost use Rattle.std.specs.Prelude.{◌≡◌, ◌≤◌, ◌<◌, ◌*◌, All, length, slice_range};
+ghost use Rattle.std.specs.Prelude.{◌≡◌, ◌≤◌, ◌<◌, ◌*◌, All, length, slice_range, ◌↔◌, ◌++◌, ℕ, List, IsTrue, IsOk, IfErr, OnOk, IsAscii, drop, nat_eq, Some, MatchResult};
+ghost use Rattle.gix_hash.specs.Ids.{asked_len, cut_kind, empty_blob_digits, empty_tree_digits, id_bytes, id_digits, id_kind, null_digits, oid_digits, oid_kind, shown_digits, whole_digits, id_eq, id_cmp, id_hash_input, same_id_input};
+ghost use Rattle.gix_hash.specs.Reading.{full_read, result_digits};
+ghost use Rattle.gix_hash.specs.Kinds.{byte_len_of, hex_len_of, kind_of_byte_len, IsLengthRefusal};
+ghost use Rattle.id_digits.specs.Digits.{digits_of, first_byte_of, hex_letter, is_digest_len, spelling};
+ghost use Rattle.std.proofs.Common.{rules};
+ghost use Rattle.std.specs.Cmp.Rules.{comparing};
 
 use crate::alphabet::Alphabet;
 use crate::borrowed::oid;
@@ -33,17 +39,11 @@ pub enum ObjectId {
 }
 
 impl ObjectId {
-    ghost use Rattle.std.specs.Prelude.{◌↔◌, ◌++◌, ℕ, List, IsTrue, IsOk, IfErr, OnOk, IsAscii, drop};
     ghost use Rattle.std.specs.Borrow.{sem};
     ghost use Rattle.gix_hash.specs.Loans.{EndsAs, LendsDigest};
     ghost use Rattle.std.specs.Io.KnownBytes.{Appends};
     ghost use Rattle.std.specs.List.{common_prefix_len};
-    ghost use Rattle.std.specs.Prelude.{nat_eq};
     ghost use Rattle.gix_hash.specs.Prefixes.{IsCommonLen};
-    ghost use Rattle.id_digits.specs.Digits.{digits_of, first_byte_of, hex_letter, is_digest_len, spelling};
-    ghost use Rattle.gix_hash.specs.Ids.{asked_len, cut_kind, empty_blob_digits, empty_tree_digits, id_bytes, id_digits, id_kind, null_digits, oid_digits, oid_kind, shown_digits, whole_digits};
-    ghost use Rattle.gix_hash.specs.Reading.{full_read, result_digits};
-    ghost use Rattle.gix_hash.specs.Kinds.{byte_len_of, hex_len_of, kind_of_byte_len};
 
     /// Reads 40 or 64 hex digits, in any letter case, as an id of SHA-1 or SHA-256.
     ///
@@ -319,10 +319,6 @@ const fn with_range(bytes: &[u8]) -> &[u8]
 
 /// As the Display of [`oid`].
 impl fmt::Display for ObjectId {
-    ghost use Rattle.std.specs.Prelude.{Some};
-    ghost use Rattle.id_digits.specs.Digits.{spelling, hex_letter};
-    ghost use Rattle.gix_hash.specs.Ids.{id_digits};
-
     ghost output = { λ id. Some (spelling hex_letter (id_digits id)) };
 
     ghost styled_output = { λ id _. Some (spelling hex_letter (id_digits id)) };
@@ -339,10 +335,6 @@ impl fmt::Debug for ObjectId {
 }
 
 impl PartialEq for ObjectId {
-    ghost use Rattle.std.proofs.Common.{rules};
-    ghost use Rattle.std.specs.Cmp.Rules.{comparing};
-    ghost use Rattle.gix_hash.specs.Ids.{id_eq};
-
     ghost eq = { id_eq };
 
     ghost laws = { Prim.search (comparing, rules) };
@@ -353,18 +345,12 @@ impl PartialEq for ObjectId {
 }
 
 impl Eq for ObjectId {
-    ghost use Rattle.std.proofs.Common.{rules};
-    ghost use Rattle.std.specs.Cmp.Rules.{comparing};
-
     ghost laws = { Prim.search (comparing, rules) };
 }
 
 impl PartialOrd for ObjectId {
-    ghost use Rattle.std.proofs.Common.{rules};
     ghost use Rattle.std.specs.Cmp.{partial_order_from_own_ties};
-    ghost use Rattle.std.specs.Cmp.Rules.{comparing};
     ghost use Rattle.std.specs.Ordering.{as_partial_cmp};
-    ghost use Rattle.gix_hash.specs.Ids.{id_cmp};
 
     ghost partial_cmp = { as_partial_cmp id_cmp };
 
@@ -378,10 +364,6 @@ impl PartialOrd for ObjectId {
 
 /// By kind, and then by digits.
 impl Ord for ObjectId {
-    ghost use Rattle.std.proofs.Common.{rules};
-    ghost use Rattle.std.specs.Cmp.Rules.{comparing};
-    ghost use Rattle.gix_hash.specs.Ids.{id_cmp};
-
     ghost cmp = { id_cmp };
 
     ghost total = { Prim.search (comparing, rules) };
@@ -399,8 +381,6 @@ impl Ord for ObjectId {
 
 /// Feeds the bytes of the digest in one write, without a length.
 impl Hash for ObjectId {
-    ghost use Rattle.gix_hash.specs.Ids.{id_hash_input, same_id_input};
-
     ghost hash_input = { id_hash_input };
 
     ghost respects_eq = { same_id_input };
@@ -412,10 +392,6 @@ impl Hash for ObjectId {
 
 /// As [`ObjectId::from_hex`].
 impl FromStr for ObjectId {
-    ghost use Rattle.std.specs.Prelude.{◌≡◌};
-    ghost use Rattle.id_digits.specs.Digits.{hex_letter};
-    ghost use Rattle.gix_hash.specs.Reading.{full_read, result_digits};
-
     type Err = decode::Error;
 
     ghost from_str_gives = { λ text answer. result_digits answer ≡ full_read hex_letter text };
@@ -426,7 +402,6 @@ impl FromStr for ObjectId {
 }
 
 impl From<[u8; 20]> for ObjectId {
-    ghost use Rattle.std.specs.Prelude.{◌≡◌};
     ghost use Rattle.gix_hash.specs.declared.object_id.ObjectId.TheVariants.{Sha1};
 
     ghost from_gives = { λ bytes id. id ≡ Sha1 bytes };
@@ -437,7 +412,6 @@ impl From<[u8; 20]> for ObjectId {
 }
 
 impl From<[u8; 32]> for ObjectId {
-    ghost use Rattle.std.specs.Prelude.{◌≡◌};
     ghost use Rattle.gix_hash.specs.declared.object_id.ObjectId.TheVariants.{Sha256};
 
     ghost from_gives = { λ bytes id. id ≡ Sha256 bytes };
@@ -448,9 +422,6 @@ impl From<[u8; 32]> for ObjectId {
 }
 
 impl<'a> From<oid<'a>> for ObjectId {
-    ghost use Rattle.std.specs.Prelude.{◌≡◌};
-    ghost use Rattle.gix_hash.specs.Ids.{id_digits, id_kind, oid_digits, oid_kind};
-
     ghost from_gives = { λ id owned. (id_kind owned ≡ oid_kind id)
         × (id_digits owned ≡ oid_digits id) };
 
@@ -462,11 +433,6 @@ impl<'a> From<oid<'a>> for ObjectId {
 /// Returns [`Error::InvalidByteSliceLength`], with the number of bytes, if that is neither 20 nor
 /// 32.
 impl<'a> TryFrom<&'a [u8]> for ObjectId {
-    ghost use Rattle.std.specs.Prelude.{◌≡◌, MatchResult, length};
-    ghost use Rattle.gix_hash.specs.Kinds.{IsLengthRefusal, kind_of_byte_len};
-    ghost use Rattle.id_digits.specs.Digits.{digits_of};
-    ghost use Rattle.gix_hash.specs.Ids.{id_kind, id_digits};
-
     type Error = Error;
 
     ghost try_from_gives = { λ bytes answer. MatchResult answer

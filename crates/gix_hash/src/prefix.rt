@@ -237,10 +237,6 @@ impl From<ObjectId> for Prefix {
 
 /// Reads as [`Prefix::from_hex`] does.
 impl<'a> TryFrom<&'a str> for Prefix {
-    ghost use Rattle.std.specs.Prelude.{◌≡◌};
-    ghost use Rattle.id_digits.specs.Digits.{hex_letter};
-    ghost use Rattle.gix_hash.specs.Reading.{prefix_read};
-
     type Error = from_hex::Error;
 
     ghost try_from_gives = { λ text answer. answer ≡ prefix_read hex_letter 4 text.now };

@@ -1,10 +1,11 @@
 //! What the ids of a list may be.
 
 ghost use Rattle.std.specs.Prelude.{◌≡◌, ◌<◌, ℕ, All, List, length, map};
+ghost use Rattle.gix_hash.specs.Digits.{digits_of};
 ghost use Rattle.std.specs.List.{HoldsAt};
 ghost use Rattle.gix_hash.specs.Kinds.{hex_len_of};
 ghost use Rattle.gix_hash.specs.declared.Kind.{Kind};
-ghost use Rattle.gix_hash.specs.Ids.{oid_digits, oid_kind};
+ghost use Rattle.gix_hash.specs.Ids.{oid_digits, oid_kind, id_digits, id_kind};
 
 use gix_hash::{ObjectId, oid};
 
@@ -33,8 +34,6 @@ pub trait Id {
 }
 
 impl Id for ObjectId {
-    ghost use Rattle.gix_hash.specs.Ids.{id_digits, id_kind};
-
     ghost kind = { id_kind };
 
     ghost digits = { id_digits };
@@ -45,7 +44,6 @@ impl Id for ObjectId {
 }
 
 impl Id for [u8; 20] {
-    ghost use Rattle.gix_hash.specs.Digits.{digits_of};
     ghost use Rattle.gix_hash.specs.declared.Kind.TheVariants.{Sha1};
 
     ghost kind = { λ _. Sha1 };
@@ -61,7 +59,6 @@ impl Id for [u8; 20] {
 }
 
 impl Id for [u8; 32] {
-    ghost use Rattle.gix_hash.specs.Digits.{digits_of};
     ghost use Rattle.gix_hash.specs.declared.Kind.TheVariants.{Sha256};
 
     ghost kind = { λ _. Sha256 };

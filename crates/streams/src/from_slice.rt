@@ -28,7 +28,6 @@ impl<'a> FromSlice<'a> {
 }
 
 impl Source for FromSlice<'_> {
-    ghost use Rattle.std.specs.Prelude.{Some};
     ghost use Rattle.streams.specs.Devices.{slice_rest};
 
     ghost remaining = { λ s. Some (slice_rest s) };

@@ -1,8 +1,8 @@
 //! A sink over a slice.
 
-ghost use Rattle.std.specs.Prelude.{◌≡◌, ◌≤◌, ◌-◌, ◌||◌, false, [], min, length, Some, Ok};
+ghost use Rattle.std.specs.Prelude.{◌≡◌, ◌≤◌, ◌-◌, ◌||◌, false, [], min, length, Some, Ok, IsOk, OnOk, is_err};
 ghost use Rattle.std.specs.Io.{WritesAtMost};
-ghost use Rattle.std.specs.Io.KnownBytes.{WriteAppends};
+ghost use Rattle.std.specs.Io.KnownBytes.{WriteAppends, Keeps};
 ghost use Rattle.streams.specs.Streams.{write_fails};
 
 use crate::sink::{BufferedSink, Sink};
@@ -49,7 +49,6 @@ impl<'a> IntoSlice<'a> {
 }
 
 impl Sink for IntoSlice<'_> {
-    ghost use Rattle.std.specs.Prelude.{Some};
     ghost use Rattle.streams.specs.Devices.{slice_taken, slice_failed, room_in};
 
     ghost taken = { λ s. Some (slice_taken s) };
@@ -80,8 +79,6 @@ impl Sink for IntoSlice<'_> {
 }
 
 impl<'a> BufferedSink for IntoSlice<'a> {
-    ghost use Rattle.std.specs.Prelude.{[], IsOk, OnOk, is_err};
-    ghost use Rattle.std.specs.Io.KnownBytes.{Keeps};
     ghost use Rattle.streams.specs.Devices.{slice_taken, slice_failed};
 
     ghost kept_back = { λ _. [] };

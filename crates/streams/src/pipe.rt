@@ -1,6 +1,6 @@
 //! Hashing a stream from a source, and sealing it with its digest on the way to a sink.
 
-ghost use Rattle.std.specs.Prelude.{◌≡◌, ◌≢◌, ◌↔◌, ℕ, List, false, true, OnOk, IfOk, IfErr, IsErrOf};
+ghost use Rattle.std.specs.Prelude.{◌≡◌, ◌≢◌, ◌↔◌, ℕ, List, false, true, OnOk, IfOk, IfErr, IsErrOf, None};
 ghost use Rattle.std.specs.Io.KnownBytes.{Appends};
 ghost use Rattle.gix_hash.specs.Hashing.{digest, sealed};
 ghost use Rattle.streams.specs.Streams.{HasReadAll, HashingFails, SealingFails, digest_line};
@@ -129,8 +129,6 @@ fn copy_all<R: Source, W: Sink>(
 struct Discard;
 
 impl Sink for Discard {
-    ghost use Rattle.std.specs.Prelude.{None};
-
     ghost taken = { λ _. None };
 
     ghost has_failed = { λ _. false };

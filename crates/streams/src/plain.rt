@@ -1,10 +1,10 @@
 //! Sources and sinks over the library's readers and writers.
 
-ghost use Rattle.std.specs.Prelude.{◌≡◌, ◌<◌, ◌||◌, None, false, is_err, length, IfOk, IfSome, IsSome, OnErr};
+ghost use Rattle.std.specs.Prelude.{◌≡◌, ◌<◌, ◌||◌, None, false, is_err, length, IfOk, IfSome, IsSome, OnErr, [], OnOk};
 ghost use Rattle.std.specs.IoError.{error_kind};
 ghost use Rattle.std.specs.declared.io.ErrorKind.{ErrorKind};
 ghost use Rattle.std.specs.Io.{ReadsAtMost, WritesAtMost};
-ghost use Rattle.std.specs.Io.KnownBytes.{ReadConsumes, WriteAppends};
+ghost use Rattle.std.specs.Io.KnownBytes.{ReadConsumes, WriteAppends, Keeps};
 ghost use Rattle.streams.specs.Streams.{write_fails};
 
 use crate::sink::{BufferedSink, Sink};
@@ -138,8 +138,6 @@ impl<T: io::Write> Sink for Plain<T> {
 
 impl<W: io::Write + Drop, A: Allocator> BufferedSink for Plain<BufWriter<W, A>> {
     ghost use Rattle.std.specs.Io.Buffered.{writer_buffer};
-    ghost use Rattle.std.specs.Prelude.{[], OnOk};
-    ghost use Rattle.std.specs.Io.KnownBytes.{Keeps};
     ghost use Rattle.streams.specs.Devices.{error_after, plain_error, plain_failed, plain_inner};
 
     ghost kept_back = { λ s. writer_buffer (plain_inner s) };

@@ -1,5 +1,7 @@
 //! Readers at a position.
 
+ghost use Rattle.std.specs.Prelude.{◌≡◌, ◌+◌, ◌≤◌, ℕ, Bool, List, Option, Some, OnErr, OnOk, IfOk, IsTrue, length, None, true, false};
+
 use std::fs::File;
 use std::io;
 use std::os::unix::fs::FileExt;
@@ -12,7 +14,6 @@ use std::os::unix::fs::FileExt;
 /// println!(rt; "{} bytes", idx.len()?)?;
 /// ```
 pub trait ReadAt {
-    ghost use Rattle.std.specs.Prelude.{◌≡◌, ◌+◌, ◌≤◌, ℕ, Bool, List, Option, Some, OnErr, OnOk, IfOk, IsTrue, length};
     ghost use Rattle.streams.specs.Streams.{IsReadAt};
 
     /// All bytes, or `None`, which claims nothing.
@@ -38,8 +39,6 @@ pub trait ReadAt {
 
 /// What a file contains is not known, nor when a read fails.
 impl ReadAt for File {
-    ghost use Rattle.std.specs.Prelude.{None, true};
-
     ghost content = { λ _. None };
 
     ghost can_fail = { λ _. true };
@@ -55,8 +54,6 @@ impl ReadAt for File {
 
 /// A read of a slice fails only if it goes past the end.
 impl ReadAt for &[u8] {
-    ghost use Rattle.std.specs.Prelude.{Some, false};
-
     ghost content = { λ slice. Some slice.now };
 
     ghost can_fail = { λ _. false };

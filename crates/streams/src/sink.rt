@@ -1,8 +1,8 @@
 //! Writers whose failures a contract can name.
 
-ghost use Rattle.std.specs.Prelude.{◌≡◌, ◌||◌, [], false, is_err, OnOk};
+ghost use Rattle.std.specs.Prelude.{◌≡◌, ◌||◌, [], false, is_err, OnOk, ℕ, Bool, List, Option};
 ghost use Rattle.std.specs.Io.{WritesAtMost};
-ghost use Rattle.std.specs.Io.KnownBytes.{WriteAppends};
+ghost use Rattle.std.specs.Io.KnownBytes.{WriteAppends, Keeps};
 ghost use Rattle.streams.specs.Streams.{write_fails, Wrote};
 
 use std::io;
@@ -14,8 +14,6 @@ use std::io;
 /// println!(rt; "{count} of 4 bytes")?;
 /// ```
 pub trait Sink {
-    ghost use Rattle.std.specs.Prelude.{ℕ, Bool, List, Option};
-
     /// The bytes written so far, or `None`, which claims nothing.
     ghost taken: { Self → Option (List ℕ) };
 
@@ -43,9 +41,6 @@ pub trait Sink {
 /// }
 /// ```
 pub trait BufferedSink: Sink {
-    ghost use Rattle.std.specs.Prelude.{ℕ, List};
-    ghost use Rattle.std.specs.Io.KnownBytes.{Keeps};
-
     /// The bytes that it took and has not passed on.
     ghost kept_back: { Self → List ℕ };
 

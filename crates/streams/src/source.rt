@@ -1,6 +1,6 @@
 //! Readers whose failures a contract can name.
 
-ghost use Rattle.std.specs.Prelude.{◌≡◌, ◌||◌, is_err};
+ghost use Rattle.std.specs.Prelude.{◌≡◌, ◌||◌, is_err, ℕ, Bool, List, Option};
 ghost use Rattle.std.specs.Io.{ReadsAtMost};
 ghost use Rattle.std.specs.Io.KnownBytes.{ReadConsumes};
 
@@ -21,8 +21,6 @@ pub const MAX_LEN: u64 = 2305843009213693951;
 /// println!(rt; "{count} bytes")?;
 /// ```
 pub trait Source {
-    ghost use Rattle.std.specs.Prelude.{ℕ, Bool, List, Option};
-
     /// The remaining bytes, or `None`, which claims nothing.
     ghost remaining: { Self → Option (List ℕ) };
 

@@ -1,14 +1,14 @@
 //! How prefixes compare, and what they feed to a hash.
 
+ghost use Rattle.std.proofs.Common.{rules};
+ghost use Rattle.gix_hash.specs.Prefixes.{prefix_eq, prefix_cmp};
+ghost use Rattle.std.specs.Cmp.Rules.{comparing};
+
 use super::Prefix;
 use std::cmp::Ordering;
 use std::hash::{Hash, Hasher};
 
 impl PartialEq for Prefix {
-    ghost use Rattle.std.proofs.Common.{rules};
-    ghost use Rattle.std.specs.Cmp.Rules.{comparing};
-    ghost use Rattle.gix_hash.specs.Prefixes.{prefix_eq};
-
     ghost eq = { prefix_eq };
 
     ghost laws = { Prim.search (comparing, rules) };
@@ -19,18 +19,12 @@ impl PartialEq for Prefix {
 }
 
 impl Eq for Prefix {
-    ghost use Rattle.std.proofs.Common.{rules};
-    ghost use Rattle.std.specs.Cmp.Rules.{comparing};
-
     ghost laws = { Prim.search (comparing, rules) };
 }
 
 impl PartialOrd for Prefix {
-    ghost use Rattle.std.proofs.Common.{rules};
     ghost use Rattle.std.specs.Cmp.{partial_order_from_own_ties};
-    ghost use Rattle.std.specs.Cmp.Rules.{comparing};
     ghost use Rattle.std.specs.Ordering.{as_partial_cmp};
-    ghost use Rattle.gix_hash.specs.Prefixes.{prefix_cmp};
 
     ghost partial_cmp = { as_partial_cmp prefix_cmp };
 
@@ -44,10 +38,6 @@ impl PartialOrd for Prefix {
 
 /// By kind, and then in the dictionary order of the digits, a prefix before what it begins.
 impl Ord for Prefix {
-    ghost use Rattle.std.proofs.Common.{rules};
-    ghost use Rattle.std.specs.Cmp.Rules.{comparing};
-    ghost use Rattle.gix_hash.specs.Prefixes.{prefix_cmp};
-
     ghost cmp = { prefix_cmp };
 
     ghost total = { Prim.search (comparing, rules) };

@@ -1,6 +1,6 @@
 //! Prefixes as text.
 
-ghost use Rattle.std.specs.Prelude.{◌≡◌, ◌≤◌, ◌↔◌, ◌++◌, ℕ, List, length, drop, IsTrue, IsAscii, OnOk};
+ghost use Rattle.std.specs.Prelude.{◌≡◌, ◌≤◌, ◌↔◌, ◌++◌, ℕ, List, length, drop, IsTrue, IsAscii, OnOk, Some};
 ghost use Rattle.std.specs.Borrow.{sem};
 ghost use Rattle.std.specs.Io.KnownBytes.{Appends};
 ghost use Rattle.gix_hash.specs.Ids.{asked_len, cut_kind, shown_digits, whole_digits};
@@ -105,9 +105,6 @@ impl Prefix {
 
 /// Prints the digits in lowercase hex, whatever width, fill and precision are asked for.
 impl fmt::Display for Prefix {
-    ghost use Rattle.std.specs.Prelude.{Some};
-    ghost use Rattle.id_digits.specs.Digits.{spelling, hex_letter};
-
     ghost output = { λ prefix. Some (spelling hex_letter prefix.digits) };
 
     ghost styled_output = { λ prefix _. Some (spelling hex_letter prefix.digits) };
