@@ -1,5 +1,6 @@
 //! Laws of digits, ids and prefixes that hold across calls. Each is the contract of a function
-//! that computes nothing: a call of it brings the law into a caller's proof.
+//! that computes nothing: a call of it brings the law into a caller's proof. A body that calls
+//! `kind` or `hex_len` takes from its contract how many digits there are, each below 16.
 
 ghost use Rattle.std.specs.Prelude.{◌≡◌, ◌≤◌, ◌<◌, ◌↔◌, ◌⊎◌, ◌+◌, ◌-◌, ◌/◌, ◌%◌, ◌^◌, ℕ, All, List, IsTrue, IsOk, IfOk, Some, None, [], codes, length, slice_index, MatchResult, Contains};
 ghost use Rattle.std.specs.declared.cmp.Ordering.{Ordering};
@@ -110,7 +111,6 @@ pub fn read_back(id: &ObjectId, text: &[u8])
     requires { str_to_ascii_lowercase text.now ≡ spelling hex_letter (id_digits id.now) }
     ensures { full_read hex_letter text.now ≡ Ok (whole_of id.now) }
 {
-    // The contract of this call says how many digits there are, and that each is below 16.
     let _kind = id.kind();
 }
 
@@ -119,7 +119,6 @@ pub fn read_change_back(change: &ChangeId, text: &[u8])
     requires { str_to_ascii_lowercase text.now ≡ spelling reverse_letter (id_digits change.now) }
     ensures { full_read reverse_letter text.now ≡ Ok (whole_of change.now) }
 {
-    // The contract of this call says how many digits there are, and that each is below 16.
     let _kind = change.kind();
 }
 
@@ -136,7 +135,6 @@ pub fn read_prefix_back(alphabet: Alphabet, prefix: &Prefix, text: &str)
     ensures same { (prefix_read (letter_of alphabet) 1 text.now ≡ Ok prefix.now)
         ↔ (kind_of_hex_len (length prefix.now.digits) ≡ Some prefix.now.kind) }
 {
-    // The contract of this call says how many digits there are, and that each is below 16.
     let _len = prefix.hex_len();
 }
 
@@ -148,7 +146,6 @@ pub fn read_prefix_back_in_kind(alphabet: Alphabet, prefix: &Prefix, text: &str)
         ≡ spelling (letter_of alphabet) prefix.now.digits }
     ensures { prefix_read_in prefix.now.kind (letter_of alphabet) text.now ≡ Ok prefix.now }
 {
-    // The contract of this call says how many digits there are, and that each is below 16.
     let _len = prefix.hex_len();
 }
 
@@ -167,7 +164,6 @@ pub fn equal_ids(first: &ObjectId, second: &ObjectId)
     ensures spelling { IsTrue (id_eq first.now second.now)
         ↔ (spelling hex_letter (id_digits first.now) ≡ spelling hex_letter (id_digits second.now)) }
 {
-    // The contracts of these calls say how many digits there are.
     let _kinds = (first.kind(), second.kind());
 }
 
@@ -263,7 +259,6 @@ pub fn opposite_order(first: &ChangeId, second: &ChangeId)
         (spelling reverse_letter (id_digits second.now))
         ≡ ordering_reverse (id_cmp first.now second.now) }
 {
-    // The contracts of these calls say how many digits there are, and that each is below 16.
     let _kinds = (first.kind(), second.kind());
 }
 
@@ -293,7 +288,6 @@ pub fn digits_in_words(prefix: &Prefix)
         → (words_of prefix.now.digits).second / 16 ^ (31 - at) % 16
         ≡ slice_index prefix.now.digits (32 + at) }
 {
-    // The contract of this call says that each digit is below 16.
     let _len = prefix.hex_len();
 }
 
