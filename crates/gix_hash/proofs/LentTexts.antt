@@ -4,7 +4,7 @@
 --     lends            it runs to `post`, if the tokens, what is owned at the end and the `ensures` give `post`
 use Rattle.std.proofs.Common.{◌≡◌, ℕ, ◌≤◌, List, [], ◌∷◌, ◌++◌, Bor, MutBor, length, refl, ap, w8}
 use Rattle.std.specs.Prelude.{IsAscii}
-use Rattle.gix_hash.specs.Loans.{EndsAs}
+use Rattle.gix_hash.specs.Loans.{IsLeftAs}
 use Rattle.gix_hash.proofs.BufferEnds.{ends}
 use mir.Syntax.{Ty, Lifetime, Callee, Fn, named, erased, imm, mut, ty_ref, ty_int, local, value_local, place, field, deref, copy, addr_of, aggregate, assign, call, seq, return}
 use mir.Val.{Val, vptr}
@@ -86,7 +86,7 @@ module _ {M : Type 1} {𝓤 : Ura M} (𝓛 : Logic 𝓤) (𝓜 : Model 𝓤 𝓛
     -- what is had at the return of the text t
     abbrev Ended : Bor (List ℕ) → SProp 𝓤
     Ended t = sep 𝓤 toks (sep 𝓤 (sem 𝓛 (fsep ftrue (fsep ftrue ftrue))) (sep 𝓤 (sem 𝓛 ((Str ℓ κ).own_val t (shr_slice_vals t)))
-        (sep 𝓤 (sem 𝓛 (EndsAs b (text ++ after))) (sep 𝓤 (fact 𝓤 (t.now ≡ text)) (sep 𝓤 (fact 𝓤 (IsAscii t.now)) (fact 𝓤 (length t.now ≡ len)))))))
+        (sep 𝓤 (sem 𝓛 (IsLeftAs b (text ++ after))) (sep 𝓤 (fact 𝓤 (t.now ≡ text)) (sep 𝓤 (fact 𝓤 (IsAscii t.now)) (fact 𝓤 (length t.now ≡ len)))))))
 
     pub lends : (n : ℕ) (outlives : List (ℕ × ℕ)) (referent : Ty) (filled front_text : Callee) {L : Type 0} (said : L → Fml) {L' : Bor (List ℕ) → Type 0} (said' : (x : Bor (List ℕ)) → L' x → Fml)
         → (others : SProp 𝓤) → ent 𝓤 toks (sep 𝓤 others (sem 𝓛 (fsep (flft κ q) ftrue))) → ent 𝓤 (sep 𝓤 others (sem 𝓛 (fsep (flft κ q) ftrue))) toks
@@ -119,7 +119,7 @@ module _ {M : Type 1} {𝓤 : Ura M} (𝓛 : Logic 𝓤) (𝓜 : Model 𝓤 𝓛
         move ! (1 ∷ []) $ use1 𝓛 (raw others ⊛ ‵ (fsep (flft κ q) ftrue)) out $ split ! $ move ! (1 ∷ []) $ fsplit ! $ move ! (1 ∷ []) $ let_go ! $ move ! (2 ∷ 0 ∷ []) $
         use2 𝓛 (later (‵ ((own.ShrSlice erased κ u8).own_val (record { ref_ptr = r.ref_ptr; now = r.now })) ⊛ (‵ (finally u8 r.ghost_name r.now) ⊛ ‵ (flft κ q))))
         (sl_Share 𝓛 u8 r.ref_ptr.0 r.ref_ptr.1 r.ghost_name r.now (uint_row_laws w8) κ q (Shares-copy 𝓛 (c_rf (f_int w8)) κ)) $ await ! tt $ split ! $ move ! (1 ∷ []) $ split ! $
-        use1 𝓛 (‵ (EndsAs b (text ++ after))) (ends 𝓛 r b (text ++ after) same value) $
+        use1 𝓛 (‵ (IsLeftAs b (text ++ after))) (ends 𝓛 r b (text ++ after) same value) $
         -- [how the buffer ends; the buffer's token; what the shared buffer owns; the other tokens; me]
         let x : Bor (List ℕ) = record { ref_ptr = r.ref_ptr; now = r.now } in
         let Front = (rest : List ℕ) × (r.now ≡ text ++ rest) in

@@ -16,5 +16,5 @@ abbrev pub LendsDigest : MutBor ObjectId → MutBor (List ℕ) → Fml
 LendsDigest id lent = Lends the_row (Array u8 0) id lent (with_bytes id.now)
 
 -- the buffer holds these bytes once nothing borrows from it
-abbrev pub EndsAs : MutBor (List ℕ) → List ℕ → Fml
-EndsAs buffer bytes = follows_so (Array u8 0) (Array u8 0) buffer.ghost_name none (λ _ _. ⊤) (λ last. last ≡ bytes)
+abbrev pub IsLeftAs : MutBor (List ℕ) → List ℕ → Fml
+IsLeftAs buffer bytes = follows_so (Array u8 0) (Array u8 0) buffer.ghost_name none (λ _ _. ⊤) (λ last. last ≡ bytes)

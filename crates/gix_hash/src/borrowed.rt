@@ -41,7 +41,7 @@ impl<'a> oid<'a> {
     ghost use Rattle.gix_hash.specs.Ids.{cut_of, empty_blob_digits, empty_tree_digits, id_digits, id_kind, null_digits, oid_bytes, oid_digits, oid_kind, shown_digits};
     ghost use Rattle.std.specs.Io.KnownBytes.{Appends};
     ghost use Rattle.std.specs.Borrow.{sem};
-    ghost use Rattle.gix_hash.specs.Loans.{EndsAs};
+    ghost use Rattle.gix_hash.specs.Loans.{IsLeftAs};
     ghost use Rattle.std.specs.List.{common_prefix_len};
     ghost use Rattle.gix_hash.specs.Prefixes.{IsCommonLen};
 
@@ -225,7 +225,7 @@ impl<'a> oid<'a> {
     /// back as the clause says. [`oid::put_hex`] says the same of the buffer to every caller.
     pub fn hex_to_buf<'b>(&self, buffer: &'b mut [u8]) -> &'b str
         requires { hex_len_of (oid_kind self.now) ≤ length buffer.old }
-        ensures* after { sem 𝓛 (EndsAs buffer.entry
+        ensures* after { sem 𝓛 (IsLeftAs buffer.entry
             (spelling hex_letter (oid_digits self.now) ++ drop
             (hex_len_of (oid_kind self.now)) buffer.old)) }
         ensures text { result.now ≡ spelling hex_letter (oid_digits self.now) }

@@ -40,7 +40,7 @@ pub enum ObjectId {
 
 impl ObjectId {
     ghost use Rattle.std.specs.Borrow.{sem};
-    ghost use Rattle.gix_hash.specs.Loans.{EndsAs, LendsDigest};
+    ghost use Rattle.gix_hash.specs.Loans.{IsLeftAs, LendsDigest};
     ghost use Rattle.std.specs.Io.KnownBytes.{Appends};
     ghost use Rattle.std.specs.List.{common_prefix_len};
     ghost use Rattle.gix_hash.specs.Prefixes.{IsCommonLen};
@@ -246,7 +246,7 @@ impl ObjectId {
     /// As [`oid::hex_to_buf`].
     pub fn hex_to_buf<'b>(&self, buffer: &'b mut [u8]) -> &'b str
         requires { hex_len_of (id_kind self.now) ≤ length buffer.old }
-        ensures* after { sem 𝓛 (EndsAs buffer.entry
+        ensures* after { sem 𝓛 (IsLeftAs buffer.entry
             (spelling hex_letter (id_digits self.now) ++ drop
             (hex_len_of (id_kind self.now)) buffer.old)) }
         ensures text { result.now ≡ spelling hex_letter (id_digits self.now) }

@@ -6,7 +6,7 @@ ghost use Rattle.std.specs.Io.KnownBytes.{Appends};
 ghost use Rattle.gix_hash.specs.Ids.{asked_len, cut_kind, shown_digits, whole_digits};
 ghost use Rattle.id_digits.specs.Digits.{hex_letter, padded, spelling};
 ghost use Rattle.gix_hash.specs.Kinds.{hex_len_of};
-ghost use Rattle.gix_hash.specs.Loans.{EndsAs};
+ghost use Rattle.gix_hash.specs.Loans.{IsLeftAs};
 
 use super::Prefix;
 use crate::alphabet::Alphabet;
@@ -44,7 +44,7 @@ impl Prefix {
     /// back as the clause says. [`Prefix::put_hex`] says the same of the buffer to every caller.
     pub fn hex_to_buf<'b>(&self, buffer: &'b mut [u8]) -> &'b str
         requires { length self.now.digits ≤ length buffer.old }
-        ensures* after { sem 𝓛 (EndsAs buffer.entry
+        ensures* after { sem 𝓛 (IsLeftAs buffer.entry
             (spelling hex_letter self.now.digits ++ drop (length self.now.digits) buffer.old)) }
         ensures text { result.now ≡ spelling hex_letter self.now.digits }
         ensures ascii { IsAscii result.now }
