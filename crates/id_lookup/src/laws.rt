@@ -13,6 +13,7 @@ ghost use Rattle.id_lookup.specs.declared.search.Run.{Run};
 use crate::ids::Id;
 use crate::index::{Answer, IdIndex};
 pub use crate::part_laws::{parts, parts_in_order};
+use crate::unique::note_lengths;
 use gix_hash::{Kind, ObjectId, Prefix};
 
 /// The lowercase hex spelling of an id begins with that of a prefix if and only if the id's digits
@@ -54,8 +55,5 @@ pub fn strictly_sorted(kind: Kind, ids: &[ObjectId])
     ensures { IsStrictlySortedBy id_cmp ids.now
         → IsIndex kind (map id_digits ids.now) ↔ All (λ id. id_kind id ≡ kind) ids.now }
 {
-    for id in ids {
-        // The contract of this call says how many digits the id has.
-        let _kind = id.kind();
-    }
+    note_lengths(ids);
 }

@@ -36,7 +36,7 @@ pub fn sort_unique<A: Allocator>(ids: &mut Vec<ObjectId, A>)
 }
 
 // Each id has as many digits as its kind.
-fn note_lengths(ids: &[ObjectId])
+pub(crate) fn note_lengths(ids: &[ObjectId])
     ensures { All (λ id. length (id_digits id) ≡ hex_len_of (id_kind id)) ids.now }
 {
     for id in ids {
