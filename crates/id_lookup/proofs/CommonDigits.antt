@@ -7,16 +7,16 @@ use Rattle.std.specs.Cmp.Lexicographic.{slice_cmp}
 use Rattle.std.proofs.lemmas.Bool.Decides.{nat_tests}
 use Rattle.id_lookup.proofs.FirstByteOrder.{by_cmp}
 
-abbrev common : List ℕ → List ℕ → ℕ
+abbrev pub common : List ℕ → List ℕ → ℕ
 common = common_prefix_len nat_eq
 
-cond_yes : (a b n : ℕ) → a ≡ b → cond (nat_eq a b) n 0 ≡ n
+pub cond_yes : (a b n : ℕ) → a ≡ b → cond (nat_eq a b) n 0 ≡ n
 cond_yes a b n h = grind (arith, nat_tests)
 
-cond_no : (a b n : ℕ) → b < a → cond (nat_eq a b) n 0 ≡ 0
+pub cond_no : (a b n : ℕ) → b < a → cond (nat_eq a b) n 0 ≡ 0
 cond_no a b n h = grind (arith, nat_tests)
 
-cond_no' : (a b n : ℕ) → a < b → cond (nat_eq a b) n 0 ≡ 0
+pub cond_no' : (a b n : ℕ) → a < b → cond (nat_eq a b) n 0 ≡ 0
 cond_no' a b n h = grind (arith, nat_tests)
 
 -- if x, y and z are in order, x has no more in common with z than with y, nor than y has with z

@@ -1,7 +1,7 @@
 pub mod Beginnings
 pub mod OutsidePrefixes
 mod Binary
-mod CommonDigits
+pub mod CommonDigits
 pub mod Counting
 pub mod FilterCounted
 pub mod Filtering
