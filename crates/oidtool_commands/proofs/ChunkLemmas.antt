@@ -16,11 +16,12 @@ use Rattle.gix_hash.specs.declared.decode.Error.{Error}
 use Rattle.gix_hash.specs.declared.decode.Error.TheVariants.{InvalidHexEncodingLength, Invalid}
 use Rattle.gix_hash.specs.declared.Kind.{Kind}
 use Rattle.gix_hash.specs.declared.ObjectId.{ObjectId}
-use Rattle.oidtool_commands.specs.Lists.{HasIdLine, HasTaken, IsFirstRead, IsLine, IsListRefusal, NoBadLineEnded, Takes, ended, ids_read, is_line_feed, lines_of, lines_of-nil, list_read, prepend_line}
+use Rattle.streams.specs.Streams.{is_line_feed, lines_of}
+use Rattle.oidtool_commands.specs.Lists.{HasIdLine, HasTaken, IsFirstRead, IsLine, IsListRefusal, NoBadLineEnded, Takes, ended, ids_read, list_read, prepend_line}
 use Rattle.oidtool_commands.specs.declared.search.error.SearchError.{SearchError}
 use Rattle.oidtool_commands.specs.declared.search.list_reader.ListReader.{ListReader}
 use Rattle.oidtool_commands.specs.declared.search.error.SearchError.TheVariants.{BadLine, Memory}
-use Rattle.oidtool_commands.proofs.LineLemmas.{lines_of-ended, lines_of-last}
+use Rattle.streams.proofs.LineLemmas.{lines_of-ended, lines_of-last, lines_of-nil}
 use Rattle.std.proofs.lemmas.List.{nil_from_length}
 
 -- whole lines, and then more

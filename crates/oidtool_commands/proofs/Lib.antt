@@ -1,5 +1,4 @@
 mod CommandLemmas
-mod LineLemmas
 pub mod Results
 mod Orders
 mod FinderLemmas

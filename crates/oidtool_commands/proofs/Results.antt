@@ -11,7 +11,8 @@ use Rattle.gix_hash.specs.Prefixes.{KindDigits}
 use Rattle.gix_hash.specs.declared.decode.Error.{Error}
 use Rattle.gix_hash.specs.declared.prefix.from_hex.Error.{Error as PrefixError}
 use Rattle.id_lookup.specs.Runs.{least_hex_len, matches}
-use Rattle.oidtool_commands.specs.Lists.{IsFirstBad, IsLineOf, ids_read, lines_of, list_read, prepend_line}
+use Rattle.streams.specs.Streams.{lines_of}
+use Rattle.oidtool_commands.specs.Lists.{IsFirstBad, IsLineOf, ids_read, list_read, prepend_line}
 use Rattle.oidtool_commands.specs.Searches.{IsSearch, error_of_all, error_or, finding, first_refused, found_among, found_texts, prefix_of, FoundHolds, ResultHolds}
 use Rattle.oidtool_commands.specs.declared.search.error.SearchError.{SearchError}
 use Rattle.oidtool_commands.specs.declared.search.error.SearchError.TheVariants.{Prefix, BadLine, Unsorted, PrefixTooLong, WrongKind, NotRising}

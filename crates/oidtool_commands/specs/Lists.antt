@@ -1,35 +1,16 @@
 -- List texts, with a line for each id.
-use Rattle.std.specs.Prelude.{[], ℕ, ◌++◌, ◌+◌, ◌<◌, ◌==◌, ◌∷◌, ◌≡◌, ◌≤◌, All, Bool, Err, IsOk, List, Ok, Result, false, flat_map, if◌then◌else◌, length, map, take}
-use Rattle.std.specs.List.{AllZip, slice_range, slice_split}
-use Rattle.std.proofs.Common.{refl}
+use Rattle.std.specs.Prelude.{[], ℕ, ◌++◌, ◌+◌, ◌<◌, ◌∷◌, ◌≡◌, ◌≤◌, All, Err, IsOk, List, Ok, Result, false, flat_map, length, map, take}
+use Rattle.std.specs.List.{AllZip, slice_range}
 use Rattle.gix_hash.specs.Digits.{hex_letter}
 use Rattle.gix_hash.specs.Prefixes.{KindDigits, kind_digits}
 use Rattle.gix_hash.specs.Reading.{full_read, whole_of}
 use Rattle.gix_hash.specs.declared.Kind.{Kind}
 use Rattle.gix_hash.specs.declared.ObjectId.{ObjectId}
 use Rattle.gix_hash.specs.declared.decode.Error.{Error}
+use Rattle.streams.specs.Streams.{is_line_feed, lines_of}
 use Rattle.oidtool_commands.specs.declared.search.error.SearchError.{SearchError}
 use Rattle.oidtool_commands.specs.declared.search.error.SearchError.TheVariants.{BadLine, Memory}
 use Rattle.oidtool_commands.specs.declared.search.list_reader.ListReader.{ListReader}
-
--- the byte that ends a line
-abbrev pub is_line_feed : ℕ → Bool
-is_line_feed b = b == 10
-
--- the parts, the last only if it is not empty
-abbrev pub without_empty_last : List (List ℕ) → List (List ℕ)
-without_empty_last [] = []
-without_empty_last (part ∷ []) = if length part == 0 then [] else part ∷ []
-without_empty_last (part ∷ (next ∷ parts)) = part ∷ without_empty_last (next ∷ parts)
-
--- the parts of a text between its line feeds, the last only if it is not empty
-unfoldable pub lines_of : List ℕ → List (List ℕ)
-lines_of text = without_empty_last (slice_split is_line_feed text)
-
--- the empty text has no line
-pub lines_of-nil : lines_of [] ≡ []
-unfolding lines_of
-lines_of-nil = refl
 
 -- the digits of what line n reads as, before those of the lines after it; or the first error
 abbrev pub prepend_line : ℕ → Result KindDigits Error → Result (List (List ℕ)) SearchError → Result (List (List ℕ)) SearchError

@@ -12,12 +12,12 @@ use Rattle.gix_hash.specs.Reading.{full_read, letter_of, prefix_read, prefix_rea
 use Rattle.gix_hash.specs.declared.Kind.{Kind}
 use Rattle.gix_hash.specs.declared.ObjectId.{ObjectId}
 use Rattle.gix_hash.specs.declared.prefix.from_hex.Error.{Error as PrefixError}
-use Rattle.streams.specs.Streams.{AppendsPart, printed}
+use Rattle.streams.specs.Streams.{AppendsPart, lines_of, printed}
 use Rattle.id_lookup.specs.Indexes.{IsFirstIndexError, IsIndex}
 use Rattle.id_lookup.specs.Runs.{IsFirstUnsorted, IsSortedIds, least_hex_len, matches}
 use Rattle.id_lookup.specs.declared.index.IndexError.{IndexError}
 use Rattle.id_lookup.specs.declared.index.IndexError.TheVariants as index
-use Rattle.oidtool_commands.specs.Lists.{HasTaken, IsFirstBadLine, IsFirstRead, IsListOf, IsListRefusal, NoBadLineEnded, lines_of, list_read}
+use Rattle.oidtool_commands.specs.Lists.{HasTaken, IsFirstBadLine, IsFirstRead, IsListOf, IsListRefusal, NoBadLineEnded, list_read}
 use Rattle.oidtool_commands.specs.declared.search.Search.{Search}
 use Rattle.oidtool_commands.specs.declared.search.Search.TheVariants.{In, Sorted}
 use Rattle.oidtool_commands.specs.declared.search.error.SearchError.{SearchError}

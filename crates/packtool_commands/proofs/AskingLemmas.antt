@@ -1,15 +1,13 @@
 -- The lines of a text and what is printed for them, one after the other.
-use Rattle.std.proofs.Common.{◌≡◌, ◌≢◌, ℕ, zero, suc, ◌+◌, ◌<◌, ◌≤◌, ◌⊎◌, inl, inr, Bool, true, false, ◌&&◌, nat_lt, Option, None, Some, List, [], ◌∷◌, ◌++◌, length, get_or, map, refl, sym, ap, ◌∙◌, arith}
+use Rattle.std.proofs.Common.{◌≡◌, ◌≢◌, ℕ, zero, suc, ◌<◌, ◌≤◌, Bool, true, false, ◌&&◌, nat_lt, Option, None, Some, List, [], ◌∷◌, ◌++◌, length, get_or, map, refl, sym, ap, ◌∙◌, arith}
 use Rattle.std.specs.Prelude.{codes, if◌then◌else◌}
-use Rattle.std.specs.List.{All, after_first, before_first, flat_map, position_or_len, slice_split}
+use Rattle.std.specs.List.{All, flat_map}
 use Rattle.std.specs.Option.{is_some, option_map, option_to_list}
-use Rattle.std.proofs.lemmas.Bool.{cases_lt, ne_eqb}
 use Rattle.std.proofs.lemmas.Bool.Decides.{nat_tests}
-use Rattle.std.proofs.lemmas.List.{length-drop, nil_from_length, take_all}
+use Rattle.std.proofs.lemmas.List.{length-drop, nil_from_length}
 use Rattle.std.proofs.lemmas.List.Elements.{All-append}
 use Rattle.std.proofs.lemmas.List.Folds.{flat_map-map}
-use Rattle.std.proofs.lemmas.List.Splits.{length-slice_split, slice_split_first, slice_split_none}
-use Rattle.std.proofs.lemmas.List.Sums.{fails_before_first}
+use Rattle.streams.proofs.LineLemmas.{lines_of-nil}
 use Rattle.gix_hash.specs.Digits.{digits_read, hex_letter}
 use Rattle.gix_hash.specs.Kinds.{hex_len_of}
 use Rattle.gix_hash.specs.Ids.{id_digits}
@@ -22,46 +20,14 @@ use Rattle.object_store.specs.Several.{AreAbbreviatedOfEach, AreLocatedOfEach, I
 use Rattle.object_store.specs.declared.locations.LocatedId.{LocatedId}
 use Rattle.object_store.specs.declared.naming.Abbreviation.{Abbreviation}
 use Rattle.object_store.specs.declared.naming.Abbreviation.TheVariants.{Missing}
-use Rattle.packtool_commands.specs.Stores.{HaveAllBuckets, answer_to, answers_by, answers_in, are_answers_by, are_answers_in, found_text, id_line, is_answer_to, is_found, is_line_feed, line_with, lines_of, lists_after, of_two, prefix_of, prefixes_of, without_empty_last}
+use Rattle.streams.specs.Streams.{lines_of}
+use Rattle.packtool_commands.specs.Stores.{HaveAllBuckets, answer_to, answers_by, answers_in, are_answers_by, are_answers_in, found_text, id_line, is_answer_to, is_found, line_with, lists_after, of_two, prefix_of, prefixes_of}
 use Rattle.packtool_commands.specs.declared.asking.Answers.{Answers}
 use Rattle.packtool_commands.specs.declared.asking.Answers.TheVariants.{All as AllOfThem, One as OneOfThem}
-
-more_parts : (part : List ℕ) (parts : List (List ℕ)) → 0 < length parts → without_empty_last (part ∷ parts) ≡ part ∷ without_empty_last parts
-more_parts part [] some = absurd (omega (arith, some))
-more_parts part (next ∷ parts) some = refl
-
-abbrev if_some : List ℕ → Bool → List (List ℕ)
-if_some part none = if none then [] else part ∷ []
-
-last_part : (part : List ℕ) → 0 < length part → without_empty_last (part ∷ []) ≡ part ∷ []
-last_part part some = ap (if_some part) (ne_eqb (length part) 0 (λ none. omega (arith, none, some)))
-
-lines_of-nil : lines_of [] ≡ []
-unfolding lines_of
-lines_of-nil = refl
 
 -- a text that is empty has no line
 pub lines_at_end : (text : List ℕ) → length text ≡ 0 → lines_of text ≡ []
 lines_at_end text none = ap lines_of (nil_from_length text none) ∙ lines_of-nil
-
--- the first line of a text that is not empty, and those after it
-pub lines_step : (text : List ℕ) → 0 < length text → lines_of text ≡ before_first is_line_feed text ∷ lines_of (after_first is_line_feed text)
-unfolding lines_of
-lines_step text some = by (cases_lt (position_or_len is_line_feed text) (length text))
-  where
-    by : ((position_or_len is_line_feed text < length text) ⊎ (length text ≤ position_or_len is_line_feed text))
-        → without_empty_last (slice_split is_line_feed text) ≡ before_first is_line_feed text ∷ without_empty_last (slice_split is_line_feed (after_first is_line_feed text))
-    by (inl inside) =
-        let after = after_first is_line_feed text in
-        ap without_empty_last (slice_split_first is_line_feed text 0 inside)
-        ∙ more_parts (before_first is_line_feed text) (slice_split is_line_feed after) (omega (arith, length-slice_split is_line_feed after))
-    by (inr outside) =
-        let whole : before_first is_line_feed text ≡ text = take_all (position_or_len is_line_feed text) text outside in
-        let none : after_first is_line_feed text ≡ [] =
-        nil_from_length (after_first is_line_feed text) (omega (arith, length-drop (position_or_len is_line_feed text + 1) text, outside)) in
-        let one : slice_split is_line_feed text ≡ text ∷ [] = slice_split_none is_line_feed text (λ k e low. fails_before_first is_line_feed text k e (omega (arith, low, outside))) in
-        ap without_empty_last one ∙ last_part text some
-        ∙ (λ i. sym whole i ∷ without_empty_last (slice_split is_line_feed (sym none i)))
 
 -- all that was found after a line, if there is something
 pub found_all : {X : Type 0} (text : Option (List ℕ) → X → List ℕ) (answers : Answers) (line : List ℕ) (found : List X) → answers ≡ AllOfThem → 0 < length found

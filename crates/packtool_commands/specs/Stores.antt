@@ -1,7 +1,7 @@
 -- What is printed of the ids of a store, and why that fails.
-use Rattle.std.specs.Prelude.{[], ℕ, ◌&&◌, ◌++◌, ◌<◌, ◌==◌, ◌↔◌, ◌∷◌, ◌≡◌, ◌≢◌, All, Bool, IsTrue, List, None, Option, Some, codes, decimal, drop, false, flat_map, if◌then◌else◌, length, map, nat_lt, string_bytes, true}
+use Rattle.std.specs.Prelude.{[], ℕ, ◌&&◌, ◌++◌, ◌<◌, ◌↔◌, ◌∷◌, ◌≡◌, ◌≢◌, All, Bool, IsTrue, List, None, Option, Some, codes, decimal, drop, false, flat_map, if◌then◌else◌, length, map, nat_lt, string_bytes, true}
 use Rattle.std.specs.Io.KnownBytes.{Appends}
-use Rattle.std.specs.List.{range_with_len, slice_split}
+use Rattle.std.specs.List.{range_with_len}
 use Rattle.std.specs.Option.{is_some, option_map, option_to_list}
 use Rattle.gix_hash.specs.Digits.{digits_read, first_byte_of, hex_letter, spelling}
 use Rattle.gix_hash.specs.Ids.{id_digits}
@@ -50,20 +50,6 @@ abbrev pub IsWalkFault : StoreView → Error → Type 0
 IsWalkFault view error = (byte : ℕ) × (byte < 256) × Each (HaveBuckets view) byte × IsStoreFault view byte error
 
 -- What is printed for many prefixes, which are the lines of a text.
-
--- the byte that ends a line
-abbrev pub is_line_feed : ℕ → Bool
-is_line_feed b = b == 10
-
--- the parts, the last only if it is not empty
-abbrev pub without_empty_last : List (List ℕ) → List (List ℕ)
-without_empty_last [] = []
-without_empty_last (part ∷ []) = if length part == 0 then [] else part ∷ []
-without_empty_last (part ∷ (next ∷ parts)) = part ∷ without_empty_last (next ∷ parts)
-
--- the lines of a text without their line feeds, which the last may lack
-unfoldable pub lines_of : List ℕ → List (List ℕ)
-lines_of text = without_empty_last (slice_split is_line_feed text)
 
 -- a prefix that has 2 digits or more
 abbrev pub of_two : Option KindDigits → Option KindDigits

@@ -4,9 +4,9 @@ ghost use Rattle.std.specs.Prelude.{◌≡◌, ◌≢◌, ◌++◌, ◌-◌, ◌
 ghost use Rattle.std.specs.List.{after_first, before_first, position};
 ghost use Rattle.std.specs.Io.KnownBytes.{Appends};
 ghost use Rattle.object_store.specs.Stores.{Holds, IsFaultOfOne};
-ghost use Rattle.packtool_commands.specs.Stores.{HasAnswered, HasAnsweredMatches, HaveAllBuckets, IsFaultOf, answer_to, answers_by, answers_in, are_answers_by, found_text, front_text, is_answer_to, is_line_feed, lines_of, lists_after, prefix_of, prefixes_of};
+ghost use Rattle.packtool_commands.specs.Stores.{HasAnswered, HasAnsweredMatches, HaveAllBuckets, IsFaultOf, answer_to, answers_by, answers_in, are_answers_by, found_text, front_text, is_answer_to, lists_after, prefix_of, prefixes_of};
 ghost use Rattle.packtool_commands.specs.declared.error.StoreError.{StoreError};
-ghost use Rattle.streams.specs.Streams.{AppendsPart, Wrote};
+ghost use Rattle.streams.specs.Streams.{AppendsPart, Wrote, is_line_feed, lines_of};
 
 use crate::error::StoreError;
 use gix_hash::{Alphabet, Kind, ObjectId, Prefix};

@@ -7,9 +7,9 @@ ghost use Rattle.gix_hash.specs.Ids.{id_digits, id_kind};
 ghost use Rattle.id_lookup.specs.Runs.{matches};
 ghost use Rattle.object_store.specs.Several.{IsLocationsFaultOfOne};
 ghost use Rattle.object_store.specs.Stores.{HaveAllLocations, HaveBuckets, HaveLocations, Holds, IsLocateFault, IsLocationsFault};
-ghost use Rattle.packtool_commands.specs.Stores.{HasLocated, HasLocatedEach, HasLocatedPart, HaveAllBuckets, IsFaultOf, IsMemory, lines_at, lines_at_after, lines_of, lines_of_locations, location_line, location_line_after, prefixes_of};
+ghost use Rattle.packtool_commands.specs.Stores.{HasLocated, HasLocatedEach, HasLocatedPart, HaveAllBuckets, IsFaultOf, IsMemory, lines_at, lines_at_after, lines_of_locations, location_line, location_line_after, prefixes_of};
 ghost use Rattle.packtool_commands.specs.declared.error.StoreError.{StoreError};
-ghost use Rattle.streams.specs.Streams.{AppendsAtMost, Wrote};
+ghost use Rattle.streams.specs.Streams.{AppendsAtMost, Wrote, lines_of};
 
 use crate::asking::{Answers, Entry, Listed, prefixes_in, write_answers, write_front};
 use crate::error::StoreError;

@@ -5,9 +5,9 @@ ghost use Rattle.gix_hash.specs.Digits.{hex_letter, spelling};
 ghost use Rattle.gix_hash.specs.Kinds.{hex_len_of};
 ghost use Rattle.object_store.specs.Stores.{HaveBuckets, Holds, IsFaultOfOne};
 ghost use Rattle.pack_index.specs.Format.{Each};
-ghost use Rattle.packtool_commands.specs.Stores.{HasNamedAtMost, HasNamedBelow, HasNamedEach, HasNamedEachIn, HasNamedPart, HaveAllBuckets, IsFaultOf, IsWalkFault, lines_of, name_line, prefixes_of};
+ghost use Rattle.packtool_commands.specs.Stores.{HasNamedAtMost, HasNamedBelow, HasNamedEach, HasNamedEachIn, HasNamedPart, HaveAllBuckets, IsFaultOf, IsWalkFault, name_line, prefixes_of};
 ghost use Rattle.packtool_commands.specs.declared.error.StoreError.{StoreError};
-ghost use Rattle.streams.specs.Streams.{Wrote};
+ghost use Rattle.streams.specs.Streams.{Wrote, lines_of};
 
 use crate::asking::{Form, prefixes_in, write_answers, write_two};
 use crate::error::StoreError;

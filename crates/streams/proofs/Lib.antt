@@ -1,3 +1,4 @@
 pub mod WritingLemmas
 mod Taking
 mod SealedLemmas
+pub mod LineLemmas

@@ -1,6 +1,7 @@
 -- What is read and written, as lines of ids, and by hashing, sealing and checking.
-use Rattle.std.specs.Prelude.{[], ℕ, ◌&&◌, ◌++◌, ◌+◌, ◌-◌, ◌<◌, ◌==◌, ◌^◌, ◌∷◌, ◌≡◌, ◌≢◌, ◌≤◌, ◌⊎◌, Bool, Err, List, None, Ok, OnErr, OnOk, Option, Result, Some, false, flat_map, length, not, slice_range, take, true}
+use Rattle.std.specs.Prelude.{[], ℕ, ◌&&◌, ◌++◌, ◌+◌, ◌-◌, ◌<◌, ◌==◌, ◌^◌, ◌∷◌, ◌≡◌, ◌≢◌, ◌≤◌, ◌⊎◌, Bool, Err, List, None, Ok, OnErr, OnOk, Option, Result, Some, false, flat_map, if◌then◌else◌, length, not, slice_range, take, true}
 use Rattle.std.specs.Io.KnownBytes.{Appends, Consumes, IsAtEnd}
+use Rattle.std.specs.List.{slice_split}
 use Rattle.gix_hash.specs.Digits.{digits_of, hex_letter, spelling}
 use Rattle.gix_hash.specs.Hashing.{EndsInDigest, WasFed, digest, hasher_kind, sealed}
 use Rattle.gix_hash.specs.Ids.{id_bytes, id_digits}
@@ -80,6 +81,22 @@ ChunkFails TooMuch old new bytes buf = (count : ℕ) × (count ≤ length buf) �
 pub record IsReadAt (content : List ℕ) (at : ℕ) (bytes : List ℕ) : Type 0 where
   pub within : at + length bytes ≤ length content
   pub same : bytes ≡ slice_range content at (at + length bytes)
+
+-- The lines of a text.
+
+-- the byte that ends a line
+abbrev pub is_line_feed : ℕ → Bool
+is_line_feed b = b == 10
+
+-- the parts, the last only if it is not empty
+abbrev pub without_empty_last : List (List ℕ) → List (List ℕ)
+without_empty_last [] = []
+without_empty_last (part ∷ []) = if length part == 0 then [] else part ∷ []
+without_empty_last (part ∷ (next ∷ parts)) = part ∷ without_empty_last (next ∷ parts)
+
+-- the lines of a text without their line feeds, which the last may lack
+unfoldable pub lines_of : List ℕ → List (List ℕ)
+lines_of text = without_empty_last (slice_split is_line_feed text)
 
 -- The lines of ids.
 

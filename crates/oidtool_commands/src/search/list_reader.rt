@@ -5,7 +5,8 @@ ghost use Rattle.std.specs.List.{position, slice_range};
 ghost use Rattle.gix_hash.specs.Digits.{hex_letter};
 ghost use Rattle.gix_hash.specs.Reading.{full_read, result_digits};
 ghost use Rattle.gix_hash.specs.Ids.{id_digits};
-ghost use Rattle.oidtool_commands.specs.Lists.{HasIdLine, HasTaken, IsListRefusal, IsRefusalAfter, Takes, is_line_feed, list_read};
+ghost use Rattle.streams.specs.Streams.{is_line_feed};
+ghost use Rattle.oidtool_commands.specs.Lists.{HasIdLine, HasTaken, IsListRefusal, IsRefusalAfter, Takes, list_read};
 
 use crate::search::error::SearchError;
 use gix_hash::{Alphabet, Kind, ObjectId, decode};

@@ -6,8 +6,8 @@ use Rattle.gix_hash.specs.Ids.{id_digits}
 use Rattle.gix_hash.specs.Prefixes.{KindDigits}
 use Rattle.gix_hash.specs.declared.ObjectId.{ObjectId}
 use Rattle.object_store.specs.Stores.{AreMatchesOfEach, CanLookUp, IsFaultOfOne}
-use Rattle.streams.specs.Streams.{AppendsPart}
-use Rattle.packtool_commands.specs.Stores.{answers_by, are_answers_by, found_text, id_line, is_found, lines_of, prefixes_of}
+use Rattle.streams.specs.Streams.{AppendsPart, lines_of}
+use Rattle.packtool_commands.specs.Stores.{answers_by, are_answers_by, found_text, id_line, is_found, prefixes_of}
 use Rattle.packtool_commands.proofs.AskingLemmas.{all_in, all_sound, answers_by-map, are_answers_by-map, can_look_up, text_in}
 use Rattle.packtool_commands.proofs.asking.find_each.Goals as goal
 

@@ -1,6 +1,6 @@
 use Rattle.std.proofs.Common.{◌∷◌, ◌∙◌, sym}
-use Rattle.packtool_commands.specs.Stores.{lines_of}
-use Rattle.packtool_commands.proofs.AskingLemmas.{lines_step}
+use Rattle.streams.specs.Streams.{lines_of}
+use Rattle.streams.proofs.LineLemmas.{lines_step}
 use Rattle.packtool_commands.proofs.asking.first_line.Goals as goal
 
 pub returns-clause-lines : goal.returns-clause-lines

@@ -1,5 +1,6 @@
 use Rattle.std.proofs.Common.{◌≡◌, ◌++◌, length}
-use Rattle.packtool_commands.specs.Stores.{lines_of, prefixes_of}
+use Rattle.streams.specs.Streams.{lines_of}
+use Rattle.packtool_commands.specs.Stores.{prefixes_of}
 use Rattle.packtool_commands.proofs.asking.prefixes_in.Given as goal
 
 abbrev pub invariant-loop-rest : goal.invariant-loop-rest

@@ -2,9 +2,9 @@ use Rattle.std.proofs.Common.{◌≡◌, ◌∙◌, ◌&&◌, ◌++◌, ℕ, Boo
 use Rattle.std.specs.Option.{is_some}
 use Rattle.std.specs.Io.KnownBytes.{Appends}
 use Rattle.std.proofs.KnownBytes.{Appends-trans}
-use Rattle.streams.specs.Streams.{AppendsPart}
+use Rattle.streams.specs.Streams.{AppendsPart, lines_of}
 use Rattle.streams.proofs.WritingLemmas.{AppendsPart-after, AppendsPart-more, OnErr-of}
-use Rattle.packtool_commands.specs.Stores.{answer_to, answers_by, are_answers_by, is_answer_to, lines_of, lists_after, prefix_of}
+use Rattle.packtool_commands.specs.Stores.{answer_to, answers_by, are_answers_by, is_answer_to, lists_after, prefix_of}
 use Rattle.packtool_commands.proofs.AskingLemmas.{and_assoc, and_true, answers_step, are_answers_step, as_many_left, lines_at_end}
 use Rattle.packtool_commands.proofs.asking.write_answers.Goals as goal
 

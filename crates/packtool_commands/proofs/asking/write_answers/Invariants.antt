@@ -1,6 +1,7 @@
 use Rattle.std.proofs.Common.{◌≡◌, ◌++◌, ◌&&◌, ℕ, List, false, length}
 use Rattle.std.specs.Io.KnownBytes.{Appends}
-use Rattle.packtool_commands.specs.Stores.{answers_by, are_answers_by, lines_of, prefixes_of}
+use Rattle.streams.specs.Streams.{lines_of}
+use Rattle.packtool_commands.specs.Stores.{answers_by, are_answers_by, prefixes_of}
 use Rattle.packtool_commands.proofs.asking.write_answers.Given as goal
 
 abbrev pub invariant-loop-rest : goal.invariant-loop-rest

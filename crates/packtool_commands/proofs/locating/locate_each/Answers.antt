@@ -6,8 +6,8 @@ use Rattle.gix_hash.specs.Prefixes.{KindDigits}
 use Rattle.object_store.specs.Stores.{CanLookUp}
 use Rattle.object_store.specs.Several.{AreLocatedOfEach, IsLocationsFaultOfOne}
 use Rattle.object_store.specs.declared.locations.LocatedId.{LocatedId}
-use Rattle.streams.specs.Streams.{AppendsPart}
-use Rattle.packtool_commands.specs.Stores.{answers_by, are_answers_by, found_text, is_found, lines_of, located_lines, prefixes_of}
+use Rattle.streams.specs.Streams.{AppendsPart, lines_of}
+use Rattle.packtool_commands.specs.Stores.{answers_by, are_answers_by, found_text, is_found, located_lines, prefixes_of}
 use Rattle.packtool_commands.proofs.AskingLemmas.{answers_by-map, are_answers_by-map, can_look_up, located_sound}
 use Rattle.packtool_commands.proofs.locating.locate_each.Goals as goal
 

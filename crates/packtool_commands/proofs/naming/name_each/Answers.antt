@@ -5,7 +5,8 @@ use Rattle.std.proofs.lemmas.Result.{err_from_is_err_and}
 use Rattle.gix_hash.specs.Prefixes.{KindDigits}
 use Rattle.object_store.specs.Stores.{CanLookUp, IsFaultOfOne}
 use Rattle.object_store.specs.Several.{AreAbbreviatedOfEach}
-use Rattle.packtool_commands.specs.Stores.{abbreviation_text, answers_by, are_answers_by, is_named, lines_of, prefixes_of}
+use Rattle.streams.specs.Streams.{lines_of}
+use Rattle.packtool_commands.specs.Stores.{abbreviation_text, answers_by, are_answers_by, is_named, prefixes_of}
 use Rattle.packtool_commands.proofs.AskingLemmas.{abbreviated_in, abbreviated_sound, can_look_up}
 use Rattle.packtool_commands.proofs.naming.name_each.Goals as goal
 
