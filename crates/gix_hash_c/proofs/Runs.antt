@@ -18,15 +18,15 @@ same_run prefix kind ids run r = record {
   found = r.found;
   before = r.before;
   within = r.within;
-  behind = r.behind;
+  after = r.after;
 }
 
 -- what was found in digests one after the other is found among their ids
 pub found_in : (prefix : KindDigits) (chunks ids : List (List ℕ)) (run : Run) → map digits_of chunks ≡ ids → run.start ≤ run.end → run.end ≤ length chunks
     → (IsSortedIds (map digits_of chunks) → IsRun prefix (map digits_of chunks) (run_in run)) → IsRunIfSorted prefix.digits ids run
-found_in prefix chunks ids run same rises within is =
+found_in prefix chunks ids run same in_order within is =
     subst (λ list. IsRunIfSorted prefix.digits list run) same (record {
-      rises = rises;
+      in_order = in_order;
       in_range = omega (arith, within, length-map chunks digits_of);
       is = λ kind sorted. same_run prefix kind (map digits_of chunks) (run_in run) (is sorted);
     })

@@ -22,7 +22,7 @@ run_in run = record { start = run.start; end = run.end }
 
 -- the run of some digits, if the ids are sorted; else some run of their indexes
 pub record IsRunIfSorted (digits : List ℕ) (ids : List (List ℕ)) (run : Run) : Type 0 where
-  pub rises : run.start ≤ run.end
+  pub in_order : run.start ≤ run.end
   pub in_range : run.end ≤ length ids
   pub is : (kind : Kind) → IsSortedIds ids → IsRun (kind_digits kind digits) ids (run_in run)
 

@@ -116,7 +116,7 @@ pub extern "C" fn gix_hash_pack_entry(kind: u32, bytes: &[u8], at: usize, entry:
     *entry = Entry {
         offset: offset_in(bytes, kind, at),
         crc: crc_in(bytes, kind, at),
-        id: name_at(kind, names(kind, bytes), at),
+        id: name_at(kind, id_table(kind, bytes), at),
     };
     OK
 }
@@ -135,7 +135,7 @@ pub extern "C" fn gix_hash_pack_id(kind: u32, bytes: &[u8], at: usize, id: &mut 
     if at >= num_objects(bytes) as usize {
         return OUT_OF_RANGE;
     }
-    *id = name_at(kind, names(kind, bytes), at);
+    *id = name_at(kind, id_table(kind, bytes), at);
     OK
 }
 
@@ -157,7 +157,7 @@ pub extern "C" fn gix_hash_pack_find(kind: u32, bytes: &[u8], prefix: &Prefix, r
     if let Err(cause) = tables(kind, bytes) {
         return cause;
     }
-    *run = find_in(kind, names(kind, bytes), &prefix, guess(bytes, &prefix));
+    *run = find_in(kind, id_table(kind, bytes), &prefix, guess(bytes, &prefix));
     OK
 }
 
@@ -181,7 +181,7 @@ pub extern "C" fn gix_hash_pack_abbreviate(
     if at >= num_objects(bytes) as usize {
         return OUT_OF_RANGE;
     }
-    match shortest_at(kind, names(kind, bytes), at) {
+    match shortest_at(kind, id_table(kind, bytes), at) {
         Some(len) => {
             *hex_len = len;
             OK
@@ -244,7 +244,7 @@ fn tables(kind: Kind, bytes: &[u8]) -> Result<(), u32>
 }
 
 // The bytes of the ids.
-fn names(kind: Kind, bytes: &[u8]) -> &[u8]
+fn id_table(kind: Kind, bytes: &[u8]) -> &[u8]
     requires { HasTables kind bytes.now }
     ensures { result.now ≡ slice_range bytes.now names_start (crc_table_start kind bytes.now) }
 {

@@ -85,20 +85,20 @@ module _ (prefix : KindDigits) (ids : List (List ℕ)) (can : CanProbe prefix id
   -- both bounds of the run are between the ids below the prefix's first byte and those up to its last
   start_above : count_by (is_below (first_byte_of prefix.digits)) ids ≤ bound_of Start prefix ids
   start_above = count_by-le (is_below (first_byte_of prefix.digits)) (λ id. is_before_bound Start (place prefix.digits id)) ids
-      (λ k d h lower. after_if_lower_byte prefix.digits (get_or ids k d) (can.reach k d h) small (are_digits _ (each k d h)) (ltb-true _ _ lower))
+      (λ k d h lower. after_if_lower_byte prefix.digits (get_or ids k d) (can.enough_digits k d h) small (are_digits _ (each k d h)) (ltb-true _ _ lower))
 
   end_below : bound_of End prefix ids ≤ count_by (is_up_to (last_byte_of prefix.digits)) ids
   end_below = count_by-le (λ id. is_before_bound End (place prefix.digits id)) (is_up_to (last_byte_of prefix.digits)) ids
-      (λ k d h stands. le-leb _ _ (byte_up_to_last_if_not_before prefix.digits (get_or ids k d) (can.reach k d h) small (are_digits _ (each k d h)) stands))
+      (λ k d h stands. le-leb _ _ (byte_up_to_last_if_not_before prefix.digits (get_or ids k d) (can.enough_digits k d h) small (are_digits _ (each k d h)) stands))
 
   -- and below two digits they are these
   start_below : length prefix.digits < 2 → bound_of Start prefix ids ≤ count_by (is_below (first_byte_of prefix.digits)) ids
   start_below short = count_by-le (λ id. is_before_bound Start (place prefix.digits id)) (is_below (first_byte_of prefix.digits)) ids
-      (λ k d h stands. lt-ltb _ _ (lower_byte_if_after prefix.digits (get_or ids k d) short (can.reach k d h) (are_digits _ (each k d h)) stands))
+      (λ k d h stands. lt-ltb _ _ (lower_byte_if_after prefix.digits (get_or ids k d) short (can.enough_digits k d h) (are_digits _ (each k d h)) stands))
 
   end_above : length prefix.digits < 2 → count_by (is_up_to (last_byte_of prefix.digits)) ids ≤ bound_of End prefix ids
   end_above short = count_by-le (is_up_to (last_byte_of prefix.digits)) (λ id. is_before_bound End (place prefix.digits id)) ids
-      (λ k d h lower. not_before_if_byte_up_to_last prefix.digits (get_or ids k d) short (can.reach k d h) (leb-true _ _ lower))
+      (λ k d h lower. not_before_if_byte_up_to_last prefix.digits (get_or ids k d) short (can.enough_digits k d h) (leb-true _ _ lower))
 
   -- so they are the candidates
   pub are_candidates : (part : Run) → part.start ≡ count_by (is_below (first_byte_of prefix.digits)) ids

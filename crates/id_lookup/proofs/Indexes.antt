@@ -55,7 +55,7 @@ index_more kind ids at before inside long above = record {
 pub index-can_probe : (kind : Kind) (ids : List (List ℕ)) (prefix : KindDigits) → IsIndex kind ids → length prefix.digits ≤ hex_len_of kind → CanProbe prefix ids
 index-can_probe kind ids prefix index fits = record {
   sorted = index-sorted kind ids index;
-  reach = λ k d inside. omega (arith, fits, index.kinds k d (omega arith) inside);
+  enough_digits = λ k d inside. omega (arith, fits, index.kinds k d (omega arith) inside);
 }
 
 -- the test for different kinds fails for one kind, and for no two
@@ -81,7 +81,7 @@ not_rising kind ids at above inside before long decides fails = record {
   has_predecessor = first (cases_lt 0 at);
   in_range = inside;
   before = before;
-  right = long;
+  same_kind = long;
   not_above = λ less. false≢true (sym fails ∙ decides.1 (λ _. less));
 }
   where

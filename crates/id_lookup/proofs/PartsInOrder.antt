@@ -88,7 +88,7 @@ module _ (ids : List (List ℕ)) (sorted : IsSortedIds ids) (small : All (λ id.
       subst (λ (id : List ℕ). has_first_byte b id ≡ true) (sym is) (counted_have b (start + k) d (omega arith) (omega (arith, few))))
       (omega (arith, more))
 
--- two pieces of a list
+-- two parts of a list
 take-nil : (n : ℕ) → take {A = List ℕ} n [] ≡ []
 take-nil zero = refl
 take-nil (suc n) = refl

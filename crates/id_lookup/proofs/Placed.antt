@@ -128,5 +128,5 @@ run_is prefix ids sorted run starts bound =
       found = run_found prefix ids sorted run starts ends;
       before = run_before prefix ids sorted run starts ends;
       within = run_within prefix ids sorted run starts ends;
-      behind = run_after prefix ids sorted run starts ends;
+      after = run_after prefix ids sorted run starts ends;
     }

@@ -39,7 +39,7 @@ pub record IsNotRising (kind : Kind) (ids : List (List ℕ)) (at : ℕ) : Type 0
   pub has_predecessor : 0 < at
   pub in_range : at < length ids
   pub before : IsIndexUpTo at kind ids
-  pub right : length (slice_index_or ids at []) ≡ hex_len_of kind
+  pub same_kind : length (slice_index_or ids at []) ≡ hex_len_of kind
   pub not_above : slice_cmp nat_cmp (slice_index_or ids (at - 1) []) (slice_index_or ids at []) ≢ Less
 
 -- the first id at which the list is not an index of the kind, and why

@@ -50,7 +50,7 @@ pub record IsRun (prefix : KindDigits) (ids : List (List ℕ)) (run : Run) : Typ
   pub found : slice_range ids run.start run.end ≡ matches prefix.digits ids
   pub before : All (λ id. place prefix.digits id ≡ Greater) (take run.start ids)
   pub within : All (λ id. place prefix.digits id ≡ Equal) (slice_range ids run.start run.end)
-  pub behind : All (λ id. place prefix.digits id ≡ Less) (drop run.end ids)
+  pub after : All (λ id. place prefix.digits id ≡ Less) (drop run.end ids)
 
 -- The two bounds of a run, each as the number of members before it.
 
@@ -108,7 +108,7 @@ pub record Probing : Type 0 where
 -- the list is sorted, and each member has at least as many digits as the prefix
 pub record CanProbe (prefix : KindDigits) (ids : List (List ℕ)) : Type 0 where
   pub sorted : IsSortedIds ids
-  pub reach : All (λ id. length prefix.digits ≤ length id) ids
+  pub enough_digits : All (λ id. length prefix.digits ≤ length id) ids
 
 -- how often n can be halved until nothing is left, but at most the given number of times
 unfoldable pub halvings_within : ℕ → ℕ → ℕ

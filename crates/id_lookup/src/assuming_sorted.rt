@@ -23,7 +23,7 @@ use gix_hash::Prefix;
 /// ```
 pub fn find_assuming_sorted<I: Id>(ids: &[I], prefix: &Prefix) -> Run
     requires { length prefix.now.digits ≤ least_hex_len (map I.digits ids.now) }
-    ensures rises { result.start ≤ result.end }
+    ensures in_order { result.start ≤ result.end }
     ensures in_range { result.end ≤ length ids.now }
     ensures run { IsSortedIds (map I.digits ids.now)
         → IsRun prefix.now (map I.digits ids.now) result }
@@ -44,7 +44,7 @@ pub fn find_assuming_sorted<I: Id>(ids: &[I], prefix: &Prefix) -> Run
 /// ```
 pub fn find_assuming_sorted_near<I: Id>(ids: &[I], prefix: &Prefix, guess: Run) -> Run
     requires { length prefix.now.digits ≤ least_hex_len (map I.digits ids.now) }
-    ensures rises { result.start ≤ result.end }
+    ensures in_order { result.start ≤ result.end }
     ensures in_range { result.end ≤ length ids.now }
     ensures run { IsSortedIds (map I.digits ids.now)
         → IsRun prefix.now (map I.digits ids.now) result }
@@ -60,7 +60,7 @@ pub fn find_assuming_sorted_near<I: Id>(ids: &[I], prefix: &Prefix, guess: Run) 
 // whole list if the guess is no run of its positions.
 fn part_near<I: Id>(ids: &[I], prefix: &Prefix, guess: Run) -> Run
     requires { length prefix.now.digits ≤ least_hex_len (map I.digits ids.now) }
-    ensures rises { result.start ≤ result.end }
+    ensures in_order { result.start ≤ result.end }
     ensures in_range { result.end ≤ length ids.now }
     ensures above { IsSortedIds (map I.digits ids.now)
         → result.start ≤ bound_of Bound.Start prefix.now (map I.digits ids.now) }
@@ -84,10 +84,10 @@ fn part_near<I: Id>(ids: &[I], prefix: &Prefix, guess: Run) -> Run
 // before it.
 fn part_from<I: Id>(ids: &[I], prefix: &Prefix, bound: Bound, first: usize, mut high: usize) -> Run
     requires enough_digits { length prefix.now.digits ≤ least_hex_len (map I.digits ids.now) }
-    requires rises { first ≤ high }
+    requires in_order { first ≤ high }
     requires in_range { high ≤ length ids.now }
     ensures from { first ≤ result.start }
-    ensures rises { result.start ≤ result.end }
+    ensures in_order { result.start ≤ result.end }
     ensures in_range { result.end ≤ length ids.now }
     ensures above { IsSortedIds (map I.digits ids.now)
         → first ≤ bound_of bound prefix.now (map I.digits ids.now)
@@ -112,9 +112,9 @@ fn part_from<I: Id>(ids: &[I], prefix: &Prefix, bound: Bound, first: usize, mut 
 // after it.
 fn part_up_to<I: Id>(ids: &[I], prefix: &Prefix, mut low: usize, last: usize) -> Run
     requires enough_digits { length prefix.now.digits ≤ least_hex_len (map I.digits ids.now) }
-    requires rises { low ≤ last }
+    requires in_order { low ≤ last }
     requires in_range { last ≤ length ids.now }
-    ensures rises { result.start ≤ result.end }
+    ensures in_order { result.start ≤ result.end }
     ensures in_range { result.end ≤ length ids.now }
     ensures above { IsSortedIds (map I.digits ids.now)
         → result.start ≤ bound_of Bound.Start prefix.now (map I.digits ids.now) }
@@ -152,7 +152,7 @@ fn bound_assuming_sorted<I: Id>(
     mut high: usize,
 ) -> usize
     requires enough_digits { length prefix.now.digits ≤ least_hex_len (map I.digits ids.now) }
-    requires rises { low ≤ high }
+    requires in_order { low ≤ high }
     requires in_range { high ≤ length ids.now }
     ensures above { low ≤ result }
     ensures below { result ≤ high }

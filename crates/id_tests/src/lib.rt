@@ -4,6 +4,6 @@
 #[cfg(test)]
 mod expecting;
 #[cfg(test)]
-mod look_ups;
+mod id_lookup_search;
 #[cfg(test)]
 mod types;

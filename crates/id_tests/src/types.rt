@@ -1,18 +1,18 @@
 //! What no clause says of `gix_hash`: worked examples, printed texts, devices that fail, and calls
 //! that succeed.
 
-mod bad_texts;
-mod change_ids;
-mod files;
-mod formatting;
-mod hashing_writer;
-mod ids;
-mod kinds;
-mod laws;
+mod gix_hash_alphabet;
+mod gix_hash_change_id;
+mod gix_hash_display;
+mod gix_hash_file;
+mod gix_hash_kind;
+mod gix_hash_laws;
+mod gix_hash_object_id;
+mod gix_hash_prefix;
+mod gix_hash_stream;
+mod gix_hash_write;
 mod listeners;
 mod opening;
-mod prefixes;
-mod streams;
 
 use crate::expecting::expect;
 use gix_hash::ObjectId;

@@ -63,13 +63,13 @@ module _ (kind : Kind) (ids : List (List ℕ)) (index : IsIndex kind ids) where
       false≢true (sym (not_other other kind (same_kind other kind (sym long ∙ here))) ∙ differ)
 
   -- an id is one of them if and only if the run of all its digits is not empty
-  module _ (prefix : KindDigits) (run : Run) (is : IsRun prefix ids run) (rises : run.start ≤ run.end) (long : length prefix.digits ≡ hex_len_of kind) where
+  module _ (prefix : KindDigits) (run : Run) (is : IsRun prefix ids run) (in_order : run.start ≤ run.end) (long : length prefix.digits ≡ hex_len_of kind) where
     abbrev p : List ℕ → Bool
     p id = starts_with nat_eq id prefix.digits
 
     many : length (matches prefix.digits ids) ≡ run.end - run.start
     many =
-        let within : run.end - run.start ≤ length (drop run.start ids) = omega (arith, rises, is.in_range, length-drop run.start ids) in
+        let within : run.end - run.start ≤ length (drop run.start ids) = omega (arith, in_order, is.in_range, length-drop run.start ids) in
         ap length (sym is.found) ∙ length-take-le (run.end - run.start) (drop run.start ids) within
 
     same_length : (id rest : List ℕ) → id ≡ prefix.digits ++ rest → length id ≡ hex_len_of kind → id ≡ prefix.digits
@@ -81,7 +81,7 @@ module _ (kind : Kind) (ids : List (List ℕ)) (index : IsIndex kind ids) where
     run_decides = (
       λ some.
           let differ : run.start ≢ run.end = λ equal. false≢true (sym (ap not (eq-eqb run.start run.end equal)) ∙ some) in
-          let low : 0 < length (matches prefix.digits ids) = omega (arith, many, rises, differ) in
+          let low : 0 < length (matches prefix.digits ids) = omega (arith, many, in_order, differ) in
           let id = get_or (matches prefix.digits ids) 0 [] in
           let here : Contains (matches prefix.digits ids) id = Contains-get_or (matches prefix.digits ids) 0 [] low in
           let had : Contains ids id = contains_had p ids id here in

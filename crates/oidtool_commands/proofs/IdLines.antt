@@ -25,7 +25,7 @@ use Rattle.id_digits.proofs.ReadLines.{length-letters, packed_line, line_reads}
 use Rattle.id_lookup.specs.Runs.{IsSortedIds, least_hex_len}
 use Rattle.id_lookup.proofs.Indexes.{index-sorted}
 use Rattle.id_lookup.proofs.OutsidePrefixes.{no_matches}
-use Rattle.oidtool_commands.specs.Searches.{AreLinesOf, CanSkip, IsLeast, IsLineOfId, TakesLength, allows_repeats, late_error}
+use Rattle.oidtool_commands.specs.Searches.{AreLinesOf, CanSkip, IsLeast, IsLineOfId, TakesLength, allows_repeats, error_of_first}
 use Rattle.oidtool_commands.specs.declared.search.error.SearchError.TheVariants.{Unsorted, NotRising}
 use Rattle.oidtool_commands.specs.declared.search.Search.{Search}
 use Rattle.oidtool_commands.specs.declared.search.Search.TheVariants.{Sorted, In}
@@ -137,8 +137,8 @@ are_sorted (Sorted alphabet) ids h = h
 are_sorted (In kind) ids h = index-sorted kind ids h
 
 -- the error of the first id after the one before it depends on no other id
-late_any : (search : Search) (last : Option (List ℕ)) (number : ℕ) (id : List ℕ) (ids : List (List ℕ)) → late_error search 1 last (id ∷ []) ≡ None
-    → late_error search number last (id ∷ ids) ≡ None
+late_any : (search : Search) (last : Option (List ℕ)) (number : ℕ) (id : List ℕ) (ids : List (List ℕ)) → error_of_first search 1 last (id ∷ []) ≡ None
+    → error_of_first search number last (id ∷ ids) ≡ None
 late_any search None number id ids h = refl
 late_any (Sorted alphabet) (Some last) number id ids h = by (is_lt (slice_cmp nat_cmp id last)) h
   where
@@ -188,7 +188,7 @@ can_skip_of : (search : Search) (kind : Kind) (prefix : KindDigits) (last : Opti
     → full_read hex_letter (take (hex_len_of kind) (get_or lines 0 [])) ≡ Ok (whole_of first)
     → full_read hex_letter (take (hex_len_of kind) (get_or lines (length lines - 1) [])) ≡ Ok (whole_of end)
     → ((place prefix.digits (id_digits first) ≡ Less) ⊎ (place prefix.digits (id_digits end) ≡ Greater))
-    → late_error search 1 last (id_digits first ∷ []) ≡ None → CanSkip search prefix.digits (hex_len_of kind) last lines end
+    → error_of_first search 1 last (id_digits first ∷ []) ≡ None → CanSkip search prefix.digits (hex_len_of kind) last lines end
 can_skip_of search kind prefix last [] first end h some takes reads also outside late = absurd (omega arith)
 can_skip_of search kind prefix last (line ∷ lines) first end h some takes reads also outside late =
     let all = line ∷ lines in
@@ -226,7 +226,7 @@ module _ (len : ℕ) (line : IsTrue (is_line_len len)) (search : Search) (prefix
       → full_read hex_letter (take (len - 1) (get_or lines 0 [])) ≡ Ok (whole_of first)
       → full_read hex_letter (take (len - 1) (get_or lines (length lines - 1) [])) ≡ Ok (whole_of end)
       → ((place prefix.digits (id_digits first) ≡ Less) ⊎ (place prefix.digits (id_digits end) ≡ Greater))
-      → late_error search 1 last (id_digits first ∷ []) ≡ None → CanSkip search prefix.digits (len - 1) last lines end
+      → error_of_first search 1 last (id_digits first ∷ []) ≡ None → CanSkip search prefix.digits (len - 1) last lines end
   can_skip sorted some takes reads also outside late =
       let of = kind_of_line len line in
       rw of.1 (can_skip_of search of.0 prefix last lines first end (rw of.1 at sorted) some (rw of.1 at takes) (rw of.1 at reads) (rw of.1 at also) outside late)

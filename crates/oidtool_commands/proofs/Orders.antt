@@ -12,7 +12,7 @@ use Rattle.gix_hash.specs.Kinds.{hex_len_of}
 use Rattle.gix_hash.specs.declared.Kind.{Kind}
 use Rattle.id_lookup.specs.Indexes.{IsIndexUpTo, IsWrongKind, IsNotRising}
 use Rattle.id_lookup.specs.Runs.{IsFirstUnsorted}
-use Rattle.oidtool_commands.specs.Searches.{order_error, first_refused, is_above, late_error}
+use Rattle.oidtool_commands.specs.Searches.{order_error, first_refused, is_above, error_of_first}
 use Rattle.oidtool_commands.specs.declared.search.error.SearchError.{SearchError}
 use Rattle.oidtool_commands.specs.declared.search.error.SearchError.TheVariants.{Unsorted, WrongKind, NotRising}
 use Rattle.oidtool_commands.specs.declared.search.Search.{Search}
@@ -180,7 +180,7 @@ bad_at (In kind) ids at why within before here = by_reason at within before (say
             has_predecessor = omega arith;
             in_range = within;
             before = up_to (In kind) ids (suc at) (omega arith) before;
-            right = low.1;
+            same_kind = low.1;
             not_above = rw last (not_less _ low.2);
           },
         )
@@ -201,7 +201,7 @@ is_bad (In kind) n ids (suc at) why (inr (is, bad)) =
       why,
       bad.in_range,
       in_order (In kind) ids (suc at) bad.before,
-      of_kind kind (Some (get_or ids at [])) (get_or ids (suc at) []) false bad.right (is_not_less _ (rw last at bad.not_above)) ∙ ap Some (sym is),
+      of_kind kind (Some (get_or ids at [])) (get_or ids (suc at) []) false bad.same_kind (is_not_less _ (rw last at bad.not_above)) ∙ ap Some (sym is),
       refl,
     )
 
@@ -226,7 +226,7 @@ order_is search n ids =
 
 -- the first of a part may be refused for the id before it; else the part is in order if it is by itself
 late_first : (search : Search) (last : Option (List ℕ)) (n : ℕ) (ids : List (List ℕ))
-    → first_refused search last n ids ≡ option_or (late_error search n last ids) (first_refused search None n ids)
+    → first_refused search last n ids ≡ option_or (error_of_first search n last ids) (first_refused search None n ids)
 unfolding first_refused
 late_first search None n ids = refl
 late_first search (Some last) n [] = refl
@@ -244,14 +244,14 @@ late_first (In kind) (Some last) n (id ∷ ids) = by_tests (length id == hex_len
     by_tests true false more = refl
     by_tests false above more = refl
 
-pub late_is : (search : Search) (last : Option (List ℕ)) (n : ℕ) (ids : List (List ℕ)) (error : SearchError) → late_error search n last ids ≡ Some error
+pub late_is : (search : Search) (last : Option (List ℕ)) (n : ℕ) (ids : List (List ℕ)) (error : SearchError) → error_of_first search n last ids ≡ Some error
     → first_refused search last n ids ≡ Some error
 late_is search last n ids error late = late_first search last n ids ∙ rw late refl
 
-pub in_order_after : (search : Search) (last : Option (List ℕ)) (n : ℕ) (ids : List (List ℕ)) → late_error search n last ids ≡ None
+pub in_order_after : (search : Search) (last : Option (List ℕ)) (n : ℕ) (ids : List (List ℕ)) → error_of_first search n last ids ≡ None
     → IsUpTo search (length ids) ids → first_refused search last n ids ≡ None
 in_order_after search last n ids none h = late_first search last n ids ∙ rw none (in_order_is search n ids h)
 
-pub refused_after : (search : Search) (last : Option (List ℕ)) (n : ℕ) (ids : List (List ℕ)) (error : SearchError) → late_error search n last ids ≡ None
+pub refused_after : (search : Search) (last : Option (List ℕ)) (n : ℕ) (ids : List (List ℕ)) (error : SearchError) → error_of_first search n last ids ≡ None
     → first_refused search None n ids ≡ Some error → first_refused search last n ids ≡ Some error
 refused_after search last n ids error none is = late_first search last n ids ∙ rw none is

@@ -51,11 +51,11 @@ order_error (Sorted alphabet) (Some last) id = if is_lt (slice_cmp nat_cmp id la
 order_error (In kind) last id = if not (length id == hex_len_of kind) then Some WrongKind else if is_above last id then None else Some NotRising
 
 -- the error of the first of some ids, on line n, for the id before them, if it has none by itself
-abbrev pub late_error : Search → ℕ → Option (List ℕ) → List (List ℕ) → Option SearchError
-late_error search n None ids = None
-late_error search n (Some last) [] = None
-late_error (Sorted alphabet) n (Some last) (id ∷ ids) = if is_lt (slice_cmp nat_cmp id last) then Some (Unsorted n) else None
-late_error (In kind) n (Some last) (id ∷ ids) = if (length id == hex_len_of kind) && not (is_lt (slice_cmp nat_cmp last id)) then Some (NotRising n) else None
+abbrev pub error_of_first : Search → ℕ → Option (List ℕ) → List (List ℕ) → Option SearchError
+error_of_first search n None ids = None
+error_of_first search n (Some last) [] = None
+error_of_first (Sorted alphabet) n (Some last) (id ∷ ids) = if is_lt (slice_cmp nat_cmp id last) then Some (Unsorted n) else None
+error_of_first (In kind) n (Some last) (id ∷ ids) = if (length id == hex_len_of kind) && not (is_lt (slice_cmp nat_cmp last id)) then Some (NotRising n) else None
 
 -- the error of digits that are more than an id has, though the list is in order
 abbrev pub error_of_all : Search → List ℕ → List (List ℕ) → Option SearchError

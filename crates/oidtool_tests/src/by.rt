@@ -4,8 +4,8 @@ ghost use Rattle.std.specs.Prelude.{◌≡◌, false};
 
 use crate::expecting::shown;
 use crate::well_known::{BLOB_LETTERS, TREE};
+use find_calls::{find, find_change, find_from, find_in, search_from};
 use gix_hash::{Alphabet, Kind};
-use oidtool_search::{find, find_change, find_from, find_in, search_from};
 use std::alloc::Allocator;
 use std::process::Abort;
 use streams::{FromSlice, MAX_LEN, Sink, Source};
@@ -84,11 +84,11 @@ impl By {
         match self {
             By::Hex => shown(rt, find_from(alloc, prefix, input, out)),
             By::Letters => {
-                let search = oidtool_search::Search::Sorted(Alphabet::Reverse);
+                let search = find_calls::Search::Sorted(Alphabet::Reverse);
                 shown(rt, search_from(alloc, search, prefix, input, MAX_LEN, out))
             }
             By::In(kind) => {
-                let search = oidtool_search::Search::In(kind);
+                let search = find_calls::Search::In(kind);
                 shown(rt, search_from(alloc, search, prefix, input, MAX_LEN, out))
             }
         }

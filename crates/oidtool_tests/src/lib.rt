@@ -1,29 +1,29 @@
-//! Tests of `streams`, `oidtool_search` and `oidtool_commands`, by public calls only, as `oidtool`
+//! Tests of `streams`, `find_calls` and `oidtool_commands`, by public calls only, as `oidtool`
 //! uses them: what no clause says of worked examples, texts, and readers, writers and memory that
 //! fail.
 #![tactic(auto)]
 
 #[cfg(test)]
-mod asking;
-#[cfg(test)]
 mod by;
-#[cfg(test)]
-mod checking;
-#[cfg(test)]
-mod digests;
-#[cfg(test)]
-mod error_texts;
 #[cfg(test)]
 mod expecting;
 #[cfg(test)]
-mod lists;
+mod find_calls_finding;
 #[cfg(test)]
-mod running;
+mod oidtool_commands_command;
 #[cfg(test)]
-mod sealing;
+mod oidtool_commands_error;
 #[cfg(test)]
-mod searches;
+mod oidtool_commands_running;
 #[cfg(test)]
-mod starting;
+mod oidtool_commands_search;
+#[cfg(test)]
+mod oidtool_commands_status;
+#[cfg(test)]
+mod streams_checking;
+#[cfg(test)]
+mod streams_pipe;
+#[cfg(test)]
+mod streams_plain;
 #[cfg(test)]
 mod well_known;

@@ -233,7 +233,7 @@ fn push_found<I: Id, A: Allocator>(
 fn run_of<I: Id>(list: &[I], is_sorted: bool, near: &Cell<usize>, prefix: &Prefix) -> Run
     requires sorted { IsTrue is_sorted → IsSortedIds (map I.digits list.now) }
     requires enough_digits { length prefix.now.digits ≤ least_hex_len (map I.digits list.now) }
-    ensures rises { result.start ≤ result.end }
+    ensures in_order { result.start ≤ result.end }
     ensures in_range { result.end ≤ length list.now }
     ensures all { matches prefix.now.digits (map I.digits
         (slice_range list.now result.start result.end))

@@ -19,7 +19,7 @@ pub enum StoreCommand {
     /// `find`.
     Find,
     /// `where`.
-    Where,
+    Locate,
     /// `names`.
     Names,
 }
@@ -70,7 +70,7 @@ const COMMANDS: [Row; 5] = [
         ],
     },
     Row {
-        request: Request::Store(StoreCommand::Where),
+        request: Request::Store(StoreCommand::Locate),
         name: "where",
         about: "Prints each pack and offset, or loose file, of each id that begins with a prefix",
         arguments: &[

@@ -40,14 +40,14 @@ fn escaped(alloc: Global, text: &str) -> Result<String, AllocError> {
 
 /// A writer that notes that it was called.
 #[derive(Drop)]
-pub struct Noting<'a, W> {
+pub struct NotesWrites<'a, W> {
     /// The writer.
     pub inner: W,
     /// Whether something may have been written.
     pub is_written: &'a Cell<bool>,
 }
 
-impl<W: io::Write> io::Write for Noting<'_, W> {
+impl<W: io::Write> io::Write for NotesWrites<'_, W> {
     fn write(&mut self, buf: &[u8]) -> io::Result<usize> {
         self.is_written.set(true);
         self.inner.write(buf)

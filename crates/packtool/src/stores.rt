@@ -8,7 +8,7 @@ use crate::arguments::{self, StoreCommand};
 use crate::failure::Failure;
 use crate::files::expect_text;
 use crate::lines::LineReader;
-use crate::output::{Noting, buffered, flushed, report};
+use crate::output::{NotesWrites, buffered, flushed, report};
 use crate::words::{beginning, lossy_text};
 use crate::{FAILED, FOUND, NOTHING};
 use clap::ArgMatches;
@@ -102,7 +102,7 @@ fn run_once<'a>(
     reported: &mut Vec<String>,
     is_written: &Cell<bool>,
 ) -> Result<u8, Failure<'a>> {
-    let output = Noting {
+    let output = NotesWrites {
         inner: rt.stdout(),
         is_written,
     };
@@ -142,7 +142,7 @@ fn write_lines<'a, W: io::Write>(
             let ran = find(rt.alloc(), &store, &prefix, out);
             status_of(rt, &store, ran, reported, out)
         }
-        StoreCommand::Where => {
+        StoreCommand::Locate => {
             let (store, prefix) = open_part(rt, folder, matches)?;
             write_locations(rt, &store, &prefix, reported, out)
         }
@@ -175,7 +175,7 @@ fn write_each<'a, W: io::Write>(
     let store = FolderStore::open(rt, folder, loose_of(lines))?;
     let ran = match command {
         StoreCommand::Find => find_each(rt.alloc(), &store, lines, answers, out),
-        StoreCommand::Where => {
+        StoreCommand::Locate => {
             check_loose_files(rt, &store, lines)?;
             locate_each(rt.alloc(), &store, lines, answers, out)
         }

@@ -74,14 +74,14 @@ pub fn pair<I: ReadAt, P: ReadAt>(index: &I, pack: &P, kind: Kind) -> Result<Pai
         last_digest_but(1, index, kind),
         last_digest_but(0, pack, kind),
     ) {
-        (Ok(named), Ok(found)) => Ok(compared(named, found)),
+        (Ok(named), Ok(found)) => Ok(pairing_of(named, found)),
         (Err(error), _) => Err(PairingError::Index(error)),
         (_, Err(error)) => Err(PairingError::Pack(error)),
     }
 }
 
 // Whether an index has the digest in which a pack ends.
-fn compared(named: Option<ObjectId>, found: Option<ObjectId>) -> Pairing
+fn pairing_of(named: Option<ObjectId>, found: Option<ObjectId>) -> Pairing
     ensures { (kind : Kind) (of_index of_pack : List ℕ) → IsDigest kind of_index named
         → IsDigest kind of_pack found → IsPairing kind of_index of_pack result }
 {

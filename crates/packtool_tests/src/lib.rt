@@ -8,22 +8,22 @@
 #[cfg(test)]
 mod content;
 #[cfg(test)]
-mod each_line;
-#[cfg(test)]
 mod expecting;
-#[cfg(test)]
-mod file_lines;
-#[cfg(test)]
-mod look_ups;
-#[cfg(test)]
-mod many_names;
 #[cfg(test)]
 mod memory;
 #[cfg(test)]
-mod offsets;
+mod object_store_gathering;
 #[cfg(test)]
-mod pairing;
+mod pack_index_lazy;
 #[cfg(test)]
-mod printing;
+mod pack_index_shared;
 #[cfg(test)]
-mod texts;
+mod packtool_commands_asking;
+#[cfg(test)]
+mod packtool_commands_error;
+#[cfg(test)]
+mod packtool_commands_finding;
+#[cfg(test)]
+mod packtool_commands_pairing;
+#[cfg(test)]
+mod packtool_commands_showing;

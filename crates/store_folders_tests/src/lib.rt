@@ -4,14 +4,14 @@
 #![tactic(auto)]
 
 #[cfg(test)]
-mod examples;
+mod callers_names;
+#[cfg(test)]
+mod callers_resolving;
 #[cfg(test)]
 mod expecting;
 #[cfg(test)]
 mod folders;
 #[cfg(test)]
-mod repository;
+mod store_folders_source;
 #[cfg(test)]
-mod sources;
-#[cfg(test)]
-mod store;
+mod store_folders_store;

@@ -23,7 +23,7 @@ pub fn next_chunk<R: Source>(
     total: &mut u64,
     buf: &mut [u8],
 ) -> Result<usize, PipeError>
-    requires stands { R.has_failed input.old ≡ false }
+    requires not_failed { R.has_failed input.old ≡ false }
     requires limit { total.old ≤ MAX_LEN }
     requires room { 0 < length buf.old }
     ensures bound { IfOk result (λ count. count ≤ length buf.new) }

@@ -9,7 +9,7 @@ ghost use Rattle.gix_hash.specs.Digits.{place};
 ghost use Rattle.id_digits.specs.Letters.{is_line_len};
 ghost use Rattle.id_lookup.specs.Indexes.{IsIndex};
 ghost use Rattle.id_lookup.specs.Runs.{matches};
-ghost use Rattle.oidtool_commands.specs.Searches.{CanSkip, IsFor, IsLeast, TakesLength, allows_repeats, error_of_all, first_refused, late_error};
+ghost use Rattle.oidtool_commands.specs.Searches.{CanSkip, IsFor, IsLeast, TakesLength, allows_repeats, error_of_all, first_refused, error_of_first};
 ghost use Rattle.oidtool_commands.specs.declared.search.Search.{Search};
 
 use crate::search::Search;
@@ -58,7 +58,7 @@ impl Query {
         ensures refused { IfErr result (λ e. first_refused self.now.search
             (option_map id_digits last) (before + 1) (map id_digits part.now) ≡ Some e) }
     {
-        if let Some(error) = late_error(self.search, before, last, part) {
+        if let Some(error) = error_of_first(self.search, before, last, part) {
             return Err(error);
         }
         match self.search {
@@ -99,7 +99,7 @@ impl Query {
         if !self.is_outside(&first, &end) {
             return None;
         }
-        if late_error(self.search, 0, last, &[first]).is_some() {
+        if error_of_first(self.search, 0, last, &[first]).is_some() {
             return None;
         }
         if are_sorted_lines(lines, self.allows_repeats()) {
@@ -158,14 +158,14 @@ impl Query {
 
 // The error of the first of the ids for the one before it, `last`. `before` is the number of ids
 // before them.
-fn late_error(
+fn error_of_first(
     search: Search,
     before: usize,
     last: Option<ObjectId>,
     ids: &[ObjectId],
 ) -> Option<SearchError>
     requires { before + length ids.now < 2 ^ 64 }
-    ensures { result ≡ late_error search (before + 1) (option_map id_digits last)
+    ensures { result ≡ error_of_first search (before + 1) (option_map id_digits last)
         (map id_digits ids.now) }
 {
     let last = last?;

@@ -20,9 +20,9 @@ find_assuming_sorted_near-run-requires-in-Sha256 c =
 pub returns-in-Sha1 : goal.returns-in-Sha1
 returns-in-Sha1 c =
     let same = ap (λ (chunks : List (List ℕ)). map digits_of chunks) c.as_chunks.ensures.front ∙ ap (λ kind. digests_in kind c.args.table.now) (sym c.in-Sha1.is) in
-    found_in c.args.prefix.now _ _ _ same c.find_assuming_sorted_near-run.ensures.rises c.find_assuming_sorted_near-run.ensures.in_range c.find_assuming_sorted_near-run.ensures.run
+    found_in c.args.prefix.now _ _ _ same c.find_assuming_sorted_near-run.ensures.in_order c.find_assuming_sorted_near-run.ensures.in_range c.find_assuming_sorted_near-run.ensures.run
 
 pub returns-in-Sha256 : goal.returns-in-Sha256
 returns-in-Sha256 c =
     let same = ap (λ (chunks : List (List ℕ)). map digits_of chunks) c.as_chunks-in-Sha256.ensures.front ∙ ap (λ kind. digests_in kind c.args.table.now) (sym c.in-Sha256.is) in
-    found_in c.args.prefix.now _ _ _ same c.find_assuming_sorted_near-run-in-Sha256.ensures.rises c.find_assuming_sorted_near-run-in-Sha256.ensures.in_range c.find_assuming_sorted_near-run-in-Sha256.ensures.run
+    found_in c.args.prefix.now _ _ _ same c.find_assuming_sorted_near-run-in-Sha256.ensures.in_order c.find_assuming_sorted_near-run-in-Sha256.ensures.in_range c.find_assuming_sorted_near-run-in-Sha256.ensures.run

@@ -19,4 +19,4 @@ returns-then-not-has_offset c =
 
 pub name_at-requires : goal.name_at-requires
 name_at-requires c =
-    rw c.names.ensures (omega (arith, c.if-at-num_objects.false, c.num_objects.ensures, length-names_in c.in-Some.kind c.args.bytes.now c.in_default-tables.ensures.tables))
+    rw c.id_table.ensures (omega (arith, c.if-at-num_objects.false, c.num_objects.ensures, length-names_in c.in-Some.kind c.args.bytes.now c.in_default-tables.ensures.tables))

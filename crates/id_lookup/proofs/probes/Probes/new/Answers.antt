@@ -6,5 +6,5 @@ pub over-requires : goal.over-requires
 over-requires g c =
     rw c.members.ensures.value record {
       sorted = c.members.ensures.sorted;
-      reach = λ k d inside. omega (arith, c.requires, least_hex_len-le c.args.ids.now k d inside);
+      enough_digits = λ k d inside. omega (arith, c.requires, least_hex_len-le c.args.ids.now k d inside);
     }

@@ -39,7 +39,7 @@ returns c =
     let long : length c.from.result.digits ≡ hex_len_of kind =
     ap length digits ∙ c.kind.ensures.len ∙ ap hex_len_of (sym c.kind.ensures.value ∙ no_other c.kind.result kind (sym c.ne.ensures ∙ c.if-ne.false)) in
     let run = c.find_assuming_sorted-run.result in
-    let decides = run_decides kind (map id_digits ids) index c.from.result run (c.find_assuming_sorted-run.ensures.run (index-sorted kind (map id_digits ids) index)) c.find_assuming_sorted-run.ensures.rises long in
+    let decides = run_decides kind (map id_digits ids) index c.from.result run (c.find_assuming_sorted-run.ensures.run (index-sorted kind (map id_digits ids) index)) c.find_assuming_sorted-run.ensures.in_order long in
     subst (λ (ds : List ℕ). IsTrue (not (nat_eq run.start run.end)) ↔ Contains c.args.self.now.ids ds) digits
     (subst (λ (xs : List (List ℕ)). IsTrue (not (nat_eq run.start run.end)) ↔ Contains xs c.from.result.digits)
     (ap (map id_digits) c.deref.ensures.value ∙ ap (λ (x : Index). x.ids) c.self.view_is) decides)

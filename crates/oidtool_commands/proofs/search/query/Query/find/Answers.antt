@@ -7,15 +7,15 @@ use Rattle.oidtool_commands.proofs.Orders.{late_is, in_order_after, refused_afte
 use Rattle.oidtool_commands.proofs.search.query.Query.find.Goals as goal
 
 pub returns-in-Some-clause-refused : goal.returns-in-Some-clause-refused
-returns-in-Some-clause-refused c = late_is _ _ _ _ _ (sym c.late_error.ensures ∙ c.in-Some.is)
+returns-in-Some-clause-refused c = late_is _ _ _ _ _ (sym c.error_of_first.ensures ∙ c.in-Some.is)
 
 pub returns-then-hex_len-min-clause-in_order : goal.returns-then-hex_len-min-clause-in_order
 returns-then-hex_len-min-clause-in_order c =
-    in_order_after _ _ _ _ (sym c.late_error.ensures ∙ c.in_default.is) (rw c.in-Sorted.is (c.in-Ok.ensures.sorted.0 refl))
+    in_order_after _ _ _ _ (sym c.error_of_first.ensures ∙ c.in_default.is) (rw c.in-Sorted.is (c.in-Ok.ensures.sorted.0 refl))
 
 pub returns-else-hex_len-min-clause-in_order : goal.returns-else-hex_len-min-clause-in_order
 returns-else-hex_len-min-clause-in_order c =
-    in_order_after _ _ _ _ (sym c.late_error.ensures ∙ c.in_default.is) (rw c.in-Sorted.is (c.in-Ok.ensures.sorted.0 refl))
+    in_order_after _ _ _ _ (sym c.error_of_first.ensures ∙ c.in_default.is) (rw c.in-Sorted.is (c.in-Ok.ensures.sorted.0 refl))
 
 pub returns-else-hex_len-min-clause-within : goal.returns-else-hex_len-min-clause-within
 returns-else-hex_len-min-clause-within c = no_more_found _ _ _ _ c.matches.ensures c.in-Ok.ensures.ok
@@ -24,14 +24,14 @@ pub returns-in-Err-clause-refused : goal.returns-in-Err-clause-refused
 returns-in-Err-clause-refused c =
     let at = c.in-Err.unsorted.at in
     let line : c.args.before + 1 + at ≡ c.args.before + at + 1 = omega arith in
-    refused_after _ _ _ _ _ (sym c.late_error.ensures ∙ c.in_default.is)
+    refused_after _ _ _ _ _ (sym c.error_of_first.ensures ∙ c.in_default.is)
     (rw c.in-Sorted.is (bad_is (Sorted c.in-Sorted.field-0) _ _ at Unsorted (refl, c.in-Err.ensures.err) ∙ ap (λ k. Some (Unsorted k)) line))
 
 pub returns-in_ok-find_in_index-in-In-clause-in_order : goal.returns-in_ok-find_in_index-in-In-clause-in_order
 returns-in_ok-find_in_index-in-In-clause-in_order c =
-    in_order_after _ _ _ _ (sym c.late_error.ensures ∙ c.in_default.is) (rw c.in-In.is c.in_ok-find_in_index-in-In.ensures.in_order)
+    in_order_after _ _ _ _ (sym c.error_of_first.ensures ∙ c.in_default.is) (rw c.in-In.is c.in_ok-find_in_index-in-In.ensures.in_order)
 
 pub returns-in_err-find_in_index-in-In-clause-refused : goal.returns-in_err-find_in_index-in-In-clause-refused
 returns-in_err-find_in_index-in-In-clause-refused c =
     let p = err_from_is_err_and c.from_residual.result c.from_residual.ensures.1 in
-    rw (p.1, p.2) (refused_after _ _ _ _ _ (sym c.late_error.ensures ∙ c.in_default.is) (rw c.in-In.is c.in_err-find_in_index-in-In.ensures.bad))
+    rw (p.1, p.2) (refused_after _ _ _ _ _ (sym c.error_of_first.ensures ∙ c.in_default.is) (rw c.in-In.is c.in_err-find_in_index-in-In.ensures.bad))

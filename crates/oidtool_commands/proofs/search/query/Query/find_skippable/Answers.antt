@@ -18,4 +18,4 @@ returns-then-are_sorted_lines g c =
     (rw c.allows_repeats.ensures at (c.are_sorted_lines.ensures c.if-are_sorted_lines.true)) some (c.if-not-takes_length.ensures.search refl)
     (subst (λ line. full_read hex_letter (take n line) ≡ Ok (whole_of c.in_ok-first.first)) start (found_reads c.in_ok-first.first _ c.in_ok-first.ensures))
     (subst (λ line. full_read hex_letter (take n line) ≡ Ok (whole_of c.in_ok-end.end)) stop (found_reads c.in_ok-end.end _ c.in_ok-end.ensures))
-    (c.if-not-is_outside.ensures refl) (sym c.late_error.ensures ∙ is_none c.late_error.result (sym c.is_some.ensures ∙ c.if-is_some.false))
+    (c.if-not-is_outside.ensures refl) (sym c.error_of_first.ensures ∙ is_none c.error_of_first.result (sym c.is_some.ensures ∙ c.if-is_some.false))

@@ -1,8 +1,8 @@
 //! Digests of files.
 
+use super::gix_hash_stream::{ABC, ABC_256, EMPTY};
 use super::listeners::{Asked, Call, Heard};
 use super::opening::Opening;
-use super::streams::{ABC, ABC_256, EMPTY};
 use super::{expect_kind, expect_outcome};
 use crate::expecting::expect;
 use gix_hash::io::{Never, NoProgress};

@@ -2,7 +2,7 @@
 //! fail.
 
 use crate::expecting::{expect, expect_printed};
-use crate::sealing::{ABC, ABC_256, EMPTY, EMPTY_256, sealed};
+use crate::streams_pipe::{ABC, ABC_256, EMPTY, EMPTY_256, sealed};
 use gix_hash::Kind;
 use std::process::Abort;
 use streams::{Ending, PipeError, Plain, Source, check_seal};

@@ -1,12 +1,12 @@
 -- The errors of the searches as causes: each is an error of the search in what a source gives.
 use Rattle.oidtool_commands.specs.declared.SearchError.{SearchError}
 use Rattle.oidtool_commands.specs.declared.SearchError.TheVariants as cause
-use Rattle.oidtool_search.specs.declared.finding.FindError.{FindError}
-use Rattle.oidtool_search.specs.declared.finding.FindError.TheVariants as sorted
-use Rattle.oidtool_search.specs.declared.finding_in.FindInError.{FindInError}
-use Rattle.oidtool_search.specs.declared.finding_in.FindInError.TheVariants as in_kind
-use Rattle.oidtool_search.specs.declared.finding_from.FindFromError.{FindFromError}
-use Rattle.oidtool_search.specs.declared.finding_from.FindFromError.TheVariants as from
+use Rattle.find_calls.specs.declared.finding.FindError.{FindError}
+use Rattle.find_calls.specs.declared.finding.FindError.TheVariants as sorted
+use Rattle.find_calls.specs.declared.finding_in.FindInError.{FindInError}
+use Rattle.find_calls.specs.declared.finding_in.FindInError.TheVariants as in_kind
+use Rattle.find_calls.specs.declared.finding_from.FindFromError.{FindFromError}
+use Rattle.find_calls.specs.declared.finding_from.FindFromError.TheVariants as from
 
 -- the cause of an error of `find` and `find_change`
 abbrev pub cause_of : FindError → SearchError

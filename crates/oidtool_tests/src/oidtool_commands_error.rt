@@ -1,10 +1,10 @@
 //! The texts of errors.
 
 use crate::expecting::expect_printed;
+use find_calls::{FindError, FindFromError, FindInError, SearchError};
 use gix_hash::prefix::from_hex;
 use gix_hash::{Kind, decode};
 use oidtool_commands::CommandError;
-use oidtool_search::{FindError, FindFromError, FindInError, SearchError};
 use streams::PipeError;
 
 // The texts of errors that several types have.

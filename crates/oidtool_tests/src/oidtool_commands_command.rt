@@ -1,8 +1,8 @@
 //! The commands that compute digests: their words, and their runs.
 
 use crate::expecting::{expect, expect_shown};
-use crate::running::{expect_flushed, expect_run};
-use crate::sealing::{ABC, sealed};
+use crate::oidtool_commands_running::{expect_flushed, expect_run};
+use crate::streams_pipe::{ABC, sealed};
 use gix_hash::Kind;
 use oidtool_commands::{Command, read_command};
 use std::fs;

@@ -1,8 +1,8 @@
 //! The words that a program is started with, and what it reports at its end.
 
 use crate::expecting::expect;
+use find_calls::FindError;
 use oidtool_commands::{WordsError, command_line_args, report};
-use oidtool_search::FindError;
 use std::alloc::Global;
 use std::cell::Cell;
 use std::env::FillError;

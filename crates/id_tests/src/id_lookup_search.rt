@@ -6,7 +6,7 @@ use gix_hash::{Kind, ObjectId, Prefix};
 use id_lookup::{Probes, Run, SortedIds, lookup};
 use std::process::Abort;
 
-mod index;
+mod id_lookup_index;
 
 // The ids of the empty blobs and trees, in order.
 fn well_known() -> [ObjectId; 4] {

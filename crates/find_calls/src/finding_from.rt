@@ -2,9 +2,9 @@
 
 ghost use Rattle.std.specs.Prelude.{◌≡◌, ◌≢◌, ◌↔◌, true, false, IsErr, IfOk, IfErr, IsErrOf};
 ghost use Rattle.gix_hash.specs.declared.Alphabet.{Alphabet};
-ghost use Rattle.oidtool_search.specs.Errors.{cause_from};
+ghost use Rattle.find_calls.specs.Errors.{cause_from};
 ghost use Rattle.oidtool_commands.specs.Searches.{Fails, Finds, From, IsOwn, prefix_of};
-ghost use Rattle.oidtool_search.specs.declared.finding_from.FindFromError.{FindFromError};
+ghost use Rattle.find_calls.specs.declared.finding_from.FindFromError.{FindFromError};
 ghost use Rattle.oidtool_commands.specs.declared.Search.{Search};
 
 use gix_hash::{Alphabet, decode, prefix};

@@ -6,8 +6,8 @@ use crate::expecting::{expect, expect_bytes, expect_text};
 use crate::well_known::{
     BLOB, BLOB_256, BLOB_LETTERS, NO_MATCH, TREE, TREE_256, TREE_LETTERS, text_of,
 };
+use find_calls::{Search, search_from};
 use gix_hash::Kind;
-use oidtool_search::{Search, search_from};
 use std::alloc::{AllocError, Global};
 use std::process::Abort;
 use std::test::Fail;

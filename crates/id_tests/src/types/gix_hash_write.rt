@@ -1,6 +1,6 @@
 //! What is written through a hashing writer.
 
-use super::streams::{ABC, EMPTY, THREE_CHUNKS};
+use super::gix_hash_stream::{ABC, EMPTY, THREE_CHUNKS};
 use super::{BLOB, expect_kind, expect_outcome, expect_text};
 use crate::expecting::expect;
 use gix_hash::{Kind, io};
