@@ -1,6 +1,6 @@
 //! What a pack index is read from.
 
-ghost use Rattle.std.specs.Prelude.{◌≤◌};
+ghost use Rattle.std.specs.Prelude.{◌≤◌, None, true};
 
 use std::alloc::{AllocError, Global};
 use std::cell::Cell;
@@ -120,8 +120,6 @@ impl<R: Files<File = File>> Source<R> {
 
 /// What a file contains is not known.
 impl<R: Files<File = File>> ReadAt for Source<R> {
-    ghost use Rattle.std.specs.Prelude.{None, true};
-
     ghost content = { λ _. None };
 
     ghost can_fail = { λ _. true };

@@ -1,6 +1,6 @@
 //! An object store in directories.
 
-ghost use Rattle.std.specs.Prelude.{◌≡◌, All, IfOk};
+ghost use Rattle.std.specs.Prelude.{◌≡◌, All, IfOk, [], flat_map, map, slice_index_or, string_bytes};
 ghost use Rattle.gix_hash.specs.Ids.{id_kind};
 
 use crate::error::Error;
@@ -250,7 +250,6 @@ impl<R: Files<File = File> + AllocGlobal + Clone + Drop> Store for FolderStore<R
 }
 
 impl<R: Files<File = File> + AllocGlobal + Clone + Drop> StorePaths for FolderStore<R> {
-    ghost use Rattle.std.specs.Prelude.{[], flat_map, map, slice_index_or, string_bytes};
     ghost use Rattle.store_folders.specs.LoosePaths.{paths_in};
 
     ghost pack_path = { λ store pack. slice_index_or (map string_bytes store.packs.items) pack [] };
