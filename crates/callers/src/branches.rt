@@ -3,7 +3,7 @@
 
 ghost use Rattle.std.specs.Prelude.{◌≡◌, ◌↔◌, ◌≤◌, ℕ, IfSome, IsSome, length, map, slice_range};
 ghost use Rattle.std.specs.List.Sorted.{IsPermutation};
-ghost use Rattle.gix_hash.specs.Ids.{id_digits};
+ghost use Rattle.gix_hash.specs.Ids.{id_digits, id_kind};
 ghost use Rattle.id_lookup.specs.Runs.{IsRun, IsSortedIds, least_hex_len};
 ghost use Rattle.callers.specs.declared.branches.Branch.{Branch};
 
@@ -20,9 +20,6 @@ pub struct Branch<'a> {
 }
 
 impl Id for Branch<'_> {
-    ghost use Rattle.gix_hash.specs.Ids.{id_digits, id_kind};
-    ghost use Rattle.callers.specs.declared.branches.Branch.{Branch};
-
     ghost kind = { λ b. id_kind b.id };
 
     ghost digits = { λ b. id_digits b.id };
