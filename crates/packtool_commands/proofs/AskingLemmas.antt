@@ -1,5 +1,5 @@
 -- The lines of a text and what is printed for them, one after the other.
-use Rattle.std.proofs.Common.{◌≡◌, ◌≢◌, ℕ, zero, suc, ◌<◌, ◌≤◌, Bool, true, false, ◌&&◌, nat_lt, Option, None, Some, List, [], ◌∷◌, ◌++◌, length, get_or, map, refl, sym, ap, ◌∙◌, arith}
+use Rattle.std.proofs.Common.{◌≡◌, ℕ, zero, suc, ◌<◌, ◌≤◌, Bool, true, false, ◌&&◌, nat_lt, Option, None, Some, List, [], ◌∷◌, ◌++◌, length, get_or, map, refl, sym, ap, ◌∙◌, arith}
 use Rattle.std.specs.Prelude.{codes, if◌then◌else◌}
 use Rattle.std.specs.List.{All, flat_map}
 use Rattle.std.specs.Option.{is_some, option_map, option_to_list}
@@ -41,24 +41,6 @@ pub found_one : {X : Type 0} (text : Option (List ℕ) → X → List ℕ) (answ
 found_one text answers line [] x one many first = absurd (omega (arith, many))
 found_one text answers line (y ∷ []) x one many first = ap (text None) first ∙ ap (λ a. found_text text a line (y ∷ [])) (sym one)
 found_one text answers line (y ∷ (other ∷ found)) x one many first = absurd (omega (arith, many))
-
--- more than one
-pub found_many : {X : Type 0} (text : Option (List ℕ) → X → List ℕ) (answers : Answers) (line : List ℕ) (found : List X) → answers ≡ OneOfThem → 0 < length found
-    → length found ≢ 1 → line_with line (codes "ambiguous") ≡ found_text text answers line found
-found_many text answers line [] one some many = absurd (omega (arith, some))
-found_many text answers line (x ∷ []) one some many = absurd (many refl)
-found_many text answers line (x ∷ (other ∷ found)) one some many = ap (λ a. found_text text a line (x ∷ (other ∷ found))) (sym one)
-
--- what is printed for a prefix, and whether it has what is asked for, by the first of what was found
-pub answer_to-first : {X : Type 0} (text : List ℕ → X → List ℕ) (line : List ℕ) (p : Bool) (found : List X) (x : X) → p ≡ true → 0 < length found → x ≡ get_or found 0 x
-    → text line x ≡ answer_to text line p found
-answer_to-first text line p [] x is some first = absurd (omega (arith, some))
-answer_to-first text line p (y ∷ found) x is some first = ap (text line) first ∙ ap (λ q. answer_to text line q (y ∷ found)) (sym is)
-
-pub is_answer_to-first : {X : Type 0} (is_wanted : X → Bool) (p : Bool) (found : List X) (x : X) → p ≡ true → 0 < length found → x ≡ get_or found 0 x
-    → is_wanted x ≡ is_answer_to is_wanted p found
-is_answer_to-first is_wanted p [] x is some first = absurd (omega (arith, some))
-is_answer_to-first is_wanted p (y ∷ found) x is some first = ap is_wanted first ∙ ap (λ q. is_answer_to is_wanted q (y ∷ found)) (sym is)
 
 pub and_true : (a : Bool) → (a && true) ≡ a
 and_true true = refl
