@@ -11,9 +11,6 @@ pub record ReadsEntries (separator : ℕ) (list : List ℕ) (paths : List (List 
   pub on : (more : List (List ℕ)) → HasEntries separator left more → HasEntries separator list (entries ++ more)
   pub named : paths ≡ filter (λ path. not (length path == 0)) entries
 
-pub reads_no_entry : (separator : ℕ) (list : List ℕ) → ReadsEntries separator list [] list
-reads_no_entry separator list = record { entries = []; on = λ more h. h; named = refl }
-
 pub reads_entry : (separator : ℕ) (list left path rest : List ℕ) (paths : List (List ℕ)) → left ≢ [] → HasEntry separator left path rest
     → ReadsEntries separator list paths left → ReadsEntries separator list (paths ++ filter (λ path. not (length path == 0)) (path ∷ [])) rest
 reads_entry separator list left path rest paths some entry reads = record {

@@ -8,9 +8,6 @@ pub record Reads (text bytes left : List ℕ) : Type 0 where
   pub on : (more end : List ℕ) → Means left more end → Means text (bytes ++ more) end
   pub only : (all end : List ℕ) → Means text all end → (more : List ℕ) × (all ≡ bytes ++ more) × Means left more end
 
-pub reads_none : (text : List ℕ) → Reads text [] text
-reads_none text = record { on = λ more end h. h; only = λ all end h. (all, refl, h) }
-
 one_byte : (left rest : List ℕ) (byte : ℕ) → quoted_byte left ≡ Some (byte, rest) → (all end : List ℕ) → Means left all end → (more : List ℕ) × (all ≡ byte ∷ more) × Means rest more end
 one_byte left rest byte is [] end h = absurd (let none = h.1 in cc)
 one_byte left rest byte is (first ∷ more) end h =

@@ -26,15 +26,6 @@ reads_nothing text section left format none all is = record {
   say = is;
 }
 
-pub reads_item : (text section left new after : List ℕ) (format more : Format) (item : Option Variable) → ReadSoFar text section left format
-    → ((all : List ℕ) (variables : List Variable) → HasRead all variables section left → HasRead all (variables ++ option_to_list item) new after)
-    → ((variables : List Variable) → IsFormatOf format variables → IsFormatOf more (variables ++ option_to_list item)) → ReadSoFar text new after more
-reads_item text section left new after format more item so_far reads says = record {
-  variables = so_far.variables ++ option_to_list item;
-  read = reads text so_far.variables so_far.read;
-  say = says so_far.variables so_far.say;
-}
-
 -- with no variable the same were read
 pub no_more : (all : List ℕ) (variables : List Variable) (name rest : List ℕ) → HasRead all variables name rest → HasRead all (variables ++ []) name rest
 no_more all variables name rest read = subst (λ (more : List Variable). HasRead all more name rest) (sym (append-nil variables)) read
