@@ -23,7 +23,7 @@ PROGRAM = "probe"
 # configuration would change what git does, and a calling make's variables what make does.
 CLEAN = {key: value for key, value in os.environ.items() if not key.startswith(("GIT_", "MAKE", "MFLAGS"))}
 CLEAN |= {"GIT_CONFIG_GLOBAL": os.devnull, "GIT_CONFIG_NOSYSTEM": "1"}
-# What takes longer than so many seconds has failed.
+# What takes longer than so many seconds has failed; of what lets others go first, six times as many.
 LIMIT = 1800
 # How many blobs a store has in its packs, if nobody says it.
 PACKED = 3000
@@ -84,12 +84,13 @@ def count(results):
 @contextlib.contextmanager
 def started(words, limit=LIMIT, **options):
     """A command that runs in the environment CLEAN, or in that of the options. It and all that it started are killed
-    after so many seconds, and end when the block is left."""
+    after so many seconds, or six times as many, and end when the block is left."""
     with subprocess.Popen(words, **{"env": CLEAN, "stdout": subprocess.PIPE, "start_new_session": True, **options}) as child:
         # (where the kernel shares processors by sessions, of which the command is one, nice(1) alone says nothing)
         with contextlib.suppress(OSError):
             Path(f"/proc/{child.pid}/autogroup").write_text(str(os.nice(0)), encoding="ascii")
-        timer = threading.Timer(limit, end, (child, signal.SIGKILL))
+        # (what lets others go first may have to wait for them)
+        timer = threading.Timer(limit * (6 if os.nice(0) > 0 else 1), end, (child, signal.SIGKILL))
         timer.start()
         RUNNING.add(child)
         try:
