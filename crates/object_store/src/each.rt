@@ -110,10 +110,7 @@ fn first_bytes<A: Allocator + Copy>(
 
 // The positions of prefixes, each after a key, in the order of the prefixes. So those with one
 // first byte follow each other, and a search for one begins near where it ends.
-fn in_order<A: Allocator>(
-    alloc: A,
-    prefixes: &[Prefix],
-) -> Result<Vec<(u64, usize), A>, AllocError>
+fn in_order<A: Allocator>(alloc: A, prefixes: &[Prefix]) -> Result<Vec<(u64, usize), A>, AllocError>
     ensures { IfOk result (λ places. ArePlaces (length prefixes.now) places.items) }
 {
     let mut places = Vec::with_capacity(alloc, prefixes.len())?;

@@ -221,7 +221,7 @@ fn push_found<I: Id, A: Allocator>(
 {
     let run = run_of(list, is_sorted, near, prefix);
     if ids.is_empty() {
-        // (no more than they need: most prefixes are those of one id)
+        // Most prefixes are of one id, for which a vector makes room for four.
         ids.reserve_exact(run.end - run.start)?;
     }
     push_each(&list[run.start..run.end], kind, prefix, ids)

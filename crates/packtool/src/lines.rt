@@ -12,6 +12,7 @@ pub const MAX_LEN: usize = 1 << 20;
 // The length of the buffer at first, and the most until a line does not fit it. Its pages cost more
 // time than a short input.
 const FIRST_LEN: usize = 1 << 14;
+
 const BUF_LEN: usize = 1 << 18;
 
 // The most lines of a chunk, where a short one counts as several.
