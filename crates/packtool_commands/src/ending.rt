@@ -5,7 +5,7 @@ ghost use Rattle.packtool_commands.specs.Files.{named, verdict};
 ghost use Rattle.streams.specs.Streams.{Wrote};
 
 use crate::escaping::write_named;
-use crate::lines::{MAX_VERDICT_LEN, put_verdict};
+use crate::lines::{Line, push, push_digest};
 use streams::{Ending, Sink, WriteFailed};
 
 /// Writes the line of a file with this name whose bytes end so: `NAME: OK`, or `NAME: FAILED` and
@@ -25,7 +25,27 @@ pub fn write_ending<W: Sink>(name: &str, ending: &Ending, out: &mut W) -> Result
     ensures { Wrote W.taken W.has_failed out.old out.new result
         (named name.now (verdict ending.now)) }
 {
-    let mut line = [0; MAX_VERDICT_LEN];
-    let len = put_verdict(ending, &mut line);
-    write_named(name, &line[..len], out)
+    write_named(name, verdict(ending).as_slice(), out)
+}
+
+// What is said of a checked file after its name.
+fn verdict(ending: &Ending) -> Line
+    ensures { result.items ≡ verdict ending.now }
+{
+    let mut line = Line::new();
+    match ending {
+        Ending::Sealed(_) => push(&mut line, b": OK\n"),
+        Ending::Unsealed {
+            digest,
+            last: Some(last),
+        } => {
+            push_digest(&mut line, b": FAILED: it ends in ", last);
+            push_digest(&mut line, b", and the digest of the rest is ", digest);
+            push(&mut line, b"\n");
+        }
+        Ending::Unsealed { last: None, .. } => {
+            push(&mut line, b": FAILED: it is shorter than a digest\n");
+        }
+    }
+    line
 }

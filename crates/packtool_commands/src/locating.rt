@@ -7,18 +7,19 @@ ghost use Rattle.gix_hash.specs.Ids.{id_digits, id_kind};
 ghost use Rattle.id_lookup.specs.Runs.{matches};
 ghost use Rattle.object_store.specs.Several.{IsLocationsFaultOfOne};
 ghost use Rattle.object_store.specs.Stores.{HaveAllLocations, HaveBuckets, HaveLocations, Holds, IsLocateFault, IsLocationsFault};
-ghost use Rattle.packtool_commands.specs.Stores.{HasLocated, HasLocatedEach, HasLocatedPart, HaveAllBuckets, IsFaultOf, IsMemory, lines_at, lines_at_after, lines_of_locations, location_line, location_line_after, prefixes_of};
+ghost use Rattle.packtool_commands.specs.Stores.{HasLocated, HasLocatedEach, HasLocatedPart, HaveAllBuckets, IsFaultOf, IsMemory, lines_at, lines_at_after, lines_of_locations, location_end, location_line, location_line_after, prefixes_of};
 ghost use Rattle.packtool_commands.specs.declared.error.StoreError.{StoreError};
 ghost use Rattle.streams.specs.Streams.{AppendsAtMost, Wrote, lines_of};
 
-use crate::asking::{Answers, Entry, Listed, prefixes_in, write_answers, write_front};
+use crate::asking::{Answers, Entry, Listed, prefixes_in, write_answers, write_front, write_two};
 use crate::error::StoreError;
 use crate::escaping::{write_before, write_mark};
-use crate::lines::{MAX_END_LEN, MAX_START_LEN, put_location_end, put_location_start};
-use gix_hash::{ObjectId, Prefix};
+use crate::lines::{Line, push};
+use gix_hash::{Kind, ObjectId, Prefix};
+use itoa::Buffer;
 use object_store::{LocatedId, Location, Part, StorePaths, locate_prefixes};
 use std::alloc::Allocator;
-use streams::{Sink, WriteFailed, write_all};
+use streams::{Sink, WriteFailed};
 
 /// Writes a line for each location of each id of a store that begins with a prefix: the ids in
 /// order, each once; the locations of one in the order of [`object_store::locate`]; and of a loose
@@ -297,12 +298,21 @@ fn write_location_after<W: Sink>(
     ensures { Wrote W.taken W.has_failed out.old out.new result
         (location_line_after (option_copied line.entry) (id_digits id.now) path.now offset) }
 {
-    let mut start = [0; MAX_START_LEN];
-    let start_len = put_location_start(id, &mut start);
-    let mut end = [0; MAX_END_LEN];
-    let end_len = put_location_end(offset, &mut end);
     write_mark(path, out)?;
     write_front(line, out)?;
-    write_all(out, &start[..start_len])?;
-    write_before(path, &end[..end_len], out)
+    write_two(id.hex_to_buf(&mut Kind::hex_buf()).as_bytes(), b" ", out)?;
+    write_before(path, location_end(offset).as_slice(), out)
+}
+
+// What is after the path of a location.
+fn location_end(offset: Option<u64>) -> Line
+    ensures { result.items ≡ location_end offset }
+{
+    let mut end = Line::new();
+    if let Some(offset) = offset {
+        push(&mut end, b" ");
+        push(&mut end, Buffer::new().format(offset).as_bytes());
+    }
+    push(&mut end, b"\n");
+    end
 }

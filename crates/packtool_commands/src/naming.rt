@@ -11,8 +11,8 @@ ghost use Rattle.streams.specs.Streams.{Wrote, lines_of};
 
 use crate::asking::{Form, prefixes_in, write_answers, write_two};
 use crate::error::StoreError;
-use crate::lines::{LINES_LEN, MAX_NAME_LEN, next_line_at, put_name_line, put_prefix};
-use gix_hash::Prefix;
+use crate::lines::{Lines, make_room, push_name_line};
+use gix_hash::{Kind, Prefix};
 use object_store::{Abbreviation, NamedId, Store, abbreviate_prefixes};
 use std::alloc::Allocator;
 use streams::{Sink, WriteFailed, write_all};
@@ -83,13 +83,12 @@ pub fn write_names<W: Sink>(named: &[NamedId], out: &mut W) -> Result<(), WriteF
     requires { W.has_failed out.old ≡ false }
     ensures { Wrote W.taken W.has_failed out.old out.new result (flat_map name_line named.now) }
 {
-    let mut lines = [0; LINES_LEN];
-    let mut end = 0;
+    let mut lines = Lines::new();
     for id in named {
-        let at = next_line_at(&lines, end, out)?;
-        end = put_name_line(&mut lines, at, id);
+        make_room(&mut lines, out)?;
+        push_name_line(&mut lines, id);
     }
-    write_all(out, &lines[..end])
+    write_all(out, lines.as_slice())
 }
 
 /// Writes for each line of a text, in order, the abbreviation of the only id of a store that begins
@@ -173,7 +172,8 @@ fn write_prefix<W: Sink>(prefix: &Prefix, out: &mut W) -> Result<(), WriteFailed
     ensures { Wrote W.taken W.has_failed out.old out.new result
         (spelling hex_letter prefix.now.digits ++ 10 ∷ []) }
 {
-    let mut line = [0; MAX_NAME_LEN];
-    let len = put_prefix(prefix, &mut line);
-    write_all(out, &line[..len])
+    // The contract of this call says how many digits the prefix has at most.
+    let _hex_len = prefix.hex_len();
+    let mut digits = Kind::hex_buf();
+    write_two(prefix.hex_to_buf(&mut digits).as_bytes(), b"\n", out)
 }

@@ -6,7 +6,7 @@ ghost use Rattle.packtool_commands.specs.Files.{IsDigest, IsOfWhatMayFail, IsPai
 ghost use Rattle.streams.specs.Streams.{Wrote};
 
 use crate::escaping::write_named;
-use crate::lines::{MAX_VERDICT_LEN, put_pairing};
+use crate::lines::{Line, push, push_digest};
 use gix_hash::{Kind, ObjectId};
 use std::io;
 use streams::{ReadAt, Sink, WriteFailed};
@@ -127,7 +127,33 @@ pub fn write_pairing<W: Sink>(name: &str, pairing: &Pairing, out: &mut W) -> Res
     ensures { Wrote W.taken W.has_failed out.old out.new result
         (named name.now (pairing_verdict pairing.now)) }
 {
-    let mut line = [0; MAX_VERDICT_LEN];
-    let len = put_pairing(pairing, &mut line);
-    write_named(name, &line[..len], out)
+    write_named(name, verdict(pairing).as_slice(), out)
+}
+
+// What is said of a pack index after its name.
+fn verdict(pairing: &Pairing) -> Line
+    ensures { result.items ≡ pairing_verdict pairing.now }
+{
+    let mut line = Line::new();
+    match pairing {
+        Pairing::Same => push(&mut line, b": OK\n"),
+        Pairing::Other { named, found } => {
+            push_digest(&mut line, b": FAILED: its pack ends in ", named);
+            match found {
+                Some(found) => {
+                    push_digest(&mut line, b", and the pack beside it ends in ", found);
+                    push(&mut line, b"\n");
+                }
+                None => {
+                    push(
+                        &mut line,
+                        b", and the pack beside it is shorter than a digest",
+                    );
+                    push(&mut line, b"\n");
+                }
+            }
+        }
+        Pairing::Unnamed => push(&mut line, b": FAILED: it is shorter than two digests\n"),
+    }
+    line
 }
