@@ -262,20 +262,27 @@ fn names_of<'a>(
     ensures { OnOk result (store.new.kind ≡ folder.now.kind) }
 {
     'tries: for _ in 1..MAX_TRIES {
-        match names(rt.alloc(), store, byte, least) {
-            Ok(named) => return Ok(named),
-            Err(error) => match store.with_path(error) {
-                Error::Gone { .. } => {}
-                error => return Err(Failure::Store(error)),
-            },
+        match read_names(rt, store, byte, least) {
+            Err(Error::Gone { .. }) => {}
+            read => return Ok(read?),
         }
         *is_whole = report_skipped(rt, store, reported)? && *is_whole;
         *store = FolderStore::open(rt, folder, LooseIds::All)?;
     }
-    match names(rt.alloc(), store, byte, least) {
-        Ok(named) => Ok(named),
-        Err(error) => Err(Failure::Store(store.with_path(error))),
-    }
+    Ok(read_names(rt, store, byte, least)?)
+}
+
+// The ids of a store with a first byte, with their names.
+fn read_names(
+    rt: &HostRuntime,
+    store: &FolderStore<HostRuntime>,
+    byte: u8,
+    least: usize,
+) -> Result<Vec<NamedId>, Error>
+    requires enough { 4 ≤ least }
+    requires fits { least ≤ hex_len_of store.now.kind }
+{
+    names(rt.alloc(), store, byte, least).map_err(|error| store.with_path(error))
 }
 
 // The prefix that was asked for, and the store with the loose objects that have its first byte.
