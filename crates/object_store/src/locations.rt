@@ -242,7 +242,7 @@ fn push_packed<A: Allocator>(
 }
 
 // Adds an item to a list.
-fn push<T: Drop, A: Allocator>(items: &mut Vec<T, A>, item: T) -> Result<(), AllocError>
+pub(crate) fn push<T: Drop, A: Allocator>(items: &mut Vec<T, A>, item: T) -> Result<(), AllocError>
     ensures { OnOk result (items.new.items ≡ items.old.items ++ item ∷ []) }
 {
     Ok(items.push(item)?)

@@ -1,15 +1,15 @@
 //! The ids of a store with one first byte.
 
-ghost use Rattle.std.specs.Prelude.{◌≡◌, ◌∷◌, [], ◌++◌, ◌≤◌, ℕ, Contains, IfErr, IfOk, IfSome, List, MatchOption, OnOk, length};
+ghost use Rattle.std.specs.Prelude.{◌≡◌, ◌≤◌, ℕ, Contains, IfErr, IfOk, IfSome, List, MatchOption, length};
 ghost use Rattle.gix_hash.specs.Digits.{first_byte_of};
 ghost use Rattle.gix_hash.specs.Kinds.{hex_len_of};
 ghost use Rattle.gix_hash.specs.Ids.{id_digits, id_kind};
 ghost use Rattle.object_store.specs.Stores.{AreLocations, AreMatches, HaveBuckets, Holds, IsLocateFault, IsNameIn, IsStoreFault};
 
+use crate::abbreviations::{front_of, name_in};
 use crate::error::Error;
-use crate::gathering::{push_all, push_packed};
-use crate::locations::{Location, locate_in};
-use crate::naming::{front_of, name_in};
+use crate::locations::{Location, locate_in, push};
+use crate::matches::{push_all, push_packed};
 use crate::store::Store;
 use gix_hash::{ObjectId, Prefix};
 use id_lookup::sort_unique;
@@ -57,7 +57,7 @@ impl<'s, S: Store, A: Allocator + Copy> Part<'s, S, A> {
         let packs = store.indexes();
         for at in 0..packs.len() {
             match packs[at].bucket(alloc, byte) {
-                Ok(bucket) => push_bucket(&mut buckets, bucket)?,
+                Ok(bucket) => push(&mut buckets, bucket)?,
                 Err(error) => return Err(Error::Index { at, error }),
             }
         }
@@ -128,14 +128,4 @@ impl<'s, S: Store, A: Allocator + Copy> Part<'s, S, A> {
     {
         locate_in(alloc, self.store, &self.buckets, id)
     }
-}
-
-// Adds a bucket.
-fn push_bucket<A: Allocator>(
-    buckets: &mut Vec<Bucket<A>, A>,
-    bucket: Bucket<A>,
-) -> Result<(), AllocError>
-    ensures { OnOk result (buckets.new.items ≡ buckets.old.items ++ bucket ∷ []) }
-{
-    Ok(buckets.push(bucket)?)
 }

@@ -8,7 +8,7 @@ pub loop-at-preserved : goal.loop-at-preserved
 loop-at-preserved g c =
     let here = pack_at c.indexes-packs.ensures.value c.indexes-packs.ensures.kinds c.loop-at-test.true c.index-packs-at.is in
     one_more (g.S.Store.view c.args.store.now).kind (g.S.Store.view c.args.store.now).packs c.args.byte c.loop-at.at c.index-packs-at.result c.in-Ok.bucket
-    c.loop-at.buckets.items c.push_bucket.new.buckets.items here c.loop-at.invariant.0 c.loop-at.invariant.1 c.in-Ok.ensures.bucket c.in_ok-push_bucket-in-Ok.ensures
+    c.loop-at.buckets.items c.push.new.items.items here c.loop-at.invariant.0 c.loop-at.invariant.1 c.in-Ok.ensures.bucket c.in_ok-push-in-Ok.ensures
 
 pub returns-in-Err-clause-err : goal.returns-in-Err-clause-err
 returns-in-Err-clause-err g c =
