@@ -1,5 +1,5 @@
--- How a text is lent out of the buffer that it was spelled into, for every id that `hex_to_buf` spells. By hand, since the borrow checker follows a loan only out of a function's first parameter. The buffer is filled, shared for all the time that it was lent for, and its name then ends at what it holds. Assumes `Logic`.
---     lending          the code of `front_text(self, filled(self, buffer))`
+-- How a text is lent out of the buffer that it was spelled into, for every id that `hex_to_buf` spells. By hand, since the borrow checker follows a loan only out of a function's first parameter. The buffer is with_digits, shared for all the time that it was lent for, and its name then ends at what it holds. Assumes `Logic`.
+--     lending          the code of `front_text(self, with_digits(self, buffer))`
 --     Fills, Fronts    what it needs of the two functions that it calls
 --     lends            it runs to `post`, if the tokens, what is owned at the end and the `ensures` give `post`
 use Rattle.std.proofs.Common.{◌≡◌, ℕ, ◌≤◌, List, [], ◌∷◌, ◌++◌, Bor, MutBor, length, refl, ap, w8}
@@ -36,7 +36,7 @@ use borrow.Table.Referent.{f_int}
 
 -- with the lifetimes of the signature and their bounds, what `self` refers to, the buffer's lifetime, and the two functions
 abbrev pub lending : ℕ → List (ℕ × ℕ) → Ty → Lifetime → Callee → Callee → Fn
-lending n outlives id ℓ filled front_text =
+lending n outlives id ℓ with_digits front_text =
     let slot = λ (t : Ty). local t value_local in let byte = ty_int w8 in
     let mut_bytes = slice_ty (ty_ref erased mut byte) in
     record {
@@ -49,7 +49,7 @@ lending n outlives id ℓ filled front_text =
           ∷ slot (ty_ref erased mut byte) ∷ slot mut_bytes ∷ slot (ty_ref erased imm byte) ∷ slot (slice_ty (ty_ref erased imm byte)) ∷ [];
       body = seq (assign (place 4 []) (addr_of (place 2 (field 0 ∷ deref byte ∷ []))))
           (seq (assign (place 5 []) (aggregate (copy (place 4 []) ∷ copy (place 2 (field 1 ∷ [])) ∷ [])))
-          (seq (call filled (copy (place 1 []) ∷ copy (place 5 []) ∷ []) (place 3 []))
+          (seq (call with_digits (copy (place 1 []) ∷ copy (place 5 []) ∷ []) (place 3 []))
           (seq (assign (place 6 []) (addr_of (place 3 (field 0 ∷ deref byte ∷ []))))
           (seq (assign (place 7 []) (aggregate (copy (place 6 []) ∷ copy (place 3 (field 1 ∷ [])) ∷ [])))
           (seq (call front_text (copy (place 1 []) ∷ copy (place 7 []) ∷ []) (place 0 [])) return)))));
@@ -88,14 +88,14 @@ module _ {M : Type 1} {𝓤 : Ura M} (𝓛 : Logic 𝓤) (𝓜 : Model 𝓤 𝓛
     Ended t = sep 𝓤 toks (sep 𝓤 (sem 𝓛 (fsep ftrue (fsep ftrue ftrue))) (sep 𝓤 (sem 𝓛 ((Str ℓ κ).own_val t (shr_slice_vals t)))
         (sep 𝓤 (sem 𝓛 (IsLeftAs b (text ++ after))) (sep 𝓤 (fact 𝓤 (t.now ≡ text)) (sep 𝓤 (fact 𝓤 (IsAscii t.now)) (fact 𝓤 (length t.now ≡ len)))))))
 
-    pub lends : (n : ℕ) (outlives : List (ℕ × ℕ)) (referent : Ty) (filled front_text : Callee) {L : Type 0} (said : L → Fml) {L' : Bor (List ℕ) → Type 0} (said' : (x : Bor (List ℕ)) → L' x → Fml)
+    pub lends : (n : ℕ) (outlives : List (ℕ × ℕ)) (referent : Ty) (with_digits front_text : Callee) {L : Type 0} (said : L → Fml) {L' : Bor (List ℕ) → Type 0} (said' : (x : Bor (List ℕ)) → L' x → Fml)
         → (others : SProp 𝓤) → ent 𝓤 toks (sep 𝓤 others (sem 𝓛 (fsep (flft κ q) ftrue))) → ent 𝓤 (sep 𝓤 others (sem 𝓛 (fsep (flft κ q) ftrue))) toks
         → ent 𝓤 (sem 𝓛 me) (sep 𝓤 (sem 𝓛 me) (sem 𝓛 me)) → Room u8 (length b.now)
-        → Triple 𝓤 (𝓣.C filled) (Fills said) → ((x : Bor (List ℕ)) → Triple 𝓤 (𝓣.C front_text) (Fronts x (said' x)))
+        → Triple 𝓤 (𝓣.C with_digits) (Fills said) → ((x : Bor (List ℕ)) → Triple 𝓤 (𝓣.C front_text) (Fronts x (said' x)))
         → (post : Val → SProp 𝓤) → ((t : Bor (List ℕ)) → ent 𝓤 (Ended t) (post (slice_val t.ref_ptr (length t.now))))
         → ent 𝓤 (Entry ((MutSlice ℓ κ u8).own_val b (mut_slice_vals b)) (len ≤ length b.now))
-        (WpFn 𝓤 𝓛.H 𝓣.C 𝓣.Λ (lending n outlives referent ℓ filled front_text) (vptr id.ref_ptr.0 id.ref_ptr.1 ∷ mut_slice_vals b) post)
-    lends n outlives referent filled front_text {L = L} said {L' = L'} said' others out back copied fits fills fronts post ended =
+        (WpFn 𝓤 𝓛.H 𝓣.C 𝓣.Λ (lending n outlives referent ℓ with_digits front_text) (vptr id.ref_ptr.0 id.ref_ptr.1 ∷ mut_slice_vals b) post)
+    lends n outlives referent with_digits front_text {L = L} said {L' = L'} said' others out back copied fits fills fronts post ended =
         let fm = framed 𝓤 𝓛.H 𝓜 𝓣 in let Room = len ≤ length b.now in
         qed 𝓛 ((raw toks ⊛ ‵ me ⊛ ‵ ((MutSlice ℓ κ u8).own_val b (mut_slice_vals b)) ⊛ ‵ ftrue) ∷ raw (fact 𝓤 Room) ∷ []) ∵
         move ! (1 ∷ []) $ heard ! Room (λ room. split ! $ move ! (1 ∷ []) $ split ! $ use1 𝓛 (‵ me ⊛ ‵ me) copied $ split ! $
@@ -109,7 +109,7 @@ module _ {M : Type 1} {𝓤 : Ura M} (𝓛 : Logic 𝓤) (𝓜 : Model 𝓤 𝓛
         use1 𝓛 (later (some (λ (r : MutBor (List ℕ)). (raw toks ⊛ ‵ ((MutSlice ℓ κ u8).own_val r (v ∷ []))) ⊛
         some (λ (ws : L). ‵ (said ws) ⊛ raw (fact 𝓤 (r.ghost_name ≡ b.ghost_name)) ⊛ raw (fact 𝓤 (r.now ≡ text ++ after)))))) (id⊢ 𝓤 _) $
         await ! tt $ pick ! (λ r. split ! $ split ! $ move ! (2 ∷ []) $ pick ! (λ ws. split ! $ let_go ! $ split ! $ heard ! (r.ghost_name ≡ b.ghost_name) (λ same. heard ! (r.now ≡ text ++ after) (λ value.
-        -- [the tokens; the filled buffer; me]
+        -- [the tokens; the with_digits buffer; me]
         move ! (1 ∷ []) $ peeks ! (MutSlice ℓ κ u8) (Is (MutSlice ℓ κ u8)) (shows 𝓛 (MutSlice ℓ κ u8)) r (v ∷ []) (λ filled_at.
         lands_as ! (ap only filled_at.0.0) refl (tt, (tt, (record { fits = filled_at.0.1.0 }, tt))) $
         sets ! (addr ! (from ! (fld ! refl (hop ! (look_in_at ! 3 (sub ! 0 refl (whole !))) (stop !))))) refl (tt, tt) $

@@ -232,11 +232,11 @@ impl<'a> oid<'a> {
         ensures ascii { IsAscii result.now }
         ensures len { length result.now ≡ hex_len_of (oid_kind self.now) }
     {
-        self.front_text(self.filled(buffer))
+        self.front_text(self.with_digits(buffer))
     }
 
     // The same buffer, with the digits in its front.
-    pub(crate) fn filled<'b>(&self, buffer: &'b mut [u8]) -> &'b mut [u8]
+    pub(crate) fn with_digits<'b>(&self, buffer: &'b mut [u8]) -> &'b mut [u8]
         requires { hex_len_of (oid_kind self.now) ≤ length buffer.old }
         ensures same { result.ghost_name ≡ buffer.entry.ghost_name }
         ensures value { result.now ≡ spelling hex_letter (oid_digits self.now) ++ drop

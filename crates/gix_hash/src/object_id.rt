@@ -113,8 +113,8 @@ impl ObjectId {
         ensures bytes_in_range { All (λ b. b < 256) result.now }
     {
         match self {
-            ObjectId::Sha1(bytes) => with_range(bytes),
-            ObjectId::Sha256(bytes) => with_range(bytes),
+            ObjectId::Sha1(bytes) => in_byte_range(bytes),
+            ObjectId::Sha256(bytes) => in_byte_range(bytes),
         }
     }
 
@@ -253,17 +253,17 @@ impl ObjectId {
         ensures ascii { IsAscii result.now }
         ensures len { length result.now ≡ hex_len_of (id_kind self.now) }
     {
-        self.front_text(self.filled(buffer))
+        self.front_text(self.with_digits(buffer))
     }
 
     // The same buffer, with the digits in its front.
-    fn filled<'b>(&self, buffer: &'b mut [u8]) -> &'b mut [u8]
+    fn with_digits<'b>(&self, buffer: &'b mut [u8]) -> &'b mut [u8]
         requires { hex_len_of (id_kind self.now) ≤ length buffer.old }
         ensures same { result.ghost_name ≡ buffer.entry.ghost_name }
         ensures value { result.now ≡ spelling hex_letter (id_digits self.now) ++ drop
             (hex_len_of (id_kind self.now)) buffer.old }
     {
-        self.as_oid().filled(buffer)
+        self.as_oid().with_digits(buffer)
     }
 
     // The digits in front of a buffer, as text.
@@ -310,7 +310,7 @@ impl ObjectId {
 
 // The bytes as they are. A parameter that is a slice is known to hold bytes, an array in a variant
 // is not.
-const fn with_range(bytes: &[u8]) -> &[u8]
+const fn in_byte_range(bytes: &[u8]) -> &[u8]
     ensures value { result.now ≡ bytes.now }
     ensures bytes_in_range { All (λ b. b < 256) result.now }
 {

@@ -8,9 +8,9 @@ use Rattle.id_lookup.specs.Runs.{matches}
 use Rattle.id_lookup.proofs.Filters.{contains_had}
 use Rattle.object_store.specs.Stores.{AreMatches, Holds, IsNameIn, StoreView}
 use Rattle.object_store.specs.Several.{IsAbbreviated, IsAbbreviatedIn, IsAbbreviationOfKind}
-use Rattle.object_store.specs.declared.naming.Abbreviation.{Abbreviation}
-use Rattle.object_store.specs.declared.naming.Abbreviation.TheVariants.{Named}
-use Rattle.object_store.specs.declared.naming.NamedId.{NamedId}
+use Rattle.object_store.specs.declared.abbreviations.Abbreviation.{Abbreviation}
+use Rattle.object_store.specs.declared.abbreviations.Abbreviation.TheVariants.{Named}
+use Rattle.object_store.specs.declared.abbreviations.NamedId.{NamedId}
 
 -- the only member of a list
 only_member : (ids : List ObjectId) (id d : ObjectId) → length ids ≡ 1 → id ≡ get_or ids 0 d → map id_digits ids ≡ id_digits id ∷ []

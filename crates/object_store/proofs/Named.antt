@@ -21,7 +21,7 @@ use Rattle.id_lookup.proofs.Filters.{contains_kept, kept_passes}
 use Rattle.id_lookup.proofs.NamesInPart.{name-whole}
 use Rattle.id_lookup.proofs.Spelled.{starts_with-BeginsWith}
 use Rattle.object_store.specs.Stores.{IsNameIn}
-use Rattle.object_store.specs.declared.naming.NamedId.{NamedId}
+use Rattle.object_store.specs.declared.abbreviations.NamedId.{NamedId}
 
 -- an id begins with its first digits
 begins_itself : (id : List ℕ) (n : ℕ) → starts_with nat_eq id (take n id) ≡ true

@@ -9,8 +9,8 @@ use Rattle.id_lookup.specs.Runs.{matches}
 use Rattle.object_store.specs.Stores.{AreFoundOfEach, AreLocations, AreMatches, HaveBuckets, Holds, IsLocationsFault, IsNameIn, IsOfKind, IsOfOne, StoreView}
 use Rattle.object_store.specs.declared.error.Error.{Error}
 use Rattle.object_store.specs.declared.locations.LocatedId.{LocatedId}
-use Rattle.object_store.specs.declared.naming.Abbreviation.{Abbreviation}
-use Rattle.object_store.specs.declared.naming.Abbreviation.TheVariants.{Missing, Ambiguous, Named}
+use Rattle.object_store.specs.declared.abbreviations.Abbreviation.{Abbreviation}
+use Rattle.object_store.specs.declared.abbreviations.Abbreviation.TheVariants.{Missing, Ambiguous, Named}
 
 -- all locations of the object of an id, and the paths of the files that it has as a loose object
 pub record IsLocated {A : Type 0} (view : StoreView) (loose_paths : List ℕ → List (List ℕ)) (located : LocatedId A) : Type 0 where

@@ -17,7 +17,7 @@ use Rattle.object_store.specs.declared.error.Error.{Error}
 use Rattle.object_store.specs.declared.error.Error.TheVariants.{Index, Memory}
 use Rattle.object_store.specs.declared.locations.Location.{Location}
 use Rattle.object_store.specs.declared.locations.Location.TheVariants.{Loose, Packed}
-use Rattle.object_store.specs.declared.naming.NamedId.{NamedId}
+use Rattle.object_store.specs.declared.abbreviations.NamedId.{NamedId}
 
 -- the kind of all ids, the pack indexes, and the ids of the loose objects, each by its digits
 pub record StoreView : Type 0 where

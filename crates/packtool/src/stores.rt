@@ -13,7 +13,7 @@ use crate::words::{beginning, lossy_text};
 use crate::{FAILED, FOUND, NOTHING};
 use clap::ArgMatches;
 use gix_hash::{Kind, Prefix};
-use object_store::{NamedId, Store, names};
+use object_store::{NamedId, Store, abbreviate_part};
 use packtool_commands::{
     Answers, StoreError, find, find_each, locate, locate_each, name_each, prefixes_in, write_names,
 };
@@ -282,7 +282,7 @@ fn read_names(
     requires enough { 4 ≤ least }
     requires fits { least ≤ hex_len_of store.now.kind }
 {
-    names(rt.alloc(), store, byte, least).map_err(|error| store.with_path(error))
+    abbreviate_part(rt.alloc(), store, byte, least).map_err(|error| store.with_path(error))
 }
 
 // The prefix that was asked for, and the store with the loose objects that have its first byte.

@@ -18,8 +18,8 @@ use Rattle.id_lookup.specs.Runs.{matches}
 use Rattle.object_store.specs.Stores.{AreFoundOfEach, AreMatchesOfEach, CanLookUp, Holds, StoreView}
 use Rattle.object_store.specs.Several.{AreAbbreviatedOfEach, AreLocatedOfEach, IsAbbreviatedIn}
 use Rattle.object_store.specs.declared.locations.LocatedId.{LocatedId}
-use Rattle.object_store.specs.declared.naming.Abbreviation.{Abbreviation}
-use Rattle.object_store.specs.declared.naming.Abbreviation.TheVariants.{Missing}
+use Rattle.object_store.specs.declared.abbreviations.Abbreviation.{Abbreviation}
+use Rattle.object_store.specs.declared.abbreviations.Abbreviation.TheVariants.{Missing}
 use Rattle.streams.specs.Streams.{lines_of}
 use Rattle.packtool_commands.specs.Stores.{HaveAllBuckets, answer_to, answers_by, answers_in, are_answers_by, are_answers_in, found_text, id_line, is_answer_to, is_found, line_with, lists_after, of_two, prefix_of, prefixes_of}
 use Rattle.packtool_commands.specs.declared.asking.Answers.{Answers}

@@ -1,12 +1,12 @@
 -- The parts of a line, one after the other.
 use Rattle.std.proofs.Common.{◌≡◌, ℕ, List, [], ◌∷◌, ◌++◌, append_assoc}
-use Rattle.packtool_commands.specs.Files.{line_of}
+use Rattle.packtool_commands.specs.Files.{line_of_object}
 use Rattle.packtool_commands.specs.Stores.{line_of_name}
 
 -- parts that are added one after the other are a line, after what was there before
 pub line_parts : (front offset id crc : List ℕ)
-    → front ++ offset ++ 32 ∷ [] ++ id ++ 32 ∷ 40 ∷ [] ++ crc ++ 41 ∷ 10 ∷ [] ≡ front ++ line_of offset id crc
-unfolding line_of
+    → front ++ offset ++ 32 ∷ [] ++ id ++ 32 ∷ 40 ∷ [] ++ crc ++ 41 ∷ 10 ∷ [] ≡ front ++ line_of_object offset id crc
+unfolding line_of_object
 line_parts front offset id crc = simp append_assoc
 
 -- and of a name

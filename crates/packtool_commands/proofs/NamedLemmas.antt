@@ -13,7 +13,7 @@ use Rattle.gix_hash.specs.Ids.{id_digits}
 use Rattle.id_lookup.specs.Indexes.{part_of}
 use Rattle.object_store.proofs.Held.{flat_map-take}
 use Rattle.object_store.specs.Stores.{IsNameIn}
-use Rattle.object_store.specs.declared.naming.NamedId.{NamedId}
+use Rattle.object_store.specs.declared.abbreviations.NamedId.{NamedId}
 use Rattle.packtool_commands.specs.Stores.{AreNamedBelow, HasNamedAtMost, HasNamedBelow, name_line, parts_below}
 use Rattle.streams.specs.Streams.{AppendsAtMost, AppendsPart}
 use Rattle.streams.proofs.WritingLemmas.{AppendsPart-after, part_written}

@@ -61,12 +61,12 @@ unfoldable pub crc_text : ℕ → List ℕ
 crc_text crc = encode_lower (to_be_bytes w32 crc)
 
 -- the texts of an offset, an id and a CRC in a line: blanks between them, brackets around the CRC, and a line feed
-unfoldable pub line_of : List ℕ → List ℕ → List ℕ → List ℕ
-line_of offset id crc = offset ++ 32 ∷ id ++ 32 ∷ 40 ∷ crc ++ 41 ∷ 10 ∷ []
+unfoldable pub line_of_object : List ℕ → List ℕ → List ℕ → List ℕ
+line_of_object offset id crc = offset ++ 32 ∷ id ++ 32 ∷ 40 ∷ crc ++ 41 ∷ 10 ∷ []
 
 -- the line of the object at a position: its offset in decimal, its id in hex, and its CRC
 abbrev pub index_line : Kind → List ℕ → ℕ → List ℕ
-index_line kind bytes k = line_of (decimal (offset_in kind bytes k)) (spelling hex_letter (name_at kind bytes k)) (crc_text (crc_in kind bytes k))
+index_line kind bytes k = line_of_object (decimal (offset_in kind bytes k)) (spelling hex_letter (name_at kind bytes k)) (crc_text (crc_in kind bytes k))
 
 -- the lines of all names
 abbrev pub index_lines : Kind → List ℕ → List ℕ

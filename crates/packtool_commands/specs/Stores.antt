@@ -20,9 +20,9 @@ use Rattle.object_store.specs.declared.error.Error.TheVariants.{Index, Memory}
 use Rattle.object_store.specs.declared.locations.LocatedId.{LocatedId}
 use Rattle.object_store.specs.declared.locations.Location.{Location}
 use Rattle.object_store.specs.declared.locations.Location.TheVariants.{Loose, Packed}
-use Rattle.object_store.specs.declared.naming.Abbreviation.{Abbreviation}
-use Rattle.object_store.specs.declared.naming.Abbreviation.TheVariants.{Ambiguous, Missing, Named}
-use Rattle.object_store.specs.declared.naming.NamedId.{NamedId}
+use Rattle.object_store.specs.declared.abbreviations.Abbreviation.{Abbreviation}
+use Rattle.object_store.specs.declared.abbreviations.Abbreviation.TheVariants.{Ambiguous, Missing, Named}
+use Rattle.object_store.specs.declared.abbreviations.NamedId.{NamedId}
 use Rattle.packtool_commands.specs.Files.{escape_mark, escaped}
 use Rattle.packtool_commands.specs.declared.asking.Answers.{Answers}
 use Rattle.packtool_commands.specs.declared.asking.Answers.TheVariants as answers_of

@@ -5,7 +5,7 @@ ghost use Rattle.arrayvec.specs.ArrayVec.{array_vec_len};
 ghost use Rattle.gix_hash.specs.Digits.{hex_letter, spelling};
 ghost use Rattle.gix_hash.specs.Ids.{oid_digits};
 ghost use Rattle.pack_index.specs.Format.{names_in};
-ghost use Rattle.packtool_commands.specs.Files.{KeepsBack, crc_text, hex_of, index_line, line_of};
+ghost use Rattle.packtool_commands.specs.Files.{KeepsBack, crc_text, hex_of, index_line, line_of_object};
 ghost use Rattle.packtool_commands.specs.Stores.{name_line};
 ghost use Rattle.streams.specs.Streams.{AppendsPart};
 
@@ -64,7 +64,7 @@ pub(crate) fn push_index_line(lines: &mut Lines, file: &File<'_>, index: usize)
 fn push_offset_id_crc(lines: &mut Lines, offset: u64, id: oid<'_>, crc: u32)
     requires { array_vec_len lines.old + MAX_LINE_LEN ≤ 16384 }
     ensures { lines.new.items ≡ lines.old.items
-        ++ line_of (decimal offset) (spelling hex_letter (oid_digits id.entry)) (crc_text crc) }
+        ++ line_of_object (decimal offset) (spelling hex_letter (oid_digits id.entry)) (crc_text crc) }
 {
     push(lines, Buffer::new().format(offset).as_bytes());
     push(lines, b" ");

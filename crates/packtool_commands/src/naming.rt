@@ -52,7 +52,7 @@ pub fn names<S: Store, A: Allocator + Copy, W: Sink>(
 {
     let mut any = false;
     for byte in 0..BYTES {
-        let named = object_store::names(alloc, store, byte as u8, least)?;
+        let named = object_store::abbreviate_part(alloc, store, byte as u8, least)?;
         write_names(&named, out)?;
         any = is_any(any, &named);
     }
@@ -73,7 +73,7 @@ fn is_any(before: bool, named: &[NamedId]) -> bool
 /// have failed before.
 ///
 /// ```
-/// let named = object_store::names(rt.alloc(), &store, 0x4b, 7)?;
+/// let named = object_store::abbreviate_part(rt.alloc(), &store, 0x4b, 7)?;
 /// if write_names(&named, &mut out).is_err() {
 ///     println!(rt; "the lines are not written whole")?;
 /// }

@@ -12,7 +12,7 @@ mod expecting;
 #[cfg(test)]
 mod memory;
 #[cfg(test)]
-mod object_store_gathering;
+mod object_store_matches;
 #[cfg(test)]
 mod pack_index_lazy;
 #[cfg(test)]

@@ -144,7 +144,7 @@ fn ending_of(kind: Kind, mut hasher: Hasher, last: &[u8]) -> Ending
         unreachable!();
     };
     digests(kind);
-    compared(kind, digest, last)
+    ending_by_digest(kind, digest, last)
 }
 
 // The same if it does not end so, but may end with the digest of another kind.
@@ -163,7 +163,7 @@ fn or_else(ending: Ending, other: Option<Kind>, hasher: Option<Hasher>, last: &[
 }
 
 // How bytes end whose last are these, if the digest of those before them is this.
-fn compared(kind: Kind, digest: ObjectId, last: &[u8]) -> Ending
+fn ending_by_digest(kind: Kind, digest: ObjectId, last: &[u8]) -> Ending
     requires { length last.now ≤ byte_len_of kind }
     ensures { IsEnding kind digest last.now result }
 {

@@ -50,11 +50,11 @@ impl Prefix {
         ensures ascii { IsAscii result.now }
         ensures len { length result.now ≡ length self.now.digits }
     {
-        self.front_text(self.filled(buffer))
+        self.front_text(self.with_digits(buffer))
     }
 
     // The same buffer, with the digits in its front.
-    fn filled<'b>(&self, buffer: &'b mut [u8]) -> &'b mut [u8]
+    fn with_digits<'b>(&self, buffer: &'b mut [u8]) -> &'b mut [u8]
         requires { length self.now.digits ≤ length buffer.old }
         ensures same { result.ghost_name ≡ buffer.entry.ghost_name }
         ensures value { result.now ≡ spelling hex_letter self.now.digits ++ drop

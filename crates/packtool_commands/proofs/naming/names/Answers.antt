@@ -4,7 +4,7 @@ use Rattle.std.specs.Io.KnownBytes.{Appends}
 use Rattle.streams.specs.Streams.{AppendsPart}
 use Rattle.object_store.specs.Stores.{HaveBuckets}
 use Rattle.pack_index.specs.Format.{Each}
-use Rattle.object_store.specs.declared.naming.NamedId.{NamedId}
+use Rattle.object_store.specs.declared.abbreviations.NamedId.{NamedId}
 use Rattle.packtool_commands.specs.Stores.{HasNamedBelow, name_line}
 use Rattle.packtool_commands.proofs.NamedLemmas.{has_named_more, named_at_most, named_part}
 use Rattle.packtool_commands.proofs.naming.names.Goals as goal

@@ -18,9 +18,9 @@ use denote.Triple.Entry.{alive}
 use denote.Triple.Clauses.{lasts}
 use denote.Triple.Walked.{Stays, walk_of, stay_dropped, Goes-dropped, Goes-spent_slice}
 use Rattle.gix_hash.specs.contracts.prefix.Prefix.hex_to_buf as f
-use Rattle.gix_hash.specs.contracts.prefix.Prefix.filled as fill
+use Rattle.gix_hash.specs.contracts.prefix.Prefix.with_digits as fill
 use Rattle.gix_hash.specs.contracts.prefix.Prefix.front_text as front
-use Rattle.gix_hash.proofs.prefix.Prefix.filled.Met as filled
+use Rattle.gix_hash.proofs.prefix.Prefix.with_digits.Met as with_digits
 use Rattle.gix_hash.proofs.prefix.Prefix.front_text.Met as front_text
 use Rattle.gix_hash.proofs.prefix.Prefix.hex_to_buf.Statement.{statement}
 use Rattle.gix_hash.proofs.prefix.Prefix.hex_to_buf.Code as code
@@ -42,6 +42,6 @@ hex_to_buf_spec 𝓤 𝓛 𝓜 𝓡 wired =
     _ _ _ _ _ (lasts fill.ended κs a) (λ x. lasts front.ended κs (id, (x, tt)))
     (sem 𝓛 (flft κs.0 qs.0)) (id⊢ 𝓤 _) (id⊢ 𝓤 _)
     ((shr_copy 𝓛 (named 0) κs.0 id_type.the_row id_laws.the_row_laws.shr_laws).twice id (shr_vals id)) are.1.0.0.1
-    (λ _. filled.met 𝓤 𝓛 𝓜 𝓡 (code.calls-gix_hash::prefix::Prefix::filled 𝓡.env wired) y)
+    (λ _. with_digits.met 𝓤 𝓛 𝓜 𝓡 (code.calls-gix_hash::prefix::Prefix::with_digits 𝓡.env wired) y)
     (λ x u. front_text.met 𝓤 𝓛 𝓜 𝓡 (code.calls-gix_hash::prefix::Prefix::front_text 𝓡.env wired) ((κs, qs, bounds, (id, (x, tt)), (shr_vals id, (shr_slice_vals x, tt))), tt))
     (W.post y) (λ t. leaves 𝓛 f.ended stayed c y (slice_val t.ref_ptr (length t.now)) t (tt, (tt, tt)) (tt, (tt, tt))))

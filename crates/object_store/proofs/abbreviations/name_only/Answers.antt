@@ -1,6 +1,6 @@
 use Rattle.std.proofs.Common.{refl}
-use Rattle.object_store.proofs.naming.name_only.Goals as goal
-use Rattle.object_store.proofs.naming.name_only.Goals.{in-Some, in-None}
+use Rattle.object_store.proofs.abbreviations.name_only.Goals as goal
+use Rattle.object_store.proofs.abbreviations.name_only.Goals.{in-Some, in-None}
 
 pub returns-clause-name : goal.returns-clause-name
 returns-clause-name g c = λ whole h there.

@@ -2,7 +2,7 @@ use Rattle.std.proofs.Common.{[], List, ap, arith, get_or, length}
 use Rattle.gix_hash.specs.declared.ObjectId.{ObjectId}
 use Rattle.gix_hash.specs.declared.ObjectId.TheVariants.{Sha1}
 use Rattle.object_store.proofs.Abbreviated.{only_named}
-use Rattle.object_store.proofs.naming.AbbreviatingLookUp.look_up.Goals as goal
+use Rattle.object_store.proofs.abbreviations.AbbreviatingLookUp.look_up.Goals as goal
 
 pub returns-in-len1-clause-found : goal.returns-in-len1-clause-found
 returns-in-len1-clause-found g c =

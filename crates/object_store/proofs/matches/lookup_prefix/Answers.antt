@@ -1,6 +1,6 @@
 use Rattle.std.proofs.Common.{ap, subst}
 use Rattle.object_store.specs.Stores.{AreMatches, PartView, StoreView}
-use Rattle.object_store.proofs.gathering.lookup_prefix.Goals as goal
+use Rattle.object_store.proofs.matches.lookup_prefix.Goals as goal
 
 pub returns-clause-matches : goal.returns-clause-matches
 returns-clause-matches g c =

@@ -5,7 +5,7 @@ use Rattle.gix_hash.specs.Ids.{id_digits, oid_digits, oid_kind}
 use Rattle.gix_hash.specs.Prefixes.{KindDigits}
 use Rattle.gix_hash.specs.declared.Kind.{Kind}
 use Rattle.object_store.proofs.Named.{front_byte}
-use Rattle.object_store.proofs.naming.front_of.Goals as goal
+use Rattle.object_store.proofs.abbreviations.front_of.Goals as goal
 
 pub returns-clause-digits : goal.returns-clause-digits
 returns-clause-digits c =

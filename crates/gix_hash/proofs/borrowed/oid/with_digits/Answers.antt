@@ -1,5 +1,5 @@
 use Rattle.std.proofs.Common.{rules}
-use Rattle.gix_hash.proofs.borrowed.oid.filled.Goals as goal
+use Rattle.gix_hash.proofs.borrowed.oid.with_digits.Goals as goal
 
 pub returns-clause-value : goal.returns-clause-value
 returns-clause-value c = search rules

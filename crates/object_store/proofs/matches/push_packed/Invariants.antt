@@ -3,7 +3,7 @@ use Rattle.std.specs.List.{All, flat_map}
 use Rattle.gix_hash.specs.Ids.{id_digits, id_kind}
 use Rattle.id_lookup.specs.Runs.{matches}
 use Rattle.pack_index.specs.Lazy.{BucketNames}
-use Rattle.object_store.proofs.gathering.push_packed.Given as goal
+use Rattle.object_store.proofs.matches.push_packed.Given as goal
 
 abbrev pub invariant-loop-bucket : goal.invariant-loop-bucket
 invariant-loop-bucket g l =

@@ -4,7 +4,7 @@ use Rattle.gix_hash.specs.Kinds.{hex_len_of}
 use Rattle.gix_hash.specs.Prefixes.{KindDigits, kind_digits}
 use Rattle.gix_hash.specs.declared.Kind.{Kind}
 use Rattle.gix_hash.specs.declared.Kind.TheVariants.{Sha1, Sha256}
-use Rattle.object_store.proofs.naming.two_digits.Goals as goal
+use Rattle.object_store.proofs.abbreviations.two_digits.Goals as goal
 
 two : (kind : Kind) → 2 ≤ hex_len_of kind
 two Sha1 = omega arith

@@ -19,7 +19,7 @@ use std::alloc::{AllocError, Allocator};
 /// An id with its abbreviation.
 ///
 /// ```
-/// for named in names(rt.alloc(), &store, 0x4b, 4)?.iter() {
+/// for named in abbreviate_part(rt.alloc(), &store, 0x4b, 4)?.iter() {
 ///     println!(rt; "{} {}", named.name, named.id)?;
 /// }
 /// ```
@@ -154,11 +154,11 @@ fn name_only<S: Store, A: Allocator + Copy>(
 ///
 /// ```
 /// for byte in 0..=255 {
-///     let named = names(rt.alloc(), &store, byte, 4)?;
+///     let named = abbreviate_part(rt.alloc(), &store, byte, 4)?;
 ///     println!(rt; "{} ids", named.len())?;
 /// }
 /// ```
-pub fn names<S: Store, A: Allocator + Copy>(
+pub fn abbreviate_part<S: Store, A: Allocator + Copy>(
     alloc: A,
     store: &S,
     byte: u8,

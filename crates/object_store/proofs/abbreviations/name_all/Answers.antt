@@ -4,7 +4,7 @@ use Rattle.std.proofs.lemmas.List.Elements.{All-push}
 use Rattle.gix_hash.specs.declared.Kind.{Kind}
 use Rattle.object_store.specs.Stores.{IsOfKind}
 use Rattle.object_store.proofs.Named.{named_more}
-use Rattle.object_store.proofs.naming.name_all.Goals as goal
+use Rattle.object_store.proofs.abbreviations.name_all.Goals as goal
 
 pub loop-at-preserved : goal.loop-at-preserved
 loop-at-preserved g c =

@@ -3,8 +3,8 @@ use Rattle.std.specs.List.{All}
 use Rattle.gix_hash.specs.Ids.{id_digits}
 use Rattle.id_lookup.specs.Indexes.{IsShortestNameFrom}
 use Rattle.object_store.specs.Stores.{IsOfKind}
-use Rattle.object_store.specs.declared.naming.NamedId.{NamedId}
-use Rattle.object_store.proofs.naming.name_all.Given as goal
+use Rattle.object_store.specs.declared.abbreviations.NamedId.{NamedId}
+use Rattle.object_store.proofs.abbreviations.name_all.Given as goal
 
 abbrev pub invariant-loop-at : goal.invariant-loop-at
 invariant-loop-at g l =

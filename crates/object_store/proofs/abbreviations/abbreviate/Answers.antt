@@ -3,7 +3,7 @@ use Rattle.std.specs.List.{Contains}
 use Rattle.std.specs.Prelude.{MatchOption}
 use Rattle.gix_hash.specs.Ids.{id_digits}
 use Rattle.object_store.specs.Stores.{HaveBuckets, Holds, IsNameIn, PartView, StoreView}
-use Rattle.object_store.proofs.naming.abbreviate.Goals as goal
+use Rattle.object_store.proofs.abbreviations.abbreviate.Goals as goal
 
 pub returns-clause-name : goal.returns-clause-name
 returns-clause-name g c =

@@ -7,7 +7,7 @@ use Rattle.id_lookup.specs.Runs.{matches}
 use Rattle.object_store.specs.Stores.{AreMatches, IsOfKind, PartView, StoreView}
 use Rattle.object_store.proofs.Named.{named_digits, names_in_part}
 use Rattle.object_store.proofs.TwoDigits.{part_two}
-use Rattle.object_store.proofs.naming.names.Goals as goal
+use Rattle.object_store.proofs.abbreviations.abbreviate_part.Goals as goal
 
 pub returns-clause-ids : goal.returns-clause-ids
 returns-clause-ids g c = λ whole h.

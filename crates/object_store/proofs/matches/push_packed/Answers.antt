@@ -9,7 +9,7 @@ use Rattle.gix_hash.specs.declared.ObjectId.{ObjectId}
 use Rattle.id_lookup.specs.Runs.{matches}
 use Rattle.object_store.proofs.PartNames.{bucket_more}
 use Rattle.pack_index.specs.Lazy.{BucketNames}
-use Rattle.object_store.proofs.gathering.push_packed.Goals as goal
+use Rattle.object_store.proofs.matches.push_packed.Goals as goal
 
 pub push_matches-requires : goal.push_matches-requires
 push_matches-requires g c =
