@@ -5,7 +5,7 @@ ghost use Rattle.packtool_commands.specs.Files.{named, verdict};
 ghost use Rattle.streams.specs.Streams.{Wrote};
 
 use crate::escaping::write_named;
-use crate::lines::{Line, push, push_digest};
+use crate::line::{Line, push, push_digest};
 use streams::{Ending, Sink, WriteFailed};
 
 /// Writes the line of a file with this name whose bytes end so: `NAME: OK`, or `NAME: FAILED` and

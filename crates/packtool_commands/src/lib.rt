@@ -16,6 +16,7 @@ mod error;
 mod escaping;
 mod finding;
 pub mod laws;
+mod line;
 mod lines;
 mod locating;
 mod naming;

@@ -1,7 +1,6 @@
-//! Lines, put together in memory.
+//! The lines of a pack index and of names, put together in a buffer, many of them at once.
 
-ghost use Rattle.std.specs.Prelude.{◌≡◌, ◌+◌, ◌<◌, ◌≤◌, [], ◌∷◌, ◌++◌, OnErr, OnOk, decimal, false, true, length};
-ghost use Rattle.arrayvec.specs.ArrayVec.{array_vec_len};
+ghost use Rattle.std.specs.Prelude.{◌≡◌, ◌+◌, ◌<◌, ◌≤◌, ◌++◌, IfOk, OnErr, OnOk, decimal, false, true, length, take};
 ghost use Rattle.gix_hash.specs.Digits.{hex_letter, spelling};
 ghost use Rattle.gix_hash.specs.Ids.{oid_digits};
 ghost use Rattle.pack_index.specs.Format.{names_in};
@@ -9,8 +8,7 @@ ghost use Rattle.packtool_commands.specs.Files.{KeepsBack, crc_text, hex_of, ind
 ghost use Rattle.packtool_commands.specs.Stores.{name_line};
 ghost use Rattle.streams.specs.Streams.{AppendsPart};
 
-use arrayvec::ArrayVec;
-use gix_hash::{Kind, ObjectId, oid};
+use gix_hash::{Alphabet, Kind, oid};
 use hex::encode_to_slice;
 use id_lookup::begins_with;
 use itoa::Buffer;
@@ -18,115 +16,139 @@ use object_store::NamedId;
 use pack_index::File;
 use streams::{Sink, WriteFailed, write_all};
 
-/// Lines that are kept back, to be written together.
-pub(crate) type Lines = ArrayVec<u8, 16384>;
+/// The length of a buffer for lines that are written together.
+pub(crate) const LINES_LEN: usize = 16384;
 
-/// A line, or what is after the name in one. The longest has two ids of 64 digits, and 61 bytes
-/// around them.
-pub(crate) type Line = ArrayVec<u8, 189>;
-
-// The length of the longest line that is kept back: of a name and its id, 64 digits of each, a
-// space and a line feed. That of an offset of 20 digits, an id and a CRC of 8 is shorter.
+// The length of the longest line of a name and its id: 64 digits of each, a space and a line feed.
+// That of an offset of 20 digits, an id and a CRC of 8 is shorter.
 const MAX_LINE_LEN: usize = 130;
 
-/// Makes room for a line: if there is none, writes the lines that were kept back.
-pub(crate) fn make_room<W: Sink>(lines: &mut Lines, out: &mut W) -> Result<(), WriteFailed>
-    requires { W.has_failed out.old ≡ false }
-    ensures room { OnOk result (array_vec_len lines.new + MAX_LINE_LEN ≤ 16384) }
-    ensures kept { OnOk result (KeepsBack (W.taken out.old) (W.taken out.new)
-        lines.new.items lines.old.items) }
+// The most digits of an id.
+const MAX_ID_LEN: usize = 64;
+
+// The digits of a CRC.
+const CRC_LEN: usize = 8;
+
+/// The position at which the next line has room in a buffer of lines that end at a position: there,
+/// or if the buffer is nearly full, at its start, after these lines were written.
+pub(crate) fn next_line_at<W: Sink>(
+    lines: &[u8],
+    end: usize,
+    out: &mut W,
+) -> Result<usize, WriteFailed>
+    requires lines { length lines.now ≡ LINES_LEN }
+    requires end { end ≤ LINES_LEN }
+    requires output { W.has_failed out.old ≡ false }
+    ensures room { IfOk result (λ at. at + MAX_LINE_LEN ≤ LINES_LEN) }
+    ensures kept { IfOk result (λ at.
+        KeepsBack (W.taken out.old) (W.taken out.new) (take at lines.now) (take end lines.now)) }
     ensures not_failed { OnOk result (W.has_failed out.new ≡ false) }
     ensures part { OnErr result (AppendsPart (W.taken out.old) (W.taken out.new)
-        lines.old.items) }
+        (take end lines.now)) }
     ensures failed { OnErr result (W.has_failed out.new ≡ true) }
 {
-    if lines.remaining_capacity() < MAX_LINE_LEN {
-        write_all(out, lines.as_slice())?;
-        lines.clear();
+    if end + MAX_LINE_LEN <= LINES_LEN {
+        return Ok(end);
     }
-    Ok(())
+    write_all(out, &lines[..end])?;
+    Ok(0)
 }
 
-/// Adds the line of the object at an index of a pack index.
-pub(crate) fn push_index_line(lines: &mut Lines, file: &File<'_>, index: usize)
+/// Writes the line of the object at an index into the buffer at a position, and returns where it
+/// ends.
+pub(crate) fn put_index_line(line: &mut [u8], at: usize, file: &File<'_>, index: usize) -> usize
     requires location { index < length (names_in file.now.kind file.now.bytes) }
-    requires room { array_vec_len lines.old + MAX_LINE_LEN ≤ 16384 }
-    ensures { lines.new.items
-        ≡ lines.old.items ++ index_line file.now.kind file.now.bytes index }
+    requires room { at + MAX_LINE_LEN ≤ length line.old }
+    ensures most { result ≤ at + MAX_LINE_LEN }
+    ensures text { take result line.new
+        ≡ take at line.old ++ index_line file.now.kind file.now.bytes index }
 {
     let offset = file.pack_offset_at_index(index);
     let id = file.oid_at_index(index);
     let crc = file.crc32_at_index(index);
-    push_offset_id_crc(lines, offset, id, crc);
+    put_offset_id_crc(line, at, offset, id, crc)
 }
 
-// Adds a line of these parts.
-fn push_offset_id_crc(lines: &mut Lines, offset: u64, id: oid<'_>, crc: u32)
-    requires { array_vec_len lines.old + MAX_LINE_LEN ≤ 16384 }
-    ensures { lines.new.items ≡ lines.old.items
+// Writes a line of these parts into the buffer at a position, and returns where it ends.
+fn put_offset_id_crc(line: &mut [u8], at: usize, offset: u64, id: oid<'_>, crc: u32) -> usize
+    requires { at + MAX_LINE_LEN ≤ length line.old }
+    ensures most { result ≤ at + MAX_LINE_LEN }
+    ensures text { take result line.new ≡ take at line.old
         ++ line_of_object (decimal offset) (spelling hex_letter (oid_digits id.entry)) (crc_text crc) }
 {
-    push(lines, Buffer::new().format(offset).as_bytes());
-    push(lines, b" ");
-    push(lines, id.hex_to_buf(&mut Kind::hex_buf()).as_bytes());
-    push(lines, b" (");
-    push(lines, &crc_digits(crc));
-    push(lines, b")\n");
+    let mut number = Buffer::new();
+    let offset = number.format(offset).as_bytes();
+    let offset_end = put(line, at, offset);
+    let id_at = put(line, offset_end, b" ");
+    let id_end = put_id(line, id_at, id);
+    let crc_at = put(line, id_end, b" (");
+    let crc_end = put_crc(line, crc_at, crc);
+    put(line, crc_end, b")\n")
 }
 
-// The eight hex digits of a CRC.
-#[tactic(auto, unfolding(crate::specs::Files::crc_text))]
-fn crc_digits(crc: u32) -> [u8; 8]
-    ensures { result ≡ crc_text crc }
-{
-    let mut digits = [0; 8];
-    encode_to_slice(crc.to_be_bytes(), &mut digits).unwrap();
-    digits
-}
-
-/// Adds the line of an id and its name.
-pub(crate) fn push_name_line(lines: &mut Lines, named: &NamedId)
-    requires { array_vec_len lines.old + MAX_LINE_LEN ≤ 16384 }
-    ensures { lines.new.items ≡ lines.old.items ++ name_line named.now }
+/// Writes the line of an id and its name into the buffer at a position, and returns where it ends.
+pub(crate) fn put_name_line(line: &mut [u8], at: usize, named: &NamedId) -> usize
+    requires { at + MAX_LINE_LEN ≤ length line.old }
+    ensures most { result ≤ at + MAX_LINE_LEN }
+    ensures text { take result line.new ≡ take at line.old ++ name_line named.now }
 {
     let mut letters = Kind::hex_buf();
-    let id = named.id.hex_to_buf(&mut letters).as_bytes();
-    push_name(lines, named, id);
-    push(lines, b" ");
-    push(lines, id);
-    push(lines, b"\n");
+    let end = put_id(&mut letters, 0, named.id.as_oid());
+    let id = &letters[..end];
+    let name_end = put_name(line, at, named, id);
+    let id_at = put(line, name_end, b" ");
+    let id_end = put(line, id_at, id);
+    put(line, id_end, b"\n")
 }
 
-// Adds the name of an id. It is copied from the letters of the id, if these begin with it.
-fn push_name(lines: &mut Lines, named: &NamedId, id: &[u8])
-    requires room { array_vec_len lines.old + 64 ≤ 16384 }
+// Writes the name of an id into the buffer at a position, and returns where it ends. The name is
+// copied from the letters of the id, if these begin with it.
+fn put_name(line: &mut [u8], at: usize, named: &NamedId, id: &[u8]) -> usize
+    requires room { at + MAX_ID_LEN ≤ length line.old }
     requires id { id.now ≡ hex_of named.now.id }
-    ensures text { lines.new.items
-        ≡ lines.old.items ++ spelling hex_letter named.now.name.digits }
-    ensures len { array_vec_len lines.new ≤ array_vec_len lines.old + 64 }
+    ensures most { result ≤ at + MAX_ID_LEN }
+    ensures text { take result line.new
+        ≡ take at line.old ++ spelling hex_letter named.now.name.digits }
 {
-    let name = &named.name;
-    if name.hex_len() <= named.id.kind().len_in_hex() && begins_with(&named.id, name) {
-        push(lines, &id[..name.hex_len()]);
-    } else {
-        push(lines, name.hex_to_buf(&mut Kind::hex_buf()).as_bytes());
+    let len = named.name.hex_len();
+    if len <= named.id.kind().len_in_hex() && begins_with(&named.id, &named.name) {
+        return put(line, at, &id[..len]);
     }
+    named.name.put_hex(&mut line[at..]);
+    at + len
 }
 
-/// Adds an id after a text.
-pub(crate) fn push_digest(line: &mut Line, text: &[u8], id: &ObjectId)
-    requires { array_vec_len line.old + length text.now + 64 ≤ 189 }
-    ensures text { line.new.items ≡ line.old.items ++ text.now ++ hex_of id.now }
-    ensures len { array_vec_len line.new ≤ array_vec_len line.old + length text.now + 64 }
+// Copies bytes into the buffer at a position, and returns where they end.
+fn put(line: &mut [u8], at: usize, bytes: &[u8]) -> usize
+    requires { at + length bytes.now ≤ length line.old }
+    ensures end { result ≡ at + length bytes.now }
+    ensures text { take result line.new ≡ take at line.old ++ bytes.now }
 {
-    push(line, text);
-    push(line, id.hex_to_buf(&mut Kind::hex_buf()).as_bytes());
+    let end = at + bytes.len();
+    line[at..end].copy_from_slice(bytes);
+    end
 }
 
-/// Adds bytes, for which there is room.
-pub(crate) fn push<const N: usize>(line: &mut ArrayVec<u8, N>, bytes: &[u8])
-    requires { array_vec_len line.old + length bytes.now ≤ N }
-    ensures { line.new.items ≡ line.old.items ++ bytes.now }
+// Writes an id's digits in hex into the buffer at a position, and returns where they end.
+fn put_id(line: &mut [u8], at: usize, id: oid<'_>) -> usize
+    requires { at + MAX_ID_LEN ≤ length line.old }
+    ensures end { result ≡ at + length (oid_digits id.entry) }
+    ensures most { result ≤ at + MAX_ID_LEN }
+    ensures text { take result line.new
+        ≡ take at line.old ++ spelling hex_letter (oid_digits id.entry) }
 {
-    line.try_extend_from_slice(bytes).unwrap();
+    Alphabet::Hex.put_id(id, &mut line[at..]);
+    at + id.kind().len_in_hex()
+}
+
+// Writes a CRC's eight hex digits into the buffer at a position, and returns where they end.
+#[tactic(auto, unfolding(crate::specs::Files::crc_text))]
+fn put_crc(line: &mut [u8], at: usize, crc: u32) -> usize
+    requires { at + CRC_LEN ≤ length line.old }
+    ensures end { result ≡ at + CRC_LEN }
+    ensures text { take result line.new ≡ take at line.old ++ crc_text crc }
+{
+    let end = at + CRC_LEN;
+    encode_to_slice(crc.to_be_bytes(), &mut line[at..end]).unwrap();
+    end
 }

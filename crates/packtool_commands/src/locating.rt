@@ -14,7 +14,7 @@ ghost use Rattle.streams.specs.Streams.{AppendsAtMost, Wrote, lines_of};
 use crate::asking::{Answers, Entry, Listed, prefixes_in, write_answers, write_front, write_two};
 use crate::error::StoreError;
 use crate::escaping::{write_before, write_mark};
-use crate::lines::{Line, push};
+use crate::line::{Line, push};
 use gix_hash::{Kind, ObjectId, Prefix};
 use itoa::Buffer;
 use object_store::{LocatedId, Location, Part, StorePaths, locate_prefixes};

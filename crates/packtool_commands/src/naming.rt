@@ -11,7 +11,7 @@ ghost use Rattle.streams.specs.Streams.{Wrote, lines_of};
 
 use crate::asking::{Form, prefixes_in, write_answers, write_two};
 use crate::error::StoreError;
-use crate::lines::{Lines, make_room, push_name_line};
+use crate::lines::{LINES_LEN, next_line_at, put_name_line};
 use gix_hash::{Kind, Prefix};
 use object_store::{Abbreviation, NamedId, Store, abbreviate_prefixes};
 use std::alloc::Allocator;
@@ -83,12 +83,13 @@ pub fn write_names<W: Sink>(named: &[NamedId], out: &mut W) -> Result<(), WriteF
     requires { W.has_failed out.old ≡ false }
     ensures { Wrote W.taken W.has_failed out.old out.new result (flat_map name_line named.now) }
 {
-    let mut lines = Lines::new();
+    let mut lines = [0; LINES_LEN];
+    let mut end = 0;
     for id in named {
-        make_room(&mut lines, out)?;
-        push_name_line(&mut lines, id);
+        let at = next_line_at(&lines, end, out)?;
+        end = put_name_line(&mut lines, at, id);
     }
-    write_all(out, lines.as_slice())
+    write_all(out, &lines[..end])
 }
 
 /// Writes for each line of a text, in order, the abbreviation of the only id of a store that begins

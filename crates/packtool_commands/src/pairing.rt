@@ -6,7 +6,7 @@ ghost use Rattle.packtool_commands.specs.Files.{IsDigest, IsOfWhatMayFail, IsPai
 ghost use Rattle.streams.specs.Streams.{Wrote};
 
 use crate::escaping::write_named;
-use crate::lines::{Line, push, push_digest};
+use crate::line::{Line, push, push_digest};
 use gix_hash::{Kind, ObjectId};
 use std::io;
 use streams::{ReadAt, Sink, WriteFailed};

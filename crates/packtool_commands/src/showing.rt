@@ -8,7 +8,7 @@ ghost use Rattle.packtool_commands.specs.Files.{HasShown, HasShownPart, IsFileRe
 ghost use Rattle.packtool_commands.specs.declared.error.FileError.{FileError};
 
 use crate::error::FileError;
-use crate::lines::{Lines, make_room, push_index_line};
+use crate::lines::{LINES_LEN, next_line_at, put_index_line};
 use gix_hash::Kind;
 use pack_index::File;
 use std::alloc::Allocator;
@@ -107,13 +107,14 @@ fn write_lines<W: Sink>(file: &File<'_>, out: &mut W) -> Result<(), WriteFailed>
     ensures { Wrote W.taken W.has_failed out.old out.new result
         (index_lines file.now.kind file.now.bytes) }
 {
-    let mut lines = Lines::new();
+    let mut lines = [0; LINES_LEN];
+    let mut end = 0;
     let count = file.num_objects();
     for index in 0..count {
-        make_room(&mut lines, out)?;
-        push_index_line(&mut lines, file, index);
+        let at = next_line_at(&lines, end, out)?;
+        end = put_index_line(&mut lines, at, file, index);
     }
-    write_all(out, lines.as_slice())
+    write_all(out, &lines[..end])
 }
 
 // Reads the source to its end. Not inlined, so that the chunk is on the stack only while this runs.

@@ -1,4 +1,4 @@
-use Rattle.std.proofs.Common.{ℕ, List, ◌++◌, sym, ap, subst, ◌∙◌}
+use Rattle.std.proofs.Common.{ℕ, List, ◌++◌, take, sym, ap, subst, ◌∙◌, arith}
 use Rattle.std.specs.List.{flat_map}
 use Rattle.std.proofs.lemmas.List.{take_all}
 use Rattle.object_store.proofs.Held.{flat_map-take}
@@ -10,19 +10,20 @@ use Rattle.packtool_commands.proofs.naming.write_names.Goals as goal
 
 pub loop-id-preserved : goal.loop-id-preserved
 loop-id-preserved g c =
-    let line = c.push_name_line.ensures ∙ ap (λ (l : List ℕ). c.make_room.new.lines.items ++ l) (ap name_line c.id-item.is) in (
+    let text = c.put_name_line-end.ensures.text ∙ ap (λ (l : List ℕ). take c.in_ok-at.at c.loop-id.lines ++ l) (ap name_line c.id-item.is) in (
       subst (KeepsBack _ _ _) (sym (flat_map-take name_line c.args.named.now c.loop-id.id-index _ c.loop-id-test.true))
-          (keeps_more _ _ _ _ _ _ _ _ c.loop-id.invariant.0 c.in_ok-make_room.ensures.kept line),
-      c.in_ok-make_room.ensures.not_failed,
+          (keeps_more _ _ _ _ _ _ _ _ c.loop-id.invariant.0 c.in_ok-at.ensures.kept text),
+      c.in_ok-at.ensures.not_failed,
+      omega (arith, c.in_ok-at.ensures.room, c.put_name_line-end.ensures.most),
     )
 
-pub returns-in_err-make_room : goal.returns-in_err-make_room
-returns-in_err-make_room g c =
+pub returns-in_err-at : goal.returns-in_err-at
+returns-in_err-at g c =
     subst (Wrote _ _ _ _ _) (sym (lines_split name_line c.args.named.now c.loop-id.id-index))
-    (keeps_stop c.loop-id.out _ _ _ _ c.from_residual.ensures.0 c.loop-id.invariant.0 c.in_err-make_room.ensures.part c.in_err-make_room.ensures.failed)
+    (keeps_stop c.loop-id.out _ _ _ _ c.from_residual.ensures.0 c.loop-id.invariant.0 c.in_err-at.ensures.part c.in_err-at.ensures.failed)
 
 pub returns : goal.returns
 returns g c =
     keeps_written _ _ _
     (subst (KeepsBack _ _ _) (ap (flat_map name_line) (take_all c.loop-id.id-index c.args.named.now c.loop-id-test.false)) c.loop-id.invariant.0)
-    (subst (Wrote _ _ _ _ _) c.as_slice.ensures.value c.write_all.ensures)
+    c.write_all.ensures

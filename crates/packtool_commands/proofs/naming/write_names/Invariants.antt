@@ -1,4 +1,4 @@
-use Rattle.std.proofs.Common.{◌≡◌, false, take}
+use Rattle.std.proofs.Common.{◌≡◌, ◌≤◌, false, take}
 use Rattle.std.specs.List.{flat_map}
 use Rattle.packtool_commands.specs.Files.{KeepsBack}
 use Rattle.packtool_commands.specs.Stores.{name_line}
@@ -6,4 +6,6 @@ use Rattle.packtool_commands.proofs.naming.write_names.Given as goal
 
 abbrev pub invariant-loop-id : goal.invariant-loop-id
 invariant-loop-id g l =
-    KeepsBack (g.W.Sink.taken l.fn.out) (g.W.Sink.taken l.out) l.lines.items (flat_map name_line (take l.id-index l.named)) × (g.W.Sink.has_failed l.out ≡ false)
+    KeepsBack (g.W.Sink.taken l.fn.out) (g.W.Sink.taken l.out) (take l.end l.lines) (flat_map name_line (take l.id-index l.named))
+    × (g.W.Sink.has_failed l.out ≡ false)
+    × (l.end ≤ 16384)

@@ -11,21 +11,22 @@ pub loop-index-preserved : goal.loop-index-preserved
 loop-index-preserved g c =
     let line = index_line c.args.file.now.kind c.args.file.now.bytes in (
       subst (KeepsBack _ _ _) (sym (lines-more line c.loop-index.index))
-          (keeps_more _ _ _ _ _ _ _ _ c.loop-index.invariant.0 c.in_ok-make_room.ensures.kept c.push_index_line.ensures),
-      c.in_ok-make_room.ensures.not_failed,
+          (keeps_more _ _ _ _ _ _ _ _ c.loop-index.invariant.0 c.in_ok-at.ensures.kept c.put_index_line-end.ensures.text),
+      c.in_ok-at.ensures.not_failed,
+      omega (arith, c.in_ok-at.ensures.room, c.put_index_line-end.ensures.most),
     )
 
-pub returns-in_err-make_room : goal.returns-in_err-make_room
-returns-in_err-make_room g c =
+pub returns-in_err-at : goal.returns-in_err-at
+returns-in_err-at g c =
     let line = index_line c.args.file.now.kind c.args.file.now.bytes in
     subst (Wrote _ _ _ _ _)
     (sym (lines-at line (length (names_in c.args.file.now.kind c.args.file.now.bytes)) c.loop-index.index (omega (arith, c.loop-index-test.true, c.num_objects-count.ensures))
     ∙ append_assoc (flat_map line (range_with_len 0 c.loop-index.index)) (line c.loop-index.index) _))
-    (keeps_stop c.loop-index.out _ _ _ _ c.from_residual.ensures.0 c.loop-index.invariant.0 c.in_err-make_room.ensures.part c.in_err-make_room.ensures.failed)
+    (keeps_stop c.loop-index.out _ _ _ _ c.from_residual.ensures.0 c.loop-index.invariant.0 c.in_err-at.ensures.part c.in_err-at.ensures.failed)
 
 pub returns : goal.returns
 returns g c =
     let line = index_line c.args.file.now.kind c.args.file.now.bytes in
     let all : c.loop-index.index ≡ length (names_in c.args.file.now.kind c.args.file.now.bytes) =
     omega (arith, c.loop-index-test.false, c.loop-index.auto.index-end, c.num_objects-count.ensures) in
-    keeps_written _ _ _ (subst (KeepsBack _ _ _) (ap (λ n. flat_map line (range_with_len 0 n)) all) c.loop-index.invariant.0) (subst (Wrote _ _ _ _ _) c.as_slice.ensures.value c.write_all.ensures)
+    keeps_written _ _ _ (subst (KeepsBack _ _ _) (ap (λ n. flat_map line (range_with_len 0 n)) all) c.loop-index.invariant.0) c.write_all.ensures

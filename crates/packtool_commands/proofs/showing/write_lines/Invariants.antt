@@ -1,9 +1,10 @@
-use Rattle.std.proofs.Common.{◌≡◌, false}
+use Rattle.std.proofs.Common.{◌≡◌, ◌≤◌, false, take}
 use Rattle.std.specs.List.{flat_map, range_with_len}
 use Rattle.packtool_commands.specs.Files.{KeepsBack, index_line}
 use Rattle.packtool_commands.proofs.showing.write_lines.Given as goal
 
 abbrev pub invariant-loop-index : goal.invariant-loop-index
 invariant-loop-index g l =
-    KeepsBack (g.W.Sink.taken l.fn.out) (g.W.Sink.taken l.out) l.lines.items (flat_map (index_line l.file.kind l.file.bytes) (range_with_len 0 l.index))
+    KeepsBack (g.W.Sink.taken l.fn.out) (g.W.Sink.taken l.out) (take l.end l.lines) (flat_map (index_line l.file.kind l.file.bytes) (range_with_len 0 l.index))
     × (g.W.Sink.has_failed l.out ≡ false)
+    × (l.end ≤ 16384)

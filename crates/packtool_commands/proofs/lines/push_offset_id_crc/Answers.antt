@@ -1,9 +1,0 @@
-use Rattle.std.specs.Prelude.{decimal}
-use Rattle.gix_hash.specs.Digits.{hex_letter, spelling}
-use Rattle.gix_hash.specs.Ids.{oid_digits}
-use Rattle.packtool_commands.specs.Files.{crc_text}
-use Rattle.packtool_commands.proofs.LineLemmas.{line_parts}
-use Rattle.packtool_commands.proofs.lines.push_offset_id_crc.Goals as goal
-
-pub returns : goal.returns
-returns c = cc (line_parts c.args.lines.now.items (decimal c.args.offset) (spelling hex_letter (oid_digits c.args.id)) (crc_text c.args.crc))

@@ -1,0 +1,9 @@
+use Rattle.std.proofs.Common.{take}
+use Rattle.gix_hash.specs.Digits.{hex_letter, spelling}
+use Rattle.gix_hash.specs.Ids.{id_digits}
+use Rattle.packtool_commands.proofs.LineLemmas.{name_parts}
+use Rattle.packtool_commands.proofs.lines.put_name_line.Goals as goal
+
+pub returns-clause-text : goal.returns-clause-text
+returns-clause-text c =
+    cc (name_parts (take c.args.at c.args.line.now) (spelling hex_letter c.args.named.now.name.digits) (spelling hex_letter (id_digits c.args.named.now.id)))

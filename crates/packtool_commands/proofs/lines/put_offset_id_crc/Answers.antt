@@ -1,0 +1,11 @@
+use Rattle.std.proofs.Common.{take}
+use Rattle.std.specs.Prelude.{decimal}
+use Rattle.gix_hash.specs.Digits.{hex_letter, spelling}
+use Rattle.gix_hash.specs.Ids.{oid_digits}
+use Rattle.packtool_commands.specs.Files.{crc_text}
+use Rattle.packtool_commands.proofs.LineLemmas.{line_parts}
+use Rattle.packtool_commands.proofs.lines.put_offset_id_crc.Goals as goal
+
+pub returns-clause-text : goal.returns-clause-text
+returns-clause-text c =
+    cc (line_parts (take c.args.at c.args.line.now) (decimal c.args.offset) (spelling hex_letter (oid_digits c.args.id)) (crc_text c.args.crc))
