@@ -1,7 +1,8 @@
 -- The lines of a text and what is printed for them, one after the other.
-use Rattle.std.proofs.Common.{◌≡◌, ℕ, zero, suc, ◌<◌, ◌≤◌, Bool, true, false, ◌&&◌, nat_lt, Option, None, Some, List, [], ◌∷◌, ◌++◌, length, get_or, map, refl, sym, ap, ◌∙◌, arith}
+use Rattle.std.proofs.Common.{◌≡◌, ℕ, zero, suc, ◌<◌, ◌≤◌, Bool, true, false, ◌&&◌, nat_lt, Option, None, Some, List, [], ◌∷◌, ◌++◌, length, get_or, map, refl, sym, ap, subst, ◌∙◌, arith}
 use Rattle.std.specs.Prelude.{codes, if◌then◌else◌}
 use Rattle.std.specs.List.{All, flat_map}
+use Rattle.std.specs.Io.KnownBytes.{Appends}
 use Rattle.std.specs.Option.{is_some, option_map, option_to_list}
 use Rattle.std.proofs.lemmas.Bool.Decides.{nat_tests}
 use Rattle.std.proofs.lemmas.List.{length-drop, nil_from_length}
@@ -21,7 +22,7 @@ use Rattle.object_store.specs.declared.locations.LocatedId.{LocatedId}
 use Rattle.object_store.specs.declared.abbreviations.Abbreviation.{Abbreviation}
 use Rattle.object_store.specs.declared.abbreviations.Abbreviation.TheVariants.{Missing}
 use Rattle.streams.specs.Streams.{lines_of}
-use Rattle.packtool_commands.specs.Stores.{HaveAllBuckets, answer_to, answers_by, answers_in, are_answers_by, are_answers_in, found_text, id_line, is_answer_to, is_found, line_with, lists_after, of_two, prefix_of, prefixes_of}
+use Rattle.packtool_commands.specs.Stores.{HasAnswered, HasAnsweredMatches, HaveAllBuckets, answer_to, answers_by, answers_in, are_answers_by, are_answers_in, found_text, id_line, is_answer_to, is_found, line_with, lists_after, of_two, prefix_of, prefixes_of}
 use Rattle.packtool_commands.specs.declared.asking.Answers.{Answers}
 use Rattle.packtool_commands.specs.declared.asking.Answers.TheVariants.{All as AllOfThem, One as OneOfThem}
 
@@ -173,6 +174,14 @@ module _ (view : StoreView) (whole : List (List ℕ)) (lines : List (List ℕ)) 
       (λ i. are_answers_by (λ ids. is_found-map id_digits answers ids i) view.kind lines found)
       ∙ are_answers_by-map (is_found answers) (map id_digits) view.kind lines found
       ∙ ap (λ (ls : List (List (List ℕ))). are_answers_by (is_found answers) view.kind lines ls) (found_in view whole (prefixes_of view.kind lines) found h are)
+
+-- so what was printed by them was printed in that store
+pub answered_in : (answers : Answers) (view : StoreView) (whole lines : List (List ℕ)) (all : Bool) (old new : Option (List ℕ)) → Holds view whole
+    → HasAnsweredMatches answers view lines all old new → HasAnswered answers view.kind whole lines all old new
+answered_in answers view whole lines all old new h m = record {
+  found = m.found ∙ all_in view whole lines m.results h m.are_found answers;
+  written = subst (Appends old new) (text_in view whole lines m.results h m.are_found answers) m.written;
+}
 
 pub all_sound : (view : StoreView) (prefixes : List KindDigits) (found : List (List ObjectId)) → AreMatchesOfEach view prefixes found → HaveAllBuckets view prefixes
 all_sound view prefixes found are k prefix low = (are.each k prefix [] low).sound

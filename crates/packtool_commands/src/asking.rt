@@ -1,9 +1,9 @@
 //! What is found in a store for each line of a text, and the ids that begin with each.
 
-ghost use Rattle.std.specs.Prelude.{◌≡◌, ◌≢◌, ◌++◌, ◌-◌, ◌<◌, ◌≤◌, ◌↔◌, ◌∷◌, ◌&&◌, ℕ, List, IfErr, IfOk, IsErrOf, OnErr, OnOk, Some, false, flat_map, length, option_copied, true};
+ghost use Rattle.std.specs.Prelude.{◌≡◌, ◌≢◌, ◌++◌, ◌-◌, ◌<◌, ◌≤◌, ◌↔◌, ◌∷◌, ◌&&◌, ℕ, All, List, IfErr, IfOk, IsErrOf, OnErr, OnOk, Some, false, flat_map, length, option_copied, true};
 ghost use Rattle.std.specs.List.{after_first, before_first, position};
 ghost use Rattle.std.specs.Io.KnownBytes.{Appends};
-ghost use Rattle.object_store.specs.Stores.{Holds, IsFaultOfOne};
+ghost use Rattle.object_store.specs.Stores.{CanLookUp, Holds, IsFaultOfOne};
 ghost use Rattle.packtool_commands.specs.Stores.{HasAnswered, HasAnsweredMatches, HaveAllBuckets, IsFaultOf, answer_to, answers_by, answers_in, are_answers_by, found_text, front_text, is_answer_to, lists_after, prefix_of, prefixes_of};
 ghost use Rattle.packtool_commands.specs.declared.error.StoreError.{StoreError};
 ghost use Rattle.streams.specs.Streams.{AppendsPart, Wrote, is_line_feed, lines_of};
@@ -69,13 +69,26 @@ pub fn find_each<S: Store, A: Allocator + Copy, W: Sink>(
         (answers_in answers (S.view store.now).kind whole (lines_of lines.now)) }
 {
     let kind = store.object_hash();
-    let prefixes = prefixes_in(alloc, kind, lines)?;
+    let prefixes = prefixes_for(alloc, store, lines)?;
     let found = lookup_prefixes(alloc, store, &prefixes)?;
     let form = Listed {
         answers,
         entry: IdEntry,
     };
     Ok(write_answers(kind, lines, &found, &form, out)?)
+}
+
+/// The prefixes of a store's kind among the lines of a text, in order.
+pub(crate) fn prefixes_for<S: Store, A: Allocator>(
+    alloc: A,
+    store: &S,
+    lines: &[u8],
+) -> Result<Vec<Prefix, A>, AllocError>
+    ensures prefixes { IfOk result (λ prefixes. prefixes.items
+        ≡ prefixes_of (S.view store.now).kind (lines_of lines.now)) }
+    ensures can { IfOk result (λ prefixes. All (CanLookUp (S.view store.now)) prefixes.items) }
+{
+    prefixes_in(alloc, store.object_hash(), lines)
 }
 
 /// The prefixes of a kind among the lines of a text, in order: those that [`find_each`] looks up.

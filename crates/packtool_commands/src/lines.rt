@@ -1,4 +1,6 @@
-//! The lines of a pack index and of names, put together in a buffer, many of them at once.
+//! The lines of a pack index and of names, put together in a buffer, many of them at once. Each call
+//! returns where its line ends: an `ArrayVec`, which knows its length, took 37 instructions more for
+//! a line of a name.
 
 ghost use Rattle.std.specs.Prelude.{◌≡◌, ◌+◌, ◌<◌, ◌≤◌, ◌++◌, IfOk, OnErr, OnOk, decimal, false, true, length, take};
 ghost use Rattle.gix_hash.specs.Digits.{hex_letter, spelling};

@@ -11,7 +11,7 @@ ghost use Rattle.packtool_commands.specs.Stores.{HasLocated, HasLocatedEach, Has
 ghost use Rattle.packtool_commands.specs.declared.error.StoreError.{StoreError};
 ghost use Rattle.streams.specs.Streams.{AppendsAtMost, Wrote, lines_of};
 
-use crate::asking::{Answers, Entry, Listed, prefixes_in, write_answers, write_front, write_two};
+use crate::asking::{Answers, Entry, Listed, prefixes_for, write_answers, write_front, write_two};
 use crate::error::StoreError;
 use crate::escaping::{write_before, write_mark};
 use crate::line::{Line, push};
@@ -166,7 +166,7 @@ pub fn locate_each<S: StorePaths, A: Allocator + Copy, W: Sink>(
         (lines_of lines.now) (W.taken out.old) (W.taken out.new) }
 {
     let kind = store.object_hash();
-    let prefixes = prefixes_in(alloc, kind, lines)?;
+    let prefixes = prefixes_for(alloc, store, lines)?;
     let located = locate_prefixes(alloc, store, &prefixes)?;
     let form = Listed {
         answers,

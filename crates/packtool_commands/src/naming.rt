@@ -9,7 +9,7 @@ ghost use Rattle.packtool_commands.specs.Stores.{HasNamedAtMost, HasNamedBelow, 
 ghost use Rattle.packtool_commands.specs.declared.error.StoreError.{StoreError};
 ghost use Rattle.streams.specs.Streams.{Wrote, lines_of};
 
-use crate::asking::{Form, prefixes_in, write_answers, write_two};
+use crate::asking::{Form, prefixes_for, write_answers, write_two};
 use crate::error::StoreError;
 use crate::lines::{LINES_LEN, next_line_at, put_name_line};
 use gix_hash::{Kind, Prefix};
@@ -134,7 +134,7 @@ pub fn name_each<S: Store, A: Allocator + Copy, W: Sink>(
         (lines_of lines.now) (W.taken out.old) (W.taken out.new) }
 {
     let kind = store.object_hash();
-    let prefixes = prefixes_in(alloc, kind, lines)?;
+    let prefixes = prefixes_for(alloc, store, lines)?;
     let named = abbreviate_prefixes(alloc, store, &prefixes, least)?;
     Ok(write_answers(kind, lines, &named, &AbbreviationForm, out)?)
 }

@@ -1,32 +1,20 @@
-use Rattle.std.proofs.Common.{◌≡◌, ◌∙◌, ℕ, Bool, List, Vec, ap, map, sym, subst}
-use Rattle.std.specs.List.{All}
+use Rattle.std.proofs.Common.{◌∙◌, ℕ, Bool, List, Vec, map, subst}
 use Rattle.std.specs.Io.KnownBytes.{Appends}
 use Rattle.std.proofs.lemmas.Result.{err_from_is_err_and}
 use Rattle.gix_hash.specs.Prefixes.{KindDigits}
-use Rattle.object_store.specs.Stores.{CanLookUp}
 use Rattle.object_store.specs.Several.{AreLocatedOfEach, IsLocationsFaultOfOne}
 use Rattle.object_store.specs.declared.locations.LocatedId.{LocatedId}
 use Rattle.streams.specs.Streams.{AppendsPart, lines_of}
 use Rattle.packtool_commands.specs.Stores.{answers_by, are_answers_by, found_text, is_found, located_lines, prefixes_of}
-use Rattle.packtool_commands.proofs.AskingLemmas.{answers_by-map, are_answers_by-map, can_look_up, located_sound}
+use Rattle.packtool_commands.proofs.AskingLemmas.{answers_by-map, are_answers_by-map, located_sound}
 use Rattle.packtool_commands.proofs.locating.locate_each.Goals as goal
-
-pub locate_prefixes-requires : goal.locate_prefixes-requires
-locate_prefixes-requires g c =
-    let view = g.S.Store.view c.args.store.now in
-    let lines = lines_of c.args.lines.now in
-    let prefixes : c.deref.result.now ≡ prefixes_of view.kind lines =
-    c.deref.ensures.value ∙ c.in_ok-prefixes.ensures ∙ ap (λ k. prefixes_of k lines) c.object_hash-kind.ensures in
-    subst (All (CanLookUp view)) (sym prefixes) (can_look_up view lines)
 
 pub returns-in_err-located-clause-refused : goal.returns-in_err-located-clause-refused
 returns-in_err-located-clause-refused g c =
     let view = g.S.Store.view c.args.store.now in
     let lines = lines_of c.args.lines.now in
-    let prefixes : c.deref.result.now ≡ prefixes_of view.kind lines =
-    c.deref.ensures.value ∙ c.in_ok-prefixes.ensures ∙ ap (λ k. prefixes_of k lines) c.object_hash-kind.ensures in
     let failed = err_from_is_err_and c.from_residual-in_err-located.result c.from_residual-in_err-located.ensures.1 in
-    rw (failed.1, failed.2) (subst (λ (ps : List KindDigits). IsLocationsFaultOfOne view ps c.in_err-located.field-0.0) prefixes c.in_err-located.ensures.err)
+    rw (failed.1, failed.2) (subst (λ (ps : List KindDigits). IsLocationsFaultOfOne view ps c.in_err-located.field-0.0) (c.deref.ensures.value ∙ c.in_ok-prefixes.ensures.prefixes) c.in_err-located.ensures.err)
 
 pub returns-in_err-write_answers-clause-part : goal.returns-in_err-write_answers-clause-part
 returns-in_err-write_answers-clause-part g c = λ _.
@@ -35,10 +23,8 @@ returns-in_err-write_answers-clause-part g c = λ _.
     let paths = g.S.StorePaths.loose_paths c.args.store.now in
     let items : Vec (LocatedId g.row.A.Denot) g.row.A.Denot → List (LocatedId g.row.A.Denot) = λ ids. ids.items in
     let located : List (List (LocatedId g.row.A.Denot)) = map items c.in_ok-located.located.items in
-    let prefixes : c.deref.result.now ≡ prefixes_of view.kind lines =
-    c.deref.ensures.value ∙ c.in_ok-prefixes.ensures ∙ ap (λ k. prefixes_of k lines) c.object_hash-kind.ensures in
     let are : AreLocatedOfEach view paths (prefixes_of view.kind lines) located =
-    subst (λ (ps : List KindDigits). AreLocatedOfEach view paths ps located) prefixes c.in_ok-located.ensures.located in
+    subst (λ (ps : List KindDigits). AreLocatedOfEach view paths ps located) (c.deref.ensures.value ∙ c.in_ok-prefixes.ensures.prefixes) c.in_ok-located.ensures.located in
     let text : List ℕ → List (LocatedId g.row.A.Denot) → List ℕ = found_text (located_lines (g.S.StorePaths.pack_path c.args.store.now)) c.args.answers in
     record {
       results = located;
@@ -56,10 +42,8 @@ returns-clause-located g c =
     let paths = g.S.StorePaths.loose_paths c.args.store.now in
     let items : Vec (LocatedId g.row.A.Denot) g.row.A.Denot → List (LocatedId g.row.A.Denot) = λ ids. ids.items in
     let located : List (List (LocatedId g.row.A.Denot)) = map items c.in_ok-located.located.items in
-    let prefixes : c.deref.result.now ≡ prefixes_of view.kind lines =
-    c.deref.ensures.value ∙ c.in_ok-prefixes.ensures ∙ ap (λ k. prefixes_of k lines) c.object_hash-kind.ensures in
     let are : AreLocatedOfEach view paths (prefixes_of view.kind lines) located =
-    subst (λ (ps : List KindDigits). AreLocatedOfEach view paths ps located) prefixes c.in_ok-located.ensures.located in
+    subst (λ (ps : List KindDigits). AreLocatedOfEach view paths ps located) (c.deref.ensures.value ∙ c.in_ok-prefixes.ensures.prefixes) c.in_ok-located.ensures.located in
     let text : List ℕ → List (LocatedId g.row.A.Denot) → List ℕ = found_text (located_lines (g.S.StorePaths.pack_path c.args.store.now)) c.args.answers in
     let wanted : List (LocatedId g.row.A.Denot) → Bool = is_found c.args.answers in
     record {
@@ -77,12 +61,5 @@ returns-clause-located g c =
 pub returns-clause-sound : goal.returns-clause-sound
 returns-clause-sound g c =
     let view = g.S.Store.view c.args.store.now in
-    let lines = lines_of c.args.lines.now in
-    let paths = g.S.StorePaths.loose_paths c.args.store.now in
-    let items : Vec (LocatedId g.row.A.Denot) g.row.A.Denot → List (LocatedId g.row.A.Denot) = λ ids. ids.items in
-    let located : List (List (LocatedId g.row.A.Denot)) = map items c.in_ok-located.located.items in
-    let prefixes : c.deref.result.now ≡ prefixes_of view.kind lines =
-    c.deref.ensures.value ∙ c.in_ok-prefixes.ensures ∙ ap (λ k. prefixes_of k lines) c.object_hash-kind.ensures in
-    let are : AreLocatedOfEach view paths (prefixes_of view.kind lines) located =
-    subst (λ (ps : List KindDigits). AreLocatedOfEach view paths ps located) prefixes c.in_ok-located.ensures.located in
-    located_sound view paths (prefixes_of view.kind lines) located are
+    let located = returns-clause-located g c in
+    located_sound view (g.S.StorePaths.loose_paths c.args.store.now) (prefixes_of view.kind (lines_of c.args.lines.now)) located.results located.are_found

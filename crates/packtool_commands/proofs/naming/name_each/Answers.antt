@@ -1,41 +1,28 @@
-use Rattle.std.proofs.Common.{◌≡◌, ◌∙◌, List, ap, sym, subst}
-use Rattle.std.specs.List.{All}
+use Rattle.std.proofs.Common.{◌∙◌, List, subst}
 use Rattle.std.specs.Io.KnownBytes.{Appends}
 use Rattle.std.proofs.lemmas.Result.{err_from_is_err_and}
 use Rattle.gix_hash.specs.Prefixes.{KindDigits}
-use Rattle.object_store.specs.Stores.{CanLookUp, IsFaultOfOne}
+use Rattle.object_store.specs.Stores.{IsFaultOfOne}
 use Rattle.object_store.specs.Several.{AreAbbreviatedOfEach}
 use Rattle.streams.specs.Streams.{lines_of}
 use Rattle.packtool_commands.specs.Stores.{abbreviation_text, answers_by, are_answers_by, is_named, prefixes_of}
-use Rattle.packtool_commands.proofs.AskingLemmas.{abbreviated_in, abbreviated_sound, can_look_up}
+use Rattle.packtool_commands.proofs.AskingLemmas.{abbreviated_in, abbreviated_sound}
 use Rattle.packtool_commands.proofs.naming.name_each.Goals as goal
-
-pub abbreviate_prefixes-requires-clause-can : goal.abbreviate_prefixes-requires-clause-can
-abbreviate_prefixes-requires-clause-can g c =
-    let view = g.S.Store.view c.args.store.now in
-    let lines = lines_of c.args.lines.now in
-    let prefixes : c.deref.result.now ≡ prefixes_of view.kind lines =
-    c.deref.ensures.value ∙ c.in_ok-prefixes.ensures ∙ ap (λ k. prefixes_of k lines) c.object_hash-kind.ensures in
-    subst (All (CanLookUp view)) (sym prefixes) (can_look_up view lines)
 
 pub returns-in_err-named-clause-refused : goal.returns-in_err-named-clause-refused
 returns-in_err-named-clause-refused g c =
     let view = g.S.Store.view c.args.store.now in
     let lines = lines_of c.args.lines.now in
-    let prefixes : c.deref.result.now ≡ prefixes_of view.kind lines =
-    c.deref.ensures.value ∙ c.in_ok-prefixes.ensures ∙ ap (λ k. prefixes_of k lines) c.object_hash-kind.ensures in
     let failed = err_from_is_err_and c.from_residual-in_err-named.result c.from_residual-in_err-named.ensures.1 in
-    rw (failed.1, failed.2) (subst (λ (ps : List KindDigits). IsFaultOfOne view ps c.in_err-named.field-0.0) prefixes c.in_err-named.ensures.err)
+    rw (failed.1, failed.2) (subst (λ (ps : List KindDigits). IsFaultOfOne view ps c.in_err-named.field-0.0) (c.deref.ensures.value ∙ c.in_ok-prefixes.ensures.prefixes) c.in_err-named.ensures.err)
 
 pub returns-clause-found : goal.returns-clause-found
 returns-clause-found g c = λ whole h.
     let view = g.S.Store.view c.args.store.now in
     let lines = lines_of c.args.lines.now in
     let named = c.in_ok-named.named.items in
-    let prefixes : c.deref.result.now ≡ prefixes_of view.kind lines =
-    c.deref.ensures.value ∙ c.in_ok-prefixes.ensures ∙ ap (λ k. prefixes_of k lines) c.object_hash-kind.ensures in
     let are : AreAbbreviatedOfEach c.args.least view (prefixes_of view.kind lines) named =
-    subst (λ (ps : List KindDigits). AreAbbreviatedOfEach c.args.least view ps named) prefixes c.in_ok-named.ensures.named in
+    subst (λ (ps : List KindDigits). AreAbbreviatedOfEach c.args.least view ps named) (c.deref.ensures.value ∙ c.in_ok-prefixes.ensures.prefixes) c.in_ok-named.ensures.named in
     record {
       results = named;
       are_found = abbreviated_in c.args.least view whole (prefixes_of view.kind lines) named h are;
@@ -49,7 +36,5 @@ returns-clause-sound g c =
     let view = g.S.Store.view c.args.store.now in
     let lines = lines_of c.args.lines.now in
     let named = c.in_ok-named.named.items in
-    let prefixes : c.deref.result.now ≡ prefixes_of view.kind lines =
-    c.deref.ensures.value ∙ c.in_ok-prefixes.ensures ∙ ap (λ k. prefixes_of k lines) c.object_hash-kind.ensures in
     abbreviated_sound c.args.least view (prefixes_of view.kind lines) named
-    (subst (λ (ps : List KindDigits). AreAbbreviatedOfEach c.args.least view ps named) prefixes c.in_ok-named.ensures.named)
+    (subst (λ (ps : List KindDigits). AreAbbreviatedOfEach c.args.least view ps named) (c.deref.ensures.value ∙ c.in_ok-prefixes.ensures.prefixes) c.in_ok-named.ensures.named)
