@@ -225,7 +225,7 @@ order_is search n ids =
     ] (is_first search None n ids)
 
 -- the first of a part may be refused for the id before it; else the part is in order if it is by itself
-late_first : (search : Search) (last : Option (List ℕ)) (n : ℕ) (ids : List (List ℕ))
+pub late_first : (search : Search) (last : Option (List ℕ)) (n : ℕ) (ids : List (List ℕ))
     → first_refused search last n ids ≡ option_or (error_of_first search n last ids) (first_refused search None n ids)
 unfolding first_refused
 late_first search None n ids = refl
@@ -244,14 +244,6 @@ late_first (In kind) (Some last) n (id ∷ ids) = by_tests (length id == hex_len
     by_tests true false more = refl
     by_tests false above more = refl
 
-pub late_is : (search : Search) (last : Option (List ℕ)) (n : ℕ) (ids : List (List ℕ)) (error : SearchError) → error_of_first search n last ids ≡ Some error
-    → first_refused search last n ids ≡ Some error
-late_is search last n ids error late = late_first search last n ids ∙ rw late refl
-
 pub in_order_after : (search : Search) (last : Option (List ℕ)) (n : ℕ) (ids : List (List ℕ)) → error_of_first search n last ids ≡ None
     → IsUpTo search (length ids) ids → first_refused search last n ids ≡ None
 in_order_after search last n ids none h = late_first search last n ids ∙ rw none (in_order_is search n ids h)
-
-pub refused_after : (search : Search) (last : Option (List ℕ)) (n : ℕ) (ids : List (List ℕ)) (error : SearchError) → error_of_first search n last ids ≡ None
-    → first_refused search None n ids ≡ Some error → first_refused search last n ids ≡ Some error
-refused_after search last n ids error none is = late_first search last n ids ∙ rw none is

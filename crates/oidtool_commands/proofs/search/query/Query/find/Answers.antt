@@ -3,11 +3,11 @@ use Rattle.std.proofs.lemmas.Result.{err_from_is_err_and}
 use Rattle.oidtool_commands.specs.declared.search.error.SearchError.TheVariants.{Unsorted}
 use Rattle.oidtool_commands.specs.declared.search.Search.TheVariants.{Sorted}
 use Rattle.oidtool_commands.proofs.FinderLemmas.{no_more_found}
-use Rattle.oidtool_commands.proofs.Orders.{late_is, in_order_after, refused_after, bad_is}
+use Rattle.oidtool_commands.proofs.Orders.{late_first, in_order_after, bad_is}
 use Rattle.oidtool_commands.proofs.search.query.Query.find.Goals as goal
 
 pub returns-in-Some-clause-refused : goal.returns-in-Some-clause-refused
-returns-in-Some-clause-refused c = late_is _ _ _ _ _ (sym c.error_of_first.ensures ∙ c.in-Some.is)
+returns-in-Some-clause-refused c = late_first _ _ _ _ ∙ rw (sym c.error_of_first.ensures ∙ c.in-Some.is) refl
 
 pub returns-then-hex_len-min-clause-in_order : goal.returns-then-hex_len-min-clause-in_order
 returns-then-hex_len-min-clause-in_order c =
@@ -24,7 +24,7 @@ pub returns-in-Err-clause-refused : goal.returns-in-Err-clause-refused
 returns-in-Err-clause-refused c =
     let at = c.in-Err.unsorted.at in
     let line : c.args.before + 1 + at ≡ c.args.before + at + 1 = omega arith in
-    refused_after _ _ _ _ _ (sym c.error_of_first.ensures ∙ c.in_default.is)
+    late_first _ _ _ _ ∙ rw (sym c.error_of_first.ensures ∙ c.in_default.is)
     (rw c.in-Sorted.is (bad_is (Sorted c.in-Sorted.field-0) _ _ at Unsorted (refl, c.in-Err.ensures.err) ∙ ap (λ k. Some (Unsorted k)) line))
 
 pub returns-in_ok-find_in_index-in-In-clause-in_order : goal.returns-in_ok-find_in_index-in-In-clause-in_order
@@ -34,4 +34,4 @@ returns-in_ok-find_in_index-in-In-clause-in_order c =
 pub returns-in_err-find_in_index-in-In-clause-refused : goal.returns-in_err-find_in_index-in-In-clause-refused
 returns-in_err-find_in_index-in-In-clause-refused c =
     let p = err_from_is_err_and c.from_residual.result c.from_residual.ensures.1 in
-    rw (p.1, p.2) (refused_after _ _ _ _ _ (sym c.error_of_first.ensures ∙ c.in_default.is) (rw c.in-In.is c.in_err-find_in_index-in-In.ensures.bad))
+    rw (p.1, p.2) (late_first _ _ _ _ ∙ rw (sym c.error_of_first.ensures ∙ c.in_default.is) (rw c.in-In.is c.in_err-find_in_index-in-In.ensures.bad))
