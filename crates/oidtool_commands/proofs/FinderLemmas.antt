@@ -1,5 +1,5 @@
 -- A part more of a list that comes in parts.
-use Rattle.std.proofs.Common.{◌≡◌, ℕ, zero, suc, ◌+◌, ◌≤◌, min, nat_lt, if◌then◌else◌, Bool, true, false, Option, Some, None, List, [], ◌∷◌, ◌++◌, map, length, length-append, get_or, refl, sym, ap, ◌∙◌, arith}
+use Rattle.std.proofs.Common.{◌≡◌, ◌↔◌, ℕ, zero, suc, ◌+◌, ◌≤◌, min, nat_lt, if◌then◌else◌, true, false, Option, Some, None, List, [], ◌∷◌, ◌++◌, map, length, length-append, get_or, refl, sym, ap, ◌∙◌, arith}
 use Rattle.std.proofs.lemmas.Bool.Decides.{nat_tests}
 use Rattle.std.proofs.lemmas.List.{map-append, length-map}
 use Rattle.std.proofs.lemmas.List.Elements.{filter-append}
@@ -12,7 +12,6 @@ use Rattle.gix_hash.specs.declared.ObjectId.{ObjectId}
 use Rattle.id_lookup.specs.Runs.{least_hex_len, matches}
 use Rattle.oidtool_commands.specs.Searches.{order_error, error_of_all, first_refused, last_or, IsLeast, HasFound}
 use Rattle.oidtool_commands.specs.declared.search.error.SearchError.{SearchError}
-use Rattle.oidtool_commands.specs.declared.search.error.SearchError.TheVariants.{PrefixTooLong}
 use Rattle.oidtool_commands.specs.declared.search.finder.Finder.{Finder}
 use Rattle.oidtool_commands.specs.declared.search.Search.{Search}
 use Rattle.oidtool_commands.specs.declared.search.Search.TheVariants.{Sorted, In}
@@ -69,33 +68,17 @@ is_least-append : (search : Search) (a b c : ℕ) (ids more : List (List ℕ)) �
 is_least-append (Sorted alphabet) a b c ids more first second is = omega (arith, first, second, is, least-append ids more)
 is_least-append (In kind) a b c ids more first second is = tt
 
+-- digits are not too many, or there is an error
+long_enough : (least n : ℕ) (error : SearchError) → ((if nat_lt least n then Some error else None) ≡ None) ↔ (n ≤ least)
+long_enough least n error = (λ none. grind (arith, nat_tests), λ short. let reaches : nat_lt least n ≡ false = grind (arith, nat_tests) in rw reaches refl)
+
 -- digits that are not too many for a list are not too many for its parts
 error_of_all-parts : (search : Search) (digits : List ℕ) (ids more : List (List ℕ)) → error_of_all search digits (ids ++ more) ≡ None
     → (error_of_all search digits ids ≡ None) × (error_of_all search digits more ≡ None)
 error_of_all-parts (In kind) digits ids more none = (refl, refl)
 error_of_all-parts (Sorted alphabet) digits ids more none =
-    let short = by_test _ (least_hex_len (ids ++ more)) refl none in
-    (none_if ids (omega (arith, short, least-append ids more)), none_if more (omega (arith, short, least-append ids more)))
-  where
-    none_if : (ids : List (List ℕ)) → length digits ≤ least_hex_len ids → error_of_all (Sorted alphabet) digits ids ≡ None
-    none_if ids short = let reaches : nat_lt (least_hex_len ids) (length digits) ≡ false = grind (arith, nat_tests) in rw reaches refl
-
-    by_test : (b : Bool) (least : ℕ) → nat_lt least (length digits) ≡ b → (if b then Some (PrefixTooLong (length digits) least) else None) ≡ None
-        → length digits ≤ least
-    by_test true least is h = cc h
-    by_test false least is h = grind (arith, nat_tests)
-
--- nothing was taken
-pub found_none : {A : Type 0} (search : Search) (digits : List ℕ) (finder : Finder A) → finder.count ≡ 0 → finder.refusal ≡ None → finder.last ≡ None
-    → finder.min_hex_len ≡ 64 → finder.found.items ≡ [] → HasFound search digits [] finder
-unfolding first_refused
-found_none search digits finder count refusal last least none = record {
-  counted = count;
-  in_order = refusal;
-  is_last = λ _. rw last refl;
-  is_least = λ _. elim search as (λ s. IsLeast s finder.min_hex_len []) [ Sorted alphabet ↦ least | In kind ↦ tt ];
-  are_found = λ _ _. rw none refl;
-}
+    let short = (long_enough _ _ _).0 none in
+    ((long_enough _ _ _).1 (omega (arith, short, least-append ids more)), (long_enough _ _ _).1 (omega (arith, short, least-append ids more)))
 
 -- one part more
 module _ {A : Type 0} (search : Search) (digits : List ℕ) (ids : List (List ℕ)) (old new : Finder A) (h : HasFound search digits ids old)
@@ -103,38 +86,38 @@ module _ {A : Type 0} (search : Search) (digits : List ℕ) (ids : List (List �
   counted : new.count ≡ length (ids ++ map id_digits part)
   counted = omega (arith, counts, h.counted, length-append ids (map id_digits part), length-map part id_digits)
 
-  -- after an error
-  pub found_refused : (error : SearchError) → old.refusal ≡ Some error → new.refusal ≡ old.refusal → HasFound search digits (ids ++ map id_digits part) new
-  found_refused error is same = record {
+  -- the first error of all
+  first : first_refused search None 1 (ids ++ map id_digits part) ≡ option_or old.refusal (first_refused search (last_or None ids) (1 + length ids) (map id_digits part))
+  first =
+      refused-append search None 1 ids (map id_digits part)
+      ∙ ap (λ error. option_or error (first_refused search (last_or None ids) (1 + length ids) (map id_digits part))) (sym h.in_order)
+
+  -- is an error
+  stopped : (error : SearchError) → new.refusal ≡ Some error → first_refused search None 1 (ids ++ map id_digits part) ≡ Some error
+      → HasFound search digits (ids ++ map id_digits part) new
+  stopped error is all = record {
     counted = counted;
-    in_order =
-        same ∙ is ∙ sym (refused-append search None 1 ids (map id_digits part)
-        ∙ ap (λ first. option_or first (first_refused search (last_or None ids) (1 + length ids) (map id_digits part))) (sym h.in_order ∙ is));
-    is_last = λ none. cc (none, is, same);
-    is_least = λ none. cc (none, is, same);
-    are_found = λ none. cc (none, is, same);
+    in_order = is ∙ sym all;
+    is_last = λ none. cc (none, is);
+    is_least = λ none. cc (none, is);
+    are_found = λ none. cc (none, is);
   }
+
+  -- that was known
+  pub found_refused : (error : SearchError) → old.refusal ≡ Some error → new.refusal ≡ old.refusal → HasFound search digits (ids ++ map id_digits part) new
+  found_refused error is same = stopped error (same ∙ is) (first ∙ rw is refl)
 
   -- after ids in order
   after : old.refusal ≡ None → first_refused search None 1 (ids ++ map id_digits part) ≡ first_refused search (option_map id_digits old.last) (old.count + 1) (map id_digits part)
   after none =
       let number : 1 + length ids ≡ old.count + 1 = omega (arith, h.counted) in
-      refused-append search None 1 ids (map id_digits part)
-      ∙ ap (λ first. option_or first (first_refused search (last_or None ids) (1 + length ids) (map id_digits part))) (sym h.in_order ∙ none)
-      ∙ ap (λ k. first_refused search (last_or None ids) k (map id_digits part)) number
-      ∙ ap (λ l. first_refused search l (old.count + 1) (map id_digits part)) (sym (h.is_last none))
+      first ∙ rw (none, number) (ap (λ l. first_refused search l (old.count + 1) (map id_digits part)) (sym (h.is_last none)))
 
   -- with an error
   pub found_stops : (error : SearchError) → old.refusal ≡ None → new.refusal ≡ Some error
       → first_refused search (option_map id_digits old.last) (old.count + 1) (map id_digits part) ≡ Some error
       → HasFound search digits (ids ++ map id_digits part) new
-  found_stops error none is stops = record {
-    counted = counted;
-    in_order = is ∙ sym (after none ∙ stops);
-    is_last = λ no. cc (no, is);
-    is_least = λ no. cc (no, is);
-    are_found = λ no. cc (no, is);
-  }
+  found_stops error none is stops = stopped error is (after none ∙ stops)
 
   -- that is in order
   pub found_further : (these : List ObjectId) (least : ℕ) → old.refusal ≡ None → new.refusal ≡ None → new.found.items ≡ old.found.items ++ these
@@ -161,12 +144,5 @@ module _ {A : Type 0} (search : Search) (digits : List ℕ) (ids : List (List �
 pub no_more_found : (found part : List ObjectId) (digits : List ℕ) (ids : List (List ℕ)) → map id_digits found ≡ matches digits ids → ids ≡ map id_digits part
     → length found ≤ length part
 no_more_found found part digits ids are same =
-    omega (
-      arith,
-      ap length are,
-      ap length same,
-      length-map found id_digits,
-      length-map part id_digits,
-      length-filter (λ id. starts_with nat_eq id digits) ids,
-      count_by-le-length (λ id. starts_with nat_eq id digits) ids,
-    )
+    let begins = λ (id : List ℕ). starts_with nat_eq id digits in
+    omega (arith, ap length are, ap length same, length-map found id_digits, length-map part id_digits, length-filter begins ids, count_by-le-length begins ids)

@@ -1,6 +1,14 @@
-use Rattle.std.proofs.Common.{refl}
-use Rattle.oidtool_commands.proofs.FinderLemmas.{found_none}
+use Rattle.std.proofs.Common.{[], refl}
+use Rattle.oidtool_commands.specs.Searches.{IsLeast, first_refused}
+use Rattle.oidtool_commands.specs.declared.search.Search.TheVariants.{Sorted, In}
 use Rattle.oidtool_commands.proofs.search.finder.Finder.new.Goals as goal
 
 pub returns-clause-known : goal.returns-clause-known
-returns-clause-known g c search digits = found_none search digits _ refl refl refl refl c.new.ensures.items
+unfolding first_refused
+returns-clause-known g c search digits = record {
+  counted = refl;
+  in_order = refl;
+  is_last = λ _. refl;
+  is_least = λ _. elim search as (λ s. IsLeast s 64 []) [ Sorted alphabet ↦ refl | In kind ↦ tt ];
+  are_found = λ _ _. rw c.new.ensures.items refl;
+}
