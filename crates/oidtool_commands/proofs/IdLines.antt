@@ -1,10 +1,8 @@
 -- Sorted lines of full ids: the ids that they read as, and what is known of these.
-use Rattle.std.proofs.Common.{◌≡◌, ◌⊎◌, inl, inr, ℕ, zero, suc, ◌+◌, ◌-◌, ◌<◌, ◌≤◌, Bool, true, false, nat_eq, if◌then◌else◌, IsTrue, Option, Some, None, Result, Ok, Err, List, [], ◌∷◌, map, length, take, get_or, refl, sym, ap, ◌∙◌, arith, Less, Equal, Greater}
+use Rattle.std.proofs.Common.{◌≡◌, ◌⊎◌, inl, inr, ℕ, zero, suc, ◌+◌, ◌-◌, ◌<◌, ◌≤◌, Bool, true, false, nat_eq, if◌then◌else◌, IsTrue, Option, Some, None, Ok, List, [], ◌∷◌, map, length, take, get_or, refl, sym, ap, subst, ◌∙◌, arith, Less, Equal, Greater}
 use Rattle.std.proofs.lemmas.Bool.Decides.{nat_tests}
 use Rattle.std.proofs.lemmas.Cmp.{nat_list_cmp_total}
 use Rattle.std.proofs.lemmas.List.{length-map, get_or-map}
-use Rattle.std.specs.Option.{option_map}
-use Rattle.std.specs.Result.{result_ok}
 use Rattle.std.specs.Ordering.{nat_cmp, is_lt, is_le, ordering_reverse}
 use Rattle.std.specs.Cmp.Lexicographic.{slice_cmp}
 use Rattle.std.specs.declared.cmp.Ordering.{Ordering}
@@ -16,8 +14,7 @@ use Rattle.gix_hash.specs.Prefixes.{KindDigits}
 use Rattle.gix_hash.specs.declared.Kind.{Kind}
 use Rattle.gix_hash.specs.declared.Kind.TheVariants.{Sha1, Sha256}
 use Rattle.gix_hash.specs.declared.ObjectId.{ObjectId}
-use Rattle.gix_hash.specs.declared.ObjectId.TheVariants as id
-use Rattle.gix_hash.specs.declared.decode.Error.{Error}
+use Rattle.gix_hash.specs.PrefixBytes.{id_of as made}
 use Rattle.gix_hash.specs.declared.decode.Error.TheVariants.{InvalidHexEncodingLength, Invalid}
 use Rattle.gix_hash.proofs.KindFacts.{hex_len_of-bytes}
 use Rattle.id_digits.specs.Letters.{AreSortedLines, IsIdLine, is_line_len, line_values, may_follow, packed, value_of}
@@ -26,6 +23,7 @@ use Rattle.id_lookup.specs.Runs.{IsSortedIds, least_hex_len}
 use Rattle.id_lookup.proofs.Indexes.{index-sorted}
 use Rattle.id_lookup.proofs.OutsidePrefixes.{no_matches}
 use Rattle.oidtool_commands.specs.Searches.{AreLinesOf, CanSkip, IsLeast, IsLineOfId, TakesLength, allows_repeats, error_of_first}
+use Rattle.oidtool_commands.specs.declared.search.error.SearchError.{SearchError}
 use Rattle.oidtool_commands.specs.declared.search.error.SearchError.TheVariants.{Unsorted, NotRising}
 use Rattle.oidtool_commands.specs.declared.search.Search.{Search}
 use Rattle.oidtool_commands.specs.declared.search.Search.TheVariants.{Sorted, In}
@@ -39,11 +37,6 @@ kind_of_line len is = by (nat_eq len 41) refl
     by : (b : Bool) → nat_eq len 41 ≡ b → (kind : Kind) × (len - 1 ≡ hex_len_of kind)
     by true short = let same : len - 1 ≡ 40 = grind (arith, nat_tests, short) in (Sha1, same)
     by false long = let same : len - 1 ≡ 64 = grind (arith, nat_tests, is, long) in (Sha256, same)
-
--- the id of a kind that has these bytes
-abbrev made : Kind → List ℕ → ObjectId
-made Sha1 bytes = id.Sha1 bytes
-made Sha256 bytes = id.Sha256 bytes
 
 made_digits : (kind : Kind) (bytes : List ℕ) → id_digits (made kind bytes) ≡ digits_of bytes
 made_digits Sha1 bytes = refl
@@ -95,12 +88,10 @@ line_at n repeats previous [] h k inside = absurd (omega arith)
 line_at n repeats previous (line ∷ lines) h zero inside = h.0
 line_at n repeats previous (line ∷ lines) h (suc k) inside = line_at n repeats line lines h.2 k (omega arith)
 
-length_at : (kind : Kind) (repeats : Bool) (previous : List ℕ) (lines : List (List ℕ)) → AreSortedLines (hex_len_of kind) repeats previous lines
-    → (k : ℕ) (d : List ℕ) → k < length lines → length (get_or (digits_in kind lines) k d) ≡ hex_len_of kind
-unfolding AreSortedLines
-length_at kind repeats previous [] h k d inside = absurd (omega arith)
-length_at kind repeats previous (line ∷ lines) h zero d inside = count_digits kind line h.0
-length_at kind repeats previous (line ∷ lines) h (suc k) d inside = length_at kind repeats line lines h.2 k d (omega arith)
+digits_at : (kind : Kind) (lines : List (List ℕ)) (k : ℕ) (d : List ℕ) → k < length lines → get_or (digits_in kind lines) k d ≡ id_digits (id_of kind (get_or lines k []))
+digits_at kind lines k d inside =
+    get_or-map id_digits (ids_of kind lines) k (id_of kind []) d (omega (arith, length-map lines (id_of kind)))
+    ∙ ap id_digits (get_or-map (id_of kind) lines k [] (id_of kind []) inside)
 
 follows_at : (kind : Kind) (repeats : Bool) (previous : List ℕ) (lines : List (List ℕ)) → AreSortedLines (hex_len_of kind) repeats previous lines
     → (k : ℕ) (d : List ℕ) → suc k < length lines
@@ -126,7 +117,9 @@ in_order (Sorted alphabet) kind lines takes h = λ k d low high.
     (ap is_lt (nat_list_cmp_total.antisymm (get_or ids (suc k) d) (get_or ids k d))
     ∙ not_below (slice_cmp nat_cmp (get_or ids k d) (get_or ids (suc k) d)) (follows_at kind true [] lines h k d (omega (arith, high, count kind lines))))
 in_order (In other) kind lines takes h = record {
-  kinds = λ k d low high. length_at kind false [] lines h k d (omega (arith, high, count kind lines)) ∙ takes;
+  kinds = λ k d low high.
+      let inside : k < length lines = omega (arith, high, count kind lines) in
+      ap length (digits_at kind lines k d inside) ∙ count_digits kind (get_or lines k []) (line_at (hex_len_of kind) false [] lines h k inside) ∙ takes;
   rises = λ k d high.
       let next : k + 1 ≡ suc k = omega arith in
       rw next (less _ (follows_at kind false [] lines h k d (omega (arith, high, count kind lines))));
@@ -136,20 +129,16 @@ are_sorted : (search : Search) (ids : List (List ℕ)) → IsUpTo search (length
 are_sorted (Sorted alphabet) ids h = h
 are_sorted (In kind) ids h = index-sorted kind ids h
 
+no_error : (b : Bool) (error other : SearchError) → (if b then Some error else None) ≡ None → (if b then Some other else None) ≡ None
+no_error true error other h = cc h
+no_error false error other h = refl
+
 -- the error of the first id after the one before it depends on no other id
 late_any : (search : Search) (last : Option (List ℕ)) (number : ℕ) (id : List ℕ) (ids : List (List ℕ)) → error_of_first search 1 last (id ∷ []) ≡ None
     → error_of_first search number last (id ∷ ids) ≡ None
 late_any search None number id ids h = refl
-late_any (Sorted alphabet) (Some last) number id ids h = by (is_lt (slice_cmp nat_cmp id last)) h
-  where
-    by : (b : Bool) → (if b then Some (Unsorted 1) else None) ≡ None → (if b then Some (Unsorted number) else None) ≡ None
-    by true h = cc h
-    by false h = refl
-late_any (In kind) (Some last) number id ids h = by _ h
-  where
-    by : (b : Bool) → (if b then Some (NotRising 1) else None) ≡ None → (if b then Some (NotRising number) else None) ≡ None
-    by true h = cc h
-    by false h = refl
+late_any (Sorted alphabet) (Some last) number id ids h = no_error _ (Unsorted 1) (Unsorted number) h
+late_any (In kind) (Some last) number id ids h = no_error _ (NotRising 1) (NotRising number) h
 
 -- the smallest number of digits
 at_most : (kind : Kind) → hex_len_of kind ≤ 64
@@ -169,11 +158,6 @@ least_is (In other) kind previous lines h some = tt
 least_is (Sorted alphabet) kind previous [] h some = absurd (omega arith)
 least_is (Sorted alphabet) kind previous (line ∷ lines) h some = omega (arith, count_digits kind line h.0, least_most kind true line lines h.2)
 
--- an id that is found in a text is what the text reads as
-pub found_reads : (id : ObjectId) (reading : Result KindDigits Error) → option_map whole_of (Some id) ≡ result_ok reading → reading ≡ Ok (whole_of id)
-found_reads id (Ok whole) h = let same : whole ≡ whole_of id = cc h in ap Ok same
-found_reads id (Err error) h = cc h
-
 -- an id that is read from the letters of a line has the digits of that line
 same_digits : (kind : Kind) (line : List ℕ) (found : ObjectId) → IsIdLine (hex_len_of kind) line
     → full_read hex_letter (take (hex_len_of kind) line) ≡ Ok (whole_of found) → id_digits found ≡ id_digits (id_of kind line)
@@ -182,51 +166,45 @@ same_digits kind line found is reads =
     let whole : whole_of found ≡ whole_of (id_of kind line) = cc both in
     ap (λ (w : KindDigits). w.digits) whole
 
--- sorted lines can be skipped, if the prefix comes before the first id, or after the last
-can_skip_of : (search : Search) (kind : Kind) (prefix : KindDigits) (last : Option (List ℕ)) (lines : List (List ℕ)) (first end : ObjectId)
-    → AreSortedLines (hex_len_of kind) (allows_repeats search) [] lines → 0 < length lines → TakesLength search (hex_len_of kind)
-    → full_read hex_letter (take (hex_len_of kind) (get_or lines 0 [])) ≡ Ok (whole_of first)
-    → full_read hex_letter (take (hex_len_of kind) (get_or lines (length lines - 1) [])) ≡ Ok (whole_of end)
-    → ((place prefix.digits (id_digits first) ≡ Less) ⊎ (place prefix.digits (id_digits end) ≡ Greater))
-    → error_of_first search 1 last (id_digits first ∷ []) ≡ None → CanSkip search prefix.digits (hex_len_of kind) last lines end
-can_skip_of search kind prefix last [] first end h some takes reads also outside late = absurd (omega arith)
-can_skip_of search kind prefix last (line ∷ lines) first end h some takes reads also outside late =
-    let all = line ∷ lines in
-    let n = hex_len_of kind in
-    let at = length all - 1 in
-    let repeats = allows_repeats search in
-    let ids = ids_of kind all in
-    let digits = digits_in kind all in
-    let up_to = in_order search kind all takes h in
-    let at_end : at < length all = omega arith in
-    let first_is : id_digits first ≡ id_digits (id_of kind line) = same_digits kind line first (line_at n repeats [] all h 0 (omega arith)) reads in
-    let end_is : id_digits end ≡ id_digits (id_of kind (get_or all at [])) = same_digits kind (get_or all at []) end (line_at n repeats [] all h at at_end) also in
-    let there : get_or ids at (id_of kind []) ≡ id_of kind (get_or all at []) = get_or-map (id_of kind) all at [] (id_of kind []) at_end in
-    let last_there : get_or digits at [] ≡ id_digits (id_of kind (get_or all at [])) =
-    get_or-map id_digits ids at (id_of kind []) [] (omega (arith, length-map all (id_of kind))) ∙ ap id_digits there in
-    let size : length digits ≡ length all = count kind all in
-    record {
-      ids = ids;
-      each = are_lines kind repeats [] all h;
-      is_last =
-          ap Some (end_is ∙ ap id_digits (sym there))
-          ∙ last_or-at ids last (id_of kind []) at (omega (arith, length-map all (id_of kind)));
-      in_order = λ number.
-          in_order_after search last number digits (rw first_is at (late_any search last number (id_digits first) (digits_in kind lines) late)) up_to;
-      least = least_is search kind [] all h some;
-      none = no_matches prefix digits (are_sorted search digits up_to) (omega (arith, size)) (elim outside [
-        | inl before ↦ inl (rw first_is at before)
-        | inr after ↦ inr (rw (size, last_there) (rw end_is at after))
-      ]);
-    }
-
-module _ (len : ℕ) (line : IsTrue (is_line_len len)) (search : Search) (prefix : KindDigits) (last : Option (List ℕ)) (lines : List (List ℕ)) (first end : ObjectId) where
-  -- the same for lines of a length
-  pub can_skip : AreSortedLines (len - 1) (allows_repeats search) [] lines → 0 < length lines → TakesLength search (len - 1)
-      → full_read hex_letter (take (len - 1) (get_or lines 0 [])) ≡ Ok (whole_of first)
-      → full_read hex_letter (take (len - 1) (get_or lines (length lines - 1) [])) ≡ Ok (whole_of end)
+-- sorted lines of n letters can be skipped, if the prefix comes before the first id, or after the last
+module _ (search : Search) (prefix : KindDigits) (last : Option (List ℕ)) (first end : ObjectId) where
+  abbrev pub CanSkipIf : ℕ → List (List ℕ) → Type 0
+  CanSkipIf n lines = AreSortedLines n (allows_repeats search) [] lines → 0 < length lines → TakesLength search n
+      → full_read hex_letter (take n (get_or lines 0 [])) ≡ Ok (whole_of first)
+      → full_read hex_letter (take n (get_or lines (length lines - 1) [])) ≡ Ok (whole_of end)
       → ((place prefix.digits (id_digits first) ≡ Less) ⊎ (place prefix.digits (id_digits end) ≡ Greater))
-      → error_of_first search 1 last (id_digits first ∷ []) ≡ None → CanSkip search prefix.digits (len - 1) last lines end
-  can_skip sorted some takes reads also outside late =
-      let of = kind_of_line len line in
-      rw of.1 (can_skip_of search of.0 prefix last lines first end (rw of.1 at sorted) some (rw of.1 at takes) (rw of.1 at reads) (rw of.1 at also) outside late)
+      → error_of_first search 1 last (id_digits first ∷ []) ≡ None → CanSkip search prefix.digits n last lines end
+
+  can_skip_of : (kind : Kind) (lines : List (List ℕ)) → CanSkipIf (hex_len_of kind) lines
+  can_skip_of kind [] = λ h some takes reads also outside late. absurd (omega arith)
+  can_skip_of kind (line ∷ lines) = λ h some takes reads also outside late.
+      let all = line ∷ lines in
+      let n = hex_len_of kind in
+      let at = length all - 1 in
+      let repeats = allows_repeats search in
+      let ids = ids_of kind all in
+      let digits = digits_in kind all in
+      let up_to = in_order search kind all takes h in
+      let at_end : at < length all = omega arith in
+      let first_is : id_digits first ≡ id_digits (id_of kind line) = same_digits kind line first (line_at n repeats [] all h 0 (omega arith)) reads in
+      let end_is : id_digits end ≡ id_digits (id_of kind (get_or all at [])) = same_digits kind (get_or all at []) end (line_at n repeats [] all h at at_end) also in
+      let there : get_or ids at (id_of kind []) ≡ id_of kind (get_or all at []) = get_or-map (id_of kind) all at [] (id_of kind []) at_end in
+      let size : length digits ≡ length all = count kind all in
+      record {
+        ids = ids;
+        each = are_lines kind repeats [] all h;
+        is_last =
+            ap Some (end_is ∙ ap id_digits (sym there))
+            ∙ last_or-at ids last (id_of kind []) at (omega (arith, length-map all (id_of kind)));
+        in_order = λ number.
+            in_order_after search last number digits (rw first_is at (late_any search last number (id_digits first) (digits_in kind lines) late)) up_to;
+        least = least_is search kind [] all h some;
+        none = no_matches prefix digits (are_sorted search digits up_to) (omega (arith, size)) (elim outside [
+          | inl before ↦ inl (rw first_is at before)
+          | inr after ↦ inr (rw (size, digits_at kind all at [] at_end) (rw end_is at after))
+        ]);
+      }
+
+  -- so they can, for a line of each length
+  pub can_skip : (len : ℕ) → IsTrue (is_line_len len) → (lines : List (List ℕ)) → CanSkipIf (len - 1) lines
+  can_skip len line lines = let of = kind_of_line len line in subst (λ n. CanSkipIf n lines) (sym of.1) (can_skip_of of.0 lines)

@@ -2,6 +2,7 @@
 use Rattle.std.specs.Prelude.{[], ℕ, ◌&&◌, ◌++◌, ◌+◌, ◌-◌, ◌<◌, ◌==◌, ◌∷◌, ◌≡◌, ◌≤◌, ◌⊎◌, Bool, Err, IsOk, List, None, Ok, Option, Result, Some, false, if◌then◌else◌, length, map, nat_lt, not, slice_index, take, true}
 use Rattle.std.specs.Cmp.Lexicographic.{slice_cmp}
 use Rattle.std.specs.Io.KnownBytes.{Appends, Consumes, IsAtEnd}
+use Rattle.std.specs.List.{AllZip}
 use Rattle.std.specs.Option.{option_map, option_or}
 use Rattle.std.specs.Ordering.{is_lt, nat_cmp}
 use Rattle.gix_hash.specs.Digits.{hex_letter}
@@ -155,10 +156,7 @@ pub record IsLineOfId (n : ℕ) (line : List ℕ) (id : ObjectId) : Type 0 where
 
 -- and so is each of the lines, with the id at the same index
 abbrev pub AreLinesOf : ℕ → List (List ℕ) → List ObjectId → Type 0
-AreLinesOf n [] [] = Unit {0}
-AreLinesOf n [] (id ∷ ids) = ⊥
-AreLinesOf n (line ∷ lines) [] = ⊥
-AreLinesOf n (line ∷ lines) (id ∷ ids) = IsLineOfId n line id × AreLinesOf n lines ids
+AreLinesOf n lines ids = AllZip (IsLineOfId n) lines ids
 
 -- lines of ids of n digits can be skipped: after the id `last` they are in order, and none of them begins with the digits. `end` is the last of them
 pub record CanSkip (search : Search) (digits : List ℕ) (n : ℕ) (last : Option (List ℕ)) (lines : List (List ℕ)) (end : ObjectId) : Type 0 where

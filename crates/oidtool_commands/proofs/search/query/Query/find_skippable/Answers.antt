@@ -4,7 +4,8 @@ use Rattle.std.proofs.lemmas.List.{get_or_default}
 use Rattle.gix_hash.specs.Digits.{hex_letter}
 use Rattle.gix_hash.specs.Reading.{full_read, whole_of}
 use Rattle.oidtool_commands.proofs.FinderLemmas.{is_none}
-use Rattle.oidtool_commands.proofs.IdLines.{can_skip, found_reads}
+use Rattle.oidtool_commands.proofs.ChunkLemmas.{id_found}
+use Rattle.oidtool_commands.proofs.IdLines.{can_skip}
 use Rattle.oidtool_commands.proofs.search.query.Query.find_skippable.Goals as goal
 
 pub returns-then-are_sorted_lines : goal.returns-then-are_sorted_lines
@@ -14,8 +15,8 @@ returns-then-are_sorted_lines g c =
     let some : 0 < length lines = grind (arith, nat_tests, c.is_empty.ensures, c.if-is_empty.false) in
     let start : c.index-lines-0.result ≡ get_or lines 0 [] = c.index-lines-0.is ∙ get_or_default lines 0 _ [] some in
     let stop : c.index-lines-lines.result ≡ get_or lines (length lines - 1) [] = c.index-lines-lines.is ∙ get_or_default lines (length lines - 1) _ [] (omega arith) in
-    can_skip g.row.LINE c.requires c.args.self.now.search c.args.self.now.prefix _ lines c.in_ok-first.first c.in_ok-end.end
+    can_skip c.args.self.now.search c.args.self.now.prefix _ c.in_ok-first.first c.in_ok-end.end g.row.LINE c.requires lines
     (rw c.allows_repeats.ensures at (c.are_sorted_lines.ensures c.if-are_sorted_lines.true)) some (c.if-not-takes_length.ensures.search refl)
-    (subst (λ line. full_read hex_letter (take n line) ≡ Ok (whole_of c.in_ok-first.first)) start (found_reads c.in_ok-first.first _ c.in_ok-first.ensures))
-    (subst (λ line. full_read hex_letter (take n line) ≡ Ok (whole_of c.in_ok-end.end)) stop (found_reads c.in_ok-end.end _ c.in_ok-end.ensures))
+    (subst (λ line. full_read hex_letter (take n line) ≡ Ok (whole_of c.in_ok-first.first)) start (sym (id_found _ _ c.in_ok-first.ensures)))
+    (subst (λ line. full_read hex_letter (take n line) ≡ Ok (whole_of c.in_ok-end.end)) stop (sym (id_found _ _ c.in_ok-end.ensures)))
     (c.if-not-is_outside.ensures refl) (sym c.error_of_first.ensures ∙ is_none c.error_of_first.result (sym c.is_some.ensures ∙ c.if-is_some.false))
