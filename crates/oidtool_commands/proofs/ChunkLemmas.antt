@@ -1,28 +1,29 @@
 -- What a list reader has taken, line by line.
-use Rattle.std.proofs.Common.{◌≡◌, ◌≢◌, ℕ, suc, ◌+◌, ◌-◌, ◌<◌, ◌≤◌, true, false, Option, Some, None, eqb-true, List, [], ◌∷◌, ◌++◌, length, take, drop, map, get_or, set, refl, arith, sym, ap, ◌∙◌, subst, append_assoc, append-nil, drop-cons, length-drop, length-take, get_or-drop, take-add, Result, Ok, Err}
+use Rattle.std.proofs.Common.{◌≡◌, ◌≢◌, ℕ, ◌+◌, ◌-◌, ◌<◌, ◌≤◌, false, Option, Some, None, List, [], ◌∷◌, ◌++◌, length, take, drop, map, get_or, set, refl, arith, sym, ap, ◌∙◌, subst, append_assoc, append-nil, drop-cons, length-drop, get_or-drop, take-add, Result, Ok, Err}
 use Rattle.std.proofs.lemmas.Bool.Decides.{nat_tests}
-use Rattle.std.proofs.lemmas.List.{map-append, length-append, take_more_set, take_more, take_all, take-append-le, drop-drop}
-use Rattle.std.proofs.lemmas.List.Elements.{All-push, All-head, All-tail, All-nil, All-cons}
+use Rattle.std.proofs.lemmas.List.{nil_from_length, length-map, map-append, length-append, take_more_set, take_more, take_all, take-append-le, drop-drop}
+use Rattle.std.proofs.lemmas.List.Elements.{All-append, All-push, All-head, All-tail, All-nil, All-cons}
 use Rattle.std.proofs.lemmas.Grind.{flat_map-append}
 use Rattle.std.specs.Prelude.{All, IsOk, flat_map}
-use Rattle.std.specs.List.{slice_range}
+use Rattle.std.specs.List.{AllZip, slice_range}
 use Rattle.std.specs.Result.{result_ok}
-use Rattle.gix_hash.specs.Digits.{digit_below, digit_in, digits_read, hex_letter, put_digit}
+use Rattle.gix_hash.specs.Digits.{IsLetterOf, ReadsAs, digits_read, hex_letter}
 use Rattle.gix_hash.specs.Reading.{full_read, reading_of, whole_of}
 use Rattle.gix_hash.specs.Kinds.{kind_of_full_len}
-use Rattle.gix_hash.specs.Ids.{id_digits}
+use Rattle.gix_hash.specs.Ids.{id_digits, id_kind}
 use Rattle.gix_hash.specs.Prefixes.{KindDigits}
 use Rattle.gix_hash.specs.declared.decode.Error.{Error}
 use Rattle.gix_hash.specs.declared.decode.Error.TheVariants.{InvalidHexEncodingLength, Invalid}
 use Rattle.gix_hash.specs.declared.Kind.{Kind}
 use Rattle.gix_hash.specs.declared.ObjectId.{ObjectId}
 use Rattle.streams.specs.Streams.{is_line_feed, lines_of}
-use Rattle.oidtool_commands.specs.Lists.{HasIdLine, HasTaken, IsFirstRead, IsLine, IsListRefusal, NoBadLineEnded, Takes, ended, ids_read, list_read, prepend_line}
+use Rattle.oidtool_commands.specs.Lists.{HasIdLine, HasTaken, IsFirstRead, IsLine, IsLineOf, IsListRefusal, NoBadLineEnded, Takes, ended, ids_read, list_read}
 use Rattle.oidtool_commands.specs.declared.search.error.SearchError.{SearchError}
 use Rattle.oidtool_commands.specs.declared.search.list_reader.ListReader.{ListReader}
 use Rattle.oidtool_commands.specs.declared.search.error.SearchError.TheVariants.{BadLine, Memory}
 use Rattle.streams.proofs.LineLemmas.{lines_of-ended, lines_of-last, lines_of-nil}
-use Rattle.std.proofs.lemmas.List.{nil_from_length}
+use Rattle.id_digits.proofs.ReadingFacts.{ReadsAs-digits_read}
+use Rattle.oidtool_commands.proofs.Results.{LinesHold, ids_read-bad, ids_read-means, ids_read-of}
 
 -- whole lines, and then more
 lines_of-lines : (lines : List (List ℕ)) (more : List ℕ) → All IsLine lines → lines_of (flat_map ended lines ++ more) ≡ lines ++ lines_of more
@@ -36,40 +37,19 @@ lines_of-lines (line ∷ lines) more each =
 abbrev ReadAs : List (List ℕ) → List ObjectId → Type 0
 ReadAs lines ids = map (full_read hex_letter) lines ≡ map (λ id. Ok (whole_of id)) ids
 
--- ids before those of the lines after theirs
-abbrev prepend : List (List ℕ) → Result (List (List ℕ)) SearchError → Result (List (List ℕ)) SearchError
-prepend front (Err error) = Err error
-prepend front (Ok ids) = Ok (front ++ ids)
+-- so each line is one of the id's digits
+are_ids : (lines : List (List ℕ)) (ids : List ObjectId) → ReadAs lines ids → AllZip IsLineOf lines (map id_digits ids)
+are_ids [] [] reads = tt
+are_ids [] (id ∷ ids) reads = cc reads
+are_ids (line ∷ lines) [] reads = cc reads
+are_ids (line ∷ lines) (id ∷ ids) reads = ((id_kind id, cc reads), are_ids lines ids (cc reads))
 
-prepend-nil : (more : Result (List (List ℕ)) SearchError) → more ≡ prepend [] more
-prepend-nil (Err error) = refl
-prepend-nil (Ok ids) = refl
-
-prepend_line-front : (n : ℕ) (id : KindDigits) (front : List (List ℕ)) (more : Result (List (List ℕ)) SearchError)
-    → prepend_line n (Ok id) (prepend front more) ≡ prepend (id.digits ∷ front) more
-prepend_line-front n id front (Err error) = refl
-prepend_line-front n id front (Ok ids) = refl
-
--- lines that read as ids, before others
-ids_read-lines : (n : ℕ) (lines : List (List ℕ)) (ids : List ObjectId) (rest : List (List ℕ)) → ReadAs lines ids
-    → ids_read n (lines ++ rest) ≡ prepend (map id_digits ids) (ids_read (n + length ids) rest)
-unfolding ids_read
-ids_read-lines n [] [] rest reads = let same : n + 0 ≡ n = omega arith in rw same (prepend-nil (ids_read n rest))
-ids_read-lines n [] (id ∷ ids) rest reads = cc reads
-ids_read-lines n (line ∷ lines) [] rest reads = cc reads
-ids_read-lines n (line ∷ lines) (id ∷ ids) rest reads =
-    let first : full_read hex_letter line ≡ Ok (whole_of id) = cc reads in
-    let others : ReadAs lines ids = cc reads in
-    let next : n + 1 + length ids ≡ n + suc (length ids) = omega arith in
-    rw (first, ids_read-lines (n + 1) lines ids rest others, next) (prepend_line-front n (whole_of id) (map id_digits ids) (ids_read (n + suc (length ids)) rest))
-
--- the first line reads, if there is one, and else the last
-first_read : (lines : List (List ℕ)) (ids : List ObjectId) (last : List ℕ) (rest : List (List ℕ)) → ReadAs lines ids → IsOk (full_read hex_letter last)
-    → IsFirstRead (lines ++ last ∷ rest)
-first_read [] ids last rest reads read = read
-first_read (line ∷ lines) [] last rest reads read = cc reads
-first_read (line ∷ lines) (id ∷ ids) last rest reads read =
-    let first : full_read hex_letter line ≡ Ok (whole_of id) = cc reads in rw first refl
+-- the first line reads, if a line was read as an id, or else if the first of the rest does
+first_read : (lines : List (List ℕ)) (ids : List ObjectId) (rest : List (List ℕ)) → ReadAs lines ids → (ids ≡ [] → IsFirstRead rest) → IsFirstRead (lines ++ rest)
+first_read [] [] rest reads after = after refl
+first_read [] (id ∷ ids) rest reads after = cc reads
+first_read (line ∷ lines) [] rest reads after = cc reads
+first_read (line ∷ lines) (id ∷ ids) rest reads after = let first : full_read hex_letter line ≡ Ok (whole_of id) = cc reads in rw first refl
 
 -- each of the lines reads
 all_read : (lines : List (List ℕ)) (ids : List ObjectId) → ReadAs lines ids → All (λ line. IsOk (full_read hex_letter line)) lines
@@ -82,13 +62,14 @@ all_read (line ∷ lines) (id ∷ ids) reads =
 
 -- what was taken, of a reader with these parts
 module _ (ids : List ObjectId) (kept : List ℕ) (len : ℕ) (text : List ℕ) (h : HasTaken ids kept len text) where
-  -- the lines of what was taken, then a line feed, and then more
+  -- the lines of what was taken and of more, where the line that did not end goes on or ends
+  lines_of-more : (more : List ℕ) → lines_of (text ++ more) ≡ h.lines ++ lines_of (h.last ++ more)
+  lines_of-more more =
+      ap (λ t. lines_of (t ++ more)) h.text_is ∙ ap lines_of (append_assoc (flat_map ended h.lines) h.last more)
+      ∙ lines_of-lines h.lines (h.last ++ more) h.each_a_line
+
   lines_of-taken : (more : List ℕ) → lines_of (text ++ 10 ∷ more) ≡ h.lines ++ h.last ∷ lines_of more
-  lines_of-taken more =
-      ap (λ t. lines_of (t ++ 10 ∷ more)) h.text_is
-      ∙ ap lines_of (append_assoc (flat_map ended h.lines) h.last (10 ∷ more))
-      ∙ lines_of-lines h.lines (h.last ++ 10 ∷ more) h.each_a_line
-      ∙ ap (λ r. h.lines ++ r) (lines_of-ended h.last more h.not_ended)
+  lines_of-taken more = lines_of-more (10 ∷ more) ∙ ap (λ r. h.lines ++ r) (lines_of-ended h.last more h.not_ended)
 
   -- no bad line ended in it
   pub no_bad_line : NoBadLineEnded text
@@ -102,31 +83,34 @@ module _ (ids : List ObjectId) (kept : List ℕ) (len : ℕ) (text : List ℕ) (
 
   -- the line that did not end reads as no id
   pub refused_line : (more : List ℕ) (error : Error) (n : ℕ) → Err error ≡ full_read hex_letter h.last → n ≡ length ids + 1 → list_read (text ++ 10 ∷ more) ≡ Err (BadLine n error)
-  unfolding ids_read
   refused_line more error n refused count =
-      let number : 1 + length ids ≡ n = omega (arith, count) in
-      ap (ids_read 1) (lines_of-taken more) ∙ ids_read-lines 1 h.lines ids (h.last ∷ lines_of more) h.read
-      ∙ rw (number, ← refused) refl
+      let number : 1 + length h.lines ≡ n = omega (arith, count, ap length h.read, length-map h.lines (full_read hex_letter), length-map {B = Result KindDigits Error} ids (λ id. Ok (whole_of id))) in
+      ap (ids_read 1) (lines_of-taken more) ∙ ids_read-bad 1 h.lines h.last (lines_of more) error (all_read h.lines ids h.read) (sym refused)
+      ∙ ap (λ k. Err (BadLine k error)) number
 
   -- it reads, and so does the first line
   pub first_read-taken : (more : List ℕ) → IsOk (full_read hex_letter h.last) → IsFirstRead (lines_of (text ++ 10 ∷ more))
-  first_read-taken more read = rw (lines_of-taken more) (first_read h.lines ids h.last (lines_of more) h.read read)
+  first_read-taken more read = rw (lines_of-taken more) (first_read h.lines ids (h.last ∷ lines_of more) h.read (λ none. read))
 
-  -- it reads as an id, and is ended
-  pub ended_taken : (new_ids : List ObjectId) (new_kept : List ℕ) (new_len : ℕ) (id : ObjectId) → full_read hex_letter h.last ≡ Ok (whole_of id)
-      → new_ids ≡ ids ++ id ∷ [] → new_len ≡ 0 → HasTaken new_ids new_kept new_len (text ++ 10 ∷ [])
-  ended_taken new_ids new_kept new_len id reads pushed empty = record {
-    lines = h.lines ++ h.last ∷ [];
+  -- or an id was taken
+  pub first_of_taken : (more : List ℕ) → ids ≢ [] → IsFirstRead (lines_of (text ++ more))
+  first_of_taken more some = rw (lines_of-more more) (first_read h.lines ids (lines_of (h.last ++ more)) h.read (λ none. absurd (some none)))
+
+  -- the line that did not end goes on, reads as an id, and is ended
+  pub ended_taken : (rest : List ℕ) (new_ids : List ObjectId) (new_kept : List ℕ) (new_len : ℕ) (id : ObjectId) → IsLine rest
+      → full_read hex_letter (h.last ++ rest) ≡ Ok (whole_of id) → new_ids ≡ ids ++ id ∷ [] → new_len ≡ 0 → HasTaken new_ids new_kept new_len (text ++ ended rest)
+  ended_taken rest new_ids new_kept new_len id is_line reads pushed empty = record {
+    lines = h.lines ++ (h.last ++ rest) ∷ [];
     last = [];
     text_is =
-        ap (λ t. t ++ 10 ∷ []) h.text_is ∙ append_assoc (flat_map ended h.lines) h.last (10 ∷ [])
-        ∙ ap (λ r. flat_map ended h.lines ++ r) (sym (append-nil (ended h.last)))
-        ∙ sym (flat_map-append ended h.lines (h.last ∷ []))
-        ∙ sym (append-nil (flat_map ended (h.lines ++ h.last ∷ [])));
-    each_a_line = All-push IsLine h.lines h.last h.each_a_line h.not_ended;
+        ap (λ t. t ++ ended rest) h.text_is ∙ append_assoc (flat_map ended h.lines) h.last (ended rest)
+        ∙ ap (λ r. flat_map ended h.lines ++ r) (sym (append_assoc h.last rest (10 ∷ [])) ∙ sym (append-nil (ended (h.last ++ rest))))
+        ∙ sym (flat_map-append ended h.lines ((h.last ++ rest) ∷ []))
+        ∙ sym (append-nil (flat_map ended (h.lines ++ (h.last ++ rest) ∷ [])));
+    each_a_line = All-push IsLine h.lines (h.last ++ rest) h.each_a_line (All-append (λ b. is_line_feed b ≡ false) h.last rest h.not_ended is_line);
     not_ended = All-nil (λ b. is_line_feed b ≡ false);
     read =
-        map-append (full_read hex_letter) h.lines (h.last ∷ []) ∙ ap (λ r. r ++ full_read hex_letter h.last ∷ []) h.read
+        map-append (full_read hex_letter) h.lines ((h.last ++ rest) ∷ []) ∙ ap (λ r. r ++ full_read hex_letter (h.last ++ rest) ∷ []) h.read
         ∙ ap (λ r. map (λ i. Ok (whole_of i)) ids ++ r ∷ []) reads
         ∙ sym (map-append (λ i. Ok (whole_of i)) ids (id ∷ [])) ∙ ap (map (λ i. Ok (whole_of i))) (sym pushed);
     last_len = empty;
@@ -147,29 +131,13 @@ module _ (ids : List ObjectId) (kept : List ℕ) (len : ℕ) (text : List ℕ) (
     last_kept = kept_more;
   }
 
-  -- no line is begun: then a line can be
-  pub begun_taken : (line : List ℕ) → len ≡ 0 → IsLine line → HasTaken ids (take 64 line) (length line) (text ++ line)
-  begun_taken line empty is_line =
-      let none : h.last ≡ [] = nil_from_length h.last (omega (arith, h.last_len)) in
-      record {
-        lines = h.lines;
-        last = line;
-        text_is = ap (λ t. t ++ line) (h.text_is ∙ ap (λ r. flat_map ended h.lines ++ r) none ∙ append-nil (flat_map ended h.lines));
-        each_a_line = h.each_a_line;
-        not_ended = is_line;
-        read = h.read;
-        last_len = refl;
-        last_kept = sym (take_all (length line) (take 64 line) (omega (arith, length-take 64 line)));
-      }
-
-  -- and the text is a list
+  -- no line is begun: the text is a list
   pub list_taken : len ≡ 0 → list_read text ≡ Ok (map id_digits ids)
-  unfolding ids_read
   list_taken empty =
       let none : h.last ≡ [] = nil_from_length h.last (omega (arith, h.last_len)) in
       ap (λ t. ids_read 1 (lines_of t)) (h.text_is ∙ ap (λ r. flat_map ended h.lines ++ r) none)
-      ∙ ap (ids_read 1) (lines_of-lines h.lines [] h.each_a_line ∙ ap (λ r. h.lines ++ r) lines_of-nil)
-      ∙ ids_read-lines 1 h.lines ids [] h.read ∙ ap Ok (append-nil (map id_digits ids))
+      ∙ ap (ids_read 1) (lines_of-lines h.lines [] h.each_a_line ∙ ap (λ r. h.lines ++ r) lines_of-nil ∙ append-nil h.lines)
+      ∙ ids_read-of 1 h.lines (map id_digits ids) (are_ids h.lines ids h.read)
 
   -- a line that is not empty reads alike with its line feed and without
   pub lines_of-unended : 0 < len → lines_of (text ++ 10 ∷ []) ≡ lines_of text
@@ -179,38 +147,18 @@ module _ (ids : List ObjectId) (kept : List ℕ) (len : ℕ) (text : List ℕ) (
       ∙ ap (λ r. h.lines ++ r) (sym (lines_of-last h.last (omega (arith, h.last_len)) h.not_ended))
       ∙ sym (lines_of-lines h.lines h.last h.each_a_line) ∙ ap lines_of (sym h.text_is)
 
--- the first line of a text reads, if it was taken as an id
-first_of_lines : (lines : List (List ℕ)) (earlier part : List ObjectId) (rest : List (List ℕ)) → ReadAs lines (earlier ++ part) → part ≢ [] → IsFirstRead (lines ++ rest)
-first_of_lines [] [] [] rest reads some = absurd (some refl)
-first_of_lines [] [] (id ∷ part) rest reads some = cc reads
-first_of_lines [] (id ∷ earlier) part rest reads some = cc reads
-first_of_lines (line ∷ lines) [] [] rest reads some = absurd (some refl)
-first_of_lines (line ∷ lines) [] (id ∷ part) rest reads some = let first : full_read hex_letter line ≡ Ok (whole_of id) = cc reads in rw first refl
-first_of_lines (line ∷ lines) (id ∷ earlier) part rest reads some = let first : full_read hex_letter line ≡ Ok (whole_of id) = cc reads in rw first refl
+pub some_after : (earlier part : List ObjectId) → part ≢ [] → earlier ++ part ≢ []
+some_after [] part some = some
+some_after (id ∷ earlier) part some = λ none. cc none
 
-pub first_of_taken : (earlier part : List ObjectId) (kept : List ℕ) (len : ℕ) (text more : List ℕ) → HasTaken (earlier ++ part) kept len text → part ≢ []
-    → IsFirstRead (lines_of (text ++ more))
-first_of_taken earlier part kept len text more h some =
-    let whole : lines_of (text ++ more) ≡ h.lines ++ lines_of (h.last ++ more) =
-    ap (λ t. lines_of (t ++ more)) h.text_is ∙ ap lines_of (append_assoc (flat_map ended h.lines) h.last more)
-    ∙ lines_of-lines h.lines (h.last ++ more) h.each_a_line in
-    rw whole (first_of_lines h.lines earlier part (lines_of (h.last ++ more)) h.read some)
-
--- and if it is a list of at least one id
-pub first_of_list : (text : List ℕ) (earlier part : List ObjectId) → list_read text ≡ Ok (map id_digits (earlier ++ part)) → part ≢ [] → IsFirstRead (lines_of text)
-unfolding ids_read
-first_of_list text earlier part reads some = by_lines (lines_of text) earlier part reads some
+-- the first line of a list of at least one id reads
+pub first_of_list : (text : List ℕ) (ids : List ObjectId) → list_read text ≡ Ok (map id_digits ids) → ids ≢ [] → IsFirstRead (lines_of text)
+first_of_list text ids reads some = by_lines (lines_of text) ids (subst (LinesHold 1 (lines_of text)) reads (ids_read-means 1 (lines_of text))) some
   where
-    by_answer : (line : List ℕ) (answer : Result KindDigits Error) (more : Result (List (List ℕ)) SearchError) (ids : List (List ℕ)) → full_read hex_letter line ≡ answer
-        → prepend_line 1 answer more ≡ Ok ids → IsOk (full_read hex_letter line)
-    by_answer line (Ok id) more ids is h = rw is refl
-    by_answer line (Err error) more ids is h = cc h
-
-    by_lines : (lines : List (List ℕ)) (earlier part : List ObjectId) → ids_read 1 lines ≡ Ok (map id_digits (earlier ++ part)) → part ≢ [] → IsFirstRead lines
-    by_lines [] [] [] h some = absurd (some refl)
-    by_lines [] [] (id ∷ part) h some = cc h
-    by_lines [] (id ∷ earlier) part h some = cc h
-    by_lines (line ∷ lines) earlier part h some = by_answer line (full_read hex_letter line) (ids_read 2 lines) (map id_digits (earlier ++ part)) refl h
+    by_lines : (lines : List (List ℕ)) (ids : List ObjectId) → AllZip IsLineOf lines (map id_digits ids) → ids ≢ [] → IsFirstRead lines
+    by_lines lines [] each some = absurd (some refl)
+    by_lines [] (id ∷ ids) each some = absurd each
+    by_lines (line ∷ lines) (id ∷ ids) each some = rw each.0.1 refl
 
 -- texts of the same lines are rejected for the same errors
 pub refuses_same : (a b : List ℕ) (e : SearchError) → lines_of a ≡ lines_of b → IsListRefusal a e → IsListRefusal b e
@@ -247,9 +195,6 @@ range_none chunk at = let none : at - at ≡ 0 = omega arith in rw none refl
 pub range_one : (chunk : List ℕ) (at : ℕ) → at < length chunk → slice_range chunk at (at + 1) ≡ get_or chunk at 0 ∷ []
 range_one chunk at within = let one : at + 1 - at ≡ 1 = omega arith in rw (one, drop-cons chunk at 0 within) refl
 
-pub length-range : (chunk : List ℕ) (start end : ℕ) → end ≤ length chunk → length (slice_range chunk start end) ≡ end - start
-length-range chunk start end within = omega (arith, length-take (end - start) (drop start chunk), length-drop start chunk)
-
 -- a line of which too much is kept to be an id, and one that is kept whole
 pub long_line : (line : List ℕ) (len : ℕ) → len ≡ length line → 64 < len → Err (InvalidHexEncodingLength len) ≡ full_read hex_letter line
 long_line line len is long = grind (arith, nat_tests)
@@ -271,26 +216,14 @@ kept_long line kept len b size is same long =
     take-append-le 64 line (b ∷ []) (omega arith) ∙ same ∙ take_all len kept (omega arith) ∙ sym (take_all (len + 1) kept (omega arith))
 
 -- a line feed is no letter
-no_line_feed : (c d : ℕ) → digit_in hex_letter c ≡ Some d → is_line_feed c ≡ false
-unfolding digit_below
-no_line_feed c d found =
-    elim (is_line_feed c) as (λ feed. is_line_feed c ≡ feed → feed ≡ false) [
-      | false ↦ λ is. refl
-      | true ↦ λ is. let none : digit_in hex_letter c ≡ None = rw (eqb-true c 10 is) refl in cc
-    ] refl
+no_line_feed : (c d : ℕ) → IsLetterOf hex_letter c d → is_line_feed c ≡ false
+no_line_feed c d is = grind (arith, nat_tests, is.digit, is.same_letter)
 
 -- so what reads as digits has none
-IsLine-read : (line ds : List ℕ) → digits_read hex_letter line ≡ Some ds → IsLine line
-unfolding digits_read
+IsLine-read : (line ds : List ℕ) → ReadsAs hex_letter line ds → IsLine line
 IsLine-read [] ds reads = All-nil (λ b. is_line_feed b ≡ false)
-IsLine-read (c ∷ line) ds reads =
-    by_parts (digit_in hex_letter c) refl (digits_read hex_letter line) refl (λ rest is. IsLine-read line rest is) reads
-  where
-    by_parts : (first : Option ℕ) → digit_in hex_letter c ≡ first → (more : Option (List ℕ)) → digits_read hex_letter line ≡ more
-        → ((rest : List ℕ) → digits_read hex_letter line ≡ Some rest → IsLine line) → put_digit first more ≡ Some ds → IsLine (c ∷ line)
-    by_parts None is more are rest_is h = cc h
-    by_parts (Some d) is None are rest_is h = cc h
-    by_parts (Some d) is (Some rest) are rest_is h = All-cons (λ b. is_line_feed b ≡ false) c line (no_line_feed c d is) (rest_is rest are)
+IsLine-read (c ∷ line) [] reads = absurd reads
+IsLine-read (c ∷ line) (d ∷ ds) reads = All-cons (λ b. is_line_feed b ≡ false) c line (no_line_feed c d reads.0) (IsLine-read line ds reads.1)
 
 -- what reads as an id reads as digits
 pub IsLine-id : (line : List ℕ) (id : KindDigits) → full_read hex_letter line ≡ Ok id → IsLine line
@@ -300,7 +233,7 @@ IsLine-id line id reads = by_digits (digits_read hex_letter line) refl (kind_of_
         → reading_of kind digits (InvalidHexEncodingLength (length line)) Invalid ≡ Ok id → IsLine line
     by_digits digits is None h = cc h
     by_digits None is (Some kind) h = cc h
-    by_digits (Some ds) is (Some kind) h = IsLine-read line ds is
+    by_digits (Some ds) is (Some kind) h = IsLine-read line ds (ReadsAs-digits_read hex_letter line ds is)
 
 -- a text of which an id was found reads as that
 pub id_found : (answer : Result KindDigits Error) (id : KindDigits) → Some id ≡ result_ok answer → Ok id ≡ answer
@@ -324,10 +257,14 @@ line_taken chunk line at n next id room there is feed reads =
       in_chunk = omega arith;
     }
 
--- the id of a whole line is pushed, if no line was begun
+-- a whole line that reads as an id, if no line was begun
+pub whole_taken : (ids new_ids : List ObjectId) (kept new_kept : List ℕ) (len : ℕ) (text line : List ℕ) (id : ObjectId) → len ≡ 0 → full_read hex_letter line ≡ Ok (whole_of id)
+    → HasTaken ids kept len text → new_ids ≡ ids ++ id ∷ [] → HasTaken new_ids new_kept len (text ++ ended line)
+whole_taken ids new_ids kept new_kept len text line id empty reads h pushed =
+    let none : h.last ≡ [] = nil_from_length h.last (omega (arith, h.last_len)) in
+    ended_taken ids kept len text h line new_ids new_kept len id (IsLine-id line (whole_of id) reads) (rw none reads) pushed empty
+
 pub line_pushed : (ids new_ids : List ObjectId) (kept new_kept : List ℕ) (len : ℕ) (text chunk : List ℕ) (at next : ℕ) (id : ObjectId) → len ≡ 0
     → (line : HasIdLine chunk at next id) → HasTaken ids kept len text → new_ids ≡ ids ++ id ∷ [] → HasTaken new_ids new_kept len (text ++ slice_range chunk at next)
-unfolding begun_taken
 line_pushed ids new_ids kept new_kept len text chunk at next id empty line h pushed =
-    subst (HasTaken new_ids new_kept len) (append_assoc text line.line (10 ∷ []) ∙ ap (λ l. text ++ l) (sym line.is_there))
-    (ended_taken ids (take 64 line.line) (length line.line) (text ++ line.line) (begun_taken ids kept len text h line.line empty line.is_line) new_ids new_kept len id line.reads pushed empty)
+    subst (λ bytes. HasTaken new_ids new_kept len (text ++ bytes)) (sym line.is_there) (whole_taken ids new_ids kept new_kept len text line.line id empty line.reads h pushed)

@@ -96,29 +96,13 @@ found_is (In kind) digits ids (Err (NotRising n)) m =
     let number : 1 + m.0 ≡ n = omega (arith, m.1) in rw (bad_is (In kind) 1 ids m.0 NotRising (inr (refl, m.2)), number) refl
 found_is search digits ids answer m = absurd m
 
--- an error of ids is one of their order or of their length
-abbrev pub IsOfIds : SearchError → Type 0
-IsOfIds (Unsorted n) = Unit {0}
-IsOfIds (PrefixTooLong hex_len least) = Unit {0}
-IsOfIds (WrongKind n) = Unit {0}
-IsOfIds (NotRising n) = Unit {0}
-IsOfIds error = ⊥
-
-of_ids : (search : Search) (digits : List ℕ) (ids : List (List ℕ)) (error : SearchError) → FoundHolds search digits ids (Err error) → IsOfIds error
-of_ids (Sorted alphabet) digits ids (Unsorted n) h = tt
-of_ids (Sorted alphabet) digits ids (PrefixTooLong hex_len least) h = tt
-of_ids (In kind) digits ids (WrongKind n) h = tt
-of_ids (In kind) digits ids (NotRising n) h = tt
-of_ids search digits ids error h = absurd h
-
-pub error_of_ids : (search : Search) (digits : List ℕ) (ids : List (List ℕ)) (error : SearchError) → found_among search digits ids ≡ Err error → IsOfIds error
-error_of_ids search digits ids error is = of_ids search digits ids error (subst (FoundHolds search digits ids) is (found_holds search digits ids))
-
 -- so it is with the texts
 holds_of : (search : Search) (prefix text : List ℕ) (read : IsSearch (prefix_of search prefix) text) (answer : Result (List (List ℕ)) SearchError)
     → FoundHolds search read.start.digits read.ids answer → ResultHolds search prefix text answer
-holds_of search prefix text read (Err (Prefix error)) h = absurd (of_ids search read.start.digits read.ids (Prefix error) h)
-holds_of search prefix text read (Err (BadLine n error)) h = absurd (of_ids search read.start.digits read.ids (BadLine n error) h)
+holds_of (Sorted alphabet) prefix text read (Err (Prefix error)) h = absurd h
+holds_of (In kind) prefix text read (Err (Prefix error)) h = absurd h
+holds_of (Sorted alphabet) prefix text read (Err (BadLine n error)) h = absurd h
+holds_of (In kind) prefix text read (Err (BadLine n error)) h = absurd h
 holds_of search prefix text read answer h = (read, h)
 
 -- the function's result holds
@@ -132,10 +116,6 @@ result_holds search prefix text = by_texts (prefix_of search prefix) refl (list_
     by_texts (Ok p) is (Err error) h = absurd h
     by_texts (Ok p) is (Ok ids) h =
         holds_of search prefix text (record { start = p; ids = ids; prefix_reads = is; list_reads = h }) (found_among search p.digits ids) (found_holds search p.digits ids)
-
--- what holds of an error of the function
-pub error_holds : (search : Search) (prefix text : List ℕ) (error : SearchError) → finding search prefix text ≡ Err error → ResultHolds search prefix text (Err error)
-error_holds search prefix text error is = subst (ResultHolds search prefix text) is (result_holds search prefix text)
 
 -- lines that read as ids
 pub ids_read-of : (n : ℕ) (lines ids : List (List ℕ)) → AllZip IsLineOf lines ids → ids_read n lines ≡ Ok ids
@@ -151,7 +131,7 @@ prepend_line-err n (Ok id) error h = refl
 prepend_line-err n (Err e) error h = cc h
 
 -- lines of which one is the first bad one
-ids_read-bad : (n : ℕ) (before : List (List ℕ)) (line : List ℕ) (after : List (List ℕ)) (error : Error)
+pub ids_read-bad : (n : ℕ) (before : List (List ℕ)) (line : List ℕ) (after : List (List ℕ)) (error : Error)
     → All (λ l. IsOk (full_read hex_letter l)) before → full_read hex_letter line ≡ Err error
     → ids_read n (before ++ line ∷ after) ≡ Err (BadLine (n + length before) error)
 unfolding ids_read

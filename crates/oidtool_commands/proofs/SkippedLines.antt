@@ -1,23 +1,20 @@
 -- What a search does with a chunk, step by step: lines that are skipped, and lines that are read.
-use Rattle.std.proofs.Common.{◌-◌, ◌/◌, Bool, true, false, nat_eq, IsTrue, Result, Ok, Err, IfErr, take-append-drop, ◌≡◌, ◌≢◌, ℕ, zero, suc, ◌+◌, ◌*◌, ◌<◌, ◌≤◌, List, [], ◌∷◌, ◌++◌, map, length, take, drop, refl, sym, ap, subst, ◌∙◌, arith, append_assoc, append-nil, take-add, length-append, length-take, length-drop}
+use Rattle.std.proofs.Common.{◌-◌, ◌/◌, Bool, true, false, nat_eq, IsTrue, take-append-drop, ◌≡◌, ◌≢◌, ℕ, zero, suc, ◌+◌, ◌*◌, ◌<◌, ◌≤◌, List, [], ◌∷◌, ◌++◌, map, length, take, drop, refl, sym, ap, subst, ◌∙◌, arith, append_assoc, append-nil, take-add, length-append, length-take, length-drop}
 use Rattle.std.proofs.lemmas.Bool.Decides.{nat_tests}
 use Rattle.std.proofs.lemmas.List.{length-take-le, map-append, take_all, take_more}
 use Rattle.std.proofs.Math.Nat.{suc-mul}
-use Rattle.std.specs.Prelude.{OnOk}
-use Rattle.std.specs.List.{slice_range}
 use Rattle.std.specs.Simd.{first_chunks}
-use Rattle.gix_hash.specs.Reading.{whole_of}
 use Rattle.gix_hash.specs.Ids.{id_digits}
 use Rattle.gix_hash.specs.declared.ObjectId.{ObjectId}
 use Rattle.id_digits.specs.Letters.{is_line_len}
-use Rattle.oidtool_commands.specs.Lists.{HasIdLine, HasTaken, IsListRefusal, IsRefusalAfter, Takes, ended}
+use Rattle.oidtool_commands.specs.Lists.{HasTaken, IsListRefusal, Takes, ended}
 use Rattle.oidtool_commands.specs.Searches.{AreLinesOf, HasFound, HasSearched, HasSkipped, IsRefusedIn, Searches}
 use Rattle.oidtool_commands.specs.declared.search.error.SearchError.{SearchError}
 use Rattle.oidtool_commands.specs.declared.search.error.SearchError.TheVariants.{Memory}
 use Rattle.oidtool_commands.specs.declared.search.finder.Finder.{Finder}
 use Rattle.oidtool_commands.specs.declared.search.list_reader.ListReader.{ListReader}
 use Rattle.oidtool_commands.specs.declared.search.Search.{Search}
-use Rattle.oidtool_commands.proofs.ChunkLemmas.{IsLine-id, line_pushed, first_of_taken}
+use Rattle.oidtool_commands.proofs.ChunkLemmas.{first_of_taken, some_after, whole_taken}
 
 pub lines_counted : (n : ℕ) (lines : List (List ℕ)) (ids : List ObjectId) → AreLinesOf n lines ids → length ids ≡ length lines
 lines_counted n [] [] h = refl
@@ -54,29 +51,15 @@ lines_taken size (suc k) chunk ids (id ∷ more) kept len text some room empty l
     let parts : suc k * size ≡ size + k * size = omega (arith, suc-mul k size) in
     let fits : size + k * size ≤ length chunk = rw parts at room in
     let line = take size chunk in
-    let whole : slice_range chunk 0 size ≡ line = let same : size - 0 ≡ size = omega arith in rw same refl in
     let long : length line ≡ size = length-take-le size chunk (omega (arith, fits)) in
     let is_ended : line ≡ ended (take (size - 1) line) =
     sym (take_all (size - 1 + 1) line (omega (arith, long))) ∙ take_more line (size - 1) 0 (omega (arith, long)) ∙ ap (λ b. take (size - 1) line ++ b ∷ []) lines.0.feed in
-    let there : HasIdLine chunk 0 size id = record {
-      line = take (size - 1) line;
-      is_line = IsLine-id (take (size - 1) line) (whole_of id) lines.0.reads;
-      reads = lines.0.reads;
-      is_there = whole ∙ is_ended;
-      onward = some;
-      in_chunk = omega (arith, fits);
-    } in
     let first : HasTaken (ids ++ id ∷ []) kept len (text ++ line) =
-    rw whole at (line_pushed ids (ids ++ id ∷ []) kept kept len text chunk 0 size id empty there h refl) in
+    subst (λ l. HasTaken (ids ++ id ∷ []) kept len (text ++ l)) (sym is_ended) (whole_taken ids _ kept kept len text (take (size - 1) line) id empty lines.0.reads h refl) in
     let rest = lines_taken size k (drop size chunk) (ids ++ id ∷ []) more kept len (text ++ line) some (omega (arith, fits, length-drop size chunk)) empty lines.1 first in
     rw (parts, take-add size (k * size) chunk, ← append_assoc text line (take (k * size) (drop size chunk)), ← append_assoc ids (id ∷ []) more) rest
 
 module _ {A : Type 0} (search : Search) (digits : List ℕ) where
-  -- the state of a search, of its parts
-  pub has_searched : (reader : ListReader A) (finder : Finder A) (text : List ℕ) (earlier : List ObjectId) → length earlier ≡ reader.dropped
-      → HasFound search digits (map id_digits earlier) finder → HasTaken (earlier ++ reader.ids.items) reader.line reader.len text → HasSearched search digits reader finder text
-  has_searched reader finder text earlier dropped found taken = record { earlier = earlier; dropped = dropped; found = found; taken = taken }
-
   -- lines that are skipped
   pub skipped : (size : ℕ) (reader reader' : ListReader A) (finder finder' : Finder A) (chunk : List ℕ) (k bytes : ℕ)
       → HasSkipped search digits (size - 1) (first_chunks size k chunk) finder finder' → HasRoom size k (length chunk) → bytes ≡ k * size
@@ -139,12 +122,6 @@ module _ {A : Type 0} (search : Search) (digits : List ℕ) where
       (append_assoc text a (b ++ (c ++ more)) ∙ ap (λ l. text ++ l) (ap (λ l. a ++ l) (sym (append_assoc b c more)) ∙ sym (append_assoc a (b ++ c) more) ∙ ap (λ l. l ++ more) is))
       (refused (text ++ a) (c ++ more) (first.onward text s))
 
-  -- or before others
-  pub refused_first : (reader : ListReader A) (finder : Finder A) (b c all : List ℕ) (error : SearchError) → IsRefusedIn search digits reader finder b error
-      → b ++ c ≡ all → IsRefusedIn search digits reader finder all error
-  refused_first reader finder b c all error refused is = λ text more s.
-      subst (λ l. IsListRefusal (text ++ l) error) (sym (append_assoc b c more) ∙ ap (λ l. l ++ more) is) (refused text (c ++ more) s)
-
   -- lines that are read, and looked up
   pub read_searches : (reader reader' reader'' : ListReader A) (finder finder' : Finder A) (chunk : List ℕ) (part : List ObjectId) → Takes reader reader' chunk
       → reader.ids.items ≡ [] → finder.count ≡ reader.dropped → part ≡ reader'.ids.items
@@ -163,27 +140,14 @@ module _ {A : Type 0} (search : Search) (digits : List ℕ) where
     short = omega (arith, takes.short, takes.dropped, dropped, len, ap length none);
   }
 
-  pub refused_lines : (reader : ListReader A) (finder : Finder A) (chunk : List ℕ) (error : SearchError) → IsRefusalAfter reader chunk error
-      → IsRefusedIn search digits reader finder chunk error
-  refused_lines reader finder chunk error refused = λ text more s. refused s.earlier text more s.dropped s.taken
-
   -- memory ran out after ids
   pub refused_memory : (reader reader' : ListReader A) (finder : Finder A) (chunk : List ℕ) (error : SearchError) → Takes reader reader' chunk → error ≡ Memory
       → reader'.ids.items ≢ [] → IsRefusedIn search digits reader finder chunk error
   refused_memory reader reader' finder chunk error takes is some = λ text more s.
       rw (is, ← append_assoc text chunk more)
-      (first_of_taken s.earlier reader'.ids.items reader'.line reader'.len (text ++ chunk) more (takes.taken s.earlier text s.taken) some)
+      (first_of_taken _ reader'.line reader'.len (text ++ chunk) (takes.taken s.earlier text s.taken) more (some_after s.earlier reader'.ids.items some))
 
 pub two_parts : (chunk : List ℕ) (end : ℕ) → take end chunk ++ take (length chunk - end) (drop end chunk) ≡ chunk
 two_parts chunk end =
     let rest : take (length chunk - end) (drop end chunk) ≡ drop end chunk = take_all (length chunk - end) (drop end chunk) (omega (arith, length-drop end chunk)) in
     rw rest (take-append-drop end chunk)
-
--- what holds of a result, from what held of it
-pub on_ok_map : {V E P Q : Type 0} (r : Result V E) → (P → Q) → OnOk r P → OnOk r Q
-on_ok_map (Ok v) f h = f h
-on_ok_map (Err e) f h = h
-
-pub if_err_map : {V E : Type 0} {P Q : E → Type 0} (r : Result V E) → ((e : E) → P e → Q e) → IfErr r P → IfErr r Q
-if_err_map (Ok v) f h = h
-if_err_map (Err e) f h = f e h

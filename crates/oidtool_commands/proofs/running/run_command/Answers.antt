@@ -8,23 +8,14 @@ use Rattle.oidtool_commands.specs.declared.command.Command.TheVariants.{Find, Fi
 use Rattle.oidtool_commands.specs.declared.search.Search.{Search}
 use Rattle.oidtool_commands.specs.declared.search.Search.TheVariants.{Sorted, In}
 use Rattle.streams.proofs.WritingLemmas.{Appends-kept}
+use Rattle.oidtool_commands.proofs.SourceReads.{all_map}
 use Rattle.oidtool_commands.proofs.running.run_command.Goals as goal
 
 -- a flush leaves what was written
 finds_kept : (search : Search) (prefix : List ℕ) (most : ℕ) (input input' old mid new : Option (List ℕ)) (count : ℕ)
     → Finds search prefix (From most input input') old mid count → Keeps mid new → Finds search prefix (From most input input') old new count
-finds_kept search prefix most input input' old mid new count all keeps = record {
-  text = all.text;
-  gives = all.gives;
-  at_end = all.at_end;
-  short = all.short;
-  holds = record {
-    ids = all.holds.ids;
-    found = all.holds.found;
-    counted = all.holds.counted;
-    written = Appends-kept old mid new _ all.holds.written keeps;
-  };
-}
+finds_kept search prefix most input input' old mid new count all keeps =
+    all_map all (λ text h. record { ids = h.ids; found = h.found; counted = h.counted; written = Appends-kept old mid new _ h.written keeps })
 
 does_kept : (asked : Command) (input input' old mid new : Option (List ℕ)) (count : ℕ)
     → Does asked input input' old mid count → Keeps mid new → Does asked input input' old new count

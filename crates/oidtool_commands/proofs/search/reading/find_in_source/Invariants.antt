@@ -1,15 +1,10 @@
-use Rattle.std.proofs.Common.{◌≡◌, ◌+◌, ◌≤◌, ◌++◌, List, [], map, length, false}
-use Rattle.gix_hash.specs.Ids.{id_digits}
-use Rattle.gix_hash.specs.declared.ObjectId.{ObjectId}
-use Rattle.oidtool_commands.specs.Searches.{HasFound}
+use Rattle.std.proofs.Common.{◌≡◌, ◌+◌, ◌≤◌, [], false}
 use Rattle.oidtool_commands.proofs.SourceReads.{IsTaken}
 use Rattle.oidtool_commands.proofs.search.reading.find_in_source.Given as goal
 
 abbrev pub invariant-chunks : goal.invariant-chunks
 invariant-chunks g l = record {
-  taken : (earlier : List ObjectId) × (length earlier ≡ l.reader.dropped)
-      × HasFound l.query.search l.query.prefix.digits (map id_digits earlier) l.finder
-      × IsTaken l.fn.most (earlier ++ l.reader.ids.items) l.reader.line l.reader.len l.room (g.R.Source.remaining l.fn.input) (g.R.Source.remaining l.input);
+  taken : IsTaken l.query.search l.query.prefix.digits l.reader l.finder l.fn.most l.room (g.R.Source.remaining l.fn.input) (g.R.Source.remaining l.input);
   empty : l.reader.ids.items ≡ [];
   count : l.finder.count ≡ l.reader.dropped;
   short : l.reader.dropped + l.reader.len + l.room ≤ l.fn.most;

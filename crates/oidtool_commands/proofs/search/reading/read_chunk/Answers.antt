@@ -1,6 +1,6 @@
 use Rattle.std.proofs.Common.{◌≢◌, [], subst}
 use Rattle.std.proofs.lemmas.Result.{err_from_is_err_and}
-use Rattle.oidtool_commands.proofs.SkippedLines.{read_searches, refused_lines, refused_memory}
+use Rattle.oidtool_commands.proofs.SkippedLines.{read_searches, refused_memory}
 use Rattle.oidtool_commands.proofs.search.reading.read_chunk.Goals as goal
 
 pub returns-clause-ok : goal.returns-clause-ok
@@ -12,7 +12,7 @@ returns-clause-ok g c =
 pub returns-in_err-take_chunk-clause-err : goal.returns-in_err-take_chunk-clause-err
 returns-in_err-take_chunk-clause-err g c =
     let p = err_from_is_err_and c.from_residual.result c.from_residual.ensures.1 in
-    rw (p.1, p.2) (refused_lines _ _ _ _ _ _ c.in_err-take_chunk.ensures.err)
+    rw (p.1, p.2) (λ text more s. c.in_err-take_chunk.ensures.err s.earlier text more s.dropped s.taken)
 
 pub returns-in_err-take-clause-err : goal.returns-in_err-take-clause-err
 returns-in_err-take-clause-err g c =

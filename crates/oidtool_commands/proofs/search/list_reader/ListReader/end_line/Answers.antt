@@ -1,4 +1,5 @@
-use Rattle.std.proofs.Common.{◌++◌, ◌∷◌, [], ap, length-append, length, append_assoc, arith, refl, sym, ◌∙◌}
+use Rattle.std.proofs.Common.{◌++◌, ◌∷◌, [], ap, length-append, length, append_assoc, append-nil, arith, refl, sym, ◌∙◌}
+use Rattle.std.proofs.lemmas.List.Elements.{All-nil}
 use Rattle.std.proofs.lemmas.Result.{err_from_is_err_and}
 use Rattle.oidtool_commands.proofs.ChunkLemmas.{ended_taken, refused_line, first_read-taken}
 use Rattle.oidtool_commands.proofs.search.list_reader.ListReader.end_line.Goals as goal
@@ -8,8 +9,8 @@ returns-in_ok-push-in-Ok-clause-ok g c =
     let self = c.args.self.now in
     let pushed = c.in_ok-push-in-Ok.ensures.items in
     record {
-      taken = λ earlier text h. ended_taken (earlier ++ self.ids.items) self.line self.len text h _ self.line 0 c.in-Ok.id
-          (sym (c.in-Ok.ensures h.last h.last_len h.last_kept))
+      taken = λ earlier text h. ended_taken (earlier ++ self.ids.items) self.line self.len text h [] _ self.line 0 c.in-Ok.id
+          (All-nil _) (rw (append-nil h.last) (sym (c.in-Ok.ensures h.last h.last_len h.last_kept)))
           (ap (λ all. earlier ++ all) pushed ∙ sym (append_assoc earlier self.ids.items (c.in-Ok.id ∷ []))) refl;
       dropped = refl;
       short = omega (arith, ap length pushed, length-append self.ids.items (c.in-Ok.id ∷ []));
