@@ -160,10 +160,7 @@ fn read_kind<'a>(word: &'a str) -> Result<Kind, ArgError<'a>>
     ensures named { IfOk result (IsNameOf word.now) }
     ensures refused { IfErr result (IsKindRefusal word.now) }
 {
-    match Kind::from_str(word) {
-        Ok(kind) => Ok(kind),
-        Err(word) => Err(ArgError::BadKind(word)),
-    }
+    Kind::from_str(word).map_err(ArgError::BadKind)
 }
 
 // Reads a word as a number: decimal digits, after a `+` or none.
@@ -171,8 +168,5 @@ fn read_count<'a>(word: &'a str) -> Result<u64, ArgError<'a>>
     ensures number { IfOk result (IsNumberOf word.now) }
     ensures refused { IfErr result (IsNumberRefusal word.now) }
 {
-    match word.parse() {
-        Ok(count) => Ok(count),
-        Err(_) => Err(ArgError::BadNumber(word)),
-    }
+    word.parse().map_err(|_| ArgError::BadNumber(word))
 }
