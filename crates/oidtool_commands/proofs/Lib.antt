@@ -5,5 +5,4 @@ mod FinderLemmas
 mod IdLines
 mod SkippedLines
 mod ChunkLemmas
-mod SourceReads
 mod StopLemmas

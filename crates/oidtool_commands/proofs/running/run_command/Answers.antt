@@ -8,7 +8,7 @@ use Rattle.oidtool_commands.specs.declared.command.Command.TheVariants.{Find, Fi
 use Rattle.oidtool_commands.specs.declared.search.Search.{Search}
 use Rattle.oidtool_commands.specs.declared.search.Search.TheVariants.{Sorted, In}
 use Rattle.streams.proofs.WritingLemmas.{Appends-kept}
-use Rattle.oidtool_commands.proofs.SourceReads.{all_map}
+use Rattle.oidtool_commands.proofs.StopLemmas.{all_map}
 use Rattle.oidtool_commands.proofs.running.run_command.Goals as goal
 
 -- a flush leaves what was written

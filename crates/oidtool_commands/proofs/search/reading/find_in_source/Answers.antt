@@ -6,8 +6,7 @@ use Rattle.std.specs.Io.KnownBytes.{Consumes}
 use Rattle.gix_hash.specs.Ids.{id_digits}
 use Rattle.oidtool_commands.specs.Lists.{IsListRefusal, list_read}
 use Rattle.oidtool_commands.proofs.ChunkLemmas.{first_of_list, some_after}
-use Rattle.oidtool_commands.proofs.SourceReads.{stopped_good, holds_of_all, settled_of_all, settled, too_much, split_read, not_failed}
-use Rattle.oidtool_commands.proofs.StopLemmas.{refused_exit, end_exit}
+use Rattle.oidtool_commands.proofs.StopLemmas.{stopped_good, holds_of_all, settled_of_all, settled, too_much, split_read, not_failed, refused_exit, end_exit}
 use Rattle.oidtool_commands.proofs.search.reading.find_in_source.Goals as goal
 
 pub chunks-init : goal.chunks-init

@@ -1,5 +1,5 @@
 use Rattle.std.proofs.Common.{◌≡◌, ◌+◌, ◌≤◌, [], false}
-use Rattle.oidtool_commands.proofs.SourceReads.{IsTaken}
+use Rattle.oidtool_commands.proofs.StopLemmas.{IsTaken}
 use Rattle.oidtool_commands.proofs.search.reading.find_in_source.Given as goal
 
 abbrev pub invariant-chunks : goal.invariant-chunks
