@@ -107,10 +107,7 @@ pub fn find<A: Allocator, W: Sink>(
 {
     let search = Search::Sorted(Alphabet::Hex);
     let most = list.len() as u64;
-    match search_from(alloc, search, prefix, &mut FromSlice::new(list), most, out) {
-        Ok(count) => Ok(count),
-        Err(cause) => Err(FindError::of(cause)),
-    }
+    search_from(alloc, search, prefix, &mut FromSlice::new(list), most, out).map_err(FindError::of)
 }
 
 /// Writes a line for each id of the list text that begins with the prefix, as [`find`] does, with
@@ -131,10 +128,7 @@ pub fn find_change<A: Allocator, W: Sink>(
 {
     let search = Search::Sorted(Alphabet::Reverse);
     let most = list.len() as u64;
-    match search_from(alloc, search, letters, &mut FromSlice::new(list), most, out) {
-        Ok(count) => Ok(count),
-        Err(cause) => Err(FindError::of(cause)),
-    }
+    search_from(alloc, search, letters, &mut FromSlice::new(list), most, out).map_err(FindError::of)
 }
 
 /// A law: what a search in a sorted list finds. A result is that if and only if what it says of the

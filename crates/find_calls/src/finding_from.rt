@@ -119,15 +119,6 @@ pub fn find_from<A: Allocator, R: Source, W: Sink>(
     ensures input { IsErrOf result FindFromError.Input ↔ (R.has_failed list.new ≡ true) }
     ensures output { IsErrOf result FindFromError.Output ↔ (W.has_failed out.new ≡ true) }
 {
-    match search_from(
-        alloc,
-        Search::Sorted(Alphabet::Hex),
-        prefix,
-        list,
-        MAX_LEN,
-        out,
-    ) {
-        Ok(count) => Ok(count),
-        Err(cause) => Err(FindFromError::of(cause)),
-    }
+    let search = Search::Sorted(Alphabet::Hex);
+    search_from(alloc, search, prefix, list, MAX_LEN, out).map_err(FindFromError::of)
 }

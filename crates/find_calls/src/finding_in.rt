@@ -114,10 +114,9 @@ pub fn find_in<A: Allocator, W: Sink>(
 {
     let search = Search::In(kind);
     let most = list.len() as u64;
-    match search_from(alloc, search, prefix, &mut FromSlice::new(list), most, out) {
-        Ok(count) => Ok(count),
-        Err(cause) => Err(FindInError::of(cause)),
-    }
+    search_from(alloc, search, prefix, &mut FromSlice::new(list), most, out).map_err(
+        FindInError::of,
+    )
 }
 
 /// A law: what a search in ids of one kind finds. A result is that if and only if what it says of
