@@ -195,10 +195,7 @@ range_none chunk at = let none : at - at ≡ 0 = omega arith in rw none refl
 pub range_one : (chunk : List ℕ) (at : ℕ) → at < length chunk → slice_range chunk at (at + 1) ≡ get_or chunk at 0 ∷ []
 range_one chunk at within = let one : at + 1 - at ≡ 1 = omega arith in rw (one, drop-cons chunk at 0 within) refl
 
--- a line of which too much is kept to be an id, and one that is kept whole
-pub long_line : (line : List ℕ) (len : ℕ) → len ≡ length line → 64 < len → Err (InvalidHexEncodingLength len) ≡ full_read hex_letter line
-long_line line len is long = grind (arith, nat_tests)
-
+-- a line that is kept whole
 pub short_line : (line : List ℕ) (len : ℕ) (kept : List ℕ) → len ≡ length line → len ≤ 64 → take 64 line ≡ take len kept → line ≡ take len kept
 short_line line len kept is short same = sym (take_all 64 line (omega arith)) ∙ same
 

@@ -1,11 +1,12 @@
-use Rattle.std.proofs.Common.{ap, sym, ◌∙◌}
+use Rattle.std.proofs.Common.{ap, arith, sym, ◌∙◌}
+use Rattle.std.proofs.lemmas.Bool.Decides.{nat_tests}
 use Rattle.gix_hash.specs.Digits.{hex_letter}
 use Rattle.gix_hash.specs.Reading.{full_read}
-use Rattle.oidtool_commands.proofs.ChunkLemmas.{long_line, short_line}
+use Rattle.oidtool_commands.proofs.ChunkLemmas.{short_line}
 use Rattle.oidtool_commands.proofs.search.list_reader.read_line.Goals as goal
 
 pub returns-then-len-gt-MAX_DIGITS : goal.returns-then-len-gt-MAX_DIGITS
-returns-then-len-gt-MAX_DIGITS c line len kept = long_line line c.args.len len c.if-len-gt-MAX_DIGITS.true
+returns-then-len-gt-MAX_DIGITS c line len kept = grind (arith, nat_tests)
 
 pub returns : goal.returns
 returns c line len kept =
