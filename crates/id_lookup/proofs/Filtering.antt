@@ -1,7 +1,7 @@
 -- If the elements that pass a test are next to each other, the filtered list is that part of the list.
-use Rattle.std.proofs.Common.{◌≡◌, ℕ, suc, ◌+◌, ◌-◌, ◌≤◌, Bool, true, false, List, [], ◌∷◌, ◌++◌, take, drop, filter, refl, sym, ap, ◌∙◌, arith, append-nil, take-append-drop}
+use Rattle.std.proofs.Common.{◌≡◌, ℕ, suc, ◌≤◌, Bool, true, false, List, [], ◌∷◌, ◌++◌, take, drop, filter, refl, sym, ap, ◌∙◌, arith, append-nil, take-append-drop}
 use Rattle.std.specs.List.{All, slice_range}
-use Rattle.std.proofs.lemmas.List.{drop-drop}
+use Rattle.std.proofs.lemmas.List.Folds.{drop_split}
 use Rattle.std.proofs.lemmas.List.Elements.{filter-append}
 
 module _ {X : Type 0} (p : X → Bool) where
@@ -17,11 +17,7 @@ module _ {X : Type 0} (p : X → Bool) where
 
   -- a list up to a position, from there to another, and after that
   pub three_parts : (xs : List X) (start end : ℕ) → start ≤ end → take start xs ++ (slice_range xs start end ++ drop end xs) ≡ xs
-  three_parts xs start end rise =
-      let whole : start + (end - start) ≡ end = omega arith in
-      ap (λ (rest : List X). take start xs ++ rest) (ap (λ (rest : List X). slice_range xs start end ++ rest) (sym (drop-drop (end - start) start xs ∙ ap (λ n. drop n xs) whole))
-      ∙ take-append-drop (end - start) (drop start xs))
-      ∙ take-append-drop start xs
+  three_parts xs start end rise = ap (λ (rest : List X). take start xs ++ rest) (sym (drop_split xs start end rise)) ∙ take-append-drop start xs
 
   -- exactly the elements from one index up to another pass
   pub filter_run : (xs : List X) (start end : ℕ) → start ≤ end → All (λ x. p x ≡ false) (take start xs)

@@ -1,7 +1,7 @@
 -- What a filter keeps.
-use Rattle.std.proofs.Common.{◌≡◌, zero, suc, Bool, true, false, cond, List, [], ◌∷◌, ◌++◌, filter, refl, ap, ◌∙◌, arith}
+use Rattle.std.proofs.Common.{◌≡◌, zero, suc, Bool, true, false, cond, List, [], ◌∷◌, ◌++◌, filter, inl, inr, refl, sym, ap, ◌∙◌, arith}
 use Rattle.std.specs.List.{Contains, flat_map}
-use Rattle.std.proofs.lemmas.Bool.{false≢true}
+use Rattle.std.proofs.lemmas.Bool.{cases_Bool, false≢true, false_from_ne_true}
 use Rattle.std.proofs.lemmas.List.Elements.{All-contains, All-contains_itself, All-filter, filter_passes, filter-append}
 
 module _ {X : Type 0} (p : X → Bool) where
@@ -32,12 +32,7 @@ module _ {X : Type 0} (p : X → Bool) where
 -- where a second test passes less, the first need not be made
 pub filter_within : {X : Type 0} (p q : X → Bool) → ((x : X) → q x ≡ true → p x ≡ true) → (xs : List X) → filter q (filter p xs) ≡ filter q xs
 filter_within p q less [] = refl
-filter_within {X} p q less (x ∷ xs) =
-    let rest = filter_within p q less xs in
-    elim (p x) as (λ s. (q x ≡ true → s ≡ true) → filter q (cond s (x ∷ filter p xs) (filter p xs)) ≡ cond (q x) (x ∷ filter q xs) (filter q xs)) [
-      | true ↦ λ h. ap (λ (kept : List X). cond (q x) (x ∷ kept) kept) rest
-      | false ↦ λ h. elim (q x) as (λ t. (t ≡ true → false ≡ true) → filter q (filter p xs) ≡ cond t (x ∷ filter q xs) (filter q xs)) [
-        | true ↦ λ g. absurd (false≢true (g refl))
-        | false ↦ λ g. rest
-      ] h
-    ] (less x)
+filter_within p q less (x ∷ xs) = elim (cases_Bool (p x)) [
+  | inl here ↦ rw (here, filter_within p q less xs) refl
+  | inr other ↦ rw (other, false_from_ne_true (q x) (λ passes. false≢true (sym other ∙ less x passes)), filter_within p q less xs) refl
+]
