@@ -1,5 +1,5 @@
 -- The place of a prefix against each member of a sorted list, by the two bounds of its run.
-use Rattle.std.proofs.Common.{◌≡◌, ℕ, ◌+◌, ◌-◌, ◌≤◌, ◌<◌, ◌↔◌, Bool, true, cond, nat_eq, nat_lt, IsTrue, List, [], ◌∷◌, length, take, drop, get_or, refl, ap, ◌∙◌, arith}
+use Rattle.std.proofs.Common.{◌≡◌, ℕ, ◌+◌, ◌-◌, ◌≤◌, ◌<◌, ◌↔◌, Bool, true, cond, nat_eq, nat_lt, IsTrue, List, [], ◌∷◌, length, take, drop, get_or, inl, inr, refl, ap, ◌∙◌, arith}
 use Rattle.std.specs.Prelude.{slice_range}
 use Rattle.std.specs.declared.cmp.Ordering.{Ordering}
 use Rattle.std.specs.declared.cmp.Ordering.TheVariants.{Less, Equal, Greater}
@@ -7,7 +7,7 @@ use Rattle.std.specs.Ordering.{is_gt, is_ge, is_eq}
 use Rattle.std.specs.List.{All, HoldsAt, count_by, starts_with}
 use Rattle.std.specs.Cmp.Lexicographic.{texts_ties}
 use Rattle.std.proofs.lemmas.List.Sums.{count_by-le-length}
-use Rattle.std.proofs.lemmas.Bool.Decides.{nat_tests}
+use Rattle.std.proofs.lemmas.Bool.{cases_lt, false≢true, le-ltb, lt-ltb}
 use Rattle.std.proofs.lemmas.List.{get_or-take, get_or-drop, length-take, length-drop}
 use Rattle.gix_hash.specs.Prefixes.{KindDigits}
 use Rattle.gix_hash.specs.Digits.{place}
@@ -40,41 +40,24 @@ before_bound_at bound prefix (id ∷ ids) sorted k h o answer =
     ap (is_before_bound bound) (answer id)
     ∙ passes_below (λ x. is_before_bound bound (place prefix.digits x)) (id ∷ ids) (bound_partitions bound prefix (id ∷ ids) sorted) k id h
 
--- Greater if and only if the index is below the start of the run, and Less if and only if it is not below its end
-record IsPlaced (start end k : ℕ) (o : Ordering) : Type 0 where
-  pub above : is_gt o ≡ nat_lt k start
-  pub not_below : is_ge o ≡ nat_lt k end
+-- Greater and not Less are the two tests of an order
+order_is : (o : Ordering) → o ≡ cond (is_gt o) Greater (cond (is_ge o) Equal Less)
+order_is Less = refl
+order_is Equal = refl
+order_is Greater = refl
 
--- the place against each member
-placed : (prefix : KindDigits) (ids : List (List ℕ)) → IsSortedIds ids → (k : ℕ) (d : List ℕ) → k < length ids
-    → IsPlaced (bound_of Start prefix ids) (bound_of Start prefix ids + count_by (λ id. begins_with id prefix) ids) k (place prefix.digits (get_or ids k d))
-placed prefix ids sorted k d h = record {
-  above = passes_below (λ id. is_gt (place prefix.digits id)) ids (bound_partitions Start prefix ids sorted) k d h;
-  not_below =
-      passes_below (λ id. is_ge (place prefix.digits id)) ids (bound_partitions End prefix ids sorted) k d h
-      ∙ ap (nat_lt k) (bound_of-end prefix ids);
-}
+-- the place against the member at an index between two bounds
+abbrev place_at : ℕ → ℕ → ℕ → Ordering
+place_at start end k = cond (nat_lt k start) Greater (cond (nat_lt k end) Equal Less)
 
--- what that says in each of the three parts
-greater_before : (start end k : ℕ) (o : Ordering) → IsPlaced start end k o → k < start → o ≡ Greater
-greater_before start end k Less p h = absurd (let a = p.above in grind (arith, nat_tests))
-greater_before start end k Equal p h = absurd (let a = p.above in grind (arith, nat_tests))
-greater_before start end k Greater p h = refl
-
-equal_within : (start end k : ℕ) (o : Ordering) → IsPlaced start end k o → start ≤ k → k < end → o ≡ Equal
-equal_within start end k Less p h g = absurd (let a = p.not_below in grind (arith, nat_tests))
-equal_within start end k Equal p h g = refl
-equal_within start end k Greater p h g = absurd (let a = p.above in grind (arith, nat_tests))
-
-less_after : (start end k : ℕ) (o : Ordering) → IsPlaced start end k o → start ≤ end → end ≤ k → o ≡ Less
-less_after start end k Less p h g = refl
-less_after start end k Equal p h g = absurd (let a = p.not_below in grind (arith, nat_tests))
-less_after start end k Greater p h g = absurd (let a = p.above in grind (arith, nat_tests))
-
-is_equal : (start end k : ℕ) (o : Ordering) → start ≤ end → IsPlaced start end k o → (is_eq o ≡ true) ↔ ((start ≤ k) × (k < end))
-is_equal start end k Less h p = (λ e. absurd (let a = p.not_below in cc), λ e. absurd (let a = p.not_below in let b = e.1 in grind (arith, nat_tests)))
-is_equal start end k Equal h p = (λ e. (let a = p.above in grind (arith, nat_tests), let a = p.not_below in grind (arith, nat_tests)), λ e. refl)
-is_equal start end k Greater h p = (λ e. absurd (let a = p.above in cc), λ e. absurd (let a = p.above in let b = e.0 in grind (arith, nat_tests)))
+is_equal : (start end k : ℕ) → (is_eq (place_at start end k) ≡ true) ↔ ((start ≤ k) × (k < end))
+is_equal start end k = (
+  λ h. elim (cases_lt k start) [
+    | inl below ↦ absurd (false≢true (rw (lt-ltb k start below) at h))
+    | inr above ↦ elim (cases_lt k end) [ inl within ↦ (above, within) | inr past ↦ absurd (false≢true (rw (le-ltb k start above, le-ltb k end past) at h)) ]
+  ],
+  λ h. rw (le-ltb k start h.0, lt-ltb k end h.1) refl,
+)
 
 -- whether an id begins with the digits of a prefix, by the place of the prefix against it
 matches-place : (prefix : KindDigits) (id : List ℕ) (o : Ordering) → place prefix.digits id ≡ o → starts_with nat_eq id prefix.digits ≡ is_eq o
@@ -83,31 +66,37 @@ matches-place prefix id o is = texts_ties prefix.digits _ ∙ ap is_eq is
 -- what is said of a run
 module _ (prefix : KindDigits) (ids : List (List ℕ)) (sorted : IsSortedIds ids) (run : Run)
     (starts : run.start ≡ bound_of Start prefix ids) (ends : run.end ≡ run.start + count_by (λ id. begins_with id prefix) ids) where
-  at_place : (k : ℕ) (d : List ℕ) → k < length ids → IsPlaced run.start run.end k (place prefix.digits (get_or ids k d))
-  at_place k d h = rw (ends, starts) (placed prefix ids sorted k d h)
+  at_place : (k : ℕ) (d : List ℕ) → k < length ids → place prefix.digits (get_or ids k d) ≡ place_at run.start run.end k
+  at_place k d h =
+      let above = passes_below (λ id. is_gt (place prefix.digits id)) ids (bound_partitions Start prefix ids sorted) k d h in
+      let not_below = passes_below (λ id. is_ge (place prefix.digits id)) ids (bound_partitions End prefix ids sorted) k d h in
+      rw (ends, starts, ← bound_of-end prefix ids) (order_is _ ∙ (λ i. cond (above i) Greater (cond (not_below i) Equal Less)))
 
   run_members : (k : ℕ) → k < length ids
       → IsTrue (begins_with (get_or ids k []) prefix) ↔ ((run.start ≤ k) × (k < run.end))
-  run_members k h =
-      rw (begins_with-place prefix (get_or ids k [])) (is_equal run.start run.end k _ (omega arith) (at_place k [] h))
+  run_members k h = rw (begins_with-place prefix (get_or ids k []), at_place k [] h) (is_equal run.start run.end k)
 
   run_before : All (λ id. place prefix.digits id ≡ Greater) (take run.start ids)
   run_before k d h =
       let cut = length-take run.start ids in
-      rw (get_or-take run.start ids k d (omega arith)) (greater_before run.start run.end k _ (at_place k d (omega arith)) (omega arith))
+      rw (get_or-take run.start ids k d (omega arith), at_place k d (omega arith), lt-ltb k run.start (omega arith)) refl
 
   run_within : All (λ id. place prefix.digits id ≡ Equal) (slice_range ids run.start run.end)
   run_within k d h =
       let cut = length-take (run.end - run.start) (drop run.start ids) in
       let left = length-drop run.start ids in
-      rw (get_or-take (run.end - run.start) (drop run.start ids) k d (omega arith), get_or-drop run.start ids k d)
-      (equal_within run.start run.end (run.start + k) _ (at_place (run.start + k) d (omega arith)) (omega arith) (omega arith))
+      rw (
+        get_or-take (run.end - run.start) (drop run.start ids) k d (omega arith),
+        get_or-drop run.start ids k d,
+        at_place (run.start + k) d (omega arith),
+        le-ltb (run.start + k) run.start (omega arith),
+        lt-ltb (run.start + k) run.end (omega arith),
+      ) refl
 
   run_after : All (λ id. place prefix.digits id ≡ Less) (drop run.end ids)
   run_after k d h =
       let left = length-drop run.end ids in
-      rw (get_or-drop run.end ids k d)
-      (less_after run.start run.end (run.end + k) _ (at_place (run.end + k) d (omega arith)) (omega arith) (omega arith))
+      rw (get_or-drop run.end ids k d, at_place (run.end + k) d (omega arith), le-ltb (run.end + k) run.start (omega arith), le-ltb (run.end + k) run.end (omega arith)) refl
 
   run_found : slice_range ids run.start run.end ≡ matches prefix.digits ids
   run_found = filter_run (λ id. starts_with nat_eq id prefix.digits) ids run.start run.end (omega arith)

@@ -39,16 +39,12 @@ still_before : (bound : Bound) (o q : Ordering) → ordering_index o ≤ orderin
     → is_before_bound bound (ordering_reverse q) ≡ true → is_before_bound bound (ordering_reverse o) ≡ true
 still_before Start Less q h g = refl
 still_before Start Equal Less h g = absurd (omega arith)
-still_before Start Equal Equal h g = g
-still_before Start Equal Greater h g = g
 still_before Start Greater Less h g = absurd (omega arith)
-still_before Start Greater Equal h g = g
-still_before Start Greater Greater h g = g
+still_before Start o q h g = g
 still_before End Less q h g = refl
 still_before End Equal q h g = refl
-still_before End Greater Less h g = absurd (omega arith)
-still_before End Greater Equal h g = absurd (omega arith)
 still_before End Greater Greater h g = g
+still_before End Greater q h g = absurd (omega arith)
 
 -- each member before a bound comes before each that is not
 pub bound_partitions : (bound : Bound) (prefix : KindDigits) (ids : List (List ℕ)) → IsSortedIds ids
