@@ -1,7 +1,8 @@
 -- Counts of ids by their first byte, and the run of a prefix between two of them.
-use Rattle.std.proofs.Common.{◌≡◌, ◌≢◌, ℕ, ◌+◌, ◌-◌, ◌<◌, ◌≤◌, Bool, true, false, cond, ltb, leb, nat_eq, List, [], ◌∷◌, length, get_or, set, get_or-set_other, get_or-set_same, below_more, take, eqb-true, refl, sym, ap, ◌∙◌, arith}
+use Rattle.std.proofs.Common.{◌≡◌, ◌≢◌, ℕ, ◌+◌, ◌-◌, ◌<◌, ◌≤◌, Bool, true, false, cond, ltb, leb, nat_eq, List, [], ◌∷◌, length, get_or, set, get_or-set_other, get_or-set_same, below_more, take, inl, inr, refl, sym, ap, ◌∙◌, arith}
 use Rattle.std.specs.List.{All, count_by}
-use Rattle.std.proofs.lemmas.Bool.{le-leb, leb-true, lt-ltb, ltb-true}
+use Rattle.std.specs.Ordering.{is_gt, is_ge}
+use Rattle.std.proofs.lemmas.Bool.{cases_eq, eq-eqb, false≢true, le-leb, le-ltb, leb-true, lt-ltb, ltb-true, ne_eqb}
 use Rattle.std.proofs.lemmas.Bool.Decides.{nat_tests}
 use Rattle.std.proofs.lemmas.List.Sums.{count_by-le-length, count_by_more_no, count_by_more_yes}
 use Rattle.std.proofs.lemmas.List.Elements.{All-head, All-tail}
@@ -10,11 +11,11 @@ use Rattle.gix_hash.specs.Prefixes.{KindDigits}
 use Rattle.id_lookup.specs.Runs.{AreCandidates, CanProbe, bound_of, has_first_byte, is_before_bound, is_below, is_up_to}
 use Rattle.id_lookup.specs.declared.search.Bound.TheVariants.{Start, End}
 use Rattle.id_lookup.specs.declared.search.Run.{Run}
-use Rattle.id_lookup.proofs.Counting.{count_by-cons, count_by-split}
-use Rattle.id_lookup.proofs.FirstByteOrder.{AreDigits, are_digits, after_if_lower_byte, byte_up_to_last_if_not_before, lower_byte_if_after, not_before_if_byte_up_to_last, last_byte_of, last_byte_of-first}
+use Rattle.id_lookup.proofs.Counting.{count_by-cons, count_by-split, count_zero}
+use Rattle.id_lookup.proofs.FirstByteOrder.{AreDigits, are_digits, by_bytes, last_byte_of, last_byte_of-first}
 
 -- a test that passes wherever another does counts no less
-count_by-le : {X : Type 0} (p q : X → Bool) (xs : List X) → All (λ x. p x ≡ true → q x ≡ true) xs → count_by p xs ≤ count_by q xs
+pub count_by-le : {X : Type 0} (p q : X → Bool) (xs : List X) → All (λ x. p x ≡ true → q x ≡ true) xs → count_by p xs ≤ count_by q xs
 count_by-le p q [] more = omega arith
 count_by-le {X} p q (x ∷ xs) more =
     let P : X → Type 0 = λ y. p y ≡ true → q y ≡ true in
@@ -29,11 +30,7 @@ count_by-le {X} p q (x ∷ xs) more =
 
 -- none is below the first byte of all
 pub count_by-below_0 : (ids : List (List ℕ)) → count_by (is_below 0) ids ≡ 0
-count_by-below_0 [] = λ i. 0
-count_by-below_0 (id ∷ ids) = omega (arith, count_by-cons (is_below 0) id ids, count_by-below_0 ids, none (first_byte_of id))
-  where
-    none : (n : ℕ) → cond {A = ℕ} (ltb n 0) 1 0 ≡ 0
-    none n = grind (arith, nat_tests)
+count_by-below_0 ids = count_zero (is_below 0) ids (λ k d inside. le-ltb (first_byte_of (get_or ids k d)) 0 (omega arith))
 
 -- those up to a byte are those below it and those that have it
 pub count_by-up_to : (b : ℕ) (ids : List (List ℕ)) → count_by (is_up_to b) ids ≡ count_by (is_below b) ids + count_by (has_first_byte b) ids
@@ -59,46 +56,44 @@ running counts ids i len some inside done here =
     let lt : i < length counts = omega arith in
     below_more _ _ old (rw get_or-set_same (omega (arith, here, done (i - 1) (omega arith), up_to_step i ids some)))
 
-apart : (a b : ℕ) → nat_eq a b ≡ false → b ≢ a
-apart a b h = grind (arith, nat_tests)
-
 -- one id more counts for its own first byte
 pub one_more : (counts : List ℕ) (ids : List (List ℕ)) (i byte : ℕ) → length counts ≡ 256 → i < length ids → byte < 256
     → byte ≡ first_byte_of (get_or ids i [])
     → ((b : ℕ) → b < 256 → get_or counts b 0 ≡ count_by (has_first_byte b) (take i ids))
     → (b : ℕ) → b < 256 → get_or (set counts byte (get_or counts byte 0 + 1)) b 0 ≡ count_by (has_first_byte b) (take (i + 1) ids)
-one_more counts ids i byte len within small is counted b below = by (nat_eq byte b) refl
-  where
-    by : (t : Bool) → nat_eq byte b ≡ t → get_or (set counts byte (get_or counts byte 0 + 1)) b 0 ≡ count_by (has_first_byte b) (take (i + 1) ids)
-    by true e =
-        let same : b ≡ byte = sym (eqb-true byte b e) in
-        let lt : byte < length counts = omega arith in
-        let yes : has_first_byte b (get_or ids i []) ≡ true = ap (λ n. nat_eq n b) (sym is) ∙ e in
-        let here : get_or (set counts byte (get_or counts byte 0 + 1)) b 0 ≡ get_or counts byte 0 + 1 = rw (same, get_or-set_same) refl in
-        omega (arith, here, ap (λ n. get_or counts n 0) same, counted b below, count_by_more_yes (has_first_byte b) ids i [] within yes)
-    by false e =
-        let ne : b ≢ byte = apart byte b e in
-        let no : has_first_byte b (get_or ids i []) ≡ false = ap (λ n. nat_eq n b) (sym is) ∙ e in
-        rw get_or-set_other (counted b below ∙ sym (count_by_more_no (has_first_byte b) ids i [] within no))
+one_more counts ids i byte len within small is counted b below = elim (cases_eq b byte) [
+  | inl same ↦
+      let lt : byte < length counts = omega arith in
+      let here : get_or (set counts byte (get_or counts byte 0 + 1)) b 0 ≡ get_or counts byte 0 + 1 = rw (same, get_or-set_same) refl in
+      omega (arith, here, ap (λ n. get_or counts n 0) same, counted b below, count_by_more_yes (has_first_byte b) ids i [] within (eq-eqb _ b (sym (same ∙ is))))
+  | inr other ↦
+      rw get_or-set_other (counted b below ∙ sym (count_by_more_no (has_first_byte b) ids i [] within (ne_eqb _ b (λ e. other (sym (is ∙ e))))))
+]
 
 module _ (prefix : KindDigits) (ids : List (List ℕ)) (can : CanProbe prefix ids) (small : AreDigits prefix.digits) (each : All (λ id. All (λ d. d < 16) id) ids) where
   -- both bounds of the run are between the ids below the prefix's first byte and those up to its last
   start_above : count_by (is_below (first_byte_of prefix.digits)) ids ≤ bound_of Start prefix ids
   start_above = count_by-le (is_below (first_byte_of prefix.digits)) (λ id. is_before_bound Start (place prefix.digits id)) ids
-      (λ k d h lower. after_if_lower_byte prefix.digits (get_or ids k d) (can.enough_digits k d h) small (are_digits _ (each k d h)) (ltb-true _ _ lower))
+      (λ k d h lower. by_bytes prefix.digits (get_or ids k d) (λ o. is_gt o ≡ true) (can.enough_digits k d h) small (are_digits _ (each k d h))
+      (λ _ _. refl) (λ o tie up most. absurd (omega (arith, ltb-true _ _ lower))) (λ up more. absurd (omega (arith, ltb-true _ _ lower))))
 
   end_below : bound_of End prefix ids ≤ count_by (is_up_to (last_byte_of prefix.digits)) ids
   end_below = count_by-le (λ id. is_before_bound End (place prefix.digits id)) (is_up_to (last_byte_of prefix.digits)) ids
-      (λ k d h stands. le-leb _ _ (byte_up_to_last_if_not_before prefix.digits (get_or ids k d) (can.enough_digits k d h) small (are_digits _ (each k d h)) stands))
+      (λ k d h. by_bytes prefix.digits (get_or ids k d) (λ o. is_ge o ≡ true → is_up_to (last_byte_of prefix.digits) (get_or ids k d) ≡ true)
+      (can.enough_digits k d h) small (are_digits _ (each k d h))
+      (λ low most _. le-leb _ _ most) (λ o tie up most _. le-leb _ _ most) (λ up more before. absurd (false≢true before)))
 
   -- and below two digits they are these
   start_below : length prefix.digits < 2 → bound_of Start prefix ids ≤ count_by (is_below (first_byte_of prefix.digits)) ids
   start_below short = count_by-le (λ id. is_before_bound Start (place prefix.digits id)) (is_below (first_byte_of prefix.digits)) ids
-      (λ k d h stands. lt-ltb _ _ (lower_byte_if_after prefix.digits (get_or ids k d) short (can.enough_digits k d h) (are_digits _ (each k d h)) stands))
+      (λ k d h. by_bytes prefix.digits (get_or ids k d) (λ o. is_gt o ≡ true → is_below (first_byte_of prefix.digits) (get_or ids k d) ≡ true)
+      (can.enough_digits k d h) small (are_digits _ (each k d h))
+      (λ low most _. lt-ltb _ _ low) (λ o tie up most after. absurd (false≢true (sym (ap is_gt (tie short)) ∙ after))) (λ up more after. absurd (false≢true after)))
 
   end_above : length prefix.digits < 2 → count_by (is_up_to (last_byte_of prefix.digits)) ids ≤ bound_of End prefix ids
   end_above short = count_by-le (is_up_to (last_byte_of prefix.digits)) (λ id. is_before_bound End (place prefix.digits id)) ids
-      (λ k d h lower. not_before_if_byte_up_to_last prefix.digits (get_or ids k d) short (can.enough_digits k d h) (leb-true _ _ lower))
+      (λ k d h lower. by_bytes prefix.digits (get_or ids k d) (λ o. is_ge o ≡ true) (can.enough_digits k d h) small (are_digits _ (each k d h))
+      (λ _ _. refl) (λ o tie up most. ap is_ge (tie short)) (λ up more. absurd (omega (arith, leb-true _ _ lower))))
 
   -- so they are the candidates
   pub are_candidates : (part : Run) → part.start ≡ count_by (is_below (first_byte_of prefix.digits)) ids
