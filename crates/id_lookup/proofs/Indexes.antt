@@ -1,6 +1,7 @@
 -- Indexes are sorted, so a prefix of their kind can be looked up in them.
-use Rattle.std.proofs.Common.{◌≡◌, ℕ, zero, suc, not, nat_eq, ◌+◌, ◌-◌, ◌<◌, ◌≤◌, true, false, List, [], length, get_or, Bool, ◌↔◌, IsTrue, ◌⊎◌, inl, inr, sym, ap, ◌∙◌, subst, arith}
+use Rattle.std.proofs.Common.{◌≡◌, ℕ, not, nat_eq, ◌+◌, ◌-◌, ◌<◌, ◌≤◌, true, false, List, [], length, get_or, Bool, ◌↔◌, IsTrue, ◌⊎◌, inl, inr, sym, ap, ◌∙◌, subst, arith}
 use Rattle.std.specs.List.{AllPairs}
+use Rattle.std.specs.List.Sorted.{IsStrictlySortedBy}
 use Rattle.std.specs.Ordering.{nat_cmp, is_lt, ordering_reverse}
 use Rattle.std.specs.Cmp.Lexicographic.{slice_cmp}
 use Rattle.std.specs.declared.cmp.Ordering.TheVariants.{Less}
@@ -9,10 +10,12 @@ use Rattle.std.proofs.lemmas.Bool.Decides.{nat_tests}
 use Rattle.std.proofs.lemmas.Cmp.{nat_list_cmp_total}
 use Rattle.std.proofs.lemmas.List.{get_or_default}
 use Rattle.std.proofs.lemmas.List.Elements.{AllWithin-more}
+use Rattle.std.proofs.lemmas.Map.Keys.{Less-from_sorted, sorted_from_all_adjacent}
 pub use Rattle.gix_hash.proofs.KindFacts.{same_kind}
 use Rattle.gix_hash.specs.Kinds.{hex_len_of, kind_by_number, number_of}
 use Rattle.gix_hash.specs.Prefixes.{KindDigits}
 use Rattle.gix_hash.specs.declared.Kind.{Kind}
+use Rattle.id_lookup.proofs.Ordered.{adjacent_more}
 use Rattle.id_lookup.specs.Runs.{CanProbe, IsRun, IsSortedIds}
 use Rattle.id_lookup.specs.declared.search.Run.{Run}
 use Rattle.id_lookup.specs.declared.index.IndexError.{IndexError}
@@ -24,32 +27,20 @@ pub index-sorted : (kind : Kind) (ids : List (List ℕ)) → IsIndex kind ids �
 index-sorted kind ids index k d low high =
     ap is_lt (nat_list_cmp_total.antisymm (get_or ids (k + 1) d) (get_or ids k d) ∙ ap ordering_reverse (index.rises k d high))
 
--- and each id is above all before it
-pub index-pairs : (kind : Kind) (ids : List (List ℕ)) → IsIndex kind ids → AllPairs (λ a b. slice_cmp nat_cmp a b ≡ Less) ids
-index-pairs kind ids index i zero d low high = absurd (omega arith)
-index-pairs kind ids index i (suc j) d low high = by (cases_lt i j) (λ less. index-pairs kind ids index i j d less (omega arith))
-  where
-    last : slice_cmp nat_cmp (get_or ids j d) (get_or ids (suc j) d) ≡ Less
-    last = let next : suc j ≡ j + 1 = omega arith in rw next (index.rises j d (omega arith))
+-- and strictly so: each id is above all before it
+pub index-strict : (kind : Kind) (ids : List (List ℕ)) → IsIndex kind ids → IsStrictlySortedBy (slice_cmp nat_cmp) ids
+index-strict kind ids index = sorted_from_all_adjacent nat_list_cmp_total ids [] (λ k high. index.rises k [] high)
 
-    by : ((i < j) ⊎ (j ≤ i)) → (i < j → slice_cmp nat_cmp (get_or ids i d) (get_or ids j d) ≡ Less) → slice_cmp nat_cmp (get_or ids i d) (get_or ids (suc j) d) ≡ Less
-    by (inl less) earlier = nat_list_cmp_total.trans (get_or ids i d) (get_or ids j d) (get_or ids (suc j) d) (earlier less) last
-    by (inr more) earlier = let here : i ≡ j = omega arith in rw here last
+pub index-pairs : (kind : Kind) (ids : List (List ℕ)) → IsIndex kind ids → AllPairs (λ a b. slice_cmp nat_cmp a b ≡ Less) ids
+index-pairs kind ids index i j d low high = Less-from_sorted (slice_cmp nat_cmp) ids i j d (index-strict kind ids index) low high
 
 -- one id more, of the kind and above the previous one
 pub index_more : (kind : Kind) (ids : List (List ℕ)) (at : ℕ) → IsIndexUpTo at kind ids → at < length ids → length (get_or ids at []) ≡ hex_len_of kind
     → (0 < at → slice_cmp nat_cmp (get_or ids (at - 1) []) (get_or ids at []) ≡ Less) → IsIndexUpTo (at + 1) kind ids
 index_more kind ids at before inside long above = record {
   kinds = AllWithin-more (λ (id : List ℕ). length id ≡ hex_len_of kind) ids 0 at before.kinds (λ d. ap length (get_or_default ids at d [] inside) ∙ long);
-  rises = λ k d low. by k d (cases_lt (k + 1) at) low;
+  rises = adjacent_more (λ a b. slice_cmp nat_cmp a b ≡ Less) ids at inside before.rises above;
 }
-  where
-    by : (k : ℕ) (d : List ℕ) → ((k + 1 < at) ⊎ (at ≤ k + 1)) → k + 1 < at + 1 → slice_cmp nat_cmp (get_or ids k d) (get_or ids (k + 1) d) ≡ Less
-    by k d (inl less) low = before.rises k d less
-    by k d (inr more) low =
-        let last : k + 1 ≡ at = omega arith in
-        let before_last : k ≡ at - 1 = omega arith in
-        rw (last, before_last, get_or_default ids at d [] inside, get_or_default ids (at - 1) d [] (omega arith)) (above (omega arith))
 
 -- a prefix of the index's kind can be looked up
 pub index-can_probe : (kind : Kind) (ids : List (List ℕ)) (prefix : KindDigits) → IsIndex kind ids → length prefix.digits ≤ hex_len_of kind → CanProbe prefix ids

@@ -1,25 +1,17 @@
 -- The two neighbours of an id in a sorted list decide how many first digits distinguish it from all others.
-use Rattle.std.proofs.Common.{◌≡◌, ◌≢◌, ℕ, zero, suc, ◌+◌, ◌-◌, ◌<◌, ◌≤◌, true, false, max, List, [], length, get_or, take, nat_eq, inl, inr, sym, ap, ◌∙◌, arith}
+use Rattle.std.proofs.Common.{◌≡◌, ◌≢◌, ℕ, zero, suc, ◌+◌, ◌-◌, ◌<◌, ◌≤◌, true, max, List, [], length, get_or, take, nat_eq, inl, inr, sym, ap, ◌∙◌, arith}
 use Rattle.std.specs.List.{starts_with}
-use Rattle.std.specs.Ordering.{nat_cmp, is_lt}
-use Rattle.std.specs.Cmp.Lexicographic.{slice_cmp}
 use Rattle.std.proofs.lemmas.Bool.{cases_lt, false≢true}
-use Rattle.std.proofs.lemmas.Cmp.{nat_list_cmp_total}
 use Rattle.std.proofs.lemmas.List.{length-take, length-take-le, take-take}
-use Rattle.std.proofs.lemmas.List.Sorted.{sorted_far, ranks_by}
 use Rattle.gix_hash.specs.Kinds.{hex_len_of}
 use Rattle.gix_hash.specs.declared.Kind.{Kind}
 use Rattle.id_lookup.specs.Indexes.{IsIndex, IsShortestNameFrom, IsUniqueLen, common_at}
 use Rattle.id_lookup.proofs.CommonDigits.{common-between, common-differ, common-symm, begins-common, begins-apart}
 use Rattle.id_lookup.specs.Runs.{IsSortedIds}
 use Rattle.id_lookup.proofs.Indexes.{index-pairs}
+use Rattle.id_lookup.proofs.Ordered.{sorted-in_order}
 
 module _ (ids : List (List ℕ)) (sorted : IsSortedIds ids) where
-  -- no id is below one before it
-  in_order : (i j : ℕ) → i ≤ j → j < length ids → is_lt (slice_cmp nat_cmp (get_or ids j []) (get_or ids i [])) ≡ false
-  in_order i j =
-      sorted_far (λ a b. is_lt (slice_cmp nat_cmp a b)) (ranks_by nat_list_cmp_total (λ (id : List ℕ). id)) ids sorted i j []
-
   -- as many digits as distinguish an id from both neighbours distinguish it from all others
   pub unique_by : (at before after : ℕ) → at < length ids → (at ≡ 0 → before ≡ 0) → (0 < at → before ≡ common_at ids at (at - 1) + 1)
       → (at + 1 ≡ length ids → after ≡ 0) → (at + 1 < length ids → after ≡ common_at ids at (at + 1) + 1) → IsUniqueLen ids at (max before after)
@@ -27,11 +19,11 @@ module _ (ids : List (List ℕ)) (sorted : IsSortedIds ids) where
     apart = λ k within other. elim (cases_lt k at) [
       | inl low ↦
           let less = common-between (get_or ids k []) (get_or ids (at - 1) []) (get_or ids at [])
-          (in_order k (at - 1) (omega arith) (omega arith)) (in_order (at - 1) at (omega arith) inside) in
+          (sorted-in_order ids sorted k (at - 1) [] (omega arith) (omega arith)) (sorted-in_order ids sorted (at - 1) at [] (omega arith) inside) in
           omega (arith, less.1, previous (omega arith), common-symm (get_or ids k []) (get_or ids at []), common-symm (get_or ids (at - 1) []) (get_or ids at []))
       | inr high ↦
           let less = common-between (get_or ids at []) (get_or ids (at + 1) []) (get_or ids k [])
-          (in_order at (at + 1) (omega arith) (omega (arith, other))) (in_order (at + 1) k (omega (arith, other)) within) in
+          (sorted-in_order ids sorted at (at + 1) [] (omega arith) (omega (arith, other))) (sorted-in_order ids sorted (at + 1) k [] (omega (arith, other)) within) in
           omega (arith, less.0, next (omega (arith, other)))
     ];
     reached = λ some. elim (cases_lt before after) [
@@ -63,6 +55,11 @@ shortest ids fewest at unique len name is_unique is enough name_is =
           (r.0, r.1, r.2, shared n r.0 (omega (arith, len_of)) (omega (arith, r.3, len_of)));
     }
 
+-- it is at most what is above the digits shared with each other id
+unique_within : (ids : List (List ℕ)) (at unique most : ℕ) → IsUniqueLen ids at unique → ((k : ℕ) → k < length ids → k ≢ at → common_at ids at k < most) → unique ≤ most
+unique_within ids at zero most is_unique apart = omega arith
+unique_within ids at (suc n) most is_unique apart = let r = is_unique.reached (omega arith) in omega (arith, r.3, apart r.0 r.1 r.2)
+
 -- and if the id has fewer digits, it has none
 module _ (ids : List (List ℕ)) (fewest at : ℕ) (name : List ℕ) (short : IsShortestNameFrom fewest ids at name) where
   within : length name ≤ length (get_or ids at [])
@@ -76,10 +73,7 @@ module _ (ids : List (List ℕ)) (fewest at : ℕ) (name : List ℕ) (short : Is
   ]
 
   pub has_room : (unique len : ℕ) → IsUniqueLen ids at unique → len ≡ max unique fewest → len ≤ length (get_or ids at [])
-  has_room zero len is_unique is = omega (arith, within, short.long)
-  has_room (suc n) len is_unique is =
-      let r = is_unique.reached (omega arith) in
-      omega (arith, within, short.long, r.3, shared_by r.0 r.1 r.2)
+  has_room unique len is_unique is = omega (arith, within, short.long, unique_within ids at unique (length (get_or ids at [])) is_unique shared_by)
 
 module _ (kind : Kind) (ids : List (List ℕ)) (index : IsIndex kind ids) where
   -- two ids of an index do not have all digits in common
@@ -97,7 +91,5 @@ module _ (kind : Kind) (ids : List (List ℕ)) (index : IsIndex kind ids) where
 
   -- so the digits of the kind are enough for a name
   pub name_fits : (fewest at unique len : ℕ) → at < length ids → fewest ≤ hex_len_of kind → IsUniqueLen ids at unique → len ≡ max unique fewest → len ≤ hex_len_of kind
-  name_fits fewest at zero len inside few is_unique is = omega (arith, few)
-  name_fits fewest at (suc n) len inside few is_unique is =
-      let r = is_unique.reached (omega arith) in
-      omega (arith, few, r.3, apart at r.0 inside r.1 r.2)
+  name_fits fewest at unique len inside few is_unique is =
+      omega (arith, few, unique_within ids at unique (hex_len_of kind) is_unique (λ k other_inside other. apart at k inside other_inside other))

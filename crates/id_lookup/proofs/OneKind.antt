@@ -1,15 +1,13 @@
 -- Lists that are sorted by an order of their ids, in words of the ids' digits.
 use Rattle.std.proofs.Common.{◌≡◌, ◌+◌, ◌<◌, Bool, List, [], ◌∷◌, length, get_or, map, sym, ap, ◌∙◌, arith}
 use Rattle.std.specs.Cmp.Lexicographic.{slice_cmp}
-use Rattle.std.specs.List.{All, AllPairs}
+use Rattle.std.specs.List.{All}
 use Rattle.std.specs.List.Sorted.{IsSortedBy, IsStrictlySortedBy}
 use Rattle.std.specs.Ordering.{nat_cmp, ordering_then}
 use Rattle.std.specs.declared.cmp.Ordering.TheVariants.{Less, Equal}
 use Rattle.std.proofs.lemmas.Cmp.{nat_cmp_total, tied_itself}
 use Rattle.std.proofs.lemmas.List.{get_or-map, length-map}
-use Rattle.std.proofs.lemmas.List.Kept.{AllPairs-cons}
-use Rattle.std.proofs.lemmas.Map.Keys.{sorted_tail}
-use Rattle.std.proofs.lemmas.Map.Views.{All-after_first}
+use Rattle.std.proofs.lemmas.Map.Keys.{Less-from_sorted}
 use Rattle.gix_hash.specs.Kinds.{hex_len_of, number_of}
 use Rattle.gix_hash.specs.Ids.{id_cmp, id_digits, id_kind, id_kind_number}
 use Rattle.gix_hash.specs.declared.Kind.{Kind}
@@ -34,17 +32,10 @@ digits_cmp a b same less =
     ap (λ kind. nat_cmp (number_of kind) (id_kind_number b)) same ∙ tied_itself nat_cmp_total (id_kind_number b) in
     sym (ap (λ o. ordering_then o (slice_cmp nat_cmp (id_digits a) (id_digits b))) tie) ∙ less
 
--- in a strictly sorted list each id is below all after it
-strict-pairs : (ids : List ObjectId) → IsStrictlySortedBy id_cmp ids → AllPairs (λ a b. id_cmp a b ≡ Less) ids
-strict-pairs [] strict = λ i j d low high. absurd (omega arith)
-strict-pairs (x ∷ xs) strict =
-    AllPairs-cons (λ a b. id_cmp a b ≡ Less) x xs (All-after_first id_cmp x xs strict) (strict-pairs xs (sorted_tail id_cmp x xs strict))
-
 module _ (kind : Kind) (ids : List ObjectId) (long : All (λ id. length (id_digits id) ≡ hex_len_of (id_kind id)) ids) where
   -- strictly sorted ids of one kind are an index
   pub index-of_kind : IsStrictlySortedBy id_cmp ids → All (λ id. id_kind id ≡ kind) ids → IsIndex kind (map id_digits ids)
   index-of_kind strict of_kind =
-      let pairs = strict-pairs ids strict in
       record {
         kinds = λ k d low high.
             let inside : k < length ids = omega (arith, high, length-map ids id_digits) in
@@ -54,7 +45,7 @@ module _ (kind : Kind) (ids : List ObjectId) (long : All (λ id. length (id_digi
             let here = get_or-map id_digits ids k (Sha1 []) d (omega arith) in
             let next = get_or-map id_digits ids (k + 1) (Sha1 []) d inside in
             rw (here, next) (digits_cmp (get_or ids k (Sha1 [])) (get_or ids (k + 1) (Sha1 []))
-            (of_kind k (Sha1 []) (omega arith) ∙ sym (of_kind (k + 1) (Sha1 []) inside)) (pairs k (k + 1) (Sha1 []) (omega arith) inside));
+            (of_kind k (Sha1 []) (omega arith) ∙ sym (of_kind (k + 1) (Sha1 []) inside)) (Less-from_sorted id_cmp ids k (k + 1) (Sha1 []) strict (omega arith) inside));
       }
 
   -- the ids of an index are of its kind
