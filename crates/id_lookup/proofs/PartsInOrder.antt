@@ -1,40 +1,23 @@
 -- In a sorted list the ids with a first byte are a run, and the parts one after the other are the list.
-use Rattle.std.proofs.Common.{◌≡◌, ℕ, zero, suc, ◌+◌, ◌-◌, ◌*◌, ◌<◌, ◌≤◌, true, false, ltb, leb, nat_eq, List, [], ◌∷◌, ◌++◌, length, get_or, slice_index, take, drop, refl, sym, ap, ◌∙◌, subst, arith, true≢false, length-drop}
+use Rattle.std.proofs.Common.{◌≡◌, ℕ, zero, suc, ◌+◌, ◌-◌, ◌*◌, ◌<◌, ◌≤◌, true, false, ltb, leb, List, [], ◌∷◌, ◌++◌, length, get_or, slice_index, take, drop, sym, ap, ◌∙◌, subst, take-add, take_all, arith, true≢false, length-drop}
 use Rattle.std.specs.Prelude.{slice_range}
 use Rattle.std.specs.List.{All, count_by, flat_map, range_with_len}
-use Rattle.std.specs.List.Sorted.{IsPartitionedBy}
+use Rattle.std.specs.List.Sorted.{IsNonDecreasingBy}
 use Rattle.std.specs.Ordering.{nat_cmp, is_lt, ordering_then}
 use Rattle.std.specs.Cmp.Lexicographic.{slice_cmp}
+use Rattle.std.proofs.lemmas.Bool.{eq-eqb, le-ltb, leb-true, lt-ltb, ltb-false, ltb-true}
 use Rattle.std.proofs.lemmas.Bool.Decides.{nat_tests}
-use Rattle.std.proofs.lemmas.Cmp.{nat_list_cmp_total}
 use Rattle.std.proofs.lemmas.List.{drop-drop, get_or-take, get_or-drop, length-take-le}
-use Rattle.std.proofs.lemmas.List.Sorted.{sorted_far, ranks_by}
+use Rattle.std.proofs.lemmas.List.Sorted.{IsPartitionedBy-leb, IsPartitionedBy-ltb}
 use Rattle.std.proofs.lemmas.List.Sums.{count_by-le-length}
 use Rattle.gix_hash.specs.Digits.{first_byte_of}
 use Rattle.id_lookup.specs.Runs.{IsSortedIds, has_first_byte, is_below, is_up_to}
 use Rattle.id_lookup.proofs.Counting.{passes_below}
-use Rattle.id_lookup.proofs.FirstByteCounts.{count_by-below_0, count_by-up_to, up_to_step}
+use Rattle.id_lookup.proofs.FirstByteCounts.{count_by-below_0, count_by-le, count_by-up_to}
 use Rattle.id_lookup.proofs.FirstByteOrder.{by_cmp}
+use Rattle.id_lookup.proofs.Ordered.{sorted-in_order}
 use Rattle.id_lookup.specs.Indexes.{part_of}
 use Rattle.id_lookup.proofs.FilterCounted.{count_all, filter_counted}
-
-tests_le : (a b : ℕ) → leb a b ≡ true → a ≤ b
-tests_le a b h = grind (arith, nat_tests)
-
-le_tests : (a b : ℕ) → a ≤ b → leb a b ≡ true
-le_tests a b h = grind (arith, nat_tests)
-
-tests_lt : (a b : ℕ) → ltb a b ≡ true → a < b
-tests_lt a b h = grind (arith, nat_tests)
-
-lt_tests : (a b : ℕ) → a < b → ltb a b ≡ true
-lt_tests a b h = grind (arith, nat_tests)
-
-not_lt : (a b : ℕ) → b ≤ a → ltb a b ≡ false
-not_lt a b h = grind (arith, nat_tests)
-
-between : (a b : ℕ) → leb a b ≡ true → ltb a b ≡ false → nat_eq a b ≡ true
-between a b h g = grind (arith, nat_tests)
 
 -- the first byte does not fall where the id does not, if second digits are below 16
 second-up : (xs ys : List ℕ) → is_lt (slice_cmp nat_cmp ys xs) ≡ false → slice_index xs 0 ≤ slice_index ys 0
@@ -53,26 +36,17 @@ first_byte-up (a ∷ xs) (b ∷ ys) low h =
     (λ l g. omega (arith, low, l)) h
 
 module _ (ids : List (List ℕ)) (sorted : IsSortedIds ids) (small : All (λ id. slice_index id 1 < 16) ids) where
-  in_order : (i j : ℕ) (d : List ℕ) → i ≤ j → j < length ids → first_byte_of (get_or ids i d) ≤ first_byte_of (get_or ids j d)
+  in_order : IsNonDecreasingBy first_byte_of ids
   in_order i j d rise inside =
-      first_byte-up (get_or ids i d) (get_or ids j d) (small i d (omega arith))
-      (sorted_far (λ a b. is_lt (slice_cmp nat_cmp a b)) (ranks_by nat_list_cmp_total (λ (id : List ℕ). id)) ids sorted i j d rise inside)
-
-  up_to-partitioned : (b : ℕ) → IsPartitionedBy (is_up_to b) ids
-  up_to-partitioned b i j d rise inside passes =
-      le_tests (first_byte_of (get_or ids i d)) b (omega (arith, in_order i j d rise inside, tests_le (first_byte_of (get_or ids j d)) b passes))
-
-  below-partitioned : (b : ℕ) → IsPartitionedBy (is_below b) ids
-  below-partitioned b i j d rise inside passes =
-      lt_tests (first_byte_of (get_or ids i d)) b (omega (arith, in_order i j d rise inside, tests_lt (first_byte_of (get_or ids j d)) b passes))
+      first_byte-up (get_or ids i d) (get_or ids j d) (small i d (omega arith)) (sorted-in_order ids sorted i j d rise inside)
 
   -- those with a byte are where they are counted
-  pub counted_have : (b k : ℕ) (d : List ℕ) → count_by (is_below b) ids ≤ k → k < count_by (is_up_to b) ids → has_first_byte b (get_or ids k d) ≡ true
+  counted_have : (b k : ℕ) (d : List ℕ) → count_by (is_below b) ids ≤ k → k < count_by (is_up_to b) ids → has_first_byte b (get_or ids k d) ≡ true
   counted_have b k d low high =
-      let inside : k < length ids = omega (arith, high, count_by-le-length (is_up_to b) ids) in
-      between (first_byte_of (get_or ids k d)) b
-      (passes_below (is_up_to b) ids (up_to-partitioned b) k d inside ∙ lt_tests k (count_by (is_up_to b) ids) high)
-      (passes_below (is_below b) ids (below-partitioned b) k d inside ∙ not_lt k (count_by (is_below b) ids) low)
+      let inside : k < length ids = omega (arith, count_by-le-length (is_up_to b) ids) in
+      let up_to = passes_below (is_up_to b) ids (IsPartitionedBy-leb first_byte_of ids b in_order) k d inside ∙ lt-ltb k (count_by (is_up_to b) ids) high in
+      let below = passes_below (is_below b) ids (IsPartitionedBy-ltb first_byte_of ids b in_order) k d inside ∙ le-ltb k (count_by (is_below b) ids) low in
+      eq-eqb _ b (omega (arith, leb-true _ b up_to, ltb-false _ b below))
 
   pub part-run : (b : ℕ) → slice_range ids (count_by (is_below b) ids) (count_by (is_up_to b) ids) ≡ part_of b ids
   part-run b =
@@ -88,44 +62,26 @@ module _ (ids : List (List ℕ)) (sorted : IsSortedIds ids) (small : All (λ id.
       subst (λ (id : List ℕ). has_first_byte b id ≡ true) (sym is) (counted_have b (start + k) d (omega arith) (omega (arith, few))))
       (omega (arith, more))
 
--- two parts of a list
-take-nil : (n : ℕ) → take {A = List ℕ} n [] ≡ []
-take-nil zero = refl
-take-nil (suc n) = refl
-
-take-two : (i j : ℕ) (xs : List (List ℕ)) → take i xs ++ take j (drop i xs) ≡ take (i + j) xs
-take-two zero j xs = let same : j ≡ 0 + j = omega arith in ap (λ n. take n xs) same
-take-two (suc i) j [] = take-nil j ∙ sym (take-nil (suc i + j))
-take-two (suc i) j (x ∷ xs) =
-    let next : suc (i + j) ≡ suc i + j = omega arith in
-    ap (λ (rest : List (List ℕ)). x ∷ rest) (take-two i j xs) ∙ ap (λ n. take n (x ∷ xs)) next
-
+-- two ranges of a list, one after the other
 slices : (xs : List (List ℕ)) (s m e : ℕ) → s ≤ m → m ≤ e → slice_range xs s m ++ slice_range xs m e ≡ slice_range xs s e
 slices xs s m e low high =
     let middle : s + (m - s) ≡ m = omega arith in
     let sum : m - s + (e - m) ≡ e - s = omega arith in
-    ap (λ (rest : List (List ℕ)). slice_range xs s m ++ rest) (ap (λ n. take (e - m) (drop n xs)) (sym middle) ∙ ap (take (e - m)) (sym (drop-drop (m - s) s xs)))
-    ∙ take-two (m - s) (e - m) (drop s xs) ∙ ap (λ n. take n (drop s xs)) sum
+    ap (λ (rest : List (List ℕ)). slice_range xs s m ++ take (e - m) rest) (ap (λ n. drop n xs) (sym middle) ∙ sym (drop-drop (m - s) s xs))
+    ∙ sym (take-add (m - s) (e - m) (drop s xs)) ∙ ap (λ n. take n (drop s xs)) sum
 
 -- those up to a byte are those below the next
 pub below-next : (b : ℕ) (ids : List (List ℕ)) → count_by (is_below (suc b)) ids ≡ count_by (is_up_to b) ids
-below-next b ids =
-    let before : suc b - 1 ≡ b = omega arith in
-    let step = up_to_step (suc b) ids (omega arith) in
-    omega (arith, count_by-up_to (suc b) ids, step, ap (λ n. count_by (is_up_to n) ids) before)
+below-next b ids = λ i. count_by (λ id. same (first_byte_of id) i) ids
+  where
+    same : (n : ℕ) → ltb n (suc b) ≡ leb n b
+    same n = grind (arith, nat_tests)
 
 below-next' : (a : ℕ) (ids : List (List ℕ)) → count_by (is_below (a + 1)) ids ≡ count_by (is_up_to a) ids
 below-next' a ids = let next : a + 1 ≡ suc a = omega arith in ap (λ n. count_by (is_below n) ids) next ∙ below-next a ids
 
-below-rises : (n a : ℕ) (ids : List (List ℕ)) → count_by (is_below a) ids ≤ count_by (is_below (a + n)) ids
-below-rises zero a ids = let same : a + 0 ≡ a = omega arith in omega (arith, ap (λ n. count_by (is_below n) ids) same)
-below-rises (suc n) a ids =
-    let next : a + suc n ≡ a + 1 + n = omega arith in
-    omega (arith, count_by-up_to a ids, below-next' a ids, below-rises n (a + 1) ids, ap (λ m. count_by (is_below m) ids) next)
-
-take-whole : (xs : List (List ℕ)) → take (length xs) xs ≡ xs
-take-whole [] = refl
-take-whole (x ∷ xs) = ap (λ (rest : List (List ℕ)). x ∷ rest) (take-whole xs)
+below-rises : (a b : ℕ) (ids : List (List ℕ)) → a ≤ b → count_by (is_below a) ids ≤ count_by (is_below b) ids
+below-rises a b ids rise = count_by-le (is_below a) (is_below b) ids (λ k d h low. lt-ltb _ b (omega (arith, ltb-true _ a low)))
 
 module _ (ids : List (List ℕ)) (sorted : IsSortedIds ids) (small : All (λ id. slice_index id 1 < 16) ids) where
   parts-from : (n a : ℕ) → flat_map (λ b. part_of b ids) (range_with_len a n) ≡ slice_range ids (count_by (is_below a) ids) (count_by (is_below (a + n)) ids)
@@ -141,12 +97,12 @@ module _ (ids : List (List ℕ)) (sorted : IsSortedIds ids) (small : All (λ id.
       sym (part-run ids sorted small a) ∙ ap (slice_range ids (count_by (is_below a) ids)) (sym (below-next' a ids)) in
       (λ i. first i ++ rest i)
       ∙ slices ids (count_by (is_below a) ids) (count_by (is_below (a + 1)) ids) (count_by (is_below (a + suc n)) ids)
-      (omega (arith, count_by-up_to a ids, below-next' a ids)) (omega (arith, below-rises n (a + 1) ids, ap (λ m. count_by (is_below m) ids) next))
+      (omega (arith, count_by-up_to a ids, below-next' a ids)) (below-rises (a + 1) (a + suc n) ids (omega arith))
 
   pub parts-row : (n : ℕ) → All (λ id. first_byte_of id < n) ids → flat_map (λ b. part_of b ids) (range_with_len 0 n) ≡ ids
   parts-row n each =
       let zeroth : 0 + n ≡ n = omega arith in
       let size : length ids - 0 ≡ length ids = omega arith in
       let all : count_by (is_below (0 + n)) ids ≡ length ids =
-      ap (λ m. count_by (is_below m) ids) zeroth ∙ count_all (is_below n) ids (λ k d low. lt_tests (first_byte_of (get_or ids k d)) n (each k d low)) in
-      parts-from n 0 ∙ (λ i. slice_range ids (count_by-below_0 ids i) (all i)) ∙ ap (λ m. take m ids) size ∙ take-whole ids
+      ap (λ m. count_by (is_below m) ids) zeroth ∙ count_all (is_below n) ids (λ k d low. lt-ltb _ n (each k d low)) in
+      parts-from n 0 ∙ (λ i. slice_range ids (count_by-below_0 ids i) (all i)) ∙ ap (λ m. take m ids) size ∙ take_all (length ids) ids (omega arith)
