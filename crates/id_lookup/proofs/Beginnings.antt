@@ -1,7 +1,7 @@
 -- What begins with two digits or more has their first byte.
 use Rattle.std.proofs.Common.{◌≡◌, ℕ, ◌≤◌, true, nat_eq, List, [], ◌∷◌, ◌++◌, length, refl, ap, ◌∙◌, arith}
 use Rattle.std.specs.List.{starts_with}
-use Rattle.std.proofs.lemmas.Bool.Decides.{nat_tests}
+pub use Rattle.std.proofs.lemmas.Bool.{eq-eqb as same_test, eqb-true as test_same}
 use Rattle.gix_hash.specs.Digits.{first_byte_of}
 use Rattle.id_lookup.specs.Runs.{has_first_byte, matches}
 use Rattle.id_lookup.proofs.Spelled.{starts_with-BeginsWith}
@@ -17,12 +17,6 @@ pub first_byte_of-begins : (id digits : List ℕ) → 2 ≤ length digits → st
 first_byte_of-begins id digits long begins =
     let is = (starts_with-BeginsWith id digits).0 begins in
     ap first_byte_of is.1 ∙ first_byte_of-append digits is.0 long
-
-pub same_test : (a b : ℕ) → a ≡ b → nat_eq a b ≡ true
-same_test a b h = grind (arith, nat_tests)
-
-pub test_same : (a b : ℕ) → nat_eq a b ≡ true → a ≡ b
-test_same a b h = grind (arith, nat_tests)
 
 -- so the prefix is found in one part
 pub matches-part : (digits : List ℕ) (ids : List (List ℕ)) → 2 ≤ length digits → matches digits (part_of (first_byte_of digits) ids) ≡ matches digits ids

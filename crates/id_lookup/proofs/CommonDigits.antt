@@ -5,6 +5,7 @@ use Rattle.std.specs.declared.cmp.Ordering.{Ordering}
 use Rattle.std.specs.Ordering.{nat_cmp, is_lt, ordering_then}
 use Rattle.std.specs.Cmp.Lexicographic.{slice_cmp}
 use Rattle.std.proofs.lemmas.Bool.Decides.{nat_tests}
+use Rattle.std.proofs.lemmas.Cmp.{nat_eq_equiv}
 use Rattle.id_lookup.proofs.FirstByteOrder.{by_cmp}
 
 abbrev pub common : List ℕ → List ℕ → ℕ
@@ -79,8 +80,4 @@ pub common-symm : (x y : List ℕ) → common x y ≡ common y x
 common-symm [] [] = refl
 common-symm [] (b ∷ ys) = refl
 common-symm (a ∷ xs) [] = refl
-common-symm (a ∷ xs) (b ∷ ys) =
-    by_cmp a b (λ _. cond (nat_eq a b) (1 + common xs ys) 0 ≡ cond (nat_eq b a) (1 + common ys xs) 0)
-    (λ l. rw (cond_no' a b (1 + common xs ys) l) (rw (cond_no b a (1 + common ys xs) l) refl))
-    (λ l. rw (cond_yes a b (1 + common xs ys) l) (rw (cond_yes b a (1 + common ys xs) (sym l)) (omega (arith, common-symm xs ys))))
-    (λ l. rw (cond_no a b (1 + common xs ys) l) (rw (cond_no' b a (1 + common ys xs) l) refl))
+common-symm (a ∷ xs) (b ∷ ys) = λ i. cond (nat_eq_equiv.symm a b i) (1 + common-symm xs ys i) 0

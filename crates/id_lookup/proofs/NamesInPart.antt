@@ -1,12 +1,12 @@
 -- A member's abbreviation is decided among the members that begin as the name has to.
-use Rattle.std.proofs.Common.{◌≡◌, ◌≢◌, ℕ, ◌<◌, ◌≤◌, Bool, true, false, nat_eq, List, [], ◌++◌, length, filter, get_or, take, drop, refl, sym, ap, ◌∙◌, subst, append_assoc, take-append-drop}
+use Rattle.std.proofs.Common.{◌≡◌, ◌≢◌, ℕ, ◌<◌, ◌≤◌, Bool, true, false, nat_eq, List, [], length, filter, get_or, take, inl, inr, sym, ap, ◌∙◌, subst}
+use Rattle.std.specs.Cmp.Lexicographic.{bytes_decides}
 use Rattle.std.specs.List.{starts_with}
-use Rattle.std.proofs.lemmas.Bool.{false≢true}
-use Rattle.std.proofs.lemmas.List.{get_or_default, take-take}
+use Rattle.std.proofs.lemmas.Bool.{cases_Bool, false≢true, false_from_ne_true}
+use Rattle.std.proofs.lemmas.List.{get_or_default, length-take-le, take-take}
 use Rattle.std.proofs.lemmas.List.Elements.{Contains-get_or}
 use Rattle.gix_hash.specs.declared.Kind.{Kind}
 use Rattle.id_lookup.specs.Indexes.{IsIndex, IsShortestNameFrom}
-use Rattle.id_lookup.proofs.Spelled.{starts_with-BeginsWith}
 use Rattle.id_lookup.proofs.Filters.{contains_kept, contains_had}
 use Rattle.id_lookup.proofs.SameMembers.{index-filter, one_position}
 
@@ -14,15 +14,10 @@ use Rattle.id_lookup.proofs.SameMembers.{index-filter, one_position}
 begins_fewer : (id member name : List ℕ) (n : ℕ) → name ≡ take (length name) member → n ≤ length name → starts_with nat_eq id name ≡ true
     → starts_with nat_eq id (take n member) ≡ true
 begins_fewer id member name n first few begins =
-    let is = (starts_with-BeginsWith id name).0 begins in
-    let rest = drop n name ++ is.0 in
     let front : take n name ≡ take n member = ap (take n) first ∙ take-take n (length name) member few in
-    (starts_with-BeginsWith id (take n member)).1 (
-      rest,
-      is.1
-          ∙ ap (λ (whole : List ℕ). whole ++ is.0) (sym (take-append-drop n name)) ∙ append_assoc (take n name) (drop n name) is.0
-          ∙ ap (λ (whole : List ℕ). whole ++ rest) front,
-    )
+    let same : take n name ≡ take n id = ap (take n) ((bytes_decides name (take (length name) id)).0 begins) ∙ take-take n (length name) id few in
+    let long : length (take n member) ≡ n = ap length (sym front) ∙ length-take-le n name few in
+    (bytes_decides (take n member) (take (length (take n member)) id)).1 (sym front ∙ same ∙ ap (λ k. take k id) (sym long))
 
 module _ (kind : Kind) (p : List ℕ → Bool) (fewest : ℕ) (whole : List (List ℕ)) (at position : ℕ) (name : List ℕ) (index : IsIndex kind whole)
     (decides : (id : List ℕ) → starts_with nat_eq id (take fewest (get_or whole position [])) ≡ true → p id ≡ true)
@@ -33,10 +28,8 @@ module _ (kind : Kind) (p : List ℕ → Bool) (fewest : ℕ) (whole : List (Lis
 
   -- what fails the test begins otherwise
   other_part : (id : List ℕ) → p id ≡ false → starts_with nat_eq id name ≡ false
-  other_part id fails = elim (starts_with nat_eq id name) as (λ t. starts_with nat_eq id name ≡ t → t ≡ false) [
-    | true ↦ λ begins. absurd (false≢true (sym fails ∙ decides id (begins_fewer id (get_or whole position []) name fewest first short.long begins)))
-    | false ↦ λ begins. refl
-  ] refl
+  other_part id fails = false_from_ne_true _ (λ begins.
+      false≢true (sym fails ∙ decides id (begins_fewer id (get_or whole position []) name fewest first short.long begins)))
 
   -- and so does another member that passes
   same_part : (k : ℕ) → k < length whole → k ≢ position → p (get_or whole k []) ≡ true → starts_with nat_eq (get_or whole k []) name ≡ false
@@ -51,10 +44,10 @@ module _ (kind : Kind) (p : List ℕ → Bool) (fewest : ℕ) (whole : List (Lis
   name-whole = record {
     first = first;
     long = short.long;
-    alone = λ k low other. elim (p (get_or whole k [])) as (λ t. p (get_or whole k []) ≡ t → starts_with nat_eq (get_or whole k []) name ≡ false) [
-      | true ↦ λ here. same_part k low other here
-      | false ↦ λ here. other_part (get_or whole k []) here
-    ] refl;
+    alone = λ k low other. elim (cases_Bool (p (get_or whole k []))) [
+      | inl here ↦ same_part k low other here
+      | inr here ↦ other_part (get_or whole k []) here
+    ];
     least = λ n few low.
         let r = short.least n few low in
         let id = get_or (filter p whole) r.0 [] in

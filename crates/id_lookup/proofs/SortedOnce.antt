@@ -1,12 +1,12 @@
 -- Ids of one kind that were sorted, and of which each was kept once, are the index of them.
-use Rattle.std.proofs.Common.{◌≡◌, ◌↔◌, zero, suc, List, [], ◌∷◌, length, get_or, map, refl, sym, ap, ◌∙◌, subst, arith, rules}
+use Rattle.std.proofs.Common.{◌≡◌, ◌↔◌, List, length, get_or, map, refl, sym, ap, ◌∙◌, subst, arith, rules}
 use Rattle.std.specs.Cmp.{IsTotalOrder, IsEquivalence}
 use Rattle.std.specs.Cmp.Rules.{comparing}
 use Rattle.std.specs.List.{All, Contains, dedup}
 use Rattle.std.specs.List.Sorted.{IsSorted, IsStrictlySortedBy, IsPermutation}
 use Rattle.std.specs.Ordering.{eq_by_cmp}
 use Rattle.std.proofs.lemmas.List.{get_or-map, length-map}
-use Rattle.std.proofs.lemmas.List.Elements.{All-contains, Contains-get_or}
+use Rattle.std.proofs.lemmas.List.Elements.{All-contains, All-map, Contains-get_or}
 use Rattle.std.proofs.lemmas.List.Kept.{Contains-dedup, Contains-from_dedup, IsStrictlySortedBy-dedup}
 use Rattle.std.proofs.lemmas.List.Sorted.{Contains-permutation, IsPermutation-sym}
 use Rattle.gix_hash.proofs.Equalities.{id_eq-same}
@@ -32,24 +32,18 @@ contains_map : {X Y : Type 0} (f : X → Y) (xs : List X) (x : X) → Contains x
 contains_map f xs x c = (c.0, omega (arith, c.1, length-map xs f), get_or-map f xs c.0 x (f x) c.1 ∙ ap f c.2)
 
 contains_from_map : {X Y : Type 0} (f : X → Y) (xs : List X) (y : Y) → Contains (map f xs) y → (x : X) × Contains xs x × (f x ≡ y)
-contains_from_map f [] y c = let none = c.1 in absurd (omega arith)
-contains_from_map f (x ∷ xs) y (zero, within, is) = (x, (zero, omega arith, refl), is)
-contains_from_map f (x ∷ xs) y (suc k, within, is) =
-    let r = contains_from_map f xs y (k, omega arith, is) in
-    (r.0, (suc r.1.0, omega (arith, r.1.1), r.1.2), r.2)
+contains_from_map {X} {Y} f xs y =
+    let IsOfMember : Y → Type 0 = λ y. (x : X) × Contains xs x × (f x ≡ y) in
+    All-contains IsOfMember (map f xs) y (All-map IsOfMember f xs (λ k d inside. (get_or xs k d, Contains-get_or xs k d inside, refl)))
 
 module _ (ids sorted kept : List ObjectId) (moved : IsPermutation ids sorted) (is_sorted : IsSorted id_cmp sorted) (is : kept ≡ dedup id_eq sorted) where
   -- nothing comes and nothing goes
-  kept_from : (id : ObjectId) → Contains kept id → Contains ids id
-  kept_from id c = Contains-permutation sorted ids id (IsPermutation-sym ids sorted moved) (Contains-from_dedup id_eq sorted id (subst (λ (xs : List ObjectId). Contains xs id) is c))
-
-  from_kept : (id : ObjectId) → Contains ids id → Contains kept id
-  from_kept id c =
-      subst (λ (xs : List ObjectId). Contains xs id) (sym is)
-      (Contains-dedup id_eq_equiv (λ x y. (id_eq-same x y).0) sorted id (Contains-permutation ids sorted id moved c))
-
   pub kept_members : (id : ObjectId) → Contains kept id ↔ Contains ids id
-  kept_members id = (kept_from id, from_kept id)
+  kept_members id = (
+    λ c. Contains-permutation sorted ids id (IsPermutation-sym ids sorted moved) (Contains-from_dedup id_eq sorted id (subst (λ (xs : List ObjectId). Contains xs id) is c)),
+    λ c. subst (λ (xs : List ObjectId). Contains xs id) (sym is)
+        (Contains-dedup id_eq_equiv (λ x y. (id_eq-same x y).0) sorted id (Contains-permutation ids sorted id moved c)),
+  )
 
   pub kept_strict : IsStrictlySortedBy id_cmp kept
   kept_strict = subst (IsStrictlySortedBy id_cmp) (sym is) (IsStrictlySortedBy-dedup id_cmp_total id_eq_ties sorted is_sorted)

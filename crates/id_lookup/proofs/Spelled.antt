@@ -1,14 +1,13 @@
 -- Lowercase hex spellings are equal if and only if the digits are, since distinct digits have distinct letters.
-use Rattle.std.proofs.Common.{◌≡◌, ℕ, ◌↔◌, true, ◌&&◌, List, [], ◌∷◌, ◌++◌, length, take, drop, nat_eq, refl, sym, ap, ◌∙◌, arith}
+use Rattle.std.proofs.Common.{◌≡◌, ℕ, ◌↔◌, true, ◌&&◌, List, [], ◌∷◌, length, take, drop, nat_eq, refl, ap, ◌∙◌, arith}
 use Rattle.std.specs.Ordering.{is_eq}
 use Rattle.std.specs.declared.cmp.Ordering.{Ordering}
 use Rattle.std.specs.declared.cmp.Ordering.TheVariants.{Less, Equal, Greater}
-use Rattle.std.specs.Cmp.Lexicographic.{pointwise, texts_ties, pointwise_decides}
+use Rattle.std.specs.Cmp.Lexicographic.{pointwise, texts_ties}
 use Rattle.std.specs.List.{starts_with}
 use Rattle.std.proofs.lemmas.Bool.Decides.{Decides-eqb, nat_tests}
-use Rattle.std.specs.Bool.{Decides}
-use Rattle.std.proofs.lemmas.List.{take-map, length-map, take-append-drop}
-use Rattle.std.proofs.Math.Seq.{take-append_seam}
+use Rattle.std.proofs.lemmas.List.{take-map, length-map}
+use Rattle.std.proofs.lemmas.Slice.Eq.{starts_is}
 use Rattle.gix_hash.specs.Digits.{hex_letter, place, spelling}
 use Rattle.gix_hash.specs.Prefixes.{KindDigits, BeginsWith}
 use Rattle.id_lookup.specs.Runs.{begins_with}
@@ -44,15 +43,7 @@ is_eq-Equal Less = (λ h. cc, λ h. cc)
 is_eq-Equal Equal = (λ h. refl, λ h. refl)
 is_eq-Equal Greater = (λ h. cc, λ h. cc)
 
--- the test of equal lists decides whether they are equal
-same_list : (xs ys : List ℕ) → Decides (pointwise nat_eq xs ys) (xs ≡ ys)
-same_list = pointwise_decides Decides-eqb
-
 -- the test of a beginning is true if and only if something follows the beginning
 pub starts_with-BeginsWith : (whole front : List ℕ) → (starts_with nat_eq whole front ≡ true) ↔ BeginsWith whole front
 starts_with-BeginsWith whole front =
-    let first = take (length front) whole in
-    let more = drop (length front) whole in (
-      λ h. (more, sym (take-append-drop (length front) whole) ∙ ap (λ (xs : List ℕ). xs ++ more) (sym ((same_list front first).0 h))),
-      λ h. (same_list front first).1 (sym (ap (take (length front)) h.1 ∙ take-append_seam front h.0)),
-    )
+    let is = starts_is Decides-eqb whole front (starts_with nat_eq whole front) refl in (λ h. (drop (length front) whole, is.0 h), λ h. is.1 h.0 h.1)

@@ -1,5 +1,5 @@
-use Rattle.std.proofs.Common.{◌≡◌, ◌<◌, ◌≤◌, Bool, true, false, [], length, map, max, refl, arith}
-use Rattle.std.specs.Prelude.{is_some}
+use Rattle.std.proofs.Common.{◌<◌, ◌≤◌, [], length, map, max, refl, arith}
+use Rattle.std.proofs.lemmas.Bool.{true_from_ne_false}
 use Rattle.gix_hash.specs.Kinds.{hex_len_of}
 use Rattle.id_lookup.specs.Runs.{IsSortedIds}
 use Rattle.id_lookup.proofs.Indexes.{index-sorted}
@@ -8,18 +8,14 @@ use Rattle.id_lookup.proofs.UniqueRun.{name_run}
 use Rattle.id_lookup.proofs.index.IdIndex.abbreviate_from.Goals as goal
 
 pub unwrap-requires : goal.unwrap-requires
-unwrap-requires g c = by (is_some c.shortest_name.result) refl
-  where
-    by : (found : Bool) → is_some c.shortest_name.result ≡ found → is_some c.shortest_name.result ≡ true
-    by true e = e
-    by false e =
-        let index = c.self.invariant.0 in
-        let ids = map g.I.Id.digits c.self.inside.ids.now in
-        let inside : c.args.at < length ids = rw (← c.self.view_is) at c.requires.in_range in
-        let few : c.args.least ≤ hex_len_of c.self.inside.kind = rw (← c.self.view_is) at c.requires.fits in
-        let lacks = c.shortest_name.ensures.lacks e (index-sorted _ _ index) in
-        let fits = name_fits c.self.inside.kind ids index c.args.least c.args.at lacks.0 (max lacks.0 c.args.least) inside few lacks.1 refl in
-        absurd (omega (arith, lacks.2, fits, index.kinds c.args.at [] (omega arith) inside))
+unwrap-requires g c = true_from_ne_false _ (λ none.
+    let index = c.self.invariant.0 in
+    let ids = map g.I.Id.digits c.self.inside.ids.now in
+    let inside : c.args.at < length ids = rw (← c.self.view_is) at c.requires.in_range in
+    let few : c.args.least ≤ hex_len_of c.self.inside.kind = rw (← c.self.view_is) at c.requires.fits in
+    let lacks = c.shortest_name.ensures.lacks none (index-sorted _ _ index) in
+    let fits = name_fits c.self.inside.kind ids index c.args.least c.args.at lacks.0 (max lacks.0 c.args.least) inside few lacks.1 refl in
+    omega (arith, lacks.2, fits, index.kinds c.args.at [] (omega arith) inside))
 
 pub returns-clause-name : goal.returns-clause-name
 returns-clause-name g c =
