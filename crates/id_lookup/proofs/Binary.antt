@@ -41,19 +41,12 @@ pub bits-mono : (m n : ℕ) → m ≤ n → bits m ≤ bits n
 bits-mono m n h = let above = bits-above n in bits-least m (bits n) (omega arith)
 
 -- at most half has fewer
-below_half : (n m b : ℕ) → 0 < n → m + m ≤ n → n < 2 ^ b → suc (bits m) ≤ b
-below_half n m zero h g above = absurd (omega arith)
-below_half n m (suc b) h g above =
-    let twice = pow-suc 2 b in
-    let less = bits-least m b (omega arith) in
-    omega arith
-
 pub bits-half : (n m : ℕ) → 0 < n → m + m ≤ n → suc (bits m) ≤ bits n
-bits-half n m h g = below_half n m (bits n) h g (bits-above n)
-
--- a number of 64 bits has at most 64
-pub bits-usize : (n : ℕ) → n < 2 ^ 64 → bits n ≤ 64
-bits-usize n h = bits-least n 64 h
+bits-half n m some half = by (bits n) (bits-above n)
+  where
+    by : (b : ℕ) → n < 2 ^ b → suc (bits m) ≤ b
+    by zero above = absurd (omega arith)
+    by (suc b) above = let twice = pow-suc 2 b in let less = bits-least m b (omega arith) in omega arith
 
 -- m digits of which the highest is set are the number of binary digits
 bits-length : (n m : ℕ) → n < 2 ^ m → 2 ^ m ≤ 2 * n + 1 → m ≡ bits n

@@ -1,6 +1,6 @@
 use Rattle.std.proofs.Common.{◌-◌, ap, arith}
 use Rattle.id_lookup.specs.Runs.{Probing}
-use Rattle.id_lookup.proofs.Binary.{bits-mono, bits-usize}
+use Rattle.id_lookup.proofs.Binary.{bits-least, bits-mono}
 use Rattle.id_lookup.proofs.Placed.{bound_of-end, run_is}
 use Rattle.id_lookup.proofs.search.find_run.Goals as goal
 
@@ -10,7 +10,7 @@ find_bound-start-requires-clause-below g c =
 
 pub find_bound-start-requires-clause-room : goal.find_bound-start-requires-clause-room
 find_bound-start-requires-clause-room g c =
-    let few = bits-usize (c.args.part.end - c.args.part.start) (omega arith) in
+    let few = bits-least (c.args.part.end - c.args.part.start) 64 (omega arith) in
     omega arith
 
 pub find_bound-end-requires-clause-above : goal.find_bound-end-requires-clause-above
@@ -22,8 +22,8 @@ find_bound-end-requires-clause-above g c =
 
 pub find_bound-end-requires-clause-room : goal.find_bound-end-requires-clause-room
 find_bound-end-requires-clause-room g c =
-    let few = bits-usize (c.args.part.end - c.args.part.start) (omega arith) in
-    let fewer = bits-usize (c.args.part.end - c.find_bound-start.result) (omega arith) in
+    let few = bits-least (c.args.part.end - c.args.part.start) 64 (omega arith) in
+    let fewer = bits-least (c.args.part.end - c.find_bound-start.result) 64 (omega arith) in
     omega (arith, c.find_bound-start.ensures.asked)
 
 pub returns-clause-run : goal.returns-clause-run
