@@ -8,7 +8,7 @@ use Rattle.hex.specs.Hex.{hex_digit_value, digit_or_error, decode_pairs, decode_
 use Rattle.hex.proofs.Pairs.{decode_sized-pairs}
 use Rattle.hex.specs.declared.error.FromHexError.{FromHexError}
 use Rattle.id_digits.specs.Digits.{IsLetterOf, digit_in, digits_of, digits_read, hex_letter, put_digit}
-use Rattle.id_digits.proofs.ReadingFacts.{hex_alphabet, digit_in-is, digit_in-letter}
+use Rattle.id_digits.proofs.ReadingFacts.{hex_alphabet, digit_in-is, digit_in-letter, same_found}
 
 -- the digit of a letter, as `hex` finds it, has that letter
 hex_value-letter : (c d : ℕ) → hex_digit_value c ≡ Some d → IsLetterOf hex_letter c d
@@ -21,20 +21,11 @@ hex_value-letter c d h = record {
 hex_value-is : (c d : ℕ) → d < 16 → hex_letter d ≡ to_ascii_lowercase c → hex_digit_value c ≡ Some d
 hex_value-is c d lt h = grind (arith, nat_tests)
 
--- what each of the two finds, given that what `hex` finds is `found`
-digit_in-found : (c : ℕ) (found : Option ℕ) → hex_digit_value c ≡ found → digit_in hex_letter c ≡ found
-digit_in-found c (Some d) h = digit_in-is hex_letter hex_alphabet c d (hex_value-letter c d h)
-digit_in-found c None h = unfound (digit_in hex_letter c) refl
-  where
-    unfound : (other : Option ℕ) → digit_in hex_letter c ≡ other → other ≡ None
-    unfound None e = refl
-    unfound (Some d) e =
-        let is = digit_in-letter hex_letter c d e in
-        let there = hex_value-is c d is.digit (sym is.same_letter) in cc
-
--- `hex` finds the digit of a letter
+-- so `hex` finds the digit of a letter
 digit_in-hex : (c : ℕ) → digit_in hex_letter c ≡ hex_digit_value c
-digit_in-hex c = digit_in-found c (hex_digit_value c) refl
+digit_in-hex c = same_found _ _
+    (λ d e. let is = digit_in-letter hex_letter c d e in hex_value-is c d is.digit (sym is.same_letter))
+    (λ d e. digit_in-is hex_letter hex_alphabet c d (hex_value-letter c d e))
 
 -- the digits of what was decoded
 abbrev pub decoded_digits : Result (List ℕ) FromHexError → Option (List ℕ)

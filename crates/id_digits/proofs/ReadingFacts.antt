@@ -5,6 +5,15 @@ use Rattle.std.proofs.lemmas.Bool.Decides.{nat_tests}
 use Rattle.std.proofs.lemmas.List.Elements.{length_all_zip}
 use Rattle.id_digits.specs.Digits.{IsLetterOf, IsUnreadable, ReadsAs, digit_below, digit_in, digits_read, hex_letter, put_digit}
 
+-- what is found nowhere is None, and what is found where something else is, is that
+pub none_found : {A : Type 0} (found : Option A) → ((x : A) → found ≡ Some x → ⊥) → found ≡ None
+none_found None h = refl
+none_found (Some x) h = absurd (h x refl)
+
+pub same_found : (one other : Option ℕ) → ((d : ℕ) → one ≡ Some d → other ≡ Some d) → ((d : ℕ) → other ≡ Some d → one ≡ Some d) → one ≡ other
+same_found None other f g = sym (none_found other (λ d e. let some = g d e in cc))
+same_found (Some d) other f g = sym (f d refl)
+
 -- an alphabet: sixteen distinct letters
 pub record IsAlphabet (letter : ℕ → ℕ) : Type 0 where
   pub distinct : (d e : ℕ) → d < 16 → e < 16 → letter d ≡ letter e → d ≡ e
@@ -89,8 +98,4 @@ IsUnreadable-digits_read letter a text h = λ ds reads. let some = digits_read-R
 
 -- and if none read, it gives none
 pub digits_read-IsUnreadable : (letter : ℕ → ℕ) (text : List ℕ) → IsUnreadable letter text → digits_read letter text ≡ None
-digits_read-IsUnreadable letter text h = by_answer (digits_read letter text) refl
-  where
-    by_answer : (answer : Option (List ℕ)) → digits_read letter text ≡ answer → answer ≡ None
-    by_answer None e = refl
-    by_answer (Some ds) e = absurd (h ds (ReadsAs-digits_read letter text ds e))
+digits_read-IsUnreadable letter text h = none_found _ (λ ds e. h ds (ReadsAs-digits_read letter text ds e))

@@ -1,5 +1,5 @@
 -- The reverse alphabet through hex letters: reading and spelling.
-use Rattle.std.proofs.Common.{◌≡◌, ℕ, ◌+◌, ◌<◌, List, [], ◌∷◌, ◌++◌, length, map, take, drop, get_or, slice_set, refl, sym, arith, Option, Some, None}
+use Rattle.std.proofs.Common.{◌≡◌, ℕ, ◌+◌, ◌<◌, List, [], ◌∷◌, ◌++◌, length, map, take, drop, get_or, slice_set, refl, sym, arith}
 use Rattle.std.specs.Prelude.{All}
 use Rattle.std.specs.Char.{to_ascii_lowercase}
 use Rattle.std.proofs.lemmas.Bool.Decides.{nat_tests}
@@ -8,7 +8,7 @@ use Rattle.std.proofs.lemmas.List.Edits.{map_over_more}
 use Rattle.std.proofs.lemmas.List.Elements.{All-head, All-tail}
 use Rattle.id_digits.specs.Letters.{hex_of_reverse, reverse_of_hex}
 use Rattle.id_digits.specs.Digits.{digit_in, digits_read, hex_letter, reverse_letter, spelling}
-use Rattle.id_digits.proofs.ReadingFacts.{IsAlphabet, hex_alphabet, digit_in-is, digit_in-letter}
+use Rattle.id_digits.proofs.ReadingFacts.{IsAlphabet, hex_alphabet, digit_in-is, digit_in-letter, same_found}
 
 -- the reverse letters are distinct
 pub reverse_alphabet : IsAlphabet reverse_letter
@@ -28,27 +28,21 @@ to_hex c d lt h = grind (arith, nat_tests)
 from_hex : (c d : ℕ) → d < 16 → hex_letter d ≡ to_ascii_lowercase (hex_of_reverse c) → reverse_letter d ≡ to_ascii_lowercase c
 from_hex c d lt h = grind (arith, nat_tests)
 
--- what is found for a byte, given that what is found of its reverse letter is `found`
-found_in_hex : (c : ℕ) (found : Option ℕ) → digit_in reverse_letter c ≡ found → digit_in hex_letter (hex_of_reverse c) ≡ found
-found_in_hex c (Some d) h =
-    let is = digit_in-letter reverse_letter c d h in
-    digit_in-is hex_letter hex_alphabet (hex_of_reverse c) d
-    (record { digit = is.digit; same_letter = sym (to_hex c d is.digit (sym is.same_letter)) })
-found_in_hex c None h = unfound (digit_in hex_letter (hex_of_reverse c)) refl
-  where
-    unfound : (other : Option ℕ) → digit_in hex_letter (hex_of_reverse c) ≡ other → other ≡ None
-    unfound None e = refl
-    unfound (Some d) e =
-        let is = digit_in-letter hex_letter (hex_of_reverse c) d e in
-        let back = from_hex c d is.digit (sym is.same_letter) in
-        let there = digit_in-is reverse_letter reverse_alphabet c d (record { digit = is.digit; same_letter = sym back }) in cc
+-- so the same digit is found for both
+found_in_hex : (c : ℕ) → digit_in hex_letter (hex_of_reverse c) ≡ digit_in reverse_letter c
+found_in_hex c = same_found _ _
+    (λ d e.
+    let is = digit_in-letter hex_letter (hex_of_reverse c) d e in
+    digit_in-is reverse_letter reverse_alphabet c d (record { digit = is.digit; same_letter = sym (from_hex c d is.digit (sym is.same_letter)) }))
+    (λ d e.
+    let is = digit_in-letter reverse_letter c d e in
+    digit_in-is hex_letter hex_alphabet (hex_of_reverse c) d (record { digit = is.digit; same_letter = sym (to_hex c d is.digit (sym is.same_letter)) }))
 
 -- the hex letters for reverse letters read as the same digits
 pub digits_of_reverse : (text : List ℕ) → digits_read hex_letter (map hex_of_reverse text) ≡ digits_read reverse_letter text
 unfolding digits_read
 digits_of_reverse [] = refl
-digits_of_reverse (c ∷ text) =
-    rw (found_in_hex c (digit_in reverse_letter c) refl, digits_of_reverse text) refl
+digits_of_reverse (c ∷ text) = rw (found_in_hex c, digits_of_reverse text) refl
 
 -- the reverse letter for a digit's hex letter is the digit's
 letter_for : (d : ℕ) → d < 16 → reverse_of_hex (hex_letter d) ≡ reverse_letter d
