@@ -1,11 +1,24 @@
 -- Comparing bytes is comparing digits: the laws by which equality and order speak only of digits.
-use Rattle.std.proofs.Common.{◌∙◌, sym, ap, ◌≡◌, ℕ, ◌/◌, ◌%◌, List, [], ◌∷◌, refl, arith}
+use Rattle.std.proofs.Common.{◌∙◌, sym, ap, ◌≡◌, ℕ, ◌/◌, ◌%◌, List, [], ◌∷◌, zero, suc, take, Less, Equal, Greater, refl, arith}
 use Rattle.std.proofs.lemmas.Bool.Decides.{nat_tests}
 use Rattle.std.specs.Prelude.{IsTrue, nat_eq}
 use Rattle.std.specs.declared.cmp.Ordering.{Ordering}
 use Rattle.std.specs.Ordering.{is_eq, nat_cmp, ordering_then}
 use Rattle.std.specs.Cmp.Lexicographic.{slice_cmp, pointwise, bytes_decides, texts_ties}
 use Rattle.id_digits.specs.Digits.{digits_of}
+
+-- a list is below another if its first elements are
+then_less : (o p q : Ordering) → (p ≡ Less → q ≡ Less) → ordering_then o p ≡ Less → ordering_then o q ≡ Less
+then_less Less p q f h = h
+then_less Equal p q f h = f h
+then_less Greater p q f h = cc h
+
+pub take_less : (n : ℕ) (xs ys : List ℕ) → slice_cmp nat_cmp (take n xs) (take n ys) ≡ Less → slice_cmp nat_cmp xs ys ≡ Less
+take_less zero xs ys h = cc h
+take_less (suc n) [] [] h = cc h
+take_less (suc n) [] (y ∷ ys) h = h
+take_less (suc n) (x ∷ xs) [] h = cc h
+take_less (suc n) (x ∷ xs) (y ∷ ys) h = then_less (nat_cmp x y) _ _ (take_less n xs ys) h
 
 -- two numbers compare as their halves do
 nat_cmp-halves : (x y : ℕ) (o : Ordering)

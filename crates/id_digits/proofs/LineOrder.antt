@@ -1,22 +1,23 @@
 -- Lines in order: by the numbers of their first eight digits, and if these are equal by the bytes that they read as.
-use Rattle.std.proofs.Common.{min, ◌≡◌, ℕ, zero, suc, ◌+◌, ◌-◌, ◌*◌, ◌/◌, ◌^◌, ◌<◌, ◌≤◌, Bool, true, false, not, ◌&&◌, List, [], ◌∷◌, length, take, drop, get_or, refl, sym, ap, ap₂, ◌∙◌, arith, drop-cons, Less, Equal, Greater, Option, Some, None, if◌then◌else◌}
+use Rattle.std.proofs.Common.{min, ◌≡◌, ℕ, zero, suc, ◌+◌, ◌-◌, ◌*◌, ◌/◌, ◌<◌, ◌≤◌, Bool, true, false, ◌&&◌, List, [], ◌∷◌, length, take, drop, get_or, refl, sym, ap, ap₂, ◌∙◌, arith, drop-cons, Less, Option, Some, None, if◌then◌else◌}
 use Rattle.std.proofs.lemmas.Bool.Decides.{nat_tests}
-use Rattle.std.proofs.lemmas.List.{length-take-le, drop_all}
-use Rattle.std.proofs.lemmas.List.Elements.{All-nil, All-cons, All-tail}
+use Rattle.std.proofs.lemmas.Cmp.{nat_list_cmp_total, tied_itself}
+use Rattle.std.proofs.lemmas.List.{length-take, length-take-le, drop_all}
+use Rattle.std.proofs.lemmas.List.Elements.{All-nil, All-cons, All-take}
 use Rattle.std.specs.Prelude.{All, IsTrue, nat_eq}
-use Rattle.std.specs.Ordering.{nat_cmp, ordering_then}
+use Rattle.std.specs.Ordering.{nat_cmp}
 use Rattle.std.specs.List.{list_all}
 use Rattle.std.specs.Option.{unwrap_or}
 use Rattle.std.specs.Cmp.Lexicographic.{slice_cmp, pointwise, bytes_decides}
 use Rattle.std.specs.declared.cmp.Ordering.{Ordering}
 use Rattle.id_digits.specs.Digits.{digit_in, digits_of, digits_read, hex_letter, is_digest_len, word}
 use Rattle.id_digits.specs.Letters.{AreSortedLines, IsIdLine, is_digit, is_line_len, lane_of, line_values, may_follow, value_of, values_of}
-use Rattle.id_digits.proofs.DigitNumbers.{AreDigits, word-zero, word-nil, word-cons, word_lt}
-use Rattle.id_digits.proofs.DigitOrder.{slice_cmp-digits_of}
+use Rattle.id_digits.proofs.DigitNumbers.{AreDigits, word-nil, word-take}
+use Rattle.id_digits.proofs.DigitOrder.{slice_cmp-digits_of, take_less}
 use Rattle.id_digits.proofs.LaneReading.{sixteen, tested, first_values, both_digits, digits_read-values}
-use Rattle.id_digits.proofs.NumberParts.{cmp_parts}
 use Rattle.id_digits.proofs.ReadingFacts.{digit_in-letter}
 use Rattle.id_digits.proofs.Spellings.{All-digits_of}
+use Rattle.id_digits.proofs.WordOrder.{slice_cmp-word}
 
 -- a line has two letters for each byte of a digest, and a line feed
 pub record IsLineOf (bytes len : ℕ) : Type 0 where
@@ -50,30 +51,12 @@ values-below : (text : List ℕ) → All (λ b. b < 256) (values_of text)
 values-below [] = All-nil (λ b. b < 256)
 values-below (c ∷ text) = All-cons (λ b. b < 256) (value_of c) (values_of text) (value-below c) (values-below text)
 
--- a list is below another if its first elements are
-then_less : (o p q : Ordering) → (p ≡ Less → q ≡ Less) → ordering_then o p ≡ Less → ordering_then o q ≡ Less
-then_less Less p q f h = h
-then_less Equal p q f h = f h
-then_less Greater p q f h = cc h
-
-take_less : (n : ℕ) (xs ys : List ℕ) → slice_cmp nat_cmp (take n xs) (take n ys) ≡ Less → slice_cmp nat_cmp xs ys ≡ Less
-take_less zero xs ys h = cc h
-take_less (suc n) [] [] h = cc h
-take_less (suc n) [] (y ∷ ys) h = h
-take_less (suc n) (x ∷ xs) [] h = cc h
-take_less (suc n) (x ∷ xs) (y ∷ ys) h = then_less (nat_cmp x y) _ _ (take_less n xs ys) h
-
 -- digits are below others if the number of the first n is
 word_less : (n : ℕ) (ds es : List ℕ) → AreDigits ds → AreDigits es → nat_cmp (word n ds) (word n es) ≡ Less → slice_cmp nat_cmp ds es ≡ Less
-word_less zero ds es f g h = let none = rw (word-zero ds, word-zero es) at h in cc none
-word_less (suc n) [] [] f g h = let none = rw (word-nil (suc n)) at h in cc none
-word_less (suc n) [] (e ∷ es) f g h = refl
-word_less (suc n) (d ∷ ds) [] f g h = let none : nat_cmp (word (suc n) (d ∷ ds)) 0 ≡ Less = rw (word-nil (suc n)) at h in absurd (grind (arith, nat_tests, none))
-word_less (suc n) (d ∷ ds) (e ∷ es) f g h =
-    let first = All-tail (λ (x : ℕ). x < 16) d ds f in
-    let second = All-tail (λ (x : ℕ). x < 16) e es g in
-    let parts = cmp_parts (16 ^ n) d (word n ds) e (word n es) (word_lt n ds first) (word_lt n es second) in
-    then_less (nat_cmp d e) _ _ (word_less n ds es first second) (sym parts ∙ (rw (word-cons n d ds, word-cons n e es) at h))
+word_less n ds es f g h =
+    let small = All-take (λ (d : ℕ). d < 16) n in
+    let whole = slice_cmp-word n (take n ds) (take n es) (small ds f) (small es g) (omega (arith, length-take n ds)) (omega (arith, length-take n es)) in
+    take_less n ds es (sym whole ∙ rw (word-take n ds, word-take n es, h) refl)
 
 -- an id that is above another may follow it
 less_follows : (repeats : Bool) (order : Ordering) → order ≡ Less → IsTrue (may_follow repeats order)
@@ -122,13 +105,9 @@ word_follows n repeats previous text w v is also less =
     (ap₂ (slice_cmp nat_cmp) (sym (sixteen 0 previous)) (sym (sixteen 0 text)) ∙ sym (slice_cmp-digits_of one other)
     ∙ word_less n (digits_of one) (digits_of other) (All-digits_of one (values-below (take 16 previous))) (All-digits_of other (values-below (take 16 text))) words))
 
-equal : (xs : List ℕ) → slice_cmp nat_cmp xs xs ≡ Equal
-equal [] = refl
-equal (x ∷ xs) = let same : nat_cmp x x ≡ Equal = grind (arith, nat_tests) in rw (same, equal xs) refl
-
 -- and if it is the same, where ids may be repeated
 pub same_follows : (previous text : List ℕ) → IsTrue (pointwise nat_eq previous text) → IsTrue (may_follow true (slice_cmp nat_cmp (values_of previous) (values_of text)))
-same_follows previous text same = rw ((bytes_decides previous text).0 same, equal (values_of text)) refl
+same_follows previous text same = rw ((bytes_decides previous text).0 same, tied_itself nat_list_cmp_total (values_of text)) refl
 
 -- what the vectors test are all letters of a line
 pub letters_tested : (bytes len : ℕ) → IsLineOf bytes len → (line first second third last : List ℕ) (from end : ℕ) → len - 1 ≤ length line → end ≡ len - 1 - 16 → from ≡ min end 32
@@ -159,7 +138,3 @@ pub none_left : (n : ℕ) (repeats : Bool) (lines : List (List ℕ)) (at : ℕ) 
     → (AreSortedLines n repeats (line_before lines at) (drop at lines) → AreSortedLines n repeats [] lines) → AreSortedLines n repeats [] lines
 unfolding AreSortedLines
 none_left n repeats lines at past sorted = sorted (rw (drop_all at lines past) tt)
-
-pub is_so : (b : Bool) → not b ≡ false → b ≡ true
-is_so true h = refl
-is_so false h = cc h

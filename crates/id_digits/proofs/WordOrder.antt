@@ -14,7 +14,7 @@ nat_cmp-suc : (a b : ℕ) → nat_cmp (suc a) (suc b) ≡ nat_cmp a b
 nat_cmp-suc a b = grind (arith, nat_tests)
 
 -- lists of at most n digits compare as their numbers do, and then as their lengths
-slice_cmp-word : (n : ℕ) (ds es : List ℕ) → AreDigits ds → AreDigits es → length ds ≤ n → length es ≤ n
+pub slice_cmp-word : (n : ℕ) (ds es : List ℕ) → AreDigits ds → AreDigits es → length ds ≤ n → length es ≤ n
     → ordering_then (nat_cmp (word n ds) (word n es)) (nat_cmp (length ds) (length es)) ≡ slice_cmp nat_cmp ds es
 slice_cmp-word n [] [] f g h k = rw word-nil refl
 slice_cmp-word zero [] (e ∷ es) f g h k = absurd (omega arith)

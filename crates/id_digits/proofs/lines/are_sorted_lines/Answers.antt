@@ -1,11 +1,11 @@
 use Rattle.std.proofs.Common.{◌≡◌, ◌+◌, ◌-◌, ◌/◌, ◌<◌, ◌≤◌, suc, refl, sym, ap, ap₂, subst, ◌∙◌, arith, length, length-take, take, get_or, [], true, eqb, ◌&&◌, IsTrue}
-use Rattle.std.proofs.lemmas.Bool.{and_parts}
+use Rattle.std.proofs.lemmas.Bool.{and_parts, not-false}
 use Rattle.std.proofs.lemmas.List.{get_or_default}
 use Rattle.std.specs.Ordering.{nat_cmp}
 use Rattle.std.specs.Cmp.Lexicographic.{slice_cmp}
 use Rattle.id_digits.specs.Digits.{digits_of, word}
 use Rattle.id_digits.specs.Letters.{line_values, may_follow, IsIdLine}
-use Rattle.id_digits.proofs.LineOrder.{line_of, line_before, line_before-is, line_word, word_none, word_follows, letters_tested, one_more, none_left, is_so}
+use Rattle.id_digits.proofs.LineOrder.{line_of, line_before, line_before-is, line_word, word_none, word_follows, letters_tested, one_more, none_left}
 use Rattle.id_digits.proofs.lines.are_sorted_lines.Goals as goal
 use Rattle.id_digits.proofs.lines.are_sorted_lines.Goals.{else-word-before-via-then-word-before+else-not-is_in_order, then-at-eq0, else-at-eq0, else-word-before-via-else-word-before}
 
@@ -30,7 +30,7 @@ loop-at-preserved g c =
       | else-word-before-via-then-word-before+else-not-is_in_order w ↦ elim w.if-at-eq0.branch [
         | then-at-eq0 v ↦ let zero : eqb at 0 ≡ true = rw v.if-at-eq0.true refl in cc (zero, v.value-is, w.if-not-is_in_order.false)
         | else-at-eq0 v ↦ rw (line_before-is lines at (omega (arith, v.if-at-eq0.false)), ← there, ← (v.index-lines-at-else-at-eq0.is ∙ get_or_default lines (at - 1) _ [] (omega arith)))
-            (v.is_in_order.ensures (is_so _ (sym v.value-is ∙ w.if-not-is_in_order.false)))
+            (v.is_in_order.ensures (not-false _ (sym v.value-is ∙ w.if-not-is_in_order.false)))
       ]
       | else-word-before-via-else-word-before w ↦
           word_follows 16 c.args.repeats (take (len - 1) (line_before lines at)) (take (len - 1) (get_or lines at [])) c.loop-at.before c.first_word-word.result c.loop-at.invariant.word is_word w.if-word-before.false
