@@ -2,7 +2,7 @@
 use Rattle.std.proofs.Common.{◌≡◌, ◌≢◌, ℕ, suc, ◌+◌, ◌/◌, ◌%◌, ◌<◌, ◌≤◌, cond, nat_eq, List, [], ◌∷◌, length, get_or, min, drop, refl, ◌∙◌, arith, inl, inr, ◌⊎◌, drop-cons}
 use Rattle.std.specs.List.{common_prefix_len}
 use Rattle.std.proofs.lemmas.Bool.Decides.{nat_tests}
-use Rattle.std.proofs.lemmas.Bool.{cases_lt}
+use Rattle.std.proofs.lemmas.Bool.{cases_lt, cond-false, cond-true, eq-eqb, ne_eqb}
 use Rattle.std.proofs.lemmas.List.{drop_all}
 use Rattle.id_digits.specs.Digits.{digits_of}
 
@@ -19,13 +19,6 @@ byte_step : (x y : ℕ) (xs ys : List ℕ) → common (digits_of (x ∷ xs)) (di
 unfolding digits_of
 byte_step x y xs ys = one_byte x y (common (digits_of xs) (digits_of ys))
 
--- a choice by whether two numbers are equal
-pub pick_same : (x y n m : ℕ) → x ≡ y → cond (nat_eq x y) n m ≡ n
-pick_same x y n m h = grind (arith, nat_tests)
-
-pub pick_other : (x y n m : ℕ) → x ≢ y → cond (nat_eq x y) n m ≡ m
-pick_other x y n m h = grind (arith, nat_tests)
-
 module _ (xs ys : List ℕ) (at : ℕ) (in_first : at < length xs) (in_second : at < length ys) where
   here : common (digits_of (drop at xs)) (digits_of (drop at ys))
       ≡ cond (nat_eq (get_or xs at 0) (get_or ys at 0)) (2 + common (digits_of (drop (suc at) xs)) (digits_of (drop (suc at) ys)))
@@ -35,12 +28,12 @@ module _ (xs ys : List ℕ) (at : ℕ) (in_first : at < length xs) (in_second : 
   -- equal bytes share both their digits
   pub same_byte : get_or xs at 0 ≡ get_or ys at 0
       → common (digits_of (drop at xs)) (digits_of (drop at ys)) ≡ 2 + common (digits_of (drop (suc at) xs)) (digits_of (drop (suc at) ys))
-  same_byte same = here ∙ pick_same _ _ _ _ same
+  same_byte same = here ∙ cond-true _ _ _ (eq-eqb _ _ same)
 
   -- other bytes share at most their high half, and nothing after it
   pub other_byte : get_or xs at 0 ≢ get_or ys at 0
       → common (digits_of (drop at xs)) (digits_of (drop at ys)) ≡ cond (nat_eq (get_or xs at 0 / 16) (get_or ys at 0 / 16)) 1 0
-  other_byte other = here ∙ pick_other _ _ _ _ other
+  other_byte other = here ∙ cond-false _ _ _ (ne_eqb _ _ other)
 
 -- after the end of one list nothing is shared
 common-nil : (xs : List ℕ) → common xs [] ≡ 0

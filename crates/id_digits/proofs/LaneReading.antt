@@ -1,5 +1,6 @@
 -- A text read as the values of its letters, of which the first are packed, and the last.
-use Rattle.std.proofs.Common.{◌≡◌, ℕ, zero, suc, ◌+◌, ◌-◌, ◌*◌, ◌≤◌, Bool, true, false, ◌&&◌, ltb, eqb, eqb-true, min, List, [], ◌∷◌, ◌++◌, length, take, drop, Option, Some, None, if◌then◌else◌, refl, sym, ap, ap₂, ◌∙◌, arith, append-nil, append_assoc, length-drop, take-add}
+use Rattle.std.proofs.Common.{◌≡◌, ℕ, zero, suc, ◌+◌, ◌-◌, ◌*◌, ◌≤◌, ◌⊎◌, inl, inr, Bool, true, false, ◌&&◌, ltb, min, List, [], ◌∷◌, ◌++◌, length, take, drop, Option, Some, None, if◌then◌else◌, refl, sym, ap, ap₂, ◌∙◌, arith, append-nil, append_assoc, length-drop, take-add}
+use Rattle.std.proofs.lemmas.Bool.{cases_eq, ne_eqb}
 use Rattle.std.proofs.lemmas.Bool.Decides.{nat_tests}
 use Rattle.std.proofs.lemmas.List.{nil_from_length, length-map, length-take-le, take_all, take_at, drop_at, take-map, drop-map, drop-drop, take-append-drop}
 use Rattle.std.proofs.lemmas.List.Folds.{list_all-append}
@@ -117,44 +118,39 @@ module _ (n : ℕ) (text third last : List ℕ) (digest : IsTrue (is_digest_len 
       (of_last ∙ sixteen _ text ∙ ap (λ k. take 16 (drop k values)) end ∙ ap (take 16) (sym (drop-drop 16 32 values)))
       ∙ sym (take-add 16 16 (drop 32 values)) ∙ take_all 32 (drop 32 values) (omega (arith, length-drop 32 values, count))
 
+  -- a digest has twenty bytes, and both vectors hold the same values, or thirty-two
+  by_len : ((n ≡ 20) × (third ≡ drop 24 values) × (last ≡ drop 24 values)) ⊎ (n ≡ 32)
+  by_len = elim (cases_eq n 20) [
+    | inl short ↦
+        let from : min (length text - 16) 32 ≡ 24 = omega arith in
+        let end : length text - 16 ≡ 24 = omega arith in
+        inl (short, last_of_40 _ third short from of_third, last_of_40 _ last short end of_last)
+    | inr other ↦ inr (grind (arith, nat_tests, digest, ne_eqb n 20 other))
+  ]
+
   -- all are digits if the first thirty-two are and the rest
   pub tested : (front : Bool) → front ≡ list_all is_digit (take 32 values) → (front && (list_all is_digit third && list_all is_digit last)) ≡ list_all is_digit values
-  tested front is = by_len (eqb n 20) refl
-    where
-      by_len : (b : Bool) → eqb n 20 ≡ b → (front && (list_all is_digit third && list_all is_digit last)) ≡ list_all is_digit values
-      by_len true e =
-          let short = eqb-true n 20 e in
-          let from : min (length text - 16) 32 ≡ 24 = omega arith in
-          let end : length text - 16 ≡ 24 = omega arith in
-          ap₂ (λ a b. a && b) is
-          (ap₂ (λ a b. list_all is_digit a && list_all is_digit b) (last_of_40 _ third short from of_third) (last_of_40 _ last short end of_last)
-          ∙ once (list_all is_digit (drop 24 values)))
-          ∙ all-overlapped is_digit 24 32 values (omega arith)
-      by_len false e =
-          let long : n ≡ 32 = grind (arith, nat_tests, digest, e) in
-          ap₂ (λ a b. a && b) is (both_digits is_digit third last (drop 32 values) (last_of_64 long))
-          ∙ all-overlapped is_digit 32 32 values (omega arith)
+  tested front is = elim by_len [
+    | inl short ↦
+        ap₂ (λ a b. a && b) is (ap₂ (λ a b. list_all is_digit a && list_all is_digit b) short.1 short.2 ∙ once (list_all is_digit (drop 24 values)))
+        ∙ all-overlapped is_digit 24 32 values (omega arith)
+    | inr long ↦
+        ap₂ (λ a b. a && b) is (both_digits is_digit third last (drop 32 values) (last_of_64 long)) ∙ all-overlapped is_digit 32 32 values (omega arith)
+  ]
 
   -- and the last bytes are packed of the rest
   pub packed_rest : drop (32 - n) (packed (third ++ last)) ≡ drop 16 (packed values)
-  packed_rest = by_len (eqb n 20) refl
-    where
-      by_len : (b : Bool) → eqb n 20 ≡ b → drop (32 - n) (packed (third ++ last)) ≡ drop 16 (packed values)
-      by_len true e =
-          let short = eqb-true n 20 e in
-          let from : min (length text - 16) 32 ≡ 24 = omega arith in
-          let end : length text - 16 ≡ 24 = omega arith in
-          let cut : 32 - n ≡ 12 = omega arith in
-          let is_third = last_of_40 _ third short from of_third in
-          let is_last = last_of_40 _ last short end of_last in
-          let wide : length third ≡ 16 = ap length is_third ∙ omega (arith, length-drop 24 values, count) in
-          ap (λ k. drop k (packed (third ++ last))) cut ∙ sym (packed-drop 12 (third ++ last))
-          ∙ ap packed (sym (drop-drop 8 16 (third ++ last)) ∙ ap (drop 8) (drop_at third last 16 wide ∙ is_last) ∙ drop-drop 8 24 values)
-          ∙ packed-drop 16 values
-      by_len false e =
-          let long : n ≡ 32 = grind (arith, nat_tests, digest, e) in
-          let cut : 32 - n ≡ 0 = omega arith in
-          ap (λ k. drop k (packed (third ++ last))) cut ∙ ap packed (last_of_64 long) ∙ packed-drop 16 values
+  packed_rest = elim by_len [
+    | inl short ↦
+        let cut : 32 - n ≡ 12 = omega (arith, short.0) in
+        let wide : length third ≡ 16 = ap length short.1 ∙ omega (arith, short.0, length-drop 24 values, count) in
+        ap (λ k. drop k (packed (third ++ last))) cut ∙ sym (packed-drop 12 (third ++ last))
+        ∙ ap packed (sym (drop-drop 8 16 (third ++ last)) ∙ ap (drop 8) (drop_at third last 16 wide ∙ short.2) ∙ drop-drop 8 24 values)
+        ∙ packed-drop 16 values
+    | inr long ↦
+        let cut : 32 - n ≡ 0 = omega arith in
+        ap (λ k. drop k (packed (third ++ last))) cut ∙ ap packed (last_of_64 long) ∙ packed-drop 16 values
+  ]
 
   -- what was stored is packed of all values
   pub stored : (old first front_bytes bytes : List ℕ) → length old ≡ n → first ≡ take 32 values → front_bytes ≡ packed first
