@@ -8,6 +8,7 @@ use Rattle.sha2.specs.Sha256 as sha256
 use Rattle.id_digits.proofs.ByteDigits.{length-digits_of}
 use Rattle.id_digits.proofs.Spellings.{All-digits_of}
 use Rattle.id_digits.specs.Digits.{digits_of}
+use Rattle.gix_hash.proofs.KindFacts.{hex_len_of-bytes}
 use Rattle.gix_hash.specs.Kinds.{byte_len_of}
 use Rattle.gix_hash.specs.Ids.{AreIdDigits, HasDigits, id_bytes, id_digits}
 use Rattle.gix_hash.specs.declared.kind.Kind.{Kind}
@@ -40,8 +41,7 @@ made Sha256 digits h = let b = bytes_with 32 digits (omega (arith, h.0)) h.1 in 
 
 -- the digits of bytes, as many as the kind's digests have, are those of an id
 digits_of-bytes : (kind : Kind) (bytes : List ℕ) → length bytes ≡ byte_len_of kind → All (λ b. b < 256) bytes → AreIdDigits kind (digits_of bytes)
-digits_of-bytes Sha1 bytes len fits = (omega (arith, length-digits_of bytes), All-digits_of bytes fits)
-digits_of-bytes Sha256 bytes len fits = (omega (arith, length-digits_of bytes), All-digits_of bytes fits)
+digits_of-bytes kind bytes len fits = (omega (arith, length-digits_of bytes, hex_len_of-bytes kind), All-digits_of bytes fits)
 
 -- the digits of ids are those that some id has
 pub AreIdDigits-some : (kind : Kind) (digits : List ℕ) → AreIdDigits kind digits ↔ ((id : ObjectId) × HasDigits kind digits id)

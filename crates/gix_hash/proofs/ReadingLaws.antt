@@ -2,13 +2,14 @@
 use Rattle.std.proofs.Common.{◌≡◌, ◌==◌, ◌↔◌, Option, None, Some, Err, nat_lt, ℕ, ◌<◌, ◌≤◌, ◌⊎◌, inl, inr, Bool, true, false, Ok, List, length, map, refl, sym, ap, ◌∙◌, arith}
 use Rattle.std.specs.Prelude.{All, MatchResult, Result}
 use Rattle.std.specs.Char.{to_ascii_lowercase}
+use Rattle.std.proofs.lemmas.Bool.{cases_Bool}
 use Rattle.std.proofs.lemmas.Bool.Decides.{nat_tests}
 use Rattle.std.proofs.lemmas.List.{length-map}
 use borrow.Author.Tests.{ltb-true}
-use Rattle.gix_hash.specs.Reading.{IsFullReading, IsFullRefusal, IsPrefixReading, IsPrefixRefusal, IsReadingIn, IsRefusalIn, full_read, letter_of, prefix_read, prefix_read_in, reading_of, whole_of}
+use Rattle.gix_hash.specs.Reading.{IsFullReading, IsFullRefusal, IsPrefixReading, IsPrefixRefusal, IsReadingIn, IsRefusalIn, full_read, letter_of, prefix_read, prefix_read_in, reading_of}
 use Rattle.id_digits.specs.Digits.{digits_read, spelling}
 use Rattle.gix_hash.specs.Kinds.{hex_len_of, kind_of_full_len, kind_of_hex_len, IsFullLen}
-use Rattle.gix_hash.specs.Ids.{AreIdDigits, id_digits, id_kind}
+use Rattle.gix_hash.specs.Ids.{AreIdDigits}
 use Rattle.gix_hash.specs.Prefixes.{KindDigits, kind_digits}
 use Rattle.gix_hash.specs.declared.alphabet.Alphabet.{Alphabet}
 use Rattle.gix_hash.specs.declared.alphabet.Alphabet.TheVariants.{Hex, Reverse}
@@ -16,12 +17,11 @@ use Rattle.gix_hash.specs.declared.decode.Error as decode
 use Rattle.gix_hash.specs.declared.decode.Error.TheVariants as full_errors
 use Rattle.gix_hash.specs.declared.kind.Kind.{Kind}
 use Rattle.gix_hash.specs.declared.kind.Kind.TheVariants as kinds
-use Rattle.gix_hash.specs.declared.object_id.ObjectId.{ObjectId}
 use Rattle.gix_hash.specs.declared.prefix.from_hex.Error as from_hex
 use Rattle.gix_hash.specs.declared.prefix.from_hex.Error.TheVariants.{TooShort, TooLong, Invalid}
 use Rattle.id_digits.proofs.ReverseLetters.{reverse_alphabet}
-use Rattle.id_digits.proofs.ReadingFacts.{IsAlphabet, hex_alphabet, digits_read-ReadsAs, ReadsAs-digits_read, IsUnreadable-digits_read, digits_read-IsUnreadable}
-use Rattle.gix_hash.proofs.SpellingLaws.{ReadsAs-lowered, lowercase_spelling}
+use Rattle.id_digits.proofs.ReadingFacts.{IsAlphabet, hex_alphabet, digits_read-ReadsAs, ReadsAs-digits_read, IsUnreadable-digits_read, digits_read-IsUnreadable, none_found}
+use Rattle.gix_hash.proofs.SpellingLaws.{ReadsAs-lowered}
 
 -- both alphabets are alphabets
 pub letter_of-alphabet : (alphabet : Alphabet) → IsAlphabet (letter_of alphabet)
@@ -57,34 +57,22 @@ full_read-ok letter a text b = (
 -- the texts that read as a prefix
 pub prefix_read-ok : (letter : ℕ → ℕ) → IsAlphabet letter → (least : ℕ) (text : List ℕ) (b : KindDigits)
     → (prefix_read letter least text ≡ Ok b) ↔ IsPrefixReading letter least text b
-prefix_read-ok letter a least text b = by_test (nat_lt (length text) least) refl
-  where
-    by_test : (test : Bool) → nat_lt (length text) least ≡ test → (prefix_read letter least text ≡ Ok b) ↔ IsPrefixReading letter least text b
-    by_test true e = (λ h. cc (rw e at h), λ h. absurd (omega (arith, h.long_enough, ltb-true)))
-    by_test false e = (
-      λ h. let parts = reading_of-ok _ _ _ _ b (rw e at h) in
-          record { long_enough = grind (arith, nat_tests); kind = parts.0; reads = ReadsAs-digits_read letter text b.digits parts.1 },
-      λ h. rw (e, h.kind, digits_read-ReadsAs letter a text b.digits h.reads) refl,
-    )
+prefix_read-ok letter a least text b = elim (cases_Bool (nat_lt (length text) least)) [
+  | inl e ↦ (λ h. cc (rw e at h), λ h. absurd (omega (arith, h.long_enough, ltb-true)))
+  | inr e ↦ (
+    λ h. let parts = reading_of-ok _ _ _ _ b (rw e at h) in
+        record { long_enough = grind (arith, nat_tests); kind = parts.0; reads = ReadsAs-digits_read letter text b.digits parts.1 },
+    λ h. rw (e, h.kind, digits_read-ReadsAs letter a text b.digits h.reads) refl,
+  )
+]
 
--- an id's spelling, in any letter case, reads as the id
-pub full_read-printed : (letter : ℕ → ℕ) → IsAlphabet letter → (text : List ℕ) (id : ObjectId)
-    → map to_ascii_lowercase text ≡ spelling letter (id_digits id)
-    → length (id_digits id) ≡ hex_len_of (id_kind id) → All (λ d. d < 16) (id_digits id) → full_read letter text ≡ Ok (whole_of id)
-full_read-printed letter a text id lowered len fits =
-    (full_read-ok letter a text (whole_of id)).1 record {
-      kind = sym (length-map text to_ascii_lowercase) ∙ ap length lowered ∙ length-map (id_digits id) letter ∙ len;
-      reads = ReadsAs-lowered letter text (id_digits id) fits lowered;
-    }
-
--- the spelling of an id's digits reads as these
-pub full_read-spelling : (alphabet : Alphabet) (kind : Kind) (digits : List ℕ) → AreIdDigits kind digits
-    → full_read (letter_of alphabet) (spelling (letter_of alphabet) digits) ≡ Ok (kind_digits kind digits)
-full_read-spelling alphabet kind digits h =
-    let letter = letter_of alphabet in
-    (full_read-ok letter (letter_of-alphabet alphabet) _ (kind_digits kind digits)).1 record {
-      kind = length-map digits letter ∙ h.0;
-      reads = ReadsAs-lowered letter _ digits h.1 (lowercase_spelling alphabet digits h.1);
+-- the spelling of an id's digits, in any letter case, reads as these
+pub full_read-printed : (letter : ℕ → ℕ) → IsAlphabet letter → (text : List ℕ) (kind : Kind) (digits : List ℕ)
+    → map to_ascii_lowercase text ≡ spelling letter digits → AreIdDigits kind digits → full_read letter text ≡ Ok (kind_digits kind digits)
+full_read-printed letter a text kind digits lowered h =
+    (full_read-ok letter a text (kind_digits kind digits)).1 record {
+      kind = sym (length-map text to_ascii_lowercase) ∙ ap length lowered ∙ length-map digits letter ∙ h.0;
+      reads = ReadsAs-lowered letter text digits h.1 lowered;
     }
 
 -- what an error is made from
@@ -99,11 +87,7 @@ no_full_len : (n : ℕ) → kind_of_full_len n ≡ None → ¬ IsFullLen n
 no_full_len n none is = let some : kind_of_full_len n ≡ Some is.0 = rw is.1 (full is.0) in cc
 
 none_full_len : (n : ℕ) → ¬ IsFullLen n → kind_of_full_len n ≡ None
-none_full_len n h = by_kind (kind_of_full_len n) refl
-  where
-    by_kind : (kind : Option Kind) → kind_of_full_len n ≡ kind → kind ≡ None
-    by_kind None e = refl
-    by_kind (Some k) e = absurd (h (k, full_len n k e))
+none_full_len n h = none_found _ (λ k e. h (k, full_len n k e))
 
 -- why a text is rejected as a full id
 pub full_read-err : (letter : ℕ → ℕ) → IsAlphabet letter → (text : List ℕ) (error : decode.Error)
@@ -152,7 +136,7 @@ within_hex_len n kind h = grind (arith, nat_tests)
 -- why a text is rejected as a prefix
 pub prefix_read-err : (letter : ℕ → ℕ) → IsAlphabet letter → (least : ℕ) (text : List ℕ) (error : from_hex.Error)
     → (prefix_read letter least text ≡ Err error) ↔ IsPrefixRefusal letter least text error
-prefix_read-err letter a least text error = by_test (nat_lt (length text) least) refl
+prefix_read-err letter a least text error = elim (cases_Bool (nat_lt (length text) least)) [ inl e ↦ too_short e error | inr e ↦ long_enough e error ]
   where
     too_short : nat_lt (length text) least ≡ true → (x : from_hex.Error) → (prefix_read letter least text ≡ Err x) ↔ IsPrefixRefusal letter least text x
     too_short e (TooShort n) = (λ h. (cc (rw e at h), ltb-true (length text) least e), λ h. rw (e, h.0) refl)
@@ -178,10 +162,6 @@ prefix_read-err letter a least text error = by_test (nat_lt (length text) least)
       ],
       λ h. let kind = some_hex_len (length text) h.1 in rw (e, kind.1, digits_read-IsUnreadable letter text h.2) refl,
     )
-
-    by_test : (test : Bool) → nat_lt (length text) least ≡ test → (prefix_read letter least text ≡ Err error) ↔ IsPrefixRefusal letter least text error
-    by_test true e = too_short e error
-    by_test false e = long_enough e error
 
 -- either way
 pub prefix_read-cases : (letter : ℕ → ℕ) → IsAlphabet letter → (least : ℕ) (text : List ℕ)
@@ -233,6 +213,11 @@ prefix_read_in-ok kind letter a text b = by_tests (nat_lt (hex_len_of kind) (len
           rw (e, f, digits_read-ReadsAs letter a text b.digits h.reads) (ap Ok is),
     )
 
+-- of a prefix that has room, only letters can be rejected
+only_invalid : (kind : Kind) (digits : Option (List ℕ)) (x : from_hex.Error) → reading_of (Some kind) digits Invalid Invalid ≡ Err x → (x ≡ Invalid) × (digits ≡ None)
+only_invalid kind None x h = (cc h, refl)
+only_invalid kind (Some ds) x h = cc h
+
 -- why a text is rejected as a prefix in a kind
 pub prefix_read_in-err : (kind : Kind) (letter : ℕ → ℕ) → IsAlphabet letter → (text : List ℕ) (error : from_hex.Error)
     → (prefix_read_in kind letter text ≡ Err error) ↔ IsRefusalIn kind letter text error
@@ -246,19 +231,10 @@ prefix_read_in-err kind letter a text error = by_tests (nat_lt (hex_len_of kind)
     by_tests false e true f (TooLong n) = (λ h. cc (rw (e, f) at h), λ h. let long = h.1 in grind (arith, nat_tests))
     by_tests false e true f (TooShort n) = (λ h. (cc (rw (e, f) at h), grind (arith, nat_tests)), λ h. rw (e, f, h.0) refl)
     by_tests false e true f Invalid = (λ h. cc (rw (e, f) at h), λ h. let some = h.0 in grind (arith, nat_tests))
-    by_tests false e false f (TooLong n) = (
-      λ h. elim (reading_of-err (Some kind) (digits_read letter text) Invalid Invalid (TooLong n) (rw (e, f) at h)) [ inl is ↦ cc | inr is ↦ cc is.3 ],
-      λ h. let long = h.1 in grind (arith, nat_tests),
-    )
-    by_tests false e false f (TooShort n) = (
-      λ h. elim (reading_of-err (Some kind) (digits_read letter text) Invalid Invalid (TooShort n) (rw (e, f) at h)) [ inl is ↦ cc | inr is ↦ cc is.3 ],
-      λ h. let none = h.1 in grind (arith, nat_tests),
-    )
+    by_tests false e false f (TooLong n) = (λ h. cc (only_invalid kind (digits_read letter text) (TooLong n) (rw (e, f) at h)).0, λ h. let long = h.1 in grind (arith, nat_tests))
+    by_tests false e false f (TooShort n) = (λ h. cc (only_invalid kind (digits_read letter text) (TooShort n) (rw (e, f) at h)).0, λ h. let none = h.1 in grind (arith, nat_tests))
     by_tests false e false f Invalid = (
-      λ h. elim (reading_of-err (Some kind) (digits_read letter text) Invalid Invalid Invalid (rw (e, f) at h)) [
-        | inl is ↦ cc is.0
-        | inr is ↦ (grind (arith, nat_tests), grind (arith, nat_tests), IsUnreadable-digits_read letter a text is.2)
-      ],
+      λ h. (grind (arith, nat_tests), grind (arith, nat_tests), IsUnreadable-digits_read letter a text (only_invalid kind (digits_read letter text) Invalid (rw (e, f) at h)).1),
       λ h. rw (e, f, digits_read-IsUnreadable letter text h.2) refl,
     )
 

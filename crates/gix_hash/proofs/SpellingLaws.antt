@@ -5,7 +5,7 @@ use Rattle.std.specs.Cmp.{tied_itself, nat_cmp_total}
 use Rattle.std.specs.Cmp.Lexicographic.{slice_cmp}
 use Rattle.std.specs.Ordering.{nat_cmp, ordering_then, ordering_reverse}
 use Rattle.std.specs.Char.{to_ascii_lowercase}
-use Rattle.std.proofs.lemmas.Bool.{agree_below_at}
+use Rattle.std.proofs.lemmas.Bool.{agree_below, agree_below_at}
 use Rattle.std.proofs.lemmas.Bool.Decides.{nat_tests}
 use Rattle.std.proofs.lemmas.List.Elements.{All-nil, All-cons, All-head, All-tail}
 use Rattle.gix_hash.specs.Reading.{letter_of}
@@ -21,17 +21,16 @@ use Rattle.gix_hash.specs.declared.object_id.ObjectId.{ObjectId}
 use Rattle.gix_hash.proofs.IdFacts.{length-oid}
 use Rattle.gix_hash.proofs.KindFacts.{same_kind}
 
--- the hex letters by their table
-pub hex_letter-table : (d : ℕ) → d < 16 → hex_letter d ≡ slice_index (codes "0123456789abcdef") d
-hex_letter-table d h =
-    eqb-true (hex_letter d) (slice_index (codes "0123456789abcdef") d)
-    (agree_below_at (λ k. hex_letter k == slice_index (codes "0123456789abcdef") k) (λ k. true) 16 d refl h)
+-- functions that agree on each digit
+same_below_16 : (f g : ℕ → ℕ) → agree_below (λ k. f k == g k) (λ k. true) 16 ≡ true → (d : ℕ) → d < 16 → f d ≡ g d
+same_below_16 f g all d h = eqb-true (f d) (g d) (agree_below_at (λ k. f k == g k) (λ k. true) 16 d all h)
 
--- and the reverse letters by theirs
+-- the letters by their tables
+pub hex_letter-table : (d : ℕ) → d < 16 → hex_letter d ≡ slice_index (codes "0123456789abcdef") d
+hex_letter-table = same_below_16 hex_letter (slice_index (codes "0123456789abcdef")) refl
+
 pub reverse_letter-table : (d : ℕ) → d < 16 → reverse_letter d ≡ slice_index (codes "zyxwvutsrqponmlk") d
-reverse_letter-table d h =
-    eqb-true (reverse_letter d) (slice_index (codes "zyxwvutsrqponmlk") d)
-    (agree_below_at (λ k. reverse_letter k == slice_index (codes "zyxwvutsrqponmlk") k) (λ k. true) 16 d refl h)
+reverse_letter-table = same_below_16 reverse_letter (slice_index (codes "zyxwvutsrqponmlk")) refl
 
 -- a letter determines its digit
 hex_letter-injective : (d e : ℕ) → hex_letter d ≡ hex_letter e → d ≡ e
@@ -104,10 +103,8 @@ ReadsAs-is letter text ds = (ReadsAs-spelled letter text ds, λ h. ReadsAs-lower
 
 -- letters are lowercase
 lowercase_letter : (alphabet : Alphabet) (d : ℕ) → d < 16 → to_ascii_lowercase (letter_of alphabet d) ≡ letter_of alphabet d
-lowercase_letter Hex d h =
-    eqb-true _ _ (agree_below_at (λ k. to_ascii_lowercase (hex_letter k) == hex_letter k) (λ k. true) 16 d refl h)
-lowercase_letter Reverse d h =
-    eqb-true _ _ (agree_below_at (λ k. to_ascii_lowercase (reverse_letter k) == reverse_letter k) (λ k. true) 16 d refl h)
+lowercase_letter Hex = same_below_16 (λ k. to_ascii_lowercase (hex_letter k)) hex_letter refl
+lowercase_letter Reverse = same_below_16 (λ k. to_ascii_lowercase (reverse_letter k)) reverse_letter refl
 
 -- and so are spellings
 pub lowercase_spelling : (alphabet : Alphabet) (ds : List ℕ) → All (λ d. d < 16) ds

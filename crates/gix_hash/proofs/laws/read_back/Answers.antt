@@ -4,4 +4,4 @@ use Rattle.gix_hash.proofs.ReadingLaws.{full_read-printed}
 use Rattle.gix_hash.proofs.laws.read_back.Goals as goal
 
 pub returns : goal.returns
-returns c = full_read-printed hex_letter hex_alphabet c.args.text.now c.args.id.now c.requires c.kind-kind.ensures.len c.kind-kind.ensures.digits_in_range
+returns c = full_read-printed hex_letter hex_alphabet c.args.text.now _ _ c.requires (c.kind-kind.ensures.len, c.kind-kind.ensures.digits_in_range)
