@@ -4,13 +4,14 @@ use Rattle.std.specs.List.{common_prefix_len}
 use Rattle.std.proofs.lemmas.Bool.Decides.{nat_tests}
 use Rattle.std.proofs.lemmas.List.{length-take-le}
 use Rattle.std.proofs.lemmas.List.Sums.{common_prefix_len-le}
+pub use Rattle.id_digits.proofs.DigitOrder.{take_less}
 use Rattle.gix_hash.specs.Prefixes.{BeginsWith, IsCommonLen}
 
-abbrev common : List ℕ → List ℕ → ℕ
+abbrev pub common : List ℕ → List ℕ → ℕ
 common = common_prefix_len nat_eq
 
 -- two lists have the same first digits, as many as they share
-take-common : (xs ys : List ℕ) → take (common xs ys) xs ≡ take (common xs ys) ys
+pub take-common : (xs ys : List ℕ) → take (common xs ys) xs ≡ take (common xs ys) ys
 take-common [] ys = refl
 take-common (x ∷ xs) [] = refl
 take-common (x ∷ xs) (y ∷ ys) = by (nat_eq x y) refl (take-common xs ys)
@@ -27,7 +28,7 @@ common-appended (d ∷ digits) xs ys =
     let more = common-appended digits xs ys in
     grind (arith, nat_tests, more)
 
-begins_both : (xs ys digits : List ℕ) → BeginsWith xs digits → BeginsWith ys digits → length digits ≤ common xs ys
+pub begins_both : (xs ys digits : List ℕ) → BeginsWith xs digits → BeginsWith ys digits → length digits ≤ common xs ys
 begins_both xs ys digits first second = rw (first.1, second.1) (common-appended digits first.0 second.0)
 
 -- the number of shared digits, in terms of prefixes

@@ -2,7 +2,7 @@ mod Accepted
 mod Alphabets
 mod BufferEnds
 mod Chunks
-mod CommonBeginnings
+pub mod CommonBeginnings
 pub mod Equalities
 mod FrontReading
 mod HexReading
@@ -17,5 +17,5 @@ mod Packing
 mod PlaceLaws
 mod Reaching
 mod ReadingLaws
-mod SpellingLaws
+pub mod SpellingLaws
 mod Spellings

@@ -1,15 +1,17 @@
 -- How many first digits ids of a sorted list have in common.
-use Rattle.std.proofs.Common.{◌≡◌, ℕ, zero, suc, ◌+◌, ◌<◌, ◌≤◌, true, false, Less, List, [], ◌∷◌, length, take, cond, nat_eq, ◌&&◌, refl, sym, ◌∙◌, arith, true≢false}
-use Rattle.std.specs.List.{common_prefix_len, starts_with}
+use Rattle.std.proofs.Common.{◌≡◌, ℕ, ◌+◌, ◌<◌, ◌≤◌, true, false, Less, List, [], ◌∷◌, length, take, drop, cond, nat_eq, refl, sym, ap, ◌∙◌, arith, true≢false}
+use Rattle.std.specs.List.{starts_with}
 use Rattle.std.specs.declared.cmp.Ordering.{Ordering}
 use Rattle.std.specs.Ordering.{nat_cmp, is_lt, ordering_then}
-use Rattle.std.specs.Cmp.Lexicographic.{slice_cmp}
+use Rattle.std.specs.Cmp.Lexicographic.{bytes_decides, slice_cmp}
+use Rattle.std.proofs.lemmas.Bool.{false_from_ne_true}
 use Rattle.std.proofs.lemmas.Bool.Decides.{nat_tests}
 use Rattle.std.proofs.lemmas.Cmp.{nat_eq_equiv}
+use Rattle.std.proofs.lemmas.List.{length-take-le, take-append-drop, take-take}
+pub use Rattle.gix_hash.proofs.CommonBeginnings.{common}
+use Rattle.gix_hash.proofs.CommonBeginnings.{begins_both, take-common}
 use Rattle.id_lookup.proofs.FirstByteOrder.{by_cmp}
-
-abbrev pub common : List ℕ → List ℕ → ℕ
-common = common_prefix_len nat_eq
+use Rattle.id_lookup.proofs.Spelled.{starts_with-BeginsWith}
 
 pub cond_yes : (a b n : ℕ) → a ≡ b → cond (nat_eq a b) n 0 ≡ n
 cond_yes a b n h = grind (arith, nat_tests)
@@ -43,26 +45,14 @@ common-between (a ∷ xs) (b ∷ ys) (c ∷ zs) h g =
 
 -- a list begins with another's first n digits if and only if n are common
 pub begins-common : (n : ℕ) (x y : List ℕ) → n ≤ length x → n ≤ common x y → starts_with nat_eq y (take n x) ≡ true
-begins-common zero x y within few = refl
-begins-common (suc n) [] y within few = absurd (omega arith)
-begins-common (suc n) (a ∷ xs) [] within few = absurd (omega arith)
-begins-common (suc n) (a ∷ xs) (b ∷ ys) within few =
-    let rest : n ≤ common xs ys → starts_with nat_eq ys (take n xs) ≡ true = begins-common n xs ys (omega arith) in
-    elim (nat_eq a b) as (λ t. suc n ≤ cond t (1 + common xs ys) 0 → (t && starts_with nat_eq ys (take n xs)) ≡ true) [
-      | true ↦ λ f. rest (omega arith)
-      | false ↦ λ f. absurd (omega arith)
-    ] few
+begins-common n x y within few =
+    let same : take n x ≡ take n y = sym (take-take n (common x y) x few) ∙ ap (take n) (take-common x y) ∙ take-take n (common x y) y few in
+    (bytes_decides (take n x) (take (length (take n x)) y)).1 (same ∙ ap (λ k. take k y) (sym (length-take-le n x within)))
 
 pub begins-apart : (n : ℕ) (x y : List ℕ) → n ≤ length x → common x y < n → starts_with nat_eq y (take n x) ≡ false
-begins-apart zero x y within many = absurd (omega arith)
-begins-apart (suc n) [] y within many = absurd (omega arith)
-begins-apart (suc n) (a ∷ xs) [] within many = refl
-begins-apart (suc n) (a ∷ xs) (b ∷ ys) within many =
-    let rest : common xs ys < n → starts_with nat_eq ys (take n xs) ≡ false = begins-apart n xs ys (omega arith) in
-    elim (nat_eq a b) as (λ t. cond t (1 + common xs ys) 0 < suc n → (t && starts_with nat_eq ys (take n xs)) ≡ false) [
-      | true ↦ λ f. rest (omega arith)
-      | false ↦ λ f. refl
-    ] many
+begins-apart n x y within many = false_from_ne_true _ (λ begins.
+    let shared = begins_both x y (take n x) (drop n x, sym (take-append-drop n x)) ((starts_with-BeginsWith y (take n x)).0 begins) in
+    omega (arith, length-take-le n x within))
 
 -- two lists of one length, of which one is below the other, differ somewhere
 pub common-differ : (x y : List ℕ) → length x ≡ length y → slice_cmp nat_cmp x y ≡ Less → common x y < length x

@@ -1,19 +1,16 @@
 -- Lists that are sorted by an order of their ids, in words of the ids' digits.
 use Rattle.std.proofs.Common.{◌≡◌, ◌+◌, ◌<◌, Bool, List, [], ◌∷◌, length, get_or, map, sym, ap, ◌∙◌, arith}
-use Rattle.std.specs.Cmp.Lexicographic.{slice_cmp}
 use Rattle.std.specs.List.{All}
 use Rattle.std.specs.List.Sorted.{IsSortedBy, IsStrictlySortedBy}
-use Rattle.std.specs.Ordering.{nat_cmp, ordering_then}
-use Rattle.std.specs.declared.cmp.Ordering.TheVariants.{Less, Equal}
-use Rattle.std.proofs.lemmas.Cmp.{nat_cmp_total, tied_itself}
 use Rattle.std.proofs.lemmas.List.{get_or-map, length-map}
 use Rattle.std.proofs.lemmas.Map.Keys.{Less-from_sorted}
-use Rattle.gix_hash.specs.Kinds.{hex_len_of, number_of}
-use Rattle.gix_hash.specs.Ids.{id_cmp, id_digits, id_kind, id_kind_number}
+use Rattle.gix_hash.specs.Kinds.{hex_len_of}
+use Rattle.gix_hash.specs.Ids.{id_cmp, id_digits, id_kind}
 use Rattle.gix_hash.specs.declared.Kind.{Kind}
 use Rattle.gix_hash.specs.declared.ObjectId.{ObjectId}
 use Rattle.gix_hash.specs.declared.ObjectId.TheVariants.{Sha1}
 use Rattle.id_lookup.specs.Indexes.{IsIndex}
+use Rattle.gix_hash.proofs.SpellingLaws.{id_cmp-digits}
 use Rattle.id_lookup.proofs.Indexes.{same_kind}
 
 -- a list that is sorted by a test of what f gives is mapped to a sorted one
@@ -24,13 +21,6 @@ sorted-map f lt (x ∷ xs) sorted k d low high =
     let here = get_or-map f (x ∷ xs) k x d (omega arith) in
     let next = get_or-map f (x ∷ xs) (k + 1) x d inside in
     rw (here, next) (sorted k x low inside)
-
--- ids of one kind have the order of their digits
-digits_cmp : (a b : ObjectId) → id_kind a ≡ id_kind b → id_cmp a b ≡ Less → slice_cmp nat_cmp (id_digits a) (id_digits b) ≡ Less
-digits_cmp a b same less =
-    let tie : nat_cmp (id_kind_number a) (id_kind_number b) ≡ Equal =
-    ap (λ kind. nat_cmp (number_of kind) (id_kind_number b)) same ∙ tied_itself nat_cmp_total (id_kind_number b) in
-    sym (ap (λ o. ordering_then o (slice_cmp nat_cmp (id_digits a) (id_digits b))) tie) ∙ less
 
 module _ (kind : Kind) (ids : List ObjectId) (long : All (λ id. length (id_digits id) ≡ hex_len_of (id_kind id)) ids) where
   -- strictly sorted ids of one kind are an index
@@ -44,8 +34,8 @@ module _ (kind : Kind) (ids : List ObjectId) (long : All (λ id. length (id_digi
             let inside : k + 1 < length ids = omega (arith, high, length-map ids id_digits) in
             let here = get_or-map id_digits ids k (Sha1 []) d (omega arith) in
             let next = get_or-map id_digits ids (k + 1) (Sha1 []) d inside in
-            rw (here, next) (digits_cmp (get_or ids k (Sha1 [])) (get_or ids (k + 1) (Sha1 []))
-            (of_kind k (Sha1 []) (omega arith) ∙ sym (of_kind (k + 1) (Sha1 []) inside)) (Less-from_sorted id_cmp ids k (k + 1) (Sha1 []) strict (omega arith) inside));
+            rw (here, next) (sym (id_cmp-digits _ _ (of_kind k (Sha1 []) (omega arith) ∙ sym (of_kind (k + 1) (Sha1 []) inside)))
+            ∙ Less-from_sorted id_cmp ids k (k + 1) (Sha1 []) strict (omega arith) inside);
       }
 
   -- the ids of an index are of its kind

@@ -1,31 +1,24 @@
 -- Against the members of a sorted list the place of a prefix is first Greater, then Equal, then Less.
-use Rattle.std.proofs.Common.{◌≡◌, ℕ, zero, suc, ◌≤◌, true, false, List, [], ◌∷◌, length, take, get_or, refl, sym, ap, ◌∙◌, arith}
+use Rattle.std.proofs.Common.{◌≡◌, ℕ, ◌≤◌, true, false, List, length, take, get_or, refl, sym, ap, ◌∙◌, arith}
 use Rattle.std.specs.declared.cmp.Ordering.{Ordering}
 use Rattle.std.specs.declared.cmp.Ordering.TheVariants.{Less, Equal, Greater}
-use Rattle.std.specs.Ordering.{nat_cmp, is_lt, ordering_then, ordering_reverse, ordering_index}
+use Rattle.std.specs.Ordering.{nat_cmp, is_lt, ordering_reverse, ordering_index}
 use Rattle.std.specs.Cmp.Lexicographic.{slice_cmp}
 use Rattle.std.specs.List.Sorted.{IsNonDecreasingBy, IsPartitionedBy}
 use Rattle.std.proofs.lemmas.Cmp.{nat_list_cmp_total}
 use Rattle.std.proofs.lemmas.List.Sorted.{searchable_from_sorted}
+use Rattle.std.proofs.lemmas.Bool.{false≢true}
+use Rattle.gix_hash.proofs.CommonBeginnings.{take_less}
+use Rattle.id_lookup.proofs.Ordered.{not_less}
 use Rattle.gix_hash.specs.Prefixes.{KindDigits}
 use Rattle.gix_hash.specs.Digits.{place}
 use Rattle.id_lookup.specs.declared.search.Bound.{Bound}
 use Rattle.id_lookup.specs.declared.search.Bound.TheVariants.{Start, End}
 use Rattle.id_lookup.specs.Runs.{IsSortedIds, is_before_bound}
 
--- if two lists with equal or greater headers are in order, and their tails in order make others so, the others are in order
-then_not_less : (o p q : Ordering) → (is_lt p ≡ false → is_lt q ≡ false) → is_lt (ordering_then o p) ≡ false → is_lt (ordering_then o q) ≡ false
-then_not_less Less p q f h = h
-then_not_less Equal p q f h = f h
-then_not_less Greater p q f h = refl
-
 -- if a list is not below another, nor are its first n elements below the other's
 take_not_less : (n : ℕ) (xs ys : List ℕ) → is_lt (slice_cmp nat_cmp xs ys) ≡ false → is_lt (slice_cmp nat_cmp (take n xs) (take n ys)) ≡ false
-take_not_less zero xs ys h = refl
-take_not_less (suc n) [] [] h = refl
-take_not_less (suc n) [] (y ∷ ys) h = h
-take_not_less (suc n) (x ∷ xs) [] h = refl
-take_not_less (suc n) (x ∷ xs) (y ∷ ys) h = then_not_less (nat_cmp x y) _ _ (take_not_less n xs ys) h
+take_not_less n xs ys h = not_less _ (λ less. false≢true (sym h ∙ ap is_lt (take_less n xs ys less)))
 
 -- the first digits of the members compare ever higher with the prefix
 first_digits_nondecreasing : (prefix : KindDigits) (ids : List (List ℕ)) → IsSortedIds ids

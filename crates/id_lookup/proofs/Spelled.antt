@@ -1,27 +1,23 @@
 -- Lowercase hex spellings are equal if and only if the digits are, since distinct digits have distinct letters.
-use Rattle.std.proofs.Common.{◌≡◌, ℕ, ◌↔◌, true, ◌&&◌, List, [], ◌∷◌, length, take, drop, nat_eq, refl, ap, ◌∙◌, arith}
+use Rattle.std.proofs.Common.{◌≡◌, ℕ, ◌↔◌, true, List, length, take, drop, nat_eq, refl, ap, ◌∙◌}
 use Rattle.std.specs.Ordering.{is_eq}
 use Rattle.std.specs.declared.cmp.Ordering.{Ordering}
 use Rattle.std.specs.declared.cmp.Ordering.TheVariants.{Less, Equal, Greater}
-use Rattle.std.specs.Cmp.Lexicographic.{pointwise, texts_ties}
+use Rattle.std.specs.Cmp.Lexicographic.{bytes_decides, pointwise, texts_ties}
 use Rattle.std.specs.List.{starts_with}
-use Rattle.std.proofs.lemmas.Bool.Decides.{Decides-eqb, nat_tests}
+use Rattle.std.proofs.lemmas.Bool.Decides.{Decides-eqb, Decides-like, same_from_decides}
 use Rattle.std.proofs.lemmas.List.{take-map, length-map}
 use Rattle.std.proofs.lemmas.Slice.Eq.{starts_is}
 use Rattle.gix_hash.specs.Digits.{hex_letter, place, spelling}
 use Rattle.gix_hash.specs.Prefixes.{KindDigits, BeginsWith}
+use Rattle.gix_hash.proofs.SpellingLaws.{spelling-injective}
 use Rattle.id_lookup.specs.Runs.{begins_with}
-
--- distinct numbers have distinct letters
-same_letter : (x y : ℕ) → nat_eq (hex_letter x) (hex_letter y) ≡ nat_eq x y
-same_letter x y = grind (arith, nat_tests)
 
 -- spellings are equal if and only if the digits are
 pointwise-spelling : (xs ys : List ℕ) → pointwise nat_eq (spelling hex_letter xs) (spelling hex_letter ys) ≡ pointwise nat_eq xs ys
-pointwise-spelling [] [] = refl
-pointwise-spelling [] (y ∷ ys) = refl
-pointwise-spelling (x ∷ xs) [] = refl
-pointwise-spelling (x ∷ xs) (y ∷ ys) = λ i. same_letter x y i && pointwise-spelling xs ys i
+pointwise-spelling xs ys =
+    same_from_decides _ _ (Decides-like _ (spelling-injective xs ys) (ap (spelling hex_letter)) (bytes_decides (spelling hex_letter xs) (spelling hex_letter ys)))
+    (bytes_decides xs ys)
 
 -- a spelling begins with another if and only if its digits begin with the other's
 pub starts_with-spelling : (ds ps : List ℕ)
