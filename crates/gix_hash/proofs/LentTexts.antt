@@ -2,28 +2,28 @@
 --     lending          the code of `front_text(self, with_digits(self, buffer))`
 --     Fills, Fronts    what it needs of the two functions that it calls
 --     lends            it runs to `post`, if the tokens, what is owned at the end and the `ensures` give `post`
-use Rattle.std.proofs.Common.{◌≡◌, ℕ, ◌≤◌, List, [], ◌∷◌, ◌++◌, Bor, MutBor, length, refl, ap, w8}
+use Rattle.std.proofs.Common.{◌≡◌, ℕ, ◌≤◌, List, ◌++◌, Bor, MutBor, ap, w8}
 use Rattle.std.specs.Prelude.{IsAscii}
 use Rattle.gix_hash.specs.Loans.{IsLeftAs}
 use Rattle.gix_hash.proofs.BufferEnds.{ends}
-use mir.Syntax.{Ty, Lifetime, Callee, Fn, named, erased, imm, mut, ty_ref, ty_int, local, value_local, place, field, deref, copy, addr_of, aggregate, assign, call, seq, return}
+pub use mir.Syntax.{Ty, Lifetime, Callee, Fn, named, erased, imm, mut, ty_ref, ty_int, local, value_local, place, field, deref, copy, addr_of, aggregate, assign, call, seq, return}
 use mir.Val.{Val, vptr}
 use seplogic.Ra.Ura.{Ura}
-use base.Fml.{Fml, Lft, Share, ftrue, flft, fsep}
-use base.Logic.{SProp, ent, ex, sep, id⊢, emp}
+pub use base.Fml.{Fml, Lft, Share, ftrue, flft, fsep}
+pub use base.Logic.{SProp, ent, ex, sep, id⊢, emp}
 use contract.Monad.{fact, fact_i}
 use contract.Running.{Running, MachineTables, tables}
 use prog.Model.{Model}
 use prog.Wp.{WpFn}
-use types.Logic.{Logic, sem}
+pub use types.Logic.{Logic, sem}
 use types.Kit.{‵, raw, ◌⊛◌, some, later, ◌$◌, ◌∵◌, !, qed, by, move, drop as let_go, use0, use1, use2, split, join, fsplit, fjoin, feq_i, feq_l, pick, await, rewrite}
 use types.Part.{whole, sub, agg}
 use types.Run.{enter, addr, from, fld, hop, stop, no_more, and_then, returns}
 use types.ByLocal.{alloc_all, pass_all, free_all, look_at, look_in_at, get, get_in, sets, lands_as}
-use denote.Builtin.{u8}
+pub use denote.Builtin.{u8}
 use denote.Laws.{Is, shows}
 use denote.Plain.{uint_row_laws}
-use denote.Slice.{MutSlice, ShrSlice, Room, finally, slice_ty, slice_val, mut_slice_vals, shr_slice_vals}
+pub use denote.Slice.{MutSlice, ShrSlice, Room, finally, slice_ty, slice_val, mut_slice_vals, mut_slice_Tells, shr_slice_vals}
 use denote.Steps.{nothing, heard, peeks, only}
 use denote.Text.{Str}
 use denote.Triple.Call.{calls_at}
@@ -33,6 +33,16 @@ use borrow.Rule.Slice.Handed.{sl_Share}
 use borrow.Table.Copies.{c_rf, Shares-copy}
 use borrow.Table.Owned as own
 use borrow.Table.Referent.{f_int}
+-- what the proofs of `hex_to_buf` cite besides
+pub use Rattle.std.proofs.Common.{[], ◌∷◌, length, drop, refl}
+pub use Rattle.std.proofs.raw_atomic.Walks.{proved, leaves}
+pub use Rattle.id_digits.specs.Digits.{spelling, hex_letter}
+pub use denote.Exit.{yes, no}
+pub use denote.Ref.{ShrRef, shr_vals, shr_Tells, shr_copy}
+pub use denote.Signature.{plain, mut_slice_of, shr_ref_to}
+pub use denote.Triple.Entry.{alive}
+pub use denote.Triple.Clauses.{lasts}
+pub use denote.Triple.Walked.{Stays, walk_of, stay_dropped, Goes-dropped, Goes-spent_slice}
 
 -- with the lifetimes of the signature and their bounds, what `self` refers to, the buffer's lifetime, and the two functions
 abbrev pub lending : ℕ → List (ℕ × ℕ) → Ty → Lifetime → Callee → Callee → Fn

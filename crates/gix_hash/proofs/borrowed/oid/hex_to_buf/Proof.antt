@@ -1,24 +1,11 @@
 -- By hand, as `LentTexts` shows it of every id. Assumes `Logic`.
-use Rattle.std.proofs.Common.{[], ◌∷◌, length, drop, refl}
-use Rattle.id_digits.specs.Digits.{spelling, hex_letter}
-use Rattle.std.proofs.raw_atomic.Walks.{proved, leaves}
+use Rattle.gix_hash.proofs.LentTexts.{[], ◌∷◌, length, drop, refl, spelling, hex_letter, proved, leaves, lends, named, flft, sem, u8, yes, no, ShrRef, shr_vals, shr_Tells, shr_copy, plain, mut_slice_of, shr_ref_to, slice_val, mut_slice_vals, mut_slice_Tells, shr_slice_vals, alive, lasts, Stays, walk_of, stay_dropped, Goes-dropped, Goes-spent_slice, ftrue, fsep, sep}
+use base.Logic.{assoc∗, assoc'}
+use denote.Signature.{named_lft}
 use Rattle.gix_hash.specs.Kinds.{hex_len_of}
 use Rattle.gix_hash.specs.Ids.{oid_digits, oid_kind}
 use Rattle.gix_hash.specs.contracts.borrowed.oid as id_type
 use Rattle.gix_hash.proofs.borrowed.oid.TheLaws as id_laws
-use Rattle.gix_hash.proofs.LentTexts.{lends}
-use mir.Syntax.{named}
-use base.Fml.{ftrue, flft, fsep}
-use base.Logic.{sep, assoc∗, assoc'}
-use types.Logic.{sem}
-use denote.Builtin.{u8}
-use denote.Exit.{yes, no}
-use denote.Ref.{ShrRef, shr_vals, shr_Tells, shr_copy}
-use denote.Signature.{plain, named_lft, mut_slice_of, shr_ref_to}
-use denote.Slice.{slice_val, mut_slice_vals, mut_slice_Tells, shr_slice_vals}
-use denote.Triple.Entry.{alive}
-use denote.Triple.Clauses.{lasts}
-use denote.Triple.Walked.{Stays, walk_of, stay_dropped, Goes-dropped, Goes-spent_slice}
 use Rattle.gix_hash.specs.contracts.borrowed.oid.hex_to_buf as f
 use Rattle.gix_hash.specs.contracts.borrowed.oid.with_digits as fill
 use Rattle.gix_hash.specs.contracts.borrowed.oid.front_text as front
