@@ -1,16 +1,14 @@
 -- How many first digits ids of a sorted list have in common.
-use Rattle.std.proofs.Common.{◌≡◌, ℕ, ◌+◌, ◌<◌, ◌≤◌, true, false, Less, List, [], ◌∷◌, length, take, drop, cond, nat_eq, refl, sym, ap, ◌∙◌, arith, true≢false}
+use Rattle.std.proofs.Common.{◌≡◌, ℕ, ◌+◌, ◌<◌, ◌≤◌, true, false, Less, List, [], ◌∷◌, length, take, drop, cond, nat_eq, inl, inr, refl, sym, ap, ◌∙◌, subst, take_all, arith, true≢false}
 use Rattle.std.specs.List.{starts_with}
-use Rattle.std.specs.declared.cmp.Ordering.{Ordering}
-use Rattle.std.specs.Ordering.{nat_cmp, is_lt, ordering_then}
+use Rattle.std.specs.Ordering.{nat_cmp, is_lt}
 use Rattle.std.specs.Cmp.Lexicographic.{bytes_decides, slice_cmp}
-use Rattle.std.proofs.lemmas.Bool.{false_from_ne_true}
+use Rattle.std.proofs.lemmas.Bool.{cases_lt, false_from_ne_true}
 use Rattle.std.proofs.lemmas.Bool.Decides.{nat_tests}
-use Rattle.std.proofs.lemmas.Cmp.{nat_eq_equiv}
+use Rattle.std.proofs.lemmas.Cmp.{nat_eq_equiv, nat_list_cmp_total, tied_itself}
 use Rattle.std.proofs.lemmas.List.{length-take-le, take-append-drop, take-take}
 pub use Rattle.gix_hash.proofs.CommonBeginnings.{common}
 use Rattle.gix_hash.proofs.CommonBeginnings.{begins_both, take-common}
-use Rattle.id_lookup.proofs.FirstByteOrder.{by_cmp}
 use Rattle.id_lookup.proofs.Spelled.{starts_with-BeginsWith}
 
 pub cond_yes : (a b n : ℕ) → a ≡ b → cond (nat_eq a b) n 0 ≡ n
@@ -31,17 +29,7 @@ common-between (a ∷ xs) (b ∷ ys) [] h g = (omega arith, omega arith)
 common-between (a ∷ xs) (b ∷ ys) (c ∷ zs) h g =
     let rest : is_lt (slice_cmp nat_cmp ys xs) ≡ false → is_lt (slice_cmp nat_cmp zs ys) ≡ false → (common xs zs ≤ common xs ys) × (common xs zs ≤ common ys zs) =
     common-between xs ys zs in
-    let goal : Type 0 = (common (a ∷ xs) (c ∷ zs) ≤ common (a ∷ xs) (b ∷ ys)) × (common (a ∷ xs) (c ∷ zs) ≤ common (b ∷ ys) (c ∷ zs)) in
-    let apart : a < c → goal = λ l. rw (cond_no' a c (1 + common xs zs) l) (omega arith, omega arith) in
-    let next : Ordering → Type 0 = λ o. is_lt (ordering_then o (slice_cmp nat_cmp zs ys)) ≡ false → goal in
-    by_cmp b a (λ o. is_lt (ordering_then o (slice_cmp nat_cmp ys xs)) ≡ false → goal)
-    (λ l h. absurd (true≢false h))
-    (λ l h. by_cmp c b next
-    (λ m g. absurd (true≢false g))
-    (λ m g. rw (cond_yes a c (1 + common xs zs) (sym (m ∙ l)), cond_yes a b (1 + common xs ys) (sym l), cond_yes b c (1 + common ys zs) (sym m))
-    (omega (arith, (rest h g).0), omega (arith, (rest h g).1)))
-    (λ m g. apart (omega arith)) g)
-    (λ l h. by_cmp c b next (λ m g. absurd (true≢false g)) (λ m g. apart (omega arith)) (λ m g. apart (omega arith)) g) h
+    (grind (arith, nat_tests, rest), grind (arith, nat_tests, rest))
 
 -- a list begins with another's first n digits if and only if n are common
 pub begins-common : (n : ℕ) (x y : List ℕ) → n ≤ length x → n ≤ common x y → starts_with nat_eq y (take n x) ≡ true
@@ -56,15 +44,13 @@ begins-apart n x y within many = false_from_ne_true _ (λ begins.
 
 -- two lists of one length, of which one is below the other, differ somewhere
 pub common-differ : (x y : List ℕ) → length x ≡ length y → slice_cmp nat_cmp x y ≡ Less → common x y < length x
-common-differ [] [] same less = cc
-common-differ [] (b ∷ ys) same less = absurd (omega arith)
-common-differ (a ∷ xs) [] same less = cc
-common-differ (a ∷ xs) (b ∷ ys) same less =
-    let rest : slice_cmp nat_cmp xs ys ≡ Less → common xs ys < length xs = common-differ xs ys (omega arith) in
-    by_cmp a b (λ o. ordering_then o (slice_cmp nat_cmp xs ys) ≡ Less → cond (nat_eq a b) (1 + common xs ys) 0 < length (a ∷ xs))
-    (λ l h. rw (cond_no' a b (1 + common xs ys) l) (omega arith))
-    (λ l h. rw (cond_yes a b (1 + common xs ys) l) (omega (arith, rest h)))
-    (λ l h. rw (cond_no a b (1 + common xs ys) l) (omega arith)) less
+common-differ x y same less = elim (cases_lt (common x y) (length x)) [
+  | inl few ↦ few
+  | inr all ↦
+      let equal : x ≡ y = sym (take_all (common x y) x all) ∙ take-common x y ∙ take_all (common x y) y (omega arith) in
+      let below : slice_cmp nat_cmp y y ≡ Less = subst (λ (xs : List ℕ). slice_cmp nat_cmp xs y ≡ Less) equal less in
+      let tied = tied_itself nat_list_cmp_total y in cc
+]
 
 pub common-symm : (x y : List ℕ) → common x y ≡ common y x
 common-symm [] [] = refl

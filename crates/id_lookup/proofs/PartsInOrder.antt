@@ -1,9 +1,9 @@
 -- In a sorted list the ids with a first byte are a run, and the parts one after the other are the list.
-use Rattle.std.proofs.Common.{◌≡◌, ℕ, zero, suc, ◌+◌, ◌-◌, ◌*◌, ◌<◌, ◌≤◌, true, false, ltb, leb, List, [], ◌∷◌, ◌++◌, length, get_or, slice_index, take, drop, sym, ap, ◌∙◌, subst, take-add, take_all, arith, true≢false, length-drop}
+use Rattle.std.proofs.Common.{◌≡◌, ℕ, zero, suc, ◌+◌, ◌-◌, ◌<◌, ◌≤◌, true, false, ltb, leb, List, [], ◌∷◌, ◌++◌, length, get_or, slice_index, take, drop, sym, ap, ◌∙◌, subst, take-add, take_all, arith, true≢false, length-drop}
 use Rattle.std.specs.Prelude.{slice_range}
 use Rattle.std.specs.List.{All, count_by, flat_map, range_with_len}
 use Rattle.std.specs.List.Sorted.{IsNonDecreasingBy}
-use Rattle.std.specs.Ordering.{nat_cmp, is_lt, ordering_then}
+use Rattle.std.specs.Ordering.{nat_cmp, is_lt}
 use Rattle.std.specs.Cmp.Lexicographic.{slice_cmp}
 use Rattle.std.proofs.lemmas.Bool.{eq-eqb, le-ltb, leb-true, lt-ltb, ltb-false, ltb-true}
 use Rattle.std.proofs.lemmas.Bool.Decides.{nat_tests}
@@ -14,7 +14,6 @@ use Rattle.gix_hash.specs.Digits.{first_byte_of}
 use Rattle.id_lookup.specs.Runs.{IsSortedIds, has_first_byte, is_below, is_up_to}
 use Rattle.id_lookup.proofs.Counting.{passes_below}
 use Rattle.id_lookup.proofs.FirstByteCounts.{count_by-below_0, count_by-le, count_by-up_to}
-use Rattle.id_lookup.proofs.FirstByteOrder.{by_cmp}
 use Rattle.id_lookup.proofs.Ordered.{sorted-in_order}
 use Rattle.id_lookup.specs.Indexes.{part_of}
 use Rattle.id_lookup.proofs.FilterCounted.{count_all, filter_counted}
@@ -24,16 +23,12 @@ second-up : (xs ys : List ℕ) → is_lt (slice_cmp nat_cmp ys xs) ≡ false →
 second-up [] ys h = omega arith
 second-up (x ∷ xs) [] h = absurd (true≢false h)
 second-up (x ∷ xs) (y ∷ ys) h =
-    by_cmp y x (λ o. is_lt (ordering_then o (slice_cmp nat_cmp ys xs)) ≡ false → x ≤ y) (λ l g. absurd (true≢false g)) (λ l g. omega arith) (λ l g. omega arith) h
+    grind (arith, nat_tests)
 
 first_byte-up : (x y : List ℕ) → slice_index x 1 < 16 → is_lt (slice_cmp nat_cmp y x) ≡ false → first_byte_of x ≤ first_byte_of y
 first_byte-up [] y low h = omega arith
 first_byte-up (a ∷ xs) [] low h = absurd (true≢false h)
-first_byte-up (a ∷ xs) (b ∷ ys) low h =
-    by_cmp b a (λ o. is_lt (ordering_then o (slice_cmp nat_cmp ys xs)) ≡ false → 16 * a + slice_index xs 0 ≤ 16 * b + slice_index ys 0)
-    (λ l g. absurd (true≢false g))
-    (λ l g. let next = second-up xs ys g in omega (arith, next, l))
-    (λ l g. omega (arith, low, l)) h
+first_byte-up (a ∷ xs) (b ∷ ys) low h = grind (arith, nat_tests, second-up xs ys)
 
 module _ (ids : List (List ℕ)) (sorted : IsSortedIds ids) (small : All (λ id. slice_index id 1 < 16) ids) where
   in_order : IsNonDecreasingBy first_byte_of ids
