@@ -5,7 +5,7 @@ use Rattle.std.proofs.KnownBytes.{Consumes-trans, Consumes-kept}
 use Rattle.std.specs.Io.KnownBytes.{Consumes, Keeps, IsAtEnd, Appends}
 use Rattle.std.proofs.Math.Seq.{take-append_seam}
 use Rattle.gix_hash.specs.declared.ObjectId.{ObjectId}
-use Rattle.oidtool_commands.specs.Searches.{HasSearched, HoldsOfAll, IsSettled, GivesGoodLines, GivesTooMuch, Fails, Finds, FoundHolds, From, Given, IsOwn, OfAll, Stops, found_among, found_in_list, found_texts, letter_for, prefix_of}
+use Rattle.oidtool_commands.specs.Searches.{HasSearched, HoldsOfAll, IsSettled, GivesGoodLines, GivesTooMuch, Fails, Finds, FoundHolds, From, Searched, IsOwn, OfAll, Stops, found_among, found_in_list, found_texts, letter_for, prefix_of}
 use Rattle.oidtool_commands.specs.Lists.{HasTaken, NoBadLineEnded, list_read, IsListRefusal}
 use Rattle.oidtool_commands.specs.declared.search.finder.Finder.{Finder}
 use Rattle.oidtool_commands.specs.declared.search.list_reader.ListReader.{ListReader}
@@ -130,7 +130,7 @@ refused_stops search digits most old new Memory stops = (stops, λ is. cc is)
 refused_stops search digits most old new error stops = absurd (elim stops.holds [ inl whatever ↦ whatever [] | inr at_end ↦ at_end.0 ])
 
 -- and so does an error of the ids, at the end
-ids_stop : (answer : List ℕ → Result (List (List ℕ)) SearchError) (given : Given) (search : Search) (digits : List ℕ) (ids : List (List ℕ)) (error : SearchError)
+ids_stop : (answer : List ℕ → Result (List (List ℕ)) SearchError) (given : Searched) (search : Search) (digits : List ℕ) (ids : List (List ℕ)) (error : SearchError)
     → FoundHolds search digits ids (Err error) → OfAll given (λ text. answer text ≡ Err error) → Stops answer given error × (error ≢ Input)
 ids_stop answer given (Sorted alphabet) digits ids (Unsorted n) h all = (all, λ is. cc is)
 ids_stop answer given (Sorted alphabet) digits ids (PrefixTooLong hex_len least) h all = (all, λ is. cc is)
@@ -139,11 +139,11 @@ ids_stop answer given (In kind) digits ids (NotRising n) h all = (all, λ is. cc
 ids_stop answer given search digits ids error h all = absurd h
 
 -- what the result of a search over a source says, where `failed` says whether the source has failed
-abbrev pub IsExit : {V : Type 0} → Result V SearchError → (V → List (List ℕ)) → Search → List ℕ → Given → Bool → Type 0
+abbrev pub IsExit : {V : Type 0} → Result V SearchError → (V → List (List ℕ)) → Search → List ℕ → Searched → Bool → Type 0
 IsExit found view search digits given failed = IfOk found (λ v. OfAll given (λ t. found_in_list search digits (list_read t) ≡ Ok (view v))) × OnOk found (failed ≡ false)
     × IfErr found (Stops (λ t. found_in_list search digits (list_read t)) given) × (IsErrOf found Input ↔ (failed ≡ true))
 
-error_exit : {V : Type 0} (view : V → List (List ℕ)) (search : Search) (digits : List ℕ) (given : Given) (failed : Bool) (error : SearchError) → failed ≡ false
+error_exit : {V : Type 0} (view : V → List (List ℕ)) (search : Search) (digits : List ℕ) (given : Searched) (failed : Bool) (error : SearchError) → failed ≡ false
     → Stops (λ t. found_in_list search digits (list_read t)) given error × (error ≢ Input) → IsExit {V = V} (Err error) view search digits given failed
 error_exit view search digits given failed error stands s = (tt, tt, s.0, (λ input. absurd (s.1 (cc input)), λ h. absurd (false≢true (sym stands ∙ h))))
 

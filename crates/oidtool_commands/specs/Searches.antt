@@ -194,10 +194,10 @@ IsRefusedIn search digits reader finder bytes error = (text more : List ℕ) →
 
 -- Where a search stops in what it is given, and what it has written then.
 
--- what a search is given: a text, or the bytes of a source before and after, of which at most this number was taken
-pub data Given : Type 0 where
-  Text : List ℕ → Given
-  From : ℕ → Option (List ℕ) → Option (List ℕ) → Given
+-- what is searched: a text, or the bytes of a source before and after, of which at most this number was taken
+pub data Searched : Type 0 where
+  Text : List ℕ → Searched
+  From : ℕ → Option (List ℕ) → Option (List ℕ) → Searched
 
 -- the bytes that were read settle a statement on all bytes of a source: it holds of the first, at most `most`, whatever follows them, or the source is at its end and it holds of all
 pub record IsSettled (Holds : List ℕ → Type 0) (most : ℕ) (old new : Option (List ℕ)) : Type 0 where
@@ -230,28 +230,28 @@ pub record GivesTooMuch (most : ℕ) (old new : Option (List ℕ)) : Type 0 wher
   pub good : NoBadLineEnded (take most bytes)
 
 -- a statement on the text is settled
-abbrev pub Settles : Given → (List ℕ → Type 0) → Type 0
+abbrev pub Settles : Searched → (List ℕ → Type 0) → Type 0
 Settles (Text text) Holds = Holds text
 Settles (From most old new) Holds = IsSettled Holds most old new
 
 -- it holds of all of the text
-abbrev pub OfAll : Given → (List ℕ → Type 0) → Type 0
+abbrev pub OfAll : Searched → (List ℕ → Type 0) → Type 0
 OfAll (Text text) Holds = Holds text
 OfAll (From most old new) Holds = HoldsOfAll Holds most old new
 
 -- a read failed
-abbrev pub IsUnread : Given → Type 0
+abbrev pub IsUnread : Searched → Type 0
 IsUnread (Text text) = ⊥
 IsUnread (From most old new) = GivesGoodLines most old new
 
 -- there is too much
-abbrev pub IsTooMuch : Given → Type 0
+abbrev pub IsTooMuch : Searched → Type 0
 IsTooMuch (Text text) = ⊥
 IsTooMuch (From most old new) = GivesTooMuch most old new
 
 -- where a search with this result for each text stops, if its prefix reads and nothing is written. A bad line is reported as soon as it ends, and an
 -- error of the ids when all is read
-abbrev pub Stops : (List ℕ → Result (List (List ℕ)) SearchError) → Given → SearchError → Type 0
+abbrev pub Stops : (List ℕ → Result (List (List ℕ)) SearchError) → Searched → SearchError → Type 0
 Stops answer given (Prefix error) = ⊥
 Stops answer given (BadLine n error) = Settles given (λ text. answer text ≡ Err (BadLine n error))
 Stops answer given Memory = Settles given (λ text. IsFirstRead (lines_of text))
@@ -274,11 +274,11 @@ pub record IsFound (letter : ℕ → ℕ) (answer : Result (List (List ℕ)) Sea
   pub written : Appends old new (printed letter ids)
 
 -- what a search has found and written that returns a number
-abbrev pub Finds : Search → List ℕ → Given → Option (List ℕ) → Option (List ℕ) → ℕ → Type 0
+abbrev pub Finds : Search → List ℕ → Searched → Option (List ℕ) → Option (List ℕ) → ℕ → Type 0
 Finds search prefix given sink sink' count = OfAll given (λ text. IsFound (letter_for search) (finding search prefix text) sink sink' count)
 
 -- where a search stops that fails, and what it has written
-abbrev pub Fails : Search → List ℕ → Given → SearchError → Option (List ℕ) → Option (List ℕ) → Type 0
+abbrev pub Fails : Search → List ℕ → Searched → SearchError → Option (List ℕ) → Option (List ℕ) → Type 0
 Fails search prefix given (Prefix error) sink sink' = prefix_of search prefix ≡ Err error
 Fails search prefix given Output sink sink' = OfAll given (λ text. IsFoundInPart (letter_for search) (finding search prefix text) sink sink')
 Fails search prefix given error sink sink' = IsOk (prefix_of search prefix) × Stops (finding search prefix) given error
