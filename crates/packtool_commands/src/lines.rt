@@ -1,6 +1,6 @@
 //! The lines of a pack index and of names, put together in a buffer, many of them at once. Each call
-//! returns where its line ends: an `ArrayVec`, which knows its length, took 37 instructions more for
-//! a line of a name.
+//! returns where its line ends. An `ArrayVec` knows its length, but took 116 instructions more for
+//! a line of a pack index, and 48 for one of a name.
 
 ghost use Rattle.std.specs.Prelude.{◌≡◌, ◌+◌, ◌<◌, ◌≤◌, ◌++◌, IfOk, OnErr, OnOk, decimal, false, true, length, take};
 ghost use Rattle.gix_hash.specs.Digits.{hex_letter, spelling};
