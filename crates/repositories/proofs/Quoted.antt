@@ -1,6 +1,6 @@
 -- A quoted text that is read byte by byte.
-use Rattle.std.proofs.Common.{◌≡◌, ℕ, ◌++◌, ◌∷◌, List, [], Option, Some, None, refl, sym, ap, ◌∙◌, subst, append_assoc, append-nil}
-use Rattle.std.specs.Option.{unwrap_or}
+use Rattle.std.proofs.Common.{◌≡◌, ℕ, ◌++◌, ◌∷◌, List, [], Some, None, refl, sym, ap, ◌∙◌, subst, append_assoc, append-nil}
+use Rattle.std.proofs.lemmas.Option.{some_pair_parts}
 use Rattle.repositories.specs.Quoting.{Means, quoted_byte}
 
 -- from a text some bytes were read, and this is left: what is meant from the one is what is meant from the other
@@ -11,10 +11,8 @@ pub record Reads (text bytes left : List ℕ) : Type 0 where
 one_byte : (left rest : List ℕ) (byte : ℕ) → quoted_byte left ≡ Some (byte, rest) → (all end : List ℕ) → Means left all end → (more : List ℕ) × (all ≡ byte ∷ more) × Means rest more end
 one_byte left rest byte is [] end h = absurd (let none = h.1 in cc)
 one_byte left rest byte is (first ∷ more) end h =
-    let same : Some (first, h.0) ≡ Some (byte, rest) = sym h.1 ∙ is in
-    let e : first ≡ byte = ap (λ (o : Option (ℕ × List ℕ)). (unwrap_or {T = ℕ × List ℕ} o (0, [])).0) same in
-    let e' : h.0 ≡ rest = ap (λ (o : Option (ℕ × List ℕ)). (unwrap_or {T = ℕ × List ℕ} o (0, [])).1) same in
-    (more, ap (λ b. b ∷ more) e, subst (λ r. Means r more end) e' h.2)
+    let same = some_pair_parts first byte h.0 rest (sym h.1 ∙ is) in
+    (more, ap (λ b. b ∷ more) same.0, subst (λ r. Means r more end) same.1 h.2)
 
 pub reads_byte : (text bytes left rest : List ℕ) (byte : ℕ) → quoted_byte left ≡ Some (byte, rest) → Reads text bytes left → Reads text (bytes ++ byte ∷ []) rest
 reads_byte text bytes left rest byte is reads = record {

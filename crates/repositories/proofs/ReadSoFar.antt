@@ -1,11 +1,12 @@
 -- A config that is read item by item.
 use Rattle.std.proofs.Common.{◌≡◌, ◌++◌, [], List, ℕ, Option, Some, None, Result, Ok, Err, append-nil, sym, ap, ◌∙◌, subst}
-use Rattle.std.specs.Prelude.{IfSome, MatchResult, option_and_then, option_map, option_to_list, string_bytes, unwrap_or}
+use Rattle.std.specs.Prelude.{IfSome, MatchResult, option_and_then, option_to_list, unwrap_or}
+use Rattle.std.proofs.lemmas.Option.{IfSome_then}
 use Rattle.gix_hash.specs.declared.Kind.{Kind}
 use Rattle.gix_hash.specs.declared.Kind.TheVariants.{Sha1}
 use Rattle.repositories.specs.Configs.{HasRead, bad}
 use Rattle.repositories.specs.Configs.HasRead.{starts}
-use Rattle.repositories.specs.Formats.{Fault, Variable, fault_of, kind_by, kind_in_format, last_of, needs_of, reported, unknown_of, version_of}
+use Rattle.repositories.specs.Formats.{Fault, Variable, fault_of, kind_by, kind_in_format, reported}
 use Rattle.repositories.specs.Formats.Fault.{BadLine}
 use Rattle.repositories.specs.KindInConfig.{HasFault, SaysKind, line_number, plain}
 use Rattle.repositories.specs.KindInConfig.HasFault.{in_format, in_line, in_value}
@@ -31,15 +32,7 @@ pub no_more : (all : List ℕ) (variables : List Variable) (name rest : List ℕ
 no_more all variables name rest read = subst (λ (more : List Variable). HasRead all more name rest) (sym (append-nil variables)) read
 
 format_says : (format : Format) (variables : List Variable) → IsFormatOf format variables → kind_of_format format ≡ kind_by variables
-format_says format variables is =
-    ap (λ version. kind_in_format version (option_map string_bytes format.unknown) (option_map (λ name. name.now) format.needs) (unwrap_or format.kind Sha1)) is.version
-    ∙ ap (λ unknown. kind_in_format (last_of version_of variables) unknown (option_map (λ name. name.now) format.needs) (unwrap_or format.kind Sha1)) is.unknown
-    ∙ ap (λ needs. kind_in_format (last_of version_of variables) (last_of unknown_of variables) needs (unwrap_or format.kind Sha1)) is.needs
-    ∙ ap (λ kind. kind_in_format (last_of version_of variables) (last_of unknown_of variables) (last_of needs_of variables) (unwrap_or kind Sha1)) is.kind
-
-for_some : {T : Type 0} (P Q : T → Type 0) (o : Option T) → ((x : T) → P x → Q x) → IfSome o P → IfSome o Q
-for_some P Q None holds h = h
-for_some P Q (Some x) holds h = holds x h
+format_says format variables is = λ i. kind_in_format (is.version i) (is.unknown i) (is.needs i) (unwrap_or (is.kind i) Sha1)
 
 -- what the whole text says, by the format of its variables
 pub says_all : (text section left : List ℕ) (format : Format) → ReadSoFar (plain text) section left format → left ≡ [] → (result : Result Kind ConfigError)
@@ -50,10 +43,9 @@ says_all text section left format so_far none (Ok kind) is = record {
   all = record { section = section; read = subst (HasRead (plain text) so_far.variables section) none so_far.read; right = so_far.say.right };
   says = sym (format_says format so_far.variables so_far.say) ∙ is;
 }
-says_all text section left format so_far none (Err error) is = for_some (λ fault. kind_of_format format ≡ Err fault) (HasFault text) (reported error)
-    (λ fault wrong. in_format so_far.variables fault
+says_all text section left format so_far none (Err error) is = IfSome_then (reported error) is (λ fault wrong. in_format so_far.variables fault
     (record { section = section; read = subst (HasRead (plain text) so_far.variables section) none so_far.read; right = so_far.say.right })
-    (sym (format_says format so_far.variables so_far.say) ∙ wrong)) is
+    (sym (format_says format so_far.variables so_far.say) ∙ wrong))
 
 item_fault : (text section left new after : List ℕ) (format : Format) (item : Option Variable) (fault : Fault) → ReadSoFar (plain text) section left format
     → ((all : List ℕ) (variables : List Variable) → HasRead all variables section left → HasRead all (variables ++ option_to_list item) new after)
@@ -66,8 +58,8 @@ item_fault text section left new after format (Some variable) fault so_far reads
 pub says_value : (text section left new after : List ℕ) (format : Format) (item : Option Variable) (error : ConfigError) → ReadSoFar (plain text) section left format
     → ((all : List ℕ) (variables : List Variable) → HasRead all variables section left → HasRead all (variables ++ option_to_list item) new after)
     → IfSome (reported error) (λ fault. option_and_then fault_of item ≡ Some fault) → IfSome (reported error) (HasFault text)
-says_value text section left new after format item error so_far reads wrong = for_some (λ fault. option_and_then fault_of item ≡ Some fault) (HasFault text) (reported error)
-    (λ fault is. item_fault text section left new after format item fault so_far reads is) wrong
+says_value text section left new after format item error so_far reads wrong =
+    IfSome_then (reported error) wrong (λ fault is. item_fault text section left new after format item fault so_far reads is)
 
 -- that a line is bad is the first fault
 pub says_line : (text section left lines : List ℕ) (format : Format) (after number : ℕ) → ReadSoFar (plain text) section left format

@@ -1,11 +1,11 @@
 //! Lists of alternates: other object directories, whose objects a repository borrows.
 
 ghost use Rattle.std.specs.Prelude.{◌≡◌, ◌≢◌, ◌==◌, ◌-◌, ◌<◌, ◌≤◌, [], ◌∷◌, ◌++◌, ℕ, List, OnOk, not, filter, IfOk, IfSome, MatchOption, drop, length, map};
-ghost use Rattle.std.specs.List.{after_first, before_first, position};
 ghost use Rattle.std.specs.Option.{option_map};
 ghost use Rattle.repositories.specs.Alternates.{HasEntry, NamesPaths, is_comment};
 ghost use Rattle.repositories.specs.Quoting.{Means, escaped, escaped_byte, quoted_byte};
 
+use crate::variables::split_line;
 use std::alloc::{AllocError, Allocator};
 
 /// The paths that a list of alternates names, in order, as Git takes them from it: the lines of
@@ -74,25 +74,6 @@ fn first_path<A: Allocator + Copy>(
     } else {
         Ok((line.to_vec(alloc)?, rest))
     }
-}
-
-// What is before the first separator, and after it.
-fn split_line(list: &[u8], separator: u8) -> (&[u8], &[u8])
-    ensures line { result.0.now ≡ before_first (λ byte. byte == separator) list.now }
-    ensures rest { result.1.now ≡ after_first (λ byte. byte == separator) list.now }
-    ensures fewer { length result.1.now ≤ length list.now - 1 }
-{
-    match separator_in(list, separator) {
-        Some(at) => (&list[..at], &list[at + 1..]),
-        None => (list, &[]),
-    }
-}
-
-// Where the first separator is.
-fn separator_in(list: &[u8], separator: u8) -> Option<usize>
-    ensures { result ≡ position (λ byte. byte == separator) list.now }
-{
-    list.iter().position(|byte| *byte == separator)
 }
 
 // Whether a line is a comment.

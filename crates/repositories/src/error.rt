@@ -98,10 +98,7 @@ impl Error {
 
     // The error of a cause.
     pub(crate) fn of(alloc: Global, cause: Cause) -> Error {
-        match Box::new(alloc, cause) {
-            Ok(cause) => Error::Cause(cause),
-            Err(_) => Error::Memory(AllocError),
-        }
+        Box::new(alloc, cause).map_or(Error::Memory(AllocError), |cause| Error::Cause(cause))
     }
 
     /// The system's number of the error by which a directory or file cannot be read, if there is

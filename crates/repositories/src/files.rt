@@ -25,25 +25,14 @@ pub(crate) fn is_missing(error: &io::Error) -> bool {
     )
 }
 
-// The bytes of a file, or `None` if there is no such file.
-pub(crate) fn read_bytes<R: Files + AllocGlobal>(
-    rt: &R,
+// What was read of a file, or `None` if there is no such file.
+pub(crate) fn if_there<T: Drop>(
+    rt: &impl AllocGlobal,
     path: &str,
-) -> Result<Option<Vec<u8>>, Error> {
-    match fs::read(rt, path) {
-        Ok(bytes) => Ok(Some(bytes)),
-        Err(error) if is_missing(&error) => Ok(None),
-        Err(error) => Err(Error::file(rt.alloc(), path, error)),
-    }
-}
-
-// The text of a file, or `None` if there is no such file.
-pub(crate) fn read_text<R: Files + AllocGlobal>(
-    rt: &R,
-    path: &str,
-) -> Result<Option<String>, Error> {
-    match fs::read_to_string(rt, path) {
-        Ok(text) => Ok(Some(text)),
+    read: io::Result<T>,
+) -> Result<Option<T>, Error> {
+    match read {
+        Ok(read) => Ok(Some(read)),
         Err(error) if is_missing(&error) => Ok(None),
         Err(error) => Err(Error::file(rt.alloc(), path, error)),
     }
@@ -67,18 +56,12 @@ pub(crate) fn real_folder<R: Files + AllocGlobal>(rt: &R, path: &str) -> io::Res
 
 // The same, where a directory that is not there is an error.
 pub(crate) fn existing_folder<R: Files + AllocGlobal>(rt: &R, path: &str) -> Result<String, Error> {
-    match real_folder(rt, path) {
-        Ok(real) => Ok(real),
-        Err(error) => Err(Error::file(rt.alloc(), path, error)),
-    }
+    real_folder(rt, path).map_err(|error| Error::file(rt.alloc(), path, error))
 }
 
 // The path of the directory in which a path is, if it has one.
 pub(crate) fn parent(path: &str) -> Option<&str> {
-    match Path::new(path).parent() {
-        Some(folder) => Some(folder.as_str()),
-        None => None,
-    }
+    Path::new(path).parent().map(|folder| folder.as_str())
 }
 
 // Whether a directory has one of this name.
@@ -108,11 +91,9 @@ pub(crate) fn kind_beside<R: Files + AllocGlobal>(rt: &R, objects: &str) -> Resu
 // The kind by the config in a directory, or `None` if there is no config.
 fn kind_if_config<R: Files + AllocGlobal>(rt: &R, folder: &str) -> Result<Option<Kind>, Error> {
     let path = join(rt, folder, "config")?;
-    let Some(text) = read_bytes(rt, &path)? else {
+    let Some(text) = if_there(rt, &path, fs::read(rt, &path))? else {
         return Ok(None);
     };
-    match kind_in_config(rt.alloc(), &text) {
-        Ok(kind) => Ok(Some(kind)),
-        Err(error) => Err(Error::config(rt.alloc(), &path, error)),
-    }
+    let kind = kind_in_config(rt.alloc(), &text);
+    Ok(Some(kind.map_err(|error| Error::config(rt.alloc(), &path, error))?))
 }

@@ -71,17 +71,9 @@ impl ObjectsFolder {
 /// [`Cause::File`] and [`Cause::Config`].
 pub fn find_objects<R: Files + Env + AllocGlobal>(rt: &R) -> Result<ObjectsFolder, Error> {
     let given = Environment::read(rt)?;
-    find_given(rt, &given)
-}
-
-// The object directory that Git finds in an environment.
-fn find_given<R: Files + Env + AllocGlobal>(
-    rt: &R,
-    given: &Environment,
-) -> Result<ObjectsFolder, Error> {
-    match find_repository(rt, given)? {
-        Some(repository) => objects_of(rt, given, &repository),
-        None => objects_given(rt, given),
+    match find_repository(rt, &given)? {
+        Some(repository) => objects_of(rt, &given, &repository),
+        None => objects_given(rt, &given),
     }
 }
 
@@ -123,24 +115,13 @@ fn objects_given<R: Files + Env + AllocGlobal>(
 fn alternates(rt: &(impl Env + AllocGlobal), top: &str) -> Result<Vec<String>, Error> {
     let mut folders = Vec::new(rt.alloc());
     if let Some(list) = variable(rt, ALTERNATES)? {
-        push_given(rt, top, list.as_bytes(), &mut folders)?;
-    }
-    Ok(folders)
-}
-
-// Adds the directories that a list of the environment names, relative to a directory.
-fn push_given(
-    rt: &impl AllocGlobal,
-    top: &str,
-    list: &[u8],
-    folders: &mut Vec<String>,
-) -> Result<(), Error> {
-    for path in &alternate_paths(rt.alloc(), list, b':')? {
-        if !push_path(rt, top, path, folders)? {
-            return Err(Error::text(rt.alloc(), ALTERNATES, "a path is not UTF-8"));
+        for path in &alternate_paths(rt.alloc(), list.as_bytes(), b':')? {
+            if !push_path(rt, top, path, &mut folders)? {
+                return Err(Error::text(rt.alloc(), ALTERNATES, "a path is not UTF-8"));
+            }
         }
     }
-    Ok(())
+    Ok(folders)
 }
 
 // Whether a directory is an object directory.

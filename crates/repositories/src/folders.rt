@@ -2,11 +2,11 @@
 
 use crate::alternates::alternate_paths;
 use crate::error::Error;
-use crate::files::{existing_folder, is_missing, join, read_bytes, real_folder};
+use crate::files::{existing_folder, if_there, is_missing, join, real_folder};
 use crate::finding::ObjectsFolder;
 use std::alloc::AllocError;
 use std::rt::Files;
-use std::{io, str};
+use std::{fs, io, str};
 
 // How many levels of alternates are read, as by Git: those of the directory itself, and five more,
 // each named by the one before.
@@ -43,23 +43,13 @@ pub fn with_alternates<R: Files + AllocGlobal>(
         paths: Vec::new(rt.alloc()),
         skipped: Vec::new(rt.alloc()),
     };
-    push_all(rt, objects, &mut found)?;
-    Ok(found)
-}
-
-// Adds an object directory and its alternates.
-fn push_all<R: Files + AllocGlobal>(
-    rt: &R,
-    objects: &ObjectsFolder,
-    found: &mut Folders,
-) -> Result<(), Error> {
     let real = existing_folder(rt, &objects.path)?;
-    push_with_alternates(rt, &real, &objects.alternates, found)?;
+    push_with_alternates(rt, &real, &objects.alternates, &mut found)?;
     // Errors show the path as it was given.
     if let Some(first) = found.paths.first_mut() {
         *first = objects.path.clone()?;
     }
-    Ok(())
+    Ok(found)
 }
 
 // Adds an object directory by its absolute path, the alternates of the environment, and those of
@@ -108,22 +98,16 @@ fn push_folder<R: Files + AllocGlobal>(
             found.skipped.push(error)?;
             Ok(None)
         }
-        Ok(real) => push_real(rt, &real, found),
+        Ok(real) => {
+            let alternates = alternates_of(rt, &real, &mut found.skipped)?;
+            found.paths.push(real)?;
+            Ok(Some(alternates))
+        }
         Err(error) => {
             found.skipped.push(unusable(rt, path, error)?)?;
             Ok(None)
         }
     }
-}
-
-// Adds a directory by its absolute path, and returns its alternates.
-fn push_real<R: Files + AllocGlobal>(
-    rt: &R,
-    real: &str,
-    found: &mut Folders,
-) -> Result<Option<Vec<String>>, Error> {
-    found.paths.push(String::from_str(rt.alloc(), real)?)?;
-    Ok(Some(alternates_of(rt, real, &mut found.skipped)?))
 }
 
 // Why an alternate is skipped that is no directory, or that cannot be read.
@@ -148,26 +132,14 @@ fn alternates_of<R: Files + AllocGlobal>(
 ) -> Result<Vec<String>, Error> {
     let mut paths = Vec::new(rt.alloc());
     let list = join(rt, folder, "info/alternates")?;
-    if let Some(text) = read_bytes(rt, &list)? {
-        push_listed(rt, folder, (&list, &text), &mut paths, skipped)?;
-    }
-    Ok(paths)
-}
-
-// Adds the paths that the list of a directory names, which is given by its path and its text.
-fn push_listed(
-    rt: &impl AllocGlobal,
-    folder: &str,
-    (list, text): (&str, &[u8]),
-    paths: &mut Vec<String>,
-    skipped: &mut Vec<Error>,
-) -> Result<(), Error> {
-    for path in &alternate_paths(rt.alloc(), text, b'\n')? {
-        if !push_path(rt, folder, path, paths)? {
-            skipped.push(Error::text(rt.alloc(), list, "a path is not UTF-8"))?;
+    if let Some(text) = if_there(rt, &list, fs::read(rt, &list))? {
+        for path in &alternate_paths(rt.alloc(), &text, b'\n')? {
+            if !push_path(rt, folder, path, &mut paths)? {
+                skipped.push(Error::text(rt.alloc(), &list, "a path is not UTF-8"))?;
+            }
         }
     }
-    Ok(())
+    Ok(paths)
 }
 
 // Adds a path that the list of a directory names, if it is UTF-8, and returns whether it is.
@@ -177,11 +149,9 @@ pub(crate) fn push_path(
     path: &[u8],
     paths: &mut Vec<String>,
 ) -> Result<bool, AllocError> {
-    match str::from_utf8(path) {
-        Ok(path) => {
-            paths.push(join(rt, folder, path)?)?;
-            Ok(true)
-        }
-        Err(_) => Ok(false),
-    }
+    let Ok(path) = str::from_utf8(path) else {
+        return Ok(false);
+    };
+    paths.push(join(rt, folder, path)?)?;
+    Ok(true)
 }

@@ -5,7 +5,7 @@ ghost use Rattle.std.specs.Char.{to_ascii_lowercase};
 ghost use Rattle.std.specs.List.{list_any};
 ghost use Rattle.std.specs.Option.{option_or};
 ghost use Rattle.std.specs.Str.{str_eq_ignore_ascii_case};
-ghost use Rattle.repositories.specs.Formats.{Fault, bad_boolean, bad_kind, bad_version, boolean_words, extension, fault_of, is_boolean, kind_in_format, kind_named, kind_of, needs_of, reported, unknown_of, version_of};
+ghost use Rattle.repositories.specs.Formats.{Fault, bad_boolean, bad_kind, bad_version, extension, fault_of, is_boolean, kind_in_format, kind_named, kind_of, needs_of, reported, unknown_of, version_of};
 ghost use Rattle.repositories.specs.Formats as formats;
 ghost use Rattle.repositories.specs.Formats.Fault.{BadBoolean, BadKind, BadVersion};
 ghost use Rattle.repositories.specs.Variables.{IsFormatOf, kind_of_format, said};
@@ -44,23 +44,14 @@ fn is(text: &[u8], word: &str) -> bool
 fn known(names: &[&'static str], name: &[u8]) -> Option<&'static str>
     ensures { result ≡ find (λ known. bytes_eq name.now known.now) names.now }
 {
-    let mut left = names;
-    while let [known, rest @ ..] = left {
-        if is(name, known) {
-            return Some(*known);
-        }
-        left = rest;
-    }
-    None
+    names.iter().copied().find(|known| is(name, known))
 }
 
 // The kind that a value names.
 fn kind_named(value: &Option<Vec<u8>>) -> Option<Kind>
     ensures { result ≡ kind_named (option_map (λ text. text.items) value.now) }
 {
-    let Some(text) = value else {
-        return None;
-    };
+    let text = value.as_ref()?;
     if is(text, "sha1") {
         Some(Kind::Sha1)
     } else if is(text, "sha256") {
@@ -75,30 +66,18 @@ fn is_boolean(value: &Option<Vec<u8>>) -> bool
     ensures { result ≡ is_boolean (option_map (λ text. text.items) value.now) }
 {
     match value {
-        Some(text) => is_boolean_word(text) || number(text).is_some(),
+        Some(text) => is_any(text, &BOOLEAN_WORDS) || number(text).is_some(),
         None => true,
     }
-}
-
-// Whether a text is a word for a boolean.
-fn is_boolean_word(text: &[u8]) -> bool
-    ensures { result ≡ list_any (λ word. str_eq_ignore_ascii_case text.now word) boolean_words }
-{
-    is_any(text, &BOOLEAN_WORDS)
 }
 
 // Whether a text is one of some words, in any case of letters.
 fn is_any(text: &[u8], words: &[&str]) -> bool
     ensures { result ≡ list_any (λ word. str_eq_ignore_ascii_case text.now word.now) words.now }
 {
-    let mut left = words;
-    while let [word, rest @ ..] = left {
-        if is_in_any_case(text, word.as_bytes()) {
-            return true;
-        }
-        left = rest;
-    }
-    false
+    words
+        .iter()
+        .any(|word| is_in_any_case(text, word.as_bytes()))
 }
 
 // Whether a text is this one, in any case of letters.
@@ -153,20 +132,14 @@ fn kind_of(variable: &Variable) -> Result<Option<Kind>, ConfigError>
     if !is(&variable.name, "extensions.objectformat") {
         return Ok(None);
     }
-    match kind_named(&variable.value) {
-        Some(kind) => Ok(Some(kind)),
-        None => Err(ConfigError::Kind),
-    }
+    Ok(Some(kind_named(&variable.value).ok_or(ConfigError::Kind)?))
 }
 
 // The extension that a variable is and that only version 1 has.
 fn needs_of(variable: &Variable) -> Option<&'static str>
     ensures { option_map (λ name. name.now) result ≡ needs_of (said variable.now) }
 {
-    match extension(&variable.name) {
-        Some(name) => known(&OF_VERSION_1, name),
-        None => None,
-    }
+    known(&OF_VERSION_1, extension(&variable.name)?)
 }
 
 // The extension that a variable is and that no version has.

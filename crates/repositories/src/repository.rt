@@ -1,7 +1,7 @@
 //! Where a repository has its objects, references and config.
 
 use crate::error::Error;
-use crate::files::{existing_folder, has_folder, join, parent, read_text};
+use crate::files::{existing_folder, has_folder, if_there, join, parent};
 use std::alloc::AllocError;
 use std::env::VarError;
 use std::os::unix::fs::MetadataExt;
@@ -196,7 +196,7 @@ fn required<R: Files + AllocGlobal>(
 
 // The directory that a file `.git` names.
 fn named_by<R: Files + AllocGlobal>(rt: &R, path: &str) -> Result<String, Error> {
-    if let Some(text) = read_text(rt, path)?
+    if let Some(text) = if_there(rt, path, fs::read_to_string(rt, path))?
         && let Some(name) = text.strip_prefix("gitdir: ")
     {
         let folder = parent(path).unwrap_or("");
@@ -243,7 +243,7 @@ fn has_both<R: Files + AllocGlobal>(
 // The directory that the file `commondir` of a worktree names, or else the directory itself.
 fn common_of<R: Files + AllocGlobal>(rt: &R, folder: &str) -> Result<String, Error> {
     let path = join(rt, folder, "commondir")?;
-    match read_text(rt, &path)? {
+    match if_there(rt, &path, fs::read_to_string(rt, &path))? {
         Some(name) if name.is_empty() => Err(Error::text(rt.alloc(), &path, "empty")),
         Some(name) => {
             let common = join(rt, folder, without_line_ends(&name))?;
@@ -260,10 +260,7 @@ fn has_head<R: Files + AllocGlobal>(rt: &R, folder: &str) -> Result<bool, AllocE
     if let Ok(reference) = fs::read_link(rt, &path) {
         return Ok(reference.as_str().starts_with("refs/"));
     }
-    match fs::read(rt, &path) {
-        Ok(text) => Ok(is_head(&text)),
-        Err(_) => Ok(false),
-    }
+    Ok(fs::read(rt, &path).is_ok_and(|text| is_head(&text)))
 }
 
 // Git reads the first 255 bytes.

@@ -2,7 +2,8 @@
 
 ghost use Rattle.std.specs.Prelude.{count_by, option_to_list, ◌+◌, ◌≡◌, ◌≤◌, ◌-◌, ◌++◌, ◌∷◌, ◌==◌, false, true, if◌then◌else◌, IfOk, IfSome, OnOk, position, take, MatchResult, None, Ok, Err, Option, Some, List, ℕ, [], length, option_map};
 ghost use Rattle.std.specs.Char.{to_ascii_lowercase};
-ghost use Rattle.repositories.specs.Configs.{HasRead, after_line, after_nothing, assignment, bad, before_nul, begins_with_line_feed, begins_comment, closed_section, entry, escaped_bytes, is_blank, is_escape, is_key_byte, quoted_subsection, section, subsection, value, variable, with_line_feeds, without_mark};
+ghost use Rattle.std.specs.List.{after_first, before_first};
+ghost use Rattle.repositories.specs.Configs.{HasRead, after_nothing, assignment, bad, before_nul, begins_with_line_feed, begins_comment, closed_section, entry, escaped_bytes, is_blank, is_escape, is_key_byte, quoted_subsection, section, subsection, value, variable, with_line_feeds, without_mark};
 ghost use Rattle.repositories.specs.Formats as formats;
 ghost use Rattle.repositories.specs.KindInConfig.{line_number};
 ghost use Rattle.repositories.specs.Variables.{said};
@@ -60,10 +61,7 @@ fn read_section(alloc: Global, text: &[u8]) -> Result<Read<'_, Vec<u8>>, AllocEr
     }
     match left {
         [] => Ok(Err(0)),
-        [b']', rest @ ..] if !name.is_empty() => {
-            name.push(b'.')?;
-            Ok(Ok((name, rest)))
-        }
+        [b']', ..] if !name.is_empty() => end_section(name, left),
         [byte, rest @ ..] if is_blank(*byte) => read_quoted(name, rest),
         [_, rest @ ..] => Ok(Err(rest.len())),
     }
@@ -168,7 +166,7 @@ fn read_value(alloc: Global, text: &[u8]) -> Result<Read<'_, Vec<u8>>, AllocErro
         } else if *byte == b'"' {
             quoted = !quoted;
         } else if begins_comment(*byte) && !quoted {
-            return Ok(end_value(bytes, kept, false, after_line(rest)));
+            return Ok(end_value(bytes, kept, false, split_line(rest, b'\n').1));
         } else if is_blank(*byte) && !quoted {
             push_blank(&mut bytes)?;
             continue;
@@ -195,22 +193,23 @@ fn end_value(mut bytes: Vec<u8>, kept: usize, quoted: bool, rest: &[u8]) -> Read
     }
 }
 
-// What is after the line that a text is in.
-fn after_line(text: &[u8]) -> &[u8]
-    ensures line { result.now ≡ after_line text.now }
-    ensures fewer { length result.now ≤ length text.now }
+/// What is before the first separator, and after it.
+pub(crate) fn split_line(text: &[u8], separator: u8) -> (&[u8], &[u8])
+    ensures line { result.0.now ≡ before_first (λ byte. byte == separator) text.now }
+    ensures rest { result.1.now ≡ after_first (λ byte. byte == separator) text.now }
+    ensures fewer { length result.1.now ≤ length text.now - 1 }
 {
-    match line_feed_in(text) {
-        Some(at) => &text[at + 1..],
-        None => &[],
+    match position_of(text, separator) {
+        Some(at) => (&text[..at], &text[at + 1..]),
+        None => (text, &[]),
     }
 }
 
-// Where the first line feed is.
-fn line_feed_in(text: &[u8]) -> Option<usize>
-    ensures { result ≡ position (λ byte. byte == 10) text.now }
+// Where a byte is first.
+fn position_of(text: &[u8], wanted: u8) -> Option<usize>
+    ensures { result ≡ position (λ byte. byte == wanted) text.now }
 {
-    text.iter().position(|byte| *byte == b'\n')
+    text.iter().position(|byte| *byte == wanted)
 }
 
 // Adds a space, unless it is the first byte.
@@ -366,7 +365,7 @@ fn after_nothing(byte: u8, rest: &[u8]) -> Option<&[u8]>
     if is_blank(byte) || byte == b'\n' {
         Some(rest)
     } else if begins_comment(byte) {
-        Some(after_line(rest))
+        Some(split_line(rest, b'\n').1)
     } else {
         None
     }
@@ -388,18 +387,7 @@ fn begin_variable<'a>(
 {
     let mut name = section.to_vec(alloc)?;
     name.push(first.to_ascii_lowercase())?;
-    read_entry(alloc, name, rest)
-}
-
-// Reads a variable, after its section and some bytes of its key.
-fn read_entry(alloc: Global, name: Vec<u8>, text: &[u8]) -> Result<Read<'_, Variable>, AllocError>
-    ensures fewer { IfOk result (λ read.
-        IfOk read (λ found. length found.1.now ≤ length text.now)) }
-    ensures read { IfOk result (λ read. MatchResult read
-        (λ found. entry name.items text.now ≡ Ok (said found.0, found.1.now))
-        (λ left. entry name.items text.now ≡ Err left)) }
-{
-    match read_variable(alloc, name, text)? {
+    match read_variable(alloc, name, rest)? {
         Ok((variable, rest)) => Ok(Ok((without_nul(variable), rest))),
         Err(left) => Ok(Err(left)),
     }
@@ -414,18 +402,7 @@ fn without_nul(variable: Variable) -> Variable
 {
     Variable {
         name: before_nul(variable.name),
-        value: value_before_nul(variable.value),
-    }
-}
-
-// The same of a value, if there is one.
-fn value_before_nul(value: Option<Vec<u8>>) -> Option<Vec<u8>>
-    ensures { option_map (λ text. text.items) result
-        ≡ option_map before_nul (option_map (λ text. text.items) value) }
-{
-    match value {
-        Some(value) => Some(before_nul(value)),
-        None => None,
+        value: variable.value.map(|value| before_nul(value)),
     }
 }
 
@@ -433,17 +410,10 @@ fn value_before_nul(value: Option<Vec<u8>>) -> Option<Vec<u8>>
 fn before_nul(mut text: Vec<u8>) -> Vec<u8>
     ensures { result.items ≡ before_nul text.items }
 {
-    if let Some(at) = nul_in(&text) {
+    if let Some(at) = position_of(&text, 0) {
         text.truncate(at);
     }
     text
-}
-
-// Where the first NUL is.
-fn nul_in(text: &[u8]) -> Option<usize>
-    ensures { result ≡ position (λ byte. byte == 0) text.now }
-{
-    text.iter().position(|byte| *byte == 0)
 }
 
 /// A text without a byte order mark, and without the carriage returns before line feeds.
@@ -482,12 +452,6 @@ fn begins_with_line_feed(text: &[u8]) -> bool
 pub(crate) fn line_number(text: &[u8], left: usize) -> usize
     ensures { result ≡ line_number text.now left }
 {
-    count_line_feeds(&text[..text.len().saturating_sub(left.saturating_add(1))]) + 1
-}
-
-// How many line feeds a text has.
-fn count_line_feeds(text: &[u8]) -> usize
-    ensures { result ≡ count_by (λ byte. byte == 10) text.now }
-{
-    text.iter().filter(|byte| **byte == b'\n').count()
+    let front = &text[..text.len().saturating_sub(left.saturating_add(1))];
+    front.iter().filter(|byte| **byte == b'\n').count() + 1
 }
