@@ -3,10 +3,8 @@ pub mod Buckets
 mod Checksums
 pub mod Counted
 mod Heads
-mod Longs
 mod Looked
 pub mod LookedUp
 pub mod Matched
 mod ReadOffsets
 mod Refusals
-mod Seen
