@@ -1,9 +1,10 @@
 -- The names of a bucket, by its bytes.
-use Rattle.std.proofs.Common.{◌≡◌, Bool, true, ℕ, zero, suc, ◌+◌, ◌-◌, ◌*◌, ◌/◌, ◌<◌, ◌≤◌, List, [], ◌∷◌, length, get_or, slice_index, map, take, drop, refl, sym, ap, ◌∙◌, subst, arith}
-use Rattle.std.specs.Prelude.{slice_range, IsTrue}
+use Rattle.std.proofs.Common.{◌≡◌, Bool, true, ℕ, zero, suc, ◌+◌, ◌-◌, ◌*◌, ◌/◌, ◌<◌, ◌≤◌, List, [], ◌∷◌, length, get_or, slice_index, take, drop, sym, ap, ◌∙◌, subst, arith}
+use Rattle.std.specs.Prelude.{◌↔◌, slice_range, IsTrue}
 use Rattle.std.specs.List.{All, count_by}
 use Rattle.std.specs.Simd.{first_chunks}
-use Rattle.std.proofs.lemmas.List.{take-take, drop-drop, drop-take, take-map, drop-map, get_or-map, length-map}
+use Rattle.std.proofs.Math.Nat.{mul-le-mul_left}
+use Rattle.std.proofs.lemmas.List.{take-take, drop-drop, drop-take, get_or-drop, get_or-map, get_or-take, length-drop, length-map, length-take-le, same_lists}
 use Rattle.std.proofs.lemmas.List.Elements.{All-map, filter_passes}
 use Rattle.std.proofs.lemmas.List.Sums.{count_by-le-length}
 use Rattle.gix_hash.specs.Digits.{digits_of}
@@ -18,61 +19,36 @@ use Rattle.pack_index.specs.Format.{Each, HasCount, HasTables, IsPackIndex, crc_
 use Rattle.pack_index.specs.Lazy.{HaveFirstByte, IsBucketFault, IsReadOrMemory, bucket_end, bucket_start, counted_with}
 use Rattle.pack_index.specs.declared.lazy_error.LazyError.{LazyError}
 use Rattle.pack_index.specs.declared.lazy_error.LazyError.TheVariants.{Read, Memory, CountsFall, CountTooHigh, WrongCount}
-use Rattle.pack_index.proofs.Counted.{length-names_in, length-table, as_many}
+use Rattle.pack_index.proofs.Counted.{as_many, digest_digits, length-digests_in, length-names_in, length-table}
 use Rattle.streams.specs.Streams.{IsReadAt}
 
--- the digests in bytes have the first byte
-pub digests_first : (kind : Kind) (byte : ℕ) (bytes : List ℕ) (chunks : List (List ℕ))
+-- a test of whether digests have the first byte, by their bytes
+pub have_first : (kind : Kind) (byte : ℕ) (bytes : List ℕ) (chunks : List (List ℕ)) (all : Bool)
     → chunks ≡ first_chunks (byte_len_of kind) (length bytes / byte_len_of kind) bytes
-    → All (λ id. IsTrue (has_first_byte byte (digits_of id))) chunks → All (λ id. IsTrue (has_first_byte byte id)) (digests_in kind bytes)
-digests_first kind byte bytes chunks is each =
-    subst (λ (xs : List (List ℕ)). All (λ id. IsTrue (has_first_byte byte id)) (map digits_of xs)) is (All-map (λ id. IsTrue (has_first_byte byte id)) digits_of chunks each)
+    → IsTrue all ↔ All (λ id. IsTrue (has_first_byte byte (digits_of id))) chunks → IsTrue all ↔ HaveFirstByte byte (digests_in kind bytes)
+have_first kind byte bytes chunks all is test =
+    let P : List ℕ → Type 0 = λ id. IsTrue (has_first_byte byte id) in
+    rw (← is) (
+      λ so. All-map P digits_of chunks (test.0 so),
+      λ each. test.1 (λ k d low. subst P (get_or-map digits_of chunks k d [] low) (each k [] (omega (arith, low, length-map chunks digits_of)))),
+    )
 
--- the bytes of the digests have the first byte where their digits do
-pub first_digests : (kind : Kind) (byte : ℕ) (bytes : List ℕ) (chunks : List (List ℕ))
-    → chunks ≡ first_chunks (byte_len_of kind) (length bytes / byte_len_of kind) bytes
-    → All (λ id. IsTrue (has_first_byte byte id)) (digests_in kind bytes) → All (λ id. IsTrue (has_first_byte byte (digits_of id))) chunks
-first_digests kind byte bytes chunks is each =
-    let each_of : All (λ id. IsTrue (has_first_byte byte id)) (map digits_of chunks) =
-    subst (λ (xs : List (List ℕ)). All (λ id. IsTrue (has_first_byte byte id)) (map digits_of xs)) (sym is) each in
-    λ k d low. subst (λ (id : List ℕ). IsTrue (has_first_byte byte id)) (get_or-map digits_of chunks k d [] low) (each_of k [] (omega (arith, low, length-map chunks digits_of)))
+-- a part of a part of some bytes
+part_of_part : (n at len from : ℕ) (bytes : List ℕ) → at + n ≤ len → take n (drop at (take len (drop from bytes))) ≡ take n (drop (from + at) bytes)
+part_of_part n at len from bytes within =
+    let rest : at + (len - at) ≡ len = omega (arith, within) in
+    ap (λ j. take n (drop at (take j (drop from bytes)))) (sym rest) ∙ ap (take n) (drop-take at (len - at) (drop from bytes))
+    ∙ take-take n (len - at) (drop at (drop from bytes)) (omega (arith, within)) ∙ ap (take n) (drop-drop at from bytes)
 
--- chunks of a part of a list
-drop-first_chunks : {X : Type 0} (n s m : ℕ) (xs : List X) → drop s (first_chunks n (s + m) xs) ≡ first_chunks n m (drop (n * s) xs)
-drop-first_chunks n zero m xs =
-    let none : n * 0 ≡ 0 = omega arith in
-    let same : 0 + m ≡ m = omega arith in
-    ap (λ k. first_chunks n k xs) same ∙ ap (λ k. first_chunks n m (drop k xs)) (sym none)
-drop-first_chunks {X} n (suc s) m xs =
-    let more : suc s + m ≡ suc (s + m) = omega arith in
-    let front : n + n * s ≡ n * suc s = omega arith in
-    ap (λ k. drop (suc s) (first_chunks n k xs)) more ∙ drop-first_chunks n s m (drop n xs)
-    ∙ ap (first_chunks n m) (drop-drop (n * s) n xs ∙ ap (λ k. drop k xs) front)
-
-take-first_chunks : {X : Type 0} (n k m : ℕ) (xs : List X) → take k (first_chunks n (k + m) xs) ≡ first_chunks n k xs
-take-first_chunks n zero m xs = refl
-take-first_chunks {X} n (suc k) m xs =
-    let more : suc k + m ≡ suc (k + m) = omega arith in
-    ap (λ j. take (suc k) (first_chunks n j xs)) more ∙ ap (λ (rest : List (List X)). take n xs ∷ rest) (take-first_chunks n k m (drop n xs))
-
-first_chunks-take : {X : Type 0} (n k m : ℕ) (xs : List X) → first_chunks n k (take (n * k + m) xs) ≡ first_chunks n k xs
-first_chunks-take n zero m xs = refl
-first_chunks-take {X} n (suc k) m xs =
-    let split : n * suc k + m ≡ n + (n * k + m) = omega arith in
-    ap (λ j. first_chunks n (suc k) (take j xs)) split
-    ∙ (λ i. take-take n (n + (n * k + m)) xs (omega arith) i ∷ (ap (first_chunks n k) (drop-take n (n * k + m) xs) ∙ first_chunks-take n k m (drop n xs)) i)
-
--- the chunks from the s-th on, of a table that is a part of some bytes
-chunks_at : (n s k r at : ℕ) (bytes : List ℕ)
-    → take k (drop s (first_chunks n (s + (k + r)) (take (n * (s + (k + r))) (drop at bytes)))) ≡ first_chunks n k (drop (at + n * s) bytes)
-chunks_at n s k r at bytes =
-    let table = take (n * (s + (k + r))) (drop at bytes) in
-    let split : n * (s + (k + r)) ≡ n * s + (n * k + n * r) = omega arith in
-    let behind : drop (n * s) table ≡ take (n * k + n * r) (drop (n * s) (drop at bytes)) =
-    ap (λ j. drop (n * s) (take j (drop at bytes))) split ∙ drop-take (n * s) (n * k + n * r) (drop at bytes) in
-    ap (take k) (drop-first_chunks n s (k + r) table) ∙ take-first_chunks n k r (drop (n * s) table)
-    ∙ ap (first_chunks n k) behind ∙ first_chunks-take n k (n * r) (drop (n * s) (drop at bytes))
-    ∙ ap (first_chunks n k) (drop-drop (n * s) at bytes)
+-- a digest in a part of some bytes that is whole digests
+digest_in : (kind : Kind) (from count k : ℕ) (bytes part d : List ℕ) → part ≡ take (byte_len_of kind * count) (drop from bytes) → length part ≡ byte_len_of kind * count
+    → k < count → get_or (digests_in kind part) k d ≡ digits_of (take (byte_len_of kind) (drop (from + byte_len_of kind * k) bytes))
+digest_in kind from count k bytes part d is long low =
+    let n = byte_len_of kind in
+    let all : length part / n ≡ count = ap (λ m. m / n) long ∙ as_many kind count in
+    let next : k + 1 ≤ count = omega (arith, low) in
+    digest_digits kind part k d (omega (arith, all, low)) ∙ ap (λ (xs : List ℕ). digits_of (take n (drop (n * k) xs))) is
+    ∙ ap digits_of (part_of_part n (n * k) (n * count) from bytes (omega (arith, mul-le-mul_left n next)))
 
 -- as many names have a byte as are counted with it and not before it
 pub count_has : (kind : Kind) (bytes : List ℕ) (byte : ℕ) → Each (HasCount kind bytes) 256 → byte < 256
@@ -90,28 +66,23 @@ module _ (kind : Kind) (byte : ℕ) (bytes found : List ℕ) (start end : ℕ) (
   -- the names there are the digests that were read
   pub here : slice_range (names_in kind bytes) start end ≡ digests_in kind found
   here =
-      let k = end - start in
-      let r = num_objects bytes - end in
-      let all : start + (k + r) ≡ num_objects bytes = omega (arith, rise, inside) in
-      let count : length (slice_range bytes 1032 (crc_table_start kind bytes)) / byte_len_of kind ≡ num_objects bytes =
-      ap (λ m. m / byte_len_of kind) (length-table kind bytes tables) ∙ as_many kind (num_objects bytes) in
-      let size : crc_table_start kind bytes - 1032 ≡ byte_len_of kind * num_objects bytes = omega arith in
-      let table : slice_range bytes 1032 (crc_table_start kind bytes) ≡ take (byte_len_of kind * (start + (k + r))) (drop 1032 bytes) =
-      ap (λ m. take m (drop 1032 bytes)) (size ∙ ap (λ m. byte_len_of kind * m) (sym all)) in
-      let read : found ≡ take (byte_len_of kind * k + 0) (drop (1032 + byte_len_of kind * start) bytes) =
-      stands.same ∙ ap (λ m. take m (drop (1032 + byte_len_of kind * start) bytes)) (omega (arith, long)) in
-      let read_count : length found / byte_len_of kind ≡ k = ap (λ m. m / byte_len_of kind) long ∙ as_many kind k in
-      let left : slice_range (names_in kind bytes) start end ≡ map digits_of (first_chunks (byte_len_of kind) k (drop (1032 + byte_len_of kind * start) bytes)) =
-      ap (λ m. take k (drop start (map digits_of (first_chunks (byte_len_of kind) m (slice_range bytes 1032 (crc_table_start kind bytes)))))) (count ∙ sym all)
-      ∙ ap (λ (xs : List ℕ). take k (drop start (map digits_of (first_chunks (byte_len_of kind) (start + (k + r)) xs)))) table
-      ∙ ap (take k) (drop-map digits_of start (first_chunks (byte_len_of kind) (start + (k + r)) (take (byte_len_of kind * (start + (k + r))) (drop 1032 bytes))))
-      ∙ take-map digits_of k (drop start (first_chunks (byte_len_of kind) (start + (k + r)) (take (byte_len_of kind * (start + (k + r))) (drop 1032 bytes))))
-      ∙ ap (map digits_of) (chunks_at (byte_len_of kind) start k r 1032 bytes) in
-      let right : digests_in kind found ≡ map digits_of (first_chunks (byte_len_of kind) k (drop (1032 + byte_len_of kind * start) bytes)) =
-      ap (λ m. map digits_of (first_chunks (byte_len_of kind) m found)) read_count
-      ∙ ap (λ (xs : List ℕ). map digits_of (first_chunks (byte_len_of kind) k xs)) read
-      ∙ ap (map digits_of) (first_chunks-take (byte_len_of kind) k 0 (drop (1032 + byte_len_of kind * start) bytes)) in
-      left ∙ sym right
+      let n = byte_len_of kind in
+      let names = names_in kind bytes in
+      let table = slice_range bytes 1032 (crc_table_start kind bytes) in
+      let size : crc_table_start kind bytes - 1032 ≡ n * num_objects bytes = omega arith in
+      let table_is : table ≡ take (n * num_objects bytes) (drop 1032 bytes) = ap (λ m. take m (drop 1032 bytes)) size in
+      let found_is : found ≡ take (n * (end - start)) (drop (1032 + n * start) bytes) =
+      stands.same ∙ ap (λ m. take m (drop (1032 + n * start) bytes)) (omega (arith, long)) in
+      let many : length (slice_range names start end) ≡ end - start =
+      length-take-le (end - start) (drop start names) (omega (arith, length-drop start names, length-names_in kind bytes tables, inside, rise)) in
+      same_lists (slice_range names start end) (digests_in kind found)
+      (many ∙ sym (length-digests_in kind found ∙ ap (λ m. m / n) long ∙ as_many kind (end - start)))
+      (λ k d low.
+      let less : k < end - start = omega (arith, many, low) in
+      let same : 1032 + n * (start + k) ≡ 1032 + n * start + n * k = omega arith in
+      get_or-take (end - start) (drop start names) k d less ∙ get_or-drop start names k d
+      ∙ digest_in kind 1032 (num_objects bytes) (start + k) bytes table d table_is (length-table kind bytes tables) (omega (arith, less, inside, rise))
+      ∙ ap (λ m. digits_of (take n (drop m bytes))) same ∙ sym (digest_in kind (1032 + n * start) (end - start) k bytes found d found_is long less))
 
   -- and the names that are counted with the byte
   pub read_names : digests_in kind found ≡ counted_with kind bytes byte

@@ -1,8 +1,8 @@
 -- How many names the bytes of a pack index have, and how many digits each.
-use Rattle.std.proofs.Common.{◌≡◌, ℕ, ◌-◌, ◌++◌, ◌*◌, ◌/◌, ◌<◌, ◌≤◌, zero, suc, List, [], length, map, get_or, take, drop, refl, sym, ap, subst, ◌∙◌, arith, length-drop, take-append-drop}
+use Rattle.std.proofs.Common.{◌≡◌, ℕ, ◌-◌, ◌++◌, ◌+◌, ◌*◌, ◌/◌, ◌<◌, ◌≤◌, zero, suc, List, [], ◌∷◌, length, map, get_or, take, drop, refl, sym, ap, subst, ◌∙◌, arith, length-drop, take-append-drop}
 use Rattle.std.specs.Prelude.{flat_map, slice_range}
 use Rattle.std.proofs.Math.Nat.{mul-suc}
-use Rattle.std.proofs.lemmas.List.{length-map, length-take-le, nil_from_length}
+use Rattle.std.proofs.lemmas.List.{drop-drop, get_or-map, length-map, length-take-le, nil_from_length}
 use Rattle.gix_hash.specs.Kinds.{byte_len_of, hex_len_of}
 use Rattle.gix_hash.specs.declared.Kind.{Kind}
 use Rattle.gix_hash.specs.declared.Kind.TheVariants.{Sha1, Sha256}
@@ -37,35 +37,42 @@ length-names_in kind bytes tables =
     length-digests_in kind (slice_range bytes names_start (crc_table_start kind bytes)) ∙ ap (λ n. n / byte_len_of kind) (length-table kind bytes tables)
     ∙ as_many kind (num_objects bytes)
 
--- a prefix of the kind has at most as many digits as each of the names
-reach : (n k : ℕ) (bytes : List ℕ) → n ≤ 32 → n * k ≤ length bytes → 2 * n ≤ least_hex_len (map digits_of (first_chunks n k bytes))
-reach n zero bytes small fits = omega arith
-reach n (suc k) bytes small fits =
-    let all = mul-suc n k in
-    let cut = length-take-le n bytes (omega arith) in
-    let left = length-drop n bytes in
-    omega (arith, length-digits_of (take n bytes), reach n k (drop n bytes) small (omega arith))
+-- the digits of a digest
+get_or-first_chunks : {X : Type 0} (n count k : ℕ) (xs d : List X) → k < count → get_or (first_chunks n count xs) k d ≡ take n (drop (n * k) xs)
+get_or-first_chunks n zero k xs d low = absurd (omega arith)
+get_or-first_chunks n (suc count) zero xs d low = let none : 0 ≡ n * 0 = omega arith in ap (λ j. take n (drop j xs)) none
+get_or-first_chunks n (suc count) (suc k) xs d low =
+    let next : n + n * k ≡ n * suc k = omega arith in
+    get_or-first_chunks n count k (drop n xs) d (omega arith) ∙ ap (take n) (drop-drop (n * k) n xs ∙ ap (λ j. drop j xs) next)
 
-pub digests_in-reach : (kind : Kind) (bytes : List ℕ) → hex_len_of kind ≤ least_hex_len (digests_in kind bytes)
-digests_in-reach Sha1 bytes = reach 20 (length bytes / 20) bytes (omega arith) (omega arith)
-digests_in-reach Sha256 bytes = reach 32 (length bytes / 32) bytes (omega arith) (omega arith)
+pub digest_digits : (kind : Kind) (bytes : List ℕ) (k : ℕ) (d : List ℕ) → k < length bytes / byte_len_of kind
+    → get_or (digests_in kind bytes) k d ≡ digits_of (take (byte_len_of kind) (drop (byte_len_of kind * k) bytes))
+digest_digits kind bytes k d low =
+    let count = length bytes / byte_len_of kind in
+    get_or-map digits_of (first_chunks (byte_len_of kind) count bytes) k d d (omega (arith, low, length-first_chunks (byte_len_of kind) count bytes))
+    ∙ ap digits_of (get_or-first_chunks (byte_len_of kind) count k bytes d low)
 
 -- each name has as many digits as its kind
-long : (n count : ℕ) (bytes : List ℕ) → n * count ≤ length bytes → (k : ℕ) → k < count
-    → length (get_or (map digits_of (first_chunks n count bytes)) k []) ≡ 2 * n
-long n zero bytes fits k low = absurd (omega arith)
-long n (suc count) bytes fits zero low =
-    let all = mul-suc n count in
-    let cut = length-take-le n bytes (omega arith) in
-    omega (arith, length-digits_of (take n bytes))
-long n (suc count) bytes fits (suc k) low =
-    let all = mul-suc n count in
-    let left = length-drop n bytes in
-    long n count (drop n bytes) (omega arith) k (omega arith)
+whole : (n k : ℕ) (bytes : List ℕ) → n * k + n ≤ length bytes → length (digits_of (take n (drop (n * k) bytes))) ≡ 2 * n
+whole n k bytes room =
+    omega (arith, length-digits_of (take n (drop (n * k) bytes)), length-take-le n (drop (n * k) bytes) (omega (arith, room, length-drop (n * k) bytes)))
 
 pub length-digests_in_at : (kind : Kind) (bytes : List ℕ) (k : ℕ) → k < length (digests_in kind bytes) → length (get_or (digests_in kind bytes) k []) ≡ hex_len_of kind
-length-digests_in_at Sha1 bytes k low = long 20 (length bytes / 20) bytes (omega arith) k (omega (arith, length-digests_in Sha1 bytes))
-length-digests_in_at Sha256 bytes k low = long 32 (length bytes / 32) bytes (omega arith) k (omega (arith, length-digests_in Sha256 bytes))
+length-digests_in_at Sha1 bytes k low =
+    let inside : k < length bytes / 20 = omega (arith, low, length-digests_in Sha1 bytes) in
+    ap length (digest_digits Sha1 bytes k [] inside) ∙ whole 20 k bytes (omega (arith, inside))
+length-digests_in_at Sha256 bytes k low =
+    let inside : k < length bytes / 32 = omega (arith, low, length-digests_in Sha256 bytes) in
+    ap length (digest_digits Sha256 bytes k [] inside) ∙ whole 32 k bytes (omega (arith, inside))
+
+-- a prefix of the kind has at most as many digits as each of the names
+least_of : (n : ℕ) (ids : List (List ℕ)) → n ≤ 64 → ((k : ℕ) → k < length ids → length (get_or ids k []) ≡ n) → n ≤ least_hex_len ids
+least_of n [] most each = most
+least_of n (id ∷ ids) most each = omega (arith, each 0 (omega arith), least_of n ids most (λ k low. each (suc k) (omega (arith, low))))
+
+pub digests_in-reach : (kind : Kind) (bytes : List ℕ) → hex_len_of kind ≤ least_hex_len (digests_in kind bytes)
+digests_in-reach Sha1 bytes = least_of 40 (digests_in Sha1 bytes) (omega arith) (length-digests_in_at Sha1 bytes)
+digests_in-reach Sha256 bytes = least_of 64 (digests_in Sha256 bytes) (omega arith) (length-digests_in_at Sha256 bytes)
 
 -- so have the digests in chunks of bytes
 module _ (kind : Kind) (bytes : List ℕ) (chunks : List (List ℕ)) (is : chunks ≡ first_chunks (byte_len_of kind) (length bytes / byte_len_of kind) bytes) where

@@ -20,11 +20,8 @@ word_within bytes at found read k low =
     let is : found ≡ take n (drop at bytes) = read.same ∙ ap (λ m. take m (drop at bytes)) size in
     let byte : (j there : ℕ) → j < n → at + j ≡ there → get_or found j 0 ≡ get_or bytes there 0 =
     λ j there low same. ap (λ (xs : List ℕ). get_or xs j 0) is ∙ get_or-take n (drop at bytes) j 0 low ∙ get_or-drop at bytes j 0 ∙ ap (λ m. get_or bytes m 0) same in
-    let first : get_or found k 0 ≡ get_or bytes (at + k) 0 = byte k (at + k) (omega arith) refl in
-    let second : get_or found (k + 1) 0 ≡ get_or bytes (at + k + 1) 0 = byte (k + 1) (at + k + 1) (omega arith) (omega arith) in
-    let third : get_or found (k + 2) 0 ≡ get_or bytes (at + k + 2) 0 = byte (k + 2) (at + k + 2) (omega arith) (omega arith) in
-    let last : get_or found (k + 3) 0 ≡ get_or bytes (at + k + 3) 0 = byte (k + 3) (at + k + 3) (omega arith) (omega arith) in
-    (λ i. from_be_bytes w32 (first i ∷ second i ∷ third i ∷ last i ∷ []))
+    let at_byte : (j : ℕ) → j < 4 → get_or found (k + j) 0 ≡ get_or bytes (at + k + j) 0 = λ j less. byte (k + j) (at + k + j) (omega arith) (omega arith) in
+    (λ i. from_be_bytes w32 (byte k (at + k) (omega arith) refl i ∷ at_byte 1 (omega arith) i ∷ at_byte 2 (omega arith) i ∷ at_byte 3 (omega arith) i ∷ []))
 
 module _ (bytes head : List ℕ) (front : IsReadAt bytes 0 head) (long : length head ≡ 1032) where
   pub head_word : (at : ℕ) → at + 4 ≤ 1032 → word_at head at ≡ word_at bytes at

@@ -1,7 +1,7 @@
 -- Where an id is among names of its kind, by the run of all its digits.
-use Rattle.std.proofs.Common.{◌≡◌, ◌≢◌, ℕ, ◌<◌, ◌≤◌, true, not, nat_eq, Option, None, Some, List, [], ◌++◌, length, get_or, sym, ap, ◌∙◌, arith, append-nil}
+use Rattle.std.proofs.Common.{◌≡◌, ◌≢◌, ℕ, ◌<◌, ◌≤◌, true, not, nat_eq, Option, None, Some, List, [], length, get_or, take, refl, sym, ap, ◌∙◌, arith, append-nil}
 use Rattle.std.specs.Prelude.{◌↔◌, IfSome, IsTrue}
-use Rattle.std.proofs.lemmas.List.{length-append, nil_from_length}
+use Rattle.std.proofs.lemmas.List.{take_all, take_at}
 use Rattle.std.proofs.lemmas.Bool.{false≢true}
 use Rattle.gix_hash.specs.Kinds.{hex_len_of, number_of}
 use Rattle.gix_hash.specs.Prefixes.{KindDigits, BeginsWith}
@@ -11,20 +11,16 @@ use Rattle.id_lookup.specs.declared.search.Run.{Run}
 use Rattle.id_lookup.proofs.Indexes.{not_other, same_kind}
 use Rattle.pack_index.specs.Format.{IsFirstIndexOf}
 
--- what begins with a list of its own length is that list
-same_length : (xs ys rest : List ℕ) → xs ≡ ys ++ rest → length xs ≡ length ys → xs ≡ ys
-same_length xs ys rest is long =
-    let none : rest ≡ [] = nil_from_length rest (omega (arith, ap length is, length-append ys rest)) in
-    is ∙ ap (λ (r : List ℕ). ys ++ r) none ∙ append-nil ys
-
 module _ (prefix : KindDigits) (names : List (List ℕ)) (run : Run) (is : IsRun prefix names run)
     (begins : (id : List ℕ) → IsTrue (begins_with id prefix) ↔ BeginsWith id prefix.digits)
     (long : (k : ℕ) → k < length names → length (get_or names k []) ≡ length prefix.digits) where
   -- the names of the run are the id
   same_within : (k : ℕ) → k < length names → run.start ≤ k → k < run.end → get_or names k [] ≡ prefix.digits
   same_within k inside low high =
-      let split = (begins (get_or names k [])).0 ((is.members k inside).1 (low, high)) in
-      same_length (get_or names k []) prefix.digits split.0 split.1 (long k inside)
+      let id = get_or names k [] in
+      let n = length prefix.digits in
+      let split = (begins id).0 ((is.members k inside).1 (low, high)) in
+      sym (take_all n id (omega (arith, long k inside))) ∙ ap (take n) split.1 ∙ take_at prefix.digits split.0 n refl
 
   -- and no others are
   within_same : (k : ℕ) → k < length names → get_or names k [] ≡ prefix.digits → (run.start ≤ k) × (k < run.end)
