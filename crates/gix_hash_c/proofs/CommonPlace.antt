@@ -2,30 +2,20 @@
 use Rattle.std.proofs.Common.{◌≡◌, ℕ, zero, suc, ◌+◌, ◌*◌, ◌<◌, ◌≤◌, pos, Bool, true, false, ◌||◌, Equal, List, [], ◌∷◌, length, take, nat_lt, refl, sym, ap, ◌∙◌, arith}
 use Rattle.std.specs.Prelude.{◌==◌, if◌then◌else◌, Some, None}
 use Rattle.std.specs.Ordering.{nat_cmp, ordering_then}
-use Rattle.std.specs.Cmp.Lexicographic.{slice_cmp}
+use Rattle.std.specs.Cmp.Lexicographic.{slice_cmp, texts_ties}
 use Rattle.std.proofs.lemmas.Bool.Decides.{nat_tests}
 use Rattle.std.proofs.lemmas.List.{length-take-le, take-take}
 use Rattle.gix_hash.specs.Digits.{digits_of, place}
 use Rattle.id_digits.proofs.ByteDigits.{length-digits_of, take-digits_of}
-use Rattle.id_lookup.proofs.CommonDigits.{common, cond_no, cond_no', cond_yes}
+use Rattle.id_lookup.proofs.CommonDigits.{begins-common, common, cond_yes}
 use Rattle.id_lookup.proofs.FirstByteOrder.{by_cmp}
+use Rattle.id_lookup.proofs.Spelled.{is_eq-Equal}
 use Rattle.gix_hash.specs.Kinds.{byte_len_of, hex_len_of}
 use Rattle.gix_hash.specs.declared.kind.Kind.{Kind}
 use Rattle.gix_hash.specs.declared.kind.Kind.TheVariants.{Sha1, Sha256}
 use Rattle.gix_hash.proofs.KindFacts.{hex_len_of-bytes}
 use Rattle.gix_hash.specs.Prefixes.{KindDigits}
 use Rattle.gix_hash_c.specs.Face.{place_number, prefix_in}
-
--- digits in common are equal
-common-equal : (n : ℕ) (x y : List ℕ) → n ≤ length x → n ≤ common x y → slice_cmp nat_cmp (take n x) (take n y) ≡ Equal
-common-equal zero x y within few = refl
-common-equal (suc n) [] y within few = absurd (omega arith)
-common-equal (suc n) (a ∷ xs) [] within few = absurd (omega arith)
-common-equal (suc n) (a ∷ xs) (b ∷ ys) within few =
-    by_cmp a b (λ o. ordering_then o (slice_cmp nat_cmp (take n xs) (take n ys)) ≡ Equal)
-    (λ l. absurd (omega (arith, cond_no' a b (1 + common xs ys) l)))
-    (λ l. common-equal n xs ys (omega arith) (omega (arith, cond_yes a b (1 + common xs ys) l)))
-    (λ l. absurd (omega (arith, cond_no a b (1 + common xs ys) l)))
 
 -- more digits are in the order of all
 apart-order : (n : ℕ) (x y : List ℕ) → n ≤ length x → n ≤ length y → common x y < n → slice_cmp nat_cmp (take n x) (take n y) ≡ slice_cmp nat_cmp x y
@@ -54,16 +44,16 @@ module _ (kind : Kind) (n k : ℕ) (bytes id own : List ℕ) (most : n ≤ hex_l
   reach : n ≤ length id
   reach = omega (arith, most, whole)
 
-  -- their place against the id
-  first : place (take n (digits_of bytes)) id ≡ slice_cmp nat_cmp (take n own) (take n id)
-  first =
-      rw (sym (take-take n (2 * k) (digits_of bytes) within) ∙ ap (take n) (take-digits_of k bytes ∙ sym is), length-take-le n own long) refl
+  same : take n (digits_of bytes) ≡ take n own
+  same = sym (take-take n (2 * k) (digits_of bytes) within) ∙ ap (take n) (take-digits_of k bytes ∙ sym is)
 
+  -- their place against the id
   pub place-common : n ≤ common own id → place (take n (digits_of bytes)) id ≡ Equal
-  place-common few = first ∙ common-equal n own id long few
+  place-common few =
+      rw same ((is_eq-Equal (place (take n own) id)).0 (sym (texts_ties (take n own) (take (length (take n own)) id)) ∙ begins-common n own id long few))
 
   pub place-apart : common own id < n → place (take n (digits_of bytes)) id ≡ slice_cmp nat_cmp own id
-  place-apart many = first ∙ apart-order n own id long reach many
+  place-apart many = rw (same, length-take-le n own long) (apart-order n own id long reach many)
 
 -- no order if the id has fewer digits
 pub too_few : (n : ℕ) (bytes : List ℕ) (id : KindDigits) → length bytes ≡ 32 → hex_len_of id.kind < n

@@ -3,4 +3,3 @@ mod CommonPlace
 mod Reading
 mod Recast
 mod Runs
-mod Zeros

@@ -1,5 +1,5 @@
 -- Runs of digits, whatever kind the prefix has that they are of.
-use Rattle.std.proofs.Common.{◌≡◌, ℕ, ◌≤◌, List, length, map, subst, arith}
+use Rattle.std.proofs.Common.{ℕ, ◌≤◌, List, length, map, arith}
 use Rattle.std.proofs.lemmas.List.{length-map}
 use Rattle.gix_hash.specs.Digits.{digits_of}
 use Rattle.gix_hash.specs.Prefixes.{KindDigits, kind_digits}
@@ -22,11 +22,10 @@ same_run prefix kind ids run r = record {
 }
 
 -- what was found in digests one after the other is found among their ids
-pub found_in : (prefix : KindDigits) (chunks ids : List (List ℕ)) (run : Run) → map digits_of chunks ≡ ids → run.start ≤ run.end → run.end ≤ length chunks
-    → (IsSortedIds (map digits_of chunks) → IsRun prefix (map digits_of chunks) (run_in run)) → IsRunIfSorted prefix.digits ids run
-found_in prefix chunks ids run same in_order within is =
-    subst (λ list. IsRunIfSorted prefix.digits list run) same (record {
-      in_order = in_order;
-      in_range = omega (arith, within, length-map chunks digits_of);
-      is = λ kind sorted. same_run prefix kind (map digits_of chunks) (run_in run) (is sorted);
-    })
+pub found_in : (prefix : KindDigits) (chunks : List (List ℕ)) (run : Run) → run.start ≤ run.end → run.end ≤ length chunks
+    → (IsSortedIds (map digits_of chunks) → IsRun prefix (map digits_of chunks) (run_in run)) → IsRunIfSorted prefix.digits (map digits_of chunks) run
+found_in prefix chunks run in_order within is = record {
+  in_order = in_order;
+  in_range = omega (arith, within, length-map chunks digits_of);
+  is = λ kind sorted. same_run prefix kind (map digits_of chunks) (run_in run) (is sorted);
+}

@@ -15,11 +15,9 @@ pub extern "C" fn gix_hash_digest(kind: u32, bytes: &[u8], id: &mut Id) -> u32
     ensures { KindIdAnswer (option_map (λ kind. whole_of (digest kind bytes.now))
         (kind_of_number kind)) result id.old id.new }
 {
-    match kind_of(kind) {
-        Some(kind) => {
-            *id = to_c(&digest_of(kind, bytes));
-            OK
-        }
-        None => BAD_KIND,
-    }
+    let Some(kind) = kind_of(kind) else {
+        return BAD_KIND;
+    };
+    *id = to_c(&digest_of(kind, bytes));
+    OK
 }

@@ -43,16 +43,14 @@ pub extern "C" fn gix_hash_id_from_hex(text: &[u8], id: &mut Id) -> u32
 pub extern "C" fn gix_hash_id_to_hex(id: &Id, buffer: &mut [u8]) -> u32
     ensures { HexAnswer (id_in id.now) result buffer.old buffer.new }
 {
-    match of_c(id) {
-        None => BAD_KIND,
-        Some(id) => {
-            if buffer.len() < id.kind().len_in_hex() {
-                return NO_ROOM;
-            }
-            id.put_hex(buffer);
-            OK
-        }
+    let Some(id) = of_c(id) else {
+        return BAD_KIND;
+    };
+    if buffer.len() < id.kind().len_in_hex() {
+        return NO_ROOM;
     }
+    id.put_hex(buffer);
+    OK
 }
 
 /// Writes the 40 or 64 lowercase hex digits of an id into the front of a buffer, and a zero after
@@ -62,18 +60,16 @@ pub extern "C" fn gix_hash_id_to_hex(id: &Id, buffer: &mut [u8]) -> u32
 pub extern "C" fn gix_hash_id_to_text(id: &Id, text: &mut [u8]) -> u32
     ensures { TextAnswer (id_in id.now) result text.old text.new }
 {
-    match of_c(id) {
-        None => BAD_KIND,
-        Some(id) => {
-            let len = id.kind().len_in_hex();
-            if text.len() <= len {
-                return NO_ROOM;
-            }
-            id.put_hex(text);
-            text[len] = 0;
-            OK
-        }
+    let Some(id) = of_c(id) else {
+        return BAD_KIND;
+    };
+    let len = id.kind().len_in_hex();
+    if text.len() <= len {
+        return NO_ROOM;
     }
+    id.put_hex(text);
+    text[len] = 0;
+    OK
 }
 
 /// Takes an id from the bytes of a digest. An error leaves `id` as it was: `BAD_KIND`, or else
@@ -98,13 +94,11 @@ pub extern "C" fn gix_hash_id_null(kind: u32, id: &mut Id) -> u32
     ensures { KindIdAnswer (option_map (λ kind. kind_digits kind (null_digits kind))
         (kind_of_number kind)) result id.old id.new }
 {
-    match kind_of(kind) {
-        Some(kind) => {
-            *id = to_c(&kind.null());
-            OK
-        }
-        None => BAD_KIND,
-    }
+    let Some(kind) = kind_of(kind) else {
+        return BAD_KIND;
+    };
+    *id = to_c(&kind.null());
+    OK
 }
 
 /// The id of the empty blob. `BAD_KIND` leaves `id` as it was.
@@ -113,13 +107,11 @@ pub extern "C" fn gix_hash_id_empty_blob(kind: u32, id: &mut Id) -> u32
     ensures { KindIdAnswer (option_map (λ kind. kind_digits kind (empty_blob_digits kind))
         (kind_of_number kind)) result id.old id.new }
 {
-    match kind_of(kind) {
-        Some(kind) => {
-            *id = to_c(&kind.empty_blob());
-            OK
-        }
-        None => BAD_KIND,
-    }
+    let Some(kind) = kind_of(kind) else {
+        return BAD_KIND;
+    };
+    *id = to_c(&kind.empty_blob());
+    OK
 }
 
 /// The id of the empty tree. `BAD_KIND` leaves `id` as it was.
@@ -128,13 +120,11 @@ pub extern "C" fn gix_hash_id_empty_tree(kind: u32, id: &mut Id) -> u32
     ensures { KindIdAnswer (option_map (λ kind. kind_digits kind (empty_tree_digits kind))
         (kind_of_number kind)) result id.old id.new }
 {
-    match kind_of(kind) {
-        Some(kind) => {
-            *id = to_c(&kind.empty_tree());
-            OK
-        }
-        None => BAD_KIND,
-    }
+    let Some(kind) = kind_of(kind) else {
+        return BAD_KIND;
+    };
+    *id = to_c(&kind.empty_tree());
+    OK
 }
 
 /// The order of two ids, by kind and then by digits: -1, 0 or 1, and 2 if a kind is bad.

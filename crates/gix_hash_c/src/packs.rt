@@ -48,16 +48,14 @@ pub struct Entry {
 pub extern "C" fn gix_hash_pack_check(kind: u32, bytes: &[u8], detail: &mut u64) -> u32
     ensures { CheckAnswer (kind_of_number kind) bytes.now result detail.old detail.new }
 {
-    match kind_of(kind) {
-        Some(kind) => match File::try_new(bytes, kind) {
-            Ok(_) => OK,
-            Err(error) => {
-                *detail = detail_of(error, *detail);
-                cause_of(error)
-            }
-        },
-        None => BAD_KIND,
+    let Some(kind) = kind_of(kind) else {
+        return BAD_KIND;
+    };
+    if let Err(error) = File::try_new(bytes, kind) {
+        *detail = detail_of(error, *detail);
+        return cause_of(error);
     }
+    OK
 }
 
 /// The number of the kind whose ids the index holds. An error is the number of the cause for which

@@ -6,8 +6,8 @@ use Rattle.gix_hash.specs.Kinds.{hex_len_of}
 use Rattle.gix_hash.specs.Ids.{oid_digits, oid_kind}
 use Rattle.gix_hash_c.proofs.ids.gix_hash_id_to_text.Goals as goal
 
-pub returns-else-text-len : goal.returns-else-text-len
-returns-else-text-len c =
+pub returns : goal.returns
+returns c =
     let old = c.args.text.now in let n = hex_len_of (oid_kind c.in-Some.id) in let digits = oid_digits c.in-Some.id in
     let front = spelling hex_letter digits in
     let at : c.len_in_hex-len.result ≡ n = c.len_in_hex-len.ensures ∙ ap hex_len_of c.kind.ensures.value in

@@ -1,8 +1,6 @@
-use Rattle.std.proofs.Common.{◌≤◌, ℕ, List, length, map, sym, ap, ◌∙◌, subst, arith}
-use Rattle.gix_hash.specs.Digits.{digits_of}
+use Rattle.std.proofs.Common.{◌≤◌, length, subst, arith}
 use Rattle.gix_hash.specs.Kinds.{hex_len_of}
 use Rattle.gix_hash.specs.declared.kind.Kind.TheVariants.{Sha1, Sha256}
-use Rattle.pack_index.specs.Format.{digests_in}
 use Rattle.pack_index.proofs.Counted.{digests_in-reach}
 use Rattle.gix_hash_c.proofs.Runs.{found_in}
 use Rattle.gix_hash_c.proofs.look_up.find_in.Goals as goal
@@ -19,10 +17,10 @@ find_assuming_sorted_near-run-requires-in-Sha256 c =
 
 pub returns-in-Sha1 : goal.returns-in-Sha1
 returns-in-Sha1 c =
-    let same = ap (λ (chunks : List (List ℕ)). map digits_of chunks) c.as_chunks.ensures.front ∙ ap (λ kind. digests_in kind c.args.table.now) (sym c.in-Sha1.is) in
-    found_in c.args.prefix.now _ _ _ same c.find_assuming_sorted_near-run.ensures.in_order c.find_assuming_sorted_near-run.ensures.in_range c.find_assuming_sorted_near-run.ensures.run
+    let run = c.find_assuming_sorted_near-run.ensures in
+    rw (c.in-Sha1.is, ← c.as_chunks.ensures.front) (found_in c.args.prefix.now _ _ run.in_order run.in_range run.run)
 
 pub returns-in-Sha256 : goal.returns-in-Sha256
 returns-in-Sha256 c =
-    let same = ap (λ (chunks : List (List ℕ)). map digits_of chunks) c.as_chunks-in-Sha256.ensures.front ∙ ap (λ kind. digests_in kind c.args.table.now) (sym c.in-Sha256.is) in
-    found_in c.args.prefix.now _ _ _ same c.find_assuming_sorted_near-run-in-Sha256.ensures.in_order c.find_assuming_sorted_near-run-in-Sha256.ensures.in_range c.find_assuming_sorted_near-run-in-Sha256.ensures.run
+    let run = c.find_assuming_sorted_near-run-in-Sha256.ensures in
+    rw (c.in-Sha256.is, ← c.as_chunks-in-Sha256.ensures.front) (found_in c.args.prefix.now _ _ run.in_order run.in_range run.run)
