@@ -69,9 +69,8 @@ impl Error {
 
     // A pack index is not there, cannot be read, or is damaged.
     pub(crate) fn index(alloc: Global, path: &str, error: LazyError) -> Error {
-        let path = match String::from_str(alloc, path) {
-            Ok(path) => path,
-            Err(error) => return Error::Memory(error),
+        let Ok(path) = String::from_str(alloc, path) else {
+            return Error::Memory(AllocError);
         };
         match error {
             LazyError::Memory(error) => Error::Memory(error),
@@ -104,10 +103,7 @@ impl Error {
 
     // Whether a pack index was read, and is damaged or none.
     pub(crate) fn is_damage(&self) -> bool {
-        match self {
-            Error::Index { error, .. } => !matches!(**error, LazyError::Read(_)),
-            _ => false,
-        }
+        matches!(self, Error::Index { error, .. } if !matches!(**error, LazyError::Read(_)))
     }
 
     // The name of a file is not what it is to be.

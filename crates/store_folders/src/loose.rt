@@ -70,32 +70,17 @@ fn list_folder<R: Files + AllocGlobal>(
 ) -> Result<LooseFolder, Error>
     ensures { IfOk result (λ folder. folder.table.kind ≡ kind) }
 {
-    let mut ids = Vec::new(rt.alloc());
-    push_folder(rt, path, kind, which, &mut ids)?;
-    let path = String::from_str(rt.alloc(), path)?;
-    let table = LooseTable::new(ids, kind);
-    Ok(LooseFolder { path, table })
-}
-
-// Adds the ids of the loose objects in an object directory.
-fn push_folder<R: Files + AllocGlobal>(
-    rt: &R,
-    folder: &str,
-    kind: Kind,
-    which: LooseIds,
-    ids: &mut Vec<ObjectId>,
-) -> Result<(), Error>
-    requires { All (λ id. id_kind id ≡ kind) ids.old.items }
-    ensures { OnOk result (All (λ id. id_kind id ≡ kind) ids.new.items) }
-{
     let (first, last) = match which {
         LooseIds::All => (0, u8::MAX),
         LooseIds::WithFirstByte(byte) => (byte, byte),
     };
+    let mut ids = Vec::new(rt.alloc());
     for byte in first..=last {
-        push_part(rt, folder, kind, byte, ids)?;
+        push_part(rt, path, kind, byte, &mut ids)?;
     }
-    Ok(())
+    let path = String::from_str(rt.alloc(), path)?;
+    let table = LooseTable::new(ids, kind);
+    Ok(LooseFolder { path, table })
 }
 
 // Adds the ids of the loose objects in an object directory that have a first byte. Names that are

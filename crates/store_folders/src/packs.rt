@@ -6,6 +6,7 @@ use crate::error::Error;
 use crate::listing::names_in;
 use crate::source::Source;
 use gix_hash::Kind;
+use pack_index::tables::{NAMES_START, fan_out_entry};
 use pack_index::{LazyError, LazyFile};
 use repositories::join;
 use std::alloc::{AllocError, Global};
@@ -77,13 +78,11 @@ impl PackIndexes {
                 at += 1;
             }
         }
-        match earlier.paths.get(at) {
-            Some(path) => {
-                let path = String::from_str(alloc, path)?;
-                Err(Error::Gone { path })
-            }
-            None => Ok(()),
-        }
+        let Some(path) = earlier.paths.get(at) else {
+            return Ok(());
+        };
+        let path = String::from_str(alloc, path)?;
+        Err(Error::Gone { path })
     }
 
     // Fails if a directory has changed since it was listed for an earlier list, of the same
@@ -275,10 +274,8 @@ fn open_index<R: Files<File = File> + AllocGlobal + Clone + Drop>(
 ) -> Result<LazyFile<Source<R>>, Error>
     ensures { IfOk result (λ index. index.kind ≡ kind) }
 {
-    let source = match Source::open(rt, path, stays_open) {
-        Ok(source) => source,
-        Err(error) => return Err(not_opened(rt, path, error)),
-    };
+    let source = Source::open(rt, path, stays_open);
+    let source = source.map_err(|error| not_opened(rt, path, error))?;
     let fall = first_fall(&source);
     match (LazyFile::open(source, kind), fall) {
         (Ok(index), None) => Ok(index),
@@ -294,17 +291,11 @@ fn open_index<R: Files<File = File> + AllocGlobal + Clone + Drop>(
 // The first byte whose count in a pack index of version 2 is below the one before it, if its counts
 // can be read. Git reads no index that has one.
 fn first_fall<S: ReadAt>(source: &S) -> Option<u8> {
-    let mut counts = [0; 4 * 256];
-    source.read_exact_at(&mut counts, 8).ok()?;
+    let mut head = [0; NAMES_START];
+    source.read_exact_at(&mut head, 0).ok()?;
     let mut before = 0;
     for byte in 0..=u8::MAX {
-        let at = 4 * usize::from(byte);
-        let count = u32::from_be_bytes([
-            counts[at],
-            counts[at + 1],
-            counts[at + 2],
-            counts[at + 3],
-        ]);
+        let count = fan_out_entry(&head, byte);
         if count < before {
             return Some(byte);
         }

@@ -2,7 +2,7 @@
 
 ghost use Rattle.std.specs.Prelude.{◌≤◌, None, true};
 
-use std::alloc::{AllocError, Global};
+use std::alloc::Global;
 use std::cell::Cell;
 use std::fs::File;
 use std::rt::Files;
@@ -85,17 +85,12 @@ impl<R: Files<File = File>> Source<R> {
         requires { most ≤ 16384 }
     {
         let len = self.len.saturating_sub(start).min(most as u64) as usize;
-        let Ok(mut bytes) = self.zeros(len) else {
+        let Ok(mut bytes) = vec![in self.alloc; 0; len] else {
             return Ok(());
         };
         self.read(&mut bytes, start)?;
         self.kept.set(Kept { start, bytes });
         Ok(())
-    }
-
-    // `len` bytes of zero.
-    fn zeros(&self, len: usize) -> Result<Vec<u8>, AllocError> {
-        Ok(vec![in self.alloc; 0; len]?)
     }
 
     // Fills the buffer from the file.

@@ -74,13 +74,12 @@ impl<R: Files<File = File> + AllocGlobal + Clone + Drop> FolderStore<R> {
     {
         let kind = folder.kind;
         let folders = with_alternates(rt, folder)?;
-        let (listed, loose) = list(rt, &folders.paths, kind, loose)?;
+        let (mut listed, loose) = list(rt, &folders.paths, kind, loose)?;
         expect_alternates(rt, folder, &folders)?;
         let opened = open_indexes(rt, &listed.with_packs(rt)?, kind)?;
         let packs = pack_paths(rt.alloc(), &opened.paths)?;
         let mut skipped = skipped_alternates(rt, folders)?;
-        let mut unnamed = listed.skipped;
-        skipped.append(&mut unnamed)?;
+        skipped.append(&mut listed.skipped)?;
         let OpenIndexes {
             paths,
             indexes,
@@ -153,14 +152,9 @@ impl<R: Files<File = File> + AllocGlobal + Clone + Drop> FolderStore<R> {
         let Err(error) = fs::metadata(&self.rt, path.as_str()) else {
             return Ok(());
         };
-        let is_gone = match fs::symlink_metadata(&self.rt, path.as_str()) {
-            Ok(_) => false,
-            Err(error) => error.kind() == io::ErrorKind::NotFound,
-        };
-        if is_gone {
-            Ok(())
-        } else {
-            Err(Error::file(self.rt.alloc(), &path, error))
+        match fs::symlink_metadata(&self.rt, path.as_str()) {
+            Err(gone) if gone.kind() == io::ErrorKind::NotFound => Ok(()),
+            _ => Err(Error::file(self.rt.alloc(), &path, error)),
         }
     }
 }
@@ -204,11 +198,8 @@ fn expect_alternates<R: Files + AllocGlobal>(
 
 // Why alternates are skipped.
 fn skipped_alternates(rt: &impl AllocGlobal, folders: Folders) -> Result<Vec<Error>, AllocError> {
-    let mut errors = Vec::with_capacity(rt.alloc(), folders.skipped.len())?;
-    for error in folders.skipped {
-        errors.push(Error::from(error))?;
-    }
-    Ok(errors)
+    let skipped = folders.skipped.into_iter();
+    skipped.map(|error| Error::from(error)).collect(rt.alloc())
 }
 
 // The ids of a table among which are those that begin with a prefix: the ones with its first byte,
