@@ -1,4 +1,4 @@
 pub mod WritingLemmas
 mod Taking
-mod SealedLemmas
+pub mod SealedLemmas
 pub mod LineLemmas

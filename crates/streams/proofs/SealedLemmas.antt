@@ -3,7 +3,7 @@ use Rattle.std.proofs.Common.{◌≡◌, ◌≢◌, ◌<◌, ◌≤◌, ◌+◌,
 use Rattle.std.specs.Prelude.{min}
 use Rattle.std.specs.List.{copy_within}
 use Rattle.std.proofs.Math.Seq.{take-add, take-append-add, take-append_seam, drop-append_seam}
-use Rattle.std.proofs.lemmas.List.{length-take, nil_from_length, take-append-le}
+use Rattle.std.proofs.lemmas.List.{length-take, nil_from_length, same_from_push, take-append-le}
 use Rattle.std.proofs.lemmas.List.Edits.{take-paste}
 use borrow.Rule.Slice.PartMut.{put_mid, post_of}
 use Rattle.gix_hash.specs.Hashing.{digest, EndsInDigest}
@@ -66,9 +66,7 @@ sealed-last kind lens front byte other first second =
     ) in
     let digest_is : (last : ℕ) → EndsInDigest kind (front ++ last ∷ []) → drop at front ++ last ∷ [] ≡ id_bytes (digest kind (take at front)) =
     λ last is_sealed. sealed-end kind lens (take at front) (drop at front ++ last ∷ []) (len last) (subst (EndsInDigest kind) (cut last) is_sealed) in
-    let same = same_parts (drop at front) (other ∷ []) (drop at front) (byte ∷ []) (digest_is other second ∙ sym (digest_is byte first)) refl in
-    let last : other ∷ [] ≡ byte ∷ [] = same.1 in
-    cc
+    (same_from_push (drop at front) (drop at front) other byte (digest_is other second ∙ sym (digest_is byte first))).1
 
 -- no digest of a kind has more than 32 bytes
 byte_len_of-most : (kind : Kind) → byte_len_of kind ≤ 32
@@ -134,15 +132,9 @@ take-read held k count buf chunk room within =
 pub length-read : (held k count : ℕ) (buf chunk : List ℕ) → held ≤ length buf → count ≤ length chunk
     → held + count ≤ length (put_mid held k buf chunk)
 length-read held k count buf chunk room within =
-    let all = put_mid held k buf chunk in
-    omega (
-      arith,
-      ap length (take-read held k count buf chunk room within),
-      length-take (held + count) all,
-      length-append (take held buf) (take count chunk),
-      length-take held buf,
-      length-take count chunk,
-    )
+    let after = post_of held k buf in
+    let all : length (put_mid held k buf chunk) ≡ length (take held buf) + length (chunk ++ after) = length-append (take held buf) (chunk ++ after) in
+    omega (arith, all, length-append chunk after, length-take held buf, room, within)
 
 -- the first bytes of a list, and then those after them, which were copied to its front
 before_held : (bytes : List ℕ) (fed end : ℕ) → fed ≤ end → end ≤ length bytes

@@ -1,7 +1,7 @@
 -- Writing a list of bytes chunk by chunk.
 use Rattle.std.proofs.lemmas.Bool.Decides.{nat_tests}
 use Rattle.std.proofs.Common.{Bool, false, ◌||◌, Ok, ◌≡◌, ◌≢◌, ℕ, ◌+◌, ◌-◌, ◌<◌, Option, Some, None, List, [], ◌++◌, length, take, drop, sym, ap, ◌∙◌, subst, arith, take-append-drop, append-nil}
-use Rattle.std.proofs.lemmas.List.{length-drop, take_all}
+use Rattle.std.proofs.lemmas.List.{length-drop, take_rest}
 use Rattle.std.proofs.Math.Seq.{take-add}
 use Rattle.std.proofs.KnownBytes.{Appends-trans}
 use Rattle.std.specs.Io.KnownBytes.{Appends, Keeps}
@@ -10,9 +10,7 @@ use Rattle.streams.proofs.WritingLemmas.{Appends-kept}
 
 -- the bytes before an index, and then the first ones from there on
 pub take-chunk : (at n : ℕ) (bytes : List ℕ) → take at bytes ++ take n (take (length bytes - at) (drop at bytes)) ≡ take (at + n) bytes
-take-chunk at n bytes =
-    let rest : take (length bytes - at) (drop at bytes) ≡ drop at bytes = take_all (length bytes - at) (drop at bytes) (omega (arith, length-drop at bytes)) in
-    rw rest (sym (take-add at n bytes))
+take-chunk at n bytes = rw (take_rest bytes at) (sym (take-add at n bytes))
 
 -- what was taken, and then the first bytes of the chunk after it
 pub Appends-chunk : (a b c : Option (List ℕ)) (at n : ℕ) (bytes : List ℕ) → Appends a b (take at bytes)

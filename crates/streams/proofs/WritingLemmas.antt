@@ -2,9 +2,9 @@
 use Rattle.std.specs.Prelude.{◌≡◌, Bool, Option, Some, None, ℕ, ◌+◌, ◌<◌, List, [], ◌∷◌, ◌++◌, length, get_or, take, drop, Result, Ok, Err, IsErr, OnErr}
 use Rattle.std.specs.List.{flat_map}
 use Rattle.std.specs.Io.KnownBytes.{Appends, Keeps}
-use Rattle.std.proofs.Common.{refl, sym, ap, subst, ◌∙◌, append_assoc, add-one, take-append-drop}
+use Rattle.std.proofs.Common.{refl, sym, ap, subst, ◌∙◌, append_assoc, take-append-drop}
 use Rattle.std.proofs.KnownBytes.{Appends-trans}
-use Rattle.std.proofs.Math.Seq.{drop-cons}
+use Rattle.std.proofs.lemmas.List.{drop_more}
 use Rattle.std.proofs.lemmas.Grind.{flat_map-append}
 use Rattle.streams.specs.Streams.{AppendsPart, AppendsAtMost, Wrote}
 use Rattle.streams.specs.declared.sink.WriteFailed.{WriteFailed}
@@ -66,8 +66,7 @@ pub lines_around : {X : Type 0} (line : X → List ℕ) (xs : List X) (k : ℕ) 
     → flat_map line xs ≡ flat_map line (take k xs) ++ (line (get_or xs k d) ++ flat_map line (drop (k + 1) xs))
 lines_around {X} line xs k d within =
     let parts : xs ≡ take k xs ++ get_or xs k d ∷ drop (k + 1) xs =
-    sym (take-append-drop k xs)
-    ∙ ap (λ (rest : List X). take k xs ++ rest) (drop-cons xs k d within ∙ ap (λ j. get_or xs k d ∷ drop j xs) (sym (add-one k))) in
+    sym (take-append-drop k xs) ∙ ap (λ (rest : List X). take k xs ++ rest) (drop_more xs k d within) in
     ap (flat_map line) parts ∙ flat_map-append line (take k xs) (get_or xs k d ∷ drop (k + 1) xs)
 
 -- where the write of a line stops, after the lines before it, so does that of all lines
