@@ -24,8 +24,8 @@ pub(crate) fn push_digest(line: &mut Line, text: &[u8], id: &ObjectId)
 }
 
 /// Adds bytes, for which there is room.
-pub(crate) fn push(line: &mut Line, bytes: &[u8])
-    requires { array_vec_len line.old + length bytes.now ≤ MAX_LEN }
+pub(crate) fn push<const N: usize>(line: &mut ArrayVec<u8, N>, bytes: &[u8])
+    requires { array_vec_len line.old + length bytes.now ≤ N }
     ensures { line.new.items ≡ line.old.items ++ bytes.now }
 {
     line.try_extend_from_slice(bytes).unwrap();

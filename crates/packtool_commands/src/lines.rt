@@ -1,6 +1,7 @@
-//! The lines of a pack index and of names, put together in a buffer, many of them at once. Each call
-//! returns where its line ends. An `ArrayVec` knows its length, but took 116 instructions more for
-//! a line of a pack index, and 48 for one of a name.
+//! The lines of a pack index and of names, put together in a buffer, many of them at once.
+//!
+//! Each call returns where its line ends. An `ArrayVec` knows its length, but took 116 instructions
+//! more for a line of a pack index, and 48 for one of a name.
 
 ghost use Rattle.std.specs.Prelude.{◌≡◌, ◌+◌, ◌<◌, ◌≤◌, ◌++◌, IfOk, OnErr, OnOk, decimal, false, true, length, take};
 ghost use Rattle.gix_hash.specs.Digits.{hex_letter, spelling};
@@ -76,7 +77,8 @@ fn put_offset_id_crc(line: &mut [u8], at: usize, offset: u64, id: oid<'_>, crc: 
     requires { at + MAX_LINE_LEN ≤ length line.old }
     ensures most { result ≤ at + MAX_LINE_LEN }
     ensures text { take result line.new ≡ take at line.old
-        ++ line_of_object (decimal offset) (spelling hex_letter (oid_digits id.entry)) (crc_text crc) }
+        ++ line_of_object (decimal offset) (spelling hex_letter (oid_digits id.entry))
+        (crc_text crc) }
 {
     let mut number = Buffer::new();
     let offset = number.format(offset).as_bytes();
@@ -120,8 +122,8 @@ fn put_name(line: &mut [u8], at: usize, named: &NamedId, id: &[u8]) -> usize
     at + len
 }
 
-// Copies bytes into the buffer at a position, and returns where they end.
-fn put(line: &mut [u8], at: usize, bytes: &[u8]) -> usize
+/// Copies bytes into the buffer at a position, and returns where they end.
+pub(crate) fn put(line: &mut [u8], at: usize, bytes: &[u8]) -> usize
     requires { at + length bytes.now ≤ length line.old }
     ensures end { result ≡ at + length bytes.now }
     ensures text { take result line.new ≡ take at line.old ++ bytes.now }
@@ -131,8 +133,8 @@ fn put(line: &mut [u8], at: usize, bytes: &[u8]) -> usize
     end
 }
 
-// Writes an id's digits in hex into the buffer at a position, and returns where they end.
-fn put_id(line: &mut [u8], at: usize, id: oid<'_>) -> usize
+/// Writes an id's digits in hex into the buffer at a position, and returns where they end.
+pub(crate) fn put_id(line: &mut [u8], at: usize, id: oid<'_>) -> usize
     requires { at + MAX_ID_LEN ≤ length line.old }
     ensures end { result ≡ at + length (oid_digits id.entry) }
     ensures most { result ≤ at + MAX_ID_LEN }

@@ -1,8 +1,8 @@
 //! The locations of the objects of a store, a line for each.
 
-ghost use Rattle.std.specs.Prelude.{◌≡◌, ◌≢◌, ◌↔◌, ◌≤◌, ◌++◌, ℕ, List, None, Some, false, true, flat_map, length, map, option_copied, string_bytes, IfErr, IfOk, IsErrOf, OnOk, OnErr};
+ghost use Rattle.std.specs.Prelude.{◌≡◌, ◌≢◌, ◌↔◌, ◌≤◌, [], ◌∷◌, ◌++◌, ℕ, List, None, Some, false, true, flat_map, length, map, option_copied, string_bytes, take, IfErr, IfOk, IsErrOf, OnOk, OnErr};
 ghost use Rattle.std.specs.Io.KnownBytes.{Appends};
-ghost use Rattle.gix_hash.specs.Digits.{first_byte_of};
+ghost use Rattle.gix_hash.specs.Digits.{first_byte_of, hex_letter, spelling};
 ghost use Rattle.gix_hash.specs.Ids.{id_digits, id_kind};
 ghost use Rattle.id_lookup.specs.Runs.{matches};
 ghost use Rattle.object_store.specs.Several.{IsLocationsFaultOfOne};
@@ -11,15 +11,23 @@ ghost use Rattle.packtool_commands.specs.Stores.{HasLocated, HasLocatedEach, Has
 ghost use Rattle.packtool_commands.specs.declared.error.StoreError.{StoreError};
 ghost use Rattle.streams.specs.Streams.{AppendsAtMost, Wrote, lines_of};
 
-use crate::asking::{Answers, Entry, Listed, prefixes_for, write_answers, write_front, write_two};
+use crate::asking::{Answers, Entry, Listed, prefixes_for, write_answers, write_front};
 use crate::error::StoreError;
 use crate::escaping::{write_before, write_mark};
-use crate::line::{Line, push};
-use gix_hash::{Kind, ObjectId, Prefix};
+use crate::line::push;
+use crate::lines::{put, put_id};
+use arrayvec::ArrayVec;
+use gix_hash::{ObjectId, Prefix};
 use itoa::Buffer;
 use object_store::{LocatedId, Location, Part, StorePaths, locate_prefixes};
 use std::alloc::Allocator;
-use streams::{Sink, WriteFailed};
+use streams::{Sink, WriteFailed, write_all};
+
+// The length of the longest part of a line before the path: 64 digits and a space.
+const MAX_START_LEN: usize = 65;
+
+// What is after the path: at most a space, an offset of 20 digits and a line feed.
+type End = ArrayVec<u8, 22>;
 
 /// Writes a line for each location of each id of a store that begins with a prefix: the ids in
 /// order, each once; the locations of one in the order of [`object_store::locate`]; and of a loose
@@ -298,17 +306,29 @@ fn write_location_after<W: Sink>(
     ensures { Wrote W.taken W.has_failed out.old out.new result
         (location_line_after (option_copied line.entry) (id_digits id.now) path.now offset) }
 {
+    let mut start = [0; MAX_START_LEN];
+    let start_len = put_start(id, &mut start);
     write_mark(path, out)?;
     write_front(line, out)?;
-    write_two(id.hex_to_buf(&mut Kind::hex_buf()).as_bytes(), b" ", out)?;
+    write_all(out, &start[..start_len])?;
     write_before(path, location_end(offset).as_slice(), out)
 }
 
+// Writes an id and a space to the start of the buffer, and returns their length.
+fn put_start(id: &ObjectId, line: &mut [u8]) -> usize
+    requires { length line.old ≡ MAX_START_LEN }
+    ensures len { result ≤ MAX_START_LEN }
+    ensures text { take result line.new ≡ spelling hex_letter (id_digits id.now) ++ 32 ∷ [] }
+{
+    let id_end = put_id(line, 0, id.as_oid());
+    put(line, id_end, b" ")
+}
+
 // What is after the path of a location.
-fn location_end(offset: Option<u64>) -> Line
+fn location_end(offset: Option<u64>) -> End
     ensures { result.items ≡ location_end offset }
 {
-    let mut end = Line::new();
+    let mut end = End::new();
     if let Some(offset) = offset {
         push(&mut end, b" ");
         push(&mut end, Buffer::new().format(offset).as_bytes());

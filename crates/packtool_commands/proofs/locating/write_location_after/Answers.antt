@@ -17,19 +17,17 @@ returns-in_err-write_front g c =
     Wrote-then _ (escape_mark c.args.path.now) _ c.in_ok-write_mark.ensures.written
     (Wrote-stop _ (front_text (option_copied c.args.line)) _ c.from_residual-in_err-write_front.ensures.0 c.in_err-write_front.ensures)
 
-pub returns-in_err-write_two : goal.returns-in_err-write_two
-returns-in_err-write_two g c =
-    let id : List ℕ = spelling hex_letter (id_digits c.args.id.now) in
+pub returns-in_err-write_all : goal.returns-in_err-write_all
+returns-in_err-write_all g c =
     Wrote-then _ (escape_mark c.args.path.now) _ c.in_ok-write_mark.ensures.written
     (Wrote-then _ (front_text (option_copied c.args.line)) _ c.in_ok-write_front.ensures.written
-    (Wrote-stop _ (id ++ 32 ∷ []) _ c.from_residual-in_err-write_two.ensures.0
-    (subst (Wrote _ _ _ _ _) (ap (λ (text : List ℕ). text ++ 32 ∷ []) (c.as_bytes.ensures.value ∙ c.hex_to_buf.ensures.text)) c.in_err-write_two.ensures)))
+    (Wrote-stop _ (spelling hex_letter (id_digits c.args.id.now) ++ 32 ∷ []) _ c.from_residual-in_err-write_all.ensures.0
+    (subst (Wrote _ _ _ _ _) c.put_start-start_len.ensures.text c.in_err-write_all.ensures)))
 
 pub returns : goal.returns
 returns g c =
-    let id : List ℕ = spelling hex_letter (id_digits c.args.id.now) in
     Wrote-then _ (escape_mark c.args.path.now) _ c.in_ok-write_mark.ensures.written
     (Wrote-then _ (front_text (option_copied c.args.line)) _ c.in_ok-write_front.ensures.written
-    (Wrote-then _ (id ++ 32 ∷ []) _
-    (subst (Appends _ _) (ap (λ (text : List ℕ). text ++ 32 ∷ []) (c.as_bytes.ensures.value ∙ c.hex_to_buf.ensures.text)) c.in_ok-write_two.ensures.written)
+    (Wrote-then _ (spelling hex_letter (id_digits c.args.id.now) ++ 32 ∷ []) _
+    (subst (Appends _ _) c.put_start-start_len.ensures.text c.in_ok-write_all.ensures.written)
     (subst (Wrote _ _ _ _ _) (ap (λ (text : List ℕ). escaped c.args.path.now ++ text) (c.as_slice.ensures.value ∙ c.location_end.ensures)) c.write_before.ensures)))
