@@ -9,7 +9,7 @@ use Rattle.std.proofs.lemmas.Bool.{and_parts, eq-eqb}
 use Rattle.gix_hash.specs.Kinds.{number_of, kind_by_number}
 use Rattle.gix_hash.specs.Ids.{id_digits, id_eq, id_kind, oid_digits, oid_eq}
 use Rattle.gix_hash.specs.Prefixes.{KindDigits, prefix_eq}
-use Rattle.gix_hash.specs.PrefixBytes.{packed, id_of, id_of-parts}
+use Rattle.gix_hash.specs.PrefixBytes.{packed_digits, id_of, id_of-parts}
 use Rattle.gix_hash.specs.declared.borrowed.oid.{oid}
 use Rattle.gix_hash.specs.declared.kind.Kind.{Kind}
 use Rattle.gix_hash.specs.declared.object_id.ObjectId.{ObjectId}
@@ -39,7 +39,7 @@ prefix_eq-parts a b = both_equal a.kind b.kind a.digits b.digits
 
 -- owned ids with the same kind and digits are the same
 pub same_id : (a b : ObjectId) → id_kind a ≡ id_kind b → id_digits a ≡ id_digits b → a ≡ b
-same_id a b kinds digits = sym (id_of-parts a) ∙ (λ i. id_of (kinds i) (packed (digits i))) ∙ id_of-parts b
+same_id a b kinds digits = sym (id_of-parts a) ∙ (λ i. id_of (kinds i) (packed_digits (digits i))) ∙ id_of-parts b
 
 -- and so owned ids are equal if and only if they are the same
 pub id_eq-same : (a b : ObjectId) → IsTrue (id_eq a b) ↔ (a ≡ b)

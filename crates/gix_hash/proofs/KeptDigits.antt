@@ -7,7 +7,7 @@ use Rattle.std.proofs.lemmas.List.Elements.{All-take}
 use Rattle.gix_hash.specs.Kinds.{hex_len_of}
 use Rattle.gix_hash.specs.Ids.{id_kind, id_bytes, id_digits}
 use Rattle.id_digits.specs.Digits.{padded}
-use Rattle.gix_hash.specs.PrefixBytes.{IsPacked, packed, packed-digits_of, shown, length-shown}
+use Rattle.gix_hash.specs.PrefixBytes.{IsPacked, packed_digits, packed_digits-digits_of, shown, length-shown}
 use Rattle.gix_hash.specs.declared.kind.Kind.{Kind}
 use Rattle.gix_hash.specs.declared.kind.Kind.TheVariants.{Sha1, Sha256}
 use Rattle.gix_hash.specs.declared.prefix.Prefix.TheInside.{Inside}
@@ -27,8 +27,8 @@ pub shown-below : (p : Inside) → IsPacked p → All (λ d. d < 16) (shown p)
 shown-below p h = All-take (λ (d : ℕ). d < 16) p.hex_len (id_digits p.bytes) h.digits_in_range
 
 -- the digits of a prefix, padded and packed, are its bytes
-pub packed-shown : (p : Inside) → IsPacked p → packed (padded (hex_len_of (id_kind p.bytes)) (shown p)) ≡ id_bytes p.bytes
-packed-shown p h = ap packed (sym h.zeros) ∙ packed-digits_of (id_bytes p.bytes)
+pub packed_digits-shown : (p : Inside) → IsPacked p → packed_digits (padded (hex_len_of (id_kind p.bytes)) (shown p)) ≡ id_bytes p.bytes
+packed_digits-shown p h = ap packed_digits (sym h.zeros) ∙ packed_digits-digits_of (id_bytes p.bytes)
 
 -- the words of two prefixes, and then their numbers of digits, compare as their digits
 words_order : (p q : Inside) → IsPacked p → IsPacked q

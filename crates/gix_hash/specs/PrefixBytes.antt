@@ -16,10 +16,10 @@ use Rattle.gix_hash.specs.declared.object_id.ObjectId.TheVariants.{Sha1, Sha256}
 use Rattle.gix_hash.specs.declared.prefix.Prefix.TheInside.{Inside}
 
 -- the bytes of digits, two a byte; an odd number of digits is followed by a zero
-unfoldable pub packed : List ℕ → List ℕ
-packed [] = []
-packed (d ∷ []) = (16 * d) ∷ []
-packed (d ∷ (e ∷ digits)) = (16 * d + e) ∷ packed digits
+unfoldable pub packed_digits : List ℕ → List ℕ
+packed_digits [] = []
+packed_digits (d ∷ []) = (16 * d) ∷ []
+packed_digits (d ∷ (e ∷ digits)) = (16 * d + e) ∷ packed_digits digits
 
 -- the id of a kind with these bytes
 abbrev pub id_of : Kind → List ℕ → ObjectId
@@ -28,7 +28,7 @@ id_of kinds.Sha256 bytes = Sha256 bytes
 
 -- the bytes of a prefix, of the kind's length
 abbrev pub padded_id : Kind → List ℕ → ObjectId
-padded_id kind digits = id_of kind (packed (padded (hex_len_of kind) digits))
+padded_id kind digits = id_of kind (packed_digits (padded (hex_len_of kind) digits))
 
 -- the digits of a prefix
 abbrev pub shown : Inside → List ℕ
@@ -42,19 +42,19 @@ pub record IsPacked (p : Inside) : Type 0 where
   pub words : p.words ≡ words_of (shown p)
 
 -- the digits of bytes give the bytes back
-pub packed-digits_of : (bytes : List ℕ) → packed (digits_of bytes) ≡ bytes
-unfolding packed digits_of
-packed-digits_of [] = refl
-packed-digits_of (b ∷ bytes) = rw (packed-digits_of bytes) (ap (λ (x : ℕ). x ∷ bytes) (omega arith))
+pub packed_digits-digits_of : (bytes : List ℕ) → packed_digits (digits_of bytes) ≡ bytes
+unfolding packed_digits digits_of
+packed_digits-digits_of [] = refl
+packed_digits-digits_of (b ∷ bytes) = rw (packed_digits-digits_of bytes) (ap (λ (x : ℕ). x ∷ bytes) (omega arith))
 
 -- the kind and the digits of an id give the id back
-pub id_of-parts : (id : ObjectId) → id_of (id_kind id) (packed (id_digits id)) ≡ id
-id_of-parts (Sha1 bytes) = ap Sha1 (packed-digits_of bytes)
-id_of-parts (Sha256 bytes) = ap Sha256 (packed-digits_of bytes)
+pub id_of-parts : (id : ObjectId) → id_of (id_kind id) (packed_digits (id_digits id)) ≡ id
+id_of-parts (Sha1 bytes) = ap Sha1 (packed_digits-digits_of bytes)
+id_of-parts (Sha256 bytes) = ap Sha256 (packed_digits-digits_of bytes)
 
 -- the kind and the digits that a prefix shows give its bytes back
 given_back : (p : Inside) → IsPacked p → padded_id (id_kind p.bytes) (shown p) ≡ p.bytes
-given_back p h = ap (λ (ds : List ℕ). id_of (id_kind p.bytes) (packed ds)) (sym h.zeros) ∙ id_of-parts p.bytes
+given_back p h = ap (λ (ds : List ℕ). id_of (id_kind p.bytes) (packed_digits ds)) (sym h.zeros) ∙ id_of-parts p.bytes
 
 -- padding reaches at least the length asked for
 length-padded : (n : ℕ) (digits : List ℕ) → n ≤ length (padded n digits)
@@ -85,7 +85,7 @@ stored-viewed p h = λ i. record { bytes = given_back p h i; hex_len = length-sh
 
 -- what a prefix feeds to a hash: its bytes in one write, and then the number of digits
 abbrev pub prefix_hash_input : KindDigits → List (List ℕ)
-prefix_hash_input prefix = packed (padded (hex_len_of prefix.kind) prefix.digits) ∷ fed.usize (length prefix.digits)
+prefix_hash_input prefix = packed_digits (padded (hex_len_of prefix.kind) prefix.digits) ∷ fed.usize (length prefix.digits)
 
 -- equal prefixes feed the same
 pub same_hash_input : (a b : KindDigits)
@@ -95,4 +95,4 @@ same_hash_input a b h =
     let parts = and_parts (nat_eq (number_of a.kind) (number_of b.kind)) (pointwise nat_eq a.digits b.digits) h in
     let kind = kind_by_number a.kind b.kind (eqb-true (number_of a.kind) (number_of b.kind) parts.0) in
     let digits = (bytes_decides a.digits b.digits).0 parts.1 in
-    λ i. packed (padded (hex_len_of (kind i)) (digits i)) ∷ fed.usize (length (digits i))
+    λ i. packed_digits (padded (hex_len_of (kind i)) (digits i)) ∷ fed.usize (length (digits i))
