@@ -11,7 +11,7 @@ pub mod FirstByteOrder
 pub mod Indexes
 mod Kept
 mod Least
-mod Matched
+pub mod Matched
 pub mod NamesInPart
 mod Neighbours
 mod OneKind

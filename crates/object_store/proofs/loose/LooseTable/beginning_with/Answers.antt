@@ -5,7 +5,7 @@ use Rattle.id_lookup.proofs.Indexes.{index-sorted}
 use Rattle.id_lookup.specs.Indexes.{part_of}
 use Rattle.id_lookup.specs.Runs.{matches}
 use Rattle.object_store.proofs.LooseParts.{index_least}
-use Rattle.pack_index.proofs.Matched.{run_matches}
+use Rattle.id_lookup.proofs.Matched.{run_matches}
 use Rattle.object_store.proofs.loose.LooseTable.beginning_with.Goals as goal
 
 pub find_assuming_sorted-run-requires : goal.find_assuming_sorted-run-requires
