@@ -6,7 +6,7 @@ ghost use Rattle.gix_hash.specs.Kinds.{hex_len_of};
 ghost use Rattle.gix_hash.specs.Ids.{id_digits, id_kind};
 ghost use Rattle.id_lookup.specs.Indexes.{IsIndex, IsShortestNameFrom, part_of};
 ghost use Rattle.object_store.specs.Stores.{CanLookUp, HaveBuckets, Holds, IsFaultOfOne, IsNameIn, IsOfKind, IsStoreFault};
-ghost use Rattle.object_store.specs.Several.{AreAbbreviatedOfEach, IsAbbreviationOfKind};
+ghost use Rattle.object_store.specs.Several.{AreAbbreviatedOfEach, IsAbbreviated, IsAbbreviationOfKind};
 
 use crate::each::{LookUp, look_up_each};
 use crate::error::Error;
@@ -92,12 +92,6 @@ struct Abbreviating<A: Allocator> {
 }
 
 impl<S: Store, A: Allocator + Copy> LookUp<S, A> for Abbreviating<A> {
-    ghost use Rattle.std.specs.Prelude.{◌≤◌};
-    ghost use Rattle.gix_hash.specs.Digits.{first_byte_of};
-    ghost use Rattle.gix_hash.specs.Kinds.{hex_len_of};
-    ghost use Rattle.object_store.specs.Several.{IsAbbreviated};
-    ghost use Rattle.object_store.specs.Stores.{IsStoreFault};
-
     type Found = Abbreviation;
 
     ghost fits = { λ it view. (4 ≤ it.least) × (it.least ≤ hex_len_of view.kind) };

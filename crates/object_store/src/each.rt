@@ -1,9 +1,10 @@
 //! Look-ups of several prefixes, for which each part of the store is read once.
 
-ghost use Rattle.std.specs.Prelude.{◌≡◌, ◌<◌, ℕ, All, IfErr, IfOk, None, OnOk, Some, length, map, slice_index_or};
+ghost use Rattle.std.specs.Prelude.{◌≡◌, ◌<◌, ℕ, All, IfErr, IfOk, List, None, OnOk, Some, length, map, slice_index_or};
 ghost use Rattle.gix_hash.specs.Digits.{first_byte_of};
 ghost use Rattle.gix_hash.specs.Prefixes.{KindDigits};
-ghost use Rattle.object_store.specs.Stores.{AreFoundOfEach, AreFoundOrPending, ArePlaces, CanLookUp, IsOfOne, StayFound};
+ghost use Rattle.object_store.specs.Stores.{AreFoundOfEach, AreFoundOrPending, ArePlaces, CanLookUp, IsOfOne, IsStoreFault, StayFound, StoreView};
+ghost use Rattle.object_store.specs.declared.error.Error.{Error as StoreError};
 
 use crate::error::Error;
 use crate::part::Part;
@@ -13,11 +14,6 @@ use std::alloc::{AllocError, Allocator};
 
 // What is looked up of a prefix, in the part of its first byte.
 pub(crate) trait LookUp<S: Store, A: Allocator + Copy> {
-    ghost use Rattle.std.specs.Prelude.{◌≡◌, ℕ, IfErr, IfOk, List};
-    ghost use Rattle.gix_hash.specs.Digits.{first_byte_of};
-    ghost use Rattle.object_store.specs.Stores.{CanLookUp, IsStoreFault, StoreView};
-    ghost use Rattle.object_store.specs.declared.error.Error.{Error as StoreError};
-
     // What is found.
     type Found: Drop;
 

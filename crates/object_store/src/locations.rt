@@ -7,6 +7,7 @@ ghost use Rattle.object_store.specs.Stores.{AreBuckets, AreLocations, AreMatches
 ghost use Rattle.object_store.specs.Several.{AreLocated, AreLocatedOfEach, IsLocationsFaultOfOne};
 ghost use Rattle.pack_index.specs.Format.{Each, HasCount};
 ghost use Rattle.pack_index.specs.Lazy.{IsBucketOf};
+ghost use Rattle.std.proofs.Common.{inl};
 
 use crate::each::{LookUp, look_up_each};
 use crate::error::Error;
@@ -93,10 +94,6 @@ struct Locating<'s, S: StorePaths, A: Allocator> {
 }
 
 impl<S: StorePaths, A: Allocator + Copy> LookUp<S, A> for Locating<'_, S, A> {
-    ghost use Rattle.object_store.specs.Several.{AreLocated};
-    ghost use Rattle.object_store.specs.Stores.{IsLocationsFault};
-    ghost use Rattle.std.proofs.Common.{inl};
-
     type Found = Vec<LocatedId<A>, A>;
 
     ghost fits = { λ _ _. Unit {0} };

@@ -75,9 +75,6 @@ struct Matching<A: Allocator> {
 }
 
 impl<S: Store, A: Allocator + Copy> LookUp<S, A> for Matching<A> {
-    ghost use Rattle.gix_hash.specs.Digits.{first_byte_of};
-    ghost use Rattle.object_store.specs.Stores.{AreMatches, IsStoreFault};
-
     type Found = Vec<ObjectId, A>;
 
     ghost fits = { λ _ _. Unit {0} };

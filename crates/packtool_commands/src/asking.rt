@@ -1,10 +1,11 @@
 //! What is found in a store for each line of a text, and the ids that begin with each.
 
-ghost use Rattle.std.specs.Prelude.{◌≡◌, ◌≢◌, ◌++◌, ◌-◌, ◌<◌, ◌≤◌, ◌↔◌, ◌∷◌, ◌&&◌, ℕ, All, List, IfErr, IfOk, IsErrOf, OnErr, OnOk, Some, false, flat_map, length, option_copied, true};
+ghost use Rattle.std.specs.Prelude.{◌≡◌, ◌≢◌, ◌++◌, ◌-◌, ◌<◌, ◌≤◌, ◌↔◌, ◌∷◌, ◌&&◌, ℕ, All, Bool, List, IfErr, IfOk, IsErrOf, OnErr, OnOk, Option, Some, false, flat_map, length, option_copied, true};
 ghost use Rattle.std.specs.List.{after_first, before_first, position};
 ghost use Rattle.std.specs.Io.KnownBytes.{Appends};
+ghost use Rattle.gix_hash.specs.Ids.{id_digits};
 ghost use Rattle.object_store.specs.Stores.{CanLookUp, Holds, IsFaultOfOne};
-ghost use Rattle.packtool_commands.specs.Stores.{HasAnswered, HasAnsweredMatches, HaveAllBuckets, IsFaultOf, answer_to, answers_by, answers_in, are_answers_by, found_text, front_text, is_answer_to, lists_after, prefix_of, prefixes_of};
+ghost use Rattle.packtool_commands.specs.Stores.{HasAnswered, HasAnsweredMatches, HaveAllBuckets, IsFaultOf, answer_to, answers_by, answers_in, are_answers_by, found_text, front_text, id_line, is_answer_to, is_found, lists_after, prefix_of, prefixes_of};
 ghost use Rattle.packtool_commands.specs.declared.error.StoreError.{StoreError};
 ghost use Rattle.streams.specs.Streams.{AppendsPart, Wrote, is_line_feed, lines_of};
 
@@ -159,9 +160,6 @@ fn prefix_in(kind: Kind, line: &[u8]) -> Option<Prefix>
 
 /// How what is found for a prefix, a `T`, is printed.
 pub(crate) trait Form<T> {
-    ghost use Rattle.std.specs.Prelude.{◌≡◌, ℕ, Bool, List, false};
-    ghost use Rattle.streams.specs.Streams.{Wrote};
-
     /// What is printed for a line that is a prefix.
     ghost text: { Self → List ℕ → T → List ℕ };
 
@@ -252,9 +250,6 @@ fn write_answer<T, F: Form<T>, W: Sink>(
 
 /// How one thing that is found, an `X`, is printed.
 pub(crate) trait Entry<X> {
-    ghost use Rattle.std.specs.Prelude.{◌≡◌, ℕ, List, Option, false, option_copied};
-    ghost use Rattle.streams.specs.Streams.{Wrote};
-
     /// What is printed for it, after a line or nothing.
     ghost text: { Self → Option (List ℕ) → X → List ℕ };
 
@@ -280,8 +275,6 @@ pub(crate) struct Listed<E> {
 }
 
 impl<X, A: Allocator, E: Entry<X>> Form<Vec<X, A>> for Listed<E> {
-    ghost use Rattle.packtool_commands.specs.Stores.{found_text, is_found};
-
     ghost text = { λ form line ids. found_text (E.text form.entry) form.answers line ids.items };
 
     ghost is_found = { λ form found. is_found form.answers found.items };
@@ -347,9 +340,6 @@ fn write_each<X, E: Entry<X>, W: Sink>(
 struct IdEntry;
 
 impl Entry<ObjectId> for IdEntry {
-    ghost use Rattle.gix_hash.specs.Ids.{id_digits};
-    ghost use Rattle.packtool_commands.specs.Stores.{id_line};
-
     ghost text = { λ _ line id. id_line line (id_digits id) };
 
     fn write_after<W: Sink>(

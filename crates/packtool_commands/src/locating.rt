@@ -7,7 +7,7 @@ ghost use Rattle.gix_hash.specs.Ids.{id_digits, id_kind};
 ghost use Rattle.id_lookup.specs.Runs.{matches};
 ghost use Rattle.object_store.specs.Several.{IsLocationsFaultOfOne};
 ghost use Rattle.object_store.specs.Stores.{HaveAllLocations, HaveBuckets, HaveLocations, Holds, IsLocateFault, IsLocationsFault};
-ghost use Rattle.packtool_commands.specs.Stores.{HasLocated, HasLocatedEach, HasLocatedPart, HaveAllBuckets, IsFaultOf, IsMemory, lines_at, lines_at_after, lines_of_locations, location_end, location_line, location_line_after, prefixes_of};
+ghost use Rattle.packtool_commands.specs.Stores.{HasLocated, HasLocatedEach, HasLocatedPart, HaveAllBuckets, IsFaultOf, IsMemory, lines_at, lines_at_after, lines_of_locations, located_lines, location_end, location_line, location_line_after, prefixes_of};
 ghost use Rattle.packtool_commands.specs.declared.error.StoreError.{StoreError};
 ghost use Rattle.streams.specs.Streams.{AppendsAtMost, Wrote, lines_of};
 
@@ -190,8 +190,6 @@ struct LocationsEntry<'s, S> {
 }
 
 impl<S: StorePaths, A: Allocator> Entry<LocatedId<A>> for LocationsEntry<'_, S> {
-    ghost use Rattle.packtool_commands.specs.Stores.{located_lines};
-
     ghost text = { λ entry line id. located_lines (S.pack_path entry.store.now) line id };
 
     fn write_after<W: Sink>(

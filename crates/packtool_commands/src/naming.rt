@@ -5,7 +5,7 @@ ghost use Rattle.gix_hash.specs.Digits.{hex_letter, spelling};
 ghost use Rattle.gix_hash.specs.Kinds.{hex_len_of};
 ghost use Rattle.object_store.specs.Stores.{HaveBuckets, Holds, IsFaultOfOne};
 ghost use Rattle.pack_index.specs.Format.{Each};
-ghost use Rattle.packtool_commands.specs.Stores.{HasNamedAtMost, HasNamedBelow, HasNamedEach, HasNamedEachIn, HasNamedPart, HaveAllBuckets, IsFaultOf, IsWalkFault, name_line, prefixes_of};
+ghost use Rattle.packtool_commands.specs.Stores.{HasNamedAtMost, HasNamedBelow, HasNamedEach, HasNamedEachIn, HasNamedPart, HaveAllBuckets, IsFaultOf, IsWalkFault, abbreviation_text, is_named, name_line, prefixes_of};
 ghost use Rattle.packtool_commands.specs.declared.error.StoreError.{StoreError};
 ghost use Rattle.streams.specs.Streams.{Wrote, lines_of};
 
@@ -143,8 +143,6 @@ pub fn name_each<S: Store, A: Allocator + Copy, W: Sink>(
 struct AbbreviationForm;
 
 impl Form<Abbreviation> for AbbreviationForm {
-    ghost use Rattle.packtool_commands.specs.Stores.{abbreviation_text, is_named};
-
     ghost text = { λ _ line found. abbreviation_text line found };
 
     ghost is_found = { λ _ found. is_named found };
