@@ -24,16 +24,20 @@ kept_member whole digits id only =
     contains_had (λ x. starts_with nat_eq x digits) whole id (subst (λ (ids : List (List ℕ)). Contains ids id) (sym only) (Contains-push [] id))
 
 -- its abbreviation
-pub only_named : (least : ℕ) (view : StoreView) (digits : List ℕ) (ids : List ObjectId) (id d : ObjectId) (found : Abbreviation) → AreMatches view digits ids
+pub only_named : (least : ℕ) (view same : StoreView) (digits : List ℕ) (ids : List ObjectId) (id d : ObjectId) (found : Abbreviation) → same ≡ view → AreMatches view digits ids
     → length ids ≡ 1 → id ≡ get_or ids 0 d
-    → ((whole : List (List ℕ)) → Holds view whole → Contains whole (id_digits id)
+    → ((whole : List (List ℕ)) → Holds same whole → Contains whole (id_digits id)
     → (named : NamedId) × (found ≡ Named named) × (named.id ≡ id) × IsNameIn least whole (id_digits id) named.name.digits)
-    → IsAbbreviationOfKind view.kind found → IsAbbreviated least view digits found
-only_named least view digits ids id d found are one here name kind = record { found = λ whole h. in_whole whole h; kind = kind; sound = are.sound }
+    → IsAbbreviationOfKind same.kind found → IsAbbreviated least view digits found
+only_named least view same digits ids id d found is are one here name kind = record {
+  found = λ whole h. in_whole whole h;
+  kind = subst (λ (v : StoreView). IsAbbreviationOfKind v.kind found) is kind;
+  sound = are.sound;
+}
   where
     in_whole : (whole : List (List ℕ)) → Holds view whole → IsAbbreviatedIn least whole digits found
     in_whole whole h =
         let only : matches digits whole ≡ id_digits id ∷ [] = sym (are.found whole h) ∙ only_member ids id d one here in
-        let n = name whole h (kept_member whole digits (id_digits id) only) in
+        let n = name whole (subst (λ (v : StoreView). Holds v whole) (sym is) h) (kept_member whole digits (id_digits id) only) in
         subst (IsAbbreviatedIn least whole digits) (sym n.1)
         (only ∙ ap (λ (i : ObjectId). id_digits i ∷ []) (sym n.2), subst (λ (i : ObjectId). IsNameIn least whole (id_digits i) n.0.name.digits) (sym n.2) n.3)

@@ -5,7 +5,7 @@ pub mod PartNames
 pub mod LocationMembers
 pub mod LooseParts
 pub mod TwoDigits
-pub mod Pending
+pub mod FoundAt
 mod Places
 mod Abbreviated
 mod LocatedIds

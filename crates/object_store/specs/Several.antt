@@ -1,5 +1,5 @@
 -- The locations and the abbreviations of the ids that begin with each of several prefixes.
-use Rattle.std.specs.Prelude.{◌≡◌, ℕ, ◌<◌, List, [], ◌∷◌, length, map, string_bytes}
+use Rattle.std.specs.Prelude.{◌≡◌, ℕ, ◌<◌, List, [], ◌∷◌, Vec, length, map, string_bytes}
 use Rattle.std.specs.List.{All}
 use Rattle.gix_hash.specs.Digits.{first_byte_of}
 use Rattle.gix_hash.specs.Ids.{id_digits}
@@ -23,8 +23,8 @@ pub record AreLocated {A : Type 0} (view : StoreView) (loose_paths : List ℕ �
   pub each : All (IsLocated view loose_paths) located
 
 -- a list for each prefix: the ids that begin with it, each with its locations
-abbrev pub AreLocatedOfEach : {A : Type 0} → StoreView → (List ℕ → List (List ℕ)) → List KindDigits → List (List (LocatedId A)) → Type 0
-AreLocatedOfEach view loose_paths prefixes located = AreFoundOfEach (AreLocated view loose_paths) prefixes located
+abbrev pub AreLocatedOfEach : {A : Type 0} → StoreView → (List ℕ → List (List ℕ)) → List KindDigits → List (Vec (LocatedId A) A) → Type 0
+AreLocatedOfEach view loose_paths prefixes located = AreFoundOfEach (λ digits ids. AreLocated view loose_paths digits ids.items) prefixes located
 
 -- why they are not found: why they are not of one of the prefixes, or memory ran out
 abbrev pub IsLocationsFaultOfOne : StoreView → List KindDigits → Error → Type 0

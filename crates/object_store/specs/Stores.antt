@@ -1,5 +1,5 @@
 -- What an object store holds, where it has an object, and what is found in it. Ids and names are given by their digits.
-use Rattle.std.specs.Prelude.{[], ℕ, ◌++◌, ◌<◌, ◌∷◌, ◌≡◌, ◌≤◌, ◌⊎◌, All, Bool, Contains, IsTrue, List, None, Option, Some, filter, flat_map, if◌then◌else◌, length, map, nat_eq, option_map, slice_get, slice_index_or, suc, take, zero}
+use Rattle.std.specs.Prelude.{[], ℕ, ◌++◌, ◌<◌, ◌∷◌, ◌≡◌, ◌≤◌, ◌⊎◌, All, Bool, Contains, IsTrue, List, None, Option, Some, Vec, filter, flat_map, if◌then◌else◌, length, map, nat_eq, option_map, slice_get, slice_index_or, suc, take, zero}
 use Rattle.std.specs.List.{list_any, position, starts_with}
 use Rattle.std.specs.Str.{bytes_eq}
 use Rattle.gix_hash.specs.Digits.{first_byte_of}
@@ -167,8 +167,8 @@ pub record AreFoundOfEach {Found : Type 0} (Finds : List ℕ → Found → Type 
   pub each : (k : ℕ) (prefix : KindDigits) (one : Found) → k < length prefixes → Finds (slice_index_or prefixes k prefix).digits (slice_index_or found k one)
 
 -- a list for each prefix: the ids that begin with it
-abbrev pub AreMatchesOfEach : StoreView → List KindDigits → List (List ObjectId) → Type 0
-AreMatchesOfEach view prefixes found = AreFoundOfEach (AreMatches view) prefixes found
+abbrev pub AreMatchesOfEach : {A : Type 0} → StoreView → List KindDigits → List (Vec ObjectId A) → Type 0
+AreMatchesOfEach view prefixes found = AreFoundOfEach (λ digits ids. AreMatches view digits ids.items) prefixes found
 
 -- why several prefixes are not looked up: why one of them is not, or memory ran out
 abbrev pub IsOfOne : (List ℕ → Error → Type 0) → List KindDigits → Error → Type 0
@@ -183,19 +183,6 @@ IsFaultOfOne view prefixes error = IsOfOne (λ digits. IsStoreFault view (first_
 pub record AreLocations (view : StoreView) (digits : List ℕ) (locations : List Location) : Type 0 where
   pub all : (whole : List (List ℕ)) → (h : Holds view whole) → locations ≡ locations_of view.kind digits h.indexes view.loose
   pub sound : HaveLocations view digits
-
--- each of several prefixes is not looked up yet, and has this first byte; or what was found for it has the relation to its digits
-pub record AreFoundOrPending {Found : Type 0} (Finds : List ℕ → Found → Type 0) (prefixes : List KindDigits) (pending : List (Option ℕ)) (found : List Found) : Type 0 where
-  pub pending_len : length pending ≡ length prefixes
-  pub found_len : length found ≡ length prefixes
-  pub bytes : (k : ℕ) (prefix : KindDigits) (byte : ℕ) → k < length prefixes → slice_index_or pending k None ≡ Some byte
-      → first_byte_of (slice_index_or prefixes k prefix).digits ≡ byte
-  pub each : (k : ℕ) (prefix : KindDigits) (one : Found) → k < length prefixes → slice_index_or pending k None ≡ None
-      → Finds (slice_index_or prefixes k prefix).digits (slice_index_or found k one)
-
--- those that were found before still are
-abbrev pub StayFound : (old new : List (Option ℕ)) → Type 0
-StayFound old new = (k : ℕ) → slice_index_or old k None ≡ None → slice_index_or new k None ≡ None
 
 -- the places of n positions: each is after a key, and no other one
 pub record ArePlaces (n : ℕ) (places : List (ℕ × ℕ)) : Type 0 where

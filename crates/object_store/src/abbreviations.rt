@@ -1,6 +1,6 @@
 //! Abbreviations in a whole store.
 
-ghost use Rattle.std.specs.Prelude.{◌≡◌, ◌≢◌, ◌≤◌, ◌<◌, ◌/◌, ◌%◌, ◌↔◌, ℕ, [], ◌∷◌, All, Contains, List, IfErr, IfOk, IfSome, IsTrue, MatchOption, Some, length, map, slice_get, slice_index_or, take};
+ghost use Rattle.std.specs.Prelude.{◌≡◌, ◌≢◌, ◌≤◌, ◌<◌, ◌/◌, ◌%◌, ◌↔◌, ℕ, [], ◌∷◌, All, Contains, List, IfErr, IfNone, IfOk, IfSome, IsTrue, MatchOption, Some, length, map, slice_get, slice_index_or, take};
 ghost use Rattle.gix_hash.specs.Digits.{first_byte_of};
 ghost use Rattle.gix_hash.specs.Kinds.{hex_len_of};
 ghost use Rattle.gix_hash.specs.Ids.{id_digits, id_kind};
@@ -10,7 +10,7 @@ ghost use Rattle.object_store.specs.Several.{AreAbbreviatedOfEach, IsAbbreviated
 
 use crate::each::{LookUp, look_up_each};
 use crate::error::Error;
-use crate::part::Part;
+use crate::parts::Parts;
 use crate::store::Store;
 use gix_hash::{Kind, ObjectId, Prefix};
 use id_lookup::IdIndex;
@@ -34,11 +34,13 @@ pub struct NamedId {
 /// The only id of a store that begins with a prefix, or that there is none or more than one.
 ///
 /// ```
-/// for abbreviation in abbreviate_prefixes(rt.alloc(), &store, &prefixes, 4)?.iter() {
-///     match abbreviation {
-///         Abbreviation::Missing => println!(rt; "missing")?,
-///         Abbreviation::Ambiguous => println!(rt; "ambiguous")?,
-///         Abbreviation::Named(named) => println!(rt; "{} {}", named.name, named.id)?,
+/// if let Some(found) = abbreviate_prefixes(rt.alloc(), &store, &prefixes, 4, 65_536)? {
+///     for abbreviation in found.iter() {
+///         match abbreviation {
+///             Abbreviation::Missing => println!(rt; "missing")?,
+///             Abbreviation::Ambiguous => println!(rt; "ambiguous")?,
+///             Abbreviation::Named(named) => println!(rt; "{} {}", named.name, named.id)?,
+///         }
 ///     }
 /// }
 /// ```
@@ -60,11 +62,11 @@ pub enum Abbreviation {
 /// first byte are read once, if a prefix has it, and memory is allocated for those with one first
 /// byte at a time. The error is that of reading the ids with the first byte of one of the prefixes.
 ///
+/// `None` is returned only if there are several prefixes, more than `most`.
+///
 /// ```
-/// for abbreviation in abbreviate_prefixes(rt.alloc(), &store, &prefixes, 4)?.iter() {
-///     if let Abbreviation::Named(named) = abbreviation {
-///         println!(rt; "{} {}", named.name, named.id)?;
-///     }
+/// if let Some(found) = abbreviate_prefixes(rt.alloc(), &store, &prefixes, 4, 65_536)? {
+///     println!(rt; "{} prefixes", found.len())?;
 /// }
 /// ```
 pub fn abbreviate_prefixes<S: Store, A: Allocator + Copy>(
@@ -72,26 +74,27 @@ pub fn abbreviate_prefixes<S: Store, A: Allocator + Copy>(
     store: &S,
     prefixes: &[Prefix],
     least: usize,
-) -> Result<Vec<Abbreviation, A>, Error>
+    most: usize,
+) -> Result<Option<Vec<Abbreviation, A>>, Error>
     requires can { All (CanLookUp (S.view store.now)) prefixes.now }
     requires enough { 4 ≤ least }
     requires fits { least ≤ hex_len_of (S.view store.now).kind }
-    ensures named { IfOk result (λ named. AreAbbreviatedOfEach least (S.view store.now)
-        prefixes.now named.items) }
+    ensures named { IfOk result (λ named. IfSome named (λ named. AreAbbreviatedOfEach least
+        (S.view store.now) prefixes.now named.items)) }
+    ensures several { IfOk result (λ named. IfNone named (1 < length prefixes.now)) }
     ensures err { IfErr result (IsFaultOfOne (S.view store.now) prefixes.now) }
 {
-    look_up_each(alloc, store, prefixes, &Abbreviating { alloc, least })
+    look_up_each(alloc, store, prefixes, most, &Abbreviating { least })
 }
 
 // Looks up the abbreviation of the only id that begins with a prefix.
 #[derive(Drop)]
-struct Abbreviating<A: Allocator> {
-    alloc: A,
+struct Abbreviating {
     // The smallest number of digits of an abbreviation.
     least: usize,
 }
 
-impl<S: Store, A: Allocator + Copy> LookUp<S, A> for Abbreviating<A> {
+impl<S: Store, A: Allocator + Copy> LookUp<S, A> for Abbreviating {
     type Found = Abbreviation;
 
     ghost fits = { λ it view. (4 ≤ it.least) × (it.least ≤ hex_len_of view.kind) };
@@ -104,36 +107,38 @@ impl<S: Store, A: Allocator + Copy> LookUp<S, A> for Abbreviating<A> {
         Abbreviation::Missing
     }
 
-    fn look_up(&self, part: &Part<'_, S, A>, prefix: &Prefix) -> Result<Abbreviation, Error> {
-        let ids = part.lookup_prefix(self.alloc, prefix)?;
+    fn look_up(&self, parts: &mut Parts<'_, S, A>, prefix: &Prefix) -> Result<Abbreviation, Error> {
+        let ids = parts.lookup_prefix(prefix)?;
         match ids.as_slice() {
             [] => Ok(Abbreviation::Missing),
-            [id] => Ok(name_only(self.alloc, part, id, self.least)?),
+            [id] => Ok(name_only(parts, id, self.least)?),
             _ => Ok(Abbreviation::Ambiguous),
         }
     }
 
-    ghost unread = { λ _ view digits error fault. fault };
+    fn len(&self, _found: &Abbreviation) -> usize {
+        1
+    }
 }
 
-// The abbreviation of an id, which a part has.
+// The abbreviation of an id, which a store has.
 fn name_only<S: Store, A: Allocator + Copy>(
-    alloc: A,
-    part: &Part<'_, S, A>,
+    parts: &mut Parts<'_, S, A>,
     id: &ObjectId,
     least: usize,
-) -> Result<Abbreviation, AllocError>
-    requires byte { first_byte_of (id_digits id.now) ≡ part.now.byte }
-    requires kind { id_kind id.now ≡ part.now.store.kind }
+) -> Result<Abbreviation, Error>
+    requires kind { id_kind id.now ≡ parts.old.kind }
     requires enough { 4 ≤ least }
-    requires fits { least ≤ hex_len_of part.now.store.kind }
-    ensures name { IfOk result (λ found. (whole : List (List ℕ)) → Holds part.now.store whole
+    requires fits { least ≤ hex_len_of parts.old.kind }
+    ensures store { parts.new ≡ parts.old }
+    ensures name { IfOk result (λ found. (whole : List (List ℕ)) → Holds parts.old whole
         → Contains whole (id_digits id.now) → (named : NamedId)
         × (found ≡ Abbreviation.Named named) × (named.id ≡ id.now)
         × IsNameIn least whole (id_digits id.now) named.name.digits) }
-    ensures kind { IfOk result (IsAbbreviationOfKind part.now.store.kind) }
+    ensures kind { IfOk result (IsAbbreviationOfKind parts.old.kind) }
+    ensures err { IfErr result (IsStoreFault parts.old (first_byte_of (id_digits id.now))) }
 {
-    Ok(match part.abbreviate(alloc, id, least)? {
+    Ok(match parts.abbreviate(id, least)? {
         Some(name) => Abbreviation::Named(NamedId { id: *id, name }),
         // Not for an id that the store has.
         None => Abbreviation::Missing,
@@ -173,7 +178,8 @@ pub fn abbreviate_part<S: Store, A: Allocator + Copy>(
     // The contract of this call says that the digits of loose ids are below 16.
     let _loose = store.loose().ids();
     let kind = store.object_hash();
-    let ids = Part::read(alloc, store, byte)?.lookup_prefix(alloc, &two_digits(kind, byte))?;
+    let mut parts = Parts::new(alloc, store);
+    let ids = parts.lookup_prefix(&two_digits(kind, byte))?;
     Ok(name_all(alloc, &ids, kind, least)?)
 }
 
@@ -184,38 +190,6 @@ fn two_digits(kind: Kind, byte: u8) -> Prefix
     ensures byte { first_byte_of result.digits ≡ byte }
 {
     Prefix::from_packed_digits(kind, &[byte], 2).unwrap()
-}
-
-/// The abbreviation of an id in a store, of at least `least` digits; or `None` if the store does
-/// not have the id. `least` must be from 4 to 40 or 64, by the kind. The id has the store's kind.
-///
-/// Of each pack index only the ids with this first byte are read.
-///
-/// ```
-/// if let Some(name) = abbreviate(rt.alloc(), &store, &id, 7)? {
-///     println!(rt; "{name}")?;
-/// }
-/// ```
-pub fn abbreviate<S: Store, A: Allocator + Copy>(
-    alloc: A,
-    store: &S,
-    id: &ObjectId,
-    least: usize,
-) -> Result<Option<Prefix>, Error>
-    requires kind { id_kind id.now ≡ (S.view store.now).kind }
-    requires enough { 4 ≤ least }
-    requires fits { least ≤ hex_len_of (S.view store.now).kind }
-    ensures name { IfOk result (λ name. (whole : List (List ℕ)) → Holds (S.view store.now) whole
-        → MatchOption name (¬ Contains whole (id_digits id.now))
-        (λ name. IsNameIn least whole (id_digits id.now) name.digits)) }
-    ensures kind { IfOk result (λ name. IfSome name (λ name. name.kind ≡ (S.view store.now).kind)) }
-    ensures sound { IfOk result (λ _. HaveBuckets (S.view store.now)
-        (first_byte_of (id_digits id.now))) }
-    ensures err { IfErr result (IsStoreFault (S.view store.now)
-        (first_byte_of (id_digits id.now))) }
-{
-    let part = Part::read(alloc, store, id.first_byte())?;
-    Ok(part.abbreviate(alloc, id, least)?)
 }
 
 // The first digits of an id.

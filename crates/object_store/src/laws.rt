@@ -16,7 +16,7 @@ pub fn failures()
         → IsIndexReadOrMemory view error }
 {}
 
-/// `locate` adds no location and leaves none out: an object is at an offset in a pack if and only
+/// [`Parts::locate`](crate::Parts::locate) adds no location and leaves none out: an object is at an offset in a pack if and only
 /// if the pack index has its id, the first of which has that offset; and it is a loose object if
 /// and only if its id is one of the loose ids.
 pub fn locations()

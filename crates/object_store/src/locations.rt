@@ -1,17 +1,16 @@
 //! Where an object store has an object.
 
-ghost use Rattle.std.specs.Prelude.{◌≡◌, ◌⊎◌, ℕ, [], ◌∷◌, ◌++◌, ◌≤◌, All, IfErr, IfOk, List, OnOk, Some, length, map};
+ghost use Rattle.std.specs.Prelude.{◌≡◌, ◌⊎◌, ℕ, [], ◌∷◌, ◌++◌, ◌<◌, ◌≤◌, All, IfErr, IfNone, IfOk, IfSome, List, OnOk, Some, length, map};
 ghost use Rattle.gix_hash.specs.Digits.{first_byte_of};
 ghost use Rattle.gix_hash.specs.Ids.{id_digits, id_kind};
 ghost use Rattle.object_store.specs.Stores.{AreBuckets, AreLocations, AreMatches, CanLookUp, HasLocation, HaveBuckets, HaveLocations, Holds, IsLocateFault, IsLocationFault, IsLocationsFault, IsStoreFault, offset_of, packed_at, packed_locations};
 ghost use Rattle.object_store.specs.Several.{AreLocated, AreLocatedOfEach, IsLocationsFaultOfOne};
 ghost use Rattle.pack_index.specs.Format.{Each, HasCount};
 ghost use Rattle.pack_index.specs.Lazy.{IsBucketOf};
-ghost use Rattle.std.proofs.Common.{inl};
 
 use crate::each::{LookUp, look_up_each};
 use crate::error::Error;
-use crate::part::Part;
+use crate::parts::Parts;
 use crate::store::{Store, StorePaths};
 use gix_hash::{ObjectId, Prefix};
 use pack_index::{Bucket, LazyError, LazyFile};
@@ -21,7 +20,7 @@ use streams::ReadAt;
 /// A location of an object in a store.
 ///
 /// ```
-/// for location in locate(rt.alloc(), &store, &id)?.iter() {
+/// for location in parts.locate(&id)?.iter() {
 ///     match location {
 ///         Location::Packed { pack, offset } => println!(rt; "pack {pack}, at byte {offset}")?,
 ///         Location::Loose => println!(rt; "loose")?,
@@ -44,8 +43,8 @@ pub enum Location {
 /// An id with all locations of its object.
 ///
 /// ```
-/// for ids in locate_prefixes(rt.alloc(), &store, &prefixes)?.iter() {
-///     for located in ids.iter() {
+/// if let Some(found) = locate_prefixes(rt.alloc(), &store, &prefixes, 65_536)? {
+///     for located in found.iter().flatten() {
 ///         println!(rt; "{}: {} copies", located.id, located.locations.len())?;
 ///     }
 /// }
@@ -54,10 +53,35 @@ pub enum Location {
 pub struct LocatedId<A: Allocator> {
     /// The id.
     pub id: ObjectId,
-    /// All locations, as [`locate`] gives them.
+    /// All locations, as [`Parts::locate`] gives them.
     pub locations: Vec<Location, A>,
     /// The paths of the files of the loose object, as [`StorePaths::loose_paths`] gives them.
     pub loose_paths: Vec<String>,
+}
+
+/// The ids of a store that begin with a prefix, each once, in order, with their locations.
+///
+/// The prefix must have 2 digits or more, and the store's kind. The error is that of reading the
+/// ids with its first byte, or the offset of an id that begins with it.
+///
+/// ```
+/// for located in locate_prefix(rt.alloc(), &store, &prefix)?.iter() {
+///     println!(rt; "{}: {} copies", located.id, located.locations.len())?;
+/// }
+/// ```
+pub fn locate_prefix<S: StorePaths, A: Allocator + Copy>(
+    alloc: A,
+    store: &S,
+    prefix: &Prefix,
+) -> Result<Vec<LocatedId<A>, A>, Error>
+    requires { CanLookUp (S.view store.now) prefix.now }
+    ensures located { IfOk result (λ located. AreLocated (S.view store.now)
+        (S.loose_paths store.now) prefix.now.digits located.items) }
+    ensures err { IfErr result (IsLocationsFault (S.view store.now) prefix.now.digits) }
+{
+    let mut parts = Parts::new(alloc, store);
+    let ids = parts.lookup_prefix(prefix)?;
+    locate_each(alloc, store, &mut parts, &ids, prefix)
 }
 
 /// The ids of a store that begin with each of several prefixes, with their locations: as many lists
@@ -68,22 +92,27 @@ pub struct LocatedId<A: Allocator> {
 /// byte at a time. The error is that of reading the ids with the first byte of one of the prefixes,
 /// or the offset of an id that begins with it.
 ///
+/// `None` is returned only if there are several prefixes, whose ids have more than `most`
+/// locations.
+///
 /// ```
-/// for located in locate_prefixes(rt.alloc(), &store, &prefixes)?.iter() {
-///     println!(rt; "{} ids", located.len())?;
+/// if let Some(found) = locate_prefixes(rt.alloc(), &store, &prefixes, 65_536)? {
+///     println!(rt; "{} prefixes", found.len())?;
 /// }
 /// ```
 pub fn locate_prefixes<S: StorePaths, A: Allocator + Copy>(
     alloc: A,
     store: &S,
     prefixes: &[Prefix],
-) -> Result<Vec<Vec<LocatedId<A>, A>, A>, Error>
+    most: usize,
+) -> Result<Option<Vec<Vec<LocatedId<A>, A>, A>>, Error>
     requires { All (CanLookUp (S.view store.now)) prefixes.now }
-    ensures located { IfOk result (λ located. AreLocatedOfEach (S.view store.now)
-        (S.loose_paths store.now) prefixes.now (map (λ ids. ids.items) located.items)) }
+    ensures located { IfOk result (λ located. IfSome located (λ located. AreLocatedOfEach
+        (S.view store.now) (S.loose_paths store.now) prefixes.now located.items)) }
+    ensures several { IfOk result (λ located. IfNone located (1 < length prefixes.now)) }
     ensures err { IfErr result (IsLocationsFaultOfOne (S.view store.now) prefixes.now) }
 {
-    look_up_each(alloc, store, prefixes, &Locating { alloc, store })
+    look_up_each(alloc, store, prefixes, most, &Locating { alloc, store })
 }
 
 // Looks up the locations of the ids that begin with a prefix.
@@ -109,34 +138,40 @@ impl<S: StorePaths, A: Allocator + Copy> LookUp<S, A> for Locating<'_, S, A> {
 
     fn look_up(
         &self,
-        part: &Part<'_, S, A>,
+        parts: &mut Parts<'_, S, A>,
         prefix: &Prefix,
     ) -> Result<Vec<LocatedId<A>, A>, Error> {
-        let ids = part.lookup_prefix(self.alloc, prefix)?;
-        locate_each(self.alloc, self.store, part, &ids, prefix)
+        let ids = parts.lookup_prefix(prefix)?;
+        locate_each(self.alloc, self.store, parts, &ids, prefix)
     }
 
-    ghost unread = { λ _ view digits error fault. inl fault };
+    fn len(&self, ids: &Vec<LocatedId<A>, A>) -> usize {
+        let mut len = 0usize;
+        for located in ids {
+            len = len.saturating_add(located.locations.len());
+        }
+        len
+    }
 }
 
-// The ids of a part that begin with a prefix, with their locations.
+// The ids that begin with a prefix, with their locations.
 fn locate_each<S: StorePaths, A: Allocator + Copy>(
     alloc: A,
     store: &S,
-    part: &Part<'_, S, A>,
+    parts: &mut Parts<'_, S, A>,
     ids: &[ObjectId],
     prefix: &Prefix,
 ) -> Result<Vec<LocatedId<A>, A>, Error>
     requires enough { 2 ≤ length prefix.now.digits }
-    requires byte { first_byte_of prefix.now.digits ≡ part.now.byte }
-    requires ids { AreMatches part.now.store prefix.now.digits ids.now }
-    ensures located { IfOk result (λ located. AreLocated part.now.store
+    requires ids { AreMatches parts.old prefix.now.digits ids.now }
+    ensures store { parts.new ≡ parts.old }
+    ensures located { IfOk result (λ located. AreLocated parts.old
         (S.loose_paths store.now) prefix.now.digits located.items) }
-    ensures err { IfErr result (IsLocationsFault part.now.store prefix.now.digits) }
+    ensures err { IfErr result (IsLocationsFault parts.old prefix.now.digits) }
 {
     let mut located = Vec::with_capacity(alloc, ids.len())?;
     for id in ids {
-        let locations = part.locate(alloc, id)?;
+        let locations = parts.locate(id)?;
         let loose_paths = store.loose_paths(id)?;
         let one = LocatedId {
             id: *id,
@@ -146,34 +181,6 @@ fn locate_each<S: StorePaths, A: Allocator + Copy>(
         push(&mut located, one)?;
     }
     Ok(located)
-}
-
-/// All locations of an object: one in each pack whose index has its id, in the order of
-/// [`Store::indexes`], and last [`Location::Loose`] if it is a loose object. The id has the store's
-/// kind.
-///
-/// If a pack index has the id more than once, the offset is that of the first. Of each pack index
-/// only the ids with this first byte are read, and then, once all are, the offset.
-///
-/// ```
-/// let locations = locate(rt.alloc(), &store, &id)?;
-/// println!(rt; "{} copies", locations.len())?;
-/// ```
-pub fn locate<S: Store, A: Allocator + Copy>(
-    alloc: A,
-    store: &S,
-    id: &ObjectId,
-) -> Result<Vec<Location, A>, Error>
-    requires { id_kind id.now ≡ (S.view store.now).kind }
-    ensures locations { IfOk result (λ locations. AreLocations (S.view store.now)
-        (id_digits id.now) locations.items) }
-    ensures err { IfErr result (λ e. IsStoreFault (S.view store.now)
-        (first_byte_of (id_digits id.now)) e
-        ⊎ (HaveBuckets (S.view store.now) (first_byte_of (id_digits id.now))
-        × IsLocateFault (S.view store.now) (id_digits id.now) e)) }
-{
-    let part = Part::read(alloc, store, id.first_byte())?;
-    Ok(part.locate(alloc, id)?)
 }
 
 // All locations of an object, by the buckets of its first byte.

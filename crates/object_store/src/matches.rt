@@ -1,6 +1,6 @@
 //! The ids of a store that begin with a prefix, or with each of several.
 
-ghost use Rattle.std.specs.Prelude.{◌≡◌, ◌≤◌, ◌++◌, All, IfErr, IfOk, OnOk, flat_map, length, map};
+ghost use Rattle.std.specs.Prelude.{◌≡◌, ◌<◌, ◌≤◌, ◌++◌, All, IfErr, IfNone, IfOk, IfSome, OnOk, flat_map, length, map};
 ghost use Rattle.gix_hash.specs.Digits.{first_byte_of};
 ghost use Rattle.gix_hash.specs.Kinds.{hex_len_of};
 ghost use Rattle.gix_hash.specs.Ids.{id_digits, id_kind};
@@ -10,7 +10,7 @@ ghost use Rattle.pack_index.specs.Lazy.{BucketNames};
 
 use crate::each::{LookUp, look_up_each};
 use crate::error::Error;
-use crate::part::Part;
+use crate::parts::Parts;
 use crate::store::Store;
 use gix_hash::{Kind, ObjectId, Prefix};
 use pack_index::Bucket;
@@ -39,8 +39,7 @@ pub fn lookup_prefix<S: Store, A: Allocator + Copy>(
     ensures err { IfErr result (IsStoreFault (S.view store.now)
         (first_byte_of prefix.now.digits)) }
 {
-    let part = Part::read(alloc, store, prefix.first_byte())?;
-    Ok(part.lookup_prefix(alloc, prefix)?)
+    Parts::new(alloc, store).lookup_prefix(prefix)
 }
 
 /// The ids of a store that begin with each of several prefixes: as many lists as prefixes, in their
@@ -50,22 +49,28 @@ pub fn lookup_prefix<S: Store, A: Allocator + Copy>(
 /// first byte are read once, if a prefix has it, and memory is allocated for those with one first
 /// byte at a time. The error is that of reading the ids with the first byte of one of the prefixes.
 ///
+/// `None` is returned only if there are several prefixes, with which more than `most` ids begin.
+///
 /// ```
-/// for ids in lookup_prefixes(rt.alloc(), &store, &prefixes)?.iter() {
-///     println!(rt; "{} ids", ids.len())?;
+/// if let Some(found) = lookup_prefixes(rt.alloc(), &store, &prefixes, 65_536)? {
+///     for ids in found.iter() {
+///         println!(rt; "{} ids", ids.len())?;
+///     }
 /// }
 /// ```
 pub fn lookup_prefixes<S: Store, A: Allocator + Copy>(
     alloc: A,
     store: &S,
     prefixes: &[Prefix],
-) -> Result<Vec<Vec<ObjectId, A>, A>, Error>
+    most: usize,
+) -> Result<Option<Vec<Vec<ObjectId, A>, A>>, Error>
     requires { All (CanLookUp (S.view store.now)) prefixes.now }
-    ensures matches { IfOk result (λ found. AreMatchesOfEach (S.view store.now) prefixes.now
-        (map (λ ids. ids.items) found.items)) }
+    ensures matches { IfOk result (λ found. IfSome found (λ found.
+        AreMatchesOfEach (S.view store.now) prefixes.now found.items)) }
+    ensures several { IfOk result (λ found. IfNone found (1 < length prefixes.now)) }
     ensures err { IfErr result (IsFaultOfOne (S.view store.now) prefixes.now) }
 {
-    look_up_each(alloc, store, prefixes, &Matching { alloc })
+    look_up_each(alloc, store, prefixes, most, &Matching { alloc })
 }
 
 // Looks up the ids that begin with a prefix.
@@ -87,11 +92,17 @@ impl<S: Store, A: Allocator + Copy> LookUp<S, A> for Matching<A> {
         Vec::new(self.alloc)
     }
 
-    fn look_up(&self, part: &Part<'_, S, A>, prefix: &Prefix) -> Result<Vec<ObjectId, A>, Error> {
-        Ok(part.lookup_prefix(self.alloc, prefix)?)
+    fn look_up(
+        &self,
+        parts: &mut Parts<'_, S, A>,
+        prefix: &Prefix,
+    ) -> Result<Vec<ObjectId, A>, Error> {
+        parts.lookup_prefix(prefix)
     }
 
-    ghost unread = { λ _ view digits error fault. fault };
+    fn len(&self, ids: &Vec<ObjectId, A>) -> usize {
+        ids.len()
+    }
 }
 
 // Adds the ids of buckets of a kind that begin with a prefix.

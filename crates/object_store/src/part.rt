@@ -18,13 +18,6 @@ use std::alloc::{AllocError, Allocator};
 use std::marker::Model;
 
 /// The ids of a store with one first byte, read once. Look-ups among them read nothing but offsets.
-///
-/// ```
-/// let part = Part::read(rt.alloc(), &store, prefix.first_byte())?;
-/// for id in part.lookup_prefix(rt.alloc(), &prefix)?.iter() {
-///     println!(rt; "{id}: {} locations", part.locate(rt.alloc(), id)?.len())?;
-/// }
-/// ```
 #[derive(Drop)]
 pub struct Part<'s, S: Store, A: Allocator> {
     store: &'s S,
@@ -88,8 +81,7 @@ impl<'s, S: Store, A: Allocator + Copy> Part<'s, S, A> {
         Ok(ids)
     }
 
-    /// The abbreviation of an id whose first byte was read, of at least `least` digits, as
-    /// [`abbreviate`](crate::abbreviate) gives it.
+    /// The abbreviation of an id whose first byte was read, as [`Parts`](crate::Parts) gives it.
     pub fn abbreviate(
         &self,
         alloc: A,
@@ -112,13 +104,13 @@ impl<'s, S: Store, A: Allocator + Copy> Part<'s, S, A> {
 
     // The first byte that was read.
     pub(crate) fn byte(&self) -> u8
-        ensures { result ≡ self.now.byte }
+        ensures byte { result ≡ self.now.byte }
+        ensures sound { HaveBuckets self.now.store self.now.byte }
     {
         self.byte
     }
 
-    /// All locations of an object of the store whose id has the first byte that was read, as
-    /// [`locate`](crate::locate) gives them.
+    /// All locations of an object of the store whose id has the first byte that was read.
     pub fn locate(&self, alloc: A, id: &ObjectId) -> Result<Vec<Location, A>, Error>
         requires byte { first_byte_of (id_digits id.now) ≡ self.now.byte }
         requires kind { id_kind id.now ≡ self.now.store.kind }

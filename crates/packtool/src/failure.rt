@@ -55,6 +55,9 @@ pub enum Failure<'a> {
         /// How many bytes a line may have, without its line feed.
         most: usize,
     },
+    /// Lines of standard input find more than is held at a time.
+    #[error("standard input: too much is found")]
+    TooMany,
     /// Standard output cannot be written.
     #[error("standard output: {0}")]
     Output(io::Error),

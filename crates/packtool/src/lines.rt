@@ -15,13 +15,11 @@ const FIRST_LEN: usize = 1 << 14;
 
 const BUF_LEN: usize = 1 << 18;
 
-// The most lines of a chunk, where a short one counts as several.
-const MAX_COST: usize = 1 << 13;
+// The most lines of a chunk.
+const MAX_LINES: u64 = 1 << 13;
 
 /// A reader whose lines are looked up in chunks: the whole lines that one read completes, at most
-/// 8,192 of them. A line of 4, 3 or 2 digits counts as 4, 64 or 1,024, since it may find many ids:
-/// so what a chunk finds takes little memory. The beginning of a line that has not ended is kept
-/// for the next chunk.
+/// 8,192 of them. The beginning of a line that has not ended is kept for the next chunk.
 #[derive(Drop)]
 pub struct LineReader<R> {
     reader: R,
@@ -152,28 +150,14 @@ fn whole_lines(bytes: &[u8], from: usize) -> (usize, u64)
 {
     let mut len = 0;
     let mut count = 0;
-    let mut cost = 0;
     for at in from..bytes.len() {
         if bytes[at] == b'\n' {
-            cost += cost_of(at - len);
             len = at + 1;
             count += 1;
-            if cost >= MAX_COST {
+            if count >= MAX_LINES {
                 break;
             }
         }
     }
     (len, count)
-}
-
-// How many lines one of a length counts as. A prefix of fewer digits begins 16 times as many ids.
-fn cost_of(len: usize) -> usize
-    ensures { result ≤ 1024 }
-{
-    match len {
-        2 => 1024,
-        3 => 64,
-        4 => 4,
-        _ => 1,
-    }
 }

@@ -27,6 +27,9 @@ use streams::{Plain, Retrying};
 // How often a command begins.
 const MAX_TRIES: usize = 10;
 
+// The most ids or locations of several lines that are held at a time.
+const MAX_FOUND: usize = 1 << 16;
+
 /// Runs `find`, `where` or `names`, and returns the status. If a pack index is gone that was
 /// listed, it begins again over the store as it is then, unless something may have been written to
 /// standard output.
@@ -65,10 +68,52 @@ fn run_over_input<'a>(
         if !input.next()? {
             break;
         }
-        let lines = Some(input.lines());
-        status = status.max(run_over(rt, folder, command, matches, lines, reported)?);
+        let ran = run_over_lines(rt, folder, command, matches, input.lines(), reported)?;
+        status = status.max(ran);
     }
     Ok(status)
+}
+
+// Runs a command over lines, over fewer at a time if they find too much, and returns the worst
+// status. One line alone may find more.
+fn run_over_lines<'a>(
+    rt: &HostRuntime,
+    folder: &ObjectsFolder,
+    command: StoreCommand,
+    matches: &ArgMatches<'a>,
+    lines: &[u8],
+    reported: &mut Vec<String>,
+) -> Result<u8, Failure<'a>> {
+    let mut rest = lines;
+    let mut len = lines.len();
+    let mut status = FOUND;
+    for _ in 0..u64::MAX {
+        if rest.is_empty() {
+            break;
+        }
+        let (part, after) = first_lines(rest, len);
+        match run_over(rt, folder, command, matches, Some(part), reported) {
+            Err(Failure::TooMany) => len = part.len() / 2,
+            ran => {
+                status = status.max(ran?);
+                rest = after;
+            }
+        }
+    }
+    Ok(status)
+}
+
+// The first whole lines of at most this length together, but one at least, and those after them.
+fn first_lines(lines: &[u8], len: usize) -> (&[u8], &[u8]) {
+    let fit = lines.get(..len).unwrap_or(lines);
+    let end = match fit.iter().rposition(|byte| *byte == b'\n') {
+        Some(at) => at,
+        None => lines
+            .iter()
+            .position(|byte| *byte == b'\n')
+            .unwrap_or(lines.len()),
+    };
+    lines.split_at(lines.len().min(end.saturating_add(1)))
 }
 
 // Runs a command over an object directory, and returns the status: for these lines of standard
@@ -174,14 +219,14 @@ fn write_each<'a, W: io::Write>(
     };
     let store = FolderStore::open(rt, folder, loose_of(lines))?;
     let ran = match command {
-        StoreCommand::Find => find_each(rt.alloc(), &store, lines, answers, out),
+        StoreCommand::Find => find_each(rt.alloc(), &store, lines, answers, MAX_FOUND, out),
         StoreCommand::Locate => {
             check_loose_files(rt, &store, lines)?;
-            locate_each(rt.alloc(), &store, lines, answers, out)
+            locate_each(rt.alloc(), &store, lines, answers, MAX_FOUND, out)
         }
         StoreCommand::Names => {
             let least = read_least(matches, folder.kind)?;
-            name_each(rt.alloc(), &store, lines, least, out)
+            name_each(rt.alloc(), &store, lines, least, MAX_FOUND, out)
         }
     };
     status_of(rt, &store, ran, reported, out)
@@ -334,6 +379,7 @@ fn status_of<'a, W>(
     let any = match ran {
         Ok(any) => any,
         Err(StoreError::Store(error)) => return Err(Failure::Store(store.with_path(error))),
+        Err(StoreError::TooMany) => return Err(Failure::TooMany),
         Err(StoreError::Output) => return Err(Failure::of_output(out)),
     };
     Ok(status_if(report_skipped(rt, store, reported)?, any))

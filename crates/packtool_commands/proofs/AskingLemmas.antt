@@ -1,5 +1,5 @@
 -- The lines of a text and what is printed for them, one after the other.
-use Rattle.std.proofs.Common.{◌≡◌, ℕ, zero, suc, ◌<◌, ◌≤◌, Bool, true, false, ◌&&◌, nat_lt, Option, None, Some, List, [], ◌∷◌, ◌++◌, length, get_or, map, refl, sym, ap, subst, ◌∙◌, arith}
+use Rattle.std.proofs.Common.{◌≡◌, ℕ, zero, suc, ◌<◌, ◌≤◌, Bool, true, false, ◌&&◌, nat_lt, Option, None, Some, Vec, List, [], ◌∷◌, ◌++◌, length, get_or, map, refl, sym, ap, subst, ◌∙◌, arith}
 use Rattle.std.specs.Prelude.{codes, if◌then◌else◌}
 use Rattle.std.specs.List.{All, flat_map}
 use Rattle.std.specs.Io.KnownBytes.{Appends}
@@ -138,10 +138,11 @@ same_lists f g (x ∷ xs) (y ∷ ys) many each =
     (λ i. first i ∷ rest i)
 
 -- the lists that were found are those of a store that holds these ids
-pub found_in : (view : StoreView) (whole : List (List ℕ)) (prefixes : List KindDigits) (found : List (List ObjectId)) → Holds view whole
-    → AreMatchesOfEach view prefixes found → map (map id_digits) found ≡ map (λ (prefix : KindDigits). matches prefix.digits whole) prefixes
-found_in view whole prefixes found h are =
-    same_lists (map id_digits) (λ (prefix : KindDigits). matches prefix.digits whole) found prefixes are.as_many
+found_in : {A : Type 0} (view : StoreView) (whole : List (List ℕ)) (prefixes : List KindDigits) (found : List (Vec ObjectId A)) → Holds view whole
+    → AreMatchesOfEach view prefixes found
+    → map (λ (ids : Vec ObjectId A). map id_digits ids.items) found ≡ map (λ (prefix : KindDigits). matches prefix.digits whole) prefixes
+found_in {A} view whole prefixes found h are =
+    same_lists (λ (ids : Vec ObjectId A). map id_digits ids.items) (λ (prefix : KindDigits). matches prefix.digits whole) found prefixes are.as_many
     (λ k ids prefix low. (are.each k prefix ids low).found whole h)
 
 -- what is printed by things is what is printed by what they have
@@ -160,31 +161,43 @@ is_found-map f OneOfThem [] = refl
 is_found-map f OneOfThem (x ∷ []) = refl
 is_found-map f OneOfThem (x ∷ (other ∷ found)) = refl
 
-module _ (view : StoreView) (whole : List (List ℕ)) (lines : List (List ℕ)) (found : List (List ObjectId)) (h : Holds view whole)
+module _ {A : Type 0} (view : StoreView) (whole : List (List ℕ)) (lines : List (List ℕ)) (found : List (Vec ObjectId A)) (h : Holds view whole)
     (are : AreMatchesOfEach view (prefixes_of view.kind lines) found) (answers : Answers) where
+  digits_of : Vec ObjectId A → List (List ℕ)
+  digits_of ids = map id_digits ids.items
+
   -- what is printed by the ids that were found is what is printed in a store that holds these ids
-  pub text_in : answers_by (found_text (λ line (id : ObjectId). id_line line (id_digits id)) answers) view.kind lines found ≡ answers_in answers view.kind whole lines
+  pub text_in : answers_by (λ line (ids : Vec ObjectId A). found_text (λ l (id : ObjectId). id_line l (id_digits id)) answers line ids.items) view.kind lines found
+      ≡ answers_in answers view.kind whole lines
+  unfolding digits_of
   text_in =
-      (λ i. answers_by (λ line ids. found_text-map id_line id_digits answers line ids i) view.kind lines found)
-      ∙ answers_by-map (found_text id_line answers) (map id_digits) view.kind lines found
+      (λ i. answers_by (λ line (ids : Vec ObjectId A). found_text-map id_line id_digits answers line ids.items i) view.kind lines found)
+      ∙ answers_by-map (found_text id_line answers) digits_of view.kind lines found
       ∙ ap (λ (ls : List (List (List ℕ))). answers_by (found_text id_line answers) view.kind lines ls) (found_in view whole (prefixes_of view.kind lines) found h are)
 
-  pub all_in : are_answers_by (λ (ids : List ObjectId). is_found answers ids) view.kind lines found ≡ are_answers_in answers view.kind whole lines
+  pub all_in : are_answers_by (λ (ids : Vec ObjectId A). is_found answers ids.items) view.kind lines found ≡ are_answers_in answers view.kind whole lines
+  unfolding digits_of
   all_in =
-      (λ i. are_answers_by (λ ids. is_found-map id_digits answers ids i) view.kind lines found)
-      ∙ are_answers_by-map (is_found answers) (map id_digits) view.kind lines found
+      (λ i. are_answers_by (λ (ids : Vec ObjectId A). is_found-map id_digits answers ids.items i) view.kind lines found)
+      ∙ are_answers_by-map (is_found answers) digits_of view.kind lines found
       ∙ ap (λ (ls : List (List (List ℕ))). are_answers_by (is_found answers) view.kind lines ls) (found_in view whole (prefixes_of view.kind lines) found h are)
 
 -- so what was printed by them was printed in that store
-pub answered_in : (answers : Answers) (view : StoreView) (whole lines : List (List ℕ)) (all : Bool) (old new : Option (List ℕ)) → Holds view whole
-    → HasAnsweredMatches answers view lines all old new → HasAnswered answers view.kind whole lines all old new
+pub answered_in : {A : Type 0} (answers : Answers) (view : StoreView) (whole lines : List (List ℕ)) (all : Bool) (old new : Option (List ℕ)) → Holds view whole
+    → HasAnsweredMatches A answers view lines all old new → HasAnswered answers view.kind whole lines all old new
 answered_in answers view whole lines all old new h m = record {
   found = m.found ∙ all_in view whole lines m.results h m.are_found answers;
   written = subst (Appends old new) (text_in view whole lines m.results h m.are_found answers) m.written;
 }
 
-pub all_sound : (view : StoreView) (prefixes : List KindDigits) (found : List (List ObjectId)) → AreMatchesOfEach view prefixes found → HaveAllBuckets view prefixes
-all_sound view prefixes found are k prefix low = (are.each k prefix [] low).sound
+-- a member of a list that has one
+one_of : {X : Type 0} (xs : List X) → 0 < length xs → X
+one_of [] none = absurd (omega (arith, none))
+one_of (x ∷ xs) some = x
+
+pub all_sound : {A : Type 0} (view : StoreView) (prefixes : List KindDigits) (found : List (Vec ObjectId A)) → AreMatchesOfEach view prefixes found
+    → HaveAllBuckets view prefixes
+all_sound view prefixes found are k prefix low = (are.each k prefix (one_of found (omega (arith, low, are.as_many))) low).sound
 
 -- those of several prefixes in a store that holds these ids
 pub abbreviated_in : (least : ℕ) (view : StoreView) (whole : List (List ℕ)) (prefixes : List KindDigits) (named : List Abbreviation) → Holds view whole
@@ -195,6 +208,6 @@ pub abbreviated_sound : (least : ℕ) (view : StoreView) (prefixes : List KindDi
     → HaveAllBuckets view prefixes
 abbreviated_sound least view prefixes named are k prefix low = (are.each k prefix Missing low).sound
 
-pub located_sound : {A : Type 0} (view : StoreView) (loose_paths : List ℕ → List (List ℕ)) (prefixes : List KindDigits) (located : List (List (LocatedId A)))
+pub located_sound : {A : Type 0} (view : StoreView) (loose_paths : List ℕ → List (List ℕ)) (prefixes : List KindDigits) (located : List (Vec (LocatedId A) A))
     → AreLocatedOfEach view loose_paths prefixes located → HaveAllBuckets view prefixes
-located_sound view loose_paths prefixes located are k prefix low = (are.each k prefix [] low).ids.sound
+located_sound view loose_paths prefixes located are k prefix low = (are.each k prefix (one_of located (omega (arith, low, are.as_many))) low).ids.sound

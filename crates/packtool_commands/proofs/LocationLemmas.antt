@@ -1,23 +1,21 @@
 -- The lines of locations, one after the other.
-use Rattle.std.proofs.Common.{◌≡◌, ◌≢◌, inr, ℕ, ◌+◌, ◌<◌, ◌≤◌, Bool, true, false, not, Option, List, [], ◌∷◌, ◌++◌, length, get_or, map, take, drop, sym, ap, subst, ◌∙◌, append_assoc, arith}
+use Rattle.std.proofs.Common.{◌≡◌, ◌≢◌, ℕ, suc, ◌≤◌, Bool, true, false, not, None, List, [], ◌∷◌, ◌++◌, length, map, refl, sym, ap, subst, ◌∙◌, arith}
 use Rattle.std.specs.Prelude.{◌↔◌, IsTrue, nat_eq}
 use Rattle.std.specs.List.{All, flat_map, starts_with}
-use Rattle.std.specs.Io.KnownBytes.{Appends}
-use Rattle.std.proofs.KnownBytes.{Appends-trans}
 use Rattle.std.proofs.lemmas.Bool.{eq-eqb, false≢true, ne_eqb}
-use Rattle.std.proofs.lemmas.List.Elements.{All-map}
+use Rattle.std.proofs.lemmas.Simd.{map-map}
+use Rattle.std.proofs.lemmas.List.Elements.{All-map, All-weaker}
 use Rattle.std.proofs.lemmas.List.Folds.{flat_map-map}
-use Rattle.streams.specs.Streams.{AppendsAtMost}
-use Rattle.streams.proofs.WritingLemmas.{lines_around}
 use Rattle.gix_hash.specs.Digits.{first_byte_of}
 use Rattle.gix_hash.specs.Ids.{id_digits}
 use Rattle.gix_hash.specs.declared.ObjectId.{ObjectId}
 use Rattle.id_lookup.proofs.Beginnings.{first_byte_of-begins}
-use Rattle.object_store.specs.Stores.{HaveAllLocations, HaveBuckets, HaveLocations, HavePassing, IsLocateFault, IsLocationsFault, StoreView}
+use Rattle.id_lookup.specs.Runs.{matches}
+use Rattle.object_store.specs.Several.{AreLocated, IsLocated}
+use Rattle.object_store.specs.Stores.{HaveAllLocations, HaveBuckets, HaveLocations, HavePassing, Holds, StoreView}
+use Rattle.object_store.specs.declared.locations.LocatedId.{LocatedId}
 use Rattle.pack_index.specs.Lazy.{HasBucket}
-use Rattle.packtool_commands.specs.Stores.{IsFaultOf}
-use Rattle.packtool_commands.specs.declared.error.StoreError.{StoreError}
-use Rattle.packtool_commands.specs.declared.error.StoreError.TheVariants.{Store, Output}
+use Rattle.packtool_commands.specs.Stores.{lines_at_after, lines_of_locations, located_lines}
 
 -- the lines of texts are those of what has these texts
 pub same_lines : {X : Type 0} (line : List ℕ → List ℕ) (text : X → List ℕ) (xs : List X) (all : List (List ℕ)) → map text xs ≡ all
@@ -34,20 +32,6 @@ has_texts text (x ∷ xs) all n empty is len was =
     let is_some : not empty ≡ true = ap not (was ∙ ne_eqb n 0 (λ zero. omega (arith, zero, len))) in
     (λ some none. let bad : text x ∷ map text xs ≡ [] = is ∙ none in cc, λ some. is_some)
 
--- a beginning of one line, after the lines before it, is a beginning of all the lines
-pub AppendsAtMost-item : {X : Type 0} (a b c : Option (List ℕ)) (line : X → List ℕ) (xs : List X) (k : ℕ) (d : X) → k < length xs
-    → Appends a b (flat_map line (take k xs)) → AppendsAtMost b c (line (get_or xs k d)) → AppendsAtMost a c (flat_map line xs)
-AppendsAtMost-item a b c line xs k d within before last =
-    let front = flat_map line (take k xs) in
-    let after = flat_map line (drop (k + 1) xs) in
-    record {
-      part = front ++ last.part;
-      rest = last.rest ++ after;
-      is_beginning = lines_around line xs k d within ∙ ap (λ (one : List ℕ). front ++ (one ++ after)) last.is_beginning
-          ∙ ap (λ (more : List ℕ). front ++ more) (append_assoc last.part last.rest after) ∙ sym (append_assoc front last.part (last.rest ++ after));
-      written = Appends-trans a b c front last.part before last.written;
-    }
-
 -- where the ids that were found have locations, all ids that begin with the digits have what their locations need
 pub all_locations : (view : StoreView) (digits : List ℕ) (ids : List ObjectId) → HavePassing view (λ id. starts_with nat_eq id digits) (map id_digits ids)
     → HaveBuckets view (first_byte_of digits) → 2 ≤ length digits → All (λ (id : ObjectId). HaveLocations view (id_digits id)) ids → HaveAllLocations view digits
@@ -60,8 +44,33 @@ all_locations view digits ids names buckets two locations id begins k d low byte
       (here k d low bytes known).offset at counted;
 }
 
--- where the locations of one of the ids are at fault, those of all are
-pub locations_fault : (view : StoreView) (digits id : List ℕ) (e : StoreError) → HaveBuckets view (first_byte_of digits)
-    → IsTrue (starts_with nat_eq id digits) → IsFaultOf (IsLocateFault view id) e → IsFaultOf (IsLocationsFault view digits) e
-locations_fault view digits id (Store error) buckets begins fault = inr (buckets, id, begins, fault)
-locations_fault view digits id Output buckets begins fault = tt
+flat_map-same : {X : Type 0} (f h : X → List ℕ) (xs : List X) → All (λ x. f x ≡ h x) xs → flat_map f xs ≡ flat_map h xs
+flat_map-same f h [] same = refl
+flat_map-same f h (x ∷ xs) same =
+    let first = same 0 x (omega arith) in
+    let rest = flat_map-same f h xs (λ k d low. same (suc k) d (omega (arith, low))) in
+    (λ i. first i ++ rest i)
+
+module _ {A : Type 0} (view : StoreView) (pack_path : ℕ → List ℕ) (loose_paths : List ℕ → List (List ℕ)) (digits : List ℕ) (located : List (LocatedId A))
+    (are : AreLocated view loose_paths digits located) where
+  -- the lines of ids that were located are those of the locations in a store that holds these ids
+  module _ (whole : List (List ℕ)) (h : Holds view whole) where
+    pub ids_in : map (λ (l : LocatedId A). id_digits l.id) located ≡ matches digits whole
+    ids_in = sym (map-map id_digits (λ (l : LocatedId A). l.id) located) ∙ are.ids.found whole h
+
+    pub lines_in : flat_map (located_lines pack_path None) located ≡ flat_map (lines_of_locations pack_path loose_paths view h.indexes) (matches digits whole)
+    lines_in =
+        flat_map-same (located_lines pack_path None) (λ (l : LocatedId A). lines_of_locations pack_path loose_paths view h.indexes (id_digits l.id)) located
+        (All-weaker (IsLocated view loose_paths)
+        (λ (l : LocatedId A). located_lines pack_path None l ≡ lines_of_locations pack_path loose_paths view h.indexes (id_digits l.id)) one located are.each)
+        ∙ same_lines (lines_of_locations pack_path loose_paths view h.indexes) (λ (l : LocatedId A). id_digits l.id) located (matches digits whole) ids_in
+      where
+        one : (l : LocatedId A) → IsLocated view loose_paths l → located_lines pack_path None l ≡ lines_of_locations pack_path loose_paths view h.indexes (id_digits l.id)
+        one l is = (λ i. flat_map (lines_at_after None pack_path (is.paths i) (id_digits l.id)) (is.locations.all whole h i))
+
+  -- and all ids that begin with the digits have what their locations need
+  pub all_located : 2 ≤ length digits → HaveAllLocations view digits
+  all_located two =
+      all_locations view digits (map (λ (l : LocatedId A). l.id) located) are.ids.each are.ids.sound two
+      (All-map (λ (id : ObjectId). HaveLocations view (id_digits id)) (λ (l : LocatedId A). l.id) located
+      (All-weaker (IsLocated view loose_paths) (λ (l : LocatedId A). HaveLocations view (id_digits l.id)) (λ l is. is.locations.sound) located are.each))

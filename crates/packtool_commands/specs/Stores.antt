@@ -1,5 +1,5 @@
 -- What is printed of the ids of a store, and why that fails.
-use Rattle.std.specs.Prelude.{[], ℕ, ◌&&◌, ◌++◌, ◌<◌, ◌↔◌, ◌∷◌, ◌≡◌, ◌≢◌, All, Bool, IsTrue, List, None, Option, Some, codes, decimal, drop, false, flat_map, if◌then◌else◌, length, map, nat_lt, string_bytes, true}
+use Rattle.std.specs.Prelude.{[], ℕ, ◌&&◌, ◌++◌, ◌<◌, ◌↔◌, ◌∷◌, ◌≡◌, ◌≢◌, All, Bool, IsTrue, List, None, Option, Some, Vec, codes, decimal, drop, false, flat_map, if◌then◌else◌, length, map, nat_lt, string_bytes, true}
 use Rattle.std.specs.Io.KnownBytes.{Appends}
 use Rattle.std.specs.List.{range_with_len}
 use Rattle.std.specs.Option.{is_some, option_map, option_to_list}
@@ -16,7 +16,6 @@ use Rattle.pack_index.specs.Format.{Each}
 use Rattle.object_store.specs.Several.{AreAbbreviatedOfEach, AreLocatedOfEach, IsAbbreviatedIn}
 use Rattle.object_store.specs.Stores.{AreFoundOfEach, AreMatches, AreMatchesOfEach, HaveBuckets, IsNameIn, IsStoreFault, StoreView, locations_of}
 use Rattle.object_store.specs.declared.error.Error.{Error}
-use Rattle.object_store.specs.declared.error.Error.TheVariants.{Index, Memory}
 use Rattle.object_store.specs.declared.locations.LocatedId.{LocatedId}
 use Rattle.object_store.specs.declared.locations.Location.{Location}
 use Rattle.object_store.specs.declared.locations.Location.TheVariants.{Loose, Packed}
@@ -27,7 +26,7 @@ use Rattle.packtool_commands.specs.Files.{escape_mark, escaped}
 use Rattle.packtool_commands.specs.declared.asking.Answers.{Answers}
 use Rattle.packtool_commands.specs.declared.asking.Answers.TheVariants as answers_of
 use Rattle.packtool_commands.specs.declared.error.StoreError.{StoreError}
-use Rattle.packtool_commands.specs.declared.error.StoreError.TheVariants.{Output, Store}
+use Rattle.packtool_commands.specs.declared.error.StoreError.TheVariants.{Output, Store, TooMany}
 
 -- a line was written for each of the ids, and whether there is one was returned
 pub record HasPrinted (ids : List (List ℕ)) (any : Bool) (old new : Option (List ℕ)) : Type 0 where
@@ -40,9 +39,10 @@ pub record HasPrintedMatches (view : StoreView) (digits : List ℕ) (old new : O
   pub are_matches : AreMatches view digits ids
   pub written : Appends old new (printed hex_letter (map id_digits ids))
 
--- what an error says of a store: what its own error does, and a failed write nothing
+-- what an error says of a store: what its own error does, and another nothing
 abbrev pub IsFaultOf : (Error → Type 0) → StoreError → Type 0
 IsFaultOf IsItsFault (Store error) = IsItsFault error
+IsFaultOf IsItsFault TooMany = Unit {0}
 IsFaultOf IsItsFault Output = Unit {0}
 
 -- why a walk over the first bytes fails: a look-up with one of them does, and those with the lower ones do not
@@ -152,11 +152,11 @@ pub record HasAnsweredPart {X : Type 0} (AreFound : List X → Type 0) (text : L
   pub are_found : AreFound results
   pub written : AppendsPart old new (answers_by text kind lines results)
 
--- the ids that begin with each prefix were found and printed
-abbrev pub HasAnsweredMatches : Answers → StoreView → List (List ℕ) → Bool → Option (List ℕ) → Option (List ℕ) → Type 0
-HasAnsweredMatches answers view lines all old new =
-    HasAnsweredBy (AreMatchesOfEach view (prefixes_of view.kind lines)) (found_text (λ line (id : ObjectId). id_line line (id_digits id)) answers)
-    (λ (ids : List ObjectId). is_found answers ids) view.kind lines all old new
+-- the ids that begin with each prefix were found and printed; A is the type of the allocator of what was found
+abbrev pub HasAnsweredMatches : (A : Type 0) → Answers → StoreView → List (List ℕ) → Bool → Option (List ℕ) → Option (List ℕ) → Type 0
+HasAnsweredMatches A answers view lines all old new =
+    HasAnsweredBy {X = Vec ObjectId A} (AreMatchesOfEach view (prefixes_of view.kind lines))
+    (λ line ids. found_text (λ l (id : ObjectId). id_line l (id_digits id)) answers line ids.items) (λ ids. is_found answers ids.items) view.kind lines all old new
 
 -- the pack indexes have the names that are counted with the first byte of each prefix
 abbrev pub HaveAllBuckets : StoreView → List KindDigits → Type 0
@@ -254,11 +254,6 @@ pub record HasLocated (lines : List ℕ → List ℕ) (ids : List (List ℕ)) (a
   pub found : IsTrue any ↔ (ids ≢ [])
   pub written : Appends old new (flat_map lines ids)
 
--- memory ran out
-abbrev pub IsMemory : Error → Type 0
-IsMemory (Index at error) = ⊥
-IsMemory (Memory error) = Unit {0}
-
 -- the lines of the locations of an id, each after a line of a text or nothing
 abbrev pub located_lines : {A : Type 0} → (ℕ → List ℕ) → Option (List ℕ) → LocatedId A → List ℕ
 located_lines pack_path line located =
@@ -269,12 +264,12 @@ located_lines pack_path line located =
 abbrev pub HasLocatedEach : (A : Type 0) → Answers → (ℕ → List ℕ) → (List ℕ → List (List ℕ)) → StoreView → List (List ℕ) → Bool → Option (List ℕ)
     → Option (List ℕ) → Type 0
 HasLocatedEach A answers pack_path loose_paths view lines all old new =
-    HasAnsweredBy {X = List (LocatedId A)} (AreLocatedOfEach view loose_paths (prefixes_of view.kind lines)) (found_text (located_lines pack_path) answers)
-    (is_found answers) view.kind lines all old new
+    HasAnsweredBy {X = Vec (LocatedId A) A} (AreLocatedOfEach view loose_paths (prefixes_of view.kind lines))
+    (λ line ids. found_text (located_lines pack_path) answers line ids.items) (λ ids. is_found answers ids.items) view.kind lines all old new
 
 -- a proper beginning of it was printed
 abbrev pub HasLocatedPart : (A : Type 0) → Answers → (ℕ → List ℕ) → (List ℕ → List (List ℕ)) → StoreView → List (List ℕ) → Option (List ℕ)
     → Option (List ℕ) → Type 0
 HasLocatedPart A answers pack_path loose_paths view lines old new =
-    HasAnsweredPart {X = List (LocatedId A)} (AreLocatedOfEach view loose_paths (prefixes_of view.kind lines)) (found_text (located_lines pack_path) answers)
-    view.kind lines old new
+    HasAnsweredPart {X = Vec (LocatedId A) A} (AreLocatedOfEach view loose_paths (prefixes_of view.kind lines))
+    (λ line ids. found_text (located_lines pack_path) answers line ids.items) view.kind lines old new

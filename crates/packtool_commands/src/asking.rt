@@ -18,7 +18,7 @@ use streams::{Sink, WriteFailed, write_all, write_id};
 /// What [`find_each`] and [`locate_each`](crate::locate_each) print for a prefix.
 ///
 /// ```
-/// let all = find_each(rt.alloc(), &store, b"4b8\n4b9\n", Answers::All, &mut out)?;
+/// let all = find_each(rt.alloc(), &store, b"4b8\n4b9\n", Answers::All, 65_536, &mut out)?;
 /// ```
 #[derive(Clone, Copy, PartialEq, Eq, Debug)]
 pub enum Answers {
@@ -37,11 +37,12 @@ pub enum Answers {
 /// and for [`Answers::One`] and a prefix of several ids the line and ` ambiguous`.
 ///
 /// Of each pack index the names with a first byte are read once. Nothing is written before all ids
-/// are found. [`StoreError::Output`] is returned if and only if a write fails, after a proper
-/// beginning of the text. The sink must not have failed before.
+/// are found. If these are more than `most`, and the text has several prefixes, then nothing is
+/// written, and [`StoreError::TooMany`] is returned. [`StoreError::Output`] is returned if and only
+/// if a write fails, after a proper beginning of the text. The sink must not have failed before.
 ///
 /// ```
-/// if !find_each(rt.alloc(), &store, b"4b8\n4b9\n", Answers::One, &mut out)? {
+/// if !find_each(rt.alloc(), &store, b"4b8\n4b9\n", Answers::One, 65_536, &mut out)? {
 ///     println!(rt; "not each of the two is one id")?;
 /// }
 /// ```
@@ -50,18 +51,21 @@ pub fn find_each<S: Store, A: Allocator + Copy, W: Sink>(
     store: &S,
     lines: &[u8],
     answers: Answers,
+    most: usize,
     out: &mut W,
 ) -> Result<bool, StoreError>
     requires { W.has_failed out.old ≡ false }
     ensures found { IfOk result (λ all. (whole : List (List ℕ)) → Holds (S.view store.now) whole
         → HasAnswered answers (S.view store.now).kind whole (lines_of lines.now) all
         (W.taken out.old) (W.taken out.new)) }
-    ensures matches { IfOk result (λ all. HasAnsweredMatches answers (S.view store.now)
+    ensures matches { IfOk result (λ all. HasAnsweredMatches A answers (S.view store.now)
         (lines_of lines.now) all (W.taken out.old) (W.taken out.new)) }
     ensures sound { IfOk result (λ _. HaveAllBuckets (S.view store.now)
         (prefixes_of (S.view store.now).kind (lines_of lines.now))) }
     ensures refused { IfErr result (IsFaultOf (IsFaultOfOne (S.view store.now)
         (prefixes_of (S.view store.now).kind (lines_of lines.now)))) }
+    ensures several { IsErrOf result StoreError.TooMany
+        → 1 < length (prefixes_of (S.view store.now).kind (lines_of lines.now)) }
     ensures untouched { IfErr result (λ e. e ≢ StoreError.Output → out.new ≡ out.old) }
     ensures output { IsErrOf result StoreError.Output ↔ (W.has_failed out.new ≡ true) }
     ensures part { IsErrOf result StoreError.Output → (whole : List (List ℕ))
@@ -71,7 +75,9 @@ pub fn find_each<S: Store, A: Allocator + Copy, W: Sink>(
 {
     let kind = store.object_hash();
     let prefixes = prefixes_for(alloc, store, lines)?;
-    let found = lookup_prefixes(alloc, store, &prefixes)?;
+    let Some(found) = lookup_prefixes(alloc, store, &prefixes, most)? else {
+        return Err(StoreError::TooMany);
+    };
     let form = Listed {
         answers,
         entry: IdEntry,
@@ -312,25 +318,25 @@ fn write_found<X, E: Entry<X>, W: Sink>(
         return write_two(line, b" missing\n", out);
     }
     match answers {
-        Answers::All => write_each(line, found, entry, out),
+        Answers::All => write_each(Some(line), found, entry, out),
         Answers::One if found.len() == 1 => entry.write_after(None, &found[0], out),
         Answers::One => write_two(line, b" ambiguous\n", out),
     }
 }
 
-// Writes each of some things after a line.
-fn write_each<X, E: Entry<X>, W: Sink>(
-    line: &[u8],
+/// Writes each of some things after a line or nothing.
+pub(crate) fn write_each<X, E: Entry<X>, W: Sink>(
+    line: Option<&[u8]>,
     found: &[X],
     entry: &E,
     out: &mut W,
 ) -> Result<(), WriteFailed>
     requires { W.has_failed out.old ≡ false }
     ensures { Wrote W.taken W.has_failed out.old out.new result
-        (flat_map (E.text entry.now (Some line.now)) found.now) }
+        (flat_map (E.text entry.now (option_copied line.entry)) found.now) }
 {
     for item in found {
-        entry.write_after(Some(line), item, out)?;
+        entry.write_after(line, item, out)?;
     }
     Ok(())
 }

@@ -22,6 +22,9 @@ pub enum StoreError {
     /// The store cannot be read, or there is not enough memory.
     #[error("{0}")]
     Store(object_store::Error),
+    /// Several lines find more than was allowed.
+    #[error("too much is found")]
+    TooMany,
     /// A write failed.
     #[error("cannot write")]
     Output,

@@ -1,17 +1,16 @@
 //! The locations of the objects of a store, a line for each.
 
-ghost use Rattle.std.specs.Prelude.{◌≡◌, ◌≢◌, ◌↔◌, ◌≤◌, [], ◌∷◌, ◌++◌, ℕ, List, None, Some, false, true, flat_map, length, map, option_copied, string_bytes, take, IfErr, IfOk, IsErrOf, OnOk, OnErr};
-ghost use Rattle.std.specs.Io.KnownBytes.{Appends};
+ghost use Rattle.std.specs.Prelude.{◌≡◌, ◌≢◌, ◌↔◌, ◌<◌, ◌≤◌, [], ◌∷◌, ◌++◌, ℕ, List, None, Some, false, true, flat_map, length, map, option_copied, string_bytes, take, IfErr, IfOk, IsErrOf};
 ghost use Rattle.gix_hash.specs.Digits.{first_byte_of, hex_letter, spelling};
-ghost use Rattle.gix_hash.specs.Ids.{id_digits, id_kind};
+ghost use Rattle.gix_hash.specs.Ids.{id_digits};
 ghost use Rattle.id_lookup.specs.Runs.{matches};
 ghost use Rattle.object_store.specs.Several.{IsLocationsFaultOfOne};
-ghost use Rattle.object_store.specs.Stores.{HaveAllLocations, HaveBuckets, HaveLocations, Holds, IsLocateFault, IsLocationsFault};
-ghost use Rattle.packtool_commands.specs.Stores.{HasLocated, HasLocatedEach, HasLocatedPart, HaveAllBuckets, IsFaultOf, IsMemory, lines_at, lines_at_after, lines_of_locations, located_lines, location_end, location_line, location_line_after, prefixes_of};
+ghost use Rattle.object_store.specs.Stores.{HaveAllLocations, HaveBuckets, Holds, IsLocationsFault};
+ghost use Rattle.packtool_commands.specs.Stores.{HasLocated, HasLocatedEach, HasLocatedPart, HaveAllBuckets, IsFaultOf, lines_at_after, lines_of_locations, located_lines, location_end, location_line, location_line_after, prefixes_of};
 ghost use Rattle.packtool_commands.specs.declared.error.StoreError.{StoreError};
-ghost use Rattle.streams.specs.Streams.{AppendsAtMost, Wrote, lines_of};
+ghost use Rattle.streams.specs.Streams.{AppendsPart, Wrote, lines_of};
 
-use crate::asking::{Answers, Entry, Listed, prefixes_for, write_answers, write_front};
+use crate::asking::{Answers, Entry, Listed, prefixes_for, write_answers, write_each, write_front};
 use crate::error::StoreError;
 use crate::escaping::{write_before, write_mark};
 use crate::line::push;
@@ -19,7 +18,7 @@ use crate::lines::{put, put_id};
 use arrayvec::ArrayVec;
 use gix_hash::{ObjectId, Prefix};
 use itoa::Buffer;
-use object_store::{LocatedId, Location, Part, StorePaths, locate_prefixes};
+use object_store::{LocatedId, Location, StorePaths, locate_prefix, locate_prefixes};
 use std::alloc::Allocator;
 use streams::{Sink, WriteFailed, write_all};
 
@@ -35,9 +34,9 @@ type End = ArrayVec<u8, 22>;
 /// Returns whether there is such an id.
 ///
 /// The prefix has 2 digits or more, and the store's kind. Of each pack index the names with its
-/// first byte are read once. The lines of an id are written before the offsets of the next are
-/// read. Under an error a beginning of the right lines was written. [`StoreError::Output`] is
-/// returned if and only if a write fails. The sink must not have failed before.
+/// first byte are read once. Nothing is written before all locations are found.
+/// [`StoreError::Output`] is returned if and only if a write fails, after a proper beginning of the
+/// lines. The sink must not have failed before.
 ///
 /// ```
 /// if !locate(rt.alloc(), &store, &prefix, &mut out)? {
@@ -63,74 +62,17 @@ pub fn locate<S: StorePaths, A: Allocator + Copy, W: Sink>(
     ensures locations { IfOk result (λ _. HaveAllLocations (S.view store.now) prefix.now.digits) }
     ensures refused { IfErr result (IsFaultOf (IsLocationsFault (S.view store.now)
         prefix.now.digits)) }
+    ensures untouched { IfErr result (λ e. e ≢ StoreError.Output → out.new ≡ out.old) }
     ensures output { IsErrOf result StoreError.Output ↔ (W.has_failed out.new ≡ true) }
-    ensures part { (whole : List (List ℕ)) → (h : Holds (S.view store.now) whole)
-        → OnErr result (AppendsAtMost (W.taken out.old) (W.taken out.new) (flat_map
+    ensures part { IsErrOf result StoreError.Output → (whole : List (List ℕ))
+        → (h : Holds (S.view store.now) whole)
+        → AppendsPart (W.taken out.old) (W.taken out.new) (flat_map
         (lines_of_locations (S.pack_path store.now) (S.loose_paths store.now) (S.view store.now)
-        h.indexes) (matches prefix.now.digits whole))) }
+        h.indexes) (matches prefix.now.digits whole)) }
 {
-    let part = Part::read(alloc, store, prefix.first_byte())?;
-    let ids = part.lookup_prefix(alloc, prefix)?;
-    for id in &ids {
-        write_locations(alloc, store, &part, id, out)?;
-    }
-    Ok(!ids.is_empty())
-}
-
-// Writes the lines of all locations of an object.
-fn write_locations<S: StorePaths, A: Allocator + Copy, W: Sink>(
-    alloc: A,
-    store: &S,
-    part: &Part<'_, S, A>,
-    id: &ObjectId,
-    out: &mut W,
-) -> Result<(), StoreError>
-    requires store { part.now.store ≡ S.view store.now }
-    requires byte { first_byte_of (id_digits id.now) ≡ part.now.byte }
-    requires kind { id_kind id.now ≡ part.now.store.kind }
-    requires output { W.has_failed out.old ≡ false }
-    ensures lines { (whole : List (List ℕ)) → (h : Holds (S.view store.now) whole)
-        → let lines = lines_of_locations (S.pack_path store.now) (S.loose_paths store.now)
-        (S.view store.now) h.indexes (id_digits id.now) in
-        OnOk result (Appends (W.taken out.old) (W.taken out.new) lines)
-        × OnErr result (AppendsAtMost (W.taken out.old) (W.taken out.new) lines) }
-    ensures not_failed { OnOk result (W.has_failed out.new ≡ false) }
-    ensures sound { OnOk result (HaveLocations (S.view store.now)
-        (id_digits id.now)) }
-    ensures refused { IfErr result (IsFaultOf (IsLocateFault (S.view store.now)
-        (id_digits id.now))) }
-    ensures output { IsErrOf result StoreError.Output ↔ (W.has_failed out.new ≡ true) }
-{
-    let locations = part.locate(alloc, id)?;
-    for location in &locations {
-        write_lines_at(store, id, *location, out)?;
-    }
-    Ok(())
-}
-
-// Writes the lines of one location of an object.
-fn write_lines_at<S: StorePaths, W: Sink>(
-    store: &S,
-    id: &ObjectId,
-    location: Location,
-    out: &mut W,
-) -> Result<(), StoreError>
-    requires { W.has_failed out.old ≡ false }
-    ensures written { OnOk result (Appends (W.taken out.old) (W.taken out.new)
-        (lines_at (S.pack_path store.now) (S.loose_paths store.now) (id_digits id.now) location)) }
-    ensures not_failed { OnOk result (W.has_failed out.new ≡ false) }
-    ensures refused { IfErr result (IsFaultOf IsMemory) }
-    ensures output { IsErrOf result StoreError.Output ↔ (W.has_failed out.new ≡ true) }
-    ensures part { OnErr result (AppendsAtMost (W.taken out.old) (W.taken out.new)
-        (lines_at (S.pack_path store.now) (S.loose_paths store.now) (id_digits id.now) location)) }
-{
-    match location {
-        Location::Packed { pack, offset } => {
-            write_location(id, store.pack_path(pack), Some(offset), out)?;
-        }
-        Location::Loose => write_loose(None, id, &store.loose_paths(id)?, out)?,
-    }
-    Ok(())
+    let located = locate_prefix(alloc, store, prefix)?;
+    write_each(None, &located, &LocationsEntry { store }, out)?;
+    Ok(!located.is_empty())
 }
 
 /// Writes for each line of a text, in order, the locations of the ids of a store that begin with
@@ -144,11 +86,12 @@ fn write_lines_at<S: StorePaths, W: Sink>(
 /// said at [`find_each`](crate::find_each).
 ///
 /// Of each pack index the names with a first byte are read once. Nothing is written before all
-/// locations are found. [`StoreError::Output`] is returned if and only if a write fails, after a
+/// locations are found. If these are more than `most`, and the text has several prefixes, then
+/// nothing is written, and [`StoreError::TooMany`] is returned. [`StoreError::Output`] is returned if and only if a write fails, after a
 /// proper beginning of the text. The sink must not have failed before.
 ///
 /// ```
-/// if !locate_each(rt.alloc(), &store, b"4b8\n4b9\n", Answers::One, &mut out)? {
+/// if !locate_each(rt.alloc(), &store, b"4b8\n4b9\n", Answers::One, 65_536, &mut out)? {
 ///     println!(rt; "not each of the two is one id")?;
 /// }
 /// ```
@@ -157,6 +100,7 @@ pub fn locate_each<S: StorePaths, A: Allocator + Copy, W: Sink>(
     store: &S,
     lines: &[u8],
     answers: Answers,
+    most: usize,
     out: &mut W,
 ) -> Result<bool, StoreError>
     requires { W.has_failed out.old ≡ false }
@@ -167,6 +111,8 @@ pub fn locate_each<S: StorePaths, A: Allocator + Copy, W: Sink>(
         (prefixes_of (S.view store.now).kind (lines_of lines.now))) }
     ensures refused { IfErr result (IsFaultOf (IsLocationsFaultOfOne (S.view store.now)
         (prefixes_of (S.view store.now).kind (lines_of lines.now)))) }
+    ensures several { IsErrOf result StoreError.TooMany
+        → 1 < length (prefixes_of (S.view store.now).kind (lines_of lines.now)) }
     ensures untouched { IfErr result (λ e. e ≢ StoreError.Output → out.new ≡ out.old) }
     ensures output { IsErrOf result StoreError.Output ↔ (W.has_failed out.new ≡ true) }
     ensures part { IsErrOf result StoreError.Output → HasLocatedPart A answers
@@ -175,7 +121,9 @@ pub fn locate_each<S: StorePaths, A: Allocator + Copy, W: Sink>(
 {
     let kind = store.object_hash();
     let prefixes = prefixes_for(alloc, store, lines)?;
-    let located = locate_prefixes(alloc, store, &prefixes)?;
+    let Some(located) = locate_prefixes(alloc, store, &prefixes, most)? else {
+        return Err(StoreError::TooMany);
+    };
     let form = Listed {
         answers,
         entry: LocationsEntry { store },

@@ -1,6 +1,6 @@
 //! The abbreviations of the ids of a store.
 
-ghost use Rattle.std.specs.Prelude.{◌≡◌, ◌≢◌, ◌↔◌, ◌⊎◌, ◌≤◌, ◌∷◌, ◌++◌, ℕ, List, [], false, true, flat_map, IfErr, IfOk, IsErrOf, IsTrue};
+ghost use Rattle.std.specs.Prelude.{◌≡◌, ◌≢◌, ◌↔◌, ◌⊎◌, ◌<◌, ◌≤◌, ◌∷◌, ◌++◌, ℕ, List, [], false, true, flat_map, length, IfErr, IfOk, IsErrOf, IsTrue};
 ghost use Rattle.gix_hash.specs.Digits.{hex_letter, spelling};
 ghost use Rattle.gix_hash.specs.Kinds.{hex_len_of};
 ghost use Rattle.object_store.specs.Stores.{HaveBuckets, Holds, IsFaultOfOne};
@@ -105,7 +105,7 @@ pub fn write_names<W: Sink>(named: &[NamedId], out: &mut W) -> Result<(), WriteF
 /// beginning of the text. The sink must not have failed before.
 ///
 /// ```
-/// if !name_each(rt.alloc(), &store, b"4b8\n4b9\n", 7, &mut out)? {
+/// if !name_each(rt.alloc(), &store, b"4b8\n4b9\n", 7, 65_536, &mut out)? {
 ///     println!(rt; "not each of the two is a prefix of exactly one id")?;
 /// }
 /// ```
@@ -114,6 +114,7 @@ pub fn name_each<S: Store, A: Allocator + Copy, W: Sink>(
     store: &S,
     lines: &[u8],
     least: usize,
+    most: usize,
     out: &mut W,
 ) -> Result<bool, StoreError>
     requires enough { 4 ≤ least }
@@ -128,6 +129,8 @@ pub fn name_each<S: Store, A: Allocator + Copy, W: Sink>(
         (prefixes_of (S.view store.now).kind (lines_of lines.now))) }
     ensures refused { IfErr result (IsFaultOf (IsFaultOfOne (S.view store.now)
         (prefixes_of (S.view store.now).kind (lines_of lines.now)))) }
+    ensures several { IsErrOf result StoreError.TooMany
+        → 1 < length (prefixes_of (S.view store.now).kind (lines_of lines.now)) }
     ensures untouched { IfErr result (λ e. e ≢ StoreError.Output → out.new ≡ out.old) }
     ensures output { IsErrOf result StoreError.Output ↔ (W.has_failed out.new ≡ true) }
     ensures part { IsErrOf result StoreError.Output → HasNamedPart least (S.view store.now)
@@ -135,7 +138,9 @@ pub fn name_each<S: Store, A: Allocator + Copy, W: Sink>(
 {
     let kind = store.object_hash();
     let prefixes = prefixes_for(alloc, store, lines)?;
-    let named = abbreviate_prefixes(alloc, store, &prefixes, least)?;
+    let Some(named) = abbreviate_prefixes(alloc, store, &prefixes, least, most)? else {
+        return Err(StoreError::TooMany);
+    };
     Ok(write_answers(kind, lines, &named, &AbbreviationForm, out)?)
 }
 

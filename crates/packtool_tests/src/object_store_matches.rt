@@ -5,7 +5,7 @@ use crate::expecting::{expect, expect_text, text_of};
 use crate::memory::{Memory, Reads};
 use gix_hash::{ObjectId, Prefix};
 use linked_list_allocator::LocalHeap;
-use object_store::{Error, Location, Store, abbreviate, locate, lookup_prefix};
+use object_store::{Error, Location, Parts, Store, lookup_prefix};
 use std::alloc::Allocator;
 use std::process::Abort;
 use std::test::Fail;
@@ -39,7 +39,7 @@ fn locations_of<S: Store, A: Allocator + Copy>(
 ) -> Result<Vec<Location, A>, Error> {
     let id = ObjectId::from_hex(id.as_bytes()).expect(rt, "no id");
     assert!(rt; id.kind() == store.object_hash());
-    locate(alloc, store, &id)
+    Parts::new(alloc, store).locate(&id)
 }
 
 fn expect_locations(rt: &impl Abort, found: &[Location], want: &[Location]) {
@@ -55,7 +55,7 @@ fn name_of<S: Store, A: Allocator + Copy>(
 ) -> Result<Option<Prefix>, Error> {
     let id = ObjectId::from_hex(id.as_bytes()).expect(rt, "no id");
     assert!(rt; id.kind() == store.object_hash() && id.kind().len_in_hex() >= 4);
-    abbreviate(alloc, store, &id, 4)
+    Parts::new(alloc, store).abbreviate(&id, 4)
 }
 
 // A look-up of the ids that begin with `4b`, or of the locations or the name of the id that is

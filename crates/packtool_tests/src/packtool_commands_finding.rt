@@ -74,6 +74,7 @@ fn is_right(
     match outcome {
         Ok(any) => *any != text.is_empty() && written == text.len(),
         Err(StoreError::Output) => written == room && room < text.len() && left == AMPLE,
+        Err(StoreError::TooMany) => false,
         Err(StoreError::Store(_)) => written < text.len() && left < AMPLE,
     }
 }
@@ -133,9 +134,9 @@ const LOCATED_BY: [(usize, usize); 7] = [
     (4, 0),
     (5, 0),
     (6, 0),
-    (7, 53),
-    (8, 53),
-    (9, 53),
+    (7, 0),
+    (8, 0),
+    (9, 0),
     (10, LOCATED.len()),
 ];
 

@@ -5,4 +5,5 @@ use Rattle.object_store.proofs.locations.locate_each.Given as goal
 
 abbrev pub invariant-loop-id : goal.invariant-loop-id
 invariant-loop-id g l =
-    (map (λ located. located.id) l.located.items ≡ take l.id-index l.ids) × All (IsLocated l.part.store (g.S.StorePaths.loose_paths l.store)) l.located.items
+    (l.parts ≡ l.fn.parts) × (map (λ located. located.id) l.located.items ≡ take l.id-index l.ids)
+    × All (IsLocated l.fn.parts (g.S.StorePaths.loose_paths l.store)) l.located.items

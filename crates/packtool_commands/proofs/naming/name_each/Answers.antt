@@ -20,9 +20,9 @@ pub returns-clause-found : goal.returns-clause-found
 returns-clause-found g c = λ whole h.
     let view = g.S.Store.view c.args.store.now in
     let lines = lines_of c.args.lines.now in
-    let named = c.in_ok-named.named.items in
+    let named = c.in-Some.named.items in
     let are : AreAbbreviatedOfEach c.args.least view (prefixes_of view.kind lines) named =
-    subst (λ (ps : List KindDigits). AreAbbreviatedOfEach c.args.least view ps named) (c.deref.ensures.value ∙ c.in_ok-prefixes.ensures.prefixes) c.in_ok-named.ensures.named in
+    subst (λ (ps : List KindDigits). AreAbbreviatedOfEach c.args.least view ps named) (c.deref.ensures.value ∙ c.in_ok-prefixes.ensures.prefixes) (rw c.in-Some.is at c.in_ok-named.ensures.named) in
     record {
       results = named;
       are_found = abbreviated_in c.args.least view whole (prefixes_of view.kind lines) named h are;
@@ -35,6 +35,6 @@ pub returns-clause-sound : goal.returns-clause-sound
 returns-clause-sound g c =
     let view = g.S.Store.view c.args.store.now in
     let lines = lines_of c.args.lines.now in
-    let named = c.in_ok-named.named.items in
+    let named = c.in-Some.named.items in
     abbreviated_sound c.args.least view (prefixes_of view.kind lines) named
-    (subst (λ (ps : List KindDigits). AreAbbreviatedOfEach c.args.least view ps named) (c.deref.ensures.value ∙ c.in_ok-prefixes.ensures.prefixes) c.in_ok-named.ensures.named)
+    (subst (λ (ps : List KindDigits). AreAbbreviatedOfEach c.args.least view ps named) (c.deref.ensures.value ∙ c.in_ok-prefixes.ensures.prefixes) (rw c.in-Some.is at c.in_ok-named.ensures.named))

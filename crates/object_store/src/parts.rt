@@ -1,0 +1,142 @@
+//! A cursor over the parts of a store.
+
+ghost use Rattle.std.specs.Prelude.{◌≡◌, ◌⊎◌, ◌≤◌, ℕ, Contains, IfErr, IfOk, IfSome, List, MatchOption};
+ghost use Rattle.std.specs.Option.{ForSome};
+ghost use Rattle.gix_hash.specs.Digits.{first_byte_of};
+ghost use Rattle.gix_hash.specs.Kinds.{hex_len_of};
+ghost use Rattle.gix_hash.specs.Ids.{id_digits, id_kind};
+ghost use Rattle.object_store.specs.Stores.{AreLocations, AreMatches, CanLookUp, HaveBuckets, Holds, IsLocateFault, IsNameIn, IsStoreFault, PartView};
+
+use crate::error::Error;
+use crate::locations::Location;
+use crate::part::Part;
+use crate::store::Store;
+use gix_hash::{ObjectId, Prefix};
+use std::alloc::Allocator;
+use std::marker::Model;
+
+/// A cursor over a store, whose ids with one first byte it holds. They are read when something with
+/// this byte is looked up, and kept until something with another is. So look-ups in the order of
+/// what is looked up read the ids with each first byte once, and hold memory for one at a time.
+///
+/// ```
+/// let mut parts = Parts::new(rt.alloc(), &store);
+/// for id in parts.lookup_prefix(&prefix)?.iter() {
+///     println!(rt; "{id}: {} locations", parts.locate(id)?.len())?;
+/// }
+/// ```
+#[derive(Drop)]
+pub struct Parts<'s, S: Store, A: Allocator> {
+    alloc: A,
+    store: &'s S,
+    // The last that was read.
+    part: Option<Part<'s, S, A>>,
+}
+
+impl<'s, S: Store, A: Allocator> Model for Parts<'s, S, A> {
+    ghost use Rattle.std.specs.Prelude.{◌≡◌};
+    ghost use Rattle.std.specs.Option.{ForSome};
+    ghost use Rattle.object_store.specs.Stores.{PartView, StoreView};
+
+    ghost Value = { StoreView };
+
+    ghost view = { λ parts. S.view parts.store.now };
+
+    ghost invariant = { λ parts. ForSome parts.part (λ (part : PartView).
+        part.store ≡ S.view parts.store.now) };
+}
+
+impl<'s, S: Store, A: Allocator + Copy> Parts<'s, S, A> {
+    /// It has read nothing yet.
+    pub fn new(alloc: A, store: &'s S) -> Parts<'s, S, A>
+        ensures { result ≡ S.view store.now }
+    {
+        Parts {
+            alloc,
+            store,
+            part: None,
+        }
+    }
+
+    /// The ids of the store that begin with a prefix, each once, in order. The prefix has 2 digits
+    /// or more, and the store's kind.
+    pub fn lookup_prefix(&mut self, prefix: &Prefix) -> Result<Vec<ObjectId, A>, Error>
+        requires { CanLookUp self.old prefix.now }
+        ensures store { self.new ≡ self.old }
+        ensures matches { IfOk result (λ ids. AreMatches self.old prefix.now.digits ids.items) }
+        ensures err { IfErr result (IsStoreFault self.old (first_byte_of prefix.now.digits)) }
+    {
+        let part = part_of(
+            self.alloc,
+            self.store,
+            self.part.take(),
+            prefix.first_byte(),
+        )?;
+        let ids = part.lookup_prefix(self.alloc, prefix);
+        self.part = Some(part);
+        Ok(ids?)
+    }
+
+    /// The abbreviation of an id in the store, of at least `least` digits; or `None` if the store
+    /// does not have the id. `least` must be from 4 to 40 or 64, by the kind. The id has the
+    /// store's kind.
+    pub fn abbreviate(&mut self, id: &ObjectId, least: usize) -> Result<Option<Prefix>, Error>
+        requires kind { id_kind id.now ≡ self.old.kind }
+        requires enough { 4 ≤ least }
+        requires fits { least ≤ hex_len_of self.old.kind }
+        ensures store { self.new ≡ self.old }
+        ensures name { IfOk result (λ name. (whole : List (List ℕ)) → Holds self.old whole
+            → MatchOption name (¬ Contains whole (id_digits id.now))
+            (λ name. IsNameIn least whole (id_digits id.now) name.digits)) }
+        ensures kind { IfOk result (λ name. IfSome name (λ name. name.kind ≡ self.old.kind)) }
+        ensures sound { IfOk result (λ _. HaveBuckets self.old (first_byte_of (id_digits id.now))) }
+        ensures err { IfErr result (IsStoreFault self.old (first_byte_of (id_digits id.now))) }
+    {
+        let part = part_of(self.alloc, self.store, self.part.take(), id.first_byte())?;
+        let name = part.abbreviate(self.alloc, id, least);
+        self.part = Some(part);
+        Ok(name?)
+    }
+
+    /// All locations of an object: one in each pack whose index has its id, in the order of
+    /// [`Store::indexes`], and last [`Location::Loose`] if it is a loose object. The id has the
+    /// store's kind.
+    ///
+    /// If a pack index has the id more than once, the offset is that of the first. It is read once
+    /// all ids with this first byte are.
+    pub fn locate(&mut self, id: &ObjectId) -> Result<Vec<Location, A>, Error>
+        requires { id_kind id.now ≡ self.old.kind }
+        ensures store { self.new ≡ self.old }
+        ensures locations { IfOk result (λ locations. AreLocations self.old (id_digits id.now)
+            locations.items) }
+        ensures err { IfErr result (λ e. IsStoreFault self.old (first_byte_of (id_digits id.now)) e
+            ⊎ (HaveBuckets self.old (first_byte_of (id_digits id.now))
+            × IsLocateFault self.old (id_digits id.now) e)) }
+    {
+        let part = part_of(self.alloc, self.store, self.part.take(), id.first_byte())?;
+        let locations = part.locate(self.alloc, id);
+        self.part = Some(part);
+        locations
+    }
+}
+
+// The part of a store with a first byte: the last that was read, if it has it.
+fn part_of<'s, S: Store, A: Allocator + Copy>(
+    alloc: A,
+    store: &'s S,
+    last: Option<Part<'s, S, A>>,
+    byte: u8,
+) -> Result<Part<'s, S, A>, Error>
+    requires { ForSome last (λ (part : PartView). part.store ≡ S.view store.now) }
+    ensures part { IfOk result (λ part. part
+        ≡ record { store = S.view store.now; byte = byte }) }
+    ensures sound { IfOk result (λ _. HaveBuckets (S.view store.now) byte) }
+    ensures err { IfErr result (IsStoreFault (S.view store.now) byte) }
+{
+    if let Some(part) = last {
+        if part.byte() == byte {
+            return Ok(part);
+        }
+    }
+    Part::read(alloc, store, byte)
+}
