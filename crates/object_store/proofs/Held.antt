@@ -6,14 +6,12 @@ use Rattle.std.proofs.lemmas.List.{get_or-map, length-map, take_all}
 use Rattle.std.proofs.lemmas.List.Elements.{All-more, filter-append}
 use Rattle.gix_hash.specs.Digits.{first_byte_of}
 use Rattle.gix_hash.specs.declared.Kind.{Kind}
-use Rattle.id_lookup.proofs.SameMembers.{part_is}
-use Rattle.id_lookup.specs.Indexes.{IsIndexOf}
 use Rattle.object_store.specs.Stores.{HasLocation, Holds, IsFirstFault, IsIndexReadOrMemory, IsLocateFault, IsLocationFault, IsStoreFault, StoreView}
 use Rattle.pack_index.specs.Lazy.{HasBucket, IfKnown, IsBucketFault, LazyIndex}
 use Rattle.object_store.specs.declared.error.Error.{Error}
 use Rattle.object_store.specs.declared.error.Error.TheVariants.{Index, Memory}
 use Rattle.pack_index.proofs.Buckets.{no_bucket_fault}
-use Rattle.pack_index.specs.Format.{IsPackIndex, names_in}
+use Rattle.pack_index.specs.Format.{IsPackIndex}
 use Rattle.pack_index.specs.Lazy as lazy
 use Rattle.pack_index.specs.declared.lazy_error.LazyError.{LazyError}
 use Rattle.pack_index.specs.declared.lazy_error.LazyError.TheVariants.{NoOffset}
@@ -74,16 +72,6 @@ module _ (Has : Kind → List ℕ → Type 0) (HasFault : Kind → Bool → List
 -- all of them have it
 pub have_all : (Has : List ℕ → Type 0) {packs given : List LazyIndex} {at : ℕ} → given ≡ packs → length given ≤ at → All (IfKnown Has) (take at packs) → All (IfKnown Has) packs
 have_all Has {packs} {given} {at} value all have = subst (All (IfKnown Has)) (take_all at packs (subst (λ (ps : List LazyIndex). length ps ≤ at) value all)) have
-
--- what was gathered, sorted and kept once
-pub held : (view : StoreView) (whole : List (List ℕ)) (p : List ℕ → Bool) (packed gathered part : List (List ℕ))
-    → (h : Holds view whole) → packed ≡ flat_map (λ bytes. filter p (names_in view.kind bytes)) h.indexes → gathered ≡ packed ++ filter p view.loose
-    → IsIndexOf view.kind gathered part → part ≡ filter p whole
-held view whole p packed gathered part h from_packs all index =
-    let names = flat_map (names_in view.kind) h.indexes in
-    let here : gathered ≡ filter p (names ++ view.loose) =
-    all ∙ ap (λ (front : List (List ℕ)). front ++ filter p view.loose) (from_packs ∙ sym (filter-flat_map p (names_in view.kind) h.indexes)) ∙ sym (filter-append p names view.loose) in
-    part_is view.kind p (names ++ view.loose) whole part h.all (subst (λ (ids : List (List ℕ)). IsIndexOf view.kind ids part) here index)
 
 -- a store whose pack indexes are ones has no fault
 no_first_fault : (Has : List ℕ → Type 0) (HasFault : Bool → List ℕ → LazyError → Type 0) (view : StoreView) (whole : List (List ℕ))

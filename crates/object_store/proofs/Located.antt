@@ -1,18 +1,19 @@
 -- What was found in each pack index and among the loose ids are the locations of the object.
-use Rattle.std.proofs.Common.{◌≡◌, ◌≢◌, ℕ, suc, ◌+◌, ◌<◌, ◌≤◌, Bool, Option, None, Some, List, [], ◌++◌, length, get_or, map, refl, sym, ap, ◌∙◌, subst, arith}
+use Rattle.std.proofs.Common.{◌≡◌, ◌≢◌, ℕ, suc, ◌+◌, ◌<◌, ◌≤◌, Bool, Option, None, Some, List, [], ◌++◌, length, get_or, refl, sym, ap, ◌∙◌, subst, arith}
 use Rattle.std.specs.Prelude.{◌↔◌}
 use Rattle.std.specs.Cmp.Lexicographic.{bytes_decides}
-use Rattle.std.specs.List.{All, position_or_len}
+use Rattle.std.specs.List.{position_or_len}
 use Rattle.std.specs.Str.{bytes_eq}
 use Rattle.std.proofs.lemmas.Bool.{false_from_ne_true, le-ltb, lt-ltb}
+use Rattle.std.proofs.lemmas.List.{get_or_default}
 use Rattle.std.proofs.lemmas.List.Sums.{position_or_len_is}
 use Rattle.gix_hash.specs.Digits.{first_byte_of}
 use Rattle.gix_hash.specs.declared.Kind.{Kind}
-use Rattle.object_store.specs.Stores.{HasLocation, IsLocationFault, offset_of, packed_at, packed_locations}
+use Rattle.object_store.specs.Stores.{ArePacked, HasLocation, IsLocationFault, IsOffsetOf, StoreView, offset_of, packed_at}
 use Rattle.object_store.specs.declared.locations.Location.{Location}
-use Rattle.object_store.proofs.Held.{IsPackAt, as_many, known_at}
-use Rattle.pack_index.specs.Format.{Each, HasCount, HasOffset, IsFirstIndexOf, IsPackIndex, names_in, offset_in}
-use Rattle.pack_index.specs.Lazy.{HasBucket, IsFirstCounted, IsOffsetFault, LazyIndex}
+use Rattle.object_store.proofs.Held.{IsPackAt}
+use Rattle.pack_index.specs.Format.{HasOffset, IsFirstIndexOf, names_in, offset_in}
+use Rattle.pack_index.specs.Lazy.{HasBucket, IfKnown, IsFirstCounted, IsOffsetFault, LazyIndex}
 use Rattle.pack_index.specs.declared.lazy_error.LazyError.{LazyError}
 use Rattle.pack_index.specs.declared.lazy_error.LazyError.TheVariants.{NoOffset, Read}
 
@@ -56,18 +57,27 @@ module _ (kind : Kind) (bytes id : List ℕ) (bucket : HasBucket kind bytes (fir
     )
     offset_fault can_fail _ fault = absurd fault
 
+-- the offset that is read of the first of them is that of the id
+module _ (kind : Kind) (bytes id : List ℕ) where
+  pub has_offset_none : ((n : ℕ) → (None ≡ Some n) ↔ IsFirstCounted kind bytes id n) → IsOffsetOf kind bytes id None
+  has_offset_none counted = λ n there. let same = (counted n).1 there in absurd cc
+
+  pub has_offset_some : (at offset : ℕ) → ((n : ℕ) → (Some at ≡ Some n) ↔ IsFirstCounted kind bytes id n) → offset ≡ offset_in kind bytes at
+      → IsOffsetOf kind bytes id (Some offset)
+  has_offset_some at offset counted is = (at, (counted at).0 refl, is)
+
 -- one pack more
-pub location_more : (kind : Kind) (packs : List LazyIndex) (id : List ℕ) (at : ℕ) (pack : LazyIndex) (offset : Option ℕ) (old new : List Location) (indexes : List (List ℕ))
-    → map (λ (p : LazyIndex). p.content) packs ≡ map Some indexes → All (IsPackIndex kind) indexes → IsPackAt kind packs at pack
-    → ((bytes : List ℕ) → pack.content ≡ Some bytes → Each (HasCount pack.kind bytes) 256 → offset ≡ offset_of pack.kind bytes id)
-    → old ≡ packed_locations kind id indexes at → new ≡ old ++ packed_at at offset → new ≡ packed_locations kind id indexes (at + 1)
-unfolding packed_locations
-location_more kind packs id at pack offset old new indexes same each here found before all =
-    let content : LazyIndex → Option (List ℕ) = λ p. p.content in
-    let bytes = get_or indexes at [] in
-    let inside : at < length indexes = omega (arith, here.low, as_many content packs indexes same) in
-    let known : pack.content ≡ Some bytes = ap content here.is ∙ known_at content packs indexes same at pack here.low in
-    let counts : Each (HasCount pack.kind bytes) 256 = subst (λ (n : Kind). Each (HasCount n bytes) 256) (sym here.of_kind) (each at [] inside).names.counts in
-    let there : offset ≡ offset_of kind bytes id = found bytes known counts ∙ ap (λ (n : Kind). offset_of n bytes id) here.of_kind in
+pub packed_more : (view : StoreView) (id : List ℕ) (at : ℕ) (pack : LazyIndex) (offset : Option ℕ) (old new : List Location) → IsPackAt view.kind view.packs at pack
+    → IfKnown (λ bytes. IsOffsetOf pack.kind bytes id offset) pack → ArePacked view id at old → new ≡ old ++ packed_at at offset → ArePacked view id (at + 1) new
+unfolding ArePacked
+packed_more view id at pack offset old new here found before all =
     let next : suc at ≡ at + 1 = omega arith in
-    all ∙ (λ i. before i ++ packed_at at (there i)) ∙ ap (packed_locations kind id indexes) next
+    subst (λ n. ArePacked view id n new) next (
+      old,
+      offset,
+      before,
+      λ p bytes known.
+          let same : get_or view.packs at p ≡ pack = get_or_default view.packs at p pack here.low ∙ sym here.is in
+          subst (λ (k : Kind). IsOffsetOf k bytes id offset) here.of_kind (found bytes (sym (ap (λ (x : LazyIndex). x.content) same) ∙ known)),
+      all,
+    )

@@ -10,6 +10,7 @@ use Rattle.gix_hash.specs.declared.ObjectId.{ObjectId}
 use Rattle.id_lookup.proofs.Beginnings.{first_byte_of-begins}
 use Rattle.object_store.specs.Stores.{AreMatches, HaveBuckets, IsLocateFault, IsLocationsFault, IsStoreFault, StoreView}
 use Rattle.object_store.specs.Several.{IsLocated}
+use Rattle.object_store.proofs.Whole.{found_begins}
 use Rattle.object_store.specs.declared.error.Error.{Error}
 use Rattle.object_store.specs.declared.locations.LocatedId.{LocatedId}
 
@@ -20,8 +21,8 @@ pub fault_of_found : (view : StoreView) (digits : List ℕ) (ids : List ObjectId
     ⊎ (HaveBuckets view (first_byte_of (id_digits (get_or ids at d))) × IsLocateFault view (id_digits (get_or ids at d)) error)
     → IsLocationsFault view digits error
 fault_of_found view digits ids at d error enough are low (inl fault) =
-    inl (subst (λ (b : ℕ). IsStoreFault view b error) (first_byte_of-begins (id_digits (get_or ids at d)) digits enough (are.pass at d low)) fault)
-fault_of_found view digits ids at d error enough are low (inr both) = inr (are.sound, id_digits (get_or ids at d), are.pass at d low, both.1)
+    inl (subst (λ (b : ℕ). IsStoreFault view b error) (first_byte_of-begins (id_digits (get_or ids at d)) digits enough (found_begins view digits ids are at d low)) fault)
+fault_of_found view digits ids at d error enough are low (inr both) = inr (are.has_read.are_read.sound, id_digits (get_or ids at d), found_begins view digits ids are at d low, both.1)
 
 -- a result that fails so fails for a weaker reason
 pub fault_by : {T : Type 0} (P Q : Error → Type 0) → ((e : Error) → P e → Q e) → (result : Result T Error) → IfErr result P → IfErr result Q

@@ -1,83 +1,107 @@
 -- A name that is decided among the ids that were gathered is the name in the whole store.
-use Rattle.std.proofs.Common.{◌≡◌, ◌≢◌, ℕ, suc, ◌+◌, ◌⊎◌, inl, inr, ◌<◌, ◌≤◌, Bool, true, nat_eq, Option, None, Some, List, [], ◌∷◌, ◌++◌, length, filter, get_or, map, take, drop, refl, sym, ap, ◌∙◌, subst, arith, take-append-drop}
-use Rattle.std.specs.Prelude.{MatchOption}
+use Rattle.std.proofs.Common.{◌≡◌, ◌≢◌, ℕ, suc, ◌+◌, ◌-◌, ◌⊎◌, inl, inr, ◌<◌, ◌≤◌, true, nat_eq, Option, None, Some, List, [], ◌∷◌, ◌++◌, length, get_or, map, take, drop, refl, sym, ap, ◌∙◌, subst, arith, append_assoc, take-append-drop}
+use Rattle.std.specs.Prelude.{IfSome, MatchOption}
 use Rattle.std.specs.List.{All, Contains, starts_with}
-use Rattle.std.proofs.Math.Seq.{get_or-append_seam, take-suc}
+use Rattle.std.proofs.Math.Seq.{get_or-append_seam, take-append-add, take-suc}
 use Rattle.std.specs.Prelude.{slice_get}
-use Rattle.std.proofs.lemmas.Bool.{cases_lt}
+use Rattle.std.proofs.lemmas.Bool.{cases_lt, cases_order, false≢true}
 use Rattle.std.proofs.lemmas.Option.{get_or_from_slice_get}
 use Rattle.std.proofs.lemmas.List.{get_or_append_left, get_or_default, get_or-map, length-append, length-map, length-take-le, map-append}
 use Rattle.std.proofs.lemmas.List.Elements.{Contains-get_or}
 use Rattle.gix_hash.specs.Digits.{first_byte_of}
-use Rattle.gix_hash.specs.Kinds.{hex_len_of}
 use Rattle.gix_hash.specs.Ids.{id_digits}
 use Rattle.gix_hash.specs.Prefixes.{KindDigits}
 use Rattle.gix_hash.specs.declared.Kind.{Kind}
 use Rattle.gix_hash.specs.declared.ObjectId.{ObjectId}
-use Rattle.id_lookup.specs.Runs.{has_first_byte, matches}
-use Rattle.id_lookup.specs.Indexes.{IsIndex, IsShortestNameFrom, part_of}
-use Rattle.id_lookup.proofs.Beginnings.{first_byte_of-begins, same_test, test_same}
-use Rattle.id_lookup.proofs.Filters.{contains_kept, kept_passes}
-use Rattle.id_lookup.proofs.NamesInPart.{name-whole}
+use Rattle.id_lookup.specs.Runs.{matches}
+use Rattle.id_lookup.specs.Indexes.{IsIndexOf, IsShortestNameFrom}
+use Rattle.id_lookup.proofs.Beginnings.{first_byte_of-begins}
+use Rattle.id_lookup.proofs.Filters.{contains_had, contains_kept, kept_passes}
+use Rattle.id_lookup.proofs.SameMembers.{one_position}
 use Rattle.id_lookup.proofs.Spelled.{starts_with-BeginsWith}
 use Rattle.object_store.specs.Stores.{IsNameIn}
 use Rattle.object_store.specs.declared.abbreviations.NamedId.{NamedId}
 
 -- an id begins with its first digits
-begins_itself : (id : List ℕ) (n : ℕ) → starts_with nat_eq id (take n id) ≡ true
+pub begins_itself : (id : List ℕ) (n : ℕ) → starts_with nat_eq id (take n id) ≡ true
 begins_itself id n = (starts_with-BeginsWith id (take n id)).1 (drop n id, sym (take-append-drop n id))
 
 pub front_byte : (id front : List ℕ) (least : ℕ) → front ≡ take least id → 2 ≤ least → least ≤ length id → first_byte_of front ≡ first_byte_of id
 front_byte id front least is two fits =
     ap first_byte_of is ∙ sym (first_byte_of-begins id (take least id) (omega (arith, two, length-take-le least id fits)) (begins_itself id least))
 
--- of an id, among those that begin as it does
-pub name_of_id : (kind : Kind) (least : ℕ) (id : List ℕ) (whole part : List (List ℕ)) (name : Option KindDigits) → IsIndex kind whole
-    → part ≡ matches (take least id) whole
-    → MatchOption name ((k : ℕ) → k < length part → get_or part k [] ≢ id)
-    (λ n. (at : ℕ) × (at < length part) × (get_or part at [] ≡ id) × IsShortestNameFrom least part at n.digits)
-    → MatchOption name (¬ Contains whole id) (λ n. IsNameIn least whole id n.digits)
-name_of_id kind least id whole part None index same none = λ c.
-    let kept = contains_kept (λ x. starts_with nat_eq x (take least id)) whole id c (begins_itself id least) in
-    let there : Contains part id = subst (λ (ids : List (List ℕ)). Contains ids id) (sym same) kept in
-    none there.0 there.1 (sym (get_or_default part there.0 id [] there.1) ∙ there.2)
-name_of_id kind least id whole part (Some name) index same found = λ position inside here.
-    let p : List ℕ → Bool = λ x. starts_with nat_eq x (take least id) in
-    let at : get_or (filter p whole) found.0 [] ≡ id = ap (λ (ids : List (List ℕ)). get_or ids found.0 []) (sym same) ∙ found.2 in
-    name-whole kind p least whole found.0 position name.digits index
-    (λ other begins. subst (λ (member : List ℕ). starts_with nat_eq other (take least member) ≡ true) here begins)
-    (subst (λ (ids : List (List ℕ)). found.0 < length ids) same found.1) inside (here ∙ sym at)
-    (subst (λ (ids : List (List ℕ)). IsShortestNameFrom least ids found.0 name.digits) same found.3)
+-- what begins with the first digits of an id begins with fewer of them
+begins_fewer : (other id front : List ℕ) (n : ℕ) → length front ≤ n → starts_with nat_eq id front ≡ true → starts_with nat_eq other (take n id) ≡ true
+    → starts_with nat_eq other front ≡ true
+begins_fewer other id front n few begins more =
+    let is = (starts_with-BeginsWith id front).0 begins in
+    let there = (starts_with-BeginsWith other (take n id)).0 more in
+    let size : n ≡ length front + (n - length front) = omega (arith, few) in
+    let split : take n id ≡ front ++ take (n - length front) is.0 =
+    (λ i. take (size i) (is.1 i)) ∙ take-append-add front is.0 (n - length front) in
+    (starts_with-BeginsWith other front).1
+    (take (n - length front) is.0 ++ there.0, there.1 ∙ ap (λ (xs : List ℕ). xs ++ there.0) split ∙ append_assoc front (take (n - length front) is.0) there.0)
 
--- of the id at a position of a part
-pub name_in_part : (kind : Kind) (byte least at : ℕ) (id name : List ℕ) (whole part : List (List ℕ)) → IsIndex kind whole → 4 ≤ least → least ≤ hex_len_of kind
-    → part ≡ part_of byte whole → at < length part → get_or part at [] ≡ id → IsShortestNameFrom least part at name → IsNameIn least whole id name
-name_in_part kind byte least at id name whole part index enough fits same within is short = λ position inside here.
-    let p = has_first_byte byte in
-    let within' : at < length (filter p whole) = subst (λ (ids : List (List ℕ)). at < length ids) same within in
-    let is' : get_or (filter p whole) at [] ≡ id = ap (λ (ids : List (List ℕ)). get_or ids at []) (sym same) ∙ is in
-    let has : first_byte_of id ≡ byte =
-    test_same (first_byte_of id) byte (subst (λ (x : List ℕ). p x ≡ true) is' (kept_passes p whole (get_or (filter p whole) at []) (Contains-get_or (filter p whole) at [] within'))) in
-    let long : length id ≡ hex_len_of kind = ap length (sym here) ∙ index.kinds position [] (omega arith) inside in
-    let two : 2 ≤ length (take least id) = omega (arith, enough, length-take-le least id (omega (arith, fits, long))) in
-    let front : first_byte_of id ≡ first_byte_of (take least id) = first_byte_of-begins id (take least id) two (begins_itself id least) in
-    name-whole kind p least whole at position name index
-    (λ other begins. same_test (first_byte_of other) byte
-    (first_byte_of-begins other (take least id) two (subst (λ (member : List ℕ). starts_with nat_eq other (take least member) ≡ true) here begins) ∙ sym front ∙ has))
-    within' inside (here ∙ sym is') (subst (λ (ids : List (List ℕ)). IsShortestNameFrom least ids at name) same short)
+-- the name of an id among those that begin with some first digits of it is its name among all
+module _ (kind : Kind) (least : ℕ) (read ids : List (List ℕ)) (front : List ℕ) (index : IsIndexOf kind (matches front read) ids) (few : length front ≤ least) where
+  -- a member of the index is one of all, and begins so
+  had : (id : List ℕ) → Contains ids id → Contains read id
+  had id has = contains_had (λ x. starts_with nat_eq x front) read id ((index.members id).0 has)
 
--- of each id of a part
-pub names_in_part : (kind : Kind) (byte least : ℕ) (whole : List (List ℕ)) (ids : List ObjectId) (named : List NamedId) → IsIndex kind whole → 4 ≤ least
-    → least ≤ hex_len_of kind → map id_digits ids ≡ part_of byte whole → map (λ (n : NamedId). n.id) named ≡ ids
+  pub name_in_read : (at : ℕ) (id name : List ℕ) → at < length ids → get_or ids at [] ≡ id → IsShortestNameFrom least ids at name → IsNameIn least read id name
+  name_in_read at id name low is short =
+      let here : Contains ids id = (at, low, get_or_default ids at id [] low ∙ is) in
+      let passes : starts_with nat_eq id front ≡ true = kept_passes (λ x. starts_with nat_eq x front) read id ((index.members id).0 here) in
+      let first : name ≡ take (length name) id = short.first ∙ ap (take (length name)) is in
+      record {
+        has = had id here;
+        first = first;
+        long = short.long;
+        alone = λ other has begins.
+            let more : starts_with nat_eq other (take (length name) id) ≡ true = subst (λ (n : List ℕ). starts_with nat_eq other n ≡ true) first begins in
+            let there = (index.members other).1 (contains_kept (λ x. starts_with nat_eq x front) read other has
+            (begins_fewer other id front (length name) (omega (arith, few, short.long)) passes more)) in
+            let same : get_or ids there.0 [] ≡ other = sym (get_or_default ids there.0 other [] there.1) ∙ there.2 in
+            elim (cases_order there.0 at) [
+              | inl at_it ↦ sym same ∙ ap (λ n. get_or ids n []) at_it ∙ is
+              | inr apart ↦ absurd (false≢true (sym (short.alone there.0 there.1 (λ e. elim apart [ inl less ↦ omega (arith, e, less) | inr above ↦ omega (arith, e, above) ]))
+                  ∙ subst (λ (x : List ℕ). starts_with nat_eq x name ≡ true) (sym same) begins))
+            ];
+        least = λ n from to.
+            let r = short.least n from to in
+            let other = get_or ids r.0 [] in (
+              other,
+              had other (Contains-get_or ids r.0 [] r.1),
+              λ same. r.2 (one_position kind ids index.index r.0 at r.1 low (same ∙ sym is)),
+              r.3,
+            );
+      }
+
+-- of an id that is looked for among those that begin with its first digits
+pub name_of_id : (kind : Kind) (least : ℕ) (id : List ℕ) (read ids : List (List ℕ)) (name : Option KindDigits) → length (take least id) ≤ least
+    → IsIndexOf kind (matches (take least id) read) ids
+    → MatchOption name ((k : ℕ) → k < length ids → get_or ids k [] ≢ id)
+    (λ n. (at : ℕ) × (at < length ids) × (get_or ids at [] ≡ id) × IsShortestNameFrom least ids at n.digits)
+    → IfSome name (λ n. n.kind ≡ kind)
+    → MatchOption name (¬ Contains read id) (λ n. IsNameIn least read id n.digits × (n.kind ≡ kind))
+name_of_id kind least id read ids None few index none of_kind = λ c.
+    let there = (index.members id).1 (contains_kept (λ x. starts_with nat_eq x (take least id)) read id c (begins_itself id least)) in
+    none there.0 there.1 (sym (get_or_default ids there.0 id [] there.1) ∙ there.2)
+name_of_id kind least id read ids (Some name) few index found of_kind =
+    (name_in_read kind least read ids (take least id) index few found.0 id name.digits found.1 found.2 found.3, of_kind)
+
+-- of each id with a first byte
+pub names_read : (kind : Kind) (least : ℕ) (read : List (List ℕ)) (front : List ℕ) (ids : List ObjectId) (named : List NamedId) → length front ≤ least
+    → IsIndexOf kind (matches front read) (map id_digits ids) → map (λ (n : NamedId). n.id) named ≡ ids
     → ((k : ℕ) (d : NamedId) → k < length named → IsShortestNameFrom least (map id_digits ids) k (get_or named k d).name.digits)
-    → All (λ (n : NamedId). IsNameIn least whole (id_digits n.id) n.name.digits) named
-names_in_part kind byte least whole ids named index enough fits same all short k d low =
+    → All (λ (n : NamedId). IsNameIn least read (id_digits n.id) n.name.digits) named
+names_read kind least read front ids named few index all short k d low =
     let n = get_or named k d in
     let many : length ids ≡ length named = ap length (sym all) ∙ length-map named (λ (n : NamedId). n.id) in
     let within : k < length (map id_digits ids) = omega (arith, many, low, length-map ids id_digits) in
     let at : get_or ids k n.id ≡ n.id = ap (λ (xs : List ObjectId). get_or xs k n.id) (sym all) ∙ get_or-map (λ (n : NamedId). n.id) named k d n.id low in
     let is : get_or (map id_digits ids) k [] ≡ id_digits n.id = get_or-map id_digits ids k n.id [] (omega (arith, many, low)) ∙ ap id_digits at in
-    name_in_part kind byte least k (id_digits n.id) n.name.digits whole (map id_digits ids) index enough fits same within is (short k d low)
+    name_in_read kind least read (map id_digits ids) front index few k (id_digits n.id) n.name.digits within is (short k d low)
 
 -- the digits of the ids that are named
 pub named_digits : (ids : List ObjectId) (named : List NamedId) → map (λ (n : NamedId). n.id) named ≡ ids → map (λ (n : NamedId). id_digits n.id) named ≡ map id_digits ids

@@ -1,14 +1,16 @@
 -- The locations and the abbreviations of the ids that begin with each of several prefixes.
-use Rattle.std.specs.Prelude.{◌≡◌, ℕ, ◌<◌, List, [], ◌∷◌, Vec, length, map, string_bytes}
+use Rattle.std.specs.Prelude.{◌≡◌, ℕ, ◌<◌, ◌/◌, ◌%◌, List, [], ◌∷◌, Vec, length, map, string_bytes}
 use Rattle.std.specs.List.{All}
 use Rattle.gix_hash.specs.Digits.{first_byte_of}
 use Rattle.gix_hash.specs.Ids.{id_digits}
 use Rattle.gix_hash.specs.Prefixes.{KindDigits}
 use Rattle.gix_hash.specs.declared.Kind.{Kind}
 use Rattle.id_lookup.specs.Runs.{matches}
-use Rattle.object_store.specs.Stores.{AreFoundOfEach, AreLocations, AreMatches, HaveBuckets, Holds, IsLocationsFault, IsNameIn, IsOfKind, IsOfOne, StoreView}
+use Rattle.object_store.specs.Stores.{AreFoundOfEach, AreLocations, AreMatches, HasRead, IsLocationsFault, IsNameIn, IsOfKind, IsOfOne, StoreView}
 use Rattle.object_store.specs.declared.error.Error.{Error}
 use Rattle.object_store.specs.declared.locations.LocatedId.{LocatedId}
+use Rattle.id_lookup.specs.Indexes.{IsIndexOf}
+use Rattle.object_store.specs.declared.abbreviations.NamedId.{NamedId}
 use Rattle.object_store.specs.declared.abbreviations.Abbreviation.{Abbreviation}
 use Rattle.object_store.specs.declared.abbreviations.Abbreviation.TheVariants.{Missing, Ambiguous, Named}
 
@@ -30,12 +32,15 @@ AreLocatedOfEach view loose_paths prefixes located = AreFoundOfEach (λ digits i
 abbrev pub IsLocationsFaultOfOne : StoreView → List KindDigits → Error → Type 0
 IsLocationsFaultOfOne view prefixes error = IsOfOne (IsLocationsFault view) prefixes error
 
--- the only id of the index that begins with the digits, with its abbreviation there; or it has none, or more than one
+-- the only one that was found, with its name among the ids; or none was found, or more than one
+abbrev pub IsAbbreviatedAs : ℕ → List (List ℕ) → List (List ℕ) → Abbreviation → Type 0
+IsAbbreviatedAs fewest ids found Missing = found ≡ []
+IsAbbreviatedAs fewest ids found Ambiguous = 1 < length found
+IsAbbreviatedAs fewest ids found (Named named) = (found ≡ id_digits named.id ∷ []) × IsNameIn fewest ids (id_digits named.id) named.name.digits
+
+-- the only id of the index that begins with the digits, with its name there; or that it has none, or more than one
 abbrev pub IsAbbreviatedIn : ℕ → List (List ℕ) → List ℕ → Abbreviation → Type 0
-IsAbbreviatedIn least whole digits Missing = matches digits whole ≡ []
-IsAbbreviatedIn least whole digits Ambiguous = 1 < length (matches digits whole)
-IsAbbreviatedIn least whole digits (Named named) =
-    (matches digits whole ≡ id_digits named.id ∷ []) × IsNameIn least whole (id_digits named.id) named.name.digits
+IsAbbreviatedIn fewest whole digits abbreviation = IsAbbreviatedAs fewest whole (matches digits whole) abbreviation
 
 -- if there is one, it is of the kind
 abbrev pub IsAbbreviationOfKind : Kind → Abbreviation → Type 0
@@ -43,11 +48,23 @@ IsAbbreviationOfKind kind (Named named) = IsOfKind kind named
 IsAbbreviationOfKind kind Missing = Unit {0}
 IsAbbreviationOfKind kind Ambiguous = Unit {0}
 
--- so in the store, and the names with the first byte were read
-pub record IsAbbreviated (least : ℕ) (view : StoreView) (digits : List ℕ) (abbreviation : Abbreviation) : Type 0 where
-  pub found : (whole : List (List ℕ)) → Holds view whole → IsAbbreviatedIn least whole digits abbreviation
+-- so of those that were read: `found` are the ones that begin with the digits, each once
+pub record IsAbbreviated (fewest : ℕ) (view : StoreView) (digits : List ℕ) (abbreviation : Abbreviation) : Type 0 where
+  pub read : List (List ℕ)
+  pub has_read : HasRead view (first_byte_of digits) read
+  pub found : List (List ℕ)
+  pub index : IsIndexOf view.kind (matches digits read) found
+  pub name : IsAbbreviatedAs fewest read found abbreviation
   pub kind : IsAbbreviationOfKind view.kind abbreviation
-  pub sound : HaveBuckets view (first_byte_of digits)
+
+-- those with a first byte, which are those that begin with its two digits, each once, in order, with its name
+pub record AreNamed (fewest : ℕ) (view : StoreView) (byte : ℕ) (named : List NamedId) : Type 0 where
+  pub read : List (List ℕ)
+  pub has_read : HasRead view byte read
+  pub index : IsIndexOf view.kind (matches (byte / 16 ∷ byte % 16 ∷ []) read) (map (λ (n : NamedId). id_digits n.id) named)
+  pub names : All (λ (n : NamedId). IsNameIn fewest read (id_digits n.id) n.name.digits) named
+  pub kinds : All (IsOfKind view.kind) named
+  pub digits : All (λ id. All (λ d. d < 16) id) view.loose
 
 -- an abbreviation for each prefix
 abbrev pub AreAbbreviatedOfEach : ℕ → StoreView → List KindDigits → List Abbreviation → Type 0

@@ -1,5 +1,5 @@
 -- What an object store holds, where it has an object, and what is found in it. Ids and names are given by their digits.
-use Rattle.std.specs.Prelude.{[], ℕ, ◌++◌, ◌<◌, ◌∷◌, ◌≡◌, ◌≤◌, ◌⊎◌, All, Bool, Contains, IsTrue, List, None, Option, Some, Vec, filter, flat_map, if◌then◌else◌, length, map, nat_eq, option_map, slice_get, slice_index_or, suc, take, zero}
+use Rattle.std.specs.Prelude.{[], ℕ, ◌++◌, ◌<◌, ◌∷◌, ◌≡◌, ◌≢◌, ◌≤◌, ◌⊎◌, All, Bool, Contains, IsTrue, List, MatchOption, None, Option, Some, Vec, flat_map, if◌then◌else◌, length, map, nat_eq, option_map, slice_get, slice_index_or, suc, take, zero}
 use Rattle.std.specs.List.{list_any, position, starts_with}
 use Rattle.std.specs.Str.{bytes_eq}
 use Rattle.gix_hash.specs.Digits.{first_byte_of}
@@ -7,9 +7,10 @@ use Rattle.gix_hash.specs.Ids.{id_digits, id_kind}
 use Rattle.gix_hash.specs.Prefixes.{KindDigits}
 use Rattle.gix_hash.specs.declared.Kind.{Kind}
 use Rattle.gix_hash.specs.declared.ObjectId.{ObjectId}
-use Rattle.id_lookup.specs.Indexes.{IsIndex, IsIndexOf, IsShortestNameFrom}
+use Rattle.id_lookup.specs.Indexes.{IsIndexOf}
+use Rattle.id_lookup.specs.Runs.{matches}
 use Rattle.pack_index.specs.Format.{HasOffset, IsFirstIndexOf, IsPackIndex, names_in, offset_in}
-use Rattle.pack_index.specs.Lazy.{BucketNames, HasBucket, IfKnown, IsBucketFault, IsBucketOf, IsFirstCounted, LazyIndex}
+use Rattle.pack_index.specs.Lazy.{BucketNames, HasBucket, IfKnown, IsBucketFault, IsBucketOf, IsFirstCounted, LazyIndex, counted_with}
 use Rattle.pack_index.specs.Lazy as lazy
 use Rattle.pack_index.specs.declared.lazy_error.LazyError.{LazyError}
 use Rattle.pack_index.specs.declared.lazy_error.LazyError.TheVariants.{NoOffset}
@@ -25,10 +26,11 @@ pub record StoreView : Type 0 where
   pub packs : List LazyIndex
   pub loose : List (List ℕ)
 
--- the store, and the first byte of the names that were read
+-- the store, the first byte of the names that were read, and these names and the loose ids
 pub record PartView : Type 0 where
   pub store : StoreView
   pub byte : ℕ
+  pub ids : List (List ℕ)
 
 -- What an object store holds. Each id is given by its digits.
 
@@ -39,9 +41,13 @@ pub record Holds (view : StoreView) (whole : List (List ℕ)) : Type 0 where
   pub are_indexes : All (IsPackIndex view.kind) indexes
   pub all : IsIndexOf view.kind (flat_map (names_in view.kind) indexes ++ view.loose) whole
 
--- the name is the shortest one of the id in the index
-abbrev pub IsNameIn : ℕ → List (List ℕ) → List ℕ → List ℕ → Type 0
-IsNameIn least whole id name = (position : ℕ) → position < length whole → slice_index_or whole position [] ≡ id → IsShortestNameFrom least whole position name
+-- the id is one of these, and the name is its shortest prefix, of at least `fewest` digits, with which no other one begins
+pub record IsNameIn (fewest : ℕ) (ids : List (List ℕ)) (id name : List ℕ) : Type 0 where
+  pub has : Contains ids id
+  pub first : name ≡ take (length name) id
+  pub long : fewest ≤ length name
+  pub alone : (other : List ℕ) → Contains ids other → IsTrue (starts_with nat_eq other name) → other ≡ id
+  pub least : (n : ℕ) → fewest ≤ n → n < length name → (other : List ℕ) × Contains ids other × (other ≢ id) × IsTrue (starts_with nat_eq other (take n name))
 
 -- the id and its name are of the kind
 abbrev pub IsOfKind : Kind → NamedId → Type 0
@@ -120,10 +126,13 @@ unfoldable pub packed_locations : Kind → List ℕ → List (List ℕ) → ℕ 
 packed_locations kind id indexes zero = []
 packed_locations kind id indexes (suc n) = packed_locations kind id indexes n ++ packed_at n (offset_of kind (slice_index_or indexes n []) id)
 
+-- the location of the object of an id among the loose objects, if it is one of them
+abbrev pub loose_at : List ℕ → List (List ℕ) → List Location
+loose_at id loose_ids = if list_any (λ loose. bytes_eq loose id) loose_ids then Loose ∷ [] else []
+
 -- the locations in all packs, and the last one if the object is loose
 abbrev pub locations_of : Kind → List ℕ → List (List ℕ) → List (List ℕ) → List Location
-locations_of kind id indexes loose_ids =
-    packed_locations kind id indexes (length indexes) ++ (if list_any (λ loose. bytes_eq loose id) loose_ids then Loose ∷ [] else [])
+locations_of kind id indexes loose_ids = packed_locations kind id indexes (length indexes) ++ loose_at id loose_ids
 
 -- The names of a store with one first byte, and what is found among them.
 
@@ -132,29 +141,42 @@ abbrev pub AreFirstBuckets : List LazyIndex → ℕ → List BucketNames → Typ
 AreFirstBuckets packs byte buckets =
     (k : ℕ) (pack : LazyIndex) (bucket : BucketNames) → k < length buckets → IsBucketOf (slice_index_or packs k pack) byte (slice_index_or buckets k bucket)
 
+-- the names that each pack index counts with the first byte, if its bytes are known
+pub record AreRead (view : StoreView) (byte : ℕ) (names : List (List (List ℕ))) : Type 0 where
+  pub small : byte < 256
+  pub as_many : length names ≡ length view.packs
+  pub each : (k : ℕ) (pack : LazyIndex) → k < length view.packs
+      → IfKnown (λ bytes. slice_index_or names k [] ≡ counted_with view.kind bytes byte) (slice_index_or view.packs k pack)
+  pub sound : HaveBuckets view byte
+
 -- each pack index has its bucket
 pub record AreBuckets (view : StoreView) (byte : ℕ) (buckets : List BucketNames) : Type 0 where
   pub as_many : length buckets ≡ length view.packs
   pub each : AreFirstBuckets view.packs byte buckets
-  pub sound : HaveBuckets view byte
+  pub read : AreRead view byte (map (λ (bucket : BucketNames). bucket.names) buckets)
 
--- of the names that the pack indexes count with their first bytes, each that passes is one of the ids
-abbrev pub HavePassing : StoreView → (List ℕ → Bool) → List (List ℕ) → Type 0
-HavePassing view p ids =
-    All (IfKnown (λ bytes. (id : List ℕ) (at : ℕ) → IsFirstCounted view.kind bytes id at → IsTrue (p id) → Contains ids id)) view.packs
+-- the names of all pack indexes, and the loose ids
+abbrev pub ids_in : StoreView → List (List (List ℕ)) → List (List ℕ)
+ids_in view names = flat_map (λ (some : List (List ℕ)). some) names ++ view.loose
 
--- the ids of the store that pass a test, each once, in order, where all that pass have the first byte
-pub record ArePassing (view : StoreView) (byte : ℕ) (p : List ℕ → Bool) (ids : List ObjectId) : Type 0 where
-  pub found : (whole : List (List ℕ)) → Holds view whole → map id_digits ids ≡ filter p whole
-  pub each : HavePassing view p (map id_digits ids)
-  pub pass : All (λ id. IsTrue (p (id_digits id))) ids
-  pub index : IsIndex view.kind (map id_digits ids)
+-- the ids in which a store looks up what has the first byte: the names that were read, and the loose ids
+pub record HasRead (view : StoreView) (byte : ℕ) (ids : List (List ℕ)) : Type 0 where
+  pub names : List (List (List ℕ))
+  pub are_read : AreRead view byte names
+  pub all : ids ≡ ids_in view names
+
+-- the ids that begin with the digits, of those that were read, each once, in order
+pub record AreMatches (view : StoreView) (digits : List ℕ) (ids : List ObjectId) : Type 0 where
+  pub read : List (List ℕ)
+  pub has_read : HasRead view (first_byte_of digits) read
+  pub index : IsIndexOf view.kind (matches digits read) (map id_digits ids)
   pub kinds : All (λ id. id_kind id ≡ view.kind) ids
-  pub sound : HaveBuckets view byte
 
--- as those that begin with the digits
-abbrev pub AreMatches : StoreView → List ℕ → List ObjectId → Type 0
-AreMatches view digits ids = ArePassing view (first_byte_of digits) (λ id. starts_with nat_eq id digits) ids
+-- the name of an id among those that were read, or none if it is none of them
+pub record IsNameOf (fewest : ℕ) (view : StoreView) (id : List ℕ) (name : Option KindDigits) : Type 0 where
+  pub read : List (List ℕ)
+  pub has_read : HasRead view (first_byte_of id) read
+  pub is : MatchOption name (¬ Contains read id) (λ name. IsNameIn fewest read id name.digits × (name.kind ≡ view.kind))
 
 -- a prefix that is looked up in the part of its first byte: it has 2 digits or more, and the store's kind
 pub record CanLookUp (view : StoreView) (prefix : KindDigits) : Type 0 where
@@ -179,9 +201,25 @@ IsOfOne Fails prefixes (Memory error) = Unit {0}
 abbrev pub IsFaultOfOne : StoreView → List KindDigits → Error → Type 0
 IsFaultOfOne view prefixes error = IsOfOne (λ digits. IsStoreFault view (first_byte_of digits)) prefixes error
 
+-- the offset of the first of the names that are counted that is the id, or none if it is none of them
+abbrev pub IsOffsetOf : Kind → List ℕ → List ℕ → Option ℕ → Type 0
+IsOffsetOf kind bytes id None = (at : ℕ) → ¬ IsFirstCounted kind bytes id at
+IsOffsetOf kind bytes id (Some offset) = (at : ℕ) × IsFirstCounted kind bytes id at × (offset ≡ offset_in kind bytes at)
+
+-- these are the locations of an id in the first n packs, in order: one at the offset that the pack's index has, if its bytes are known
+unfoldable pub ArePacked : StoreView → List ℕ → ℕ → List Location → Type 0
+ArePacked view id zero locations = locations ≡ []
+ArePacked view id (suc n) locations =
+    (before : List Location) × (offset : Option ℕ) × ArePacked view id n before
+    × ((pack : LazyIndex) → IfKnown (λ bytes. IsOffsetOf view.kind bytes id offset) (slice_index_or view.packs n pack))
+    × (locations ≡ before ++ packed_at n offset)
+
 -- all locations of the object of these digits
 pub record AreLocations (view : StoreView) (digits : List ℕ) (locations : List Location) : Type 0 where
-  pub all : (whole : List (List ℕ)) → (h : Holds view whole) → locations ≡ locations_of view.kind digits h.indexes view.loose
+  pub small : first_byte_of digits < 256
+  pub packed : List Location
+  pub are_packed : ArePacked view digits (length view.packs) packed
+  pub all : locations ≡ packed ++ loose_at digits view.loose
   pub sound : HaveLocations view digits
 
 -- the places of n positions: each is after a key, and no other one

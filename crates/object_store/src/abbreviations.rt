@@ -4,9 +4,9 @@ ghost use Rattle.std.specs.Prelude.{◌≡◌, ◌≢◌, ◌≤◌, ◌<◌, �
 ghost use Rattle.gix_hash.specs.Digits.{first_byte_of};
 ghost use Rattle.gix_hash.specs.Kinds.{hex_len_of};
 ghost use Rattle.gix_hash.specs.Ids.{id_digits, id_kind};
-ghost use Rattle.id_lookup.specs.Indexes.{IsIndex, IsShortestNameFrom, part_of};
-ghost use Rattle.object_store.specs.Stores.{CanLookUp, HaveBuckets, Holds, IsFaultOfOne, IsNameIn, IsOfKind, IsStoreFault};
-ghost use Rattle.object_store.specs.Several.{AreAbbreviatedOfEach, IsAbbreviated, IsAbbreviationOfKind};
+ghost use Rattle.id_lookup.specs.Indexes.{IsIndex, IsShortestNameFrom};
+ghost use Rattle.object_store.specs.Stores.{CanLookUp, IsFaultOfOne, IsOfKind, IsStoreFault};
+ghost use Rattle.object_store.specs.Several.{AreAbbreviatedOfEach, AreNamed, IsAbbreviated};
 
 use crate::each::{LookUp, look_up_each};
 use crate::error::Error;
@@ -108,41 +108,12 @@ impl<S: Store, A: Allocator + Copy> LookUp<S, A> for Abbreviating {
     }
 
     fn look_up(&self, parts: &mut Parts<'_, S, A>, prefix: &Prefix) -> Result<Abbreviation, Error> {
-        let ids = parts.lookup_prefix(prefix)?;
-        match ids.as_slice() {
-            [] => Ok(Abbreviation::Missing),
-            [id] => Ok(name_only(parts, id, self.least)?),
-            _ => Ok(Abbreviation::Ambiguous),
-        }
+        parts.abbreviate_prefix(prefix, self.least)
     }
 
     fn len(&self, _found: &Abbreviation) -> usize {
         1
     }
-}
-
-// The abbreviation of an id, which a store has.
-fn name_only<S: Store, A: Allocator + Copy>(
-    parts: &mut Parts<'_, S, A>,
-    id: &ObjectId,
-    least: usize,
-) -> Result<Abbreviation, Error>
-    requires kind { id_kind id.now ≡ parts.old.kind }
-    requires enough { 4 ≤ least }
-    requires fits { least ≤ hex_len_of parts.old.kind }
-    ensures store { parts.new ≡ parts.old }
-    ensures name { IfOk result (λ found. (whole : List (List ℕ)) → Holds parts.old whole
-        → Contains whole (id_digits id.now) → (named : NamedId)
-        × (found ≡ Abbreviation.Named named) × (named.id ≡ id.now)
-        × IsNameIn least whole (id_digits id.now) named.name.digits) }
-    ensures kind { IfOk result (IsAbbreviationOfKind parts.old.kind) }
-    ensures err { IfErr result (IsStoreFault parts.old (first_byte_of (id_digits id.now))) }
-{
-    Ok(match parts.abbreviate(id, least)? {
-        Some(name) => Abbreviation::Named(NamedId { id: *id, name }),
-        // Not for an id that the store has.
-        None => Abbreviation::Missing,
-    })
 }
 
 /// The ids of a store with a first byte, each once, in order, with their abbreviations in the whole
@@ -165,14 +136,7 @@ pub fn abbreviate_part<S: Store, A: Allocator + Copy>(
 ) -> Result<Vec<NamedId, A>, Error>
     requires enough { 4 ≤ least }
     requires fits { least ≤ hex_len_of (S.view store.now).kind }
-    ensures ids { IfOk result (λ named. (whole : List (List ℕ)) → Holds (S.view store.now) whole
-        → map (λ (n : NamedId). id_digits n.id) named.items ≡ part_of byte whole) }
-    ensures names { IfOk result (λ named. (whole : List (List ℕ)) → Holds (S.view store.now) whole
-        → All (λ (n : NamedId). IsNameIn least whole (id_digits n.id) n.name.digits) named.items) }
-    ensures index { IfOk result (λ named. IsIndex (S.view store.now).kind
-        (map (λ (n : NamedId). id_digits n.id) named.items)) }
-    ensures kinds { IfOk result (λ named. All (IsOfKind (S.view store.now).kind) named.items) }
-    ensures sound { IfOk result (λ _. HaveBuckets (S.view store.now) byte) }
+    ensures named { IfOk result (λ named. AreNamed least (S.view store.now) byte named.items) }
     ensures err { IfErr result (IsStoreFault (S.view store.now) byte) }
 {
     // The contract of this call says that the digits of loose ids are below 16.

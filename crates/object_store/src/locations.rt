@@ -1,12 +1,11 @@
 //! Where an object store has an object.
 
-ghost use Rattle.std.specs.Prelude.{◌≡◌, ◌⊎◌, ℕ, [], ◌∷◌, ◌++◌, ◌<◌, ◌≤◌, All, IfErr, IfNone, IfOk, IfSome, List, OnOk, Some, length, map};
+ghost use Rattle.std.specs.Prelude.{◌≡◌, ◌⊎◌, [], ◌∷◌, ◌++◌, ◌<◌, ◌≤◌, All, IfErr, IfNone, IfOk, IfSome, OnOk, length, map};
 ghost use Rattle.gix_hash.specs.Digits.{first_byte_of};
 ghost use Rattle.gix_hash.specs.Ids.{id_digits, id_kind};
-ghost use Rattle.object_store.specs.Stores.{AreBuckets, AreLocations, AreMatches, CanLookUp, HasLocation, HaveBuckets, HaveLocations, Holds, IsLocateFault, IsLocationFault, IsLocationsFault, IsStoreFault, offset_of, packed_at, packed_locations};
+ghost use Rattle.object_store.specs.Stores.{AreBuckets, AreLocations, AreMatches, ArePacked, CanLookUp, HasLocation, HaveLocations, IsLocateFault, IsLocationFault, IsLocationsFault, IsOffsetOf, packed_at};
 ghost use Rattle.object_store.specs.Several.{AreLocated, AreLocatedOfEach, IsLocationsFaultOfOne};
-ghost use Rattle.pack_index.specs.Format.{Each, HasCount};
-ghost use Rattle.pack_index.specs.Lazy.{IsBucketOf};
+ghost use Rattle.pack_index.specs.Lazy.{IfKnown, IsBucketOf};
 
 use crate::each::{LookUp, look_up_each};
 use crate::error::Error;
@@ -212,10 +211,8 @@ fn packed_locations<S: Store, A: Allocator + Copy>(
     id: &ObjectId,
 ) -> Result<Vec<Location, A>, Error>
     requires { AreBuckets (S.view store.now) (first_byte_of (id_digits id.now)) buckets.now }
-    ensures locations { IfOk result (λ locations. (whole : List (List ℕ))
-        → (h : Holds (S.view store.now) whole) → locations.items
-        ≡ packed_locations (S.view store.now).kind (id_digits id.now) h.indexes
-        (length h.indexes)) }
+    ensures locations { IfOk result (λ locations. ArePacked (S.view store.now) (id_digits id.now)
+        (length (S.view store.now).packs) locations.items) }
     ensures sound { IfOk result (λ _. HaveLocations (S.view store.now) (id_digits id.now)) }
     ensures err { IfErr result (IsLocateFault (S.view store.now) (id_digits id.now)) }
 {
@@ -259,13 +256,12 @@ fn packed_offset<S: ReadAt + Drop, A: Allocator>(
     id: &ObjectId,
 ) -> Result<Option<u64>, LazyError>
     requires { IsBucketOf index.now (first_byte_of (id_digits id.now)) bucket.now }
-    ensures offset { IfOk result (λ offset. (bytes : List ℕ) → index.now.content ≡ Some bytes
-        → Each (HasCount index.now.kind bytes) 256
-        → offset ≡ offset_of index.now.kind bytes (id_digits id.now)) }
-    ensures sound { IfOk result (λ _. (bytes : List ℕ) → index.now.content ≡ Some bytes
-        → HasLocation index.now.kind bytes (id_digits id.now)) }
-    ensures err { IfErr result (λ e. (bytes : List ℕ) → index.now.content ≡ Some bytes
-        → IsLocationFault index.now.can_fail index.now.kind bytes (id_digits id.now) e) }
+    ensures offset { IfOk result (λ offset. IfKnown (λ bytes.
+        IsOffsetOf index.now.kind bytes (id_digits id.now) offset) index.now) }
+    ensures sound { IfOk result (λ _. IfKnown (λ bytes.
+        HasLocation index.now.kind bytes (id_digits id.now)) index.now) }
+    ensures err { IfErr result (λ e. IfKnown (λ bytes.
+        IsLocationFault index.now.can_fail index.now.kind bytes (id_digits id.now) e) index.now) }
 {
     match index.lookup(bucket, id.as_oid()) {
         Some(at) => Ok(Some(index.pack_offset_at_index(at)?)),

@@ -1,12 +1,16 @@
 //! The ids of a store with one first byte.
 
-ghost use Rattle.std.specs.Prelude.{◌≡◌, ◌≤◌, ℕ, Contains, IfErr, IfOk, IfSome, List, MatchOption, length};
+ghost use Rattle.std.specs.Prelude.{◌≡◌, ◌≤◌, ◌<◌, ℕ, [], ◌∷◌, All, Contains, IfErr, IfOk, List, MatchOption, length, map};
 ghost use Rattle.gix_hash.specs.Digits.{first_byte_of};
 ghost use Rattle.gix_hash.specs.Kinds.{hex_len_of};
 ghost use Rattle.gix_hash.specs.Ids.{id_digits, id_kind};
-ghost use Rattle.object_store.specs.Stores.{AreLocations, AreMatches, HaveBuckets, Holds, IsLocateFault, IsNameIn, IsStoreFault};
+ghost use Rattle.id_lookup.specs.Indexes.{IsIndexOf};
+ghost use Rattle.id_lookup.specs.Runs.{matches};
+ghost use Rattle.object_store.specs.Several.{IsAbbreviatedAs, IsAbbreviationOfKind};
+ghost use Rattle.object_store.specs.Stores.{AreLocations, HasRead, IsLocateFault, IsNameIn, IsStoreFault};
+ghost use Rattle.object_store.specs.declared.abbreviations.Abbreviation.{Abbreviation as AnAbbreviation};
 
-use crate::abbreviations::{front_of, name_in};
+use crate::abbreviations::{Abbreviation, NamedId, front_of, name_in};
 use crate::error::Error;
 use crate::locations::{Location, locate_in, push};
 use crate::matches::{push_all, push_packed};
@@ -27,11 +31,18 @@ pub struct Part<'s, S: Store, A: Allocator> {
 }
 
 impl<'s, S: Store, A: Allocator> Model for Part<'s, S, A> {
-    ghost use Rattle.object_store.specs.Stores.{AreBuckets, PartView};
+    ghost use Rattle.std.specs.Prelude.{map};
+    ghost use Rattle.object_store.specs.Stores.{AreBuckets, PartView, ids_in};
+    ghost use Rattle.pack_index.specs.Lazy.{BucketNames};
 
     ghost Value = { PartView };
 
-    ghost view = { λ part. record { store = S.view part.store.now; byte = part.byte } };
+    ghost view = { λ part. record {
+      store = S.view part.store.now;
+      byte = part.byte;
+      ids = ids_in (S.view part.store.now) (map (λ (bucket : BucketNames). bucket.names)
+          part.buckets.items);
+    } };
 
     ghost invariant = { λ part. AreBuckets (S.view part.store.now) part.byte part.buckets.items };
 }
@@ -41,9 +52,9 @@ impl<'s, S: Store, A: Allocator + Copy> Part<'s, S, A> {
     /// of the first pack index that cannot be read, is damaged where it is read, or for whose ids
     /// there is no memory.
     pub fn read(alloc: A, store: &'s S, byte: u8) -> Result<Part<'s, S, A>, Error>
-        ensures part { IfOk result (λ part. part
-            ≡ record { store = S.view store.now; byte = byte }) }
-        ensures sound { IfOk result (λ _. HaveBuckets (S.view store.now) byte) }
+        ensures store { IfOk result (λ part. part.store ≡ S.view store.now) }
+        ensures byte { IfOk result (λ part. part.byte ≡ byte) }
+        ensures read { IfOk result (λ part. HasRead (S.view store.now) byte part.ids) }
         ensures err { IfErr result (IsStoreFault (S.view store.now) byte) }
     {
         let mut buckets = Vec::new(alloc);
@@ -61,13 +72,15 @@ impl<'s, S: Store, A: Allocator + Copy> Part<'s, S, A> {
         })
     }
 
-    /// The ids of the store that begin with a prefix, each once, in order. The prefix has 2 digits
-    /// or more, the store's kind, and the first byte that was read.
+    /// The ids that begin with a prefix, of those that were read, each once, in order. The prefix
+    /// has 2 digits or more, and the store's kind.
     pub fn lookup_prefix(&self, alloc: A, prefix: &Prefix) -> Result<Vec<ObjectId, A>, AllocError>
-        requires byte { first_byte_of prefix.now.digits ≡ self.now.byte }
         requires enough { 2 ≤ length prefix.now.digits }
         requires kind { prefix.now.kind ≡ self.now.store.kind }
-        ensures { IfOk result (λ ids. AreMatches self.now.store prefix.now.digits ids.items) }
+        ensures index { IfOk result (λ ids. IsIndexOf self.now.store.kind
+            (matches prefix.now.digits self.now.ids) (map id_digits ids.items)) }
+        ensures kinds { IfOk result (λ ids.
+            All (λ id. id_kind id ≡ self.now.store.kind) ids.items) }
     {
         // The contracts of these calls say how many digits the prefix has at most, and that the
         // pack indexes have the store's kind.
@@ -88,24 +101,68 @@ impl<'s, S: Store, A: Allocator + Copy> Part<'s, S, A> {
         id: &ObjectId,
         least: usize,
     ) -> Result<Option<Prefix>, AllocError>
-        requires byte { first_byte_of (id_digits id.now) ≡ self.now.byte }
         requires kind { id_kind id.now ≡ self.now.store.kind }
         requires enough { 4 ≤ least }
         requires fits { least ≤ hex_len_of self.now.store.kind }
-        ensures name { IfOk result (λ name. (whole : List (List ℕ)) → Holds self.now.store whole
-            → MatchOption name (¬ Contains whole (id_digits id.now))
-            (λ name. IsNameIn least whole (id_digits id.now) name.digits)) }
-        ensures kind { IfOk result (λ name. IfSome name (λ name.
-            name.kind ≡ self.now.store.kind)) }
+        ensures { IfOk result (λ name. MatchOption name
+            (¬ Contains self.now.ids (id_digits id.now))
+            (λ name. IsNameIn least self.now.ids (id_digits id.now) name.digits
+            × (name.kind ≡ self.now.store.kind))) }
     {
         let ids = self.lookup_prefix(alloc, &front_of(id, least))?;
         Ok(name_in(&ids, id, least))
     }
 
+    /// The abbreviation of the only id that begins with a prefix, as
+    /// [`abbreviate_prefixes`](crate::abbreviate_prefixes) gives it.
+    pub fn abbreviate_prefix(
+        &self,
+        alloc: A,
+        prefix: &Prefix,
+        least: usize,
+    ) -> Result<Abbreviation, AllocError>
+        requires two { 2 ≤ length prefix.now.digits }
+        requires kind { prefix.now.kind ≡ self.now.store.kind }
+        requires enough { 4 ≤ least }
+        requires fits { least ≤ hex_len_of self.now.store.kind }
+        ensures name { IfOk result (λ abbreviation. (found : List (List ℕ))
+            × IsIndexOf self.now.store.kind (matches prefix.now.digits self.now.ids) found
+            × IsAbbreviatedAs least self.now.ids found abbreviation) }
+        ensures kind { IfOk result (IsAbbreviationOfKind self.now.store.kind) }
+    {
+        let ids = self.lookup_prefix(alloc, prefix)?;
+        match ids.as_slice() {
+            [] => Ok(Abbreviation::Missing),
+            [id] => self.abbreviate_one(alloc, id, least),
+            _ => Ok(Abbreviation::Ambiguous),
+        }
+    }
+
+    // The abbreviation of an id that was read.
+    fn abbreviate_one(
+        &self,
+        alloc: A,
+        id: &ObjectId,
+        least: usize,
+    ) -> Result<Abbreviation, AllocError>
+        requires read { Contains self.now.ids (id_digits id.now) }
+        requires kind { id_kind id.now ≡ self.now.store.kind }
+        requires enough { 4 ≤ least }
+        requires fits { least ≤ hex_len_of self.now.store.kind }
+        ensures name { IfOk result (IsAbbreviatedAs least self.now.ids
+            (id_digits id.now ∷ [])) }
+        ensures kind { IfOk result (IsAbbreviationOfKind self.now.store.kind) }
+    {
+        match self.abbreviate(alloc, id, least)? {
+            Some(name) => Ok(Abbreviation::Named(NamedId { id: *id, name })),
+            None => unreachable!(),
+        }
+    }
+
     // The first byte that was read.
     pub(crate) fn byte(&self) -> u8
         ensures byte { result ≡ self.now.byte }
-        ensures sound { HaveBuckets self.now.store self.now.byte }
+        ensures read { HasRead self.now.store self.now.byte self.now.ids }
     {
         self.byte
     }

@@ -1,12 +1,14 @@
 //! A cursor over the parts of a store.
 
-ghost use Rattle.std.specs.Prelude.{◌≡◌, ◌⊎◌, ◌≤◌, ℕ, Contains, IfErr, IfOk, IfSome, List, MatchOption};
+ghost use Rattle.std.specs.Prelude.{◌≡◌, ◌⊎◌, ◌≤◌, IfErr, IfOk};
 ghost use Rattle.std.specs.Option.{ForSome};
 ghost use Rattle.gix_hash.specs.Digits.{first_byte_of};
 ghost use Rattle.gix_hash.specs.Kinds.{hex_len_of};
 ghost use Rattle.gix_hash.specs.Ids.{id_digits, id_kind};
-ghost use Rattle.object_store.specs.Stores.{AreLocations, AreMatches, CanLookUp, HaveBuckets, Holds, IsLocateFault, IsNameIn, IsStoreFault, PartView};
+ghost use Rattle.object_store.specs.Several.{IsAbbreviated};
+ghost use Rattle.object_store.specs.Stores.{AreLocations, AreMatches, CanLookUp, HasRead, HaveBuckets, IsLocateFault, IsNameOf, IsStoreFault, PartView};
 
+use crate::abbreviations::Abbreviation;
 use crate::error::Error;
 use crate::locations::Location;
 use crate::part::Part;
@@ -85,17 +87,39 @@ impl<'s, S: Store, A: Allocator + Copy> Parts<'s, S, A> {
         requires enough { 4 ≤ least }
         requires fits { least ≤ hex_len_of self.old.kind }
         ensures store { self.new ≡ self.old }
-        ensures name { IfOk result (λ name. (whole : List (List ℕ)) → Holds self.old whole
-            → MatchOption name (¬ Contains whole (id_digits id.now))
-            (λ name. IsNameIn least whole (id_digits id.now) name.digits)) }
-        ensures kind { IfOk result (λ name. IfSome name (λ name. name.kind ≡ self.old.kind)) }
-        ensures sound { IfOk result (λ _. HaveBuckets self.old (first_byte_of (id_digits id.now))) }
+        ensures name { IfOk result (IsNameOf least self.old (id_digits id.now)) }
         ensures err { IfErr result (IsStoreFault self.old (first_byte_of (id_digits id.now))) }
     {
         let part = part_of(self.alloc, self.store, self.part.take(), id.first_byte())?;
         let name = part.abbreviate(self.alloc, id, least);
         self.part = Some(part);
         Ok(name?)
+    }
+
+    /// The abbreviation of the only id in the store that begins with a prefix, of at least `least`
+    /// digits, from 4 to 40 or 64, by the kind. The prefix has 2 digits or more, and the store's
+    /// kind.
+    pub fn abbreviate_prefix(
+        &mut self,
+        prefix: &Prefix,
+        least: usize,
+    ) -> Result<Abbreviation, Error>
+        requires can { CanLookUp self.old prefix.now }
+        requires enough { 4 ≤ least }
+        requires fits { least ≤ hex_len_of self.old.kind }
+        ensures store { self.new ≡ self.old }
+        ensures name { IfOk result (IsAbbreviated least self.old prefix.now.digits) }
+        ensures err { IfErr result (IsStoreFault self.old (first_byte_of prefix.now.digits)) }
+    {
+        let part = part_of(
+            self.alloc,
+            self.store,
+            self.part.take(),
+            prefix.first_byte(),
+        )?;
+        let abbreviation = part.abbreviate_prefix(self.alloc, prefix, least);
+        self.part = Some(part);
+        Ok(abbreviation?)
     }
 
     /// All locations of an object: one in each pack whose index has its id, in the order of
@@ -128,9 +152,9 @@ fn part_of<'s, S: Store, A: Allocator + Copy>(
     byte: u8,
 ) -> Result<Part<'s, S, A>, Error>
     requires { ForSome last (λ (part : PartView). part.store ≡ S.view store.now) }
-    ensures part { IfOk result (λ part. part
-        ≡ record { store = S.view store.now; byte = byte }) }
-    ensures sound { IfOk result (λ _. HaveBuckets (S.view store.now) byte) }
+    ensures store { IfOk result (λ part. part.store ≡ S.view store.now) }
+    ensures byte { IfOk result (λ part. part.byte ≡ byte) }
+    ensures read { IfOk result (λ part. HasRead (S.view store.now) byte part.ids) }
     ensures err { IfErr result (IsStoreFault (S.view store.now) byte) }
 {
     if let Some(part) = last {

@@ -17,6 +17,7 @@ use Rattle.gix_hash.specs.declared.Kind.{Kind}
 use Rattle.gix_hash.specs.declared.ObjectId.{ObjectId}
 use Rattle.id_lookup.specs.Runs.{matches}
 use Rattle.object_store.specs.Stores.{AreFoundOfEach, AreMatchesOfEach, CanLookUp, Holds, StoreView}
+use Rattle.object_store.proofs.Whole.{whole_abbreviated, whole_matches}
 use Rattle.object_store.specs.Several.{AreAbbreviatedOfEach, AreLocatedOfEach, IsAbbreviatedIn}
 use Rattle.object_store.specs.declared.locations.LocatedId.{LocatedId}
 use Rattle.object_store.specs.declared.abbreviations.Abbreviation.{Abbreviation}
@@ -139,11 +140,11 @@ same_lists f g (x ∷ xs) (y ∷ ys) many each =
 
 -- the lists that were found are those of a store that holds these ids
 found_in : {A : Type 0} (view : StoreView) (whole : List (List ℕ)) (prefixes : List KindDigits) (found : List (Vec ObjectId A)) → Holds view whole
-    → AreMatchesOfEach view prefixes found
+    → All (CanLookUp view) prefixes → AreMatchesOfEach view prefixes found
     → map (λ (ids : Vec ObjectId A). map id_digits ids.items) found ≡ map (λ (prefix : KindDigits). matches prefix.digits whole) prefixes
-found_in {A} view whole prefixes found h are =
+found_in {A} view whole prefixes found h can are =
     same_lists (λ (ids : Vec ObjectId A). map id_digits ids.items) (λ (prefix : KindDigits). matches prefix.digits whole) found prefixes are.as_many
-    (λ k ids prefix low. (are.each k prefix ids low).found whole h)
+    (λ k ids prefix low. whole_matches view whole (get_or prefixes k prefix).digits (get_or found k ids).items h (can k prefix low).enough (are.each k prefix ids low))
 
 -- what is printed by things is what is printed by what they have
 found_text-map : {X Y : Type 0} (text : Option (List ℕ) → Y → List ℕ) (f : X → Y) (answers : Answers) (line : List ℕ) (found : List X)
@@ -173,14 +174,14 @@ module _ {A : Type 0} (view : StoreView) (whole : List (List ℕ)) (lines : List
   text_in =
       (λ i. answers_by (λ line (ids : Vec ObjectId A). found_text-map id_line id_digits answers line ids.items i) view.kind lines found)
       ∙ answers_by-map (found_text id_line answers) digits_of view.kind lines found
-      ∙ ap (λ (ls : List (List (List ℕ))). answers_by (found_text id_line answers) view.kind lines ls) (found_in view whole (prefixes_of view.kind lines) found h are)
+      ∙ ap (λ (ls : List (List (List ℕ))). answers_by (found_text id_line answers) view.kind lines ls) (found_in view whole (prefixes_of view.kind lines) found h (can_look_up view lines) are)
 
   pub all_in : are_answers_by (λ (ids : Vec ObjectId A). is_found answers ids.items) view.kind lines found ≡ are_answers_in answers view.kind whole lines
   unfolding digits_of
   all_in =
       (λ i. are_answers_by (λ (ids : Vec ObjectId A). is_found-map id_digits answers ids.items i) view.kind lines found)
       ∙ are_answers_by-map (is_found answers) digits_of view.kind lines found
-      ∙ ap (λ (ls : List (List (List ℕ))). are_answers_by (is_found answers) view.kind lines ls) (found_in view whole (prefixes_of view.kind lines) found h are)
+      ∙ ap (λ (ls : List (List (List ℕ))). are_answers_by (is_found answers) view.kind lines ls) (found_in view whole (prefixes_of view.kind lines) found h (can_look_up view lines) are)
 
 -- so what was printed by them was printed in that store
 pub answered_in : {A : Type 0} (answers : Answers) (view : StoreView) (whole lines : List (List ℕ)) (all : Bool) (old new : Option (List ℕ)) → Holds view whole
@@ -197,17 +198,20 @@ one_of (x ∷ xs) some = x
 
 pub all_sound : {A : Type 0} (view : StoreView) (prefixes : List KindDigits) (found : List (Vec ObjectId A)) → AreMatchesOfEach view prefixes found
     → HaveAllBuckets view prefixes
-all_sound view prefixes found are k prefix low = (are.each k prefix (one_of found (omega (arith, low, are.as_many))) low).sound
+all_sound view prefixes found are k prefix low = (are.each k prefix (one_of found (omega (arith, low, are.as_many))) low).has_read.are_read.sound
 
 -- those of several prefixes in a store that holds these ids
 pub abbreviated_in : (least : ℕ) (view : StoreView) (whole : List (List ℕ)) (prefixes : List KindDigits) (named : List Abbreviation) → Holds view whole
-    → AreAbbreviatedOfEach least view prefixes named → AreFoundOfEach (IsAbbreviatedIn least whole) prefixes named
-abbreviated_in least view whole prefixes named h are = record { as_many = are.as_many; each = λ k prefix one low. (are.each k prefix one low).found whole h }
+    → 2 ≤ least → All (CanLookUp view) prefixes → AreAbbreviatedOfEach least view prefixes named → AreFoundOfEach (IsAbbreviatedIn least whole) prefixes named
+abbreviated_in least view whole prefixes named h two can are = record {
+  as_many = are.as_many;
+  each = λ k prefix one low. whole_abbreviated view whole least (get_or prefixes k prefix).digits (get_or named k one) h (can k prefix low).enough two (are.each k prefix one low);
+}
 
 pub abbreviated_sound : (least : ℕ) (view : StoreView) (prefixes : List KindDigits) (named : List Abbreviation) → AreAbbreviatedOfEach least view prefixes named
     → HaveAllBuckets view prefixes
-abbreviated_sound least view prefixes named are k prefix low = (are.each k prefix Missing low).sound
+abbreviated_sound least view prefixes named are k prefix low = (are.each k prefix Missing low).has_read.are_read.sound
 
 pub located_sound : {A : Type 0} (view : StoreView) (loose_paths : List ℕ → List (List ℕ)) (prefixes : List KindDigits) (located : List (Vec (LocatedId A) A))
     → AreLocatedOfEach view loose_paths prefixes located → HaveAllBuckets view prefixes
-located_sound view loose_paths prefixes located are k prefix low = (are.each k prefix (one_of located (omega (arith, low, are.as_many))) low).ids.sound
+located_sound view loose_paths prefixes located are k prefix low = (are.each k prefix (one_of located (omega (arith, low, are.as_many))) low).ids.has_read.are_read.sound

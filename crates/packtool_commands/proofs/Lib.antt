@@ -5,3 +5,4 @@ mod ShownLemmas
 mod NamedLemmas
 mod LocationLemmas
 mod EscapeLemmas
+mod WholeStore

@@ -1,5 +1,5 @@
 -- The lines of the ids of a store with their names, a part after the other.
-use Rattle.std.proofs.Common.{◌≡◌, ◌≢◌, ℕ, ◌+◌, ◌<◌, Bool, Option, List, [], ◌∷◌, ◌++◌, length, get_or, map, take, drop, refl, sym, ap, subst, ◌∙◌, ◌⊎◌, inl, inr, append-nil, take-append-drop, zero-add, arith}
+use Rattle.std.proofs.Common.{◌≡◌, ◌≢◌, ℕ, zero, suc, ◌+◌, ◌<◌, ◌≤◌, Bool, Option, List, [], ◌∷◌, ◌++◌, length, get_or, map, take, drop, refl, sym, ap, subst, ◌∙◌, ◌⊎◌, inl, inr, append-nil, take-append-drop, zero-add, arith}
 use Rattle.std.specs.Prelude.{◌↔◌, IsTrue}
 use Rattle.std.specs.List.{All, flat_map, range_with_len}
 use Rattle.std.specs.Io.KnownBytes.{Appends}
@@ -12,9 +12,13 @@ use Rattle.std.proofs.lemmas.List.Elements.{All-append}
 use Rattle.gix_hash.specs.Ids.{id_digits}
 use Rattle.id_lookup.specs.Indexes.{part_of}
 use Rattle.object_store.proofs.Held.{flat_map-take}
-use Rattle.object_store.specs.Stores.{IsNameIn}
+use Rattle.object_store.proofs.Whole.{whole_named}
+use Rattle.object_store.specs.Several.{AreNamed}
+use Rattle.object_store.specs.Stores.{HaveBuckets, Holds, IsNameIn, StoreView}
+use Rattle.pack_index.specs.Format.{Each}
+use Rattle.std.proofs.lemmas.Bool.{cases_lt}
 use Rattle.object_store.specs.declared.abbreviations.NamedId.{NamedId}
-use Rattle.packtool_commands.specs.Stores.{AreNamedBelow, HasNamedAtMost, HasNamedBelow, name_line, parts_below}
+use Rattle.packtool_commands.specs.Stores.{AreNamedBelow, AreNamedBelowIn, HasNamedAtMost, HasNamedBelow, name_line, parts_below}
 use Rattle.streams.specs.Streams.{AppendsAtMost, AppendsPart}
 use Rattle.streams.proofs.WritingLemmas.{AppendsPart-after, part_written}
 
@@ -42,26 +46,54 @@ lines-at {X} line n k within =
     ∙ flat_map-append line (range_with_len 0 (k + 1)) after ∙ ap (λ (lines : List X). lines ++ flat_map line after) (lines-more line k)
 
 -- the ids with one first byte more have their names
-pub named_below_more : (n least : ℕ) (whole : List (List ℕ)) (named more : List NamedId) → AreNamedBelow n least whole named
-    → map (λ (m : NamedId). id_digits m.id) more ≡ part_of n whole → All (λ (m : NamedId). IsNameIn least whole (id_digits m.id) m.name.digits) more
-    → AreNamedBelow (n + 1) least whole (named ++ more)
-named_below_more n least whole named more before ids names = record {
-  ids = map-append (λ (m : NamedId). id_digits m.id) named more ∙ ap (λ (front : List (List ℕ)). front ++ map (λ (m : NamedId). id_digits m.id) more) before.ids
-      ∙ ap (λ (last : List (List ℕ)). parts_below n whole ++ last) ids ∙ sym (lines-more (λ byte. part_of byte whole) n);
-  names = All-append (λ (m : NamedId). IsNameIn least whole (id_digits m.id) m.name.digits) named more before.names names;
+pub named_below_more : (n least : ℕ) (view : StoreView) (named more : List NamedId) → AreNamedBelow n least view named → AreNamed least view n more
+    → AreNamedBelow (n + 1) least view (named ++ more)
+unfolding AreNamedBelow
+named_below_more n least view named more before are =
+    let next : suc n ≡ n + 1 = omega arith in subst (λ m. AreNamedBelow m least view (named ++ more)) next (named, more, before, are, refl)
+
+pub none_below : (least : ℕ) (view : StoreView) → AreNamedBelow 0 least view []
+unfolding AreNamedBelow
+none_below least view = refl
+
+-- the pack indexes have the names that are counted with these bytes
+pub below_sound : (n least : ℕ) (view : StoreView) (named : List NamedId) → AreNamedBelow n least view named → Each (HaveBuckets view) n
+unfolding AreNamedBelow
+below_sound zero least view named are k low = absurd (omega (arith, low))
+below_sound (suc n) least view named are k low = elim (cases_lt k n) [
+  | inl less ↦ below_sound n least view are.0 are.2 k less
+  | inr from ↦ let same : n ≡ k = omega (arith, low, from) in subst (HaveBuckets view) same are.3.has_read.are_read.sound
+]
+
+-- in a store whose pack indexes are ones they are those of all its ids
+pub named_below_in : (n least : ℕ) (view : StoreView) (whole : List (List ℕ)) (named : List NamedId) → Holds view whole → 2 ≤ least → AreNamedBelow n least view named
+    → AreNamedBelowIn n least whole named
+unfolding AreNamedBelow
+named_below_in zero least view whole named h two are = record {
+  ids = ap (map (λ (m : NamedId). id_digits m.id)) are;
+  names = λ k d low. absurd (omega (arith, low, ap (λ (ms : List NamedId). length ms) are));
 }
+named_below_in (suc n) least view whole named h two are =
+    let before = named_below_in n least view whole are.0 h two are.2 in
+    let more = whole_named view whole least n are.1 h two are.3 in
+    let next : n + 1 ≡ suc n = omega arith in
+    record {
+      ids = ap (map (λ (m : NamedId). id_digits m.id)) are.4 ∙ map-append (λ (m : NamedId). id_digits m.id) are.0 are.1
+          ∙ (λ i. before.ids i ++ more.0 i) ∙ sym (lines-more (λ byte. part_of byte whole) n) ∙ ap (λ m. parts_below m whole) next;
+      names = subst (All (λ (m : NamedId). IsNameIn least whole (id_digits m.id) m.name.digits)) (sym are.4)
+          (All-append (λ (m : NamedId). IsNameIn least whole (id_digits m.id) m.name.digits) are.0 are.1 before.names more.1);
+    }
 
 some_of : {X : Type 0} (xs ys : List X) → (xs ++ ys ≢ []) ↔ ((xs ≢ []) ⊎ (ys ≢ []))
 some_of [] ys = (λ some. inr some, λ some. elim some [ inl none ↦ absurd (none refl) | inr some ↦ some ])
 some_of (x ∷ xs) ys = (λ some. inl (λ none. cc), λ some none. cc)
 
 -- their lines were written
-pub has_named_more : (n least : ℕ) (whole : List (List ℕ)) (any any' : Bool) (a b c : Option (List ℕ)) (more : List NamedId) → HasNamedBelow n least whole any a b
-    → map (λ (m : NamedId). id_digits m.id) more ≡ part_of n whole → All (λ (m : NamedId). IsNameIn least whole (id_digits m.id) m.name.digits) more
-    → (IsTrue any' ↔ (IsTrue any ⊎ (more ≢ []))) → Appends b c (flat_map name_line more) → HasNamedBelow (n + 1) least whole any' a c
-has_named_more n least whole any any' a b c more before ids names some written = record {
+pub has_named_more : (n least : ℕ) (view : StoreView) (any any' : Bool) (a b c : Option (List ℕ)) (more : List NamedId) → HasNamedBelow n least view any a b
+    → AreNamed least view n more → (IsTrue any' ↔ (IsTrue any ⊎ (more ≢ []))) → Appends b c (flat_map name_line more) → HasNamedBelow (n + 1) least view any' a c
+has_named_more n least view any any' a b c more before are some written = record {
   named = before.named ++ more;
-  are_named = named_below_more n least whole before.named more before.are_named ids names;
+  are_named = named_below_more n least view before.named more before.are_named are;
   found = (
     λ is. (some_of before.named more).1 (elim (some.0 is) [ inl was ↦ inl (before.found.0 was) | inr is ↦ inr is ]),
     λ is. some.1 (elim ((some_of before.named more).0 is) [ inl was ↦ inl (before.found.1 was) | inr is ↦ inr is ]),
@@ -71,8 +103,8 @@ has_named_more n least whole any any' a b c more before ids names some written =
 }
 
 -- all of the lines so far are a beginning
-pub named_at_most : (n least : ℕ) (whole : List (List ℕ)) (any : Bool) (a b : Option (List ℕ)) → HasNamedBelow n least whole any a b → HasNamedAtMost least whole a b
-named_at_most n least whole any a b before = record {
+pub named_at_most : (n least : ℕ) (view : StoreView) (any : Bool) (a b : Option (List ℕ)) → HasNamedBelow n least view any a b → HasNamedAtMost least view a b
+named_at_most n least view any a b before = record {
   n = n;
   named = before.named;
   are_named = before.are_named;
@@ -85,13 +117,12 @@ named_at_most n least whole any a b before = record {
 }
 
 -- and a part of the next lines after them
-pub named_part : (n least : ℕ) (whole : List (List ℕ)) (any : Bool) (a b c : Option (List ℕ)) (more : List NamedId) → HasNamedBelow n least whole any a b
-    → map (λ (m : NamedId). id_digits m.id) more ≡ part_of n whole → All (λ (m : NamedId). IsNameIn least whole (id_digits m.id) m.name.digits) more
-    → AppendsPart b c (flat_map name_line more) → HasNamedAtMost least whole a c
-named_part n least whole any a b c more before ids names part = record {
+pub named_part : (n least : ℕ) (view : StoreView) (any : Bool) (a b c : Option (List ℕ)) (more : List NamedId) → HasNamedBelow n least view any a b
+    → AreNamed least view n more → AppendsPart b c (flat_map name_line more) → HasNamedAtMost least view a c
+named_part n least view any a b c more before are part = record {
   n = n + 1;
   named = before.named ++ more;
-  are_named = named_below_more n least whole before.named more before.are_named ids names;
+  are_named = named_below_more n least view before.named more before.are_named are;
   written = subst (AppendsAtMost a c) (sym (flat_map-append name_line before.named more))
       (part_written a c (flat_map name_line before.named ++ flat_map name_line more)
       (AppendsPart-after a b c (flat_map name_line before.named) (flat_map name_line more) before.written part));

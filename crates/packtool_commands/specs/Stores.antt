@@ -1,5 +1,5 @@
 -- What is printed of the ids of a store, and why that fails.
-use Rattle.std.specs.Prelude.{[], ℕ, ◌&&◌, ◌++◌, ◌<◌, ◌↔◌, ◌∷◌, ◌≡◌, ◌≢◌, All, Bool, IsTrue, List, None, Option, Some, Vec, codes, decimal, drop, false, flat_map, if◌then◌else◌, length, map, nat_lt, string_bytes, true}
+use Rattle.std.specs.Prelude.{[], ℕ, ◌&&◌, ◌++◌, ◌<◌, ◌↔◌, ◌∷◌, ◌≡◌, ◌≢◌, All, Bool, IsTrue, List, None, Option, Some, Vec, codes, decimal, drop, false, flat_map, if◌then◌else◌, length, map, nat_lt, string_bytes, suc, true, zero}
 use Rattle.std.specs.Io.KnownBytes.{Appends}
 use Rattle.std.specs.List.{range_with_len}
 use Rattle.std.specs.Option.{is_some, option_map, option_to_list}
@@ -13,7 +13,7 @@ use Rattle.streams.specs.Streams.{AppendsAtMost, AppendsPart, printed}
 use Rattle.id_lookup.specs.Indexes.{part_of}
 use Rattle.id_lookup.specs.Runs.{matches}
 use Rattle.pack_index.specs.Format.{Each}
-use Rattle.object_store.specs.Several.{AreAbbreviatedOfEach, AreLocatedOfEach, IsAbbreviatedIn}
+use Rattle.object_store.specs.Several.{AreAbbreviatedOfEach, AreLocated, AreLocatedOfEach, AreNamed, IsAbbreviatedIn}
 use Rattle.object_store.specs.Stores.{AreFoundOfEach, AreMatches, AreMatchesOfEach, HaveBuckets, IsNameIn, IsStoreFault, StoreView, locations_of}
 use Rattle.object_store.specs.declared.error.Error.{Error}
 use Rattle.object_store.specs.declared.locations.LocatedId.{LocatedId}
@@ -28,16 +28,18 @@ use Rattle.packtool_commands.specs.declared.asking.Answers.TheVariants as answer
 use Rattle.packtool_commands.specs.declared.error.StoreError.{StoreError}
 use Rattle.packtool_commands.specs.declared.error.StoreError.TheVariants.{Output, Store, TooMany}
 
--- a line was written for each of the ids, and whether there is one was returned
-pub record HasPrinted (ids : List (List ℕ)) (any : Bool) (old new : Option (List ℕ)) : Type 0 where
-  pub found : IsTrue any ↔ (ids ≢ [])
-  pub written : Appends old new (printed hex_letter ids)
-
--- a line was written for each id that begins with the digits of those that were read, whatever is known of the bytes
-pub record HasPrintedMatches (view : StoreView) (digits : List ℕ) (old new : Option (List ℕ)) : Type 0 where
+-- a line was written for each id of the store that begins with the digits, and whether there is one was returned
+pub record HasPrinted (view : StoreView) (digits : List ℕ) (any : Bool) (old new : Option (List ℕ)) : Type 0 where
   pub ids : List ObjectId
   pub are_matches : AreMatches view digits ids
+  pub found : IsTrue any ↔ (ids ≢ [])
   pub written : Appends old new (printed hex_letter (map id_digits ids))
+
+-- a proper beginning of these lines was written
+pub record HasPrintedPart (view : StoreView) (digits : List ℕ) (old new : Option (List ℕ)) : Type 0 where
+  pub ids : List ObjectId
+  pub are_matches : AreMatches view digits ids
+  pub written : AppendsPart old new (printed hex_letter (map id_digits ids))
 
 -- what an error says of a store: what its own error does, and another nothing
 abbrev pub IsFaultOf : (Error → Type 0) → StoreError → Type 0
@@ -158,6 +160,12 @@ HasAnsweredMatches A answers view lines all old new =
     HasAnsweredBy {X = Vec ObjectId A} (AreMatchesOfEach view (prefixes_of view.kind lines))
     (λ line ids. found_text (λ l (id : ObjectId). id_line l (id_digits id)) answers line ids.items) (λ ids. is_found answers ids.items) view.kind lines all old new
 
+-- a proper beginning of it was printed
+abbrev pub HasAnsweredMatchesPart : (A : Type 0) → Answers → StoreView → List (List ℕ) → Option (List ℕ) → Option (List ℕ) → Type 0
+HasAnsweredMatchesPart A answers view lines old new =
+    HasAnsweredPart {X = Vec ObjectId A} (AreMatchesOfEach view (prefixes_of view.kind lines))
+    (λ line ids. found_text (λ l (id : ObjectId). id_line l (id_digits id)) answers line ids.items) view.kind lines old new
+
 -- the pack indexes have the names that are counted with the first byte of each prefix
 abbrev pub HaveAllBuckets : StoreView → List KindDigits → Type 0
 HaveAllBuckets view prefixes = All (λ (prefix : KindDigits). HaveBuckets view (first_byte_of prefix.digits)) prefixes
@@ -176,23 +184,29 @@ name_line n = line_of_name (spelling hex_letter n.name.digits) (spelling hex_let
 abbrev pub parts_below : ℕ → List (List ℕ) → List (List ℕ)
 parts_below n ids = flat_map (λ byte. part_of byte ids) (range_with_len 0 n)
 
--- these are the ids of the whole store whose first byte is below n, each with its abbreviation there
-pub record AreNamedBelow (n least : ℕ) (whole : List (List ℕ)) (named : List NamedId) : Type 0 where
+-- these are the ids of the store whose first byte is below n, a byte after the other, each with its name
+unfoldable pub AreNamedBelow : ℕ → ℕ → StoreView → List NamedId → Type 0
+AreNamedBelow zero least view named = named ≡ []
+AreNamedBelow (suc n) least view named =
+    (before : List NamedId) × (part : List NamedId) × AreNamedBelow n least view before × AreNamed least view n part × (named ≡ before ++ part)
+
+-- in a store that holds these ids
+pub record AreNamedBelowIn (n least : ℕ) (whole : List (List ℕ)) (named : List NamedId) : Type 0 where
   pub ids : map (λ (m : NamedId). id_digits m.id) named ≡ parts_below n whole
   pub names : All (λ (m : NamedId). IsNameIn least whole (id_digits m.id) m.name.digits) named
 
 -- their lines were written, and whether there is one is this
-pub record HasNamedBelow (n least : ℕ) (whole : List (List ℕ)) (any : Bool) (old new : Option (List ℕ)) : Type 0 where
+pub record HasNamedBelow (n least : ℕ) (view : StoreView) (any : Bool) (old new : Option (List ℕ)) : Type 0 where
   pub named : List NamedId
-  pub are_named : AreNamedBelow n least whole named
+  pub are_named : AreNamedBelow n least view named
   pub found : IsTrue any ↔ (named ≢ [])
   pub written : Appends old new (flat_map name_line named)
 
 -- a beginning of such lines was written, or all
-pub record HasNamedAtMost (least : ℕ) (whole : List (List ℕ)) (old new : Option (List ℕ)) : Type 0 where
+pub record HasNamedAtMost (least : ℕ) (view : StoreView) (old new : Option (List ℕ)) : Type 0 where
   pub n : ℕ
   pub named : List NamedId
-  pub are_named : AreNamedBelow n least whole named
+  pub are_named : AreNamedBelow n least view named
   pub written : AppendsAtMost old new (flat_map name_line named)
 
 -- what is printed for a line that is a prefix: the abbreviation of the only id that begins with it
@@ -249,15 +263,26 @@ lines_at pack_path loose_paths id location = lines_at_after None pack_path (loos
 abbrev pub lines_of_locations : (ℕ → List ℕ) → (List ℕ → List (List ℕ)) → StoreView → List (List ℕ) → List ℕ → List ℕ
 lines_of_locations pack_path loose_paths view indexes id = flat_map (lines_at pack_path loose_paths id) (locations_of view.kind id indexes view.loose)
 
--- the lines of each of the ids were written, and whether there is one was returned
-pub record HasLocated (lines : List ℕ → List ℕ) (ids : List (List ℕ)) (any : Bool) (old new : Option (List ℕ)) : Type 0 where
-  pub found : IsTrue any ↔ (ids ≢ [])
-  pub written : Appends old new (flat_map lines ids)
-
 -- the lines of the locations of an id, each after a line of a text or nothing
 abbrev pub located_lines : {A : Type 0} → (ℕ → List ℕ) → Option (List ℕ) → LocatedId A → List ℕ
 located_lines pack_path line located =
     flat_map (lines_at_after line pack_path (map string_bytes located.loose_paths.items) (id_digits located.id)) located.locations.items
+
+-- the lines of the locations of the ids that begin with the digits were written, and whether there is one was returned; A is the type of the allocator of
+-- what was found
+pub record HasLocated (A : Type 0) (pack_path : ℕ → List ℕ) (loose_paths : List ℕ → List (List ℕ)) (view : StoreView) (digits : List ℕ) (any : Bool)
+    (old new : Option (List ℕ)) : Type 0 where
+  pub ids : List (LocatedId A)
+  pub are_located : AreLocated view loose_paths digits ids
+  pub found : IsTrue any ↔ (ids ≢ [])
+  pub written : Appends old new (flat_map (located_lines pack_path None) ids)
+
+-- a proper beginning of these lines was written
+pub record HasLocatedSome (A : Type 0) (pack_path : ℕ → List ℕ) (loose_paths : List ℕ → List (List ℕ)) (view : StoreView) (digits : List ℕ)
+    (old new : Option (List ℕ)) : Type 0 where
+  pub ids : List (LocatedId A)
+  pub are_located : AreLocated view loose_paths digits ids
+  pub written : AppendsPart old new (flat_map (located_lines pack_path None) ids)
 
 -- the ids that begin with each prefix among lines were found, and the lines of their locations printed, and whether each line has what is asked for was
 -- returned; A is the type of the allocator of what was found

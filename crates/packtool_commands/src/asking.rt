@@ -4,8 +4,8 @@ ghost use Rattle.std.specs.Prelude.{◌≡◌, ◌≢◌, ◌++◌, ◌-◌, ◌
 ghost use Rattle.std.specs.List.{after_first, before_first, position};
 ghost use Rattle.std.specs.Io.KnownBytes.{Appends};
 ghost use Rattle.gix_hash.specs.Ids.{id_digits};
-ghost use Rattle.object_store.specs.Stores.{CanLookUp, Holds, IsFaultOfOne};
-ghost use Rattle.packtool_commands.specs.Stores.{HasAnswered, HasAnsweredMatches, HaveAllBuckets, IsFaultOf, answer_to, answers_by, answers_in, are_answers_by, found_text, front_text, id_line, is_answer_to, is_found, lists_after, prefix_of, prefixes_of};
+ghost use Rattle.object_store.specs.Stores.{CanLookUp, IsFaultOfOne};
+ghost use Rattle.packtool_commands.specs.Stores.{HasAnsweredMatches, HasAnsweredMatchesPart, HaveAllBuckets, IsFaultOf, answer_to, answers_by, are_answers_by, found_text, front_text, id_line, is_answer_to, is_found, lists_after, prefix_of, prefixes_of};
 ghost use Rattle.packtool_commands.specs.declared.error.StoreError.{StoreError};
 ghost use Rattle.streams.specs.Streams.{AppendsPart, Wrote, is_line_feed, lines_of};
 
@@ -55,10 +55,7 @@ pub fn find_each<S: Store, A: Allocator + Copy, W: Sink>(
     out: &mut W,
 ) -> Result<bool, StoreError>
     requires { W.has_failed out.old ≡ false }
-    ensures found { IfOk result (λ all. (whole : List (List ℕ)) → Holds (S.view store.now) whole
-        → HasAnswered answers (S.view store.now).kind whole (lines_of lines.now) all
-        (W.taken out.old) (W.taken out.new)) }
-    ensures matches { IfOk result (λ all. HasAnsweredMatches A answers (S.view store.now)
+    ensures found { IfOk result (λ all. HasAnsweredMatches A answers (S.view store.now)
         (lines_of lines.now) all (W.taken out.old) (W.taken out.new)) }
     ensures sound { IfOk result (λ _. HaveAllBuckets (S.view store.now)
         (prefixes_of (S.view store.now).kind (lines_of lines.now))) }
@@ -68,10 +65,8 @@ pub fn find_each<S: Store, A: Allocator + Copy, W: Sink>(
         → 1 < length (prefixes_of (S.view store.now).kind (lines_of lines.now)) }
     ensures untouched { IfErr result (λ e. e ≢ StoreError.Output → out.new ≡ out.old) }
     ensures output { IsErrOf result StoreError.Output ↔ (W.has_failed out.new ≡ true) }
-    ensures part { IsErrOf result StoreError.Output → (whole : List (List ℕ))
-        → Holds (S.view store.now) whole
-        → AppendsPart (W.taken out.old) (W.taken out.new)
-        (answers_in answers (S.view store.now).kind whole (lines_of lines.now)) }
+    ensures part { IsErrOf result StoreError.Output → HasAnsweredMatchesPart A answers
+        (S.view store.now) (lines_of lines.now) (W.taken out.old) (W.taken out.new) }
 {
     let kind = store.object_hash();
     let prefixes = prefixes_for(alloc, store, lines)?;

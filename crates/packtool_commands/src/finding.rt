@@ -1,12 +1,10 @@
 //! The ids of a store that begin with a prefix.
 
-ghost use Rattle.std.specs.Prelude.{◌≡◌, ◌≢◌, ◌↔◌, ◌≤◌, ℕ, List, false, true, length, IfErr, IfOk, IsErrOf};
-ghost use Rattle.gix_hash.specs.Digits.{first_byte_of, hex_letter};
-ghost use Rattle.id_lookup.specs.Runs.{matches};
-ghost use Rattle.object_store.specs.Stores.{HaveBuckets, Holds, IsStoreFault};
-ghost use Rattle.packtool_commands.specs.Stores.{HasPrinted, HasPrintedMatches, IsFaultOf};
+ghost use Rattle.std.specs.Prelude.{◌≡◌, ◌≢◌, ◌↔◌, ◌≤◌, false, true, length, IfErr, IfOk, IsErrOf};
+ghost use Rattle.gix_hash.specs.Digits.{first_byte_of};
+ghost use Rattle.object_store.specs.Stores.{IsStoreFault};
+ghost use Rattle.packtool_commands.specs.Stores.{HasPrinted, HasPrintedPart, IsFaultOf};
 ghost use Rattle.packtool_commands.specs.declared.error.StoreError.{StoreError};
-ghost use Rattle.streams.specs.Streams.{AppendsPart, printed};
 
 use crate::error::StoreError;
 use gix_hash::{Alphabet, Prefix};
@@ -35,20 +33,14 @@ pub fn find<S: Store, A: Allocator + Copy, W: Sink>(
     requires enough { 2 ≤ length prefix.now.digits }
     requires kind { prefix.now.kind ≡ (S.view store.now).kind }
     requires output { W.has_failed out.old ≡ false }
-    ensures found { IfOk result (λ any. (whole : List (List ℕ)) → Holds (S.view store.now) whole
-        → HasPrinted (matches prefix.now.digits whole) any (W.taken out.old) (W.taken out.new)) }
-    ensures matches { IfOk result (λ _. HasPrintedMatches (S.view store.now) prefix.now.digits
+    ensures found { IfOk result (λ any. HasPrinted (S.view store.now) prefix.now.digits any
         (W.taken out.old) (W.taken out.new)) }
-    ensures sound { IfOk result (λ _. HaveBuckets (S.view store.now)
-        (first_byte_of prefix.now.digits)) }
     ensures refused { IfErr result (IsFaultOf (IsStoreFault (S.view store.now)
         (first_byte_of prefix.now.digits))) }
     ensures untouched { IfErr result (λ e. e ≢ StoreError.Output → out.new ≡ out.old) }
     ensures output { IsErrOf result StoreError.Output ↔ (W.has_failed out.new ≡ true) }
-    ensures part { IsErrOf result StoreError.Output → (whole : List (List ℕ))
-        → Holds (S.view store.now) whole
-        → AppendsPart (W.taken out.old) (W.taken out.new)
-        (printed hex_letter (matches prefix.now.digits whole)) }
+    ensures part { IsErrOf result StoreError.Output → HasPrintedPart (S.view store.now)
+        prefix.now.digits (W.taken out.old) (W.taken out.new) }
 {
     let ids = lookup_prefix(alloc, store, prefix)?;
     write_ids(Alphabet::Hex, &ids, out)?;

@@ -1,14 +1,13 @@
 //! The locations of the objects of a store, a line for each.
 
-ghost use Rattle.std.specs.Prelude.{◌≡◌, ◌≢◌, ◌↔◌, ◌<◌, ◌≤◌, [], ◌∷◌, ◌++◌, ℕ, List, None, Some, false, true, flat_map, length, map, option_copied, string_bytes, take, IfErr, IfOk, IsErrOf};
-ghost use Rattle.gix_hash.specs.Digits.{first_byte_of, hex_letter, spelling};
+ghost use Rattle.std.specs.Prelude.{◌≡◌, ◌≢◌, ◌↔◌, ◌<◌, ◌≤◌, [], ◌∷◌, ◌++◌, None, Some, false, true, flat_map, length, map, option_copied, string_bytes, take, IfErr, IfOk, IsErrOf};
+ghost use Rattle.gix_hash.specs.Digits.{hex_letter, spelling};
 ghost use Rattle.gix_hash.specs.Ids.{id_digits};
-ghost use Rattle.id_lookup.specs.Runs.{matches};
 ghost use Rattle.object_store.specs.Several.{IsLocationsFaultOfOne};
-ghost use Rattle.object_store.specs.Stores.{HaveAllLocations, HaveBuckets, Holds, IsLocationsFault};
-ghost use Rattle.packtool_commands.specs.Stores.{HasLocated, HasLocatedEach, HasLocatedPart, HaveAllBuckets, IsFaultOf, lines_at_after, lines_of_locations, located_lines, location_end, location_line, location_line_after, prefixes_of};
+ghost use Rattle.object_store.specs.Stores.{IsLocationsFault};
+ghost use Rattle.packtool_commands.specs.Stores.{HasLocated, HasLocatedEach, HasLocatedPart, HasLocatedSome, HaveAllBuckets, IsFaultOf, lines_at_after, located_lines, location_end, location_line, location_line_after, prefixes_of};
 ghost use Rattle.packtool_commands.specs.declared.error.StoreError.{StoreError};
-ghost use Rattle.streams.specs.Streams.{AppendsPart, Wrote, lines_of};
+ghost use Rattle.streams.specs.Streams.{Wrote, lines_of};
 
 use crate::asking::{Answers, Entry, Listed, prefixes_for, write_answers, write_each, write_front};
 use crate::error::StoreError;
@@ -52,23 +51,16 @@ pub fn locate<S: StorePaths, A: Allocator + Copy, W: Sink>(
     requires enough { 2 ≤ length prefix.now.digits }
     requires kind { prefix.now.kind ≡ (S.view store.now).kind }
     requires output { W.has_failed out.old ≡ false }
-    ensures located { IfOk result (λ any. (whole : List (List ℕ))
-        → (h : Holds (S.view store.now) whole)
-        → HasLocated (lines_of_locations (S.pack_path store.now) (S.loose_paths store.now)
-        (S.view store.now) h.indexes) (matches prefix.now.digits whole) any
+    ensures located { IfOk result (λ any. HasLocated A (S.pack_path store.now)
+        (S.loose_paths store.now) (S.view store.now) prefix.now.digits any
         (W.taken out.old) (W.taken out.new)) }
-    ensures sound { IfOk result (λ _. HaveBuckets (S.view store.now)
-        (first_byte_of prefix.now.digits)) }
-    ensures locations { IfOk result (λ _. HaveAllLocations (S.view store.now) prefix.now.digits) }
     ensures refused { IfErr result (IsFaultOf (IsLocationsFault (S.view store.now)
         prefix.now.digits)) }
     ensures untouched { IfErr result (λ e. e ≢ StoreError.Output → out.new ≡ out.old) }
     ensures output { IsErrOf result StoreError.Output ↔ (W.has_failed out.new ≡ true) }
-    ensures part { IsErrOf result StoreError.Output → (whole : List (List ℕ))
-        → (h : Holds (S.view store.now) whole)
-        → AppendsPart (W.taken out.old) (W.taken out.new) (flat_map
-        (lines_of_locations (S.pack_path store.now) (S.loose_paths store.now) (S.view store.now)
-        h.indexes) (matches prefix.now.digits whole)) }
+    ensures part { IsErrOf result StoreError.Output → HasLocatedSome A (S.pack_path store.now)
+        (S.loose_paths store.now) (S.view store.now) prefix.now.digits
+        (W.taken out.old) (W.taken out.new) }
 {
     let located = locate_prefix(alloc, store, prefix)?;
     write_each(None, &located, &LocationsEntry { store }, out)?;

@@ -1,11 +1,10 @@
 //! The abbreviations of the ids of a store.
 
-ghost use Rattle.std.specs.Prelude.{◌≡◌, ◌≢◌, ◌↔◌, ◌⊎◌, ◌<◌, ◌≤◌, ◌∷◌, ◌++◌, ℕ, List, [], false, true, flat_map, length, IfErr, IfOk, IsErrOf, IsTrue};
+ghost use Rattle.std.specs.Prelude.{◌≡◌, ◌≢◌, ◌↔◌, ◌⊎◌, ◌<◌, ◌≤◌, ◌∷◌, ◌++◌, [], false, true, flat_map, length, IfErr, IfOk, IsErrOf, IsTrue};
 ghost use Rattle.gix_hash.specs.Digits.{hex_letter, spelling};
 ghost use Rattle.gix_hash.specs.Kinds.{hex_len_of};
-ghost use Rattle.object_store.specs.Stores.{HaveBuckets, Holds, IsFaultOfOne};
-ghost use Rattle.pack_index.specs.Format.{Each};
-ghost use Rattle.packtool_commands.specs.Stores.{HasNamedAtMost, HasNamedBelow, HasNamedEach, HasNamedEachIn, HasNamedPart, HaveAllBuckets, IsFaultOf, IsWalkFault, abbreviation_text, is_named, name_line, prefixes_of};
+ghost use Rattle.object_store.specs.Stores.{IsFaultOfOne};
+ghost use Rattle.packtool_commands.specs.Stores.{HasNamedAtMost, HasNamedBelow, HasNamedEach, HasNamedPart, HaveAllBuckets, IsFaultOf, IsWalkFault, abbreviation_text, is_named, name_line, prefixes_of};
 ghost use Rattle.packtool_commands.specs.declared.error.StoreError.{StoreError};
 ghost use Rattle.streams.specs.Streams.{Wrote, lines_of};
 
@@ -42,13 +41,12 @@ pub fn names<S: Store, A: Allocator + Copy, W: Sink>(
     requires enough { 4 ≤ least }
     requires fits { least ≤ hex_len_of (S.view store.now).kind }
     requires output { W.has_failed out.old ≡ false }
-    ensures named { IfOk result (λ any. (whole : List (List ℕ)) → Holds (S.view store.now) whole
-        → HasNamedBelow 256 least whole any (W.taken out.old) (W.taken out.new)) }
-    ensures sound { IfOk result (λ _. Each (HaveBuckets (S.view store.now)) 256) }
+    ensures named { IfOk result (λ any. HasNamedBelow 256 least (S.view store.now) any
+        (W.taken out.old) (W.taken out.new)) }
     ensures refused { IfErr result (IsFaultOf (IsWalkFault (S.view store.now))) }
     ensures output { IsErrOf result StoreError.Output ↔ (W.has_failed out.new ≡ true) }
-    ensures part { IfErr result (λ _. (whole : List (List ℕ)) → Holds (S.view store.now) whole
-        → HasNamedAtMost least whole (W.taken out.old) (W.taken out.new)) }
+    ensures part { IfErr result (λ _. HasNamedAtMost least (S.view store.now)
+        (W.taken out.old) (W.taken out.new)) }
 {
     let mut any = false;
     for byte in 0..BYTES {
@@ -120,9 +118,6 @@ pub fn name_each<S: Store, A: Allocator + Copy, W: Sink>(
     requires enough { 4 ≤ least }
     requires fits { least ≤ hex_len_of (S.view store.now).kind }
     requires output { W.has_failed out.old ≡ false }
-    ensures found { IfOk result (λ all. (whole : List (List ℕ)) → Holds (S.view store.now) whole
-        → HasNamedEachIn least (S.view store.now).kind whole (lines_of lines.now) all
-        (W.taken out.old) (W.taken out.new)) }
     ensures named { IfOk result (λ all. HasNamedEach least (S.view store.now)
         (lines_of lines.now) all (W.taken out.old) (W.taken out.new)) }
     ensures sound { IfOk result (λ _. HaveAllBuckets (S.view store.now)

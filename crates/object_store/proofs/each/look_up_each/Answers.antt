@@ -1,4 +1,4 @@
-use Rattle.std.proofs.Common.{◌≡◌, ◌∙◌, ◌<◌, ℕ, ap, arith, get_or, length, subst, sym}
+use Rattle.std.proofs.Common.{◌∙◌, ◌<◌, ℕ, arith, length, subst, sym}
 use Rattle.std.specs.List.{All}
 use Rattle.std.specs.Prelude.{slice_set}
 use Rattle.std.proofs.lemmas.List.{length-set, take_all}

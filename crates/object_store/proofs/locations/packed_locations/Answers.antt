@@ -1,14 +1,13 @@
-use Rattle.std.proofs.Common.{◌≡◌, ◌∙◌, ap, length, arith}
+use Rattle.std.proofs.Common.{◌≡◌, ap, length, subst, arith}
 use Rattle.gix_hash.specs.Ids.{id_digits}
-use Rattle.object_store.specs.Stores.{HasLocation, IsLocationFault, packed_locations}
-use Rattle.object_store.proofs.Held.{as_many, fault_at, have_all, have_more, pack_at}
-use Rattle.object_store.proofs.Located.{location_more}
-use Rattle.pack_index.specs.Lazy.{LazyIndex}
+use Rattle.object_store.specs.Stores.{ArePacked, HasLocation, IsLocationFault}
+use Rattle.object_store.proofs.Held.{fault_at, have_all, have_more, pack_at}
+use Rattle.object_store.proofs.Located.{packed_more}
 use Rattle.object_store.proofs.locations.packed_locations.Goals as goal
 
 pub loop-pack-init : goal.loop-pack-init
-unfolding packed_locations
-loop-pack-init g c = (λ whole h. c.new-locations.ensures.items, λ k d low. absurd (omega arith))
+unfolding ArePacked
+loop-pack-init g c = (c.new-locations.ensures.items, λ k d low. absurd (omega arith))
 
 pub returns-in-Err-clause-err : goal.returns-in-Err-clause-err
 returns-in-Err-clause-err g c =
@@ -23,17 +22,14 @@ returns-clause-sound g c =
 pub loop-pack-preserved : goal.loop-pack-preserved
 loop-pack-preserved g c =
     let here = pack_at c.indexes-packs.ensures.value c.indexes-packs.ensures.kinds c.loop-pack-test.true c.index-packs-pack.is in (
-      λ whole h.
-          location_more (g.S.Store.view c.args.store.now).kind (g.S.Store.view c.args.store.now).packs (id_digits c.args.id.now) c.loop-pack.pack c.index-packs-pack.result c.in-Ok.offset
-          c.loop-pack.locations.items c.push_packed.new.locations.items h.indexes h.known h.are_indexes here c.in-Ok.ensures.offset (c.loop-pack.invariant.0 whole h)
-          c.in_ok-push_packed.ensures,
+      packed_more (g.S.Store.view c.args.store.now) (id_digits c.args.id.now) c.loop-pack.pack c.index-packs-pack.result c.in-Ok.offset c.loop-pack.locations.items
+          c.push_packed.new.locations.items here c.in-Ok.ensures.offset c.loop-pack.invariant.0 c.in_ok-push_packed.ensures,
       have_more (λ k bytes. HasLocation k bytes (id_digits c.args.id.now)) (λ k can_fail bytes why. IsLocationFault can_fail k bytes (id_digits c.args.id.now) why) here c.loop-pack.invariant.1
           c.in-Ok.ensures.sound,
     )
 
 pub returns-clause-locations : goal.returns-clause-locations
-returns-clause-locations g c = λ whole h.
+returns-clause-locations g c =
     let view = g.S.Store.view c.args.store.now in
-    let many = as_many (λ (p : LazyIndex). p.content) view.packs h.indexes h.known in
-    let all : c.loop-pack.pack ≡ length h.indexes = omega (arith, many, ap length c.indexes-packs.ensures.value, c.loop-pack-test.false) in
-    c.loop-pack.invariant.0 whole h ∙ ap (packed_locations view.kind (id_digits c.args.id.now) h.indexes) all
+    let all : c.loop-pack.pack ≡ length view.packs = omega (arith, ap length c.indexes-packs.ensures.value, c.loop-pack-test.false, c.loop-pack.auto.pack-end) in
+    subst (λ n. ArePacked view (id_digits c.args.id.now) n c.loop-pack.locations.items) all c.loop-pack.invariant.0

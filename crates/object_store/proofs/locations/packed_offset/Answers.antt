@@ -1,5 +1,5 @@
 use Rattle.std.proofs.lemmas.Result.{err_from_is_err_and}
-use Rattle.object_store.proofs.Located.{offset_fault, offset_none, offset_some, location_none, location_some}
+use Rattle.object_store.proofs.Located.{has_offset_none, has_offset_some, offset_fault, location_none, location_some}
 use Rattle.object_store.proofs.locations.packed_offset.Goals as goal
 
 pub lookup-requires : goal.lookup-requires
@@ -7,12 +7,12 @@ lookup-requires g c = rw c.as_oid.ensures.digits c.requires
 
 pub returns-in_ok-pack_offset_at_index-in-Some-clause-offset : goal.returns-in_ok-pack_offset_at_index-in-Some-clause-offset
 returns-in_ok-pack_offset_at_index-in-Some-clause-offset g c =
-    rw (← c.as_oid.ensures.digits) (λ bytes is counts.
-    offset_some _ bytes _ c.in-Some.at _ (rw c.in-Some.is at (c.lookup.ensures.found bytes is counts)) (c.in_ok-pack_offset_at_index-in-Some.ensures.offset bytes is))
+    rw (← c.as_oid.ensures.digits) (λ bytes is.
+    has_offset_some _ bytes _ c.in-Some.at _ (rw c.in-Some.is at (c.lookup.ensures.counted bytes is)) (c.in_ok-pack_offset_at_index-in-Some.ensures.offset bytes is))
 
 pub returns-in-None-clause-offset : goal.returns-in-None-clause-offset
 returns-in-None-clause-offset g c =
-    rw (← c.as_oid.ensures.digits) (λ bytes is counts. offset_none _ bytes _ (rw c.in-None.is at (c.lookup.ensures.found bytes is counts)))
+    rw (← c.as_oid.ensures.digits) (λ bytes is. has_offset_none _ bytes _ (rw c.in-None.is at (c.lookup.ensures.counted bytes is)))
 
 pub returns-in_err-pack_offset_at_index-in-Some-clause-err : goal.returns-in_err-pack_offset_at_index-in-Some-clause-err
 returns-in_err-pack_offset_at_index-in-Some-clause-err g c =

@@ -1,6 +1,9 @@
-use Rattle.std.proofs.Common.{subst}
-use Rattle.object_store.specs.Stores.{HaveBuckets, PartView}
+use Rattle.std.proofs.Common.{map, refl, subst}
+use Rattle.pack_index.specs.Lazy.{BucketNames}
+use Rattle.object_store.specs.Stores.{HasRead, PartView}
 use Rattle.object_store.proofs.part.Part.byte.Goals as goal
 
-pub returns-clause-sound : goal.returns-clause-sound
-returns-clause-sound g c = subst (λ (p : PartView). HaveBuckets p.store p.byte) c.self.view_is c.self.invariant.sound
+pub returns-clause-read : goal.returns-clause-read
+returns-clause-read g c =
+    subst (λ (p : PartView). HasRead p.store p.byte p.ids) c.self.view_is
+    (record { names = map (λ (b : BucketNames). b.names) c.self.inside.buckets.items; are_read = c.self.invariant.read; all = refl })

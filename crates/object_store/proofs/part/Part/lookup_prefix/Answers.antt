@@ -1,16 +1,14 @@
-use Rattle.std.proofs.Common.{◌≡◌, ◌∙◌, ◌++◌, List, ℕ, ap, map, refl, subst, sym, arith}
+use Rattle.std.proofs.Common.{◌≡◌, ◌∙◌, ◌++◌, List, ℕ, ap, map, subst, sym, arith}
 use Rattle.std.specs.List.{All, flat_map, starts_with}
 use Rattle.std.specs.Prelude.{nat_eq}
-use Rattle.gix_hash.specs.Digits.{first_byte_of}
 use Rattle.gix_hash.specs.Ids.{id_digits, id_kind}
 use Rattle.gix_hash.specs.declared.Kind.{Kind}
 use Rattle.gix_hash.specs.declared.ObjectId.{ObjectId}
 use Rattle.id_lookup.specs.Indexes.{Index, IsIndexOf}
 use Rattle.pack_index.specs.Lazy.{BucketNames}
-use Rattle.object_store.specs.Stores.{AreBuckets, PartView}
+use Rattle.object_store.specs.Stores.{ids_in}
 use Rattle.id_lookup.specs.Runs.{matches}
-use Rattle.object_store.proofs.Held.{held}
-use Rattle.object_store.proofs.PartNames.{all_pass, are_of_kind, have_wanted, part_names}
+use Rattle.object_store.proofs.PartNames.{are_of_kind, gathered}
 use Rattle.object_store.proofs.part.Part.lookup_prefix.Given.{Over}
 use Rattle.object_store.proofs.part.Part.lookup_prefix.Goals.{After-sort_unique}
 use Rattle.object_store.proofs.part.Part.lookup_prefix.Goals as goal
@@ -31,11 +29,12 @@ kinds g c =
     (c.in_ok-push_all.ensures.kinds (c.in_ok-push_packed.ensures.kinds
     (subst (All (λ (id : ObjectId). id_kind id ≡ c.object_hash-kind.result)) (sym c.new-ids.ensures.items) (λ k d low. absurd (omega (arith, low))))))
 
-index : (g : Over) (c : After-sort_unique g)
-    → IsIndexOf (g.S.Store.view c.self.inside.store.now).kind
-    (flat_map (λ (b : BucketNames). matches c.args.prefix.now.digits b.names) c.self.inside.buckets.items
-    ++ matches c.args.prefix.now.digits (g.S.Store.view c.self.inside.store.now).loose) (map id_digits c.sort_unique.new.ids.items)
-index g c =
+pub returns-clause-kinds : goal.returns-clause-kinds
+returns-clause-kinds g c =
+    rw (← c.self.view_is) (c.sort_unique.ensures.kinds (g.S.Store.view c.self.inside.store.now).kind (kinds g (goal.at.returns-clause-kinds g c).After-sort_unique))
+
+pub returns-clause-index : goal.returns-clause-index
+returns-clause-index g c =
     let view = g.S.Store.view c.self.inside.store.now in
     let digits = c.args.prefix.now.digits in
     let f : BucketNames → List (List ℕ) = λ b. matches digits b.names in
@@ -43,29 +42,7 @@ index g c =
     c.in_ok-push_packed.ensures.digits ∙ (λ i. map id_digits (c.new-ids.ensures.items i) ++ flat_map f (c.deref.ensures.value i)) in
     let loose : map id_digits c.beginning_with.result.now ≡ matches digits view.loose =
     c.beginning_with.ensures.ids ∙ (λ i. matches digits ((c.loose.ensures i).ids)) in
-    let all : map id_digits c.push_all.new.ids.items ≡ flat_map f c.self.inside.buckets.items ++ matches digits view.loose =
-    c.in_ok-push_all.ensures.digits ∙ (λ i. front i ++ loose i) in
-    subst (λ (ids : List (List ℕ)). IsIndexOf view.kind ids (map id_digits c.sort_unique.new.ids.items)) all
-    (c.sort_unique.ensures.index view.kind (kinds g c))
-
-pub returns : goal.returns
-returns g c =
-    let view = g.S.Store.view c.self.inside.store.now in
-    let buckets = c.self.inside.buckets.items in
-    let digits = c.args.prefix.now.digits in
-    let p : List ℕ → _ = λ id. starts_with nat_eq id digits in
-    let f : BucketNames → List (List ℕ) = λ b. matches digits b.names in
-    let byte : c.self.inside.byte ≡ first_byte_of digits = ap (λ (p : PartView). p.byte) c.self.view_is ∙ sym c.requires.byte in
-    let are : AreBuckets view (first_byte_of digits) buckets = subst (λ b. AreBuckets view b buckets) byte c.self.invariant in
-    let ids = c.sort_unique.new.ids.items in
-    let all = index g (goal.at.returns g c).After-sort_unique in
-    rw (← c.self.view_is) (record {
-      found = λ whole h.
-          held view whole p (flat_map f buckets) (flat_map f buckets ++ matches digits view.loose) (map id_digits ids) h
-          (part_names view digits buckets c.indexes-packs.ensures.kinds c.requires.enough are h.indexes h.known h.are_indexes) refl all;
-      each = have_wanted view digits buckets c.indexes-packs.ensures.kinds c.requires.enough are (matches digits view.loose) (map id_digits ids) all;
-      pass = all_pass view.kind p buckets view.loose ids all;
-      index = all.index;
-      kinds = c.sort_unique.ensures.kinds view.kind (kinds g (goal.at.returns g c).After-sort_unique);
-      sound = are.sound;
-    })
+    let all : map id_digits c.push_all.new.ids.items ≡ matches digits (ids_in view (map (λ (b : BucketNames). b.names) c.self.inside.buckets.items)) =
+    c.in_ok-push_all.ensures.digits ∙ (λ i. front i ++ loose i) ∙ gathered (λ id. starts_with nat_eq id digits) c.self.inside.buckets.items view.loose in
+    rw (← c.self.view_is) (subst (λ (ids : List (List ℕ)). IsIndexOf view.kind ids (map id_digits c.sort_unique.new.ids.items)) all
+    (c.sort_unique.ensures.index view.kind (kinds g (goal.at.returns-clause-index g c).After-sort_unique)))

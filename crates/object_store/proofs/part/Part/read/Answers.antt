@@ -1,7 +1,7 @@
-use Rattle.std.proofs.Common.{ap, length, arith}
-use Rattle.pack_index.specs.Lazy.{HasBucket, IsBucketFault}
-use Rattle.object_store.proofs.Held.{fault_at, have_all, pack_at}
-use Rattle.object_store.proofs.PartNames.{have_first, one_more}
+use Rattle.std.proofs.Common.{◌≡◌, ap, length, arith, map, refl}
+use Rattle.pack_index.specs.Lazy.{BucketNames, HasBucket, IsBucketFault}
+use Rattle.object_store.proofs.Held.{fault_at, pack_at}
+use Rattle.object_store.proofs.PartNames.{are_read, have_first, one_more}
 use Rattle.object_store.proofs.part.Part.read.Goals as goal
 
 pub loop-at-preserved : goal.loop-at-preserved
@@ -17,17 +17,23 @@ returns-in-Err-clause-err g c =
     (have_first (g.S.Store.view c.args.store.now).kind (g.S.Store.view c.args.store.now).packs c.args.byte c.loop-at.at c.loop-at.buckets.items c.indexes-packs.ensures.kinds
     (omega (arith, c.loop-at.invariant.0)) (omega (arith, here.low)) c.loop-at.invariant.1) c.in-Err.error c.in-Err.ensures.err
 
-pub returns-clause-sound : goal.returns-clause-sound
-returns-clause-sound g c =
-    have_all (λ bytes. HasBucket (g.S.Store.view c.args.store.now).kind bytes c.args.byte) c.indexes-packs.ensures.value c.loop-at-test.false
-    (have_first (g.S.Store.view c.args.store.now).kind (g.S.Store.view c.args.store.now).packs c.args.byte c.loop-at.at c.loop-at.buckets.items c.indexes-packs.ensures.kinds
-    (omega (arith, c.loop-at.invariant.0)) (omega (arith, ap length c.indexes-packs.ensures.value)) c.loop-at.invariant.1)
+pub returns-clause-read : goal.returns-clause-read
+returns-clause-read g c =
+    let view = g.S.Store.view c.args.store.now in
+    record {
+      names = map (λ (b : BucketNames). b.names) c.loop-at.buckets.items;
+      are_read = are_read view c.args.byte c.loop-at.buckets.items (omega arith) c.indexes-packs.ensures.kinds
+          (omega (arith, c.loop-at.invariant.0, ap length c.indexes-packs.ensures.value, c.loop-at.auto.at-end, c.loop-at-test.false)) c.loop-at.invariant.1;
+      all = refl;
+    }
 
 pub invariant_of-result : goal.invariant_of-result
-invariant_of-result g c = record {
-  as_many = omega (arith, c.loop-at.invariant.0, ap length c.indexes-packs.ensures.value, c.loop-at.auto.at-end, c.loop-at-test.false);
-  each = c.loop-at.invariant.1;
-  sound = have_all (λ bytes. HasBucket (g.S.Store.view c.args.store.now).kind bytes c.args.byte) c.indexes-packs.ensures.value c.loop-at-test.false
-      (have_first (g.S.Store.view c.args.store.now).kind (g.S.Store.view c.args.store.now).packs c.args.byte c.loop-at.at c.loop-at.buckets.items c.indexes-packs.ensures.kinds
-      (omega (arith, c.loop-at.invariant.0)) (omega (arith, ap length c.indexes-packs.ensures.value)) c.loop-at.invariant.1);
-}
+invariant_of-result g c =
+    let view = g.S.Store.view c.args.store.now in
+    let long : length c.loop-at.buckets.items ≡ length view.packs =
+    omega (arith, c.loop-at.invariant.0, ap length c.indexes-packs.ensures.value, c.loop-at.auto.at-end, c.loop-at-test.false) in
+    record {
+      as_many = long;
+      each = c.loop-at.invariant.1;
+      read = are_read view c.args.byte c.loop-at.buckets.items (omega arith) c.indexes-packs.ensures.kinds long c.loop-at.invariant.1;
+    }

@@ -1,0 +1,94 @@
+-- The locations in a store whose pack indexes are ones.
+use Rattle.std.proofs.Common.{◌≡◌, ◌≢◌, ℕ, zero, suc, ◌+◌, ◌-◌, ◌<◌, ◌≤◌, inl, inr, true, false, Option, None, Some, List, [], ◌∷◌, ◌++◌, length, get_or, drop, refl, sym, ap, ◌∙◌, subst, arith}
+use Rattle.std.specs.Cmp.Lexicographic.{bytes_decides}
+use Rattle.std.specs.List.{Contains}
+use Rattle.std.specs.Str.{bytes_eq}
+use Rattle.std.proofs.lemmas.Bool.{cases_Bool, false≢true}
+use Rattle.std.proofs.lemmas.List.{get_or_default, length-drop, length-take-le}
+use Rattle.std.proofs.lemmas.Option.{same_Some}
+use Rattle.gix_hash.specs.Digits.{first_byte_of}
+use Rattle.gix_hash.specs.declared.Kind.{Kind}
+use Rattle.pack_index.specs.Format.{IsFirstIndexOf, IsPackIndex, names_in}
+use Rattle.pack_index.specs.Lazy.{AreCounted, BucketNames, HasBucket, LazyIndex, bucket_end, bucket_start, counted_with}
+use Rattle.pack_index.proofs.Buckets.{counted_all}
+use Rattle.pack_index.proofs.Counted.{length-names_in}
+use Rattle.pack_index.proofs.LookedUp.{counted_within, found_first, not_found, some_counted}
+use Rattle.object_store.specs.Stores.{AreLocations, ArePacked, Holds, IsOffsetOf, StoreView, locations_of, loose_at, offset_of, packed_at, packed_locations}
+use Rattle.object_store.specs.declared.locations.Location.{Location}
+use Rattle.object_store.proofs.Held.{as_many, known_at}
+use Rattle.object_store.proofs.Located.{offset_none, offset_some}
+
+-- a member has a first index
+first_later : (x id : List ℕ) (xs : List (List ℕ)) (at : ℕ) → bytes_eq x id ≡ false → ((k : ℕ) → k < at → get_or xs k [] ≢ id) → (k : ℕ) → k < suc at
+    → get_or (x ∷ xs) k [] ≢ id
+first_later x id xs at differs rest zero low same = false≢true (sym differs ∙ (bytes_decides x id).1 same)
+first_later x id xs at differs rest (suc k) low same = rest k (omega (arith, low)) same
+
+first_index : (names : List (List ℕ)) (id : List ℕ) → Contains names id → (at : ℕ) × IsFirstIndexOf names id at
+first_index [] id (k, low, is) = absurd (omega (arith, low))
+first_index (x ∷ xs) id (zero, low, is) = (0, record { in_range = omega arith; same = is; first = λ k less. absurd (omega (arith, less)) })
+first_index (x ∷ xs) id (suc k, low, is) =
+    let rest = first_index xs id (k, omega (arith, low), is) in
+    elim (cases_Bool (bytes_eq x id)) [
+      | inl same ↦ (0, record { in_range = omega arith; same = (bytes_decides x id).0 same; first = λ j less. absurd (omega (arith, less)) })
+      | inr differs ↦ (
+        suc rest.0,
+        record { in_range = omega (arith, rest.1.in_range); same = rest.1.same; first = first_later x id xs rest.0 differs rest.1.first },
+      )
+    ]
+
+-- the offset of the first name that is counted is that of the first name
+module _ (kind : Kind) (bytes id : List ℕ) (index : IsPackIndex kind bytes) (small : first_byte_of id < 256) (has : HasBucket kind bytes (first_byte_of id)) where
+  abbrev byte : ℕ
+  byte = first_byte_of id
+
+  abbrev bucket : BucketNames
+  bucket = record { kind = kind; start = bucket_start bytes byte; names = counted_with kind bytes byte }
+
+  are : AreCounted kind bytes byte bucket
+  are = record {
+    right = has;
+    start = refl;
+    end =
+        let names = names_in kind bytes in
+        let rest = drop (bucket_start bytes byte) names in
+        let long = length-take-le (bucket_end bytes byte - bucket_start bytes byte) rest
+        (omega (arith, has.in_order, has.inside, length-names_in kind bytes index.names.tables, length-drop (bucket_start bytes byte) names)) in
+        omega (arith, long, has.in_order);
+    names = refl;
+    part = λ counts. counted_all kind byte bytes index.names.tables counts small has.in_order has.inside has.first;
+  }
+
+  offset_is : (offset : Option ℕ) → IsOffsetOf kind bytes id offset → offset ≡ offset_of kind bytes id
+  offset_is None none =
+      offset_none kind bytes id (not_found id are index.names.tables index.names.counts (λ k low is.
+      let first = first_index bucket.names id (k, low, get_or_default bucket.names k id [] low ∙ is) in
+      none (bucket.start + first.0) ((some_counted id are first.0 first.1 (bucket.start + first.0)).0 refl)))
+  offset_is (Some offset) found =
+      let first = first_index bucket.names id (counted_within kind bytes id byte found.0 bucket are refl found.1) in
+      let same : bucket.start + first.0 ≡ found.0 = same_Some _ _ ((some_counted id are first.0 first.1 found.0).1 found.1) in
+      offset_some kind bytes id found.0 offset
+      (subst (IsFirstIndexOf (names_in kind bytes) id) same (found_first id are index.names.tables index.names.counts first.0 first.1)) found.2
+
+-- so the locations are those by the bytes of all pack indexes
+module _ (view : StoreView) (whole : List (List ℕ)) (id : List ℕ) (locations : List Location) (h : Holds view whole)
+    (all : AreLocations view id locations) where
+  whole_packed : (n : ℕ) (packed : List Location) → n ≤ length view.packs → ArePacked view id n packed → packed ≡ packed_locations view.kind id h.indexes n
+  unfolding ArePacked packed_locations
+  whole_packed zero packed low is = is
+  whole_packed (suc n) packed low is =
+      let content : LazyIndex → Option (List ℕ) = λ p. p.content in
+      let p : LazyIndex = record { kind = view.kind; count = 0; content = None; can_fail = true } in
+      let bytes = get_or h.indexes n [] in
+      let inside : n < length view.packs = omega (arith, low) in
+      let within : n < length h.indexes = omega (arith, inside, as_many content view.packs h.indexes h.known) in
+      let known = known_at content view.packs h.indexes h.known n p inside in
+      let offset = offset_is view.kind bytes id (h.are_indexes n [] within) all.small (all.sound n p inside bytes known).bucket is.1 (is.3 p bytes known) in
+      let before : is.0 ≡ packed_locations view.kind id h.indexes n = whole_packed n is.0 (omega (arith, low)) is.2 in
+      is.4 ∙ (λ i. before i ++ packed_at n (offset i))
+
+  pub whole_locations : locations ≡ locations_of view.kind id h.indexes view.loose
+  whole_locations =
+      let many = as_many (λ (p : LazyIndex). p.content) view.packs h.indexes h.known in
+      all.all ∙ ap (λ (front : List Location). front ++ loose_at id view.loose)
+      (whole_packed (length view.packs) all.packed (omega arith) all.are_packed ∙ ap (packed_locations view.kind id h.indexes) many)
