@@ -6,7 +6,6 @@ pub mod Whole
 pub mod WholeLocations
 pub mod LocationMembers
 pub mod LooseParts
-pub mod TwoDigits
 pub mod FoundAt
 mod Places
 mod LocatedIds

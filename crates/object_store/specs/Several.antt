@@ -38,10 +38,6 @@ IsAbbreviatedAs fewest ids found Missing = found ≡ []
 IsAbbreviatedAs fewest ids found Ambiguous = 1 < length found
 IsAbbreviatedAs fewest ids found (Named named) = (found ≡ id_digits named.id ∷ []) × IsNameIn fewest ids (id_digits named.id) named.name.digits
 
--- the only id of the index that begins with the digits, with its name there; or that it has none, or more than one
-abbrev pub IsAbbreviatedIn : ℕ → List (List ℕ) → List ℕ → Abbreviation → Type 0
-IsAbbreviatedIn fewest whole digits abbreviation = IsAbbreviatedAs fewest whole (matches digits whole) abbreviation
-
 -- if there is one, it is of the kind
 abbrev pub IsAbbreviationOfKind : Kind → Abbreviation → Type 0
 IsAbbreviationOfKind kind (Named named) = IsOfKind kind named
@@ -64,7 +60,6 @@ pub record AreNamed (fewest : ℕ) (view : StoreView) (byte : ℕ) (named : List
   pub index : IsIndexOf view.kind (matches (byte / 16 ∷ byte % 16 ∷ []) read) (map (λ (n : NamedId). id_digits n.id) named)
   pub names : All (λ (n : NamedId). IsNameIn fewest read (id_digits n.id) n.name.digits) named
   pub kinds : All (IsOfKind view.kind) named
-  pub digits : All (λ id. All (λ d. d < 16) id) view.loose
 
 -- an abbreviation for each prefix
 abbrev pub AreAbbreviatedOfEach : ℕ → StoreView → List KindDigits → List Abbreviation → Type 0

@@ -90,10 +90,6 @@ abbrev pub IsLocateFault : StoreView → List ℕ → Error → Type 0
 IsLocateFault view digits error =
     IsFirstFault (λ bytes. HasLocation view.kind bytes digits) (λ can_fail bytes why. IsLocationFault can_fail view.kind bytes digits why) view.packs error
 
--- the pack indexes have what the locations of each id that begins with the digits need
-abbrev pub HaveAllLocations : StoreView → List ℕ → Type 0
-HaveAllLocations view digits = (id : List ℕ) → IsTrue (starts_with nat_eq id digits) → HaveLocations view id
-
 -- why the locations of the ids that begin with the digits are not found: a look-up of the ids fails, or none of the names does, and that of the locations of
 -- one of the ids
 abbrev pub IsLocationsFault : StoreView → List ℕ → Error → Type 0

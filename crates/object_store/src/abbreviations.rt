@@ -139,8 +139,6 @@ pub fn abbreviate_part<S: Store, A: Allocator + Copy>(
     ensures named { IfOk result (λ named. AreNamed least (S.view store.now) byte named.items) }
     ensures err { IfErr result (IsStoreFault (S.view store.now) byte) }
 {
-    // The contract of this call says that the digits of loose ids are below 16.
-    let _loose = store.loose().ids();
     let kind = store.object_hash();
     let mut parts = Parts::new(alloc, store);
     let ids = parts.lookup_prefix(&two_digits(kind, byte))?;

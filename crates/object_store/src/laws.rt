@@ -9,10 +9,7 @@ ghost use Rattle.gix_hash.specs.declared.ObjectId.{ObjectId};
 ghost use Rattle.id_lookup.specs.Indexes.{IsIndex, IsIndexOf, IsShortestNameFrom, part_of};
 ghost use Rattle.id_lookup.specs.Runs.{matches};
 ghost use Rattle.pack_index.specs.Lazy.{IsFirstCounted, LazyIndex};
-ghost use Rattle.object_store.specs.Several.{AreNamed, IsAbbreviated, IsAbbreviatedIn};
 ghost use Rattle.object_store.specs.Stores.{AreLocations, AreMatches, HasObjectAt, HasRead, Holds, IsIndexReadOrMemory, IsLocateFault, IsNameIn, IsStoreFault, StoreView, locations_of};
-ghost use Rattle.object_store.specs.declared.abbreviations.Abbreviation.{Abbreviation as AnAbbreviation};
-ghost use Rattle.object_store.specs.declared.abbreviations.NamedId.{NamedId};
 ghost use Rattle.object_store.specs.declared.error.Error.{Error as StoreError};
 ghost use Rattle.object_store.specs.declared.locations.Location.{Location};
 ghost use Rattle.object_store.specs.declared.locations.Location.TheVariants.{Packed, Loose};
@@ -52,36 +49,10 @@ pub fn whole()
         (fewest : ℕ) (id name : List ℕ) → Holds view whole
         → HasRead view (first_byte_of id) read → 2 ≤ fewest
         → IsNameIn fewest read id name → IsNameIn fewest whole id name }
-    ensures positions { (kind : Kind) (whole : List (List ℕ)) (fewest at : ℕ) (id name : List ℕ)
-        → IsIndex kind whole → IsNameIn fewest whole id name → at < length whole
-        → slice_index_or whole at [] ≡ id → IsShortestNameFrom fewest whole at name }
     ensures locations { (view : StoreView) (whole : List (List ℕ)) (id : List ℕ)
         (locations : List Location) → (h : Holds view whole)
         → AreLocations view id locations
         → locations ≡ locations_of view.kind id h.indexes view.loose }
-    ensures abbreviations { (view : StoreView) (whole : List (List ℕ)) (fewest : ℕ)
-        (digits : List ℕ) (abbreviation : AnAbbreviation) → Holds view whole
-        → 2 ≤ length digits → 2 ≤ fewest → IsAbbreviated fewest view digits abbreviation
-        → IsAbbreviatedIn fewest whole digits abbreviation }
-    ensures part { (view : StoreView) (whole : List (List ℕ)) (fewest byte : ℕ)
-        (named : List NamedId) → Holds view whole → 2 ≤ fewest
-        → AreNamed fewest view byte named
-        → (map (λ (n : NamedId). id_digits n.id) named ≡ part_of byte whole)
-        × All (λ (n : NamedId). IsNameIn fewest whole (id_digits n.id) n.name.digits) named }
-{}
-
-/// A look-up finds each id that a pack index counts, whatever else is damaged, and only ids that
-/// were read and begin with the digits.
-pub fn found()
-    ensures counted { (view : StoreView) (digits : List ℕ) (ids : List ObjectId) (k : ℕ)
-        (pack : LazyIndex) (bytes id : List ℕ) (at : ℕ) → 2 ≤ length digits
-        → AreMatches view digits ids → k < length view.packs
-        → (slice_index_or view.packs k pack).content ≡ Some bytes
-        → IsFirstCounted view.kind bytes id at → IsTrue (starts_with nat_eq id digits)
-        → Contains (map id_digits ids) id }
-    ensures begin { (view : StoreView) (digits : List ℕ) (ids : List ObjectId)
-        → AreMatches view digits ids
-        → All (λ id. IsTrue (starts_with nat_eq (id_digits id) digits)) ids }
 {}
 
 /// If the bytes of all pack indexes are known, a look-up has one result, whatever is damaged.

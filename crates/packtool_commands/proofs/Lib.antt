@@ -5,4 +5,3 @@ mod ShownLemmas
 mod NamedLemmas
 mod LocationLemmas
 mod EscapeLemmas
-mod WholeStore

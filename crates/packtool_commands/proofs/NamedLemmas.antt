@@ -1,24 +1,20 @@
 -- The lines of the ids of a store with their names, a part after the other.
-use Rattle.std.proofs.Common.{◌≡◌, ◌≢◌, ℕ, zero, suc, ◌+◌, ◌<◌, ◌≤◌, Bool, Option, List, [], ◌∷◌, ◌++◌, length, get_or, map, take, drop, refl, sym, ap, subst, ◌∙◌, ◌⊎◌, inl, inr, append-nil, take-append-drop, zero-add, arith}
+use Rattle.std.proofs.Common.{◌≡◌, ◌≢◌, ℕ, zero, suc, ◌+◌, ◌<◌, Bool, Option, List, [], ◌∷◌, ◌++◌, length, get_or, map, take, drop, refl, sym, ap, subst, ◌∙◌, ◌⊎◌, inl, inr, append-nil, take-append-drop, zero-add, arith}
 use Rattle.std.specs.Prelude.{◌↔◌, IsTrue}
-use Rattle.std.specs.List.{All, flat_map, range_with_len}
+use Rattle.std.specs.List.{flat_map, range_with_len}
 use Rattle.std.specs.Io.KnownBytes.{Appends}
 use Rattle.std.proofs.KnownBytes.{Appends-trans}
 use Rattle.std.proofs.lemmas.Grind.{flat_map-append}
-use Rattle.std.proofs.lemmas.List.{map-append, map-id}
+use Rattle.std.proofs.lemmas.List.{map-id}
 use Rattle.std.proofs.lemmas.List.Folds.{flat_map-map}
 use Rattle.std.proofs.lemmas.List.FromFn.{map-range_with_len_more, take-map-range_with_len}
-use Rattle.std.proofs.lemmas.List.Elements.{All-append}
-use Rattle.gix_hash.specs.Ids.{id_digits}
-use Rattle.id_lookup.specs.Indexes.{part_of}
 use Rattle.object_store.proofs.Held.{flat_map-take}
-use Rattle.object_store.proofs.Whole.{whole_named}
 use Rattle.object_store.specs.Several.{AreNamed}
-use Rattle.object_store.specs.Stores.{HaveBuckets, Holds, IsNameIn, StoreView}
+use Rattle.object_store.specs.Stores.{HaveBuckets, StoreView}
 use Rattle.pack_index.specs.Format.{Each}
 use Rattle.std.proofs.lemmas.Bool.{cases_lt}
 use Rattle.object_store.specs.declared.abbreviations.NamedId.{NamedId}
-use Rattle.packtool_commands.specs.Stores.{AreNamedBelow, AreNamedBelowIn, HasNamedAtMost, HasNamedBelow, name_line, parts_below}
+use Rattle.packtool_commands.specs.Stores.{AreNamedBelow, HasNamedAtMost, HasNamedBelow, name_line}
 use Rattle.streams.specs.Streams.{AppendsAtMost, AppendsPart}
 use Rattle.streams.proofs.WritingLemmas.{AppendsPart-after, part_written}
 
@@ -64,25 +60,6 @@ below_sound (suc n) least view named are k low = elim (cases_lt k n) [
   | inl less ↦ below_sound n least view are.0 are.2 k less
   | inr from ↦ let same : n ≡ k = omega (arith, low, from) in subst (HaveBuckets view) same are.3.has_read.are_read.sound
 ]
-
--- in a store whose pack indexes are ones they are those of all its ids
-pub named_below_in : (n least : ℕ) (view : StoreView) (whole : List (List ℕ)) (named : List NamedId) → Holds view whole → 2 ≤ least → AreNamedBelow n least view named
-    → AreNamedBelowIn n least whole named
-unfolding AreNamedBelow
-named_below_in zero least view whole named h two are = record {
-  ids = ap (map (λ (m : NamedId). id_digits m.id)) are;
-  names = λ k d low. absurd (omega (arith, low, ap (λ (ms : List NamedId). length ms) are));
-}
-named_below_in (suc n) least view whole named h two are =
-    let before = named_below_in n least view whole are.0 h two are.2 in
-    let more = whole_named view whole least n are.1 h two are.3 in
-    let next : n + 1 ≡ suc n = omega arith in
-    record {
-      ids = ap (map (λ (m : NamedId). id_digits m.id)) are.4 ∙ map-append (λ (m : NamedId). id_digits m.id) are.0 are.1
-          ∙ (λ i. before.ids i ++ more.0 i) ∙ sym (lines-more (λ byte. part_of byte whole) n) ∙ ap (λ m. parts_below m whole) next;
-      names = subst (All (λ (m : NamedId). IsNameIn least whole (id_digits m.id) m.name.digits)) (sym are.4)
-          (All-append (λ (m : NamedId). IsNameIn least whole (id_digits m.id) m.name.digits) are.0 are.1 before.names more.1);
-    }
 
 some_of : {X : Type 0} (xs ys : List X) → (xs ++ ys ≢ []) ↔ ((xs ≢ []) ⊎ (ys ≢ []))
 some_of [] ys = (λ some. inr some, λ some. elim some [ inl none ↦ absurd (none refl) | inr some ↦ some ])

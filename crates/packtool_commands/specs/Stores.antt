@@ -1,7 +1,6 @@
 -- What is printed of the ids of a store, and why that fails.
 use Rattle.std.specs.Prelude.{[], ℕ, ◌&&◌, ◌++◌, ◌<◌, ◌↔◌, ◌∷◌, ◌≡◌, ◌≢◌, All, Bool, IsTrue, List, None, Option, Some, Vec, codes, decimal, drop, false, flat_map, if◌then◌else◌, length, map, nat_lt, string_bytes, suc, true, zero}
 use Rattle.std.specs.Io.KnownBytes.{Appends}
-use Rattle.std.specs.List.{range_with_len}
 use Rattle.std.specs.Option.{is_some, option_map, option_to_list}
 use Rattle.gix_hash.specs.Digits.{digits_read, first_byte_of, hex_letter, spelling}
 use Rattle.gix_hash.specs.Ids.{id_digits}
@@ -10,11 +9,9 @@ use Rattle.gix_hash.specs.Prefixes.{KindDigits, kind_digits}
 use Rattle.gix_hash.specs.declared.Kind.{Kind}
 use Rattle.gix_hash.specs.declared.ObjectId.{ObjectId}
 use Rattle.streams.specs.Streams.{AppendsAtMost, AppendsPart, printed}
-use Rattle.id_lookup.specs.Indexes.{part_of}
-use Rattle.id_lookup.specs.Runs.{matches}
 use Rattle.pack_index.specs.Format.{Each}
-use Rattle.object_store.specs.Several.{AreAbbreviatedOfEach, AreLocated, AreLocatedOfEach, AreNamed, IsAbbreviatedIn}
-use Rattle.object_store.specs.Stores.{AreFoundOfEach, AreMatches, AreMatchesOfEach, HaveBuckets, IsNameIn, IsStoreFault, StoreView, locations_of}
+use Rattle.object_store.specs.Several.{AreAbbreviatedOfEach, AreLocated, AreLocatedOfEach, AreNamed}
+use Rattle.object_store.specs.Stores.{AreMatches, AreMatchesOfEach, HaveBuckets, IsStoreFault, StoreView}
 use Rattle.object_store.specs.declared.error.Error.{Error}
 use Rattle.object_store.specs.declared.locations.LocatedId.{LocatedId}
 use Rattle.object_store.specs.declared.locations.Location.{Location}
@@ -125,21 +122,7 @@ are_answers_by is_wanted kind [] found = true
 are_answers_by is_wanted kind (line ∷ lines) found =
     is_answer_to is_wanted (is_some (prefix_of kind line)) found && are_answers_by is_wanted kind lines (lists_after (is_some (prefix_of kind line)) found)
 
--- what is printed for lines in a store that holds these ids: each prefix is looked up
-abbrev pub answers_in : Answers → Kind → List (List ℕ) → List (List ℕ) → List ℕ
-answers_in answers kind whole lines =
-    answers_by (found_text id_line answers) kind lines (map (λ (prefix : KindDigits). matches prefix.digits whole) (prefixes_of kind lines))
-
--- whether each has what is asked for
-abbrev pub are_answers_in : Answers → Kind → List (List ℕ) → List (List ℕ) → Bool
-are_answers_in answers kind whole lines = are_answers_by (is_found answers) kind lines (map (λ (prefix : KindDigits). matches prefix.digits whole) (prefixes_of kind lines))
-
--- what is printed for lines was written, and whether each has what is asked for was returned
-pub record HasAnswered (answers : Answers) (kind : Kind) (whole lines : List (List ℕ)) (all : Bool) (old new : Option (List ℕ)) : Type 0 where
-  pub found : all ≡ are_answers_in answers kind whole lines
-  pub written : Appends old new (answers_in answers kind whole lines)
-
--- the same by what was found for the prefixes among them, whatever is known of the bytes
+-- what is printed for lines by what was found for the prefixes among them was written, and whether each has what is asked for was returned
 pub record HasAnsweredBy {X : Type 0} (AreFound : List X → Type 0) (text : List ℕ → X → List ℕ) (is_wanted : X → Bool) (kind : Kind) (lines : List (List ℕ))
     (all : Bool) (old new : Option (List ℕ)) : Type 0 where
   pub results : List X
@@ -180,20 +163,11 @@ line_of_name name id = name ++ 32 ∷ id ++ 10 ∷ []
 abbrev pub name_line : NamedId → List ℕ
 name_line n = line_of_name (spelling hex_letter n.name.digits) (spelling hex_letter (id_digits n.id))
 
--- the ids whose first byte is below n, a byte after the other
-abbrev pub parts_below : ℕ → List (List ℕ) → List (List ℕ)
-parts_below n ids = flat_map (λ byte. part_of byte ids) (range_with_len 0 n)
-
 -- these are the ids of the store whose first byte is below n, a byte after the other, each with its name
 unfoldable pub AreNamedBelow : ℕ → ℕ → StoreView → List NamedId → Type 0
 AreNamedBelow zero least view named = named ≡ []
 AreNamedBelow (suc n) least view named =
     (before : List NamedId) × (part : List NamedId) × AreNamedBelow n least view before × AreNamed least view n part × (named ≡ before ++ part)
-
--- in a store that holds these ids
-pub record AreNamedBelowIn (n least : ℕ) (whole : List (List ℕ)) (named : List NamedId) : Type 0 where
-  pub ids : map (λ (m : NamedId). id_digits m.id) named ≡ parts_below n whole
-  pub names : All (λ (m : NamedId). IsNameIn least whole (id_digits m.id) m.name.digits) named
 
 -- their lines were written, and whether there is one is this
 pub record HasNamedBelow (n least : ℕ) (view : StoreView) (any : Bool) (old new : Option (List ℕ)) : Type 0 where
@@ -226,11 +200,6 @@ abbrev pub HasNamedEach : ℕ → StoreView → List (List ℕ) → Bool → Opt
 HasNamedEach least view lines all old new =
     HasAnsweredBy (AreAbbreviatedOfEach least view (prefixes_of view.kind lines)) abbreviation_text is_named view.kind lines all old new
 
--- so in a store that holds these ids
-abbrev pub HasNamedEachIn : ℕ → Kind → List (List ℕ) → List (List ℕ) → Bool → Option (List ℕ) → Option (List ℕ) → Type 0
-HasNamedEachIn least kind whole lines all old new =
-    HasAnsweredBy (AreFoundOfEach (IsAbbreviatedIn least whole) (prefixes_of kind lines)) abbreviation_text is_named kind lines all old new
-
 -- a proper beginning of it was printed
 abbrev pub HasNamedPart : ℕ → StoreView → List (List ℕ) → Option (List ℕ) → Option (List ℕ) → Type 0
 HasNamedPart least view lines old new = HasAnsweredPart (AreAbbreviatedOfEach least view (prefixes_of view.kind lines)) abbreviation_text view.kind lines old new
@@ -258,10 +227,6 @@ lines_at_after line pack_path loose_paths id Loose = flat_map (λ path. location
 -- those that are after nothing, in a store with these paths
 abbrev pub lines_at : (ℕ → List ℕ) → (List ℕ → List (List ℕ)) → List ℕ → Location → List ℕ
 lines_at pack_path loose_paths id location = lines_at_after None pack_path (loose_paths id) id location
-
--- the lines of all locations of an object, in a store with these paths and bytes of pack indexes
-abbrev pub lines_of_locations : (ℕ → List ℕ) → (List ℕ → List (List ℕ)) → StoreView → List (List ℕ) → List ℕ → List ℕ
-lines_of_locations pack_path loose_paths view indexes id = flat_map (lines_at pack_path loose_paths id) (locations_of view.kind id indexes view.loose)
 
 -- the lines of the locations of an id, each after a line of a text or nothing
 abbrev pub located_lines : {A : Type 0} → (ℕ → List ℕ) → Option (List ℕ) → LocatedId A → List ℕ

@@ -1,9 +1,9 @@
-use Rattle.std.proofs.Common.{◌<◌, ◌/◌, ◌%◌, ◌∷◌, [], ℕ, List, map, sym, subst, arith}
+use Rattle.std.proofs.Common.{◌/◌, ◌%◌, ◌∷◌, [], ℕ, List, map, sym, subst, arith}
 use Rattle.std.specs.List.{All}
 use Rattle.gix_hash.specs.Ids.{id_digits}
 use Rattle.gix_hash.specs.declared.Kind.{Kind}
 use Rattle.gix_hash.specs.declared.ObjectId.{ObjectId}
-use Rattle.id_lookup.specs.Indexes.{Index, IsIndexOf}
+use Rattle.id_lookup.specs.Indexes.{IsIndexOf}
 use Rattle.id_lookup.specs.Runs.{matches}
 use Rattle.object_store.specs.Stores.{AreMatches, HasRead, IsOfKind, StoreView}
 use Rattle.object_store.proofs.Named.{named_digits, names_read}
@@ -27,5 +27,4 @@ returns-clause-named g c =
       index = subst (IsIndexOf view.kind (matches digits found.read)) (sym (named_digits ids named c.in_ok-name_all.ensures.ids)) index;
       names = names_read view.kind c.args.least found.read digits ids named (omega (arith, c.requires.enough)) index c.in_ok-name_all.ensures.ids c.in_ok-name_all.ensures.names;
       kinds = subst (λ (k : Kind). All (IsOfKind k) named) c.object_hash-kind.ensures c.in_ok-name_all.ensures.kinds;
-      digits = subst (λ (table : Index). All (λ (id : List ℕ). All (λ d. d < 16) id) table.ids) c.loose.ensures c.ids-loose.ensures.digits;
     }

@@ -1,4 +1,4 @@
-use Rattle.object_store.proofs.Whole.{name_at, read_had, read_has, whole_abbreviated, whole_found, whole_name, whole_named}
+use Rattle.object_store.proofs.Whole.{read_had, read_has, whole_found, whole_name}
 use Rattle.object_store.proofs.WholeLocations.{whole_locations}
 use Rattle.std.proofs.Common.{refl}
 use Rattle.object_store.proofs.laws.whole.Goals as goal
@@ -12,14 +12,5 @@ returns-clause-ids c = λ view whole byte read digits found h r long same index.
 pub returns-clause-names : goal.returns-clause-names
 returns-clause-names c = λ view whole read fewest id name h r two is. whole_name view whole _ read h r fewest id name two refl is
 
-pub returns-clause-positions : goal.returns-clause-positions
-returns-clause-positions c = name_at
-
 pub returns-clause-locations : goal.returns-clause-locations
 returns-clause-locations c = λ view whole id locations h all. whole_locations view whole id locations h all
-
-pub returns-clause-abbreviations : goal.returns-clause-abbreviations
-returns-clause-abbreviations c = whole_abbreviated
-
-pub returns-clause-part : goal.returns-clause-part
-returns-clause-part c = whole_named
