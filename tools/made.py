@@ -368,6 +368,7 @@ CONFIGS = [
     ("[core]\nrepositoryformatversion=0Xa\n", "expected git repo version <= 1, found 10"),
     ("[core]\nrepositoryformatversion=1023m\n", "expected git repo version <= 1, found 1072693248"),
     ("[core]\nrepositoryformatversion=-1g\n[extensions]\nfoo", "sha1"),
+    ("[core]\nrepositoryformatversion=-2\n[extensions]\nobjectformat=sha256\nfoo", "sha256"),
     ("[extensions]\nworktreeConfig=refs\n", "extensions.worktreeconfig is neither true nor false"),
     ("[extensions]\npreciousObjects=1x\n", "extensions.preciousobjects is neither true nor false"),
     ("[core]\nbare=truex\n", "core.bare is neither true nor false"),

@@ -1,5 +1,3 @@
 mod Entries
 mod LoosePaths
-mod Picked
 mod Quoted
-mod ReadSoFar

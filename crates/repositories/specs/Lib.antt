@@ -1,9 +1,5 @@
 pub mod Alternates
-pub mod Configs
 pub mod Formats
-pub mod KindInConfig
-pub mod Numbers
 pub mod Paths
 pub mod Printed
 pub mod Quoting
-pub mod Variables

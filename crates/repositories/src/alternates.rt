@@ -1,11 +1,11 @@
 //! Lists of alternates: other object directories, whose objects a repository borrows.
 
-ghost use Rattle.std.specs.Prelude.{◌≡◌, ◌≢◌, ◌==◌, ◌-◌, ◌<◌, ◌≤◌, [], ◌∷◌, ◌++◌, ℕ, List, OnOk, not, filter, IfOk, IfSome, MatchOption, drop, length, map};
+ghost use Rattle.std.specs.Prelude.{◌≡◌, ◌≢◌, ◌==◌, ◌-◌, ◌<◌, ◌≤◌, [], ◌∷◌, ◌++◌, ℕ, List, OnOk, not, filter, IfOk, IfSome, MatchOption, drop, length, map, position};
+ghost use Rattle.std.specs.List.{after_first, before_first};
 ghost use Rattle.std.specs.Option.{option_map};
 ghost use Rattle.repositories.specs.Alternates.{HasEntry, NamesPaths, is_comment};
 ghost use Rattle.repositories.specs.Quoting.{Means, escaped, escaped_byte, quoted_byte};
 
-use crate::variables::split_line;
 use std::alloc::{AllocError, Allocator};
 
 /// The paths that a list of alternates names, in order, as Git takes them from it: the lines of
@@ -173,4 +173,23 @@ fn escaped(letter: u8) -> Option<u8>
         b'"' | b'\\' => Some(letter),
         _ => None,
     }
+}
+
+// What is before the first separator, and after it.
+fn split_line(text: &[u8], separator: u8) -> (&[u8], &[u8])
+    ensures line { result.0.now ≡ before_first (λ byte. byte == separator) text.now }
+    ensures rest { result.1.now ≡ after_first (λ byte. byte == separator) text.now }
+    ensures fewer { length result.1.now ≤ length text.now - 1 }
+{
+    match position_of(text, separator) {
+        Some(at) => (&text[..at], &text[at + 1..]),
+        None => (text, &[]),
+    }
+}
+
+// Where a byte is first.
+fn position_of(text: &[u8], wanted: u8) -> Option<usize>
+    ensures { result ≡ position (λ byte. byte == wanted) text.now }
+{
+    text.iter().position(|byte| *byte == wanted)
 }

@@ -1,11 +1,8 @@
 //! What a repository's config (git-config) says of its format and its ids.
 
-ghost use Rattle.std.specs.Prelude.{IfSome, MatchResult};
-ghost use Rattle.repositories.specs.Formats.{reported};
-ghost use Rattle.repositories.specs.KindInConfig.{HasFault, SaysKind};
+ghost use Rattle.repositories.specs.Formats.{Reports, Says};
 
-use crate::format::Format;
-use crate::variables::{line_number, plain, read_item};
+use crate::format::kind_or_fault;
 use gix_hash::Kind;
 use std::alloc::{AllocError, Global};
 use thiserror::Error as ThisError;
@@ -51,27 +48,10 @@ pub enum ConfigError {
 /// assert!(rt; matches!(kind_in_config(rt.alloc(), text), Ok(Kind::Sha256)));
 /// ```
 pub fn kind_in_config(alloc: Global, text: &[u8]) -> Result<Kind, ConfigError>
-    ensures { MatchResult result (SaysKind text.now)
-        (λ error. IfSome (reported error) (HasFault text.now)) }
+    ensures { Reports (Says text.now) result }
 {
-    let lines = match plain(alloc, text) {
-        Ok(lines) => lines,
-        Err(error) => return Err(ConfigError::Memory(error)),
-    };
-    let mut section = Vec::new(alloc);
-    let mut format = Format::new();
-    let mut left = lines.as_slice();
-    while !left.is_empty() {
-        let (variable, rest) = match read_item(alloc, &mut section, left) {
-            Ok(Ok(item)) => item,
-            Ok(Err(left)) => return Err(ConfigError::Line(line_number(&lines, left))),
-            Err(error) => return Err(ConfigError::Memory(error)),
-        };
-        format = match format.with(alloc, variable) {
-            Ok(format) => format,
-            Err(error) => return Err(error),
-        };
-        left = rest;
+    match git_config::read(alloc, text) {
+        Ok(config) => kind_or_fault(alloc, &config),
+        Err(error) => Err(ConfigError::Memory(error)),
     }
-    format.checked()
 }

@@ -1,18 +1,11 @@
 //! What the variables of a repository's config (git-config) say of its format.
 
-ghost use Rattle.std.specs.Prelude.{List, [], ◌∷◌, ◌++◌, ◌≡◌, ℤ, Err, IfSome, MatchResult, None, Ok, OnOk, Option, Result, Some, bytes_eq, codes, find, map, not, option_and_then, option_map, option_to_list, pos, string_bytes, unwrap_or};
-ghost use Rattle.std.specs.Char.{to_ascii_lowercase};
-ghost use Rattle.std.specs.List.{list_any};
-ghost use Rattle.std.specs.Option.{option_or};
-ghost use Rattle.std.specs.Str.{str_eq_ignore_ascii_case};
-ghost use Rattle.repositories.specs.Formats.{Fault, bad_boolean, bad_kind, bad_version, extension, fault_of, is_boolean, kind_in_format, kind_named, kind_of, needs_of, reported, unknown_of, version_of};
-ghost use Rattle.repositories.specs.Formats as formats;
-ghost use Rattle.repositories.specs.Formats.Fault.{BadBoolean, BadKind, BadVersion};
-ghost use Rattle.repositories.specs.Variables.{IsFormatOf, kind_of_format, said};
+ghost use Rattle.std.specs.Prelude.{◌∷◌, ◌≡◌, Ok, Err, IfSome, bytes_eq, find, is_some, option_and_then, option_map, Some, string_bytes};
+ghost use Rattle.std.specs.Str.Lossy.{utf8_lossy};
+ghost use Rattle.repositories.specs.Formats.{Fault, Reports, extension, fault_of, first_wrong, kind_by, kind_named, kind_or_fault, kind_of, last_of, last_with, needs_of, reported, unknown_of, value_of, version_of};
 
 use crate::config::ConfigError;
-use crate::numbers::number;
-use crate::variables::Variable;
+use git_config::{Config, Variable, is_boolean, number};
 use gix_hash::Kind;
 use std::alloc::Global;
 
@@ -30,28 +23,163 @@ const BOOLEANS: [&str; 3] = [
     "extensions.worktreeconfig",
 ];
 
-// The texts that are booleans, beside numbers.
-const BOOLEAN_WORDS: [&str; 7] = ["", "true", "yes", "on", "false", "no", "off"];
-
-// Whether a text is this one.
-fn is(text: &[u8], word: &str) -> bool
-    ensures { result ≡ bytes_eq text.now word.now }
+/// The kind of a repository's ids by its config, or what is wrong first.
+pub(crate) fn kind_or_fault(alloc: Global, config: &Config) -> Result<Kind, ConfigError>
+    ensures { Reports (λ says. kind_or_fault config.now.variables.items config.now.bad_line ≡ says)
+        result }
 {
-    text == word.as_bytes()
+    if let Some(error) = first_fault(&config.variables) {
+        return Err(error);
+    }
+    match config.bad_line {
+        Some(line) => Err(ConfigError::Line(line)),
+        None => kind_by(alloc, &config.variables),
+    }
 }
 
-// The name among some that this one is, if it is one of them.
-fn known(names: &[&'static str], name: &[u8]) -> Option<&'static str>
-    ensures { result ≡ find (λ known. bytes_eq name.now known.now) names.now }
+fn first_fault(variables: &[Variable]) -> Option<ConfigError>
+    ensures { option_map reported result
+        ≡ option_map Some (option_and_then fault_of (first_wrong variables.now)) }
 {
-    names.iter().copied().find(|known| is(name, known))
+    fault_of(first_wrong(variables)?)
 }
 
-// The kind that a value names.
-fn kind_named(value: &Option<Vec<u8>>) -> Option<Kind>
-    ensures { result ≡ kind_named (option_map (λ text. text.items) value.now) }
+// The kind by the variables, of which none has a wrong value.
+fn kind_by(alloc: Global, variables: &[Variable]) -> Result<Kind, ConfigError>
+    ensures { Reports (λ says. kind_by variables.now ≡ says) result }
 {
-    let text = value.as_ref()?;
+    let kind = last_kind(variables).and_then(kind_of).unwrap_or(Kind::Sha1);
+    let Some(version) = last_version(variables).and_then(version_of) else {
+        return Ok(Kind::Sha1);
+    };
+    if version < -1 {
+        return Ok(kind);
+    }
+    if version < 0 {
+        return Ok(Kind::Sha1);
+    }
+    if version < 1 {
+        return match last_needs(variables).and_then(needs_of) {
+            Some(name) => Err(ConfigError::NeedsVersion1(name)),
+            None => Ok(kind),
+        };
+    }
+    if version < 2 {
+        return match last_unknown(variables).and_then(unknown_of) {
+            Some(name) => Err(unknown(alloc, name)),
+            None => Ok(kind),
+        };
+    }
+    Err(ConfigError::Version(version))
+}
+
+// That this extension is not known.
+fn unknown(alloc: Global, name: &[u8]) -> ConfigError
+    ensures { IfSome (reported result)
+        (λ fault. fault ≡ Fault.UnknownExtension (utf8_lossy name.now)) }
+{
+    match String::from_utf8_lossy(alloc, name) {
+        Ok(name) => ConfigError::Extension(name),
+        Err(error) => ConfigError::Memory(error),
+    }
+}
+
+// The last variable that sets the version.
+fn last_version(variables: &[Variable]) -> Option<&Variable>
+    ensures { option_map (λ variable. variable.now) result ≡ last_with version_of variables.now }
+{
+    let mut from_last = variables.iter().rev();
+    from_last.find(|variable| version_of(variable).is_some())
+}
+
+// The last variable that sets the kind.
+fn last_kind(variables: &[Variable]) -> Option<&Variable>
+    ensures { option_map (λ variable. variable.now) result ≡ last_with kind_of variables.now }
+{
+    let mut from_last = variables.iter().rev();
+    from_last.find(|variable| kind_of(variable).is_some())
+}
+
+// The last variable that sets an extension that only version 1 has.
+fn last_needs(variables: &[Variable]) -> Option<&Variable>
+    ensures { option_map (λ variable. variable.now) result ≡ last_with needs_of variables.now }
+{
+    let mut from_last = variables.iter().rev();
+    from_last.find(|variable| is_needing(variable))
+}
+
+// The last variable that sets an extension that no version has.
+fn last_unknown(variables: &[Variable]) -> Option<&Variable>
+    ensures { option_map (λ variable. variable.now) result ≡ last_with unknown_of variables.now }
+{
+    let mut from_last = variables.iter().rev();
+    from_last.find(|variable| is_unknown(variable))
+}
+
+// The first variable whose value is wrong.
+fn first_wrong(variables: &[Variable]) -> Option<&Variable>
+    ensures { option_map (λ variable. variable.now) result ≡ first_wrong variables.now }
+{
+    variables.iter().find(|variable| is_wrong(variable))
+}
+
+fn is_needing(variable: &Variable) -> bool
+    ensures { result ≡ is_some (needs_of variable.now) }
+{
+    needs_of(variable).is_some()
+}
+
+fn is_unknown(variable: &Variable) -> bool
+    ensures { result ≡ is_some (unknown_of variable.now) }
+{
+    unknown_of(variable).is_some()
+}
+
+fn is_wrong(variable: &Variable) -> bool
+    ensures { result ≡ is_some (fault_of variable.now) }
+{
+    fault_of(variable).is_some()
+}
+
+// What is wrong with the value of a variable.
+fn fault_of(variable: &Variable) -> Option<ConfigError>
+    ensures { option_map reported result ≡ option_map Some (fault_of variable.now) }
+{
+    if is(&variable.name, "core.repositoryformatversion") {
+        return match version_of(variable) {
+            Some(_) => None,
+            None => Some(ConfigError::NoVersion),
+        };
+    }
+    if is(&variable.name, "extensions.objectformat") {
+        return match kind_of(variable) {
+            Some(_) => None,
+            None => Some(ConfigError::Kind),
+        };
+    }
+    if is_boolean(&variable.value) {
+        return None;
+    }
+    Some(ConfigError::NoBoolean(known(&BOOLEANS, &variable.name)?))
+}
+
+// The version of the format that a variable sets.
+fn version_of(variable: &Variable) -> Option<i64>
+    ensures { result ≡ version_of variable.now }
+{
+    number(value_of(variable, "core.repositoryformatversion")?)
+}
+
+// The kind that a variable sets.
+fn kind_of(variable: &Variable) -> Option<Kind>
+    ensures { result ≡ kind_of variable.now }
+{
+    kind_named(value_of(variable, "extensions.objectformat")?)
+}
+
+fn kind_named(text: &[u8]) -> Option<Kind>
+    ensures { result ≡ kind_named text.now }
+{
     if is(text, "sha1") {
         Some(Kind::Sha1)
     } else if is(text, "sha256") {
@@ -61,30 +189,34 @@ fn kind_named(value: &Option<Vec<u8>>) -> Option<Kind>
     }
 }
 
-// Whether a value is a boolean: a word for one, a number or no value at all.
-fn is_boolean(value: &Option<Vec<u8>>) -> bool
-    ensures { result ≡ is_boolean (option_map (λ text. text.items) value.now) }
+// The value that a variable of this name has.
+fn value_of<'a>(variable: &'a Variable, name: &str) -> Option<&'a [u8]>
+    ensures { option_map (λ text. text.now) result ≡ value_of name.now variable.now }
 {
-    match value {
-        Some(text) => is_any(text, &BOOLEAN_WORDS) || number(text).is_some(),
-        None => true,
+    if is(&variable.name, name) {
+        variable.value.as_deref()
+    } else {
+        None
     }
 }
 
-// Whether a text is one of some words, in any case of letters.
-fn is_any(text: &[u8], words: &[&str]) -> bool
-    ensures { result ≡ list_any (λ word. str_eq_ignore_ascii_case text.now word.now) words.now }
+// The extension that a variable is and that only version 1 has.
+fn needs_of(variable: &Variable) -> Option<&'static str>
+    ensures { option_map (λ name. name.now) result ≡ needs_of variable.now }
 {
-    words
-        .iter()
-        .any(|word| is_in_any_case(text, word.as_bytes()))
+    known(&OF_VERSION_1, extension(&variable.name)?)
 }
 
-// Whether a text is this one, in any case of letters.
-fn is_in_any_case(text: &[u8], word: &[u8]) -> bool
-    ensures { result ≡ str_eq_ignore_ascii_case text.now word.now }
+// The extension that a variable is and that no version has.
+fn unknown_of(variable: &Variable) -> Option<&[u8]>
+    ensures { option_map (λ name. name.now) result ≡ unknown_of variable.now }
 {
-    text.eq_ignore_ascii_case(word)
+    let name = extension(&variable.name)?;
+    if known(&OF_VERSION_1, name).is_some() || known(&OF_ANY_VERSION, name).is_some() {
+        None
+    } else {
+        Some(name)
+    }
 }
 
 // The name of an extension, after its section.
@@ -94,158 +226,16 @@ fn extension(name: &[u8]) -> Option<&[u8]>
     name.strip_prefix(b"extensions.")
 }
 
-// The name of a variable that is to be a boolean and is none.
-fn bad_boolean(variable: &Variable) -> Option<&'static str>
-    ensures { option_map (λ name. name.now) result ≡ bad_boolean (said variable.now) }
+// The name among some that this one is, if it is one of them.
+fn known(names: &[&'static str], name: &[u8]) -> Option<&'static str>
+    ensures { result ≡ find (λ known. bytes_eq name.now known.now) names.now }
 {
-    if is_boolean(&variable.value) {
-        None
-    } else {
-        known(&BOOLEANS, &variable.name)
-    }
+    names.iter().copied().find(|known| is(name, known))
 }
 
-// The version of the format that a variable sets.
-fn version_of(variable: &Variable) -> Result<Option<i64>, ConfigError>
-    ensures { MatchResult result
-        (λ version. (bad_version (said variable.now) ≡ None)
-        × (version ≡ version_of (said variable.now)))
-        (λ error. (bad_version (said variable.now) ≡ Some BadVersion)
-        × (reported error ≡ Some BadVersion)) }
+// Whether a text is this one.
+fn is(text: &[u8], word: &str) -> bool
+    ensures { result ≡ bytes_eq text.now word.now }
 {
-    if !is(&variable.name, "core.repositoryformatversion") {
-        return Ok(None);
-    }
-    match &variable.value {
-        Some(text) => Ok(Some(number(text).ok_or(ConfigError::NoVersion)?)),
-        None => Err(ConfigError::NoVersion),
-    }
-}
-
-// The kind that a variable sets.
-fn kind_of(variable: &Variable) -> Result<Option<Kind>, ConfigError>
-    ensures { MatchResult result
-        (λ kind. (bad_kind (said variable.now) ≡ None) × (kind ≡ kind_of (said variable.now)))
-        (λ error. (bad_kind (said variable.now) ≡ Some BadKind)
-        × (reported error ≡ Some BadKind)) }
-{
-    if !is(&variable.name, "extensions.objectformat") {
-        return Ok(None);
-    }
-    Ok(Some(kind_named(&variable.value).ok_or(ConfigError::Kind)?))
-}
-
-// The extension that a variable is and that only version 1 has.
-fn needs_of(variable: &Variable) -> Option<&'static str>
-    ensures { option_map (λ name. name.now) result ≡ needs_of (said variable.now) }
-{
-    known(&OF_VERSION_1, extension(&variable.name)?)
-}
-
-// The extension that a variable is and that no version has.
-fn unknown_of(alloc: Global, variable: &Variable) -> Result<Option<String>, ConfigError>
-    ensures { MatchResult result
-        (λ name. option_map string_bytes name ≡ unknown_of (said variable.now))
-        (λ error. reported error ≡ None) }
-{
-    let Some(name) = extension(&variable.name) else {
-        return Ok(None);
-    };
-    if known(&OF_VERSION_1, name).is_some() || known(&OF_ANY_VERSION, name).is_some() {
-        return Ok(None);
-    }
-    match String::from_utf8_lossy(alloc, name) {
-        Ok(name) => Ok(Some(name)),
-        Err(error) => Err(ConfigError::Memory(error)),
-    }
-}
-
-/// What the variables of a config that were read say of the repository's format.
-#[derive(Drop)]
-pub(crate) struct Format {
-    version: Option<i64>,
-    kind: Option<Kind>,
-    unknown: Option<String>,
-    needs: Option<&'static str>,
-}
-
-impl Format {
-    /// That of no variables.
-    pub(crate) fn new() -> Format
-        ensures { IsFormatOf result [] }
-    {
-        Format {
-            version: None,
-            kind: None,
-            unknown: None,
-            needs: None,
-        }
-    }
-
-    /// That of one more variable, if there is one. The error is that its value is wrong, or memory.
-    pub(crate) fn with(
-        self,
-        alloc: Global,
-        variable: Option<Variable>,
-    ) -> Result<Format, ConfigError>
-        ensures { MatchResult result
-            (λ format. (variables : List formats.Variable) → IsFormatOf self variables
-            → IsFormatOf format (variables ++ option_to_list (option_map said variable)))
-            (λ error. IfSome (reported error) (λ fault.
-            option_and_then fault_of (option_map said variable) ≡ Some fault)) }
-    {
-        match variable {
-            Some(variable) => self.with_one(alloc, &variable),
-            None => Ok(self),
-        }
-    }
-
-    // That of one more variable.
-    fn with_one(self, alloc: Global, variable: &Variable) -> Result<Format, ConfigError>
-        ensures { MatchResult result
-            (λ format. (variables : List formats.Variable) → IsFormatOf self variables
-            → IsFormatOf format (variables ++ said variable.now ∷ []))
-            (λ error. IfSome (reported error)
-            (λ fault. fault_of (said variable.now) ≡ Some fault)) }
-    {
-        if let Some(name) = bad_boolean(variable) {
-            return Err(ConfigError::NoBoolean(name));
-        }
-        let version = version_of(variable)?;
-        let kind = kind_of(variable)?;
-        let unknown = unknown_of(alloc, variable)?;
-        Ok(Format {
-            version: version.or(self.version),
-            kind: kind.or(self.kind),
-            unknown: unknown.or(self.unknown),
-            needs: needs_of(variable).or(self.needs),
-        })
-    }
-
-    /// The kind, unless the format is not known.
-    pub(crate) fn checked(self) -> Result<Kind, ConfigError>
-        ensures { MatchResult result (λ kind. kind_of_format self ≡ Ok kind)
-            (λ error. IfSome (reported error) (λ fault. kind_of_format self ≡ Err fault)) }
-    {
-        let kind = self.kind.unwrap_or(Kind::Sha1);
-        let Some(version) = self.version else {
-            return Ok(Kind::Sha1);
-        };
-        if version < 0 {
-            return Ok(Kind::Sha1);
-        }
-        if version < 1 {
-            return match self.needs {
-                Some(name) => Err(ConfigError::NeedsVersion1(name)),
-                None => Ok(kind),
-            };
-        }
-        if version < 2 {
-            return match self.unknown {
-                Some(name) => Err(ConfigError::Extension(name)),
-                None => Ok(kind),
-            };
-        }
-        Err(ConfigError::Version(version))
-    }
+    text == word.as_bytes()
 }

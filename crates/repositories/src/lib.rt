@@ -15,13 +15,11 @@ mod files;
 mod finding;
 mod folders;
 mod format;
-mod numbers;
 /// Paths of loose objects.
 pub mod paths;
 /// Ids in texts.
 pub mod printed;
 mod repository;
-mod variables;
 
 pub use error::{Cause, Error};
 pub use files::join;

@@ -1,23 +1,18 @@
-use Rattle.std.proofs.Common.{◌≡◌, ◌∙◌, Some, rules}
-use Rattle.std.specs.Prelude.{option_map}
-use Rattle.repositories.specs.Configs.{bad}
-use Rattle.repositories.specs.Variables.{said}
-use Rattle.repositories.proofs.Entries.{is_empty}
-use Rattle.repositories.proofs.ReadSoFar.{reads_nothing, says_all, says_line, says_value}
+use Rattle.std.proofs.Common.{◌≡◌, List, ℕ, Ok, Err, sym, rules}
+use Rattle.std.specs.Prelude.{Option, Result, map}
+use Rattle.std.proofs.lemmas.Option.{IfSome_then}
+use Rattle.gix_hash.specs.declared.Kind.{Kind}
+use Rattle.git_config.specs.Grammar.{IsConfig}
+use Rattle.git_config.specs.Views.{said}
+use Rattle.git_config.specs.declared.Variable.{Variable}
+use Rattle.repositories.specs.Formats.{Reports, Says, kind_or_fault, reported}
+use Rattle.repositories.specs.declared.config.ConfigError.{ConfigError}
 use Rattle.repositories.proofs.config.kind_in_config.Goals as goal
 
-pub loop-left-init : goal.loop-left-init
-loop-left-init c = reads_nothing _ _ _ _ c.new-section.ensures.items (c.as_slice-left.ensures.value ∙ c.in-Ok.ensures) c.new-format.ensures
+says : (text : List ℕ) (variables : List Variable) (bad_line : Option ℕ) (result : Result Kind ConfigError) → IsConfig text (map said variables) bad_line
+    → Reports (λ outcome. kind_or_fault variables bad_line ≡ outcome) result → Reports (Says text) result
+says text variables bad_line (Ok kind) is reports = (variables, bad_line, is, sym reports)
+says text variables bad_line (Err error) is reports = IfSome_then (reported error) reports (λ fault same. (variables, bad_line, is, sym same))
 
-pub returns-in-Ok-Err : goal.returns-in-Ok-Err
-returns-in-Ok-Err c =
-    let is_bad : bad c.loop-left.section.items c.loop-left.left.now ≡ Some c.in-Ok-Err.left = search rules in
-    says_line _ _ _ c.deref.result.now _ _ _ c.loop-left.invariant is_bad (c.deref.ensures.value ∙ c.in-Ok.ensures) c.line_number.ensures
-
-pub returns-in-Err-with : goal.returns-in-Err-with
-returns-in-Err-with c =
-    let reads = rw c.in-Ok-Ok.field-0-is at c.in-Ok-Ok.ensures.read in
-    says_value _ _ _ _ _ _ (option_map said c.in-Ok-Ok.item.0) c.in-Err-with.error c.loop-left.invariant reads c.in-Err-with.ensures
-
-pub returns : goal.returns
-returns c = says_all _ _ _ _ c.loop-left.invariant (is_empty _ c.loop-left-test.ensures) _ c.checked.ensures
+pub returns-in-Ok : goal.returns-in-Ok
+returns-in-Ok c = says c.args.text.now c.in-Ok.config.variables.items c.in-Ok.config.bad_line c.kind_or_fault.result (search rules) c.kind_or_fault.ensures

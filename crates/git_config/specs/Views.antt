@@ -1,0 +1,27 @@
+-- What the code's values are in the grammar.
+use Rattle.std.specs.Prelude.{◌≡◌, ◌≤◌, ℕ, Result, Ok, Err, option_map, List, length, IfOk}
+use Rattle.std.specs.Borrow.{Bor}
+use Rattle.git_config.specs.Grammar as grammar
+use Rattle.git_config.specs.declared.Variable.{Variable}
+use Rattle.git_config.specs.declared.syntax.Piece.{Piece}
+use Rattle.git_config.specs.declared.syntax.Piece.TheVariants.{End, Blank, Means}
+use Rattle.git_config.specs.declared.syntax.Stop.{Stop}
+use Rattle.git_config.specs.declared.syntax.Stop.TheVariants.{Memory, Wrong}
+
+abbrev pub said : Variable → grammar.Variable
+said variable = record { name = variable.name.items; value = option_map (λ text. text.items) variable.value }
+
+abbrev pub piece_of : Piece → grammar.Piece
+piece_of End = grammar.Piece.End
+piece_of Blank = grammar.Piece.Blank
+piece_of (Means bytes in_quotes escaped) = grammar.Piece.Means bytes.now in_quotes escaped
+
+-- what was returned is what the grammar says, unless memory ran out
+abbrev pub Gives : {X Y : Type 0} → (X → Y) → Result X Stop → Result Y ℕ → Type 0
+Gives view (Ok x) is = is ≡ Ok (view x)
+Gives view (Err Memory) is = Unit {0}
+Gives view (Err (Wrong left)) is = is ≡ Err left
+
+-- the same of what was read from a text, and the rest
+abbrev pub GivesFrom : {X Y : Type 0} → List ℕ → (X → Y) → Result (X × Bor (List ℕ)) Stop → Result (Y × List ℕ) ℕ → Type 0
+GivesFrom text view result is = Gives (λ read. (view read.0, read.1.now)) result is × IfOk result (λ read. length read.1.now ≤ length text)

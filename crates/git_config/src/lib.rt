@@ -1,0 +1,63 @@
+//! The text of a Git config (git-config).
+#![tactic(auto)]
+
+ghost use Rattle.std.specs.Prelude.{IfOk, map};
+ghost use Rattle.git_config.specs.Grammar.{IsConfig};
+ghost use Rattle.git_config.specs.Views.{said};
+
+mod syntax;
+mod values;
+
+use crate::syntax::{Stop, line_number, read_item, without_mark};
+use std::alloc::{AllocError, Global};
+pub use values::{is_boolean, number};
+
+/// A variable.
+#[derive(Drop)]
+pub struct Variable {
+    /// Its name: section, subsection and key, with dots between. Section and key are in lowercase.
+    pub name: Vec<u8>,
+    /// Its value, or `None` if there is no `=`.
+    pub value: Option<Vec<u8>>,
+}
+
+/// The variables of a config, up to its first bad line.
+#[derive(Drop)]
+pub struct Config {
+    /// The variables in order.
+    pub variables: Vec<Variable>,
+    /// The number of the first line that is no section and no variable, from 1, if there is one.
+    pub bad_line: Option<usize>,
+}
+
+/// Reads the text of a config, up to its first bad line.
+pub fn read(alloc: Global, text: &[u8]) -> Result<Config, AllocError>
+    ensures { IfOk result (λ config.
+        IsConfig text.now (map said config.variables.items) config.bad_line) }
+{
+    let mut variables = Vec::new(alloc);
+    let mut section = Vec::new(alloc);
+    let mut left = without_mark(text);
+    while let [byte, rest @ ..] = left {
+        match read_item(alloc, &mut section, *byte, rest) {
+            Ok((found, after)) => {
+                if let Some(variable) = found {
+                    variables.push(variable)?;
+                }
+                left = after;
+            }
+            Err(Stop::Wrong(after)) => {
+                let bad_line = Some(line_number(text, after));
+                return Ok(Config {
+                    variables,
+                    bad_line,
+                });
+            }
+            Err(Stop::Memory) => return Err(AllocError),
+        }
+    }
+    Ok(Config {
+        variables,
+        bad_line: None,
+    })
+}

@@ -1,0 +1,314 @@
+//! The syntax of a config.
+
+ghost use Rattle.std.specs.Prelude.{◌≡◌, ◌≤◌, ◌-◌, ◌+◌, ◌++◌, ◌∷◌, ◌==◌, ◌||◌, [], length, take, drop, false, option_map, position, IfOk};
+ghost use Rattle.std.specs.List.{prefix_len};
+ghost use Rattle.git_config.specs.Grammar.{after_line, assignment, before_nul, ends_line, expect, header, header_end, is_blank, is_key_byte, is_name_byte, is_space, item, line_number, piece, quoted, value, variable, without_mark};
+ghost use Rattle.git_config.specs.Views.{Gives, GivesFrom, piece_of, said};
+ghost use Rattle.git_config.specs.declared.syntax.Stop.TheVariants.{Memory};
+
+use crate::Variable;
+use std::alloc::{AllocError, AllocFailed, Global};
+use std::slice::from_ref;
+
+/// Why reading stops.
+#[derive(Drop)]
+pub(crate) enum Stop {
+    /// There is not enough memory.
+    Memory,
+    /// A byte is wrong, or the end. So many bytes follow it.
+    Wrong(usize),
+}
+
+impl From<AllocError> for Stop {
+    ghost from_gives = { λ _ stop. stop ≡ Memory };
+
+    fn from(_error: AllocError) -> Stop {
+        Stop::Memory
+    }
+}
+
+impl<T: Drop> From<AllocFailed<T>> for Stop {
+    ghost from_gives = { λ _ stop. stop ≡ Memory };
+
+    fn from(_error: AllocFailed<T>) -> Stop {
+        Stop::Memory
+    }
+}
+
+// What was read from a text, and the rest.
+type Read<'a, T> = Result<(T, &'a [u8]), Stop>;
+
+/// Reads what a text in a section begins with, a variable or something else.
+pub(crate) fn read_item<'a>(
+    alloc: Global,
+    section: &mut Vec<u8>,
+    first: u8,
+    rest: &'a [u8],
+) -> Read<'a, Option<Variable>>
+    ensures { GivesFrom rest.now (λ found. (section.new.items, option_map said found)) result
+        (item section.old.items first rest.now) }
+{
+    match first {
+        b' ' | b'\t' | b'\r' | b'\n' => Ok((None, rest)),
+        b'#' | b';' => Ok((None, after_line(rest))),
+        b'[' => {
+            let (name, rest) = read_header(alloc, rest)?;
+            *section = name;
+            Ok((None, rest))
+        }
+        _ if first.is_ascii_alphabetic() => {
+            let mut name = section.to_vec(alloc)?;
+            name.push(first.to_ascii_lowercase())?;
+            let (variable, rest) = read_variable(alloc, name, rest)?;
+            Ok((Some(variable), rest))
+        }
+        _ => Err(Stop::Wrong(rest.len())),
+    }
+}
+
+// Reads a section's header after its opening bracket.
+fn read_header(alloc: Global, text: &[u8]) -> Read<'_, Vec<u8>>
+    ensures { GivesFrom text.now (λ name. name.items) result (header text.now) }
+{
+    let (name, rest) = text.split_at(name_len(text));
+    end_header(name.to_ascii_lowercase(alloc)?, rest)
+}
+
+// Reads what follows the name of a section: maybe a subsection, and the closing bracket.
+fn end_header(mut name: Vec<u8>, text: &[u8]) -> Read<'_, Vec<u8>>
+    ensures { GivesFrom text.now (λ name. name.items) result (header_end name.items text.now) }
+{
+    match text {
+        [b']', rest @ ..] if !name.is_empty() => {
+            name.push(b'.')?;
+            Ok((name, rest))
+        }
+        [b' ' | b'\t' | b'\r', rest @ ..] => {
+            name.push(b'.')?;
+            let opened = expect(&rest[blanks_len(rest)..], b'"')?;
+            let (mut name, closed) = read_quoted(name, opened)?;
+            name.push(b'.')?;
+            Ok((name, expect(closed, b']')?))
+        }
+        [_, rest @ ..] => Err(Stop::Wrong(rest.len())),
+        [] => Err(Stop::Wrong(0)),
+    }
+}
+
+// Reads a subsection after its quotation mark, and adds it to a name.
+fn read_quoted(mut name: Vec<u8>, text: &[u8]) -> Read<'_, Vec<u8>>
+    ensures { GivesFrom text.now (λ name. name.items) result
+        (quoted false name.items text.now) }
+{
+    let mut escaped = false;
+    let mut left = text;
+    while let [byte, rest @ ..] = left {
+        match byte {
+            b'\n' => return Err(Stop::Wrong(rest.len())),
+            b'"' if !escaped => return Ok((name, rest)),
+            b'\\' if !escaped => escaped = true,
+            _ => {
+                name.push(*byte)?;
+                escaped = false;
+            }
+        }
+        left = rest;
+    }
+    Err(Stop::Wrong(0))
+}
+
+// Reads a variable whose name begins so.
+fn read_variable(alloc: Global, mut name: Vec<u8>, text: &[u8]) -> Read<'_, Variable>
+    ensures { GivesFrom text.now said result (variable name.items text.now) }
+{
+    let (key, rest) = text.split_at(key_len(text));
+    name.extend_from_slice(&key.to_ascii_lowercase(alloc)?)?;
+    let (value, rest) = read_assignment(alloc, &rest[spaces_len(rest)..])?;
+    let name = before_nul(name);
+    let value = value.map(|value| before_nul(value));
+    Ok((Variable { name, value }, rest))
+}
+
+// Reads what follows a key: nothing, or `=` and a value.
+fn read_assignment(alloc: Global, text: &[u8]) -> Read<'_, Option<Vec<u8>>>
+    ensures { GivesFrom text.now (option_map (λ value. value.items)) result
+        (assignment text.now) }
+{
+    if matches!(text, [] | [b'\n', ..] | [b'\r', b'\n', ..]) {
+        return Ok((None, after_line(text)));
+    }
+    let (value, rest) = read_value(alloc, expect(text, b'=')?)?;
+    Ok((Some(value), rest))
+}
+
+// Reads a value, up to the end of its line.
+fn read_value(alloc: Global, text: &[u8]) -> Read<'_, Vec<u8>>
+    ensures { GivesFrom text.now (λ value. value.items) result
+        (value false false [] 0 text.now) }
+{
+    let mut bytes = Vec::new(alloc);
+    // How many of them are kept if the value ends: not the spaces at its end.
+    let mut kept = 0;
+    let mut in_quotes = false;
+    let mut escaped = false;
+    let mut left = text;
+    while let [byte, rest @ ..] = left {
+        match piece_at(in_quotes, escaped, byte, rest)? {
+            Piece::End => {
+                bytes.truncate(kept);
+                return Ok((bytes, after_line(left)));
+            }
+            Piece::Blank => {
+                if !bytes.is_empty() {
+                    bytes.push(b' ')?;
+                }
+            }
+            Piece::Means(more, quotes, escapes) => {
+                bytes.extend_from_slice(more)?;
+                kept = bytes.len();
+                in_quotes = quotes;
+                escaped = escapes;
+            }
+        }
+        left = rest;
+    }
+    if in_quotes {
+        return Err(Stop::Wrong(0));
+    }
+    bytes.truncate(kept);
+    Ok((bytes, left))
+}
+
+// What a byte of a value is.
+enum Piece<'a> {
+    // The end.
+    End,
+    // A blank outside quotation marks.
+    Blank,
+    // What means these bytes; then, whether in quotation marks and after a backslash.
+    Means(&'a [u8], bool, bool),
+}
+
+// What this byte is, in quotation marks or not, and after a backslash or not.
+fn piece_at<'a>(
+    in_quotes: bool,
+    escaped: bool,
+    byte: &'a u8,
+    rest: &[u8],
+) -> Result<Piece<'a>, Stop>
+    ensures { Gives piece_of result (piece in_quotes escaped byte.now rest.now) }
+{
+    if escaped {
+        return match byte {
+            b'\n' => Ok(Piece::Means(b"", in_quotes, false)),
+            b'\r' if matches!(rest, [b'\n', ..]) => Ok(Piece::Means(b"", in_quotes, true)),
+            b'n' => Ok(Piece::Means(b"\n", in_quotes, false)),
+            b't' => Ok(Piece::Means(b"\t", in_quotes, false)),
+            b'b' => Ok(Piece::Means(b"\x08", in_quotes, false)),
+            b'"' | b'\\' => Ok(Piece::Means(from_ref(byte), in_quotes, false)),
+            _ => Err(Stop::Wrong(rest.len())),
+        };
+    }
+    match byte {
+        b'\n' if in_quotes => Err(Stop::Wrong(rest.len())),
+        b'\n' => Ok(Piece::End),
+        b'\\' => Ok(Piece::Means(b"", in_quotes, true)),
+        b'"' => Ok(Piece::Means(b"", !in_quotes, false)),
+        b'#' | b';' if !in_quotes => Ok(Piece::End),
+        b' ' | b'\t' | b'\r' if !in_quotes => Ok(Piece::Blank),
+        _ => Ok(Piece::Means(from_ref(byte), in_quotes, false)),
+    }
+}
+
+// The rest after this byte, which must be next.
+fn expect(text: &[u8], byte: u8) -> Result<&[u8], Stop>
+    ensures { Gives (λ rest. rest.now) result (expect byte text.now)
+        × IfOk result (λ rest. length rest.now ≤ length text.now) }
+{
+    match text {
+        [first, rest @ ..] if *first == byte => Ok(rest),
+        _ => Err(Stop::Wrong(text.len().saturating_sub(1))),
+    }
+}
+
+// How many bytes a key has, at the front of a text.
+fn key_len(text: &[u8]) -> usize
+    ensures len { result ≡ prefix_len is_key_byte text.now }
+    ensures bound { result ≤ length text.now }
+{
+    text.iter()
+        .take_while(|byte| byte.is_ascii_alphanumeric() || **byte == b'-')
+        .count()
+}
+
+// How many bytes the name of a section has, without a subsection.
+fn name_len(text: &[u8]) -> usize
+    ensures len { result ≡ prefix_len is_name_byte text.now }
+    ensures bound { result ≤ length text.now }
+{
+    text.iter()
+        .take_while(|byte| byte.is_ascii_alphanumeric() || matches!(**byte, b'-' | b'.'))
+        .count()
+}
+
+// How many blanks there are.
+fn blanks_len(text: &[u8]) -> usize
+    ensures len { result ≡ prefix_len is_blank text.now }
+    ensures bound { result ≤ length text.now }
+{
+    text.iter()
+        .take_while(|byte| matches!(**byte, b' ' | b'\t' | b'\r'))
+        .count()
+}
+
+// How many spaces and tabs there are.
+fn spaces_len(text: &[u8]) -> usize
+    ensures len { result ≡ prefix_len is_space text.now }
+    ensures bound { result ≤ length text.now }
+{
+    text.iter()
+        .take_while(|byte| matches!(**byte, b' ' | b'\t'))
+        .count()
+}
+
+// What is after the line that a text is in.
+fn after_line(text: &[u8]) -> &[u8]
+    ensures { result.now ≡ after_line text.now }
+{
+    match position_of(text, b'\n') {
+        Some(at) => &text[at + 1..],
+        None => &[],
+    }
+}
+
+// The bytes before the first NUL.
+fn before_nul(mut text: Vec<u8>) -> Vec<u8>
+    ensures { result.items ≡ before_nul text.items }
+{
+    if let Some(at) = position_of(&text, 0) {
+        text.truncate(at);
+    }
+    text
+}
+
+// Where a byte is first.
+fn position_of(text: &[u8], wanted: u8) -> Option<usize>
+    ensures { result ≡ position (λ byte. byte == wanted) text.now }
+{
+    text.iter().position(|byte| *byte == wanted)
+}
+
+/// A text without a byte order mark at its front.
+pub(crate) fn without_mark(text: &[u8]) -> &[u8]
+    ensures { result.now ≡ without_mark text.now }
+{
+    text.strip_prefix(b"\xef\xbb\xbf").unwrap_or(text)
+}
+
+/// The number of the line, from 1, of the byte that so many follow.
+pub(crate) fn line_number(text: &[u8], left: usize) -> usize
+    ensures { result ≡ line_number text.now left }
+{
+    let front = &text[..text.len().saturating_sub(left.saturating_add(1))];
+    front.iter().filter(|byte| **byte == b'\n').count() + 1
+}
