@@ -2,26 +2,58 @@
 
 use clap::{Arg, ArgAction, ArgMatches, Command, value_parser};
 use gix_hash::Kind;
+use packtool_commands::Answers;
 use std::alloc::{AllocError, Global};
 
 /// What the program is asked to do.
 #[derive(Clone, Copy)]
-pub enum Request {
-    /// A command over a store.
-    Store(StoreCommand),
-    /// A command over files.
-    Files(FileCommand),
+pub enum Request<'m, 'a> {
+    /// To look ids up in a store.
+    Store(StoreRequest<'a>),
+    /// To read files.
+    Files(FileRequest<'m, 'a>),
 }
 
-/// A command over a store.
+/// A request to look ids up in a store.
 #[derive(Clone, Copy)]
-pub enum StoreCommand {
-    /// `find`.
-    Find,
-    /// `where`.
-    Locate,
-    /// `names`.
-    Names,
+pub struct StoreRequest<'a> {
+    /// What is asked of the store.
+    pub ask: Ask<'a>,
+    /// The object directory, or `None` for the one that Git would find.
+    pub objects: Option<&'a str>,
+    /// The kind of the ids, or `None` for the one that the repository has.
+    pub kind: Option<Kind>,
+}
+
+/// What is asked of a store.
+#[derive(Clone, Copy)]
+pub enum Ask<'a> {
+    /// One question, with the text of its prefix.
+    Once(Question<&'a str>),
+    /// A question for each line of standard input, and what is printed for each.
+    Lines(Question<Answers>),
+}
+
+/// A question to a store, with what `find` and `where` are given.
+#[derive(Clone, Copy)]
+pub enum Question<P> {
+    /// `find`: which ids begin with a prefix.
+    Find(P),
+    /// `where`: in which packs and loose files these ids are.
+    Locate(P),
+    /// `names`: which abbreviations of this many digits or more ids have.
+    Names(usize),
+}
+
+/// A request to read files.
+#[derive(Clone, Copy)]
+pub struct FileRequest<'m, 'a> {
+    /// What is done with each.
+    pub command: FileCommand,
+    /// The paths of the files, in order.
+    pub paths: &'m [&'a str],
+    /// The kind of their ids and digests, or `None` for the one that a file has.
+    pub kind: Option<Kind>,
 }
 
 /// A command over files.
@@ -33,11 +65,25 @@ pub enum FileCommand {
     Check,
 }
 
-// A row of the table of commands: what a command asks for, its name, what its help says of it, and
-// its arguments.
+// A command over a store.
+#[derive(Clone, Copy)]
+enum StoreCommand {
+    Find,
+    Locate,
+    Names,
+}
+
+// A command, over a store or over files.
+#[derive(Clone, Copy)]
+enum Action {
+    Store(StoreCommand),
+    Files(FileCommand),
+}
+
+// A row of the table of commands: a command, its name, what its help says of it, and its arguments.
 #[derive(Clone, Copy)]
 struct Row {
-    request: Request,
+    action: Action,
     name: &'static str,
     about: &'static str,
     arguments: &'static [Argument],
@@ -58,7 +104,7 @@ enum Argument {
 
 const COMMANDS: [Row; 5] = [
     Row {
-        request: Request::Store(StoreCommand::Find),
+        action: Action::Store(StoreCommand::Find),
         name: "find",
         about: "Prints each id of the store that begins with a prefix",
         arguments: &[
@@ -70,7 +116,7 @@ const COMMANDS: [Row; 5] = [
         ],
     },
     Row {
-        request: Request::Store(StoreCommand::Locate),
+        action: Action::Store(StoreCommand::Locate),
         name: "where",
         about: "Prints each pack and offset, or loose file, of each id that begins with a prefix",
         arguments: &[
@@ -82,7 +128,7 @@ const COMMANDS: [Row; 5] = [
         ],
     },
     Row {
-        request: Request::Store(StoreCommand::Names),
+        action: Action::Store(StoreCommand::Names),
         name: "names",
         about: "Prints each id of the store after its shortest unique prefix",
         arguments: &[
@@ -93,28 +139,18 @@ const COMMANDS: [Row; 5] = [
         ],
     },
     Row {
-        request: Request::Files(FileCommand::Show),
+        action: Action::Files(FileCommand::Show),
         name: "show",
         about: "Prints offset, id and CRC of each object of pack indexes, as git show-index does",
         arguments: &[Argument::Indexes, Argument::Kind],
     },
     Row {
-        request: Request::Files(FileCommand::Check),
+        action: Action::Files(FileCommand::Check),
         name: "check",
         about: "Prints whether pack indexes are right, and whether other files end with their digest",
         arguments: &[Argument::Files, Argument::Kind],
     },
 ];
-
-/// The command of the subcommand with this name.
-pub fn read_request(name: &str) -> Option<Request> {
-    for row in &COMMANDS {
-        if row.name == name {
-            return Some(row.request);
-        }
-    }
-    None
-}
 
 // The version and the origin, as `--version` and `--help` print them.
 const VERSION: &str = "0.5.0-dev of Nunbirdstand, a port of the Rust crate gix-hash 0.26.2";
@@ -207,8 +243,60 @@ fn files<'a>(alloc: Global) -> Arg<'a> {
         .num_args(1..)
 }
 
-/// The kind that was asked for.
-pub fn kind(matches: &ArgMatches<'_>) -> Option<Kind> {
+/// The request that was read, or `None` if it names no command.
+pub fn read_request<'m, 'a>(matches: &'m ArgMatches<'a>) -> Option<Request<'m, 'a>> {
+    let (name, matches) = matches.subcommand()?;
+    let kind = kind_of(matches);
+    Some(match action_of(name)? {
+        Action::Store(command) => Request::Store(StoreRequest {
+            ask: ask_of(command, matches),
+            objects: matches.get_str("objects"),
+            kind,
+        }),
+        Action::Files(command) => Request::Files(FileRequest {
+            command,
+            paths: matches.get_strs("files").unwrap_or(&[]),
+            kind,
+        }),
+    })
+}
+
+// The command of this name.
+fn action_of(name: &str) -> Option<Action> {
+    for row in &COMMANDS {
+        if row.name == name {
+            return Some(row.action);
+        }
+    }
+    None
+}
+
+// What a command asks of a store.
+fn ask_of<'a>(command: StoreCommand, matches: &ArgMatches<'a>) -> Ask<'a> {
+    let least = usize::from(matches.get_one::<u8>("least").unwrap_or(4));
+    if !matches.get_flag("stdin") {
+        let prefix = matches.get_str("prefix").unwrap_or("");
+        return Ask::Once(question_of(command, prefix, least));
+    }
+    let answers = if matches.get_flag("one") {
+        Answers::One
+    } else {
+        Answers::All
+    };
+    Ask::Lines(question_of(command, answers, least))
+}
+
+// The question of a command.
+fn question_of<P: Copy>(command: StoreCommand, given: P, least: usize) -> Question<P> {
+    match command {
+        StoreCommand::Find => Question::Find(given),
+        StoreCommand::Locate => Question::Locate(given),
+        StoreCommand::Names => Question::Names(least),
+    }
+}
+
+// The kind that was asked for.
+fn kind_of(matches: &ArgMatches<'_>) -> Option<Kind> {
     match matches.get_str("kind") {
         Some("sha1") => Some(Kind::Sha1),
         Some("sha256") => Some(Kind::Sha256),

@@ -13,8 +13,7 @@ mod output;
 mod stores;
 mod words;
 
-use arguments::{FileCommand, Request};
-use clap::ArgMatches;
+use arguments::{FileCommand, FileRequest, Request};
 use failure::Failure;
 use gix_hash::Kind;
 use output::{buffered, flushed, report};
@@ -32,7 +31,7 @@ const FAILED: u8 = 2;
 
 fn main(rt: HostRuntime) -> ExitCode {
     match words::read_words(&rt) {
-        Ok(words) => end(&rt, run(&rt, &words)),
+        Ok(words) => end(&rt, run_words(&rt, &words)),
         Err(error) => end(&rt, Err(Failure::from(error))),
     }
 }
@@ -55,12 +54,16 @@ fn is_closed_pipe(error: &io::Error) -> bool {
 }
 
 // Runs the command that the words ask for over standard output, and returns the status.
-fn run<'a>(rt: &HostRuntime, words: &'a [String]) -> Result<u8, Failure<'a>> {
+fn run_words<'a>(rt: &HostRuntime, words: &'a [String]) -> Result<u8, Failure<'a>> {
     let matches = match arguments::command(rt.alloc())?.try_get_matches_from(words) {
         Ok(matches) => matches,
         Err(error) => return print_usage(rt, words, &error),
     };
-    run_request(rt, &matches)
+    match arguments::read_request(&matches) {
+        Some(Request::Store(request)) => stores::answer(rt, &request),
+        Some(Request::Files(request)) => read_files(rt, &request),
+        None => Ok(FAILED),
+    }
 }
 
 // Prints why the words ask for no command, or the help or version that they ask for. An argument
@@ -90,39 +93,22 @@ fn first_not_text(words: &[String]) -> Option<usize> {
     None
 }
 
-// Runs the command that was read.
-fn run_request<'a>(rt: &HostRuntime, matches: &ArgMatches<'a>) -> Result<u8, Failure<'a>> {
-    let Some((name, matches)) = matches.subcommand() else {
-        return Ok(FAILED);
-    };
-    match arguments::read_request(name) {
-        Some(Request::Store(command)) => stores::run(rt, command, matches),
-        Some(Request::Files(command)) => run_over_files(rt, command, matches),
-        None => Ok(FAILED),
-    }
-}
-
-// Runs `show` or `check` over each file, also after one that cannot be read. `check` returns the
-// status also if nobody reads the output any more.
-fn run_over_files<'a>(
-    rt: &HostRuntime,
-    command: FileCommand,
-    matches: &ArgMatches<'a>,
-) -> Result<u8, Failure<'a>> {
+// Shows or checks each file, also after one that cannot be read. `check` returns the status also if
+// nobody reads the output any more.
+fn read_files<'a>(rt: &HostRuntime, request: &FileRequest<'_, '_>) -> Result<u8, Failure<'a>> {
     let mut out = buffered(rt, rt.stdout())?;
-    let kind = arguments::kind(matches);
     let mut status = FOUND;
-    for path in matches.get_strs("files").unwrap_or(&[]) {
-        status = status.max(run_over_file(rt, command, path, kind, &mut out)?);
+    for path in request.paths {
+        status = status.max(read_file(rt, request.command, path, request.kind, &mut out)?);
     }
-    match (flushed(status, &mut out), command) {
+    match (flushed(status, &mut out), request.command) {
         (Err(Failure::Output(error)), FileCommand::Check) if is_closed_pipe(&error) => Ok(status),
         (flushed, _) => flushed,
     }
 }
 
-// Runs `show` or `check` over a file, and returns the status. One that cannot be read is reported.
-fn run_over_file<'a, W: io::Write>(
+// Shows or checks a file, and returns the status. One that cannot be read is reported.
+fn read_file<'a, W: io::Write>(
     rt: &HostRuntime,
     command: FileCommand,
     path: &str,

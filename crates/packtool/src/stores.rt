@@ -3,15 +3,15 @@
 ghost use Rattle.std.specs.Prelude.{◌≡◌, ◌≤◌, false, length, IfOk, OnOk};
 ghost use Rattle.gix_hash.specs.Kinds.{hex_len_of};
 ghost use Rattle.streams.specs.Devices.{plain_failed};
+ghost use Rattle.packtool.specs.Requests.{IsAskedOf, LeastFits};
 
-use crate::arguments::{self, StoreCommand};
+use crate::arguments::{Ask, Question, StoreRequest};
 use crate::failure::Failure;
 use crate::files::expect_text;
 use crate::lines::LineReader;
 use crate::output::{NotesWrites, buffered, flushed, report};
 use crate::words::{beginning, lossy_text};
 use crate::{FAILED, FOUND, NOTHING};
-use clap::ArgMatches;
 use gix_hash::{Kind, Prefix};
 use object_store::{NamedId, Store, abbreviate_part};
 use packtool_commands::{
@@ -30,26 +30,29 @@ const MAX_TRIES: usize = 10;
 // The most ids or locations of several lines that are held at a time.
 const MAX_FOUND: usize = 1 << 16;
 
-/// Runs `find`, `where` or `names`, and returns the status. If a pack index is gone that was
-/// listed, it begins again over the store as it is then, unless something may have been written to
-/// standard output.
+// A question, and the lines of standard input that it is about if it is about lines.
+#[derive(Clone, Copy)]
+enum Asked<'a, 'l> {
+    Once(Question<&'a str>),
+    Lines(Question<Answers>, &'l [u8]),
+}
+
+/// Answers a request, and returns the status. If a pack index is gone that was listed, it begins
+/// again over the store as it is then, unless something may have been written to standard output.
 ///
-/// With `--stdin` it does so for each chunk of lines, and returns the worst status.
-pub fn run<'a>(
-    rt: &HostRuntime,
-    command: StoreCommand,
-    matches: &ArgMatches<'a>,
-) -> Result<u8, Failure<'a>> {
-    let folder = objects_folder(rt, matches)?;
-    if matches!(command, StoreCommand::Names) {
-        // (also if no line comes that asks for a name)
-        read_least(matches, folder.kind)?;
-    }
+/// For the lines of standard input it does so for each chunk of them, and returns the worst status.
+pub fn answer<'a>(rt: &HostRuntime, request: &StoreRequest<'a>) -> Result<u8, Failure<'a>> {
+    let folder = objects_folder(rt, request)?;
     let mut reported = Vec::new(rt.alloc());
-    if matches.get_flag("stdin") {
-        run_over_input(rt, &folder, command, matches, &mut reported)
-    } else {
-        run_over(rt, &folder, command, matches, None, &mut reported)
+    match request.ask {
+        Ask::Once(question) => {
+            let question = in_kind(question, folder.kind)?;
+            run_over(rt, &folder, Asked::Once(question), &mut reported)
+        }
+        Ask::Lines(question) => {
+            let question = in_kind(question, folder.kind)?;
+            run_over_input(rt, &folder, question, &mut reported)
+        }
     }
 }
 
@@ -58,17 +61,18 @@ pub fn run<'a>(
 fn run_over_input<'a>(
     rt: &HostRuntime,
     folder: &ObjectsFolder,
-    command: StoreCommand,
-    matches: &ArgMatches<'a>,
+    question: Question<Answers>,
     reported: &mut Vec<String>,
-) -> Result<u8, Failure<'a>> {
+) -> Result<u8, Failure<'a>>
+    requires { LeastFits folder.now.kind question }
+{
     let mut input = LineReader::new(rt.alloc(), Retrying::new(rt.reader()))?;
     let mut status = FOUND;
     for _ in 0..u64::MAX {
         if !input.next()? {
             break;
         }
-        let ran = run_over_lines(rt, folder, command, matches, input.lines(), reported)?;
+        let ran = run_over_lines(rt, folder, question, input.lines(), reported)?;
         status = status.max(ran);
     }
     Ok(status)
@@ -79,11 +83,12 @@ fn run_over_input<'a>(
 fn run_over_lines<'a>(
     rt: &HostRuntime,
     folder: &ObjectsFolder,
-    command: StoreCommand,
-    matches: &ArgMatches<'a>,
+    question: Question<Answers>,
     lines: &[u8],
     reported: &mut Vec<String>,
-) -> Result<u8, Failure<'a>> {
+) -> Result<u8, Failure<'a>>
+    requires { LeastFits folder.now.kind question }
+{
     let mut rest = lines;
     let mut len = lines.len();
     let mut status = FOUND;
@@ -92,7 +97,7 @@ fn run_over_lines<'a>(
             break;
         }
         let (part, after) = first_lines(rest, len);
-        match run_over(rt, folder, command, matches, Some(part), reported) {
+        match run_over(rt, folder, Asked::Lines(question, part), reported) {
             Err(Failure::TooMany) => len = part.len() / 2,
             ran => {
                 status = status.max(ran?);
@@ -116,24 +121,23 @@ fn first_lines(lines: &[u8], len: usize) -> (&[u8], &[u8]) {
     lines.split_at(lines.len().min(end.saturating_add(1)))
 }
 
-// Runs a command over an object directory, and returns the status: for these lines of standard
-// input, or for what the words say.
+// Runs a command over an object directory, and returns the status.
 fn run_over<'a>(
     rt: &HostRuntime,
     folder: &ObjectsFolder,
-    command: StoreCommand,
-    matches: &ArgMatches<'a>,
-    lines: Option<&[u8]>,
+    asked: Asked<'a, '_>,
     reported: &mut Vec<String>,
-) -> Result<u8, Failure<'a>> {
+) -> Result<u8, Failure<'a>>
+    requires { IsAskedOf folder.now.kind asked }
+{
     let is_written = Cell::new(false);
     for _ in 1..MAX_TRIES {
-        let ended = run_once(rt, folder, command, matches, lines, reported, &is_written);
+        let ended = run_once(rt, folder, asked, reported, &is_written);
         if is_written.get() || !is_gone(&ended) {
             return ended;
         }
     }
-    run_once(rt, folder, command, matches, lines, reported, &is_written)
+    run_once(rt, folder, asked, reported, &is_written)
 }
 
 // Runs a command once, and returns the status. It also says whether something may have been
@@ -141,20 +145,22 @@ fn run_over<'a>(
 fn run_once<'a>(
     rt: &HostRuntime,
     folder: &ObjectsFolder,
-    command: StoreCommand,
-    matches: &ArgMatches<'a>,
-    lines: Option<&[u8]>,
+    asked: Asked<'a, '_>,
     reported: &mut Vec<String>,
     is_written: &Cell<bool>,
-) -> Result<u8, Failure<'a>> {
+) -> Result<u8, Failure<'a>>
+    requires { IsAskedOf folder.now.kind asked }
+{
     let output = NotesWrites {
         inner: rt.stdout(),
         is_written,
     };
     let mut out = buffered(rt, output)?;
-    let ran = match lines {
-        None => write_lines(rt, folder, command, matches, reported, &mut out),
-        Some(lines) => write_each(rt, folder, command, matches, lines, reported, &mut out),
+    let ran = match asked {
+        Asked::Once(question) => write_lines(rt, folder, question, reported, &mut out),
+        Asked::Lines(question, lines) => {
+            write_each(rt, folder, question, lines, reported, &mut out)
+        }
     };
     if is_gone(&ran) && !is_written.get() {
         // The lines in the buffer are dropped, not written.
@@ -173,26 +179,26 @@ fn is_gone(ran: &Result<u8, Failure<'_>>) -> bool {
 fn write_lines<'a, W: io::Write>(
     rt: &HostRuntime,
     folder: &ObjectsFolder,
-    command: StoreCommand,
-    matches: &ArgMatches<'a>,
+    question: Question<&'a str>,
     reported: &mut Vec<String>,
     out: &mut Plain<W>,
-) -> Result<u8, Failure<'a>> {
+) -> Result<u8, Failure<'a>>
+    requires { LeastFits folder.now.kind question }
+{
     if out.failed() {
         return Err(Failure::of_output(out));
     }
-    match command {
-        StoreCommand::Find => {
-            let (store, prefix) = open_part(rt, folder, matches)?;
+    match question {
+        Question::Find(text) => {
+            let (store, prefix) = open_part(rt, folder, text)?;
             let ran = find(rt.alloc(), &store, &prefix, out);
             status_of(rt, &store, ran, reported, out)
         }
-        StoreCommand::Locate => {
-            let (store, prefix) = open_part(rt, folder, matches)?;
+        Question::Locate(text) => {
+            let (store, prefix) = open_part(rt, folder, text)?;
             write_locations(rt, &store, &prefix, reported, out)
         }
-        StoreCommand::Names => {
-            let least = read_least(matches, folder.kind)?;
+        Question::Names(least) => {
             let mut store = FolderStore::open(rt, folder, LooseIds::All)?;
             write_all_names(rt, folder, least, &mut store, reported, out)
         }
@@ -203,31 +209,24 @@ fn write_lines<'a, W: io::Write>(
 fn write_each<'a, W: io::Write>(
     rt: &HostRuntime,
     folder: &ObjectsFolder,
-    command: StoreCommand,
-    matches: &ArgMatches<'a>,
+    question: Question<Answers>,
     lines: &[u8],
     reported: &mut Vec<String>,
     out: &mut Plain<W>,
-) -> Result<u8, Failure<'a>> {
+) -> Result<u8, Failure<'a>>
+    requires { LeastFits folder.now.kind question }
+{
     if out.failed() {
         return Err(Failure::of_output(out));
     }
-    let answers = if matches.get_flag("one") {
-        Answers::One
-    } else {
-        Answers::All
-    };
     let store = FolderStore::open(rt, folder, loose_of(lines))?;
-    let ran = match command {
-        StoreCommand::Find => find_each(rt.alloc(), &store, lines, answers, MAX_FOUND, out),
-        StoreCommand::Locate => {
+    let ran = match question {
+        Question::Find(answers) => find_each(rt.alloc(), &store, lines, answers, MAX_FOUND, out),
+        Question::Locate(answers) => {
             check_loose_files(rt, &store, lines)?;
             locate_each(rt.alloc(), &store, lines, answers, MAX_FOUND, out)
         }
-        StoreCommand::Names => {
-            let least = read_least(matches, folder.kind)?;
-            name_each(rt.alloc(), &store, lines, least, MAX_FOUND, out)
-        }
+        Question::Names(least) => name_each(rt.alloc(), &store, lines, least, MAX_FOUND, out),
     };
     status_of(rt, &store, ran, reported, out)
 }
@@ -334,12 +333,12 @@ fn read_names(
 fn open_part<'a>(
     rt: &HostRuntime,
     folder: &ObjectsFolder,
-    matches: &ArgMatches<'a>,
+    text: &'a str,
 ) -> Result<(FolderStore<HostRuntime>, Prefix), Failure<'a>>
     ensures enough { IfOk result (λ part. 2 ≤ length part.1.digits) }
     ensures kind { IfOk result (λ part. part.1.kind ≡ part.0.kind) }
 {
-    let prefix = read_prefix(matches, folder.kind)?;
+    let prefix = read_prefix(text, folder.kind)?;
     let loose = LooseIds::WithFirstByte(prefix.first_byte());
     Ok((FolderStore::open(rt, folder, loose)?, prefix))
 }
@@ -415,41 +414,43 @@ fn status_if(is_whole: bool, any: bool) -> u8 {
 // was asked for.
 fn objects_folder<'a>(
     rt: &HostRuntime,
-    matches: &ArgMatches<'a>,
+    request: &StoreRequest<'a>,
 ) -> Result<ObjectsFolder, Failure<'a>> {
-    let mut folder = match matches.get_str("objects") {
+    let mut folder = match request.objects {
         Some(path) => {
             expect_text(rt, path)?;
             ObjectsFolder::at(rt, path)?
         }
         None => find_objects(rt)?,
     };
-    if let Some(kind) = arguments::kind(matches) {
+    if let Some(kind) = request.kind {
         folder.kind = kind;
     }
     Ok(folder)
 }
 
-// The fewest digits of an abbreviation that were asked for.
-fn read_least<'a>(matches: &ArgMatches<'a>, kind: Kind) -> Result<usize, Failure<'a>>
-    ensures least { IfOk result (λ least. 4 ≤ least) }
-    ensures most { IfOk result (λ least. least ≤ hex_len_of kind) }
+// A question to a store of this kind of ids, which fails if abbreviations would have more digits
+// than they.
+fn in_kind<'a, P: Copy>(question: Question<P>, kind: Kind) -> Result<Question<P>, Failure<'a>>
+    ensures { IfOk result (LeastFits kind) }
 {
-    let least = usize::from(matches.get_one::<u8>("least").unwrap_or(4)).max(4);
+    let Question::Names(least) = question else {
+        return Ok(question);
+    };
+    let least = least.max(4);
     let most = kind.len_in_hex();
     if least > most {
         Err(Failure::Least { least, most })
     } else {
-        Ok(least)
+        Ok(Question::Names(least))
     }
 }
 
-// The prefix that was asked for.
-fn read_prefix<'a>(matches: &ArgMatches<'a>, kind: Kind) -> Result<Prefix, Failure<'a>>
+// The prefix that a text is.
+fn read_prefix<'a>(text: &'a str, kind: Kind) -> Result<Prefix, Failure<'a>>
     ensures enough { IfOk result (λ prefix. 2 ≤ length prefix.digits) }
     ensures kind { IfOk result (λ prefix. prefix.kind ≡ kind) }
 {
-    let text = matches.get_str("prefix").unwrap_or("");
     if let Ok(prefix) = Prefix::from_hex_in(kind, text)
         && prefix.hex_len() >= 2
     {
