@@ -1,1 +1,3 @@
+pub mod LineReaders
 pub mod Requests
+pub mod WholeLines
