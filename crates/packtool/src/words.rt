@@ -1,5 +1,10 @@
 //! The words of the command line.
 
+ghost use Rattle.std.specs.Prelude.{◌≡◌, ◌≢◌, ◌++◌, ◌≤◌, [], ◌∷◌, List, ℕ, length, IfOk, MatchOption, string_bytes};
+ghost use Rattle.std.specs.Io.{StartsWith};
+ghost use Rattle.std.specs.Str.{IsUtf8};
+ghost use Rattle.std.specs.Str.Lossy.{utf8_lossy};
+
 use std::alloc::{AllocError, Global};
 use std::env::FillError;
 use std::rt::Env;
@@ -36,7 +41,11 @@ fn read_bytes(rt: &(impl Env + AllocGlobal), at: usize) -> Result<Option<Vec<u8>
 }
 
 // The word that stands for an argument.
-fn word_of(alloc: Global, bytes: &[u8]) -> Result<String, AllocError> {
+fn word_of(alloc: Global, bytes: &[u8]) -> Result<String, AllocError>
+    ensures text { IfOk result (λ word. IsUtf8 bytes.now → string_bytes word ≡ bytes.now) }
+    ensures other { IfOk result (λ word. ¬ (IsUtf8 bytes.now)
+        → string_bytes word ≡ utf8_lossy bytes.now ++ (0 ∷ [])) }
+{
     if let Ok(word) = str::from_utf8(bytes) {
         return String::from_str(alloc, word);
     }
@@ -46,11 +55,20 @@ fn word_of(alloc: Global, bytes: &[u8]) -> Result<String, AllocError> {
 }
 
 /// The first bytes of a text, at most 80, up to the end of a character.
-pub fn beginning(text: &str) -> &str {
-    text.get(..text.floor_char_boundary(80)).unwrap_or(text)
+pub fn beginning(text: &str) -> &str
+    ensures begins { StartsWith text.now result.now }
+    ensures short { length result.now ≤ 80 }
+{
+    match text.get(..text.floor_char_boundary(80)) {
+        Some(beginning) => beginning,
+        None => "",
+    }
 }
 
 /// The text of a word whose argument is not UTF-8, or `None` if it is.
-pub fn lossy_text(word: &str) -> Option<&str> {
-    word.strip_suffix('\0')
+pub fn lossy_text(word: &str) -> Option<&str>
+    ensures { MatchOption result ((text : List ℕ) → word.now ≢ text ++ (0 ∷ []))
+        (λ text. word.now ≡ text.now ++ (0 ∷ [])) }
+{
+    word.strip_suffix("\0")
 }
