@@ -1,9 +1,10 @@
 //! Commands over a store.
 
-ghost use Rattle.std.specs.Prelude.{◌≡◌, ◌≤◌, false, length, IfOk, OnOk};
+ghost use Rattle.std.specs.Prelude.{◌≡◌, ◌<◌, ◌≤◌, ◌++◌, false, if◌then◌else◌, length, take, IfOk, OnOk};
 ghost use Rattle.gix_hash.specs.Kinds.{hex_len_of};
 ghost use Rattle.streams.specs.Devices.{plain_failed};
 ghost use Rattle.packtool.specs.Requests.{IsAskedOf, LeastFits};
+ghost use Rattle.packtool.specs.WholeLines.{AreWhole};
 
 use crate::arguments::{Ask, Question, StoreRequest};
 use crate::failure::Failure;
@@ -109,16 +110,44 @@ fn run_over_lines<'a>(
 }
 
 // The first whole lines of at most this length together, but one at least, and those after them.
-fn first_lines(lines: &[u8], len: usize) -> (&[u8], &[u8]) {
+fn first_lines(lines: &[u8], len: usize) -> (&[u8], &[u8])
+    ensures all { lines.now ≡ result.0.now ++ result.1.now }
+    ensures some { 0 < length lines.now → 0 < length result.0.now }
+    ensures whole { AreWhole lines.now → AreWhole result.0.now }
+{
     let fit = lines.get(..len).unwrap_or(lines);
-    let end = match fit.iter().rposition(|byte| *byte == b'\n') {
-        Some(at) => at,
-        None => lines
-            .iter()
-            .position(|byte| *byte == b'\n')
-            .unwrap_or(lines.len()),
+    let end = match whole_len(fit) {
+        0 => line_len(lines),
+        end => end,
     };
-    lines.split_at(lines.len().min(end.saturating_add(1)))
+    lines.split_at(end)
+}
+
+// The length of the whole lines that bytes begin with.
+fn whole_len(bytes: &[u8]) -> usize
+    ensures bound { result ≤ length bytes.now }
+    ensures whole { AreWhole (take result bytes.now) }
+{
+    for at in (0..bytes.len()).rev() {
+        if bytes[at] == b'\n' {
+            return at + 1;
+        }
+    }
+    0
+}
+
+// The length of the line that lines begin with, and its line feed.
+fn line_len(lines: &[u8]) -> usize
+    ensures bound { result ≤ length lines.now }
+    ensures some { 0 < length lines.now → 0 < result }
+    ensures whole { AreWhole lines.now → AreWhole (take result lines.now) }
+{
+    for at in 0..lines.len() {
+        if lines[at] == b'\n' {
+            return at + 1;
+        }
+    }
+    lines.len()
 }
 
 // Runs a command over an object directory, and returns the status.
@@ -402,7 +431,9 @@ fn report_skipped(
 }
 
 // The status if a store was read whole, and has an id.
-fn status_if(is_whole: bool, any: bool) -> u8 {
+fn status_if(is_whole: bool, any: bool) -> u8
+    ensures { result ≡ (if is_whole then (if any then FOUND else NOTHING) else FAILED) }
+{
     match (is_whole, any) {
         (false, _) => FAILED,
         (true, true) => FOUND,
