@@ -1,7 +1,8 @@
 //! Commands over files.
 
-ghost use Rattle.std.specs.Prelude.{◌≡◌, false};
+ghost use Rattle.std.specs.Prelude.{◌≡◌, ◌≢◌, ◌++◌, ◌⊎◌, ℕ, List, Some, false, true, IfOk, MatchOption, string_bytes};
 ghost use Rattle.streams.specs.Devices.{plain_failed};
+ghost use Rattle.streams.specs.Streams.{IsReadAt};
 
 use crate::failure::{Failure, FileWhy};
 use crate::words::lossy_text;
@@ -11,12 +12,18 @@ use packtool_commands::{
     FileError, Pairing, PairingError, pair, show as show_input, validate, write_ending,
     write_named, write_pairing,
 };
+use std::alloc::{AllocError, Global};
 use std::fs::{File, metadata};
 use std::io::{self, Cursor, Read, Seek, SeekFrom};
 use streams::{Ending, PipeError, Plain, ReadAt, Retrying, check_either, check_seal};
 
 // How a pack index begins, of version 2 and later.
 const MAGIC: [u8; 4] = *b"\xfftOc";
+
+// How the names of pack indexes end, and of packs.
+const INDEX_END: &str = ".idx";
+
+const PACK_END: &str = ".pack";
 
 // The length of that, the version and the 256 counts of a pack index, of which the last is that of
 // all its names. Each name has at most 32 bytes, a CRC of 4 and an offset of 4 or 12. Two digests
@@ -205,9 +212,15 @@ fn verdict_of_open<'a>(
 }
 
 // Whether the name is that of a pack index, or the bytes begin as one of version 2.
-fn is_index<S: ReadAt>(source: &S, path: &str) -> bool {
+fn is_index<S: ReadAt>(source: &S, path: &str) -> bool
+    ensures named { result ≡ false → (stem : List ℕ) → path.now ≢ stem ++ INDEX_END.now }
+    ensures begun { (bytes : List ℕ) → S.content source.now ≡ Some bytes → result ≡ true
+        → ((stem : List ℕ) × (path.now ≡ stem ++ INDEX_END.now)) ⊎ IsReadAt bytes 0 MAGIC }
+    ensures found { (bytes : List ℕ) → S.content source.now ≡ Some bytes
+        → S.can_fail source.now ≡ false → IsReadAt bytes 0 MAGIC → result ≡ true }
+{
     let mut magic = [0; MAGIC.len()];
-    path.ends_with(".idx") || source.read_exact_at(&mut magic, 0).is_ok() && magic == MAGIC
+    path.ends_with(INDEX_END) || source.read_exact_at(&mut magic, 0).is_ok() && magic == MAGIC
 }
 
 // SHA-256 if a pack index of version 1 or 2 has the length for its names to be of that kind.
@@ -321,15 +334,29 @@ fn verdict_of_pair<'a>(
 
 // The pack beside a pack index, or `None` if there is none, or the file is not named as an index.
 fn pack_beside<'a>(rt: &HostRuntime, path: &str) -> Result<Option<(String, File)>, Failure<'a>> {
-    let Some(stem) = path.strip_suffix(".idx") else {
+    let Some(pack_path) = pack_path_of(rt.alloc(), path)? else {
         return Ok(None);
     };
-    let pack_path = format!(in rt.alloc(); "{stem}.pack")?;
     match open(rt, &pack_path) {
         Ok(pack) => Ok(Some((pack_path, pack))),
         Err(failure) if is_missing(&failure) => Ok(None),
         Err(failure) => Err(failure),
     }
+}
+
+// The path of the pack beside a pack index, or `None` if the file is not named as an index.
+fn pack_path_of(alloc: Global, path: &str) -> Result<Option<String>, AllocError>
+    ensures { IfOk result (λ pack. MatchOption pack
+        ((stem : List ℕ) → path.now ≢ stem ++ INDEX_END.now)
+        (λ pack. (stem : List ℕ) × (path.now ≡ stem ++ INDEX_END.now)
+            × (string_bytes pack ≡ stem ++ PACK_END.now))) }
+{
+    let Some(stem) = path.strip_suffix(INDEX_END) else {
+        return Ok(None);
+    };
+    let mut pack = String::from_str(alloc, stem)?;
+    pack.push_str(PACK_END)?;
+    Ok(Some(pack))
 }
 
 // Whether a file is not read because there is none.
