@@ -1,7 +1,10 @@
 //! Standard output, through a buffer.
 
+ghost use Rattle.std.specs.Prelude.{◌≡◌, false, IfOk};
+ghost use Rattle.streams.specs.Devices.{plain_failed};
+
 use crate::failure::Failure;
-use std::alloc::{AllocError, Global};
+use packtool_commands::write_named;
 use std::cell::Cell;
 use std::fmt::Display;
 use std::io::{self, BufWriter};
@@ -11,31 +14,22 @@ use streams::{BufferedSink, Plain, Retrying};
 /// a backslash, a line feed or a carriage return, the line begins with a backslash and these are
 /// escaped, as names are in the output. If it can't be printed, the status still says it.
 pub fn report(rt: &HostRuntime, error: &impl Display, after: &str) {
-    let line = match format!(in rt.alloc(); "packtool: {error}{after}") {
-        Ok(line) => escaped(rt.alloc(), &line),
-        Err(error) => Err(error),
-    };
-    let _ = match line {
-        Ok(line) => eprintln!(rt; "{line}"),
-        Err(_) => eprintln!(rt; "packtool: out of memory"),
-    };
+    if write_report(rt, error, after).is_err() {
+        let _ = eprintln!(rt; "packtool: out of memory");
+    }
 }
 
-// A line in which names end no line.
-fn escaped(alloc: Global, text: &str) -> Result<String, AllocError> {
-    let mut line = String::new(alloc);
-    if text.contains(['\\', '\n', '\r']) {
-        line.push('\\')?;
-    }
-    for letter in text.chars() {
-        match letter {
-            '\\' => line.push_str("\\\\")?,
-            '\n' => line.push_str("\\n")?,
-            '\r' => line.push_str("\\r")?,
-            _ => line.push(letter)?,
-        }
-    }
-    Ok(line)
+// Writes that line, unless memory runs out.
+fn write_report<'a>(
+    rt: &HostRuntime,
+    error: &impl Display,
+    after: &str,
+) -> Result<(), Failure<'a>> {
+    let line = format!(in rt.alloc(); "packtool: {error}{after}")?;
+    let mut out = buffered(rt, rt.stderr())?;
+    let _ = write_named(&line, b"\n", &mut out);
+    let _ = out.flush();
+    Ok(())
 }
 
 /// A writer that notes that it was called.
@@ -62,7 +56,9 @@ impl<W: io::Write> io::Write for NotesWrites<'_, W> {
 pub fn buffered<'a, W: io::Write + Drop>(
     rt: &HostRuntime,
     inner: W,
-) -> Result<Plain<BufWriter<Retrying<W>>>, Failure<'a>> {
+) -> Result<Plain<BufWriter<Retrying<W>>>, Failure<'a>>
+    ensures { IfOk result (λ out. plain_failed out ≡ false) }
+{
     match BufWriter::new(rt.alloc(), Retrying::new(inner)) {
         Ok(writer) => Ok(Plain::new(writer)),
         Err(_) => Err(Failure::Memory),
