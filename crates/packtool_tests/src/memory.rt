@@ -24,6 +24,16 @@ impl Reads {
         }
     }
 
+    /// Lets this many reads succeed from now on.
+    pub fn allow(&self, left: usize) {
+        self.left.set(left);
+    }
+
+    /// How many reads are left.
+    pub fn left(&self) -> usize {
+        self.left.get()
+    }
+
     /// Fails if no read is left.
     fn read(&self) -> io::Result<()> {
         let left = self.left.get();

@@ -14,7 +14,7 @@ use std::fs::File;
 use std::os::unix::fs::MetadataExt;
 use std::rt::Files;
 use std::{fs, io, str};
-use streams::ReadAt;
+use streams::{Cached, ReadAt};
 
 // How many pack indexes are kept open. The others are opened again to be read, so that a store of
 // any number of packs is read with few open files.
@@ -196,7 +196,7 @@ pub(crate) fn pack_paths(alloc: Global, indexes: &[String]) -> Result<Vec<String
 pub(crate) struct OpenIndexes<R: Files<File = File>> {
     // Their paths, in order.
     pub(crate) paths: Vec<String>,
-    pub(crate) indexes: Vec<LazyFile<Source<R>>>,
+    pub(crate) indexes: Vec<LazyFile<Cached<Source<R>>>>,
     // Why others are skipped: they are no pack indexes of version 2 and of the kind, or their
     // counts fall.
     pub(crate) skipped: Vec<Error>,
@@ -271,7 +271,7 @@ fn open_index<R: Files<File = File> + AllocGlobal + Clone + Drop>(
     path: &str,
     stays_open: bool,
     kind: Kind,
-) -> Result<LazyFile<Source<R>>, Error>
+) -> Result<LazyFile<Cached<Source<R>>>, Error>
     ensures { IfOk result (λ index. index.kind ≡ kind) }
 {
     let source = Source::open(rt, path, stays_open);

@@ -16,6 +16,7 @@ use std::cmp::Ordering;
 use std::fs::File;
 use std::rt::Files;
 use std::{fs, io};
+use streams::Cached;
 
 // How often a store that changes while it is read is read.
 const MAX_TRIES: usize = 100;
@@ -34,7 +35,7 @@ pub struct FolderStore<R: Files<File = File>> {
     skipped: Vec<Error>,
     paths: Vec<String>,
     packs: Vec<String>,
-    indexes: Vec<LazyFile<Source<R>>>,
+    indexes: Vec<LazyFile<Cached<Source<R>>>>,
     loose: LooseObjects,
     ghost of_kind: { All (λ index. index.kind ≡ kind) indexes.items },
     ghost loose_of_kind: { loose.table.kind ≡ kind },
@@ -219,7 +220,7 @@ fn begins_with(id: &ObjectId, prefix: &Prefix) -> bool {
 
 /// What files contain is not known.
 impl<R: Files<File = File> + AllocGlobal + Clone + Drop> Store for FolderStore<R> {
-    type Source = Source<R>;
+    type Source = Cached<Source<R>>;
 
     ghost view = { λ store. record {
       kind = store.kind;
@@ -231,7 +232,7 @@ impl<R: Files<File = File> + AllocGlobal + Clone + Drop> Store for FolderStore<R
         self.kind
     }
 
-    fn indexes(&self) -> &[LazyFile<Source<R>>] {
+    fn indexes(&self) -> &[LazyFile<Cached<Source<R>>>] {
         &self.indexes
     }
 

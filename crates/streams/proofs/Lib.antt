@@ -1,4 +1,5 @@
 pub mod WritingLemmas
+pub mod Parts
 mod Taking
 pub mod SealedLemmas
 pub mod LineLemmas
