@@ -6,7 +6,6 @@ use Rattle.std.specs.Simd.{first_chunks}
 use Rattle.std.proofs.Math.Nat.{mul-le-mul_left}
 use Rattle.std.proofs.lemmas.List.{take-take, drop-drop, drop-take, get_or-drop, get_or-map, get_or-take, length-drop, length-map, length-take-le, same_lists}
 use Rattle.std.proofs.lemmas.List.Elements.{All-map, filter_passes}
-use Rattle.std.proofs.lemmas.List.Sums.{count_by-le-length}
 use Rattle.gix_hash.specs.Digits.{digits_of}
 use Rattle.gix_hash.specs.Kinds.{byte_len_of}
 use Rattle.gix_hash.specs.declared.Kind.{Kind}
@@ -18,7 +17,7 @@ use Rattle.id_lookup.proofs.PartsInOrder.{below-next, part-run}
 use Rattle.pack_index.specs.Format.{Each, HasCount, HasTables, IsPackIndex, crc_table_start, digests_in, names_in, num_objects}
 use Rattle.pack_index.specs.Lazy.{HaveFirstByte, IsBucketFault, IsReadOrMemory, bucket_end, bucket_start, counted_with}
 use Rattle.pack_index.specs.declared.lazy_error.LazyError.{LazyError}
-use Rattle.pack_index.specs.declared.lazy_error.LazyError.TheVariants.{Read, Memory, CountsFall, CountTooHigh, WrongCount}
+use Rattle.pack_index.specs.declared.lazy_error.LazyError.TheVariants.{Read, Memory, WrongCount}
 use Rattle.pack_index.proofs.Counted.{as_many, digest_digits, length-digests_in, length-names_in, length-table}
 use Rattle.streams.specs.Streams.{IsReadAt}
 
@@ -109,13 +108,6 @@ second_digits kind bytes =
     (λ k d low. second_digit (get_or (first_chunks (byte_len_of kind) (length table / byte_len_of kind) table) k d))
 
 module _ (kind : Kind) (bytes : List ℕ) (byte : ℕ) (index : IsPackIndex kind bytes) (small : byte < 256) where
-  -- the counts of a pack index do not fall
-  counts_rise : bucket_start bytes byte ≤ bucket_end bytes byte
-  counts_rise = omega (arith, count_has kind bytes byte index.names.counts small)
-
-  counts_inside : bucket_end bytes byte ≤ num_objects bytes
-  counts_inside = omega (arith, index.names.counts byte small, count_by-le-length (is_up_to byte) (names_in kind bytes), length-names_in kind bytes index.names.tables)
-
   start_counted : bucket_start bytes byte ≡ count_by (is_below byte) (names_in kind bytes)
   start_counted = by byte small
     where
@@ -136,7 +128,5 @@ pub no_bucket_fault : (can_fail : Bool) (kind : Kind) (bytes : List ℕ) (byte :
     → IsReadOrMemory can_fail e
 no_bucket_fault can_fail kind bytes byte (Read e) index fault = fault
 no_bucket_fault can_fail kind bytes byte (Memory e) index fault = tt
-no_bucket_fault can_fail kind bytes byte (CountsFall b) index fault = omega (arith, counts_rise kind bytes byte index fault.1, fault.2)
-no_bucket_fault can_fail kind bytes byte (CountTooHigh b) index fault = omega (arith, counts_inside kind bytes byte index fault.1, fault.3)
 no_bucket_fault can_fail kind bytes byte (WrongCount b) index fault = fault.4 (have_byte kind bytes byte index fault.1)
 no_bucket_fault can_fail kind bytes byte _ index fault = absurd fault

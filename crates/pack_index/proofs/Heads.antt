@@ -5,8 +5,8 @@ use Rattle.std.proofs.lemmas.List.{get_or-take, get_or-drop}
 use Rattle.gix_hash.specs.Kinds.{byte_len_of}
 use Rattle.gix_hash.specs.declared.Kind.{Kind}
 use Rattle.gix_hash.specs.declared.Kind.TheVariants.{Sha1, Sha256}
-use Rattle.pack_index.specs.Format.{BeginsIndex, FillsBytes, HasHead, HasTables, IsHeadFault, long_table_start, min_len, names_start, num_objects, offset_table_start, other_than, word_at}
-use Rattle.pack_index.specs.Lazy.{bucket_start, bucket_end}
+use Rattle.pack_index.specs.Format.{BeginsIndex, Each, FillsBytes, HasHead, HasTables, IsFirstNot, IsHeadFault, long_table_start, min_len, names_start, num_objects, offset_table_start, other_than, word_at}
+use Rattle.pack_index.specs.Lazy.{Rises, bucket_end, bucket_start}
 use Rattle.pack_index.specs.declared.error.Error.{Error}
 use Rattle.pack_index.specs.declared.error.Error.TheVariants.{OtherKind, TooShort, Version1, BadMagic, BadVersion, WrongLength}
 use Rattle.streams.specs.Streams.{IsReadAt}
@@ -36,6 +36,17 @@ module _ (bytes head : List ℕ) (front : IsReadAt bytes 0 head) (long : length 
 
   pub end_in_head : (byte : ℕ) → byte < 256 → bucket_end head byte ≡ bucket_end bytes byte
   end_in_head byte low = head_word (8 + 4 * byte) (omega arith)
+
+  -- entries that do not fall in the head do not fall in the bytes, and the first that falls is one there
+  pub all_rise : Each (Rises head) 256 → Each (Rises bytes) 256
+  all_rise rise = λ b low. omega (arith, rise b low, start_in_head b low, end_in_head b low)
+
+  pub first_falls : (byte : ℕ) → IsFirstNot (Rises head) 256 byte → IsFirstNot (Rises bytes) 256 byte
+  first_falls byte (low, before, falls) = (
+    low,
+    λ b less. omega (arith, before b less, start_in_head b (omega (arith, less, low)), end_in_head b (omega (arith, less, low))),
+    λ is. falls (omega (arith, is, start_in_head byte low, end_in_head byte low)),
+  )
 
   -- where the offsets and the 8-byte offsets begin
   pub offsets_in_head : (kind : Kind) → offset_table_start kind head ≡ offset_table_start kind bytes
@@ -73,3 +84,11 @@ module _ (bytes head : List ℕ) (front : IsReadAt bytes 0 head) (long : length 
 pub head_inside : (kind : Kind) (len : ℕ) → min_len kind ≤ len → 1032 ≤ len
 head_inside Sha1 len enough = omega arith
 head_inside Sha256 len enough = omega arith
+
+-- if no entry falls, each is at most the last
+pub count_inside : (bytes : List ℕ) → Each (Rises bytes) 256 → (byte : ℕ) → byte < 256 → bucket_end bytes byte ≤ num_objects bytes
+count_inside bytes rise byte low = up (255 - byte) byte (omega (arith, low))
+  where
+    up : (left b : ℕ) → b + left ≡ 255 → bucket_end bytes b ≤ num_objects bytes
+    up zero b last = let is : b ≡ 255 = omega (arith, last) in omega (arith, ap (bucket_end bytes) is)
+    up (suc left) b more = omega (arith, rise (suc b) (omega (arith, more)), up left (suc b) (omega (arith, more)))

@@ -4,9 +4,9 @@ use Rattle.gix_hash.specs.Digits.{first_byte_of}
 use Rattle.gix_hash.specs.declared.Kind.{Kind}
 use Rattle.id_lookup.specs.Runs.{has_first_byte}
 use Rattle.id_lookup.specs.Indexes.{part_of}
-use Rattle.pack_index.specs.Format.{Each, HasCount, HasOffset, IsHeadFault, names_in, num_objects, word_at}
+use Rattle.pack_index.specs.Format.{Each, HasCount, HasHead, HasOffset, HasTables, IsFirstNot, IsHeadFault, names_in, num_objects, word_at}
 use Rattle.pack_index.specs.declared.lazy_error.LazyError.{LazyError}
-use Rattle.pack_index.specs.declared.lazy_error.LazyError.TheVariants.{Read, Memory, Head, CountsFall, CountTooHigh, WrongCount, NoOffset}
+use Rattle.pack_index.specs.declared.lazy_error.LazyError.TheVariants.{Read, Memory, Head, CountsFall, WrongCount, NoOffset}
 
 -- what contracts see: the kind of the ids, their number as the last fan-out entry says, all bytes if they are known, and whether a read of them may
 -- fail
@@ -28,6 +28,10 @@ bucket_start bytes (suc before) = word_at bytes (8 + 4 * before)
 -- and where they end
 abbrev pub bucket_end : List ℕ → ℕ → ℕ
 bucket_end bytes byte = word_at bytes (8 + 4 * byte)
+
+-- the fan-out entry of the byte is not below the one before it
+abbrev pub Rises : List ℕ → ℕ → Type 0
+Rises bytes byte = bucket_start bytes byte ≤ bucket_end bytes byte
 
 -- the ids with the first byte, by the fan-out table
 abbrev pub counted_with : Kind → List ℕ → ℕ → List (List ℕ)
@@ -81,15 +85,13 @@ IsReadOrMemory can_fail _ = ⊥
 abbrev pub IsOpenFault : Bool → Kind → List ℕ → LazyError → Type 0
 IsOpenFault can_fail kind bytes (Read e) = IsTrue can_fail
 IsOpenFault can_fail kind bytes (Head error) = IsHeadFault kind bytes (length bytes) error
+IsOpenFault can_fail kind bytes (CountsFall b) = HasHead kind bytes × HasTables kind bytes × IsFirstNot (Rises bytes) 256 b
 IsOpenFault can_fail kind bytes _ = ⊥
 
--- why the ids with a first byte are not read: the cause holds of that byte, and none before it
+-- why the ids with a first byte are not read
 abbrev pub IsBucketFault : Bool → Kind → List ℕ → ℕ → LazyError → Type 0
 IsBucketFault can_fail kind bytes byte (Read e) = IsTrue can_fail
 IsBucketFault can_fail kind bytes byte (Memory e) = Unit {0}
-IsBucketFault can_fail kind bytes byte (CountsFall b) = (b ≡ byte) × (byte < 256) × (bucket_end bytes byte < bucket_start bytes byte)
-IsBucketFault can_fail kind bytes byte (CountTooHigh b) =
-    (b ≡ byte) × (byte < 256) × (bucket_start bytes byte ≤ bucket_end bytes byte) × (num_objects bytes < bucket_end bytes byte)
 IsBucketFault can_fail kind bytes byte (WrongCount b) =
     (b ≡ byte) × (byte < 256) × (bucket_start bytes byte ≤ bucket_end bytes byte) × (bucket_end bytes byte ≤ num_objects bytes)
     × ¬ HaveFirstByte byte (counted_with kind bytes byte)

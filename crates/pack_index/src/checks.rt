@@ -3,6 +3,7 @@
 ghost use Rattle.std.specs.Prelude.{◌≡◌, ◌↔◌, ◌+◌, ◌*◌, ◌<◌, ◌≤◌, IfErr, IsTrue, MatchOption, OnOk, length};
 ghost use Rattle.id_lookup.specs.Runs.{IsFanOut};
 ghost use Rattle.pack_index.specs.Format.{BeginsIndex, Each, FillsBytes, HasCount, HasHead, HasOffset, HasTables, IsFault, IsFirstNot, IsHeadFault, min_len, names_in, names_start, num_objects, other_than, version_1_len};
+ghost use Rattle.pack_index.specs.Lazy.{Rises};
 
 use crate::error::Error;
 use crate::words::{
@@ -113,6 +114,22 @@ pub(crate) fn first_wrong_count(bytes: &[u8], fan_out: &FanOut, kind: Kind) -> O
         if fan_out_entry(bytes, byte) as usize != fan_out.up_to(byte) {
             return Some(byte);
         }
+    }
+    None
+}
+
+// The first byte whose fan-out entry is below the one before it.
+pub(crate) fn first_fall(head: &[u8]) -> Option<u8>
+    requires { names_start ≤ length head.now }
+    ensures { MatchOption result (Each (Rises head.now) 256) (IsFirstNot (Rises head.now) 256) }
+{
+    let mut before = 0;
+    for byte in 0..=255 {
+        let count = fan_out_entry(head, byte);
+        if count < before {
+            return Some(byte);
+        }
+        before = count;
     }
     None
 }

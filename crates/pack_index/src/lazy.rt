@@ -6,11 +6,11 @@ ghost use Rattle.gix_hash.specs.Kinds.{byte_len_of};
 ghost use Rattle.gix_hash.specs.Ids.{oid_digits};
 ghost use Rattle.id_lookup.specs.Runs.{has_first_byte};
 ghost use Rattle.pack_index.specs.Format.{Each, HasCount, HasHead, HasOffset, HasTables, IsFirstIndexOf, digests_in, names_in, num_objects, offset_in, offset_word, word_at};
-ghost use Rattle.pack_index.specs.Lazy.{HaveFirstByte, IfKnown, IsBucketFault, IsBucketOf, IsFirstCounted, IsOffsetFault, IsOpenFault, IsReadOrMemory, bucket_end, bucket_start};
+ghost use Rattle.pack_index.specs.Lazy.{HaveFirstByte, IfKnown, IsBucketFault, IsBucketOf, IsFirstCounted, IsOffsetFault, IsOpenFault, IsReadOrMemory, Rises, bucket_end, bucket_start};
 ghost use Rattle.streams.specs.Streams.{IsReadAt};
 
 use crate::bucket::Bucket;
-use crate::checks::{COUNTS_LEN, check_head};
+use crate::checks::{COUNTS_LEN, check_head, first_fall};
 use crate::error::Error;
 use crate::lazy_error::LazyError;
 use crate::words::{
@@ -24,8 +24,8 @@ use std::marker::Model;
 use streams::ReadAt;
 
 /// A pack index of Git, of version 2, that is read at positions: its first 1032 bytes as it is
-/// opened, and then only what a call needs. Neither its checksum nor the order of its ids is
-/// checked. Positions count from 0.
+/// opened, and then only what a call needs. No entry of its fan-out table is below the one before
+/// it. Neither its checksum nor the order of its ids is checked. Positions count from 0.
 ///
 /// ```
 /// let index = LazyFile::open(idx, Kind::Sha1)?;
@@ -38,7 +38,7 @@ use streams::ReadAt;
 pub struct LazyFile<S: ReadAt> {
     source: S,
     kind: Kind,
-    // The magic number, the version and the fan-out table.
+    // The magic number, the version and the fan-out table, whose entries do not fall.
     head: [u8; NAMES_START],
     // Where the 8-byte offsets end.
     end: u64,
@@ -46,8 +46,8 @@ pub struct LazyFile<S: ReadAt> {
 
 impl<S: ReadAt> Model for LazyFile<S> {
     ghost use Rattle.std.specs.Prelude.{◌≡◌, ℕ, List, Some};
-    ghost use Rattle.pack_index.specs.Format.{HasHead, HasTables, num_objects, tables_end};
-    ghost use Rattle.pack_index.specs.Lazy.{LazyIndex};
+    ghost use Rattle.pack_index.specs.Format.{Each, HasTables, num_objects, tables_end};
+    ghost use Rattle.pack_index.specs.Lazy.{LazyIndex, Rises};
     ghost use Rattle.streams.specs.Streams.{IsReadAt};
 
     ghost Value = { LazyIndex };
@@ -59,22 +59,26 @@ impl<S: ReadAt> Model for LazyFile<S> {
       can_fail = S.can_fail file.source;
     } };
 
-    ghost invariant = { λ file. (bytes : List ℕ) → S.content file.source ≡ Some bytes
+    ghost invariant = { λ file. Each (Rises file.head) 256
+        × ((bytes : List ℕ) → S.content file.source ≡ Some bytes
         → IsReadAt bytes 0 file.head × HasTables file.kind bytes
-        × (file.end ≡ tables_end file.kind bytes) };
+        × (file.end ≡ tables_end file.kind bytes)) };
 }
 
 impl<S: ReadAt + Drop> LazyFile<S> {
     /// Opens the bytes of a source as a pack index with ids of a kind. Only their number and the
-    /// first 1032 are looked at.
+    /// first 1032 are looked at: the header and the fan-out table, whose entries must not fall, as
+    /// for Git.
     ///
-    /// The errors are `Read` and `Head`.
+    /// The errors are `Read`, `Head` and `CountsFall`.
     pub fn open(source: S, kind: Kind) -> Result<LazyFile<S>, LazyError>
         ensures kind { IfOk result (λ file. file.kind ≡ kind) }
         ensures content { IfOk result (λ file. file.content ≡ S.content source) }
         ensures reads { IfOk result (λ file. file.can_fail ≡ S.can_fail source) }
         ensures head { IfOk result (λ file. (bytes : List ℕ) → S.content source ≡ Some bytes
             → HasHead kind bytes) }
+        ensures counts { IfOk result (λ file. (bytes : List ℕ) → S.content source ≡ Some bytes
+            → Each (Rises bytes) 256) }
         ensures err { IfErr result (λ e. (bytes : List ℕ) → S.content source ≡ Some bytes
             → IsOpenFault (S.can_fail source) kind bytes e) }
     {
@@ -85,6 +89,9 @@ impl<S: ReadAt + Drop> LazyFile<S> {
         let mut head = [0; NAMES_START];
         source.read_exact_at(&mut head, 0)?;
         check_head(&head, kind, len)?;
+        if let Some(byte) = first_fall(&head) {
+            return Err(LazyError::CountsFall(byte));
+        }
         let end = len - 2 * kind.len_in_bytes() as u64;
         Ok(LazyFile {
             source,
@@ -114,7 +121,7 @@ impl<S: ReadAt + Drop> LazyFile<S> {
     /// or 32 bytes each. Nothing else is read.
     ///
     /// If the fan-out table is right, as in each pack index, they are all ids with that first byte.
-    /// The errors are `Read`, `Memory`, `CountsFall`, `CountTooHigh` and `WrongCount`.
+    /// The errors are `Read`, `Memory` and `WrongCount`.
     pub fn bucket<A: Allocator>(&self, alloc: A, byte: u8) -> Result<Bucket<A>, LazyError>
         ensures bucket { IfOk result (IsBucketOf self.now byte) }
         ensures err { IfErr result (λ e. IfKnown (λ bytes.
@@ -123,7 +130,7 @@ impl<S: ReadAt + Drop> LazyFile<S> {
         // The contracts of these calls say how many names there are, and of which kind.
         let _count = self.num_objects();
         let kind = self.object_hash();
-        let run = self.run_of(byte)?;
+        let run = self.run_of(byte);
         let table = self.read_names(alloc, &run)?;
         if !have_first_byte(&table, kind, byte) {
             return Err(LazyError::WrongCount(byte));
@@ -194,25 +201,13 @@ impl<S: ReadAt + Drop> LazyFile<S> {
     }
 
     // The positions of the ids with a first byte, by the fan-out table.
-    fn run_of(&self, byte: u8) -> Result<Run, LazyError>
-        ensures start { IfOk result (λ run. IfKnown (λ bytes.
-            run.start ≡ bucket_start bytes byte) self.now) }
-        ensures end { IfOk result (λ run. IfKnown (λ bytes.
-            run.end ≡ bucket_end bytes byte) self.now) }
-        ensures in_order { IfOk result (λ run. run.start ≤ run.end) }
-        ensures inside { IfOk result (λ run. run.end ≤ self.now.count) }
-        ensures err { IfErr result (λ e. IfKnown (λ bytes.
-            IsBucketFault self.now.can_fail self.now.kind bytes byte e) self.now) }
+    fn run_of(&self, byte: u8) -> Run
+        ensures start { IfKnown (λ bytes. result.start ≡ bucket_start bytes byte) self.now }
+        ensures end { IfKnown (λ bytes. result.end ≡ bucket_end bytes byte) self.now }
+        ensures in_order { result.start ≤ result.end }
+        ensures inside { result.end ≤ self.now.count }
     {
-        let run = bucket_range(&self.head, byte, byte);
-        if run.end < run.start {
-            return Err(LazyError::CountsFall(byte));
-        }
-        let count = self.num_objects() as usize;
-        if run.end > count {
-            return Err(LazyError::CountTooHigh(byte));
-        }
-        Ok(run)
+        bucket_range(&self.head, byte, byte)
     }
 
     // The ids of a run, one after the other.

@@ -28,12 +28,9 @@ pub enum LazyError {
     /// that the length fits the other kind, and `WrongLength` that it fits neither.
     #[error("{0}")]
     Head(Error),
-    /// The fan-out entry of this byte is below the one before it.
+    /// The fan-out entry of this byte is the first that is below the one before it.
     #[error("the fan-out entry of the first byte {0:02x} is below the one before it")]
     CountsFall(u8),
-    /// The fan-out entry of this byte is above the last one, the number of objects.
-    #[error("the fan-out entry of the first byte {0:02x} is above the number of objects")]
-    CountTooHigh(u8),
     /// An id that has this first byte by the fan-out table has another.
     #[error("an id among those with the first byte {0:02x} has another")]
     WrongCount(u8),

@@ -223,10 +223,13 @@ fn is_index<S: ReadAt>(source: &S, path: &str) -> bool
     path.ends_with(INDEX_END) || source.read_exact_at(&mut magic, 0).is_ok() && magic == MAGIC
 }
 
-// SHA-256 if a pack index of version 1 or 2 has the length for its names to be of that kind.
+// SHA-256 if a pack index of version 1 or 2, whose counts may fall, has the length for its names to
+// be of that kind.
 fn kind_by_length<S: ReadAt + Drop>(index: S) -> Option<Kind> {
     match LazyFile::open(index, Kind::Sha256) {
-        Ok(_) | Err(LazyError::Head(pack_index::Error::Version1)) => Some(Kind::Sha256),
+        Ok(_) | Err(LazyError::CountsFall(_) | LazyError::Head(pack_index::Error::Version1)) => {
+            Some(Kind::Sha256)
+        }
         Err(_) => None,
     }
 }

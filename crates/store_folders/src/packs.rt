@@ -6,7 +6,6 @@ use crate::error::Error;
 use crate::listing::names_in;
 use crate::source::Source;
 use gix_hash::Kind;
-use pack_index::tables::{NAMES_START, fan_out_entry};
 use pack_index::{LazyError, LazyFile};
 use repositories::join;
 use std::alloc::{AllocError, Global};
@@ -14,7 +13,7 @@ use std::fs::File;
 use std::os::unix::fs::MetadataExt;
 use std::rt::Files;
 use std::{fs, io, str};
-use streams::{Cached, ReadAt};
+use streams::Cached;
 
 // How many pack indexes are kept open. The others are opened again to be read, so that a store of
 // any number of packs is read with few open files.
@@ -276,32 +275,11 @@ fn open_index<R: Files<File = File> + AllocGlobal + Clone + Drop>(
 {
     let source = Source::open(rt, path, stays_open);
     let source = source.map_err(|error| not_opened(rt, path, error))?;
-    let fall = first_fall(&source);
-    match (LazyFile::open(source, kind), fall) {
-        (Ok(index), None) => Ok(index),
-        (Ok(_), Some(byte)) => {
-            let error = LazyError::CountsFall(byte);
-            Err(Error::index(rt.alloc(), path, error))
-        }
-        (Err(LazyError::Read(error)), _) => Err(not_opened(rt, path, error)),
-        (Err(error), _) => Err(Error::index(rt.alloc(), path, error)),
+    match LazyFile::open(source, kind) {
+        Ok(index) => Ok(index),
+        Err(LazyError::Read(error)) => Err(not_opened(rt, path, error)),
+        Err(error) => Err(Error::index(rt.alloc(), path, error)),
     }
-}
-
-// The first byte whose count in a pack index of version 2 is below the one before it, if its counts
-// can be read. Git reads no index that has one.
-fn first_fall<S: ReadAt>(source: &S) -> Option<u8> {
-    let mut head = [0; NAMES_START];
-    source.read_exact_at(&mut head, 0).ok()?;
-    let mut before = 0;
-    for byte in 0..=u8::MAX {
-        let count = fan_out_entry(&head, byte);
-        if count < before {
-            return Some(byte);
-        }
-        before = count;
-    }
-    None
 }
 
 // Why a pack index cannot be opened. A link to nothing is there, and so it was not removed.

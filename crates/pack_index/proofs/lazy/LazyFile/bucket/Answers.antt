@@ -19,17 +19,17 @@ module _ (g : Over) (c : After-have_first_byte g) where
       → (bucket_start bytes c.args.byte ≤ bucket_end bytes c.args.byte) × (bucket_end bytes c.args.byte ≤ num_objects bytes)
       × (digests_in c.args.self.now.kind c.in_ok-table.table.items ≡ counted_with c.args.self.now.kind bytes c.args.byte)
   found bytes is =
-      let run = c.in_ok-run.ensures in
+      let run = c.run_of-run.ensures in
       let start = run.start bytes is in
       let end = run.end bytes is in
-      let inside : c.in_ok-run.run'.end ≤ num_objects bytes = omega (arith, run.inside, c.num_objects-count.ensures.count, c.num_objects-count.ensures.bytes bytes is) in
-      let names = read_names c.args.self.now.kind c.args.byte bytes c.in_ok-table.table.items c.in_ok-run.run'.start c.in_ok-run.run'.end
+      let inside : c.run_of-run.result.end ≤ num_objects bytes = omega (arith, run.inside, c.num_objects-count.ensures.count, c.num_objects-count.ensures.bytes bytes is) in
+      let names = read_names c.args.self.now.kind c.args.byte bytes c.in_ok-table.table.items c.run_of-run.result.start c.run_of-run.result.end
       (c.num_objects-count.ensures.tables bytes is) start end run.in_order inside (c.in_ok-table.ensures.names bytes is) c.in_ok-table.ensures.len in
       (omega (arith, start, end, run.in_order), omega (arith, inside, end), names)
 
-  as_many_names : length (digests_in c.args.self.now.kind c.in_ok-table.table.items) ≡ c.in_ok-run.run'.end - c.in_ok-run.run'.start
+  as_many_names : length (digests_in c.args.self.now.kind c.in_ok-table.table.items) ≡ c.run_of-run.result.end - c.run_of-run.result.start
   as_many_names = length-digests_in c.args.self.now.kind c.in_ok-table.table.items ∙ ap (λ n. n / byte_len_of c.args.self.now.kind) c.in_ok-table.ensures.len
-      ∙ as_many c.args.self.now.kind (c.in_ok-run.run'.end - c.in_ok-run.run'.start)
+      ∙ as_many c.args.self.now.kind (c.run_of-run.result.end - c.run_of-run.result.start)
 
 pub new-requires : goal.new-requires
 new-requires g c =
@@ -53,13 +53,13 @@ pub returns-clause-bucket : goal.returns-clause-bucket
 returns-clause-bucket g c =
     let here = (goal.at.returns-clause-bucket g c).After-have_first_byte in
     let kind = c.args.self.now.kind in
-    let run = c.in_ok-run.ensures in
+    let run = c.run_of-run.ensures in
     let names = digests_in kind c.in_ok-table.table.items in
-    let len : length names ≡ c.in_ok-run.run'.end - c.in_ok-run.run'.start = as_many_names g here in
+    let len : length names ≡ c.run_of-run.result.end - c.run_of-run.result.start = as_many_names g here in
     let first : HaveFirstByte c.args.byte names = subst (HaveFirstByte c.args.byte) (read g here) (c.have_first_byte.ensures.0 c.if-not-have_first_byte.false) in
     let sound : IfKnown (λ bytes. HasBucket kind bytes c.args.byte) c.args.self.now = λ bytes known.
     let f = found g here bytes known in record { in_order = f.0; inside = f.1; first = subst (HaveFirstByte c.args.byte) f.2 first } in
-    let made : Kind → BucketNames = λ k. record { kind = k; start = c.in_ok-run.run'.start; names = digests_in k c.in_ok-table.table.items } in
+    let made : Kind → BucketNames = λ k. record { kind = k; start = c.run_of-run.result.start; names = digests_in k c.in_ok-table.table.items } in
     let is : IsBucketOf c.args.self.now c.args.byte (made kind) = record {
       kind = refl;
       inside = omega (arith, len, run.in_order, run.inside);

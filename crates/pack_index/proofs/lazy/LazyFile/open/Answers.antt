@@ -1,6 +1,8 @@
 use Rattle.std.proofs.Common.{◌≡◌, length, arith, rules}
 use Rattle.std.proofs.lemmas.Result.{err_from_is_err_and}
-use Rattle.pack_index.proofs.Heads.{begins, head_fault, head_inside, tables_by_head}
+use Rattle.pack_index.specs.Format.{Each}
+use Rattle.pack_index.specs.Lazy.{Rises}
+use Rattle.pack_index.proofs.Heads.{all_rise, begins, first_falls, head_fault, head_inside, tables_by_head}
 use Rattle.pack_index.proofs.lazy.LazyFile.open.Goals as goal
 
 pub returns-in_err-read_exact_at-clause-err : goal.returns-in_err-read_exact_at-clause-err
@@ -16,15 +18,36 @@ returns-in_err-check_head-clause-err g c =
     rw (failed.1, failed.2) (λ bytes is.
     head_fault bytes c.read_exact_at.new.buf (c.in_ok-read_exact_at.ensures.bytes bytes is) long c.args.kind c.in_ok-len.len (c.in_ok-len.ensures.len bytes is) _ c.in_err-check_head.ensures.err)
 
+pub returns-in-Some-clause-err : goal.returns-in-Some-clause-err
+returns-in-Some-clause-err g c =
+    let head = c.read_exact_at.new.buf in
+    let long : length head ≡ 1032 = first_of (search rules, omega arith) in
+    λ bytes is.
+    let front = c.in_ok-read_exact_at.ensures.bytes bytes is in
+    let same = c.in_ok-len.ensures.len bytes is in (
+      begins bytes head front long c.args.kind c.in_ok-len.len same c.in_ok-check_head.ensures.head,
+      tables_by_head bytes head front long c.args.kind c.in_ok-len.len same c.in_ok-check_head.ensures.tables,
+      first_falls bytes head front long c.in-Some.byte c.in-Some.ensures,
+    )
+
 pub returns-clause-head : goal.returns-clause-head
 returns-clause-head g c =
     let long : length c.read_exact_at.new.buf ≡ 1032 = first_of (search rules, omega arith) in
     λ bytes is. begins bytes c.read_exact_at.new.buf (c.in_ok-read_exact_at.ensures.bytes bytes is) long c.args.kind c.in_ok-len.len (c.in_ok-len.ensures.len bytes is) c.in_ok-check_head.ensures.head
 
+pub returns-clause-counts : goal.returns-clause-counts
+returns-clause-counts g c =
+    let long : length c.read_exact_at.new.buf ≡ 1032 = first_of (search rules, omega arith) in
+    let rise : Each (Rises c.read_exact_at.new.buf) 256 = search rules in
+    λ bytes is. all_rise bytes c.read_exact_at.new.buf (c.in_ok-read_exact_at.ensures.bytes bytes is) long rise
+
 pub invariant_of-result : goal.invariant_of-result
 invariant_of-result g c =
     let long : length c.read_exact_at.new.buf ≡ 1032 = first_of (search rules, omega arith) in
-    λ bytes is.
-    let front = c.in_ok-read_exact_at.ensures.bytes bytes is in
-    let same = c.in_ok-len.ensures.len bytes is in
-    (front, tables_by_head bytes c.read_exact_at.new.buf front long c.args.kind c.in_ok-len.len same c.in_ok-check_head.ensures.tables, omega (arith, same, c.len_in_bytes-2.ensures))
+    let rise : Each (Rises c.read_exact_at.new.buf) 256 = search rules in (
+      rise,
+      λ bytes is.
+          let front = c.in_ok-read_exact_at.ensures.bytes bytes is in
+          let same = c.in_ok-len.ensures.len bytes is in
+          (front, tables_by_head bytes c.read_exact_at.new.buf front long c.args.kind c.in_ok-len.len same c.in_ok-check_head.ensures.tables, omega (arith, same, c.len_in_bytes-2.ensures)),
+    )

@@ -15,7 +15,7 @@ long_starts : (g : Over) (c : After-from-2 g) (bytes : List ℕ) → c.args.self
     → (c.long_table_start.result + 8 * c.from-2.result ≡ long_table_start c.args.self.now.kind bytes + 8 * (c.in_ok-word.word - long_word))
     × (c.self.inside.end ≡ tables_end c.args.self.now.kind bytes)
 long_starts g c bytes is =
-    let inv = c.self.invariant bytes (rw (← c.self.view_is) at is) in
+    let inv = c.self.invariant.1 bytes (rw (← c.self.view_is) at is) in
     let kind : c.self.inside.kind ≡ c.args.self.now.kind = ap (λ (f : LazyIndex). f.kind) c.self.view_is in
     let whole : length c.self.inside.head ≡ 1032 = first_of (search rules, omega arith) in
     let starts = c.long_table_start.ensures.start ∙ long_in_head bytes c.self.inside.head inv.0 whole c.self.inside.kind ∙ ap (λ (k : Kind). long_table_start k bytes) kind in
@@ -24,7 +24,7 @@ long_starts g c bytes is =
 pub returns-then-start-self-clause-err : goal.returns-then-start-self-clause-err
 returns-then-start-self-clause-err g c = λ bytes is.
     let start = long_starts g (goal.at.returns-then-start-self-clause-err g c).After-from-2 bytes is in
-    let inv = c.self.invariant bytes (rw (← c.self.view_is) at is) in (
+    let inv = c.self.invariant.1 bytes (rw (← c.self.view_is) at is) in (
       refl,
       omega (arith, c.requires, ap (λ (f : LazyIndex). f.count) c.self.view_is, head_count bytes c.self.inside.head inv.0 (first_of (search rules, omega arith))),
       no_long _ bytes c.args.at _ (c.in_ok-word.ensures.word bytes is) c.if-word-lt-LONG.false _ start.0 _ start.1 c.if-start-self.true,

@@ -13,7 +13,7 @@ pub returns-in_err-read_exact_at-clause-err : goal.returns-in_err-read_exact_at-
 returns-in_err-read_exact_at-clause-err g c =
     let failed = err_from_is_err_and c.from_residual-in_err-read_exact_at.result c.from_residual-in_err-read_exact_at.ensures.1 in
     rw (failed.1, failed.2) (λ bytes is.
-    let inv = c.self.invariant bytes (rw (← c.self.view_is) at is) in
+    let inv = c.self.invariant.1 bytes (rw (← c.self.view_is) at is) in
     let whole : length c.self.inside.head ≡ 1032 = first_of (search rules, omega arith) in
     let inside : c.args.run.now.end ≤ num_objects bytes =
     omega (arith, c.requires.inside, ap (λ (f : LazyIndex). f.count) c.self.view_is, head_count bytes c.self.inside.head inv.0 whole) in

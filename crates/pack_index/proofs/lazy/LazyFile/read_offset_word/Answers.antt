@@ -14,14 +14,14 @@ returns-clause-word g c = λ bytes is.
     let whole : length c.self.inside.head ≡ 1032 = first_of (search rules, omega arith) in
     let begins = ap (λ n. n + 4 * c.args.at) (c.offset_table_start.ensures.start ∙ ap (λ (k : Kind). offset_table_start k c.self.inside.head) kind) in
     c.word_at.ensures
-    ∙ word_is c.args.self.now.kind bytes c.self.inside.head c.read_exact_at.new.buf c.args.at (c.offset_table_start.result + 4 * c.args.at) (c.self.invariant bytes known).0 whole begins
+    ∙ word_is c.args.self.now.kind bytes c.self.inside.head c.read_exact_at.new.buf c.args.at (c.offset_table_start.result + 4 * c.args.at) (c.self.invariant.1 bytes known).0 whole begins
     (c.in_ok-read_exact_at.ensures.bytes bytes known) (first_of (search rules, omega arith))
 
 pub returns-in_err-read_exact_at-clause-err : goal.returns-in_err-read_exact_at-clause-err
 returns-in_err-read_exact_at-clause-err g c =
     let failed = err_from_is_err_and c.from_residual.result c.from_residual.ensures.1 in
     rw (failed.1, failed.2) (λ bytes is.
-    let inv = c.self.invariant bytes (rw (← c.self.view_is) at is) in
+    let inv = c.self.invariant.1 bytes (rw (← c.self.view_is) at is) in
     let whole : length c.self.inside.head ≡ 1032 = first_of (search rules, omega arith) in
     let low : c.args.at < num_objects c.self.inside.head = omega (arith, c.requires, ap (λ (f : LazyIndex). f.count) c.self.view_is) in
     let begins = ap (λ n. n + 4 * c.args.at) c.offset_table_start.ensures.start in

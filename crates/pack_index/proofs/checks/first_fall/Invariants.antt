@@ -1,0 +1,7 @@
+use Rattle.std.proofs.Common.{◌≡◌}
+use Rattle.pack_index.specs.Format.{Each}
+use Rattle.pack_index.specs.Lazy.{Rises, bucket_start}
+use Rattle.pack_index.proofs.checks.first_fall.Given as goal
+
+abbrev pub invariant-loop-byte : goal.invariant-loop-byte
+invariant-loop-byte l = record { rise : Each (Rises l.head) l.byte; before : l.before ≡ bucket_start l.head l.byte }
