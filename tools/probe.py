@@ -23,6 +23,8 @@ PROGRAM = "probe"
 # configuration would change what git does, and a calling make's variables what make does.
 CLEAN = {key: value for key, value in os.environ.items() if not key.startswith(("GIT_", "MAKE", "MFLAGS"))}
 CLEAN |= {"GIT_CONFIG_GLOBAL": os.devnull, "GIT_CONFIG_NOSYSTEM": "1"}
+# Of what a tool tries, only what has this text in its line is tried, if it can be tried alone, and printed.
+ONLY = CLEAN.pop("ONLY", "")
 # What takes longer than so many seconds has failed; of what lets others go first, six times as many.
 LIMIT = 1800
 # How many blobs a store has in its packs, if nobody says it.
@@ -70,15 +72,31 @@ def crate_uses():
     return {name: libraries for name, _, *libraries in map(str.split, listed.splitlines())}
 
 
+def difference(got, wanted):
+    """How an output, its errors and a status differ from those that are wanted, if they do: a text from its first other byte on."""
+    differ = []
+    for name, it, want in zip(("standard output", "standard error", "status"), got, wanted):
+        at = len(os.path.commonprefix([it, want])) if name != "status" else None
+        it, want, where = (it, want, "") if at is None else (it[at : at + 100], want[at : at + 100], f" from byte {at} on")
+        differ += [f"{name}{where} is {it!r}, and should be {want!r}"] if it != want else []
+    return "; ".join(differ) or None
+
+
 def count(results):
-    """Prints a line for each result, a text and whether it passed, and then their counts. Returns the status, 1 if any failed."""
+    """Prints a line for each result, and then their counts. A result is a text and whether it passed, or a function that tries it and
+    returns what is wrong, if anything. Returns the status, 1 if any failed or none passed."""
     passed = failed = 0
     for text, holds in results:
+        if ONLY not in text:
+            continue
+        if callable(holds):
+            wrong = holds()
+            text, holds = f"{text}: {wrong or 'as wanted'}", not wrong
         print(text, flush=True)
         passed += bool(holds)
         failed += not holds
     print(f"{passed} passed, {failed} failed", flush=True)
-    return min(failed, 1)
+    return int(failed > 0 or passed == 0)
 
 
 @contextlib.contextmanager
