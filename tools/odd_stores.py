@@ -35,8 +35,8 @@ PACK_FILES += ["multi-pack-index~", "pack-1.idx~"]
 
 
 def chance(rng, share):
-    """Whether something happens that does so this often."""
-    return rng.random() < share
+    """Whether something happens that does so this often. (It shrinks to no.)"""
+    return rng.randrange(1000) >= 1000 - 1000 * share
 
 
 def config(rng):
@@ -204,6 +204,8 @@ class Oddity:
         self.ids = self.clustered(kind)
         chain = [self.room / "lent" / str(number) for number in range(0 if self.is_alone else rng.choice([0, 0, 1, 2, 3, 9]))]
         self.objects += [path / "objects" for path in chain]
+        for path in chain:
+            (path / "objects").mkdir(parents=True)
         for folder in self.objects:
             if folder.is_dir():
                 self.loose(folder, kind)
