@@ -195,6 +195,15 @@ def print_end(output):
     print(*(f"    {line}" for line in output.splitlines()[-20:]), sep="\n", file=sys.stderr, flush=True)
 
 
+def programs_given(number):
+    """The paths of the programs that are this program's first words, that many; it ends with status 2 if they are not there."""
+    paths = [str(Path(word).resolve()) for word in sys.argv[1 : 1 + number]]
+    if len(paths) < number or not all(Path(path).is_file() and os.access(path, os.X_OK) for path in paths):
+        print(f"usage: tools/{Path(sys.argv[0]).name}{' PROGRAM' * number}: the paths of built programs", file=sys.stderr)
+        sys.exit(2)
+    return paths
+
+
 def program(name):
     """The path of a program, which is proved and built first if it has to be."""
     words = ["flock", "crates.txt", "make", "-s", name]
