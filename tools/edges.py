@@ -1,0 +1,538 @@
+"""Files, directories and inputs at the edges of what packtool reads, for tools/stores: every length and count in turn, each way
+in which a file may be missing, texts that are longer than a buffer, and an input that waits for its answers.
+
+A group of `CASES` yields cases: the name, what packtool must print, its errors and status, its words, and how it is run, as by
+`ran` of probe.py, and maybe the words `around` it. A group of `TALKS` yields the names of its comparisons, each with what is wrong, if anything."""
+
+import fcntl
+import hashlib
+import itertools
+import os
+import random
+import select
+import subprocess
+
+import made
+from probe import DIGITS, POWERLESS, ROOT, git, index_of, listed, pack_index, sealed, shortest, sorted_ids, started
+
+DATA = ROOT / "crates" / "packtool_tests" / "data"
+NO_FILE = "No such file or directory (os error 2)"
+LOOP = "Too many levels of symbolic links (os error 40)"
+IS_FOLDER = "Is a directory (os error 21)"
+NO_FOLDER = "Not a directory (os error 20)"
+LOCKED = "Permission denied (os error 13)"
+# The errors of a pack index that is cut, and the least length of one.
+TOO_FEW, NOT_FILLED = "the bytes are too few for a pack index", "the tables of the pack index do not fill its bytes"
+LEAST = 1064
+# More lines than are looked up at once, and how long an answer may take, in seconds.
+MANY_LINES, PATIENCE = 20_000, 60
+# How many bytes a read of standard input takes at most: at first, after one that got as many, and then.
+READS = [1 << 14, 1 << 16, 1 << 18]
+# Sets how many bytes a pipe holds: the most that anybody may ask for.
+SET_PIPE_SIZE, PIPE_SIZE = 1031, 1 << 20
+
+
+def write(path, content=b""):
+    """Writes a file, and makes the folders that it is in."""
+    path.parent.mkdir(parents=True, exist_ok=True)
+    path.write_bytes(content)
+
+
+def add_ids(objects, ids):
+    """Adds loose objects to an object directory. They are empty: nothing of them is read."""
+    for id in ids:
+        write(objects / id[:2] / id[2:])
+
+
+def add_repository(folder, kind="sha1", ids=()):
+    """Makes a folder a repository with loose objects."""
+    write(folder / "HEAD", made.HEAD)
+    write(folder / "config", made.SHA256 if kind == "sha256" else b"")
+    write(folder / "refs" / "none")
+    write(folder / "objects" / "info" / "none")
+    add_ids(folder / "objects", ids)
+
+
+def error_of(text):
+    """The line of an error."""
+    escaped = text.replace("\\", "\\\\").replace("\n", "\\n").replace("\r", "\\r")
+    return f"{chr(92) if escaped != text else ''}packtool: {escaped}\n"
+
+
+def finds(name, ids, *words, errors="", **how):
+    """A case of `names` that finds these ids."""
+    return name, (shortest(sorted(ids)), errors, 2 if errors else 0), ("names", *words), how
+
+
+def fails(name, text, *words, **how):
+    """A case that ends with an error."""
+    return name, ("", error_of(text), 2), words, how
+
+
+def digest_of(kind):
+    """The hash function of a kind of ids, and the length of its digests."""
+    return getattr(hashlib, kind), DIGITS[kind] // 2
+
+
+def verdict_of(content, kinds):
+    """What `check` says of a file that is no pack index, by its kind, or by both."""
+    if any(sealed(content[: -digest_of(kind)[1]], digest_of(kind)[0]) == content for kind in kinds):
+        return "OK"
+    digest, size = digest_of(kinds[0])
+    if len(content) < size:
+        return "FAILED: it is shorter than a digest"
+    return f"FAILED: it ends in {content[-size:].hex()}, and the digest of the rest is {digest(content[:-size]).hexdigest()}"
+
+
+def checked(verdicts):
+    """What `check` gives of files, each by its name and what is said of it."""
+    lines = [f"{name}: {verdict}\n" for name, verdict in verdicts.items()]
+    return "".join(lines), "", int(any(verdict != "OK" for verdict in verdicts.values()))
+
+
+def endings(room):
+    """Files of each length, right and wrong, as files and as standard input."""
+    rng = random.Random(1)
+    contents = [rng.randbytes(size) for size in range(100)]
+    contents += [sealed(rng.randbytes(size), digest_of(kind)[0]) for kind in DIGITS for size in (0, 1, 11, 12, 13, 4096)]
+    files = {f"f{at}": content for at, content in enumerate(contents)}
+    for name, content in files.items():
+        write(room / name, content)
+    for words in ((), ("--kind", "sha1"), ("--kind", "sha256")):
+        kinds = words[1:] or tuple(DIGITS)
+        verdicts = {name: verdict_of(content, kinds) for name, content in files.items()}
+        yield " ".join(("check of files of each length", *words)), checked(verdicts), ("check", *words, *files), {"cwd": room}
+        for content in contents[:70:3] + contents[100:]:
+            wanted = checked({"-": verdict_of(content, kinds)})
+            yield " ".join(("check of", str(len(content)), "bytes", *words)), wanted, ("check", *words, "-"), {"given": content}
+
+
+def cut(room):
+    """Pack indexes that are cut, by a name of one, by another, and as standard input."""
+    for kind in DIGITS:
+        whole = (DATA / f"{kind}.idx").read_bytes()
+        verdicts = {}
+        for size in {*range(10), 255, 1031, 1032, LEAST - 1, LEAST, 1071, 1072, len(whole) - 8, len(whole) - 1, len(whole)}:
+            content = whole[:size]
+            verdict = "OK" if content == whole else f"FAILED: {TOO_FEW if size < LEAST else NOT_FILLED}"
+            other = verdict if size >= 4 else verdict_of(content, tuple(DIGITS))
+            for name, said in ((f"{size}.idx", verdict), (f"{size}", other)):
+                write(room / name, content)
+                verdicts[name] = said
+            yield f"check of {size} bytes of {kind}.idx", checked({"-": other}), ("check", "-"), {"given": content}
+        yield f"check of files with the beginnings of {kind}.idx", checked(verdicts), ("check", *verdicts), {"cwd": room}
+
+
+def long_offsets(room):
+    """Pack indexes of each kind with every number of 8-byte offsets that Git takes, as files and as standard input."""
+    for kind, size in itertools.product(DIGITS, (1, 2, 3, 9)):
+        for count in range(size):
+            rows = [((at < count) << 32 | 12 + at, f"{at:0{DIGITS[kind]}x}", at) for at in range(size)]
+            given, name = pack_index(rows), f"{count} of {size} offsets of {kind} with 8 bytes"
+            write(room / "x.idx", given)
+            yield f"check of {name}", checked({"x.idx": "OK"}), ("check", "x.idx"), {"cwd": room}
+            yield f"check of {name}, standard input", checked({"-": "OK"}), ("check", "-"), {"given": given}
+            by_git = git(room, "show-index", f"--object-format={kind}", given=given)
+            yield f"show of {name}", (by_git, "", 0), ("show", "-"), {"given": given}
+            yield f"show of {name}, a file", (by_git, "", 0), ("show", "x.idx"), {"cwd": room}
+
+
+def packs_beside(room):
+    """Packs beside pack indexes, by odd names, of odd types, and too short for an offset."""
+    for kind in DIGITS:
+        digest, size = digest_of(kind)
+        pack, other = sealed(b"PACK" + bytes(28), digest), sealed(b"pack" + bytes(28), digest)
+        right, wrong = pack[-size:], f"FAILED: its pack ends in {pack[-size:].hex()}, and the pack beside it ends in {other[-size:].hex()}"
+        index = pack_index([(12, "0" * DIGITS[kind], 0)], pack=right)
+        names = ["a.idx", "a.idx.idx", "a.b.idx", ".idx", " .idx", "a.pack.idx"]
+        for at, name in enumerate(names):
+            for other_name in names:
+                write(room / f"{kind}{at}" / f"{other_name[:-4]}.pack", other if other_name == name else pack)
+            write(room / f"{kind}{at}" / name, index)
+            yield f"check of {name}, {kind}", checked({name: wrong}), ("check", name), {"cwd": room / f"{kind}{at}"}
+        for offset in range(len(pack) - size - 2, len(pack) + 2):
+            write(room / f"{offset}.pack", pack)
+            write(room / f"{offset}.idx", pack_index([(offset, "0" * DIGITS[kind], 0)], pack=right))
+            said = "OK" if offset < len(pack) - size else f"FAILED: the offset {offset} is not in the pack beside it"
+            yield f"check of the offset {offset}, {kind}", checked({f"{offset}.idx": said}), ("check", f"{offset}.idx"), {"cwd": room}
+        yield from odd_packs(room / kind, index)
+
+
+def odd_packs(room, index):
+    """A pack index beside what is no pack."""
+    write(room / "x.idx", index)
+    path = room / "x.pack"
+    write(room / "file")
+    for way, make, text in [
+        ("nothing", lambda: None, None),
+        ("a link to nothing", lambda: path.symlink_to("none"), None),
+        ("a link to itself", lambda: path.symlink_to("x.pack"), LOOP),
+        ("a link below a file", lambda: path.symlink_to("file/x"), NO_FOLDER),
+        ("a folder", path.mkdir, "not a regular file"),
+        ("a pipe", lambda: os.mkfifo(path), "not a regular file"),
+    ]:
+        make()
+        name, words, how = f"check of an index beside {way}", ("check", "x.idx"), {"cwd": room}
+        yield fails(name, f"x.pack: {text}", *words, **how) if text else (name, checked({"x.idx": "OK"}), words, how)
+        path.rmdir() if path.is_dir() else path.unlink(missing_ok=True)
+
+
+def names_in_errors(room):
+    """Errors about names with what is escaped, and about long ones."""
+    long = "a" * 4000
+    for name in ("a", "\\", "a\nb", "a\rb", "a\r", "\n", f"{long[:150]}\\\r\n"):
+        yield fails(f"an error about {name!r:.20}", f"{name}: {NO_FILE}", "check", name, cwd=room)
+    for name in (long, f"{long}\\", f"{long * 2}\r", long * 17, f"{long * 31}\n"):
+        text = f"{name}: File name too long (os error 36)"
+        yield fails(f"an error about a name of {len(name)} bytes", text, "check", name, cwd=room)
+        if len(name) < 10_000:
+            yield fails(f"an error about a folder of {len(name)} bytes", text, "names", "--objects", name, cwd=room)
+
+
+def names_of_files(room):
+    """Files in an object directory whose names have each length up to the longest."""
+    objects, ids = room / "objects", [made.PACKED, made.BOTH, made.LOOSE]
+    add_ids(objects, ids[2:])
+    for size in (*range(1, 42), *range(120, 136), 200, *range(250, 256)):
+        for folder in ("4b", "pack"):
+            write(objects / folder / ("x" * size))
+    for size, id in ((127, ids[0]), (128, ids[0]), (129, ids[0]), (255 - 1, ids[1])):
+        name = "p" * (size - len(".idx"))
+        write(objects / "pack" / f"{name}.idx", made.index_of([id]))
+        write(objects / "pack" / f"{name}.pack")
+    yield finds("names of files of up to 255 bytes", ids, "--objects", "objects", cwd=room)
+    yield "the same with find", ("".join(f"{id}\n" for id in ids), "", 0), ("find", "4b", "--objects", "objects"), {"cwd": room}
+
+
+def counts(room):
+    """Pack indexes of an id with each first byte, of which each count is once too high and once too low."""
+    rows = [(12 + byte, f"{byte:02x}{'0' * 38}", 0) for byte in range(256)]
+    whole, texts = pack_index(rows), {}
+    add_repository(room)
+    for byte, by in itertools.product(range(256), (2, -2)):
+        count = byte + 1 + by
+        if count < 0:
+            continue
+        at, name = 8 + 4 * byte, f"pack-{byte:02x}{'+' if by > 0 else '-'}"
+        write(room / "objects" / "pack" / f"{name}.idx", whole[:at] + count.to_bytes(4, "big") + whole[at + 4 :])
+        write(room / "objects" / "pack" / f"{name}.pack")
+        fall = f"the fan-out entry of the first byte {byte + (by > 0):02x} is below the one before it"
+        # (with the last count too low, what is left of the tables is whole 8-byte offsets)
+        texts[name] = NOT_FILLED if (byte, by) == (255, 2) else fall
+    errors = "".join(error_of(f"objects/pack/{name}.idx: {text}, skipped") for name, text in sorted(texts.items()))
+    if by_git := listed(room):
+        raise ValueError(f"git lists {len(by_git)} ids of indexes with wrong counts")
+    for words in (("names",), ("find", "00"), ("where", "ff")):
+        yield f"{words[0]} over {len(texts)} wrong counts", ("", errors, 2), (*words, "--objects", "objects"), {"cwd": room}
+
+
+def last_lines(room):
+    """A last line of each length, with and without a line feed."""
+    for kind, digits in DIGITS.items():
+        id = made.IDS[kind]
+        add_repository(room / kind, kind, [id])
+        for size, before, end in itertools.product(range(digits + 3), ("", "ff\n"), ("", "\n")):
+            line = (id + "00")[:size]
+            found = id if 2 <= size <= digits else "bad"
+            printed = ("ff missing\n" if before else "") + (f"{line} {found}\n" if line or end else "")
+            wanted = printed, "", 0 if not before and (found == id or not printed) else 1
+            name = f"find --stdin of {size} digits of {kind}{', ended' if end else ''}{', after a line' if before else ''}"
+            yield name, wanted, ("find", "--stdin"), {"cwd": room / kind, "given": (before + line + end).encode()}
+
+
+def skipped(room):
+    """Up to three things that are skipped, each said once for many lines, and no line is lost."""
+    objects, errors = room / "objects", ""
+    add_repository(room, ids=[made.LOOSE])
+    given = (b"4bff\n" + b"ff\n" * (MANY_LINES - 2) + b"4b\n") * 2
+    for count in range(4):
+        for words, found in (("find",), [made.LOOSE] * 2), (("where",), [f"{made.LOOSE} objects/4b/{made.LOOSE[2:]}"] * 2), (("names",), None):
+            first, last = (f"4bff {found[0]}\n", f"4b {found[1]}\n") if found else ("4bff\n", "4bff\n")
+            printed = (first + "ff missing\n" * (MANY_LINES - 2) + last) * 2
+            name = f"{words[0]} --stdin of {2 * MANY_LINES} lines, {count} things skipped"
+            yield name, (printed, errors, 2 if count else 1), (*words, "--stdin", "--objects", "objects"), {"cwd": room, "given": given}
+        write(objects / "pack" / f"{count}.idx", b"x")
+        write(objects / "pack" / f"{count}.pack")
+        errors += error_of(f"objects/pack/{count}.idx: {TOO_FEW}, skipped")
+
+
+def much_found(room):
+    """Lines of 2, 3 and 4 digits that find each of many ids, within the memory that packtool(1) names."""
+    ids = list(sorted_ids(1 << 18, [20]))
+    index = index_of(ids)
+    write(room / "objects" / "pack" / "pack-0.idx", index)
+    write(room / "objects" / "pack" / "pack-0.pack")
+    listed_lines = (line.split() for line in git(room, "show-index", given=index).splitlines())
+    places = {id: f"{id} objects/pack/pack-0.pack {offset}" for offset, id, _ in listed_lines}
+    for command, size, printed, most in [("find", 2, str, 5), ("find", 3, str, 5), ("find", 4, str, 5), ("where", 2, places.get, 9), ("where", 3, places.get, 9)]:
+        prefixes = [f"{number:0{size}x}" for number in range(16**size)]
+        random.Random(size).shuffle(prefixes)
+        found = {prefix: [f"{prefix} missing\n"] for prefix in prefixes}
+        for prefix, those in itertools.groupby(ids, lambda id: id[:size]):
+            found[prefix] = [f"{prefix} {printed(id)}\n" for id in those]
+        wanted = "".join(line for prefix in prefixes for line in found[prefix])
+        how = {"cwd": room, "given": "".join(f"{prefix}\n" for prefix in prefixes).encode(), "limits": [f"--data={most << 20}"]}
+        status = int(any(lines[0].endswith(" missing\n") for lines in found.values()))
+        name = f"{command} --stdin of all prefixes of {size} digits in {most} MiB"
+        yield name, (wanted, "", status), (command, "--stdin", "--objects", "objects"), how
+
+
+def damaged_asked(room):
+    """Pack indexes that are damaged, for each command, also with --stdin."""
+    first, second = made.TWO.values()
+    commands = [("find", "4b"), ("where", "4b"), ("names",)]
+    commands += [(*words, "--stdin") for words in (("find",), ("find", "--one"), ("where",), ("where", "--one"), ("names",))]
+    for (at, value, why), is_skipped in [*((row, True) for row in made.BAD_HEADS), *((row, False) for row in made.DAMAGED)]:
+        write(room / "pack" / "pack-1.idx", first[:at] + bytes([value]) + first[at + 1 :])
+        write(room / "pack" / "pack-2.idx", second)
+        for name in made.TWO:
+            write(room / "pack" / f"{name}.pack")
+        error = error_of(f"./pack/pack-1.idx: {why}{', skipped' if is_skipped else ''}")
+        for words in commands:
+            # (`names` prints the ids with the bytes before)
+            before = f"0000 {'0' * 40}\n" if words == ("names",) else ""
+            wanted = answers_of_second(words) if is_skipped else before, error, 2
+            yield f"{' '.join(words)}: {why}", wanted, (*words, "--objects", "."), {"cwd": room, "given": b"4b825d\n"}
+
+
+def answers_of_second(words):
+    """What a command prints of the second pack of made.TWO alone."""
+    ids = ["0" * 40, made.PACKED, made.BOTH]
+    places = [f"{made.PACKED} ./pack/pack-2.pack {made.LAST_OFFSET}", f"{made.BOTH} ./pack/pack-2.pack 3074"]
+    lines = {
+        ("find", "4b"): ids[1:],
+        ("where", "4b"): places,
+        ("names",): shortest(ids).splitlines(),
+        ("find", "--stdin"): [f"4b825d {made.PACKED}"],
+        ("find", "--one", "--stdin"): [made.PACKED],
+        ("where", "--stdin"): [f"4b825d {places[0]}"],
+        ("where", "--one", "--stdin"): [places[0]],
+        ("names", "--stdin"): ["4b82"],
+    }
+    return "".join(f"{line}\n" for line in lines[words])
+
+
+def by_links(room):
+    """An object directory that is a link, with a config beside it, beside what it leads to, beside both and beside none."""
+    for at, (link, target) in enumerate(itertools.product((None, *DIGITS), repeat=2)):
+        here, there = room / f"link{at}", room / f"target{at}"
+        write(there / "objects" / "pack" / "none")
+        here.mkdir()
+        (here / "objects").symlink_to(f"../{there.name}/objects")
+        for folder, kind in ((here, link), (there, target)):
+            if kind:
+                write(folder / "config", made.SHA256 if kind == "sha256" else b"[core]\n")
+        for path in ("objects", "objects/"):
+            text = made.NO_PREFIX[target or link or "sha1"]
+            yield fails(f"--objects {path}, a link with {link}, of {target}", text, "find", "x", "--objects", path, cwd=here)
+
+
+def no_stores(room):
+    """What --objects names, in each way in which it is none, and directories in place of the files that say that it is one."""
+    write(room / "file")
+    (room / "loop").symlink_to("loop")
+    (room / "link").symlink_to("none")
+    write(room / "locked" / "objects" / "pack" / "none")
+    write(room / "list" / "info" / "alternates" / "none")
+    for name in ("pack", "4b", "00", "ff", "info"):
+        write(room / f"file_{name}" / name)
+    for path, why in [("none", NO_FILE), ("link", NO_FILE), ("file", "not a directory"), ("file/x", NO_FOLDER), ("loop", LOOP), ("loop/x", LOOP)]:
+        yield fails(f"--objects {path}", f"{path}: {why}", "names", "--objects", path, cwd=room)
+    for name in ("list", *(f"file_{name}" for name in ("pack", "4b", "00", "ff", "info"))):
+        yield fails(f"--objects {name}", f"{name}: no object store", "names", "--objects", name, cwd=room)
+    (room / "locked").chmod(0)
+    words = ("names", "--objects", "locked/objects")
+    yield fails("--objects in a locked folder", f"locked/objects: {LOCKED}", *words, cwd=room, around=POWERLESS)
+    (room / "locked").chmod(0o700)
+
+
+def files_in_each_way(room):
+    """Files that a repository may lack, in each way in which they are not there or cannot be read."""
+    id = made.IDS["sha1"]
+    for name in ("config", "objects/info/alternates", "commondir"):
+        for way, why in [("nothing", None), ("a link to nothing", None), ("a link to itself", LOOP), ("a folder", IS_FOLDER), ("locked", LOCKED)]:
+            if (name, way) == ("commondir", "a link to nothing"):
+                # (which git rejects)
+                continue
+            folder = room / f"{name.rpartition('/')[2]} {way}"
+            add_repository(folder, ids=[id])
+            path = folder / name
+            path.unlink(missing_ok=True)
+            if way == "a folder":
+                path.mkdir()
+            elif way == "locked":
+                write(path)
+                path.chmod(0)
+            elif way != "nothing":
+                path.symlink_to("none" if why is None else path.name)
+            title, how = f"{name}: {way}", {"cwd": folder}
+            if not why:
+                if listed(folder) != [id]:
+                    raise ValueError(f"git lists other ids with {title}")
+                yield finds(title, [id], **how)
+                continue
+            yield fails(title, f"{folder}/{name}: {why}", "names", around=POWERLESS if way == "locked" else (), **how)
+
+
+def odd_lines(room):
+    """Lists of alternates with an odd line, before and after a good one."""
+    own, good = made.IDS["sha1"], made.LOOSE
+    write(room / "file")
+    (room / "loop").symlink_to("loop")
+    (room / "loop\r").symlink_to("loop\r")
+    (room / "folder\r").mkdir()
+    add_ids(room / "good", [good])
+    text = "{list}: a path is not UTF-8"
+    rows = [(b"\xff", text), (b"../../../\xff/x", text), (b'"\\377"', text), (b"", None), (b"# x", None), (b"#", None), (b"../../own/objects", None)]
+    rows += [(b'"', "{below}/\": " + NO_FILE), (b'"x', "{below}/\"x: " + NO_FILE), (b" ", "{below}/ : " + NO_FILE)]
+    rows += [(b"{room}/good", None), (b"{room}/folder\r", None), (b"{room}/none", f"{{room}}/none: {NO_FILE}")]
+    rows += [(b"{room}/none\r", "{room}/none: its line ends in a carriage return"), (b"{room}/file", "{room}/file: not a directory")]
+    rows += [(b"{room}/file\r", "{room}/file: its line ends in a carriage return"), (b"{room}/loop", f"{{room}}/loop: {LOOP}")]
+    rows += [(b"{room}/loop\r", f"{{room}}/loop\r: {LOOP}"), (b"{room}/file/x", f"{{room}}/file/x: {NO_FOLDER}"), (b"\r", "{below}/: its line ends in a carriage return")]
+    for at, (line, why) in enumerate(rows):
+        for order in (1, -1):
+            repository = room / f"{at}{'+' if order > 0 else '-'}" / "own"
+            add_repository(repository, ids=[own])
+            objects = repository / "objects"
+            lines = [line.replace(b"{room}", os.fsencode(room)), os.fsencode(room / "good")][::order]
+            write(objects / "info" / "alternates", b"\n".join(lines))
+            errors = why.replace("{room}", str(room)).replace("{below}", str(objects)) if why else ""
+            errors = error_of(errors.replace("{list}", f"{objects}/info/alternates") + ", skipped") if why else ""
+            if listed(repository) != [own, good]:
+                raise ValueError(f"git lists other ids with {line!r}")
+            yield finds(f"alternates, {line!r} {'first' if order > 0 else 'last'}", [own, good], errors=errors, cwd=repository)
+
+
+def long_texts(room):
+    """Texts that are longer than a buffer, each with what counts at its end."""
+    own, good = made.IDS["sha256"], "f" * 64
+    add_ids(room / "good", [good])
+    for size in (1 << 12, 1 << 16, 1 << 18, 1 << 20):
+        repository = room / str(size) / "own"
+        fill = b"x" * size
+        for name, text in [("a comment", b"#" + fill), ("a value", b"[a]\nb=" + fill), ("lines", b"\n" * size), ("a section", b'[a "' + fill + b'"]')]:
+            add_repository(repository, "sha256", [own])
+            write(repository / "config", text + b"\n" + made.SHA256)
+            yield finds(f"a config with {name} of {size} bytes", [own], cwd=repository)
+        lists = [("a comment", b"#" + fill + b"\n"), ("lines", b"\n" * size), ("comments", b"#x\n" * (size // 3))]
+        for name, text in lists:
+            write(repository / "objects" / "info" / "alternates", text + os.fsencode(room / "good"))
+            yield finds(f"alternates with {name} of {size} bytes", [own, good], cwd=repository)
+        (repository / "objects" / "info" / "alternates").unlink()
+        write(repository / "HEAD", made.HEAD + fill)
+        yield finds(f"HEAD with {size} more bytes", [own], cwd=repository)
+        if size < 1 << 20:
+            # (Git reads no longer gitfile)
+            work = room / str(size) / "work"
+            write(work / ".git", b"gitdir: ../own/worktrees/w" + b"\n" * size)
+            write(repository / "worktrees" / "w" / "HEAD", made.HEAD)
+            write(repository / "worktrees" / "w" / "commondir", b"../.." + b"\r\n" * (size // 2))
+            yield finds(f"a gitfile and commondir with {size} line ends", [own], cwd=work)
+        if size < 1 << 17:
+            env = {"GIT_ALTERNATE_OBJECT_DIRECTORIES": ":" * (size - 100) + str(room / "good")}
+            yield finds(f"a variable of {size} bytes", [own, good], cwd=repository, env=env)
+
+
+def environments(room):
+    """--objects with each variable of the environment, a relative $GIT_COMMON_DIR, and a repository without objects."""
+    ids = [f"{at}{'0' * 39}" for at in range(4)]
+    for at, name in enumerate(("own", "other", "third")):
+        add_repository(room / name, ids=[ids[at]])
+    values = {
+        "GIT_DIR": "other",
+        "GIT_COMMON_DIR": "other",
+        "GIT_OBJECT_DIRECTORY": "other/objects",
+        "GIT_ALTERNATE_OBJECT_DIRECTORIES": "other/objects:third/objects",
+    }
+    rows = [{name: text} for name, value in values.items() for text in (value, str(room / value), "none", "", "\udcff", '"\\377"')]
+    for env in [*rows, values]:
+        yield finds(f"--objects with {env}", ids[:1], "--objects", "own/objects", cwd=room, env=env)
+    work = room / "work"
+    below = work / "d"
+    for path, id in ((work / ".git", ids[0]), (work / "c", ids[1]), (below / "c", ids[2])):
+        add_repository(path, ids=[id])
+    env = {"GIT_COMMON_DIR": "c"}
+    for folder in (work, below):
+        if listed(folder, env) != [ids[1]]:
+            raise ValueError(f"git lists other ids in {folder.name} with $GIT_COMMON_DIR")
+        yield finds(f"$GIT_COMMON_DIR, relative, in {folder.name}", [ids[1]], cwd=folder, env=env)
+    lacks, id = room / "lacks", made.IDS["sha256"]
+    for name, content in (("HEAD", made.HEAD), ("refs/none", b""), ("config", made.SHA256)):
+        write(lacks / ".git" / name, content)
+    add_ids(room / "elsewhere", [id])
+    env = {"GIT_OBJECT_DIRECTORY": str(room / "elsewhere")}
+    if listed(lacks, env) != [id]:
+        raise ValueError("git lists other ids of a repository without objects")
+    yield finds("a repository without objects, with $GIT_OBJECT_DIRECTORY", [id], cwd=lacks, env=env)
+
+
+class Talk:
+    """A coprocess, whose input is a pipe that holds much, and which must answer in time."""
+
+    def __init__(self, child):
+        self.child = child
+        fcntl.fcntl(child.stdin, SET_PIPE_SIZE, PIPE_SIZE)
+
+    def ask(self, given, wanted):
+        """Writes bytes, and returns what is wrong with the answer, of which not a byte is missing or too much, if anything."""
+        self.child.stdin.write(given)
+        got = b""
+        while len(got) < len(wanted) and select.select([self.child.stdout], [], [], PATIENCE)[0]:
+            if not (part := os.read(self.child.stdout.fileno(), 1 << 20)):
+                break
+            got += part
+        return None if got == wanted else f"{len(got)} bytes of {len(wanted)}, as {got[-60:]!r}"
+
+    def end(self, status):
+        """Ends it, and returns what is wrong with its status, if anything."""
+        self.child.stdin.close()
+        got = self.child.wait()
+        return None if got == status else f"status {got} in place of {status}"
+
+
+def talk(program, room, *words):
+    """Starts packtool as a coprocess over the object directory `objects`."""
+    pipes = {"stdin": subprocess.PIPE, "stderr": subprocess.DEVNULL, "bufsize": 0}
+    return started([program, *words, "--stdin", "--objects", "objects"], PATIENCE * 2, cwd=room, **pipes)
+
+
+def answer_to(line, id):
+    """What `find --stdin` prints for a line in a store of one id of SHA-1."""
+    if not 2 <= len(line) <= DIGITS["sha1"]:
+        return f"{line} bad\n"
+    return f"{line} {id if id.startswith(line) else 'missing'}\n"
+
+
+def exchanges(program, room):
+    """Inputs of exactly as many bytes as a read takes, each answered before the next comes, in lines of each length."""
+    add_repository(room, ids=[made.LOOSE])
+    for size in (1, 2, 3, 4, 5, 9, 41):
+        with talk(program, room, "find") as child:
+            asked, wrong = Talk(child), None
+            for total in [*READS, READS[-1], READS[0] - 1, READS[0] + 1]:
+                lines = [made.LOOSE[: size - 1]] * (total // size)
+                lines[-1] += "0" * (total % size)
+                given, wanted = ("".join(texts).encode() for texts in ((f"{line}\n" for line in lines), (answer_to(line, made.LOOSE) for line in lines)))
+                wrong = wrong or asked.ask(given, wanted)
+        yield f"find --stdin of whole reads of lines of {size} bytes", wrong
+
+
+def statuses(program, room):
+    """Chunks of each status in each order: the worst is the status of all."""
+    add_repository(room, ids=[made.LOOSE])
+    for order in (order for size in (1, 2, 3) for order in itertools.permutations(range(3), size)):
+        with talk(program, room, "find") as child:
+            asked, wrong = Talk(child), None
+            for status in order:
+                paths = [room / "objects" / "pack" / name for name in ("x.pack", "x.idx")]
+                for path in paths:
+                    write(path) if status == 2 else path.unlink(missing_ok=True)
+                line, answer = ("4bff", made.LOOSE) if status != 1 else ("4b00", "missing")
+                wrong = wrong or asked.ask(f"{line}\n".encode(), f"{line} {answer}\n".encode())
+            wrong = wrong or asked.end(max(order))
+        yield f"find --stdin of chunks of the statuses {order}", wrong
+
+
+CASES = [endings, cut, long_offsets, packs_beside, names_in_errors, names_of_files, counts, last_lines, skipped]
+CASES += [much_found, damaged_asked, by_links, no_stores, files_in_each_way, odd_lines, long_texts, environments]
+TALKS = [exchanges, statuses]
