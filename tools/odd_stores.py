@@ -89,6 +89,8 @@ class Oddity:
         # Where the program runs, what its environment has, what nobody may read, and in which folders nobody may look at
         # files.
         self.cwd, self.env, self.locked, self.unsearched = room, {}, [], []
+        # The top of its worktree, or of the repository, if that is bare.
+        self.top = room
         # The folders of objects that were made, and the ids that may be in them.
         self.objects, self.ids = [], []
         # Whether nothing leads to it from outside, since its path is not UTF-8, as paths of packtool are.
@@ -107,7 +109,7 @@ class Oddity:
         right = ["ref: refs/heads/main\n", "ref:refs/x", "ref: \t\n refs/", "0123456789abcdefABCD" * 2, "f" * 64 + "\n", "f" * 41]
         wrong = ["ref: heads/main\n", "f" * 39, "", "x", "ref:", "ref: \frefs/x", " ref: refs/x", "g" * 40, "REF: refs/x"]
         wrong += ["ref: Refs/x", "ref:" + " " * 300 + "refs/x"]
-        return rng.choice(wrong if chance(rng, 0.06) else right)
+        return rng.choice(wrong if chance(rng, 0.15) else right)
 
     def repository(self, folder, text=None):
         """Makes a folder a repository, or something like it."""
@@ -139,7 +141,7 @@ class Oddity:
         """Makes the repository, in one of many ways, and chooses where the program runs, and in which environment."""
         rng = self.rng
         top = self.room / rng.choice(["r", "r s", "r\u00e9", "a\\b", 'q"', "c:d", "r\udcff"])
-        self.is_alone = "\udcff" in top.name
+        self.top, self.is_alone = top, "\udcff" in top.name
         form = rng.choice(["worktree", "bare"] if self.is_alone else ["worktree", "bare", "linked", "file", "symlink", "nested"])
         inner = top if form == "bare" else top / ".git"
         if form in ("file", "linked", "symlink"):
@@ -176,16 +178,17 @@ class Oddity:
         cwd = self.cwd
         if chance(rng, 0.2):
             self.env["GIT_DIR"] = rng.choice([spelled(rng, gitdir, cwd)] * 6 + ["", "none", ".git", "."])
-        if chance(rng, 0.08):
+        if chance(rng, 0.2):
             other = self.room / "common"
             self.repository(other)
-            path = spelled(rng, other, cwd) if is_worktree else str(other)
+            path = spelled(rng, other, rng.choice([cwd, self.top])) if is_worktree else str(other)
             self.env["GIT_COMMON_DIR"] = rng.choice([path] * 4 + ["", "none", str(gitdir)])
         if chance(rng, 0.15):
             other = self.room / "other" / rng.choice(["objects", "o"])
             other.mkdir(parents=True)
             self.objects.append(other)
-            self.env["GIT_OBJECT_DIRECTORY"] = rng.choice([str(other)] * 4 + [spelled(rng, other, cwd)] * 2 + ["", "none"])
+            paths = [spelled(rng, other, start) for start in (cwd, self.top)]
+            self.env["GIT_OBJECT_DIRECTORY"] = rng.choice([str(other)] * 4 + paths * 2 + ["", "none"])
         others = {"GIT_CEILING_DIRECTORIES": "/none", "GIT_DEFAULT_HASH": "sha256", "GIT_NAMESPACE": "x"}
         self.env |= {name: value for name, value in others.items() if chance(rng, 0.03)}
 
@@ -220,8 +223,9 @@ class Oddity:
                 listed.unlink()
                 file = lambda: (listed.parent.rmdir(), listed.parent.write_bytes(b""))  # noqa: E731
                 rng.choice([listed.mkdir, lambda: listed.symlink_to("none"), file])()
-        if not self.is_alone and chance(rng, 0.2):
-            paths = [self.alternate(self.cwd, rng.choice(self.objects)) for _ in range(rng.choice([1, 2, 12]))]
+        if not self.is_alone and chance(rng, 0.4):
+            start = rng.choice([self.cwd, self.top])
+            paths = [self.alternate(start, rng.choice(self.objects)) for _ in range(rng.choice([1, 2, 12]))]
             self.env["GIT_ALTERNATE_OBJECT_DIRECTORIES"] = ":".join(paths)
         self.lock()
 
