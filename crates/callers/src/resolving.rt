@@ -21,7 +21,7 @@ pub fn resolve<R: Files<File = File> + Env + AllocGlobal + Clone + Drop>(
         return Ok(None);
     }
     let loose = LooseIds::WithFirstByte(prefix.first_byte());
-    let store = FolderStore::open(rt, &folder, loose)?;
+    let mut store = FolderStore::open(rt, &folder, loose)?;
     match lookup_prefix(rt.alloc(), &store, &prefix) {
         Ok(ids) if ids.len() == 1 => Ok(Some(ids[0])),
         Ok(_) => Ok(None),

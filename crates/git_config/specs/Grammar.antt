@@ -13,37 +13,46 @@ abbrev pub Read : Type 0 → Type 0
 Read T = Result (T × List ℕ) ℕ
 
 infixl 10 ◌>>=◌
+
+-- what a function says of what was read, or the byte that is wrong
 abbrev pub ◌>>=◌ : {A B : Type 0} → Result A ℕ → (A → Result B ℕ) → Result B ℕ
 (Ok read) >>= f = f read
 (Err left) >>= f = Err left
 
+-- whether a byte is a space or a tab
 abbrev pub is_space : ℕ → Bool
 is_space byte = byte == 32 || byte == 9
 
+-- whether it is one of these or a carriage return
 abbrev pub is_blank : ℕ → Bool
 is_blank byte = is_space byte || byte == 13
 
+-- whether a comment begins with it
 abbrev pub begins_comment : ℕ → Bool
 begins_comment byte = byte == 35 || byte == 59
 
+-- whether a key may have it
 abbrev pub is_key_byte : ℕ → Bool
 is_key_byte byte = is_ascii_alphanumeric byte || byte == 45
 
+-- whether a section's name may have it
 abbrev pub is_name_byte : ℕ → Bool
 is_name_byte byte = is_key_byte byte || byte == 46
 
--- what is after the bytes that pass; after the line
+-- what is after the bytes that pass
 abbrev pub past : (ℕ → Bool) → List ℕ → List ℕ
 past test text = drop (prefix_len test text) text
 
+-- what is after the line
 abbrev pub after_line : List ℕ → List ℕ
 after_line text = after_first (λ byte. byte == 10) text
 
--- whether a line ends here: by a line feed, before which there may be a carriage return, or with the text
+-- whether a line feed is next
 abbrev pub begins_line : List ℕ → Bool
 begins_line [] = false
 begins_line (byte ∷ rest) = byte == 10
 
+-- whether a line ends here: by a line feed, before which there may be a carriage return, or with the text
 abbrev pub ends_line : List ℕ → Bool
 ends_line [] = true
 ends_line (byte ∷ rest) = byte == 10 || byte == 13 && begins_line rest
@@ -53,7 +62,7 @@ abbrev pub expect : ℕ → List ℕ → Result (List ℕ) ℕ
 expect byte [] = Err 0
 expect byte (first ∷ rest) = if first == byte then Ok rest else Err (length rest)
 
--- The rest of a subsection, up to its quotation mark; whether a backslash is before, after which a byte is itself. The name so far is before it.
+-- The rest of a subsection, up to its quotation mark; after a backslash, as is said here, a byte is itself. The name so far is before it.
 abbrev pub quoted : Bool → List ℕ → List ℕ → Read (List ℕ)
 quoted escaped name [] = Err 0
 quoted escaped name (byte ∷ rest) =
@@ -61,7 +70,7 @@ quoted escaped name (byte ∷ rest) =
     if byte == 34 && not escaped then Ok (name, rest) else
     if byte == 92 && not escaped then quoted true name rest else quoted false (name ++ byte ∷ []) rest
 
--- a section's header after its name: maybe blanks and a subsection, and a closing bracket. The name gets a dot at its end
+-- a section's header after its name: maybe spaces and a subsection, and a closing bracket. The name gets a dot at its end
 abbrev pub header_end : List ℕ → List ℕ → Read (List ℕ)
 header_end name [] = Err 0
 header_end name (byte ∷ rest) =
@@ -73,12 +82,13 @@ header_end name (byte ∷ rest) =
 abbrev pub header : List ℕ → Read (List ℕ)
 header text = header_end (map to_ascii_lowercase (take_while is_name_byte text)) (past is_name_byte text)
 
--- What a byte of a value is: the end, a blank outside quotation marks, or what means these bytes; then, whether in quotation marks and after a backslash.
+-- What a byte of a value is: the end, a space outside quotation marks, or what means these bytes; then, whether in quotation marks and after a backslash.
 pub data Piece : Type 0 where
   End : Piece
   Blank : Piece
   Means : List ℕ → Bool → Bool → Piece
 
+-- what this byte is, in quotation marks or not, after a backslash or not
 abbrev pub piece : Bool → Bool → ℕ → List ℕ → Result Piece ℕ
 piece in_quotes true byte rest =
     if byte == 10 then Ok (Means [] in_quotes false) else
@@ -94,7 +104,7 @@ piece in_quotes false byte rest =
     if begins_comment byte && not in_quotes then Ok End else
     if is_blank byte && not in_quotes then Ok Blank else Ok (Means (byte ∷ []) in_quotes false)
 
--- The rest of a value, after these bytes. A blank is a space, but not before the first byte and not after the last piece, up to which so many bytes are kept.
+-- The rest of a value, after these bytes. Spaces, tabs and carriage returns are spaces, but none before the first byte, and none after the last byte of another kind, up to which this many bytes are kept.
 abbrev pub value : Bool → Bool → List ℕ → ℕ → List ℕ → Read (List ℕ)
 value in_quotes escaped bytes kept [] = if in_quotes then Err 0 else Ok (take kept bytes, [])
 value in_quotes escaped bytes kept (byte ∷ rest) = piece in_quotes escaped byte rest >>= λ found. elim found [
@@ -107,6 +117,7 @@ value in_quotes escaped bytes kept (byte ∷ rest) = piece in_quotes escaped byt
 abbrev pub assignment : List ℕ → Read (Option (List ℕ))
 assignment text = if ends_line text then Ok (None, after_line text) else (expect 61 text >>= λ rest. value false false [] 0 rest >>= λ read. Ok (Some read.0, read.1))
 
+-- what is before the first NUL
 abbrev pub before_nul : List ℕ → List ℕ
 before_nul text = before_first (λ byte. byte == 0) text
 
@@ -115,7 +126,7 @@ abbrev pub variable : List ℕ → List ℕ → Read Variable
 variable name text = assignment (past is_space (past is_key_byte text)) >>= λ read.
     Ok (record { name = before_nul (name ++ map to_ascii_lowercase (take_while is_key_byte text)); value = option_map before_nul read.0 }, read.1)
 
--- What a text in a section begins with: blanks and comments, which are nothing, a header or a variable. The section after it, and the variable if it is one.
+-- What a text in a section begins with: spaces and comments, which are nothing, a header or a variable. The section after it, and the variable if it is one.
 abbrev pub item : List ℕ → ℕ → List ℕ → Read (List ℕ × Option Variable)
 item section byte rest =
     if is_blank byte || byte == 10 then Ok ((section, None), rest) else
@@ -123,7 +134,7 @@ item section byte rest =
     if byte == 91 then (header rest >>= λ read. Ok ((read.0, None), read.1)) else
     if is_ascii_alphabetic byte then (variable (section ++ to_ascii_lowercase byte ∷ []) rest >>= λ read. Ok ((section, Some read.0), read.1)) else Err (length rest)
 
--- A text in this section has these variables, up to its end or up to a byte that is wrong, which so many follow.
+-- A text in this section has these variables, up to its end or up to a byte that is wrong, and how many bytes follow that.
 pub data Reads : List ℕ → List ℕ → List Variable → Option ℕ → Type 0 where
   ends : (section : List ℕ) → Reads section [] [] None
   stops : (section : List ℕ) (byte : ℕ) (rest : List ℕ) (left : ℕ) → item section byte rest ≡ Err left → Reads section (byte ∷ rest) [] (Some left)
@@ -133,7 +144,7 @@ pub data Reads : List ℕ → List ℕ → List Variable → Option ℕ → Type
 abbrev pub without_mark : List ℕ → List ℕ
 without_mark text = if bytes_eq (take 3 text) (239 ∷ 187 ∷ 191 ∷ []) then drop 3 text else text
 
--- the number of the line, from 1, of the byte that so many follow
+-- the number of the line, from 1, of the byte that this many follow
 abbrev pub line_number : List ℕ → ℕ → ℕ
 line_number text left = count_by (λ byte. byte == 10) (take (length text - (left + 1)) text) + 1
 

@@ -14,6 +14,7 @@ abbrev pub numeral_after : ℕ → ℕ → List ℕ → Option ℕ
 numeral_after base n [] = Some n
 numeral_after base n (digit ∷ rest) = if nat_lt (digit_value digit) base && nat_lt (n * base + digit_value digit) (2 ^ 31) then numeral_after base (n * base + digit_value digit) rest else None
 
+-- the number that digits in a base mean, of which there is one at least
 abbrev pub numeral : ℕ → List ℕ → Option ℕ
 numeral base [] = None
 numeral base (digit ∷ rest) = numeral_after base 0 (digit ∷ rest)
@@ -30,6 +31,7 @@ unit letter =
     if letter == 109 || letter == 77 then 2 ^ 20 else
     if letter == 103 || letter == 71 then 2 ^ 30 else 1
 
+-- a number times a unit, if it has at most 31 bits
 abbrev pub times : ℕ → ℕ → Option ℕ
 times unit number = if nat_lt (number * unit) (2 ^ 31) then Some (number * unit) else None
 

@@ -8,9 +8,11 @@ use Rattle.git_config.specs.declared.syntax.Piece.TheVariants.{End, Blank, Means
 use Rattle.git_config.specs.declared.syntax.Stop.{Stop}
 use Rattle.git_config.specs.declared.syntax.Stop.TheVariants.{Memory, Wrong}
 
+-- a variable
 abbrev pub said : Variable → grammar.Variable
 said variable = record { name = variable.name.items; value = option_map (λ text. text.items) variable.value }
 
+-- a byte of a value
 abbrev pub piece_of : Piece → grammar.Piece
 piece_of End = grammar.Piece.End
 piece_of Blank = grammar.Piece.Blank

@@ -183,7 +183,7 @@ fn read_value(alloc: Global, text: &[u8]) -> Read<'_, Vec<u8>>
 enum Piece<'a> {
     // The end.
     End,
-    // A blank outside quotation marks.
+    // A space outside quotation marks.
     Blank,
     // What means these bytes; then, whether in quotation marks and after a backslash.
     Means(&'a [u8], bool, bool),

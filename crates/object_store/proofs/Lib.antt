@@ -7,5 +7,6 @@ pub mod WholeLocations
 pub mod LocationMembers
 pub mod LooseParts
 pub mod FoundAt
+pub mod Reopened
 mod Places
 mod LocatedIds

@@ -20,11 +20,28 @@ use Rattle.object_store.specs.declared.locations.Location.{Location}
 use Rattle.object_store.specs.declared.locations.Location.TheVariants.{Loose, Packed}
 use Rattle.object_store.specs.declared.abbreviations.NamedId.{NamedId}
 
--- the kind of all ids, the pack indexes, and the ids of the loose objects, each by its digits
+-- the kind of all ids, the pack indexes, the ids of the loose objects that were listed, each by its digits, and the only first byte of which they were listed, if
+-- they were not of all
 pub record StoreView : Type 0 where
   pub kind : Kind
   pub packs : List LazyIndex
   pub loose : List (List ℕ)
+  pub listed : Option ℕ
+
+-- the loose objects whose ids have the first byte were listed
+abbrev pub IsListed : StoreView → ℕ → Type 0
+IsListed view byte = (only : ℕ) → view.listed ≡ Some only → byte ≡ only
+
+-- what a store has, as it was opened first or later
+abbrev pub IsSeen : (StoreView → Type 0) → StoreView → StoreView → Type 0
+IsSeen MayHave first view = (view ≡ first) ⊎ MayHave view
+
+-- a store was opened again, or not: the kind stays, and of which first byte the loose objects are listed; and the store may have nothing more then
+pub record IsReopened (MayHave MayHaveThen : StoreView → Type 0) (old new : StoreView) : Type 0 where
+  pub kind : new.kind ≡ old.kind
+  pub listed : new.listed ≡ old.listed
+  pub seen : IsSeen MayHave old new
+  pub later : (view : StoreView) → MayHaveThen view → MayHave view
 
 -- the store, the first byte of the names that were read, and these names and the loose ids
 pub record PartView : Type 0 where
@@ -174,10 +191,11 @@ pub record IsNameOf (fewest : ℕ) (view : StoreView) (id : List ℕ) (name : Op
   pub has_read : HasRead view (first_byte_of id) read
   pub is : MatchOption name (¬ Contains read id) (λ name. IsNameIn fewest read id name.digits × (name.kind ≡ view.kind))
 
--- a prefix that is looked up in the part of its first byte: it has 2 digits or more, and the store's kind
+-- a prefix that is looked up in the part of its first byte: it has 2 digits or more, and the store's kind, and the loose objects with this byte were listed
 pub record CanLookUp (view : StoreView) (prefix : KindDigits) : Type 0 where
   pub enough : 2 ≤ length prefix.digits
   pub kind : prefix.kind ≡ view.kind
+  pub listed : IsListed view (first_byte_of prefix.digits)
 
 -- what was found for each prefix, in their order, has the relation to its digits
 pub record AreFoundOfEach {Found : Type 0} (Finds : List ℕ → Found → Type 0) (prefixes : List KindDigits) (found : List Found) : Type 0 where

@@ -5,7 +5,7 @@ ghost use Rattle.gix_hash.specs.Digits.{first_byte_of};
 ghost use Rattle.gix_hash.specs.Kinds.{hex_len_of};
 ghost use Rattle.gix_hash.specs.Ids.{id_digits, id_kind};
 ghost use Rattle.id_lookup.specs.Indexes.{IsIndex, IsShortestNameFrom};
-ghost use Rattle.object_store.specs.Stores.{CanLookUp, IsFaultOfOne, IsOfKind, IsStoreFault};
+ghost use Rattle.object_store.specs.Stores.{CanLookUp, IsFaultOfOne, IsListed, IsOfKind, IsStoreFault};
 ghost use Rattle.object_store.specs.Several.{AreAbbreviatedOfEach, AreNamed, IsAbbreviated};
 
 use crate::each::{LookUp, look_up_each};
@@ -134,6 +134,7 @@ pub fn abbreviate_part<S: Store, A: Allocator + Copy>(
     byte: u8,
     least: usize,
 ) -> Result<Vec<NamedId, A>, Error>
+    requires listed { IsListed (S.view store.now) byte }
     requires enough { 4 ≤ least }
     requires fits { least ≤ hex_len_of (S.view store.now).kind }
     ensures named { IfOk result (λ named. AreNamed least (S.view store.now) byte named.items) }

@@ -3,7 +3,7 @@
 ghost use Rattle.std.specs.Prelude.{◌≡◌, ◌⊎◌, [], ◌∷◌, ◌++◌, ◌<◌, ◌≤◌, All, IfErr, IfNone, IfOk, IfSome, OnOk, length, map};
 ghost use Rattle.gix_hash.specs.Digits.{first_byte_of};
 ghost use Rattle.gix_hash.specs.Ids.{id_digits, id_kind};
-ghost use Rattle.object_store.specs.Stores.{AreBuckets, AreLocations, AreMatches, ArePacked, CanLookUp, HasLocation, HaveLocations, IsLocateFault, IsLocationFault, IsLocationsFault, IsOffsetOf, packed_at};
+ghost use Rattle.object_store.specs.Stores.{AreBuckets, AreLocations, AreMatches, ArePacked, CanLookUp, HasLocation, HaveLocations, IsListed, IsLocateFault, IsLocationFault, IsLocationsFault, IsOffsetOf, packed_at};
 ghost use Rattle.object_store.specs.Several.{AreLocated, AreLocatedOfEach, IsLocationsFaultOfOne};
 ghost use Rattle.pack_index.specs.Lazy.{IfKnown, IsBucketOf};
 
@@ -162,6 +162,7 @@ fn locate_each<S: StorePaths, A: Allocator + Copy>(
     prefix: &Prefix,
 ) -> Result<Vec<LocatedId<A>, A>, Error>
     requires enough { 2 ≤ length prefix.now.digits }
+    requires listed { IsListed parts.old (first_byte_of prefix.now.digits) }
     requires ids { AreMatches parts.old prefix.now.digits ids.now }
     ensures store { parts.new ≡ parts.old }
     ensures located { IfOk result (λ located. AreLocated parts.old

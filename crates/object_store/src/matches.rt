@@ -5,7 +5,7 @@ ghost use Rattle.gix_hash.specs.Digits.{first_byte_of};
 ghost use Rattle.gix_hash.specs.Kinds.{hex_len_of};
 ghost use Rattle.gix_hash.specs.Ids.{id_digits, id_kind};
 ghost use Rattle.id_lookup.specs.Runs.{matches};
-ghost use Rattle.object_store.specs.Stores.{AreMatches, AreMatchesOfEach, CanLookUp, IsFaultOfOne, IsStoreFault};
+ghost use Rattle.object_store.specs.Stores.{AreMatches, AreMatchesOfEach, CanLookUp, IsFaultOfOne, IsListed, IsStoreFault};
 ghost use Rattle.pack_index.specs.Lazy.{BucketNames};
 
 use crate::each::{LookUp, look_up_each};
@@ -34,6 +34,7 @@ pub fn lookup_prefix<S: Store, A: Allocator + Copy>(
 ) -> Result<Vec<ObjectId, A>, Error>
     requires enough { 2 ≤ length prefix.now.digits }
     requires kind { prefix.now.kind ≡ (S.view store.now).kind }
+    requires listed { IsListed (S.view store.now) (first_byte_of prefix.now.digits) }
     ensures matches { IfOk result (λ ids. AreMatches (S.view store.now) prefix.now.digits
         ids.items) }
     ensures err { IfErr result (IsStoreFault (S.view store.now)

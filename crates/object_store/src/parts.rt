@@ -6,7 +6,7 @@ ghost use Rattle.gix_hash.specs.Digits.{first_byte_of};
 ghost use Rattle.gix_hash.specs.Kinds.{hex_len_of};
 ghost use Rattle.gix_hash.specs.Ids.{id_digits, id_kind};
 ghost use Rattle.object_store.specs.Several.{IsAbbreviated};
-ghost use Rattle.object_store.specs.Stores.{AreLocations, AreMatches, CanLookUp, HasRead, HaveBuckets, IsLocateFault, IsNameOf, IsStoreFault, PartView};
+ghost use Rattle.object_store.specs.Stores.{AreLocations, AreMatches, CanLookUp, HasRead, HaveBuckets, IsListed, IsLocateFault, IsNameOf, IsStoreFault, PartView};
 
 use crate::abbreviations::Abbreviation;
 use crate::error::Error;
@@ -84,6 +84,7 @@ impl<'s, S: Store, A: Allocator + Copy> Parts<'s, S, A> {
     /// store's kind.
     pub fn abbreviate(&mut self, id: &ObjectId, least: usize) -> Result<Option<Prefix>, Error>
         requires kind { id_kind id.now ≡ self.old.kind }
+        requires listed { IsListed self.old (first_byte_of (id_digits id.now)) }
         requires enough { 4 ≤ least }
         requires fits { least ≤ hex_len_of self.old.kind }
         ensures store { self.new ≡ self.old }
@@ -129,7 +130,8 @@ impl<'s, S: Store, A: Allocator + Copy> Parts<'s, S, A> {
     /// If a pack index has the id more than once, the offset is that of the first. It is read once
     /// all ids with this first byte are.
     pub fn locate(&mut self, id: &ObjectId) -> Result<Vec<Location, A>, Error>
-        requires { id_kind id.now ≡ self.old.kind }
+        requires kind { id_kind id.now ≡ self.old.kind }
+        requires listed { IsListed self.old (first_byte_of (id_digits id.now)) }
         ensures store { self.new ≡ self.old }
         ensures locations { IfOk result (λ locations. AreLocations self.old (id_digits id.now)
             locations.items) }

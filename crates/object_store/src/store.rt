@@ -1,5 +1,6 @@
 //! What an object store is to a look-up.
 
+use crate::error::Error;
 use crate::loose::LooseTable;
 use gix_hash::{Kind, ObjectId};
 use pack_index::LazyFile;
@@ -22,7 +23,8 @@ pub trait Store {
     /// What the bytes of a pack index are read from.
     type Source: ReadAt + Drop;
 
-    /// What it has: the kind of all ids, the pack indexes, and the ids of all loose objects.
+    /// What it has: the kind of all ids, the pack indexes, and the ids of the loose objects, of
+    /// all or of those with one first byte.
     ghost view: { Self → StoreView };
 
     /// The kind of all ids.
@@ -66,4 +68,29 @@ pub trait StorePaths: Store {
     fn loose_paths(&self, id: &ObjectId) -> Result<Vec<String>, AllocError>
         ensures { IfOk result (λ paths. map string_bytes paths.items
             ≡ loose_paths self.now (id_digits id.now)) };
+}
+
+/// A store that can be opened again, as it is then, after a pack index is gone that it has listed.
+///
+/// ```
+/// if store.is_gone(&error) && store.reopen() {
+///     println!(rt; "{} pack indexes", store.indexes().len())?;
+/// }
+/// ```
+pub trait Reopen: Store {
+    ghost use Rattle.std.specs.Prelude.{◌≡◌, false};
+    ghost use Rattle.object_store.specs.Stores.{IsReopened, StoreView};
+
+    /// What it may have after it is opened again, once or more often.
+    ghost may_have: { Self → StoreView → Type 0 };
+
+    /// Whether an error is that a pack index is gone.
+    fn is_gone(&self, error: &Error) -> bool;
+
+    /// Opens the store again, and returns whether that was possible; if not, it has what it had.
+    /// Its kind stays, and of which first byte the loose objects are listed.
+    fn reopen(&mut self) -> bool
+        ensures reopened { IsReopened (may_have self.old) (may_have self.new) (Self.view self.old)
+            (Self.view self.new) }
+        ensures failed { result ≡ false → Self.view self.new ≡ Self.view self.old };
 }

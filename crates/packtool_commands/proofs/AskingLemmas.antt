@@ -1,5 +1,5 @@
 -- The lines of a text and what is printed for them, one after the other.
-use Rattle.std.proofs.Common.{◌≡◌, ℕ, zero, suc, ◌<◌, ◌≤◌, Bool, true, false, ◌&&◌, nat_lt, Option, None, Some, Vec, List, [], ◌∷◌, ◌++◌, length, get_or, refl, sym, ap, ◌∙◌, arith}
+use Rattle.std.proofs.Common.{◌≡◌, ℕ, zero, suc, ◌<◌, ◌≤◌, Bool, true, false, ◌&&◌, nat_lt, Option, None, Some, List, [], ◌∷◌, ◌++◌, length, get_or, refl, sym, ap, subst, ◌∙◌, arith}
 use Rattle.std.specs.Prelude.{if◌then◌else◌}
 use Rattle.std.specs.List.{All, flat_map}
 use Rattle.std.specs.Option.{is_some, option_map, option_to_list}
@@ -11,14 +11,9 @@ use Rattle.gix_hash.specs.Digits.{digits_read, hex_letter}
 use Rattle.gix_hash.specs.Kinds.{hex_len_of}
 use Rattle.gix_hash.specs.Prefixes.{KindDigits, kind_digits}
 use Rattle.gix_hash.specs.declared.Kind.{Kind}
-use Rattle.gix_hash.specs.declared.ObjectId.{ObjectId}
-use Rattle.object_store.specs.Stores.{AreMatchesOfEach, CanLookUp, StoreView}
-use Rattle.object_store.specs.Several.{AreAbbreviatedOfEach, AreLocatedOfEach}
-use Rattle.object_store.specs.declared.locations.LocatedId.{LocatedId}
-use Rattle.object_store.specs.declared.abbreviations.Abbreviation.{Abbreviation}
-use Rattle.object_store.specs.declared.abbreviations.Abbreviation.TheVariants.{Missing}
+use Rattle.object_store.specs.Stores.{CanLookUp, IsReopened, StoreView}
 use Rattle.streams.specs.Streams.{lines_of}
-use Rattle.packtool_commands.specs.Stores.{HaveAllBuckets, answer_to, answers_by, are_answers_by, found_text, is_answer_to, lists_after, of_two, prefix_of, prefixes_of}
+use Rattle.packtool_commands.specs.Stores.{AreListed, answer_to, answers_by, are_answers_by, found_text, is_answer_to, lists_after, of_two, prefix_of, prefixes_of}
 use Rattle.packtool_commands.specs.declared.asking.Answers.{Answers}
 use Rattle.packtool_commands.specs.declared.asking.Answers.TheVariants.{All as AllOfThem, One as OneOfThem}
 
@@ -71,46 +66,48 @@ module _ (kind : Kind) (rest after : List (List ℕ)) (line : List ℕ) (p : Boo
 nothing : {X : Type 0} (P : X → Type 0) → All P []
 nothing P k d low = absurd (omega (arith, low))
 
--- the prefixes among lines can be looked up
-pub can_look_up : (view : StoreView) (lines : List (List ℕ)) → All (CanLookUp view) (prefixes_of view.kind lines)
-can_look_up view [] = nothing (CanLookUp view)
-can_look_up view (line ∷ lines) = All-append (CanLookUp view) (option_to_list (prefix_of view.kind line)) (prefixes_of view.kind lines) one (can_look_up view lines)
+-- the prefixes among lines have 2 digits or more, and the kind
+pub are_long : (kind : Kind) (lines : List (List ℕ)) → All (λ (prefix : KindDigits). (2 ≤ length prefix.digits) × (prefix.kind ≡ kind)) (prefixes_of kind lines)
+are_long kind [] = nothing IsLong
   where
+    IsLong : KindDigits → Type 0
+    IsLong prefix = (2 ≤ length prefix.digits) × (prefix.kind ≡ kind)
+are_long kind (line ∷ lines) = All-append IsLong (option_to_list (prefix_of kind line)) (prefixes_of kind lines) one (are_long kind lines)
+  where
+    IsLong : KindDigits → Type 0
+    IsLong prefix = (2 ≤ length prefix.digits) × (prefix.kind ≡ kind)
+
     not_below : (n : ℕ) → nat_lt n 2 ≡ false → 2 ≤ n
     not_below n e = grind (arith, nat_tests)
 
-    only : (prefix : KindDigits) → CanLookUp view prefix → All (CanLookUp view) (prefix ∷ [])
-    only prefix can zero d low = can
-    only prefix can (suc k) d low = absurd (omega (arith, low))
+    only : (prefix : KindDigits) → IsLong prefix → All IsLong (prefix ∷ [])
+    only prefix is zero d low = is
+    only prefix is (suc k) d low = absurd (omega (arith, low))
 
-    long : (ds : List ℕ) (b : Bool) → nat_lt (length ds) 2 ≡ b → All (CanLookUp view) (option_to_list (if b then None else Some (kind_digits view.kind ds)))
-    long ds true e = nothing (CanLookUp view)
-    long ds false e = only (kind_digits view.kind ds) (record { enough = not_below (length ds) e; kind = refl })
+    long : (ds : List ℕ) (b : Bool) → nat_lt (length ds) 2 ≡ b → All IsLong (option_to_list (if b then None else Some (kind_digits kind ds)))
+    long ds true e = nothing IsLong
+    long ds false e = only (kind_digits kind ds) (not_below (length ds) e, refl)
 
-    read : (o : Option (List ℕ)) → All (CanLookUp view) (option_to_list (of_two (option_map (kind_digits view.kind) o)))
-    read None = nothing (CanLookUp view)
+    read : (o : Option (List ℕ)) → All IsLong (option_to_list (of_two (option_map (kind_digits kind) o)))
+    read None = nothing IsLong
     read (Some ds) = long ds (nat_lt (length ds) 2) refl
 
-    fits : (b : Bool) → All (CanLookUp view) (option_to_list (if b then None else of_two (option_map (kind_digits view.kind) (digits_read hex_letter line))))
-    fits true = nothing (CanLookUp view)
+    fits : (b : Bool) → All IsLong (option_to_list (if b then None else of_two (option_map (kind_digits kind) (digits_read hex_letter line))))
+    fits true = nothing IsLong
     fits false = read (digits_read hex_letter line)
 
-    one : All (CanLookUp view) (option_to_list (prefix_of view.kind line))
-    one = fits (nat_lt (hex_len_of view.kind) (length line))
+    one : All IsLong (option_to_list (prefix_of kind line))
+    one = fits (nat_lt (hex_len_of kind) (length line))
 
--- a member of a list that has one
-one_of : {X : Type 0} (xs : List X) → 0 < length xs → X
-one_of [] none = absurd (omega (arith, none))
-one_of (x ∷ xs) some = x
-
-pub all_sound : {A : Type 0} (view : StoreView) (prefixes : List KindDigits) (found : List (Vec ObjectId A)) → AreMatchesOfEach view prefixes found
-    → HaveAllBuckets view prefixes
-all_sound view prefixes found are k prefix low = (are.each k prefix (one_of found (omega (arith, low, are.as_many))) low).has_read.are_read.sound
-
-pub abbreviated_sound : (least : ℕ) (view : StoreView) (prefixes : List KindDigits) (named : List Abbreviation) → AreAbbreviatedOfEach least view prefixes named
-    → HaveAllBuckets view prefixes
-abbreviated_sound least view prefixes named are k prefix low = (are.each k prefix Missing low).has_read.are_read.sound
-
-pub located_sound : {A : Type 0} (view : StoreView) (loose_paths : List ℕ → List (List ℕ)) (prefixes : List KindDigits) (located : List (Vec (LocatedId A) A))
-    → AreLocatedOfEach view loose_paths prefixes located → HaveAllBuckets view prefixes
-located_sound view loose_paths prefixes located are k prefix low = (are.each k prefix (one_of located (omega (arith, low, are.as_many))) low).ids.has_read.are_read.sound
+-- the prefixes that were read of a store's kind can be looked up, also after it was opened again
+pub can_look_up : (MayHave MayHaveThen : StoreView → Type 0) (old new : StoreView) (kind : Kind) (lines : List (List ℕ)) (read prefixes : List KindDigits)
+    → IsReopened MayHave MayHaveThen old new → kind ≡ old.kind → AreListed old read → prefixes ≡ read → prefixes ≡ prefixes_of kind lines
+    → All (CanLookUp new) prefixes
+can_look_up MayHave MayHaveThen old new kind lines read prefixes is same listed all are k prefix low =
+    let long = subst (All (λ (p : KindDigits). (2 ≤ length p.digits) × (p.kind ≡ kind))) (sym are) (are_long kind lines) k prefix low in
+    let known = subst (AreListed old) (sym all) listed k prefix low in
+    record {
+      enough = long.0;
+      kind = long.1 ∙ same ∙ sym is.kind;
+      listed = λ only e. known only (sym is.listed ∙ e);
+    }

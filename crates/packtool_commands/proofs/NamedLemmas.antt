@@ -42,65 +42,66 @@ lines-at {X} line n k within =
     ∙ flat_map-append line (range_with_len 0 (k + 1)) after ∙ ap (λ (lines : List X). lines ++ flat_map line after) (lines-more line k)
 
 -- the ids with one first byte more have their names
-pub named_below_more : (n least : ℕ) (view : StoreView) (named more : List NamedId) → AreNamedBelow n least view named → AreNamed least view n more
-    → AreNamedBelow (n + 1) least view (named ++ more)
+pub named_below_more : (n least : ℕ) (Sees : StoreView → Type 0) (seen : StoreView) (named more : List NamedId) → AreNamedBelow n least Sees named → Sees seen
+    → AreNamed least seen n more → AreNamedBelow (n + 1) least Sees (named ++ more)
 unfolding AreNamedBelow
-named_below_more n least view named more before are =
-    let next : suc n ≡ n + 1 = omega arith in subst (λ m. AreNamedBelow m least view (named ++ more)) next (named, more, before, are, refl)
+named_below_more n least Sees seen named more before sees are =
+    let next : suc n ≡ n + 1 = omega arith in subst (λ m. AreNamedBelow m least Sees (named ++ more)) next (named, more, seen, before, sees, are, refl)
 
-pub none_below : (least : ℕ) (view : StoreView) → AreNamedBelow 0 least view []
+pub none_below : (least : ℕ) (Sees : StoreView → Type 0) → AreNamedBelow 0 least Sees []
 unfolding AreNamedBelow
-none_below least view = refl
+none_below least Sees = refl
 
--- the pack indexes have the names that are counted with these bytes
-pub below_sound : (n least : ℕ) (view : StoreView) (named : List NamedId) → AreNamedBelow n least view named → Each (HaveBuckets view) n
+-- the pack indexes that were seen have the names that are counted with these bytes
+pub below_sound : (n least : ℕ) (Sees : StoreView → Type 0) (named : List NamedId) → AreNamedBelow n least Sees named
+    → Each (λ lower. (seen : StoreView) × Sees seen × HaveBuckets seen lower) n
 unfolding AreNamedBelow
-below_sound zero least view named are k low = absurd (omega (arith, low))
-below_sound (suc n) least view named are k low = elim (cases_lt k n) [
-  | inl less ↦ below_sound n least view are.0 are.2 k less
-  | inr from ↦ let same : n ≡ k = omega (arith, low, from) in subst (HaveBuckets view) same are.3.has_read.are_read.sound
+below_sound zero least Sees named are k low = absurd (omega (arith, low))
+below_sound (suc n) least Sees named are k low = elim (cases_lt k n) [
+  | inl less ↦ below_sound n least Sees are.0 are.3 k less
+  | inr from ↦ let same : n ≡ k = omega (arith, low, from) in (are.2, are.4, subst (HaveBuckets are.2) same are.5.has_read.are_read.sound)
 ]
 
 some_of : {X : Type 0} (xs ys : List X) → (xs ++ ys ≢ []) ↔ ((xs ≢ []) ⊎ (ys ≢ []))
 some_of [] ys = (λ some. inr some, λ some. elim some [ inl none ↦ absurd (none refl) | inr some ↦ some ])
 some_of (x ∷ xs) ys = (λ some. inl (λ none. cc), λ some none. cc)
 
--- their lines were written
-pub has_named_more : (n least : ℕ) (view : StoreView) (any any' : Bool) (a b c : Option (List ℕ)) (more : List NamedId) → HasNamedBelow n least view any a b
-    → AreNamed least view n more → (IsTrue any' ↔ (IsTrue any ⊎ (more ≢ []))) → Appends b c (flat_map name_line more) → HasNamedBelow (n + 1) least view any' a c
-has_named_more n least view any any' a b c more before are some written = record {
-  named = before.named ++ more;
-  are_named = named_below_more n least view before.named more before.are_named are;
-  found = (
-    λ is. (some_of before.named more).1 (elim (some.0 is) [ inl was ↦ inl (before.found.0 was) | inr is ↦ inr is ]),
-    λ is. some.1 (elim ((some_of before.named more).0 is) [ inl was ↦ inl (before.found.1 was) | inr is ↦ inr is ]),
-  );
-  written = subst (Appends a c) (sym (flat_map-append name_line before.named more))
-      (Appends-trans a b c (flat_map name_line before.named) (flat_map name_line more) before.written written);
-}
+module _ (n least : ℕ) (Sees : StoreView → Type 0) (any : Bool) (a b : Option (List ℕ)) (before : HasNamedBelow n least Sees any a b) where
+  -- all of the lines so far are a beginning
+  pub named_at_most : HasNamedAtMost least Sees a b
+  named_at_most = record {
+    n = n;
+    named = before.named;
+    are_named = before.are_named;
+    written = record {
+      part = flat_map name_line before.named;
+      rest = [];
+      is_beginning = sym (append-nil (flat_map name_line before.named));
+      written = before.written;
+    };
+  }
 
--- all of the lines so far are a beginning
-pub named_at_most : (n least : ℕ) (view : StoreView) (any : Bool) (a b : Option (List ℕ)) → HasNamedBelow n least view any a b → HasNamedAtMost least view a b
-named_at_most n least view any a b before = record {
-  n = n;
-  named = before.named;
-  are_named = before.are_named;
-  written = record {
-    part = flat_map name_line before.named;
-    rest = [];
-    is_beginning = sym (append-nil (flat_map name_line before.named));
-    written = before.written;
-  };
-}
+  module _ (seen : StoreView) (c : Option (List ℕ)) (more : List NamedId) (sees : Sees seen) (are : AreNamed least seen n more) where
+    -- the next lines were written after them
+    pub has_named_more : (any' : Bool) → (IsTrue any' ↔ (IsTrue any ⊎ (more ≢ []))) → Appends b c (flat_map name_line more) → HasNamedBelow (n + 1) least Sees any' a c
+    has_named_more any' some written = record {
+      named = before.named ++ more;
+      are_named = named_below_more n least Sees seen before.named more before.are_named sees are;
+      found = (
+        λ is. (some_of before.named more).1 (elim (some.0 is) [ inl was ↦ inl (before.found.0 was) | inr is ↦ inr is ]),
+        λ is. some.1 (elim ((some_of before.named more).0 is) [ inl was ↦ inl (before.found.1 was) | inr is ↦ inr is ]),
+      );
+      written = subst (Appends a c) (sym (flat_map-append name_line before.named more))
+          (Appends-trans a b c (flat_map name_line before.named) (flat_map name_line more) before.written written);
+    }
 
--- and a part of the next lines after them
-pub named_part : (n least : ℕ) (view : StoreView) (any : Bool) (a b c : Option (List ℕ)) (more : List NamedId) → HasNamedBelow n least view any a b
-    → AreNamed least view n more → AppendsPart b c (flat_map name_line more) → HasNamedAtMost least view a c
-named_part n least view any a b c more before are part = record {
-  n = n + 1;
-  named = before.named ++ more;
-  are_named = named_below_more n least view before.named more before.are_named are;
-  written = subst (AppendsAtMost a c) (sym (flat_map-append name_line before.named more))
-      (part_written a c (flat_map name_line before.named ++ flat_map name_line more)
-      (AppendsPart-after a b c (flat_map name_line before.named) (flat_map name_line more) before.written part));
-}
+    -- a part of them was
+    pub named_part : AppendsPart b c (flat_map name_line more) → HasNamedAtMost least Sees a c
+    named_part part = record {
+      n = n + 1;
+      named = before.named ++ more;
+      are_named = named_below_more n least Sees seen before.named more before.are_named sees are;
+      written = subst (AppendsAtMost a c) (sym (flat_map-append name_line before.named more))
+          (part_written a c (flat_map name_line before.named ++ flat_map name_line more)
+          (AppendsPart-after a b c (flat_map name_line before.named) (flat_map name_line more) before.written part));
+    }

@@ -11,7 +11,7 @@ use Rattle.gix_hash.specs.declared.ObjectId.{ObjectId}
 use Rattle.streams.specs.Streams.{AppendsAtMost, AppendsPart, printed}
 use Rattle.pack_index.specs.Format.{Each}
 use Rattle.object_store.specs.Several.{AreAbbreviatedOfEach, AreLocated, AreLocatedOfEach, AreNamed}
-use Rattle.object_store.specs.Stores.{AreMatches, AreMatchesOfEach, HaveBuckets, IsStoreFault, StoreView}
+use Rattle.object_store.specs.Stores.{AreMatches, AreMatchesOfEach, HaveBuckets, IsListed, IsStoreFault, StoreView}
 use Rattle.object_store.specs.declared.error.Error.{Error}
 use Rattle.object_store.specs.declared.locations.LocatedId.{LocatedId}
 use Rattle.object_store.specs.declared.locations.Location.{Location}
@@ -44,9 +44,9 @@ IsFaultOf IsItsFault (Store error) = IsItsFault error
 IsFaultOf IsItsFault TooMany = Unit {0}
 IsFaultOf IsItsFault Output = Unit {0}
 
--- why a walk over the first bytes fails: a look-up with one of them does, and those with the lower ones do not
-abbrev pub IsWalkFault : StoreView → Error → Type 0
-IsWalkFault view error = (byte : ℕ) × (byte < 256) × Each (HaveBuckets view) byte × IsStoreFault view byte error
+-- why a walk over the first bytes fails: a look-up with one of them does, and those with the lower ones did not, in what was seen of a store
+abbrev pub IsWalkFault : (StoreView → Type 0) → StoreView → Error → Type 0
+IsWalkFault Sees view error = (byte : ℕ) × (byte < 256) × Each (λ lower. (seen : StoreView) × Sees seen × HaveBuckets seen lower) byte × IsStoreFault view byte error
 
 -- What is printed for many prefixes, which are the lines of a text.
 
@@ -62,6 +62,10 @@ prefix_of kind line = if nat_lt (hex_len_of kind) (length line) then None else o
 -- the prefixes among lines
 abbrev pub prefixes_of : Kind → List (List ℕ) → List KindDigits
 prefixes_of kind lines = flat_map (λ line. option_to_list (prefix_of kind line)) lines
+
+-- the loose objects that may begin with the prefixes were listed
+abbrev pub AreListed : StoreView → List KindDigits → Type 0
+AreListed view prefixes = All (λ (prefix : KindDigits). IsListed view (first_byte_of prefix.digits)) prefixes
 
 -- a line, a space, a text and a line feed
 abbrev pub line_with : List ℕ → List ℕ → List ℕ
@@ -149,10 +153,6 @@ HasAnsweredMatchesPart A answers view lines old new =
     HasAnsweredPart {X = Vec ObjectId A} (AreMatchesOfEach view (prefixes_of view.kind lines))
     (λ line ids. found_text (λ l (id : ObjectId). id_line l (id_digits id)) answers line ids.items) view.kind lines old new
 
--- the pack indexes have the names that are counted with the first byte of each prefix
-abbrev pub HaveAllBuckets : StoreView → List KindDigits → Type 0
-HaveAllBuckets view prefixes = All (λ (prefix : KindDigits). HaveBuckets view (first_byte_of prefix.digits)) prefixes
-
 -- The lines of the ids of a store, each with its abbreviation.
 
 -- the texts of a name and an id in a line: a space between them, and a line feed
@@ -163,24 +163,25 @@ line_of_name name id = name ++ 32 ∷ id ++ 10 ∷ []
 abbrev pub name_line : NamedId → List ℕ
 name_line n = line_of_name (spelling hex_letter n.name.digits) (spelling hex_letter (id_digits n.id))
 
--- these are the ids of the store whose first byte is below n, a byte after the other, each with its name
-unfoldable pub AreNamedBelow : ℕ → ℕ → StoreView → List NamedId → Type 0
-AreNamedBelow zero least view named = named ≡ []
-AreNamedBelow (suc n) least view named =
-    (before : List NamedId) × (part : List NamedId) × AreNamedBelow n least view before × AreNamed least view n part × (named ≡ before ++ part)
+-- these are the ids whose first byte is below n, a byte after the other, each with its name: those with one byte in one of the stores that were seen
+unfoldable pub AreNamedBelow : ℕ → ℕ → (StoreView → Type 0) → List NamedId → Type 0
+AreNamedBelow zero least Sees named = named ≡ []
+AreNamedBelow (suc n) least Sees named =
+    (before : List NamedId) × (part : List NamedId) × (seen : StoreView)
+    × AreNamedBelow n least Sees before × Sees seen × AreNamed least seen n part × (named ≡ before ++ part)
 
 -- their lines were written, and whether there is one is this
-pub record HasNamedBelow (n least : ℕ) (view : StoreView) (any : Bool) (old new : Option (List ℕ)) : Type 0 where
+pub record HasNamedBelow (n least : ℕ) (Sees : StoreView → Type 0) (any : Bool) (old new : Option (List ℕ)) : Type 0 where
   pub named : List NamedId
-  pub are_named : AreNamedBelow n least view named
+  pub are_named : AreNamedBelow n least Sees named
   pub found : IsTrue any ↔ (named ≢ [])
   pub written : Appends old new (flat_map name_line named)
 
 -- a beginning of such lines was written, or all
-pub record HasNamedAtMost (least : ℕ) (view : StoreView) (old new : Option (List ℕ)) : Type 0 where
+pub record HasNamedAtMost (least : ℕ) (Sees : StoreView → Type 0) (old new : Option (List ℕ)) : Type 0 where
   pub n : ℕ
   pub named : List NamedId
-  pub are_named : AreNamedBelow n least view named
+  pub are_named : AreNamedBelow n least Sees named
   pub written : AppendsAtMost old new (flat_map name_line named)
 
 -- what is printed for a line that is a prefix: the abbreviation of the only id that begins with it

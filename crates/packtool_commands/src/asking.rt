@@ -4,21 +4,23 @@ ghost use Rattle.std.specs.Prelude.{◌≡◌, ◌≢◌, ◌++◌, ◌-◌, ◌
 ghost use Rattle.std.specs.List.{after_first, before_first, position};
 ghost use Rattle.std.specs.Io.KnownBytes.{Appends};
 ghost use Rattle.gix_hash.specs.Ids.{id_digits};
-ghost use Rattle.object_store.specs.Stores.{CanLookUp, IsFaultOfOne};
-ghost use Rattle.packtool_commands.specs.Stores.{HasAnsweredMatches, HasAnsweredMatchesPart, HaveAllBuckets, IsFaultOf, answer_to, answers_by, are_answers_by, found_text, front_text, id_line, is_answer_to, is_found, lists_after, prefix_of, prefixes_of};
+ghost use Rattle.object_store.specs.Stores.{CanLookUp, IsFaultOfOne, IsReopened};
+ghost use Rattle.packtool_commands.specs.Stores.{AreListed, HasAnsweredMatches, HasAnsweredMatchesPart, IsFaultOf, answer_to, answers_by, are_answers_by, found_text, front_text, id_line, is_answer_to, is_found, lists_after, prefix_of, prefixes_of};
 ghost use Rattle.packtool_commands.specs.declared.error.StoreError.{StoreError};
 ghost use Rattle.streams.specs.Streams.{AppendsPart, Wrote, is_line_feed, lines_of};
 
 use crate::error::StoreError;
-use gix_hash::{Alphabet, Kind, ObjectId, Prefix};
-use object_store::{Store, lookup_prefixes};
-use std::alloc::{AllocError, Allocator};
+use crate::prefixes::{PrefixLines, first_line, prefix_in};
+use crate::reopening::look_up_again;
+use gix_hash::{Alphabet, Kind, ObjectId};
+use object_store::{Reopen, lookup_prefixes};
+use std::alloc::Allocator;
 use streams::{Sink, WriteFailed, write_all, write_id};
 
 /// What [`find_each`] and [`locate_each`](crate::locate_each) print for a prefix.
 ///
 /// ```
-/// let all = find_each(rt.alloc(), &store, b"4b8\n4b9\n", Answers::All, 65_536, &mut out)?;
+/// let all = find_each(rt.alloc(), &mut store, &lines, Answers::All, 65_536, &mut out)?;
 /// ```
 #[derive(Clone, Copy, PartialEq, Eq, Debug)]
 pub enum Answers {
@@ -28,135 +30,62 @@ pub enum Answers {
     One,
 }
 
-/// Writes for each line of a text, in order, the ids of a store that begin with it. Returns whether
+/// Writes for each of some lines, in order, the ids of a store that begin with it. Returns whether
 /// each line found what is asked for: an id, or for [`Answers::One`] a single one.
 ///
-/// A line ends in a line feed, which the last may lack. It is a prefix if it has 2 hex digits or
-/// more, in either letter case, at most as many as ids of the store's kind, and no other byte. For
-/// any other line the line and ` bad` are written, for a prefix of no id the line and ` missing`,
-/// and for [`Answers::One`] and a prefix of several ids the line and ` ambiguous`.
+/// The lines are of the store's kind. For a line that is no prefix the line and ` bad` are written,
+/// for a prefix of no id the line and ` missing`, and for [`Answers::One`] and a prefix of several
+/// ids the line and ` ambiguous`.
 ///
 /// Of each pack index the names with a first byte are read once. Nothing is written before all ids
-/// are found. If these are more than `most`, and the text has several prefixes, then nothing is
-/// written, and [`StoreError::TooMany`] is returned. [`StoreError::Output`] is returned if and only
-/// if a write fails, after a proper beginning of the text. The sink must not have failed before.
+/// are found; if a pack index is gone until then, the store is opened again. If the ids are more
+/// than `most`, and there are several prefixes, then nothing is written, and
+/// [`StoreError::TooMany`] is returned. [`StoreError::Output`] is returned if and only if a write
+/// fails, after a proper beginning of the text. The sink must not have failed before.
 ///
 /// ```
-/// if !find_each(rt.alloc(), &store, b"4b8\n4b9\n", Answers::One, 65_536, &mut out)? {
+/// let lines = PrefixLines::read(rt.alloc(), Kind::Sha1, b"4b8\n4b9\n")?;
+/// if !find_each(rt.alloc(), &mut store, &lines, Answers::One, 65_536, &mut out)? {
 ///     println!(rt; "not each of the two is one id")?;
 /// }
 /// ```
-pub fn find_each<S: Store, A: Allocator + Copy, W: Sink>(
+pub fn find_each<S: Reopen, A: Allocator + Copy, W: Sink>(
     alloc: A,
-    store: &S,
-    lines: &[u8],
+    store: &mut S,
+    lines: &PrefixLines<'_, A>,
     answers: Answers,
     most: usize,
     out: &mut W,
 ) -> Result<bool, StoreError>
-    requires { W.has_failed out.old ≡ false }
-    ensures found { IfOk result (λ all. HasAnsweredMatches A answers (S.view store.now)
-        (lines_of lines.now) all (W.taken out.old) (W.taken out.new)) }
-    ensures sound { IfOk result (λ _. HaveAllBuckets (S.view store.now)
-        (prefixes_of (S.view store.now).kind (lines_of lines.now))) }
-    ensures refused { IfErr result (IsFaultOf (IsFaultOfOne (S.view store.now)
-        (prefixes_of (S.view store.now).kind (lines_of lines.now)))) }
-    ensures several { IsErrOf result StoreError.TooMany
-        → 1 < length (prefixes_of (S.view store.now).kind (lines_of lines.now)) }
+    requires kind { lines.now.kind ≡ (S.view store.old).kind }
+    requires listed { AreListed (S.view store.old) lines.now.prefixes.items }
+    requires output { W.has_failed out.old ≡ false }
+    ensures reopened { IsReopened (S.may_have store.old) (S.may_have store.new)
+        (S.view store.old) (S.view store.new) }
+    ensures found { IfOk result (λ all. HasAnsweredMatches A answers (S.view store.new)
+        (lines_of lines.now.text.now) all (W.taken out.old) (W.taken out.new)) }
+    ensures refused { IfErr result (IsFaultOf (IsFaultOfOne (S.view store.new)
+        lines.now.prefixes.items)) }
+    ensures several { IsErrOf result StoreError.TooMany → 1 < length lines.now.prefixes.items }
     ensures untouched { IfErr result (λ e. e ≢ StoreError.Output → out.new ≡ out.old) }
     ensures output { IsErrOf result StoreError.Output ↔ (W.has_failed out.new ≡ true) }
     ensures part { IsErrOf result StoreError.Output → HasAnsweredMatchesPart A answers
-        (S.view store.now) (lines_of lines.now) (W.taken out.old) (W.taken out.new) }
+        (S.view store.new) (lines_of lines.now.text.now) (W.taken out.old) (W.taken out.new) }
 {
-    let kind = store.object_hash();
-    let prefixes = prefixes_for(alloc, store, lines)?;
-    let Some(found) = lookup_prefixes(alloc, store, &prefixes, most)? else {
+    let prefixes = lines.prefixes();
+    let looked = look_up_again(store, |store: &S|
+        requires { All (CanLookUp (S.view store.now)) prefixes.now }
+    {
+        lookup_prefixes(alloc, store, prefixes, most)
+    });
+    let Some(found) = looked? else {
         return Err(StoreError::TooMany);
     };
     let form = Listed {
         answers,
         entry: IdEntry,
     };
-    Ok(write_answers(kind, lines, &found, &form, out)?)
-}
-
-/// The prefixes of a store's kind among the lines of a text, in order.
-pub(crate) fn prefixes_for<S: Store, A: Allocator>(
-    alloc: A,
-    store: &S,
-    lines: &[u8],
-) -> Result<Vec<Prefix, A>, AllocError>
-    ensures prefixes { IfOk result (λ prefixes. prefixes.items
-        ≡ prefixes_of (S.view store.now).kind (lines_of lines.now)) }
-    ensures can { IfOk result (λ prefixes. All (CanLookUp (S.view store.now)) prefixes.items) }
-{
-    prefixes_in(alloc, store.object_hash(), lines)
-}
-
-/// The prefixes of a kind among the lines of a text, in order: those that [`find_each`] looks up.
-///
-/// ```
-/// println!(rt; "{}", prefixes_in(rt.alloc(), Kind::Sha1, b"4b8\n4b9\n")?.len())?;
-/// ```
-pub fn prefixes_in<A: Allocator>(
-    alloc: A,
-    kind: Kind,
-    lines: &[u8],
-) -> Result<Vec<Prefix, A>, AllocError>
-    ensures { IfOk result (λ prefixes. prefixes.items ≡ prefixes_of kind (lines_of lines.now)) }
-{
-    let mut prefixes = Vec::new(alloc);
-    let mut rest = lines;
-    while !rest.is_empty() {
-        let (line, after) = first_line(rest);
-        if let Some(prefix) = prefix_in(kind, line) {
-            prefixes.push(prefix)?;
-        }
-        rest = after;
-    }
-    Ok(prefixes)
-}
-
-// The first line of a text that is not empty, and what is after its line feed.
-fn first_line(text: &[u8]) -> (&[u8], &[u8])
-    requires { 0 < length text.now }
-    ensures lines { lines_of text.now ≡ result.0.now ∷ lines_of result.1.now }
-    ensures fewer { length result.1.now < length text.now }
-{
-    let (line, rest) = split_line(text);
-    (line, rest)
-}
-
-// What is before the first line feed, and after it.
-fn split_line(text: &[u8]) -> (&[u8], &[u8])
-    ensures line { result.0.now ≡ before_first is_line_feed text.now }
-    ensures rest { result.1.now ≡ after_first is_line_feed text.now }
-    ensures fewer { length result.1.now ≤ length text.now - 1 }
-{
-    match line_feed_in(text) {
-        Some(at) => (&text[..at], &text[at + 1..]),
-        None => (text, &[]),
-    }
-}
-
-// Where the first line feed is.
-fn line_feed_in(text: &[u8]) -> Option<usize>
-    ensures { result ≡ position is_line_feed text.now }
-{
-    text.iter().position(|byte| *byte == b'\n')
-}
-
-// The prefix that a line is.
-fn prefix_in(kind: Kind, line: &[u8]) -> Option<Prefix>
-    ensures { result ≡ prefix_of kind line.now }
-{
-    if line.len() > kind.len_in_hex() {
-        return None;
-    }
-    match Alphabet::Hex.read_prefix_in(kind, line) {
-        Ok(prefix) if prefix.hex_len() >= 2 => Some(prefix),
-        _ => None,
-    }
+    Ok(write_answers(lines.kind, lines.text, &found, &form, out)?)
 }
 
 /// How what is found for a prefix, a `T`, is printed.

@@ -2,7 +2,7 @@
 //!
 //! [`find`] writes the ids of a store that begin with a prefix, [`locate`] the locations of these
 //! ids, and [`names`] all ids after their abbreviations. [`find_each`], [`locate_each`] and
-//! [`name_each`] do so for each line of a text. [`write_location`] writes one location, and
+//! [`name_each`] do so for each line of a text ([`PrefixLines`]). [`write_location`] writes one location, and
 //! [`write_names`] the lines of some ids. [`show`] writes the lines of a pack index as
 //! `git show-index` does. [`validate`] says whether a file is a pack index, [`write_ending`] writes
 //! whether a file ends with its digest, [`write_pairing`] whether a pack index belongs to the pack
@@ -21,9 +21,11 @@ mod lines;
 mod locating;
 mod naming;
 mod pairing;
+mod prefixes;
+mod reopening;
 mod showing;
 
-pub use asking::{Answers, find_each, prefixes_in};
+pub use asking::{Answers, find_each};
 pub use ending::write_ending;
 pub use error::{FileError, StoreError};
 pub use escaping::write_named;
@@ -31,4 +33,5 @@ pub use finding::find;
 pub use locating::{locate, locate_each, write_location};
 pub use naming::{name_each, names, write_names};
 pub use pairing::{Pairing, PairingError, pair, write_pairing};
+pub use prefixes::PrefixLines;
 pub use showing::{show, validate};

@@ -1,23 +1,25 @@
 //! The locations of the objects of a store, a line for each.
 
-ghost use Rattle.std.specs.Prelude.{◌≡◌, ◌≢◌, ◌↔◌, ◌<◌, ◌≤◌, [], ◌∷◌, ◌++◌, None, Some, false, true, flat_map, length, map, option_copied, string_bytes, take, IfErr, IfOk, IsErrOf};
+ghost use Rattle.std.specs.Prelude.{◌≡◌, ◌≢◌, ◌↔◌, ◌<◌, ◌≤◌, [], ◌∷◌, ◌++◌, None, Some, false, true, flat_map, length, map, option_copied, string_bytes, take, All, IfErr, IfOk, IsErrOf};
 ghost use Rattle.gix_hash.specs.Digits.{hex_letter, spelling};
 ghost use Rattle.gix_hash.specs.Ids.{id_digits};
-ghost use Rattle.object_store.specs.Several.{IsLocationsFaultOfOne};
-ghost use Rattle.object_store.specs.Stores.{IsLocationsFault};
-ghost use Rattle.packtool_commands.specs.Stores.{HasLocated, HasLocatedEach, HasLocatedPart, HasLocatedSome, HaveAllBuckets, IsFaultOf, lines_at_after, located_lines, location_end, location_line, location_line_after, prefixes_of};
+ghost use Rattle.object_store.specs.Several.{AreLocated, IsLocationsFaultOfOne};
+ghost use Rattle.object_store.specs.Stores.{CanLookUp, IsLocationsFault, IsReopened};
+ghost use Rattle.packtool_commands.specs.Stores.{AreListed, HasLocated, HasLocatedEach, HasLocatedPart, HasLocatedSome, IsFaultOf, lines_at_after, located_lines, location_end, location_line, location_line_after};
 ghost use Rattle.packtool_commands.specs.declared.error.StoreError.{StoreError};
 ghost use Rattle.streams.specs.Streams.{Wrote, lines_of};
 
-use crate::asking::{Answers, Entry, Listed, prefixes_for, write_answers, write_each, write_front};
+use crate::asking::{Answers, Entry, Listed, write_answers, write_each, write_front};
 use crate::error::StoreError;
 use crate::escaping::{write_before, write_mark};
 use crate::line::push;
 use crate::lines::{put, put_id};
+use crate::prefixes::PrefixLines;
+use crate::reopening::look_up_again;
 use arrayvec::ArrayVec;
 use gix_hash::{ObjectId, Prefix};
 use itoa::Buffer;
-use object_store::{LocatedId, Location, StorePaths, locate_prefix, locate_prefixes};
+use object_store::{LocatedId, Location, Reopen, StorePaths, locate_prefix, locate_prefixes};
 use std::alloc::Allocator;
 use streams::{Sink, WriteFailed, write_all};
 
@@ -33,94 +35,122 @@ type End = ArrayVec<u8, 22>;
 /// Returns whether there is such an id.
 ///
 /// The prefix has 2 digits or more, and the store's kind. Of each pack index the names with its
-/// first byte are read once. Nothing is written before all locations are found.
-/// [`StoreError::Output`] is returned if and only if a write fails, after a proper beginning of the
+/// first byte are read once. Nothing is written before all locations are found; if a pack index is
+/// gone until then, the store is opened again. [`StoreError::Output`] is returned if and only if a write fails, after a proper beginning of the
 /// lines. The sink must not have failed before.
 ///
 /// ```
-/// if !locate(rt.alloc(), &store, &prefix, &mut out)? {
+/// if !locate(rt.alloc(), &mut store, &prefix, &mut out)? {
 ///     println!(rt; "no id begins with {prefix}")?;
 /// }
 /// ```
-pub fn locate<S: StorePaths, A: Allocator + Copy, W: Sink>(
+pub fn locate<S: Reopen + StorePaths, A: Allocator + Copy, W: Sink>(
     alloc: A,
-    store: &S,
+    store: &mut S,
     prefix: &Prefix,
     out: &mut W,
 ) -> Result<bool, StoreError>
-    requires enough { 2 ≤ length prefix.now.digits }
-    requires kind { prefix.now.kind ≡ (S.view store.now).kind }
+    requires can { CanLookUp (S.view store.old) prefix.now }
     requires output { W.has_failed out.old ≡ false }
-    ensures located { IfOk result (λ any. HasLocated A (S.pack_path store.now)
-        (S.loose_paths store.now) (S.view store.now) prefix.now.digits any
+    ensures reopened { IsReopened (S.may_have store.old) (S.may_have store.new)
+        (S.view store.old) (S.view store.new) }
+    ensures located { IfOk result (λ any. HasLocated A (S.pack_path store.new)
+        (S.loose_paths store.new) (S.view store.new) prefix.now.digits any
         (W.taken out.old) (W.taken out.new)) }
-    ensures refused { IfErr result (IsFaultOf (IsLocationsFault (S.view store.now)
+    ensures refused { IfErr result (IsFaultOf (IsLocationsFault (S.view store.new)
         prefix.now.digits)) }
     ensures untouched { IfErr result (λ e. e ≢ StoreError.Output → out.new ≡ out.old) }
     ensures output { IsErrOf result StoreError.Output ↔ (W.has_failed out.new ≡ true) }
-    ensures part { IsErrOf result StoreError.Output → HasLocatedSome A (S.pack_path store.now)
-        (S.loose_paths store.now) (S.view store.now) prefix.now.digits
+    ensures part { IsErrOf result StoreError.Output → HasLocatedSome A (S.pack_path store.new)
+        (S.loose_paths store.new) (S.view store.new) prefix.now.digits
         (W.taken out.old) (W.taken out.new) }
 {
-    let located = locate_prefix(alloc, store, prefix)?;
-    write_each(None, &located, &LocationsEntry { store }, out)?;
+    let located = locations_of(alloc, store, prefix)?;
+    write_each(None, &located, &LocationsEntry { store: &*store }, out)?;
     Ok(!located.is_empty())
 }
 
-/// Writes for each line of a text, in order, the locations of the ids of a store that begin with
+// The ids of a store that begin with a prefix, with their locations.
+fn locations_of<S: Reopen + StorePaths, A: Allocator + Copy>(
+    alloc: A,
+    store: &mut S,
+    prefix: &Prefix,
+) -> Result<Vec<LocatedId<A>, A>, object_store::Error>
+    requires { CanLookUp (S.view store.old) prefix.now }
+    ensures reopened { IsReopened (S.may_have store.old) (S.may_have store.new)
+        (S.view store.old) (S.view store.new) }
+    ensures located { IfOk result (λ located. AreLocated (S.view store.new)
+        (S.loose_paths store.new) prefix.now.digits located.items) }
+    ensures err { IfErr result (IsLocationsFault (S.view store.new) prefix.now.digits) }
+{
+    look_up_again(store, |store: &S|
+        requires { CanLookUp (S.view store.now) prefix.now }
+    {
+        locate_prefix(alloc, store, prefix)
+    })
+}
+
+/// Writes for each of some lines, in order, the locations of the ids of a store that begin with
 /// it. Returns whether each line found what is asked for: an id, or for [`Answers::One`] a single
 /// one.
 ///
 /// For a prefix the lines of [`locate`] are written: with [`Answers::All`] each after the line as
 /// it is and a space, and with [`Answers::One`] those of the only id, as they are. The backslash of
-/// an escaped path is the first byte, before the line. What a prefix is, and what is written for
-/// any other line, for a prefix of no id, and for [`Answers::One`] and a prefix of several ids, is
-/// said at [`find_each`](crate::find_each).
+/// an escaped path is the first byte, before the line. What is written for a line that is no
+/// prefix, for a prefix of no id, and for [`Answers::One`] and a prefix of several ids, is said at
+/// [`find_each`](crate::find_each).
 ///
 /// Of each pack index the names with a first byte are read once. Nothing is written before all
-/// locations are found. If these are more than `most`, and the text has several prefixes, then
-/// nothing is written, and [`StoreError::TooMany`] is returned. [`StoreError::Output`] is returned if and only if a write fails, after a
-/// proper beginning of the text. The sink must not have failed before.
+/// locations are found; if a pack index is gone until then, the store is opened again. If the
+/// locations are more than `most`, and there are several prefixes, then nothing is written, and
+/// [`StoreError::TooMany`] is returned. [`StoreError::Output`] is returned if and only if a write
+/// fails, after a proper beginning of the text. The sink must not have failed before.
 ///
 /// ```
-/// if !locate_each(rt.alloc(), &store, b"4b8\n4b9\n", Answers::One, 65_536, &mut out)? {
+/// let lines = PrefixLines::read(rt.alloc(), Kind::Sha1, b"4b8\n4b9\n")?;
+/// if !locate_each(rt.alloc(), &mut store, &lines, Answers::One, 65_536, &mut out)? {
 ///     println!(rt; "not each of the two is one id")?;
 /// }
 /// ```
-pub fn locate_each<S: StorePaths, A: Allocator + Copy, W: Sink>(
+pub fn locate_each<S: Reopen + StorePaths, A: Allocator + Copy, W: Sink>(
     alloc: A,
-    store: &S,
-    lines: &[u8],
+    store: &mut S,
+    lines: &PrefixLines<'_, A>,
     answers: Answers,
     most: usize,
     out: &mut W,
 ) -> Result<bool, StoreError>
-    requires { W.has_failed out.old ≡ false }
-    ensures located { IfOk result (λ all. HasLocatedEach A answers (S.pack_path store.now)
-        (S.loose_paths store.now) (S.view store.now) (lines_of lines.now) all
+    requires kind { lines.now.kind ≡ (S.view store.old).kind }
+    requires listed { AreListed (S.view store.old) lines.now.prefixes.items }
+    requires output { W.has_failed out.old ≡ false }
+    ensures reopened { IsReopened (S.may_have store.old) (S.may_have store.new)
+        (S.view store.old) (S.view store.new) }
+    ensures located { IfOk result (λ all. HasLocatedEach A answers (S.pack_path store.new)
+        (S.loose_paths store.new) (S.view store.new) (lines_of lines.now.text.now) all
         (W.taken out.old) (W.taken out.new)) }
-    ensures sound { IfOk result (λ _. HaveAllBuckets (S.view store.now)
-        (prefixes_of (S.view store.now).kind (lines_of lines.now))) }
-    ensures refused { IfErr result (IsFaultOf (IsLocationsFaultOfOne (S.view store.now)
-        (prefixes_of (S.view store.now).kind (lines_of lines.now)))) }
-    ensures several { IsErrOf result StoreError.TooMany
-        → 1 < length (prefixes_of (S.view store.now).kind (lines_of lines.now)) }
+    ensures refused { IfErr result (IsFaultOf (IsLocationsFaultOfOne (S.view store.new)
+        lines.now.prefixes.items)) }
+    ensures several { IsErrOf result StoreError.TooMany → 1 < length lines.now.prefixes.items }
     ensures untouched { IfErr result (λ e. e ≢ StoreError.Output → out.new ≡ out.old) }
     ensures output { IsErrOf result StoreError.Output ↔ (W.has_failed out.new ≡ true) }
     ensures part { IsErrOf result StoreError.Output → HasLocatedPart A answers
-        (S.pack_path store.now) (S.loose_paths store.now) (S.view store.now)
-        (lines_of lines.now) (W.taken out.old) (W.taken out.new) }
+        (S.pack_path store.new) (S.loose_paths store.new) (S.view store.new)
+        (lines_of lines.now.text.now) (W.taken out.old) (W.taken out.new) }
 {
-    let kind = store.object_hash();
-    let prefixes = prefixes_for(alloc, store, lines)?;
-    let Some(located) = locate_prefixes(alloc, store, &prefixes, most)? else {
+    let prefixes = lines.prefixes();
+    let looked = look_up_again(store, |store: &S|
+        requires { All (CanLookUp (S.view store.now)) prefixes.now }
+    {
+        locate_prefixes(alloc, store, prefixes, most)
+    });
+    let Some(located) = looked? else {
         return Err(StoreError::TooMany);
     };
     let form = Listed {
         answers,
-        entry: LocationsEntry { store },
+        entry: LocationsEntry { store: &*store },
     };
-    Ok(write_answers(kind, lines, &located, &form, out)?)
+    Ok(write_answers(lines.kind, lines.text, &located, &form, out)?)
 }
 
 // How an id is printed with its locations in a store: a line for each.

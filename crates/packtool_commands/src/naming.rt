@@ -1,18 +1,21 @@
 //! The abbreviations of the ids of a store.
 
-ghost use Rattle.std.specs.Prelude.{◌≡◌, ◌≢◌, ◌↔◌, ◌⊎◌, ◌<◌, ◌≤◌, ◌∷◌, ◌++◌, [], false, true, flat_map, length, IfErr, IfOk, IsErrOf, IsTrue};
+ghost use Rattle.std.specs.Prelude.{◌≡◌, ◌≢◌, ◌↔◌, ◌⊎◌, ◌<◌, ◌≤◌, ◌∷◌, ◌++◌, ℕ, [], false, true, flat_map, length, All, IfErr, IfOk, IsErrOf, IsTrue};
 ghost use Rattle.gix_hash.specs.Digits.{hex_letter, spelling};
 ghost use Rattle.gix_hash.specs.Kinds.{hex_len_of};
-ghost use Rattle.object_store.specs.Stores.{IsFaultOfOne};
-ghost use Rattle.packtool_commands.specs.Stores.{HasNamedAtMost, HasNamedBelow, HasNamedEach, HasNamedPart, HaveAllBuckets, IsFaultOf, IsWalkFault, abbreviation_text, is_named, name_line, prefixes_of};
+ghost use Rattle.object_store.specs.Several.{AreNamed};
+ghost use Rattle.object_store.specs.Stores.{CanLookUp, IsFaultOfOne, IsListed, IsReopened, IsSeen, IsStoreFault};
+ghost use Rattle.packtool_commands.specs.Stores.{AreListed, HasNamedAtMost, HasNamedBelow, HasNamedEach, HasNamedPart, IsFaultOf, IsWalkFault, abbreviation_text, is_named, name_line};
 ghost use Rattle.packtool_commands.specs.declared.error.StoreError.{StoreError};
 ghost use Rattle.streams.specs.Streams.{Wrote, lines_of};
 
-use crate::asking::{Form, prefixes_for, write_answers, write_two};
+use crate::asking::{Form, write_answers, write_two};
 use crate::error::StoreError;
 use crate::lines::{LINES_LEN, next_line_at, put_name_line};
+use crate::prefixes::PrefixLines;
+use crate::reopening::look_up_again;
 use gix_hash::{Kind, Prefix};
-use object_store::{Abbreviation, NamedId, Store, abbreviate_prefixes};
+use object_store::{Abbreviation, NamedId, Reopen, abbreviate_part, abbreviate_prefixes};
 use std::alloc::Allocator;
 use streams::{Sink, WriteFailed, write_all};
 
@@ -23,38 +26,70 @@ const BYTES: usize = 256;
 /// `least` digits, from 4 up to all of the kind; a space; the id; and a line feed. Returns whether
 /// there is one.
 ///
-/// The ids with a first byte are written before those with the next are read. Under an error a
-/// beginning of the right lines was written. [`StoreError::Output`] is returned if and only if a
-/// write fails. The sink must not have failed before.
+/// The ids with a first byte are written before those with the next are read, and no abbreviation
+/// depends on ids with another. If a pack index is gone, the store is opened again for the bytes
+/// that are left; so the ids with one first byte are those of the store as it was at one time.
+/// Under an error a beginning of the right lines was written. [`StoreError::Output`] is returned if
+/// and only if a write fails. All loose objects must be listed, and the sink must not have failed
+/// before.
 ///
 /// ```
-/// if !names(rt.alloc(), &store, 7, &mut out)? {
+/// if !names(rt.alloc(), &mut store, 7, &mut out)? {
 ///     println!(rt; "the store is empty")?;
 /// }
 /// ```
-pub fn names<S: Store, A: Allocator + Copy, W: Sink>(
+pub fn names<S: Reopen, A: Allocator + Copy, W: Sink>(
     alloc: A,
-    store: &S,
+    store: &mut S,
     least: usize,
     out: &mut W,
 ) -> Result<bool, StoreError>
+    requires listed { (byte : ℕ) → IsListed (S.view store.old) byte }
     requires enough { 4 ≤ least }
-    requires fits { least ≤ hex_len_of (S.view store.now).kind }
+    requires fits { least ≤ hex_len_of (S.view store.old).kind }
     requires output { W.has_failed out.old ≡ false }
-    ensures named { IfOk result (λ any. HasNamedBelow 256 least (S.view store.now) any
+    ensures reopened { IsReopened (S.may_have store.old) (S.may_have store.new)
+        (S.view store.old) (S.view store.new) }
+    ensures named { IfOk result (λ any. HasNamedBelow 256 least
+        (IsSeen (S.may_have store.old) (S.view store.old)) any
         (W.taken out.old) (W.taken out.new)) }
-    ensures refused { IfErr result (IsFaultOf (IsWalkFault (S.view store.now))) }
+    ensures refused { IfErr result (IsFaultOf (IsWalkFault
+        (IsSeen (S.may_have store.old) (S.view store.old)) (S.view store.new))) }
     ensures output { IsErrOf result StoreError.Output ↔ (W.has_failed out.new ≡ true) }
-    ensures part { IfErr result (λ _. HasNamedAtMost least (S.view store.now)
-        (W.taken out.old) (W.taken out.new)) }
+    ensures part { IfErr result (λ _. HasNamedAtMost least
+        (IsSeen (S.may_have store.old) (S.view store.old)) (W.taken out.old) (W.taken out.new)) }
 {
     let mut any = false;
     for byte in 0..BYTES {
-        let named = object_store::abbreviate_part(alloc, store, byte as u8, least)?;
+        let named = names_of(alloc, store, byte as u8, least)?;
         write_names(&named, out)?;
         any = is_any(any, &named);
     }
     Ok(any)
+}
+
+// The ids of a store with a first byte, with their abbreviations.
+fn names_of<S: Reopen, A: Allocator + Copy>(
+    alloc: A,
+    store: &mut S,
+    byte: u8,
+    least: usize,
+) -> Result<Vec<NamedId, A>, object_store::Error>
+    requires listed { IsListed (S.view store.old) byte }
+    requires enough { 4 ≤ least }
+    requires fits { least ≤ hex_len_of (S.view store.old).kind }
+    ensures reopened { IsReopened (S.may_have store.old) (S.may_have store.new)
+        (S.view store.old) (S.view store.new) }
+    ensures named { IfOk result (λ named. AreNamed least (S.view store.new) byte named.items) }
+    ensures err { IfErr result (IsStoreFault (S.view store.new) byte) }
+{
+    look_up_again(store, |store: &S|
+        requires listed { IsListed (S.view store.now) byte }
+        requires enough { 4 ≤ least }
+        requires fits { least ≤ hex_len_of (S.view store.now).kind }
+    {
+        abbreviate_part(alloc, store, byte, least)
+    })
 }
 
 // Whether there is one of these ids or of those before.
@@ -65,7 +100,7 @@ fn is_any(before: bool, named: &[NamedId]) -> bool
 }
 
 /// Writes a line for each id, in their order, as [`names`] does: its name, a space, the id, and a
-/// line feed. So a caller whose store may change can open it again between two first bytes.
+/// line feed.
 ///
 /// It stops at the first write that fails, after a proper beginning of the lines. The sink must not
 /// have failed before.
@@ -90,53 +125,63 @@ pub fn write_names<W: Sink>(named: &[NamedId], out: &mut W) -> Result<(), WriteF
     write_all(out, &lines[..end])
 }
 
-/// Writes for each line of a text, in order, the abbreviation of the only id of a store that begins
+/// Writes for each of some lines, in order, the abbreviation of the only id of a store that begins
 /// with it, of at least `least` digits, from 4 up to all of the kind; and a line feed. Returns
 /// whether each line is a prefix of exactly one id. `git rev-parse --short` prints the same.
 ///
-/// Which lines are prefixes is said at [`find_each`](crate::find_each). For any other line the line
-/// and ` bad` are written, for a prefix of no id the line and ` missing`, and for a prefix of
-/// several ids the line and ` ambiguous`.
+/// The lines are of the store's kind. For a line that is no prefix the line and ` bad` are written,
+/// for a prefix of no id the line and ` missing`, and for a prefix of several ids the line and
+/// ` ambiguous`.
 ///
 /// Of each pack index the names with a first byte are read once. Nothing is written before all ids
-/// are found. [`StoreError::Output`] is returned if and only if a write fails, after a proper
-/// beginning of the text. The sink must not have failed before.
+/// are found; if a pack index is gone until then, the store is opened again. If there are several
+/// prefixes, more than `most`, then nothing is written, and [`StoreError::TooMany`] is returned.
+/// [`StoreError::Output`] is returned if and only if a write fails, after a proper beginning of the
+/// text. The sink must not have failed before.
 ///
 /// ```
-/// if !name_each(rt.alloc(), &store, b"4b8\n4b9\n", 7, 65_536, &mut out)? {
+/// let lines = PrefixLines::read(rt.alloc(), Kind::Sha1, b"4b8\n4b9\n")?;
+/// if !name_each(rt.alloc(), &mut store, &lines, 7, 65_536, &mut out)? {
 ///     println!(rt; "not each of the two is a prefix of exactly one id")?;
 /// }
 /// ```
-pub fn name_each<S: Store, A: Allocator + Copy, W: Sink>(
+pub fn name_each<S: Reopen, A: Allocator + Copy, W: Sink>(
     alloc: A,
-    store: &S,
-    lines: &[u8],
+    store: &mut S,
+    lines: &PrefixLines<'_, A>,
     least: usize,
     most: usize,
     out: &mut W,
 ) -> Result<bool, StoreError>
+    requires kind { lines.now.kind ≡ (S.view store.old).kind }
+    requires listed { AreListed (S.view store.old) lines.now.prefixes.items }
     requires enough { 4 ≤ least }
-    requires fits { least ≤ hex_len_of (S.view store.now).kind }
+    requires fits { least ≤ hex_len_of (S.view store.old).kind }
     requires output { W.has_failed out.old ≡ false }
-    ensures named { IfOk result (λ all. HasNamedEach least (S.view store.now)
-        (lines_of lines.now) all (W.taken out.old) (W.taken out.new)) }
-    ensures sound { IfOk result (λ _. HaveAllBuckets (S.view store.now)
-        (prefixes_of (S.view store.now).kind (lines_of lines.now))) }
-    ensures refused { IfErr result (IsFaultOf (IsFaultOfOne (S.view store.now)
-        (prefixes_of (S.view store.now).kind (lines_of lines.now)))) }
-    ensures several { IsErrOf result StoreError.TooMany
-        → 1 < length (prefixes_of (S.view store.now).kind (lines_of lines.now)) }
+    ensures reopened { IsReopened (S.may_have store.old) (S.may_have store.new)
+        (S.view store.old) (S.view store.new) }
+    ensures named { IfOk result (λ all. HasNamedEach least (S.view store.new)
+        (lines_of lines.now.text.now) all (W.taken out.old) (W.taken out.new)) }
+    ensures refused { IfErr result (IsFaultOf (IsFaultOfOne (S.view store.new)
+        lines.now.prefixes.items)) }
+    ensures several { IsErrOf result StoreError.TooMany → 1 < length lines.now.prefixes.items }
     ensures untouched { IfErr result (λ e. e ≢ StoreError.Output → out.new ≡ out.old) }
     ensures output { IsErrOf result StoreError.Output ↔ (W.has_failed out.new ≡ true) }
-    ensures part { IsErrOf result StoreError.Output → HasNamedPart least (S.view store.now)
-        (lines_of lines.now) (W.taken out.old) (W.taken out.new) }
+    ensures part { IsErrOf result StoreError.Output → HasNamedPart least (S.view store.new)
+        (lines_of lines.now.text.now) (W.taken out.old) (W.taken out.new) }
 {
-    let kind = store.object_hash();
-    let prefixes = prefixes_for(alloc, store, lines)?;
-    let Some(named) = abbreviate_prefixes(alloc, store, &prefixes, least, most)? else {
+    let prefixes = lines.prefixes();
+    let looked = look_up_again(store, |store: &S|
+        requires can { All (CanLookUp (S.view store.now)) prefixes.now }
+        requires enough { 4 ≤ least }
+        requires fits { least ≤ hex_len_of (S.view store.now).kind }
+    {
+        abbreviate_prefixes(alloc, store, prefixes, least, most)
+    });
+    let Some(named) = looked? else {
         return Err(StoreError::TooMany);
     };
-    Ok(write_answers(kind, lines, &named, &AbbreviationForm, out)?)
+    Ok(write_answers(lines.kind, lines.text, &named, &AbbreviationForm, out)?)
 }
 
 // How the abbreviation of the only id that begins with a prefix is printed.

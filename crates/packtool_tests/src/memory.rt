@@ -1,26 +1,34 @@
-//! A store in memory, whose reads fail after some number of them.
+//! A store in memory, whose reads fail after some number of them, until it is opened again.
 
 ghost use Rattle.std.specs.Prelude.{◌≡◌, [], ◌∷◌, All, IfOk};
 ghost use Rattle.gix_hash.specs.Ids.{id_kind};
 
 use gix_hash::{Kind, ObjectId};
-use object_store::{LooseTable, Store, StorePaths};
+use object_store::{Error, LooseTable, Reopen, Store, StorePaths};
 use pack_index::{LazyError, LazyFile};
 use std::alloc::{AllocError, Global};
 use std::cell::Cell;
 use std::io;
 use streams::ReadAt;
 
-/// How many reads are left before one fails.
+/// How many reads are left before one fails, and how.
 #[derive(Drop)]
 pub struct Reads {
     left: Cell<usize>,
+    why: io::ErrorKind,
+    // How many there are after the store is opened again, and how often it can be.
+    again: usize,
+    times: Cell<usize>,
 }
 
 impl Reads {
+    /// After these many the pack indexes may not be read any more.
     pub fn new(left: usize) -> Reads {
         Reads {
             left: Cell::new(left),
+            why: io::ErrorKind::PermissionDenied,
+            again: 0,
+            times: Cell::new(0),
         }
     }
 
@@ -34,11 +42,38 @@ impl Reads {
         self.left.get()
     }
 
+    /// After these many the pack indexes are gone. The store can be opened again these many times,
+    /// for so many reads each time.
+    pub fn gone(left: usize, again: usize, times: usize) -> Reads {
+        Reads {
+            left: Cell::new(left),
+            why: io::ErrorKind::NotFound,
+            again,
+            times: Cell::new(times),
+        }
+    }
+
+    /// How often the store can still be opened again.
+    pub fn times(&self) -> usize {
+        self.times.get()
+    }
+
+    // Opens the store again.
+    fn reopen(&self) -> bool {
+        let times = self.times.get();
+        if times == 0 {
+            return false;
+        }
+        self.times.set(times - 1);
+        self.left.set(self.again);
+        true
+    }
+
     /// Fails if no read is left.
     fn read(&self) -> io::Result<()> {
         let left = self.left.get();
         if left == 0 {
-            return Err(io::ErrorKind::PermissionDenied.into());
+            return Err(self.why.into());
         }
         self.left.set(left - 1);
         Ok(())
@@ -77,6 +112,7 @@ pub struct Memory<'a> {
     kind: Kind,
     packs: Vec<LazyFile<Counted<'a>>>,
     loose: LooseTable,
+    reads: &'a Reads,
     ghost of_kind: { All (λ pack. pack.kind ≡ kind) packs.items },
     ghost loose_kind: { loose.kind ≡ kind },
 }
@@ -131,17 +167,21 @@ impl<'a> Memory<'a> {
             kind,
             packs,
             loose: LooseTable::new(ids_of_kind(alloc, loose, kind)?, kind),
+            reads,
         })
     }
 }
 
 impl<'a> Store for Memory<'a> {
+    ghost use Rattle.std.specs.Prelude.{None};
+
     type Source = Counted<'a>;
 
     ghost view = { λ store. record {
       kind = store.kind;
       packs = store.packs.items;
       loose = store.loose.ids;
+      listed = None;
     } };
 
     fn object_hash(&self) -> Kind {
@@ -154,6 +194,24 @@ impl<'a> Store for Memory<'a> {
 
     fn loose(&self) -> &LooseTable {
         &self.loose
+    }
+}
+
+impl Reopen for Memory<'_> {
+    ghost may_have = { λ _ _. Unit {0} };
+
+    fn is_gone(&self, error: &Error) -> bool {
+        match error {
+            Error::Index {
+                error: LazyError::Read(error),
+                ..
+            } => error.kind() == io::ErrorKind::NotFound,
+            _ => false,
+        }
+    }
+
+    fn reopen(&mut self) -> bool {
+        self.reads.reopen()
     }
 }
 

@@ -11,10 +11,10 @@ use std::process::Abort;
 use std::test::Fail;
 
 /// The ids of the store that begin with the prefix.
-pub fn find<S: Store, A: Allocator + Copy>(
+pub fn find<A: Allocator + Copy>(
     rt: &impl Abort,
     alloc: A,
-    store: &S,
+    store: &Memory<'_>,
     prefix: &str,
 ) -> Result<Vec<ObjectId, A>, Error> {
     let kind = store.object_hash();
@@ -31,10 +31,10 @@ pub fn expect_ids(rt: &impl Abort, found: &[ObjectId], want: &[&str]) {
 }
 
 // The locations of an object in a store of the id's kind.
-fn locations_of<S: Store, A: Allocator + Copy>(
+fn locations_of<A: Allocator + Copy>(
     rt: &impl Abort,
     alloc: A,
-    store: &S,
+    store: &Memory<'_>,
     id: &str,
 ) -> Result<Vec<Location, A>, Error> {
     let id = ObjectId::from_hex(id.as_bytes()).expect(rt, "no id");
@@ -47,10 +47,10 @@ fn expect_locations(rt: &impl Abort, found: &[Location], want: &[Location]) {
 }
 
 // The abbreviation of an object in a store of the id's kind, of 4 digits or more.
-fn name_of<S: Store, A: Allocator + Copy>(
+fn name_of<A: Allocator + Copy>(
     rt: &impl Abort,
     alloc: A,
-    store: &S,
+    store: &Memory<'_>,
     id: &str,
 ) -> Result<Option<Prefix>, Error> {
     let id = ObjectId::from_hex(id.as_bytes()).expect(rt, "no id");
@@ -58,20 +58,24 @@ fn name_of<S: Store, A: Allocator + Copy>(
     Parts::new(alloc, store).abbreviate(&id, 4)
 }
 
-// A look-up of the ids that begin with `4b`, or of the locations or the name of the id that is
-// everywhere.
+// An id that the store has not, although another begins as it does.
+const ABSENT: &str = "4b825dc642cb6eb9a060e54bf8d69288fbee4905";
+
+// A look-up of the ids that begin with `4b`, of the locations or the name of the id that is
+// everywhere, or of the name of the one that the store has not.
 #[derive(Clone, Copy)]
 enum Asked {
     Ids,
     Locations,
     Name,
+    NoName,
 }
 
 // Finds what is asked for, or nothing.
-fn look_up<S: Store, A: Allocator + Copy>(
+fn look_up<A: Allocator + Copy>(
     rt: &impl Abort,
     alloc: A,
-    store: &S,
+    store: &Memory<'_>,
     asked: Asked,
 ) -> Result<(), Error> {
     match asked {
@@ -85,6 +89,7 @@ fn look_up<S: Store, A: Allocator + Copy>(
             let name = name_of(rt, alloc, store, EVERYWHERE)?;
             expect!(rt; name.is_some_and(|name| name.eq_str(NAME)));
         }
+        Asked::NoName => expect!(rt; name_of(rt, alloc, store, ABSENT)?.is_none()),
     }
     Ok(())
 }
@@ -142,6 +147,7 @@ fn each_read_fails_in_turn(rt: HostRuntime) -> Result<(), Fail> {
             want,
         );
     }
+    expect_text(&rt, &outcome(&rt, &content, 6, Asked::NoName)?, "found");
     Ok(())
 }
 

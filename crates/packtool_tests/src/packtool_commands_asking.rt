@@ -5,7 +5,7 @@ use crate::expecting::{expect, text_of};
 use crate::memory::{Memory, Reads};
 use linked_list_allocator::LocalHeap;
 use object_store::Store;
-use packtool_commands::{Answers, StoreError, find_each, locate_each, name_each};
+use packtool_commands::{Answers, PrefixLines, StoreError, find_each, locate_each, name_each};
 use std::alloc::Allocator;
 use std::process::Abort;
 use std::test::Fail;
@@ -117,17 +117,17 @@ fn run<A: Allocator + Copy>(
     rt: &impl Abort,
     alloc: A,
     (asked, lines): (Asked, &str),
-    store: &Memory<'_>,
+    store: &mut Memory<'_>,
     out: &mut IntoSlice<'_>,
 ) -> Result<bool, StoreError> {
     assert!(rt; !out.failed());
-    let lines = lines.as_bytes();
+    let lines = PrefixLines::read(alloc, store.object_hash(), lines.as_bytes())?;
     match asked {
-        Asked::Find(answers) => find_each(alloc, store, lines, answers, MOST, out),
-        Asked::Locate(answers) => locate_each(alloc, store, lines, answers, MOST, out),
+        Asked::Find(answers) => find_each(alloc, store, &lines, answers, MOST, out),
+        Asked::Locate(answers) => locate_each(alloc, store, &lines, answers, MOST, out),
         Asked::Names => {
             assert!(rt; store.object_hash().len_in_hex() >= 6);
-            name_each(alloc, store, lines, 6, MOST, out)
+            name_each(alloc, store, &lines, 6, MOST, out)
         }
     }
 }
@@ -143,10 +143,10 @@ fn expect_printed(
 ) -> Result<(), Fail> {
     let content = Content::new(rt)?;
     let reads = Reads::new(left);
-    let store = content.open(rt.alloc(), &reads)?;
+    let mut store = content.open(rt.alloc(), &reads)?;
     let mut buf = [0; 1024];
     let mut out = IntoSlice::new(buf.get_mut(..room).ok_or("no room")?);
-    let is_right = match run(rt, rt.alloc(), (asked, lines), &store, &mut out) {
+    let is_right = match run(rt, rt.alloc(), (asked, lines), &mut store, &mut out) {
         Ok(found) => found == all && printed == text.len(),
         Err(StoreError::Output) => room < text.len(),
         Err(StoreError::TooMany) => false,
@@ -187,7 +187,7 @@ fn reads_fail_in_turn(rt: HostRuntime) -> Result<(), Fail> {
 // given back.
 fn is_enough(
     rt: &(impl Abort + AllocGlobal),
-    store: &Memory<'_>,
+    store: &mut Memory<'_>,
     units: usize,
     asked: Asked,
 ) -> Result<bool, Fail> {
@@ -210,11 +210,11 @@ fn is_enough(
 fn memory_is_refused(rt: HostRuntime) -> Result<(), Fail> {
     let content = Content::new(&rt)?;
     let reads = Reads::new(1_000_000);
-    let store = content.open(rt.alloc(), &reads)?;
+    let mut store = content.open(rt.alloc(), &reads)?;
     for &(asked, _, _, _) in &ROWS {
         let mut before = false;
         for units in 0..256 {
-            let is_enough = is_enough(&rt, &store, units, asked)?;
+            let is_enough = is_enough(&rt, &mut store, units, asked)?;
             expect!(&rt; is_enough >= before && !(is_enough && units == 0), units);
             before = is_enough;
         }

@@ -45,7 +45,7 @@ enum Asked {
 fn run(
     rt: &(impl Abort + AllocGlobal),
     asked: Asked,
-    store: &Memory<'_>,
+    store: &mut Memory<'_>,
     out: &mut IntoSlice<'_>,
 ) -> Result<bool, StoreError> {
     let kind = store.object_hash();
@@ -90,10 +90,10 @@ fn expect_written(
 ) -> Result<(), Fail> {
     let content = Content::new(rt)?;
     let reads = Reads::new(left);
-    let store = content.open(rt.alloc(), &reads)?;
+    let mut store = content.open(rt.alloc(), &reads)?;
     let mut buf = [0; 512];
     let mut out = IntoSlice::new(buf.get_mut(..room).ok_or("no room")?);
-    let outcome = run(rt, asked, &store, &mut out);
+    let outcome = run(rt, asked, &mut store, &mut out);
     let is_right = is_right(&outcome, text, left, room, written);
     let want = text.as_bytes().get(..written);
     expect!(rt; is_right && want == Some(out.written()), (left, room));
@@ -165,4 +165,44 @@ fn reads_fail_in_turn(rt: HostRuntime) -> Result<(), Fail> {
         expect_written(&rt, (Asked::Names, NAMED), left, 512, written)?;
     }
     Ok(())
+}
+
+// Runs over a store whose pack indexes are gone after so many reads, and returns what is written
+// and how often the store was opened again, of 20 times; after each it can be read so often.
+fn expect_reopened(
+    rt: &(impl Abort + AllocGlobal),
+    (asked, text): (Asked, &str),
+    left: usize,
+    again: usize,
+    reopened: usize,
+) -> Result<(), Fail> {
+    let content = Content::new(rt)?;
+    let reads = Reads::gone(left, again, 20);
+    let mut store = content.open(rt.alloc(), &reads)?;
+    let mut buf = [0; 512];
+    let mut out = IntoSlice::new(&mut buf);
+    let is_right = match run(rt, asked, &mut store, &mut out) {
+        Ok(any) => any && out.written() == text.as_bytes(),
+        Err(error) => again == 0 && matches!(error, StoreError::Store(_)) && out.written().is_empty(),
+    };
+    expect!(rt; is_right && reads.times() + reopened == 20, (left, again, reopened));
+    Ok(())
+}
+
+// A store whose pack index is gone is opened again, 9 times at most for one look-up, and each line
+// is written once.
+#[test]
+fn opens_again(rt: HostRuntime) -> Result<(), Fail> {
+    for &asked in &[(Asked::Find("4b8"), FOUND), (Asked::Locate("4b8"), LOCATED)] {
+        expect_reopened(&rt, asked, 4, AMPLE, 1)?;
+        expect_reopened(&rt, asked, 5, AMPLE, 1)?;
+        expect_reopened(&rt, asked, 4, 0, 9)?;
+    }
+    expect_reopened(&rt, (Asked::Locate("4b8"), LOCATED), 9, AMPLE, 1)?;
+    for &left in &[4, 5, 7, 200, 300, 515] {
+        expect_reopened(&rt, (Asked::Names, NAMED), left, AMPLE, 1)?;
+    }
+    // Each of the 256 first bytes takes 2 reads: 50 are enough for 25 of them.
+    expect_reopened(&rt, (Asked::Names, NAMED), 4 + 50, 50, 10)?;
+    expect_reopened(&rt, (Asked::Names, NAMED), 4, 0, 9)
 }

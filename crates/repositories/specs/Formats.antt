@@ -20,13 +20,15 @@ pub data Fault : Type 0 where
   UnknownExtension : List ℕ → Fault
   OnlyInVersion1 : List ℕ → Fault
 
--- the variables that are booleans; the extensions of version 1 alone, and those of version 0 too
+-- the variables that are booleans
 abbrev pub booleans : List (List ℕ)
 booleans = codes "core.bare" ∷ codes "extensions.preciousobjects" ∷ codes "extensions.worktreeconfig" ∷ []
 
+-- the extensions that only version 1 has
 abbrev pub of_version_1 : List (List ℕ)
 of_version_1 = codes "noop-v1" ∷ codes "objectformat" ∷ codes "refstorage" ∷ codes "relativeworktrees" ∷ []
 
+-- those that version 0 has too
 abbrev pub of_any_version : List (List ℕ)
 of_any_version = codes "noop" ∷ codes "partialclone" ∷ codes "preciousobjects" ∷ codes "worktreeconfig" ∷ []
 
@@ -34,26 +36,31 @@ of_any_version = codes "noop" ∷ codes "partialclone" ∷ codes "preciousobject
 abbrev pub known : List (List ℕ) → List ℕ → Option (List ℕ)
 known names name = find (λ known. bytes_eq name known) names
 
--- the name of an extension that a variable sets, and the value that a variable of this name has
+-- the name of an extension that a variable sets
 abbrev pub extension : List ℕ → Option (List ℕ)
 extension name = if bytes_eq (take 11 name) (codes "extensions.") then Some (drop 11 name) else None
 
+-- the value of a variable, if it has this name
 abbrev pub value_of : List ℕ → Variable → Option (List ℕ)
 value_of name variable = if bytes_eq variable.name.items name then (said variable).value else None
 
+-- the kind of this name
 abbrev pub kind_named : List ℕ → Option Kind
 kind_named text = if bytes_eq text (codes "sha1") then Some Sha1 else if bytes_eq text (codes "sha256") then Some Sha256 else None
 
--- what a variable sets: the version, the kind, an extension that only version 1 has, or one that none has
+-- the version that a variable sets
 abbrev pub version_of : Variable → Option ℤ
 version_of variable = option_and_then number (value_of (codes "core.repositoryformatversion") variable)
 
+-- the kind that it sets
 abbrev pub kind_of : Variable → Option Kind
 kind_of variable = option_and_then kind_named (value_of (codes "extensions.objectformat") variable)
 
+-- the extension that it sets, if only version 1 has that
 abbrev pub needs_of : Variable → Option (List ℕ)
 needs_of variable = option_and_then (known of_version_1) (extension variable.name.items)
 
+-- the extension that it sets, if no version has that
 abbrev pub unknown_of : Variable → Option (List ℕ)
 unknown_of variable = option_and_then (λ name. if is_some (known of_version_1 name) || is_some (known of_any_version name) then None else Some name) (extension variable.name.items)
 
@@ -68,6 +75,7 @@ fault_of variable =
 abbrev pub last_with : {T : Type 0} → (Variable → Option T) → List Variable → Option Variable
 last_with pick variables = find (λ variable. is_some (pick variable)) (reverse variables)
 
+-- what is set last
 abbrev pub last_of : {T : Type 0} → (Variable → Option T) → List Variable → Option T
 last_of pick variables = option_and_then pick (last_with pick variables)
 
@@ -89,15 +97,17 @@ kind_in_format (Some version) unknown needs kind =
     if int_lt version (pos 1) then kind_without needs OnlyInVersion1 kind else
     if int_lt version (pos 2) then kind_without (option_map utf8_lossy unknown) UnknownExtension kind else Err (UnknownVersion version)
 
+-- the kind that variables say, of which none is wrong by itself
 abbrev pub kind_by : List Variable → Result Kind Fault
 kind_by variables = kind_in_format (last_of version_of variables) (last_of unknown_of variables) (last_of needs_of variables) (unwrap_or (last_of kind_of variables) Sha1)
 
--- what a config says with these variables up to a bad line, if there is one: the first fault of a value, that of the line, or what the format says
+-- the first fault of a value, that of a bad line, or what the format says
 abbrev pub unless_faulty : Option Fault → Option ℕ → Result Kind Fault → Result Kind Fault
 unless_faulty (Some fault) bad_line format = Err fault
 unless_faulty None (Some line) format = Err (BadLine line)
 unless_faulty None None format = format
 
+-- what a config says with these variables, up to a bad line if there is one
 abbrev pub kind_or_fault : List Variable → Option ℕ → Result Kind Fault
 kind_or_fault variables bad_line = unless_faulty (option_and_then fault_of (first_wrong variables)) bad_line (kind_by variables)
 

@@ -1,6 +1,6 @@
 //! An object store in directories.
 
-ghost use Rattle.std.specs.Prelude.{◌≡◌, All, IfOk, [], flat_map, map, slice_index_or, string_bytes};
+ghost use Rattle.std.specs.Prelude.{◌≡◌, All, IfErr, IfOk, [], flat_map, map, slice_index_or, string_bytes};
 ghost use Rattle.gix_hash.specs.Ids.{id_kind};
 
 use crate::error::Error;
@@ -8,8 +8,8 @@ use crate::loose::{LooseIds, LooseObjects, list_loose, loose_path, push_path};
 use crate::packs::{OpenIndexes, PackIndexes, open_indexes, pack_paths};
 use crate::source::Source;
 use gix_hash::{Kind, ObjectId, Prefix};
-use object_store::{LooseTable, Store, StorePaths};
-use pack_index::LazyFile;
+use object_store::{LooseTable, Reopen, Store, StorePaths};
+use pack_index::{LazyError, LazyFile};
 use repositories::{Folders, ObjectsFolder, with_alternates};
 use std::alloc::AllocError;
 use std::cmp::Ordering;
@@ -31,14 +31,22 @@ const MAX_TRIES: usize = 100;
 #[derive(Drop)]
 pub struct FolderStore<R: Files<File = File>> {
     rt: R,
+    // From what it was opened.
+    folder: ObjectsFolder,
+    loose_ids: LooseIds,
     kind: Kind,
     skipped: Vec<Error>,
+    // What was skipped in the store before it was opened again.
+    skipped_before: Vec<Error>,
+    // Why it could not be opened again.
+    failed: Option<Error>,
     paths: Vec<String>,
     packs: Vec<String>,
     indexes: Vec<LazyFile<Cached<Source<R>>>>,
     loose: LooseObjects,
     ghost of_kind: { All (λ index. index.kind ≡ kind) indexes.items },
     ghost loose_of_kind: { loose.table.kind ≡ kind },
+    ghost of_folder: { folder.kind ≡ kind },
 }
 
 impl<R: Files<File = File> + AllocGlobal + Clone + Drop> FolderStore<R> {
@@ -58,7 +66,8 @@ impl<R: Files<File = File> + AllocGlobal + Clone + Drop> FolderStore<R> {
     /// let store = FolderStore::open(rt, &ObjectsFolder::at(rt, ".git/objects")?, LooseIds::All)?;
     /// ```
     pub fn open(rt: &R, folder: &ObjectsFolder, loose: LooseIds) -> Result<FolderStore<R>, Error>
-        ensures { IfOk result (λ store. store.kind ≡ folder.now.kind) }
+        ensures kind { IfOk result (λ store. store.kind ≡ folder.now.kind) }
+        ensures listed { IfOk result (λ store. store.loose_ids ≡ loose) }
     {
         for _ in 1..MAX_TRIES {
             match FolderStore::read(rt, folder, loose) {
@@ -71,11 +80,12 @@ impl<R: Files<File = File> + AllocGlobal + Clone + Drop> FolderStore<R> {
 
     // Reads the store once.
     fn read(rt: &R, folder: &ObjectsFolder, loose: LooseIds) -> Result<FolderStore<R>, Error>
-        ensures { IfOk result (λ store. store.kind ≡ folder.now.kind) }
+        ensures kind { IfOk result (λ store. store.kind ≡ folder.now.kind) }
+        ensures listed { IfOk result (λ store. store.loose_ids ≡ loose) }
     {
         let kind = folder.kind;
         let folders = with_alternates(rt, folder)?;
-        let (mut listed, loose) = list(rt, &folders.paths, kind, loose)?;
+        let (mut listed, objects) = list(rt, &folders.paths, kind, loose)?;
         expect_alternates(rt, folder, &folders)?;
         let opened = open_indexes(rt, &listed.with_packs(rt)?, kind)?;
         let packs = pack_paths(rt.alloc(), &opened.paths)?;
@@ -89,12 +99,16 @@ impl<R: Files<File = File> + AllocGlobal + Clone + Drop> FolderStore<R> {
         skipped.append(&mut damaged)?;
         Ok(FolderStore {
             rt: rt.clone()?,
+            folder: copy_of(folder)?,
+            loose_ids: loose,
             kind,
             skipped,
+            skipped_before: Vec::new(rt.alloc()),
+            failed: None,
             paths,
             packs,
             indexes,
-            loose,
+            loose: objects,
         })
     }
 
@@ -112,13 +126,24 @@ impl<R: Files<File = File> + AllocGlobal + Clone + Drop> FolderStore<R> {
         &self.skipped
     }
 
+    /// What was not read of the store as it was before it was opened again ([`Reopen`]).
+    pub fn skipped_before(&self) -> &[Error] {
+        &self.skipped_before
+    }
+
     /// The path of the pack index at this position among `indexes()`, if there is one.
     pub fn index_path(&self, at: usize) -> Option<&str> {
         self.paths.get(at).map(|path| path.as_str())
     }
 
-    /// The error of a look-up in this store, with the path of the pack index.
-    pub fn with_path(&self, error: object_store::Error) -> Error {
+    /// The error of a look-up in this store, with the path of the pack index; or why the store
+    /// could not be opened again after that was gone.
+    pub fn with_path(&mut self, error: object_store::Error) -> Error {
+        if self.is_gone(&error)
+            && let Some(failed) = self.failed.take()
+        {
+            return failed;
+        }
         match error {
             object_store::Error::Index { at, error } => {
                 let path = self.index_path(at).unwrap_or("pack index");
@@ -147,6 +172,20 @@ impl<R: Files<File = File> + AllocGlobal + Clone + Drop> FolderStore<R> {
         Ok(())
     }
 
+    // Takes the place of itself, as the store is now. Under an error it has what it had.
+    fn open_again(&mut self) -> Result<(), Error>
+        ensures kind { self.new.kind ≡ self.old.kind }
+        ensures listed { self.new.loose_ids ≡ self.old.loose_ids }
+        ensures indexes { IfErr result (λ _. self.new.indexes.items ≡ self.old.indexes.items) }
+        ensures loose { IfErr result (λ _. self.new.loose ≡ self.old.loose) }
+    {
+        let mut store = FolderStore::open(&self.rt, &self.folder, self.loose_ids)?;
+        self.skipped_before.append(&mut self.skipped)?;
+        store.skipped_before.append(&mut self.skipped_before)?;
+        *self = store;
+        Ok(())
+    }
+
     // Checks the file of a loose object in a directory.
     fn check_loose_file(&self, folder: &str, id: &ObjectId) -> Result<(), Error> {
         let path = loose_path(self.rt.alloc(), folder, id)?;
@@ -158,6 +197,17 @@ impl<R: Files<File = File> + AllocGlobal + Clone + Drop> FolderStore<R> {
             _ => Err(Error::file(self.rt.alloc(), &path, error)),
         }
     }
+}
+
+// A copy of an object directory that was found.
+fn copy_of(folder: &ObjectsFolder) -> Result<ObjectsFolder, AllocError>
+    ensures { IfOk result (λ copy. copy.kind ≡ folder.now.kind) }
+{
+    Ok(ObjectsFolder {
+        path: folder.path.clone()?,
+        kind: folder.kind,
+        alternates: folder.alternates.clone()?,
+    })
 }
 
 // Lists the pack indexes and the loose objects in object directories. The order makes that no
@@ -222,10 +272,13 @@ fn begins_with(id: &ObjectId, prefix: &Prefix) -> bool {
 impl<R: Files<File = File> + AllocGlobal + Clone + Drop> Store for FolderStore<R> {
     type Source = Cached<Source<R>>;
 
+    ghost use Rattle.store_folders.specs.Listed.{only_of};
+
     ghost view = { λ store. record {
       kind = store.kind;
       packs = store.indexes.items;
       loose = store.loose.table.ids;
+      listed = only_of store.loose_ids;
     } };
 
     fn object_hash(&self) -> Kind {
@@ -238,6 +291,29 @@ impl<R: Files<File = File> + AllocGlobal + Clone + Drop> Store for FolderStore<R
 
     fn loose(&self) -> &LooseTable {
         &self.loose.table
+    }
+}
+
+impl<R: Files<File = File> + AllocGlobal + Clone + Drop> Reopen for FolderStore<R> {
+    ghost use Rattle.std.specs.Prelude.{◌≡◌};
+    ghost use Rattle.store_folders.specs.Listed.{only_of};
+
+    ghost may_have = { λ store view. (view.kind ≡ store.kind)
+        × (view.listed ≡ only_of store.loose_ids) };
+
+    fn is_gone(&self, error: &object_store::Error) -> bool {
+        match error {
+            object_store::Error::Index {
+                error: LazyError::Read(error),
+                ..
+            } => error.kind() == io::ErrorKind::NotFound,
+            _ => false,
+        }
+    }
+
+    fn reopen(&mut self) -> bool {
+        self.failed = self.open_again().err();
+        self.failed.is_none()
     }
 }
 

@@ -1,5 +1,8 @@
 //! Stores in directories that change while they are opened or looked up in, and whose reads fail.
 
+ghost use Rattle.std.specs.Prelude.{◌≡◌, Some};
+ghost use Rattle.store_folders.specs.Listed.{only_of};
+
 use crate::expecting::{expect, expect_ids, expect_printed};
 use crate::folders::{BOTH, Index, LOOSE, PACKED, make, open};
 use gix_hash::{ObjectId, Prefix};
@@ -186,14 +189,16 @@ const MOVES: [[Move; 3]; 6] = [
     [(2, NEW_LOOSE), (2, OLD_INDEX), (2, OTHER_INDEX)],
 ];
 
-// The ids of the store that begin with `4b`.
+// The ids of the store that begin with `4b`, of which the loose objects are listed.
 fn find<R: Files<File = File> + AllocGlobal + Clone + Drop>(
     rt: &(impl Abort + AllocGlobal),
     store: &FolderStore<R>,
-) -> Result<Vec<ObjectId>, object_store::Error> {
+) -> Result<Vec<ObjectId>, object_store::Error>
+    requires { only_of store.now.loose_ids ≡ Some 75 }
+{
     let kind = store.object_hash();
     let prefix = Prefix::from_hex_in(kind, "4b").expect(rt, "no prefix");
-    assert!(rt; prefix.hex_len() >= 2);
+    assert!(rt; prefix.hex_len() >= 2 && prefix.first_byte() == 0x4b);
     lookup_prefix(rt.alloc(), store, &prefix)
 }
 

@@ -1,10 +1,20 @@
-use Rattle.std.proofs.Common.{◌∙◌, [], refl, sym, subst}
+use Rattle.std.proofs.Common.{◌∙◌, [], ap, get_or, refl, sym, subst}
 use Rattle.std.proofs.lemmas.List.{take_all}
 use Rattle.std.proofs.lemmas.Result.{err_from_is_err_and}
 use Rattle.gix_hash.specs.declared.ObjectId.TheVariants.{Sha1}
-use Rattle.object_store.specs.Stores.{AreMatches}
+use Rattle.gix_hash.specs.Ids.{id_digits}
+use Rattle.id_lookup.proofs.Beginnings.{first_byte_of-begins}
+use Rattle.object_store.specs.Stores.{AreMatches, StoreView}
+use Rattle.object_store.proofs.Whole.{found_begins}
 use Rattle.object_store.proofs.LocatedIds.{fault_of_found, located_more}
 use Rattle.object_store.proofs.locations.locate_each.Goals as goal
+
+pub locate-requires-clause-listed : goal.locate-requires-clause-listed
+locate-requires-clause-listed g c = λ only is.
+    let id = id_digits (get_or c.args.ids.now c.loop-id.id-index (Sha1 [])) in
+    first_byte_of-begins id c.args.prefix.now.digits c.requires.enough
+    (found_begins c.args.parts.now c.args.prefix.now.digits c.args.ids.now c.requires.ids c.loop-id.id-index (Sha1 []) c.loop-id-test.true)
+    ∙ c.requires.listed only (sym (ap (λ (v : StoreView). v.listed) c.loop-id.invariant.0) ∙ is)
 
 pub returns-in_err-locations-clause-err : goal.returns-in_err-locations-clause-err
 returns-in_err-locations-clause-err g c =

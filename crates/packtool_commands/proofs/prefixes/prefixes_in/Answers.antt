@@ -1,7 +1,7 @@
 use Rattle.std.proofs.Common.{◌≡◌, ◌∙◌, ◌++◌, append-nil, ap, length, rules, sym}
 use Rattle.packtool_commands.specs.Stores.{prefixes_of}
 use Rattle.packtool_commands.proofs.AskingLemmas.{lines_at_end}
-use Rattle.packtool_commands.proofs.asking.prefixes_in.Goals as goal
+use Rattle.packtool_commands.proofs.prefixes.prefixes_in.Goals as goal
 
 pub returns : goal.returns
 returns g c =

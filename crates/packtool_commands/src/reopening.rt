@@ -1,0 +1,41 @@
+//! Look-ups in a store that changes.
+
+ghost use Rattle.std.specs.Fn.{FnReturnsAt};
+ghost use Rattle.object_store.specs.Stores.{IsReopened};
+
+use object_store::{Error, Reopen};
+
+// How often a look-up begins.
+const MAX_TRIES: usize = 10;
+
+/// What a look-up gives in a store. If a pack index is gone that was listed, the store is opened
+/// again, and the look-up begins again, 10 times at most.
+pub(crate) fn look_up_again<S: Reopen, T: Drop, F: Fn(&S) -> Result<T, Error>>(
+    store: &mut S,
+    look_up: F,
+) -> Result<T, Error>
+    requires { (seen : _) → IsReopened (S.may_have store.old) (S.may_have seen.now)
+        (S.view store.old) (S.view seen.now) → F.pre look_up seen }
+    ensures reopened { IsReopened (S.may_have store.old) (S.may_have store.new)
+        (S.view store.old) (S.view store.new) }
+    ensures found { FnReturnsAt F.Fn look_up store.new result }
+{
+    for _try in 1..MAX_TRIES {
+        let looked = look_up(store);
+        if !is_gone(store, &looked) {
+            return looked;
+        }
+        if !store.reopen() {
+            break;
+        }
+    }
+    look_up(store)
+}
+
+// Whether a look-up failed because a pack index is gone that was listed.
+fn is_gone<S: Reopen, T>(store: &S, looked: &Result<T, Error>) -> bool {
+    match looked {
+        Err(error) => store.is_gone(error),
+        Ok(_) => false,
+    }
+}
