@@ -24,9 +24,9 @@ pub fn failures()
         → IsIndexReadOrMemory view error }
 {}
 
-/// [`Parts::locate`](crate::Parts::locate) adds no location and leaves none out: an object is at an offset in a pack if and only
-/// if the pack index has its id, the first of which has that offset; and it is a loose object if
-/// and only if its id is one of the loose ids.
+/// [`Parts::locate`](crate::Parts::locate) adds no location and leaves none out: an object is at an
+/// offset in a pack if and only if the pack index has its id, the first of which has that offset;
+/// and it is a loose object if and only if its id is one of the loose ids.
 pub fn locations()
     ensures packed { (kind : Kind) (id : List ℕ) (indexes loose_ids : List (List ℕ))
         (pack offset : ℕ) → Contains (locations_of kind id indexes loose_ids) (Packed pack offset)

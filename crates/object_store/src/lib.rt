@@ -5,8 +5,8 @@
 //! cursor that holds one part at a time. So a look-up reads about 1/256 of the ids, and a walk over
 //! all ids ([`abbreviate_part`]) allocates memory for one part at a time. Several prefixes are
 //! looked up in their order ([`lookup_prefixes`], [`locate_prefixes`], [`abbreviate_prefixes`]), so
-//! that each part is read once. A program implements [`Store`] over its directories, and [`Reopen`] if
-//! they may change meanwhile.
+//! that each part is read once. A program implements [`Store`] over its directories, and [`Reopen`]
+//! if they may change meanwhile.
 #![tactic(auto)]
 
 mod abbreviations;

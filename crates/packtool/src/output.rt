@@ -5,7 +5,6 @@ ghost use Rattle.streams.specs.Devices.{plain_failed};
 
 use crate::failure::Failure;
 use packtool_commands::write_named;
-use std::cell::Cell;
 use std::fmt::Display;
 use std::io::{self, BufWriter};
 use streams::{BufferedSink, Plain, Retrying};
@@ -30,26 +29,6 @@ fn write_report<'a>(
     let _ = write_named(&line, b"\n", &mut out);
     let _ = out.flush();
     Ok(())
-}
-
-/// A writer that notes that it was called.
-#[derive(Drop)]
-pub struct NotesWrites<'a, W> {
-    /// The writer.
-    pub inner: W,
-    /// Whether something may have been written.
-    pub is_written: &'a Cell<bool>,
-}
-
-impl<W: io::Write> io::Write for NotesWrites<'_, W> {
-    fn write(&mut self, buf: &[u8]) -> io::Result<usize> {
-        self.is_written.set(true);
-        self.inner.write(buf)
-    }
-
-    fn flush(&mut self) -> io::Result<()> {
-        self.inner.flush()
-    }
 }
 
 /// A buffer before a writer, whose calls are tried again if they are interrupted.

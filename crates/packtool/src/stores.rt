@@ -1,7 +1,10 @@
 //! Commands over a store.
 
-ghost use Rattle.std.specs.Prelude.{◌≡◌, ◌<◌, ◌≤◌, ◌++◌, false, if◌then◌else◌, length, take, IfOk, OnOk};
+ghost use Rattle.std.specs.Prelude.{◌≡◌, ◌<◌, ◌≤◌, ◌++◌, ℕ, All, IfOk, Some, false, if◌then◌else◌, length, take};
+ghost use Rattle.gix_hash.specs.Digits.{first_byte_of};
 ghost use Rattle.gix_hash.specs.Kinds.{hex_len_of};
+ghost use Rattle.gix_hash.specs.Prefixes.{KindDigits};
+ghost use Rattle.store_folders.specs.Listed.{only_of};
 ghost use Rattle.streams.specs.Devices.{plain_failed};
 ghost use Rattle.packtool.specs.Requests.{IsAskedOf, LeastFits};
 ghost use Rattle.packtool.specs.WholeLines.{AreWhole};
@@ -10,23 +13,18 @@ use crate::arguments::{Ask, Question, StoreRequest};
 use crate::failure::Failure;
 use crate::files::expect_text;
 use crate::lines::LineReader;
-use crate::output::{NotesWrites, buffered, flushed, report};
+use crate::output::{buffered, flushed, report};
 use crate::words::{beginning, lossy_text};
 use crate::{FAILED, FOUND, NOTHING};
 use gix_hash::{Kind, Prefix};
-use object_store::{NamedId, Store, abbreviate_part};
 use packtool_commands::{
-    Answers, StoreError, find, find_each, locate, locate_each, name_each, prefixes_in, write_names,
+    Answers, PrefixLines, StoreError, find, find_each, locate, locate_each, name_each, names,
 };
 use repositories::{ObjectsFolder, find_objects};
 use std::alloc::AllocError;
-use std::cell::Cell;
 use std::io;
 use store_folders::{Error, FolderStore, LooseIds};
 use streams::{Plain, Retrying};
-
-// How often a command begins.
-const MAX_TRIES: usize = 10;
 
 // The most ids or locations of several lines that are held at a time.
 const MAX_FOUND: usize = 1 << 16;
@@ -38,10 +36,8 @@ enum Asked<'a, 'l> {
     Lines(Question<Answers>, &'l [u8]),
 }
 
-/// Answers a request, and returns the status. If a pack index is gone that was listed, it begins
-/// again over the store as it is then, unless something may have been written to standard output.
-///
-/// For the lines of standard input it does so for each chunk of them, and returns the worst status.
+/// Answers a request, and returns the status; for the lines of standard input chunk by chunk, and
+/// returns the worst status.
 pub fn answer<'a>(rt: &HostRuntime, request: &StoreRequest<'a>) -> Result<u8, Failure<'a>> {
     let folder = objects_folder(rt, request)?;
     let mut reported = Vec::new(rt.alloc());
@@ -150,7 +146,7 @@ fn line_len(lines: &[u8]) -> usize
     lines.len()
 }
 
-// Runs a command over an object directory, and returns the status.
+// Answers what is asked of an object directory, and returns the status.
 fn run_over<'a>(
     rt: &HostRuntime,
     folder: &ObjectsFolder,
@@ -159,52 +155,17 @@ fn run_over<'a>(
 ) -> Result<u8, Failure<'a>>
     requires { IsAskedOf folder.now.kind asked }
 {
-    let is_written = Cell::new(false);
-    for _ in 1..MAX_TRIES {
-        let ended = run_once(rt, folder, asked, reported, &is_written);
-        if is_written.get() || !is_gone(&ended) {
-            return ended;
-        }
-    }
-    run_once(rt, folder, asked, reported, &is_written)
-}
-
-// Runs a command once, and returns the status. It also says whether something may have been
-// written.
-fn run_once<'a>(
-    rt: &HostRuntime,
-    folder: &ObjectsFolder,
-    asked: Asked<'a, '_>,
-    reported: &mut Vec<String>,
-    is_written: &Cell<bool>,
-) -> Result<u8, Failure<'a>>
-    requires { IsAskedOf folder.now.kind asked }
-{
-    let output = NotesWrites {
-        inner: rt.stdout(),
-        is_written,
-    };
-    let mut out = buffered(rt, output)?;
-    let ran = match asked {
+    let mut out = buffered(rt, rt.stdout())?;
+    let status = match asked {
         Asked::Once(question) => write_lines(rt, folder, question, reported, &mut out),
         Asked::Lines(question, lines) => {
             write_each(rt, folder, question, lines, reported, &mut out)
         }
     };
-    if is_gone(&ran) && !is_written.get() {
-        // The lines in the buffer are dropped, not written.
-        drop(out.into_inner().into_parts());
-        return ran;
-    }
-    flushed(ran?, &mut out)
+    flushed(status?, &mut out)
 }
 
-// Whether a pack index was gone that was listed.
-fn is_gone(ran: &Result<u8, Failure<'_>>) -> bool {
-    matches!(ran, Err(Failure::Store(Error::Gone { .. })))
-}
-
-// Opens the store, and runs a command over it.
+// Opens the store, and writes what a question finds in it.
 fn write_lines<'a, W: io::Write>(
     rt: &HostRuntime,
     folder: &ObjectsFolder,
@@ -212,24 +173,28 @@ fn write_lines<'a, W: io::Write>(
     reported: &mut Vec<String>,
     out: &mut Plain<W>,
 ) -> Result<u8, Failure<'a>>
-    requires { LeastFits folder.now.kind question }
+    requires least { LeastFits folder.now.kind question }
+    requires output { plain_failed out.old ≡ false }
 {
-    if out.failed() {
-        return Err(Failure::of_output(out));
-    }
     match question {
         Question::Find(text) => {
-            let (store, prefix) = open_part(rt, folder, text)?;
-            let ran = find(rt.alloc(), &store, &prefix, out);
-            status_of(rt, &store, ran, reported, out)
+            let (mut store, prefix) = open_part(rt, folder, text)?;
+            let ran = find(rt.alloc(), &mut store, &prefix, out);
+            status_of(rt, &mut store, ran, reported, out)
         }
         Question::Locate(text) => {
-            let (store, prefix) = open_part(rt, folder, text)?;
-            write_locations(rt, &store, &prefix, reported, out)
+            let (mut store, prefix) = open_part(rt, folder, text)?;
+            store.check_loose_files(&prefix)?;
+            let ran = locate(rt.alloc(), &mut store, &prefix, out);
+            status_of(rt, &mut store, ran, reported, out)
         }
         Question::Names(least) => {
             let mut store = FolderStore::open(rt, folder, LooseIds::All)?;
-            write_all_names(rt, folder, least, &mut store, reported, out)
+            let ran = names(rt.alloc(), &mut store, least, out);
+            // What was written before the store was opened again may lack what was skipped then.
+            let was_whole = report_skipped(rt, store.skipped_before(), reported)?;
+            let status = status_of(rt, &mut store, ran, reported, out)?;
+            Ok(if was_whole { status } else { FAILED })
         }
     }
 }
@@ -243,119 +208,26 @@ fn write_each<'a, W: io::Write>(
     reported: &mut Vec<String>,
     out: &mut Plain<W>,
 ) -> Result<u8, Failure<'a>>
-    requires { LeastFits folder.now.kind question }
+    requires least { LeastFits folder.now.kind question }
+    requires output { plain_failed out.old ≡ false }
 {
-    if out.failed() {
-        return Err(Failure::of_output(out));
-    }
-    let store = FolderStore::open(rt, folder, loose_of(lines))?;
+    let lines = PrefixLines::read(rt.alloc(), folder.kind, lines)?;
+    let mut store = FolderStore::open(rt, folder, loose_of(lines.prefixes()))?;
     let ran = match question {
-        Question::Find(answers) => find_each(rt.alloc(), &store, lines, answers, MAX_FOUND, out),
+        Question::Find(answers) => {
+            find_each(rt.alloc(), &mut store, &lines, answers, MAX_FOUND, out)
+        }
         Question::Locate(answers) => {
-            check_loose_files(rt, &store, lines)?;
-            locate_each(rt.alloc(), &store, lines, answers, MAX_FOUND, out)
+            for prefix in lines.prefixes() {
+                store.check_loose_files(prefix)?;
+            }
+            locate_each(rt.alloc(), &mut store, &lines, answers, MAX_FOUND, out)
         }
-        Question::Names(least) => name_each(rt.alloc(), &store, lines, least, MAX_FOUND, out),
+        Question::Names(least) => {
+            name_each(rt.alloc(), &mut store, &lines, least, MAX_FOUND, out)
+        }
     };
-    status_of(rt, &store, ran, reported, out)
-}
-
-// Checks the files of the loose objects that the lines find in a store, for `where`.
-fn check_loose_files<'a>(
-    rt: &HostRuntime,
-    store: &FolderStore<HostRuntime>,
-    lines: &[u8],
-) -> Result<(), Failure<'a>> {
-    for prefix in &prefixes_in(rt.alloc(), store.object_hash(), lines)? {
-        store.check_loose_files(prefix)?;
-    }
-    Ok(())
-}
-
-// Writes the lines of `where`, and returns the status.
-fn write_locations<'a, W: io::Write>(
-    rt: &HostRuntime,
-    store: &FolderStore<HostRuntime>,
-    prefix: &Prefix,
-    reported: &mut Vec<String>,
-    out: &mut Plain<W>,
-) -> Result<u8, Failure<'a>>
-    requires output { plain_failed out.old ≡ false }
-    requires enough { 2 ≤ length prefix.now.digits }
-    requires kind { prefix.now.kind ≡ store.now.kind }
-{
-    store.check_loose_files(prefix)?;
-    let ran = locate(rt.alloc(), store, prefix, out);
-    status_of(rt, store, ran, reported, out)
-}
-
-// Writes the lines of `names`, and returns the status. The ids with one first byte are written
-// before those with the next are read, and no name depends on ids with another. So if a pack index
-// is gone, the store is opened again for the bytes that are left.
-fn write_all_names<'a, W: io::Write>(
-    rt: &HostRuntime,
-    folder: &ObjectsFolder,
-    least: usize,
-    store: &mut FolderStore<HostRuntime>,
-    reported: &mut Vec<String>,
-    out: &mut Plain<W>,
-) -> Result<u8, Failure<'a>>
-    requires output { plain_failed out.old ≡ false }
-    requires kind { store.old.kind ≡ folder.now.kind }
-    requires enough { 4 ≤ least }
-    requires fits { least ≤ hex_len_of folder.now.kind }
-{
-    let mut any = false;
-    let mut is_whole = true;
-    for byte in 0..=u8::MAX {
-        let named = names_of(rt, folder, byte, least, store, reported, &mut is_whole)?;
-        if write_names(&named, out).is_err() {
-            return Err(Failure::of_output(out));
-        }
-        any = any || !named.is_empty();
-    }
-    is_whole = report_skipped(rt, store, reported)? && is_whole;
-    Ok(status_if(is_whole, any))
-}
-
-// The ids of a store with a first byte, with their names. If a pack index is gone, the store is
-// opened again; if something was skipped in it until then, it was not read whole.
-fn names_of<'a>(
-    rt: &HostRuntime,
-    folder: &ObjectsFolder,
-    byte: u8,
-    least: usize,
-    store: &mut FolderStore<HostRuntime>,
-    reported: &mut Vec<String>,
-    is_whole: &mut bool,
-) -> Result<Vec<NamedId>, Failure<'a>>
-    requires kind { store.old.kind ≡ folder.now.kind }
-    requires enough { 4 ≤ least }
-    requires fits { least ≤ hex_len_of folder.now.kind }
-    ensures { OnOk result (store.new.kind ≡ folder.now.kind) }
-{
-    'tries: for _ in 1..MAX_TRIES {
-        match read_names(rt, store, byte, least) {
-            Err(Error::Gone { .. }) => {}
-            read => return Ok(read?),
-        }
-        *is_whole = report_skipped(rt, store, reported)? && *is_whole;
-        *store = FolderStore::open(rt, folder, LooseIds::All)?;
-    }
-    Ok(read_names(rt, store, byte, least)?)
-}
-
-// The ids of a store with a first byte, with their names.
-fn read_names(
-    rt: &HostRuntime,
-    store: &FolderStore<HostRuntime>,
-    byte: u8,
-    least: usize,
-) -> Result<Vec<NamedId>, Error>
-    requires enough { 4 ≤ least }
-    requires fits { least ≤ hex_len_of store.now.kind }
-{
-    abbreviate_part(rt.alloc(), store, byte, least).map_err(|error| store.with_path(error))
+    status_of(rt, &mut store, ran, reported, out)
 }
 
 // The prefix that was asked for, and the store with the loose objects that have its first byte.
@@ -366,40 +238,35 @@ fn open_part<'a>(
 ) -> Result<(FolderStore<HostRuntime>, Prefix), Failure<'a>>
     ensures enough { IfOk result (λ part. 2 ≤ length part.1.digits) }
     ensures kind { IfOk result (λ part. part.1.kind ≡ part.0.kind) }
+    ensures listed { IfOk result (λ part. only_of part.0.loose_ids
+        ≡ Some (first_byte_of part.1.digits)) }
 {
     let prefix = read_prefix(text, folder.kind)?;
     let loose = LooseIds::WithFirstByte(prefix.first_byte());
     Ok((FolderStore::open(rt, folder, loose)?, prefix))
 }
 
-// The loose objects that lines may ask for: those with the first byte that all prefixes have, or
-// all. A line that begins with no byte is no prefix.
-fn loose_of(lines: &[u8]) -> LooseIds {
-    let mut shared = None;
-    for line in lines.split(|byte| *byte == b'\n') {
-        match (shared, first_byte(line)) {
-            (_, None) => {}
-            (None, first) => shared = first,
-            (Some(one), Some(first)) if one == first => {}
-            _ => return LooseIds::All,
-        }
+// The loose objects that prefixes may begin: those with the first byte that all prefixes have, or
+// all.
+fn loose_of(prefixes: &[Prefix]) -> LooseIds
+    ensures { All (λ (prefix : KindDigits). (only : ℕ) → only_of result ≡ Some only
+        → first_byte_of prefix.digits ≡ only) prefixes.now }
+{
+    let Some(first) = prefixes.first() else {
+        return LooseIds::WithFirstByte(0);
+    };
+    let byte = first.first_byte();
+    if prefixes.iter().all(|prefix| prefix.first_byte() == byte) {
+        LooseIds::WithFirstByte(byte)
+    } else {
+        LooseIds::All
     }
-    match shared {
-        Some(byte) => LooseIds::WithFirstByte(byte),
-        None => LooseIds::WithFirstByte(0),
-    }
-}
-
-// The byte whose two hex digits a line begins with, if it does.
-fn first_byte(line: &[u8]) -> Option<u8> {
-    let text = str::from_utf8(line.get(..2)?).ok()?;
-    u8::from_str_radix(text, 16).ok()
 }
 
 // The status of a command that ran over a store.
 fn status_of<'a, W>(
     rt: &HostRuntime,
-    store: &FolderStore<HostRuntime>,
+    store: &mut FolderStore<HostRuntime>,
     ran: Result<bool, StoreError>,
     reported: &mut Vec<String>,
     out: &Plain<W>,
@@ -410,24 +277,23 @@ fn status_of<'a, W>(
         Err(StoreError::TooMany) => return Err(Failure::TooMany),
         Err(StoreError::Output) => return Err(Failure::of_output(out)),
     };
-    Ok(status_if(report_skipped(rt, store, reported)?, any))
+    Ok(status_if(report_skipped(rt, store.skipped(), reported)?, any))
 }
 
-// Prints what was skipped, unless it is reported already, and returns whether the store was read
-// whole, that is nothing was.
+// Prints what was skipped, unless it is reported already, and returns whether nothing was.
 fn report_skipped(
     rt: &HostRuntime,
-    store: &FolderStore<HostRuntime>,
+    skipped: &[Error],
     reported: &mut Vec<String>,
 ) -> Result<bool, AllocError> {
-    for error in store.skipped() {
+    for error in skipped {
         let text = format!(in rt.alloc(); "{error}")?;
         if !reported.contains(&text) {
             report(rt, error, ", skipped");
             reported.push(text)?;
         }
     }
-    Ok(store.skipped().is_empty())
+    Ok(skipped.is_empty())
 }
 
 // The status if a store was read whole, and has an id.

@@ -17,8 +17,9 @@ use streams::{Sink, write_ids};
 /// whether there is one.
 ///
 /// The prefix has 2 digits or more, and the store's kind. Nothing is written before all ids are
-/// found; if a pack index is gone until then, the store is opened again. [`StoreError::Output`] is returned if and only if a write fails, after a proper
-/// beginning of the lines. The sink must not have failed before.
+/// found; if a pack index is gone until then, the store is opened again. [`StoreError::Output`] is
+/// returned if and only if a write fails, after a proper beginning of the lines. The sink must not
+/// have failed before.
 ///
 /// ```
 /// if !find(rt.alloc(), &mut store, &prefix, &mut out)? {

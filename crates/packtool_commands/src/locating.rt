@@ -36,8 +36,8 @@ type End = ArrayVec<u8, 22>;
 ///
 /// The prefix has 2 digits or more, and the store's kind. Of each pack index the names with its
 /// first byte are read once. Nothing is written before all locations are found; if a pack index is
-/// gone until then, the store is opened again. [`StoreError::Output`] is returned if and only if a write fails, after a proper beginning of the
-/// lines. The sink must not have failed before.
+/// gone until then, the store is opened again. [`StoreError::Output`] is returned if and only if a
+/// write fails, after a proper beginning of the lines. The sink must not have failed before.
 ///
 /// ```
 /// if !locate(rt.alloc(), &mut store, &prefix, &mut out)? {

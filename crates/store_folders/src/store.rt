@@ -139,11 +139,23 @@ impl<R: Files<File = File> + AllocGlobal + Clone + Drop> FolderStore<R> {
     /// The error of a look-up in this store, with the path of the pack index; or why the store
     /// could not be opened again after that was gone.
     pub fn with_path(&mut self, error: object_store::Error) -> Error {
-        if self.is_gone(&error)
-            && let Some(failed) = self.failed.take()
-        {
-            return failed;
+        match self.failure_after(&error) {
+            Some(failed) => failed,
+            None => self.at_path(error),
         }
+    }
+
+    // Why the store could not be opened again after an error.
+    fn failure_after(&mut self, error: &object_store::Error) -> Option<Error> {
+        if self.is_gone(error) {
+            self.failed.take()
+        } else {
+            None
+        }
+    }
+
+    // The error of a look-up, with the path of the pack index.
+    fn at_path(&self, error: object_store::Error) -> Error {
         match error {
             object_store::Error::Index { at, error } => {
                 let path = self.index_path(at).unwrap_or("pack index");
