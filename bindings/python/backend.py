@@ -1,6 +1,7 @@
 """Builds the wheel of gix_hash for pip (PEP 517), which needs no other package for it, and no network.
 
-If the library is in the package, the wheel has it, and is for the platform of config_settings, or else for this machine.
+If the library or packtool is in the package, the wheel has it, and is for the platform of config_settings, or else for this
+machine.
 """
 
 import base64
@@ -18,26 +19,27 @@ Requires-Python: >=3.9
 Classifier: Programming Language :: Python :: Implementation :: CPython
 """
 WHEEL = "Wheel-Version: 1.0\nGenerator: backend\nRoot-Is-Purelib: {}\nTag: {}\n"
-LIBRARY = "gix_hash/libgix_hash.so"
+LIBRARY, PROGRAM = "gix_hash/libgix_hash.so", "gix_hash/packtool"
 
 
 def build_wheel(wheel_directory, config_settings=None, metadata_directory=None):
     """Writes the wheel into a directory, and returns its name. Its bytes depend on those of its files alone."""
-    names = ("gix_hash/__init__.py", "gix_hash/py.typed", LIBRARY)
+    names = ("gix_hash/__init__.py", "gix_hash/_store.py", "gix_hash/py.typed", LIBRARY, PROGRAM)
     files = {name: (HERE / name).read_bytes() for name in names if (HERE / name).exists()}
     tag = "py3-none-any"
-    if LIBRARY in files:
+    if is_built := not files.keys().isdisjoint((LIBRARY, PROGRAM)):
         tag = f"py3-none-{(config_settings or {}).get('platform', 'linux_x86_64')}"
     version = re.search(r'__version__ = "(.*)"', files["gix_hash/__init__.py"].decode())[1].replace("-dev", ".dev0")
     name = f"nunbirdstand-{version}"
     files[f"{name}.dist-info/METADATA"] = f"{ABOUT}Version: {version}\n".encode()
-    files[f"{name}.dist-info/WHEEL"] = WHEEL.format("false" if LIBRARY in files else "true", tag).encode()
+    files[f"{name}.dist-info/WHEEL"] = WHEEL.format("false" if is_built else "true", tag).encode()
     digests = {file: base64.urlsafe_b64encode(hashlib.sha256(data).digest()).decode() for file, data in files.items()}
     lines = [f"{file},sha256={digests[file].rstrip('=')},{len(data)}\n" for file, data in files.items()]
     files[f"{name}.dist-info/RECORD"] = "".join([*lines, f"{name}.dist-info/RECORD,,\n"]).encode()
     with zipfile.ZipFile(Path(wheel_directory, f"{name}-{tag}.whl"), "w") as wheel:
         for file, data in files.items():
             entry = zipfile.ZipInfo(file)  # of 1980
-            entry.external_attr, entry.compress_type = 0o100644 << 16, zipfile.ZIP_DEFLATED
+            # (pip takes the mode from here)
+            entry.external_attr, entry.compress_type = (0o100755 if file == PROGRAM else 0o100644) << 16, zipfile.ZIP_DEFLATED
             wheel.writestr(entry, data)
     return f"{name}-{tag}.whl"

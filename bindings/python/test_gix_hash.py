@@ -173,7 +173,8 @@ class Bindings(unittest.TestCase):
         found = {}
         exec("from gix_hash import *", found)
         public = {"Buffer", "Code", "Entry", "Error", "Hasher", "Id", "Kind", "ObjectType", "PackIndex", "Prefix", "SortedDigests"}
-        self.assertEqual(found.keys() - {"__builtins__"}, public)
+        of_stores = {"Ambiguous", "Location", "Missing", "SkippedWarning", "Store", "StoreError"}
+        self.assertEqual(found.keys() - {"__builtins__"}, public | of_stores)
 
     def test_hostile_calls(self):
         """Calls that are wrong, and the exception of each."""

@@ -1,7 +1,8 @@
 """Git's object ids over libgix_hash, whose calls are proved; this module is only tested.
 
-Ids are spelled and compared here, and the rest is done by the library. It is beside this module or where the loader looks,
-or the environment variable GIX_HASH_LIB is the path of its file, or of the directory that has libgix_hash.so.
+Ids are spelled and compared here, and the rest is done by the library, but for a Store, which asks the program packtool. The
+library is beside this module or where the loader looks, or the environment variable GIX_HASH_LIB is the path of its file, or of
+the directory that has libgix_hash.so.
 
 Bytes are taken from any object that has them one after the other, as bytes, a memoryview or an mmap, and are not copied. So
 nobody may change them during a call, in which other threads run, nor while a SortedDigests or a PackIndex has them. If the
@@ -24,9 +25,12 @@ import re
 import sys
 import threading
 from collections.abc import Iterator, Sequence
-from typing import Any, Dict, List, NamedTuple, Optional, Tuple, Type, TypeVar, Union, overload
+from typing import TYPE_CHECKING, Any, Dict, List, NamedTuple, Optional, Tuple, Type, TypeVar, Union, overload
 
-__all__ = ["Buffer", "Code", "Entry", "Error", "Hasher", "Id", "Kind", "ObjectType", "PackIndex", "Prefix", "SortedDigests"]
+__all__ = [
+    "Ambiguous", "Buffer", "Code", "Entry", "Error", "Hasher", "Id", "Kind", "Location", "Missing", "ObjectType", "PackIndex",
+    "Prefix", "SkippedWarning", "SortedDigests", "Store", "StoreError",
+]  # fmt: skip
 __version__ = "0.5.0-dev"
 # What has bytes. (Other objects that do, as an array of bytes, are taken too.)
 Buffer = Union[bytes, bytearray, memoryview, mmap.mmap]
@@ -549,3 +553,16 @@ class PackIndex(_Table[Entry]):
         hex_len = ctypes.c_size_t()
         _check(_lib.gix_hash_pack_abbreviate(*self._given, range(len(self))[operator.index(at)], hex_len))
         return hex_len.value
+
+
+if TYPE_CHECKING:
+    from gix_hash._store import Ambiguous, Location, Missing, SkippedWarning, Store, StoreError
+else:
+
+    def __getattr__(name):
+        """What is in the module of stores, which is imported when one of its names is first used."""
+        if name not in __all__:
+            raise AttributeError(f"module {__name__!r} has no attribute {name!r}")
+        from gix_hash import _store
+
+        return getattr(_store, name)

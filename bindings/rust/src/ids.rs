@@ -229,7 +229,12 @@ impl From<Id> for Prefix {
 /// The lowercase hex digits.
 impl fmt::Display for Prefix {
     fn fmt(&self, f: &mut fmt::Formatter<'_>) -> fmt::Result {
-        let digits: String = self.0.bytes.iter().map(|byte| format!("{byte:02x}")).collect();
+        let mut digits = String::with_capacity(64);
+        for byte in self.0.bytes {
+            digits.extend(
+                [byte >> 4, byte & 15].map(|digit| char::from(b"0123456789abcdef"[usize::from(digit)])),
+            );
+        }
         f.pad(&digits[..self.hex_len()])
     }
 }

@@ -1,0 +1,558 @@
+"""Compares gix_hash.Store with Git, over stores that live, beside threads, signals, forks and processes that end.
+
+It runs in this repository, by what tools/stores compares packtool with Git. The variable PACKTOOL is the path of the program.
+"""
+
+import contextlib
+import gc
+import os
+import pathlib
+import pickle
+import random
+import re
+import runpy
+import shutil
+import signal
+import subprocess
+import sys
+import tempfile
+import threading
+import time
+import unittest
+import warnings
+from concurrent.futures import ThreadPoolExecutor
+
+TOOLS = pathlib.Path(__file__).resolve().parents[2] / "tools"
+# Where `make lib` leaves it, and `make`.
+os.environ.setdefault("GIX_HASH_LIB", str(TOOLS.parent / "out" / "libgix_hash.so"))
+os.environ.setdefault("PACKTOOL", str(TOOLS.parent / "crates" / "packtool" / "out" / "packtool"))
+sys.path.insert(0, str(TOOLS))
+from probe import add_loose, git, listed, make_blobs, shortest  # noqa: E402
+
+from gix_hash import (  # noqa: E402
+    Ambiguous, Code, Error, Id, Kind, Location, Missing, Prefix, SkippedWarning, Store, StoreError,
+)  # fmt: skip
+
+OF_GIT = runpy.run_path(str(TOOLS / "stores"))
+KINDS = {"sha1": Kind.SHA1, "sha256": Kind.SHA256}
+# How often a store is asked by each thread, and within how many seconds what is begun in a test has to end.
+QUESTIONS, LIMIT = 1000, 60
+
+
+class Alarm(Exception):
+    pass
+
+
+def children():
+    """The processes that this one has begun, and that run."""
+    pids = [pid for path in pathlib.Path("/proc/self/task").glob("*/children") for pid in path.read_text().split()]
+    return [int(pid) for pid in pids if not re.search(r"\) [ZX] ", pathlib.Path(f"/proc/{pid}/stat").read_text())]
+
+
+def left(size):
+    """The processes that run, which are soon no more than these."""
+    for _ in range(100):
+        if len(children()) <= size:
+            break
+        time.sleep(0.02)
+    return children()
+
+
+def begun(call):
+    """A thread that runs."""
+    thread = threading.Thread(target=call, daemon=True)
+    thread.start()
+    return thread
+
+
+def forked(call):
+    """The status of a forked process that makes a call: 0 if it is true, and 14 if it takes too long."""
+    with warnings.catch_warnings():
+        warnings.simplefilter("ignore", DeprecationWarning)  # (a fork beside threads is what is tested)
+        pid = os.fork()
+    if pid == 0:
+        signal.signal(signal.SIGALRM, signal.SIG_DFL)
+        signal.alarm(LIMIT)
+        status = 1
+        with contextlib.suppress(BaseException):
+            status = 0 if call() else 2
+        os._exit(status)
+    return os.waitpid(pid, 0)[1]
+
+
+class Stores(unittest.TestCase):
+    def setUp(self):
+        self.room = pathlib.Path(tempfile.mkdtemp(prefix="store-")).resolve()
+        self.addCleanup(shutil.rmtree, self.room)
+        caught, unraised = warnings.catch_warnings(), []
+        caught.__enter__()
+        self.addCleanup(caught.__exit__, None, None, None)
+        warnings.simplefilter("error")
+        self.addCleanup(setattr, sys, "unraisablehook", sys.unraisablehook)
+        self.addCleanup(lambda: self.assertEqual((gc.collect() < 0, unraised), (False, [])))
+        sys.unraisablehook = lambda it: unraised.append(repr(it.exc_value))
+        self.addCleanup(lambda: self.assertEqual(left(0), []))
+
+    def blobs(self, name="store", kind="sha1", **how):
+        """A new bare repository, and the ids of its blobs."""
+        make_blobs(self.room / name, kind, **how)
+        return self.room / name, listed(self.room / name)
+
+    def opened(self, *given):
+        """A store, which is closed at the end of the test."""
+        store = Store(*given)
+        self.addCleanup(store.close)
+        return store
+
+    def compare(self, path, ids, kind="sha1", objects=None, size=60):
+        """Compares all calls with what git says of the ids."""
+        rng, store = random.Random(len(ids)), self.opened(path)
+        names = dict(line.split()[::-1] for line in shortest(ids).splitlines())
+        self.assertEqual((store.kind, [str(id) for id in store]), (KINDS[kind], ids))
+        for least in 4, 9:
+            wanted = [(id[: max(least, len(names[id]))], id) for id in ids]
+            self.assertEqual([(name, str(id)) for name, id in store.names(least)], wanted)
+            for name, id in rng.sample(wanted, min(size, len(ids))):
+                self.assertEqual(store.abbreviate(Id(id), least), name)
+        prefixes = [*OF_GIT["some_prefixes"](ids, 20 * size, 2)]
+        given = [rng.choice((str, Prefix))(prefix) for prefix in prefixes] + [Id(id) for id in rng.sample(ids, size)]
+        found = {prefix: OF_GIT["beginning_with"](ids, str(prefix)) for prefix in given}
+        many = [(prefix, [str(id) for id in ids]) for prefix, ids in store.find_many(iter(given))]
+        self.assertEqual(many, [(prefix, found[prefix]) for prefix in given])
+        for prefix in rng.sample(given, size):
+            wanted = found[prefix]
+            self.assertEqual([str(id) for id in store.find(prefix)], wanted)
+            self.assertEqual(str(prefix) in map(str, map(store.resolve, wanted)), len(str(prefix)) in (40, 64) and bool(wanted))
+            if len(wanted) == 1:
+                self.assertEqual(str(store.resolve(prefix)), wanted[0])
+            else:
+                with self.assertRaises(Ambiguous if wanted else Missing) as raised:
+                    store.resolve(prefix)
+                self.assertEqual([str(id) for id in getattr(raised.exception, "ids", [])], wanted)
+            if objects and wanted:
+                lines = [f"{it.id} {it.path}{'' if it.offset is None else f' {it.offset}'}\n" for it in store.locate(prefix)]
+                self.assertEqual("".join(lines), OF_GIT["places"](objects, wanted))
+        self.assertTrue(all(Id(id) in store for id in rng.sample(ids, 5)))
+        self.assertFalse(Id("1" * 40) in store or Id("1" * 64) in store or ids[0] in store or None in store)
+        self.assertEqual(store.skipped, [])
+
+    def test_kinds(self):
+        for kind in KINDS:
+            bare, ids = self.blobs(kind, kind)
+            self.compare(bare, ids, kind, bare / "objects")
+            self.compare(os.fsencode(bare / "refs" / "tags"), ids, kind, bare / "objects", size=5)
+
+    def test_stores(self):
+        lent, more = self.blobs("lent", seed=1, packs=1, packed=200)
+        own, ids = self.blobs("own", packed=200)
+        (own / "objects" / "info" / "alternates").write_text(f"{lent}/objects\n")
+        self.compare(own, sorted({*ids, *more}), size=20)
+        many, ids = self.blobs("many", packs=80, packed=400)
+        self.compare(str(many), ids, objects=many / "objects", size=4)
+        git(self.room, "init", "--quiet", "work")
+        for name in "ab":
+            git(self.room / "work", "commit", "--quiet", "--allow-empty", "-m", name)
+        add_loose(self.room / "work", "loose", 50)
+        git(self.room / "work", "worktree", "add", "--quiet", "-b", "b", str(self.room / "tree"))
+        (self.room / "tree" / "deep").mkdir()
+        self.compare(self.room / "tree" / "deep", listed(self.room / "work"), size=5)
+        git(self.room, "init", "--quiet", "empty")
+        self.assertEqual((list(Store(self.room / "empty")), Store(self.room / "empty").find("4b")), ([], []))
+
+    def test_packed_meanwhile(self):
+        live, _ = self.blobs("sha1", packed=600, loose=50)
+        ids = [Id(id) for id in OF_GIT["keep"](live)]
+        names = [(name, Id(id)) for name, id in (line.split() for line in shortest([str(id) for id in ids]).splitlines())]
+        store, asked = self.opened(live), 0
+        with ThreadPoolExecutor(1) as pool:
+            moved = pool.submit(OF_GIT["move"], live, lambda: OF_GIT["unpack"](live, self.room))
+            while not moved.done() or asked < 50:
+                id = ids[asked * 7919 % len(ids)]
+                self.assertEqual((store.find(str(id)[:12]), store.resolve(id), id in store), ([id], id, True))
+                self.assertEqual([it.id for it in store.locate(id)][:1], [id])
+                self.assertEqual([(store.abbreviate(id), id)], [pair for pair in names if pair[1] == id])
+                asked += 1
+                if asked % 10 == 0:
+                    self.assertEqual(list(store.find_many(ids)), [(id, [id]) for id in ids])
+                    self.assertEqual(list(store.names()), names)
+            moved.result()
+
+    def test_new_objects(self):
+        bare, _ = self.blobs(packed=20, loose=5)
+        store = self.opened(bare)
+        for at in range(20):
+            (id,) = add_loose(bare, f"new {at}", 1)
+            self.assertEqual((store.find(id[:9]), store.locate(id)[0].offset), ([Id(id)], None))
+            self.assertEqual(os.stat(store.locate(Prefix(id))[0].path).st_nlink, 1)
+
+    def test_threads(self):
+        bare, ids = self.blobs(packed=500, loose=50)
+        store, wrong = self.opened(bare), []
+
+        def ask(seed):
+            rng = random.Random(seed)
+            try:
+                for at in range(QUESTIONS):
+                    id = rng.choice(ids)
+                    found = [store.find, store.locate][at % 10 == 3](id[:20])
+                    if [str(getattr(it, "id", it)) for it in found[:1]] != [id] or at % 10 == 7 and not id.startswith(store.abbreviate(Id(id))):
+                        wrong.append((id, found))
+            except BaseException as error:
+                wrong.append(error)
+
+        for thread in [begun(lambda seed=seed: ask(seed)) for seed in range(8)]:
+            thread.join()
+        self.assertEqual((wrong, len(children())), ([], 3))
+
+    def test_calls_within_iterators(self):
+        bare, ids = self.blobs(packed=300, loose=30)
+        store = self.opened(bare)
+
+        def prefixes():
+            for id in ids:
+                self.assertEqual(threading.current_thread(), threading.main_thread())
+                yield store.abbreviate(Id(id))
+
+        for (prefix, found), (name, id) in zip(store.find_many(prefixes()), store.names()):
+            self.assertEqual((found, prefix), ([id], name))
+            self.assertEqual([it.id for it in store.locate(prefix)], found)
+            self.assertEqual(next(store.find_many([prefix])), (prefix, found))
+        self.assertEqual(len(children()), 3)
+        many, other, names = store.find_many(ids * 100), store.find_many(ids * 100), store.names()
+        next(many), next(other), next(names)
+        self.assertGreaterEqual(len(children()), 5)
+        many.close()
+        del other, names
+        gc.collect()
+        self.assertEqual(len(children()), 3)
+        with self.assertRaises(ZeroDivisionError):
+            list(store.find_many(str(1 // (5 - at)) * 4 for at in range(9)))
+
+    def test_chunks(self):
+        bare, ids = self.blobs(packed=2000, loose=100)
+        store, rng = self.opened(bare), random.Random(3)
+        short = [ids[rng.randrange(len(ids))][: rng.choice((2, 2, 2, 3, 4, 12))] for _ in range(3000)]
+        for given in (short, ["00"] * 30000, [ids[0]] * 20000, short[:1], [], [id[:9] for id in ids] * 12):
+            wanted = {prefix: OF_GIT["beginning_with"](ids, prefix) for prefix in set(given)}
+            left = iter(given)
+            for (prefix, found), asked in zip(store.find_many(left), given):
+                self.assertEqual((prefix, list(map(str, found))), (asked, wanted[asked]))
+            self.assertEqual(list(left), [])
+        first, second = store.find_many([ids[0]] * 2)
+        first[1].clear()
+        self.assertEqual(second[1], [Id(ids[0])])
+
+    def test_killed(self):
+        bare, ids = self.blobs(packed=50, loose=5)
+        store = self.opened(bare)
+        for call, command in ((store.find, "find"), (store.locate, "where"), (lambda id: store.abbreviate(Id(id)), "names")):
+            for _ in range(5):
+                self.assertTrue(call(ids[7]))
+                for pid in children():
+                    os.kill(pid, signal.SIGKILL)
+                with self.assertRaisesRegex(StoreError, "^packtool was ended by the signal 9$"):
+                    call(ids[7])
+                self.assertTrue(call(ids[7]), command)
+        many = store.find_many(ids * 500)
+        next(many)
+        for pid in children():
+            os.kill(pid, signal.SIGTERM)
+        with self.assertRaisesRegex(StoreError, "signal 15$"):
+            list(many)
+        # (of ids that end within a line, none is made up)
+        self.blobs("many", packed=30000)
+        names = self.opened(self.room / "many").names()
+        first, running = next(names), children()
+        for pid in running:
+            os.kill(pid, signal.SIGKILL)
+        with self.assertRaisesRegex(StoreError, "signal 9$"):
+            for pair in names:
+                self.assertTrue(first < pair and str(pair[1]).startswith(pair[0]))
+                first = pair
+
+    def test_alarms(self):
+        bare, ids = self.blobs(packed=500, loose=50)
+        store, rng, rung = self.opened(bare), random.Random(5), 0
+        within = []
+        warnings.simplefilter("ignore", ResourceWarning)  # (of a process that was not begun wholly; its input is closed)
+
+        def ring(*_):
+            if len(within) % 2:
+                within.append(store.find(ids[3]) == [Id(ids[3])])
+            else:
+                within.append(True)
+                raise Alarm
+
+        self.addCleanup(signal.signal, signal.SIGALRM, signal.signal(signal.SIGALRM, ring))
+        for at in range(600):
+            id = rng.choice(ids)
+            try:
+                signal.setitimer(signal.ITIMER_REAL, rng.uniform(0.00002, 0.0008))
+                found = [store.find, store.locate][at % 3 == 0](id)
+                if at % 20 == 0:
+                    found = [found for _, [found] in store.find_many([id] * 9)]
+                signal.setitimer(signal.ITIMER_REAL, 0)
+                self.assertEqual({str(getattr(it, "id", it)) for it in found}, {id})
+            except Alarm:
+                rung += 1
+        self.assertTrue(rung > 20 and all(within), (rung, within))
+
+    def test_close(self):
+        bare, ids = self.blobs(packed=500, loose=50)
+        for _ in range(5):
+            store, ended = Store(bare), []
+
+            def ask(call, store=store, ended=ended):
+                with self.assertRaisesRegex(ValueError, "^the store is closed$"):
+                    while True:
+                        call()
+                ended.append(call)
+
+            calls = [lambda: store.find("00"), lambda: store.locate(ids[3]), lambda: store.abbreviate(Id(ids[3]))] * 2
+            calls += [lambda: list(store.find_many(ids)), lambda: list(store.names())]
+            threads = [begun(lambda call=call: ask(call)) for call in calls]
+            many = store.find_many(ids * 100)
+            next(many)
+            time.sleep(0.1)
+            store.close()
+            for thread in threads:
+                thread.join(LIMIT)
+            self.assertEqual(len(ended), len(calls))
+            self.assertRaises(ValueError, list, many)
+            self.assertEqual(left(0), [])
+        files = len(os.listdir("/proc/self/fd"))
+        for how in ("closed", "left", "with"):
+            store = Store(bare)
+            store.locate(ids[3]), store.close() if how == "closed" else None
+            with store if how == "with" else contextlib.nullcontext():
+                pass
+            del store
+            gc.collect()
+            self.assertEqual((children(), len(os.listdir("/proc/self/fd"))), ([], files), how)
+        with Store(bare) as store:
+            self.assertEqual(store.find(ids[0]), [Id(ids[0])])
+        store.close()
+        for call in (store.find, store.resolve, store.locate, lambda it: store.abbreviate(Id(it)), lambda it: Id(it) in store):
+            self.assertRaisesRegex(ValueError, "^the store is closed$", call, ids[0])
+        for iterator in (store.names(), store.find_many(ids), iter(store)):
+            self.assertRaisesRegex(ValueError, "^the store is closed$", next, iterator)
+        self.assertEqual((store.kind, store.skipped), (Kind.SHA1, []))
+
+    def test_forks(self):
+        bare, ids = self.blobs(packed=500, loose=50)
+        store, id = self.opened(bare), Id(ids[3])
+        many = store.find_many(ids * 100)
+        next(many)
+
+        def use():
+            for _ in range(9):
+                if store.find(id) != [id] or store.abbreviate(id) not in ids[3] or list(store.find_many([id])) != [(id, [id])]:
+                    return False
+            try:
+                return len(list(many)) < 0
+            except StoreError as error:
+                return "fork" in str(error)
+            finally:
+                store.close()
+
+        self.assertEqual([forked(use), forked(lambda: store.close() is None)], [0, 0])
+        self.assertEqual((store.find(id), len(list(many))), ([id], 100 * len(ids) - 1))
+        is_over, wrong = threading.Event(), []
+
+        def ask():
+            while not is_over.is_set():
+                if store.find(id) != [id] or store.locate(id)[0].id != id:
+                    wrong.append(id)
+
+        threads = [begun(ask) for _ in range(3)]
+        many = store.find_many(ids * 100)
+        next(many)
+        statuses = [forked(use if at % 2 else lambda: store.close() is None) for at in range(20)]
+        is_over.set()
+        for thread in threads:
+            thread.join()
+        self.assertEqual((statuses, wrong), ([0] * 20, []))
+
+    def test_paths(self):
+        names = [b"\xff", b"a\\b", b"a\nb", b"a\rb", b"\\n\n\\", b"a 12", b" bad", b"'\"\t;", "\u00fc".encode()]
+        for name in names:
+            path = os.path.join(os.fsencode(self.room), name)
+            git(self.room, "init", "--quiet", "--bare", path)
+            folder = pathlib.Path(os.fsdecode(path))
+            make_blobs(folder, "sha1", packs=1, packed=30, loose=5)
+            ids = listed(folder)
+            for given in path, os.fsdecode(path), folder:
+                store = self.opened(given)
+                places = [place for id in ids for place in store.locate(id)]
+                self.assertEqual([str(place.id) for place in places], ids)
+                packs = {place.path for place in places if place.offset is not None}
+                self.assertEqual(packs, {str(pack) for pack in folder.glob("objects/pack/*.pack")}, name)
+                loose = {place.path for place in places if place.offset is None}
+                self.assertEqual(loose, {str(file) for file in folder.glob("objects/??/*")}, name)
+                self.assertEqual([os.fsencode(place.path) for place in places if not os.path.isabs(place.path)], [])
+                self.assertEqual((len(packs), len(loose), places[0]), (1, 5, Location(*places[0])))
+                store.close()
+
+    def test_damaged_offset(self):
+        folder, index, ids = self.room / "damaged.git", None, []
+        git(self.room, "init", "--quiet", "--bare", str(folder))
+        blobs = "".join(f"blob\ndata 3\n{n}\n" for n in range(100, 400))
+        git(folder, "-c", "fastimport.unpackLimit=0", "fast-import", "--quiet", given=blobs.encode())
+        (pack,) = folder.glob("objects/pack/*.pack")
+        index = pack.with_suffix(".idx")
+        index.unlink()
+        git(folder, "index-pack", "--index-version=2,2000", "-o", str(index), str(pack))
+        ids, data = listed(folder), bytearray(index.read_bytes())
+        at = 1032 + 300 * (20 + 4)
+        (damaged,) = [position for position in range(300) if data[at + 4 * position] & 0x80][:1]
+        data[at + 4 * damaged + 1] = 0x7F  # a long offset that is not there
+        index.chmod(0o644)
+        index.write_bytes(data)
+        store = self.opened(folder)
+        for _ in range(3):
+            with self.assertRaisesRegex(StoreError, f"{index.name}: .*offset"):
+                store.locate(ids[damaged])
+            self.assertEqual(store.find(ids[damaged]), [Id(ids[damaged])])
+            self.assertEqual([it.id for it in store.locate(ids[damaged - 1])], [Id(ids[damaged - 1])])
+
+    def test_skipped(self):
+        bare, ids = self.blobs(packed=50, loose=5)
+        gone = [f"/nowhere/{'long' * 20}/{number}" for number in range(2000)]
+        (bare / "objects" / "info" / "alternates").write_text("".join(f"{path}\n" for path in gone))
+        with warnings.catch_warnings(record=True) as caught:
+            warnings.simplefilter("always")
+            store = self.opened(bare)
+            self.assertEqual((store.find(ids[3]), len(store.locate(ids[3])), len([*store.names()])), ([Id(ids[3])], 1, len(ids)))
+            self.assertEqual([found for _, [found] in store.find_many(ids)], [Id(id) for id in ids])
+        self.assertEqual([str(it.message) for it in caught], store.skipped)
+        self.assertEqual({(it.category, it.filename) for it in caught}, {(SkippedWarning, __file__)})
+        self.assertEqual(len(store.skipped), len(gone))
+        self.assertTrue(all(path in text and text.endswith(", skipped") for path, text in zip(gone, store.skipped)))
+        (bare / "objects" / "info" / "alternates").write_text("/nowhere\n")
+        with self.assertRaisesRegex(SkippedWarning, "^/nowhere: .*, skipped$"):
+            store.find(ids[3])
+        for call in (store.find, store.locate):
+            self.assertEqual(len(call(ids[3])), 1)
+        self.assertEqual(list(store.find_many(ids[3:4])), [(ids[3], [Id(ids[3])])])
+        self.assertRaises(SkippedWarning, Store, bare)
+
+    def test_surroundings(self):
+        one, ids = self.blobs("one", packed=50, loose=5)
+        other, others = self.blobs("other", packed=50, loose=5, seed=1)
+        before, program = dict(os.environ), os.environ["PACKTOOL"]
+        self.addCleanup(os.chdir, os.getcwd())
+        self.addCleanup(os.environ.update, before)
+        for name in ("GIT_DIR", "GIT_OBJECT_DIRECTORY", "GIT_ALTERNATE_OBJECT_DIRECTORIES", "GIT_COMMON_DIR"):
+            self.addCleanup(os.environ.pop, name, None)
+        # (as in a hook)
+        os.environ.update(GIT_DIR=str(other), GIT_OBJECT_DIRECTORY=str(other / "objects"))
+        os.chdir(one)
+        given, ambient = self.opened("."), self.opened()
+        os.chdir("/")
+        os.environ.update(GIT_DIR="/nowhere", GIT_OBJECT_DIRECTORY="", PACKTOOL="/bin/cat")
+        for store, wanted in (given, ids), (ambient, others):
+            self.assertEqual([str(id) for id in store], wanted)
+            (place,) = store.locate(wanted[3])
+            self.assertTrue(os.path.isabs(place.path) and os.path.exists(place.path))
+        os.environ.update(before, PACKTOOL=program)
+        os.environ.pop("GIT_OBJECT_DIRECTORY")
+        os.environ["GIT_DIR"] = str(one)
+        os.environ["GIT_ALTERNATE_OBJECT_DIRECTORIES"] = str(other / "objects")
+        self.assertEqual([str(id) for id in self.opened()], sorted({*ids, *others}))
+        self.assertEqual([str(id) for id in self.opened(one)], ids)
+
+    def test_programs(self):
+        bare, ids = self.blobs(packed=50, loose=5)
+        program, path = os.environ["PACKTOOL"], os.environ["PATH"]
+        self.addCleanup(os.environ.update, PACKTOOL=program, PATH=path)
+        (self.room / "old").write_text("#!/bin/sh\necho packtool 0.4.9 of Nunbirdstand\n")
+        (self.room / "old").chmod(0o755)
+        for given in ("/bin/cat", "/nowhere", "/", "false", str(self.room / "old"), str(bare / "HEAD"), "nowhere", ""):
+            os.environ.update(PACKTOOL=given, PATH=path if given else "")
+            with self.assertRaisesRegex(StoreError, r"is not packtool \d+\.\d+: set PACKTOOL to its path$"):
+                Store(bare)
+        folder = self.room / "bin"
+        folder.mkdir()
+        (folder / "packtool").symlink_to(os.path.abspath(program))
+        os.environ.update(PACKTOOL="", PATH=str(folder))
+        self.assertEqual(self.opened(bare).find(ids[0]), [Id(ids[0])])
+        os.environ.update(PACKTOOL=os.path.relpath(program), PATH="")
+        self.assertEqual(self.opened(bare).find(ids[0]), [Id(ids[0])])
+        self.assertEqual(len(children()), 2)
+
+    def test_no_store(self):
+        bare, ids = self.blobs("bare", "sha256", packed=50, loose=5)
+        (self.room / "none").mkdir()
+        for path, error, text in [
+            (self.room / "none", StoreError, "repository"), (self.room / "nowhere", FileNotFoundError, "nowhere"),
+            (bare / "HEAD", NotADirectoryError, "HEAD"), (b"/nowhere", FileNotFoundError, "nowhere"), ("a\0b", ValueError, "null"),
+            (3, TypeError, "int"), (["a"], TypeError, "list"),
+        ]:  # fmt: skip
+            with self.assertRaisesRegex(error, text):
+                Store(path)
+        for kind, error in (True, TypeError), ("sha1", TypeError), (3, ValueError), (0, ValueError):
+            self.assertRaises(error, Store, bare, kind)
+        self.assertEqual(children(), [])
+        self.assertEqual((self.opened(bare, Kind.SHA256).find(ids[0]), self.opened(bare, Kind.SHA256).kind), ([Id(ids[0])], Kind.SHA256))
+        (bare / "config").write_text("[core]\n\trepositoryformatversion = 9\n")
+        with self.assertRaisesRegex(StoreError, "config: "):
+            Store(bare)
+        self.assertEqual([str(id) for id in self.opened(self.blobs("own", "sha1", packed=9, loose=1)[0], 1)], listed(self.room / "own"))
+
+    def test_hostile_calls(self):
+        bare, ids = self.blobs(packed=50, loose=5)
+        store = self.opened(bare)
+        texts = ["", "a", "g0", "ab\n", "ab\ncd", "\nab", " ab", "ab ", "ab\r", "ab\0", "\uff41b", "\u0661\u0661", "0" * 65, "ab\x85cd", "zz"]
+        for call in (store.find, store.resolve, store.locate, lambda it: list(store.find_many([ids[0], it, ids[1]]))):
+            for text in texts:
+                self.assertRaises(Error, call, text)
+            for wrong in (None, 12, b"ab", 1.5, ["ab"]):
+                self.assertRaises(TypeError, call, wrong)
+            for long in (ids[0] + "0", "0" * 64, Prefix("1" * 41), Id("1" * 64)):
+                with self.assertRaises(Error) as raised:
+                    call(long)
+                self.assertEqual(raised.exception.code, Code.PREFIX_TOO_LONG)
+            self.assertTrue(call(ids[0]))
+        for wrong in (None, ids[0], Prefix(ids[0])):
+            self.assertRaises(TypeError, store.abbreviate, wrong)
+        for id in Id("1" * 40), Id("1" * 64):
+            self.assertRaises(Missing, store.abbreviate, id)
+        for call in (store.names, lambda least: store.abbreviate(Id(ids[0]), least)):
+            for least in ("4", 4.5, None):
+                self.assertRaises(TypeError, lambda call=call, least=least: list(call(least)))
+            for least, same in (-9, 4), (3, 4), (41, 40), (10**9, 40):
+                self.assertEqual([*call(least)], [*call(same)])
+        self.assertEqual((store.abbreviate(Id(ids[0]), 40), store.find(ids[0].upper())), (ids[0], [Id(ids[0])]))
+        self.assertRaises(TypeError, store.find_many(3).__next__)
+        self.assertRaises(TypeError, pickle.dumps, store)
+        self.assertRaises(AttributeError, setattr, store, "kind", Kind.SHA256)
+        for error in (Ambiguous("2 ids", [Id(ids[0]), Id(ids[1])]), Missing("no id"), StoreError("gone")):
+            same = pickle.loads(pickle.dumps(error))
+            self.assertEqual((type(same), str(same), vars(same)), (type(error), str(error), vars(error)))
+        self.assertEqual(str(Missing("no id")), "no id")
+
+    def test_imports(self):
+        words = "import gix_hash, sys; assert not {'subprocess', 'gix_hash._store'} & {*sys.modules}; gix_hash.Store; assert 'subprocess' in sys.modules"
+        subprocess.run([sys.executable, "-c", words], env={**os.environ, "PYTHONPATH": os.pathsep.join(sys.path)}, check=True)
+
+    def test_end(self):
+        """What runs for a store ends with the process that opened it, also if that is killed."""
+        bare, ids = self.blobs(packed=50, loose=5)
+        for end, status in ("", 0), ("os.kill(os.getpid(), 9)", -9), ("os._exit(3)", 3), ("1 // 0", 1):
+            words = f"import os, gix_hash; s = gix_hash.Store({str(bare)!r}); m = s.find_many([{ids[0]!r}] * 99999); next(m)\nprint('ready'); {end}"
+            how = {"env": {**os.environ, "PYTHONPATH": os.pathsep.join(sys.path)}, "capture_output": True}
+            # (its output ends when nothing that it began has it, or runs)
+            self.assertEqual(subprocess.run([sys.executable, "-c", words], timeout=LIMIT, **how).returncode, status)
+        for _ in range(100):
+            running = []
+            for path in pathlib.Path("/proc").glob("[0-9]*/cwd"):
+                with contextlib.suppress(OSError):
+                    running += [path] if os.readlink(path) == str(bare) else []
+            if not running:
+                break
+            time.sleep(0.05)
+        self.assertEqual(running, [])
+
+
+if __name__ == "__main__":
+    unittest.main()

@@ -1,0 +1,20 @@
+use nunbirdstand::{Prefix, Store};
+
+fn main() -> Result<(), Box<dyn std::error::Error>> {
+    let mut words = std::env::args().skip(1);
+    let store = Store::open(words.next().ok_or("no path")?, None)?;
+    let prefixes = words.map(|word| word.parse()).collect::<Result<Vec<Prefix>, _>>()?;
+    for found in store.find_many(prefixes)? {
+        let (prefix, ids) = found?;
+        for id in ids {
+            let location = &store.locate(&id.into())?[0];
+            println!(
+                "{prefix} {} {} {:?}",
+                store.abbreviate(&id, 7)?,
+                location.path.display(),
+                location.offset
+            );
+        }
+    }
+    Ok(())
+}

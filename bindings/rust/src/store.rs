@@ -1,0 +1,536 @@
+//! Object stores, over `packtool`, which runs beside this process and is asked through pipes.
+
+use crate::{Code, Error, Id, Kind, Prefix};
+use std::collections::{HashMap, VecDeque};
+use std::ffi::OsString;
+use std::fs::{self, File, OpenOptions};
+use std::io::{self, BufRead, BufReader, Write};
+use std::os::unix::ffi::OsStringExt;
+use std::os::unix::fs::{FileExt, OpenOptionsExt};
+use std::os::unix::process::{CommandExt, ExitStatusExt};
+use std::path::{Path, PathBuf};
+use std::process::{Child, ChildStdin, ChildStdout, Command, Stdio};
+use std::sync::atomic::{AtomicU64, Ordering};
+use std::sync::mpsc::{sync_channel, SyncSender};
+use std::sync::{Mutex, MutexGuard, PoisonError};
+use std::{env, fmt, thread};
+
+/// Why a look-up failed.
+#[derive(Debug)]
+#[non_exhaustive]
+pub enum StoreError {
+    /// No id of the store begins with the prefix.
+    Missing,
+    /// Several ids of the store begin with the prefix: these, in order.
+    Ambiguous(Vec<Id>),
+    /// The prefix has one digit (`BadLength`), or more than ids of the store (`PrefixTooLong`).
+    Prefix(Error),
+    /// The store cannot be read: the last line that `packtool` said.
+    Failed(String),
+    /// `packtool` cannot be run in the directory.
+    Program(io::Error),
+}
+
+impl fmt::Display for StoreError {
+    fn fmt(&self, f: &mut fmt::Formatter<'_>) -> fmt::Result {
+        match self {
+            StoreError::Missing => f.write_str("no id begins with the prefix"),
+            StoreError::Ambiguous(ids) => write!(f, "{} ids begin with the prefix", ids.len()),
+            StoreError::Prefix(error) => error.fmt(f),
+            StoreError::Failed(why) => f.write_str(why),
+            StoreError::Program(error) => error.fmt(f),
+        }
+    }
+}
+
+impl std::error::Error for StoreError {}
+
+impl From<io::Error> for StoreError {
+    fn from(error: io::Error) -> StoreError {
+        StoreError::Program(error)
+    }
+}
+
+type Result<T> = std::result::Result<T, StoreError>;
+
+/// Where an object is.
+#[derive(Debug, Clone, PartialEq, Eq)]
+pub struct Location {
+    /// The id of the object.
+    pub id: Id,
+    /// The path of its pack, or of its own file.
+    pub path: PathBuf,
+    /// Where it begins in the pack, or `None` if it has its own file.
+    pub offset: Option<u64>,
+}
+
+/// The object store of a repository: which ids begin with a prefix, where their objects are, and how far ids are
+/// abbreviated.
+///
+/// It asks the program `packtool`, of the same first two numbers of the version: the one that the variable `PACKTOOL`
+/// names, or else that in the directory of the running program, or else on the `PATH`. Threads may share a store: of one
+/// kind of look-up one is done at a time. Objects that come after it was opened are found. A prefix has 2 digits or more.
+///
+/// ```no_run
+/// # use nunbirdstand::Store;
+/// let store = Store::open(".", None)?;
+/// let id = store.resolve(&"4b825d".parse().unwrap())?;
+/// println!("{} {:?}", store.abbreviate(&id, 7)?, store.locate(&id.into())?);
+/// # Ok::<(), nunbirdstand::StoreError>(())
+/// ```
+pub struct Store {
+    program: OsString,
+    options: Vec<String>,
+    directory: PathBuf,
+    // Git's variables, as they were when the store was opened, and are for its processes.
+    variables: [Option<OsString>; 4],
+    kind: Kind,
+    skipped: Mutex<Vec<String>>,
+    // The processes that are asked in turn, by the place of their command in COMMANDS.
+    asked: [Mutex<Option<Process>>; 3],
+}
+
+const COMMANDS: [&str; 3] = ["find", "where", "names"];
+const FIND: usize = 0;
+const WHERE: usize = 1;
+const NAMES: usize = 2;
+// An empty line is no prefix, and only its answer begins with a space. So it ends the answer to the lines before it.
+const MARK: &[u8] = b" bad";
+// How many lines are looked up at once beside an empty one, and as how many one counts by its number of digits.
+const AT_ONCE: usize = 8191;
+const COSTS: [usize; 5] = [1024, 1024, 1024, 64, 4];
+const VARIABLES: [&str; 4] =
+    ["GIT_DIR", "GIT_COMMON_DIR", "GIT_OBJECT_DIRECTORY", "GIT_ALTERNATE_OBJECT_DIRECTORIES"];
+
+impl Store {
+    /// The store of the repository at a path, or in the first directory above it that has one, of its kind by default. Git's
+    /// variables are not read.
+    pub fn open(path: impl AsRef<Path>, kind: Option<Kind>) -> Result<Store> {
+        Store::new(path.as_ref(), kind, Default::default())
+    }
+
+    /// The store that Git would use in this directory, also by its variables.
+    pub fn from_env(kind: Option<Kind>) -> Result<Store> {
+        Store::new(Path::new("."), kind, VARIABLES.map(env::var_os))
+    }
+
+    fn new(path: &Path, kind: Option<Kind>, variables: [Option<OsString>; 4]) -> Result<Store> {
+        let options = kind.map_or(Vec::new(), |kind| vec!["--kind".to_owned(), kind.to_string()]);
+        let directory = fs::canonicalize(path).map_err(|error| named(path, &error))?;
+        let (program, skipped, asked) = (program()?, Mutex::default(), Default::default());
+        let mut store = Store { program, options, directory, variables, kind: Kind::Sha256, skipped, asked };
+        // (so many digits are a prefix in a store of SHA-256 alone)
+        match store.ask(FIND, &"0".repeat(64)) {
+            Err(StoreError::Prefix(_)) => store.kind = Kind::Sha1,
+            asked => drop(asked?),
+        }
+        Ok(store)
+    }
+
+    /// The kind of the ids.
+    #[must_use]
+    pub fn kind(&self) -> Kind {
+        self.kind
+    }
+
+    /// The parts that were left out of the store until now, each after its path, and why.
+    #[must_use]
+    pub fn skipped(&self) -> Vec<String> {
+        locked(&self.skipped).clone()
+    }
+
+    /// The ids that begin with a prefix, in order.
+    pub fn find(&self, prefix: &Prefix) -> Result<Vec<Id>> {
+        self.found(FIND, prefix)?.iter().map(|found| id_of(found)).collect()
+    }
+
+    /// The one id that begins with a prefix. The error is `Missing` or `Ambiguous`.
+    pub fn resolve(&self, prefix: &Prefix) -> Result<Id> {
+        match self.find(prefix)? {
+            ids if ids.len() > 1 => Err(StoreError::Ambiguous(ids)),
+            ids => ids.first().copied().ok_or(StoreError::Missing),
+        }
+    }
+
+    /// Whether the store has an id.
+    pub fn contains(&self, id: &Id) -> Result<bool> {
+        Ok(id.kind() == self.kind && !self.find(&Prefix::from(*id))?.is_empty())
+    }
+
+    /// Where the objects are whose ids begin with a prefix, in the order of the ids: an object may be in several places.
+    pub fn locate(&self, prefix: &Prefix) -> Result<Vec<Location>> {
+        self.found(WHERE, prefix)?.iter().map(|found| self.location(found)).collect()
+    }
+
+    fn location(&self, found: &[u8]) -> Result<Location> {
+        let (id, place) = split(found);
+        let space = place.iter().rposition(|&byte| byte == b' ').unwrap_or(0);
+        // (after the last space of a loose object's path there is a slash)
+        let offset =
+            std::str::from_utf8(&place[space..]).ok().and_then(|text| text.trim_start().parse().ok());
+        let path = if offset.is_some() { &place[..space] } else { place };
+        // (it is relative if that of the directory is not UTF-8)
+        let path = path.strip_prefix(b"./").unwrap_or(path);
+        let path = self.directory.join(OsString::from_vec(path.to_vec()));
+        Ok(Location { id: id_of(id)?, path, offset })
+    }
+
+    /// The shortest prefix of an id of the store, of `least` digits or more, with which no other id begins. Below 4 `least`
+    /// is 4, and above all digits these. The error is `Missing` if the store does not have the id.
+    pub fn abbreviate(&self, id: &Id, least: usize) -> Result<String> {
+        if id.kind() != self.kind {
+            return Err(StoreError::Missing);
+        }
+        let mut digits = id.to_string();
+        let name = self.ask(NAMES, &digits)?.pop().ok_or(StoreError::Missing)?;
+        digits.truncate(name.len().max(least));
+        Ok(digits)
+    }
+
+    /// Each id of the store after its abbreviation, of `least` digits or more as that of `abbreviate`, in order. After an
+    /// error there are no more.
+    pub fn names(&self, least: usize) -> Result<Names<'_>> {
+        let least = least.clamp(4, 2 * self.kind.len_in_bytes()).to_string();
+        let process = Some(Process::new(self, &["names", "--least", &least])?);
+        Ok(Names { store: self, process })
+    }
+
+    /// Each of many prefixes with the ids that begin with it, in the order of the prefixes, of which some 16,000 are taken
+    /// before their turn, in the thread that asks for the pairs. After an error there are no more.
+    pub fn find_many<I>(&self, prefixes: I) -> Result<FindMany<'_, I::IntoIter>>
+    where
+        I: IntoIterator<Item = Prefix>,
+    {
+        let mut process = Process::new(self, &["find", "--stdin"])?;
+        // (it writes, while this thread reads, and ends when nothing can be written or the sender is gone)
+        let (sender, chunks) = sync_channel::<String>(2);
+        let mut input = process.input.take();
+        thread::Builder::new().name("packtool".to_owned()).spawn(move || {
+            let write = |chunk: String| input.as_mut()?.write_all(chunk.as_bytes()).ok();
+            chunks.into_iter().map_while(write).for_each(drop);
+        })?;
+        let prefixes = prefixes.into_iter();
+        let (asked, ready) = (VecDeque::new(), VecDeque::new().into_iter());
+        Ok(FindMany { store: self, process: Some(process), sender, prefixes, asked, ready })
+    }
+
+    // Keeps what a process has skipped. What else it has said is an error.
+    fn heed(&self, process: &mut Process) -> Result<()> {
+        let mut wrong = None;
+        for text in process.messages()? {
+            if text.ends_with(", skipped") {
+                let mut skipped = locked(&self.skipped);
+                if !skipped.contains(&text) {
+                    skipped.push(text);
+                }
+            } else {
+                wrong = Some(text);
+            }
+        }
+        wrong.map_or(Ok(()), |text| Err(StoreError::Failed(text)))
+    }
+
+    // Why a process has ended that should not have: an error.
+    fn ended<T>(&self, process: &mut Process) -> Result<T> {
+        let signal = process.child.wait()?.signal();
+        self.heed(process)?;
+        let by_signal = |number| format!("packtool was ended by the signal {number}");
+        Err(StoreError::Failed(signal.map_or("packtool ended".to_owned(), by_signal)))
+    }
+
+    // What is found for a prefix, without the prefix before it.
+    fn found(&self, command: usize, prefix: &Prefix) -> Result<Vec<Vec<u8>>> {
+        if prefix.hex_len() < 2 {
+            return Err(StoreError::Prefix(Error { code: Code::BadLength, detail: 0 }));
+        }
+        self.ask(command, &prefix.to_string())
+    }
+
+    // The same for the line of a prefix. A process in whose answer something fails is dropped, which ends it.
+    fn ask(&self, command: usize, asked: &str) -> Result<Vec<Vec<u8>>> {
+        let mut resting = locked(&self.asked[command]);
+        let mut process = match resting.take() {
+            Some(process) => process,
+            None => Process::new(self, &[COMMANDS[command], "--stdin"])?,
+        };
+        if let Some(input) = &mut process.input {
+            // (if this fails, the process has ended, and has said why)
+            let _ = input.write_all(format!("{asked}\n\n").as_bytes());
+        }
+        let (mut found, mut is_bad) = (Vec::new(), false);
+        while let Some(line) = process.line()? {
+            if line == MARK {
+                self.heed(&mut process)?;
+                *resting = Some(process);
+                let too_long = StoreError::Prefix(Error { code: Code::PrefixTooLong, detail: 0 });
+                return if is_bad { Err(too_long) } else { Ok(found) };
+            }
+            match line.strip_prefix(asked.as_bytes()).and_then(|rest| rest.strip_prefix(b" ")) {
+                Some(b"missing") => {}
+                Some(b"bad") => is_bad = true,
+                Some(rest) => found.push(rest.to_vec()),
+                None => found.push(line), // a name
+            }
+        }
+        self.ended(&mut process)
+    }
+}
+
+impl fmt::Debug for Store {
+    fn fmt(&self, f: &mut fmt::Formatter<'_>) -> fmt::Result {
+        f.debug_struct("Store")
+            .field("directory", &self.directory)
+            .field("kind", &self.kind)
+            .finish_non_exhaustive()
+    }
+}
+
+/// All ids of a store, each after its abbreviation.
+pub struct Names<'a> {
+    store: &'a Store,
+    process: Option<Process>,
+}
+
+impl Iterator for Names<'_> {
+    type Item = Result<(String, Id)>;
+
+    fn next(&mut self) -> Option<Self::Item> {
+        let line = self.process.as_mut()?.line();
+        if let Ok(Some(line)) = line {
+            let (name, id) = split(&line);
+            return Some(id_of(id).map(|id| (String::from_utf8_lossy(name).into_owned(), id)));
+        }
+        let mut process = self.process.take()?;
+        let ended = match line {
+            Err(error) => Err(error),
+            // (after all ids it ends with a status, and has said what it skipped)
+            Ok(_) => match process.child.wait().map(|status| status.signal()) {
+                Ok(None) => self.store.heed(&mut process),
+                Ok(_) => self.store.ended(&mut process),
+                Err(error) => Err(error.into()),
+            },
+        };
+        ended.err().map(Err)
+    }
+}
+
+/// What is found for many prefixes.
+pub struct FindMany<'a, I> {
+    store: &'a Store,
+    process: Option<Process>,
+    sender: SyncSender<String>,
+    prefixes: I,
+    asked: VecDeque<Chunk>,
+    ready: std::collections::vec_deque::IntoIter<(Prefix, Vec<Id>)>,
+}
+
+impl<I: Iterator<Item = Prefix>> FindMany<'_, I> {
+    // What is found for the next chunk, after the one after it is sent.
+    fn refill(&mut self) -> Result<bool> {
+        while self.asked.len() < 2 {
+            let (chunk, lines) = Chunk::next(&mut self.prefixes)?;
+            if chunk.prefixes.is_empty() {
+                break;
+            }
+            // (if this fails, the process has ended, and has said why)
+            let _ = self.sender.send(lines);
+            self.asked.push_back(chunk);
+        }
+        let (Some(chunk), Some(process)) = (self.asked.pop_front(), &mut self.process) else {
+            return Ok(false);
+        };
+        let mut found: Vec<Vec<Id>> = Vec::new();
+        let mut last = Vec::new();
+        while let Some(line) = process.line()? {
+            if line == MARK {
+                self.store.heed(process)?;
+                let pair = |(prefix, at): (Prefix, usize)| Some((prefix, found.get(at)?.clone()));
+                let pairs: Option<VecDeque<_>> = chunk.prefixes.into_iter().map(pair).collect();
+                let pairs = pairs.ok_or(StoreError::Failed("packtool printed too few lines".to_owned()))?;
+                self.ready = pairs.into_iter();
+                return Ok(true);
+            }
+            // The answers have the order of the lines, of which no two are equal.
+            let (asked, id) = split(&line);
+            if asked != last {
+                found.push(Vec::new());
+                last.clear();
+                last.extend_from_slice(asked);
+            }
+            match id {
+                b"missing" => {}
+                b"bad" => return Err(StoreError::Prefix(Error { code: Code::PrefixTooLong, detail: 0 })),
+                id => found.last_mut().expect("a line was begun").push(id_of(id)?),
+            }
+        }
+        self.store.ended(process)
+    }
+}
+
+impl<I: Iterator<Item = Prefix>> Iterator for FindMany<'_, I> {
+    type Item = Result<(Prefix, Vec<Id>)>;
+
+    fn next(&mut self) -> Option<Self::Item> {
+        loop {
+            if let Some(pair) = self.ready.next() {
+                return Some(Ok(pair));
+            }
+            self.process.as_ref()?;
+            match self.refill() {
+                Ok(true) => {}
+                Ok(false) => self.process = None,
+                Err(error) => {
+                    self.process = None;
+                    return Some(Err(error));
+                }
+            }
+        }
+    }
+}
+
+// Prefixes that are looked up at once, each with the position of its line.
+struct Chunk {
+    prefixes: Vec<(Prefix, usize)>,
+}
+
+impl Chunk {
+    // The next one, and its lines, of which no two are equal.
+    fn next(prefixes: &mut impl Iterator<Item = Prefix>) -> Result<(Chunk, String)> {
+        let (mut chunk, mut known, mut lines, mut cost) = (Vec::new(), HashMap::new(), String::new(), 0);
+        while let Some(prefix) = if cost < AT_ONCE { prefixes.next() } else { None } {
+            if prefix.hex_len() < 2 {
+                return Err(StoreError::Prefix(Error { code: Code::BadLength, detail: 0 }));
+            }
+            cost += COSTS.get(prefix.hex_len()).unwrap_or(&1);
+            let next = known.len();
+            let at = *known.entry(prefix).or_insert(next);
+            if at == next {
+                lines += &prefix.to_string();
+                lines.push('\n');
+            }
+            chunk.push((prefix, at));
+        }
+        lines.push('\n');
+        Ok((Chunk { prefixes: chunk }, lines))
+    }
+}
+
+// A `packtool` that runs, and ends with this. Its messages go to a file without a name, so it never waits for someone to
+// read them.
+struct Process {
+    child: Child,
+    input: Option<ChildStdin>,
+    output: BufReader<ChildStdout>,
+    notes: File,
+    seen: u64,
+}
+
+impl Process {
+    fn new(store: &Store, words: &[&str]) -> Result<Process> {
+        let notes = unnamed_file()?;
+        let mut command = Command::new(&store.program);
+        // (in a group of its own, since Ctrl-C is sent to all processes of a terminal's group)
+        command.args(words).args(&store.options).current_dir(&store.directory).process_group(0);
+        command.stdin(Stdio::piped()).stdout(Stdio::piped()).stderr(notes.try_clone()?);
+        for (name, value) in VARIABLES.iter().zip(&store.variables) {
+            match value {
+                Some(value) => command.env(name, value),
+                None => command.env_remove(name),
+            };
+        }
+        let mut child = command.spawn().map_err(|error| named(&store.directory, &error))?;
+        let (input, output) = (child.stdin.take(), child.stdout.take().expect("it is piped"));
+        Ok(Process { child, input, output: BufReader::with_capacity(1 << 16, output), notes, seen: 0 })
+    }
+
+    // The next line, without its escapes, or nothing if it has ended.
+    fn line(&mut self) -> Result<Option<Vec<u8>>> {
+        let mut line = Vec::new();
+        self.output.read_until(b'\n', &mut line)?;
+        Ok((line.pop() == Some(b'\n')).then(|| unescaped(line)))
+    }
+
+    // The lines that it has said since the last call, without its name.
+    fn messages(&mut self) -> Result<Vec<String>> {
+        let mut bytes = vec![0; (self.notes.metadata()?.len() - self.seen) as usize];
+        self.notes.read_exact_at(&mut bytes, self.seen)?;
+        bytes.truncate(bytes.iter().rposition(|&byte| byte == b'\n').map_or(0, |at| at + 1));
+        self.seen += bytes.len() as u64;
+        let lines = bytes
+            .split_inclusive(|&byte| byte == b'\n')
+            .map(|line| unescaped(line[..line.len() - 1].to_vec()));
+        let texts = lines.map(|line| String::from_utf8_lossy(&line).into_owned());
+        Ok(texts.map(|text| text.strip_prefix("packtool: ").unwrap_or(&text).to_owned()).collect())
+    }
+}
+
+impl Drop for Process {
+    fn drop(&mut self) {
+        let _ = self.child.kill();
+        let _ = self.child.wait();
+    }
+}
+
+// A file that nothing else can open.
+fn unnamed_file() -> Result<File> {
+    static COUNT: AtomicU64 = AtomicU64::new(0);
+    let name = format!(".packtool-{}-{}", std::process::id(), COUNT.fetch_add(1, Ordering::Relaxed));
+    let path = env::temp_dir().join(name);
+    let options = OpenOptions::new().read(true).append(true).create_new(true).mode(0o600).to_owned();
+    let file = options.open(&path).map_err(|error| named(&path, &error))?;
+    fs::remove_file(&path)?;
+    Ok(file)
+}
+
+// The path of `packtool`, of this crate's version.
+fn program() -> Result<OsString> {
+    let beside = env::current_exe().map(|path| path.with_file_name("packtool")).ok();
+    let other = || beside.filter(|path| path.exists()).map_or("packtool".into(), PathBuf::into_os_string);
+    let path = env::var_os("PACKTOOL").filter(|path| !path.is_empty()).unwrap_or_else(other);
+    let printed = Command::new(&path).arg("--version").stdin(Stdio::null()).stderr(Stdio::null()).output();
+    let version = concat!(env!("CARGO_PKG_VERSION_MAJOR"), ".", env!("CARGO_PKG_VERSION_MINOR"));
+    if printed.map_or(false, |it| it.stdout.starts_with(format!("packtool {version}.").as_bytes())) {
+        // (the processes begin in another directory)
+        let is_path = Path::new(&path).components().count() > 1;
+        return Ok(if is_path { fs::canonicalize(&path)?.into() } else { path });
+    }
+    let text = format!("{} is not packtool {version}: set PACKTOOL to its path", path.to_string_lossy());
+    Err(io::Error::new(io::ErrorKind::NotFound, text).into())
+}
+
+fn named(path: &Path, error: &io::Error) -> io::Error {
+    io::Error::new(error.kind(), format!("{}: {error}", path.display()))
+}
+
+fn locked<T>(mutex: &Mutex<T>) -> MutexGuard<'_, T> {
+    mutex.lock().unwrap_or_else(PoisonError::into_inner)
+}
+
+// What is before the first space of a line, and after it.
+fn split(line: &[u8]) -> (&[u8], &[u8]) {
+    let at = line.iter().position(|&byte| byte == b' ').unwrap_or(line.len());
+    (&line[..at], line.get(at + 1..).unwrap_or(b""))
+}
+
+fn id_of(digits: &[u8]) -> Result<Id> {
+    let text = String::from_utf8_lossy(digits);
+    text.parse().map_err(|_| StoreError::Failed(format!("packtool printed {text} for an id")))
+}
+
+// A line without its escapes, which it has if it begins with a backslash.
+fn unescaped(line: Vec<u8>) -> Vec<u8> {
+    let Some(escaped) = line.strip_prefix(b"\\") else { return line };
+    let mut bytes = escaped.iter().copied();
+    let mut plain = Vec::with_capacity(escaped.len());
+    while let Some(byte) = bytes.next() {
+        plain.push(match byte {
+            b'\\' => match bytes.next() {
+                Some(b'n') => b'\n',
+                Some(b'r') => b'\r',
+                other => other.unwrap_or(b'\\'),
+            },
+            byte => byte,
+        });
+    }
+    plain
+}

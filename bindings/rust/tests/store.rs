@@ -1,0 +1,242 @@
+//! Stores beside Git. They need `packtool`, of which `PACKTOOL` is the path: `cargo test --test store -- --include-ignored`.
+
+use nunbirdstand::{Code, Id, Kind, Location, Prefix, Store, StoreError};
+use std::collections::BTreeMap;
+use std::ffi::{OsStr, OsString};
+use std::fs;
+use std::io::Write;
+use std::os::unix::ffi::{OsStrExt, OsStringExt};
+use std::path::{Path, PathBuf};
+use std::process::{Command, Stdio};
+use std::sync::atomic::{AtomicBool, AtomicUsize, Ordering};
+use std::thread;
+
+/// What git prints in a directory for some input. The user's own variables and configuration do not reach it.
+fn git(directory: &Path, words: &[&OsStr], input: &str) -> String {
+    let mut git = Command::new("git");
+    git.env_clear().env("PATH", std::env::var_os("PATH").unwrap());
+    git.envs([("GIT_CONFIG_GLOBAL", "/dev/null"), ("GIT_CONFIG_NOSYSTEM", "1")]);
+    git.current_dir(directory).args(words).stdin(Stdio::piped()).stdout(Stdio::piped());
+    let mut child = git.spawn().unwrap();
+    child.stdin.take().unwrap().write_all(input.as_bytes()).unwrap();
+    let output = child.wait_with_output().unwrap();
+    assert!(output.status.success(), "git {words:?}: {}", output.status);
+    String::from_utf8(output.stdout).unwrap()
+}
+
+fn words(text: &str) -> Vec<&OsStr> {
+    text.split(' ').map(OsStr::new).collect()
+}
+
+/// A bare repository of packed and loose blobs, and their sorted ids.
+fn made(name: impl AsRef<OsStr>, kind: Kind, packs: usize) -> (PathBuf, Vec<Id>) {
+    let top = Path::new(env!("CARGO_TARGET_TMPDIR")).canonicalize().unwrap();
+    let path = top.join(Path::new(name.as_ref()));
+    let _ = fs::remove_dir_all(&path);
+    fs::create_dir_all(&path).unwrap();
+    git(&path, &words(&format!("init -q --bare --object-format={kind}")), "");
+    for pack in 0..packs {
+        let blobs: String = (1000..1300).map(|n| format!("blob\ndata 6\n{pack:02}{n}\n")).collect();
+        git(&path, &words("-c fastimport.unpackLimit=0 fast-import --quiet"), &blobs);
+    }
+    for n in 0..30 {
+        git(&path, &words("hash-object -w --stdin"), &format!("loose {n}"));
+    }
+    let listed = git(&path, &words("cat-file --batch-all-objects --batch-check=%(objectname)"), "");
+    let ids = listed.lines().map(|line| line.parse().unwrap()).collect();
+    (path, ids)
+}
+
+fn beginning_with(ids: &[Id], prefix: &Prefix) -> Vec<Id> {
+    ids.iter().filter(|id| prefix.cmp_id(id) == Some(std::cmp::Ordering::Equal)).copied().collect()
+}
+
+fn prefix(text: &str) -> Prefix {
+    text.parse().unwrap()
+}
+
+fn collected<T>(pairs: impl Iterator<Item = Result<T, StoreError>>) -> Vec<T> {
+    pairs.collect::<Result<_, _>>().unwrap()
+}
+
+#[test]
+#[ignore = "needs packtool"]
+fn stores() {
+    for kind in [Kind::Sha1, Kind::Sha256] {
+        let (path, ids) = made(format!("stores-{kind}"), kind, 3);
+        let store = Store::open(path.join("refs"), None).unwrap();
+        assert_eq!((store.kind(), store.skipped()), (kind, vec![]));
+        let names = collected(store.names(4).unwrap());
+        assert_eq!(names.iter().map(|it| it.1).collect::<Vec<_>>(), ids);
+        for (name, id) in &names {
+            assert_eq!(beginning_with(&ids, &prefix(name)), [*id]);
+            assert!(name.len() == 4 || beginning_with(&ids, &prefix(&name[..name.len() - 1])).len() > 1);
+        }
+        let longer = names.iter().map(|(name, id)| (id.to_string()[..name.len().max(9)].to_owned(), *id));
+        assert_eq!(collected(store.names(9).unwrap()), longer.collect::<Vec<_>>());
+        let texts =
+            (0..256).map(|n| format!("{n:02x}")).chain(ids.iter().map(|id| id.to_string()[..5].to_owned()));
+        let prefixes: Vec<Prefix> =
+            texts.map(|text| prefix(&text)).chain(ids.iter().map(|&id| id.into())).collect();
+        let wanted: Vec<_> = prefixes.iter().map(|it| (*it, beginning_with(&ids, it))).collect();
+        assert_eq!(collected(store.find_many(prefixes.clone()).unwrap()), wanted);
+        for (prefix, found) in wanted.iter().step_by(17) {
+            assert_eq!(&store.find(prefix).unwrap(), found);
+            match (store.resolve(prefix), &found[..]) {
+                (Ok(id), [one]) => assert_eq!((id, store.contains(one).unwrap()), (*one, true)),
+                (Err(StoreError::Missing), []) => {}
+                (Err(StoreError::Ambiguous(ids)), several) => assert_eq!(ids, several),
+                other => panic!("{prefix}: {other:?}"),
+            }
+        }
+        for (name, id) in names.iter().step_by(17) {
+            assert_eq!(&store.abbreviate(id, 0).unwrap(), name);
+            assert_eq!(store.abbreviate(id, 99).unwrap(), id.to_string());
+        }
+        wrong_questions(&store, kind);
+    }
+}
+
+/// Prefixes and ids that no store of the kind has.
+fn wrong_questions(store: &Store, kind: Kind) {
+    let (mut too_long, none) = ("0".repeat(2 * kind.len_in_bytes() + 1), Id::null(kind));
+    let other = Id::null(if kind == Kind::Sha1 { Kind::Sha256 } else { Kind::Sha1 });
+    for id in [none, other] {
+        assert!(
+            !store.contains(&id).unwrap() && matches!(store.abbreviate(&id, 4), Err(StoreError::Missing))
+        );
+    }
+    let mut rows = vec![("a".to_owned(), Code::BadLength)];
+    too_long.truncate(64);
+    if kind == Kind::Sha1 {
+        rows.push((too_long, Code::PrefixTooLong));
+    }
+    for (text, code) in rows {
+        let is = |error: Option<StoreError>| matches!(error, Some(StoreError::Prefix(error)) if error.code == code);
+        let asked = prefix(&text);
+        assert!(
+            is(store.find(&asked).err()) && is(store.resolve(&asked).err()) && is(store.locate(&asked).err())
+        );
+        let mut many = store.find_many([prefix("00"), asked]).unwrap();
+        assert!(is(many.find_map(Result::err)) && many.next().is_none());
+    }
+    assert!(store.find(&prefix("ffffffff")).unwrap().is_empty());
+}
+
+#[test]
+#[ignore = "needs packtool"]
+fn locations() {
+    for name in [&b"place"[..], b"\xff", b"a\\b", b"a\nb\rc", b"\\n\n\\", b"a 12", b" bad"] {
+        let (path, ids) = made(OsString::from_vec(name.to_vec()), Kind::Sha1, 1);
+        let store = Store::open(&path, Some(Kind::Sha1)).unwrap();
+        let mut packed = BTreeMap::new();
+        for entry in fs::read_dir(path.join("objects/pack")).unwrap().map(|it| it.unwrap().path()) {
+            if entry.extension() == Some(OsStr::new("idx")) {
+                let bytes = fs::read(&entry).unwrap();
+                let index = nunbirdstand::PackIndex::of_any_kind(&bytes).unwrap();
+                packed.extend(index.iter().map(|it| (it.id, (entry.with_extension("pack"), it.offset))));
+            }
+        }
+        for id in ids {
+            let digits = id.to_string();
+            let own = path.join("objects").join(&digits[..2]).join(&digits[2..]);
+            let wanted = match packed.get(&id) {
+                Some((path, offset)) => Location { id, path: path.clone(), offset: Some(*offset) },
+                None => Location { id, path: own, offset: None },
+            };
+            assert!(wanted.path.exists());
+            assert_eq!(store.locate(&id.into()).unwrap(), [wanted], "{:?}", OsStr::from_bytes(name));
+        }
+    }
+}
+
+#[test]
+#[ignore = "needs packtool"]
+fn threads_and_calls_within_iterators() {
+    let (path, ids) = made("threads", Kind::Sha1, 2);
+    let (store, asked) = (Store::open(&path, None).unwrap(), AtomicUsize::new(0));
+    thread::scope(|scope| {
+        for seed in 0..8 {
+            let (store, ids, asked) = (&store, &ids, &asked);
+            scope.spawn(move || {
+                for at in 0..1000 {
+                    let id = ids[(at * 7919 + seed * 31) % ids.len()];
+                    match at % 5 {
+                        0 => assert_eq!(store.locate(&id.into()).unwrap()[0].id, id),
+                        1 => assert!(id.to_string().starts_with(&store.abbreviate(&id, 4).unwrap())),
+                        _ => assert_eq!(store.find(&id.into()).unwrap(), [id]),
+                    }
+                    asked.fetch_add(1, Ordering::Relaxed);
+                }
+            });
+        }
+    });
+    assert_eq!(asked.into_inner(), 8000);
+    let given = ids.iter().map(|id| prefix(&store.abbreviate(id, 4).unwrap()));
+    for (found, name) in store.find_many(given).unwrap().zip(store.names(4).unwrap()) {
+        let ((prefix, found), (name, id)) = (found.unwrap(), name.unwrap());
+        assert_eq!((prefix.to_string(), &found[..]), (name, &[id][..]));
+        assert_eq!(store.locate(&prefix).unwrap()[0].id, id);
+    }
+    let mut many = store.find_many(ids.iter().cycle().take(100_000).map(|&id| id.into())).unwrap();
+    assert_eq!(many.next().unwrap().unwrap().1, ids[..1]);
+    drop(many);
+    let same = vec![prefix("00"); 30_000];
+    let wanted = beginning_with(&ids, &prefix("00"));
+    assert!(store.find_many(same).unwrap().all(|it| it.unwrap().1 == wanted));
+    assert_eq!(store.find_many([]).unwrap().count(), 0);
+}
+
+#[test]
+#[ignore = "needs packtool"]
+fn packed_meanwhile() {
+    let (path, ids) = made("meanwhile", Kind::Sha1, 2);
+    for id in &ids {
+        fs::write(path.join("refs/tags").join(id.to_string()), format!("{id}\n")).unwrap();
+    }
+    let (store, is_over) = (Store::open(&path, None).unwrap(), AtomicBool::new(false));
+    thread::scope(|scope| {
+        scope.spawn(|| {
+            for round in 0..6 {
+                git(&path, &words("repack -adq"), "");
+                let blob = format!("blob\ndata 7\nround {round}\n");
+                git(&path, &words("-c fastimport.unpackLimit=0 fast-import --quiet"), &blob);
+            }
+            is_over.store(true, Ordering::Relaxed);
+        });
+        while !is_over.load(Ordering::Relaxed) {
+            for &id in ids.iter().step_by(41) {
+                assert_eq!(
+                    (store.find(&id.into()).unwrap(), store.locate(&id.into()).unwrap()[0].id),
+                    (vec![id], id)
+                );
+            }
+            let found = collected(store.find_many(ids.iter().map(|&id| id.into())).unwrap());
+            assert!(found.iter().zip(&ids).all(|(found, id)| found.1 == [*id]));
+        }
+    });
+}
+
+#[test]
+#[ignore = "needs packtool"]
+fn skipped_and_failed() {
+    let (path, ids) = made("skipped", Kind::Sha1, 1);
+    let alternates: String = (0..2000).map(|n| format!("/nowhere/{}/{n}\n", "long".repeat(20))).collect();
+    fs::write(path.join("objects/info/alternates"), alternates).unwrap();
+    let store = Store::open(&path, None).unwrap();
+    assert_eq!(store.find(&ids[3].into()).unwrap(), [ids[3]]);
+    assert_eq!(
+        (store.locate(&ids[3].into()).unwrap().len(), store.names(4).unwrap().count()),
+        (1, ids.len())
+    );
+    assert_eq!(store.skipped().len(), 2000);
+    assert!(store.skipped()[0].starts_with("/nowhere/long") && store.skipped()[0].ends_with(", skipped"));
+    let (none, top) = (path.join("none"), Path::new("/"));
+    for (path, text) in [(&none, "none: "), (&path.join("HEAD"), "HEAD"), (&top.to_path_buf(), "repository")]
+    {
+        let error = Store::open(path, None).unwrap_err().to_string();
+        assert!(error.contains(text), "{error}");
+    }
+    fs::write(path.join("config"), "[core]\n\trepositoryformatversion = 9\n").unwrap();
+    assert!(matches!(Store::open(&path, None), Err(StoreError::Failed(text)) if text.contains("config: ")));
+}
