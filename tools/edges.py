@@ -264,7 +264,7 @@ def much_found(room):
     write(room / "objects" / "pack" / "pack-0.pack")
     listed_lines = (line.split() for line in git(room, "show-index", given=index).splitlines())
     places = {id: f"{id} objects/pack/pack-0.pack {offset}" for offset, id, _ in listed_lines}
-    for command, size, printed, most in [("find", 2, str, 5), ("find", 3, str, 5), ("find", 4, str, 5), ("where", 2, places.get, 9), ("where", 3, places.get, 9)]:
+    for command, size, printed, most in [("find", 2, str, 6), ("find", 3, str, 6), ("find", 4, str, 6), ("where", 2, places.get, 16), ("where", 3, places.get, 16)]:
         prefixes = [f"{number:0{size}x}" for number in range(16**size)]
         random.Random(size).shuffle(prefixes)
         found = {prefix: [f"{prefix} missing\n"] for prefix in prefixes}
@@ -439,14 +439,14 @@ def environments(room):
     for at, name in enumerate(("own", "other", "third")):
         add_repository(room / name, ids=[ids[at]])
     values = {
-        "GIT_DIR": "other",
-        "GIT_COMMON_DIR": "other",
-        "GIT_OBJECT_DIRECTORY": "other/objects",
-        "GIT_ALTERNATE_OBJECT_DIRECTORIES": "other/objects:third/objects",
+        "GIT_DIR": "../other",
+        "GIT_COMMON_DIR": "../other",
+        "GIT_OBJECT_DIRECTORY": "../other/objects",
+        "GIT_ALTERNATE_OBJECT_DIRECTORIES": "../other/objects:../third/objects",
     }
-    rows = [{name: text} for name, value in values.items() for text in (value, str(room / value), "none", "", "\udcff", '"\\377"')]
+    rows = [{name: text} for name, value in values.items() for text in (value, f"{room}{value[2:]}", "none", "", "\udcff", '"\\377"')]
     for env in [*rows, values]:
-        yield finds(f"--objects with {env}", ids[:1], "--objects", "own/objects", cwd=room, env=env)
+        yield finds(f"--objects with {env}", ids[:1], "--objects", "../own/objects", cwd=room / "third", env=env)
     work = room / "work"
     below = work / "d"
     for path, id in ((work / ".git", ids[0]), (work / "c", ids[1]), (below / "c", ids[2])):
