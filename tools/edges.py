@@ -374,6 +374,22 @@ def files_in_each_way(room):
             yield fails(title, f"{folder}/{name}: {why}", "names", around=POWERLESS if way == "locked" else (), **how)
 
 
+def links_to_nothing(room):
+    """Prefixes of each length over a loose object whose file is a link to nothing, and over one beside it."""
+    objects = room / "objects"
+    add_ids(objects, [made.LOOSE])
+    path = objects / "4b" / made.BOTH[2:]
+    path.symlink_to("gone")
+    for size in (2, 3, 4, 5, 39, 40):
+        how = {"cwd": room, "given": f"ff\n{made.BOTH[:size]}\n".encode()}
+        for words in ((made.BOTH[:size],), ("--stdin",)):
+            name = f"where {words[0]:.7} over a link to nothing, {size} digits"
+            yield fails(name, f"objects/4b/{path.name}: {NO_FILE}", "where", *words, "--objects", "objects", **how)
+        if size > 2:
+            wanted = f"{made.LOOSE} objects/4b/{made.LOOSE[2:]}\n", "", 0
+            yield f"where of {size} digits beside it", wanted, ("where", made.LOOSE[:size], "--objects", "objects"), {"cwd": room}
+
+
 def odd_lines(room):
     """Lists of alternates with an odd line, before and after a good one."""
     own, good = made.IDS["sha1"], made.LOOSE
@@ -534,5 +550,5 @@ def statuses(program, room):
 
 
 CASES = [endings, cut, long_offsets, packs_beside, names_in_errors, names_of_files, counts, last_lines, skipped]
-CASES += [much_found, damaged_asked, by_links, no_stores, files_in_each_way, odd_lines, long_texts, environments]
+CASES += [much_found, damaged_asked, by_links, no_stores, files_in_each_way, links_to_nothing, odd_lines, long_texts, environments]
 TALKS = [exchanges, statuses]
