@@ -13,7 +13,7 @@ use std::fs::File;
 use std::os::unix::fs::MetadataExt;
 use std::rt::Files;
 use std::{fs, io, str};
-use streams::Cached;
+use streams::{Cached, ReadAt};
 
 // How many pack indexes are kept open. The others are opened again to be read, so that a store of
 // any number of packs is read with few open files.
@@ -192,7 +192,10 @@ pub(crate) fn pack_paths(alloc: Global, indexes: &[String]) -> Result<Vec<String
 
 // The pack indexes that were opened.
 #[derive(Drop)]
-pub(crate) struct OpenIndexes<R: Files<File = File>> {
+pub(crate) struct OpenIndexes<R: Files<File = File>>
+where
+    Source<R>: ReadAt,
+{
     // Their paths, in order.
     pub(crate) paths: Vec<String>,
     pub(crate) indexes: Vec<LazyFile<Cached<Source<R>>>>,

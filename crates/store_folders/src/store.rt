@@ -16,7 +16,7 @@ use std::cmp::Ordering;
 use std::fs::File;
 use std::rt::Files;
 use std::{fs, io};
-use streams::Cached;
+use streams::{Cached, ReadAt};
 
 // How often a store that changes while it is read is read.
 const MAX_TRIES: usize = 100;
@@ -29,7 +29,10 @@ const MAX_TRIES: usize = 100;
 /// println!(rt; "{} pack indexes", store.indexes().len())?;
 /// ```
 #[derive(Drop)]
-pub struct FolderStore<R: Files<File = File>> {
+pub struct FolderStore<R: Files<File = File>>
+where
+    Source<R>: ReadAt,
+{
     rt: R,
     // From what it was opened.
     folder: ObjectsFolder,
