@@ -2,9 +2,10 @@
 //!
 //! [`find`] writes the ids of a store that begin with a prefix, [`locate`] the locations of these
 //! ids, and [`names`] all ids after their abbreviations. [`find_each`], [`locate_each`] and
-//! [`name_each`] do so for each line of a text ([`PrefixLines`]). If a pack index is gone meanwhile,
-//! they open the store again. [`write_location`] writes one location, and [`write_names`] the lines
-//! of some ids. [`show`] writes the lines of a pack index as `git show-index` does. [`validate`] says whether a file is a pack index, [`write_ending`] writes
+//! [`name_each`] do so for each line of a text ([`PrefixLines`]). If a pack index is gone
+//! meanwhile, they open the store again. [`write_location`] writes one location, and
+//! [`write_names`] the lines of some ids. [`show`] writes the lines of a pack index as
+//! `git show-index` does. [`validate`] says whether a file is a pack index, [`write_ending`] writes
 //! whether a file ends with its digest, [`write_pairing`] whether a pack index belongs to the pack
 //! beside it, as [`pair`] finds, and [`write_named`] another line of a file. They escape names as
 //! `sha1sum` does.
