@@ -13,7 +13,6 @@ abbrev pub Read : Type 0 → Type 0
 Read T = Result (T × List ℕ) ℕ
 
 infixl 10 ◌>>=◌
-
 -- what a function says of what was read, or the byte that is wrong
 abbrev pub ◌>>=◌ : {A B : Type 0} → Result A ℕ → (A → Result B ℕ) → Result B ℕ
 (Ok read) >>= f = f read

@@ -1,7 +1,38 @@
 -- Lines that a reader gives, and those that are still to come.
 use Rattle.std.proofs.Common.{
-  ◌≡◌, ℕ, Bool, true, false, ◌+◌, ◌-◌, ◌<◌, ◌≤◌, List, [], ◌∷◌, ◌++◌, Option, None, Some, cond, length, take, drop, count_by, set, get_or,
-  refl, sym, ap, ◌∙◌, arith, append_assoc, add-one, zero-add, length-append, length-drop,
+  ◌≡◌,
+  ℕ,
+  Bool,
+  true,
+  false,
+  ◌+◌,
+  ◌-◌,
+  ◌<◌,
+  ◌≤◌,
+  List,
+  [],
+  ◌∷◌,
+  ◌++◌,
+  Option,
+  None,
+  Some,
+  cond,
+  length,
+  take,
+  drop,
+  count_by,
+  set,
+  get_or,
+  refl,
+  sym,
+  ap,
+  ◌∙◌,
+  arith,
+  append_assoc,
+  add-one,
+  zero-add,
+  length-append,
+  length-drop,
 }
 use Rattle.std.specs.Option.{option_map}
 use Rattle.std.specs.Io.KnownBytes.{Consumes, IsAtEnd, Keeps, prepend_known}
@@ -41,7 +72,7 @@ no_feed-last : (before x : ℕ) (xs : List ℕ) → HasNoLineFeed (x ∷ xs) →
 no_feed-last before x [] none = no_feed-head (is_line_feed x) none
 no_feed-last before x (y ∷ ys) none =
     let split : count_by is_line_feed (x ∷ []) + count_by is_line_feed (y ∷ ys) ≡ 0 =
-      sym (sum_by-append (λ byte. cond (is_line_feed byte) 1 0) (x ∷ []) (y ∷ ys)) ∙ none in
+    sym (sum_by-append (λ byte. cond (is_line_feed byte) 1 0) (x ∷ []) (y ∷ ys)) ∙ none in
     no_feed-last x y ys (no_feed-tail (count_by is_line_feed (x ∷ [])) (count_by is_line_feed (y ∷ ys)) split)
 
 -- a line without its line feed gets it
@@ -128,7 +159,7 @@ pub held-read : (items read after rest : List ℕ) (n k len : ℕ) → n ≤ len
 held-read items read after rest n k len fits has room =
     let front : length (take n items) ≡ n = length-take-le n items fits in
     let long : n + k ≤ length (take n items ++ (read ++ after)) =
-      omega (arith, length-append (take n items) (read ++ after), length-append read after) in
+    omega (arith, length-append (take n items) (read ++ after), length-append read after) in
     take-take (n + k) len ((take n items ++ (read ++ after)) ++ rest) room
     ∙ take-append-le (n + k) (take n items ++ (read ++ after)) rest long
     ∙ ap (λ (m : ℕ). take (m + k) (take n items ++ (read ++ after))) (sym front)

@@ -352,7 +352,7 @@ fn pack_path_of(alloc: Global, path: &str) -> Result<Option<String>, AllocError>
     ensures { IfOk result (λ pack. MatchOption pack
         ((stem : List ℕ) → path.now ≢ stem ++ INDEX_END.now)
         (λ pack. (stem : List ℕ) × (path.now ≡ stem ++ INDEX_END.now)
-            × (string_bytes pack ≡ stem ++ PACK_END.now))) }
+        × (string_bytes pack ≡ stem ++ PACK_END.now))) }
 {
     let Some(stem) = path.strip_suffix(INDEX_END) else {
         return Ok(None);

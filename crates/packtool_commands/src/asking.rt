@@ -73,11 +73,12 @@ pub fn find_each<S: Reopen, A: Allocator + Copy, W: Sink>(
         (S.view store.new) (lines_of lines.now.text.now) (W.taken out.old) (W.taken out.new) }
 {
     let prefixes = lines.prefixes();
-    let looked = look_up_again(store, |store: &S|
-        requires { All (CanLookUp (S.view store.now)) prefixes.now }
-    {
-        lookup_prefixes(alloc, store, prefixes, most)
-    });
+    let looked = look_up_again(
+        store,
+        |store: &S|
+            requires { All (CanLookUp (S.view store.now)) prefixes.now }
+        { lookup_prefixes(alloc, store, prefixes, most) },
+    );
     let Some(found) = looked? else {
         return Err(StoreError::TooMany);
     };

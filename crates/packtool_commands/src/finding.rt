@@ -47,13 +47,14 @@ pub fn find<S: Reopen, A: Allocator + Copy, W: Sink>(
     ensures part { IsErrOf result StoreError.Output → HasPrintedPart (S.view store.new)
         prefix.now.digits (W.taken out.old) (W.taken out.new) }
 {
-    let looked = look_up_again(store, |store: &S|
-        requires enough { 2 ≤ length prefix.now.digits }
-        requires kind { prefix.now.kind ≡ (S.view store.now).kind }
-        requires listed { IsListed (S.view store.now) (first_byte_of prefix.now.digits) }
-    {
-        lookup_prefix(alloc, store, prefix)
-    });
+    let looked = look_up_again(
+        store,
+        |store: &S|
+            requires enough { 2 ≤ length prefix.now.digits }
+            requires kind { prefix.now.kind ≡ (S.view store.now).kind }
+            requires listed { IsListed (S.view store.now) (first_byte_of prefix.now.digits) }
+        { lookup_prefix(alloc, store, prefix) },
+    );
     let ids = looked?;
     write_ids(Alphabet::Hex, &ids, out)?;
     Ok(!ids.is_empty())

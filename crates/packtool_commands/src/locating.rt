@@ -83,11 +83,12 @@ fn locations_of<S: Reopen + StorePaths, A: Allocator + Copy>(
         (S.loose_paths store.new) prefix.now.digits located.items) }
     ensures err { IfErr result (IsLocationsFault (S.view store.new) prefix.now.digits) }
 {
-    look_up_again(store, |store: &S|
-        requires { CanLookUp (S.view store.now) prefix.now }
-    {
-        locate_prefix(alloc, store, prefix)
-    })
+    look_up_again(
+        store,
+        |store: &S|
+            requires { CanLookUp (S.view store.now) prefix.now }
+        { locate_prefix(alloc, store, prefix) },
+    )
 }
 
 /// Writes for each of some lines, in order, the locations of the ids of a store that begin with
@@ -138,11 +139,12 @@ pub fn locate_each<S: Reopen + StorePaths, A: Allocator + Copy, W: Sink>(
         (lines_of lines.now.text.now) (W.taken out.old) (W.taken out.new) }
 {
     let prefixes = lines.prefixes();
-    let looked = look_up_again(store, |store: &S|
-        requires { All (CanLookUp (S.view store.now)) prefixes.now }
-    {
-        locate_prefixes(alloc, store, prefixes, most)
-    });
+    let looked = look_up_again(
+        store,
+        |store: &S|
+            requires { All (CanLookUp (S.view store.now)) prefixes.now }
+        { locate_prefixes(alloc, store, prefixes, most) },
+    );
     let Some(located) = looked? else {
         return Err(StoreError::TooMany);
     };

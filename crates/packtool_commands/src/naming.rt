@@ -83,13 +83,14 @@ fn names_of<S: Reopen, A: Allocator + Copy>(
     ensures named { IfOk result (λ named. AreNamed least (S.view store.new) byte named.items) }
     ensures err { IfErr result (IsStoreFault (S.view store.new) byte) }
 {
-    look_up_again(store, |store: &S|
-        requires listed { IsListed (S.view store.now) byte }
-        requires enough { 4 ≤ least }
-        requires fits { least ≤ hex_len_of (S.view store.now).kind }
-    {
-        abbreviate_part(alloc, store, byte, least)
-    })
+    look_up_again(
+        store,
+        |store: &S|
+            requires listed { IsListed (S.view store.now) byte }
+            requires enough { 4 ≤ least }
+            requires fits { least ≤ hex_len_of (S.view store.now).kind }
+        { abbreviate_part(alloc, store, byte, least) },
+    )
 }
 
 // Whether there is one of these ids or of those before.
@@ -171,13 +172,14 @@ pub fn name_each<S: Reopen, A: Allocator + Copy, W: Sink>(
         (lines_of lines.now.text.now) (W.taken out.old) (W.taken out.new) }
 {
     let prefixes = lines.prefixes();
-    let looked = look_up_again(store, |store: &S|
-        requires can { All (CanLookUp (S.view store.now)) prefixes.now }
-        requires enough { 4 ≤ least }
-        requires fits { least ≤ hex_len_of (S.view store.now).kind }
-    {
-        abbreviate_prefixes(alloc, store, prefixes, least, most)
-    });
+    let looked = look_up_again(
+        store,
+        |store: &S|
+            requires can { All (CanLookUp (S.view store.now)) prefixes.now }
+            requires enough { 4 ≤ least }
+            requires fits { least ≤ hex_len_of (S.view store.now).kind }
+        { abbreviate_prefixes(alloc, store, prefixes, least, most) },
+    );
     let Some(named) = looked? else {
         return Err(StoreError::TooMany);
     };

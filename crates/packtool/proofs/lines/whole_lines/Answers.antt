@@ -13,9 +13,9 @@ loop-at-preserved c = elim c.if-bytes-at-eq10.branch [
       let bytes = c.args.bytes.now in
       let below : c.loop-at.at < length bytes = omega arith in
       let more : count_by is_line_feed (take (c.loop-at.at + 1) bytes) ≡ count_by is_line_feed (take c.loop-at.at bytes) + 1 =
-        count_by_more_yes is_line_feed bytes c.loop-at.at 0 below (ap is_line_feed w.if-bytes-at-eq10.true) in
+      count_by_more_yes is_line_feed bytes c.loop-at.at 0 below (ap is_line_feed w.if-bytes-at-eq10.true) in
       let all : c.if-bytes-at-eq10.count ≡ count_by is_line_feed (take (c.loop-at.at + 1) bytes) =
-        w.count-is ∙ ap (λ (n : ℕ). n + 1) c.loop-at.invariant.all ∙ sym more in
+      w.count-is ∙ ap (λ (n : ℕ). n + 1) c.loop-at.invariant.all ∙ sym more in
       record {
         bound = omega arith;
         whole = rw w.len-is (whole-more bytes c.loop-at.at below w.if-bytes-at-eq10.true);
@@ -27,7 +27,7 @@ loop-at-preserved c = elim c.if-bytes-at-eq10.branch [
       let bytes = c.args.bytes.now in
       let no : is_line_feed (get_or bytes c.loop-at.at 0) ≡ false = grind (arith, nat_tests) in
       let more : count_by is_line_feed (take (c.loop-at.at + 1) bytes) ≡ count_by is_line_feed (take c.loop-at.at bytes) =
-        count_by_more_no is_line_feed bytes c.loop-at.at 0 (omega arith) no in
+      count_by_more_no is_line_feed bytes c.loop-at.at 0 (omega arith) no in
       record {
         bound = omega arith;
         whole = rw w.len-is c.loop-at.invariant.whole;
@@ -42,9 +42,9 @@ returns-after-loop-at-clause-all c =
     let bytes = c.args.bytes.now in
     let end : c.loop-at.at ≡ length bytes = omega arith in
     let all : count_by is_line_feed (take c.loop-at.at bytes) ≡ count_by is_line_feed bytes =
-      ap (λ n. count_by is_line_feed (take n bytes)) end ∙ ap (count_by is_line_feed) (take-length bytes) in
+    ap (λ n. count_by is_line_feed (take n bytes)) end ∙ ap (count_by is_line_feed) (take-length bytes) in
     let split : count_by is_line_feed (take c.loop-at.len bytes) + count_by is_line_feed (drop c.loop-at.len bytes) ≡ count_by is_line_feed bytes =
-      sum_by-take-drop (λ byte. cond (is_line_feed byte) 1 0) bytes c.loop-at.len in
+    sum_by-take-drop (λ byte. cond (is_line_feed byte) 1 0) bytes c.loop-at.len in
     λ _. omega arith
 
 pub returns-then-count-ge-MAX_LINES-clause-whole :

@@ -58,8 +58,7 @@ loop-byte-preserved g c =
     let seen = g.S.Store.view c.names_of.new.store in
     let MayHave = g.S.Reopen.may_have c.args.store.now in
     let MayHaveLast = g.S.Reopen.may_have c.loop-byte.store in
-    let sees = seen_later MayHave MayHaveLast first last seen c.loop-byte.invariant.0 c.in_ok-named.ensures.reopened.seen in
-    (
+    let sees = seen_later MayHave MayHaveLast first last seen c.loop-byte.invariant.0 c.in_ok-named.ensures.reopened.seen in (
       reopened_again MayHave MayHaveLast (g.S.Reopen.may_have c.names_of.new.store) first last seen c.loop-byte.invariant.0 c.in_ok-named.ensures.reopened,
       has_named_more c.loop-byte.byte c.args.least (IsSeen MayHave first) c.loop-byte.any _ _ c.loop-byte.invariant.1 seen _ c.in_ok-named.named.items sees c.in_ok-named.ensures.named
           c.is_any-any.result
