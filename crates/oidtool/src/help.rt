@@ -20,6 +20,6 @@ usage: oidtool find PREFIX | find-change LETTERS | find-in KIND PREFIX | hash KI
   -V, --version          prints its first line
 
 A list has an id in hex digits on each line. It is read from standard input, as the bytes to hash or to seal are. KIND is
-sha1 or sha256. The status is 0 if an id was written, 1 if none matches, and 2 for an error, which is printed on
-standard error. DIAGNOSTICS in oidtool(1) says what each error means.
+sha1 or sha256, and N is in decimal digits, before which there may be a +. The status is 0 if an id was written, 1 if none
+matches, and 2 for an error, which is printed on standard error. DIAGNOSTICS in oidtool(1) says what each error means.
 ";
