@@ -344,6 +344,12 @@ ALTERNATES: list[tuple[str, str, list[str]]] = [
     # Not quoted right.
     ("\n", 'a"b"\n"c\n"', ['a"b"', "c\n"]),
     ("\n", '"\\q"\n"\\400"\n"\\08"\n"a\\"', [r'"\q"', r'"\400"', r'"\08"', r'"a\"']),
+    # A NUL ends the list, also before a closing quotation mark, and a path.
+    ("\n", "a\n\0b", ["a"]),
+    ("\n", "a\0b\nc", ["a"]),
+    ("\n", '"a\0b"\nc', ['"a']),
+    ("\n", r'"a\000b"', ["a"]),
+    ("\n", '"\\000b"\nc', ["c"]),
     (":", ":a::b\nc:", ["a", "b\nc"]),
     (":", r'"a:\"b":c', ['a:"b', "c"]),
     (":", "#a:b", ["b"]),

@@ -305,7 +305,7 @@ class Oddity:
         rng = self.rng
         path = spelled(rng, target, folder)
         odd = ["none", "/none/a", "../none/../none", "HEAD", ".", "", "#x", " ", f"{path}\r", f" {path}", '"x', "/", str(folder)]
-        odd += ["../../HEAD", "info"]
+        odd += ["../../HEAD", "info", f"{path}\0", f"{path}\0x", "\0", quoted(rng, path)[:-1] + '\\000x"', '"\\000x"']
         if chance(rng, 0.25):
             return rng.choice(odd)
         return quoted(rng, path) if chance(rng, 0.2) else path

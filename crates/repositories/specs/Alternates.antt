@@ -1,5 +1,5 @@
 -- The paths that a list of alternates names.
-use Rattle.std.specs.Prelude.{◌≡◌, ◌≢◌, ◌⊎◌, ℕ, Bool, false, List, [], ◌∷◌, ◌==◌, not, drop, filter, length, if◌then◌else◌}
+use Rattle.std.specs.Prelude.{◌≡◌, ◌≢◌, ◌⊎◌, ℕ, Bool, false, List, [], ◌∷◌, ◌==◌, not, drop, filter, length, map, if◌then◌else◌}
 use Rattle.std.specs.List.{after_first, before_first}
 use Rattle.repositories.specs.Quoting.{IsQuoted}
 
@@ -27,6 +27,10 @@ abbrev pub HasEntries : ℕ → List ℕ → List (List ℕ) → Type 0
 HasEntries separator list [] = list ≡ []
 HasEntries separator list (path ∷ paths) = (list ≢ []) × ((rest : List ℕ) × HasEntry separator list path rest × HasEntries separator rest paths)
 
--- the list names these paths: those of its entries that are not empty
+-- the bytes before the first NUL
+abbrev pub before_nul : List ℕ → List ℕ
+before_nul text = before_first (λ byte. byte == 0) text
+
+-- the list names these paths: its entries up to a NUL that ends the list, each up to a NUL of its own, but no empty ones
 abbrev pub NamesPaths : ℕ → List ℕ → List (List ℕ) → Type 0
-NamesPaths separator list paths = (entries : List (List ℕ)) × HasEntries separator list entries × (paths ≡ filter (λ path. not (length path == 0)) entries)
+NamesPaths separator list paths = (entries : List (List ℕ)) × HasEntries separator (before_nul list) entries × (paths ≡ filter (λ path. not (length path == 0)) (map before_nul entries))

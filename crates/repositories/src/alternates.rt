@@ -3,7 +3,7 @@
 ghost use Rattle.std.specs.Prelude.{◌≡◌, ◌≢◌, ◌==◌, ◌-◌, ◌<◌, ◌≤◌, [], ◌∷◌, ◌++◌, ℕ, List, OnOk, not, filter, IfOk, IfSome, MatchOption, drop, length, map, position};
 ghost use Rattle.std.specs.List.{after_first, before_first};
 ghost use Rattle.std.specs.Option.{option_map};
-ghost use Rattle.repositories.specs.Alternates.{HasEntry, NamesPaths, is_comment};
+ghost use Rattle.repositories.specs.Alternates.{HasEntry, NamesPaths, before_nul, is_comment};
 ghost use Rattle.repositories.specs.Quoting.{Means, escaped, escaped_byte, quoted_byte};
 
 use std::alloc::{AllocError, Allocator};
@@ -11,7 +11,8 @@ use std::alloc::{AllocError, Allocator};
 /// The paths that a list of alternates names, in order, as Git takes them from it: the lines of
 /// `objects/info/alternates`, or what `$GIT_ALTERNATE_OBJECT_DIRECTORIES` has between colons.
 ///
-/// Empty paths and comments, which begin with `#`, are skipped. What begins with a quotation mark
+/// A NUL ends the list, and so does it a path. Empty paths and comments, which begin with `#`, are
+/// skipped. What begins with a quotation mark
 /// is unquoted (C's escapes, with bytes as three octal digits), up to the closing one, after which
 /// one byte is skipped, mostly the separator. If it is not quoted right, it is the path itself.
 ///
@@ -29,7 +30,7 @@ pub fn alternate_paths<A: Allocator + Copy>(
         (map (λ path. path.items) paths.items)) }
 {
     let mut paths = Vec::new(alloc);
-    let mut left = list;
+    let (mut left, _) = split_line(list, 0);
     while !left.is_empty() {
         let (path, rest) = first_path(alloc, left, separator)?;
         push_path(&mut paths, path)?;
@@ -38,15 +39,18 @@ pub fn alternate_paths<A: Allocator + Copy>(
     Ok(paths)
 }
 
-// Adds a path, unless it is empty.
+// Adds a path up to its first NUL, unless that is empty.
 fn push_path<A: Allocator>(
     paths: &mut Vec<Vec<u8, A>, A>,
-    path: Vec<u8, A>,
+    mut path: Vec<u8, A>,
 ) -> Result<(), AllocError>
     ensures { OnOk result (map (λ path. path.items) paths.new.items
         ≡ map (λ path. path.items) paths.old.items
-        ++ filter (λ path. not (length path == 0)) (path.items ∷ [])) }
+        ++ filter (λ path. not (length path == 0)) (before_nul path.items ∷ [])) }
 {
+    if let Some(at) = position_of(&path, 0) {
+        path.truncate(at);
+    }
     if !path.is_empty() {
         paths.push(path)?;
     }
