@@ -2,11 +2,13 @@
 
 use crate::config::kind_in_config;
 use crate::error::Error;
+use crate::state::{metadata, retried};
 use gix_hash::Kind;
 use std::alloc::AllocError;
+use std::fs::{self, Metadata};
+use std::io;
 use std::path::Path;
 use std::rt::Files;
-use std::{fs, io};
 
 /// A path below a directory, or the path itself if it is absolute.
 ///
@@ -40,14 +42,14 @@ pub(crate) fn if_there<T: Drop>(
 
 // The absolute path of a directory, without links; the same path if that is not UTF-8.
 pub(crate) fn real_folder<R: Files + AllocGlobal>(rt: &R, path: &str) -> io::Result<String> {
-    let real = match fs::canonicalize(rt, path) {
+    let real = match retried(|| fs::canonicalize(rt, path)) {
         Ok(real) => real.into_string(),
         Err(error) if error.kind() == io::ErrorKind::InvalidFilename => {
             String::from_str(rt.alloc(), path)?
         }
         Err(error) => return Err(error),
     };
-    if fs::metadata(rt, &real)?.is_dir() {
+    if metadata(rt, &real)?.is_dir() {
         Ok(real)
     } else {
         Err(io::ErrorKind::NotADirectory.into())
@@ -64,13 +66,31 @@ pub(crate) fn parent(path: &str) -> Option<&str> {
     Path::new(path).parent().map(|folder| folder.as_str())
 }
 
+// What a path leads to, or `None` if there is nothing, or the path is too long for it.
+fn look_at<R: Files + AllocGlobal>(rt: &R, path: &str) -> Result<Option<Metadata>, Error> {
+    match metadata(rt, path) {
+        Err(error) if error.kind() == io::ErrorKind::InvalidFilename => Ok(None),
+        found => if_there(rt, path, found),
+    }
+}
+
+// Whether a path leads to a directory.
+pub(crate) fn is_folder<R: Files + AllocGlobal>(rt: &R, path: &str) -> Result<bool, Error> {
+    Ok(look_at(rt, path)?.is_some_and(|found| found.is_dir()))
+}
+
+// Whether a path leads to a file.
+pub(crate) fn is_file<R: Files + AllocGlobal>(rt: &R, path: &str) -> Result<bool, Error> {
+    Ok(look_at(rt, path)?.is_some_and(|found| found.is_file()))
+}
+
 // Whether a directory has one of this name.
 pub(crate) fn has_folder<R: Files + AllocGlobal>(
     rt: &R,
     folder: &str,
     name: &str,
-) -> Result<bool, AllocError> {
-    Ok(Path::new(&join(rt, folder, name)?).is_dir(rt))
+) -> Result<bool, Error> {
+    is_folder(rt, &join(rt, folder, name)?)
 }
 
 // The kind of a repository's ids by its config in a directory. SHA-1 if there is no config.

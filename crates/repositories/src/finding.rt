@@ -2,14 +2,13 @@
 
 use crate::alternates::alternate_paths;
 use crate::error::{Cause, Error};
-use crate::files::{has_folder, join, kind_beside, kind_by_config};
+use crate::files::{has_folder, is_file, join, kind_beside, kind_by_config};
 use crate::folders::push_path;
 use crate::repository::{Environment, Repository, find_repository, variable};
+use crate::state::metadata;
 use gix_hash::Kind;
-use std::alloc::AllocError;
-use std::path::Path;
+use std::io;
 use std::rt::{Env, Files};
-use std::{fs, io};
 
 const ALTERNATES: &str = "GIT_ALTERNATE_OBJECT_DIRECTORIES";
 
@@ -125,16 +124,16 @@ fn alternates(rt: &(impl Env + AllocGlobal), top: &str) -> Result<Vec<String>, E
 }
 
 // Whether a directory is an object directory.
-fn is_store<R: Files + AllocGlobal>(rt: &R, path: &str) -> Result<bool, AllocError> {
+fn is_store<R: Files + AllocGlobal>(rt: &R, path: &str) -> Result<bool, Error> {
     Ok(
         has_folder(rt, path, "pack")?
-            || Path::new(&join(rt, path, "info/alternates")?).is_file(rt)
+            || is_file(rt, &join(rt, path, "info/alternates")?)?
             || has_loose_folder(rt, path)?,
     )
 }
 
 // Whether a directory has a fan-out directory.
-fn has_loose_folder<R: Files + AllocGlobal>(rt: &R, path: &str) -> Result<bool, AllocError> {
+fn has_loose_folder<R: Files + AllocGlobal>(rt: &R, path: &str) -> Result<bool, Error> {
     for byte in 0..=u8::MAX {
         if has_folder(rt, path, &format!(in rt.alloc(); "{byte:02x}")?)? {
             return Ok(true);
@@ -144,9 +143,9 @@ fn has_loose_folder<R: Files + AllocGlobal>(rt: &R, path: &str) -> Result<bool, 
 }
 
 // Why a directory is no object directory.
-fn no_store<R: Files + AllocGlobal>(rt: &R, path: &str) -> Result<Error, AllocError> {
+fn no_store<R: Files + AllocGlobal>(rt: &R, path: &str) -> Result<Error, Error> {
     let alloc = rt.alloc();
-    match fs::metadata(rt, path) {
+    match metadata(rt, path) {
         Ok(found) if found.is_dir() => Ok(Error::of(alloc, no_store_but(rt, path)?)),
         Ok(_) => Ok(Error::file(alloc, path, io::ErrorKind::NotADirectory.into())),
         Err(error) => Ok(Error::file(alloc, path, error)),
@@ -154,7 +153,7 @@ fn no_store<R: Files + AllocGlobal>(rt: &R, path: &str) -> Result<Error, AllocEr
 }
 
 // That a directory is no object directory, and the one that it has.
-fn no_store_but<R: Files + AllocGlobal>(rt: &R, path: &str) -> Result<Cause, AllocError> {
+fn no_store_but<R: Files + AllocGlobal>(rt: &R, path: &str) -> Result<Cause, Error> {
     let objects = store_in(rt, path)?;
     let path = String::from_str(rt.alloc(), path)?;
     Ok(match objects {
@@ -164,7 +163,7 @@ fn no_store_but<R: Files + AllocGlobal>(rt: &R, path: &str) -> Result<Cause, All
 }
 
 // The object directory of a repository or worktree at a path, if there is one.
-fn store_in<R: Files + AllocGlobal>(rt: &R, path: &str) -> Result<Option<String>, AllocError> {
+fn store_in<R: Files + AllocGlobal>(rt: &R, path: &str) -> Result<Option<String>, Error> {
     for name in ["objects", ".git/objects"] {
         let objects = join(rt, path, name)?;
         if is_store(rt, &objects)? {

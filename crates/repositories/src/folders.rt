@@ -4,6 +4,7 @@ use crate::alternates::alternate_paths;
 use crate::error::Error;
 use crate::files::{existing_folder, if_there, is_missing, join, real_folder};
 use crate::finding::ObjectsFolder;
+use crate::state::FileState;
 use std::alloc::AllocError;
 use std::rt::Files;
 use std::{fs, io, str};
@@ -17,6 +18,9 @@ const LEVELS: u8 = 6;
 pub struct Folders {
     /// The path of the directory as it was given, and the absolute paths of the alternates.
     pub paths: Vec<String>,
+    /// The states of their lists of alternates before they were read, and of the paths of
+    /// alternates that cannot be used, in the order in which they were looked at.
+    pub states: Vec<FileState>,
     /// Why other alternates are skipped: they are missing, are no directories, cannot be read or
     /// are nested too deep. Each has its path.
     pub skipped: Vec<Error>,
@@ -41,6 +45,7 @@ pub fn with_alternates<R: Files + AllocGlobal>(
 ) -> Result<Folders, Error> {
     let mut found = Folders {
         paths: Vec::new(rt.alloc()),
+        states: Vec::new(rt.alloc()),
         skipped: Vec::new(rt.alloc()),
     };
     let real = existing_folder(rt, &objects.path)?;
@@ -62,7 +67,7 @@ fn push_with_alternates<R: Files + AllocGlobal>(
 ) -> Result<(), Error> {
     found.paths.push(String::from_str(rt.alloc(), real)?)?;
     push_folders(rt, given, LEVELS, found)?;
-    let alternates = alternates_of(rt, real, &mut found.skipped)?;
+    let alternates = alternates_of(rt, real, found)?;
     push_folders(rt, &alternates, LEVELS, found)
 }
 
@@ -99,12 +104,15 @@ fn push_folder<R: Files + AllocGlobal>(
             Ok(None)
         }
         Ok(real) => {
-            let alternates = alternates_of(rt, &real, &mut found.skipped)?;
+            let alternates = alternates_of(rt, &real, found)?;
             found.paths.push(real)?;
             Ok(Some(alternates))
         }
         Err(error) => {
             found.skipped.push(unusable(rt, path, error)?)?;
+            if let Ok(state) = FileState::of(rt, path) {
+                found.states.push(state)?;
+            }
             Ok(None)
         }
     }
@@ -128,18 +136,33 @@ fn unusable(rt: &impl AllocGlobal, path: &str, error: io::Error) -> Result<Error
 fn alternates_of<R: Files + AllocGlobal>(
     rt: &R,
     folder: &str,
-    skipped: &mut Vec<Error>,
+    found: &mut Folders,
 ) -> Result<Vec<String>, Error> {
     let mut paths = Vec::new(rt.alloc());
     let list = join(rt, folder, "info/alternates")?;
-    if let Some(text) = if_there(rt, &list, fs::read(rt, &list))? {
-        for path in &alternate_paths(rt.alloc(), &text, b'\n')? {
-            if !push_path(rt, folder, path, &mut paths)? {
-                skipped.push(Error::text(rt.alloc(), &list, "a path is not UTF-8"))?;
-            }
+    for path in &alternate_paths(rt.alloc(), &list_of(rt, &list, found)?, b'\n')? {
+        if !push_path(rt, folder, path, &mut paths)? {
+            let error = Error::text(rt.alloc(), &list, "a path is not UTF-8");
+            found.skipped.push(error)?;
         }
     }
     Ok(paths)
+}
+
+// The text of a list of alternates, which is empty if there is none.
+fn list_of<R: Files + AllocGlobal>(
+    rt: &R,
+    list: &str,
+    found: &mut Folders,
+) -> Result<Vec<u8>, Error> {
+    let state = FileState::of(rt, list);
+    let state = state.map_err(|error| Error::file(rt.alloc(), list, error))?;
+    found.states.push(state)?;
+    if state.is_missing() {
+        return Ok(Vec::new(rt.alloc()));
+    }
+    let text = if_there(rt, list, fs::read(rt, list))?;
+    Ok(text.unwrap_or(Vec::new(rt.alloc())))
 }
 
 // Adds a path that the list of a directory names, if it is UTF-8, and returns whether it is.

@@ -20,8 +20,10 @@ pub mod paths;
 /// Ids in texts.
 pub mod printed;
 mod repository;
+mod state;
 
 pub use error::{Cause, Error};
 pub use files::join;
 pub use finding::{ObjectsFolder, find_objects};
 pub use folders::{Folders, with_alternates};
+pub use state::{FileState, metadata, retried};

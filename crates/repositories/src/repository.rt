@@ -1,7 +1,8 @@
 //! Where a repository has its objects, references and config.
 
 use crate::error::Error;
-use crate::files::{existing_folder, has_folder, if_there, join, parent};
+use crate::files::{existing_folder, has_folder, if_there, is_file, is_folder, join, parent};
+use crate::state::{metadata, retried};
 use std::alloc::AllocError;
 use std::env::VarError;
 use std::os::unix::fs::MetadataExt;
@@ -135,7 +136,7 @@ fn go_up<R: Files + AllocGlobal>(rt: &R, folder: &mut String) -> Result<bool, Al
 
 // Whether no other directory above this one can be seen. The directory above the root is the root.
 fn is_highest<R: Files + AllocGlobal>(rt: &R, folder: &str, above: &str) -> bool {
-    match (fs::metadata(rt, folder), fs::metadata(rt, above)) {
+    match (metadata(rt, folder), metadata(rt, above)) {
         (Ok(folder), Ok(above)) => folder.dev() == above.dev() && folder.ino() == above.ino(),
         _ => true,
     }
@@ -164,7 +165,7 @@ fn repository_of_worktree<R: Files + AllocGlobal>(
     folder: &str,
 ) -> Result<Option<String>, Error> {
     let path = join(rt, folder, ".git")?;
-    if Path::new(&path).is_file(rt) {
+    if is_file(rt, &path)? {
         Ok(Some(required(rt, given, &path)?))
     } else {
         repository_at(rt, given, &path)
@@ -183,7 +184,7 @@ fn required<R: Files + AllocGlobal>(
     given: &Environment,
     path: &str,
 ) -> Result<String, Error> {
-    let folder = if Path::new(path).is_file(rt) {
+    let folder = if is_file(rt, path)? {
         named_by(rt, path)?
     } else {
         String::from_str(rt.alloc(), path)?
@@ -232,9 +233,9 @@ fn has_both<R: Files + AllocGlobal>(
     rt: &R,
     given: &Environment,
     folder: &str,
-) -> Result<bool, AllocError> {
+) -> Result<bool, Error> {
     let has_objects = match &given.objects {
-        Some(objects) => Path::new(objects).is_dir(rt),
+        Some(objects) => is_folder(rt, objects)?,
         None => has_folder(rt, folder, "objects")?,
     };
     Ok(has_objects && has_folder(rt, folder, "refs")?)
@@ -254,13 +255,17 @@ fn common_of<R: Files + AllocGlobal>(rt: &R, folder: &str) -> Result<String, Err
 }
 
 // Whether a directory has a `HEAD` of a repository: a link to a reference, which need not be there,
-// or a file that names a reference or begins with an id.
-fn has_head<R: Files + AllocGlobal>(rt: &R, folder: &str) -> Result<bool, AllocError> {
+// or a file that names a reference or begins with an id. A directory is none.
+fn has_head<R: Files + AllocGlobal>(rt: &R, folder: &str) -> Result<bool, Error> {
     let path = join(rt, folder, "HEAD")?;
-    if let Ok(reference) = fs::read_link(rt, &path) {
+    if let Ok(reference) = retried(|| fs::read_link(rt, &path)) {
         return Ok(reference.as_str().starts_with("refs/"));
     }
-    Ok(fs::read(rt, &path).is_ok_and(|text| is_head(&text)))
+    if !is_file(rt, &path)? {
+        return Ok(false);
+    }
+    let text = if_there(rt, &path, fs::read(rt, &path))?;
+    Ok(text.is_some_and(|text| is_head(&text)))
 }
 
 // Git reads the first 255 bytes.

@@ -40,8 +40,8 @@ pub enum Error {
         /// Its path.
         path: String,
     },
-    /// A directory of packs or the alternates of the store were changed while it was read, each
-    /// time anew. The store is to be opened again.
+    /// A directory of packs, the alternates of the store or with them a fan-out directory were
+    /// changed while they were read, each time anew. The store is to be opened again.
     #[error("{path}: changed while it was read")]
     Changed {
         /// The path of the directory.

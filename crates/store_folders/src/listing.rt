@@ -1,7 +1,7 @@
-//! The names in directories.
+//! The names in directories, and the states of directories.
 
 use crate::error::Error;
-use repositories::join;
+use repositories::{FileState, join, retried};
 use std::io;
 use std::io::{BufReader, Read};
 use std::rt::Files;
@@ -21,7 +21,20 @@ fn read_names<R: Files + AllocGlobal>(rt: &R, folder: &str) -> io::Result<Vec<u8
     let path = join(rt, folder, "")?;
     let mut names = Vec::new(rt.alloc());
     // A directory is read by chunks that have room for any name, which are those of a `BufReader`.
-    let mut dir = BufReader::new(rt.alloc(), rt.open_dir(&path)?)?;
+    let mut dir = BufReader::new(rt.alloc(), retried(|| rt.open_dir(&path))?)?;
     dir.read_to_end(&mut names)?;
     Ok(names)
+}
+
+// The state of a directory, before it is read or after.
+pub(crate) fn state_of<R: Files + AllocGlobal>(rt: &R, folder: &str) -> Result<FileState, Error> {
+    FileState::of(rt, folder).map_err(|error| Error::file(rt.alloc(), folder, error))
+}
+
+// The state of a directory, or `None` if it is missing.
+pub(crate) fn state_if_there<R: Files + AllocGlobal>(
+    rt: &R,
+    folder: &str,
+) -> Result<Option<FileState>, Error> {
+    FileState::if_there(rt, folder).map_err(|error| Error::file(rt.alloc(), folder, error))
 }

@@ -5,12 +5,16 @@ ghost use Rattle.gix_hash.specs.Ids.{id_digits, id_kind};
 ghost use Rattle.store_folders.specs.LoosePaths.{path_in, paths_in};
 
 use crate::error::Error;
-use crate::listing::names_in;
+use crate::listing::{names_in, state_if_there, state_of};
 use gix_hash::{Kind, ObjectId};
 use object_store::LooseTable;
+use repositories::FileState;
 use repositories::paths::{read_loose_path, write_loose_path};
 use std::alloc::{AllocError, Global};
 use std::rt::Files;
+
+// How often the fan-out directories of a first byte are listed that change meanwhile.
+const MAX_TRIES: usize = 100;
 
 /// Which loose objects of a store are listed as it is opened: those that will be asked for.
 ///
@@ -41,6 +45,14 @@ pub(crate) struct LooseObjects {
     pub(crate) table: LooseTable,
 }
 
+// The names in the fan-out directory of a first byte, in the object directory at a position.
+#[derive(Drop)]
+struct Part {
+    at: usize,
+    byte: u8,
+    names: Vec<u8>,
+}
+
 // Lists the loose objects in object directories.
 pub(crate) fn list_loose<R: Files + AllocGlobal>(
     rt: &R,
@@ -50,10 +62,11 @@ pub(crate) fn list_loose<R: Files + AllocGlobal>(
 ) -> Result<LooseObjects, Error>
     ensures { IfOk result (λ loose. loose.table.kind ≡ kind) }
 {
+    let parts = list_parts(rt, paths, which)?;
     let mut folders = Vec::with_capacity(rt.alloc(), paths.len())?;
     let mut all = Vec::new(rt.alloc());
     for path in paths {
-        let folder = list_folder(rt, path, kind, which)?;
+        let folder = folder_of(rt, path, kind, folders.len(), &parts)?;
         all.extend_from_slice(folder.table.ids())?;
         folders.push(folder)?;
     }
@@ -61,43 +74,121 @@ pub(crate) fn list_loose<R: Files + AllocGlobal>(
     Ok(LooseObjects { folders, table })
 }
 
-// Lists the loose objects in an object directory.
-fn list_folder<R: Files + AllocGlobal>(
+// Lists the fan-out directories in object directories, one first byte after the other. If there are
+// several object directories, in none a fan-out directory may come or go meanwhile.
+fn list_parts<R: Files + AllocGlobal>(
     rt: &R,
-    path: &str,
-    kind: Kind,
+    paths: &[String],
     which: LooseIds,
-) -> Result<LooseFolder, Error>
-    ensures { IfOk result (λ folder. folder.table.kind ≡ kind) }
-{
+) -> Result<Vec<Part>, Error> {
     let (first, last) = match which {
         LooseIds::All => (0, u8::MAX),
         LooseIds::WithFirstByte(byte) => (byte, byte),
     };
-    let mut ids = Vec::new(rt.alloc());
+    let before = states_of_several(rt, paths)?;
+    let mut parts = Vec::new(rt.alloc());
     for byte in first..=last {
-        push_part(rt, path, kind, byte, &mut ids)?;
+        let mut more = parts_with(rt, paths, byte)?;
+        parts.append(&mut more)?;
+    }
+    if states_of_several(rt, paths)? == before {
+        Ok(parts)
+    } else {
+        Err(changed(rt, paths))
+    }
+}
+
+// The states of directories if there are several, or else none.
+fn states_of_several<R: Files + AllocGlobal>(
+    rt: &R,
+    paths: &[String],
+) -> Result<Vec<FileState>, Error> {
+    let mut states = Vec::new(rt.alloc());
+    for path in paths {
+        if paths.len() > 1 {
+            states.push(state_of(rt, path)?)?;
+        }
+    }
+    Ok(states)
+}
+
+// That one of some object directories has changed. The path is that of the first.
+fn changed(rt: &impl AllocGlobal, paths: &[String]) -> Error {
+    let path = paths.first().map_or("", |path| path.as_str());
+    Error::changed(rt.alloc(), path)
+}
+
+// Lists the fan-out directory of a first byte, in each object directory. The names of several were
+// there at one time: else an object that is moved from one into another might be in neither.
+fn parts_with<R: Files + AllocGlobal>(
+    rt: &R,
+    paths: &[String],
+    byte: u8,
+) -> Result<Vec<Part>, Error> {
+    if let [path] = paths {
+        let mut parts = Vec::new(rt.alloc());
+        let names = names_in(rt, &fan_out(rt, path, byte)?)?;
+        parts.push(Part { at: 0, byte, names })?;
+        return Ok(parts);
+    }
+    for _ in 0..MAX_TRIES {
+        if let Some(parts) = parts_if_unchanged(rt, paths, byte)? {
+            return Ok(parts);
+        }
+    }
+    Err(changed(rt, paths))
+}
+
+// Lists the fan-out directories of a first byte that are there, or returns `None` if one of them
+// has changed since all were there.
+fn parts_if_unchanged<R: Files + AllocGlobal>(
+    rt: &R,
+    paths: &[String],
+    byte: u8,
+) -> Result<Option<Vec<Part>>, Error> {
+    let mut before = Vec::with_capacity(rt.alloc(), paths.len())?;
+    for path in paths {
+        before.push(state_if_there(rt, &fan_out(rt, path, byte)?)?)?;
+    }
+    let mut parts = Vec::with_capacity(rt.alloc(), paths.len())?;
+    for (at, path) in paths.iter().enumerate() {
+        if let Some(Some(state)) = before.get(at) {
+            let folder = fan_out(rt, path, byte)?;
+            let names = names_in(rt, &folder)?;
+            if !state_of(rt, &folder)?.is_same(state) {
+                return Ok(None);
+            }
+            parts.push(Part { at, byte, names })?;
+        }
+    }
+    Ok(Some(parts))
+}
+
+// The path of the fan-out directory of a first byte.
+fn fan_out(rt: &impl AllocGlobal, path: &str, byte: u8) -> Result<String, AllocError> {
+    format!(in rt.alloc(); "{path}/{byte:02x}")
+}
+
+// The loose objects in the object directory at a position. Names that are no loose object's are
+// skipped, as those of temporary files and names in capitals.
+fn folder_of(
+    rt: &impl AllocGlobal,
+    path: &str,
+    kind: Kind,
+    at: usize,
+    parts: &[Part],
+) -> Result<LooseFolder, Error>
+    ensures { IfOk result (λ folder. folder.table.kind ≡ kind) }
+{
+    let mut ids = Vec::new(rt.alloc());
+    for part in parts {
+        if part.at == at {
+            push_ids(kind, part.byte, &part.names, &mut ids)?;
+        }
     }
     let path = String::from_str(rt.alloc(), path)?;
     let table = LooseTable::new(ids, kind);
     Ok(LooseFolder { path, table })
-}
-
-// Adds the ids of the loose objects in an object directory that have a first byte. Names that are
-// no loose object's are skipped, as those of temporary files and names in capitals.
-fn push_part<R: Files + AllocGlobal>(
-    rt: &R,
-    folder: &str,
-    kind: Kind,
-    byte: u8,
-    ids: &mut Vec<ObjectId>,
-) -> Result<(), Error>
-    ensures { OnOk result (All (λ id. id_kind id ≡ kind) ids.old.items
-        → All (λ id. id_kind id ≡ kind) ids.new.items) }
-{
-    let path = format!(in rt.alloc(); "{folder}/{byte:02x}")?;
-    let names = names_in(rt, &path)?;
-    Ok(push_ids(kind, byte, &names, ids)?)
 }
 
 // Adds the ids of the loose objects whose files have these names, each ended by a NUL, in the

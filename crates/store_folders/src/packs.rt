@@ -3,14 +3,13 @@
 ghost use Rattle.std.specs.Prelude.{◌≡◌, All, IfOk, OnOk};
 
 use crate::error::Error;
-use crate::listing::names_in;
+use crate::listing::{names_in, state_of};
 use crate::source::Source;
 use gix_hash::Kind;
 use pack_index::{LazyError, LazyFile};
-use repositories::join;
+use repositories::{FileState, join, metadata, retried};
 use std::alloc::{AllocError, Global};
 use std::fs::File;
-use std::os::unix::fs::MetadataExt;
 use std::rt::Files;
 use std::{fs, io, str};
 use streams::{Cached, ReadAt};
@@ -22,6 +21,59 @@ const MAX_OPEN: usize = 64;
 // The system's error of a process that has as many open files as it may have: EMFILE.
 const TOO_MANY_OPEN: i32 = 24;
 
+// The directories of packs in object directories, in order, each with its state before it was
+// listed.
+#[derive(Drop)]
+pub(crate) struct PackFolders {
+    folders: Vec<PackFolder>,
+}
+
+// A directory of packs, which may be missing, and its state.
+#[derive(Drop)]
+struct PackFolder {
+    path: String,
+    state: FileState,
+}
+
+impl PackFolders {
+    // Those in object directories, as they are now.
+    pub(crate) fn of<R: Files + AllocGlobal>(
+        rt: &R,
+        objects: &[String],
+    ) -> Result<PackFolders, Error> {
+        let mut folders = Vec::with_capacity(rt.alloc(), objects.len())?;
+        for folder in objects {
+            let path = join(rt, folder, "pack")?;
+            let state = state_of(rt, &path)?;
+            folders.push(PackFolder { path, state })?;
+        }
+        Ok(PackFolders { folders })
+    }
+
+    // The pack indexes in them, with or without packs.
+    pub(crate) fn list<R: Files + AllocGlobal>(&self, rt: &R) -> Result<PackIndexes, Error> {
+        let mut indexes = PackIndexes {
+            paths: Vec::new(rt.alloc()),
+            skipped: Vec::new(rt.alloc()),
+        };
+        for folder in &self.folders {
+            let mut paths = indexes_in(rt, &folder.path, &mut indexes.skipped)?;
+            indexes.paths.append(&mut paths)?;
+        }
+        Ok(indexes)
+    }
+
+    // Fails if one of them has changed.
+    pub(crate) fn expect_unchanged<R: Files + AllocGlobal>(&self, rt: &R) -> Result<(), Error> {
+        for folder in &self.folders {
+            if !state_of(rt, &folder.path)?.is_same(&folder.state) {
+                return Err(Error::changed(rt.alloc(), &folder.path));
+            }
+        }
+        Ok(())
+    }
+}
+
 // The pack indexes that object directories had as they were listed.
 #[derive(Drop)]
 pub(crate) struct PackIndexes {
@@ -29,46 +81,9 @@ pub(crate) struct PackIndexes {
     pub(crate) paths: Vec<String>,
     // Why others are skipped.
     pub(crate) skipped: Vec<Error>,
-    // The directories that they are in, in order.
-    folders: Vec<PackFolder>,
-}
-
-// A directory of packs, and its state after it was listed, or `None` if it was missing.
-#[derive(Drop)]
-struct PackFolder {
-    path: String,
-    state: Option<FolderState>,
-}
-
-// Which directory it is, and when a name last came or went in it.
-#[derive(Clone, Copy, PartialEq)]
-struct FolderState {
-    dev: u64,
-    ino: u64,
-    modified: (i64, i64),
 }
 
 impl PackIndexes {
-    // Those in object directories, with or without packs.
-    pub(crate) fn list<R: Files + AllocGlobal>(
-        rt: &R,
-        folders: &[String],
-    ) -> Result<PackIndexes, Error> {
-        let mut indexes = PackIndexes {
-            paths: Vec::new(rt.alloc()),
-            skipped: Vec::new(rt.alloc()),
-            folders: Vec::with_capacity(rt.alloc(), folders.len())?,
-        };
-        for folder in folders {
-            let path = join(rt, folder, "pack")?;
-            let mut paths = indexes_in(rt, &path, &mut indexes.skipped)?;
-            indexes.paths.append(&mut paths)?;
-            let state = state_of(rt, &path)?;
-            indexes.folders.push(PackFolder { path, state })?;
-        }
-        Ok(indexes)
-    }
-
     // Fails if one of those of an earlier list is not among them, since it was removed.
     pub(crate) fn expect_all(&self, alloc: Global, earlier: &PackIndexes) -> Result<(), Error> {
         let mut at = 0;
@@ -84,43 +99,19 @@ impl PackIndexes {
         Err(Error::Gone { path })
     }
 
-    // Fails if a directory has changed since it was listed for an earlier list, of the same
-    // directories.
-    pub(crate) fn expect_unchanged(
-        &self,
-        alloc: Global,
-        earlier: &PackIndexes,
-    ) -> Result<(), Error> {
-        for (folder, before) in self.folders.iter().zip(&earlier.folders) {
-            if folder.state != before.state {
-                return Err(Error::changed(alloc, &folder.path));
-            }
-        }
-        Ok(())
-    }
-
-    // The paths of those whose packs are there. Fails if an index was removed with its pack.
-    pub(crate) fn with_packs<R: Files + AllocGlobal>(&self, rt: &R) -> Result<Vec<String>, Error> {
+    // Those whose packs are there. Fails if an index was removed with its pack.
+    pub(crate) fn with_packs<R: Files + AllocGlobal>(self, rt: &R) -> Result<PackIndexes, Error> {
+        let PackIndexes {
+            paths: listed,
+            skipped,
+        } = self;
         let mut paths = Vec::new(rt.alloc());
-        for path in &self.paths {
-            if has_pack(rt, path)? {
-                paths.push(String::from_str(rt.alloc(), path)?)?;
+        for path in listed {
+            if has_pack(rt, &path)? {
+                paths.push(path)?;
             }
         }
-        Ok(paths)
-    }
-}
-
-// The state of a directory, or `None` if it is missing.
-fn state_of<R: Files + AllocGlobal>(rt: &R, path: &str) -> Result<Option<FolderState>, Error> {
-    match fs::metadata(rt, path) {
-        Ok(found) => Ok(Some(FolderState {
-            dev: found.dev(),
-            ino: found.ino(),
-            modified: (found.mtime(), found.mtime_nsec()),
-        })),
-        Err(error) if error.kind() == io::ErrorKind::NotFound => Ok(None),
-        Err(error) => Err(Error::file(rt.alloc(), path, error)),
+        Ok(PackIndexes { paths, skipped })
     }
 }
 
@@ -163,13 +154,13 @@ fn push_index(
 // Whether the pack of a pack index is there. Fails if neither is, or if it cannot be known.
 fn has_pack<R: Files + AllocGlobal>(rt: &R, path: &str) -> Result<bool, Error> {
     let pack = pack_of(rt.alloc(), path)?;
-    match fs::metadata(rt, pack.as_str()) {
+    match metadata(rt, &pack) {
         Ok(found) if found.is_file() => return Ok(true),
         Ok(_) => {}
         Err(error) if error.kind() == io::ErrorKind::NotFound => {}
         Err(error) => return Err(Error::file(rt.alloc(), &pack, error)),
     }
-    match fs::symlink_metadata(rt, path) {
+    match retried(|| fs::symlink_metadata(rt, path)) {
         Ok(_) => Ok(false),
         Err(error) => Err(Error::index(rt.alloc(), path, LazyError::Read(error))),
     }
@@ -287,7 +278,7 @@ fn open_index<R: Files<File = File> + AllocGlobal + Clone + Drop>(
 
 // Why a pack index cannot be opened. A link to nothing is there, and so it was not removed.
 fn not_opened<R: Files + AllocGlobal>(rt: &R, path: &str, error: io::Error) -> Error {
-    match fs::symlink_metadata(rt, path) {
+    match retried(|| fs::symlink_metadata(rt, path)) {
         Ok(_) => Error::file(rt.alloc(), path, error),
         Err(_) => Error::index(rt.alloc(), path, LazyError::Read(error)),
     }

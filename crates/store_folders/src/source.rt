@@ -2,6 +2,7 @@
 
 ghost use Rattle.std.specs.Prelude.{None, true};
 
+use repositories::retried;
 use std::fs::File;
 use std::rt::Files;
 use std::{fs, io};
@@ -32,19 +33,21 @@ impl<R: Files<File = File> + AllocGlobal + Clone + Drop> Source<R> {
     /// length as it is then. Of a file that stays open 4096 bytes are kept, or else 16384, at first
     /// those that it begins with.
     pub fn open(rt: &R, path: &str, stays_open: bool) -> io::Result<Cached<Source<R>>> {
-        let file = fs::open(rt, path)?;
-        let mut source = Source {
-            rt: rt.clone()?,
-            path: String::from_str(rt.alloc(), path)?,
-            file: None,
-        };
+        let file = Source::new(rt, path, Some(fs::open(rt, path)?))?;
         if stays_open {
-            source.file = Some(file);
-            return Cached::open(rt.alloc(), source, OPEN_LEN);
+            return Cached::open(rt.alloc(), file, OPEN_LEN);
         }
         let cached = Cached::open(rt.alloc(), file, CLOSED_LEN)?;
         cached.keep(0)?;
-        Ok(cached.with_source(source))
+        Ok(cached.with_source(Source::new(rt, path, None)?))
+    }
+
+    fn new(rt: &R, path: &str, file: Option<File>) -> io::Result<Source<R>> {
+        Ok(Source {
+            rt: rt.clone()?,
+            path: String::from_str(rt.alloc(), path)?,
+            file,
+        })
     }
 }
 
@@ -56,8 +59,8 @@ impl<R: Files<File = File>> ReadAt for Source<R> {
 
     fn len(&self) -> io::Result<u64> {
         match &self.file {
-            Some(file) => ReadAt::len(file),
-            None => ReadAt::len(&fs::open(&self.rt, self.path.as_str())?),
+            Some(file) => retried(|| ReadAt::len(file)),
+            None => retried(|| ReadAt::len(&fs::open(&self.rt, self.path.as_str())?)),
         }
     }
 

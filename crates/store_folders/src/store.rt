@@ -5,12 +5,12 @@ ghost use Rattle.gix_hash.specs.Ids.{id_kind};
 
 use crate::error::Error;
 use crate::loose::{LooseIds, LooseObjects, list_loose, loose_path, push_path};
-use crate::packs::{OpenIndexes, PackIndexes, open_indexes, pack_paths};
+use crate::packs::{OpenIndexes, PackFolders, PackIndexes, open_indexes, pack_paths};
 use crate::source::Source;
 use gix_hash::{Kind, ObjectId, Prefix};
 use object_store::{LooseTable, Reopen, Store, StorePaths};
 use pack_index::{LazyError, LazyFile};
-use repositories::{Folders, ObjectsFolder, with_alternates};
+use repositories::{Folders, ObjectsFolder, metadata, retried, with_alternates};
 use std::alloc::AllocError;
 use std::cmp::Ordering;
 use std::fs::File;
@@ -55,9 +55,9 @@ where
 impl<R: Files<File = File> + AllocGlobal + Clone + Drop> FolderStore<R> {
     /// Opens the store of an object directory, whose ids are of the directory's kind.
     ///
-    /// No object is missed that is packed meanwhile, as by `git gc`. If a pack index is removed
-    /// while the store is opened, a directory of packs is changed or an alternate comes or goes,
-    /// the store is read again; the 100th time [`Error::Gone`] or [`Error::Changed`] is returned.
+    /// No object is missed that is packed, unpacked or moved into another directory meanwhile, as
+    /// by `git gc`. If a directory of packs or a list of alternates is changed while the store is
+    /// opened, it is read again; the 100th time [`Error::Gone`] or [`Error::Changed`] is returned.
     ///
     /// The directory's alternates are read as by Git: each once, and nested up to 5 times. Those
     /// that cannot be used are skipped ([`FolderStore::skipped`]). A missing directory `pack` or
@@ -89,8 +89,8 @@ impl<R: Files<File = File> + AllocGlobal + Clone + Drop> FolderStore<R> {
         let kind = folder.kind;
         let folders = with_alternates(rt, folder)?;
         let (mut listed, objects) = list(rt, &folders.paths, kind, loose)?;
-        expect_alternates(rt, folder, &folders)?;
-        let opened = open_indexes(rt, &listed.with_packs(rt)?, kind)?;
+        let folders = expect_alternates(rt, folder, &folders)?;
+        let opened = open_indexes(rt, &listed.paths, kind)?;
         let packs = pack_paths(rt.alloc(), &opened.paths)?;
         let mut skipped = skipped_alternates(rt, folders)?;
         skipped.append(&mut listed.skipped)?;
@@ -204,10 +204,10 @@ impl<R: Files<File = File> + AllocGlobal + Clone + Drop> FolderStore<R> {
     // Checks the file of a loose object in a directory.
     fn check_loose_file(&self, folder: &str, id: &ObjectId) -> Result<(), Error> {
         let path = loose_path(self.rt.alloc(), folder, id)?;
-        let Err(error) = fs::metadata(&self.rt, path.as_str()) else {
+        let Err(error) = metadata(&self.rt, &path) else {
             return Ok(());
         };
-        match fs::symlink_metadata(&self.rt, path.as_str()) {
+        match retried(|| fs::symlink_metadata(&self.rt, path.as_str())) {
             Err(gone) if gone.kind() == io::ErrorKind::NotFound => Ok(()),
             _ => Err(Error::file(self.rt.alloc(), &path, error)),
         }
@@ -225,13 +225,15 @@ fn copy_of(folder: &ObjectsFolder) -> Result<ObjectsFolder, AllocError>
     })
 }
 
-// Lists the pack indexes and the loose objects in object directories. The order makes that no
-// object is missed that is there all the time. One that is packed is in a pack before its loose
-// file is removed, and in the new pack before the old one is: so the loose objects are listed
-// before the packs. One that is taken out of a pack is loose before the pack is removed: so the
-// packs are listed before the loose objects too, and none of them may be gone after. A pack may
-// have come and gone in between, with objects that were loose before and are loose again: so no
-// directory of packs may have changed.
+// Lists the pack indexes with packs and the loose objects in object directories. No object is
+// missed that is there all the time: as the directories of packs are in the same state before and
+// after, all was in them what was found there, and an object that was in none of its packs was
+// loose.
+//
+// Within one tick of the file system's clock a directory may change twice and be in the same state.
+// An object is in a new pack before its loose file or its old pack is removed, and loose before its
+// pack is removed: so the packs are listed after the loose objects, and before them too, and none
+// may be gone after.
 fn list<R: Files + AllocGlobal>(
     rt: &R,
     folders: &[String],
@@ -240,23 +242,26 @@ fn list<R: Files + AllocGlobal>(
 ) -> Result<(PackIndexes, LooseObjects), Error>
     ensures { IfOk result (λ listed. listed.1.table.kind ≡ kind) }
 {
-    let before = PackIndexes::list(rt, folders)?;
+    let packs = PackFolders::of(rt, folders)?;
+    let before = packs.list(rt)?;
     let loose = list_loose(rt, folders, kind, loose)?;
-    let after = PackIndexes::list(rt, folders)?;
+    let after = packs.list(rt)?;
     after.expect_all(rt.alloc(), &before)?;
-    after.expect_unchanged(rt.alloc(), &before)?;
+    let after = after.with_packs(rt)?;
+    packs.expect_unchanged(rt)?;
     Ok((after, loose))
 }
 
-// Fails if the alternates of a directory are not these any more: one that came later may have got
-// objects that the directory had, and had no more as it was listed.
+// The alternates of a directory once more. Fails if they or their lists have changed: one that came
+// later may have got objects that the directory had, and had no more as it was listed.
 fn expect_alternates<R: Files + AllocGlobal>(
     rt: &R,
     folder: &ObjectsFolder,
     earlier: &Folders,
-) -> Result<(), Error> {
-    if with_alternates(rt, folder)?.paths == earlier.paths {
-        Ok(())
+) -> Result<Folders, Error> {
+    let folders = with_alternates(rt, folder)?;
+    if folders.paths == earlier.paths && folders.states == earlier.states {
+        Ok(folders)
     } else {
         Err(Error::changed(rt.alloc(), &folder.path))
     }

@@ -1,0 +1,122 @@
+//! What directories and files are before they are read, to know whether they changed meanwhile.
+
+ghost use Rattle.std.specs.Prelude.{◌≡◌, ◌≢◌, ◌↔◌, ◌==◌, IfErr, IsTrue, not};
+ghost use Rattle.std.specs.IoError.{error_kind};
+ghost use Rattle.std.specs.declared.io.ErrorKind.{ErrorKind};
+
+use crate::files::is_missing;
+use std::fs::{self, Metadata};
+use std::io::{self, ErrorKind};
+use std::os::unix::fs::MetadataExt;
+use std::path::Path;
+use std::rt::Files;
+
+/// The state of a directory or file: which one it is, its size in bytes, and when it was modified
+/// and when it was changed. If a path leads to nothing, its state is that of the first directory
+/// above that is there, and how many names are missing below: so what comes and goes again leaves
+/// another state, too.
+///
+/// What is read between two equal states was there at one time, unless it changed twice within one
+/// tick of the file system's clock.
+///
+/// ```
+/// let before = FileState::of(rt, ".git/objects/pack")?;
+/// let is_empty = fs::read_dir(rt, ".git/objects/pack")?.next().is_none();
+/// let is_unchanged = FileState::of(rt, ".git/objects/pack")?.is_same(&before);
+/// ```
+#[derive(Clone, Copy, Debug, PartialEq)]
+pub struct FileState {
+    missing: u64,
+    dev: u64,
+    ino: u64,
+    size: u64,
+    // Seconds and nanoseconds.
+    modified: (i64, i64),
+    changed: (i64, i64),
+}
+
+impl FileState {
+    /// The state of the directory or file at a path. The error is that of a look at it or above.
+    pub fn of<R: Files>(rt: &R, path: &str) -> io::Result<FileState> {
+        let mut missing = 0;
+        for above in Path::new(path).ancestors() {
+            let name = match above.as_str() {
+                "" => ".",
+                name => name,
+            };
+            match FileState::if_there(rt, name)? {
+                Some(mut state) => {
+                    state.missing = missing;
+                    return Ok(state);
+                }
+                None => missing += 1,
+            }
+        }
+        Err(ErrorKind::NotFound.into())
+    }
+
+    /// The state of the directory or file at a path, or `None` if it leads to nothing. The error is
+    /// that of the look at it.
+    pub fn if_there<R: Files>(rt: &R, path: &str) -> io::Result<Option<FileState>> {
+        match metadata(rt, path) {
+            Err(error) if is_missing(&error) => Ok(None),
+            found => Ok(Some(FileState::new(&found?))),
+        }
+    }
+
+    // The state of what is there.
+    fn new(found: &Metadata) -> FileState
+        ensures { result.missing ≡ 0 }
+    {
+        FileState {
+            missing: 0,
+            dev: found.dev(),
+            ino: found.ino(),
+            size: found.size(),
+            modified: (found.mtime(), found.mtime_nsec()),
+            changed: (found.ctime(), found.ctime_nsec()),
+        }
+    }
+
+    /// Whether the path led to nothing.
+    pub fn is_missing(&self) -> bool
+        ensures { result ≡ not (self.now.missing == 0) }
+    {
+        self.missing > 0
+    }
+
+    /// Whether the states are equal.
+    pub fn is_same(&self, other: &FileState) -> bool
+        ensures { IsTrue result ↔ (self.now ≡ other.now) }
+    {
+        self == other
+    }
+}
+
+/// What a call returns that is made again if a signal interrupts it. The error is any other one of
+/// the call.
+///
+/// ```
+/// let folder = retried(|| rt.open_dir(".git/objects/pack/"))?;
+/// ```
+pub fn retried<T: Drop, F: FnMut() -> io::Result<T>>(mut call: F) -> io::Result<T>
+    requires { F.IsAlwaysCallable call }
+    ensures { IfErr result (λ error. error_kind error ≢ ErrorKind.Interrupted) }
+{
+    for _ in 0..u64::MAX {
+        match call() {
+            Err(error) if error.kind() == ErrorKind::Interrupted => {}
+            result => return result,
+        }
+    }
+    Err(ErrorKind::TimedOut.into())
+}
+
+/// What a path leads to, by a call that is made again if a signal interrupts it.
+///
+/// ```
+/// let size = metadata(rt, ".git/HEAD")?.len();
+/// ```
+pub fn metadata<R: Files>(rt: &R, path: &str) -> io::Result<Metadata> {
+    retried(|| fs::metadata(rt, path))
+}

@@ -1,0 +1,6 @@
+use Rattle.std.proofs.Common.{All, ◌≡◌}
+use Rattle.gix_hash.specs.Ids.{id_kind}
+use Rattle.store_folders.proofs.loose.folder_of.Given as goal
+
+abbrev pub invariant-loop-part : goal.invariant-loop-part
+invariant-loop-part g l = All (λ id. id_kind id ≡ l.kind) l.ids.items
