@@ -12,8 +12,9 @@ use packtool_commands::{
     FileError, Pairing, PairingError, pair, show as show_input, validate, write_ending,
     write_named, write_pairing,
 };
+use repositories::metadata;
 use std::alloc::{AllocError, Global};
-use std::fs::{File, metadata};
+use std::fs::File;
 use std::io::{self, Cursor, Read, Seek, SeekFrom};
 use streams::{Ending, PipeError, Plain, ReadAt, Retrying, check_either, check_seal};
 
@@ -30,7 +31,8 @@ const PACK_END: &str = ".pack";
 // follow.
 const HEAD_LEN: usize = 8 + 256 * 4;
 
-/// Prints the names of a pack index, and returns whether there is one.
+/// Prints the names of a pack index, and returns whether there is one. With no kind, the length of
+/// a file says it.
 pub fn show<'a, W: io::Write>(
     rt: &HostRuntime,
     path: &str,
@@ -40,7 +42,12 @@ pub fn show<'a, W: io::Write>(
     if path == "-" {
         show_from(rt, path, kind, rt.reader(), out)
     } else {
-        show_from(rt, path, kind, open(rt, path)?, out)
+        let file = open(rt, path)?;
+        let kind = match kind {
+            Some(kind) => Some(kind),
+            None => kind_by_length(open(rt, path)?),
+        };
+        show_from(rt, path, kind, file, out)
     }
 }
 
