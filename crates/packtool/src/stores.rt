@@ -44,18 +44,18 @@ pub fn answer<'a>(rt: &HostRuntime, request: &StoreRequest<'a>) -> Result<u8, Fa
     match request.ask {
         Ask::Once(question) => {
             let question = in_kind(question, folder.kind)?;
-            run_over(rt, &folder, Asked::Once(question), &mut reported)
+            answer_over(rt, &folder, Asked::Once(question), &mut reported)
         }
         Ask::Lines(question) => {
             let question = in_kind(question, folder.kind)?;
-            run_over_input(rt, &folder, question, &mut reported)
+            answer_input(rt, &folder, question, &mut reported)
         }
     }
 }
 
-// Runs a command over the lines of standard input. A chunk of them is looked up in the store as it
-// is after they were read, and its output is written before more is read.
-fn run_over_input<'a>(
+// Answers a question for the lines of standard input. A chunk of them is looked up in the store as
+// it is after they were read, and its output is written before more is read.
+fn answer_input<'a>(
     rt: &HostRuntime,
     folder: &ObjectsFolder,
     question: Question<Answers>,
@@ -69,15 +69,15 @@ fn run_over_input<'a>(
         if !input.next()? {
             break;
         }
-        let ran = run_over_lines(rt, folder, question, input.lines(), reported)?;
+        let ran = answer_lines(rt, folder, question, input.lines(), reported)?;
         status = status.max(ran);
     }
     Ok(status)
 }
 
-// Runs a command over lines, over fewer at a time if they find too much, and returns the worst
+// Answers a question for lines, fewer at a time if they find too much, and returns the worst
 // status. One line alone may find more.
-fn run_over_lines<'a>(
+fn answer_lines<'a>(
     rt: &HostRuntime,
     folder: &ObjectsFolder,
     question: Question<Answers>,
@@ -94,7 +94,7 @@ fn run_over_lines<'a>(
             break;
         }
         let (part, after) = first_lines(rest, len);
-        match run_over(rt, folder, Asked::Lines(question, part), reported) {
+        match answer_over(rt, folder, Asked::Lines(question, part), reported) {
             Err(Failure::TooMany) => len = part.len() / 2,
             ran => {
                 status = status.max(ran?);
@@ -147,7 +147,7 @@ fn line_len(lines: &[u8]) -> usize
 }
 
 // Answers what is asked of an object directory, and returns the status.
-fn run_over<'a>(
+fn answer_over<'a>(
     rt: &HostRuntime,
     folder: &ObjectsFolder,
     asked: Asked<'a, '_>,

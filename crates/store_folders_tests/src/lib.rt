@@ -1,6 +1,6 @@
 //! Tests of `store_folders`, over directories that change and reads that fail, of the states of
-//! `repositories`, and a call of each kind of `callers`, by public calls only. What the built program shows is tested by
-//! `tools/stores` and `tools/live`.
+//! `repositories`, and a call of each kind of `callers`, by public calls only. What the built
+//! program shows is tested by `tools/stores` and `tools/live`.
 #![tactic(auto)]
 
 #[cfg(test)]
