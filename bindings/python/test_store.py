@@ -51,6 +51,7 @@ def children():
 
 def left(size):
     """The processes that run, which are soon no more than these."""
+    gc.collect()
     for _ in range(100):
         if len(children()) <= size:
             break
@@ -296,6 +297,7 @@ class Stores(unittest.TestCase):
             except Alarm:
                 rung += 1
         self.assertTrue(rung > 20 and all(within), (rung, within))
+        gc.collect()
 
     def test_close(self):
         bare, ids = self.blobs(packed=500, loose=50)

@@ -234,6 +234,9 @@ def _chunks(prefixes: Iterable[_D]) -> Iterator[List[Tuple[_D, str]]]:
         if not _are_lines(text) or text.count("\n") != len(lines):
             for prefix in given:
                 _line(prefix)  # raises why one is none
+        if min(map(len, lines)) > max(_COSTS):
+            yield list(zip(given, lines))
+            continue
         chunk, cost = [], 0  # type: List[Tuple[_D, str]], int
         for pair in zip(given, lines):
             cost += _COSTS.get(len(pair[1]), 1)
@@ -247,14 +250,18 @@ def _chunks(prefixes: Iterable[_D]) -> Iterator[List[Tuple[_D, str]]]:
 def _ids_by_line(answer: str) -> Dict[str, List[Id]]:
     """What `find --stdin` prints, by the lines that it was asked."""
     found: Dict[str, List[Id]] = {}
-    words = iter(answer.split())
+    words, of_key, from_hex = iter(answer.split()), Id._of_key, bytes.fromhex
     for line, digits in zip(words, words):
         if digits == "missing":
             found[line] = []
         elif digits == "bad":
             raise Error(Code.PREFIX_TOO_LONG)
         else:
-            found.setdefault(line, []).append(_id(digits))
+            id = of_key(_HEADS[len(digits) >> 1] + from_hex(digits))
+            if line in found:
+                found[line].append(id)
+            else:
+                found[line] = [id]
     return found
 
 
