@@ -83,6 +83,8 @@ RESEALED = [
 # Bytes of sha256.idx, by position and value, and what `check` says of the changed index on standard input: as of a file, the
 # length says the kind.
 CHECKED = [
+    # The count of byte 0, which is above the next then.
+    (11, 21, "the fan-out entry of the first byte 00 is wrong"),
     # The first byte of the second name, and the last of all.
     (1064, 0, "the id at position 1 is below the one before it"),
     (1935, 0, "the checksum of the pack index is wrong"),
