@@ -11,6 +11,7 @@ import os
 import random
 import select
 import subprocess
+from pathlib import Path
 
 import made
 from probe import DIGITS, POWERLESS, ROOT, git, index_of, listed, pack_index, sealed, shortest, sorted_ids, started
@@ -28,6 +29,30 @@ LEAST = 1064
 MANY_LINES, PATIENCE = 20_000, 60
 # How many bytes a read of standard input takes at most: at first, after one that got as many, and then.
 READS = [1 << 14, 1 << 16, 1 << 18]
+# Lines of a list of alternates, and why each is skipped, if it is an alternate that cannot be used.
+NOT_TEXT, RETURN = "{objects}/info/alternates: a path is not UTF-8", "its line ends in a carriage return"
+ODD_LINES = [
+    (b"", None),
+    (b"#", None),
+    (b"# x", None),
+    (b"../../own/objects", None),
+    (b"{room}/good", None),
+    (b"{room}/folder\r", None),
+    (b"\xff", NOT_TEXT),
+    (b"../../../\xff/x", NOT_TEXT),
+    (b'"\\377"', NOT_TEXT),
+    (b'"', f'{{objects}}/": {NO_FILE}'),
+    (b'"x', f'{{objects}}/"x: {NO_FILE}'),
+    (b" ", f"{{objects}}/ : {NO_FILE}"),
+    (b"\r", f"{{objects}}/: {RETURN}"),
+    (b"{room}/none", f"{{room}}/none: {NO_FILE}"),
+    (b"{room}/none\r", f"{{room}}/none: {RETURN}"),
+    (b"{room}/file", "{room}/file: not a directory"),
+    (b"{room}/file\r", f"{{room}}/file: {RETURN}"),
+    (b"{room}/file/x", f"{{room}}/file/x: {NO_FOLDER}"),
+    (b"{room}/loop", f"{{room}}/loop: {LOOP}"),
+    (b"{room}/loop\r", f"{{room}}/loop\r: {LOOP}"),
+]
 # Sets how many bytes a pipe holds: the most that anybody may ask for.
 SET_PIPE_SIZE, PIPE_SIZE = 1031, 1 << 20
 
@@ -264,7 +289,8 @@ def much_found(room):
     write(room / "objects" / "pack" / "pack-0.pack")
     listed_lines = (line.split() for line in git(room, "show-index", given=index).splitlines())
     places = {id: f"{id} objects/pack/pack-0.pack {offset}" for offset, id, _ in listed_lines}
-    for command, size, printed, most in [("find", 2, str, 6), ("find", 3, str, 6), ("find", 4, str, 6), ("where", 2, places.get, 16), ("where", 3, places.get, 16)]:
+    asked = [("find", size, str, 6) for size in (2, 3, 4)] + [("where", size, places.get, 16) for size in (2, 3)]
+    for command, size, printed, most in asked:
         prefixes = [f"{number:0{size}x}" for number in range(16**size)]
         random.Random(size).shuffle(prefixes)
         found = {prefix: [f"{prefix} missing\n"] for prefix in prefixes}
@@ -398,22 +424,14 @@ def odd_lines(room):
     (room / "loop\r").symlink_to("loop\r")
     (room / "folder\r").mkdir()
     add_ids(room / "good", [good])
-    text = "{list}: a path is not UTF-8"
-    rows = [(b"\xff", text), (b"../../../\xff/x", text), (b'"\\377"', text), (b"", None), (b"# x", None), (b"#", None), (b"../../own/objects", None)]
-    rows += [(b'"', "{below}/\": " + NO_FILE), (b'"x', "{below}/\"x: " + NO_FILE), (b" ", "{below}/ : " + NO_FILE)]
-    rows += [(b"{room}/good", None), (b"{room}/folder\r", None), (b"{room}/none", f"{{room}}/none: {NO_FILE}")]
-    rows += [(b"{room}/none\r", "{room}/none: its line ends in a carriage return"), (b"{room}/file", "{room}/file: not a directory")]
-    rows += [(b"{room}/file\r", "{room}/file: its line ends in a carriage return"), (b"{room}/loop", f"{{room}}/loop: {LOOP}")]
-    rows += [(b"{room}/loop\r", f"{{room}}/loop\r: {LOOP}"), (b"{room}/file/x", f"{{room}}/file/x: {NO_FOLDER}"), (b"\r", "{below}/: its line ends in a carriage return")]
-    for at, (line, why) in enumerate(rows):
+    for at, (line, why) in enumerate(ODD_LINES):
         for order in (1, -1):
             repository = room / f"{at}{'+' if order > 0 else '-'}" / "own"
             add_repository(repository, ids=[own])
-            objects = repository / "objects"
+            objects = str(repository / "objects")
             lines = [line.replace(b"{room}", os.fsencode(room)), os.fsencode(room / "good")][::order]
-            write(objects / "info" / "alternates", b"\n".join(lines))
-            errors = why.replace("{room}", str(room)).replace("{below}", str(objects)) if why else ""
-            errors = error_of(errors.replace("{list}", f"{objects}/info/alternates") + ", skipped") if why else ""
+            write(Path(objects, "info", "alternates"), b"\n".join(lines))
+            errors = error_of(f"{why}, skipped".format(room=room, objects=objects)) if why else ""
             if listed(repository) != [own, good]:
                 raise ValueError(f"git lists other ids with {line!r}")
             yield finds(f"alternates, {line!r} {'first' if order > 0 else 'last'}", [own, good], errors=errors, cwd=repository)
@@ -426,7 +444,8 @@ def long_texts(room):
     for size in (1 << 12, 1 << 16, 1 << 18, 1 << 20):
         repository = room / str(size) / "own"
         fill = b"x" * size
-        for name, text in [("a comment", b"#" + fill), ("a value", b"[a]\nb=" + fill), ("lines", b"\n" * size), ("a section", b'[a "' + fill + b'"]')]:
+        configs = [("a comment", b"#" + fill), ("a value", b"[a]\nb=" + fill), ("a section", b'[a "' + fill + b'"]')]
+        for name, text in [*configs, ("lines", b"\n" * size)]:
             add_repository(repository, "sha256", [own])
             write(repository / "config", text + b"\n" + made.SHA256)
             yield finds(f"a config with {name} of {size} bytes", [own], cwd=repository)
@@ -528,8 +547,8 @@ def exchanges(program, room):
             for total in [*READS, READS[-1], READS[0] - 1, READS[0] + 1]:
                 lines = [made.LOOSE[: size - 1]] * (total // size)
                 lines[-1] += "0" * (total % size)
-                given, wanted = ("".join(texts).encode() for texts in ((f"{line}\n" for line in lines), (answer_to(line, made.LOOSE) for line in lines)))
-                wrong = wrong or asked.ask(given, wanted)
+                given = "".join(f"{line}\n" for line in lines).encode()
+                wrong = wrong or asked.ask(given, "".join(answer_to(line, made.LOOSE) for line in lines).encode())
         yield f"find --stdin of whole reads of lines of {size} bytes", wrong
 
 

@@ -90,7 +90,10 @@ def count(results):
         if ONLY not in text:
             continue
         if callable(holds):
-            wrong = holds()
+            try:
+                wrong = holds()
+            except (OSError, ValueError, subprocess.SubprocessError) as why:
+                wrong = str(why)
             text, holds = f"{text}: {wrong or 'as wanted'}", not wrong
         print(text, flush=True)
         passed += bool(holds)

@@ -26,4 +26,6 @@ mod streams_pipe;
 #[cfg(test)]
 mod streams_plain;
 #[cfg(test)]
+mod streams_retrying;
+#[cfg(test)]
 mod well_known;

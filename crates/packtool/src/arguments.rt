@@ -246,19 +246,32 @@ fn files<'a>(alloc: Global) -> Arg<'a> {
 /// The request that was read, or `None` if it names no command.
 pub fn read_request<'m, 'a>(matches: &'m ArgMatches<'a>) -> Option<Request<'m, 'a>> {
     let (name, matches) = matches.subcommand()?;
+    match action_of(name)? {
+        Action::Store(command) => Some(Request::Store(store_request(command, matches))),
+        Action::Files(command) => file_request(command, matches),
+    }
+}
+
+// The request of a command over a store.
+fn store_request<'a>(command: StoreCommand, matches: &ArgMatches<'a>) -> StoreRequest<'a> {
+    let ask = ask_of(command, matches);
+    let objects = matches.get_str("objects");
     let kind = kind_of(matches);
-    Some(match action_of(name)? {
-        Action::Store(command) => Request::Store(StoreRequest {
-            ask: ask_of(command, matches),
-            objects: matches.get_str("objects"),
-            kind,
-        }),
-        Action::Files(command) => Request::Files(FileRequest {
-            command,
-            paths: matches.get_strs("files").unwrap_or(&[]),
-            kind,
-        }),
-    })
+    StoreRequest { ask, objects, kind }
+}
+
+// The request of a command over files.
+fn file_request<'m, 'a>(
+    command: FileCommand,
+    matches: &'m ArgMatches<'a>,
+) -> Option<Request<'m, 'a>> {
+    let paths = matches.get_strs("files")?;
+    let kind = kind_of(matches);
+    Some(Request::Files(FileRequest {
+        command,
+        paths,
+        kind,
+    }))
 }
 
 // The command of this name.

@@ -58,17 +58,13 @@ fn name_of<A: Allocator + Copy>(
     Parts::new(alloc, store).abbreviate(&id, 4)
 }
 
-// An id that the store has not, although another begins as it does.
-const ABSENT: &str = "4b825dc642cb6eb9a060e54bf8d69288fbee4905";
-
-// A look-up of the ids that begin with `4b`, of the locations or the name of the id that is
-// everywhere, or of the name of the one that the store has not.
+// A look-up of the ids that begin with `4b`, or of the locations or the name of the id that is
+// everywhere.
 #[derive(Clone, Copy)]
 enum Asked {
     Ids,
     Locations,
     Name,
-    NoName,
 }
 
 // Finds what is asked for, or nothing.
@@ -89,7 +85,6 @@ fn look_up<A: Allocator + Copy>(
             let name = name_of(rt, alloc, store, EVERYWHERE)?;
             expect!(rt; name.is_some_and(|name| name.eq_str(NAME)));
         }
-        Asked::NoName => expect!(rt; name_of(rt, alloc, store, ABSENT)?.is_none()),
     }
     Ok(())
 }
@@ -147,7 +142,6 @@ fn each_read_fails_in_turn(rt: HostRuntime) -> Result<(), Fail> {
             want,
         );
     }
-    expect_text(&rt, &outcome(&rt, &content, 6, Asked::NoName)?, "found");
     Ok(())
 }
 
@@ -183,6 +177,26 @@ fn memory_is_refused(rt: HostRuntime) -> Result<(), Fail> {
             before = is_enough;
         }
         expect!(&rt; before);
+    }
+    Ok(())
+}
+
+// Ids that the store does not have: one that differs from one of it in its last digit alone, one
+// between two of it, and one with another first byte.
+const ABSENT: [&str; 3] = [
+    "4b825dc642cb6eb9a060e54bf8d69288fbee4905",
+    "4b88000000000000000000000000000000000000",
+    "5000000000000000000000000000000000000000",
+];
+
+#[test]
+fn absent_ids_have_no_name_and_no_location(rt: HostRuntime) -> Result<(), Fail> {
+    let content = Content::new(&rt)?;
+    let reads = Reads::new(100_000);
+    let store = content.open(rt.alloc(), &reads)?;
+    for id in &ABSENT {
+        expect!(&rt; name_of(&rt, rt.alloc(), &store, id)?.is_none(), id);
+        expect!(&rt; locations_of(&rt, rt.alloc(), &store, id)?.is_empty(), id);
     }
     Ok(())
 }

@@ -6,7 +6,7 @@ use crate::memory::{Memory, Reads};
 use linked_list_allocator::LocalHeap;
 use object_store::Store;
 use packtool_commands::{Answers, PrefixLines, StoreError, find_each, locate_each, name_each};
-use std::alloc::Allocator;
+use std::alloc::{AllocError, Allocator, Global};
 use std::process::Abort;
 use std::test::Fail;
 use streams::{IntoSlice, Sink};
@@ -110,7 +110,7 @@ const ROWS: [(Asked, &str, bool, &str); 8] = [
 const AMPLE: usize = 10_000;
 
 // More than the lines find.
-const MOST: usize = 1_000;
+const MOST: usize = 10_000;
 
 // Prints what is asked for.
 fn run<A: Allocator + Copy>(
@@ -179,6 +179,59 @@ fn reads_fail_in_turn(rt: HostRuntime) -> Result<(), Fail> {
             expect_printed(&rt, row, left, 1024, 0)?;
         }
         expect_printed(&rt, row, reads, 1024, row.3.len())?;
+    }
+    Ok(())
+}
+
+// More lines than `packtool` asks for at once.
+const MANY: usize = 8_193;
+
+// What is asked for of so many lines, the line, and what is printed for each.
+const MANY_ROWS: [(Asked, &str, &str); 3] = [
+    (
+        Asked::Find(Answers::One),
+        "4b9\n",
+        "4b90000000000000000000000000000000000000\n",
+    ),
+    (
+        Asked::Locate(Answers::One),
+        "4b9\n",
+        "4b90000000000000000000000000000000000000 2.pack 3074\n",
+    ),
+    (Asked::Names, "4b9\n", "4b9000\n"),
+];
+
+// A text so many times.
+fn repeated(alloc: Global, text: &str) -> Result<String, AllocError> {
+    let mut all = String::new(alloc);
+    for _ in 0..MANY {
+        all.push_str(text)?;
+    }
+    Ok(all)
+}
+
+// Prints what is asked for of many lines.
+fn expect_many(
+    rt: &(impl Abort + AllocGlobal),
+    store: &mut Memory<'_>,
+    (asked, line, printed): (Asked, &str, &str),
+) -> Result<(), Fail> {
+    let (lines, want) = (repeated(rt.alloc(), line)?, repeated(rt.alloc(), printed)?);
+    let mut buf = want.as_bytes().to_vec(rt.alloc())?;
+    buf.fill(0);
+    let mut out = IntoSlice::new(&mut buf);
+    let outcome = run(rt, rt.alloc(), (asked, lines.as_str()), store, &mut out);
+    expect!(rt; matches!(outcome, Ok(true)) && out.written() == want.as_bytes(), asked);
+    Ok(())
+}
+
+#[test]
+fn lines_may_be_many(rt: HostRuntime) -> Result<(), Fail> {
+    let content = Content::new(&rt)?;
+    let reads = Reads::new(1_000_000);
+    let mut store = content.open(rt.alloc(), &reads)?;
+    for row in &MANY_ROWS {
+        expect_many(&rt, &mut store, *row)?;
     }
     Ok(())
 }

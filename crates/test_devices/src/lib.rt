@@ -79,6 +79,8 @@ pub enum Fault {
     AfterBytes(usize),
     /// At each flush of a writer, and at no other call.
     AtFlush,
+    /// As `InterruptedAt`, at the flush of a writer with this number, and at no other call.
+    FlushInterruptedAt(usize),
     /// At each call, and at each flush of a writer, with an error of that kind.
     Always(io::ErrorKind),
 }
@@ -87,7 +89,7 @@ impl Fault {
     /// Whether a call fails that is the device's `calls`-th, when `len` bytes have passed before.
     fn strikes(self, calls: usize, len: usize) -> bool {
         match self {
-            Fault::Never | Fault::AtFlush => false,
+            Fault::Never | Fault::AtFlush | Fault::FlushInterruptedAt(_) => false,
             Fault::AtCall(at) | Fault::InterruptedAt(at) => calls == at,
             Fault::AfterBytes(most) => len >= most,
             Fault::Always(_) => true,
@@ -97,7 +99,9 @@ impl Fault {
     /// The error that it returns.
     fn error(self) -> io::Error {
         match self {
-            Fault::InterruptedAt(_) => io::Error::from(io::ErrorKind::Interrupted),
+            Fault::InterruptedAt(_) | Fault::FlushInterruptedAt(_) => {
+                io::Error::from(io::ErrorKind::Interrupted)
+            }
             Fault::Always(kind) => io::Error::from(kind),
             _ => io::Error::new(io::ErrorKind::Other, FAILED),
         }
@@ -194,9 +198,10 @@ impl io::Write for Writer {
 
     fn flush(&mut self) -> io::Result<()> {
         self.flushes = self.flushes.saturating_add(1);
-        if matches!(self.fault, Fault::AtFlush | Fault::Always(_)) {
-            return Err(self.fault.error());
+        match self.fault {
+            Fault::AtFlush | Fault::Always(_) => Err(self.fault.error()),
+            Fault::FlushInterruptedAt(at) if at == self.flushes => Err(self.fault.error()),
+            _ => Ok(()),
         }
-        Ok(())
     }
 }
