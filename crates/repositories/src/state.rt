@@ -1,6 +1,6 @@
 //! What directories and files are before they are read, to know whether they changed meanwhile.
 
-ghost use Rattle.std.specs.Prelude.{◌≡◌, ◌≢◌, ◌↔◌, ◌==◌, IfErr, IsTrue, not};
+ghost use Rattle.std.specs.Prelude.{◌≡◌, ◌≢◌, ◌==◌, IfErr, not};
 ghost use Rattle.std.specs.IoError.{error_kind};
 ghost use Rattle.std.specs.declared.io.ErrorKind.{ErrorKind};
 
@@ -22,7 +22,7 @@ use std::rt::Files;
 /// ```
 /// let before = FileState::of(rt, ".git/objects/pack")?;
 /// let is_empty = fs::read_dir(rt, ".git/objects/pack")?.next().is_none();
-/// let is_unchanged = FileState::of(rt, ".git/objects/pack")?.is_same(&before);
+/// let is_unchanged = FileState::of(rt, ".git/objects/pack")? == before;
 /// ```
 #[derive(Clone, Copy, Debug, PartialEq)]
 pub struct FileState {
@@ -38,7 +38,7 @@ pub struct FileState {
 impl FileState {
     /// The state of the directory or file at a path. The error is that of a look at it or above.
     pub fn of<R: Files>(rt: &R, path: &str) -> io::Result<FileState> {
-        let mut missing = 0;
+        let mut missing = 0u64;
         for above in Path::new(path).ancestors() {
             let name = match above.as_str() {
                 "" => ".",
@@ -49,7 +49,7 @@ impl FileState {
                     state.missing = missing;
                     return Ok(state);
                 }
-                None => missing += 1,
+                None => missing = missing.saturating_add(1),
             }
         }
         Err(ErrorKind::NotFound.into())
@@ -83,13 +83,6 @@ impl FileState {
         ensures { result ≡ not (self.now.missing == 0) }
     {
         self.missing > 0
-    }
-
-    /// Whether the states are equal.
-    pub fn is_same(&self, other: &FileState) -> bool
-        ensures { IsTrue result ↔ (self.now ≡ other.now) }
-    {
-        self == other
     }
 }
 

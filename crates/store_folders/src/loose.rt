@@ -155,7 +155,7 @@ fn parts_if_unchanged<R: Files + AllocGlobal>(
         if let Some(Some(state)) = before.get(at) {
             let folder = fan_out(rt, path, byte)?;
             let names = names_in(rt, &folder)?;
-            if !state_of(rt, &folder)?.is_same(state) {
+            if state_of(rt, &folder)? != *state {
                 return Ok(None);
             }
             parts.push(Part { at, byte, names })?;

@@ -66,7 +66,7 @@ impl PackFolders {
     // Fails if one of them has changed.
     pub(crate) fn expect_unchanged<R: Files + AllocGlobal>(&self, rt: &R) -> Result<(), Error> {
         for folder in &self.folders {
-            if !state_of(rt, &folder.path)?.is_same(&folder.state) {
+            if state_of(rt, &folder.path)? != folder.state {
                 return Err(Error::changed(rt.alloc(), &folder.path));
             }
         }

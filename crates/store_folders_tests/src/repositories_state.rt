@@ -12,11 +12,11 @@ fn states_of_what_is_there_and_of_what_is_missing(rt: HostRuntime) -> Result<(),
     make(&rt, &["state/a/b"], &[], &[])?;
     let there = FileState::of(&rt, "state/a/b")?;
     expect!(&rt; !there.is_missing());
-    expect!(&rt; there.is_same(&FileState::of(&rt, "state/a/b")?));
+    expect!(&rt; there == FileState::of(&rt, "state/a/b")?);
     let missing = FileState::of(&rt, "state/a/c/d")?;
     expect!(&rt; missing.is_missing());
-    expect!(&rt; !missing.is_same(&FileState::of(&rt, "state/a/c")?));
-    expect!(&rt; !missing.is_same(&FileState::of(&rt, "state/a")?));
+    expect!(&rt; missing != FileState::of(&rt, "state/a/c")?);
+    expect!(&rt; missing != FileState::of(&rt, "state/a")?);
     // What is below a file is missing, too.
     expect!(&rt; FileState::of(&rt, "state/a/b/c")?.is_missing());
     fs::remove_dir_all(&rt, "state")?;

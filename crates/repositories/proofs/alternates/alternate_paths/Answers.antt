@@ -10,4 +10,4 @@ loop-left-preserved g c =
     (reads_entry _ _ _ c.in_ok-path.path.items rest _ (is_some _ c.loop-left-test.ensures) c.in_ok-path.ensures.entry c.loop-left.invariant)
 
 pub returns : goal.returns
-returns g c = reads_all _ _ _ _ c.loop-left.invariant (is_empty _ c.loop-left-test.ensures)
+returns g c = reads_all _ c.args.list.now _ _ c.loop-left.invariant (is_empty _ c.loop-left-test.ensures)
