@@ -113,14 +113,14 @@ def _version(path: str) -> str:
     return ""
 
 
-def _finish(child: Any, notes: Any, owner: int) -> None:
+def _finish(child: "subprocess.Popen[bytes]", files: List[Any], owner: int) -> None:
     """Ends a process, and closes its pipes. If this process was forked, it goes on for the one that began it."""
     if owner == os.getpid():
         child.kill()
     else:
         child.returncode = 0
-    for pipe in (child.stdin, child.stdout, notes):
-        pipe.close()
+    for file in files:
+        file.close()
     child.wait()
 
 
@@ -132,23 +132,25 @@ class _Process:
         self._owner, self._seen, self._unsent = os.getpid(), 0, memoryview(b"")
         # What is read and not returned yet, after the end of the line before it.
         self._got = bytearray(b"\n")
-        self._notes = open(os.memfd_create("packtool"), "rb", 0)
-        try:
+        # (if anything ends this before its end, the process gets no input, and ends. The pipes of a Popen would stay open.)
+        with contextlib.ExitStack() as opened:
+            self._notes = opened.enter_context(open(os.memfd_create("packtool"), "rb", 0))
+            theirs, ours = os.pipe()
+            put, self._put = opened.enter_context(open(theirs, "rb", 0)), opened.enter_context(open(ours, "wb", 0))
+            ours, theirs = os.pipe()
+            self._get, get = opened.enter_context(open(ours, "rb", 0)), opened.enter_context(open(theirs, "wb", 0))
             # (in a session of its own, since Ctrl-C is sent to all processes of a terminal's group)
-            self._child = subprocess.Popen(
-                [program, *words], cwd=directory, env=environment, stdin=-1, stdout=-1, stderr=self._notes, bufsize=0,
-                start_new_session=True,
-            )  # fmt: skip
-        except BaseException:
-            self._notes.close()
-            raise
-        self.end = weakref.finalize(self, _finish, self._child, self._notes, self._owner)
-        assert self._child.stdin and self._child.stdout
-        self._in, self._out = self._child.stdin.fileno(), self._child.stdout.fileno()
+            how: Dict[str, Any] = {"stdin": put, "stdout": get, "stderr": self._notes, "start_new_session": True}
+            self._child = subprocess.Popen([program, *words], cwd=directory, env=environment, **how)
+            self.end = weakref.finalize(self, _finish, self._child, [self._notes, self._put, self._get], self._owner)
+            for pipe in put, get:
+                pipe.close()
+            opened.pop_all()
+        self._in, self._out = self._put.fileno(), self._get.fileno()
         os.set_blocking(self._in, False)
         with contextlib.suppress(OSError):  # (it works without, and slower)
-            for pipe in (self._in, self._out) if is_bulk else ():
-                fcntl.fcntl(pipe, _F_SETPIPE_SZ, _PIPE)
+            for number in (self._in, self._out) if is_bulk else ():
+                fcntl.fcntl(number, _F_SETPIPE_SZ, _PIPE)
 
     def kill(self) -> None:
         """Ends it, but leaves the pipes open, from which another thread may read. In a forked process it goes on."""
