@@ -4,7 +4,7 @@ use Rattle.std.specs.Prelude.{◌↔◌, slice_range, IsTrue}
 use Rattle.std.specs.List.{All, count_by}
 use Rattle.std.specs.Simd.{first_chunks}
 use Rattle.std.proofs.Math.Nat.{mul-le-mul_left}
-use Rattle.std.proofs.lemmas.List.{get_or-drop, get_or-map, get_or-take, length-drop, length-map, length-take-le, same_lists}
+use Rattle.std.proofs.lemmas.List.{take-take, drop-drop, drop-take, get_or-drop, get_or-map, get_or-take, length-drop, length-map, length-take-le, same_lists}
 use Rattle.std.proofs.lemmas.List.Elements.{All-map, filter_passes}
 use Rattle.gix_hash.specs.Digits.{digits_of}
 use Rattle.gix_hash.specs.Kinds.{byte_len_of}
@@ -19,7 +19,6 @@ use Rattle.pack_index.specs.Lazy.{HaveFirstByte, IsBucketFault, IsReadOrMemory, 
 use Rattle.pack_index.specs.declared.lazy_error.LazyError.{LazyError}
 use Rattle.pack_index.specs.declared.lazy_error.LazyError.TheVariants.{Read, Memory, WrongCount}
 use Rattle.pack_index.proofs.Counted.{as_many, digest_digits, length-digests_in, length-names_in, length-table}
-use Rattle.streams.proofs.Parts.{part_of_part}
 use Rattle.streams.specs.Streams.{IsReadAt}
 
 -- a test of whether digests have the first byte, by their bytes
@@ -32,6 +31,13 @@ have_first kind byte bytes chunks all is test =
       λ so. All-map P digits_of chunks (test.0 so),
       λ each. test.1 (λ k d low. subst P (get_or-map digits_of chunks k d [] low) (each k [] (omega (arith, low, length-map chunks digits_of)))),
     )
+
+-- a part of a part of some bytes
+part_of_part : (n at len from : ℕ) (bytes : List ℕ) → at + n ≤ len → take n (drop at (take len (drop from bytes))) ≡ take n (drop (from + at) bytes)
+part_of_part n at len from bytes within =
+    let rest : at + (len - at) ≡ len = omega (arith, within) in
+    ap (λ j. take n (drop at (take j (drop from bytes)))) (sym rest) ∙ ap (take n) (drop-take at (len - at) (drop from bytes))
+    ∙ take-take n (len - at) (drop at (drop from bytes)) (omega (arith, within)) ∙ ap (take n) (drop-drop at from bytes)
 
 -- a digest in a part of some bytes that is whole digests
 digest_in : (kind : Kind) (from count k : ℕ) (bytes part d : List ℕ) → part ≡ take (byte_len_of kind * count) (drop from bytes) → length part ≡ byte_len_of kind * count

@@ -156,16 +156,28 @@ fn answer_over<'a>(
     requires { IsAskedOf folder.now.kind asked }
 {
     let mut out = buffered(rt, rt.stdout())?;
-    let status = match asked {
-        Asked::Once(question) => write_lines(rt, folder, question, reported, &mut out),
-        Asked::Lines(question, lines) => {
-            write_each(rt, folder, question, lines, reported, &mut out)
-        }
-    };
-    flushed(status?, &mut out)
+    let status = write_answers(rt, folder, asked, reported, &mut out)?;
+    flushed(status, &mut out)
 }
 
-// Opens the store, and writes what a question finds in it.
+// Writes what a question finds, or each of its lines.
+fn write_answers<'a, W: io::Write>(
+    rt: &HostRuntime,
+    folder: &ObjectsFolder,
+    asked: Asked<'a, '_>,
+    reported: &mut Vec<String>,
+    out: &mut Plain<W>,
+) -> Result<u8, Failure<'a>>
+    requires asked { IsAskedOf folder.now.kind asked }
+    requires output { plain_failed out.old ≡ false }
+{
+    Ok(match asked {
+        Asked::Once(question) => write_lines(rt, folder, question, reported, out)?,
+        Asked::Lines(question, lines) => write_each(rt, folder, question, lines, reported, out)?,
+    })
+}
+
+// Writes what a question finds.
 fn write_lines<'a, W: io::Write>(
     rt: &HostRuntime,
     folder: &ObjectsFolder,
@@ -176,27 +188,62 @@ fn write_lines<'a, W: io::Write>(
     requires least { LeastFits folder.now.kind question }
     requires output { plain_failed out.old ≡ false }
 {
-    match question {
-        Question::Find(text) => {
-            let (mut store, prefix) = open_part(rt, folder, text)?;
-            let ran = find(rt.alloc(), &mut store, &prefix, out);
-            status_of(rt, &mut store, ran, reported, out)
-        }
-        Question::Locate(text) => {
-            let (mut store, prefix) = open_part(rt, folder, text)?;
-            store.check_loose_files(&prefix)?;
-            let ran = locate(rt.alloc(), &mut store, &prefix, out);
-            status_of(rt, &mut store, ran, reported, out)
-        }
-        Question::Names(least) => {
-            let mut store = FolderStore::open(rt, folder, LooseIds::All)?;
-            let ran = names(rt.alloc(), &mut store, least, out);
-            // What was written before the store was opened again may lack what was skipped then.
-            let was_whole = report_skipped(rt, store.skipped_before(), reported)?;
-            let status = status_of(rt, &mut store, ran, reported, out)?;
-            Ok(if was_whole { status } else { FAILED })
-        }
-    }
+    Ok(match question {
+        Question::Find(text) => write_ids(rt, folder, text, reported, out)?,
+        Question::Locate(text) => write_locations(rt, folder, text, reported, out)?,
+        Question::Names(least) => write_names(rt, folder, least, reported, out)?,
+    })
+}
+
+// Opens the store, and writes the lines of `find`.
+fn write_ids<'a, W: io::Write>(
+    rt: &HostRuntime,
+    folder: &ObjectsFolder,
+    text: &'a str,
+    reported: &mut Vec<String>,
+    out: &mut Plain<W>,
+) -> Result<u8, Failure<'a>>
+    requires { plain_failed out.old ≡ false }
+{
+    let (mut store, prefix) = open_part(rt, folder, text)?;
+    let ran = find(rt.alloc(), &mut store, &prefix, out);
+    status_of(rt, &mut store, ran, reported, out)
+}
+
+// Opens the store, and writes the lines of `where`.
+fn write_locations<'a, W: io::Write>(
+    rt: &HostRuntime,
+    folder: &ObjectsFolder,
+    text: &'a str,
+    reported: &mut Vec<String>,
+    out: &mut Plain<W>,
+) -> Result<u8, Failure<'a>>
+    requires { plain_failed out.old ≡ false }
+{
+    let (mut store, prefix) = open_part(rt, folder, text)?;
+    store.check_loose_files(&prefix)?;
+    let ran = locate(rt.alloc(), &mut store, &prefix, out);
+    status_of(rt, &mut store, ran, reported, out)
+}
+
+// Opens the store, and writes the lines of `names`. Those that were written before the store was
+// opened again may lack what was skipped then.
+fn write_names<'a, W: io::Write>(
+    rt: &HostRuntime,
+    folder: &ObjectsFolder,
+    least: usize,
+    reported: &mut Vec<String>,
+    out: &mut Plain<W>,
+) -> Result<u8, Failure<'a>>
+    requires enough { 4 ≤ least }
+    requires fits { least ≤ hex_len_of folder.now.kind }
+    requires output { plain_failed out.old ≡ false }
+{
+    let mut store = FolderStore::open(rt, folder, LooseIds::All)?;
+    let ran = names(rt.alloc(), &mut store, least, out);
+    let was_whole = report_skipped(rt, store.skipped_before(), reported)?;
+    let status = status_of(rt, &mut store, ran, reported, out)?;
+    Ok(if was_whole { status } else { FAILED })
 }
 
 // Opens the store, and writes what each of the lines finds in it.
@@ -218,9 +265,7 @@ fn write_each<'a, W: io::Write>(
             find_each(rt.alloc(), &mut store, &lines, answers, MAX_FOUND, out)
         }
         Question::Locate(answers) => {
-            for prefix in lines.prefixes() {
-                store.check_loose_files(prefix)?;
-            }
+            check_loose_files(&store, lines.prefixes())?;
             locate_each(rt.alloc(), &mut store, &lines, answers, MAX_FOUND, out)
         }
         Question::Names(least) => {
@@ -228,6 +273,14 @@ fn write_each<'a, W: io::Write>(
         }
     };
     status_of(rt, &mut store, ran, reported, out)
+}
+
+// Checks the files of the loose objects that begin with prefixes, for `where`.
+fn check_loose_files(store: &FolderStore<HostRuntime>, prefixes: &[Prefix]) -> Result<(), Error> {
+    for prefix in prefixes {
+        store.check_loose_files(prefix)?;
+    }
+    Ok(())
 }
 
 // The prefix that was asked for, and the store with the loose objects that have its first byte.

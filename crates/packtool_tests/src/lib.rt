@@ -1,8 +1,8 @@
 //! Tests of what `packtool` stands on, by public calls only: of `object_store` and
 //! `packtool_commands` over stores in memory, where reads, writes and memory fail in turn, and of
-//! `pack_index` and of what `streams` keeps by values that are worked out by hand. What the built
-//! program shows is tested by `tools/stores` and `tools/runs`. The pack indexes in `data` are for
-//! them, for `tools/live` and for the tests of the bindings.
+//! `pack_index` by values that are worked out by hand. What the built program shows is tested by
+//! `tools/stores` and `tools/runs`. The pack indexes in `data` are for them, for `tools/live` and
+//! for the tests of the bindings.
 #![tactic(auto)]
 
 #[cfg(test)]
@@ -27,5 +27,3 @@ mod packtool_commands_finding;
 mod packtool_commands_pairing;
 #[cfg(test)]
 mod packtool_commands_showing;
-#[cfg(test)]
-mod streams_cached;

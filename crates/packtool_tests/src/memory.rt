@@ -32,16 +32,6 @@ impl Reads {
         }
     }
 
-    /// Lets this many reads succeed from now on.
-    pub fn allow(&self, left: usize) {
-        self.left.set(left);
-    }
-
-    /// How many reads are left.
-    pub fn left(&self) -> usize {
-        self.left.get()
-    }
-
     /// After these many the pack indexes are gone. The store can be opened again these many times,
     /// for so many reads each time.
     pub fn gone(left: usize, again: usize, times: usize) -> Reads {

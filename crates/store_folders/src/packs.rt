@@ -12,7 +12,6 @@ use std::alloc::{AllocError, Global};
 use std::fs::File;
 use std::rt::Files;
 use std::{fs, io, str};
-use streams::{Cached, ReadAt};
 
 // How many pack indexes are kept open. The others are opened again to be read, so that a store of
 // any number of packs is read with few open files.
@@ -183,13 +182,10 @@ pub(crate) fn pack_paths(alloc: Global, indexes: &[String]) -> Result<Vec<String
 
 // The pack indexes that were opened.
 #[derive(Drop)]
-pub(crate) struct OpenIndexes<R: Files<File = File>>
-where
-    Source<R>: ReadAt,
-{
+pub(crate) struct OpenIndexes<R: Files<File = File>> {
     // Their paths, in order.
     pub(crate) paths: Vec<String>,
-    pub(crate) indexes: Vec<LazyFile<Cached<Source<R>>>>,
+    pub(crate) indexes: Vec<LazyFile<Source<R>>>,
     // Why others are skipped: they are no pack indexes of version 2 and of the kind, or their
     // counts fall.
     pub(crate) skipped: Vec<Error>,
@@ -264,7 +260,7 @@ fn open_index<R: Files<File = File> + AllocGlobal + Clone + Drop>(
     path: &str,
     stays_open: bool,
     kind: Kind,
-) -> Result<LazyFile<Cached<Source<R>>>, Error>
+) -> Result<LazyFile<Source<R>>, Error>
     ensures { IfOk result (λ index. index.kind ≡ kind) }
 {
     let source = Source::open(rt, path, stays_open);

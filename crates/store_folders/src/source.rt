@@ -1,12 +1,14 @@
 //! What a pack index is read from.
 
-ghost use Rattle.std.specs.Prelude.{None, true};
+ghost use Rattle.std.specs.Prelude.{◌≤◌, None, true};
 
 use repositories::retried;
+use std::alloc::Global;
+use std::cell::Cell;
 use std::fs::File;
 use std::rt::Files;
 use std::{fs, io};
-use streams::{Cached, ReadAt};
+use streams::ReadAt;
 
 // How many bytes are read at once of a file that stays open.
 const OPEN_LEN: usize = 4096;
@@ -14,7 +16,9 @@ const OPEN_LEN: usize = 4096;
 // How many bytes are read at once of a file that is opened again for it.
 const CLOSED_LEN: usize = 16384;
 
-/// A file of a store that stays open, or is opened for each read.
+/// A file of a store, with its length as it was opened. A short read takes the bytes after those
+/// asked for too, and keeps them: up to 4096 of a file that stays open, or else 16384. A read of
+/// what is kept, or of nothing, reads no file.
 ///
 /// ```
 /// let source = store_folders::Source::open(rt, "pack-1.idx", true)?;
@@ -23,31 +27,90 @@ const CLOSED_LEN: usize = 16384;
 #[derive(Drop)]
 pub struct Source<R> {
     rt: R,
+    alloc: Global,
     path: String,
     // If there is none, it is opened for each read.
     file: Option<File>,
+    len: u64,
+    kept: Cell<Kept>,
 }
 
-impl<R: Files<File = File> + AllocGlobal + Clone + Drop> Source<R> {
-    /// Opens a file, to stay open or to be opened again for each read of what is not kept, with its
-    /// length as it is then. Of a file that stays open 4096 bytes are kept, or else 16384, at first
-    /// those that it begins with.
-    pub fn open(rt: &R, path: &str, stays_open: bool) -> io::Result<Cached<Source<R>>> {
-        let file = Source::new(rt, path, Some(fs::open(rt, path)?))?;
-        if stays_open {
-            return Cached::open(rt.alloc(), file, OPEN_LEN);
+// Bytes of a file from a position on.
+#[derive(Drop)]
+struct Kept {
+    start: u64,
+    bytes: Vec<u8>,
+}
+
+impl Kept {
+    // Whether they contain those from a position on that fill a buffer. If so, it has them.
+    fn copy_to(&self, buf: &mut [u8], at: u64) -> bool {
+        if at < self.start || at - self.start > self.bytes.len() as u64 {
+            return false;
         }
-        let cached = Cached::open(rt.alloc(), file, CLOSED_LEN)?;
-        cached.keep(0)?;
-        Ok(cached.with_source(Source::new(rt, path, None)?))
+        let bytes = &self.bytes[(at - self.start) as usize..];
+        if bytes.len() < buf.len() {
+            return false;
+        }
+        buf.copy_from_slice(&bytes[..buf.len()]);
+        true
+    }
+}
+
+impl<R: Files<File = File> + AllocGlobal + Clone> Source<R> {
+    /// Opens a file, to stay open or to be opened again for each read of what is not kept.
+    pub fn open(rt: &R, path: &str, stays_open: bool) -> io::Result<Source<R>> {
+        let file = fs::open(rt, path)?;
+        let mut source = Source {
+            rt: rt.clone()?,
+            alloc: rt.alloc(),
+            path: String::from_str(rt.alloc(), path)?,
+            len: retried(|| ReadAt::len(&file))?,
+            file: Some(file),
+            kept: Cell::new(Kept {
+                start: 0,
+                bytes: Vec::new(rt.alloc()),
+            }),
+        };
+        if !stays_open {
+            source.keep(0, CLOSED_LEN)?;
+            source.file = None;
+        }
+        Ok(source)
+    }
+}
+
+impl<R: Files<File = File>> Source<R> {
+    // Reads and keeps at most `most` bytes, from a position on. If memory runs out, none are read.
+    fn keep(&self, start: u64, most: usize) -> io::Result<()>
+        requires { most ≤ 16384 }
+    {
+        let len = self.len.saturating_sub(start).min(most as u64) as usize;
+        let Ok(mut bytes) = vec![in self.alloc; 0; len] else {
+            return Ok(());
+        };
+        self.read(&mut bytes, start)?;
+        self.kept.set(Kept { start, bytes });
+        Ok(())
     }
 
-    fn new(rt: &R, path: &str, file: Option<File>) -> io::Result<Source<R>> {
-        Ok(Source {
-            rt: rt.clone()?,
-            path: String::from_str(rt.alloc(), path)?,
-            file,
-        })
+    // Fills the buffer from the file.
+    fn read(&self, buf: &mut [u8], at: u64) -> io::Result<()> {
+        match &self.file {
+            Some(file) => ReadAt::read_exact_at(file, buf, at),
+            None => ReadAt::read_exact_at(&fs::open(&self.rt, self.path.as_str())?, buf, at),
+        }
+    }
+
+    // Fills the buffer from what is kept, if that has the bytes.
+    fn copy_kept(&self, buf: &mut [u8], at: u64) -> bool {
+        let kept = self.kept.replace(Kept {
+            start: 0,
+            bytes: Vec::new(self.alloc),
+        });
+        let is_copied = kept.copy_to(buf, at);
+        self.kept.set(kept);
+        is_copied
     }
 }
 
@@ -58,16 +121,23 @@ impl<R: Files<File = File>> ReadAt for Source<R> {
     ghost can_fail = { λ _. true };
 
     fn len(&self) -> io::Result<u64> {
-        match &self.file {
-            Some(file) => retried(|| ReadAt::len(file)),
-            None => retried(|| ReadAt::len(&fs::open(&self.rt, self.path.as_str())?)),
-        }
+        Ok(self.len)
     }
 
     fn read_exact_at(&self, buf: &mut [u8], at: u64) -> io::Result<()> {
-        match &self.file {
-            Some(file) => ReadAt::read_exact_at(file, buf, at),
-            None => ReadAt::read_exact_at(&fs::open(&self.rt, self.path.as_str())?, buf, at),
+        if buf.is_empty() || self.copy_kept(buf, at) {
+            return Ok(());
         }
+        let most = match self.file {
+            Some(_) => OPEN_LEN,
+            None => CLOSED_LEN,
+        };
+        if buf.len() < most {
+            self.keep(at, most)?;
+            if self.copy_kept(buf, at) {
+                return Ok(());
+            }
+        }
+        self.read(buf, at)
     }
 }

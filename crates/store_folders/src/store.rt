@@ -16,7 +16,6 @@ use std::cmp::Ordering;
 use std::fs::File;
 use std::rt::Files;
 use std::{fs, io};
-use streams::{Cached, ReadAt};
 
 // How often a store that changes while it is read is read.
 const MAX_TRIES: usize = 100;
@@ -29,10 +28,7 @@ const MAX_TRIES: usize = 100;
 /// println!(rt; "{} pack indexes", store.indexes().len())?;
 /// ```
 #[derive(Drop)]
-pub struct FolderStore<R: Files<File = File>>
-where
-    Source<R>: ReadAt,
-{
+pub struct FolderStore<R: Files<File = File>> {
     rt: R,
     // From what it was opened.
     folder: ObjectsFolder,
@@ -45,7 +41,7 @@ where
     failed: Option<Error>,
     paths: Vec<String>,
     packs: Vec<String>,
-    indexes: Vec<LazyFile<Cached<Source<R>>>>,
+    indexes: Vec<LazyFile<Source<R>>>,
     loose: LooseObjects,
     ghost of_kind: { All (λ index. index.kind ≡ kind) indexes.items },
     ghost loose_of_kind: { loose.table.kind ≡ kind },
@@ -290,7 +286,7 @@ fn begins_with(id: &ObjectId, prefix: &Prefix) -> bool {
 
 /// What files contain is not known.
 impl<R: Files<File = File> + AllocGlobal + Clone + Drop> Store for FolderStore<R> {
-    type Source = Cached<Source<R>>;
+    type Source = Source<R>;
 
     ghost use Rattle.store_folders.specs.Listed.{only_of};
 
@@ -305,7 +301,7 @@ impl<R: Files<File = File> + AllocGlobal + Clone + Drop> Store for FolderStore<R
         self.kind
     }
 
-    fn indexes(&self) -> &[LazyFile<Cached<Source<R>>>] {
+    fn indexes(&self) -> &[LazyFile<Source<R>>] {
         &self.indexes
     }
 

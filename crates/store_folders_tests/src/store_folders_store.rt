@@ -255,8 +255,8 @@ fn no_object_is_lost_that_moves(rt: HostRuntime) -> Result<(), Fail> {
     Ok(())
 }
 
-// A pack index that is away whenever the packs are listed again, and comes back as the store is read
-// for the next time. It is read 100 times.
+// A pack index that is away whenever the packs are listed again, and comes back as the store is
+// read for the next time. It is read 100 times.
 #[test]
 fn a_store_that_changes_is_read_again(rt: HostRuntime) -> Result<(), Fail> {
     let (home, away) = OLD_INDEX;

@@ -1,5 +1,4 @@
 pub mod WritingLemmas
-pub mod Parts
 mod Taking
 pub mod SealedLemmas
 pub mod LineLemmas

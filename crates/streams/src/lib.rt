@@ -9,7 +9,6 @@
 //! checked to be sealed ([`check_seal`], [`check_either`]).
 #![tactic(auto)]
 
-mod cached;
 mod checking;
 mod chunks;
 mod from_slice;
@@ -23,7 +22,6 @@ mod retrying;
 mod sink;
 mod source;
 
-pub use cached::{Cached, Content, Unknown};
 pub use checking::{Ending, check_either, check_seal};
 pub use chunks::next_chunk;
 pub use from_slice::FromSlice;
