@@ -19,7 +19,7 @@ use streams::ReadAt;
 /// A location of an object in a store.
 ///
 /// ```
-/// for location in parts.locate(&id)?.iter() {
+/// for location in Parts::new(rt.alloc(), &store).locate(&id)?.iter() {
 ///     match location {
 ///         Location::Packed { pack, offset } => println!(rt; "pack {pack}, at byte {offset}")?,
 ///         Location::Loose => println!(rt; "loose")?,

@@ -73,7 +73,8 @@ pub trait StorePaths: Store {
 /// A store that can be opened again, as it is then, after a pack index is gone that it has listed.
 ///
 /// ```
-/// if store.is_gone(&error) && store.reopen() {
+/// let found = lookup_prefix(rt.alloc(), &store, &prefix);
+/// if matches!(&found, Err(error) if store.is_gone(error)) && store.reopen() {
 ///     println!(rt; "{} pack indexes", store.indexes().len())?;
 /// }
 /// ```

@@ -20,6 +20,7 @@ use streams::{Sink, WriteFailed, write_all, write_id};
 /// What [`find_each`] and [`locate_each`](crate::locate_each) print for a prefix.
 ///
 /// ```
+/// let lines = PrefixLines::read(rt.alloc(), Kind::Sha1, b"4b8\n4b9\n")?;
 /// let all = find_each(rt.alloc(), &mut store, &lines, Answers::All, 65_536, &mut out)?;
 /// ```
 #[derive(Clone, Copy, PartialEq, Eq, Debug)]

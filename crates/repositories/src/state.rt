@@ -21,7 +21,7 @@ use std::rt::Files;
 ///
 /// ```
 /// let before = FileState::of(rt, ".git/objects/pack")?;
-/// let is_empty = fs::read_dir(rt, ".git/objects/pack")?.next().is_none();
+/// println!(rt; "{}", before.is_missing())?;
 /// let is_unchanged = FileState::of(rt, ".git/objects/pack")? == before;
 /// ```
 #[derive(Clone, Copy, Debug, PartialEq)]
