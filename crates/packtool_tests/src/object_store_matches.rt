@@ -1,5 +1,8 @@
 //! Look-ups of ids, a name and locations, where reads and memory fail.
 
+ghost use Rattle.std.specs.Prelude.{ℕ};
+ghost use Rattle.object_store.specs.Stores.{IsListed};
+
 use crate::content::{Content, EVERYWHERE, FOUND, LOCATIONS, NAME};
 use crate::expecting::{expect, expect_text, text_of};
 use crate::memory::{Memory, Reads};
@@ -11,12 +14,14 @@ use std::process::Abort;
 use std::test::Fail;
 
 /// The ids of the store that begin with the prefix.
-pub fn find<A: Allocator + Copy>(
+pub fn find<S: Store, A: Allocator + Copy>(
     rt: &impl Abort,
     alloc: A,
-    store: &Memory<'_>,
+    store: &S,
     prefix: &str,
-) -> Result<Vec<ObjectId, A>, Error> {
+) -> Result<Vec<ObjectId, A>, Error>
+    requires { (byte : ℕ) → IsListed (S.view store.now) byte }
+{
     let kind = store.object_hash();
     let prefix = Prefix::from_hex_in(kind, prefix).expect(rt, "no prefix");
     assert!(rt; prefix.hex_len() >= 2);
@@ -31,12 +36,14 @@ pub fn expect_ids(rt: &impl Abort, found: &[ObjectId], want: &[&str]) {
 }
 
 // The locations of an object in a store of the id's kind.
-fn locations_of<A: Allocator + Copy>(
+fn locations_of<S: Store, A: Allocator + Copy>(
     rt: &impl Abort,
     alloc: A,
-    store: &Memory<'_>,
+    store: &S,
     id: &str,
-) -> Result<Vec<Location, A>, Error> {
+) -> Result<Vec<Location, A>, Error>
+    requires { (byte : ℕ) → IsListed (S.view store.now) byte }
+{
     let id = ObjectId::from_hex(id.as_bytes()).expect(rt, "no id");
     assert!(rt; id.kind() == store.object_hash());
     Parts::new(alloc, store).locate(&id)
@@ -47,12 +54,14 @@ fn expect_locations(rt: &impl Abort, found: &[Location], want: &[Location]) {
 }
 
 // The abbreviation of an object in a store of the id's kind, of 4 digits or more.
-fn name_of<A: Allocator + Copy>(
+fn name_of<S: Store, A: Allocator + Copy>(
     rt: &impl Abort,
     alloc: A,
-    store: &Memory<'_>,
+    store: &S,
     id: &str,
-) -> Result<Option<Prefix>, Error> {
+) -> Result<Option<Prefix>, Error>
+    requires { (byte : ℕ) → IsListed (S.view store.now) byte }
+{
     let id = ObjectId::from_hex(id.as_bytes()).expect(rt, "no id");
     assert!(rt; id.kind() == store.object_hash() && id.kind().len_in_hex() >= 4);
     Parts::new(alloc, store).abbreviate(&id, 4)
@@ -68,12 +77,14 @@ enum Asked {
 }
 
 // Finds what is asked for, or nothing.
-fn look_up<A: Allocator + Copy>(
+fn look_up<S: Store, A: Allocator + Copy>(
     rt: &impl Abort,
     alloc: A,
-    store: &Memory<'_>,
+    store: &S,
     asked: Asked,
-) -> Result<(), Error> {
+) -> Result<(), Error>
+    requires { (byte : ℕ) → IsListed (S.view store.now) byte }
+{
     match asked {
         Asked::Ids => expect_ids(rt, &find(rt, alloc, store, "4b")?, &FOUND),
         Asked::Locations => expect_locations(

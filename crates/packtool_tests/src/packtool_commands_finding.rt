@@ -186,7 +186,7 @@ fn expect_reopened(
         Err(StoreError::Store(_)) => again == 0 && out.written().is_empty(),
         Err(_) => false,
     };
-    expect!(rt; is_right && reads.times() + reopened == 20, (left, again, reopened));
+    expect!(rt; is_right && 20usize.saturating_sub(reads.times()) == reopened, (left, again, reopened));
     Ok(())
 }
 
