@@ -362,13 +362,15 @@ def no_stores(room):
     write(room / "list" / "info" / "alternates" / "none")
     for name in ("pack", "4b", "00", "ff", "info"):
         write(room / f"file_{name}" / name)
-    for path, why in [("none", NO_FILE), ("link", NO_FILE), ("file", "not a directory"), ("file/x", NO_FOLDER), ("loop", LOOP), ("loop/x", LOOP)]:
-        yield fails(f"--objects {path}", f"{path}: {why}", "names", "--objects", path, cwd=room)
+    reasons = [("none", NO_FILE), ("link", NO_FILE), ("file", "not a directory"), ("file/x", NO_FOLDER)]
+    for path, why in [*reasons, ("loop/pack", LOOP), ("loop/x/pack", LOOP)]:
+        name = path.removesuffix("/pack")
+        yield fails(f"--objects {name}", f"{path}: {why}", "names", "--objects", name, cwd=room)
     for name in ("list", *(f"file_{name}" for name in ("pack", "4b", "00", "ff", "info"))):
         yield fails(f"--objects {name}", f"{name}: no object store", "names", "--objects", name, cwd=room)
     (room / "locked").chmod(0)
     words = ("names", "--objects", "locked/objects")
-    yield fails("--objects in a locked folder", f"locked/objects: {LOCKED}", *words, cwd=room, around=POWERLESS)
+    yield fails("--objects in a locked folder", f"locked/objects/pack: {LOCKED}", *words, cwd=room, around=POWERLESS)
     (room / "locked").chmod(0o700)
 
 

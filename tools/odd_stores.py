@@ -226,7 +226,8 @@ class Oddity:
         if not self.is_alone and chance(rng, 0.4):
             start = rng.choice([self.cwd, self.top])
             paths = [self.alternate(start, rng.choice(self.objects)) for _ in range(rng.choice([1, 2, 12]))]
-            self.env["GIT_ALTERNATE_OBJECT_DIRECTORIES"] = ":".join(paths)
+            # (which no variable of the environment can have)
+            self.env["GIT_ALTERNATE_OBJECT_DIRECTORIES"] = ":".join(paths).replace("\0", "")
         self.lock()
 
     def loose(self, folder, kind):
@@ -305,7 +306,7 @@ class Oddity:
         rng = self.rng
         path = spelled(rng, target, folder)
         odd = ["none", "/none/a", "../none/../none", "HEAD", ".", "", "#x", " ", f"{path}\r", f" {path}", '"x', "/", str(folder)]
-        odd += ["../../HEAD", "info", f"{path}\0", f"{path}\0x", "\0", quoted(rng, path)[:-1] + '\\000x"', '"\\000x"']
+        odd += ["../../HEAD", "info", f"{path}\0", f"{path}\0x", "\0", quoted(rng, path)[:-1] + '\\000x"']
         if chance(rng, 0.25):
             return rng.choice(odd)
         return quoted(rng, path) if chance(rng, 0.2) else path
