@@ -186,7 +186,8 @@ fn expect_reopened(
         Err(StoreError::Store(_)) => again == 0 && out.written().is_empty(),
         Err(_) => false,
     };
-    expect!(rt; is_right && 20usize.saturating_sub(reads.times()) == reopened, (left, again, reopened));
+    let opened = 20usize.saturating_sub(reads.times());
+    expect!(rt; is_right && opened == reopened, (left, again, reopened));
     Ok(())
 }
 

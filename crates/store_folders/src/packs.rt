@@ -272,10 +272,12 @@ fn open_index<R: Files<File = File> + AllocGlobal + Clone + Drop>(
     }
 }
 
-// Why a pack index cannot be opened. A link to nothing is there, and so it was not removed.
+// Why a pack index cannot be opened. A link to nothing is there, and so it was not removed; a file
+// that was not found and is there now was, and has come back.
 fn not_opened<R: Files + AllocGlobal>(rt: &R, path: &str, error: io::Error) -> Error {
+    let is_missing = error.kind() == io::ErrorKind::NotFound;
     match retried(|| fs::symlink_metadata(rt, path)) {
-        Ok(_) => Error::file(rt.alloc(), path, error),
-        Err(_) => Error::index(rt.alloc(), path, LazyError::Read(error)),
+        Ok(found) if !is_missing || !found.is_file() => Error::file(rt.alloc(), path, error),
+        _ => Error::index(rt.alloc(), path, LazyError::Read(error)),
     }
 }

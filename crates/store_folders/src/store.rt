@@ -203,7 +203,10 @@ impl<R: Files<File = File> + AllocGlobal + Clone + Drop> FolderStore<R> {
         let Err(error) = metadata(&self.rt, &path) else {
             return Ok(());
         };
+        let is_missing = error.kind() == io::ErrorKind::NotFound;
         match retried(|| fs::symlink_metadata(&self.rt, path.as_str())) {
+            // (one that has come back)
+            Ok(found) if is_missing && found.is_file() => Ok(()),
             Err(gone) if gone.kind() == io::ErrorKind::NotFound => Ok(()),
             _ => Err(Error::file(self.rt.alloc(), &path, error)),
         }
