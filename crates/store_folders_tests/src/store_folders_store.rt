@@ -4,7 +4,7 @@ ghost use Rattle.std.specs.Prelude.{◌≡◌, Some};
 ghost use Rattle.store_folders.specs.Listed.{only_of};
 
 use crate::expecting::{expect, expect_ids, expect_printed};
-use crate::folders::{BOTH, Index, LOOSE, PACKED, make, open};
+use crate::folders::{BOTH, Index, LOOSE, PACKED, make};
 use gix_hash::{ObjectId, Prefix};
 use object_store::{Store, lookup_prefix};
 use pack_index::LazyError;
@@ -335,7 +335,8 @@ const MANY_LOOSE: &str = "many/objects/4b/ffffffffffffffffffffffffffffffffffffff
 #[test]
 fn files_may_be_removed_after_opening(rt: HostRuntime) -> Result<(), Fail> {
     make_many(&rt)?;
-    let store = open(&rt, "many/objects")?;
+    let folder = ObjectsFolder::at(&rt, "many/objects")?;
+    let mut store = FolderStore::open(&rt, &folder, LooseIds::WithFirstByte(0x4b))?;
     expect_in_order(&rt, &store);
     rt.remove_file(MANY_LOOSE)?;
     store.check_loose_files(&Prefix::from_hex("4bff")?)?;
