@@ -1,13 +1,10 @@
 //! Stores in directories, which are made where the tests run.
 
 use gix_hash::Kind;
-use repositories::ObjectsFolder;
 use std::fs;
-use std::fs::File;
 use std::path::Path;
 use std::rt::Files;
 use std::test::Fail;
-use store_folders::{Error, FolderStore, LooseIds};
 use test_devices::ids::{ids_of, pack_index};
 
 /// The id of an object in a pack.
@@ -54,12 +51,4 @@ pub fn make<R: Files + AllocGlobal>(
         write(rt, path, &index_of(rt, ids)?)?;
     }
     Ok(())
-}
-
-/// The store of an object directory, with all its loose objects.
-pub fn open<R: Files<File = File> + AllocGlobal + Clone + Drop>(
-    rt: &R,
-    objects: &str,
-) -> Result<FolderStore<R>, Error> {
-    FolderStore::open(rt, &ObjectsFolder::at(rt, objects)?, LooseIds::All)
 }
