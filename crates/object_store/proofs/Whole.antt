@@ -49,7 +49,7 @@ module _ (view : StoreView) (whole : List (List ℕ)) (byte : ℕ) (read : List 
       ∙ ap (λ (front : List (List ℕ)). front ++ view.loose)
       (flat_map-map (λ (some : List (List ℕ)). some) counted h.indexes ∙ sym (filter-flat_map (has_first_byte byte) (names_in view.kind) h.indexes))
 
-  -- so it has read ids of the store alone, and all that have it
+  -- so it has read only ids of the store, and all that have it
   pub read_had : (id : List ℕ) → Contains read id → Contains whole id
   read_had id has =
       (h.all.members id).1 (elim (Contains-append_cases (part_of byte packed) view.loose id (subst (λ (ids : List (List ℕ)). Contains ids id) read_is has)) [

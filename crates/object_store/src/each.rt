@@ -41,7 +41,7 @@ pub(crate) trait LookUp<S: Store, A: Allocator + Copy> {
 }
 
 // What is found of each of several prefixes, in their order; or `None` if these are more than
-// `most` things, and not those of one prefix alone. Of each pack index the ids with a first byte
+// `most` things, and not only those of one prefix. Of each pack index the ids with a first byte
 // are read once, if a prefix has it.
 pub(crate) fn look_up_each<S: Store, A: Allocator + Copy, L: LookUp<S, A>>(
     alloc: A,

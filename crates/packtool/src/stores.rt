@@ -36,7 +36,7 @@ enum Asked<'a, 'l> {
     Lines(Question<Answers>, &'l [u8]),
 }
 
-/// Answers a request, and returns the status; for the lines of standard input chunk by chunk, and
+/// Runs a request, and returns the status; for the lines of standard input chunk by chunk, and
 /// returns the worst status.
 pub fn answer<'a>(rt: &HostRuntime, request: &StoreRequest<'a>) -> Result<u8, Failure<'a>> {
     let folder = objects_folder(rt, request)?;
@@ -53,7 +53,7 @@ pub fn answer<'a>(rt: &HostRuntime, request: &StoreRequest<'a>) -> Result<u8, Fa
     }
 }
 
-// Answers a question for the lines of standard input. A chunk of them is looked up in the store as
+// Looks the lines of standard input up for a question. A chunk of them is looked up in the store as
 // it is after they were read, and its output is written before more is read.
 fn answer_input<'a>(
     rt: &HostRuntime,
@@ -75,8 +75,8 @@ fn answer_input<'a>(
     Ok(status)
 }
 
-// Answers a question for lines, fewer at a time if they find too much, and returns the worst
-// status. One line alone may find more.
+// Looks lines up for a question, fewer at a time if they find too much, and returns the worst
+// status. A single line may find more.
 fn answer_lines<'a>(
     rt: &HostRuntime,
     folder: &ObjectsFolder,
@@ -146,7 +146,7 @@ fn line_len(lines: &[u8]) -> usize
     lines.len()
 }
 
-// Answers what is asked of an object directory, and returns the status.
+// Runs what is asked of an object directory, and returns the status.
 fn answer_over<'a>(
     rt: &HostRuntime,
     folder: &ObjectsFolder,

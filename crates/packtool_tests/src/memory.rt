@@ -32,8 +32,8 @@ impl Reads {
         }
     }
 
-    /// After these many the pack indexes are gone. The store can be opened again these many times,
-    /// for so many reads each time.
+    /// After `left` reads the pack indexes are gone. The store can be opened again `times` times,
+    /// for `again` reads each time.
     pub fn gone(left: usize, again: usize, times: usize) -> Reads {
         Reads {
             left: Cell::new(left),

@@ -192,7 +192,7 @@ fn memory_is_refused(rt: HostRuntime) -> Result<(), Fail> {
     Ok(())
 }
 
-// Ids that the store does not have: one that differs from one of it in its last digit alone, one
+// Ids that the store does not have: one that differs from one of it only in its last digit, one
 // between two of it, and one with another first byte.
 const ABSENT: [&str; 3] = [
     "4b825dc642cb6eb9a060e54bf8d69288fbee4905",

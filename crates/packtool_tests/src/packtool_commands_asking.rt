@@ -186,7 +186,7 @@ fn reads_fail_in_turn(rt: HostRuntime) -> Result<(), Fail> {
 // More lines than `packtool` asks for at once.
 const MANY: usize = 8_193;
 
-// What is asked for of so many lines, the line, and what is printed for each.
+// What is asked for of many equal lines, the line, and what is printed for each.
 const MANY_ROWS: [(Asked, &str, &str); 3] = [
     (
         Asked::Find(Answers::One),
@@ -201,7 +201,7 @@ const MANY_ROWS: [(Asked, &str, &str); 3] = [
     (Asked::Names, "4b9\n", "4b9000\n"),
 ];
 
-// A text so many times.
+// A text, repeated for many lines.
 fn repeated(alloc: Global, text: &str) -> Result<String, AllocError> {
     let mut all = String::new(alloc);
     for _ in 0..MANY {

@@ -167,8 +167,8 @@ fn reads_fail_in_turn(rt: HostRuntime) -> Result<(), Fail> {
     Ok(())
 }
 
-// Runs over a store whose pack indexes are gone after so many reads, and returns what is written
-// and how often the store was opened again, of 20 times; after each it can be read so often.
+// Runs over a store whose pack indexes are gone after `left` reads, and each time that it is opened
+// again after `again` reads; expects the text, or a failure, and this number of openings.
 fn expect_reopened(
     rt: &(impl Abort + AllocGlobal),
     (asked, text): (Asked, &str),
