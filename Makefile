@@ -23,7 +23,7 @@ goal_crates = $(or $(filter $1,$(PROGRAMS)),$(if $(filter lib install-lib,$1),gi
 NEEDED := $(foreach goal,$(or $(MAKECMDGOALS),all),$(call goal_crates,$(goal)))
 export NEEDED := $(filter $(NEEDED) $(foreach crate,$(NEEDED),$(call below,$(crate))),$(CRATES))
 
-.PHONY: all help lib test bench install install-lib uninstall dist clean always $(PROGRAMS)
+.PHONY: all help lib test bench docs install install-lib uninstall dist clean always $(PROGRAMS)
 .DELETE_ON_ERROR:
 
 all: $(PROGRAMS)
@@ -32,6 +32,7 @@ help:
 	@echo 'make: both programs; make oidtool, make packtool: one of them'
 	@echo 'make lib: the library for C, out/libgix_hash.a and out/libgix_hash.so'
 	@echo 'make test: all proofs, edits and tests; make bench: the time and the instructions that the programs take'
+	@echo 'make docs: the public items of each crate with their contracts, in out/api'
 	@echo 'make install PREFIX=/usr/local: programs, man pages, library and bindings; make uninstall: they go'
 	@echo 'make install-lib PREFIX=/usr/local: the library and its bindings alone, which proves no program'
 	@echo 'make dist: archives for users without the kit, in out/dist'
@@ -68,6 +69,9 @@ test:
 bench: $(PROGRAMS)
 	$(APART) tools/bench
 	$(APART) tools/instructions --calls
+
+docs:
+	tools/promises
 
 install: $(PROGRAMS) lib
 	tools/install '$(DESTDIR)' '$(PREFIX)'
