@@ -7,7 +7,7 @@ use Rattle.repositories.specs.Printed.{line_then}
 use Rattle.callers.specs.declared.references.Reference.{Reference}
 use Rattle.callers.specs.declared.references.Reference.TheVariants.{Id, Symbolic}
 
--- whether a name may have the byte: no control character, no blank, and none of ~ ^ : ? * [ \
+-- whether a name may have the byte: no control character, no space, and none of ~ ^ : ? * [ \
 abbrev pub is_name_byte : ℕ → Bool
 is_name_byte byte = nat_lt 32 byte && not (byte == 127) && not (list_any (nat_eq byte) (codes "~^:?*[" ++ 92 ∷ []))
 

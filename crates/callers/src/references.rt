@@ -59,7 +59,7 @@ pub fn write_reference<W: io::Write>(reference: &Reference<'_>, out: &mut W) -> 
     Ok(())
 }
 
-/// Whether a name may have the byte: no control character, no blank, and none of `~^:?*[\`
+/// Whether a name may have the byte: no control character, no space, and none of `~^:?*[\`
 /// (git-check-ref-format).
 pub fn is_name_byte(byte: u8) -> bool
     ensures { result ≡ is_name_byte byte }
