@@ -4,7 +4,7 @@
  * docs/BINDINGS.md says how.
  *
  * A len is a number of bytes, a hex_len a number of hex digits, of which a byte has two. A position
- * counts from 0.
+ * counts from 0. A text is chars, of which each is a byte, with their len.
  *
  * SHA-1 is computed without the detection of collisions that Git has: where others make the bytes, an
  * equal id is no proof of equal bytes.
@@ -70,7 +70,7 @@ extern "C" {
     CODE(INDEX_TOO_SHORT, 16, "fewer bytes than any pack index has") \
     CODE(VERSION_1, 17, "a pack index of version 1, by its length") \
     CODE(BAD_MAGIC, 18, "no pack index: the magic number is missing") \
-    CODE(BAD_VERSION, 19, "a pack index of another version than 2 (detail: which)") \
+    CODE(BAD_VERSION, 19, "a pack index of another version than 2 (detail: its version)") \
     CODE(WRONG_LENGTH, 20, "the tables do not fill the bytes") \
     CODE(NAMES_FALL, 21, "an object id is below the one before it (detail: its position)") \
     CODE(WRONG_COUNT, 22, "an entry of the fan-out table is wrong (detail: its first byte)") \
@@ -80,7 +80,7 @@ extern "C" {
     CODE(OFFSET_IN_HEADER, 26, "an object's offset is below 12 (detail: the object's position)") \
     CODE(OFFSET_TOO_HIGH, 27, "an object's offset is 2^63 or more (detail: the object's position)") \
     CODE(WRONG_CHECKSUM, 28, "the last bytes are not the digest of those before them") \
-    CODE(OTHER_KIND, 29, "a pack index of the other kind (detail: which)")
+    CODE(OTHER_KIND, 29, "a pack index of the other kind (detail: its kind)")
 
 /* GIX_HASH_OK, GIX_HASH_BAD_LENGTH, .. */
 #ifdef GIX_HASH_CODE
@@ -129,7 +129,7 @@ typedef struct gix_hash_entry {
 } gix_hash_entry;
 
 /* A hash function at work on a message, which comes in chunks. Any values are safe, but only those that
- * gix_hash_hasher_new and gix_hash_hasher_update wrote stand for a message. A copy of the struct is a
+ * gix_hash_hasher_new, gix_hash_object_hasher and gix_hash_hasher_update wrote stand for a message. A copy of the struct is a
  * hasher of its own. What words, count and block contain may change with the version. */
 typedef struct gix_hash_hasher {
     uint32_t kind;
@@ -143,16 +143,16 @@ typedef struct gix_hash_hasher {
  * it becomes. */
 uint32_t gix_hash_version(void);
 
-/* Reads an id from a text of 40 or 64 hex digits in either case.
+/* Reads an id from a text of 40 or 64 hex digits in either case. No zero has to end it.
  * Returns GIX_HASH_OK, GIX_HASH_BAD_LENGTH or GIX_HASH_BAD_DIGIT. */
 GIX_HASH_READS(1, 2) GIX_HASH_WRITES(3)
-uint32_t gix_hash_id_from_hex(const uint8_t *text, size_t len, gix_hash_id *id);
+uint32_t gix_hash_id_from_hex(const char *text, size_t len, gix_hash_id *id);
 
 /* Writes the 40 or 64 lowercase hex digits of an id to the front of a buffer. The bytes after them stay
  * as they were, so no zero ends the digits.
  * Returns GIX_HASH_OK, GIX_HASH_BAD_KIND or GIX_HASH_NO_ROOM. */
 GIX_HASH_READS(1) GIX_HASH_WRITES(2, 3)
-uint32_t gix_hash_id_to_hex(const gix_hash_id *id, uint8_t *buffer, size_t len);
+uint32_t gix_hash_id_to_hex(const gix_hash_id *id, char *buffer, size_t len);
 
 /* Writes the 40 or 64 lowercase hex digits of an id to the front of a buffer, and a zero after them. The
  * bytes after it stay as they were. 65 bytes are enough for both kinds.
@@ -180,10 +180,10 @@ uint32_t gix_hash_id_empty_tree(uint32_t kind, gix_hash_id *id);
 GIX_HASH_READS(1) GIX_HASH_READS(2)
 int32_t gix_hash_id_cmp(const gix_hash_id *one, const gix_hash_id *other);
 
-/* Reads a prefix from a text of 1 to 64 hex digits in either case.
+/* Reads a prefix from a text of 1 to 64 hex digits in either case. No zero has to end it.
  * Returns GIX_HASH_OK, GIX_HASH_BAD_LENGTH or GIX_HASH_BAD_DIGIT. */
 GIX_HASH_READS(1, 2) GIX_HASH_WRITES(3)
-uint32_t gix_hash_prefix_from_hex(const uint8_t *text, size_t len, gix_hash_prefix *prefix);
+uint32_t gix_hash_prefix_from_hex(const char *text, size_t len, gix_hash_prefix *prefix);
 
 /* Returns the order of a prefix and as many first digits of an id: 0 if and only if the id begins with
  * the prefix, -1 if the prefix is below them, 1 if it is above; GIX_HASH_NO_ORDER if the hex_len or
@@ -212,11 +212,19 @@ GIX_HASH_READS(1) GIX_HASH_WRITES(2)
 uint32_t gix_hash_hasher_finish(const gix_hash_hasher *hasher, gix_hash_id *id);
 
 /* Computes the id of an object from its type and its bytes, as git hash-object does: the digest of the
- * name of the type, a space, len in decimal, a zero, and the bytes. For an object that comes in chunks,
- * feed the same to a hasher. Whether the bytes are a tree, a commit or a tag is not checked.
+ * name of the type, a space, len in decimal, a zero, and the bytes. For an object that comes in chunks
+ * there is gix_hash_object_hasher. Whether the bytes are a tree, a commit or a tag is not checked.
  * Returns GIX_HASH_OK, GIX_HASH_BAD_KIND or GIX_HASH_BAD_TYPE. */
 GIX_HASH_READS(3, 4) GIX_HASH_WRITES(5)
 uint32_t gix_hash_object_id(uint32_t kind, uint32_t object_type, const uint8_t *bytes, size_t len, gix_hash_id *id);
+
+/* Makes a hasher of an object of len bytes, which come in chunks: its message is what gix_hash_object_id
+ * hashes before them, the name of the type, a space, len in decimal, and a zero. Feed it the bytes by
+ * gix_hash_hasher_update, and gix_hash_hasher_finish computes the id. That they are len bytes is not checked:
+ * of more or fewer the digest is the id of no object.
+ * Returns GIX_HASH_OK, GIX_HASH_BAD_KIND or GIX_HASH_BAD_TYPE. */
+GIX_HASH_WRITES(4)
+uint32_t gix_hash_object_hasher(uint32_t kind, uint32_t object_type, uint64_t len, gix_hash_hasher *hasher);
 
 /* Tests whether a table of digests of a kind, one after the other, is sorted. Duplicates are fine, and a
  * part of a digest at the end is not read. Takes time proportional to len.

@@ -25,7 +25,7 @@ int main(int count, char **words) {
     if (code) return fail(words[1], code);
     gix_hash_prefix prefix = {0};
     gix_hash_run run = {0};
-    code = gix_hash_prefix_from_hex((const uint8_t *)words[2], strlen(words[2]), &prefix);
+    code = gix_hash_prefix_from_hex(words[2], strlen(words[2]), &prefix);
     if (!code) code = gix_hash_pack_find(kind, bytes, len, &prefix, &run);
     if (code) return fail(words[2], code);
     for (size_t at = run.start; at < run.end; at++) {
@@ -33,7 +33,7 @@ int main(int count, char **words) {
         char digits[65] = "";
         code = gix_hash_pack_entry(kind, bytes, len, at, &entry);
         if (code) return fail(words[1], code);
-        gix_hash_id_to_hex(&entry.id, (uint8_t *)digits, 64);
+        gix_hash_id_to_text(&entry.id, digits, sizeof digits);
         printf("%llu %s\n", (unsigned long long)entry.offset, digits);
     }
     return run.start == run.end;

@@ -34,17 +34,19 @@ static void *fenced(enum region region, const void *bytes, size_t len) {
 
 static const uint8_t *bytes_of(const char *text) { return fenced(INPUT, text, strlen(text)); }
 
+static const char *text_of(const char *text, size_t len) { return fenced(INPUT, text, len); }
+
 static int sign(int n) { return (n > 0) - (n < 0); }
 
 static gix_hash_id id_of(const char *hex) {
     gix_hash_id id = {0};
-    gix_hash_id_from_hex(bytes_of(hex), strlen(hex), &id);
+    gix_hash_id_from_hex(text_of(hex, strlen(hex)), strlen(hex), &id);
     return id;
 }
 
 static gix_hash_prefix prefix_of(const char *hex, size_t len) {
     gix_hash_prefix prefix = {0};
-    gix_hash_prefix_from_hex(fenced(INPUT, hex, len), len, &prefix);
+    gix_hash_prefix_from_hex(text_of(hex, len), len, &prefix);
     return prefix;
 }
 
@@ -53,7 +55,7 @@ static const char *hex_of(const gix_hash_id *id) {
     static char digits[65];
     size_t len = id->kind == GIX_HASH_SHA1 ? 40 : 64;
     memset(digits, 0, sizeof digits);
-    uint8_t *buffer = fenced(INPUT, digits, len);
+    char *buffer = fenced(INPUT, digits, len);
     gix_hash_id_to_hex(fenced(STRUCT, id, sizeof *id), buffer, len);
     return memcpy(digits, buffer, len);
 }
@@ -107,7 +109,7 @@ static void test_texts(void) {
         gix_hash_prefix prefix, old_prefix;
         memset(&old_id, 7, sizeof id), id = old_id;
         memset(&old_prefix, 7, sizeof prefix), prefix = old_prefix;
-        const uint8_t *text = fenced(INPUT, texts[i].text, texts[i].len);
+        const char *text = text_of(texts[i].text, texts[i].len);
         CHECK(i, gix_hash_id_from_hex(text, texts[i].len, &id) == texts[i].id);
         CHECK(i, !memcmp(&id, &old_id, sizeof id) == (texts[i].id != GIX_HASH_OK));
         CHECK(i, gix_hash_prefix_from_hex(text, texts[i].len, &prefix) == texts[i].prefix);
@@ -123,10 +125,11 @@ static void test_errors(void) {
     gix_hash_entry entry = {.offset = 5};
     size_t number = 6;
     uint64_t detail = 7;
-    uint8_t buffer[64] = "kept", digests[60] = {1, [20] = 2, [40] = 1}, *fall = fenced(INPUT, digests, sizeof digests);
+    char buffer[64] = "kept";
+    uint8_t digests[60] = {1, [20] = 2, [40] = 1}, *fall = fenced(INPUT, digests, sizeof digests);
     none.kind = 3;
     CHECK(0, gix_hash_id_to_hex(&none, buffer, 64) == GIX_HASH_BAD_KIND);
-    CHECK(0, gix_hash_id_to_hex(&id, buffer, 63) == GIX_HASH_NO_ROOM && !strcmp((char *)buffer, "kept"));
+    CHECK(0, gix_hash_id_to_hex(&id, buffer, 63) == GIX_HASH_NO_ROOM && !strcmp(buffer, "kept"));
     CHECK(0, gix_hash_id_cmp(&id, &none) == GIX_HASH_NO_ORDER && gix_hash_prefix_cmp_id(&prefix, &none) == GIX_HASH_NO_ORDER);
     CHECK(0, gix_hash_prefix_cmp_id(&empty, &id) == GIX_HASH_NO_ORDER);
     CHECK(0, gix_hash_find(1, fall, 40, &prefix, &run) == GIX_HASH_PREFIX_TOO_LONG);
@@ -160,7 +163,8 @@ static void test_hostile(void) {
     size_t number = 6;
     uint64_t detail = 7;
     const uint32_t code = GIX_HASH_BAD_KIND;
-    uint8_t buffer[64] = {0}, zeros[60] = {0}, *bytes = fenced(INPUT, zeros, sizeof zeros);
+    char buffer[64] = {0};
+    uint8_t zeros[60] = {0}, *bytes = fenced(INPUT, zeros, sizeof zeros);
     for (size_t i = 0; i < ROWS(bad_kinds); i++) {
         uint32_t kind = id.kind = bad_kinds[i];
         CHECK(kind, gix_hash_id_to_hex(&id, buffer, 64) == code && !buffer[0]);
@@ -404,6 +408,11 @@ static void test_ids(void) {
         CHECK(i, gix_hash_id_null(kind, &id) == bad && gix_hash_id_from_bytes(kind, none.bytes, 20, &id) == bad);
         CHECK(i, gix_hash_id_empty_blob(kind, &id) == bad && gix_hash_id_empty_tree(kind, &id) == bad);
         CHECK(i, gix_hash_object_id(kind, 0, NULL, 0, &id) == bad);
+        gix_hash_hasher hasher, kept;
+        memset(&kept, 7, sizeof kept), hasher = kept;
+        CHECK(i, gix_hash_object_hasher(kind, 0, 0, &hasher) == bad && !memcmp(&hasher, &kept, sizeof kept));
+        bad = GIX_HASH_BAD_TYPE;
+        CHECK(i, gix_hash_object_hasher(GIX_HASH_SHA1, kind, 0, &hasher) == bad && !memcmp(&hasher, &kept, sizeof kept));
         CHECK(i, gix_hash_object_id(GIX_HASH_SHA1, kind, NULL, 0, &id) == GIX_HASH_BAD_TYPE && !memcmp(&id, &zeros, sizeof id));
     }
     int number[3] = {0};
@@ -439,10 +448,34 @@ static void test_objects(const char *name, uint32_t kind) {
             CHECK(i, git && fgets(line, sizeof line, git) && !gix_hash_object_id(kind, type, content, sizes[i], &id));
             line[strcspn(line, "\n")] = 0;
             CHECK(i, !gix_hash_id_to_text(&id, text, sizeof text) && !strcmp(text, line));
+            gix_hash_hasher hasher = {0};
+            gix_hash_id chunked = {0};
+            CHECK(i, !gix_hash_object_hasher(kind, type, sizes[i], &hasher));
+            for (size_t at = 0, len; at < sizes[i]; at += len) {
+                len = sizes[i] - at < 1000 ? sizes[i] - at : 1000;
+                CHECK(i, !gix_hash_hasher_update(&hasher, content + at, len));
+            }
+            CHECK(i, !gix_hash_hasher_finish(&hasher, &chunked) && !memcmp(&chunked, &id, sizeof id));
             if (type == GIX_HASH_BLOB) CHECK(i, !gix_hash_id_empty_blob(kind, &empty) && !memcmp(&id, &empty, sizeof id) == !i);
             if (type == GIX_HASH_TREE) CHECK(i, !gix_hash_id_empty_tree(kind, &empty) && !memcmp(&id, &empty, sizeof id) == !i);
         }
     if (git) pclose(git);
+}
+
+/* What the hasher of an object was fed, for lengths of each number of digits. */
+static void test_headers(uint32_t kind) {
+    static const uint64_t lens[] = {0, 9, 10, 4294967295, 4294967296, UINT64_MAX - 1, UINT64_MAX};
+    static const char *const types[] = {"commit", "tree", "blob", "tag"};
+    for (size_t i = 0; i < ROWS(lens) * ROWS(types); i++) {
+        char header[40];
+        gix_hash_hasher hasher;
+        gix_hash_id id = {0}, wanted = {0};
+        int len = snprintf(header, sizeof header, "%s %llu", types[i % 4], (unsigned long long)lens[i / 4]) + 1;
+        memset(&hasher, 7, sizeof hasher);
+        CHECK(i, !gix_hash_object_hasher(kind, (uint32_t)(i % 4 + 1), lens[i / 4], &hasher));
+        CHECK(i, !gix_hash_hasher_finish(&hasher, &id) && !gix_hash_digest(kind, fenced(INPUT, header, (size_t)len), (size_t)len, &wanted));
+        CHECK(i, !memcmp(&id, &wanted, sizeof id) && hasher.count == (uint64_t)len);
+    }
 }
 
 /* Messages in chunks of 0 to 199 bytes have the digests of their beginnings, also in copies. */
@@ -495,6 +528,7 @@ int main(int count, char **words) {
     test_uneven(GIX_HASH_SHA1), test_uneven(GIX_HASH_SHA256);
     for (size_t i = 0; i < sizeof content; i++) content[i] = (uint8_t)next_number();
     test_ids(), test_objects("sha1", GIX_HASH_SHA1), test_objects("sha256", GIX_HASH_SHA256);
+    test_headers(GIX_HASH_SHA1), test_headers(GIX_HASH_SHA256);
     test_hashers(GIX_HASH_SHA1), test_hashers(GIX_HASH_SHA256), test_any_hashers();
     printf("%d passed, %d failed\n", passed, failed);
     return failed > 0;

@@ -80,7 +80,7 @@ class Code(enum.IntEnum):
     INDEX_TOO_SHORT = 16, "fewer bytes than any pack index has"
     VERSION_1 = 17, "a pack index of version 1, by its length"
     BAD_MAGIC = 18, "no pack index: the magic number is missing"
-    BAD_VERSION = 19, "a pack index of another version than 2 (detail: which)"
+    BAD_VERSION = 19, "a pack index of another version than 2 (detail: its version)"
     WRONG_LENGTH = 20, "the tables do not fill the bytes"
     NAMES_FALL = 21, "an object id is below the one before it (detail: its position)"
     WRONG_COUNT = 22, "an entry of the fan-out table is wrong (detail: its first byte)"
@@ -90,7 +90,7 @@ class Code(enum.IntEnum):
     OFFSET_IN_HEADER = 26, "an object's offset is below 12 (detail: the object's position)"
     OFFSET_TOO_HIGH = 27, "an object's offset is 2^63 or more (detail: the object's position)"
     WRONG_CHECKSUM = 28, "the last bytes are not the digest of those before them"
-    OTHER_KIND = 29, "a pack index of the other kind (detail: which)"
+    OTHER_KIND = 29, "a pack index of the other kind (detail: its kind)"
     UNKNOWN = 2**32 - 1, "a code of a later library, which is not in this list (detail: which)"
 
 
@@ -113,21 +113,22 @@ typedef struct gix_hash_run { size_t start; size_t end; } gix_hash_run;
 typedef struct gix_hash_entry { uint64_t offset; uint32_t crc; gix_hash_id id; } gix_hash_entry;
 typedef struct gix_hash_hasher { uint32_t kind; uint32_t words[8]; uint64_t count; uint8_t block[64]; } gix_hash_hasher;
 uint32_t gix_hash_version(void);
-uint32_t gix_hash_id_from_hex(const uint8_t *text, size_t len, gix_hash_id *id);
-uint32_t gix_hash_id_to_hex(const gix_hash_id *id, uint8_t *buffer, size_t len);
-uint32_t gix_hash_id_to_text(const gix_hash_id *id, uint8_t *text, size_t len);
+uint32_t gix_hash_id_from_hex(const char *text, size_t len, gix_hash_id *id);
+uint32_t gix_hash_id_to_hex(const gix_hash_id *id, char *buffer, size_t len);
+uint32_t gix_hash_id_to_text(const gix_hash_id *id, char *text, size_t len);
 uint32_t gix_hash_id_from_bytes(uint32_t kind, const uint8_t *bytes, size_t len, gix_hash_id *id);
 uint32_t gix_hash_id_null(uint32_t kind, gix_hash_id *id);
 uint32_t gix_hash_id_empty_blob(uint32_t kind, gix_hash_id *id);
 uint32_t gix_hash_id_empty_tree(uint32_t kind, gix_hash_id *id);
 int32_t gix_hash_id_cmp(const gix_hash_id *one, const gix_hash_id *other);
-uint32_t gix_hash_prefix_from_hex(const uint8_t *text, size_t len, gix_hash_prefix *prefix);
+uint32_t gix_hash_prefix_from_hex(const char *text, size_t len, gix_hash_prefix *prefix);
 int32_t gix_hash_prefix_cmp_id(const gix_hash_prefix *prefix, const gix_hash_id *id);
 uint32_t gix_hash_digest(uint32_t kind, const uint8_t *bytes, size_t len, gix_hash_id *id);
 uint32_t gix_hash_hasher_new(uint32_t kind, gix_hash_hasher *hasher);
 uint32_t gix_hash_hasher_update(gix_hash_hasher *hasher, const uint8_t *bytes, size_t len);
 uint32_t gix_hash_hasher_finish(const gix_hash_hasher *hasher, gix_hash_id *id);
 uint32_t gix_hash_object_id(uint32_t kind, uint32_t object_type, const uint8_t *bytes, size_t len, gix_hash_id *id);
+uint32_t gix_hash_object_hasher(uint32_t kind, uint32_t object_type, uint64_t len, gix_hash_hasher *hasher);
 uint32_t gix_hash_check_sorted(uint32_t kind, const uint8_t *table, size_t len, size_t *at);
 uint32_t gix_hash_find(uint32_t kind, const uint8_t *table, size_t len, const gix_hash_prefix *prefix,
     gix_hash_run *run);
@@ -148,7 +149,7 @@ def _typed(declared: str) -> Tuple[str, Any]:
     """The name and the type of a field or a parameter. Bytes are passed as their address."""
     ((kind, star, name, count),) = re.findall(r"(?:const )?(\w+) (\*?)(\w+)(?:\[(\d+)\])?$", declared)
     if star:
-        return name, ctypes.c_void_p if kind == "uint8_t" else ctypes.POINTER(_TYPES[kind])
+        return name, ctypes.c_void_p if kind in ("char", "uint8_t") else ctypes.POINTER(_TYPES[kind])
     return name, _TYPES[kind] * int(count) if count else _TYPES[kind]
 
 

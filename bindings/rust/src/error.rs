@@ -1,5 +1,6 @@
 //! Why a call failed.
 
+use crate::Kind;
 use std::fmt;
 
 macro_rules! codes {
@@ -80,7 +81,11 @@ impl Error {
 
 impl fmt::Display for Error {
     fn fmt(&self, f: &mut fmt::Formatter<'_>) -> fmt::Result {
-        f.write_str(&self.code.text().replace("`detail`", &self.detail.to_string()))
+        let detail = match (self.code, u32::try_from(self.detail)) {
+            (Code::OtherKind, Ok(kind)) => Kind::of(kind).to_string(),
+            _ => self.detail.to_string(),
+        };
+        f.write_str(&self.code.text().replace("`detail`", &detail))
     }
 }
 
@@ -95,5 +100,7 @@ mod tests {
         let text = Error::check(99, 5).unwrap_err().to_string();
         assert_eq!(text, "the library returned the code 99, which is not known");
         assert_eq!(Error::check(29, 1), Err(Error { code: Code::OtherKind, detail: 1 }));
+        let text = Error::check(29, 2).unwrap_err().to_string();
+        assert_eq!(text, "the ids of the pack index are of kind sha256, the other one");
     }
 }

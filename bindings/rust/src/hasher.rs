@@ -8,8 +8,7 @@ use std::io;
 ///
 /// ```
 /// # use nunbirdstand::{Hasher, Id, Kind, ObjectType};
-/// let mut hasher = Hasher::new(Kind::Sha1);
-/// hasher.update(b"blob 3\0");
+/// let mut hasher = Hasher::for_object(Kind::Sha1, ObjectType::Blob, 3);
 /// std::io::copy(&mut &b"abc"[..], &mut hasher)?;
 /// assert_eq!(hasher.finish(), Id::of_object(Kind::Sha1, ObjectType::Blob, b"abc"));
 /// # Ok::<(), std::io::Error>(())
@@ -21,11 +20,26 @@ impl Hasher {
     /// A hasher of a message with no bytes yet.
     #[must_use]
     pub fn new(kind: Kind) -> Hasher {
-        let mut made = raw::Hasher { kind: 0, words: [0; 8], count: 0, block: [0; 64] };
-        // SAFETY: this is a struct, and a kind is a good one.
-        let code = unsafe { raw::gix_hash_hasher_new(kind as u32, &mut made) };
+        // SAFETY: the hasher is a struct.
+        Hasher::made(|hasher| unsafe { raw::gix_hash_hasher_new(kind as u32, hasher) })
+    }
+
+    /// A hasher of an object of `len` bytes, which has been fed what `git hash-object` hashes before them. Feed it the
+    /// bytes, and [`finish`](Hasher::finish) is the id of the object. That they are `len` bytes is not checked: of more or
+    /// fewer the digest is the id of no object.
+    #[must_use]
+    pub fn for_object(kind: Kind, object_type: ObjectType, len: u64) -> Hasher {
+        let object_type = object_type as u32;
+        // SAFETY: the hasher is a struct.
+        Hasher::made(|hasher| unsafe { raw::gix_hash_object_hasher(kind as u32, object_type, len, hasher) })
+    }
+
+    /// What a call makes that does not fail, since each kind and each type is a good one.
+    fn made(call: impl FnOnce(&mut raw::Hasher) -> u32) -> Hasher {
+        let mut hasher = raw::Hasher { kind: 0, words: [0; 8], count: 0, block: [0; 64] };
+        let code = call(&mut hasher);
         debug_assert_eq!(code, 0);
-        Hasher(made)
+        Hasher(hasher)
     }
 
     /// The kind of the digest.

@@ -76,7 +76,7 @@ fn order(number: i32) -> Option<Ordering> {
 /// # Ok::<(), nunbirdstand::Error>(())
 /// ```
 // The bytes after a digest of SHA-1 are zeros.
-#[derive(Debug, Clone, Copy, PartialEq, Eq, Hash)]
+#[derive(Clone, Copy, PartialEq, Eq, Hash)]
 pub struct Id(pub(crate) raw::Id);
 
 impl Id {
@@ -165,6 +165,13 @@ impl fmt::Display for Id {
     }
 }
 
+/// The kind and the digits, as in `Sha1(e69de29bb2d1d6434b8b29ae775ad8c2e48c5391)`.
+impl fmt::Debug for Id {
+    fn fmt(&self, f: &mut fmt::Formatter<'_>) -> fmt::Result {
+        write!(f, "{:?}({self})", self.kind())
+    }
+}
+
 impl Ord for Id {
     fn cmp(&self, other: &Id) -> Ordering {
         // SAFETY: both are structs.
@@ -188,7 +195,7 @@ impl PartialOrd for Id {
 /// # Ok::<(), nunbirdstand::Error>(())
 /// ```
 // The bits after the digits are zeros.
-#[derive(Debug, Clone, Copy, PartialEq, Eq, Hash)]
+#[derive(Clone, Copy, PartialEq, Eq, Hash)]
 pub struct Prefix(pub(crate) raw::Prefix);
 
 impl Prefix {
@@ -236,5 +243,12 @@ impl fmt::Display for Prefix {
             );
         }
         f.pad(&digits[..self.hex_len()])
+    }
+}
+
+/// The digits, as in `Prefix(e69)`.
+impl fmt::Debug for Prefix {
+    fn fmt(&self, f: &mut fmt::Formatter<'_>) -> fmt::Result {
+        write!(f, "Prefix({self})")
     }
 }

@@ -1,7 +1,8 @@
 //! Git's object ids over `libgix_hash`, whose calls are proved, and object stores over the program `packtool`; this crate is
 //! only tested.
 //!
-//! Set `GIX_HASH_LIB` to the folder of `libgix_hash.a`, unless `make lib` or `make install` put it beside this crate.
+//! The library `libgix_hash.a` is linked from `GIX_HASH_LIB`, its directory or its path, if that is set, and else from where an
+//! archive, `make install` or `make lib` put it.
 //!
 //! ```
 #![doc = include_str!("../examples/find.rs")]

@@ -1,14 +1,14 @@
 //! The declarations of `include/gix_hash.h`.
 
 #[repr(C)]
-#[derive(Debug, Clone, Copy, Default, PartialEq, Eq, Hash)]
+#[derive(Clone, Copy, Default, PartialEq, Eq, Hash)]
 pub struct Id {
     pub kind: u32,
     pub bytes: [u8; 32],
 }
 
 #[repr(C)]
-#[derive(Debug, Clone, Copy, Default, PartialEq, Eq, Hash)]
+#[derive(Clone, Copy, Default, PartialEq, Eq, Hash)]
 pub struct Prefix {
     pub hex_len: u32,
     pub bytes: [u8; 32],
@@ -57,6 +57,7 @@ extern "C" {
     pub fn gix_hash_hasher_update(hasher: *mut Hasher, bytes: *const u8, len: usize) -> u32;
     pub fn gix_hash_hasher_finish(hasher: *const Hasher, id: *mut Id) -> u32;
     pub fn gix_hash_object_id(kind: u32, object_type: u32, bytes: *const u8, len: usize, id: *mut Id) -> u32;
+    pub fn gix_hash_object_hasher(kind: u32, object_type: u32, len: u64, hasher: *mut Hasher) -> u32;
     pub fn gix_hash_check_sorted(kind: u32, table: *const u8, len: usize, at: *mut usize) -> u32;
     pub fn gix_hash_find(
         kind: u32,

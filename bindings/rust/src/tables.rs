@@ -1,6 +1,7 @@
 //! Sorted tables of digests, and pack indexes. The bytes are borrowed, so nobody changes them after the check.
 
 use crate::{raw, Code, Error, Id, Kind, Prefix};
+use std::fmt;
 use std::iter::Map;
 use std::ops::Range;
 use std::slice::ChunksExact;
@@ -15,7 +16,7 @@ use std::slice::ChunksExact;
 /// assert_eq!(digests.find(&"da4".parse()?)?, 1..2);
 /// # Ok::<(), nunbirdstand::Error>(())
 /// ```
-#[derive(Debug, Clone, Copy)]
+#[derive(Clone, Copy)]
 pub struct SortedDigests<'a> {
     kind: Kind,
     table: &'a [u8],
@@ -87,10 +88,20 @@ impl<'a> IntoIterator for &SortedDigests<'a> {
     }
 }
 
+/// The kind, and the number of digests.
+impl fmt::Debug for SortedDigests<'_> {
+    fn fmt(&self, f: &mut fmt::Formatter<'_>) -> fmt::Result {
+        f.debug_struct("SortedDigests")
+            .field("kind", &self.kind)
+            .field("len", &self.len())
+            .finish_non_exhaustive()
+    }
+}
+
 /// What a pack index contains about an object.
 #[derive(Debug, Clone, Copy, PartialEq, Eq)]
 pub struct Entry {
-    /// Its name.
+    /// Its id.
     pub id: Id,
     /// Where it begins in the pack.
     pub offset: u64,
@@ -109,7 +120,7 @@ pub struct Entry {
 /// }
 /// # Ok::<(), Box<dyn std::error::Error>>(())
 /// ```
-#[derive(Debug, Clone, Copy)]
+#[derive(Clone, Copy)]
 pub struct PackIndex<'a> {
     kind: Kind,
     bytes: &'a [u8],
@@ -194,8 +205,8 @@ impl<'a> PackIndex<'a> {
         Ok(run.start..run.end)
     }
 
-    /// The smallest number of first digits, at least 4, with which no other name begins. The error is
-    /// `OutOfRange`, or `NotUnique` for a name that occurs more than once.
+    /// The smallest number of first digits, at least 4, with which no other id begins. The error is
+    /// `OutOfRange`, or `NotUnique` for an id that occurs more than once.
     pub fn abbreviate(&self, at: usize) -> Result<usize, Error> {
         let (kind, bytes, mut hex_len) = (self.kind as u32, self.bytes, 0);
         // SAFETY: the slice is valid for its length.
@@ -206,7 +217,17 @@ impl<'a> PackIndex<'a> {
     }
 }
 
-/// What a pack index contains, in the order of names.
+/// The kind, and the number of objects.
+impl fmt::Debug for PackIndex<'_> {
+    fn fmt(&self, f: &mut fmt::Formatter<'_>) -> fmt::Result {
+        f.debug_struct("PackIndex")
+            .field("kind", &self.kind)
+            .field("len", &self.len())
+            .finish_non_exhaustive()
+    }
+}
+
+/// What a pack index contains, in the order of ids.
 #[derive(Debug, Clone)]
 pub struct Entries<'a> {
     index: PackIndex<'a>,

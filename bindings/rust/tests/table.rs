@@ -101,6 +101,9 @@ fn objects() {
                 let wanted = git(&folder, &["hash-object", "--literally", "--stdin", "-t", name], bytes);
                 let id = Id::of_object(kind, object_type, bytes);
                 assert_eq!(id.to_string(), String::from_utf8(wanted).unwrap().trim_end());
+                let mut hasher = Hasher::for_object(kind, object_type, bytes.len() as u64);
+                bytes.chunks(100).for_each(|chunk| hasher.update(chunk));
+                assert_eq!(hasher.finish(), id);
                 assert_eq!(id == Id::empty_blob(kind), bytes.is_empty() && object_type == ObjectType::Blob);
                 assert_eq!(id == Id::empty_tree(kind), bytes.is_empty() && object_type == ObjectType::Tree);
             }
@@ -130,6 +133,12 @@ fn texts() {
         assert_eq!(text.parse::<Kind>().ok(), kind);
         assert!(kind.iter().all(|kind| kind.to_string() == text));
     }
+    let sha1: Id = EMPTY[..40].parse().unwrap();
+    assert_eq!(format!("{sha1:?}"), format!("Sha1({})", &EMPTY[..40]));
+    assert_eq!(format!("{:?}", Some(EMPTY.parse::<Id>())), format!("Some(Ok(Sha256({EMPTY})))"));
+    assert_eq!(format!("{:?} {sha1:.7}", "E3b".parse::<Prefix>().unwrap()), "Prefix(e3b) e3b0c44");
+    let table = SortedDigests::new(Kind::Sha1, &[7; 59]).unwrap();
+    assert_eq!(format!("{table:?}"), "SortedDigests { kind: Sha1, len: 2, .. }");
     for len in [1, 2, 7, 64] {
         assert_eq!(EMPTY[..len].to_uppercase().parse::<Prefix>().unwrap().to_string(), EMPTY[..len]);
     }
@@ -155,6 +164,7 @@ fn indexes() {
             assert_eq!((index.find(&name), digests.find(&name)), (Ok(at..at + 1), Ok(at..at + 1)));
         }
         let len = index.len();
+        assert_eq!(format!("{index:?}"), format!("PackIndex {{ kind: {kind:?}, len: 300, .. }}"));
         assert_eq!((len, digests.len(), digests.is_empty(), index.is_empty()), (300, 300, false, false));
         assert!(digests.iter().eq(index.iter().map(|it| it.id)));
         assert_eq!((digests.kind(), digests.into_iter().len(), index.into_iter().len()), (kind, 300, 300));

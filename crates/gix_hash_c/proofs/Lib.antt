@@ -1,5 +1,6 @@
 -- Lemmas of several proofs.
 mod CommonPlace
+mod Feeding
 mod Reading
 mod Recast
 mod Runs

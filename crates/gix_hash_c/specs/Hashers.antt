@@ -69,9 +69,13 @@ type_name n =
     if n == 1 then Some (codes "commit") else if n == 2 then Some (codes "tree")
     else if n == 3 then Some (codes "blob") else if n == 4 then Some (codes "tag") else None
 
--- what the id of an object is the digest of: its type's name, a space, its length in decimal, a zero, and its bytes
+-- the header of an object: its type's name, a space, the number of its bytes in decimal, and a zero
+abbrev pub object_header : List ℕ → ℕ → List ℕ
+object_header name len = name ++ 32 ∷ decimal len ++ 0 ∷ []
+
+-- what the id of an object is the digest of: the header, and the bytes
 abbrev pub object_bytes : List ℕ → List ℕ → List ℕ
-object_bytes name bytes = name ++ 32 ∷ decimal (length bytes) ++ 0 ∷ bytes
+object_bytes name bytes = object_header name (length bytes) ++ bytes
 
 -- what is returned of an object's id, and left
 abbrev pub ObjectAnswer : Option Kind → Option (List ℕ) → List ℕ → ℕ → Id → Id → Type 0
@@ -79,3 +83,9 @@ ObjectAnswer None name bytes code old new = (code ≡ BAD_KIND) × (new ≡ old)
 ObjectAnswer (Some kind) None bytes code old new = (code ≡ BAD_TYPE) × (new ≡ old)
 ObjectAnswer (Some kind) (Some name) bytes code old new =
     (code ≡ OK) × HoldsId (whole_of (digest kind (object_bytes name bytes))) new
+
+-- what making the hasher of an object returns, and leaves: it was fed the header
+abbrev pub ObjectHasherAnswer : Option Kind → Option (List ℕ) → ℕ → ℕ → Hasher → Hasher → Type 0
+ObjectHasherAnswer None name len code old new = (code ≡ BAD_KIND) × (new ≡ old)
+ObjectHasherAnswer (Some kind) None len code old new = (code ≡ BAD_TYPE) × (new ≡ old)
+ObjectHasherAnswer (Some kind) (Some name) len code old new = (code ≡ OK) × WasFed kind new (object_header name len)

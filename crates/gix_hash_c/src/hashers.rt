@@ -1,8 +1,8 @@
 //! Hashers that C keeps, and feeds in chunks.
 
-ghost use Rattle.std.specs.Prelude.{◌≡◌};
+ghost use Rattle.std.specs.Prelude.{[], ◌≡◌};
 ghost use Rattle.gix_hash_c.specs.Face.{kind_of_number};
-ghost use Rattle.gix_hash_c.specs.Hashers.{FinishAnswer, NewAnswer, UpdateAnswer, sha1_in, sha256_in};
+ghost use Rattle.gix_hash_c.specs.Hashers.{FinishAnswer, NewAnswer, UpdateAnswer, WasFed, sha1_in, sha256_in};
 
 use crate::codes::{BAD_KIND, OK, kind_of};
 use crate::ids::{Id, to_c};
@@ -33,12 +33,21 @@ pub struct Hasher {
 pub extern "C" fn gix_hash_hasher_new(kind: u32, hasher: &mut Hasher) -> u32
     ensures { NewAnswer (kind_of_number kind) result hasher.old hasher.new }
 {
-    *hasher = match kind_of(kind) {
-        Some(Kind::Sha1) => sha1_to_c(Sha1::new()),
-        Some(Kind::Sha256) => sha256_to_c(Sha256::new()),
-        None => return BAD_KIND,
+    let Some(kind) = kind_of(kind) else {
+        return BAD_KIND;
     };
+    *hasher = new_hasher(kind);
     OK
+}
+
+// A hasher of an empty message.
+pub(crate) fn new_hasher(kind: Kind) -> Hasher
+    ensures { WasFed kind result [] }
+{
+    match kind {
+        Kind::Sha1 => sha1_to_c(Sha1::new()),
+        Kind::Sha256 => sha256_to_c(Sha256::new()),
+    }
 }
 
 /// Appends bytes to the message. `BAD_KIND` leaves `hasher` as it was.

@@ -1,13 +1,13 @@
 //! Ids of Git's objects, from their types and contents.
 
-ghost use Rattle.std.specs.Prelude.{◌≡◌, MatchOption, Some, None, decimal};
-ghost use Rattle.gix_hash.specs.Hashing.{digest};
+ghost use Rattle.std.specs.Prelude.{◌≡◌, MatchOption, Some, None};
 ghost use Rattle.gix_hash_c.specs.Face.{kind_of_number};
-ghost use Rattle.gix_hash_c.specs.Hashers.{ObjectAnswer, object_bytes, type_name};
+ghost use Rattle.gix_hash_c.specs.Hashers.{ObjectAnswer, ObjectHasherAnswer, WasFed, object_header, type_name};
 
 use crate::codes::{BAD_KIND, BAD_TYPE, OK, kind_of};
-use crate::ids::{Id, to_c};
-use gix_hash::{Kind, ObjectId, hasher};
+use crate::hashers::{Hasher, gix_hash_hasher_finish, gix_hash_hasher_update, new_hasher};
+use crate::ids::Id;
+use gix_hash::Kind;
 use itoa::Buffer;
 
 /// The id of an object: the digest of the name of its type, a space, the number of its bytes in
@@ -24,7 +24,31 @@ pub extern "C" fn gix_hash_object_id(kind: u32, object_type: u32, bytes: &[u8], 
     let Some(name) = type_name(object_type) else {
         return BAD_TYPE;
     };
-    *id = to_c(&object_id(kind, name, bytes));
+    let mut hasher = object_hasher(kind, name, bytes.len() as u64);
+    gix_hash_hasher_update(&mut hasher, bytes);
+    gix_hash_hasher_finish(&hasher, id)
+}
+
+/// Makes a hasher of an object whose `len` bytes are to be fed: its message is what
+/// `gix_hash_object_id` hashes before them. An error leaves `hasher` as it was: `BAD_KIND`, or else
+/// `BAD_TYPE`.
+#[unsafe(no_mangle)]
+pub extern "C" fn gix_hash_object_hasher(
+    kind: u32,
+    object_type: u32,
+    len: u64,
+    hasher: &mut Hasher,
+) -> u32
+    ensures { ObjectHasherAnswer (kind_of_number kind) (type_name object_type) len result
+        hasher.old hasher.new }
+{
+    let Some(kind) = kind_of(kind) else {
+        return BAD_KIND;
+    };
+    let Some(name) = type_name(object_type) else {
+        return BAD_TYPE;
+    };
+    *hasher = object_hasher(kind, name, len);
     OK
 }
 
@@ -42,16 +66,15 @@ fn type_name(number: u32) -> Option<&'static [u8]>
     }
 }
 
-// The id of an object whose type has that name.
-fn object_id(kind: Kind, name: &[u8], bytes: &[u8]) -> ObjectId
-    ensures { result ≡ digest kind (object_bytes name.now bytes.now) }
+// The hasher that was fed the header of an object of `len` bytes, whose type has that name.
+fn object_hasher(kind: Kind, name: &[u8], len: u64) -> Hasher
+    ensures { WasFed kind result (object_header name.now len) }
 {
     let mut buffer = Buffer::new();
-    let mut hasher = hasher(kind);
-    hasher.update(name);
-    hasher.update(b" ");
-    hasher.update(buffer.format(bytes.len()).as_bytes());
-    hasher.update(b"\0");
-    hasher.update(bytes);
-    hasher.try_finalize().unwrap()
+    let mut hasher = new_hasher(kind);
+    gix_hash_hasher_update(&mut hasher, name);
+    gix_hash_hasher_update(&mut hasher, b" ");
+    gix_hash_hasher_update(&mut hasher, buffer.format(len).as_bytes());
+    gix_hash_hasher_update(&mut hasher, b"\0");
+    hasher
 }
