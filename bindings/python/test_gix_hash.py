@@ -100,9 +100,16 @@ class Bindings(unittest.TestCase):
                     for data in (b"", b"abc\n", bytes(4095)):
                         found = Id.of_object(kind, object_type, data)
                         self.assertEqual(str(found), git(*words, data=data).strip())
+                        self.assertEqual(Id.of_object(name, object_type.name.lower(), data), found)
+                        hasher = Hasher.for_object(kind, object_type, len(data))
+                        for at in range(0, len(data), 100):
+                            hasher.update(data[at : at + 100])
+                        self.assertEqual(hasher.id(), found)
                         self.assertEqual(found == Id.empty_blob(kind), (object_type, data) == (ObjectType.BLOB, b""))
                         self.assertEqual(found == Id.empty_tree(kind), (object_type, data) == (ObjectType.TREE, b""))
             self.assertEqual(bytes(Id.null(kind)), bytes(kind.len_in_bytes))
+            for length in (0, 9, 10, 2**63, 2**64 - 1):
+                self.assertEqual(Hasher.for_object(name, "tree", length).id(), Id.digest(name, f"tree {length}\0".encode()))
         self.assertRaises(ValueError, Id.of_object, Kind.SHA1, 5, b"")
 
     def test_texts(self):
@@ -138,6 +145,8 @@ class Bindings(unittest.TestCase):
             self.assertNotEqual(one, EMPTY)
             self.assertEqual((pickle.loads(pickle.dumps(one)), copy.deepcopy(one)), (one, one))
             self.assertRaises(TypeError, make, 40)
+        self.assertEqual((f"{Id(EMPTY):.7}", f"{Prefix('E3B'):>5}", f"{Id(EMPTY)}"), (EMPTY[:7], "  e3b", EMPTY))
+        self.assertRaises(ValueError, format, Id(EMPTY), "d")
         self.assertEqual([str(Prefix(EMPTY[:n])) for n in (1, 2, 63)], [EMPTY[:n] for n in (1, 2, 63)])
         own = OwnId(EMPTY)
         for made in (pickle.loads(pickle.dumps(own)), OwnId.from_bytes(bytes(own)), OwnId.digest(Kind.SHA256, b"")):
@@ -187,8 +196,8 @@ class Bindings(unittest.TestCase):
         rows += [(Error, Id, text) for text in (" " + EMPTY[:40], EMPTY[:40] + "\n")]
         rows += [(Error, Prefix, text) for text in ("\ud800", "\xe9", " e", "e ", "+1", "0x", "e" * 65)]
         for call in (Id.digest, SortedDigests, PackIndex):
-            rows += [(TypeError, call, kind, data) for kind in (True, None, 1.0, "sha1")]
-            rows += [(ValueError, call, kind, data) for kind in (0, 3, -1, 2**32 + 1, 2**64 + 2)]
+            rows += [(TypeError, call, kind, data) for kind in (True, None, 1.0, b"sha1", ObjectType.COMMIT)]
+            rows += [(ValueError, call, kind, data) for kind in (0, 3, -1, 2**32 + 1, 2**64 + 2, "md5", "Sha1", "", "1")]
             rows += [(TypeError, call, Kind.SHA1, wrong) for wrong in (40, None, EMPTY, 1.5, floats, [1])]
             rows += [(BufferError, call, Kind.SHA1, strided)]
         for call in (Id.from_bytes, PackIndex.kind_of, PackIndex.of_any_kind):
@@ -196,18 +205,26 @@ class Bindings(unittest.TestCase):
             rows += [(BufferError, call, strided)]
         for call in (Id.null, Id.empty_blob, Id.empty_tree, Hasher):
             rows += [(TypeError, call, True), (ValueError, call, 0), (ValueError, call, 2**32 + 1)]
-        rows += [(ValueError, Id.of_object, Kind.SHA1, wrong, b"") for wrong in (0, 5, 2**32 + 1)]
-        rows += [(TypeError, Id.of_object, Kind.SHA1, wrong, b"") for wrong in ("blob", None, True)]
-        rows += [(TypeError, Hasher(Kind.SHA1).update, "abc"), (TypeError, copy.deepcopy, Hasher(Kind.SHA1))]
+        for call, last in ((Id.of_object, b""), (Hasher.for_object, 0)):
+            rows += [(ValueError, call, Kind.SHA1, wrong, last) for wrong in (0, 5, 2**32 + 1, "blobs")]
+            rows += [(TypeError, call, Kind.SHA1, wrong, last) for wrong in (b"blob", None, True, Kind.SHA1)]
+        rows += [(ValueError, Hasher.for_object, "sha1", "blob", wrong) for wrong in (-1, 2**64)]
+        rows += [(TypeError, Hasher.for_object, "sha1", "blob", wrong) for wrong in (1.0, "1", None, b"")]
+        rows += [(TypeError, call, Hasher(Kind.SHA1)) for call in (copy.copy, copy.deepcopy, pickle.dumps)]
+        rows += [(TypeError, Hasher(Kind.SHA1).update, "abc")]
         rows += [(Error, Id.from_bytes, bytes(n)) for n in range(100) if n not in (20, 32)]
-        rows += [(TypeError, call, wrong) for call in (index.find, table.find) for wrong in ("e6", None, id)]
+        for each in (index, table):
+            for call in (each.find, each.__contains__, each.count, each.index):
+                rows += [(TypeError, call, wrong) for wrong in (None, 5, b"e6", ["e6"])]
+                rows += [(Error, call, wrong) for wrong in ("", "xyz", "e6 ", EMPTY, Prefix(EMPTY))]
+        rows += [(TypeError, call, index[0]) for call in (table.__contains__, table.count, table.index, index.find)]
         rows += [(TypeError, prefix.cmp, wrong) for wrong in ("e6", None, prefix)]
         for call in (index.__getitem__, index.id, index.abbreviate, table.__getitem__):
             rows += [(TypeError, call, wrong) for wrong in (1.0, "1", None)]
             rows += [(IndexError, call, at) for at in (300, -301, 2**63, 2**64, -(2**64))]
         for call in (index.index, table.index):
-            rows += [(ValueError, call, wrong) for wrong in (id, "e6", None, Id(EMPTY[:40]))]
-        rows += [(TypeError, index.abbreviate, slice(1)), (TypeError, copy.deepcopy, index), (TypeError, pickle.dumps, index)]
+            rows += [(ValueError, call, wrong) for wrong in (id, Id(EMPTY[:40]), EMPTY[:40], Prefix(EMPTY[:39]))]
+        rows += [(TypeError, index.abbreviate, slice(1))]
         rows += [(AttributeError, setattr, id, "kind", Kind.SHA1), (TypeError, sorted, [id, EMPTY])]
         for wanted, call, *given in rows:
             with self.subTest(call=call, given=given):
@@ -215,7 +232,40 @@ class Bindings(unittest.TestCase):
         for cut in range(0, len(data), 7):
             self.assertRaises(Error, PackIndex.of_any_kind, data[:cut])
             self.assertRaises(Error, PackIndex.of_any_kind, data[:cut] + bytes([data[cut] ^ 1]) + data[cut + 1 :])
-        self.assertFalse(EMPTY in index or None in table or id in index or id in table or Prefix(EMPTY) in table)
+        self.assertFalse(id in index or id in table or EMPTY[:40] in index or Prefix(EMPTY[:40]) in table)
+
+    def test_words(self):
+        """What errors say of wrong arguments, and of positions."""
+        index = PackIndex("sha1", index_of(Kind.SHA1))
+        for wanted, call, *given in (
+            ("expected str of hex digits, not bytes; Id.from_bytes takes a digest", Id, b"a" * 40),
+            ("expected str of hex digits, not int", Id, 5),
+            ("expected str of hex digits, not NoneType", Prefix, None),
+            ("expected Kind or one of 'sha1', 'sha256', not 'md5'", Id.digest, "md5", b""),
+            ("expected Kind or one of 'sha1', 'sha256', not None of the type NoneType", Hasher, None),
+            ("expected ObjectType or one of 'commit', 'tree', 'blob', 'tag', not 'x'", Hasher.for_object, "sha1", "x", 0),
+            ("expected a length from 0 to 2**64 - 1, not -1", Hasher.for_object, "sha1", "blob", -1),
+            ("expected str, Prefix or Id, not 5 of the type int", index.find, 5),
+            ("expected Entry, Id, Prefix or str, not None of the type NoneType", index.__contains__, None),
+            ("no id is at position 99999: there are 300", index.__getitem__, 99999),
+            ("no id is at position -301: there are 300", index.abbreviate, -301),
+            ("expected Id, not 'e6' of the type str", Prefix("e6").cmp, "e6"),
+            ("a pack index of the other kind (its kind: sha1)", PackIndex, "sha256", index._data),
+            ("a pack index of another version than 2 (its version: 3)", PackIndex, "sha1", b"\xfftOc\0\0\0\3" + bytes(2000)),
+        ):
+            with self.assertRaises((TypeError, ValueError, IndexError)) as raised:
+                call(*given)
+            self.assertEqual(str(raised.exception), wanted)
+
+    def test_pickles(self):
+        data = index_of(Kind.SHA1)
+        table = b"".join(bytes(it.id) for it in PackIndex(Kind.SHA1, data))
+        for made in (PackIndex(Kind.SHA1, bytearray(data)), PackIndex.of_any_kind(memoryview(data)), SortedDigests("sha1", table)):
+            for same in (pickle.loads(pickle.dumps(made)), copy.copy(made), copy.deepcopy(made)):
+                self.assertEqual((type(same), same.kind, list(same)), (type(made), made.kind, list(made)))
+        for made, last in ((PackIndex(Kind.SHA1, data), data[-20:]), (SortedDigests(Kind.SHA1, table), table[-20:])):
+            # (the last digest is changed as it lies in the pickle)
+            self.assertRaises(Error, pickle.loads, pickle.dumps(made).replace(last, bytes(20)))
 
     def test_indexes(self):
         for kind in KINDS:
@@ -244,7 +294,10 @@ class Bindings(unittest.TestCase):
                 self.assertEqual(hex_len, next(length for length in range(4, 65) if fronts[name[:length]] == 1))
                 for digits in (name[:1], name[:2], name[:hex_len], name):
                     wanted = range(bisect.bisect_left(names, digits), bisect.bisect_left(names, digits + "g"))
-                    self.assertEqual((index.find(Prefix(digits)), table.find(Prefix(digits))), (wanted, wanted))
+                    for each in (index, table):
+                        self.assertEqual([each.find(Prefix(digits)), each.find(digits)], [wanted, wanted])
+                        self.assertTrue(digits in each and Prefix(digits.upper()) in each)
+                        self.assertEqual((each.count(digits), each.index(digits)), (len(wanted), wanted.start))
             for call in (index.id, index.abbreviate):
                 self.assertRaises(IndexError, call, len(index))
             self.fails(Code.OTHER_KIND, kind, PackIndex, 3 - kind, data)

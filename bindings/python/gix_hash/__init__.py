@@ -35,10 +35,12 @@ __version__ = "0.5.0-dev"
 # What has bytes. (Other objects that do, as an array of bytes, are taken too.)
 Buffer = Union[bytes, bytearray, memoryview, mmap.mmap]
 _T = TypeVar("_T")
+_M = TypeVar("_M", "Kind", "ObjectType")
 
 
 class Kind(enum.IntEnum):
-    """The hash function of an id: 20 bytes and 40 hex digits, or 32 bytes and 64."""
+    """The hash function of an id: 20 bytes and 40 hex digits, or 32 bytes and 64. Where a kind is taken, its name is too, "sha1"
+    or "sha256"."""
 
     SHA1 = 1
     SHA256 = 2
@@ -50,7 +52,7 @@ class Kind(enum.IntEnum):
 
 
 class ObjectType(enum.IntEnum):
-    """The type of an object, by the number that it has in packs."""
+    """The type of an object, by the number that it has in packs. Where one is taken, its name is too, as "blob"."""
 
     COMMIT = 1
     TREE = 2
@@ -91,14 +93,15 @@ class Code(enum.IntEnum):
     OFFSET_TOO_HIGH = 27, "an object's offset is 2^63 or more (detail: the object's position)"
     WRONG_CHECKSUM = 28, "the last bytes are not the digest of those before them"
     OTHER_KIND = 29, "a pack index of the other kind (detail: its kind)"
-    UNKNOWN = 2**32 - 1, "a code of a later library, which is not in this list (detail: which)"
+    UNKNOWN = 2**32 - 1, "a code of a later library, which is not in this list (detail: its number)"
 
 
 class Error(ValueError):
-    """Why a call failed: its code, and the index, byte, version, kind or code that its text speaks of, else 0."""
+    """Why a call failed: its code, and the position, byte, version, kind or code that its text speaks of, else 0."""
 
     def __init__(self, code: Code, detail: int = 0):
-        super().__init__(re.sub(r"\((?:detail|at): (.*)\)", rf"(\1: {detail})", code.text))
+        shown = Kind(detail).name.lower() if code is Code.OTHER_KIND and detail in (1, 2) else detail
+        super().__init__(re.sub(r"\((?:detail|at): (.*)\)", rf"(\1: {shown})", code.text))
         self.code, self.detail = code, detail
 
     def __reduce__(self) -> Tuple[Any, ...]:
@@ -188,15 +191,34 @@ def _check(code: int, detail: int = 0) -> None:
         raise Error(Code(code), detail) if code in _CODES else Error(Code.UNKNOWN, code)
 
 
+def _wrong(value: object, wanted: str) -> TypeError:
+    """That a value is of a wrong type, and what was expected."""
+    return TypeError(f"expected {wanted}, not {value!r:.80} of the type {type(value).__name__}")
+
+
 def _only(kind: Type[_T], value: _T) -> _T:
-    """The value, which must be of a class. (True is 1, and yet no kind and no type.)"""
-    if not isinstance(value, kind) or isinstance(value, bool):
-        raise TypeError(f"{value!r} is not of the class {kind.__name__}")
+    """The value, which must be of a class."""
+    if not isinstance(value, kind):
+        raise _wrong(value, kind.__name__)
     return value
 
 
-def _kind(number: int) -> Kind:
-    return Kind(_only(int, number))
+def _member(kind: Type[_M], value: object) -> _M:
+    """The member of an enumeration that a value is, or that a number or a name stands for, as Git spells it or as Python."""
+    if isinstance(value, kind):
+        return value
+    names = {name: it for it in kind for name in (it.name, it.name.lower())}
+    if isinstance(value, str) and value in names:
+        return names[value]
+    # (True is 1, and so is ObjectType.COMMIT, and yet no kind)
+    if isinstance(value, int) and not isinstance(value, (bool, enum.Enum)):
+        return kind(value)
+    wanted = f"{kind.__name__} or one of {', '.join(repr(it.name.lower()) for it in kind)}"
+    raise ValueError(f"expected {wanted}, not {value!r:.80}") if isinstance(value, str) else _wrong(value, wanted)
+
+
+def _kind(value: object) -> Kind:
+    return _member(Kind, value)
 
 
 class _View(ctypes.Structure):
@@ -219,6 +241,14 @@ def _bytes(data: Buffer) -> Tuple[Any, Any, int]:
     return view if view.ndim == 1 else view.cast("B"), address, view.nbytes
 
 
+def _digits(text: str) -> bytes:
+    """The bytes of a text that is to have hex digits. What is not ASCII is no digit."""
+    if not isinstance(text, str):
+        hint = "; Id.from_bytes takes a digest" if isinstance(text, (bytes, bytearray, memoryview)) else ""
+        raise TypeError(f"expected str of hex digits, not {type(text).__name__}{hint}")
+    return str.encode(text, "ascii", "replace")
+
+
 # How the struct of an id begins, by the number of bytes of the digest after that.
 _HEADS = {kind.len_in_bytes: kind.to_bytes(4, sys.byteorder) for kind in Kind}
 
@@ -232,7 +262,7 @@ class Id:
     _key: bytes
 
     def __new__(cls, text: str) -> "Id":
-        made, digits = _Id(), str.encode(text, "ascii", "replace")
+        made, digits = _Id(), _digits(text)
         _check(_lib.gix_hash_id_from_hex(digits, len(digits), made))
         return cls._of(made)
 
@@ -247,36 +277,36 @@ class Id:
         return made
 
     @classmethod
-    def digest(cls, kind: Kind, data: Buffer) -> "Id":
+    def digest(cls, kind: Union[Kind, str], data: Buffer) -> "Id":
         """The digest of bytes."""
         made, (held, *given) = _Id(), _bytes(data)
         _check(_lib.gix_hash_digest(_kind(kind), *given, made))
         return cls._of(made)
 
     @classmethod
-    def of_object(cls, kind: Kind, object_type: ObjectType, data: Buffer) -> "Id":
+    def of_object(cls, kind: Union[Kind, str], object_type: Union[ObjectType, str], data: Buffer) -> "Id":
         """The id of an object, as git hash-object computes it. Whether the bytes are such an object is not checked."""
         made, (held, *given) = _Id(), _bytes(data)
-        _check(_lib.gix_hash_object_id(_kind(kind), ObjectType(_only(int, object_type)), *given, made))
+        _check(_lib.gix_hash_object_id(_kind(kind), _member(ObjectType, object_type), *given, made))
         return cls._of(made)
 
     @classmethod
-    def null(cls, kind: Kind) -> "Id":
+    def null(cls, kind: Union[Kind, str]) -> "Id":
         """The id whose digits are all zero."""
         return cls._named(_lib.gix_hash_id_null, kind)
 
     @classmethod
-    def empty_blob(cls, kind: Kind) -> "Id":
+    def empty_blob(cls, kind: Union[Kind, str]) -> "Id":
         """The id of the blob with no bytes."""
         return cls._named(_lib.gix_hash_id_empty_blob, kind)
 
     @classmethod
-    def empty_tree(cls, kind: Kind) -> "Id":
+    def empty_tree(cls, kind: Union[Kind, str]) -> "Id":
         """The id of the tree with no entries."""
         return cls._named(_lib.gix_hash_id_empty_tree, kind)
 
     @classmethod
-    def _named(cls, call: Any, kind: Kind) -> "Id":
+    def _named(cls, call: Any, kind: Union[Kind, str]) -> "Id":
         made = _Id()
         _check(call(_kind(kind), made))
         return cls._of(made)
@@ -303,6 +333,10 @@ class Id:
     def __str__(self) -> str:
         return self._key[4:].hex()
 
+    def __format__(self, spec: str) -> str:
+        """The digits as a text is formatted: f"{id:.7}" has the first 7."""
+        return format(str(self), spec)
+
     def __repr__(self) -> str:
         return f"{type(self).__name__}('{self}')"
 
@@ -322,7 +356,7 @@ class Id:
 class Hasher:
     """A hash function at work on a message, which comes in chunks, with what objects of hashlib have. Threads may share one.
 
-    >>> hasher = Hasher(Kind.SHA1, b"blob 3\\0")
+    >>> hasher = Hasher.for_object("sha1", "blob", 3)
     >>> hasher.update(b"abc")
     >>> hasher.name, hasher.id() == Id.of_object(Kind.SHA1, ObjectType.BLOB, b"abc")
     ('sha1', True)
@@ -331,10 +365,21 @@ class Hasher:
     __slots__ = ("_hasher", "_lock")
     block_size = 64
 
-    def __init__(self, kind: Kind, data: Buffer = b"") -> None:
+    def __init__(self, kind: Union[Kind, str], data: Buffer = b"") -> None:
         self._hasher, self._lock = _Hasher(), threading.Lock()
         _check(_lib.gix_hash_hasher_new(_kind(kind), self._hasher))
         self.update(data)
+
+    @classmethod
+    def for_object(cls, kind: Union[Kind, str], object_type: Union[ObjectType, str], length: int) -> "Hasher":
+        """A hasher of an object, which has been fed what git hash-object hashes before the object's bytes. Feed it the bytes,
+        and id() is the id of the object. That they are as many as the length says is not checked: of more or fewer the digest
+        is the id of no object."""
+        made, number = cls(kind), operator.index(length)
+        if not 0 <= number < 2**64:
+            raise ValueError(f"expected a length from 0 to 2**64 - 1, not {number}")
+        _check(_lib.gix_hash_object_hasher(made.kind, _member(ObjectType, object_type), number, made._hasher))
+        return made
 
     @property
     def kind(self) -> Kind:
@@ -379,6 +424,9 @@ class Hasher:
             made._hasher = _Hasher.from_buffer_copy(self._hasher)
         return made
 
+    def __reduce__(self) -> Tuple[Any, ...]:
+        raise TypeError("a Hasher cannot be pickled; copy() makes another")
+
 
 class Prefix:
     """A prefix of 1 to 64 hex digits, in either case. It does not change."""
@@ -387,7 +435,7 @@ class Prefix:
     _prefix: Any
 
     def __new__(cls, text: str) -> "Prefix":
-        made, digits = object.__new__(cls), str.encode(text, "ascii", "replace")
+        made, digits = object.__new__(cls), _digits(text)
         made._prefix = _Prefix()
         _check(_lib.gix_hash_prefix_from_hex(digits, len(digits), made._prefix))
         return made
@@ -406,6 +454,10 @@ class Prefix:
 
     def __str__(self) -> str:
         return bytes(self._prefix.bytes).hex()[: self.hex_len]
+
+    def __format__(self, spec: str) -> str:
+        """The digits as a text is formatted: f"{id:.7}" has the first 7."""
+        return format(str(self), spec)
 
     def __repr__(self) -> str:
         return f"{type(self).__name__}('{self}')"
@@ -429,11 +481,12 @@ class Entry(NamedTuple):
 
 
 class _Table(Sequence[_T]):
-    """What lists of ids share: their bytes, and the library's call that finds a prefix."""
+    """What lists of ids share: their bytes, the library's call that finds a prefix, and the classes of what can be in one."""
 
     _call: Any
+    _items: Tuple[type, ...] = (Id,)
 
-    def _hold(self, kind: int, data: Buffer) -> None:
+    def _hold(self, kind: Union[Kind, str], data: Buffer) -> None:
         self._kind = _kind(kind)
         self._data, *given = _bytes(data)
         # What each call begins with.
@@ -454,46 +507,67 @@ class _Table(Sequence[_T]):
     def __getitem__(self, at: Union[int, slice]) -> Union[_T, List[_T]]:
         if isinstance(at, slice):
             return [self._item(each) for each in range(len(self))[at]]
-        return self._item(range(len(self))[at])
+        return self._item(self._position(at))
+
+    def _position(self, at: int) -> int:
+        """A position from the start, of one that may be from the end."""
+        count, position = len(self), operator.index(at)
+        if not -count <= position < count:
+            raise IndexError(f"no id is at position {position}: there are {count}")
+        return position % count
 
     def __iter__(self) -> Iterator[_T]:
         return map(self._item, range(len(self)))
 
-    def find(self, prefix: Prefix) -> range:
-        """The positions of the ids that begin with a prefix. The error is PREFIX_TOO_LONG."""
+    def find(self, prefix: Union[str, Prefix, Id]) -> range:
+        """The positions of the ids that begin with a prefix. The error is PREFIX_TOO_LONG, or that of reading a text."""
+        if isinstance(prefix, (str, Id)):
+            prefix = Prefix(str(prefix))
+        elif not isinstance(prefix, Prefix):
+            raise _wrong(prefix, "str, Prefix or Id")
         run = _Run()
-        _check(self._call(*self._given, _only(Prefix, prefix)._prefix, run))
+        _check(self._call(*self._given, prefix._prefix, run))
         return range(run.start, run.end)
 
-    def _indexes(self, value: object) -> List[int]:
+    def _indexes(self, value: object) -> Sequence[int]:
+        if isinstance(value, (str, Prefix)):
+            return self.find(value)
+        if not isinstance(value, self._items):
+            raise _wrong(value, ", ".join(it.__name__ for it in self._items) + ", Prefix or str")
         id = value.id if isinstance(value, Entry) else value
         if not isinstance(id, Id) or id.kind is not self._kind:
             return []
-        return [at for at in self.find(Prefix(str(id))) if value is id or self._item(at) == value]
+        return [at for at in self.find(id) if value is id or self._item(at) == value]
 
     def __contains__(self, value: object) -> bool:
         return bool(self._indexes(value))
 
     def count(self, value: Any) -> int:
-        """How often an id, or an item, is in the list."""
+        """How often an id or an item is in the list, or how many ids begin with a prefix."""
         return len(self._indexes(value))
 
     def index(self, value: Any, start: int = 0, stop: Optional[int] = None) -> int:
-        """The first index of an id, or of an item, from start up to stop, or a ValueError if there is none."""
+        """The first position of an id, of an item or of what begins with a prefix, from start up to stop, or a ValueError if there
+        is none."""
         for at in self._indexes(value):
             if at in range(len(self))[start:stop]:
                 return at
         raise ValueError(f"{value!r} is not in the list")
 
+    def __reduce__(self) -> Tuple[Any, ...]:
+        # (the check is made again of what was pickled)
+        return type(self), (self._kind, bytes(self._data))
+
 
 class SortedDigests(_Table[Id]):
-    """Sorted digests of a kind, one after the other, as a sequence of ids. The error is UNSORTED, with the first index
-    whose digest is below the one before it. A part of a digest at the end is left out. The bytes are not copied, so
-    nobody may change them."""
+    """Sorted digests of a kind, one after the other, as a sequence of ids. `in`, `index` and `count` also take a Prefix or a text
+    of hex digits. The error is UNSORTED, with the first position whose digest is below the one before it. A part of a digest at
+    the end is left out. The bytes are not copied, so nobody may change them. A pickle has a copy, and is checked as it is loaded.
+    """
 
     _call = _lib.gix_hash_find
 
-    def __init__(self, kind: Kind, table: Buffer):
+    def __init__(self, kind: Union[Kind, str], table: Buffer):
         self._hold(kind, table)
         at, self._size = ctypes.c_size_t(), self._kind.len_in_bytes
         _check(_lib.gix_hash_check_sorted(*self._given, at), at.value)
@@ -506,13 +580,14 @@ class SortedDigests(_Table[Id]):
 
 
 class PackIndex(_Table[Entry]):
-    """A pack index of version 2, as a sequence of entries, where `in`, `index` and `count` also take an id. The error is
-    OTHER_KIND, or one from INDEX_TOO_SHORT to WRONG_CHECKSUM. The bytes are not copied, so nobody may change them, and an mmap is
-    closed after this is gone."""
+    """A pack index of version 2, as a sequence of entries, where `in`, `index` and `count` also take an Id, a Prefix or a text of
+    hex digits. The error is OTHER_KIND, or one from INDEX_TOO_SHORT to WRONG_CHECKSUM. The bytes are not copied, so nobody may
+    change them, and an mmap is closed after this is gone. A pickle has a copy, and is checked as it is loaded."""
 
     _call = _lib.gix_hash_pack_find
+    _items = (Entry, Id)
 
-    def __init__(self, kind: Kind, data: Buffer):
+    def __init__(self, kind: Union[Kind, str], data: Buffer):
         self._hold(kind, data)
         detail = ctypes.c_uint64()
         _check(_lib.gix_hash_pack_check(*self._given, detail), detail.value)
@@ -545,14 +620,14 @@ class PackIndex(_Table[Entry]):
     def id(self, at: int) -> Id:
         """The id of the object at a position."""
         made = _Id()
-        _check(_lib.gix_hash_pack_id(*self._given, range(len(self))[operator.index(at)], made))
+        _check(_lib.gix_hash_pack_id(*self._given, self._position(at), made))
         return Id._of(made)
 
     def abbreviate(self, at: int) -> int:
         """The length of the shortest prefix, of 4 digits or more, with which no other id begins. The error is NOT_UNIQUE
         for an id that occurs more than once."""
         hex_len = ctypes.c_size_t()
-        _check(_lib.gix_hash_pack_abbreviate(*self._given, range(len(self))[operator.index(at)], hex_len))
+        _check(_lib.gix_hash_pack_abbreviate(*self._given, self._position(at), hex_len))
         return hex_len.value
 
 
