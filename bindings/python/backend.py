@@ -11,15 +11,16 @@ import zipfile
 from pathlib import Path
 
 HERE = Path(__file__).resolve().parent
-ABOUT = """Metadata-Version: 2.1
+ABOUT = """Metadata-Version: 2.4
 Name: nunbirdstand
 Summary: Git's object ids, over the proved library libgix_hash
-License: MIT OR Apache-2.0
+License-Expression: MIT OR Apache-2.0
 Requires-Python: >=3.9
 Classifier: Programming Language :: Python :: Implementation :: CPython
 """
 WHEEL = "Wheel-Version: 1.0\nGenerator: backend\nRoot-Is-Purelib: {}\nTag: {}\n"
 LIBRARY, PROGRAM = "gix_hash/libgix_hash.so", "gix_hash/packtool"
+LICENCES = ("LICENSE-MIT", "LICENSE-APACHE", "NOTICE")
 
 
 def build_wheel(wheel_directory, config_settings=None, metadata_directory=None):
@@ -31,7 +32,14 @@ def build_wheel(wheel_directory, config_settings=None, metadata_directory=None):
         tag = f"py3-none-{(config_settings or {}).get('platform', 'linux_x86_64')}"
     version = re.search(r'__version__ = "(.*)"', files["gix_hash/__init__.py"].decode())[1].replace("-dev", ".dev0")
     name = f"nunbirdstand-{version}"
-    files[f"{name}.dist-info/METADATA"] = f"{ABOUT}Version: {version}\n".encode()
+    listed = "".join(f"License-File: {it}\n" for it in LICENCES)
+    readme = (HERE / "README.md").read_text(encoding="utf-8")
+    about = f"{ABOUT}Version: {version}\n{listed}Description-Content-Type: text/markdown\n\n{readme}"
+    files[f"{name}.dist-info/METADATA"] = about.encode()
+    for it in LICENCES:
+        # (in the repository they are at its top)
+        path = next(path for path in (HERE / it, HERE.parents[1] / it) if path.exists())
+        files[f"{name}.dist-info/licenses/{it}"] = path.read_bytes()
     files[f"{name}.dist-info/WHEEL"] = WHEEL.format("false" if is_built else "true", tag).encode()
     digests = {file: base64.urlsafe_b64encode(hashlib.sha256(data).digest()).decode() for file, data in files.items()}
     lines = [f"{file},sha256={digests[file].rstrip('=')},{len(data)}\n" for file, data in files.items()]

@@ -3,9 +3,11 @@
 import array
 import bisect
 import collections
+import contextlib
 import copy
 import doctest
 import hashlib
+import io
 import mmap
 import os
 import pathlib
@@ -159,6 +161,12 @@ class Bindings(unittest.TestCase):
             same = pickle.loads(pickle.dumps(error))
             self.assertEqual((same.code, same.detail, str(same)), (error.code, error.detail, str(error)))
         self.fails(Code.UNKNOWN, 99, gix_hash._check, 99, 5)
+
+    def test_readme(self):
+        readme = pathlib.Path(__file__).with_name("README.md").read_text(encoding="utf-8")
+        with contextlib.redirect_stdout(io.StringIO()) as printed:
+            exec(readme.split("```python\n")[1].split("```")[0], {})
+        self.assertEqual(printed.getvalue(), "f2ba8f8\n")
 
     def test_library(self):
         file = gix_hash._path()

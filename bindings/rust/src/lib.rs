@@ -8,6 +8,11 @@
 #![doc = include_str!("../examples/find.rs")]
 //! ```
 
+/// The example of the readme, as a test.
+#[cfg(doctest)]
+#[doc = include_str!("../README.md")]
+struct Readme;
+
 mod error;
 mod hasher;
 mod ids;
