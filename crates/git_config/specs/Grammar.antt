@@ -133,7 +133,7 @@ item section byte rest =
     if byte == 91 then (header rest >>= λ read. Ok ((read.0, None), read.1)) else
     if is_ascii_alphabetic byte then (variable (section ++ to_ascii_lowercase byte ∷ []) rest >>= λ read. Ok ((section, Some read.0), read.1)) else Err (length rest)
 
--- A text in this section has these variables, up to its end or up to a byte that is wrong, and how many bytes follow that.
+-- A text in this section has these variables, up to its end or up to a byte that is wrong, and how many bytes follow that. By `one_reading` it has no others.
 pub data Reads : List ℕ → List ℕ → List Variable → Option ℕ → Type 0 where
   ends : (section : List ℕ) → Reads section [] [] None
   stops : (section : List ℕ) (byte : ℕ) (rest : List ℕ) (left : ℕ) → item section byte rest ≡ Err left → Reads section (byte ∷ rest) [] (Some left)
