@@ -1,6 +1,6 @@
 //! Ids in the letters by which Jujutsu spells change ids.
 
-ghost use Rattle.std.specs.Prelude.{◌≡◌, ◌≤◌, ◌<◌, ◌↔◌, ◌++◌, All, IsTrue, length, drop, Some};
+ghost use Rattle.std.specs.Prelude.{◌≡◌, ◌≤◌, ◌<◌, ◌↔◌, All, IsTrue, length, Some};
 ghost use Rattle.gix_hash.specs.Ids.{asked_len, cut_kind, id_bytes, id_digits, id_kind, shown_digits, whole_digits};
 ghost use Rattle.id_digits.specs.Digits.{reverse_letter, spelling};
 ghost use Rattle.gix_hash.specs.Kinds.{hex_len_of, byte_len_of};
@@ -112,18 +112,6 @@ impl ChangeId {
         ensures hex_len { asked_len result ≡ hex_len }
     {
         ReverseHexDisplay::new(self.as_oid(), hex_len)
-    }
-
-    /// Writes the digits in the letters `z` to `k` into the front of `buffer`, as many as the
-    /// kind's length in digits; the bytes after them stay. The caller must ensure that the buffer
-    /// has room.
-    pub fn put_reverse_hex(&self, buffer: &mut [u8])
-        requires { hex_len_of (id_kind self.now) ≤ length buffer.old }
-        ensures value { buffer.new ≡ spelling reverse_letter (id_digits self.now) ++ drop
-            (hex_len_of (id_kind self.now)) buffer.old }
-        ensures len { length (id_digits self.now) ≡ hex_len_of (id_kind self.now) }
-    {
-        Alphabet::Reverse.put_id(self.as_oid(), buffer);
     }
 
     /// Whether `text` is exactly all digits in the letters `z` to `k`, in lowercase.
