@@ -420,6 +420,22 @@ CONFIGS = [
     ("[core]\nx ; y\n", "bad config line 2"),
     ('[core]\nx = "y\n"', "bad config line 2"),
     ("[core]\nx = \\x\n", "bad config line 2"),
+    # A line's end, or the end, within a header; Git counts the line that it ends only after a name, and after a quotation mark.
+    ("[core]\n[a", "bad config line 3"),
+    ("[a\r\n", "bad config line 1"),
+    ("[a ", "bad config line 1"),
+    ("[a \n\n", "bad config line 1"),
+    ('[a "b', "bad config line 1"),
+    ('[a "b\\\n"]', "bad config line 1"),
+    ('[a "b"', "bad config line 2"),
+    ('[a "b"\n]', "bad config line 2"),
+    ('[core]\n[a "b"\r\n', "bad config line 3"),
+    ('[a "b"\r]\n', "bad config line 1"),
+    # The end within quotation marks, also after a backslash.
+    ('[a]\nb="c', "bad config line 2"),
+    ('[a]\nb="c\\', "bad config line 3"),
+    ('[a]\nb="c\\\n', "bad config line 3"),
+    ('[a]\nb="c\r\n"', "bad config line 2"),
 ]
 CONFIGS += [
     (f"[core]\nrepositoryformatversion={text}\n", "core.repositoryformatversion is not a number")

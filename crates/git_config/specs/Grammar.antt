@@ -8,12 +8,12 @@ pub record Variable : Type 0 where
   pub name : List ℕ
   pub value : Option (List ℕ)
 
--- What is at the front of a text and the rest, or how many bytes follow the first that is wrong.
+-- What is at the front of a text and the rest, or where Git stops: how many bytes it has not read, of the text and a line feed after it, as which it reads the end.
 abbrev pub Read : Type 0 → Type 0
 Read T = Result (T × List ℕ) ℕ
 
 infixl 10 ◌>>=◌
--- what a function says of what was read, or the byte that is wrong
+-- what a function says of what was read, or where Git stops
 abbrev pub ◌>>=◌ : {A B : Type 0} → Result A ℕ → (A → Result B ℕ) → Result B ℕ
 (Ok read) >>= f = f read
 (Err left) >>= f = Err left
@@ -58,14 +58,19 @@ ends_line (byte ∷ rest) = byte == 10 || byte == 13 && begins_line rest
 
 -- this byte is next
 abbrev pub expect : ℕ → List ℕ → Result (List ℕ) ℕ
-expect byte [] = Err 0
-expect byte (first ∷ rest) = if first == byte then Ok rest else Err (length rest)
+expect byte [] = Err 1
+expect byte (first ∷ rest) = if first == byte then Ok rest else Err (length rest + 2)
+
+-- the bracket is next that closes a header with a subsection; a line's end in its place was read
+abbrev pub close : List ℕ → Result (List ℕ) ℕ
+close [] = Err 0
+close (byte ∷ rest) = if byte == 93 then Ok rest else Err (if byte == 13 && begins_line rest then length rest else length rest + 1)
 
 -- The rest of a subsection, up to its quotation mark; after a backslash, as is said here, a byte is itself. The name so far is before it.
 abbrev pub quoted : Bool → List ℕ → List ℕ → Read (List ℕ)
-quoted escaped name [] = Err 0
+quoted escaped name [] = Err 1
 quoted escaped name (byte ∷ rest) =
-    if byte == 10 then Err (length rest) else
+    if byte == 10 then Err (length rest + 2) else
     if byte == 34 && not escaped then Ok (name, rest) else
     if byte == 92 && not escaped then quoted true name rest else quoted false (name ++ byte ∷ []) rest
 
@@ -74,8 +79,8 @@ abbrev pub header_end : List ℕ → List ℕ → Read (List ℕ)
 header_end name [] = Err 0
 header_end name (byte ∷ rest) =
     if byte == 93 && not (length name == 0) then Ok (name ++ 46 ∷ [], rest) else
-    if is_blank byte then (expect 34 (past is_blank rest) >>= λ opened. quoted false (name ++ 46 ∷ []) opened >>= λ named. expect 93 named.1 >>= λ end. Ok (named.0 ++ 46 ∷ [], end))
-    else Err (length rest)
+    if is_blank byte then (expect 34 (past is_blank rest) >>= λ opened. quoted false (name ++ 46 ∷ []) opened >>= λ named. close named.1 >>= λ end. Ok (named.0 ++ 46 ∷ [], end))
+    else Err (length rest + 2)
 
 -- a section's header after its opening bracket: the name, in any case of letters
 abbrev pub header : List ℕ → Read (List ℕ)
@@ -95,9 +100,9 @@ piece in_quotes true byte rest =
     if byte == 110 then Ok (Means (10 ∷ []) in_quotes false) else
     if byte == 116 then Ok (Means (9 ∷ []) in_quotes false) else
     if byte == 98 then Ok (Means (8 ∷ []) in_quotes false) else
-    if byte == 34 || byte == 92 then Ok (Means (byte ∷ []) in_quotes false) else Err (length rest)
+    if byte == 34 || byte == 92 then Ok (Means (byte ∷ []) in_quotes false) else Err (length rest + 1)
 piece in_quotes false byte rest =
-    if byte == 10 then (if in_quotes then Err (length rest) else Ok End) else
+    if byte == 10 then (if in_quotes then Err (length rest + 2) else Ok End) else
     if byte == 92 then Ok (Means [] in_quotes true) else
     if byte == 34 then Ok (Means [] (not in_quotes) false) else
     if begins_comment byte && not in_quotes then Ok End else
@@ -105,7 +110,7 @@ piece in_quotes false byte rest =
 
 -- The rest of a value, after these bytes. Spaces, tabs and carriage returns are spaces, but none before the first byte, and none after the last byte of another kind, up to which this many bytes are kept.
 abbrev pub value : Bool → Bool → List ℕ → ℕ → List ℕ → Read (List ℕ)
-value in_quotes escaped bytes kept [] = if in_quotes then Err 0 else Ok (take kept bytes, [])
+value in_quotes escaped bytes kept [] = if in_quotes then Err (if escaped then 0 else 1) else Ok (take kept bytes, [])
 value in_quotes escaped bytes kept (byte ∷ rest) = piece in_quotes escaped byte rest >>= λ found. elim found [
   | End ↦ Ok (take kept bytes, after_line (byte ∷ rest))
   | Blank ↦ value in_quotes escaped (if length bytes == 0 then bytes else bytes ++ 32 ∷ []) kept rest
@@ -131,9 +136,9 @@ item section byte rest =
     if is_blank byte || byte == 10 then Ok ((section, None), rest) else
     if begins_comment byte then Ok ((section, None), after_line rest) else
     if byte == 91 then (header rest >>= λ read. Ok ((read.0, None), read.1)) else
-    if is_ascii_alphabetic byte then (variable (section ++ to_ascii_lowercase byte ∷ []) rest >>= λ read. Ok ((section, Some read.0), read.1)) else Err (length rest)
+    if is_ascii_alphabetic byte then (variable (section ++ to_ascii_lowercase byte ∷ []) rest >>= λ read. Ok ((section, Some read.0), read.1)) else Err (length rest + 1)
 
--- A text in this section has these variables, up to its end or up to a byte that is wrong, and how many bytes follow that. By `one_reading` it has no others.
+-- A text in this section has these variables, up to its end or up to where Git stops, and how many bytes are left then. By `one_reading` it has no others.
 pub data Reads : List ℕ → List ℕ → List Variable → Option ℕ → Type 0 where
   ends : (section : List ℕ) → Reads section [] [] None
   stops : (section : List ℕ) (byte : ℕ) (rest : List ℕ) (left : ℕ) → item section byte rest ≡ Err left → Reads section (byte ∷ rest) [] (Some left)
@@ -143,9 +148,9 @@ pub data Reads : List ℕ → List ℕ → List Variable → Option ℕ → Type
 abbrev pub without_mark : List ℕ → List ℕ
 without_mark text = if bytes_eq (take 3 text) (239 ∷ 187 ∷ 191 ∷ []) then drop 3 text else text
 
--- the number of the line, from 1, of the byte that this many follow
+-- the number of the line, from 1, in which Git stops when this many bytes are left, of the text and a line feed after it
 abbrev pub line_number : List ℕ → ℕ → ℕ
-line_number text left = count_by (λ byte. byte == 10) (take (length text - (left + 1)) text) + 1
+line_number text left = count_by (λ byte. byte == 10) (take (length text - (left - 1)) text) + (if left == 0 then 2 else 1)
 
 -- a config has these variables, up to its end or up to the line of this number, which is bad
 abbrev pub IsConfig : List ℕ → List Variable → Option ℕ → Type 0

@@ -26,7 +26,9 @@ pub struct Variable {
 pub struct Config {
     /// The variables in order.
     pub variables: Vec<Variable>,
-    /// The number of the first line that is no section and no variable, from 1, if there is one.
+    /// The number of the first line that is no section and no variable, from 1, if there is one; as
+    /// Git counts, the next number where the line ends after a subsection, or the text in the name
+    /// of a section or after a backslash in quotation marks.
     pub bad_line: Option<usize>,
 }
 

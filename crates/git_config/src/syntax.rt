@@ -2,7 +2,7 @@
 
 ghost use Rattle.std.specs.Prelude.{◌≡◌, ◌≤◌, ◌-◌, ◌+◌, ◌++◌, ◌∷◌, ◌==◌, ◌||◌, [], length, take, drop, false, option_map, position, IfOk};
 ghost use Rattle.std.specs.List.{prefix_len};
-ghost use Rattle.git_config.specs.Grammar.{after_line, assignment, before_nul, ends_line, expect, header, header_end, is_blank, is_key_byte, is_name_byte, is_space, item, line_number, piece, quoted, value, variable, without_mark};
+ghost use Rattle.git_config.specs.Grammar.{after_line, assignment, before_nul, close, ends_line, expect, header, header_end, is_blank, is_key_byte, is_name_byte, is_space, item, line_number, piece, quoted, value, variable, without_mark};
 ghost use Rattle.git_config.specs.Views.{Gives, GivesFrom, piece_of, said};
 ghost use Rattle.git_config.specs.declared.syntax.Stop.TheVariants.{Memory};
 
@@ -15,7 +15,8 @@ use std::slice::from_ref;
 pub(crate) enum Stop {
     /// There is not enough memory.
     Memory,
-    /// A byte is wrong, or the end. So many bytes follow it.
+    /// A byte is wrong, or the end. So many bytes were not read then, of the text and a line feed
+    /// after it.
     Wrong(usize),
 }
 
@@ -62,7 +63,7 @@ pub(crate) fn read_item<'a>(
             let (variable, rest) = read_variable(alloc, name, rest)?;
             Ok((Some(variable), rest))
         }
-        _ => Err(Stop::Wrong(rest.len())),
+        _ => Err(Stop::Wrong(rest.len() + 1)),
     }
 }
 
@@ -88,9 +89,9 @@ fn end_header(mut name: Vec<u8>, text: &[u8]) -> Read<'_, Vec<u8>>
             let opened = expect(&rest[blanks_len(rest)..], b'"')?;
             let (mut name, closed) = read_quoted(name, opened)?;
             name.push(b'.')?;
-            Ok((name, expect(closed, b']')?))
+            Ok((name, close(closed)?))
         }
-        [_, rest @ ..] => Err(Stop::Wrong(rest.len())),
+        [_, ..] => Err(Stop::Wrong(text.len() + 1)),
         [] => Err(Stop::Wrong(0)),
     }
 }
@@ -104,7 +105,7 @@ fn read_quoted(mut name: Vec<u8>, text: &[u8]) -> Read<'_, Vec<u8>>
     let mut left = text;
     while let [byte, rest @ ..] = left {
         match byte {
-            b'\n' => return Err(Stop::Wrong(rest.len())),
+            b'\n' => return Err(Stop::Wrong(left.len() + 1)),
             b'"' if !escaped => return Ok((name, rest)),
             b'\\' if !escaped => escaped = true,
             _ => {
@@ -114,7 +115,7 @@ fn read_quoted(mut name: Vec<u8>, text: &[u8]) -> Read<'_, Vec<u8>>
         }
         left = rest;
     }
-    Err(Stop::Wrong(0))
+    Err(Stop::Wrong(1))
 }
 
 // Reads a variable whose name begins so.
@@ -173,7 +174,7 @@ fn read_value(alloc: Global, text: &[u8]) -> Read<'_, Vec<u8>>
         left = rest;
     }
     if in_quotes {
-        return Err(Stop::Wrong(0));
+        return Err(Stop::Wrong(if escaped { 0 } else { 1 }));
     }
     bytes.truncate(kept);
     Ok((bytes, left))
@@ -206,11 +207,11 @@ fn piece_at<'a>(
             b't' => Ok(Piece::Means(b"\t", in_quotes, false)),
             b'b' => Ok(Piece::Means(b"\x08", in_quotes, false)),
             b'"' | b'\\' => Ok(Piece::Means(from_ref(byte), in_quotes, false)),
-            _ => Err(Stop::Wrong(rest.len())),
+            _ => Err(Stop::Wrong(rest.len() + 1)),
         };
     }
     match byte {
-        b'\n' if in_quotes => Err(Stop::Wrong(rest.len())),
+        b'\n' if in_quotes => Err(Stop::Wrong(rest.len() + 2)),
         b'\n' => Ok(Piece::End),
         b'\\' => Ok(Piece::Means(b"", in_quotes, true)),
         b'"' => Ok(Piece::Means(b"", !in_quotes, false)),
@@ -227,7 +228,20 @@ fn expect(text: &[u8], byte: u8) -> Result<&[u8], Stop>
 {
     match text {
         [first, rest @ ..] if *first == byte => Ok(rest),
-        _ => Err(Stop::Wrong(text.len().saturating_sub(1))),
+        _ => Err(Stop::Wrong(text.len() + 1)),
+    }
+}
+
+// The rest after the bracket that closes a header with a subsection. A line's end in its place was
+// read.
+fn close(text: &[u8]) -> Result<&[u8], Stop>
+    ensures { Gives (λ rest. rest.now) result (close text.now)
+        × IfOk result (λ rest. length rest.now ≤ length text.now) }
+{
+    match text {
+        [b']', rest @ ..] => Ok(rest),
+        [b'\r', b'\n', rest @ ..] | [_, rest @ ..] => Err(Stop::Wrong(rest.len() + 1)),
+        [] => Err(Stop::Wrong(0)),
     }
 }
 
@@ -305,10 +319,12 @@ pub(crate) fn without_mark(text: &[u8]) -> &[u8]
     text.strip_prefix(b"\xef\xbb\xbf").unwrap_or(text)
 }
 
-/// The number of the line, from 1, of the byte that so many follow.
+/// The number of the line, from 1, in which reading stops when so many bytes are left, of the text
+/// and a line feed after it.
 pub(crate) fn line_number(text: &[u8], left: usize) -> usize
     ensures { result ≡ line_number text.now left }
 {
-    let front = &text[..text.len().saturating_sub(left.saturating_add(1))];
-    front.iter().filter(|byte| **byte == b'\n').count() + 1
+    let front = &text[..text.len().saturating_sub(left.saturating_sub(1))];
+    let feeds = front.iter().filter(|byte| **byte == b'\n').count();
+    if left == 0 { feeds + 2 } else { feeds + 1 }
 }
