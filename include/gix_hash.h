@@ -246,8 +246,9 @@ uint32_t gix_hash_find(uint32_t kind, const uint8_t *table, size_t len, const gi
 GIX_HASH_READS(1, 2) GIX_HASH_WRITES(3)
 uint32_t gix_hash_pack_kind(const uint8_t *bytes, size_t len, uint32_t *kind);
 
-/* Checks whether bytes are a pack index of version 2 with ids of a kind, as Git reads it: lengths,
- * order, fan-out table, offsets and checksum. Takes time proportional to len.
+/* Checks whether bytes are a pack index of version 2 with ids of a kind: lengths, order of the ids,
+ * fan-out table, offsets and checksum. Git's reader tests neither the order nor the checksum, nor that
+ * each 8-byte offset is used: git verify-pack does. Takes time proportional to len.
  * Returns GIX_HASH_OK, GIX_HASH_BAD_KIND, GIX_HASH_OTHER_KIND, or the first of the codes from
  * GIX_HASH_INDEX_TOO_SHORT to GIX_HASH_WRONG_CHECKSUM that applies, with its detail, if it has one, in
  * *detail.

@@ -207,11 +207,12 @@ def _member(kind: Type[_M], value: object) -> _M:
     """The member of an enumeration that a value is, or that a number or a name stands for, as Git spells it or as Python."""
     if isinstance(value, kind):
         return value
-    names = {name: it for it in kind for name in (it.name, it.name.lower())}
-    if isinstance(value, str) and value in names:
-        return names[value]
+    if isinstance(value, str):
+        found = kind.__members__.get(value.upper())
+        if found is not None and value in (found.name, found.name.lower()):
+            return found
     # (True is 1, and so is ObjectType.COMMIT, and yet no kind)
-    if isinstance(value, int) and not isinstance(value, (bool, enum.Enum)):
+    elif isinstance(value, int) and not isinstance(value, (bool, enum.Enum)):
         return kind(value)
     wanted = f"{kind.__name__} or one of {', '.join(repr(it.name.lower()) for it in kind)}"
     raise ValueError(f"expected {wanted}, not {value!r:.80}") if isinstance(value, str) else _wrong(value, wanted)
@@ -484,7 +485,7 @@ class _Table(Sequence[_T]):
     """What lists of ids share: their bytes, the library's call that finds a prefix, and the classes of what can be in one."""
 
     _call: Any
-    _items: Tuple[type, ...] = (Id,)
+    _items: Tuple[Type[Any], ...] = (Id,)
 
     def _hold(self, kind: Union[Kind, str], data: Buffer) -> None:
         self._kind = _kind(kind)

@@ -13,18 +13,18 @@ use crate::prefixes::{Prefix, prefix_of};
 use gix_hash::Kind;
 use id_lookup::{SortedIds, Unsorted, find_assuming_sorted_near};
 
-/// The indexes from `start` up to `end`, counted from 0.
+/// The positions from `start` up to `end`.
 #[repr(C)]
 #[derive(Clone, Copy)]
 pub struct Run {
-    /// The first index.
+    /// The first position.
     pub start: usize,
     /// The index after the last one.
     pub end: usize,
 }
 
 /// Tests that the digests of a kind in a table, one after the other, are sorted. An error is
-/// `BAD_KIND`, or `UNSORTED` with the first index whose digest is below the one before it.
+/// `BAD_KIND`, or `UNSORTED` with the first position whose digest is below the one before it.
 #[unsafe(no_mangle)]
 pub extern "C" fn gix_hash_check_sorted(kind: u32, table: &[u8], at: &mut usize) -> u32
     ensures { SortedAnswer (kind_of_number kind) table.now result at.old at.new }
@@ -65,7 +65,7 @@ pub extern "C" fn gix_hash_find(kind: u32, table: &[u8], prefix: &Prefix, run: &
     OK
 }
 
-// The first index whose digest is below the one before it.
+// The first position whose digest is below the one before it.
 fn fall_in(kind: Kind, table: &[u8]) -> Option<Unsorted>
     ensures none { IsNone result → IsSortedIds (digests_in kind table.now) }
     ensures some { IfSome result (λ fall. IsFirstUnsorted (digests_in kind table.now) fall.at) }
