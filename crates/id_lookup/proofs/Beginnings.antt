@@ -1,8 +1,13 @@
 -- What begins with two digits or more has their first byte.
-use Rattle.std.proofs.Common.{◌≡◌, ℕ, ◌≤◌, true, nat_eq, List, [], ◌∷◌, ◌++◌, length, refl, ap, ◌∙◌, arith}
-use Rattle.std.specs.List.{starts_with}
+use Rattle.std.proofs.Common.{◌≡◌, ℕ, ◌<◌, ◌≤◌, ◌/◌, ◌%◌, true, cond, nat_eq, List, [], ◌∷◌, ◌++◌, length, refl, ap, ◌∙◌, arith}
+use Rattle.std.specs.List.{All, starts_with}
+use Rattle.std.proofs.lemmas.Bool.Decides.{nat_tests}
+use Rattle.std.proofs.lemmas.List.Elements.{All-tail}
 pub use Rattle.std.proofs.lemmas.Bool.{eq-eqb as same_test, eqb-true as test_same}
 use Rattle.gix_hash.specs.Digits.{first_byte_of}
+use Rattle.gix_hash.specs.Ids.{AreIdDigits}
+use Rattle.gix_hash.specs.declared.Kind.{Kind}
+use Rattle.gix_hash.specs.declared.Kind.TheVariants.{Sha1, Sha256}
 use Rattle.id_lookup.specs.Runs.{has_first_byte, matches}
 use Rattle.id_lookup.proofs.Spelled.{starts_with-BeginsWith}
 use Rattle.id_lookup.specs.Indexes.{part_of}
@@ -23,3 +28,23 @@ pub matches-part : (digits : List ℕ) (ids : List (List ℕ)) → 2 ≤ length 
 matches-part digits ids long =
     filter_within (has_first_byte (first_byte_of digits)) (λ id. starts_with nat_eq id digits)
     (λ id begins. same_test (first_byte_of id) (first_byte_of digits) (first_byte_of-begins id digits long begins)) ids
+
+-- the ids of a kind with a first byte are those that begin with its two digits
+pub part-matches : (kind : Kind) (byte : ℕ) (ids : List (List ℕ)) → All (AreIdDigits kind) ids → part_of byte ids ≡ matches (byte / 16 ∷ byte % 16 ∷ []) ids
+part-matches kind byte [] are = refl
+part-matches kind byte (id ∷ ids) are =
+    let same = one kind id (are 0 id (omega arith)) in
+    let rest = part-matches kind byte ids (All-tail (AreIdDigits kind) id ids are) in
+    λ i. cond (same i) (id ∷ rest i) (rest i)
+  where
+    by : (id : List ℕ) → 2 ≤ length id → All (λ d. d < 16) id → has_first_byte byte id ≡ starts_with nat_eq id (byte / 16 ∷ byte % 16 ∷ [])
+    by [] long small = absurd (omega arith)
+    by (d ∷ []) long small = absurd (omega arith)
+    by (d ∷ e ∷ id) long small =
+        let high : d < 16 = small 0 0 (omega arith) in
+        let low : e < 16 = small 1 0 (omega arith) in
+        grind (arith, nat_tests)
+
+    one : (kind : Kind) (id : List ℕ) → AreIdDigits kind id → has_first_byte byte id ≡ starts_with nat_eq id (byte / 16 ∷ byte % 16 ∷ [])
+    one Sha1 id is = by id (omega (arith, is.0)) is.1
+    one Sha256 id is = by id (omega (arith, is.0)) is.1

@@ -14,12 +14,6 @@ use Rattle.id_lookup.proofs.Spelled.{starts_with-BeginsWith}
 pub cond_yes : (a b n : ℕ) → a ≡ b → cond (nat_eq a b) n 0 ≡ n
 cond_yes a b n h = grind (arith, nat_tests)
 
-pub cond_no : (a b n : ℕ) → b < a → cond (nat_eq a b) n 0 ≡ 0
-cond_no a b n h = grind (arith, nat_tests)
-
-pub cond_no' : (a b n : ℕ) → a < b → cond (nat_eq a b) n 0 ≡ 0
-cond_no' a b n h = grind (arith, nat_tests)
-
 -- if x, y and z are in order, x has no more in common with z than with y, nor than y has with z
 pub common-between : (x y z : List ℕ) → is_lt (slice_cmp nat_cmp y x) ≡ false → is_lt (slice_cmp nat_cmp z y) ≡ false
     → (common x z ≤ common x y) × (common x z ≤ common y z)

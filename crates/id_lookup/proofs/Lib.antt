@@ -16,7 +16,6 @@ pub mod NamesInPart
 mod Neighbours
 mod OneKind
 mod Ordered
-mod Parts
 pub mod PartsInOrder
 mod Placed
 mod Rising

@@ -1,19 +1,18 @@
 //! Laws of look-ups that no single call carries. Each is the contract of a function.
 
-ghost use Rattle.std.specs.Prelude.{◌≡◌, ◌↔◌, ◌+◌, ◌++◌, ◌<◌, ℕ, List, All, IsTrue, flat_map, length, map};
+ghost use Rattle.std.specs.Prelude.{◌≡◌, ◌↔◌, ◌<◌, ℕ, List, All, IsTrue, length, map};
 ghost use Rattle.std.specs.List.Sorted.{IsStrictlySortedBy};
 ghost use Rattle.std.specs.declared.cmp.Ordering.{Ordering};
 ghost use Rattle.gix_hash.specs.Ids.{id_cmp, id_digits, id_kind};
-ghost use Rattle.gix_hash.specs.Prefixes.{KindDigits, BeginsWith};
+ghost use Rattle.gix_hash.specs.Prefixes.{BeginsWith};
 ghost use Rattle.gix_hash.specs.Digits.{place};
-ghost use Rattle.id_lookup.specs.Runs.{IsRun, IsSortedIds, begins_with, matches};
+ghost use Rattle.id_lookup.specs.Runs.{begins_with};
 ghost use Rattle.id_lookup.specs.Indexes.{IsIndex};
-ghost use Rattle.id_lookup.specs.declared.search.Run.{Run};
 
 use crate::ids::Id;
 use crate::index::{Answer, IdIndex};
 pub use crate::part_laws::{parts, parts_in_order};
-use crate::unique::note_lengths;
+use crate::unique::note_digits;
 use gix_hash::{Kind, ObjectId, Prefix};
 
 /// The lowercase hex spelling of an id begins with that of a prefix if and only if the id's digits
@@ -23,22 +22,6 @@ pub fn beginnings(prefix: &Prefix)
         ↔ BeginsWith id prefix.now.digits }
     ensures place { (id : List ℕ) → IsTrue (begins_with id prefix.now)
         ↔ (place prefix.now.digits id ≡ Ordering.Equal) }
-{}
-
-/// In a list of parts, one after the other, the members that begin with given digits are those of
-/// the first part, then those of the second, and so on.
-///
-/// If a list of two parts is sorted, the start and the end of a prefix's run in it are the sums of
-/// those in the two parts.
-pub fn matches_in_parts()
-    ensures two { (digits : List ℕ) (first second : List (List ℕ))
-        → matches digits (first ++ second) ≡ matches digits first ++ matches digits second }
-    ensures all { (digits : List ℕ) (parts : List (List (List ℕ)))
-        → matches digits (flat_map (λ part. part) parts) ≡ flat_map (matches digits) parts }
-    ensures runs { (prefix : KindDigits) (first second : List (List ℕ)) (a b : Run)
-        → IsSortedIds (first ++ second) → IsRun prefix first a → IsRun prefix second b
-        → IsRun prefix (first ++ second)
-        (record { start = a.start + b.start; end = a.end + b.end }) }
 {}
 
 /// An index finds only the member at a position by the abbreviation of that member.
@@ -55,5 +38,5 @@ pub fn strictly_sorted(kind: Kind, ids: &[ObjectId])
     ensures { IsStrictlySortedBy id_cmp ids.now
         → IsIndex kind (map id_digits ids.now) ↔ All (λ id. id_kind id ≡ kind) ids.now }
 {
-    note_lengths(ids);
+    note_digits(ids);
 }

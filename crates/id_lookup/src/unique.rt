@@ -1,9 +1,8 @@
 //! Sorting ids, and keeping each of them once.
 
-ghost use Rattle.std.specs.Prelude.{◌≡◌, ◌↔◌, All, Contains, length, map};
+ghost use Rattle.std.specs.Prelude.{◌≡◌, ◌↔◌, All, Contains, map};
 ghost use Rattle.std.specs.List.Sorted.{IsStrictlySortedBy};
-ghost use Rattle.gix_hash.specs.Kinds.{hex_len_of};
-ghost use Rattle.gix_hash.specs.Ids.{id_cmp, id_digits, id_kind};
+ghost use Rattle.gix_hash.specs.Ids.{AreIdDigits, id_cmp, id_digits, id_kind};
 ghost use Rattle.gix_hash.specs.declared.ObjectId.{ObjectId as Id};
 ghost use Rattle.gix_hash.specs.declared.kind.Kind as kinds;
 ghost use Rattle.id_lookup.specs.Indexes.{IsIndexOf};
@@ -29,18 +28,19 @@ pub fn sort_unique<A: Allocator>(ids: &mut Vec<ObjectId, A>)
         → IsIndexOf kind (map id_digits ids.old.items) (map id_digits ids.new.items) }
     ensures kinds { (kind : kinds.Kind) → All (λ id. id_kind id ≡ kind) ids.old.items
         → All (λ id. id_kind id ≡ kind) ids.new.items }
+    ensures digits { All (λ id. AreIdDigits (id_kind id) (id_digits id)) ids.new.items }
 {
     ids.sort_unstable();
     ids.dedup();
-    note_lengths(ids);
+    note_digits(ids);
 }
 
-// Each id has as many digits as its kind.
-pub(crate) fn note_lengths(ids: &[ObjectId])
-    ensures { All (λ id. length (id_digits id) ≡ hex_len_of (id_kind id)) ids.now }
+// Each id has as many digits as its kind, each below 16.
+pub(crate) fn note_digits(ids: &[ObjectId])
+    ensures { All (λ id. AreIdDigits (id_kind id) (id_digits id)) ids.now }
 {
     for id in ids {
-        // The contract of this call says how many digits the id has.
+        // The contract of this call says so.
         let _kind = id.kind();
     }
 }

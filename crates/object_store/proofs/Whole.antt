@@ -89,10 +89,6 @@ module _ (view : StoreView) (whole : List (List ℕ)) (byte : ℕ) (read : List 
     least = λ n from to. let other = is.least n from to in (other.0, read_had other.0 other.1, other.2, other.3);
   }
 
-pub whole_matches : (view : StoreView) (whole : List (List ℕ)) (digits : List ℕ) (ids : List ObjectId) → Holds view whole → 2 ≤ length digits → AreMatches view digits ids
-    → map id_digits ids ≡ matches digits whole
-whole_matches view whole digits ids h long are = whole_found view whole (first_byte_of digits) are.read h are.has_read digits (map id_digits ids) long refl are.index
-
 -- what is found begins with the digits, and was read
 pub found_begins : (view : StoreView) (digits : List ℕ) (ids : List ObjectId) → AreMatches view digits ids → All (λ id. starts_with nat_eq (id_digits id) digits ≡ true) ids
 found_begins view digits ids are k d low =

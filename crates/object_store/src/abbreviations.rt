@@ -147,7 +147,7 @@ pub fn abbreviate_part<S: Store, A: Allocator + Copy>(
 }
 
 // The prefix of a kind that all ids with a first byte begin with.
-fn two_digits(kind: Kind, byte: u8) -> Prefix
+pub(crate) fn two_digits(kind: Kind, byte: u8) -> Prefix
     ensures kind { result.kind ≡ kind }
     ensures digits { result.digits ≡ byte / 16 ∷ byte % 16 ∷ [] }
     ensures byte { first_byte_of result.digits ≡ byte }

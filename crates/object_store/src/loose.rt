@@ -1,17 +1,18 @@
 //! The ids of loose objects.
 
-ghost use Rattle.std.specs.Prelude.{◌≡◌, ◌<◌, ◌≤◌, ◌↔◌, All, Contains, IsTrue, count_by, length, map};
+ghost use Rattle.std.specs.Prelude.{◌≡◌, ◌<◌, ◌≤◌, ◌↔◌, All, Contains, IsTrue, length, map};
 ghost use Rattle.gix_hash.specs.Kinds.{hex_len_of};
 ghost use Rattle.gix_hash.specs.Ids.{id_digits, id_kind};
-ghost use Rattle.id_lookup.specs.Runs.{is_below, matches};
+ghost use Rattle.id_lookup.specs.Runs.{matches};
 ghost use Rattle.id_lookup.specs.Indexes.{IsIndex, IsIndexOf, part_of};
 
+use crate::abbreviations::two_digits;
 use gix_hash::{Kind, ObjectId, Prefix};
-use id_lookup::{FanOut, find_assuming_sorted, laws, sort_unique};
+use id_lookup::{find_assuming_sorted, sort_unique};
 use std::marker::Model;
 
 /// The ids of loose objects, each once, in order. Those with a first byte, those that begin with a
-/// prefix, and a single one, are found without a look at the others.
+/// prefix, and a single one, are found by binary search.
 ///
 /// ```
 /// let loose = LooseTable::new(vec![in rt.alloc(); id]?, id.kind());
@@ -21,13 +22,11 @@ use std::marker::Model;
 pub struct LooseTable {
     kind: Kind,
     ids: Vec<ObjectId>,
-    fan_out: FanOut,
 }
 
 impl Model for LooseTable {
     ghost use Rattle.std.specs.Prelude.{◌≡◌, All, map};
-    ghost use Rattle.gix_hash.specs.Ids.{id_digits, id_kind};
-    ghost use Rattle.id_lookup.specs.Runs.{IsFanOut};
+    ghost use Rattle.gix_hash.specs.Ids.{AreIdDigits, id_digits, id_kind};
     ghost use Rattle.id_lookup.specs.Indexes.{Index, IsIndex};
 
     ghost Value = { Index };
@@ -35,7 +34,7 @@ impl Model for LooseTable {
     ghost view = { λ table. record { kind = table.kind; ids = map id_digits table.ids.items } };
 
     ghost invariant = { λ table. IsIndex table.kind (map id_digits table.ids.items)
-        × IsFanOut table.fan_out (map id_digits table.ids.items)
+        × All (AreIdDigits table.kind) (map id_digits table.ids.items)
         × All (λ id. id_kind id ≡ table.kind) table.ids.items };
 }
 
@@ -47,8 +46,7 @@ impl LooseTable {
         ensures index { IsIndexOf kind (map id_digits ids.items) result.ids }
     {
         sort_unique(&mut ids);
-        let fan_out = FanOut::of(&ids);
-        LooseTable { kind, ids, fan_out }
+        LooseTable { kind, ids }
     }
 
     /// All ids, in order.
@@ -66,43 +64,24 @@ impl LooseTable {
         ensures index { IsIndex self.now.kind (map id_digits result.now) }
         ensures kinds { All (λ id. id_kind id ≡ self.now.kind) result.now }
     {
-        laws::parts_in_order();
-        let start = self.below(byte);
-        let end = self.fan_out.up_to(byte);
-        &self.ids[start..end]
+        self.beginning_with(&two_digits(self.kind, byte))
     }
 
-    /// Those that begin with a prefix of 2 digits or more and of the kind, in order.
+    /// Those that begin with a prefix, in order. It has at most as many digits as they have.
     pub fn beginning_with(&self, prefix: &Prefix) -> &[ObjectId]
-        requires enough { 2 ≤ length prefix.now.digits }
-        requires fits { length prefix.now.digits ≤ hex_len_of self.now.kind }
+        requires { length prefix.now.digits ≤ hex_len_of self.now.kind }
         ensures ids { map id_digits result.now ≡ matches prefix.now.digits self.now.ids }
         ensures kinds { All (λ id. id_kind id ≡ self.now.kind) result.now }
     {
-        let ids = self.with_first_byte(prefix.first_byte());
+        let ids = &self.ids;
         let run = find_assuming_sorted(ids, prefix);
         &ids[run.start..run.end]
-    }
-
-    // How many have a lower first byte.
-    fn below(&self, byte: u8) -> usize
-        ensures { result ≡ count_by (is_below byte) self.now.ids }
-    {
-        if byte == 0 {
-            0
-        } else {
-            self.fan_out.up_to(byte - 1)
-        }
     }
 
     /// Whether an id is one of them.
     pub fn contains(&self, id: &ObjectId) -> bool
         ensures { IsTrue result ↔ Contains self.now.ids (id_digits id.now) }
     {
-        if id.kind() != self.kind {
-            return false;
-        }
-        let run = find_assuming_sorted(&self.ids, &Prefix::from(*id));
-        run.start != run.end
+        id.kind() == self.kind && !self.beginning_with(&Prefix::from(*id)).is_empty()
     }
 }

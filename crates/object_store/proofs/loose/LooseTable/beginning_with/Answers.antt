@@ -1,22 +1,28 @@
-use Rattle.std.proofs.Common.{◌∙◌, map, ap, arith}
+use Rattle.std.proofs.Common.{◌∙◌, List, map, ap, sym, subst, arith}
+use Rattle.gix_hash.specs.Kinds.{hex_len_of}
 use Rattle.gix_hash.specs.Ids.{id_digits}
-use Rattle.id_lookup.proofs.Beginnings.{matches-part}
+use Rattle.gix_hash.specs.declared.ObjectId.{ObjectId}
 use Rattle.id_lookup.proofs.Indexes.{index-sorted}
-use Rattle.id_lookup.specs.Indexes.{part_of}
-use Rattle.id_lookup.specs.Runs.{matches}
-use Rattle.object_store.proofs.LooseParts.{index_least}
 use Rattle.id_lookup.proofs.Matched.{run_matches}
+use Rattle.id_lookup.specs.Indexes.{Index, IsIndex}
+use Rattle.id_lookup.specs.Runs.{IsRun, matches}
+use Rattle.object_store.proofs.LooseParts.{index_least}
 use Rattle.object_store.proofs.loose.LooseTable.beginning_with.Goals as goal
 
 pub find_assuming_sorted-run-requires : goal.find_assuming_sorted-run-requires
 find_assuming_sorted-run-requires c =
-    let least = index_least c.args.self.now.kind (map id_digits c.with_first_byte-ids.result.now) c.with_first_byte-ids.ensures.index in
-    omega (arith, least, c.requires.fits)
+    let kind = c.self.inside.kind in
+    let index : IsIndex kind (map id_digits c.deref.result.now) = subst (λ (ids : List ObjectId). IsIndex kind (map id_digits ids)) (sym c.deref.ensures.value) c.self.invariant.0 in
+    omega (arith, index_least kind (map id_digits c.deref.result.now) index, c.requires, ap (λ (x : Index). hex_len_of x.kind) c.self.view_is)
 
 pub returns-clause-ids : goal.returns-clause-ids
 returns-clause-ids c =
-    let ids = c.with_first_byte-ids.result.now in
-    let digits = c.args.prefix.now.digits in
-    run_matches id_digits c.args.prefix.now ids c.find_assuming_sorted-run.result
-    (c.find_assuming_sorted-run.ensures.run (index-sorted c.args.self.now.kind (map id_digits ids) c.with_first_byte-ids.ensures.index))
-    ∙ ap (matches digits) (c.with_first_byte-ids.ensures.ids ∙ ap (λ b. part_of b c.args.self.now.ids) c.first_byte.ensures) ∙ matches-part digits c.args.self.now.ids c.requires.enough
+    let prefix = c.args.prefix.now in
+    let run = c.find_assuming_sorted-run.result in
+    let kind = c.self.inside.kind in
+    let index : IsIndex kind (map id_digits c.deref.result.now) = subst (λ (ids : List ObjectId). IsIndex kind (map id_digits ids)) (sym c.deref.ensures.value) c.self.invariant.0 in
+    let found : IsRun prefix (map id_digits c.deref-2.result.now) run =
+    subst (λ (ids : List ObjectId). IsRun prefix (map id_digits ids) run) (c.deref.ensures.value ∙ sym c.deref-2.ensures.value)
+    (c.find_assuming_sorted-run.ensures.run (index-sorted kind (map id_digits c.deref.result.now) index)) in
+    run_matches id_digits prefix c.deref-2.result.now run found ∙ (λ i. matches prefix.digits (map id_digits (c.deref-2.ensures.value i)))
+    ∙ ap (λ (x : Index). matches prefix.digits x.ids) c.self.view_is

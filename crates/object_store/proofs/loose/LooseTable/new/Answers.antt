@@ -1,15 +1,18 @@
-use Rattle.std.proofs.Common.{List, map, subst}
-use Rattle.gix_hash.specs.Ids.{id_digits}
-use Rattle.gix_hash.specs.declared.ObjectId.{ObjectId}
-use Rattle.id_lookup.specs.Runs.{IsFanOut}
+use Rattle.std.proofs.Common.{get_or, subst}
+use Rattle.std.proofs.lemmas.List.Elements.{All-map}
+use Rattle.gix_hash.specs.Ids.{AreIdDigits, id_digits}
+use Rattle.gix_hash.specs.declared.Kind.{Kind}
 use Rattle.object_store.proofs.loose.LooseTable.new.Goals as goal
 
 pub invariant_of-result : goal.invariant_of-result
-invariant_of-result c = (
-  (c.sort_unique.ensures.index c.args.kind c.requires).index,
-  subst (λ (ids : List ObjectId). IsFanOut c.of-fan_out.result (map id_digits ids)) c.deref.ensures.value c.of-fan_out.ensures,
-  c.sort_unique.ensures.kinds c.args.kind c.requires,
-)
+invariant_of-result c =
+    let ids = c.sort_unique.new.ids.items in
+    let kinds = c.sort_unique.ensures.kinds c.args.kind c.requires in (
+      (c.sort_unique.ensures.index c.args.kind c.requires).index,
+      All-map (AreIdDigits c.args.kind) id_digits ids
+          (λ k d low. subst (λ (kind : Kind). AreIdDigits kind (id_digits (get_or ids k d))) (kinds k d low) (c.sort_unique.ensures.digits k d low)),
+      kinds,
+    )
 
 pub returns-clause-index : goal.returns-clause-index
 returns-clause-index c = c.sort_unique.ensures.index c.args.kind c.requires

@@ -1,0 +1,8 @@
+use Rattle.std.proofs.Common.{subst}
+use Rattle.std.specs.List.{All}
+use Rattle.gix_hash.specs.Ids.{AreIdDigits}
+use Rattle.id_lookup.specs.Indexes.{Index}
+use Rattle.object_store.proofs.loose.LooseTable.ids.Goals as goal
+
+pub returns-clause-digits : goal.returns-clause-digits
+returns-clause-digits c = λ k d low. (subst (λ (x : Index). All (AreIdDigits x.kind) x.ids) c.self.view_is c.self.invariant.1 k d low).1
