@@ -1,15 +1,13 @@
 -- How many names the bytes of a pack index have, and how many digits each.
-use Rattle.std.proofs.Common.{◌≡◌, ℕ, ◌-◌, ◌++◌, ◌+◌, ◌*◌, ◌/◌, ◌<◌, ◌≤◌, zero, suc, List, [], ◌∷◌, length, map, get_or, take, drop, refl, sym, ap, subst, ◌∙◌, arith, length-drop, take-append-drop}
-use Rattle.std.specs.Prelude.{flat_map, slice_range}
-use Rattle.std.proofs.Math.Nat.{mul-suc}
-use Rattle.std.proofs.lemmas.List.{drop-drop, get_or-map, length-map, length-take-le, nil_from_length}
+use Rattle.std.proofs.Common.{◌≡◌, ℕ, ◌-◌, ◌+◌, ◌*◌, ◌/◌, ◌<◌, ◌≤◌, zero, suc, List, [], ◌∷◌, length, map, get_or, take, drop, refl, sym, ap, subst, ◌∙◌, arith, length-drop}
+use Rattle.std.specs.Prelude.{slice_range}
+use Rattle.std.proofs.lemmas.List.{drop-drop, get_or-map, length-map, length-take-le}
 use Rattle.gix_hash.specs.Kinds.{byte_len_of, hex_len_of}
 use Rattle.gix_hash.specs.declared.Kind.{Kind}
 use Rattle.gix_hash.specs.declared.Kind.TheVariants.{Sha1, Sha256}
 use Rattle.std.specs.Simd.{first_chunks}
 use Rattle.gix_hash.specs.Digits.{digits_of}
 use Rattle.id_digits.proofs.ByteDigits.{length-digits_of}
-use Rattle.id_digits.proofs.Packing.{digits_of-append}
 use Rattle.id_lookup.specs.Runs.{least_hex_len}
 use Rattle.pack_index.specs.Format.{HasTables, crc_table_start, digests_in, names_in, names_start, num_objects}
 
@@ -83,19 +81,3 @@ module _ (kind : Kind) (bytes : List ℕ) (chunks : List (List ℕ)) (is : chunk
   chunks-long =
       subst (λ (xs : List (List ℕ)). (k : ℕ) → k < length (map digits_of xs) → length (get_or (map digits_of xs) k []) ≡ hex_len_of kind) (sym is)
       (length-digests_in_at kind bytes)
-
--- whole digests, one after the other, are the bytes
-row : (n k : ℕ) (bytes : List ℕ) → length bytes ≡ n * k → flat_map (λ name. name) (map digits_of (first_chunks n k bytes)) ≡ digits_of bytes
-unfolding digits_of
-row n zero bytes exact = sym (ap digits_of (nil_from_length bytes (omega arith)))
-row n (suc k) bytes exact =
-    let all = mul-suc n k in
-    ap (λ (rest : List ℕ). digits_of (take n bytes) ++ rest) (row n k (drop n bytes) (omega (arith, length-drop n bytes)))
-    ∙ sym (digits_of-append (take n bytes) (drop n bytes)) ∙ ap digits_of (take-append-drop n bytes)
-
-pub names_row : (kind : Kind) (bytes : List ℕ) → HasTables kind bytes
-    → flat_map (λ name. name) (names_in kind bytes) ≡ digits_of (slice_range bytes names_start (crc_table_start kind bytes))
-names_row kind bytes tables =
-    let table = slice_range bytes names_start (crc_table_start kind bytes) in
-    let count = ap (λ n. n / byte_len_of kind) (length-table kind bytes tables) ∙ as_many kind (num_objects bytes) in
-    row (byte_len_of kind) (length table / byte_len_of kind) table (length-table kind bytes tables ∙ ap (λ n. byte_len_of kind * n) (sym count))

@@ -10,7 +10,6 @@ mod bucket;
 mod checks;
 mod error;
 mod index_file;
-pub mod laws;
 mod lazy;
 mod lazy_error;
 mod names;

@@ -27,13 +27,6 @@ pub found_all : {X : Type 0} (text : Option (List ℕ) → X → List ℕ) (answ
 found_all text answers line [] all some = absurd (omega (arith, some))
 found_all text answers line (x ∷ found) all some = ap (λ a. found_text text a line (x ∷ found)) (sym all)
 
--- the one thing that was found
-pub found_one : {X : Type 0} (text : Option (List ℕ) → X → List ℕ) (answers : Answers) (line : List ℕ) (found : List X) (x : X) → answers ≡ OneOfThem → length found ≡ 1
-    → x ≡ get_or found 0 x → text None x ≡ found_text text answers line found
-found_one text answers line [] x one many first = absurd (omega (arith, many))
-found_one text answers line (y ∷ []) x one many first = ap (text None) first ∙ ap (λ a. found_text text a line (y ∷ [])) (sym one)
-found_one text answers line (y ∷ (other ∷ found)) x one many first = absurd (omega (arith, many))
-
 pub and_true : (a : Bool) → (a && true) ≡ a
 and_true true = refl
 and_true false = refl

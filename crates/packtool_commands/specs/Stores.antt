@@ -225,10 +225,6 @@ abbrev pub lines_at_after : Option (List ℕ) → (ℕ → List ℕ) → List (L
 lines_at_after line pack_path loose_paths id (Packed pack offset) = location_line_after line id (pack_path pack) (Some offset)
 lines_at_after line pack_path loose_paths id Loose = flat_map (λ path. location_line_after line id path None) loose_paths
 
--- those that are after nothing, in a store with these paths
-abbrev pub lines_at : (ℕ → List ℕ) → (List ℕ → List (List ℕ)) → List ℕ → Location → List ℕ
-lines_at pack_path loose_paths id location = lines_at_after None pack_path (loose_paths id) id location
-
 -- the lines of the locations of an id, each after a line of a text or nothing
 abbrev pub located_lines : {A : Type 0} → (ℕ → List ℕ) → Option (List ℕ) → LocatedId A → List ℕ
 located_lines pack_path line located =
