@@ -128,20 +128,6 @@ line-taken (Some xs) k held rest line none end no_feed some over is =
     ∙ sym (append-nil line)
     ∙ ap (λ (left : List ℕ). line ++ ended left) (sym (ap (λ (all : List ℕ). all ++ xs) over ∙ end))
 
--- nothing is taken
-pub none-taken : (known : Option (List ℕ)) → Consumes known known []
-none-taken None = tt
-none-taken (Some xs) = refl
-
--- after nothing was taken, a read and then lines
-pub then-taken : (a b c d : Option (List ℕ)) (none lines : List ℕ) → none ≡ [] → Consumes a b none → Keeps b c → Consumes c d lines → Consumes a d lines
-then-taken None b c d none lines is first kept next = tt
-then-taken (Some ws) None c d none lines is first kept next = absurd first
-then-taken (Some ws) (Some bs) None d none lines is first kept next = absurd kept
-then-taken (Some ws) (Some bs) (Some cs) None none lines is first kept next = next
-then-taken (Some ws) (Some bs) (Some cs) (Some ds) none lines is first kept next =
-    first ∙ ap (λ (before : List ℕ). before ++ bs) is ∙ sym kept ∙ next
-
 -- bytes are moved to the front
 pub moved-front : (items moved : List ℕ) (from to : ℕ) → from ≤ to → to ≤ length items → moved ≡ paste items 0 (drop from items) (to - from)
     → take (to - from) moved ≡ drop from (take to items)
@@ -182,7 +168,3 @@ held-fed items n below = rw add-one (take-suc-set items n 10 below)
 
 pub none-after : (n : ℕ) (items : List ℕ) → drop n (take n items) ≡ []
 none-after n items = drop_all n (take n items) (omega (arith, length-take n items))
-
-pub nothing-held : (known : Option (List ℕ)) → option_map ended (prepend_known [] known) ≡ option_map ended known
-nothing-held None = refl
-nothing-held (Some xs) = refl
