@@ -1,4 +1,4 @@
-/* Tests of gix_hash.h: test FOLDER, where the folder has pack indexes. Expected values are those of FIPS 180-4,
+/* Tests of gix_hash.h: test DIRECTORY, where the directory has pack indexes. Expected values are those of FIPS 180-4,
    of `git show-index`, and of strcmp and strncmp over hex digits. The last line is 'N passed, M failed'. */
 #define _DEFAULT_SOURCE
 #include "gix_hash.h"
@@ -249,7 +249,7 @@ static void test_broken(uint32_t kind, size_t len) {
     bytes[0] ^= 1;
 }
 
-/* Of names that fall, a short name is still within the id. */
+/* Of ids that fall, an abbreviation is still within the id. */
 static void test_changed(uint32_t kind, size_t len, size_t count) {
     size_t size = kind == 1 ? 20 : 32;
     uint8_t good[64];
@@ -339,10 +339,10 @@ static void test_uneven(uint32_t kind) {
 }
 
 /* All that an index has, as Git lists it. */
-static void test_index(const char *folder, const char *name, uint32_t kind) {
+static void test_index(const char *directory, const char *name, uint32_t kind) {
     static uint8_t loaded[1 << 16];
     char path[4096], command[8192], line[200], ours[200];
-    snprintf(path, sizeof path, "%s/%s", folder, name);
+    snprintf(path, sizeof path, "%s/%s", directory, name);
     snprintf(command, sizeof command, "git show-index --object-format=%s < '%s'", kind == 1 ? "sha1" : "sha256", path);
     FILE *file = fopen(path, "rb"), *git = popen(command, "r");
     size_t len = file ? fread(loaded, 1, sizeof loaded, file) : 0, count = 0, at = 0;
@@ -431,16 +431,16 @@ static uint32_t next_number(void) {
 /* Ids of objects of each type, as git hash-object prints them. */
 static void test_objects(const char *name, uint32_t kind) {
     static const size_t sizes[] = {0, 1, 9, 10, 4095, 65536, sizeof content};
-    char folder[] = "/tmp/gix-hash-XXXXXX", path[100], command[1000], line[100], text[65] = "";
-    if (!mkdtemp(folder)) exit(2);
+    char directory[] = "/tmp/gix-hash-XXXXXX", path[100], command[1000], line[100], text[65] = "";
+    if (!mkdtemp(directory)) exit(2);
     for (size_t i = 0; i < ROWS(sizes); i++) {
-        snprintf(path, sizeof path, "%s/%u", folder, (unsigned)i);
+        snprintf(path, sizeof path, "%s/%u", directory, (unsigned)i);
         FILE *file = fopen(path, "wb");
         CHECK(i, file && fwrite(content, 1, sizes[i], file) == sizes[i] && !fclose(file));
     }
     snprintf(command, sizeof command,
         "cd %s && git init -q --object-format=%s git 2>&1 && cd git && for i in 0 1 2 3 4 5 6; do for type in commit tree blob tag; do "
-        "git hash-object --literally --no-filters -t $type ../$i; done; done; rm -rf %s", folder, name, folder);
+        "git hash-object --literally --no-filters -t $type ../$i; done; done; rm -rf %s", directory, name, directory);
     FILE *git = popen(command, "r");
     for (size_t i = 0; i < ROWS(sizes); i++)
         for (uint32_t type = GIX_HASH_COMMIT; type <= GIX_HASH_TAG; type++) {
@@ -519,12 +519,12 @@ static void test_any_hashers(void) {
 }
 
 int main(int count, char **words) {
-    const char *folder = count > 1 ? words[1] : ".";
+    const char *directory = count > 1 ? words[1] : ".";
     test_digests(), test_texts(), test_errors(), test_hostile(), test_nothing();
     CHECK(0, !strcmp(gix_hash_code_text(GIX_HASH_NO_ROOM), "the buffer is too short"));
     CHECK(0, !strcmp(gix_hash_code_text(30), "no code of gix_hash.h"));
-    test_index(folder, "sha1.idx", GIX_HASH_SHA1), test_index(folder, "sha256.idx", GIX_HASH_SHA256);
-    test_index(folder, "longs.idx", GIX_HASH_SHA1);
+    test_index(directory, "sha1.idx", GIX_HASH_SHA1), test_index(directory, "sha256.idx", GIX_HASH_SHA256);
+    test_index(directory, "longs.idx", GIX_HASH_SHA1);
     test_uneven(GIX_HASH_SHA1), test_uneven(GIX_HASH_SHA256);
     for (size_t i = 0; i < sizeof content; i++) content[i] = (uint8_t)next_number();
     test_ids(), test_objects("sha1", GIX_HASH_SHA1), test_objects("sha256", GIX_HASH_SHA256);

@@ -36,13 +36,13 @@ def git(*words, data=b""):
 
 def index_of(kind):
     """A pack index that git makes of 300 blobs. Offsets above 2,000 are long ones."""
-    with tempfile.TemporaryDirectory() as folder:
-        git("init", "-q", f"--object-format={KINDS[kind]}", folder)
+    with tempfile.TemporaryDirectory() as directory:
+        git("init", "-q", f"--object-format={KINDS[kind]}", directory)
         blobs = "".join(f"blob\ndata 3\n{n}\n" for n in range(100, 400))
-        git("-C", folder, "-c", "fastimport.unpackLimit=1", "fast-import", "--quiet", data=blobs.encode())
-        (pack,) = pathlib.Path(folder, ".git/objects/pack").glob("*.pack")
-        git("-C", folder, "index-pack", "--index-version=2,2000", "-o", "index", str(pack))
-        return pathlib.Path(folder, "index").read_bytes()
+        git("-C", directory, "-c", "fastimport.unpackLimit=1", "fast-import", "--quiet", data=blobs.encode())
+        (pack,) = pathlib.Path(directory, ".git/objects/pack").glob("*.pack")
+        git("-C", directory, "index-pack", "--index-version=2,2000", "-o", "index", str(pack))
+        return pathlib.Path(directory, "index").read_bytes()
 
 
 def load_tests(loader, tests, pattern):
@@ -95,10 +95,10 @@ class Bindings(unittest.TestCase):
 
     def test_objects(self):
         for kind, name in KINDS.items():
-            with tempfile.TemporaryDirectory() as folder:
-                git("init", "-q", f"--object-format={name}", folder)
+            with tempfile.TemporaryDirectory() as directory:
+                git("init", "-q", f"--object-format={name}", directory)
                 for object_type in ObjectType:
-                    words = "-C", folder, "hash-object", "--literally", "--stdin", "-t", object_type.name.lower()
+                    words = "-C", directory, "hash-object", "--literally", "--stdin", "-t", object_type.name.lower()
                     for data in (b"", b"abc\n", bytes(4095)):
                         found = Id.of_object(kind, object_type, data)
                         self.assertEqual(str(found), git(*words, data=data).strip())

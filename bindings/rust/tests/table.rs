@@ -7,12 +7,12 @@ use std::process::{Command, Stdio};
 
 const EMPTY: &str = "e3b0c44298fc1c149afbf4c8996fb92427ae41e4649b934ca495991b7852b855";
 
-/// The output of git, from a folder, with some input. The user's own variables and configuration do not reach it.
-fn git(folder: &Path, words: &[&str], input: &[u8]) -> Vec<u8> {
+/// The output of git, from a directory, with some input. The user's own variables and configuration do not reach it.
+fn git(directory: &Path, words: &[&str], input: &[u8]) -> Vec<u8> {
     let mut git = Command::new("git");
     git.env_clear().env("PATH", std::env::var_os("PATH").unwrap());
     git.envs([("GIT_CONFIG_GLOBAL", "/dev/null"), ("GIT_CONFIG_NOSYSTEM", "1")]);
-    git.current_dir(folder).args(words).stdin(Stdio::piped()).stdout(Stdio::piped());
+    git.current_dir(directory).args(words).stdin(Stdio::piped()).stdout(Stdio::piped());
     let mut child = git.spawn().unwrap();
     child.stdin.take().unwrap().write_all(input).unwrap();
     let output = child.wait_with_output().unwrap();
@@ -22,17 +22,18 @@ fn git(folder: &Path, words: &[&str], input: &[u8]) -> Vec<u8> {
 
 /// A pack index that git makes of 300 blobs. Offsets above 2,000 are long ones.
 fn index_of(kind: Kind, test: &str) -> Vec<u8> {
-    let folder = Path::new(env!("CARGO_TARGET_TMPDIR")).join(format!("{test}-{kind}"));
-    let _ = std::fs::remove_dir_all(&folder);
-    std::fs::create_dir_all(&folder).unwrap();
-    git(&folder, &["init", "-q", &format!("--object-format={kind}")], b"");
+    let directory = Path::new(env!("CARGO_TARGET_TMPDIR")).join(format!("{test}-{kind}"));
+    let _ = std::fs::remove_dir_all(&directory);
+    std::fs::create_dir_all(&directory).unwrap();
+    git(&directory, &["init", "-q", &format!("--object-format={kind}")], b"");
     let blobs: Vec<_> = (100..400).map(|n| format!("blob\ndata 3\n{n}\n")).collect();
-    git(&folder, &["-c", "fastimport.unpackLimit=1", "fast-import", "--quiet"], blobs.concat().as_bytes());
-    let mut files = std::fs::read_dir(folder.join(".git/objects/pack")).unwrap().map(|it| it.unwrap().path());
+    git(&directory, &["-c", "fastimport.unpackLimit=1", "fast-import", "--quiet"], blobs.concat().as_bytes());
+    let mut files =
+        std::fs::read_dir(directory.join(".git/objects/pack")).unwrap().map(|it| it.unwrap().path());
     let pack = files.find(|path| path.extension() == Some("pack".as_ref())).unwrap();
     let words = ["index-pack", "--index-version=2,2000", "-o", "index", pack.to_str().unwrap()];
-    git(&folder, &words, b"");
-    std::fs::read(folder.join("index")).unwrap()
+    git(&directory, &words, b"");
+    std::fs::read(directory.join("index")).unwrap()
 }
 
 fn code<T>(result: Result<T, Error>) -> Option<Code> {
@@ -86,11 +87,11 @@ fn chunks() {
 
 #[test]
 fn objects() {
-    let folder = Path::new(env!("CARGO_TARGET_TMPDIR"));
+    let directory = Path::new(env!("CARGO_TARGET_TMPDIR"));
     for kind in [Kind::Sha1, Kind::Sha256] {
-        let folder = folder.join(format!("objects-{kind}"));
-        std::fs::create_dir_all(&folder).unwrap();
-        git(&folder, &["init", "-q", &format!("--object-format={kind}")], b"");
+        let directory = directory.join(format!("objects-{kind}"));
+        std::fs::create_dir_all(&directory).unwrap();
+        git(&directory, &["init", "-q", &format!("--object-format={kind}")], b"");
         for (object_type, name) in [
             (ObjectType::Commit, "commit"),
             (ObjectType::Tree, "tree"),
@@ -98,7 +99,7 @@ fn objects() {
             (ObjectType::Tag, "tag"),
         ] {
             for bytes in [&b""[..], b"abc\n", &[7; 4095]] {
-                let wanted = git(&folder, &["hash-object", "--literally", "--stdin", "-t", name], bytes);
+                let wanted = git(&directory, &["hash-object", "--literally", "--stdin", "-t", name], bytes);
                 let id = Id::of_object(kind, object_type, bytes);
                 assert_eq!(id.to_string(), String::from_utf8(wanted).unwrap().trim_end());
                 let mut hasher = Hasher::for_object(kind, object_type, bytes.len() as u64);
