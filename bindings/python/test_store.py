@@ -134,7 +134,10 @@ class Stores(unittest.TestCase):
                 lines = [f"{it.id} {it.path}{'' if it.offset is None else f' {it.offset}'}\n" for it in store.locate(prefix)]
                 self.assertEqual("".join(lines), OF_GIT["places"](objects, wanted))
         self.assertTrue(all(Id(id) in store for id in rng.sample(ids, 5)))
-        self.assertFalse(Id("1" * 40) in store or Id("1" * 64) in store or ids[0] in store or None in store)
+        self.assertFalse(Id("1" * 40) in store or Id("1" * 64) in store or "1" * len(ids[0]) in store)
+        self.assertTrue(ids[0] in store and ids[0][:7] in store)
+        with self.assertRaises(TypeError):
+            None in store
         self.assertEqual(store.skipped, [])
 
     def test_kinds(self):
@@ -492,10 +495,10 @@ class Stores(unittest.TestCase):
         ]:  # fmt: skip
             with self.assertRaisesRegex(error, text):
                 Store(path)
-        for kind, error in (True, TypeError), ("sha1", TypeError), (3, ValueError), (0, ValueError):
+        for kind, error in (True, TypeError), ("md5", ValueError), (3, ValueError), (0, ValueError):
             self.assertRaises(error, Store, bare, kind)
         self.assertEqual(children(), [])
-        self.assertEqual((self.opened(bare, Kind.SHA256).find(ids[0]), self.opened(bare, Kind.SHA256).kind), ([Id(ids[0])], Kind.SHA256))
+        self.assertEqual((self.opened(bare, Kind.SHA256).find(ids[0]), self.opened(bare, "sha256").kind), ([Id(ids[0])], Kind.SHA256))
         (bare / "config").write_text("[core]\n\trepositoryformatversion = 9\n")
         with self.assertRaisesRegex(StoreError, "config: "):
             Store(bare)

@@ -15,7 +15,7 @@ import threading
 import warnings
 import weakref
 from collections import deque
-from typing import Any, Deque, Dict, Iterable, Iterator, List, NamedTuple, Optional, Set, Tuple, TypeVar, Union
+from typing import Any, Deque, Dict, Iterable, Iterator, List, NamedTuple, Optional, Set, Tuple, TypeVar, Union, cast
 
 from gix_hash import _HEADS, Code, Error, Id, Kind, Prefix, __version__, _kind, _only
 
@@ -281,7 +281,7 @@ class Store(contextlib.AbstractContextManager["Store"]):
     Threads may share a store: of one kind of look-up one is done at a time. A forked process may go on with it.
     """
 
-    def __init__(self, path: "Union[str, bytes, os.PathLike[Any], None]" = None, kind: Optional[Kind] = None) -> None:
+    def __init__(self, path: "Union[str, bytes, os.PathLike[Any], None]" = None, kind: "Union[Kind, str, None]" = None) -> None:
         self._closed, self._program = False, _program()
         self._options = [] if kind is None else ["--kind", _kind(kind).name.lower()]
         self._directory = os.path.abspath(os.fsdecode("." if path is None else path))
@@ -442,7 +442,10 @@ class Store(contextlib.AbstractContextManager["Store"]):
         return (id for _, id in self.names())
 
     def __contains__(self, id: object) -> bool:
-        return isinstance(id, Id) and id.kind is self._kind and bool(self.find(id))
+        """Whether an id begins with a prefix; an id of the other kind is not there. What is neither is a TypeError."""
+        if isinstance(id, Id) and id.kind is not self._kind:
+            return False
+        return bool(self.find(cast(_Digits, id)))
 
     def find_many(self, prefixes: Iterable[_D]) -> Iterator[Tuple[_D, List[Id]]]:
         """Each of many prefixes with the ids that begin with it, in the order of the prefixes, of which some 16,000 are taken
