@@ -6,7 +6,7 @@ ghost use Rattle.gix_hash.specs.Kinds.{hex_len_of};
 ghost use Rattle.gix_hash.specs.Prefixes.{KindDigits};
 ghost use Rattle.store_folders.specs.Listed.{only_of};
 ghost use Rattle.streams.specs.Devices.{plain_failed};
-ghost use Rattle.packtool.specs.Requests.{IsAskedOf, LeastFits};
+ghost use Rattle.packtool.specs.Requests.{LeastFits};
 ghost use Rattle.packtool.specs.WholeLines.{AreWhole};
 
 use crate::arguments::{Ask, Question, StoreRequest};
@@ -17,24 +17,19 @@ use crate::output::{buffered, flushed, report};
 use crate::words::{beginning, lossy_text};
 use crate::{FAILED, FOUND, NOTHING};
 use gix_hash::{Kind, Prefix};
+use object_store::Store;
 use packtool_commands::{
     Answers, PrefixLines, StoreError, find, find_each, locate, locate_each, name_each, names,
 };
 use repositories::{ObjectsFolder, find_objects};
 use std::alloc::AllocError;
 use std::io;
+use std::time::{SystemTime, UNIX_EPOCH};
 use store_folders::{Error, FolderStore, LooseIds};
 use streams::{Plain, Retrying};
 
 // The most ids or locations of several lines that are held at a time.
 const MAX_FOUND: usize = 1 << 16;
-
-// A question, and the lines of standard input that it is about if it is about lines.
-#[derive(Clone, Copy)]
-enum Asked<'a, 'l> {
-    Once(Question<&'a str>),
-    Lines(Question<Answers>, &'l [u8]),
-}
 
 /// Runs a request, and returns the status; for the lines of standard input chunk by chunk, and
 /// returns the worst status.
@@ -44,7 +39,7 @@ pub fn answer<'a>(rt: &HostRuntime, request: &StoreRequest<'a>) -> Result<u8, Fa
     match request.ask {
         Ask::Once(question) => {
             let question = in_kind(question, folder.kind)?;
-            answer_over(rt, &folder, Asked::Once(question), &mut reported)
+            answer_once(rt, &folder, question, &mut reported)
         }
         Ask::Lines(question) => {
             let question = in_kind(question, folder.kind)?;
@@ -54,7 +49,8 @@ pub fn answer<'a>(rt: &HostRuntime, request: &StoreRequest<'a>) -> Result<u8, Fa
 }
 
 // Looks the lines of standard input up for a question. A chunk of them is looked up in the store as
-// it is after they were read, and its output is written before more is read.
+// it is after they were read, and its output is written before more is read. The store is kept for
+// the next chunk.
 fn answer_input<'a>(
     rt: &HostRuntime,
     folder: &ObjectsFolder,
@@ -64,12 +60,13 @@ fn answer_input<'a>(
     requires { LeastFits folder.now.kind question }
 {
     let mut input = LineReader::new(rt.alloc(), Retrying::new(rt.reader()))?;
+    let mut kept = None;
     let mut status = FOUND;
     for _ in 0..u64::MAX {
         if !input.next()? {
             break;
         }
-        let ran = answer_lines(rt, folder, question, input.lines(), reported)?;
+        let ran = answer_lines(rt, folder, question, input.lines(), &mut kept, reported)?;
         status = status.max(ran);
     }
     Ok(status)
@@ -82,6 +79,7 @@ fn answer_lines<'a>(
     folder: &ObjectsFolder,
     question: Question<Answers>,
     lines: &[u8],
+    kept: &mut Option<FolderStore<HostRuntime>>,
     reported: &mut Vec<String>,
 ) -> Result<u8, Failure<'a>>
     requires { LeastFits folder.now.kind question }
@@ -94,7 +92,7 @@ fn answer_lines<'a>(
             break;
         }
         let (part, after) = first_lines(rest, len);
-        match answer_over(rt, folder, Asked::Lines(question, part), reported) {
+        match answer_part(rt, folder, question, part, kept, reported) {
             Err(Failure::TooMany) => len = part.len() / 2,
             ran => {
                 status = status.max(ran?);
@@ -146,35 +144,54 @@ fn line_len(lines: &[u8]) -> usize
     lines.len()
 }
 
-// Runs what is asked of an object directory, and returns the status.
-fn answer_over<'a>(
+// Answers a question, and returns the status.
+fn answer_once<'a>(
     rt: &HostRuntime,
     folder: &ObjectsFolder,
-    asked: Asked<'a, '_>,
+    question: Question<&'a str>,
     reported: &mut Vec<String>,
 ) -> Result<u8, Failure<'a>>
-    requires { IsAskedOf folder.now.kind asked }
+    requires { LeastFits folder.now.kind question }
 {
     let mut out = buffered(rt, rt.stdout())?;
-    let status = write_answers(rt, folder, asked, reported, &mut out)?;
+    let status = write_lines(rt, folder, question, reported, &mut out)?;
     flushed(status, &mut out)
 }
 
-// Writes what a question finds, or each of its lines.
-fn write_answers<'a, W: io::Write>(
+// Looks lines up for a question, in the store as it is now, and returns the status.
+fn answer_part<'a>(
     rt: &HostRuntime,
     folder: &ObjectsFolder,
-    asked: Asked<'a, '_>,
+    question: Question<Answers>,
+    lines: &[u8],
+    kept: &mut Option<FolderStore<HostRuntime>>,
     reported: &mut Vec<String>,
-    out: &mut Plain<W>,
 ) -> Result<u8, Failure<'a>>
-    requires asked { IsAskedOf folder.now.kind asked }
-    requires output { plain_failed out.old ≡ false }
+    requires { LeastFits folder.now.kind question }
 {
-    Ok(match asked {
-        Asked::Once(question) => write_lines(rt, folder, question, reported, out)?,
-        Asked::Lines(question, lines) => write_each(rt, folder, question, lines, reported, out)?,
-    })
+    let mut out = buffered(rt, rt.stdout())?;
+    let status = write_each(rt, folder, question, lines, kept, reported, &mut out)?;
+    flushed(status, &mut out)
+}
+
+// The store as it is now: the one that was kept, if there is one, refreshed.
+fn store_now<'a>(
+    rt: &HostRuntime,
+    folder: &ObjectsFolder,
+    kept: Option<FolderStore<HostRuntime>>,
+    loose: LooseIds,
+) -> Result<FolderStore<HostRuntime>, Failure<'a>>
+    ensures kind { IfOk result (λ store. store.kind ≡ folder.now.kind) }
+    ensures listed { IfOk result (λ store. store.loose.which ≡ loose) }
+{
+    if let Some(mut store) = kept {
+        // (it is, as each store of the directory)
+        if store.object_hash() == folder.kind {
+            store.refresh(loose, SystemTime::now(rt).unwrap_or(UNIX_EPOCH))?;
+            return Ok(store);
+        }
+    }
+    Ok(FolderStore::open(rt, folder, loose)?)
 }
 
 // Writes what a question finds.
@@ -246,12 +263,13 @@ fn write_names<'a, W: io::Write>(
     Ok(if was_whole { status } else { FAILED })
 }
 
-// Opens the store, and writes what each of the lines finds in it.
+// Writes what each of the lines finds in the store as it is now, and keeps that.
 fn write_each<'a, W: io::Write>(
     rt: &HostRuntime,
     folder: &ObjectsFolder,
     question: Question<Answers>,
     lines: &[u8],
+    kept: &mut Option<FolderStore<HostRuntime>>,
     reported: &mut Vec<String>,
     out: &mut Plain<W>,
 ) -> Result<u8, Failure<'a>>
@@ -259,7 +277,7 @@ fn write_each<'a, W: io::Write>(
     requires output { plain_failed out.old ≡ false }
 {
     let lines = PrefixLines::read(rt.alloc(), folder.kind, lines)?;
-    let mut store = FolderStore::open(rt, folder, loose_of(lines.prefixes()))?;
+    let mut store = store_now(rt, folder, kept.take(), loose_of(lines.prefixes()))?;
     let ran = match question {
         Question::Find(answers) => {
             find_each(rt.alloc(), &mut store, &lines, answers, MAX_FOUND, out)
@@ -272,7 +290,9 @@ fn write_each<'a, W: io::Write>(
             name_each(rt.alloc(), &mut store, &lines, least, MAX_FOUND, out)
         }
     };
-    status_of(rt, &mut store, ran, reported, out)
+    let status = status_of(rt, &mut store, ran, reported, out)?;
+    *kept = Some(store);
+    Ok(status)
 }
 
 // Checks the files of the loose objects that begin with prefixes, for `where`.
@@ -291,7 +311,7 @@ fn open_part<'a>(
 ) -> Result<(FolderStore<HostRuntime>, Prefix), Failure<'a>>
     ensures enough { IfOk result (λ part. 2 ≤ length part.1.digits) }
     ensures kind { IfOk result (λ part. part.1.kind ≡ part.0.kind) }
-    ensures listed { IfOk result (λ part. only_of part.0.loose_ids
+    ensures listed { IfOk result (λ part. only_of part.0.loose.which
         ≡ Some (first_byte_of part.1.digits)) }
 {
     let prefix = read_prefix(text, folder.kind)?;

@@ -26,6 +26,32 @@ pub struct Folders {
     pub skipped: Vec<Error>,
 }
 
+impl Folders {
+    /// Whether [`with_alternates`] would find the same now. If there was no list, and no alternate
+    /// is given, it is only looked whether a list has come; or else all is read again. The errors
+    /// are those of `with_alternates`.
+    ///
+    /// ```
+    /// let objects = find_objects(rt)?;
+    /// let folders = with_alternates(rt, &objects)?;
+    /// println!(rt; "{}", folders.are_unchanged(rt, &objects)?)?;
+    /// ```
+    pub fn are_unchanged<R: Files + AllocGlobal>(
+        &self,
+        rt: &R,
+        objects: &ObjectsFolder,
+    ) -> Result<bool, Error> {
+        if let [state] = self.states.as_slice()
+            && state.is_missing()
+            && objects.alternates.is_empty()
+        {
+            return Ok(list_state(rt, &list_path(rt, &objects.path)?)? == *state);
+        }
+        let now = with_alternates(rt, objects)?;
+        Ok(now.paths == self.paths && now.states == self.states)
+    }
+}
+
 /// An object directory and its alternates: those of the environment, and then those of its list, as
 /// Git links them.
 ///
@@ -139,7 +165,7 @@ fn alternates_of<R: Files + AllocGlobal>(
     found: &mut Folders,
 ) -> Result<Vec<String>, Error> {
     let mut paths = Vec::new(rt.alloc());
-    let list = join(rt, folder, "info/alternates")?;
+    let list = list_path(rt, folder)?;
     for path in &alternate_paths(rt.alloc(), &list_of(rt, &list, found)?, b'\n')? {
         if !push_path(rt, folder, path, &mut paths)? {
             let error = Error::text(rt.alloc(), &list, "a path is not UTF-8");
@@ -149,14 +175,23 @@ fn alternates_of<R: Files + AllocGlobal>(
     Ok(paths)
 }
 
+// The path of the list of alternates of a directory.
+fn list_path(rt: &impl AllocGlobal, folder: &str) -> Result<String, AllocError> {
+    join(rt, folder, "info/alternates")
+}
+
+// The state of a list of alternates.
+fn list_state<R: Files + AllocGlobal>(rt: &R, list: &str) -> Result<FileState, Error> {
+    FileState::of(rt, list).map_err(|error| Error::file(rt.alloc(), list, error))
+}
+
 // The text of a list of alternates, which is empty if there is none.
 fn list_of<R: Files + AllocGlobal>(
     rt: &R,
     list: &str,
     found: &mut Folders,
 ) -> Result<Vec<u8>, Error> {
-    let state = FileState::of(rt, list);
-    let state = state.map_err(|error| Error::file(rt.alloc(), list, error))?;
+    let state = list_state(rt, list)?;
     found.states.push(state)?;
     if state.is_missing() {
         return Ok(Vec::new(rt.alloc()));

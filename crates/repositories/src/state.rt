@@ -10,6 +10,14 @@ use std::io::{self, ErrorKind};
 use std::os::unix::fs::MetadataExt;
 use std::path::Path;
 use std::rt::Files;
+use std::time::{SystemTime, UNIX_EPOCH};
+
+// How many nanoseconds a second has.
+const SECOND: i64 = 1_000_000_000;
+
+// A change may leave a time that is so many nanoseconds earlier, since the clock of files ticks up
+// to 10 ms after the system's, and a file system may count in 10 ms.
+const GRAIN: i64 = 20_000_000;
 
 /// The state of a directory or file: which one it is, its size in bytes, and when it was modified
 /// and when it was changed. If a path leads to nothing, its state is that of the first directory
@@ -78,12 +86,46 @@ impl FileState {
         }
     }
 
+    /// Whether each later change leaves another state, so that what is read from now on is there
+    /// as long as the state is this one: both times are earlier than `now`, the time before the
+    /// path was looked at, by 20 ms; or by 2 s if they are whole seconds, as where a file system
+    /// has no others.
+    ///
+    /// ```
+    /// let now = SystemTime::now(rt)?;
+    /// let is_settled = FileState::of(rt, ".git/objects/pack")?.is_settled(now);
+    /// ```
+    pub fn is_settled(&self, now: SystemTime) -> bool {
+        let Ok(now) = now.duration_since(UNIX_EPOCH) else {
+            return false;
+        };
+        let Ok(secs) = i64::try_from(now.as_secs()) else {
+            return false;
+        };
+        let now = nanos_of((secs, i64::from(now.subsec_nanos())));
+        is_past(self.modified, now) && is_past(self.changed, now)
+    }
+
     /// Whether the path led to nothing.
     pub fn is_missing(&self) -> bool
         ensures { result ≡ not (self.now.missing == 0) }
     {
         self.missing > 0
     }
+}
+
+// Whether no change from now on leaves a time of a file, in seconds and nanoseconds.
+fn is_past(time: (i64, i64), now: i64) -> bool {
+    let grain = match time {
+        (_, 0) => 2 * SECOND,
+        _ => GRAIN,
+    };
+    nanos_of(time) < now.saturating_sub(grain)
+}
+
+// A time in nanoseconds.
+fn nanos_of((secs, nanos): (i64, i64)) -> i64 {
+    secs.saturating_mul(SECOND).saturating_add(nanos)
 }
 
 /// What a call returns that is made again if a signal interrupts it. The error is any other one of

@@ -12,6 +12,7 @@ use repositories::FileState;
 use repositories::paths::{read_loose_path, write_loose_path};
 use std::alloc::{AllocError, Global};
 use std::rt::Files;
+use std::time::SystemTime;
 
 // How often the fan-out directories of a first byte are listed that change meanwhile.
 const MAX_TRIES: usize = 100;
@@ -22,7 +23,7 @@ const MAX_TRIES: usize = 100;
 /// let loose = LooseIds::WithFirstByte(prefix.first_byte());
 /// let store = FolderStore::open(rt, &find_objects(rt)?, loose)?;
 /// ```
-#[derive(Clone, Copy, Debug)]
+#[derive(Clone, Copy, PartialEq, Eq, Debug)]
 pub enum LooseIds {
     /// All of them.
     All,
@@ -40,9 +41,47 @@ pub(crate) struct LooseFolder {
 // The loose objects that were listed.
 #[derive(Drop)]
 pub(crate) struct LooseObjects {
+    pub(crate) which: LooseIds,
+    pub(crate) kind: Kind,
     pub(crate) folders: Vec<LooseFolder>,
     // The ids of all of them.
     pub(crate) table: LooseTable,
+    // The states of the fan-out directories before they were listed, if each later change leaves
+    // others.
+    states: Option<Vec<FileState>>,
+    ghost of_kind: { table.kind ≡ kind },
+}
+
+impl LooseObjects {
+    // Whether they are what a listing of these object directories would give now.
+    pub(crate) fn are_unchanged<R: Files + AllocGlobal>(
+        &self,
+        rt: &R,
+        paths: &[String],
+    ) -> Result<bool, Error> {
+        match &self.states {
+            Some(states) => Ok(fan_out_states(rt, paths, self.which)? == *states),
+            None => Ok(false),
+        }
+    }
+}
+
+// Takes from listed loose objects those of a kind that were asked for so, if they are there.
+pub(crate) fn take_listed(
+    listed: &mut Vec<LooseObjects>,
+    which: LooseIds,
+    kind: Kind,
+) -> Option<LooseObjects>
+    ensures which { IfSome result (λ loose. loose.which ≡ which) }
+    ensures kind { IfSome result (λ loose. loose.kind ≡ kind) }
+{
+    let at = listed.iter().position(|loose| loose.which == which)?;
+    let loose = listed.swap_remove(at);
+    if loose.which == which && loose.kind == kind {
+        Some(loose)
+    } else {
+        None
+    }
 }
 
 // The names in the fan-out directory of a first byte, in the object directory at a position.
@@ -53,15 +92,22 @@ struct Part {
     names: Vec<u8>,
 }
 
-// Lists the loose objects in object directories.
+// Lists the loose objects in object directories. If the time before is given, it is also looked at
+// what these may be compared by later.
 pub(crate) fn list_loose<R: Files + AllocGlobal>(
     rt: &R,
     paths: &[String],
     kind: Kind,
     which: LooseIds,
+    now: Option<SystemTime>,
 ) -> Result<LooseObjects, Error>
-    ensures { IfOk result (λ loose. loose.table.kind ≡ kind) }
+    ensures kind { IfOk result (λ loose. loose.kind ≡ kind) }
+    ensures which { IfOk result (λ loose. loose.which ≡ which) }
 {
+    let states = match now {
+        Some(now) => settled_states(rt, paths, which, now)?,
+        None => None,
+    };
     let parts = list_parts(rt, paths, which)?;
     let mut folders = Vec::with_capacity(rt.alloc(), paths.len())?;
     let mut all = Vec::new(rt.alloc());
@@ -71,7 +117,52 @@ pub(crate) fn list_loose<R: Files + AllocGlobal>(
         folders.push(folder)?;
     }
     let table = LooseTable::new(all, kind);
-    Ok(LooseObjects { folders, table })
+    Ok(LooseObjects {
+        which,
+        kind,
+        folders,
+        table,
+        states,
+    })
+}
+
+// The states of fan-out directories, if each later change leaves others.
+fn settled_states<R: Files + AllocGlobal>(
+    rt: &R,
+    paths: &[String],
+    which: LooseIds,
+    now: SystemTime,
+) -> Result<Option<Vec<FileState>>, Error> {
+    let states = fan_out_states(rt, paths, which)?;
+    if states.iter().all(|state| state.is_settled(now)) {
+        Ok(Some(states))
+    } else {
+        Ok(None)
+    }
+}
+
+// The states of the fan-out directories that are asked for, in object directories.
+fn fan_out_states<R: Files + AllocGlobal>(
+    rt: &R,
+    paths: &[String],
+    which: LooseIds,
+) -> Result<Vec<FileState>, Error> {
+    let (first, last) = bytes_of(which);
+    let mut states = Vec::new(rt.alloc());
+    for path in paths {
+        for byte in first..=last {
+            states.push(state_of(rt, &fan_out(rt, path, byte)?)?)?;
+        }
+    }
+    Ok(states)
+}
+
+// The first and the last of the first bytes that are asked for.
+fn bytes_of(which: LooseIds) -> (u8, u8) {
+    match which {
+        LooseIds::All => (0, u8::MAX),
+        LooseIds::WithFirstByte(byte) => (byte, byte),
+    }
 }
 
 // Lists the fan-out directories in object directories, one first byte after the other. If there are
@@ -81,10 +172,7 @@ fn list_parts<R: Files + AllocGlobal>(
     paths: &[String],
     which: LooseIds,
 ) -> Result<Vec<Part>, Error> {
-    let (first, last) = match which {
-        LooseIds::All => (0, u8::MAX),
-        LooseIds::WithFirstByte(byte) => (byte, byte),
-    };
+    let (first, last) = bytes_of(which);
     let before = states_of_several(rt, paths)?;
     let mut parts = Vec::new(rt.alloc());
     for byte in first..=last {

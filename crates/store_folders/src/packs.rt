@@ -11,6 +11,7 @@ use repositories::{FileState, join, metadata, retried};
 use std::alloc::{AllocError, Global};
 use std::fs::File;
 use std::rt::Files;
+use std::time::SystemTime;
 use std::{fs, io, str};
 
 // How many pack indexes are kept open. The others are opened again to be read, so that a store of
@@ -54,12 +55,20 @@ impl PackFolders {
         let mut indexes = PackIndexes {
             paths: Vec::new(rt.alloc()),
             skipped: Vec::new(rt.alloc()),
+            are_all: true,
         };
         for folder in &self.folders {
             let mut paths = indexes_in(rt, &folder.path, &mut indexes.skipped)?;
             indexes.paths.append(&mut paths)?;
         }
         Ok(indexes)
+    }
+
+    // Whether each later change of one of them leaves another state.
+    pub(crate) fn are_settled(&self, now: SystemTime) -> bool {
+        self.folders
+            .iter()
+            .all(|folder| folder.state.is_settled(now))
     }
 
     // Fails if one of them has changed.
@@ -80,6 +89,8 @@ pub(crate) struct PackIndexes {
     pub(crate) paths: Vec<String>,
     // Why others are skipped.
     pub(crate) skipped: Vec<Error>,
+    // Whether none is left out since its pack is missing.
+    pub(crate) are_all: bool,
 }
 
 impl PackIndexes {
@@ -103,14 +114,21 @@ impl PackIndexes {
         let PackIndexes {
             paths: listed,
             skipped,
+            mut are_all,
         } = self;
         let mut paths = Vec::new(rt.alloc());
         for path in listed {
             if has_pack(rt, &path)? {
                 paths.push(path)?;
+            } else {
+                are_all = false;
             }
         }
-        Ok(PackIndexes { paths, skipped })
+        Ok(PackIndexes {
+            paths,
+            skipped,
+            are_all,
+        })
     }
 }
 
@@ -201,11 +219,14 @@ pub(crate) fn open_indexes<R: Files<File = File> + AllocGlobal + Clone + Drop>(
 {
     match open_all(rt, paths, MAX_OPEN, kind) {
         Ok(opened) => Ok(opened),
-        Err(error) if error.raw_os_error() == Some(TOO_MANY_OPEN) => {
-            open_all(rt, paths, 0, kind)
-        }
+        Err(error) if is_too_many_open(&error) => open_all(rt, paths, 0, kind),
         Err(error) => Err(error),
     }
+}
+
+// Whether an error is that too many files are open.
+pub(crate) fn is_too_many_open(error: &Error) -> bool {
+    error.raw_os_error() == Some(TOO_MANY_OPEN)
 }
 
 // Opens pack indexes, of which the first ones stay open.

@@ -1,11 +1,13 @@
 //! An object store in directories.
 
-ghost use Rattle.std.specs.Prelude.{◌≡◌, All, IfErr, IfOk, [], flat_map, map, slice_index_or, string_bytes};
+ghost use Rattle.std.specs.Prelude.{◌≡◌, All, IfErr, IfOk, [], flat_map, true, map, slice_index_or, string_bytes};
 ghost use Rattle.gix_hash.specs.Ids.{id_kind};
 
 use crate::error::Error;
-use crate::loose::{LooseIds, LooseObjects, list_loose, loose_path, push_path};
-use crate::packs::{OpenIndexes, PackFolders, PackIndexes, open_indexes, pack_paths};
+use crate::loose::{LooseIds, LooseObjects, list_loose, loose_path, push_path, take_listed};
+use crate::packs::{
+    OpenIndexes, PackFolders, PackIndexes, is_too_many_open, open_indexes, pack_paths,
+};
 use crate::source::Source;
 use gix_hash::{Kind, ObjectId, Prefix};
 use object_store::{LooseTable, Reopen, Store, StorePaths};
@@ -15,7 +17,8 @@ use std::alloc::AllocError;
 use std::cmp::Ordering;
 use std::fs::File;
 use std::rt::Files;
-use std::{fs, io};
+use std::time::SystemTime;
+use std::{fs, io, mem};
 
 // How often a store that changes while it is read is read.
 const MAX_TRIES: usize = 100;
@@ -30,9 +33,12 @@ const MAX_TRIES: usize = 100;
 #[derive(Drop)]
 pub struct FolderStore<R: Files<File = File>> {
     rt: R,
-    // From what it was opened.
+    // From what it was opened, and what was found then.
     folder: ObjectsFolder,
-    loose_ids: LooseIds,
+    folders: Folders,
+    pack_folders: PackFolders,
+    // Whether the packs are those that are there as long as the directories are unchanged.
+    is_settled: bool,
     kind: Kind,
     skipped: Vec<Error>,
     // What was skipped in the store before it was opened again.
@@ -43,8 +49,10 @@ pub struct FolderStore<R: Files<File = File>> {
     packs: Vec<String>,
     indexes: Vec<LazyFile<Source<R>>>,
     loose: LooseObjects,
+    // The loose objects that were asked for before, and may be again.
+    listed: Vec<LooseObjects>,
     ghost of_kind: { All (λ index. index.kind ≡ kind) indexes.items },
-    ghost loose_of_kind: { loose.table.kind ≡ kind },
+    ghost loose_of_kind: { loose.kind ≡ kind },
     ghost of_folder: { folder.kind ≡ kind },
 }
 
@@ -66,29 +74,49 @@ impl<R: Files<File = File> + AllocGlobal + Clone + Drop> FolderStore<R> {
     /// ```
     pub fn open(rt: &R, folder: &ObjectsFolder, loose: LooseIds) -> Result<FolderStore<R>, Error>
         ensures kind { IfOk result (λ store. store.kind ≡ folder.now.kind) }
-        ensures listed { IfOk result (λ store. store.loose_ids ≡ loose) }
+        ensures listed { IfOk result (λ store. store.loose.which ≡ loose) }
+    {
+        FolderStore::open_at(rt, folder, loose, None)
+    }
+
+    // Opens the store, to be refreshed later if the time before is given.
+    fn open_at(
+        rt: &R,
+        folder: &ObjectsFolder,
+        loose: LooseIds,
+        now: Option<SystemTime>,
+    ) -> Result<FolderStore<R>, Error>
+        ensures kind { IfOk result (λ store. store.kind ≡ folder.now.kind) }
+        ensures listed { IfOk result (λ store. store.loose.which ≡ loose) }
     {
         for _ in 1..MAX_TRIES {
-            match FolderStore::read(rt, folder, loose) {
+            match FolderStore::read(rt, folder, loose, now) {
                 Err(Error::Gone { .. } | Error::Changed { .. }) => {}
                 opened => return opened,
             }
         }
-        FolderStore::read(rt, folder, loose)
+        FolderStore::read(rt, folder, loose, now)
     }
 
     // Reads the store once.
-    fn read(rt: &R, folder: &ObjectsFolder, loose: LooseIds) -> Result<FolderStore<R>, Error>
+    fn read(
+        rt: &R,
+        folder: &ObjectsFolder,
+        loose: LooseIds,
+        now: Option<SystemTime>,
+    ) -> Result<FolderStore<R>, Error>
         ensures kind { IfOk result (λ store. store.kind ≡ folder.now.kind) }
-        ensures listed { IfOk result (λ store. store.loose_ids ≡ loose) }
+        ensures listed { IfOk result (λ store. store.loose.which ≡ loose) }
     {
         let kind = folder.kind;
         let folders = with_alternates(rt, folder)?;
-        let (mut listed, objects) = list(rt, &folders.paths, kind, loose)?;
-        let folders = expect_alternates(rt, folder, &folders)?;
+        let pack_folders = PackFolders::of(rt, &folders.paths)?;
+        let objects = &folders.paths;
+        let (mut listed, objects) = list(rt, &pack_folders, objects, kind, loose, now)?;
+        let mut folders = expect_alternates(rt, folder, &folders)?;
         let opened = open_indexes(rt, &listed.paths, kind)?;
         let packs = pack_paths(rt.alloc(), &opened.paths)?;
-        let mut skipped = skipped_alternates(rt, folders)?;
+        let mut skipped = skipped_alternates(rt, &mut folders)?;
         skipped.append(&mut listed.skipped)?;
         let OpenIndexes {
             paths,
@@ -96,10 +124,13 @@ impl<R: Files<File = File> + AllocGlobal + Clone + Drop> FolderStore<R> {
             skipped: mut damaged,
         } = opened;
         skipped.append(&mut damaged)?;
+        let is_whole = listed.are_all && skipped.is_empty();
         Ok(FolderStore {
             rt: rt.clone()?,
             folder: copy_of(folder)?,
-            loose_ids: loose,
+            is_settled: is_whole && now.is_some_and(|now| pack_folders.are_settled(now)),
+            folders,
+            pack_folders,
             kind,
             skipped,
             skipped_before: Vec::new(rt.alloc()),
@@ -108,7 +139,93 @@ impl<R: Files<File = File> + AllocGlobal + Clone + Drop> FolderStore<R> {
             packs,
             indexes,
             loose: objects,
+            listed: Vec::new(rt.alloc()),
         })
+    }
+
+    /// Makes the store what it would be if it were opened now with these loose objects, and returns
+    /// whether it is what it was. `now` is the time before the call, by the clock of the file
+    /// system.
+    ///
+    /// What is unchanged is not read again: a list of alternates is read, and each directory of
+    /// packs and fan-out directory that is asked for is looked at. If only fan-out directories have
+    /// changed, these are listed. Those that were asked for before are kept.
+    ///
+    /// What was changed less than 20 ms before it was read is read again, and so is what
+    /// [`FolderStore::open`] has read, and a store of which something is skipped: see
+    /// [`FileState::is_settled`](repositories::FileState::is_settled). The errors are those of
+    /// `open`, after which no pack index may be left.
+    ///
+    /// ```
+    /// let folder = find_objects(rt)?;
+    /// let mut store = FolderStore::open(rt, &folder, LooseIds::WithFirstByte(0x4b))?;
+    /// let is_same = store.refresh(LooseIds::WithFirstByte(0x4b), SystemTime::now(rt)?)?;
+    /// ```
+    pub fn refresh(&mut self, loose: LooseIds, now: SystemTime) -> Result<bool, Error>
+        ensures kind { self.new.kind ≡ self.old.kind }
+        ensures listed { IfOk result (λ _. self.new.loose.which ≡ loose) }
+        ensures same { IfOk result (λ is_same. is_same ≡ true
+            → (self.new.indexes.items ≡ self.old.indexes.items)
+            × (self.new.loose ≡ self.old.loose)) }
+    {
+        let looked = self.look_again(loose, now);
+        if !is_to_be_read(&looked) {
+            return looked;
+        }
+        // Its files are closed before as many are opened.
+        self.indexes = Vec::new(self.rt.alloc());
+        *self = FolderStore::open_at(&self.rt, &self.folder, loose, Some(now))?;
+        Ok(false)
+    }
+
+    // The same, but for a change of packs or alternates, which is an error.
+    fn look_again(&mut self, loose: LooseIds, now: SystemTime) -> Result<bool, Error>
+        ensures kind { self.new.kind ≡ self.old.kind }
+        ensures listed { IfOk result (λ _. self.new.loose.which ≡ loose) }
+        ensures same { IfOk result (λ is_same. is_same ≡ true
+            → (self.new.indexes.items ≡ self.old.indexes.items)
+            × (self.new.loose ≡ self.old.loose)) }
+    {
+        self.expect_unchanged()?;
+        let is_listed = self.loose.which == loose;
+        if is_listed && self.loose.are_unchanged(&self.rt, &self.folders.paths)? {
+            return Ok(true);
+        }
+        let chosen = self.loose_now(loose, now)?;
+        let last = mem::replace(&mut self.loose, chosen);
+        if !is_listed {
+            let _ = self.listed.push(last);
+        }
+        Ok(false)
+    }
+
+    // Fails if the alternates, a list of them or a directory of packs have changed since they were
+    // read, or if that is not known.
+    fn expect_unchanged(&self) -> Result<(), Error> {
+        if self.is_settled && self.folders.are_unchanged(&self.rt, &self.folder)? {
+            self.pack_folders.expect_unchanged(&self.rt)
+        } else {
+            Err(Error::changed(self.rt.alloc(), &self.folder.path))
+        }
+    }
+
+    // The loose objects that are asked for: those that were listed before, if their directories
+    // are unchanged, or else a listing, during which the packs and the alternates stay.
+    fn loose_now(&mut self, loose: LooseIds, now: SystemTime) -> Result<LooseObjects, Error>
+        ensures which { IfOk result (λ objects. objects.which ≡ loose) }
+        ensures of_kind { IfOk result (λ objects. objects.kind ≡ self.old.kind) }
+        ensures kind { self.new.kind ≡ self.old.kind }
+        ensures indexes { self.new.indexes.items ≡ self.old.indexes.items }
+        ensures loose { self.new.loose ≡ self.old.loose }
+    {
+        if let Some(listed) = take_listed(&mut self.listed, loose, self.kind) {
+            if listed.are_unchanged(&self.rt, &self.folders.paths)? {
+                return Ok(listed);
+            }
+        }
+        let listed = list_loose(&self.rt, &self.folders.paths, self.kind, loose, Some(now))?;
+        self.expect_unchanged()?;
+        Ok(listed)
     }
 
     /// What was not read: alternates that are missing, are no directories, cannot be read or are
@@ -186,11 +303,11 @@ impl<R: Files<File = File> + AllocGlobal + Clone + Drop> FolderStore<R> {
     // Takes the place of itself, as the store is now. Under an error it has what it had.
     fn open_again(&mut self) -> Result<(), Error>
         ensures kind { self.new.kind ≡ self.old.kind }
-        ensures listed { self.new.loose_ids ≡ self.old.loose_ids }
+        ensures listed { self.new.loose.which ≡ self.old.loose.which }
         ensures indexes { IfErr result (λ _. self.new.indexes.items ≡ self.old.indexes.items) }
         ensures loose { IfErr result (λ _. self.new.loose ≡ self.old.loose) }
     {
-        let mut store = FolderStore::open(&self.rt, &self.folder, self.loose_ids)?;
+        let mut store = FolderStore::open(&self.rt, &self.folder, self.loose.which)?;
         self.skipped_before.append(&mut self.skipped)?;
         store.skipped_before.append(&mut self.skipped_before)?;
         *self = store;
@@ -210,6 +327,15 @@ impl<R: Files<File = File> + AllocGlobal + Clone + Drop> FolderStore<R> {
             Err(gone) if gone.kind() == io::ErrorKind::NotFound => Ok(()),
             _ => Err(Error::file(self.rt.alloc(), &path, error)),
         }
+    }
+}
+
+// Whether a store has changed since it was read, or too many files are open to look at it.
+fn is_to_be_read(looked: &Result<bool, Error>) -> bool {
+    match looked {
+        Err(Error::Gone { .. } | Error::Changed { .. }) => true,
+        Err(error) => is_too_many_open(error),
+        Ok(_) => false,
     }
 }
 
@@ -235,15 +361,17 @@ fn copy_of(folder: &ObjectsFolder) -> Result<ObjectsFolder, AllocError>
 // may be gone after.
 fn list<R: Files + AllocGlobal>(
     rt: &R,
+    packs: &PackFolders,
     folders: &[String],
     kind: Kind,
     loose: LooseIds,
+    now: Option<SystemTime>,
 ) -> Result<(PackIndexes, LooseObjects), Error>
-    ensures { IfOk result (λ listed. listed.1.table.kind ≡ kind) }
+    ensures kind { IfOk result (λ listed. listed.1.kind ≡ kind) }
+    ensures which { IfOk result (λ listed. listed.1.which ≡ loose) }
 {
-    let packs = PackFolders::of(rt, folders)?;
     let before = packs.list(rt)?;
-    let loose = list_loose(rt, folders, kind, loose)?;
+    let loose = list_loose(rt, folders, kind, loose, now)?;
     let after = packs.list(rt)?;
     after.expect_all(rt.alloc(), &before)?;
     let after = after.with_packs(rt)?;
@@ -266,9 +394,13 @@ fn expect_alternates<R: Files + AllocGlobal>(
     }
 }
 
-// Why alternates are skipped.
-fn skipped_alternates(rt: &impl AllocGlobal, folders: Folders) -> Result<Vec<Error>, AllocError> {
-    let skipped = folders.skipped.into_iter();
+// Takes from directories why alternates are skipped.
+fn skipped_alternates(
+    rt: &impl AllocGlobal,
+    folders: &mut Folders,
+) -> Result<Vec<Error>, AllocError> {
+    let skipped = mem::replace(&mut folders.skipped, Vec::new(rt.alloc()));
+    let skipped = skipped.into_iter();
     skipped.map(|error| Error::from(error)).collect(rt.alloc())
 }
 
@@ -297,7 +429,7 @@ impl<R: Files<File = File> + AllocGlobal + Clone + Drop> Store for FolderStore<R
       kind = store.kind;
       packs = store.indexes.items;
       loose = store.loose.table.ids;
-      listed = only_of store.loose_ids;
+      listed = only_of store.loose.which;
     } };
 
     fn object_hash(&self) -> Kind {
@@ -318,7 +450,7 @@ impl<R: Files<File = File> + AllocGlobal + Clone + Drop> Reopen for FolderStore<
     ghost use Rattle.store_folders.specs.Listed.{only_of};
 
     ghost may_have = { λ store view. (view.kind ≡ store.kind)
-        × (view.listed ≡ only_of store.loose_ids) };
+        × (view.listed ≡ only_of store.loose.which) };
 
     fn is_gone(&self, error: &object_store::Error) -> bool {
         match error {

@@ -194,7 +194,7 @@ fn find<R: Files<File = File> + AllocGlobal + Clone + Drop>(
     rt: &(impl Abort + AllocGlobal),
     store: &FolderStore<R>,
 ) -> Result<Vec<ObjectId>, object_store::Error>
-    requires { only_of store.now.loose_ids ≡ Some 75 }
+    requires { only_of store.now.loose.which ≡ Some 75 }
 {
     let kind = store.object_hash();
     let prefix = Prefix::from_hex_in(kind, "4b").expect(rt, "no prefix");
