@@ -5,6 +5,7 @@ use crate::folders::make;
 use repositories::{FileState, metadata, retried};
 use std::cell::Cell;
 use std::test::Fail;
+use std::time::{Duration, SystemTime, UNIX_EPOCH};
 use std::{fs, io};
 
 #[test]
@@ -20,6 +21,20 @@ fn states_of_what_is_there_and_of_what_is_missing(rt: HostRuntime) -> Result<(),
     // What is below a file is missing, too.
     expect!(&rt; FileState::of(&rt, "state/a/b/c")?.is_missing());
     fs::remove_dir_all(&rt, "state")?;
+    Ok(())
+}
+
+// A file that was made just now may change in the same tick.
+#[test]
+fn states_settle(rt: HostRuntime) -> Result<(), Fail> {
+    let now = SystemTime::now(&rt)?;
+    make(&rt, &["settled/a"], &[], &[])?;
+    let state = FileState::of(&rt, "settled/a")?;
+    expect!(&rt; !state.is_settled(now));
+    expect!(&rt; !state.is_settled(UNIX_EPOCH));
+    let later = now.checked_add(Duration::from_secs(60));
+    expect!(&rt; later.is_some_and(|later| state.is_settled(later)));
+    fs::remove_dir_all(&rt, "settled")?;
     Ok(())
 }
 

@@ -4,7 +4,7 @@ ghost use Rattle.std.specs.Prelude.{◌≡◌, Some};
 ghost use Rattle.store_folders.specs.Listed.{only_of};
 
 use crate::expecting::{expect, expect_ids, expect_printed};
-use crate::folders::{BOTH, Index, LOOSE, PACKED, make};
+use crate::folders::{BOTH, Bytes, Index, LOOSE, PACKED, make};
 use gix_hash::{ObjectId, Prefix};
 use object_store::{Store, lookup_prefix};
 use pack_index::LazyError;
@@ -17,6 +17,7 @@ use std::path::PathBuf;
 use std::process::Abort;
 use std::rt::Files;
 use std::test::Fail;
+use std::time::{Duration, SystemTime, UNIX_EPOCH};
 use std::{fs, io};
 use store_folders::{Error, FolderStore, LooseIds};
 
@@ -348,6 +349,94 @@ fn files_may_be_removed_after_opening(rt: HostRuntime) -> Result<(), Fail> {
     let want = "many/objects/pack/pack-69.idx: removed since it was listed";
     expect_printed(&rt, store.with_path(error), want);
     fs::remove_dir_all(&rt, "many")?;
+    Ok(())
+}
+
+const FRESH: LooseIds = LooseIds::WithFirstByte(0x4b);
+
+// Refreshes a store, and compares whether it is what it was, and the ids that are found.
+fn expect_refreshed<R: Files<File = File> + AllocGlobal + Clone + Drop>(
+    rt: &(impl Abort + AllocGlobal),
+    store: &mut FolderStore<R>,
+    now: SystemTime,
+    is_same: bool,
+    want: &[&str],
+) -> Result<(), Fail> {
+    expect!(rt; store.refresh(FRESH, now)? == is_same, is_same);
+    expect_ids(rt, &find(rt, store)?, want);
+    Ok(())
+}
+
+// What comes into a store: empty files, files and pack indexes; and the ids that are found then.
+type Coming = (
+    &'static [&'static str],
+    &'static [Bytes],
+    &'static [Index],
+    &'static [&'static str],
+);
+
+// A loose object, a pack and an alternate, each where there was no directory or file.
+const COMING: [Coming; 4] = [
+    (
+        &["fresh/objects/info/none", "fresh/objects/00/none"],
+        &[],
+        &[],
+        &[],
+    ),
+    (
+        &["fresh/objects/4b/ffffffffffffffffffffffffffffffffffffff"],
+        &[],
+        &[],
+        &[LOOSE],
+    ),
+    (
+        &["fresh/objects/pack/pack-1.pack"],
+        &[],
+        &[("fresh/objects/pack/pack-1.idx", &[BOTH])],
+        &[BOTH, LOOSE],
+    ),
+    (
+        &["fresh/other/4b/825dc642cb6eb9a060e54bf8d69288fbee4904"],
+        &[("fresh/objects/info/alternates", b"../other\n")],
+        &[],
+        &[PACKED, BOTH, LOOSE],
+    ),
+];
+
+// By the time all states are settled, so that the store is the same until it changes.
+#[test]
+fn a_store_is_refreshed(rt: HostRuntime) -> Result<(), Fail> {
+    make(&rt, COMING[0].0, &[], &[])?;
+    let folder = ObjectsFolder::at(&rt, "fresh/objects")?;
+    let now = SystemTime::now(&rt)?.checked_add(Duration::from_secs(60));
+    let now = now.expect(&rt, "no time");
+    let mut store = FolderStore::open(&rt, &folder, FRESH)?;
+    for (empty, files, indexes, want) in &COMING {
+        make(&rt, empty, files, indexes)?;
+        expect_refreshed(&rt, &mut store, now, false, want)?;
+        expect_refreshed(&rt, &mut store, now, true, want)?;
+    }
+    fs::remove_dir_all(&rt, "fresh")?;
+    Ok(())
+}
+
+// Loose objects are kept by what was asked for, and what may change in the same tick is not.
+#[test]
+fn a_store_is_refreshed_for_other_loose_objects(rt: HostRuntime) -> Result<(), Fail> {
+    make(
+        &rt,
+        &["kept/objects/4b/ffffffffffffffffffffffffffffffffffffff"],
+        &[],
+        &[],
+    )?;
+    let folder = ObjectsFolder::at(&rt, "kept/objects")?;
+    let mut store = FolderStore::open(&rt, &folder, FRESH)?;
+    expect_refreshed(&rt, &mut store, UNIX_EPOCH, false, &[LOOSE])?;
+    expect_refreshed(&rt, &mut store, UNIX_EPOCH, false, &[LOOSE])?;
+    expect!(&rt; !store.refresh(LooseIds::WithFirstByte(0), UNIX_EPOCH)?);
+    expect!(&rt; store.loose().ids().is_empty());
+    expect_refreshed(&rt, &mut store, UNIX_EPOCH, false, &[LOOSE])?;
+    fs::remove_dir_all(&rt, "kept")?;
     Ok(())
 }
 
