@@ -3,7 +3,11 @@ use Rattle.std.proofs.Common.{◌≡◌, ℕ, ◌<◌, ◌≤◌, ◌⊎◌, inl
 use Rattle.std.specs.Prelude.{slice_set}
 use Rattle.std.proofs.lemmas.Bool.{cases_lt}
 use Rattle.std.proofs.lemmas.List.{get_or_default, get_or-set_same, get_or-set_other}
+use Rattle.std.specs.List.{Contains}
 use Rattle.gix_hash.specs.Prefixes.{KindDigits}
+use Rattle.object_store.specs.Stores.{IsOfOne}
+use Rattle.object_store.specs.declared.error.Error.{Error}
+use Rattle.object_store.specs.declared.error.Error.TheVariants.{Index, Memory}
 
 -- what was found at a position has the relation to the digits of its prefix
 abbrev pub IsFoundAt : {F : Type 0} → (List ℕ → F → Type 0) → List KindDigits → List F → ℕ → Type 0
@@ -35,3 +39,9 @@ module _ {F : Type 0} (Finds : List ℕ → F → Type 0) (prefixes : List KindD
       by (inr from) (inl above) = other (inr above)
       by (inr from) (inr up_to) =
           let same : at ≡ k = omega (arith, from, up_to) in subst (λ (n : ℕ). IsFoundAt Finds prefixes (slice_set found at one) n) same found_here
+
+-- why one of them is not found
+pub of_one : (Fails : List ℕ → Error → Type 0) (prefixes : List KindDigits) (prefix : KindDigits) (error : Error) → Contains prefixes prefix → Fails prefix.digits error
+    → IsOfOne Fails prefixes error
+of_one Fails prefixes prefix (Index at error) has fails = (prefix, has, fails)
+of_one Fails prefixes prefix (Memory error) has fails = tt

@@ -1,6 +1,7 @@
 pub mod Held
 pub mod Located
 pub mod Named
+mod Abbreviated
 pub mod PartNames
 pub mod Whole
 pub mod WholeLocations

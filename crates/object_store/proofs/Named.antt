@@ -1,6 +1,5 @@
 -- A name that is decided among the ids that were gathered is the name in the whole store.
-use Rattle.std.proofs.Common.{◌≡◌, ◌≢◌, ℕ, suc, ◌+◌, ◌-◌, ◌⊎◌, inl, inr, ◌<◌, ◌≤◌, true, nat_eq, Option, None, Some, List, [], ◌∷◌, ◌++◌, length, get_or, map, take, drop, refl, sym, ap, ◌∙◌, subst, arith, append_assoc, take-append-drop}
-use Rattle.std.specs.Prelude.{IfSome, MatchOption}
+use Rattle.std.proofs.Common.{◌≡◌, ℕ, suc, ◌+◌, ◌-◌, ◌⊎◌, inl, inr, ◌<◌, ◌≤◌, true, nat_eq, Some, List, [], ◌∷◌, ◌++◌, length, get_or, map, take, drop, refl, sym, ap, ◌∙◌, subst, arith, append_assoc, take-append-drop}
 use Rattle.std.specs.List.{All, Contains, starts_with}
 use Rattle.std.proofs.Math.Seq.{get_or-append_seam, take-append-add, take-suc}
 use Rattle.std.specs.Prelude.{slice_get}
@@ -8,14 +7,11 @@ use Rattle.std.proofs.lemmas.Bool.{cases_lt, cases_order, false≢true}
 use Rattle.std.proofs.lemmas.Option.{get_or_from_slice_get}
 use Rattle.std.proofs.lemmas.List.{get_or_append_left, get_or_default, get_or-map, length-append, length-map, length-take-le, map-append}
 use Rattle.std.proofs.lemmas.List.Elements.{Contains-get_or}
-use Rattle.gix_hash.specs.Digits.{first_byte_of}
 use Rattle.gix_hash.specs.Ids.{id_digits}
-use Rattle.gix_hash.specs.Prefixes.{KindDigits}
 use Rattle.gix_hash.specs.declared.Kind.{Kind}
 use Rattle.gix_hash.specs.declared.ObjectId.{ObjectId}
 use Rattle.id_lookup.specs.Runs.{matches}
 use Rattle.id_lookup.specs.Indexes.{IsIndexOf, IsShortestNameFrom}
-use Rattle.id_lookup.proofs.Beginnings.{first_byte_of-begins}
 use Rattle.id_lookup.proofs.Filters.{contains_had, contains_kept, kept_passes}
 use Rattle.id_lookup.proofs.SameMembers.{one_position}
 use Rattle.id_lookup.proofs.Spelled.{starts_with-BeginsWith}
@@ -25,10 +21,6 @@ use Rattle.object_store.specs.declared.abbreviations.NamedId.{NamedId}
 -- an id begins with its first digits
 pub begins_itself : (id : List ℕ) (n : ℕ) → starts_with nat_eq id (take n id) ≡ true
 begins_itself id n = (starts_with-BeginsWith id (take n id)).1 (drop n id, sym (take-append-drop n id))
-
-pub front_byte : (id front : List ℕ) (least : ℕ) → front ≡ take least id → 2 ≤ least → least ≤ length id → first_byte_of front ≡ first_byte_of id
-front_byte id front least is two fits =
-    ap first_byte_of is ∙ sym (first_byte_of-begins id (take least id) (omega (arith, two, length-take-le least id fits)) (begins_itself id least))
 
 -- what begins with the first digits of an id begins with fewer of them
 begins_fewer : (other id front : List ℕ) (n : ℕ) → length front ≤ n → starts_with nat_eq id front ≡ true → starts_with nat_eq other (take n id) ≡ true
@@ -76,19 +68,6 @@ module _ (kind : Kind) (least : ℕ) (read ids : List (List ℕ)) (front : List 
               r.3,
             );
       }
-
--- of an id that is looked for among those that begin with its first digits
-pub name_of_id : (kind : Kind) (least : ℕ) (id : List ℕ) (read ids : List (List ℕ)) (name : Option KindDigits) → length (take least id) ≤ least
-    → IsIndexOf kind (matches (take least id) read) ids
-    → MatchOption name ((k : ℕ) → k < length ids → get_or ids k [] ≢ id)
-    (λ n. (at : ℕ) × (at < length ids) × (get_or ids at [] ≡ id) × IsShortestNameFrom least ids at n.digits)
-    → IfSome name (λ n. n.kind ≡ kind)
-    → MatchOption name (¬ Contains read id) (λ n. IsNameIn least read id n.digits × (n.kind ≡ kind))
-name_of_id kind least id read ids None few index none of_kind = λ c.
-    let there = (index.members id).1 (contains_kept (λ x. starts_with nat_eq x (take least id)) read id c (begins_itself id least)) in
-    none there.0 there.1 (sym (get_or_default ids there.0 id [] there.1) ∙ there.2)
-name_of_id kind least id read ids (Some name) few index found of_kind =
-    (name_in_read kind least read ids (take least id) index few found.0 id name.digits found.1 found.2 found.3, of_kind)
 
 -- of each id with a first byte
 pub names_read : (kind : Kind) (least : ℕ) (read : List (List ℕ)) (front : List ℕ) (ids : List ObjectId) (named : List NamedId) → length front ≤ least

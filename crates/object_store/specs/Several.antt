@@ -1,5 +1,5 @@
 -- The locations and the abbreviations of the ids that begin with each of several prefixes.
-use Rattle.std.specs.Prelude.{◌≡◌, ℕ, ◌<◌, ◌/◌, ◌%◌, List, [], ◌∷◌, Vec, length, map, string_bytes}
+use Rattle.std.specs.Prelude.{◌≡◌, ℕ, ◌<◌, ◌/◌, ◌%◌, List, [], ◌∷◌, Vec, length, map, slice_index_or, string_bytes}
 use Rattle.std.specs.List.{All}
 use Rattle.gix_hash.specs.Digits.{first_byte_of}
 use Rattle.gix_hash.specs.Ids.{id_digits}
@@ -9,7 +9,7 @@ use Rattle.id_lookup.specs.Runs.{matches}
 use Rattle.object_store.specs.Stores.{AreFoundOfEach, AreLocations, AreMatches, HasRead, IsLocationsFault, IsNameIn, IsOfKind, IsOfOne, StoreView}
 use Rattle.object_store.specs.declared.error.Error.{Error}
 use Rattle.object_store.specs.declared.locations.LocatedId.{LocatedId}
-use Rattle.id_lookup.specs.Indexes.{IsIndexOf}
+use Rattle.id_lookup.specs.Indexes.{IsIndexOf, IsShortestNameFrom}
 use Rattle.object_store.specs.declared.abbreviations.NamedId.{NamedId}
 use Rattle.object_store.specs.declared.abbreviations.Abbreviation.{Abbreviation}
 use Rattle.object_store.specs.declared.abbreviations.Abbreviation.TheVariants.{Missing, Ambiguous, Named}
@@ -37,6 +37,14 @@ abbrev pub IsAbbreviatedAs : ℕ → List (List ℕ) → List (List ℕ) → Abb
 IsAbbreviatedAs fewest ids found Missing = found ≡ []
 IsAbbreviatedAs fewest ids found Ambiguous = 1 < length found
 IsAbbreviatedAs fewest ids found (Named named) = (found ≡ id_digits named.id ∷ []) × IsNameIn fewest ids (id_digits named.id) named.name.digits
+
+-- so of an index: the only member that begins with the digits, with its name there
+abbrev pub IsAbbreviatedAt : ℕ → List (List ℕ) → List ℕ → Abbreviation → Type 0
+IsAbbreviatedAt fewest ids digits Missing = matches digits ids ≡ []
+IsAbbreviatedAt fewest ids digits Ambiguous = 1 < length (matches digits ids)
+IsAbbreviatedAt fewest ids digits (Named named) =
+    (matches digits ids ≡ id_digits named.id ∷ [])
+    × (at : ℕ) × (at < length ids) × (slice_index_or ids at [] ≡ id_digits named.id) × IsShortestNameFrom fewest ids at named.name.digits
 
 -- if there is one, it is of the kind
 abbrev pub IsAbbreviationOfKind : Kind → Abbreviation → Type 0

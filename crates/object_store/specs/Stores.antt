@@ -43,12 +43,6 @@ pub record IsReopened (MayHave MayHaveThen : StoreView → Type 0) (old new : St
   pub seen : IsSeen MayHave old new
   pub later : (view : StoreView) → MayHaveThen view → MayHave view
 
--- the store, the first byte of the names that were read, and these names and the loose ids
-pub record PartView : Type 0 where
-  pub store : StoreView
-  pub byte : ℕ
-  pub ids : List (List ℕ)
-
 -- What an object store holds. Each id is given by its digits.
 
 -- the bytes of the pack indexes are known, and each is one; and `whole` is the index of all their names and the loose ids

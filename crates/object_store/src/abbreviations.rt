@@ -1,19 +1,19 @@
 //! Abbreviations in a whole store.
 
-ghost use Rattle.std.specs.Prelude.{◌≡◌, ◌≢◌, ◌≤◌, ◌<◌, ◌/◌, ◌%◌, ◌↔◌, ℕ, [], ◌∷◌, All, Contains, List, IfErr, IfNone, IfOk, IfSome, IsTrue, MatchOption, Some, length, map, slice_get, slice_index_or, take};
+ghost use Rattle.std.specs.Prelude.{◌≡◌, ◌≤◌, ◌<◌, ◌/◌, ◌%◌, ℕ, [], ◌∷◌, All, List, IfErr, IfNone, IfOk, IfSome, Some, length, map, slice_get, slice_index_or, take};
 ghost use Rattle.gix_hash.specs.Digits.{first_byte_of};
 ghost use Rattle.gix_hash.specs.Kinds.{hex_len_of};
 ghost use Rattle.gix_hash.specs.Ids.{id_digits, id_kind};
 ghost use Rattle.id_lookup.specs.Indexes.{IsIndex, IsShortestNameFrom};
 ghost use Rattle.object_store.specs.Stores.{CanLookUp, IsFaultOfOne, IsListed, IsOfKind, IsStoreFault};
-ghost use Rattle.object_store.specs.Several.{AreAbbreviatedOfEach, AreNamed, IsAbbreviated};
+ghost use Rattle.object_store.specs.Several.{AreAbbreviatedOfEach, AreNamed, IsAbbreviated, IsAbbreviatedAt, IsAbbreviationOfKind};
 
 use crate::each::{LookUp, look_up_each};
 use crate::error::Error;
 use crate::parts::Parts;
 use crate::store::Store;
 use gix_hash::{Kind, ObjectId, Prefix};
-use id_lookup::IdIndex;
+use id_lookup::{Answer, IdIndex};
 use std::alloc::{AllocError, Allocator};
 
 /// An id with its abbreviation.
@@ -155,16 +155,16 @@ pub(crate) fn two_digits(kind: Kind, byte: u8) -> Prefix
     Prefix::from_packed_digits(kind, &[byte], 2).unwrap()
 }
 
-// The first digits of an id.
-pub(crate) fn front_of(id: &ObjectId, least: usize) -> Prefix
-    requires enough { 4 ≤ least }
-    requires fits { least ≤ hex_len_of (id_kind id.now) }
-    ensures kind { result.kind ≡ id_kind id.now }
-    ensures digits { result.digits ≡ take least (id_digits id.now) }
-    ensures len { length result.digits ≡ least }
-    ensures byte { first_byte_of result.digits ≡ first_byte_of (id_digits id.now) }
+// The first `least` digits of a prefix, or all if it has fewer.
+pub(crate) fn front_of(prefix: &Prefix, least: usize) -> Prefix
+    requires { 4 ≤ least }
+    ensures kind { result.kind ≡ prefix.now.kind }
+    ensures digits { result.digits ≡ take least prefix.now.digits }
 {
-    Prefix::new(id.as_oid(), least).unwrap()
+    if prefix.hex_len() <= least {
+        return *prefix;
+    }
+    Prefix::new(prefix.as_oid(), least).unwrap()
 }
 
 // Each id of an index with its abbreviation there.
@@ -209,31 +209,19 @@ fn name_at(ids: &[ObjectId], index: &IdIndex<'_>, at: usize, least: usize) -> Na
     }
 }
 
-// The abbreviation of an id in an index of its kind, if the index has it.
-pub(crate) fn name_in(ids: &[ObjectId], id: &ObjectId, least: usize) -> Option<Prefix>
-    requires index { IsIndex (id_kind id.now) (map id_digits ids.now) }
+// The abbreviation of the only id of an index of a prefix's kind that begins with the prefix.
+pub(crate) fn abbreviation_in(ids: &[ObjectId], prefix: &Prefix, least: usize) -> Abbreviation
+    requires index { IsIndex prefix.now.kind (map id_digits ids.now) }
+    requires kinds { All (λ id. id_kind id ≡ prefix.now.kind) ids.now }
     requires enough { 4 ≤ least }
-    requires fits { least ≤ hex_len_of (id_kind id.now) }
-    ensures name { MatchOption result ((k : ℕ) → k < length (map id_digits ids.now)
-        → slice_index_or (map id_digits ids.now) k [] ≢ id_digits id.now)
-        (λ name. (at : ℕ) × (at < length (map id_digits ids.now))
-        × (slice_index_or (map id_digits ids.now) at [] ≡ id_digits id.now)
-        × IsShortestNameFrom least (map id_digits ids.now) at name.digits) }
-    ensures kind { IfSome result (λ name. name.kind ≡ id_kind id.now) }
+    requires fits { least ≤ hex_len_of prefix.now.kind }
+    ensures name { IsAbbreviatedAt least (map id_digits ids.now) prefix.now.digits result }
+    ensures kind { IsAbbreviationOfKind prefix.now.kind result }
 {
-    let index = IdIndex::try_new(ids, id.kind()).unwrap();
-    for at in 0..index.len() {
-        if is_at(&index, at, id) {
-            return Some(index.abbreviate_from(at, least));
-        }
+    let index = IdIndex::try_new(ids, prefix.as_oid().kind()).unwrap();
+    match index.find(prefix) {
+        Answer::None => Abbreviation::Missing,
+        Answer::One(at) => Abbreviation::Named(name_at(ids, &index, at, least)),
+        Answer::Many(_) => Abbreviation::Ambiguous,
     }
-    None
-}
-
-// Whether the member at a position of an index is the id.
-fn is_at(index: &IdIndex<'_>, at: usize, id: &ObjectId) -> bool
-    requires { at < length index.now.ids }
-    ensures { IsTrue result ↔ (slice_index_or index.now.ids at [] ≡ id_digits id.now) }
-{
-    id.eq_oid(index.get(at).as_oid())
 }

@@ -16,7 +16,6 @@ pub mod laws;
 mod locations;
 mod loose;
 mod matches;
-mod part;
 mod parts;
 mod store;
 

@@ -5,7 +5,7 @@ ghost use Rattle.gix_hash.specs.Digits.{first_byte_of};
 ghost use Rattle.gix_hash.specs.Kinds.{hex_len_of};
 ghost use Rattle.gix_hash.specs.Ids.{id_digits, id_kind};
 ghost use Rattle.id_lookup.specs.Runs.{matches};
-ghost use Rattle.object_store.specs.Stores.{AreMatches, AreMatchesOfEach, CanLookUp, IsFaultOfOne, IsListed, IsStoreFault};
+ghost use Rattle.object_store.specs.Stores.{AreBuckets, AreMatches, AreMatchesOfEach, CanLookUp, IsFaultOfOne, IsListed, IsStoreFault};
 ghost use Rattle.pack_index.specs.Lazy.{BucketNames};
 
 use crate::each::{LookUp, look_up_each};
@@ -13,6 +13,7 @@ use crate::error::Error;
 use crate::parts::Parts;
 use crate::store::Store;
 use gix_hash::{Kind, ObjectId, Prefix};
+use id_lookup::sort_unique;
 use pack_index::Bucket;
 use std::alloc::{AllocError, Allocator};
 
@@ -106,8 +107,32 @@ impl<S: Store, A: Allocator + Copy> LookUp<S, A> for Matching<A> {
     }
 }
 
+// The ids that begin with a prefix, by the buckets of its first byte.
+pub(crate) fn matches_in<S: Store, A: Allocator + Copy>(
+    alloc: A,
+    store: &S,
+    buckets: &[Bucket<A>],
+    prefix: &Prefix,
+) -> Result<Vec<ObjectId, A>, AllocError>
+    requires buckets { AreBuckets (S.view store.now) (first_byte_of prefix.now.digits)
+        buckets.now }
+    requires kind { prefix.now.kind ≡ (S.view store.now).kind }
+    ensures { IfOk result (λ ids. AreMatches (S.view store.now) prefix.now.digits ids.items) }
+{
+    // The contracts of these calls say how many digits the prefix has at most, and that the pack
+    // indexes have the store's kind.
+    let _hex_len = prefix.hex_len();
+    let _packs = store.indexes();
+    let kind = store.object_hash();
+    let mut ids = Vec::new(alloc);
+    push_packed(&mut ids, buckets, kind, prefix)?;
+    push_all(&mut ids, store.loose().beginning_with(prefix), kind)?;
+    sort_unique(&mut ids);
+    Ok(ids)
+}
+
 // Adds the ids of buckets of a kind that begin with a prefix.
-pub(crate) fn push_packed<A: Allocator>(
+fn push_packed<A: Allocator>(
     ids: &mut Vec<ObjectId, A>,
     buckets: &[Bucket<A>],
     kind: Kind,
@@ -128,7 +153,7 @@ pub(crate) fn push_packed<A: Allocator>(
 }
 
 // Adds ids of a kind.
-pub(crate) fn push_all<A: Allocator>(
+fn push_all<A: Allocator>(
     ids: &mut Vec<ObjectId, A>,
     more: &[ObjectId],
     kind: Kind,

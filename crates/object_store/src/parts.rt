@@ -6,14 +6,15 @@ ghost use Rattle.gix_hash.specs.Digits.{first_byte_of};
 ghost use Rattle.gix_hash.specs.Kinds.{hex_len_of};
 ghost use Rattle.gix_hash.specs.Ids.{id_digits, id_kind};
 ghost use Rattle.object_store.specs.Several.{IsAbbreviated};
-ghost use Rattle.object_store.specs.Stores.{AreLocations, AreMatches, CanLookUp, HasRead, HaveBuckets, IsListed, IsLocateFault, IsNameOf, IsStoreFault, PartView};
+ghost use Rattle.object_store.specs.Stores.{AreBuckets, AreLocations, AreMatches, CanLookUp, HaveBuckets, IsListed, IsLocateFault, IsNameOf, IsStoreFault};
 
-use crate::abbreviations::Abbreviation;
+use crate::abbreviations::{Abbreviation, abbreviation_in, front_of};
 use crate::error::Error;
-use crate::locations::Location;
-use crate::part::Part;
+use crate::locations::{Location, locate_in, push};
+use crate::matches::matches_in;
 use crate::store::Store;
 use gix_hash::{ObjectId, Prefix};
+use pack_index::Bucket;
 use std::alloc::Allocator;
 use std::marker::Model;
 
@@ -32,20 +33,27 @@ pub struct Parts<'s, S: Store, A: Allocator> {
     alloc: A,
     store: &'s S,
     // The last that was read.
-    part: Option<Part<'s, S, A>>,
+    part: Option<Part<A>>,
+}
+
+// The names with one first byte.
+#[derive(Drop)]
+struct Part<A: Allocator> {
+    byte: u8,
+    // Those of each pack index.
+    buckets: Vec<Bucket<A>, A>,
 }
 
 impl<'s, S: Store, A: Allocator> Model for Parts<'s, S, A> {
-    ghost use Rattle.std.specs.Prelude.{◌≡◌};
     ghost use Rattle.std.specs.Option.{ForSome};
-    ghost use Rattle.object_store.specs.Stores.{PartView, StoreView};
+    ghost use Rattle.object_store.specs.Stores.{AreBuckets, StoreView};
 
     ghost Value = { StoreView };
 
     ghost view = { λ parts. S.view parts.store.now };
 
-    ghost invariant = { λ parts. ForSome parts.part (λ (part : PartView).
-        part.store ≡ S.view parts.store.now) };
+    ghost invariant = { λ parts. ForSome parts.part (λ part.
+        AreBuckets (S.view parts.store.now) part.byte part.buckets.items) };
 }
 
 impl<'s, S: Store, A: Allocator + Copy> Parts<'s, S, A> {
@@ -74,7 +82,7 @@ impl<'s, S: Store, A: Allocator + Copy> Parts<'s, S, A> {
             self.part.take(),
             prefix.first_byte(),
         )?;
-        let ids = part.lookup_prefix(self.alloc, prefix);
+        let ids = matches_in(self.alloc, self.store, &part.buckets, prefix);
         self.part = Some(part);
         Ok(ids?)
     }
@@ -91,10 +99,12 @@ impl<'s, S: Store, A: Allocator + Copy> Parts<'s, S, A> {
         ensures name { IfOk result (IsNameOf least self.old (id_digits id.now)) }
         ensures err { IfErr result (IsStoreFault self.old (first_byte_of (id_digits id.now))) }
     {
-        let part = part_of(self.alloc, self.store, self.part.take(), id.first_byte())?;
-        let name = part.abbreviate(self.alloc, id, least);
-        self.part = Some(part);
-        Ok(name?)
+        // The contract of this call says how many digits the id has.
+        let _kind = id.kind();
+        match self.abbreviate_prefix(&Prefix::from(*id), least)? {
+            Abbreviation::Named(named) => Ok(Some(named.name)),
+            Abbreviation::Missing | Abbreviation::Ambiguous => Ok(None),
+        }
     }
 
     /// The abbreviation of the only id in the store that begins with a prefix, of at least `least`
@@ -112,15 +122,8 @@ impl<'s, S: Store, A: Allocator + Copy> Parts<'s, S, A> {
         ensures name { IfOk result (IsAbbreviated least self.old prefix.now.digits) }
         ensures err { IfErr result (IsStoreFault self.old (first_byte_of prefix.now.digits)) }
     {
-        let part = part_of(
-            self.alloc,
-            self.store,
-            self.part.take(),
-            prefix.first_byte(),
-        )?;
-        let abbreviation = part.abbreviate_prefix(self.alloc, prefix, least);
-        self.part = Some(part);
-        Ok(abbreviation?)
+        let ids = self.lookup_prefix(&front_of(prefix, least))?;
+        Ok(abbreviation_in(&ids, prefix, least))
     }
 
     /// All locations of an object: one in each pack whose index has its id, in the order of
@@ -140,29 +143,53 @@ impl<'s, S: Store, A: Allocator + Copy> Parts<'s, S, A> {
             × IsLocateFault self.old (id_digits id.now) e)) }
     {
         let part = part_of(self.alloc, self.store, self.part.take(), id.first_byte())?;
-        let locations = part.locate(self.alloc, id);
+        let locations = locate_in(self.alloc, self.store, &part.buckets, id);
         self.part = Some(part);
         locations
     }
 }
 
-// The part of a store with a first byte: the last that was read, if it has it.
-fn part_of<'s, S: Store, A: Allocator + Copy>(
+// The names of a store with a first byte: the last that were read, if they have it.
+fn part_of<S: Store, A: Allocator + Copy>(
     alloc: A,
-    store: &'s S,
-    last: Option<Part<'s, S, A>>,
+    store: &S,
+    last: Option<Part<A>>,
     byte: u8,
-) -> Result<Part<'s, S, A>, Error>
-    requires { ForSome last (λ (part : PartView). part.store ≡ S.view store.now) }
-    ensures store { IfOk result (λ part. part.store ≡ S.view store.now) }
+) -> Result<Part<A>, Error>
+    requires { ForSome last (λ part.
+        AreBuckets (S.view store.now) part.byte part.buckets.items) }
     ensures byte { IfOk result (λ part. part.byte ≡ byte) }
-    ensures read { IfOk result (λ part. HasRead (S.view store.now) byte part.ids) }
+    ensures read { IfOk result (λ part. AreBuckets (S.view store.now) byte part.buckets.items) }
     ensures err { IfErr result (IsStoreFault (S.view store.now) byte) }
 {
     if let Some(part) = last {
-        if part.byte() == byte {
+        if part.byte == byte {
             return Ok(part);
         }
     }
-    Part::read(alloc, store, byte)
+    Ok(Part {
+        byte,
+        buckets: read_buckets(alloc, store, byte)?,
+    })
+}
+
+// Reads the names of a store with a first byte. The error is that of the first pack index that
+// cannot be read, is damaged where it is read, or for whose names there is no memory.
+fn read_buckets<S: Store, A: Allocator + Copy>(
+    alloc: A,
+    store: &S,
+    byte: u8,
+) -> Result<Vec<Bucket<A>, A>, Error>
+    ensures read { IfOk result (λ buckets. AreBuckets (S.view store.now) byte buckets.items) }
+    ensures err { IfErr result (IsStoreFault (S.view store.now) byte) }
+{
+    let mut buckets = Vec::new(alloc);
+    let packs = store.indexes();
+    for at in 0..packs.len() {
+        match packs[at].bucket(alloc, byte) {
+            Ok(bucket) => push(&mut buckets, bucket)?,
+            Err(error) => return Err(Error::Index { at, error }),
+        }
+    }
+    Ok(buckets)
 }

@@ -3,8 +3,9 @@ use Rattle.std.specs.List.{All}
 use Rattle.std.specs.Prelude.{slice_set}
 use Rattle.std.proofs.lemmas.List.{length-set, take_all}
 use Rattle.std.proofs.lemmas.List.Elements.{All-more, All-weaker}
+use Rattle.std.proofs.lemmas.Result.{err_from_is_err_and}
 use Rattle.object_store.specs.Stores.{StoreView}
-use Rattle.object_store.proofs.FoundAt.{IsFoundAt, found_here, found_still}
+use Rattle.object_store.proofs.FoundAt.{IsFoundAt, found_here, found_still, of_one}
 use Rattle.object_store.proofs.Places.{at_each_place}
 use Rattle.object_store.proofs.each.look_up_each.Goals as goal
 
@@ -41,3 +42,14 @@ returns-clause-found g c =
       each = λ k prefix one low.
           at_each_place (length c.args.prefixes.now) places (IsFoundAt Finds c.args.prefixes.now c.loop-place.found.items) c.in_ok-places.ensures all k low prefix one;
     }
+
+pub returns-in_err-one-clause-err : goal.returns-in_err-one-clause-err
+returns-in_err-one-clause-err g c =
+    let places = c.in_ok-places.places.items in
+    let prefix = c.index-prefixes-at.result in
+    let inside : c.loop-place.place < length places = omega arith in
+    let low : c.index.result.now.1 < length c.args.prefixes.now =
+    subst (λ (p : ℕ × ℕ). p.1 < length c.args.prefixes.now) (sym c.index.ensures) (c.in_ok-places.ensures.in_range c.loop-place.place c.index.result.now inside) in
+    let p = err_from_is_err_and c.from_residual-in_err-one.result c.from_residual-in_err-one.ensures.1 in
+    rw (p.1, p.2) (of_one (g.L.LookUp.fails c.args.look_up.now (g.S.Store.view c.args.store.now)) c.args.prefixes.now prefix _ (c.index.result.now.1, low, sym c.index-prefixes-at.is)
+    (rw (← c.loop-place.invariant.0) c.in_err-one.ensures.err))

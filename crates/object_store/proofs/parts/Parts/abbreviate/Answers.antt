@@ -1,21 +1,34 @@
-use Rattle.std.proofs.Common.{◌≡◌, ◌∙◌, ap, subst}
-use Rattle.std.specs.List.{Contains}
-use Rattle.std.specs.Prelude.{MatchOption}
-use Rattle.gix_hash.specs.Digits.{first_byte_of}
+use Rattle.std.proofs.Common.{◌≡◌, ◌∙◌, None, inl, inr, ap, length, subst}
 use Rattle.gix_hash.specs.Ids.{id_digits}
+use Rattle.gix_hash.specs.Kinds.{hex_len_of}
 use Rattle.gix_hash.specs.Prefixes.{KindDigits}
-use Rattle.gix_hash.specs.declared.Kind.{Kind}
-use Rattle.object_store.specs.Stores.{HasRead, IsNameIn, StoreView}
+use Rattle.object_store.specs.Several.{IsAbbreviated}
+use Rattle.object_store.specs.Stores.{IsNameOf}
+use Rattle.object_store.proofs.Abbreviated.{name_ambiguous, name_missing, name_named}
+use Rattle.object_store.proofs.parts.Parts.abbreviate.Given.{Over}
+use Rattle.object_store.proofs.parts.Parts.abbreviate.Goals.{In_ok-named}
 use Rattle.object_store.proofs.parts.Parts.abbreviate.Goals as goal
 
-pub returns-clause-name : goal.returns-clause-name
-returns-clause-name g c =
-    let part = c.in_ok-part.part in
+module _ (g : Over) (c : In_ok-named g) where
+  long : length (id_digits c.args.id.now) ≡ hex_len_of c.args.self.now.kind
+  long = c.kind-kind.ensures.len ∙ ap hex_len_of c.requires.kind
+
+  name : IsAbbreviated c.args.least c.args.self.now (id_digits c.args.id.now) c.in_ok-named.field-0
+  name = subst (λ (p : KindDigits). IsAbbreviated c.args.least c.args.self.now p.digits c.in_ok-named.field-0) c.from.ensures c.in_ok-named.ensures.name
+
+pub returns-in-Named-clause-name : goal.returns-in-Named-clause-name
+returns-in-Named-clause-name g c =
+    let here = (goal.at.returns-in-Named-clause-name g c).In_ok-named in
     let id = id_digits c.args.id.now in
-    record {
-      read = part.ids;
-      has_read = subst (λ (v : StoreView). HasRead v (first_byte_of id) part.ids) c.self.view_is
-          (subst (λ b. HasRead (g.S.Store.view c.self.inside.store.now) b part.ids) c.first_byte.ensures c.in_ok-part.ensures.read);
-      is = subst (λ (k : Kind). MatchOption c.in_ok-name.field-0 (¬ Contains part.ids id) (λ (n : KindDigits). IsNameIn c.args.least part.ids id n.digits × (n.kind ≡ k)))
-          (ap (λ (v : StoreView). v.kind) (c.in_ok-part.ensures.store ∙ c.self.view_is)) c.in_ok-name.ensures;
-    }
+    name_named c.args.least c.args.self.now id (long g here) c.in-Named.named (subst (IsAbbreviated c.args.least c.args.self.now id) c.in-Named.is (name g here))
+
+pub returns-in-Missing : goal.returns-in-Missing
+returns-in-Missing g c =
+    let here = (goal.at.returns-in-Missing g c).In_ok-named in
+    let view = c.args.self.now in
+    let id = id_digits c.args.id.now in
+    let none : IsNameOf c.args.least view id None = elim c.in-Missing.is [
+      | inl missing ↦ name_missing c.args.least view id (long g here) (subst (IsAbbreviated c.args.least view id) missing (name g here))
+      | inr ambiguous ↦ name_ambiguous c.args.least view id (long g here) (subst (IsAbbreviated c.args.least view id) ambiguous (name g here))
+    ] in
+    record { store = c.in_ok-named.ensures.store; name = none; err = tt }

@@ -1,4 +1,4 @@
-use Rattle.std.proofs.Common.{◌≡◌, ◌∙◌, ◌⊎◌, inr, subst}
+use Rattle.std.proofs.Common.{◌≡◌, ◌⊎◌, inr, subst}
 use Rattle.gix_hash.specs.Digits.{first_byte_of}
 use Rattle.gix_hash.specs.Ids.{id_digits}
 use Rattle.object_store.specs.Stores.{HaveBuckets, IsLocateFault, IsStoreFault, StoreView}
@@ -7,11 +7,11 @@ use Rattle.object_store.proofs.parts.Parts.locate.Goals as goal
 
 pub returns-clause-err : goal.returns-clause-err
 returns-clause-err g c =
+    let store = g.S.Store.view c.self.inside.store.now in
     let view = c.args.self.now in
     let id = id_digits c.args.id.now in
-    let same : c.in_ok-part.part.store ≡ view = c.in_ok-part.ensures.store ∙ c.self.view_is in
+    let same : store ≡ view = c.self.view_is in
     let sound : HaveBuckets view (first_byte_of id) =
-    subst (λ (v : StoreView). HaveBuckets v (first_byte_of id)) c.self.view_is
-    (subst (HaveBuckets (g.S.Store.view c.self.inside.store.now)) c.first_byte.ensures c.in_ok-part.ensures.read.are_read.sound) in
-    fault_by (IsLocateFault c.in_ok-part.part.store id) (λ e. IsStoreFault view (first_byte_of id) e ⊎ (HaveBuckets view (first_byte_of id) × IsLocateFault view id e))
-    (λ e fault. inr (sound, subst (λ (v : StoreView). IsLocateFault v id e) same fault)) c.locate-locations.result c.locate-locations.ensures.err
+    subst (λ (v : StoreView). HaveBuckets v (first_byte_of id)) same (subst (HaveBuckets store) c.first_byte.ensures c.in_ok-part.ensures.read.read.sound) in
+    fault_by (IsLocateFault store id) (λ e. IsStoreFault view (first_byte_of id) e ⊎ (HaveBuckets view (first_byte_of id) × IsLocateFault view id e))
+    (λ e fault. inr (sound, subst (λ (v : StoreView). IsLocateFault v id e) same fault)) c.locate_in-locations.result c.locate_in-locations.ensures.err

@@ -1,8 +1,8 @@
-use Rattle.std.proofs.Common.{◌≡◌, ap, length, arith, map, refl}
-use Rattle.pack_index.specs.Lazy.{BucketNames, HasBucket, IsBucketFault}
+use Rattle.std.proofs.Common.{◌≡◌, ap, length, arith}
+use Rattle.pack_index.specs.Lazy.{HasBucket, IsBucketFault}
 use Rattle.object_store.proofs.Held.{fault_at, pack_at}
 use Rattle.object_store.proofs.PartNames.{are_read, have_first, one_more}
-use Rattle.object_store.proofs.part.Part.read.Goals as goal
+use Rattle.object_store.proofs.parts.read_buckets.Goals as goal
 
 pub loop-at-preserved : goal.loop-at-preserved
 loop-at-preserved g c =
@@ -19,16 +19,6 @@ returns-in-Err-clause-err g c =
 
 pub returns-clause-read : goal.returns-clause-read
 returns-clause-read g c =
-    let view = g.S.Store.view c.args.store.now in
-    record {
-      names = map (λ (b : BucketNames). b.names) c.loop-at.buckets.items;
-      are_read = are_read view c.args.byte c.loop-at.buckets.items (omega arith) c.indexes-packs.ensures.kinds
-          (omega (arith, c.loop-at.invariant.0, ap length c.indexes-packs.ensures.value, c.loop-at.auto.at-end, c.loop-at-test.false)) c.loop-at.invariant.1;
-      all = refl;
-    }
-
-pub invariant_of-result : goal.invariant_of-result
-invariant_of-result g c =
     let view = g.S.Store.view c.args.store.now in
     let long : length c.loop-at.buckets.items ≡ length view.packs =
     omega (arith, c.loop-at.invariant.0, ap length c.indexes-packs.ensures.value, c.loop-at.auto.at-end, c.loop-at-test.false) in

@@ -1,0 +1,135 @@
+-- The abbreviation of the only id that begins with a prefix, which is decided among those that begin with its first digits.
+use Rattle.std.proofs.Common.{◌≡◌, ℕ, zero, suc, ◌+◌, ◌-◌, ◌<◌, ◌≤◌, min, Bool, true, nat_eq, None, Some, List, [], ◌∷◌, ◌++◌, filter, length, get_or, map, take, drop, refl, sym, ap, ◌∙◌, subst, arith, append-nil, append_assoc, take-append-drop}
+use Rattle.std.specs.List.{Contains, starts_with}
+use Rattle.std.proofs.lemmas.List.{length-append, length-take, nil_from_length}
+use Rattle.std.proofs.lemmas.List.Elements.{All-contains, All-from_all_within, Contains-get_or}
+use Rattle.gix_hash.specs.Digits.{first_byte_of}
+use Rattle.gix_hash.specs.Ids.{id_digits}
+use Rattle.gix_hash.specs.Kinds.{hex_len_of}
+use Rattle.gix_hash.specs.Prefixes.{KindDigits}
+use Rattle.gix_hash.specs.declared.Kind.{Kind}
+use Rattle.gix_hash.specs.declared.ObjectId.{ObjectId}
+use Rattle.id_lookup.specs.Runs.{IsRun, matches}
+use Rattle.id_lookup.specs.Indexes.{IsIndexOf}
+use Rattle.id_lookup.proofs.Beginnings.{first_byte_of-begins}
+use Rattle.id_lookup.proofs.Filters.{contains_had, contains_kept, filter_within, kept_passes}
+use Rattle.id_lookup.proofs.SameMembers.{index-filter, one_position}
+use Rattle.id_lookup.proofs.Spelled.{starts_with-BeginsWith}
+use Rattle.object_store.specs.Several.{IsAbbreviated, IsAbbreviatedAs, IsAbbreviatedAt, IsAbbreviationOfKind}
+use Rattle.object_store.specs.Stores.{AreMatches, HasRead, IsNameIn, IsNameOf, StoreView}
+use Rattle.object_store.specs.declared.abbreviations.Abbreviation.{Abbreviation}
+use Rattle.object_store.specs.declared.abbreviations.Abbreviation.TheVariants.{Ambiguous, Missing, Named}
+use Rattle.object_store.specs.declared.abbreviations.NamedId.{NamedId}
+use Rattle.object_store.proofs.Named.{begins_itself, name_in_read}
+
+-- the only id that begins with a prefix
+pub only_one : (prefix : KindDigits) (ids : List (List ℕ)) (at : ℕ) → IsRun prefix ids (record { start = at; end = at + 1 }) → matches prefix.digits ids ≡ get_or ids at [] ∷ []
+only_one prefix ids at is =
+    let one : at + 1 - at ≡ 1 = omega arith in
+    sym is.found ∙ ap (λ n. take n (drop at ids)) one ∙ first at ids (omega (arith, is.in_range))
+  where
+    first : (at : ℕ) (ids : List (List ℕ)) → at < length ids → take 1 (drop at ids) ≡ get_or ids at [] ∷ []
+    first at [] low = absurd (omega (arith, low))
+    first zero (id ∷ ids) low = refl
+    first (suc at) (id ∷ ids) low = first at ids (omega (arith, low))
+
+-- what passes of an index is the index of what passes
+index_of_passing : (kind : Kind) (p : List ℕ → Bool) (all whole : List (List ℕ)) → IsIndexOf kind all whole → IsIndexOf kind (filter p all) (filter p whole)
+index_of_passing kind p all whole is = record {
+  index = index-filter kind p whole is.index;
+  members = λ id. (
+    λ c. contains_kept p all id ((is.members id).0 (contains_had p whole id c)) (kept_passes p whole id c),
+    λ c. contains_kept p whole id ((is.members id).1 (contains_had p all id c)) (kept_passes p all id c),
+  );
+}
+
+-- the first digits of a prefix have its first byte
+module _ (fewest : ℕ) (digits front : List ℕ) (is : front ≡ take fewest digits) where
+  size : length front ≡ min fewest (length digits)
+  size = ap length is ∙ length-take fewest digits
+
+  begins_so : starts_with nat_eq digits front ≡ true
+  begins_so = subst (λ (ds : List ℕ). starts_with nat_eq digits ds ≡ true) (sym is) (begins_itself digits fewest)
+
+  pub front_byte : 4 ≤ fewest → 2 ≤ length digits → first_byte_of front ≡ first_byte_of digits
+  front_byte enough two = sym (first_byte_of-begins digits front (omega (arith, size, enough, two)) begins_so)
+
+-- so it is decided by what begins with the first digits
+pub abbreviated : (fewest : ℕ) (view : StoreView) (digits front : List ℕ) (ids : List ObjectId) (abbreviation : Abbreviation) → front ≡ take fewest digits → 4 ≤ fewest
+    → 2 ≤ length digits → AreMatches view front ids → IsAbbreviatedAt fewest (map id_digits ids) digits abbreviation → IsAbbreviationOfKind view.kind abbreviation
+    → IsAbbreviated fewest view digits abbreviation
+abbreviated fewest view digits front ids abbreviation is enough two are at kind = record {
+  read = are.read;
+  has_read = subst (λ b. HasRead view b are.read) (front_byte fewest digits front is enough two) are.has_read;
+  found = matches digits (map id_digits ids);
+  index = subst (λ (all : List (List ℕ)). IsIndexOf view.kind all (matches digits (map id_digits ids)))
+      (filter_within (λ id. starts_with nat_eq id front) (λ id. starts_with nat_eq id digits) begins are.read)
+      (index_of_passing view.kind (λ id. starts_with nat_eq id digits) (matches front are.read) (map id_digits ids) are.index);
+  name = by abbreviation at;
+  kind = kind;
+}
+  where
+    begins : (id : List ℕ) → starts_with nat_eq id digits ≡ true → starts_with nat_eq id front ≡ true
+    begins id all =
+        let split = (starts_with-BeginsWith id digits).0 all in
+        (starts_with-BeginsWith id front).1 (
+          drop fewest digits ++ split.0,
+          split.1 ∙ ap (λ (ds : List ℕ). ds ++ split.0) (sym (take-append-drop fewest digits)) ∙ append_assoc (take fewest digits) (drop fewest digits) split.0
+              ∙ ap (λ (ds : List ℕ). ds ++ (drop fewest digits ++ split.0)) (sym is),
+        )
+
+    by : (a : Abbreviation) → IsAbbreviatedAt fewest (map id_digits ids) digits a → IsAbbreviatedAs fewest are.read (matches digits (map id_digits ids)) a
+    by Missing none = none
+    by Ambiguous many = many
+    by (Named n) found = (
+      found.0,
+      name_in_read view.kind fewest are.read (map id_digits ids) front are.index (omega (arith, size fewest digits front is)) found.1 (id_digits n.id) n.name.digits found.2 found.3 found.4,
+    )
+
+-- the name of an id, as the only one that begins with all of its digits
+module _ (fewest : ℕ) (view : StoreView) (id : List ℕ) (long : length id ≡ hex_len_of view.kind) where
+  abbrev IsLong : List ℕ → Type 0
+  IsLong other = length other ≡ hex_len_of view.kind
+
+  itself : starts_with nat_eq id id ≡ true
+  itself = (starts_with-BeginsWith id id).1 ([], sym (append-nil id))
+
+  module _ (read found : List (List ℕ)) (index : IsIndexOf view.kind (matches id read) found) where
+    only : (other : List ℕ) → Contains found other → other ≡ id
+    only other has =
+        let begins = (starts_with-BeginsWith other id).0 (kept_passes (λ x. starts_with nat_eq x id) read other ((index.members other).0 has)) in
+        let here : IsLong other = All-contains IsLong found other (All-from_all_within IsLong found index.index.kinds) has in
+        let none : begins.0 ≡ [] = nil_from_length begins.0 (omega (arith, ap length begins.1, length-append id begins.0, here, long)) in
+        begins.1 ∙ ap (λ (rest : List ℕ). id ++ rest) none ∙ append-nil id
+
+    is_found : Contains read id → Contains found id
+    is_found has = (index.members id).1 (contains_kept (λ x. starts_with nat_eq x id) read id has itself)
+
+    none_found : found ≡ [] → ¬ Contains read id
+    none_found none has = let there = is_found has in omega (arith, there.1, ap length none)
+
+    not_many : ¬ (1 < length found)
+    not_many many =
+        let first = only (get_or found 0 []) (Contains-get_or found 0 [] (omega (arith, many))) in
+        let second = only (get_or found 1 []) (Contains-get_or found 1 [] many) in
+        let same = one_position view.kind found index.index 0 1 (omega (arith, many)) many (first ∙ sym second) in
+        omega (arith, same)
+
+    is_only : (other : List ℕ) → found ≡ other ∷ [] → other ≡ id
+    is_only other one = only other (subst (λ (xs : List (List ℕ)). Contains xs other) (sym one) (0, omega arith, refl))
+
+  pub name_missing : IsAbbreviated fewest view id Missing → IsNameOf fewest view id None
+  name_missing is = record { read = is.read; has_read = is.has_read; is = none_found is.read is.found is.index is.name }
+
+  pub name_ambiguous : IsAbbreviated fewest view id Ambiguous → IsNameOf fewest view id None
+  name_ambiguous is = absurd (not_many is.read is.found is.index is.name)
+
+  pub name_named : (n : NamedId) → IsAbbreviated fewest view id (Named n) → IsNameOf fewest view id (Some n.name)
+  name_named n is = record {
+    read = is.read;
+    has_read = is.has_read;
+    is = (
+      subst (λ (x : List ℕ). IsNameIn fewest is.read x n.name.digits) (is_only is.read is.found is.index (id_digits n.id) is.name.0) is.name.1,
+      is.kind.1,
+    );
+  }
