@@ -38,8 +38,6 @@ pub const TREE_256: &str = "6ef19b41225c5369f1c104d45d8d85efa9b057b53b14b4b9b939
 // The empty blob of SHA-1 in the letters `z` to `k`.
 const BLOB_LETTERS: &str = "ltqmlxqooxmymtvwvoroxqplssupmrnxlvrnuwqy";
 
-const ZEROS_65: &str = "00000000000000000000000000000000000000000000000000000000000000000";
-
 const BLOB_BYTES: [u8; 20] = [
     0xe6, 0x9d, 0xe2, 0x9b, 0xb2, 0xd1, 0xd6, 0x43, 0x4b, 0x8b, 0x29, 0xae, 0x77, 0x5a, 0xd8, 0xc2,
     0xe4, 0x8c, 0x53, 0x91,
