@@ -96,7 +96,7 @@ impl<A: Allocator> Bucket<A> {
     /// as many digits as the ids.
     ///
     /// If the ids are sorted, as in each pack index, they are found by binary search. If not, each
-    /// of them is compared.
+    /// of them is compared. Under an error some of them may have been added.
     pub fn push_matches<B: Allocator>(
         &self,
         prefix: &Prefix,
