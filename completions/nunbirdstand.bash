@@ -17,12 +17,12 @@ _nunbirdstand_name() {
         return
     fi
     [[ $command != help ]] || { ((COMP_CWORD > 2)) || echo COMMAND; return; }
-    # Usage: packtool show [OPTIONS] <INDEX>..., and the lines of options: --objects <DIR>  The ..
+    # Usage: packtool show [--kind KIND] INDEX..., and the lines of options: --objects <DIR>  The ..
     help=$(_nunbirdstand_help "$program" "$command")
     if [[ $previous == -* ]] && grep -q -- "^ .*$previous <" <<< "$help"; then
         sed -nE "s/^ .*$previous <([A-Z]+)>.*/\1/p" <<< "$help"
     else
-        sed -nE 's/^Usage: .* <([A-Z]+)>(\.\.\.)?$/\1/p' <<< "$help"
+        sed -nE 's/^Usage: .* ([A-Z]+)(\.\.\.)?$/\1/p' <<< "$help"
     fi
 }
 
@@ -41,7 +41,8 @@ _nunbirdstand_words() {
         COMMAND) COMPREPLY=($(compgen -W "$(_nunbirdstand_help "$program" | _nunbirdstand_listed | grep -v ^-)" -- "$word")) ;;
         KIND) COMPREPLY=($(compgen -W $'sha1\nsha256' -- "$word")) ;;
         DIR) compopt -o filenames 2> /dev/null; COMPREPLY=($(compgen -d -- "$word")) ;;
-        FILE | INDEX | PATH) compopt -o filenames 2> /dev/null; COMPREPLY=($(compgen -f -- "$word")) ;;
+        INDEX) compopt -o filenames 2> /dev/null; COMPREPLY=($(compgen -d -- "$word"; compgen -f -X '!*.idx' -- "$word")) ;;
+        FILE | PATH) compopt -o filenames 2> /dev/null; COMPREPLY=($(compgen -f -- "$word")) ;;
     esac
 }
 complete -F _nunbirdstand_words oidtool packtool

@@ -24,10 +24,10 @@ function __nunbirdstand_name
         set -q words[3]; or echo COMMAND
         return
     end
-    # Usage: packtool show [OPTIONS] <INDEX>..., and the lines of options: --objects <DIR>  The ..
+    # Usage: packtool show [--kind KIND] INDEX..., and the lines of options: --objects <DIR>  The ..
     set -l help (__nunbirdstand_help $words[1..2])
     string match -rg -- "^ .*$words[-1] <([A-Z]+)>" $help
-    or string match -rg '^Usage: .* <([A-Z]+)>(?:\.\.\.)?$' $help
+    or string match -rg '^Usage: .* ([A-Z]+)(?:\.\.\.)?$' $help
 end
 
 function __nunbirdstand_words
@@ -45,7 +45,9 @@ function __nunbirdstand_words
                 printf '%s\n' sha1 sha256
             case DIR
                 __fish_complete_directories $word
-            case FILE INDEX PATH
+            case INDEX
+                __fish_complete_path $word | string match -r '.*(?:/|\.idx)(?:\t.*)?$'
+            case FILE PATH
                 __fish_complete_path $word
         end
     end

@@ -80,11 +80,13 @@ enum Action {
     Files(FileCommand),
 }
 
-// A row of the table of commands: a command, its name, what its help says of it, and its arguments.
+// A row of the table of commands: a command, its name, how it is called, what its help says of it,
+// and its arguments.
 #[derive(Clone, Copy)]
 struct Row {
     action: Action,
     name: &'static str,
+    usage: &'static str,
     about: &'static str,
     arguments: &'static [Argument],
 }
@@ -106,6 +108,7 @@ const COMMANDS: [Row; 5] = [
     Row {
         action: Action::Store(StoreCommand::Find),
         name: "find",
+        usage: "packtool find [--objects DIR] [--kind KIND] PREFIX\n       packtool find --stdin [--one] [--objects DIR] [--kind KIND]",
         about: "Prints each id of the store that begins with a prefix",
         arguments: &[
             Argument::Prefix,
@@ -118,6 +121,7 @@ const COMMANDS: [Row; 5] = [
     Row {
         action: Action::Store(StoreCommand::Locate),
         name: "where",
+        usage: "packtool where [--objects DIR] [--kind KIND] PREFIX\n       packtool where --stdin [--one] [--objects DIR] [--kind KIND]",
         about: "Prints each pack and offset, or loose file, of each id that begins with a prefix",
         arguments: &[
             Argument::Prefix,
@@ -130,6 +134,7 @@ const COMMANDS: [Row; 5] = [
     Row {
         action: Action::Store(StoreCommand::Names),
         name: "names",
+        usage: "packtool names [--stdin] [--least N] [--objects DIR] [--kind KIND]",
         about: "Prints each id of the store after its shortest unique prefix",
         arguments: &[
             Argument::Lines,
@@ -141,12 +146,14 @@ const COMMANDS: [Row; 5] = [
     Row {
         action: Action::Files(FileCommand::Show),
         name: "show",
+        usage: "packtool show [--kind KIND] INDEX...",
         about: "Prints offset, id and CRC of each object of pack indexes, as git show-index does",
         arguments: &[Argument::Indexes, Argument::Kind],
     },
     Row {
         action: Action::Files(FileCommand::Check),
         name: "check",
+        usage: "packtool check [--kind KIND] FILE...",
         about: "Prints whether pack indexes are right, and whether other files end with their digest",
         arguments: &[Argument::Files, Argument::Kind],
     },
@@ -183,6 +190,7 @@ pub fn command<'a>(alloc: Global) -> Result<Command<'a>, AllocError> {
 fn subcommand<'a>(alloc: Global, row: &Row) -> Result<Command<'a>, AllocError> {
     let mut command = Command::new(alloc, row.name)
         .display_name("packtool")?
+        .override_usage(row.usage)
         .about(row.about)
         .after_help(AFTER);
     for argument in row.arguments {

@@ -1,5 +1,6 @@
 //! Why the program stops.
 
+use pack_index::LazyError;
 use std::alloc::AllocError;
 use std::io;
 use streams::Plain;
@@ -91,6 +92,21 @@ pub enum FileWhy {
     /// It has 2^61 bytes or more.
     #[error("too long")]
     TooMuch,
+}
+
+/// What is printed after the error of a part of a store that is skipped.
+pub fn skipped_mark(error: &store_folders::Error) -> &'static str {
+    match error {
+        store_folders::Error::Index { error, .. } if is_version_1(error) => {
+            " (git repack -ad replaces them), skipped"
+        }
+        _ => ", skipped",
+    }
+}
+
+// Whether a pack index is not read because it is of version 1.
+fn is_version_1(error: &LazyError) -> bool {
+    matches!(error, LazyError::Head(pack_index::Error::Version1))
 }
 
 impl From<repositories::Error> for Failure<'_> {

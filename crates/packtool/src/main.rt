@@ -29,6 +29,9 @@ const NOTHING: u8 = 1;
 
 const FAILED: u8 = 2;
 
+// How errors of the command line begin. All others begin with the program's name.
+const USAGE_MARK: &str = "error: ";
+
 fn main(rt: HostRuntime) -> ExitCode {
     match words::read_words(&rt) {
         Ok(words) => end(&rt, run_words(&rt, &words)),
@@ -76,8 +79,13 @@ fn print_usage<'a>(
     if let Some(number) = first_not_text(words) {
         return Err(Failure::NotText { number });
     }
+    if error.use_stderr() {
+        let text = format!(in rt.alloc(); "{error}")?;
+        let why = text.strip_prefix(USAGE_MARK).unwrap_or(&text);
+        let _ = eprint!(rt; "packtool: {why}");
+        return Ok(FAILED);
+    }
     match error.print(rt) {
-        Ok(()) if error.use_stderr() => Ok(FAILED),
         Ok(()) => Ok(FOUND),
         Err(why) => Err(Failure::Output(why)),
     }

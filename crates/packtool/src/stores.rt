@@ -10,7 +10,7 @@ ghost use Rattle.packtool.specs.Requests.{LeastFits};
 ghost use Rattle.packtool.specs.WholeLines.{AreWhole};
 
 use crate::arguments::{Ask, Question, StoreRequest};
-use crate::failure::Failure;
+use crate::failure::{Failure, skipped_mark};
 use crate::files::expect_text;
 use crate::lines::LineReader;
 use crate::output::{buffered, flushed, report};
@@ -362,7 +362,7 @@ fn report_skipped(
     for error in skipped {
         let text = format!(in rt.alloc(); "{error}")?;
         if !reported.contains(&text) {
-            report(rt, error, ", skipped");
+            report(rt, error, skipped_mark(error));
             reported.push(text)?;
         }
     }
