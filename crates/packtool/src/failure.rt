@@ -1,5 +1,10 @@
 //! Why the program stops.
 
+ghost use Rattle.std.specs.Prelude.{◌≡◌, ◌↔◌, IsTrue, Some};
+ghost use Rattle.pack_index.specs.declared.error.Error.{Error as IndexError};
+ghost use Rattle.pack_index.specs.declared.lazy_error.LazyError.{LazyError};
+ghost use Rattle.streams.specs.Devices.{plain_error};
+
 use pack_index::LazyError;
 use std::alloc::AllocError;
 use std::io;
@@ -69,7 +74,9 @@ pub enum Failure<'a> {
 
 impl Failure<'_> {
     /// That standard output, which is this, cannot be written.
-    pub fn of_output<W>(out: &Plain<W>) -> Self {
+    pub fn of_output<W>(out: &Plain<W>) -> Self
+        ensures { (error : _) → plain_error out.now ≡ Some error → result ≡ Failure.Output error }
+    {
         Failure::Output(out.error().unwrap_or(io::ErrorKind::WriteZero.into()))
     }
 }
@@ -79,7 +86,7 @@ impl Failure<'_> {
 pub enum FileWhy {
     /// It cannot be read.
     #[error("{0}")]
-    Read(io::Error),
+    Read(#[from] io::Error),
     /// Its name is not UTF-8, which paths are.
     #[error("the name is not UTF-8")]
     NotText,
@@ -105,7 +112,9 @@ pub fn skipped_mark(error: &store_folders::Error) -> &'static str {
 }
 
 // Whether a pack index is not read because it is of version 1.
-fn is_version_1(error: &LazyError) -> bool {
+fn is_version_1(error: &LazyError) -> bool
+    ensures { IsTrue result ↔ (error.now ≡ LazyError.Head IndexError.Version1) }
+{
     matches!(error, LazyError::Head(pack_index::Error::Version1))
 }
 

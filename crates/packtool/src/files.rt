@@ -1,16 +1,19 @@
 //! Commands over files.
 
-ghost use Rattle.std.specs.Prelude.{◌≡◌, ◌≢◌, ◌++◌, ◌⊎◌, ℕ, List, Some, false, true, IfOk, MatchOption, string_bytes};
+ghost use Rattle.std.specs.Prelude.{◌≡◌, ◌≢◌, ◌↔◌, ◌+◌, ◌*◌, ◌≤◌, ◌++◌, ◌⊎◌, ℕ, List, Some, false, length, true, IfOk, IsTrue, MatchOption, string_bytes};
+ghost use Rattle.pack_index.specs.Format.{names_start, num_objects};
+ghost use Rattle.packtool.specs.Verdicts.{IsRight};
 ghost use Rattle.streams.specs.Devices.{plain_failed};
 ghost use Rattle.streams.specs.Streams.{IsReadAt};
+ghost use Rattle.streams.specs.declared.checking.Ending.{Ending};
 
 use crate::failure::{Failure, FileWhy};
 use crate::words::lossy_text;
 use gix_hash::Kind;
-use pack_index::{File as IndexFile, LazyError, LazyFile};
+use pack_index::tables::{NAMES_START, num_objects};
 use packtool_commands::{
-    FileError, Pairing, PairingError, pair, show as show_input, validate, write_ending,
-    write_named, write_pairing,
+    FileError, Pairing, open_index, pair, show as show_input, write_ending, write_named,
+    write_pairing,
 };
 use repositories::metadata;
 use std::alloc::{AllocError, Global};
@@ -26,13 +29,13 @@ const INDEX_END: &str = ".idx";
 
 const PACK_END: &str = ".pack";
 
-// The length of that, the version and the 256 counts of a pack index, of which the last is that of
-// all its names. Each name has at most 32 bytes, a CRC of 4 and an offset of 4 or 12. Two digests
-// follow.
-const HEAD_LEN: usize = 8 + 256 * 4;
+// How the names of files end that Git keeps beside packs and writes with no digest.
+const KEEP_END: &str = ".keep";
 
-/// Prints the names of a pack index, and returns whether there is one. With no kind, the length of
-/// a file says it.
+const PROMISOR_END: &str = ".promisor";
+
+/// Prints the lines of a pack index, and returns whether there is one. With no kind, its length
+/// says it.
 pub fn show<'a, W: io::Write>(
     rt: &HostRuntime,
     path: &str,
@@ -42,16 +45,11 @@ pub fn show<'a, W: io::Write>(
     if path == "-" {
         show_from(rt, path, kind, rt.reader(), out)
     } else {
-        let file = open(rt, path)?;
-        let kind = match kind {
-            Some(kind) => Some(kind),
-            None => kind_by_length(open(rt, path)?),
-        };
-        show_from(rt, path, kind, file, out)
+        show_from(rt, path, kind, open(rt, path)?, out)
     }
 }
 
-// Prints the names of a pack index from a reader.
+// Prints the lines of a pack index from a reader.
 fn show_from<'a, R: io::Read + Drop, W: io::Write>(
     rt: &HostRuntime,
     path: &str,
@@ -65,27 +63,31 @@ fn show_from<'a, R: io::Read + Drop, W: io::Write>(
     let mut input = Plain::new(Retrying::new(reader));
     match show_input(rt.alloc(), kind, &mut input, out) {
         Ok(any) => Ok(any),
+        Err(FileError::Index(error)) => Err(failure(rt, path, FileWhy::Index(error))),
+        Err(FileError::Memory) => Err(Failure::Memory),
+        Err(FileError::Input) => Err(unread(rt, path, &input)),
         Err(FileError::Output) => Err(Failure::of_output(out)),
-        Err(error) => Err(unread(rt, path, error, &input)),
     }
 }
 
 // What is said of a checked file.
 #[derive(Drop)]
 enum Verdict {
+    // Git writes it with no digest.
+    Skipped,
     // How it ends, if it is no pack index.
     Ends(Ending),
     // Why it is no right pack index.
     Faulty(pack_index::Error),
-    // It is a right pack index, and whether it belongs to the pack beside it, if there is one.
-    Index(Option<Pairing>),
-    // It is a right pack index and belongs to the pack, but has this offset, at which no object of
-    // the pack is.
-    Beyond(u64),
+    // It is a right pack index, with no pack beside it.
+    Alone,
+    // It is one, and whether it belongs to the pack beside it.
+    Paired(Pairing),
 }
 
 /// Prints whether a file is right, and returns it: whether a pack index is one and belongs to the
-/// pack beside it, or another file ends with its digest. If the output failed, nothing is printed.
+/// pack beside it, or another file ends with its digest. A file that Git writes with no digest is
+/// skipped, and right. If the output failed, nothing is printed.
 ///
 /// With no kind it is right in either, and a pack index in the one that its length says; a file
 /// that is not of SHA-1 is read twice, and standard input once.
@@ -103,10 +105,18 @@ pub fn check<'a, W: io::Write>(
     if !out.failed() {
         write_verdict(rt, path, &verdict, out)?;
     }
-    Ok(matches!(
-        verdict,
-        Verdict::Ends(Ending::Sealed(_)) | Verdict::Index(None | Some(Pairing::Same))
-    ))
+    Ok(is_right(&verdict))
+}
+
+// Whether a file is right, or skipped.
+fn is_right(verdict: &Verdict) -> bool
+    ensures { IsTrue result ↔ IsRight verdict.now }
+{
+    match verdict {
+        Verdict::Skipped | Verdict::Alone | Verdict::Paired(Pairing::Same) => true,
+        Verdict::Ends(ending) => is_sealed(ending),
+        Verdict::Faulty(_) | Verdict::Paired(_) => false,
+    }
 }
 
 // Writes the line of a file. That a write fails is known to the output.
@@ -119,19 +129,14 @@ fn write_verdict<'a, W: io::Write>(
     requires { plain_failed out.old ≡ false }
 {
     let _ = match verdict {
+        Verdict::Skipped => write_named(path, b": SKIPPED: it has no digest\n", out),
         Verdict::Ends(ending) => write_ending(path, ending, out),
         Verdict::Faulty(error) => {
             let text = format!(in rt.alloc(); ": FAILED: {error}\n")?;
             write_named(path, text.as_bytes(), out)
         }
-        Verdict::Index(Some(pairing)) => write_pairing(path, pairing, out),
-        Verdict::Index(None) => write_named(path, b": OK\n", out),
-        Verdict::Beyond(offset) => {
-            let text = format!(in rt.alloc();
-                ": FAILED: the offset {offset} is not in the pack beside it\n"
-            )?;
-            write_named(path, text.as_bytes(), out)
-        }
+        Verdict::Alone => write_named(path, b": OK\n", out),
+        Verdict::Paired(pairing) => write_pairing(path, pairing, out),
     };
     Ok(())
 }
@@ -142,48 +147,40 @@ fn verdict_of_input<'a>(rt: &HostRuntime, kind: Option<Kind>) -> Result<Verdict,
     let path = "-";
     let mut reader = Retrying::new(rt.reader());
     let mut bytes = Vec::new(rt.alloc());
-    read_more(rt, &mut reader, HEAD_LEN as u64, &mut bytes)?;
+    read_more(rt, path, &mut reader, NAMES_START as u64, &mut bytes)?;
     if !is_index(&&bytes[..], path) {
         let mut input = Cursor::new(&bytes[..]).chain(reader);
         return Ok(Verdict::Ends(ending_of(rt, &mut input, path, kind)?));
     }
-    let rest = most_index_len(&bytes).saturating_sub(HEAD_LEN as u64);
-    read_more(rt, &mut reader, rest.saturating_add(1), &mut bytes)?;
-    Ok(verdict_of_bytes(&bytes, kind))
+    let rest = most_after(&bytes).saturating_add(1);
+    read_more(rt, path, &mut reader, rest, &mut bytes)?;
+    verdict_of_index(rt, path, &bytes, kind)
 }
 
-// Reads at most so many bytes of standard input, and puts them after those that were read.
+// Reads at most so many bytes, and puts them after those that were read.
 fn read_more<'a, R: io::Read>(
     rt: &HostRuntime,
+    path: &str,
     reader: &mut R,
     most: u64,
     bytes: &mut Vec<u8>,
 ) -> Result<(), Failure<'a>> {
     match reader.take(most).read_to_end(bytes) {
         Ok(_) => Ok(()),
-        Err(error) => Err(unreadable(rt, "-", error)),
+        Err(error) if error.kind() == io::ErrorKind::OutOfMemory => Err(Failure::Memory),
+        Err(error) => Err(unreadable(rt, path, error)),
     }
 }
 
-// What is said of the bytes of a pack index with no pack beside it. If no kind was asked for, their
-// number says it.
-fn verdict_of_bytes(bytes: &[u8], kind: Option<Kind>) -> Verdict {
-    let kind = kind.or(kind_by_length(bytes)).unwrap_or(Kind::Sha1);
-    match IndexFile::try_new(bytes, kind) {
-        Ok(_) => Verdict::Index(None),
-        Err(error) => Verdict::Faulty(error),
+// How many bytes a pack index of version 2 may have after its fan-out table, which these end with:
+// of each id at most 32, with a CRC of 4 and an offset of 12, and two digests.
+fn most_after(head: &[u8]) -> u64
+    ensures { names_start ≤ length head.now → result ≡ 48 * num_objects head.now + 64 }
+{
+    if head.len() < NAMES_START {
+        return 0;
     }
-}
-
-// The length of the longest pack index of version 2 that begins with these bytes, of either kind.
-fn most_index_len(head: &[u8]) -> u64 {
-    match head {
-        [.., b0, b1, b2, b3] if head.len() == HEAD_LEN => {
-            let count = u64::from(u32::from_be_bytes([*b0, *b1, *b2, *b3]));
-            HEAD_LEN as u64 + 48 * count + 64
-        }
-        _ => HEAD_LEN as u64,
-    }
+    48 * u64::from(num_objects(head)) + 64
 }
 
 // What is said of a file.
@@ -193,29 +190,53 @@ fn verdict_of_file<'a>(
     kind: Option<Kind>,
 ) -> Result<Verdict, Failure<'a>> {
     let mut file = open(rt, path)?;
-    verdict_of_open(rt, &mut file, path, kind)
+    if has_no_digest(path) {
+        return Ok(Verdict::Skipped);
+    }
+    if !is_index(&file, path) {
+        return Ok(Verdict::Ends(ending_in(rt, &mut file, path, kind)?));
+    }
+    let mut bytes = Vec::new(rt.alloc());
+    read_more(
+        rt,
+        path,
+        &mut Retrying::new(&mut file),
+        u64::MAX,
+        &mut bytes,
+    )?;
+    verdict_of_index(rt, path, &bytes, kind)
 }
 
-// What is said of a file that was opened. If no kind was asked for, the length of a pack index says
-// it.
-fn verdict_of_open<'a>(
+// What is said of the bytes of a pack index, and of the pack beside it, if there is one.
+fn verdict_of_index<'a>(
     rt: &HostRuntime,
-    file: &mut File,
     path: &str,
+    bytes: &[u8],
     kind: Option<Kind>,
 ) -> Result<Verdict, Failure<'a>> {
-    if !is_index(&*file, path) {
-        return Ok(Verdict::Ends(ending_in(rt, file, path, kind)?));
-    }
-    let kind = match kind {
-        Some(kind) => Some(kind),
-        None => kind_by_length(open(rt, path)?),
-    };
-    let kind = match index_kind(rt, file, path, kind)? {
-        Ok(kind) => kind,
+    let index = match open_index(bytes, kind) {
+        Ok(index) => index,
+        // Such an index may be right.
+        Err(error @ pack_index::Error::Version1) => {
+            return Err(failure(rt, path, FileWhy::Index(error)));
+        }
         Err(error) => return Ok(Verdict::Faulty(error)),
     };
-    verdict_beside_pack(rt, file, path, kind)
+    let Some((pack_path, pack)) = pack_beside(rt, path)? else {
+        return Ok(Verdict::Alone);
+    };
+    match pair(&index, &pack) {
+        Ok(pairing) => Ok(Verdict::Paired(pairing)),
+        Err(error) => Err(unreadable(rt, &pack_path, error)),
+    }
+}
+
+// Whether Git writes files of this name with no digest.
+fn has_no_digest(path: &str) -> bool
+    ensures { IsTrue result ↔ ((stem : List ℕ) × (path.now ≡ stem ++ KEEP_END.now))
+        ⊎ ((stem : List ℕ) × (path.now ≡ stem ++ PROMISOR_END.now)) }
+{
+    path.ends_with(KEEP_END) || path.ends_with(PROMISOR_END)
 }
 
 // Whether the name is that of a pack index, or the bytes begin as one of version 2.
@@ -228,36 +249,6 @@ fn is_index<S: ReadAt>(source: &S, path: &str) -> bool
 {
     let mut magic = [0; MAGIC.len()];
     path.ends_with(INDEX_END) || source.read_exact_at(&mut magic, 0).is_ok() && magic == MAGIC
-}
-
-// SHA-256 if a pack index of version 1 or 2, whose counts may fall, has the length for its names to
-// be of that kind.
-fn kind_by_length<S: ReadAt + Drop>(index: S) -> Option<Kind> {
-    match LazyFile::open(index, Kind::Sha256) {
-        Ok(_) | Err(LazyError::CountsFall(_) | LazyError::Head(pack_index::Error::Version1)) => {
-            Some(Kind::Sha256)
-        }
-        Err(_) => None,
-    }
-}
-
-// The kind of the names of a pack index, or why it is none.
-fn index_kind<'a, R: io::Read>(
-    rt: &HostRuntime,
-    reader: &mut R,
-    path: &str,
-    kind: Option<Kind>,
-) -> Result<Result<Kind, pack_index::Error>, Failure<'a>> {
-    let mut input = Plain::new(Retrying::new(reader));
-    match validate(rt.alloc(), kind, &mut input) {
-        Ok(kind) => Ok(Ok(kind)),
-        // Such an index may be right.
-        Err(FileError::Index(error @ pack_index::Error::Version1)) => {
-            Err(failure(rt, path, FileWhy::Index(error)))
-        }
-        Err(FileError::Index(error)) => Ok(Err(error)),
-        Err(error) => Err(unread(rt, path, error, &input)),
-    }
 }
 
 // How a file ends, for the kind, or with no kind for the one in which it is right, if there is one.
@@ -279,7 +270,10 @@ fn ending_in<'a, R: io::Read + Seek>(
     Ok(if is_sealed(&other) { other } else { ending })
 }
 
-fn is_sealed(ending: &Ending) -> bool {
+// Whether a file ends with its digest.
+fn is_sealed(ending: &Ending) -> bool
+    ensures { IsTrue result ↔ (id : _) × (ending.now ≡ Ending.Sealed id) }
+{
     matches!(ending, Ending::Sealed(_))
 }
 
@@ -298,47 +292,7 @@ fn ending_of<'a, R: io::Read>(
     match ending {
         Ok(ending) => Ok(ending),
         Err(PipeError::TooMuch) => Err(failure(rt, path, FileWhy::TooMuch)),
-        Err(_) => Err(unread(rt, path, FileError::Input, &input)),
-    }
-}
-
-// What is said of a right pack index: whether it belongs to the pack beside it, if there is one,
-// and whether its offsets may be in it.
-fn verdict_beside_pack<'a>(
-    rt: &HostRuntime,
-    index: &mut File,
-    path: &str,
-    kind: Kind,
-) -> Result<Verdict, Failure<'a>> {
-    let Some((pack_path, pack)) = pack_beside(rt, path)? else {
-        return Ok(Verdict::Index(None));
-    };
-    verdict_of_pair(rt, (index, path), (&pack, &pack_path), kind)
-}
-
-// The same of a pack index and a pack, each given with its path.
-fn verdict_of_pair<'a>(
-    rt: &HostRuntime,
-    (index, path): (&mut File, &str),
-    (pack, pack_path): (&File, &str),
-    kind: Kind,
-) -> Result<Verdict, Failure<'a>> {
-    match pair(index, pack, kind) {
-        Ok(Pairing::Same) => {}
-        Ok(pairing) => return Ok(Verdict::Index(Some(pairing))),
-        Err(PairingError::Index(error)) => return Err(unreadable(rt, path, error)),
-        Err(PairingError::Pack(error)) => return Err(unreadable(rt, pack_path, error)),
-    }
-    let len = match ReadAt::len(pack) {
-        Ok(len) => len,
-        Err(error) => return Err(unreadable(rt, pack_path, error)),
-    };
-    match highest_offset(rt, index, kind) {
-        Ok(highest) if highest < len.saturating_sub(kind.len_in_bytes() as u64) => {
-            Ok(Verdict::Index(Some(Pairing::Same)))
-        }
-        Ok(highest) => Ok(Verdict::Beyond(highest)),
-        Err(error) => Err(unreadable(rt, path, error)),
+        Err(_) => Err(unread(rt, path, &input)),
     }
 }
 
@@ -347,10 +301,10 @@ fn pack_beside<'a>(rt: &HostRuntime, path: &str) -> Result<Option<(String, File)
     let Some(pack_path) = pack_path_of(rt.alloc(), path)? else {
         return Ok(None);
     };
-    match open(rt, &pack_path) {
+    match open_regular(rt, &pack_path) {
         Ok(pack) => Ok(Some((pack_path, pack))),
-        Err(failure) if is_missing(&failure) => Ok(None),
-        Err(failure) => Err(failure),
+        Err(FileWhy::Read(error)) if error.kind() == io::ErrorKind::NotFound => Ok(None),
+        Err(why) => Err(failure(rt, &pack_path, why)),
     }
 }
 
@@ -369,44 +323,21 @@ fn pack_path_of(alloc: Global, path: &str) -> Result<Option<String>, AllocError>
     Ok(Some(pack))
 }
 
-// Whether a file is not read because there is none.
-fn is_missing(failure: &Failure<'_>) -> bool {
-    match failure {
-        Failure::File { why, .. } => {
-            matches!(&**why, FileWhy::Read(error) if error.kind() == io::ErrorKind::NotFound)
-        }
-        _ => false,
+// Opens a file, whose name is UTF-8.
+fn open<'a>(rt: &HostRuntime, path: &str) -> Result<File, Failure<'a>> {
+    expect_text(rt, path)?;
+    match open_regular(rt, path) {
+        Ok(file) => Ok(file),
+        Err(why) => Err(failure(rt, path, why)),
     }
-}
-
-// The highest offset that a right pack index has, or 0 if it has none. It is read once more.
-fn highest_offset(rt: &HostRuntime, index: &mut File, kind: Kind) -> io::Result<u64> {
-    let mut bytes = Vec::new(rt.alloc());
-    index.seek(SeekFrom::Start(0))?;
-    index.read_to_end(&mut bytes)?;
-    let mut highest = 0;
-    if let Ok(file) = LazyFile::open(&bytes[..], kind) {
-        let count = file.num_objects();
-        for at in 0..count {
-            if let Ok(offset) = file.pack_offset_at_index(at) {
-                highest = highest.max(offset);
-            }
-        }
-    }
-    Ok(highest)
 }
 
 // Opens a file, unless it is of another type: to open a pipe waits for what writes to it.
-fn open<'a>(rt: &HostRuntime, path: &str) -> Result<File, Failure<'a>> {
-    expect_text(rt, path)?;
-    match metadata(rt, path) {
-        Ok(metadata) if metadata.is_file() => match File::open(rt, path) {
-            Ok(file) => Ok(file),
-            Err(error) => Err(unreadable(rt, path, error)),
-        },
-        Ok(_) => Err(failure(rt, path, FileWhy::NotRegular)),
-        Err(error) => Err(unreadable(rt, path, error)),
+fn open_regular(rt: &HostRuntime, path: &str) -> Result<File, FileWhy> {
+    if !metadata(rt, path)?.is_file() {
+        return Err(FileWhy::NotRegular);
     }
+    Ok(File::open(rt, path)?)
 }
 
 /// Fails if the name of a file is not UTF-8.
@@ -417,21 +348,14 @@ pub fn expect_text<'a>(rt: &HostRuntime, path: &str) -> Result<(), Failure<'a>> 
     }
 }
 
-// Why a file is not read as a pack index, or not read.
-fn unread<'a, R: io::Read>(
-    rt: &HostRuntime,
-    path: &str,
-    error: FileError,
-    input: &Plain<R>,
-) -> Failure<'a> {
-    let why = match error {
-        FileError::Index(error) => FileWhy::Index(error),
-        FileError::Input => {
-            FileWhy::Read(input.error().unwrap_or(io::ErrorKind::UnexpectedEof.into()))
-        }
-        FileError::Memory | FileError::Output => return Failure::Memory,
-    };
-    failure(rt, path, why)
+// A file cannot be read, by what its reads returned.
+fn unread<'a, R: io::Read>(rt: &HostRuntime, path: &str, input: &Plain<R>) -> Failure<'a> {
+    let error = input.error();
+    unreadable(
+        rt,
+        path,
+        error.unwrap_or(io::ErrorKind::UnexpectedEof.into()),
+    )
 }
 
 // A file cannot be read.

@@ -1,10 +1,10 @@
 -- What is printed of pack indexes, packs and other files, and what is rejected.
-use Rattle.std.specs.Prelude.{[], ℕ, ◌*◌, ◌++◌, ◌+◌, ◌-◌, ◌<◌, ◌==◌, ◌||◌, ◌↔◌, ◌∷◌, ◌≡◌, ◌≢◌, Bool, IsTrue, List, None, Option, Some, codes, decimal, flat_map, if◌then◌else◌, length, slice_index_or, slice_range}
+use Rattle.std.specs.Prelude.{[], ℕ, ◌++◌, ◌<◌, ◌==◌, ◌||◌, ◌↔◌, ◌∷◌, ◌≡◌, ◌≢◌, ◌≤◌, ◌⊎◌, Bool, IsTrue, List, None, Option, Some, codes, decimal, flat_map, if◌then◌else◌, length, slice_index_or, slice_range}
 use Rattle.std.specs.Int.{to_be_bytes, w32}
 use Rattle.std.specs.Io.KnownBytes.{Appends}
 use Rattle.std.specs.List.{list_any, range_with_len}
 use Rattle.hex.specs.Hex.{encode_lower}
-use Rattle.gix_hash.specs.Digits.{hex_letter, spelling}
+use Rattle.gix_hash.specs.Digits.{digits_of, hex_letter, spelling}
 use Rattle.gix_hash.specs.Ids.{id_bytes, id_digits}
 use Rattle.gix_hash.specs.Kinds.{byte_len_of}
 use Rattle.gix_hash.specs.declared.Kind.{Kind}
@@ -13,14 +13,14 @@ use Rattle.gix_hash.specs.declared.ObjectId.{ObjectId}
 use Rattle.streams.specs.Streams.{AppendsPart}
 use Rattle.streams.specs.declared.checking.Ending.{Ending}
 use Rattle.streams.specs.declared.checking.Ending.TheVariants.{Sealed, Unsealed}
-use Rattle.pack_index.specs.Format.{IndexFile, IsFault, IsPackIndex, IsRefusal, crc_in, names_in, offset_in}
+use Rattle.pack_index.specs.Format.{Each, HasHead, HasTables, IndexFile, IsFault, IsFirstNot, IsPackIndex, IsRefusal, crc_in, digest_at, names_in, offset_in, other_than, tables_end}
 use Rattle.pack_index.specs.declared.error.Error.{Error}
+use Rattle.pack_index.specs.declared.error.Error.TheVariants.{Version1}
 use Rattle.packtool_commands.specs.declared.error.FileError.{FileError}
 use Rattle.packtool_commands.specs.declared.error.FileError.TheVariants.{Index, Input, Memory, Output}
+use Rattle.packtool_commands.specs.declared.pairing.LastDigest.{LastDigest}
 use Rattle.packtool_commands.specs.declared.pairing.Pairing.{Pairing}
-use Rattle.packtool_commands.specs.declared.pairing.Pairing.TheVariants.{Other, Same, Unnamed}
-use Rattle.packtool_commands.specs.declared.pairing.PairingError.{PairingError}
-use Rattle.packtool_commands.specs.declared.pairing.PairingError.TheVariants as failed
+use Rattle.packtool_commands.specs.declared.pairing.Pairing.TheVariants.{Beyond, Other, Same}
 
 -- Names of files in lines, as `sha1sum` prints them.
 
@@ -86,36 +86,48 @@ verdict (Unsealed digest None) = codes ": FAILED: it is shorter than a digest" +
 
 -- Whether a pack index belongs to a pack.
 
--- the last bytes of a file but for those of n digests, as many as one has; fewer if the file is too short
-abbrev pub last_digest_but : ℕ → Kind → List ℕ → List ℕ
-last_digest_but n kind bytes = slice_range bytes (length bytes - (n + 1) * byte_len_of kind) (length bytes - n * byte_len_of kind)
+-- the digest of its pack that an index has
+abbrev pub named_digest : Kind → List ℕ → List ℕ
+named_digest kind index = slice_range index (tables_end kind index) (digest_at kind index)
 
--- the bytes are a digest of the kind, which is the id; or they are too few
-abbrev pub IsDigest : Kind → List ℕ → Option ObjectId → Type 0
-IsDigest kind bytes (Some id) = (length bytes ≡ byte_len_of kind) × (id_bytes id ≡ bytes)
-IsDigest kind bytes None = length bytes < byte_len_of kind
+-- the bytes in which a pack ends, as many as a digest has, or all if they are fewer
+abbrev pub last_bytes : Kind → List ℕ → List ℕ
+last_bytes kind pack = slice_range pack (digest_at kind pack) (length pack)
 
--- whether an index belongs to a pack, by the bytes of the digest of its pack that it has, and of that in which the pack ends
+-- the id is the digest in which a pack ends; there is none if its bytes are too few
+abbrev pub IsLastDigest : Kind → List ℕ → Option ObjectId → Type 0
+IsLastDigest kind pack (Some id) = (byte_len_of kind ≤ length pack) × (id_bytes id ≡ last_bytes kind pack)
+IsLastDigest kind pack None = length pack < byte_len_of kind
+
+-- the same with its position
+abbrev pub EndsIn : Kind → List ℕ → Option LastDigest → Type 0
+EndsIn kind pack (Some last) = IsLastDigest kind pack (Some last.id) × (last.at ≡ digest_at kind pack)
+EndsIn kind pack None = IsLastDigest kind pack None
+
+-- the offset of an object of an index is below a number
+abbrev pub IsOffsetBelow : Kind → List ℕ → ℕ → ℕ → Type 0
+IsOffsetBelow kind index end k = offset_in kind index k < end
+
+-- the offset is that of the first object whose offset is not
+abbrev pub IsFirstBeyond : Kind → List ℕ → ℕ → ℕ → Type 0
+IsFirstBeyond kind index end offset =
+    (k : ℕ) × IsFirstNot (IsOffsetBelow kind index end) (length (names_in kind index)) k × (offset ≡ offset_in kind index k)
+
+-- whether an index belongs to a pack, by the bytes of both: it has the digest in which the pack ends, and its offsets are before that
 abbrev pub IsPairing : Kind → List ℕ → List ℕ → Pairing → Type 0
-IsPairing kind named found Same = (length named ≡ byte_len_of kind) × (named ≡ found)
-IsPairing kind named found (Other id last) = IsDigest kind named (Some id) × IsDigest kind found last × (named ≢ found)
-IsPairing kind named found Unnamed = length named < byte_len_of kind
-
--- a read may fail, if the bytes are known
-abbrev pub MayFail : Option (List ℕ) → Bool → Type 0
-MayFail content can_fail = (bytes : List ℕ) → content ≡ Some bytes → IsTrue can_fail
-
--- the file that the error is of may fail: the index, or the pack
-abbrev pub IsOfWhatMayFail : (index pack : Type 0) → PairingError → Type 0
-IsOfWhatMayFail index pack (failed.Index error) = index
-IsOfWhatMayFail index pack (failed.Pack error) = pack
+IsPairing kind index pack Same =
+    (named_digest kind index ≡ last_bytes kind pack) × Each (IsOffsetBelow kind index (digest_at kind pack)) (length (names_in kind index))
+IsPairing kind index pack (Other id last) =
+    (id_digits id ≡ digits_of (named_digest kind index)) × IsLastDigest kind pack last × (named_digest kind index ≢ last_bytes kind pack)
+IsPairing kind index pack (Beyond offset) =
+    (named_digest kind index ≡ last_bytes kind pack) × IsFirstBeyond kind index (digest_at kind pack) offset
 
 -- what is said of an index after its name
 abbrev pub pairing_verdict : Pairing → List ℕ
 pairing_verdict Same = codes ": OK" ++ 10 ∷ []
 pairing_verdict (Other named (Some found)) = codes ": FAILED: its pack ends in " ++ hex_of named ++ codes ", and the pack beside it ends in " ++ hex_of found ++ 10 ∷ []
 pairing_verdict (Other named None) = codes ": FAILED: its pack ends in " ++ hex_of named ++ codes ", and the pack beside it is shorter than a digest" ++ 10 ∷ []
-pairing_verdict Unnamed = codes ": FAILED: it is shorter than two digests" ++ 10 ∷ []
+pairing_verdict (Beyond offset) = codes ": FAILED: the offset " ++ decimal offset ++ codes " is not in the pack beside it" ++ 10 ∷ []
 
 -- What is printed of a pack index, and what is rejected.
 
@@ -124,10 +136,19 @@ abbrev pub IsOpenedAs : Option Kind → List ℕ → IndexFile → Type 0
 IsOpenedAs (Some kind) bytes file = (file ≡ record { kind = kind; bytes = bytes }) × IsPackIndex kind bytes
 IsOpenedAs None bytes file = (file.bytes ≡ bytes) × IsPackIndex file.kind bytes
 
--- why they are none: with no kind they are none of SHA-256, and this is the fault of them as one of SHA-1
+-- the bytes are as many as an index of the kind has, by its header: one of version 2, or of version 1
+abbrev pub HasLengthOf : Kind → List ℕ → Type 0
+HasLengthOf kind bytes = (HasHead kind bytes × HasTables kind bytes) ⊎ IsFault kind bytes Version1
+
+-- the kind of the ids of an index, by its length
+abbrev pub IsKindByLength : List ℕ → Kind → Type 0
+IsKindByLength bytes Sha256 = HasLengthOf Sha256 bytes
+IsKindByLength bytes Sha1 = ¬ HasLengthOf Sha256 bytes
+
+-- why they are none: with no kind they are none of the kind that their length does not say, and this is the fault of them as one of that which it says
 abbrev pub IsRefusalAs : Option Kind → List ℕ → Error → Type 0
 IsRefusalAs (Some kind) bytes error = IsRefusal kind bytes error
-IsRefusalAs None bytes error = (¬ IsPackIndex Sha256 bytes) × IsFault Sha1 bytes error
+IsRefusalAs None bytes error = (kind : Kind) × IsKindByLength bytes kind × (¬ IsPackIndex (other_than kind) bytes) × IsFault kind bytes error
 
 -- the bytes are an index, all of whose lines were written, and whether there is one is this
 pub record HasShown (kind : Option Kind) (bytes : List ℕ) (any : Bool) (old new : Option (List ℕ)) : Type 0 where

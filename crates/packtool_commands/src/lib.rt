@@ -5,10 +5,9 @@
 //! [`name_each`] do so for each line of a text ([`PrefixLines`]). If a pack index is gone
 //! meanwhile, they open the store again. [`write_location`] writes one location, and
 //! [`write_names`] the lines of some ids. [`show`] writes the lines of a pack index as
-//! `git show-index` does. [`validate`] says whether a file is a pack index, [`write_ending`] writes
-//! whether a file ends with its digest, [`write_pairing`] whether a pack index belongs to the pack
-//! beside it, as [`pair`] finds, and [`write_named`] another line of a file. They escape names as
-//! `sha1sum` does.
+//! `git show-index` does. [`open_index`] opens one, [`write_ending`] writes whether a file ends
+//! with its digest, [`write_pairing`] whether a pack index belongs to the pack beside it, as
+//! [`pair`] finds, and [`write_named`] another line of a file. They escape names as `sha1sum` does.
 #![tactic(auto)]
 
 mod asking;
@@ -33,6 +32,6 @@ pub use escaping::write_named;
 pub use finding::find;
 pub use locating::{locate, locate_each, write_location};
 pub use naming::{name_each, names, write_names};
-pub use pairing::{Pairing, PairingError, pair, write_pairing};
+pub use pairing::{Pairing, pair, write_pairing};
 pub use prefixes::PrefixLines;
-pub use showing::{show, validate};
+pub use showing::{open_index, show};

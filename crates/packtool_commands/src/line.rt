@@ -1,11 +1,12 @@
 //! A line that knows its length.
 
-ghost use Rattle.std.specs.Prelude.{◌≡◌, ◌+◌, ◌≤◌, ◌++◌, length};
+ghost use Rattle.std.specs.Prelude.{◌≡◌, ◌+◌, ◌≤◌, ◌++◌, decimal, length};
 ghost use Rattle.arrayvec.specs.ArrayVec.{array_vec_len};
 ghost use Rattle.packtool_commands.specs.Files.{hex_of};
 
 use arrayvec::ArrayVec;
 use gix_hash::{Kind, ObjectId};
+use itoa::Buffer;
 
 // The length of the longest line: two ids of 64 digits, and 61 bytes around them.
 const MAX_LEN: usize = 189;
@@ -21,6 +22,16 @@ pub(crate) fn push_digest(line: &mut Line, text: &[u8], id: &ObjectId)
 {
     push(line, text);
     push(line, id.hex_to_buf(&mut Kind::hex_buf()).as_bytes());
+}
+
+/// Adds a number after a text.
+pub(crate) fn push_number(line: &mut Line, text: &[u8], number: u64)
+    requires { array_vec_len line.old + length text.now + 20 ≤ MAX_LEN }
+    ensures text { line.new.items ≡ line.old.items ++ text.now ++ decimal number }
+    ensures len { array_vec_len line.new ≤ array_vec_len line.old + length text.now + 20 }
+{
+    push(line, text);
+    push(line, Buffer::new().format(number).as_bytes());
 }
 
 /// Adds bytes, for which there is room.

@@ -1,27 +1,27 @@
 //! Pack indexes and the packs beside them.
 
-ghost use Rattle.std.specs.Prelude.{◌≡◌, ◌≤◌, ℕ, List, Some, false, IfErr, IfOk, OnErr};
-ghost use Rattle.gix_hash.specs.declared.Kind.{Kind};
-ghost use Rattle.packtool_commands.specs.Files.{IsDigest, IsOfWhatMayFail, IsPairing, MayFail, last_digest_but, named, pairing_verdict};
+ghost use Rattle.std.specs.Prelude.{◌≡◌, ◌≤◌, ℕ, List, Some, false, length, IfOk, IsTrue, MatchOption, OnErr};
+ghost use Rattle.pack_index.specs.Format.{Each, min_len, names_in};
+ghost use Rattle.packtool_commands.specs.Files.{EndsIn, IsFirstBeyond, IsOffsetBelow, IsPairing, named, pairing_verdict};
 ghost use Rattle.streams.specs.Streams.{Wrote};
 
 use crate::escaping::write_named;
-use crate::line::{Line, push, push_digest};
+use crate::line::{Line, push, push_digest, push_number};
 use gix_hash::{Kind, ObjectId};
+use pack_index::File;
 use std::io;
 use streams::{ReadAt, Sink, WriteFailed};
-use thiserror::Error as ThisError;
 
 /// Whether a pack index belongs to a pack.
 ///
 /// ```
-/// if let Pairing::Other { named, .. } = pair(&idx, &pack, Kind::Sha1)? {
+/// if let Pairing::Other { named, .. } = pair(&File::try_new(idx, Kind::Sha1)?, &pack)? {
 ///     println!(rt; "its pack ends in {named}")?;
 /// }
 /// ```
 #[derive(Clone, Copy, Debug)]
 pub enum Pairing {
-    /// The index has the digest in which the pack ends.
+    /// The index has the digest in which the pack ends, and each of its offsets is before that.
     Same,
     /// The index has another digest.
     Other {
@@ -30,94 +30,102 @@ pub enum Pairing {
         /// The last bytes of the pack, as many as a digest has, or `None` if there are fewer.
         found: Option<ObjectId>,
     },
-    /// The index has none: it is shorter than two digests.
-    Unnamed,
+    /// The index has the digest in which the pack ends, but this offset, which is not before that.
+    Beyond(u64),
 }
 
-/// Which file could not be read.
+/// Whether a pack index belongs to a pack: whether the digest of its pack that it has is the one in
+/// which the pack ends, and its offsets are before that.
+///
+/// Of the pack only its length and last digest are read, and the digest is not checked. An error is
+/// returned only if a read fails.
 ///
 /// ```
-/// if let Err(PairingError::Pack(error)) = pair(&idx, &pack, Kind::Sha1) {
-///     println!(rt; "{error}")?;
-/// }
-/// ```
-#[derive(Debug, Drop, ThisError)]
-pub enum PairingError {
-    /// The pack index.
-    #[error("{0}")]
-    Index(io::Error),
-    /// The pack.
-    #[error("{0}")]
-    Pack(io::Error),
-}
-
-/// Whether a pack index of a kind belongs to a pack: whether the last digest but one of the index,
-/// which is that of its pack, is the one in which the pack ends.
-///
-/// Nothing else is read, and neither digest is checked. An error is returned only if a read of its
-/// file fails; if reads of both fail, it is that of the index.
-///
-/// ```
-/// let pairing = pair(&idx, &pack, Kind::Sha1)?;
+/// let pairing = pair(&File::try_new(idx, Kind::Sha1)?, &pack)?;
 /// println!(rt; "{}", matches!(pairing, Pairing::Same))?;
 /// ```
-pub fn pair<I: ReadAt, P: ReadAt>(index: &I, pack: &P, kind: Kind) -> Result<Pairing, PairingError>
-    ensures pairing { IfOk result (λ pairing. (of_index of_pack : List ℕ)
-        → I.content index.now ≡ Some of_index → P.content pack.now ≡ Some of_pack
-        → IsPairing kind (last_digest_but 1 kind of_index) (last_digest_but 0 kind of_pack)
-        pairing) }
-    ensures err { IfErr result (IsOfWhatMayFail
-        (MayFail (I.content index.now) (I.can_fail index.now))
-        (MayFail (P.content pack.now) (P.can_fail pack.now))) }
+pub fn pair<P: ReadAt>(index: &File<'_>, pack: &P) -> io::Result<Pairing>
+    ensures pairing { IfOk result (λ pairing. (bytes : List ℕ)
+        → P.content pack.now ≡ Some bytes
+        → IsPairing index.now.kind index.now.bytes bytes pairing) }
+    ensures err { OnErr result ((bytes : List ℕ) → P.content pack.now ≡ Some bytes
+        → IsTrue (P.can_fail pack.now)) }
 {
-    match (
-        last_digest_but(1, index, kind),
-        last_digest_but(0, pack, kind),
-    ) {
-        (Ok(named), Ok(found)) => Ok(pairing_of(named, found)),
-        (Err(error), _) => Err(PairingError::Index(error)),
-        (_, Err(error)) => Err(PairingError::Pack(error)),
-    }
+    Ok(pairing_of(index, last_digest(pack, index.object_hash())?))
 }
 
-// Whether an index has the digest in which a pack ends.
-fn pairing_of(named: Option<ObjectId>, found: Option<ObjectId>) -> Pairing
-    ensures { (kind : Kind) (of_index of_pack : List ℕ) → IsDigest kind of_index named
-        → IsDigest kind of_pack found → IsPairing kind of_index of_pack result }
-{
-    match (named, found) {
-        (None, _) => Pairing::Unnamed,
-        (Some(named), Some(found)) if named.as_slice() == found.as_slice() => Pairing::Same,
-        (Some(named), found) => Pairing::Other { named, found },
-    }
+// The digest in which a pack ends.
+#[derive(Clone, Copy)]
+struct LastDigest {
+    id: ObjectId,
+    // The position at which it begins.
+    at: u64,
 }
 
-// The last digest of a source but for the n after it, or `None` if it has fewer bytes.
-fn last_digest_but<S: ReadAt>(n: usize, source: &S, kind: Kind) -> io::Result<Option<ObjectId>>
-    requires { n ≤ 1 }
-    ensures digest { IfOk result (λ found. (bytes : List ℕ) → S.content source.now ≡ Some bytes
-        → IsDigest kind (last_digest_but n kind bytes) found) }
-    ensures err { OnErr result (MayFail (S.content source.now) (S.can_fail source.now)) }
+// The digest of a kind in which a pack ends, or `None` if it has fewer bytes.
+fn last_digest<P: ReadAt>(pack: &P, kind: Kind) -> io::Result<Option<LastDigest>>
+    ensures digest { IfOk result (λ last. (bytes : List ℕ) → P.content pack.now ≡ Some bytes
+        → EndsIn kind bytes last) }
+    ensures err { OnErr result ((bytes : List ℕ) → P.content pack.now ≡ Some bytes
+        → IsTrue (P.can_fail pack.now)) }
 {
     let mut id = kind.null();
-    let Some(at) = source
-        .len()?
-        .checked_sub(((n + 1) * kind.len_in_bytes()) as u64)
-    else {
+    let Some(at) = pack.len()?.checked_sub(kind.len_in_bytes() as u64) else {
         return Ok(None);
     };
-    source.read_exact_at(id.as_mut_slice(), at)?;
-    Ok(Some(id))
+    pack.read_exact_at(id.as_mut_slice(), at)?;
+    Ok(Some(LastDigest { id, at }))
+}
+
+// Whether an index belongs to a pack that ends so.
+fn pairing_of(index: &File<'_>, last: Option<LastDigest>) -> Pairing
+    requires { min_len index.now.kind ≤ length index.now.bytes }
+    ensures { (bytes : List ℕ) → EndsIn index.now.kind bytes last
+        → IsPairing index.now.kind index.now.bytes bytes result }
+{
+    let named = index.pack_checksum();
+    let Some(last) = last else {
+        return Pairing::Other {
+            named: named.to_owned(),
+            found: None,
+        };
+    };
+    if named.as_bytes() != last.id.as_slice() {
+        return Pairing::Other {
+            named: named.to_owned(),
+            found: Some(last.id),
+        };
+    }
+    match first_beyond(index, last.at) {
+        Some(offset) => Pairing::Beyond(offset),
+        None => Pairing::Same,
+    }
+}
+
+// The first offset of an index that is not below an end.
+fn first_beyond(index: &File<'_>, end: u64) -> Option<u64>
+    ensures { MatchOption result (Each (IsOffsetBelow index.now.kind index.now.bytes end)
+        (length (names_in index.now.kind index.now.bytes)))
+        (IsFirstBeyond index.now.kind index.now.bytes end) }
+{
+    let count = index.num_objects();
+    for at in 0..count {
+        let offset = index.pack_offset_at_index(at);
+        if offset >= end {
+            return Some(offset);
+        }
+    }
+    None
 }
 
 /// Writes the line of a pack index with this name, which is this for the pack beside it: `NAME:
-/// OK`, or `NAME: FAILED` and why, with both digests.
+/// OK`, or `NAME: FAILED` and why, with both digests or the offset.
 ///
 /// It stops at the first write that fails, after a proper beginning of the line. The sink must not
 /// have failed before.
 ///
 /// ```
-/// let pairing = pair(&idx, &pack, Kind::Sha1)?;
+/// let pairing = pair(&File::try_new(idx, Kind::Sha1)?, &pack)?;
 /// if write_pairing("pack-1.idx", &pairing, &mut out).is_err() {
 ///     println!(rt; "the line is not written whole")?;
 /// }
@@ -153,7 +161,11 @@ fn verdict(pairing: &Pairing) -> Line
                 }
             }
         }
-        Pairing::Unnamed => push(&mut line, b": FAILED: it is shorter than two digests\n"),
+        Pairing::Beyond(offset) => {
+            push_number(&mut line, b": FAILED: the offset ", *offset);
+            push(&mut line, b" is not in the pack beside it");
+            push(&mut line, b"\n");
+        }
     }
     line
 }

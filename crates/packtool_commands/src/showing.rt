@@ -4,13 +4,14 @@ ghost use Rattle.std.specs.Prelude.{◌≡◌, ◌≢◌, ◌↔◌, ◌⊎◌, 
 ghost use Rattle.std.specs.Io.KnownBytes.{Consumes, IsAtEnd};
 ghost use Rattle.streams.specs.Streams.{Wrote};
 ghost use Rattle.pack_index.specs.Format.{names_in};
-ghost use Rattle.packtool_commands.specs.Files.{HasShown, HasShownPart, IsFileRefusal, IsOpenedAs, IsRefusalAs, index_lines};
+ghost use Rattle.packtool_commands.specs.Files.{HasShown, HasShownPart, IsFileRefusal, IsKindByLength, IsOpenedAs, IsRefusalAs, index_lines};
 ghost use Rattle.packtool_commands.specs.declared.error.FileError.{FileError};
 
 use crate::error::FileError;
 use crate::lines::{LINES_LEN, next_line_at, put_index_line};
 use gix_hash::Kind;
 use pack_index::File;
+use pack_index::tables::check_tables;
 use std::alloc::Allocator;
 use streams::{CHUNK_LEN, Sink, Source, WriteFailed, write_all};
 
@@ -46,37 +47,9 @@ pub fn show<A: Allocator, R: Source, W: Sink>(
         HasShownPart kind bytes (W.taken out.old) (W.taken out.new)) }
 {
     let bytes = read_all(alloc, input)?;
-    let file = open(&bytes, kind)?;
+    let file = open_index(&bytes, kind)?;
     write_lines(&file, out)?;
     Ok(has_names(&file))
-}
-
-/// Reads a pack index of version 2 to its end, and returns the kind of its names. With no kind,
-/// they may be of either.
-///
-/// [`FileError::Index`] says why the bytes are none. [`FileError::Input`] is returned if and only
-/// if a read fails, and [`FileError::Output`] never. The input must not have failed before.
-///
-/// ```
-/// let kind = validate(rt.alloc(), None, &mut input)?;
-/// println!(rt; "names of the kind {kind}")?;
-/// ```
-pub fn validate<A: Allocator, R: Source>(
-    alloc: A,
-    kind: Option<Kind>,
-    input: &mut R,
-) -> Result<Kind, FileError>
-    requires { R.has_failed input.old ≡ false }
-    ensures valid { IfOk result (λ found. IfSome (R.remaining input.old) (λ bytes.
-        IsOpenedAs kind bytes (record { kind = found; bytes = bytes }))) }
-    ensures refused { IfErr result (λ e. IfSome (R.remaining input.old) (λ bytes.
-        IsFileRefusal kind bytes e)) }
-    ensures input { IsErrOf result FileError.Input ↔ (R.has_failed input.new ≡ true) }
-    ensures output { ¬ (IsErrOf result FileError.Output) }
-{
-    let bytes = read_all(alloc, input)?;
-    let file = open(&bytes, kind)?;
-    Ok(file.object_hash())
 }
 
 // Whether an index has a name.
@@ -86,17 +59,34 @@ fn has_names(file: &File<'_>) -> bool
     file.num_objects() > 0
 }
 
-// The index that the bytes are, of the kind, or with no kind of either.
-fn open(bytes: &[u8], kind: Option<Kind>) -> Result<File<'_>, pack_index::Error>
+/// The pack index of version 2 that the bytes are, with ids of a kind. With no kind they may be of
+/// either, and the error is that of the bytes as an index with ids of SHA-256 if they are as many
+/// as such an index has, and else of SHA-1.
+///
+/// ```
+/// let file = open_index(&bytes, None)?;
+/// println!(rt; "{} ids of the kind {}", file.num_objects(), file.object_hash())?;
+/// ```
+pub fn open_index(bytes: &[u8], kind: Option<Kind>) -> Result<File<'_>, pack_index::Error>
     ensures ok { IfOk result (IsOpenedAs kind bytes.now) }
     ensures err { IfErr result (IsRefusalAs kind bytes.now) }
 {
     match kind {
         Some(kind) => File::try_new(bytes, kind),
-        None => match File::try_new(bytes, Kind::Sha1) {
+        None => match File::try_new(bytes, kind_by_length(bytes)) {
             Err(pack_index::Error::OtherKind(kind)) => File::try_new(bytes, kind),
             opened => opened,
         },
+    }
+}
+
+// The kind of the ids of an index, by its length.
+fn kind_by_length(bytes: &[u8]) -> Kind
+    ensures { IsKindByLength bytes.now result }
+{
+    match check_tables(bytes, Kind::Sha256) {
+        Ok(()) | Err(pack_index::Error::Version1) => Kind::Sha256,
+        Err(_) => Kind::Sha1,
     }
 }
 

@@ -154,8 +154,8 @@ const LINES: [(Line, &str); 10] = [
     ),
     (Line::Pairing(Pairing::Same), "a.idx: OK\n"),
     (
-        Line::Pairing(Pairing::Unnamed),
-        "a.idx: FAILED: it is shorter than two digests\n",
+        Line::Pairing(Pairing::Beyond(u64::MAX)),
+        "a.idx: FAILED: the offset 18446744073709551615 is not in the pack beside it\n",
     ),
     (
         Line::Pairing(Pairing::Other {

@@ -1,5 +1,9 @@
+use Rattle.std.proofs.Common.{subst}
+use Rattle.gix_hash.specs.declared.Kind.{Kind}
+use Rattle.packtool_commands.specs.Files.{EndsIn}
 use Rattle.packtool_commands.proofs.pairing.pair.Goals as goal
 
-pub returns-in-Ok-Ok-clause-pairing : goal.returns-in-Ok-Ok-clause-pairing
-returns-in-Ok-Ok-clause-pairing g c index pack is_index is_pack =
-    c.pairing_of.ensures c.args.kind _ _ (c.in-Ok-Ok.ensures.digest index is_index) (c.in-Ok-Ok.ensures'.digest pack is_pack)
+pub returns-clause-pairing : goal.returns-clause-pairing
+returns-clause-pairing g c bytes is =
+    c.pairing_of.ensures bytes
+    (subst (λ (kind : Kind). EndsIn kind bytes c.in_ok-last_digest.field-0) c.object_hash.ensures.kind (c.in_ok-last_digest.ensures.digest bytes is))
