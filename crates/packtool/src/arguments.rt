@@ -1,5 +1,9 @@
 //! The command line.
 
+ghost use Rattle.std.specs.Prelude.{◌≡◌, None, Some, codes};
+ghost use Rattle.clap.specs.Matches.{first_value, found_of};
+ghost use Rattle.gix_hash.specs.declared.Kind.{Kind};
+
 use clap::{Arg, ArgAction, ArgMatches, Command, value_parser};
 use gix_hash::Kind;
 use packtool_commands::Answers;
@@ -30,6 +34,8 @@ pub struct StoreRequest<'a> {
 pub enum Ask<'a> {
     /// One question, with the text of its prefix.
     Once(Question<&'a str>),
+    /// A question of which the only id is wanted, and the text of its prefix.
+    One(Question<Answers>, &'a str),
     /// A question for each line of standard input, and what is printed for each.
     Lines(Question<Answers>),
 }
@@ -108,7 +114,7 @@ const COMMANDS: [Row; 5] = [
     Row {
         action: Action::Store(StoreCommand::Find),
         name: "find",
-        usage: "packtool find [--objects DIR] [--kind KIND] PREFIX\n       packtool find --stdin [--one] [--objects DIR] [--kind KIND]",
+        usage: "packtool find [--one] [--objects DIR] [--kind KIND] PREFIX\n       packtool find --stdin [--one] [--objects DIR] [--kind KIND]",
         about: "Prints each id of the store that begins with a prefix",
         arguments: &[
             Argument::Prefix,
@@ -121,7 +127,7 @@ const COMMANDS: [Row; 5] = [
     Row {
         action: Action::Store(StoreCommand::Locate),
         name: "where",
-        usage: "packtool where [--objects DIR] [--kind KIND] PREFIX\n       packtool where --stdin [--one] [--objects DIR] [--kind KIND]",
+        usage: "packtool where [--one] [--objects DIR] [--kind KIND] PREFIX\n       packtool where --stdin [--one] [--objects DIR] [--kind KIND]",
         about: "Prints each pack and offset, or loose file, of each id that begins with a prefix",
         arguments: &[
             Argument::Prefix,
@@ -213,10 +219,8 @@ fn arg_of<'a>(alloc: Global, argument: Argument) -> Result<Arg<'a>, AllocError> 
             .action(ArgAction::SetTrue),
         Argument::One => Arg::new(alloc, "one")
             .long("one")
-            .help("With --stdin: wants one id of each prefix, as git cat-file --batch-check does")
-            .action(ArgAction::SetTrue)
-            .requires_arg("stdin")?
-            .conflicts_with("prefix")?,
+            .help("Wants exactly one id of a prefix, and prints it or its locations alone")
+            .action(ArgAction::SetTrue),
         Argument::Indexes => files(alloc)
             .value_name("INDEX")
             .help("A pack index of version 2; - is standard input"),
@@ -295,16 +299,13 @@ fn action_of(name: &str) -> Option<Action> {
 // What a command asks of a store.
 fn ask_of<'a>(command: StoreCommand, matches: &ArgMatches<'a>) -> Ask<'a> {
     let least = usize::from(matches.get_one::<u8>("least").unwrap_or(4));
-    if !matches.get_flag("stdin") {
-        let prefix = matches.get_str("prefix").unwrap_or("");
-        return Ask::Once(question_of(command, prefix, least));
+    let prefix = matches.get_str("prefix").unwrap_or("");
+    match (matches.get_flag("stdin"), matches.get_flag("one")) {
+        (false, false) => Ask::Once(question_of(command, prefix, least)),
+        (false, true) => Ask::One(question_of(command, Answers::One, least), prefix),
+        (true, false) => Ask::Lines(question_of(command, Answers::All, least)),
+        (true, true) => Ask::Lines(question_of(command, Answers::One, least)),
     }
-    let answers = if matches.get_flag("one") {
-        Answers::One
-    } else {
-        Answers::All
-    };
-    Ask::Lines(question_of(command, answers, least))
 }
 
 // The question of a command.
@@ -317,7 +318,13 @@ fn question_of<P: Copy>(command: StoreCommand, given: P, least: usize) -> Questi
 }
 
 // The kind that was asked for.
-fn kind_of(matches: &ArgMatches<'_>) -> Option<Kind> {
+fn kind_of(matches: &ArgMatches<'_>) -> Option<Kind>
+    ensures sha1 { first_value (found_of matches.now) (codes "kind") ≡ Some (codes "sha1")
+        → result ≡ Some Kind.Sha1 }
+    ensures sha256 { first_value (found_of matches.now) (codes "kind") ≡ Some (codes "sha256")
+        → result ≡ Some Kind.Sha256 }
+    ensures none { first_value (found_of matches.now) (codes "kind") ≡ None → result ≡ None }
+{
     match matches.get_str("kind") {
         Some("sha1") => Some(Kind::Sha1),
         Some("sha256") => Some(Kind::Sha256),

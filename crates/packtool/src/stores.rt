@@ -26,7 +26,7 @@ use std::alloc::AllocError;
 use std::io;
 use std::time::{SystemTime, UNIX_EPOCH};
 use store_folders::{Error, FolderStore, LooseIds};
-use streams::{Plain, Retrying};
+use streams::{Plain, Retrying, write_all};
 
 // The most ids or locations of several lines that are held at a time.
 const MAX_FOUND: usize = 1 << 16;
@@ -41,11 +41,54 @@ pub fn answer<'a>(rt: &HostRuntime, request: &StoreRequest<'a>) -> Result<u8, Fa
             let question = in_kind(question, folder.kind)?;
             answer_once(rt, &folder, question, &mut reported)
         }
+        Ask::One(question, text) => {
+            let question = in_kind(question, folder.kind)?;
+            answer_one(rt, &folder, question, text, &mut reported)
+        }
         Ask::Lines(question) => {
             let question = in_kind(question, folder.kind)?;
             answer_input(rt, &folder, question, &mut reported)
         }
     }
+}
+
+// Prints what a question finds for a prefix of exactly one id, as for a line of standard input.
+// That there is none, or that there are more, is reported.
+fn answer_one<'a>(
+    rt: &HostRuntime,
+    folder: &ObjectsFolder,
+    question: Question<Answers>,
+    text: &'a str,
+    reported: &mut Vec<String>,
+) -> Result<u8, Failure<'a>>
+    requires { LeastFits folder.now.kind question }
+{
+    read_prefix(text, folder.kind)?;
+    let mut answer = Plain::new(Vec::new(rt.alloc()));
+    let line = text.as_bytes();
+    let status = match write_each(rt, folder, question, line, &mut None, reported, &mut answer) {
+        Err(Failure::Output(_)) => return Err(Failure::Memory),
+        status => status?,
+    };
+    let answer = answer.into_inner();
+    if let Some(mark) = mark_of(&answer) {
+        report(rt, &text, mark);
+        return Ok(status);
+    }
+    let mut out = buffered(rt, rt.stdout())?;
+    let _ = write_all(&mut out, &answer);
+    flushed(status, &mut out)
+}
+
+// What is said of a prefix in place of the only id, or `None` if that was found: its line ends with
+// a digit, as do those of its locations.
+fn mark_of(answer: &[u8]) -> Option<&'static str> {
+    for mark in [" missing", " ambiguous"] {
+        if answer.trim_ascii_end().ends_with(mark.as_bytes()) {
+            return Some(mark);
+        }
+    }
+    None
 }
 
 // Looks the lines of standard input up for a question. A chunk of them is looked up in the store as
