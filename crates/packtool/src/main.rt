@@ -5,6 +5,10 @@
 //! more, it ends in silence with 0, but for `check`, which goes on reading for the status.
 #![tactic(auto)]
 
+ghost use Rattle.std.specs.Prelude.{◌≡◌, ◌↔◌, IsTrue};
+ghost use Rattle.std.specs.IoError.{error_kind};
+ghost use Rattle.std.specs.declared.io.ErrorKind.{ErrorKind};
+
 mod arguments;
 mod failure;
 mod files;
@@ -52,7 +56,9 @@ fn end(rt: &HostRuntime, outcome: Result<u8, Failure<'_>>) -> ExitCode {
 }
 
 // Whether nobody reads the output any more.
-fn is_closed_pipe(error: &io::Error) -> bool {
+fn is_closed_pipe(error: &io::Error) -> bool
+    ensures { IsTrue result ↔ (error_kind error.now ≡ ErrorKind.BrokenPipe) }
+{
     error.kind() == ErrorKind::BrokenPipe
 }
 
