@@ -84,6 +84,10 @@ long_table_start kind bytes = long_start kind (num_objects bytes)
 abbrev pub tables_end : Kind → List ℕ → ℕ
 tables_end kind bytes = length bytes - 2 * byte_len_of kind
 
+-- where the digest of the pack ends, and that of the bytes before it begins
+abbrev pub digest_at : Kind → List ℕ → ℕ
+digest_at kind bytes = length bytes - byte_len_of kind
+
 -- the ids of the objects, each as its digits
 abbrev pub names_in : Kind → List ℕ → List (List ℕ)
 names_in kind bytes = digests_in kind (slice_range bytes names_start (crc_table_start kind bytes))

@@ -1,17 +1,17 @@
 //! A pack index over its bytes.
 
-ghost use Rattle.std.specs.Prelude.{◌≡◌, ◌≢◌, ◌↔◌, ◌+◌, ◌<◌, ℕ, [], Err, IfErr, IfOk, IsOk, MatchOption, length, slice_index_or, IfSome, IsNone, List, OnOk};
+ghost use Rattle.std.specs.Prelude.{◌≡◌, ◌≢◌, ◌↔◌, ◌+◌, ◌<◌, ℕ, [], Err, IfErr, IfOk, IsOk, MatchOption, length, slice_index_or, slice_range, IfSome, IsNone, List, OnOk};
 ghost use Rattle.std.specs.List.{HoldsAt};
-ghost use Rattle.gix_hash.specs.Ids.{oid_digits};
+ghost use Rattle.gix_hash.specs.Ids.{oid_bytes, oid_digits};
 ghost use Rattle.id_lookup.specs.Indexes.{IsAnswer, IsShortestName};
 ghost use Rattle.id_lookup.specs.Runs.{IsRun};
-ghost use Rattle.pack_index.specs.Format.{IsFault, IsFirstIndexOf, IsPackIndex, IsRefusal, crc_in, names_in, offset_in, other_than};
+ghost use Rattle.pack_index.specs.Format.{IsFault, IsFirstIndexOf, IsPackIndex, IsRefusal, crc_in, digest_at, names_in, offset_in, other_than, tables_end};
 
 use crate::checks::{check_tables, first_wrong_count, other_than};
 use crate::error::Error;
 use crate::names::{Names, all_digits};
 use crate::offsets::check_offsets;
-use crate::words::{NAMES_START, crc_in, crc_table_start, offset_in};
+use crate::words::{NAMES_START, crc_in, crc_table_start, digest_at, offset_in, tables_end};
 use gix_hash::{Kind, Prefix, ends_in_digest, oid};
 use id_lookup::{Answer, FanOut, Run, laws};
 use std::marker::Model;
@@ -195,6 +195,16 @@ impl<'a> File<'a> {
             → ¬ IsShortestName (names_in self.now.kind self.now.bytes) at name }
     {
         self.names.abbreviate(at)
+    }
+
+    /// The digest of the pack, as it is stored in the index.
+    pub fn pack_checksum(&self) -> oid<'a>
+        ensures { oid_bytes result ≡ slice_range self.now.bytes
+            (tables_end self.now.kind self.now.bytes) (digest_at self.now.kind self.now.bytes) }
+    {
+        let kind = self.kind;
+        let bytes = self.bytes;
+        oid::from_bytes_unchecked(&bytes[tables_end(bytes, kind)..digest_at(bytes, kind)])
     }
 }
 

@@ -2,7 +2,7 @@
 
 ghost use Rattle.std.specs.Prelude.{◌≡◌, ◌+◌, ◌*◌, ◌<◌, ◌≤◌, ◌^◌, length};
 ghost use Rattle.gix_hash.specs.Kinds.{byte_len_of};
-ghost use Rattle.pack_index.specs.Format.{HasOffset, HasTables, crc_in, crc_table_start, long_table_start, names_start, num_objects, offset_in, offset_table_start, offset_word, tables_end, word_at};
+ghost use Rattle.pack_index.specs.Format.{HasOffset, HasTables, crc_in, crc_table_start, digest_at, long_table_start, names_start, num_objects, offset_in, offset_table_start, offset_word, tables_end, word_at};
 ghost use Rattle.pack_index.specs.Lazy.{bucket_end, bucket_start};
 
 use gix_hash::Kind;
@@ -103,6 +103,14 @@ pub(crate) fn tables_end(bytes: &[u8], kind: Kind) -> usize
     ensures { result ≡ tables_end kind bytes.now }
 {
     bytes.len() - 2 * kind.len_in_bytes()
+}
+
+// Where the digest of all bytes before it begins.
+pub(crate) fn digest_at(bytes: &[u8], kind: Kind) -> usize
+    requires { byte_len_of kind ≤ length bytes.now }
+    ensures { result ≡ digest_at kind bytes.now }
+{
+    bytes.len() - kind.len_in_bytes()
 }
 
 /// The CRC-32 of object `at`, which must be below the number of objects, as stored in the index.
