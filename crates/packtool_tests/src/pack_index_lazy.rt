@@ -1,7 +1,8 @@
 //! A pack index in memory of more names than 16 bits count, read at positions.
 
 use crate::expecting::expect;
-use gix_hash::{Kind, ObjectId};
+use gix_hash::{Kind, ObjectId, Prefix};
+use linked_list_allocator::LocalHeap;
 use pack_index::{LazyError, LazyFile};
 use std::alloc::{AllocError, Global};
 use std::test::Fail;
@@ -54,5 +55,28 @@ fn the_last_is_found(rt: HostRuntime) -> Result<(), Fail> {
     let bytes = index_of_many(rt.alloc())?;
     let last = find_last(rt.alloc(), &bytes)?;
     expect!(&rt; last == Some((65_536, 65_548)));
+    Ok(())
+}
+
+// If memory runs out as names are added to a list, it has what it had, and the first of them.
+#[test]
+fn a_list_keeps_its_ids_without_memory(rt: HostRuntime) -> Result<(), Fail> {
+    let bytes = index_of_many(rt.alloc())?;
+    let index = LazyFile::open(&bytes[..], Kind::Sha1)?;
+    let bucket = index.bucket(rt.alloc(), FIRST_BYTE)?;
+    let prefix = Prefix::from_hex_in(Kind::Sha1, "4b")?;
+    for &most in &[256, 4096, 1 << 20] {
+        let heap = LocalHeap::new(rt.alloc(), most)?;
+        let mut ids = Vec::new(&heap);
+        ids.push(Kind::Sha1.null())?;
+        expect!(&rt; bucket.push_matches(&prefix, &mut ids).is_err(), most);
+        for (at, id) in ids.iter().enumerate() {
+            let wanted = match at.checked_sub(1) {
+                Some(at) => format!(in rt.alloc(); "4b{at:038x}")?,
+                None => format!(in rt.alloc(); "{at:040x}")?,
+            };
+            expect!(&rt; id.eq_str(&wanted), at);
+        }
+    }
     Ok(())
 }
