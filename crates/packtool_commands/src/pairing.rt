@@ -15,7 +15,7 @@ use streams::{ReadAt, Sink, WriteFailed};
 /// Whether a pack index belongs to a pack.
 ///
 /// ```
-/// if let Pairing::Other { named, .. } = pair(&File::try_new(idx, Kind::Sha1)?, &pack)? {
+/// if let Pairing::Other { named, .. } = pair(&open_index(content, None)?, &pack)? {
 ///     println!(rt; "its pack ends in {named}")?;
 /// }
 /// ```
@@ -41,7 +41,7 @@ pub enum Pairing {
 /// returned only if a read fails.
 ///
 /// ```
-/// let pairing = pair(&File::try_new(idx, Kind::Sha1)?, &pack)?;
+/// let pairing = pair(&open_index(content, None)?, &pack)?;
 /// println!(rt; "{}", matches!(pairing, Pairing::Same))?;
 /// ```
 pub fn pair<P: ReadAt>(index: &File<'_>, pack: &P) -> io::Result<Pairing>
@@ -125,7 +125,7 @@ fn first_beyond(index: &File<'_>, end: u64) -> Option<u64>
 /// have failed before.
 ///
 /// ```
-/// let pairing = pair(&File::try_new(idx, Kind::Sha1)?, &pack)?;
+/// let pairing = pair(&open_index(content, None)?, &pack)?;
 /// if write_pairing("pack-1.idx", &pairing, &mut out).is_err() {
 ///     println!(rt; "the line is not written whole")?;
 /// }

@@ -64,7 +64,7 @@ fn has_names(file: &File<'_>) -> bool
 /// as such an index has, and else of SHA-1.
 ///
 /// ```
-/// let file = open_index(&bytes, None)?;
+/// let file = open_index(content, None)?;
 /// println!(rt; "{} ids of the kind {}", file.num_objects(), file.object_hash())?;
 /// ```
 pub fn open_index(bytes: &[u8], kind: Option<Kind>) -> Result<File<'_>, pack_index::Error>
