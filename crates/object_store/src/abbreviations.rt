@@ -193,6 +193,7 @@ fn name_all<A: Allocator>(
 }
 
 // The id at a position of an index with its abbreviation there.
+#[inline(always)]
 fn name_at(ids: &[ObjectId], index: &IdIndex<'_>, at: usize, least: usize) -> NamedId
     requires in_range { at < length ids.now }
     requires index { index.now.ids ≡ map id_digits ids.now }

@@ -12,7 +12,7 @@ use streams::ReadAt;
 ///
 /// ```
 /// for pack in store.indexes() {
-///     println!(rt; "{} names", pack.num_objects())?;
+///     println!(rt; "{} ids", pack.num_objects())?;
 /// }
 /// println!(rt; "{} loose ids", store.loose().ids().len())?;
 /// ```

@@ -38,7 +38,7 @@ pub enum Answers {
 /// for a prefix of no id the line and ` missing`, and for [`Answers::One`] and a prefix of several
 /// ids the line and ` ambiguous`.
 ///
-/// Of each pack index the names with a first byte are read once. Nothing is written before all ids
+/// Of each pack index the ids with a first byte are read once. Nothing is written before all ids
 /// are found; if a pack index is gone until then, the store is opened again. If the ids are more
 /// than `most`, and there are several prefixes, then nothing is written, and
 /// [`StoreError::TooMany`] is returned. [`StoreError::Output`] is returned if and only if a write

@@ -34,7 +34,7 @@ type End = ArrayVec<u8, 22>;
 /// object a line for each file. Paths are escaped as by [`write_location`](crate::write_location).
 /// Returns whether there is such an id.
 ///
-/// The prefix has 2 digits or more, and the store's kind. Of each pack index the names with its
+/// The prefix has 2 digits or more, and the store's kind. Of each pack index the ids with its
 /// first byte are read once. Nothing is written before all locations are found; if a pack index is
 /// gone until then, the store is opened again. [`StoreError::Output`] is returned if and only if a
 /// write fails, after a proper beginning of the lines. The sink must not have failed before.
@@ -101,7 +101,7 @@ fn locations_of<S: Reopen + StorePaths, A: Allocator + Copy>(
 /// prefix, for a prefix of no id, and for [`Answers::One`] and a prefix of several ids, is said at
 /// [`find_each`](crate::find_each).
 ///
-/// Of each pack index the names with a first byte are read once. Nothing is written before all
+/// Of each pack index the ids with a first byte are read once. Nothing is written before all
 /// locations are found; if a pack index is gone until then, the store is opened again. If the
 /// locations are more than `most`, and there are several prefixes, then nothing is written, and
 /// [`StoreError::TooMany`] is returned. [`StoreError::Output`] is returned if and only if a write

@@ -100,8 +100,8 @@ fn is_any(before: bool, named: &[NamedId]) -> bool
     before || !named.is_empty()
 }
 
-/// Writes a line for each id, in their order, as [`names`] does: its name, a space, the id, and a
-/// line feed.
+/// Writes a line for each id, in their order, as [`names`] does: its abbreviation, a space, the id,
+/// and a line feed.
 ///
 /// It stops at the first write that fails, after a proper beginning of the lines. The sink must not
 /// have failed before.
@@ -134,7 +134,7 @@ pub fn write_names<W: Sink>(named: &[NamedId], out: &mut W) -> Result<(), WriteF
 /// for a prefix of no id the line and ` missing`, and for a prefix of several ids the line and
 /// ` ambiguous`.
 ///
-/// Of each pack index the names with a first byte are read once. Nothing is written before all ids
+/// Of each pack index the ids with a first byte are read once. Nothing is written before all ids
 /// are found; if a pack index is gone until then, the store is opened again. If there are several
 /// prefixes, more than `most`, then nothing is written, and [`StoreError::TooMany`] is returned.
 /// [`StoreError::Output`] is returned if and only if a write fails, after a proper beginning of the

@@ -15,10 +15,10 @@ use pack_index::tables::check_tables;
 use std::alloc::Allocator;
 use streams::{CHUNK_LEN, Sink, Source, WriteFailed, write_all};
 
-/// Reads a pack index of version 2 to its end, and writes a line for each of its names, in their
+/// Reads a pack index of version 2 to its end, and writes a line for each of its ids, in their
 /// order, as `git show-index` does: the object's offset in the pack, in decimal; a space; the id in
 /// hex; a space; the CRC-32 of the packed object as eight hex digits in parentheses; and a line
-/// feed. Returns whether there is one. With no kind, the names may be of either.
+/// feed. Returns whether there is one. With no kind, the ids may be of either.
 ///
 /// Nothing is written before the input is known to be an index. [`FileError::Input`] is returned if
 /// and only if a read fails, and [`FileError::Output`] if and only if a write fails, after a proper
