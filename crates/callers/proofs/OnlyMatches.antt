@@ -1,8 +1,7 @@
 -- If a prefix has no match or many, no member is its only match.
 use Rattle.std.proofs.Common.{◌≡◌, ◌+◌, ℕ, ◌⊎◌, inl, inr, List, subst, arith}
-use Rattle.gix_hash.specs.Prefixes.{KindDigits}
-use Rattle.id_lookup.specs.Runs.{IsRun}
-use Rattle.id_lookup.specs.Indexes.{IsAnswer}
+use Rattle.gix_hash.specs.Words.{KindDigits}
+use Rattle.id_lookup.specs.Words.{IsAnswer, IsRun}
 use Rattle.id_lookup.specs.declared.index.Answer.{Answer}
 use Rattle.id_lookup.specs.declared.index.Answer.TheVariants as answers
 use Rattle.id_lookup.specs.declared.search.Run.{Run}

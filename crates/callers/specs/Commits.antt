@@ -1,7 +1,6 @@
 -- The head of a commit.
-use Rattle.std.specs.Prelude.{◌≡◌, ◌≢◌, ◌++◌, ℕ, List, [], All, codes}
-use Rattle.std.specs.List.{flat_map}
-use Rattle.gix_hash.specs.Ids.{AreIdDigits, id_digits, id_kind}
+use Rattle.std.specs.Prelude.{◌≡◌, ◌≢◌, ◌++◌, ℕ, List, [], All, codes, flat_map}
+use Rattle.gix_hash.specs.Words.{AreIdDigits, id_digits, id_kind}
 use Rattle.gix_hash.specs.declared.Kind.{Kind}
 use Rattle.gix_hash.specs.declared.ObjectId.{ObjectId}
 use Rattle.repositories.specs.Printed.{line_then}

@@ -1,11 +1,8 @@
 -- What a typed name means.
 use Rattle.std.specs.Prelude.{◌≡◌, ◌≤◌, ℕ, List, [], ◌∷◌, Ok, length, map}
-use Rattle.gix_hash.specs.Digits.{hex_letter}
-use Rattle.gix_hash.specs.Ids.{id_digits, id_kind}
-use Rattle.gix_hash.specs.Prefixes.{KindDigits}
-use Rattle.gix_hash.specs.Reading.{prefix_read_in}
+use Rattle.gix_hash.specs.Words.{KindDigits, hex_letter, id_digits, id_kind, prefix_read_in}
 use Rattle.gix_hash.specs.declared.Kind.{Kind}
-use Rattle.id_lookup.specs.Runs.{matches}
+use Rattle.id_lookup.specs.Words.{matches}
 use Rattle.callers.specs.declared.names.Resolved.{Resolved}
 use Rattle.callers.specs.declared.names.Resolved.TheVariants.{Unknown, Id, Ambiguous}
 

@@ -1,10 +1,8 @@
 -- Which object of a pack a typed text names.
 use Rattle.std.specs.Prelude.{◌≡◌, ◌+◌, ℕ, List, Ok}
-use Rattle.gix_hash.specs.Digits.{hex_letter}
-use Rattle.gix_hash.specs.Prefixes.{KindDigits}
-use Rattle.gix_hash.specs.Reading.{prefix_read_in}
+use Rattle.gix_hash.specs.Words.{KindDigits, hex_letter, prefix_read_in}
 use Rattle.gix_hash.specs.declared.Kind.{Kind}
-use Rattle.id_lookup.specs.Runs.{IsRun}
+use Rattle.id_lookup.specs.Words.{IsRun}
 use Rattle.pack_index.specs.Format.{IsPackIndex, names_in}
 
 -- the text reads as a prefix in the kind, the bytes are a pack index of the kind, and only its name at the position begins with the prefix

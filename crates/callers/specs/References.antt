@@ -1,7 +1,7 @@
 -- What the file of a reference says.
 use Rattle.std.specs.Prelude.{◌≡◌, ◌≢◌, ◌++◌, ◌∷◌, ◌==◌, ◌&&◌, ◌≤◌, not, [], ℕ, Bool, IsTrue, List, codes, length, nat_eq, nat_lt}
 use Rattle.std.specs.List.{list_all, list_any}
-use Rattle.gix_hash.specs.Ids.{AreIdDigits, id_digits, id_kind}
+use Rattle.gix_hash.specs.Words.{AreIdDigits, id_digits, id_kind}
 use Rattle.gix_hash.specs.declared.Kind.{Kind}
 use Rattle.repositories.specs.Printed.{line_then}
 use Rattle.callers.specs.declared.references.Reference.{Reference}

@@ -3,8 +3,8 @@
 
 ghost use Rattle.std.specs.Prelude.{◌≡◌, ◌↔◌, ◌≤◌, ℕ, IfSome, IsSome, length, map, slice_range};
 ghost use Rattle.std.specs.List.Sorted.{IsPermutation};
-ghost use Rattle.gix_hash.specs.Ids.{id_digits, id_kind};
-ghost use Rattle.id_lookup.specs.Runs.{IsRun, IsSortedIds, least_hex_len};
+ghost use Rattle.gix_hash.specs.Words.{id_digits, id_kind};
+ghost use Rattle.id_lookup.specs.Words.{IsRun, IsSortedIds, least_hex_len};
 ghost use Rattle.callers.specs.declared.branches.Branch.{Branch};
 
 use gix_hash::{ObjectId, Prefix, oid};

@@ -2,8 +2,7 @@
 
 ghost use Rattle.std.specs.Prelude.{◌≡◌, ◌↔◌, ◌∷◌, ◌++◌, [], IfErr, IfOk, IsOk, OnOk, codes, string_bytes};
 ghost use Rattle.std.specs.Io.KnownBytes.{Appends};
-ghost use Rattle.gix_hash.specs.Digits.{hex_letter, spelling};
-ghost use Rattle.gix_hash.specs.Ids.{id_digits, oid_digits};
+ghost use Rattle.gix_hash.specs.Words.{hex_letter, id_digits, oid_digits, spelling};
 
 use gix_hash::{ObjectId, oid, verify};
 use std::alloc::{AllocError, Global};

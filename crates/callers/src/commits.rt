@@ -1,7 +1,7 @@
 //! The head of a commit: the lines of its tree and its parents.
 
 ghost use Rattle.std.specs.Prelude.{◌≡◌, codes, IfOk, MatchOption};
-ghost use Rattle.gix_hash.specs.Ids.{id_digits, id_kind};
+ghost use Rattle.gix_hash.specs.Words.{id_digits, id_kind};
 ghost use Rattle.callers.specs.Commits.{keyed_then, HasNoKeyed, IsHead};
 
 use gix_hash::{Kind, ObjectId};

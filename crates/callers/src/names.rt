@@ -2,9 +2,8 @@
 
 ghost use Rattle.std.specs.Prelude.{◌≡◌, ◌<◌, ◌∷◌, ◌++◌, [], ℕ, List, OnOk, IfOk, IfErr, Err, length};
 ghost use Rattle.std.specs.Io.KnownBytes.{Appends};
-ghost use Rattle.gix_hash.specs.Digits.{hex_letter, spelling};
-ghost use Rattle.gix_hash.specs.Reading.{prefix_read_in};
-ghost use Rattle.id_lookup.specs.Indexes.{IsShortestName};
+ghost use Rattle.gix_hash.specs.Words.{hex_letter, prefix_read_in, spelling};
+ghost use Rattle.id_lookup.specs.Words.{IsShortestName};
 ghost use Rattle.callers.specs.Names.{Resolves};
 
 use gix_hash::{ObjectId, Prefix, prefix};

@@ -1,13 +1,9 @@
 //! Ids and prefixes of texts and of digests.
 
-ghost use Rattle.std.specs.Prelude.{◌≡◌, ◌≤◌, ◌<◌, ◌↔◌, IsTrue, MatchOption, MatchResult, length, take};
-ghost use Rattle.std.specs.Result.{IsOkAnd};
+ghost use Rattle.std.specs.Prelude.{◌≡◌, ◌≤◌, ◌<◌, ◌↔◌, IsTrue, MatchOption, MatchResult, length, take, IsOkAnd};
 ghost use Rattle.std.specs.Str.{str_to_ascii_lowercase};
 ghost use Rattle.std.specs.declared.cmp.Ordering.{Ordering};
-ghost use Rattle.gix_hash.specs.Digits.{digits_of, hex_letter, is_digest_len, place, spelling};
-ghost use Rattle.gix_hash.specs.Reading.{IsFullReading, IsFullRefusal, prefix_read, whole_of};
-ghost use Rattle.gix_hash.specs.Kinds.{hex_len_of, kind_of_byte_len};
-ghost use Rattle.gix_hash.specs.Ids.{id_digits, id_kind, oid_digits, oid_kind};
+ghost use Rattle.gix_hash.specs.Words.{IsFullReading, IsFullRefusal, digits_of, hex_len_of, hex_letter, id_digits, id_kind, is_digest_len, kind_of_byte_len, oid_digits, oid_kind, place, prefix_read, spelling, whole_of};
 
 use gix_hash::{Alphabet, ObjectId, Prefix, decode, laws, oid};
 

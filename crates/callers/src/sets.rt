@@ -4,7 +4,7 @@ ghost use Rattle.std.specs.Prelude.{◌≡◌, ◌≢◌, ◌||◌, ◌↔◌, n
 ghost use Rattle.std.specs.BTreeMap as tree;
 ghost use Rattle.std.specs.HashSet as hash_set;
 ghost use Rattle.std.specs.declared.cmp.Ordering.{Ordering};
-ghost use Rattle.gix_hash.specs.Ids.{id_cmp, id_eq};
+ghost use Rattle.gix_hash.specs.Words.{id_cmp, id_eq};
 ghost use Rattle.gix_hash.specs.declared.ObjectId.{ObjectId};
 
 use gix_hash::{ObjectId, laws};

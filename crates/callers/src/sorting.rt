@@ -2,9 +2,8 @@
 
 ghost use Rattle.std.specs.Prelude.{◌≡◌, ◌↔◌, ℕ, List, All, Contains, IfOk, IsOk, map};
 ghost use Rattle.std.specs.List.Sorted.{IsPermutation};
-ghost use Rattle.gix_hash.specs.Ids.{id_digits, id_kind};
-ghost use Rattle.id_lookup.specs.Indexes.{IsIndex};
-ghost use Rattle.id_lookup.specs.Runs.{IsSortedIds};
+ghost use Rattle.gix_hash.specs.Words.{id_digits, id_kind};
+ghost use Rattle.id_lookup.specs.Words.{IsIndex, IsSortedIds};
 
 use gix_hash::{Kind, ObjectId};
 use id_lookup::{IdIndex, IndexError, SortedIds, sort_ids, sort_unique};

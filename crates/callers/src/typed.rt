@@ -1,11 +1,8 @@
 //! The ids that a user may mean by the first digits that were typed.
 
 ghost use Rattle.std.specs.Prelude.{◌≡◌, IfErr, IfOk, Err, Ok, map};
-ghost use Rattle.gix_hash.specs.Digits.{hex_letter};
-ghost use Rattle.gix_hash.specs.Ids.{id_digits};
-ghost use Rattle.gix_hash.specs.Prefixes.{KindDigits};
-ghost use Rattle.gix_hash.specs.Reading.{prefix_read_in};
-ghost use Rattle.id_lookup.specs.Runs.{matches};
+ghost use Rattle.gix_hash.specs.Words.{KindDigits, hex_letter, id_digits, prefix_read_in};
+ghost use Rattle.id_lookup.specs.Words.{matches};
 
 use gix_hash::prefix::from_hex::Error;
 use gix_hash::{ObjectId, Prefix};

@@ -1,6 +1,5 @@
 -- A config is read in one way: no other variables and no other bad line are its.
-use Rattle.std.proofs.Common.{◌≡◌, ◌∙◌, ◌++◌, [], ℕ, List, Option, Some, None, Ok, Err, refl, sym, ap, subst}
-use Rattle.std.specs.Prelude.{option_to_list}
+use Rattle.std.proofs.Common.{◌≡◌, ◌∙◌, ◌++◌, [], ℕ, List, Option, Some, None, Ok, Err, refl, sym, ap, subst, option_to_list}
 use Rattle.git_config.specs.Grammar.{Read, Reads, Variable}
 use Rattle.git_config.specs.Grammar.Reads.{ends, goes, stops}
 

@@ -1,6 +1,5 @@
 -- Texts at their first byte.
-use Rattle.std.proofs.Common.{◌≡◌, ◌≤◌, ◌∷◌, ◌-◌, [], ℕ, List, length, slice_index, take, drop, sym, ap, arith}
-use Rattle.std.proofs.lemmas.List.{take_all}
+use Rattle.std.proofs.Common.{◌≡◌, ◌≤◌, ◌∷◌, ◌-◌, [], ℕ, List, length, slice_index, take, drop, sym, ap, arith, take_all}
 
 pub first_of : (text : List ℕ) → 1 ≤ length text → text ≡ slice_index text 0 ∷ take (length text - 1) (drop 1 text)
 first_of [] some = absurd (omega arith)

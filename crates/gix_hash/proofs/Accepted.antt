@@ -1,7 +1,6 @@
 -- What follows of a hashing writer from many calls of it.
-use Rattle.std.proofs.Common.{◌∙◌, ℕ, List, [], ◌∷◌, ◌++◌, Option, refl, subst, append_assoc}
+use Rattle.std.proofs.Common.{◌∙◌, ℕ, List, [], ◌∷◌, ◌++◌, Option, refl, subst, append_assoc, append-nil}
 use Rattle.std.proofs.KnownBytes.{Appends-nil, Appends-trans}
-use Rattle.std.proofs.lemmas.List.{append-nil}
 use Rattle.std.proofs.lemmas.List.Concat.{flat_map-cons}
 use Rattle.gix_hash.specs.Hashing.{Reaches, WriterCall, WriterStep, WritesAndFeeds, accepted, accepted_by}
 use Rattle.gix_hash.specs.declared.io.write.Write.{Write}

@@ -1,6 +1,5 @@
 -- Equality of ids and of prefixes is that of their kinds and digits.
-use Rattle.std.proofs.Common.{◌≡◌, ◌↔◌, ℕ, ◌&&◌, List, refl, sym, ap, ◌∙◌, eqb-true}
-use Rattle.std.specs.Prelude.{IsTrue, Contains, nat_eq}
+use Rattle.std.proofs.Common.{◌≡◌, ◌↔◌, ℕ, ◌&&◌, List, refl, sym, ap, ◌∙◌, eqb-true, IsTrue, Contains, nat_eq}
 use Rattle.std.specs.List.{list_any}
 use Rattle.std.proofs.lemmas.List.Folds.{list_any-from_Any}
 use Rattle.std.proofs.lemmas.Map.Views.{Contains-from_any}

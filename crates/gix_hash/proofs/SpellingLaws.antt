@@ -1,6 +1,5 @@
 -- Spellings determine their digits, and the order of spellings.
-use Rattle.std.proofs.Common.{◌≡◌, ◌↔◌, ℕ, ◌<◌, ◌==◌, true, List, [], ◌∷◌, length, map, slice_index, refl, sym, ap, ◌∙◌, arith, eqb-true, Ordering}
-use Rattle.std.specs.Prelude.{All, IsTrue, codes}
+use Rattle.std.proofs.Common.{◌≡◌, ◌↔◌, ℕ, ◌<◌, ◌==◌, true, List, [], ◌∷◌, length, map, slice_index, refl, sym, ap, ◌∙◌, arith, eqb-true, Ordering, All, IsTrue, codes}
 use Rattle.std.specs.Cmp.{tied_itself, nat_cmp_total}
 use Rattle.std.specs.Cmp.Lexicographic.{slice_cmp}
 use Rattle.std.specs.Ordering.{nat_cmp, ordering_then, ordering_reverse}

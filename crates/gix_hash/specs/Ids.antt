@@ -1,11 +1,9 @@
 -- What contracts see of ids: owned, borrowed and cut, and the ids that Git knows.
-use Rattle.std.specs.Prelude.{[], ℕ, ◌++◌, ◌<◌, ◌∷◌, ◌≡◌, Bool, IsTrue, List, codes, length, map, nat_eq, replicate, take, unwrap_or}
 use Rattle.std.specs.Cmp.Lexicographic.{pointwise, slice_cmp}
 use Rattle.std.specs.Hash as fed
-use Rattle.std.specs.List.{All}
 use Rattle.std.specs.Ordering.{eq_of_both, nat_cmp, on, then_cmp}
 use Rattle.std.specs.declared.cmp.Ordering.{Ordering}
-use Rattle.std.proofs.Common.{ap}
+use Rattle.std.proofs.Common.{[], ℕ, ◌++◌, ◌<◌, ◌∷◌, ◌≡◌, Bool, IsTrue, List, codes, length, map, nat_eq, replicate, take, unwrap_or, All, ap}
 use Rattle.std.proofs.lemmas.Bool.{and_parts}
 use Rattle.id_digits.proofs.DigitOrder.{same_bytes}
 use Rattle.id_digits.specs.Digits.{digit_in, digits_of, hex_letter}

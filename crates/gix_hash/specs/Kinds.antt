@@ -1,6 +1,5 @@
 -- The kinds of digest, with their numbers and lengths.
-use Rattle.std.specs.Prelude.{[], ℕ, ◌==◌, ◌∷◌, ◌≡◌, ◌≢◌, Contains, List, None, Option, Some, codes, false, if◌then◌else◌, length, nat_le}
-use Rattle.std.proofs.Common.{arith}
+use Rattle.std.proofs.Common.{[], ℕ, ◌==◌, ◌∷◌, ◌≡◌, ◌≢◌, Contains, List, None, Option, Some, codes, false, if◌then◌else◌, length, nat_le, arith}
 use Rattle.id_digits.specs.Digits.{is_digest_len}
 use Rattle.gix_hash.specs.declared.error.Error.{Error}
 use Rattle.gix_hash.specs.declared.error.Error.TheVariants.{InvalidByteSliceLength}

@@ -7,3 +7,4 @@ pub mod Prefixes
 pub mod PrefixBytes
 pub mod Loans
 pub mod Hashing
+pub mod Words

@@ -1,6 +1,5 @@
 -- How a prefix is stored: the bytes of its digits with zeros after them, the number of digits, and their two words.
-use Rattle.std.proofs.Common.{◌<◌, ◌≡◌, ℕ, ◌+◌, ◌-◌, ◌*◌, ◌≤◌, List, [], ◌∷◌, length, take, replicate, refl, sym, ap, ◌∙◌, arith, length-append, eqb-true}
-use Rattle.std.specs.Prelude.{IsTrue, All, nat_eq}
+use Rattle.std.proofs.Common.{◌<◌, ◌≡◌, ℕ, ◌+◌, ◌-◌, ◌*◌, ◌≤◌, List, [], ◌∷◌, length, take, replicate, refl, sym, ap, ◌∙◌, arith, length-append, eqb-true, IsTrue, All, nat_eq}
 use Rattle.std.specs.Hash as fed
 use Rattle.std.specs.Cmp.Lexicographic.{pointwise, bytes_decides}
 use Rattle.std.proofs.lemmas.Bool.{and_parts}

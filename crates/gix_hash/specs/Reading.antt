@@ -1,6 +1,5 @@
 -- What reading an id or a prefix returns.
-use Rattle.std.specs.Prelude.{ℕ, ◌<◌, ◌==◌, ◌≡◌, ◌≤◌, Err, List, None, Option, Result, Some, if◌then◌else◌, length, nat_lt}
-use Rattle.std.specs.Option.{ok_or, option_map}
+use Rattle.std.specs.Prelude.{ℕ, ◌<◌, ◌==◌, ◌≡◌, ◌≤◌, Err, List, None, Option, Result, Some, if◌then◌else◌, length, nat_lt, ok_or, option_map}
 use Rattle.std.specs.Result.{result_map_both}
 use Rattle.id_digits.specs.Digits.{IsUnreadable, ReadsAs, digits_read, hex_letter, reverse_letter}
 use Rattle.gix_hash.specs.Ids.{id_digits, id_kind}

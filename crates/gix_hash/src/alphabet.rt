@@ -1,7 +1,6 @@
 //! The alphabets in which digits are spelled and read.
 
-ghost use Rattle.std.specs.Prelude.{◌≡◌, ◌≤◌, ◌*◌, ◌++◌, Some, None, IsTrue, if◌then◌else◌, length, drop, replicate};
-ghost use Rattle.std.specs.Option.{ok_or, option_map};
+ghost use Rattle.std.specs.Prelude.{◌≡◌, ◌≤◌, ◌*◌, ◌++◌, Some, None, IsTrue, if◌then◌else◌, length, drop, replicate, ok_or, option_map};
 ghost use Rattle.std.specs.Result.{result_ok};
 ghost use Rattle.id_digits.specs.Digits.{digits_of, digits_read, hex_letter, is_digest_len, padded, reverse_letter, spelling};
 ghost use Rattle.gix_hash.specs.Kinds.{hex_len_of};

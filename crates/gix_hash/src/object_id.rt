@@ -1,11 +1,10 @@
 //! Ids that own their bytes.
 
-ghost use Rattle.std.specs.Prelude.{◌≡◌, ◌≤◌, ◌<◌, ◌*◌, All, length, slice_range, ◌↔◌, ◌++◌, ℕ, List, IsTrue, IsOk, IfErr, OnOk, IsAscii, drop, nat_eq, Some, MatchResult};
 ghost use Rattle.gix_hash.specs.Ids.{asked_len, cut_kind, empty_blob_digits, empty_tree_digits, id_bytes, id_digits, id_kind, null_digits, oid_digits, oid_kind, shown_digits, whole_digits, id_eq, id_cmp, id_hash_input, same_id_input};
 ghost use Rattle.gix_hash.specs.Reading.{full_read, result_digits};
 ghost use Rattle.gix_hash.specs.Kinds.{byte_len_of, hex_len_of, kind_of_byte_len, IsLengthRefusal};
 ghost use Rattle.id_digits.specs.Digits.{digits_of, first_byte_of, hex_letter, is_digest_len, spelling};
-ghost use Rattle.std.proofs.Common.{rules};
+ghost use Rattle.std.proofs.Common.{◌≡◌, ◌≤◌, ◌<◌, ◌*◌, All, length, slice_range, ◌↔◌, ◌++◌, ℕ, List, IsTrue, IsOk, IfErr, OnOk, IsAscii, drop, nat_eq, Some, MatchResult, rules};
 ghost use Rattle.std.specs.Cmp.Rules.{comparing};
 
 use crate::alphabet::Alphabet;

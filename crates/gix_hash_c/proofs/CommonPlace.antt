@@ -1,20 +1,14 @@
 -- The order of the first digits of two lists, by how many digits these have in common; and that there is none for too many.
-use Rattle.std.proofs.Common.{◌≡◌, ℕ, zero, suc, ◌+◌, ◌*◌, ◌<◌, ◌≤◌, pos, Bool, true, false, ◌||◌, Equal, List, [], ◌∷◌, length, take, nat_lt, refl, sym, ap, ◌∙◌, arith}
-use Rattle.std.specs.Prelude.{◌==◌, if◌then◌else◌, Some, None}
+use Rattle.std.proofs.Common.{◌≡◌, ℕ, zero, suc, ◌+◌, ◌*◌, ◌<◌, ◌≤◌, pos, Bool, true, false, ◌||◌, Equal, List, [], ◌∷◌, length, take, nat_lt, refl, sym, ap, ◌∙◌, arith, ◌==◌, if◌then◌else◌, Some, None, length-take-le, take-take}
 use Rattle.std.specs.Ordering.{nat_cmp, ordering_then}
 use Rattle.std.specs.Cmp.Lexicographic.{slice_cmp, texts_ties}
 use Rattle.std.proofs.lemmas.Bool.Decides.{nat_tests}
-use Rattle.std.proofs.lemmas.List.{length-take-le, take-take}
-use Rattle.gix_hash.specs.Digits.{digits_of, place}
+use Rattle.id_lookup.specs.Words.{Kind, KindDigits, Sha1, Sha256, byte_len_of, digits_of, hex_len_of, place}
 use Rattle.id_digits.proofs.ByteDigits.{length-digits_of, take-digits_of}
 use Rattle.id_lookup.proofs.CommonDigits.{begins-common, common, cond_yes}
 use Rattle.id_lookup.proofs.FirstByteOrder.{by_cmp}
 use Rattle.id_lookup.proofs.Spelled.{is_eq-Equal}
-use Rattle.gix_hash.specs.Kinds.{byte_len_of, hex_len_of}
-use Rattle.gix_hash.specs.declared.kind.Kind.{Kind}
-use Rattle.gix_hash.specs.declared.kind.Kind.TheVariants.{Sha1, Sha256}
 use Rattle.gix_hash.proofs.KindFacts.{hex_len_of-bytes}
-use Rattle.gix_hash.specs.Prefixes.{KindDigits}
 use Rattle.gix_hash_c.specs.Face.{place_number, prefix_in}
 
 -- more digits are in the order of all

@@ -1,7 +1,6 @@
 -- What calls do to a hasher that was fed a message.
 use Rattle.std.proofs.Common.{◌≡◌, ◌++◌, ℕ, List, Some, ap}
-use Rattle.gix_hash.specs.declared.kind.Kind.{Kind}
-use Rattle.gix_hash.specs.declared.kind.Kind.TheVariants.{Sha1, Sha256}
+use Rattle.id_lookup.specs.Words.{Kind, Sha1, Sha256}
 use Rattle.gix_hash_c.specs.Face.{kind_of_number}
 use Rattle.gix_hash_c.specs.Hashers.{UpdateAnswer, WasFed}
 use Rattle.gix_hash_c.specs.declared.hashers.Hasher.{Hasher}

@@ -1,14 +1,7 @@
 -- What reading a prefix's text gives in a struct.
-use Rattle.std.proofs.Common.{◌≡◌, ℕ, ◌≤◌, Bool, true, false, nat_lt, Option, Some, None, Ok, List, length, refl, sym, ap, ◌∙◌, arith}
-use Rattle.std.specs.Prelude.{nat_le}
-use Rattle.std.specs.Option.{ok_or, option_map}
+use Rattle.std.proofs.Common.{◌≡◌, ℕ, ◌≤◌, Bool, true, false, nat_lt, Option, Some, None, Ok, List, length, refl, sym, ap, ◌∙◌, arith, nat_le, ok_or, option_map}
 use Rattle.std.proofs.lemmas.Bool.Decides.{nat_tests}
-use Rattle.gix_hash.specs.Digits.{digits_of, digits_read, hex_letter, padded}
-use Rattle.gix_hash.specs.Kinds.{hex_len_of, kind_of_hex_len}
-use Rattle.gix_hash.specs.Prefixes.{KindDigits, kind_digits}
-use Rattle.gix_hash.specs.Reading.{prefix_read}
-use Rattle.gix_hash.specs.declared.kind.Kind.{Kind}
-use Rattle.gix_hash.specs.declared.kind.Kind.TheVariants.{Sha1, Sha256}
+use Rattle.id_lookup.specs.Words.{Kind, KindDigits, Sha1, Sha256, digits_of, digits_read, hex_len_of, hex_letter, kind_digits, kind_of_hex_len, padded, prefix_read}
 use Rattle.gix_hash.specs.declared.prefix.from_hex.Error.TheVariants.{Invalid}
 use Rattle.id_digits.proofs.ReadingFacts.{length-digits_read}
 use Rattle.gix_hash_c.specs.Face.{PrefixAnswer}

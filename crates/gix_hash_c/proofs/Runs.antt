@@ -1,10 +1,7 @@
 -- Runs of digits, whatever kind the prefix has that they are of.
 use Rattle.std.proofs.Common.{ℕ, ◌≤◌, List, length, map, arith}
 use Rattle.std.proofs.lemmas.List.{length-map}
-use Rattle.gix_hash.specs.Digits.{digits_of}
-use Rattle.gix_hash.specs.Prefixes.{KindDigits, kind_digits}
-use Rattle.gix_hash.specs.declared.kind.Kind.{Kind}
-use Rattle.id_lookup.specs.Runs.{IsRun, IsSortedIds}
+use Rattle.id_lookup.specs.Words.{IsRun, IsSortedIds, Kind, KindDigits, digits_of, kind_digits}
 use Rattle.id_lookup.specs.declared.search.Run as found
 use Rattle.gix_hash_c.specs.LookUps.{IsRunIfSorted, run_in}
 use Rattle.gix_hash_c.specs.declared.look_up.Run.{Run}

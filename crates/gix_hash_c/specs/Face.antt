@@ -2,11 +2,7 @@
 use Rattle.std.specs.Prelude.{◌≡◌, ◌≢◌, ◌==◌, ◌<◌, ◌≤◌, ◌⊎◌, ℕ, suc, ℤ, pos, negsuc, nat_lt, Bool, true, false, ◌||◌, ◌++◌, if◌then◌else◌, List, ◌∷◌, Option, Some, None, Result, Ok, Err, drop, length, option_map, take}
 use Rattle.std.specs.declared.cmp.Ordering.{Ordering}
 use Rattle.std.specs.declared.cmp.Ordering.TheVariants.{Less, Equal, Greater}
-use Rattle.gix_hash.specs.Digits.{digits_of, hex_letter, padded, place, spelling}
-use Rattle.gix_hash.specs.Kinds.{byte_len_of, hex_len_of, number_of}
-use Rattle.gix_hash.specs.Prefixes.{KindDigits, kind_digits, prefix_cmp}
-use Rattle.gix_hash.specs.declared.kind.Kind.{Kind}
-use Rattle.gix_hash.specs.declared.kind.Kind.TheVariants.{Sha1, Sha256}
+use Rattle.id_lookup.specs.Words.{Kind, KindDigits, Sha1, Sha256, byte_len_of, digits_of, hex_len_of, hex_letter, kind_digits, number_of, padded, place, prefix_cmp, spelling}
 use Rattle.gix_hash.specs.declared.decode.Error as decode
 use Rattle.gix_hash.specs.declared.decode.Error.TheVariants as unread
 use Rattle.gix_hash.specs.declared.prefix.from_hex.Error as from_hex

@@ -4,11 +4,7 @@ use Rattle.sha1.specs.Sha1.{Holds}
 use Rattle.sha2.specs.Hashers.{Holds256}
 use Rattle.sha1.specs.declared.Sha1 as sha1
 use Rattle.sha2.specs.declared.Sha256 as sha256
-use Rattle.gix_hash.specs.Hashing.{digest}
-use Rattle.gix_hash.specs.Kinds.{number_of}
-use Rattle.gix_hash.specs.Reading.{whole_of}
-use Rattle.gix_hash.specs.declared.kind.Kind.{Kind}
-use Rattle.gix_hash.specs.declared.kind.Kind.TheVariants.{Sha1, Sha256}
+use Rattle.id_lookup.specs.Words.{Kind, Sha1, Sha256, digest, number_of, whole_of}
 use Rattle.gix_hash_c.specs.Codes.{BAD_KIND, BAD_TYPE, OK}
 use Rattle.gix_hash_c.specs.Face.{HoldsId}
 use Rattle.gix_hash_c.specs.declared.hashers.Hasher.{Hasher}

@@ -1,11 +1,6 @@
 -- What look-ups in a table of digests return.
 use Rattle.std.specs.Prelude.{[], ℕ, ◌<◌, ◌≡◌, ◌≤◌, ◌⊎◌, Bool, List, None, Option, Some, false, length, nat_lt, slice_index_or, take, true}
-use Rattle.gix_hash.specs.Kinds.{hex_len_of, number_of}
-use Rattle.gix_hash.specs.Prefixes.{kind_digits}
-use Rattle.gix_hash.specs.declared.kind.Kind.{Kind}
-use Rattle.gix_hash.specs.declared.kind.Kind.TheVariants.{Sha1, Sha256}
-use Rattle.id_lookup.specs.Indexes.{IsShortestName}
-use Rattle.id_lookup.specs.Runs.{IsFirstUnsorted, IsRun, IsSortedIds}
+use Rattle.id_lookup.specs.Words.{IsFirstUnsorted, IsRun, IsShortestName, IsSortedIds, Kind, Sha1, Sha256, hex_len_of, kind_digits, number_of}
 use Rattle.id_lookup.specs.declared.search.Run as found
 use Rattle.pack_index.specs.Format.{HasHead, HasOffset, HasTables, IsFault, IsPackIndex, IsRefusal, crc_in, digests_in, names_in, num_objects, offset_in}
 use Rattle.pack_index.specs.declared.error.Error.{Error}

@@ -1,8 +1,7 @@
 //! Digests of bytes, for C.
 
 ghost use Rattle.std.specs.Prelude.{option_map};
-ghost use Rattle.gix_hash.specs.Hashing.{digest};
-ghost use Rattle.gix_hash.specs.Reading.{whole_of};
+ghost use Rattle.id_lookup.specs.Words.{digest, whole_of};
 ghost use Rattle.gix_hash_c.specs.Face.{KindIdAnswer, kind_of_number};
 
 use crate::codes::{BAD_KIND, OK, kind_of};

@@ -1,10 +1,7 @@
 //! Ids for C.
 
 ghost use Rattle.std.specs.Prelude.{◌≡◌, MatchOption, Some, None, option_map};
-ghost use Rattle.gix_hash.specs.Digits.{hex_letter};
-ghost use Rattle.gix_hash.specs.Reading.{full_read, whole_of};
-ghost use Rattle.gix_hash.specs.Ids.{empty_blob_digits, empty_tree_digits, null_digits, oid_digits, oid_kind};
-ghost use Rattle.gix_hash.specs.Prefixes.{kind_digits};
+ghost use Rattle.id_lookup.specs.Words.{empty_blob_digits, empty_tree_digits, full_read, hex_letter, kind_digits, null_digits, oid_digits, oid_kind, whole_of};
 ghost use Rattle.gix_hash_c.specs.Face.{BytesAnswer, HexAnswer, HoldsId, IdAnswer, KindIdAnswer, TextAnswer, id_in, ids_order, kind_of_number};
 
 use crate::codes::{BAD_DIGIT, BAD_KIND, BAD_LENGTH, NO_ORDER, NO_ROOM, OK, kind_of, order_of};

@@ -2,8 +2,7 @@
 //! result is the run of the prefix.
 
 ghost use Rattle.std.specs.Prelude.{◌≤◌, IfSome, IsNone, length};
-ghost use Rattle.gix_hash.specs.Kinds.{hex_len_of};
-ghost use Rattle.id_lookup.specs.Runs.{IsFirstUnsorted, IsSortedIds};
+ghost use Rattle.id_lookup.specs.Words.{IsFirstUnsorted, IsSortedIds, hex_len_of};
 ghost use Rattle.pack_index.specs.Format.{digests_in};
 ghost use Rattle.gix_hash_c.specs.Face.{kind_of_number, prefix_in};
 ghost use Rattle.gix_hash_c.specs.LookUps.{FindAnswer, IsRunIfSorted, SortedAnswer};

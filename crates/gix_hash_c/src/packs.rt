@@ -2,10 +2,7 @@
 //! the lengths of the tables. So none reads outside of the bytes, whatever they are.
 
 ghost use Rattle.std.specs.Prelude.{◌≡◌, ◌<◌, ◌≤◌, [], IfErr, IfSome, IsNone, OnOk, ℕ, List, length, slice_index_or, slice_range, take};
-ghost use Rattle.gix_hash.specs.Kinds.{hex_len_of};
-ghost use Rattle.gix_hash.specs.Prefixes.{kind_digits};
-ghost use Rattle.id_lookup.specs.Indexes.{IsShortestName};
-ghost use Rattle.id_lookup.specs.Runs.{IsSortedIds};
+ghost use Rattle.id_lookup.specs.Words.{IsShortestName, IsSortedIds, hex_len_of, kind_digits};
 ghost use Rattle.pack_index.specs.Format.{HasHead, HasTables, crc_table_start, digests_in, names_start};
 ghost use Rattle.gix_hash_c.specs.Face.{HoldsId, kind_of_number, prefix_in};
 ghost use Rattle.gix_hash_c.specs.LookUps.{CheckAnswer, EntryAnswer, IsTablesFault, LenAnswer, NameAnswer, PackFindAnswer, PackKindAnswer, ShortestAnswer, cause_number, detail_of};

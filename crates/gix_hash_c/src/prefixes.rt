@@ -1,10 +1,7 @@
 //! Prefixes for C.
 
 ghost use Rattle.std.specs.Prelude.{◌≡◌, ◌≤◌, MatchOption, Some, None, take};
-ghost use Rattle.gix_hash.specs.Digits.{digits_of, hex_letter, place};
-ghost use Rattle.gix_hash.specs.Kinds.{hex_len_of};
-ghost use Rattle.gix_hash.specs.Ids.{oid_digits, oid_kind};
-ghost use Rattle.gix_hash.specs.Reading.{prefix_read};
+ghost use Rattle.id_lookup.specs.Words.{digits_of, hex_len_of, hex_letter, oid_digits, oid_kind, place, prefix_read};
 ghost use Rattle.gix_hash_c.specs.Face.{PrefixAnswer, id_in, place_number, prefix_in};
 
 use crate::codes::{BAD_DIGIT, BAD_LENGTH, NO_ORDER, OK, order_of};

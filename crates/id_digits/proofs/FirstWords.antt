@@ -1,10 +1,8 @@
 -- Digests compare as the numbers of their first sixteen digits do, and then as the rest of their bytes.
-use Rattle.std.proofs.Common.{◌≡◌, ℕ, zero, suc, ◌^◌, ◌<◌, ◌≤◌, ◌-◌, List, [], ◌∷◌, length, take, drop, Ordering, Less, Equal, Greater, true, false, refl, sym, ◌∙◌, arith}
-use Rattle.std.specs.Prelude.{All, IsTrue}
+use Rattle.std.proofs.Common.{◌≡◌, ℕ, zero, suc, ◌^◌, ◌<◌, ◌≤◌, ◌-◌, List, [], ◌∷◌, length, take, drop, Ordering, Less, Equal, Greater, true, false, refl, sym, ◌∙◌, arith, All, IsTrue, take_all, length-drop}
 use Rattle.std.specs.Ordering.{nat_cmp, ordering_then, is_eq}
 use Rattle.std.specs.Cmp.Lexicographic.{slice_cmp}
 use Rattle.std.proofs.lemmas.Bool.Decides.{nat_tests}
-use Rattle.std.proofs.lemmas.List.{take_all, length-drop}
 use Rattle.std.proofs.lemmas.List.Elements.{All-tail}
 use Rattle.id_digits.specs.Digits.{digits_of, is_digest_len, word}
 use Rattle.id_digits.proofs.DigitNumbers.{AreDigits, word-zero, word-cons, word_lt}

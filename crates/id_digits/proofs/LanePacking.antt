@@ -1,7 +1,6 @@
 -- Bytes packed of two values each.
-use Rattle.std.proofs.Common.{◌≡◌, ℕ, zero, suc, ◌+◌, ◌*◌, ◌/◌, ◌%◌, true, ltb, List, [], ◌∷◌, ◌++◌, length, take, drop, refl, ap, arith, ltb-true}
+use Rattle.std.proofs.Common.{◌≡◌, ℕ, zero, suc, ◌+◌, ◌*◌, ◌/◌, ◌%◌, true, ltb, List, [], ◌∷◌, ◌++◌, length, take, drop, refl, ap, arith, ltb-true, length-append}
 use Rattle.std.proofs.lemmas.Bool.{and_parts}
-use Rattle.std.proofs.lemmas.List.{length-append}
 use Rattle.std.proofs.lemmas.Simd.{pick_l_whole}
 use Rattle.std.specs.List.{list_all, range_with_len}
 use Rattle.std.specs.Simd.Lanes.{pick_l}

@@ -1,6 +1,5 @@
 -- Spellings: their lengths, letters and first digits.
-use Rattle.std.proofs.Common.{◌++◌, ◌≤◌, ◌≡◌, ℕ, ◌/◌, ◌%◌, ◌<◌, List, [], ◌∷◌, length, take, min, ap, ◌∙◌, arith}
-use Rattle.std.specs.Prelude.{IsAscii, All}
+use Rattle.std.proofs.Common.{◌++◌, ◌≤◌, ◌≡◌, ℕ, ◌/◌, ◌%◌, ◌<◌, List, [], ◌∷◌, length, take, min, ap, ◌∙◌, arith, IsAscii, All}
 use Rattle.std.proofs.lemmas.List.{length-map, take_min, take-map, take-append-le}
 use Rattle.std.proofs.lemmas.List.Elements.{All-nil, All-cons, All-head, All-tail}
 use Rattle.std.proofs.lemmas.Str.Ascii.{IsAscii-nil, IsAscii-cons}

@@ -1,10 +1,8 @@
 -- Letters: their values as lanes read them, those of the other alphabet, and lines of sorted ids.
-use Rattle.std.specs.Prelude.{[], ℕ, ◌%◌, ◌&&◌, ◌*◌, ◌+◌, ◌-◌, ◌==◌, ◌||◌, ◌∷◌, ◌≡◌, ◌≤◌, Bool, IsTrue, List, if◌then◌else◌, length, map, min, nat_le, nat_lt, slice_index, take, true}
+use Rattle.std.specs.Prelude.{[], ℕ, ◌%◌, ◌&&◌, ◌*◌, ◌+◌, ◌-◌, ◌==◌, ◌||◌, ◌∷◌, ◌≡◌, ◌≤◌, Bool, IsTrue, List, if◌then◌else◌, length, map, min, nat_le, nat_lt, slice_index, take, true, bit_and, unwrap_or}
 use Rattle.std.specs.Char.{to_ascii_lowercase}
 use Rattle.std.specs.Cmp.Lexicographic.{slice_cmp}
-use Rattle.std.specs.Int.Bits.{bit_and}
 use Rattle.std.specs.List.{list_all}
-use Rattle.std.specs.Option.{unwrap_or}
 use Rattle.std.specs.Ordering.{is_le, is_lt, nat_cmp}
 use Rattle.std.specs.declared.cmp.Ordering.{Ordering}
 use Rattle.id_digits.specs.Digits.{digit_in, hex_letter}

@@ -4,8 +4,7 @@ use Rattle.std.specs.List.{All, starts_with}
 use Rattle.std.proofs.lemmas.Bool.Decides.{nat_tests}
 use Rattle.std.proofs.lemmas.List.Elements.{All-tail}
 pub use Rattle.std.proofs.lemmas.Bool.{eq-eqb as same_test, eqb-true as test_same}
-use Rattle.gix_hash.specs.Digits.{first_byte_of}
-use Rattle.gix_hash.specs.Ids.{AreIdDigits}
+use Rattle.gix_hash.specs.Words.{AreIdDigits, first_byte_of}
 use Rattle.gix_hash.specs.declared.Kind.{Kind}
 use Rattle.gix_hash.specs.declared.Kind.TheVariants.{Sha1, Sha256}
 use Rattle.id_lookup.specs.Runs.{has_first_byte, matches}

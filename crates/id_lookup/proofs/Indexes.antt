@@ -1,6 +1,5 @@
 -- Indexes are sorted, so a prefix of their kind can be looked up in them.
-use Rattle.std.proofs.Common.{◌≡◌, ℕ, not, nat_eq, ◌+◌, ◌-◌, ◌<◌, ◌≤◌, true, false, List, [], length, get_or, Bool, ◌↔◌, IsTrue, ◌⊎◌, inl, inr, sym, ap, ◌∙◌, subst, arith}
-use Rattle.std.specs.List.{AllPairs}
+use Rattle.std.proofs.Common.{◌≡◌, ℕ, not, nat_eq, ◌+◌, ◌-◌, ◌<◌, ◌≤◌, true, false, List, [], length, get_or, Bool, ◌↔◌, IsTrue, ◌⊎◌, inl, inr, sym, ap, ◌∙◌, subst, arith, AllPairs}
 use Rattle.std.specs.List.Sorted.{IsStrictlySortedBy}
 use Rattle.std.specs.Ordering.{nat_cmp, is_lt, ordering_reverse}
 use Rattle.std.specs.Cmp.Lexicographic.{slice_cmp}
@@ -12,8 +11,7 @@ use Rattle.std.proofs.lemmas.List.{get_or_default}
 use Rattle.std.proofs.lemmas.List.Elements.{AllWithin-more}
 use Rattle.std.proofs.lemmas.Map.Keys.{Less-from_sorted, sorted_from_all_adjacent}
 pub use Rattle.gix_hash.proofs.KindFacts.{same_kind}
-use Rattle.gix_hash.specs.Kinds.{hex_len_of, kind_by_number, number_of}
-use Rattle.gix_hash.specs.Prefixes.{KindDigits}
+use Rattle.gix_hash.specs.Words.{KindDigits, hex_len_of, kind_by_number, number_of}
 use Rattle.gix_hash.specs.declared.Kind.{Kind}
 use Rattle.id_lookup.proofs.Ordered.{adjacent_more}
 use Rattle.id_lookup.specs.Runs.{CanProbe, IsRun, IsSortedIds}

@@ -1,8 +1,7 @@
 -- The ids of a run are those that match.
-use Rattle.std.proofs.Common.{◌≡◌, ℕ, ◌-◌, List, map, take, drop, sym, ap, ◌∙◌}
+use Rattle.std.proofs.Common.{◌≡◌, ℕ, ◌-◌, List, map, take, drop, sym, ap, ◌∙◌, slice_range}
 use Rattle.std.proofs.lemmas.List.{take-map, drop-map}
-use Rattle.std.specs.List.{slice_range}
-use Rattle.gix_hash.specs.Prefixes.{KindDigits}
+use Rattle.gix_hash.specs.Words.{KindDigits}
 use Rattle.id_lookup.specs.Runs.{IsRun, matches}
 use Rattle.id_lookup.specs.declared.search.Run.{Run}
 

@@ -1,16 +1,12 @@
 -- In a sorted list the ids with a first byte are a run, and the parts one after the other are the list.
-use Rattle.std.proofs.Common.{◌≡◌, ℕ, zero, suc, ◌+◌, ◌-◌, ◌<◌, ◌≤◌, true, false, ltb, leb, List, [], ◌∷◌, ◌++◌, length, get_or, slice_index, take, drop, sym, ap, ◌∙◌, subst, take-add, take_all, arith, true≢false, length-drop}
-use Rattle.std.specs.Prelude.{slice_range}
+use Rattle.std.proofs.Common.{◌≡◌, ℕ, zero, suc, ◌+◌, ◌-◌, ◌<◌, ◌≤◌, true, false, ltb, leb, List, [], ◌∷◌, ◌++◌, length, get_or, slice_index, take, drop, sym, ap, ◌∙◌, subst, take-add, take_all, arith, true≢false, length-drop, slice_range, nat_cmp, is_lt, eq-eqb, le-ltb, leb-true, lt-ltb, ltb-false, ltb-true, drop-drop, get_or-take, get_or-drop, length-take-le}
 use Rattle.std.specs.List.{All, count_by, flat_map, range_with_len}
 use Rattle.std.specs.List.Sorted.{IsNonDecreasingBy}
-use Rattle.std.specs.Ordering.{nat_cmp, is_lt}
 use Rattle.std.specs.Cmp.Lexicographic.{slice_cmp}
-use Rattle.std.proofs.lemmas.Bool.{eq-eqb, le-ltb, leb-true, lt-ltb, ltb-false, ltb-true}
 use Rattle.std.proofs.lemmas.Bool.Decides.{nat_tests}
-use Rattle.std.proofs.lemmas.List.{drop-drop, get_or-take, get_or-drop, length-take-le}
 use Rattle.std.proofs.lemmas.List.Sorted.{IsPartitionedBy-leb, IsPartitionedBy-ltb}
 use Rattle.std.proofs.lemmas.List.Sums.{count_by-le-length}
-use Rattle.gix_hash.specs.Digits.{first_byte_of}
+use Rattle.gix_hash.specs.Words.{first_byte_of}
 use Rattle.id_lookup.specs.Runs.{IsSortedIds, has_first_byte, is_below, is_up_to}
 use Rattle.id_lookup.proofs.Counting.{passes_below}
 use Rattle.id_lookup.proofs.FirstByteCounts.{count_by-below_0, count_by-le, count_by-up_to}

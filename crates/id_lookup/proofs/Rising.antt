@@ -10,8 +10,7 @@ use Rattle.std.proofs.lemmas.List.Sorted.{searchable_from_sorted}
 use Rattle.std.proofs.lemmas.Bool.{false≢true}
 use Rattle.gix_hash.proofs.CommonBeginnings.{take_less}
 use Rattle.id_lookup.proofs.Ordered.{not_less}
-use Rattle.gix_hash.specs.Prefixes.{KindDigits}
-use Rattle.gix_hash.specs.Digits.{place}
+use Rattle.gix_hash.specs.Words.{KindDigits, place}
 use Rattle.id_lookup.specs.declared.search.Bound.{Bound}
 use Rattle.id_lookup.specs.declared.search.Bound.TheVariants.{Start, End}
 use Rattle.id_lookup.specs.Runs.{IsSortedIds, is_before_bound}

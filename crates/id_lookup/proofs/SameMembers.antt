@@ -1,8 +1,5 @@
 -- Indexes: what passes a test of one is one, each member has one position, and two with the same members are equal.
-use Rattle.std.proofs.Common.{◌≡◌, ℕ, ◌+◌, ◌<◌, inl, inr, Bool, List, [], length, get_or, filter, subst, arith}
-use Rattle.std.specs.Prelude.{◌↔◌}
-use Rattle.std.specs.List.{Contains}
-use Rattle.std.specs.Ordering.{nat_cmp}
+use Rattle.std.proofs.Common.{◌≡◌, ℕ, ◌+◌, ◌<◌, inl, inr, Bool, List, [], length, get_or, filter, subst, arith, ◌↔◌, Contains, nat_cmp}
 use Rattle.std.specs.Cmp.Lexicographic.{slice_cmp}
 use Rattle.std.specs.declared.cmp.Ordering.TheVariants.{Less}
 use Rattle.std.proofs.lemmas.Bool.{cases_order}
@@ -12,7 +9,7 @@ use Rattle.std.proofs.lemmas.List.Elements.{All-filter, AllWithin-from_all, All-
 use Rattle.std.proofs.lemmas.List.Kept.{AllPairs-filter}
 use Rattle.std.proofs.lemmas.Map.Lookups.{btree_set_from_contains, exact_bytes}
 use Rattle.std.proofs.lemmas.Map.Views.{btree_set_contains_iff}
-use Rattle.gix_hash.specs.Kinds.{hex_len_of}
+use Rattle.gix_hash.specs.Words.{hex_len_of}
 use Rattle.gix_hash.specs.declared.Kind.{Kind}
 use Rattle.id_lookup.specs.Indexes.{IsIndex, IsIndexOf}
 use Rattle.id_lookup.proofs.Indexes.{index-pairs, index-strict}

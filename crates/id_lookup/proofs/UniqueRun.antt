@@ -2,7 +2,7 @@
 use Rattle.std.proofs.Common.{◌≡◌, ◌≢◌, ℕ, ◌+◌, ◌-◌, ◌<◌, ◌≤◌, true, false, List, [], length, get_or, inl, inr, refl, sym, ◌∙◌, arith}
 use Rattle.std.specs.Cmp.Lexicographic.{bytes_decides}
 use Rattle.std.proofs.lemmas.Bool.{cases_eq, false≢true}
-use Rattle.gix_hash.specs.Prefixes.{KindDigits}
+use Rattle.gix_hash.specs.Words.{KindDigits}
 use Rattle.id_lookup.specs.Runs.{IsRun, IsSortedIds, begins_with, bound_of}
 use Rattle.id_lookup.specs.Indexes.{IsShortestNameFrom}
 use Rattle.id_lookup.specs.declared.search.Bound.TheVariants.{Start, End}

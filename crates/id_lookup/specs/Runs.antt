@@ -6,8 +6,7 @@ use Rattle.std.specs.List.Sorted.{IsSorted, IsSortedWithin}
 use Rattle.std.specs.Ordering.{is_ge, is_gt, is_lt, nat_cmp}
 use Rattle.std.specs.declared.cmp.Ordering.{Ordering}
 use Rattle.std.specs.declared.cmp.Ordering.TheVariants.{Equal, Greater, Less}
-use Rattle.gix_hash.specs.Digits.{first_byte_of, hex_letter, place, spelling}
-use Rattle.gix_hash.specs.Prefixes.{KindDigits}
+use Rattle.gix_hash.specs.Words.{KindDigits, first_byte_of, hex_letter, place, spelling}
 use Rattle.id_lookup.specs.declared.search.Bound.{Bound}
 use Rattle.id_lookup.specs.declared.search.Bound.TheVariants.{End, Start}
 use Rattle.id_lookup.specs.declared.search.Run.{Run}

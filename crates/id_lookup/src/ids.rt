@@ -1,11 +1,8 @@
 //! What the ids of a list may be.
 
-ghost use Rattle.std.specs.Prelude.{◌≡◌, ◌<◌, ℕ, All, List, length, map};
-ghost use Rattle.gix_hash.specs.Digits.{digits_of};
-ghost use Rattle.std.specs.List.{HoldsAt};
-ghost use Rattle.gix_hash.specs.Kinds.{hex_len_of};
+ghost use Rattle.std.specs.Prelude.{◌≡◌, ◌<◌, ℕ, All, List, length, map, HoldsAt};
+ghost use Rattle.gix_hash.specs.Words.{digits_of, hex_len_of, id_digits, id_kind, oid_digits, oid_kind};
 ghost use Rattle.gix_hash.specs.declared.Kind.{Kind};
-ghost use Rattle.gix_hash.specs.Ids.{oid_digits, oid_kind, id_digits, id_kind};
 
 use gix_hash::{ObjectId, oid};
 

@@ -4,7 +4,7 @@ ghost use Rattle.std.specs.Prelude.{◌≡◌, ◌↔◌, ◌+◌, ◌-◌, ◌<
 ghost use Rattle.std.specs.Cmp.Lexicographic.{slice_cmp};
 ghost use Rattle.std.specs.Ordering.{nat_cmp};
 ghost use Rattle.std.specs.declared.cmp.Ordering.{Ordering};
-ghost use Rattle.gix_hash.specs.Kinds.{hex_len_of};
+ghost use Rattle.gix_hash.specs.Words.{hex_len_of};
 ghost use Rattle.id_lookup.specs.Runs.{IsFanOut, IsRun, matches};
 ghost use Rattle.id_lookup.specs.Indexes.{IsAnswer, IsFirstIndexError, IsIndex, IsShortestName, IsShortestNameFrom};
 

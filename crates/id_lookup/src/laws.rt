@@ -3,9 +3,7 @@
 ghost use Rattle.std.specs.Prelude.{◌≡◌, ◌↔◌, ◌<◌, ℕ, List, All, IsTrue, length, map};
 ghost use Rattle.std.specs.List.Sorted.{IsStrictlySortedBy};
 ghost use Rattle.std.specs.declared.cmp.Ordering.{Ordering};
-ghost use Rattle.gix_hash.specs.Ids.{id_cmp, id_digits, id_kind};
-ghost use Rattle.gix_hash.specs.Prefixes.{BeginsWith};
-ghost use Rattle.gix_hash.specs.Digits.{place};
+ghost use Rattle.gix_hash.specs.Words.{BeginsWith, id_cmp, id_digits, id_kind, place};
 ghost use Rattle.id_lookup.specs.Runs.{begins_with};
 ghost use Rattle.id_lookup.specs.Indexes.{IsIndex};
 

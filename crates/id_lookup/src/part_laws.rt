@@ -2,7 +2,7 @@
 
 ghost use Rattle.std.specs.Prelude.{◌≡◌, ◌≤◌, ◌<◌, ℕ, Bool, true, All, List, [], count_by, filter, flat_map, length, nat_eq, slice_index_or, slice_range, take};
 ghost use Rattle.std.specs.List.{range_with_len, starts_with};
-ghost use Rattle.gix_hash.specs.Digits.{first_byte_of};
+ghost use Rattle.gix_hash.specs.Words.{first_byte_of};
 ghost use Rattle.gix_hash.specs.declared.kind.Kind as kinds;
 ghost use Rattle.id_lookup.specs.Runs.{IsSortedIds, is_below, is_up_to, matches};
 ghost use Rattle.id_lookup.specs.Indexes.{IsIndex, IsIndexOf, IsShortestNameFrom, part_of};

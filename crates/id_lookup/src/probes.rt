@@ -1,8 +1,7 @@
 //! Counted comparisons of a prefix with the members of a sorted list.
 
-ghost use Rattle.std.specs.Prelude.{◌≡◌, ◌↔◌, ◌+◌, ◌<◌, ◌≤◌, ◌^◌, IsTrue, length, map};
-ghost use Rattle.std.specs.List.{HoldsAt};
-ghost use Rattle.gix_hash.specs.Digits.{place};
+ghost use Rattle.std.specs.Prelude.{◌≡◌, ◌↔◌, ◌+◌, ◌<◌, ◌≤◌, ◌^◌, IsTrue, length, map, HoldsAt};
+ghost use Rattle.gix_hash.specs.Words.{place};
 ghost use Rattle.id_lookup.specs.Runs.{CanProbe, least_hex_len};
 
 use crate::ids::{Id, id_at};

@@ -2,10 +2,7 @@
 
 ghost use Rattle.std.specs.Prelude.{◌≡◌, ◌↔◌, ℕ, ◌+◌, ◌-◌, ◌*◌, ◌^◌, ◌<◌, ◌≤◌, IsTrue, count_by, length};
 ghost use Rattle.id_lookup.specs.Runs.{AreCandidates, CanProbe, IsFanOut, IsRun, begins_with, bits, bound_of, is_before_bound, shares_first_byte};
-ghost use Rattle.gix_hash.specs.Digits.{hex_letter, place, spelling};
-ghost use Rattle.gix_hash.specs.Kinds.{hex_len_of};
-ghost use Rattle.gix_hash.specs.Ids.{id_digits, id_kind};
-ghost use Rattle.gix_hash.specs.Prefixes.{BeginsWith};
+ghost use Rattle.gix_hash.specs.Words.{BeginsWith, hex_len_of, hex_letter, id_digits, id_kind, place, spelling};
 
 use crate::fan_out::FanOut;
 use crate::ids::Id;

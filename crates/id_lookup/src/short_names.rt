@@ -2,7 +2,7 @@
 //! neighbours of an id decide.
 
 ghost use Rattle.std.specs.Prelude.{◌≡◌, ◌+◌, ◌-◌, ◌<◌, ◌≤◌, ℕ, [], IfSome, IsNone, List, length, map, slice_index_or, max, take};
-ghost use Rattle.gix_hash.specs.Kinds.{hex_len_of};
+ghost use Rattle.gix_hash.specs.Words.{hex_len_of};
 ghost use Rattle.id_lookup.specs.Indexes.{IsShortestNameFrom, IsUniqueLen, common_at};
 ghost use Rattle.id_lookup.specs.Runs.{IsSortedIds};
 

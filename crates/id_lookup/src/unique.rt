@@ -2,7 +2,7 @@
 
 ghost use Rattle.std.specs.Prelude.{◌≡◌, ◌↔◌, All, Contains, map};
 ghost use Rattle.std.specs.List.Sorted.{IsStrictlySortedBy};
-ghost use Rattle.gix_hash.specs.Ids.{AreIdDigits, id_cmp, id_digits, id_kind};
+ghost use Rattle.gix_hash.specs.Words.{AreIdDigits, id_cmp, id_digits, id_kind};
 ghost use Rattle.gix_hash.specs.declared.ObjectId.{ObjectId as Id};
 ghost use Rattle.gix_hash.specs.declared.kind.Kind as kinds;
 ghost use Rattle.id_lookup.specs.Indexes.{IsIndexOf};

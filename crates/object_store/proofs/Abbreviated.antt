@@ -3,14 +3,7 @@ use Rattle.std.proofs.Common.{◌≡◌, ℕ, zero, suc, ◌+◌, ◌-◌, ◌<�
 use Rattle.std.specs.List.{Contains, starts_with}
 use Rattle.std.proofs.lemmas.List.{length-append, length-take, nil_from_length}
 use Rattle.std.proofs.lemmas.List.Elements.{All-contains, All-from_all_within, Contains-get_or}
-use Rattle.gix_hash.specs.Digits.{first_byte_of}
-use Rattle.gix_hash.specs.Ids.{id_digits}
-use Rattle.gix_hash.specs.Kinds.{hex_len_of}
-use Rattle.gix_hash.specs.Prefixes.{KindDigits}
-use Rattle.gix_hash.specs.declared.Kind.{Kind}
-use Rattle.gix_hash.specs.declared.ObjectId.{ObjectId}
-use Rattle.id_lookup.specs.Runs.{IsRun, matches}
-use Rattle.id_lookup.specs.Indexes.{IsIndexOf}
+use Rattle.id_lookup.specs.Words.{IsIndexOf, IsRun, Kind, KindDigits, ObjectId, first_byte_of, hex_len_of, id_digits, matches}
 use Rattle.id_lookup.proofs.Beginnings.{first_byte_of-begins}
 use Rattle.id_lookup.proofs.Filters.{contains_had, contains_kept, filter_within, kept_passes}
 use Rattle.id_lookup.proofs.SameMembers.{index-filter, one_position}

@@ -1,11 +1,9 @@
 -- What is gathered of a store is what passes of the index of all its ids.
-use Rattle.std.proofs.Common.{◌≡◌, ℕ, zero, suc, ◌+◌, ◌<◌, ◌≤◌, Bool, Option, Some, List, [], ◌∷◌, ◌++◌, length, get_or, map, filter, take, refl, sym, ap, ◌∙◌, subst, arith, append-nil, append_assoc}
-use Rattle.std.specs.List.{All, flat_map}
+use Rattle.std.proofs.Common.{◌≡◌, ℕ, zero, suc, ◌+◌, ◌<◌, ◌≤◌, Bool, Option, Some, List, [], ◌∷◌, ◌++◌, length, get_or, map, filter, take, refl, sym, ap, ◌∙◌, subst, arith, append-nil, append_assoc, All, flat_map}
 use Rattle.std.proofs.lemmas.Option.{get_or_from_slice_get, slice_get-get_or, slice_get_within}
 use Rattle.std.proofs.lemmas.List.{get_or-map, length-map, take_all}
 use Rattle.std.proofs.lemmas.List.Elements.{All-more, filter-append}
-use Rattle.gix_hash.specs.Digits.{first_byte_of}
-use Rattle.gix_hash.specs.declared.Kind.{Kind}
+use Rattle.id_lookup.specs.Words.{Kind, first_byte_of}
 use Rattle.object_store.specs.Stores.{HasLocation, Holds, IsFirstFault, IsIndexReadOrMemory, IsLocateFault, IsLocationFault, IsStoreFault, StoreView}
 use Rattle.pack_index.specs.Lazy.{HasBucket, IfKnown, IsBucketFault, LazyIndex}
 use Rattle.object_store.specs.declared.error.Error.{Error}

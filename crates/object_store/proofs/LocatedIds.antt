@@ -1,12 +1,8 @@
 -- Ids that are located one after the other.
-use Rattle.std.proofs.Common.{◌≡◌, ◌∙◌, ℕ, ◌+◌, ◌<◌, ◌≤◌, ◌⊎◌, inl, inr, Err, Ok, Result, List, [], ◌∷◌, ◌++◌, length, get_or, map, take, sym, ap, subst}
-use Rattle.std.specs.Prelude.{IfErr}
-use Rattle.std.specs.List.{All}
+use Rattle.std.proofs.Common.{◌≡◌, ◌∙◌, ℕ, ◌+◌, ◌<◌, ◌≤◌, ◌⊎◌, inl, inr, Err, Ok, Result, List, [], ◌∷◌, ◌++◌, length, get_or, map, take, sym, ap, subst, IfErr, All}
 use Rattle.std.proofs.lemmas.List.{map-append, take_more}
 use Rattle.std.proofs.lemmas.List.Elements.{All-push}
-use Rattle.gix_hash.specs.Digits.{first_byte_of}
-use Rattle.gix_hash.specs.Ids.{id_digits}
-use Rattle.gix_hash.specs.declared.ObjectId.{ObjectId}
+use Rattle.id_lookup.specs.Words.{ObjectId, first_byte_of, id_digits}
 use Rattle.id_lookup.proofs.Beginnings.{first_byte_of-begins}
 use Rattle.object_store.specs.Stores.{AreMatches, HaveBuckets, IsLocateFault, IsLocationsFault, IsStoreFault, StoreView}
 use Rattle.object_store.specs.Several.{IsLocated}

@@ -1,17 +1,12 @@
 -- A name that is decided among the ids that were gathered is the name in the whole store.
-use Rattle.std.proofs.Common.{◌≡◌, ℕ, suc, ◌+◌, ◌-◌, ◌⊎◌, inl, inr, ◌<◌, ◌≤◌, true, nat_eq, Some, List, [], ◌∷◌, ◌++◌, length, get_or, map, take, drop, refl, sym, ap, ◌∙◌, subst, arith, append_assoc, take-append-drop}
+use Rattle.std.proofs.Common.{◌≡◌, ℕ, suc, ◌+◌, ◌-◌, ◌⊎◌, inl, inr, ◌<◌, ◌≤◌, true, nat_eq, Some, List, [], ◌∷◌, ◌++◌, length, get_or, map, take, drop, refl, sym, ap, ◌∙◌, subst, arith, append_assoc, take-append-drop, slice_get}
 use Rattle.std.specs.List.{All, Contains, starts_with}
 use Rattle.std.proofs.Math.Seq.{get_or-append_seam, take-append-add, take-suc}
-use Rattle.std.specs.Prelude.{slice_get}
 use Rattle.std.proofs.lemmas.Bool.{cases_lt, cases_order, false≢true}
 use Rattle.std.proofs.lemmas.Option.{get_or_from_slice_get}
 use Rattle.std.proofs.lemmas.List.{get_or_append_left, get_or_default, get_or-map, length-append, length-map, length-take-le, map-append}
 use Rattle.std.proofs.lemmas.List.Elements.{Contains-get_or}
-use Rattle.gix_hash.specs.Ids.{id_digits}
-use Rattle.gix_hash.specs.declared.Kind.{Kind}
-use Rattle.gix_hash.specs.declared.ObjectId.{ObjectId}
-use Rattle.id_lookup.specs.Runs.{matches}
-use Rattle.id_lookup.specs.Indexes.{IsIndexOf, IsShortestNameFrom}
+use Rattle.id_lookup.specs.Words.{IsIndexOf, IsShortestNameFrom, Kind, ObjectId, id_digits, matches}
 use Rattle.id_lookup.proofs.Filters.{contains_had, contains_kept, kept_passes}
 use Rattle.id_lookup.proofs.SameMembers.{one_position}
 use Rattle.id_lookup.proofs.Spelled.{starts_with-BeginsWith}

@@ -1,12 +1,11 @@
 -- What the buckets of a first byte have of a store.
-use Rattle.std.proofs.Common.{◌≡◌, ℕ, ◌+◌, ◌<◌, ◌≤◌, ◌⊎◌, inl, inr, Bool, true, None, List, [], ◌∷◌, ◌++◌, length, get_or, map, filter, take, sym, ap, ◌∙◌, subst, arith, append_assoc}
-use Rattle.std.specs.List.{All, flat_map}
+use Rattle.std.proofs.Common.{◌≡◌, ℕ, ◌+◌, ◌<◌, ◌≤◌, ◌⊎◌, inl, inr, Bool, true, None, List, [], ◌∷◌, ◌++◌, length, get_or, map, filter, take, sym, ap, ◌∙◌, subst, arith, append_assoc, All, flat_map}
 use Rattle.std.proofs.Math.Seq.{get_or-append_seam}
 use Rattle.std.proofs.lemmas.Bool.{cases_lt}
 use Rattle.std.proofs.lemmas.List.{get_or-map, get_or-take, get_or_append_left, get_or_default, length-append, length-map, length-take-le, take_all}
 use Rattle.std.proofs.lemmas.List.Elements.{filter-append}
 use Rattle.std.proofs.lemmas.List.Folds.{flat_map-map}
-use Rattle.gix_hash.specs.declared.Kind.{Kind}
+use Rattle.id_lookup.specs.Words.{Kind}
 use Rattle.id_lookup.proofs.Filters.{filter-flat}
 use Rattle.object_store.specs.Stores.{AreBuckets, AreFirstBuckets, AreRead, StoreView}
 use Rattle.pack_index.specs.Lazy.{BucketNames, HasBucket, IfKnown, IsBucketOf, LazyIndex, counted_with}

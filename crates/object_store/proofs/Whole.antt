@@ -4,11 +4,7 @@ use Rattle.std.specs.List.{All, Contains, flat_map, starts_with}
 use Rattle.std.proofs.lemmas.List.{ext_get_or, get_or-map, length-map}
 use Rattle.std.proofs.lemmas.List.Elements.{Contains-append_cases, Contains-append_left, Contains-append_right, Contains-get_or, filter-append}
 use Rattle.std.proofs.lemmas.List.Folds.{flat_map-map}
-use Rattle.gix_hash.specs.Digits.{first_byte_of}
-use Rattle.gix_hash.specs.Ids.{id_digits}
-use Rattle.gix_hash.specs.declared.ObjectId.{ObjectId}
-use Rattle.id_lookup.specs.Indexes.{IsIndexOf, part_of}
-use Rattle.id_lookup.specs.Runs.{has_first_byte, matches}
+use Rattle.id_lookup.specs.Words.{IsIndexOf, ObjectId, first_byte_of, has_first_byte, id_digits, matches, part_of}
 use Rattle.id_lookup.proofs.Beginnings.{first_byte_of-begins, matches-part, same_test}
 use Rattle.id_lookup.proofs.Filters.{contains_had, contains_kept, kept_passes}
 use Rattle.id_lookup.proofs.SameMembers.{part_is}

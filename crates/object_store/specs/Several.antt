@@ -1,15 +1,9 @@
 -- The locations and the abbreviations of the ids that begin with each of several prefixes.
-use Rattle.std.specs.Prelude.{◌≡◌, ℕ, ◌<◌, ◌/◌, ◌%◌, List, [], ◌∷◌, Vec, length, map, slice_index_or, string_bytes}
-use Rattle.std.specs.List.{All}
-use Rattle.gix_hash.specs.Digits.{first_byte_of}
-use Rattle.gix_hash.specs.Ids.{id_digits}
-use Rattle.gix_hash.specs.Prefixes.{KindDigits}
-use Rattle.gix_hash.specs.declared.Kind.{Kind}
-use Rattle.id_lookup.specs.Runs.{matches}
+use Rattle.std.specs.Prelude.{◌≡◌, ℕ, ◌<◌, ◌/◌, ◌%◌, List, [], ◌∷◌, Vec, length, map, slice_index_or, string_bytes, All}
+use Rattle.id_lookup.specs.Words.{IsIndexOf, IsShortestNameFrom, Kind, KindDigits, first_byte_of, id_digits, matches}
 use Rattle.object_store.specs.Stores.{AreFoundOfEach, AreLocations, AreMatches, HasRead, IsLocationsFault, IsNameIn, IsOfKind, IsOfOne, StoreView}
 use Rattle.object_store.specs.declared.error.Error.{Error}
 use Rattle.object_store.specs.declared.locations.LocatedId.{LocatedId}
-use Rattle.id_lookup.specs.Indexes.{IsIndexOf, IsShortestNameFrom}
 use Rattle.object_store.specs.declared.abbreviations.NamedId.{NamedId}
 use Rattle.object_store.specs.declared.abbreviations.Abbreviation.{Abbreviation}
 use Rattle.object_store.specs.declared.abbreviations.Abbreviation.TheVariants.{Missing, Ambiguous, Named}

@@ -1,14 +1,7 @@
 -- What an object store holds, where it has an object, and what is found in it. Ids and names are given by their digits.
-use Rattle.std.specs.Prelude.{[], ℕ, ◌++◌, ◌<◌, ◌∷◌, ◌≡◌, ◌≢◌, ◌≤◌, ◌⊎◌, All, Bool, Contains, IsTrue, List, MatchOption, None, Option, Some, Vec, flat_map, if◌then◌else◌, length, map, nat_eq, option_map, slice_get, slice_index_or, suc, take, zero}
+use Rattle.std.specs.Prelude.{[], ℕ, ◌++◌, ◌<◌, ◌∷◌, ◌≡◌, ◌≢◌, ◌≤◌, ◌⊎◌, All, Bool, Contains, IsTrue, List, MatchOption, None, Option, Some, Vec, flat_map, if◌then◌else◌, length, map, nat_eq, option_map, slice_get, slice_index_or, suc, take, zero, bytes_eq}
 use Rattle.std.specs.List.{list_any, position, starts_with}
-use Rattle.std.specs.Str.{bytes_eq}
-use Rattle.gix_hash.specs.Digits.{first_byte_of}
-use Rattle.gix_hash.specs.Ids.{id_digits, id_kind}
-use Rattle.gix_hash.specs.Prefixes.{KindDigits}
-use Rattle.gix_hash.specs.declared.Kind.{Kind}
-use Rattle.gix_hash.specs.declared.ObjectId.{ObjectId}
-use Rattle.id_lookup.specs.Indexes.{IsIndexOf}
-use Rattle.id_lookup.specs.Runs.{matches}
+use Rattle.id_lookup.specs.Words.{IsIndexOf, Kind, KindDigits, ObjectId, first_byte_of, id_digits, id_kind, matches}
 use Rattle.pack_index.specs.Format.{HasOffset, IsFirstIndexOf, IsPackIndex, names_in, offset_in}
 use Rattle.pack_index.specs.Lazy.{BucketNames, HasBucket, IfKnown, IsBucketFault, IsBucketOf, IsFirstCounted, LazyIndex, counted_with}
 use Rattle.pack_index.specs.Lazy as lazy

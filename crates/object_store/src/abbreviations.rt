@@ -1,10 +1,7 @@
 //! Abbreviations in a whole store.
 
 ghost use Rattle.std.specs.Prelude.{◌≡◌, ◌≤◌, ◌<◌, ◌/◌, ◌%◌, ℕ, [], ◌∷◌, All, List, IfErr, IfNone, IfOk, IfSome, Some, length, map, slice_get, slice_index_or, take};
-ghost use Rattle.gix_hash.specs.Digits.{first_byte_of};
-ghost use Rattle.gix_hash.specs.Kinds.{hex_len_of};
-ghost use Rattle.gix_hash.specs.Ids.{id_digits, id_kind};
-ghost use Rattle.id_lookup.specs.Indexes.{IsIndex, IsShortestNameFrom};
+ghost use Rattle.id_lookup.specs.Words.{IsIndex, IsShortestNameFrom, first_byte_of, hex_len_of, id_digits, id_kind};
 ghost use Rattle.object_store.specs.Stores.{CanLookUp, IsFaultOfOne, IsListed, IsOfKind, IsStoreFault};
 ghost use Rattle.object_store.specs.Several.{AreAbbreviatedOfEach, AreNamed, IsAbbreviated, IsAbbreviatedAt, IsAbbreviationOfKind};
 

@@ -1,7 +1,7 @@
 //! Look-ups of several prefixes, in the order of the prefixes.
 
 ghost use Rattle.std.specs.Prelude.{◌≡◌, ◌<◌, ℕ, All, IfErr, IfNone, IfOk, IfSome, List, length};
-ghost use Rattle.gix_hash.specs.Prefixes.{KindDigits};
+ghost use Rattle.id_lookup.specs.Words.{KindDigits};
 ghost use Rattle.object_store.specs.Stores.{AreFoundOfEach, ArePlaces, CanLookUp, IsOfOne, StoreView};
 ghost use Rattle.object_store.specs.declared.error.Error.{Error as StoreError};
 

@@ -2,12 +2,7 @@
 
 ghost use Rattle.std.specs.Prelude.{◌↔◌, ◌≡◌, ℕ, ◌<◌, ◌≤◌, All, Contains, IsTrue, List, Some, [], length, map, nat_eq, slice_index_or};
 ghost use Rattle.std.specs.List.{starts_with};
-ghost use Rattle.gix_hash.specs.Digits.{first_byte_of};
-ghost use Rattle.gix_hash.specs.Ids.{id_digits};
-ghost use Rattle.gix_hash.specs.declared.Kind.{Kind};
-ghost use Rattle.gix_hash.specs.declared.ObjectId.{ObjectId};
-ghost use Rattle.id_lookup.specs.Indexes.{IsIndex, IsIndexOf, IsShortestNameFrom, part_of};
-ghost use Rattle.id_lookup.specs.Runs.{matches};
+ghost use Rattle.id_lookup.specs.Words.{IsIndex, IsIndexOf, IsShortestNameFrom, Kind, ObjectId, first_byte_of, id_digits, matches, part_of};
 ghost use Rattle.pack_index.specs.Lazy.{IsFirstCounted, LazyIndex};
 ghost use Rattle.object_store.specs.Stores.{AreLocations, AreMatches, HasObjectAt, HasRead, Holds, IsIndexReadOrMemory, IsLocateFault, IsNameIn, IsStoreFault, StoreView, locations_of};
 ghost use Rattle.object_store.specs.declared.error.Error.{Error as StoreError};

@@ -1,8 +1,7 @@
 //! Where an object store has an object.
 
 ghost use Rattle.std.specs.Prelude.{◌≡◌, ◌⊎◌, [], ◌∷◌, ◌++◌, ◌<◌, ◌≤◌, All, IfErr, IfNone, IfOk, IfSome, OnOk, length, map};
-ghost use Rattle.gix_hash.specs.Digits.{first_byte_of};
-ghost use Rattle.gix_hash.specs.Ids.{id_digits, id_kind};
+ghost use Rattle.id_lookup.specs.Words.{first_byte_of, id_digits, id_kind};
 ghost use Rattle.object_store.specs.Stores.{AreBuckets, AreLocations, AreMatches, ArePacked, CanLookUp, HasLocation, HaveLocations, IsListed, IsLocateFault, IsLocationFault, IsLocationsFault, IsOffsetOf, packed_at};
 ghost use Rattle.object_store.specs.Several.{AreLocated, AreLocatedOfEach, IsLocationsFaultOfOne};
 ghost use Rattle.pack_index.specs.Lazy.{IfKnown, IsBucketOf};

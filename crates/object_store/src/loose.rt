@@ -1,10 +1,7 @@
 //! The ids of loose objects.
 
 ghost use Rattle.std.specs.Prelude.{◌≡◌, ◌<◌, ◌≤◌, ◌↔◌, All, Contains, IsTrue, length, map};
-ghost use Rattle.gix_hash.specs.Kinds.{hex_len_of};
-ghost use Rattle.gix_hash.specs.Ids.{id_digits, id_kind};
-ghost use Rattle.id_lookup.specs.Runs.{matches};
-ghost use Rattle.id_lookup.specs.Indexes.{IsIndex, IsIndexOf, part_of};
+ghost use Rattle.id_lookup.specs.Words.{IsIndex, IsIndexOf, hex_len_of, id_digits, id_kind, matches, part_of};
 
 use crate::abbreviations::two_digits;
 use gix_hash::{Kind, ObjectId, Prefix};
@@ -26,8 +23,7 @@ pub struct LooseTable {
 
 impl Model for LooseTable {
     ghost use Rattle.std.specs.Prelude.{◌≡◌, All, map};
-    ghost use Rattle.gix_hash.specs.Ids.{AreIdDigits, id_digits, id_kind};
-    ghost use Rattle.id_lookup.specs.Indexes.{Index, IsIndex};
+    ghost use Rattle.id_lookup.specs.Words.{AreIdDigits, Index, IsIndex, id_digits, id_kind};
 
     ghost Value = { Index };
 

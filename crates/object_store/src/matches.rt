@@ -1,10 +1,7 @@
 //! The ids of a store that begin with a prefix, or with each of several.
 
 ghost use Rattle.std.specs.Prelude.{◌≡◌, ◌<◌, ◌≤◌, ◌++◌, All, IfErr, IfNone, IfOk, IfSome, OnOk, flat_map, length, map};
-ghost use Rattle.gix_hash.specs.Digits.{first_byte_of};
-ghost use Rattle.gix_hash.specs.Kinds.{hex_len_of};
-ghost use Rattle.gix_hash.specs.Ids.{id_digits, id_kind};
-ghost use Rattle.id_lookup.specs.Runs.{matches};
+ghost use Rattle.id_lookup.specs.Words.{first_byte_of, hex_len_of, id_digits, id_kind, matches};
 ghost use Rattle.object_store.specs.Stores.{AreBuckets, AreMatches, AreMatchesOfEach, CanLookUp, IsFaultOfOne, IsListed, IsStoreFault};
 ghost use Rattle.pack_index.specs.Lazy.{BucketNames};
 

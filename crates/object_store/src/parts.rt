@@ -2,9 +2,7 @@
 
 ghost use Rattle.std.specs.Prelude.{◌≡◌, ◌⊎◌, ◌≤◌, IfErr, IfOk};
 ghost use Rattle.std.specs.Option.{ForSome};
-ghost use Rattle.gix_hash.specs.Digits.{first_byte_of};
-ghost use Rattle.gix_hash.specs.Kinds.{hex_len_of};
-ghost use Rattle.gix_hash.specs.Ids.{id_digits, id_kind};
+ghost use Rattle.id_lookup.specs.Words.{first_byte_of, hex_len_of, id_digits, id_kind};
 ghost use Rattle.object_store.specs.Several.{IsAbbreviated};
 ghost use Rattle.object_store.specs.Stores.{AreBuckets, AreLocations, AreMatches, CanLookUp, HaveBuckets, IsListed, IsLocateFault, IsNameOf, IsStoreFault};
 

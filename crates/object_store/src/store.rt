@@ -52,7 +52,7 @@ pub trait Store {
 /// ```
 pub trait StorePaths: Store {
     ghost use Rattle.std.specs.Prelude.{◌≡◌, ℕ, IfOk, List, map, string_bytes};
-    ghost use Rattle.gix_hash.specs.Ids.{id_digits};
+    ghost use Rattle.id_lookup.specs.Words.{id_digits};
 
     /// The path of each pack, by the position of its pack index.
     ghost pack_path: { Self → ℕ → List ℕ };

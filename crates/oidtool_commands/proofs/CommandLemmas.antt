@@ -1,8 +1,6 @@
 -- Words by their number, and words that are rejected.
-use Rattle.std.proofs.Common.{ℕ, List, [], ◌∷◌, refl}
-use Rattle.std.specs.Prelude.{codes}
-use Rattle.gix_hash.specs.Kinds.{IsNameOf}
-use Rattle.gix_hash.specs.declared.Kind.{Kind}
+use Rattle.std.proofs.Common.{ℕ, List, [], ◌∷◌, refl, codes}
+use Rattle.id_lookup.specs.Words.{IsNameOf, Kind}
 use Rattle.oidtool_commands.specs.declared.command.ArgError.{ArgError}
 use Rattle.oidtool_commands.specs.declared.command.ArgError.TheVariants.{Usage, BadKind, BadNumber}
 use Rattle.oidtool_commands.specs.Commands.{TakesKind, IsKindRefusal, IsNumberRefusal, IsWordsRefusal}

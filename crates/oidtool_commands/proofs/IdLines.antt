@@ -6,20 +6,11 @@ use Rattle.std.proofs.lemmas.List.{length-map, get_or-map}
 use Rattle.std.specs.Ordering.{nat_cmp, is_lt, is_le, ordering_reverse}
 use Rattle.std.specs.Cmp.Lexicographic.{slice_cmp}
 use Rattle.std.specs.declared.cmp.Ordering.{Ordering}
-use Rattle.gix_hash.specs.Digits.{digits_of, hex_letter, place}
-use Rattle.gix_hash.specs.Reading.{full_read, reading_of, whole_of}
-use Rattle.gix_hash.specs.Kinds.{hex_len_of, byte_len_of, kind_of_full_len}
-use Rattle.gix_hash.specs.Ids.{id_digits}
-use Rattle.gix_hash.specs.Prefixes.{KindDigits}
-use Rattle.gix_hash.specs.declared.Kind.{Kind}
-use Rattle.gix_hash.specs.declared.Kind.TheVariants.{Sha1, Sha256}
-use Rattle.gix_hash.specs.declared.ObjectId.{ObjectId}
-use Rattle.gix_hash.specs.PrefixBytes.{id_of as made}
+use Rattle.id_lookup.specs.Words.{IsSortedIds, Kind, KindDigits, ObjectId, Sha1, Sha256, byte_len_of, digits_of, full_read, hex_len_of, hex_letter, id_digits, id_of as made, kind_of_full_len, least_hex_len, place, reading_of, whole_of}
 use Rattle.gix_hash.specs.declared.decode.Error.TheVariants.{InvalidHexEncodingLength, Invalid}
 use Rattle.gix_hash.proofs.KindFacts.{hex_len_of-bytes}
 use Rattle.id_digits.specs.Letters.{AreSortedLines, IsIdLine, is_line_len, line_values, may_follow, packed, value_of}
 use Rattle.id_digits.proofs.ReadLines.{length-letters, packed_line, line_reads}
-use Rattle.id_lookup.specs.Runs.{IsSortedIds, least_hex_len}
 use Rattle.id_lookup.proofs.Indexes.{index-sorted}
 use Rattle.id_lookup.proofs.OutsidePrefixes.{no_matches}
 use Rattle.oidtool_commands.specs.Searches.{AreLinesOf, CanSkip, IsLeast, IsLineOfId, TakesLength, allows_repeats, error_of_first}

@@ -1,16 +1,12 @@
 -- Each result of a search holds of the two texts, and only one does.
-use Rattle.std.proofs.Common.{◌≡◌, ◌↔◌, ℕ, ◌+◌, ◌-◌, ◌<◌, ◌≤◌, nat_lt, Bool, true, false, Option, Some, None, List, [], ◌∷◌, ◌++◌, length, refl, ap, subst, arith, Result, Ok, Err, IsOk, is_ok, ◌∙◌, inl, inr}
+use Rattle.std.proofs.Common.{◌≡◌, ◌↔◌, ℕ, ◌+◌, ◌-◌, ◌<◌, ◌≤◌, nat_lt, Bool, true, false, Option, Some, None, List, [], ◌∷◌, ◌++◌, length, refl, ap, subst, arith, Result, Ok, Err, IsOk, is_ok, ◌∙◌, inl, inr, All}
 use Rattle.std.proofs.lemmas.Bool.Decides.{nat_tests}
 use Rattle.std.proofs.lemmas.List.Elements.{All-cons, All-head, All-tail}
 use Rattle.std.specs.List.{AllZip}
 use Rattle.std.specs.Option.{option_or}
-use Rattle.std.specs.Prelude.{All}
-use Rattle.gix_hash.specs.Digits.{hex_letter}
-use Rattle.gix_hash.specs.Reading.{full_read}
-use Rattle.gix_hash.specs.Prefixes.{KindDigits}
+use Rattle.id_lookup.specs.Words.{KindDigits, full_read, hex_letter, least_hex_len, matches}
 use Rattle.gix_hash.specs.declared.decode.Error.{Error}
 use Rattle.gix_hash.specs.declared.prefix.from_hex.Error.{Error as PrefixError}
-use Rattle.id_lookup.specs.Runs.{least_hex_len, matches}
 use Rattle.streams.specs.Streams.{lines_of}
 use Rattle.oidtool_commands.specs.Lists.{IsFirstBad, IsLineOf, ids_read, list_read, prepend_line}
 use Rattle.oidtool_commands.specs.Searches.{IsSearch, error_of_all, error_or, finding, first_refused, found_among, found_texts, prefix_of, FoundHolds, ResultHolds}

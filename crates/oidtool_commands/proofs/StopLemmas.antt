@@ -4,7 +4,7 @@ use Rattle.std.proofs.lemmas.List.{take-take, length-map}
 use Rattle.std.proofs.KnownBytes.{Consumes-trans, Consumes-kept}
 use Rattle.std.specs.Io.KnownBytes.{Consumes, Keeps, IsAtEnd, Appends}
 use Rattle.std.proofs.Math.Seq.{take-append_seam}
-use Rattle.gix_hash.specs.declared.ObjectId.{ObjectId}
+use Rattle.id_lookup.specs.Words.{KindDigits, ObjectId, id_digits}
 use Rattle.oidtool_commands.specs.Searches.{HasSearched, HoldsOfAll, IsSettled, GivesGoodLines, GivesTooMuch, Fails, Finds, FoundHolds, From, Searched, IsOwn, OfAll, Stops, found_among, found_in_list, found_texts, letter_for, prefix_of}
 use Rattle.oidtool_commands.specs.Lists.{HasTaken, NoBadLineEnded, list_read, IsListRefusal}
 use Rattle.oidtool_commands.specs.declared.search.finder.Finder.{Finder}
@@ -13,10 +13,8 @@ use Rattle.oidtool_commands.specs.declared.search.Search.{Search}
 use Rattle.oidtool_commands.proofs.ChunkLemmas.{no_bad_line}
 use Rattle.std.proofs.lemmas.Bool.{false≢true}
 use Rattle.std.specs.Result.{MatchResult, result_map_both}
-use Rattle.gix_hash.specs.Ids.{id_digits}
 use Rattle.streams.specs.Streams.{printed}
 use Rattle.oidtool_commands.specs.declared.search.query.Query.{Query}
-use Rattle.gix_hash.specs.Prefixes.{KindDigits}
 use Rattle.gix_hash.specs.declared.prefix.from_hex.Error.{Error as PrefixError}
 use Rattle.oidtool_commands.specs.declared.search.error.SearchError.{SearchError}
 use Rattle.oidtool_commands.specs.declared.search.error.SearchError.TheVariants.{Prefix, BadLine, Unsorted, PrefixTooLong, WrongKind, NotRising, Memory, Output, Input}

@@ -3,10 +3,7 @@ use Rattle.std.specs.Prelude.{[], ℕ, ◌<◌, ◌==◌, ◌^◌, ◌∷◌, �
 use Rattle.std.specs.Io.KnownBytes.{Appends}
 use Rattle.std.specs.Str.Parse.{IsNumeral, digits_value, without_leading_plus}
 use denote.Ref.{Bor}
-use Rattle.gix_hash.specs.Hashing.{sealed}
-use Rattle.gix_hash.specs.Kinds.{IsNameOf, IsNoName}
-use Rattle.gix_hash.specs.declared.Alphabet.TheVariants.{Hex, Reverse}
-use Rattle.gix_hash.specs.declared.Kind.{Kind}
+use Rattle.id_lookup.specs.Words.{Hex, IsNameOf, IsNoName, Kind, Reverse, sealed}
 use Rattle.streams.specs.Streams.{AppendsPart, HasReadAll, HasReadTooMuch, HashingFails, SealingFails, digest_line, max_len}
 use Rattle.streams.specs.declared.PipeError.{PipeError}
 use Rattle.streams.specs.declared.PipeError.TheVariants as pipe

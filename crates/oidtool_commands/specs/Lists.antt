@@ -1,11 +1,7 @@
 -- List texts, with a line for each id.
 use Rattle.std.specs.Prelude.{[], ℕ, ◌++◌, ◌+◌, ◌<◌, ◌∷◌, ◌≡◌, ◌≤◌, All, Err, IsOk, List, Ok, Result, false, flat_map, length, map, take}
 use Rattle.std.specs.List.{AllZip, slice_range}
-use Rattle.gix_hash.specs.Digits.{hex_letter}
-use Rattle.gix_hash.specs.Prefixes.{KindDigits, kind_digits}
-use Rattle.gix_hash.specs.Reading.{full_read, whole_of}
-use Rattle.gix_hash.specs.declared.Kind.{Kind}
-use Rattle.gix_hash.specs.declared.ObjectId.{ObjectId}
+use Rattle.id_lookup.specs.Words.{Kind, KindDigits, ObjectId, full_read, hex_letter, kind_digits, whole_of}
 use Rattle.gix_hash.specs.declared.decode.Error.{Error}
 use Rattle.streams.specs.Streams.{is_line_feed, lines_of}
 use Rattle.oidtool_commands.specs.declared.search.error.SearchError.{SearchError}

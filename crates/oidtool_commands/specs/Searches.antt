@@ -5,17 +5,9 @@ use Rattle.std.specs.Io.KnownBytes.{Appends, Consumes, IsAtEnd}
 use Rattle.std.specs.List.{AllZip}
 use Rattle.std.specs.Option.{option_map, option_or}
 use Rattle.std.specs.Ordering.{is_lt, nat_cmp}
-use Rattle.gix_hash.specs.Digits.{hex_letter}
-use Rattle.gix_hash.specs.Ids.{id_digits}
-use Rattle.gix_hash.specs.Kinds.{hex_len_of}
-use Rattle.gix_hash.specs.Prefixes.{KindDigits}
-use Rattle.gix_hash.specs.Reading.{full_read, letter_of, prefix_read, prefix_read_in, whole_of}
-use Rattle.gix_hash.specs.declared.Kind.{Kind}
-use Rattle.gix_hash.specs.declared.ObjectId.{ObjectId}
+use Rattle.id_lookup.specs.Words.{IsFirstIndexError, IsFirstUnsorted, IsIndex, IsSortedIds, Kind, KindDigits, ObjectId, full_read, hex_len_of, hex_letter, id_digits, least_hex_len, letter_of, matches, prefix_read, prefix_read_in, whole_of}
 use Rattle.gix_hash.specs.declared.prefix.from_hex.Error.{Error as PrefixError}
 use Rattle.streams.specs.Streams.{AppendsPart, lines_of, printed}
-use Rattle.id_lookup.specs.Indexes.{IsFirstIndexError, IsIndex}
-use Rattle.id_lookup.specs.Runs.{IsFirstUnsorted, IsSortedIds, least_hex_len, matches}
 use Rattle.id_lookup.specs.declared.index.IndexError.{IndexError}
 use Rattle.id_lookup.specs.declared.index.IndexError.TheVariants as index
 use Rattle.oidtool_commands.specs.Lists.{HasTaken, IsFirstBadLine, IsFirstRead, IsListOf, IsListRefusal, NoBadLineEnded, list_read}

@@ -1,7 +1,7 @@
 //! The command line.
 
 ghost use Rattle.std.specs.Prelude.{[], ◌∷◌, IfOk, IfErr};
-ghost use Rattle.gix_hash.specs.Kinds.{IsNameOf};
+ghost use Rattle.id_lookup.specs.Words.{IsNameOf};
 ghost use Rattle.oidtool_commands.specs.Commands.{AsksFor, IsNumberOf, IsKindRefusal, IsNumberRefusal, IsWordsRefusal, texts_of};
 
 use gix_hash::Kind;

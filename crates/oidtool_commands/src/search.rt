@@ -1,7 +1,7 @@
 //! The search in the list text of a source.
 
 ghost use Rattle.std.specs.Prelude.{◌≡◌, ◌≢◌, ◌↔◌, ◌^◌, ◌<◌, false, true, IsErr, IfOk, IfErr, IsErrOf};
-ghost use Rattle.gix_hash.specs.Reading.{letter_of};
+ghost use Rattle.id_lookup.specs.Words.{letter_of};
 ghost use Rattle.oidtool_commands.specs.Searches.{Fails, Finds, From, IsFor, IsOwn, letter_for, prefix_of};
 
 pub mod error;

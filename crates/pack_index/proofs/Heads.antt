@@ -1,10 +1,7 @@
 -- The numbers in the head of a pack index are those of all its bytes.
-use Rattle.std.proofs.Common.{◌≡◌, ℕ, zero, suc, ◌+◌, ◌-◌, ◌*◌, ◌<◌, ◌≤◌, List, [], ◌∷◌, length, get_or, take, drop, refl, sym, ap, ◌∙◌, arith, zero-add}
+use Rattle.std.proofs.Common.{◌≡◌, ℕ, zero, suc, ◌+◌, ◌-◌, ◌*◌, ◌<◌, ◌≤◌, List, [], ◌∷◌, length, get_or, take, drop, refl, sym, ap, ◌∙◌, arith, zero-add, get_or-take, get_or-drop}
 use Rattle.std.specs.Int.{from_be_bytes, w32}
-use Rattle.std.proofs.lemmas.List.{get_or-take, get_or-drop}
-use Rattle.gix_hash.specs.Kinds.{byte_len_of}
-use Rattle.gix_hash.specs.declared.Kind.{Kind}
-use Rattle.gix_hash.specs.declared.Kind.TheVariants.{Sha1, Sha256}
+use Rattle.id_lookup.specs.Words.{Kind, Sha1, Sha256, byte_len_of}
 use Rattle.pack_index.specs.Format.{BeginsIndex, Each, FillsBytes, HasHead, HasTables, IsFirstNot, IsHeadFault, long_table_start, min_len, names_start, num_objects, offset_table_start, other_than, word_at}
 use Rattle.pack_index.specs.Lazy.{Rises, bucket_end, bucket_start}
 use Rattle.pack_index.specs.declared.error.Error.{Error}

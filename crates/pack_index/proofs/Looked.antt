@@ -1,12 +1,7 @@
 -- Where an id is among names of its kind, by the run of all its digits.
-use Rattle.std.proofs.Common.{◌≡◌, ◌≢◌, ℕ, ◌<◌, ◌≤◌, true, not, nat_eq, Option, None, Some, List, [], length, get_or, take, refl, sym, ap, ◌∙◌, arith, append-nil}
-use Rattle.std.specs.Prelude.{◌↔◌, IfSome, IsTrue}
-use Rattle.std.proofs.lemmas.List.{take_all, take_at}
+use Rattle.std.proofs.Common.{◌≡◌, ◌≢◌, ℕ, ◌<◌, ◌≤◌, true, not, nat_eq, Option, None, Some, List, [], length, get_or, take, refl, sym, ap, ◌∙◌, arith, append-nil, ◌↔◌, IfSome, IsTrue, take_all, take_at}
 use Rattle.std.proofs.lemmas.Bool.{false≢true}
-use Rattle.gix_hash.specs.Kinds.{hex_len_of, number_of}
-use Rattle.gix_hash.specs.Prefixes.{KindDigits, BeginsWith}
-use Rattle.gix_hash.specs.declared.Kind.{Kind}
-use Rattle.id_lookup.specs.Runs.{IsRun, begins_with}
+use Rattle.id_lookup.specs.Words.{BeginsWith, IsRun, Kind, KindDigits, begins_with, hex_len_of, number_of}
 use Rattle.id_lookup.specs.declared.search.Run.{Run}
 use Rattle.id_lookup.proofs.Indexes.{not_other, same_kind}
 use Rattle.pack_index.specs.Format.{IsFirstIndexOf}

@@ -4,12 +4,7 @@
 use Rattle.std.specs.Prelude.{[], ℕ, ◌%◌, ◌*◌, ◌+◌, ◌-◌, ◌/◌, ◌<◌, ◌^◌, ◌∷◌, ◌≡◌, ◌≢◌, ◌≤◌, ◌⊎◌, Bool, List, count_by, if◌then◌else◌, length, map, nat_le, nat_lt, slice_index, slice_index_or, slice_range, suc, zero}
 use Rattle.std.specs.Int.{from_be_bytes, w32}
 use Rattle.std.specs.Simd.{first_chunks}
-use Rattle.gix_hash.specs.Digits.{digits_of}
-use Rattle.gix_hash.specs.Hashing.{EndsInDigest}
-use Rattle.gix_hash.specs.Kinds.{byte_len_of}
-use Rattle.gix_hash.specs.declared.Kind.{Kind}
-use Rattle.gix_hash.specs.declared.Kind.TheVariants.{Sha1, Sha256}
-use Rattle.id_lookup.specs.Runs.{IsFirstUnsorted, IsSortedIds, is_up_to}
+use Rattle.id_lookup.specs.Words.{EndsInDigest, IsFirstUnsorted, IsSortedIds, Kind, Sha1, Sha256, byte_len_of, digits_of, is_up_to}
 use Rattle.pack_index.specs.declared.error.Error.{Error}
 use Rattle.pack_index.specs.declared.error.Error.TheVariants.{BadMagic, BadVersion, LongOutOfOrder, NamesFall, NoOffset, OffsetInHeader, OffsetTooHigh, OtherKind, SpareLong, TooShort, Version1, WrongChecksum, WrongCount, WrongLength}
 use Rattle.pack_index.specs.declared.names.Names.{Names}

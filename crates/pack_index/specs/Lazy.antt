@@ -1,9 +1,6 @@
 -- Pack indexes that are read at positions, and not whole.
 use Rattle.std.specs.Prelude.{◌≡◌, ◌≢◌, ℕ, zero, suc, ◌+◌, ◌*◌, ◌<◌, ◌≤◌, Bool, IsTrue, Option, Some, List, [], All, length, slice_index_or, slice_range}
-use Rattle.gix_hash.specs.Digits.{first_byte_of}
-use Rattle.gix_hash.specs.declared.Kind.{Kind}
-use Rattle.id_lookup.specs.Runs.{has_first_byte}
-use Rattle.id_lookup.specs.Indexes.{part_of}
+use Rattle.id_lookup.specs.Words.{Kind, first_byte_of, has_first_byte, part_of}
 use Rattle.pack_index.specs.Format.{Each, HasCount, HasHead, HasOffset, HasTables, IsFirstNot, IsHeadFault, names_in, num_objects, word_at}
 use Rattle.pack_index.specs.declared.lazy_error.LazyError.{LazyError}
 use Rattle.pack_index.specs.declared.lazy_error.LazyError.TheVariants.{Read, Memory, Head, CountsFall, WrongCount, NoOffset}

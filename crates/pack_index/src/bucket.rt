@@ -2,9 +2,7 @@
 
 ghost use Rattle.std.specs.Prelude.{◌≡◌, ◌≢◌, ◌*◌, ◌<◌, ◌≤◌, ◌↔◌, ◌++◌, ℕ, [], All, IsTrue, MatchOption, OnOk, length, map, nat_eq, slice_index_or, slice_range};
 ghost use Rattle.std.specs.List.{starts_with};
-ghost use Rattle.gix_hash.specs.Kinds.{byte_len_of, hex_len_of};
-ghost use Rattle.gix_hash.specs.Ids.{id_digits, id_kind, oid_digits};
-ghost use Rattle.id_lookup.specs.Runs.{IsSortedIds, least_hex_len, matches};
+ghost use Rattle.id_lookup.specs.Words.{IsSortedIds, byte_len_of, hex_len_of, id_digits, id_kind, least_hex_len, matches, oid_digits};
 ghost use Rattle.pack_index.specs.Format.{IsFirstIndexOf, digests_in};
 
 use crate::names::{Names, all_digits};
@@ -38,8 +36,7 @@ pub struct Bucket<A: Allocator> {
 
 impl<A: Allocator> Model for Bucket<A> {
     ghost use Rattle.std.specs.Prelude.{◌≡◌, ◌*◌, IsTrue, length};
-    ghost use Rattle.gix_hash.specs.Kinds.{byte_len_of};
-    ghost use Rattle.id_lookup.specs.Runs.{IsSortedIds};
+    ghost use Rattle.id_lookup.specs.Words.{IsSortedIds, byte_len_of};
     ghost use Rattle.pack_index.specs.Format.{digests_in};
     ghost use Rattle.pack_index.specs.Lazy.{BucketNames};
 

@@ -1,10 +1,7 @@
 //! A pack index over its bytes.
 
-ghost use Rattle.std.specs.Prelude.{◌≡◌, ◌≢◌, ◌↔◌, ◌+◌, ◌<◌, ℕ, [], Err, IfErr, IfOk, IsOk, MatchOption, length, slice_index_or, slice_range, IfSome, IsNone, List, OnOk};
-ghost use Rattle.std.specs.List.{HoldsAt};
-ghost use Rattle.gix_hash.specs.Ids.{oid_bytes, oid_digits};
-ghost use Rattle.id_lookup.specs.Indexes.{IsAnswer, IsShortestName};
-ghost use Rattle.id_lookup.specs.Runs.{IsRun};
+ghost use Rattle.std.specs.Prelude.{◌≡◌, ◌≢◌, ◌↔◌, ◌+◌, ◌<◌, ℕ, [], Err, IfErr, IfOk, IsOk, MatchOption, length, slice_index_or, slice_range, IfSome, IsNone, List, OnOk, HoldsAt};
+ghost use Rattle.id_lookup.specs.Words.{IsAnswer, IsRun, IsShortestName, oid_bytes, oid_digits};
 ghost use Rattle.pack_index.specs.Format.{IsFault, IsFirstIndexOf, IsPackIndex, IsRefusal, crc_in, digest_at, names_in, offset_in, other_than, tables_end};
 
 use crate::checks::{check_tables, first_wrong_count, other_than};
@@ -35,7 +32,7 @@ pub struct File<'a> {
 
 impl<'a> Model for File<'a> {
     ghost use Rattle.std.specs.Prelude.{◌≡◌};
-    ghost use Rattle.id_lookup.specs.Runs.{IsFanOut};
+    ghost use Rattle.id_lookup.specs.Words.{IsFanOut};
     ghost use Rattle.pack_index.specs.Format.{IndexFile, IsPackIndex, list_of, names_in};
 
     ghost Value = { IndexFile };

@@ -1,10 +1,7 @@
 //! Pack indexes that are read at positions, and not whole.
 
 ghost use Rattle.std.specs.Prelude.{◌≡◌, ◌≢◌, ◌↔◌, ◌+◌, ◌-◌, ◌*◌, ◌<◌, ◌≤◌, ℕ, [], All, IfErr, IfOk, IfSome, IsTrue, List, MatchOption, OnOk, Some, length, slice_index_or};
-ghost use Rattle.gix_hash.specs.Digits.{first_byte_of};
-ghost use Rattle.gix_hash.specs.Kinds.{byte_len_of};
-ghost use Rattle.gix_hash.specs.Ids.{oid_digits};
-ghost use Rattle.id_lookup.specs.Runs.{has_first_byte};
+ghost use Rattle.id_lookup.specs.Words.{byte_len_of, first_byte_of, has_first_byte, oid_digits};
 ghost use Rattle.pack_index.specs.Format.{Each, HasCount, HasHead, HasOffset, HasTables, IsFirstIndexOf, digests_in, names_in, num_objects, offset_in, offset_word, word_at};
 ghost use Rattle.pack_index.specs.Lazy.{HaveFirstByte, IfKnown, IsBucketFault, IsBucketOf, IsFirstCounted, IsOffsetFault, IsOpenFault, IsReadOrMemory, Rises, bucket_end, bucket_start};
 ghost use Rattle.streams.specs.Streams.{IsReadAt};

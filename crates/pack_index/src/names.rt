@@ -1,11 +1,7 @@
 //! The ids of a pack index, which are of one kind.
 
-ghost use Rattle.std.specs.Prelude.{◌≡◌, ◌↔◌, ◌+◌, ◌<◌, ◌≤◌, ℕ, [], List, IfErr, IfOk, IfSome, IsNone, IsOk, length, slice_index_or};
-ghost use Rattle.std.specs.List.{HoldsAt};
-ghost use Rattle.gix_hash.specs.Kinds.{hex_len_of};
-ghost use Rattle.gix_hash.specs.Ids.{oid_digits, oid_kind};
-ghost use Rattle.id_lookup.specs.Runs.{IsFanOut, IsFirstUnsorted, IsRun, IsSortedIds, least_hex_len};
-ghost use Rattle.id_lookup.specs.Indexes.{IsShortestName};
+ghost use Rattle.std.specs.Prelude.{◌≡◌, ◌↔◌, ◌+◌, ◌<◌, ◌≤◌, ℕ, [], List, IfErr, IfOk, IfSome, IsNone, IsOk, length, slice_index_or, HoldsAt};
+ghost use Rattle.id_lookup.specs.Words.{IsFanOut, IsFirstUnsorted, IsRun, IsShortestName, IsSortedIds, hex_len_of, least_hex_len, oid_digits, oid_kind};
 ghost use Rattle.pack_index.specs.Format.{digests_in, list_of};
 
 use gix_hash::{Kind, Prefix, oid};

@@ -1,7 +1,7 @@
 //! Numbers and tables in the bytes of a pack index.
 
 ghost use Rattle.std.specs.Prelude.{◌≡◌, ◌+◌, ◌*◌, ◌<◌, ◌≤◌, ◌^◌, length};
-ghost use Rattle.gix_hash.specs.Kinds.{byte_len_of};
+ghost use Rattle.id_lookup.specs.Words.{byte_len_of};
 ghost use Rattle.pack_index.specs.Format.{HasOffset, HasTables, crc_in, crc_table_start, digest_at, long_table_start, names_start, num_objects, offset_in, offset_table_start, offset_word, tables_end, word_at};
 ghost use Rattle.pack_index.specs.Lazy.{bucket_end, bucket_start};
 

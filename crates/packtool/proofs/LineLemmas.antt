@@ -1,40 +1,5 @@
 -- Lines that a reader gives, and those that are still to come.
-use Rattle.std.proofs.Common.{
-  ◌≡◌,
-  ℕ,
-  Bool,
-  true,
-  false,
-  ◌+◌,
-  ◌-◌,
-  ◌<◌,
-  ◌≤◌,
-  List,
-  [],
-  ◌∷◌,
-  ◌++◌,
-  Option,
-  None,
-  Some,
-  cond,
-  length,
-  take,
-  drop,
-  count_by,
-  set,
-  get_or,
-  refl,
-  sym,
-  ap,
-  ◌∙◌,
-  arith,
-  append_assoc,
-  add-one,
-  zero-add,
-  length-append,
-  length-drop,
-}
-use Rattle.std.specs.Option.{option_map}
+use Rattle.std.proofs.Common.{◌≡◌, ℕ, Bool, true, false, ◌+◌, ◌-◌, ◌<◌, ◌≤◌, List, [], ◌∷◌, ◌++◌, Option, None, Some, cond, length, take, drop, count_by, set, get_or, refl, sym, ap, ◌∙◌, arith, append_assoc, add-one, zero-add, length-append, length-drop, option_map}
 use Rattle.std.specs.Io.KnownBytes.{Consumes, IsAtEnd, Keeps, prepend_known}
 use Rattle.std.proofs.Math.Seq.{paste, take-append-add, take-suc-set}
 use Rattle.std.proofs.lemmas.List.{append-nil, drop-take, drop_all, length-take, length-take-le, take-append-drop, take-append-le, take-take, take_more}

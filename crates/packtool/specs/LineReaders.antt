@@ -1,6 +1,5 @@
 -- What contracts see of a reader of lines.
-use Rattle.std.specs.Prelude.{ℕ, List, Option, take, drop}
-use Rattle.std.specs.Option.{option_map}
+use Rattle.std.specs.Prelude.{ℕ, List, Option, take, drop, option_map}
 use Rattle.std.specs.Io.KnownBytes.{prepend_known}
 use Rattle.packtool.specs.WholeLines.{ended}
 use Rattle.packtool.specs.declared.lines.LineReader.{LineReader}

@@ -1,7 +1,7 @@
 -- What contracts see of requests.
 use Rattle.std.specs.Prelude.{◌≤◌, ⊤}
 use Rattle.gix_hash.specs.declared.kind.Kind.{Kind}
-use Rattle.gix_hash.specs.Kinds.{hex_len_of}
+use Rattle.gix_hash.specs.Words.{hex_len_of}
 use Rattle.packtool.specs.declared.arguments.Question.{Question}
 use Rattle.packtool.specs.declared.arguments.Question.TheVariants.{Find, Locate, Names}
 

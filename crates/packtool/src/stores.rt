@@ -1,9 +1,7 @@
 //! Commands over a store.
 
 ghost use Rattle.std.specs.Prelude.{◌≡◌, ◌<◌, ◌≤◌, ◌++◌, ℕ, All, IfOk, Some, false, if◌then◌else◌, length, take};
-ghost use Rattle.gix_hash.specs.Digits.{first_byte_of};
-ghost use Rattle.gix_hash.specs.Kinds.{hex_len_of};
-ghost use Rattle.gix_hash.specs.Prefixes.{KindDigits};
+ghost use Rattle.gix_hash.specs.Words.{KindDigits, first_byte_of, hex_len_of};
 ghost use Rattle.store_folders.specs.Listed.{only_of};
 ghost use Rattle.streams.specs.Devices.{plain_failed};
 ghost use Rattle.packtool.specs.Requests.{LeastFits};

@@ -1,16 +1,10 @@
 -- The lines of a text and what is printed for them, one after the other.
-use Rattle.std.proofs.Common.{◌≡◌, ℕ, zero, suc, ◌<◌, ◌≤◌, Bool, true, false, ◌&&◌, nat_lt, Option, None, Some, List, [], ◌∷◌, ◌++◌, length, get_or, refl, sym, ap, subst, ◌∙◌, arith}
-use Rattle.std.specs.Prelude.{if◌then◌else◌}
-use Rattle.std.specs.List.{All, flat_map}
-use Rattle.std.specs.Option.{is_some, option_map, option_to_list}
+use Rattle.std.proofs.Common.{◌≡◌, ℕ, zero, suc, ◌<◌, ◌≤◌, Bool, true, false, ◌&&◌, nat_lt, Option, None, Some, List, [], ◌∷◌, ◌++◌, length, get_or, refl, sym, ap, subst, ◌∙◌, arith, if◌then◌else◌, All, flat_map, is_some, option_map, option_to_list}
 use Rattle.std.proofs.lemmas.Bool.Decides.{nat_tests}
 use Rattle.std.proofs.lemmas.List.{length-drop, nil_from_length}
 use Rattle.std.proofs.lemmas.List.Elements.{All-append}
 use Rattle.streams.proofs.LineLemmas.{lines_of-nil}
-use Rattle.gix_hash.specs.Digits.{digits_read, hex_letter}
-use Rattle.gix_hash.specs.Kinds.{hex_len_of}
-use Rattle.gix_hash.specs.Prefixes.{KindDigits, kind_digits}
-use Rattle.gix_hash.specs.declared.Kind.{Kind}
+use Rattle.id_lookup.specs.Words.{Kind, KindDigits, digits_read, hex_len_of, hex_letter, kind_digits}
 use Rattle.object_store.specs.Stores.{CanLookUp, IsReopened, StoreView}
 use Rattle.streams.specs.Streams.{lines_of}
 use Rattle.packtool_commands.specs.Stores.{AreListed, answer_to, answers_by, are_answers_by, found_text, is_answer_to, lists_after, of_two, prefix_of, prefixes_of}

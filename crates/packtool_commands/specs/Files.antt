@@ -4,12 +4,7 @@ use Rattle.std.specs.Int.{to_be_bytes, w32}
 use Rattle.std.specs.Io.KnownBytes.{Appends}
 use Rattle.std.specs.List.{list_any, range_with_len}
 use Rattle.hex.specs.Hex.{encode_lower}
-use Rattle.gix_hash.specs.Digits.{digits_of, hex_letter, spelling}
-use Rattle.gix_hash.specs.Ids.{id_bytes, id_digits}
-use Rattle.gix_hash.specs.Kinds.{byte_len_of}
-use Rattle.gix_hash.specs.declared.Kind.{Kind}
-use Rattle.gix_hash.specs.declared.Kind.TheVariants.{Sha1, Sha256}
-use Rattle.gix_hash.specs.declared.ObjectId.{ObjectId}
+use Rattle.id_lookup.specs.Words.{Kind, ObjectId, Sha1, Sha256, byte_len_of, digits_of, hex_letter, id_bytes, id_digits, spelling}
 use Rattle.streams.specs.Streams.{AppendsPart}
 use Rattle.streams.specs.declared.checking.Ending.{Ending}
 use Rattle.streams.specs.declared.checking.Ending.TheVariants.{Sealed, Unsealed}

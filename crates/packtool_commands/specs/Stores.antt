@@ -1,13 +1,7 @@
 -- What is printed of the ids of a store, and why that fails.
-use Rattle.std.specs.Prelude.{[], ℕ, ◌&&◌, ◌++◌, ◌<◌, ◌↔◌, ◌∷◌, ◌≡◌, ◌≢◌, All, Bool, IsTrue, List, None, Option, Some, Vec, codes, decimal, drop, false, flat_map, if◌then◌else◌, length, map, nat_lt, string_bytes, suc, true, zero}
+use Rattle.std.specs.Prelude.{[], ℕ, ◌&&◌, ◌++◌, ◌<◌, ◌↔◌, ◌∷◌, ◌≡◌, ◌≢◌, All, Bool, IsTrue, List, None, Option, Some, Vec, codes, decimal, drop, false, flat_map, if◌then◌else◌, length, map, nat_lt, string_bytes, suc, true, zero, is_some, option_map, option_to_list}
 use Rattle.std.specs.Io.KnownBytes.{Appends}
-use Rattle.std.specs.Option.{is_some, option_map, option_to_list}
-use Rattle.gix_hash.specs.Digits.{digits_read, first_byte_of, hex_letter, spelling}
-use Rattle.gix_hash.specs.Ids.{id_digits}
-use Rattle.gix_hash.specs.Kinds.{hex_len_of}
-use Rattle.gix_hash.specs.Prefixes.{KindDigits, kind_digits}
-use Rattle.gix_hash.specs.declared.Kind.{Kind}
-use Rattle.gix_hash.specs.declared.ObjectId.{ObjectId}
+use Rattle.id_lookup.specs.Words.{Kind, KindDigits, ObjectId, digits_read, first_byte_of, hex_len_of, hex_letter, id_digits, kind_digits, spelling}
 use Rattle.streams.specs.Streams.{AppendsAtMost, AppendsPart, printed}
 use Rattle.pack_index.specs.Format.{Each}
 use Rattle.object_store.specs.Several.{AreAbbreviatedOfEach, AreLocated, AreLocatedOfEach, AreNamed}

@@ -3,7 +3,7 @@
 ghost use Rattle.std.specs.Prelude.{◌≡◌, ◌≢◌, ◌++◌, ◌-◌, ◌<◌, ◌≤◌, ◌↔◌, ◌∷◌, ◌&&◌, ℕ, All, Bool, List, IfErr, IfOk, IsErrOf, OnErr, OnOk, Option, Some, false, flat_map, length, option_copied, true};
 ghost use Rattle.std.specs.List.{after_first, before_first, position};
 ghost use Rattle.std.specs.Io.KnownBytes.{Appends};
-ghost use Rattle.gix_hash.specs.Ids.{id_digits};
+ghost use Rattle.id_lookup.specs.Words.{id_digits};
 ghost use Rattle.object_store.specs.Stores.{CanLookUp, IsFaultOfOne, IsReopened};
 ghost use Rattle.packtool_commands.specs.Stores.{AreListed, HasAnsweredMatches, HasAnsweredMatchesPart, IsFaultOf, answer_to, answers_by, are_answers_by, found_text, front_text, id_line, is_answer_to, is_found, lists_after, prefix_of, prefixes_of};
 ghost use Rattle.packtool_commands.specs.declared.error.StoreError.{StoreError};

@@ -1,7 +1,7 @@
 //! The ids of a store that begin with a prefix.
 
 ghost use Rattle.std.specs.Prelude.{◌≡◌, ◌≢◌, ◌↔◌, ◌≤◌, false, true, length, IfErr, IfOk, IsErrOf};
-ghost use Rattle.gix_hash.specs.Digits.{first_byte_of};
+ghost use Rattle.id_lookup.specs.Words.{first_byte_of};
 ghost use Rattle.object_store.specs.Stores.{IsListed, IsReopened, IsStoreFault};
 ghost use Rattle.packtool_commands.specs.Stores.{HasPrinted, HasPrintedPart, IsFaultOf};
 ghost use Rattle.packtool_commands.specs.declared.error.StoreError.{StoreError};

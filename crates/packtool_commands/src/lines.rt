@@ -4,8 +4,7 @@
 //! more for a line of a pack index, and 48 for one of a name.
 
 ghost use Rattle.std.specs.Prelude.{◌≡◌, ◌+◌, ◌<◌, ◌≤◌, ◌++◌, IfOk, OnErr, OnOk, decimal, false, true, length, take};
-ghost use Rattle.gix_hash.specs.Digits.{hex_letter, spelling};
-ghost use Rattle.gix_hash.specs.Ids.{oid_digits};
+ghost use Rattle.id_lookup.specs.Words.{hex_letter, oid_digits, spelling};
 ghost use Rattle.pack_index.specs.Format.{names_in};
 ghost use Rattle.packtool_commands.specs.Files.{KeepsBack, crc_text, hex_of, index_line, line_of_object};
 ghost use Rattle.packtool_commands.specs.Stores.{name_line};

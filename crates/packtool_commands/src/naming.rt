@@ -1,8 +1,7 @@
 //! The abbreviations of the ids of a store.
 
 ghost use Rattle.std.specs.Prelude.{◌≡◌, ◌≢◌, ◌↔◌, ◌⊎◌, ◌<◌, ◌≤◌, ◌∷◌, ◌++◌, ℕ, [], false, true, flat_map, length, All, IfErr, IfOk, IsErrOf, IsTrue};
-ghost use Rattle.gix_hash.specs.Digits.{hex_letter, spelling};
-ghost use Rattle.gix_hash.specs.Kinds.{hex_len_of};
+ghost use Rattle.id_lookup.specs.Words.{hex_len_of, hex_letter, spelling};
 ghost use Rattle.object_store.specs.Several.{AreNamed};
 ghost use Rattle.object_store.specs.Stores.{CanLookUp, IsFaultOfOne, IsListed, IsReopened, IsSeen, IsStoreFault};
 ghost use Rattle.packtool_commands.specs.Stores.{AreListed, HasNamedAtMost, HasNamedBelow, HasNamedEach, HasNamedPart, IsFaultOf, IsWalkFault, abbreviation_text, is_named, name_line};

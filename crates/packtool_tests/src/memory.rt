@@ -1,7 +1,7 @@
 //! A store in memory, whose reads fail after some number of them, until it is opened again.
 
 ghost use Rattle.std.specs.Prelude.{◌≡◌, [], ◌∷◌, All, IfOk};
-ghost use Rattle.gix_hash.specs.Ids.{id_kind};
+ghost use Rattle.id_lookup.specs.Words.{id_kind};
 
 use gix_hash::{Kind, ObjectId};
 use object_store::{Error, LooseTable, Reopen, Store, StorePaths};

@@ -1,6 +1,6 @@
 -- The path of a loose object.
 use Rattle.std.specs.Prelude.{◌++◌, ◌∷◌, ℕ, List, take, drop}
-use Rattle.gix_hash.specs.Digits.{hex_letter, spelling}
+use Rattle.gix_hash.specs.Words.{hex_letter, spelling}
 
 -- the first two digits of an id, a slash and the others
 abbrev pub loose_path : List ℕ → List ℕ

@@ -1,7 +1,6 @@
 -- Ids in texts, as Git prints them: in lowercase hex digits.
 use Rattle.std.specs.Prelude.{◌≡◌, ◌≢◌, ◌++◌, ◌∷◌, ℕ, List}
-use Rattle.gix_hash.specs.Digits.{hex_letter, spelling}
-use Rattle.gix_hash.specs.Ids.{AreIdDigits, id_digits, id_kind}
+use Rattle.gix_hash.specs.Words.{AreIdDigits, hex_letter, id_digits, id_kind, spelling}
 use Rattle.gix_hash.specs.declared.Kind.{Kind}
 use Rattle.gix_hash.specs.declared.ObjectId.{ObjectId}
 

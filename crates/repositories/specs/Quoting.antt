@@ -1,6 +1,5 @@
 -- Texts that Git quotes as C does.
-use Rattle.std.specs.Prelude.{◌≡◌, ℕ, ◌+◌, ◌-◌, ◌*◌, ◌&&◌, Bool, ◌==◌, nat_le, if◌then◌else◌, Option, Some, None, List, [], ◌∷◌}
-use Rattle.std.specs.Option.{option_map}
+use Rattle.std.specs.Prelude.{◌≡◌, ℕ, ◌+◌, ◌-◌, ◌*◌, ◌&&◌, Bool, ◌==◌, nat_le, if◌then◌else◌, Option, Some, None, List, [], ◌∷◌, option_map}
 
 -- the byte that a letter after a backslash means
 abbrev pub escaped : ℕ → Option ℕ

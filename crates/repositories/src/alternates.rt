@@ -1,8 +1,7 @@
 //! Lists of alternates: other object directories, whose objects a repository borrows.
 
-ghost use Rattle.std.specs.Prelude.{◌≡◌, ◌≢◌, ◌==◌, ◌-◌, ◌<◌, ◌≤◌, [], ◌∷◌, ◌++◌, ℕ, List, OnOk, not, filter, IfOk, IfSome, MatchOption, drop, length, map, position};
+ghost use Rattle.std.specs.Prelude.{◌≡◌, ◌≢◌, ◌==◌, ◌-◌, ◌<◌, ◌≤◌, [], ◌∷◌, ◌++◌, ℕ, List, OnOk, not, filter, IfOk, IfSome, MatchOption, drop, length, map, position, option_map};
 ghost use Rattle.std.specs.List.{after_first, before_first};
-ghost use Rattle.std.specs.Option.{option_map};
 ghost use Rattle.repositories.specs.Alternates.{HasEntry, NamesPaths, before_nul, is_comment};
 ghost use Rattle.repositories.specs.Quoting.{Means, escaped, escaped_byte, quoted_byte};
 

@@ -3,7 +3,7 @@
 
 ghost use Rattle.std.specs.Prelude.{◌≡◌, ◌≢◌, ◌≤◌, ◌+◌, ◌++◌, take, ℕ, List, OnOk, MatchOption, length};
 ghost use Rattle.std.specs.Io.KnownBytes.{Appends};
-ghost use Rattle.gix_hash.specs.Ids.{AreIdDigits, id_digits, id_kind};
+ghost use Rattle.gix_hash.specs.Words.{AreIdDigits, id_digits, id_kind};
 ghost use Rattle.repositories.specs.Paths.{loose_path};
 
 use crate::printed::{after_key, read_printed};

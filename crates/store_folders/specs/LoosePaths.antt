@@ -1,7 +1,6 @@
 -- The paths of loose objects, which are given by their digits.
-use Rattle.std.specs.Prelude.{ℕ, ◌++◌, List, [], ◌∷◌, if◌then◌else◌}
+use Rattle.std.specs.Prelude.{ℕ, ◌++◌, List, [], ◌∷◌, if◌then◌else◌, bytes_eq}
 use Rattle.std.specs.List.{list_any}
-use Rattle.std.specs.Str.{bytes_eq}
 use Rattle.repositories.specs.Paths.{loose_path}
 
 -- the path of the file of a loose object in a directory

@@ -1,7 +1,7 @@
 //! The loose objects in object directories, by the names of their files.
 
 ghost use Rattle.std.specs.Prelude.{◌≡◌, ◌++◌, All, IfOk, IfSome, OnOk, map, string_bytes};
-ghost use Rattle.gix_hash.specs.Ids.{id_digits, id_kind};
+ghost use Rattle.gix_hash.specs.Words.{id_digits, id_kind};
 ghost use Rattle.store_folders.specs.LoosePaths.{path_in, paths_in};
 
 use crate::error::Error;

@@ -1,7 +1,7 @@
 //! An object store in directories.
 
 ghost use Rattle.std.specs.Prelude.{◌≡◌, All, IfErr, IfOk, [], flat_map, true, map, slice_index_or, string_bytes};
-ghost use Rattle.gix_hash.specs.Ids.{id_kind};
+ghost use Rattle.gix_hash.specs.Words.{id_kind};
 
 use crate::error::Error;
 use crate::loose::{LooseIds, LooseObjects, list_loose, loose_path, push_path, take_listed};

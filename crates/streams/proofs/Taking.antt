@@ -1,8 +1,7 @@
 -- Writing a list of bytes chunk by chunk.
 use Rattle.std.proofs.lemmas.Bool.Decides.{nat_tests}
-use Rattle.std.proofs.Common.{Bool, false, ◌||◌, Ok, ◌≡◌, ◌≢◌, ℕ, ◌+◌, ◌-◌, ◌<◌, Option, Some, None, List, [], ◌++◌, length, take, drop, sym, ap, ◌∙◌, subst, arith, take-append-drop, append-nil}
+use Rattle.std.proofs.Common.{Bool, false, ◌||◌, Ok, ◌≡◌, ◌≢◌, ℕ, ◌+◌, ◌-◌, ◌<◌, Option, Some, None, List, [], ◌++◌, length, take, drop, sym, ap, ◌∙◌, subst, arith, take-append-drop, append-nil, take-add}
 use Rattle.std.proofs.lemmas.List.{length-drop, take_rest}
-use Rattle.std.proofs.Math.Seq.{take-add}
 use Rattle.std.proofs.KnownBytes.{Appends-trans}
 use Rattle.std.specs.Io.KnownBytes.{Appends, Keeps}
 use Rattle.streams.specs.Streams.{AppendsPart, write_fails}

@@ -2,10 +2,7 @@
 use Rattle.std.specs.Prelude.{[], ℕ, ◌&&◌, ◌++◌, ◌+◌, ◌-◌, ◌<◌, ◌==◌, ◌^◌, ◌∷◌, ◌≡◌, ◌≢◌, ◌≤◌, ◌⊎◌, Bool, Err, List, None, Ok, OnErr, OnOk, Option, Result, Some, false, flat_map, if◌then◌else◌, length, not, slice_range, take, true}
 use Rattle.std.specs.Io.KnownBytes.{Appends, Consumes, IsAtEnd}
 use Rattle.std.specs.List.{slice_split}
-use Rattle.gix_hash.specs.Digits.{digits_of, hex_letter, spelling}
-use Rattle.gix_hash.specs.Hashing.{EndsInDigest, WasFed, digest, hasher_kind, sealed}
-use Rattle.gix_hash.specs.Ids.{id_bytes, id_digits}
-use Rattle.gix_hash.specs.Kinds.{byte_len_of}
+use Rattle.gix_hash.specs.Words.{EndsInDigest, WasFed, byte_len_of, digest, digits_of, hasher_kind, hex_letter, id_bytes, id_digits, sealed, spelling}
 use Rattle.gix_hash.specs.declared.Hasher.{Hasher}
 use Rattle.gix_hash.specs.declared.Kind.{Kind}
 use Rattle.gix_hash.specs.declared.ObjectId.{ObjectId}

@@ -1,8 +1,7 @@
 //! Checking a stream of bytes that ends with the digest of all before it.
 
 ghost use Rattle.std.specs.Prelude.{◌≡◌, ◌↔◌, ◌≤◌, ◌++◌, ℕ, List, Option, None, false, true, length, OnOk, IfOk, IfErr, IsErrOf};
-ghost use Rattle.gix_hash.specs.Hashing.{hasher_kind, WasFed};
-ghost use Rattle.gix_hash.specs.Kinds.{byte_len_of};
+ghost use Rattle.gix_hash.specs.Words.{WasFed, byte_len_of, hasher_kind};
 ghost use Rattle.streams.specs.Streams.{AreAllBelow, AreFed, HasEnding, HasEndingOf, HasEndingOfEither, HasReadAll, HashingFails, IsEnding};
 
 use crate::{CHUNK_LEN, PipeError, Source, next_chunk};

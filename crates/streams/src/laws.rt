@@ -2,9 +2,7 @@
 //! computes nothing: a call of it brings the law into a caller's proof.
 
 ghost use Rattle.std.specs.Prelude.{◌≡◌, ◌≢◌, ◌↔◌, ◌≤◌, ℕ, List, [], ◌∷◌, ◌++◌, length};
-ghost use Rattle.gix_hash.specs.Hashing.{digest, sealed, EndsInDigest};
-ghost use Rattle.gix_hash.specs.Kinds.{byte_len_of};
-ghost use Rattle.gix_hash.specs.Ids.{id_bytes};
+ghost use Rattle.gix_hash.specs.Words.{EndsInDigest, byte_len_of, digest, id_bytes, sealed};
 
 use gix_hash::Kind;
 use gix_hash::hashing_laws::digests;

@@ -2,7 +2,7 @@
 
 ghost use Rattle.std.specs.Prelude.{◌≡◌, ◌≢◌, ◌↔◌, ℕ, List, false, true, OnOk, IfOk, IfErr, IsErrOf, None};
 ghost use Rattle.std.specs.Io.KnownBytes.{Appends};
-ghost use Rattle.gix_hash.specs.Hashing.{digest, sealed};
+ghost use Rattle.gix_hash.specs.Words.{digest, sealed};
 ghost use Rattle.streams.specs.Streams.{HasReadAll, HashingFails, SealingFails, digest_line};
 
 use crate::printing::write_id;

@@ -1,8 +1,7 @@
 //! Writing ids, a line for each.
 
 ghost use Rattle.std.specs.Prelude.{◌≡◌, ◌≤◌, false, map, length, take};
-ghost use Rattle.gix_hash.specs.Ids.{id_digits};
-ghost use Rattle.gix_hash.specs.Reading.{letter_of};
+ghost use Rattle.gix_hash.specs.Words.{id_digits, letter_of};
 ghost use Rattle.streams.specs.Streams.{Wrote, line_of, printed};
 
 use crate::{Sink, WriteFailed, write_all};

@@ -1,5 +1,4 @@
-use Rattle.std.proofs.Common.{◌++◌, [], ℕ, List, length}
-use Rattle.std.specs.Prelude.{Option, map}
+use Rattle.std.proofs.Common.{◌++◌, [], ℕ, List, length, Option, map}
 use Rattle.git_config.specs.Grammar.{Reads, Variable, without_mark}
 use Rattle.git_config.specs.Views.{said}
 use Rattle.git_config.proofs.read.Given as goal

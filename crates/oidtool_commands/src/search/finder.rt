@@ -1,9 +1,8 @@
 //! The ids that begin with a prefix in a list that comes in parts.
 
-ghost use Rattle.std.specs.Prelude.{false, IsTrue, ◌≡◌, ◌≢◌, ◌+◌, ◌-◌, ◌^◌, ◌<◌, ℕ, List, [], ◌++◌, map, length, IfErr, OnOk};
-ghost use Rattle.std.specs.Option.{option_map};
+ghost use Rattle.std.specs.Prelude.{false, IsTrue, ◌≡◌, ◌≢◌, ◌+◌, ◌-◌, ◌^◌, ◌<◌, ℕ, List, [], ◌++◌, map, length, IfErr, OnOk, option_map};
 ghost use Rattle.std.specs.Result.{result_map_both};
-ghost use Rattle.gix_hash.specs.Ids.{id_digits};
+ghost use Rattle.id_lookup.specs.Words.{id_digits};
 ghost use Rattle.id_digits.specs.Letters.{is_line_len};
 ghost use Rattle.oidtool_commands.specs.Searches.{HasFound, HasSkipped, found_among, last_or};
 ghost use Rattle.oidtool_commands.specs.declared.search.error.SearchError.{SearchError};

@@ -1,10 +1,7 @@
 //! List texts that come in chunks.
 
-ghost use Rattle.std.specs.Prelude.{◌≡◌, ◌↔◌, ℕ, false, MatchOption, ◌+◌, ◌^◌, ◌<◌, ◌≤◌, List, [], ◌∷◌, ◌++◌, map, take, drop, length, IfOk, IfErr, IfSome, OnOk};
-ghost use Rattle.std.specs.List.{position, slice_range};
-ghost use Rattle.gix_hash.specs.Digits.{hex_letter};
-ghost use Rattle.gix_hash.specs.Reading.{full_read, result_digits};
-ghost use Rattle.gix_hash.specs.Ids.{id_digits};
+ghost use Rattle.std.specs.Prelude.{◌≡◌, ◌↔◌, ℕ, false, MatchOption, ◌+◌, ◌^◌, ◌<◌, ◌≤◌, List, [], ◌∷◌, ◌++◌, map, take, drop, length, IfOk, IfErr, IfSome, OnOk, position, slice_range};
+ghost use Rattle.id_lookup.specs.Words.{full_read, hex_letter, id_digits, result_digits};
 ghost use Rattle.streams.specs.Streams.{is_line_feed};
 ghost use Rattle.oidtool_commands.specs.Lists.{HasIdLine, HasTaken, IsListRefusal, IsRefusalAfter, Takes, list_read};
 

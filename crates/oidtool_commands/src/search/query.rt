@@ -1,14 +1,9 @@
 //! The look-up of a prefix in a list that comes in parts, and the order that the list must have.
 
-ghost use Rattle.std.specs.Prelude.{◌⊎◌, IsTrue, IfSome, ◌≡◌, ◌+◌, ◌-◌, ◌^◌, ◌<◌, ◌≤◌, ℕ, List, None, Some, map, length, IfOk, IfErr, OnOk};
-ghost use Rattle.std.specs.Option.{option_map};
+ghost use Rattle.std.specs.Prelude.{◌⊎◌, IsTrue, IfSome, ◌≡◌, ◌+◌, ◌-◌, ◌^◌, ◌<◌, ◌≤◌, ℕ, List, None, Some, map, length, IfOk, IfErr, OnOk, option_map};
 ghost use Rattle.std.specs.declared.cmp.Ordering.TheVariants.{Less, Greater};
-ghost use Rattle.gix_hash.specs.Kinds.{hex_len_of};
-ghost use Rattle.gix_hash.specs.Ids.{id_digits, id_kind};
-ghost use Rattle.gix_hash.specs.Digits.{place};
+ghost use Rattle.id_lookup.specs.Words.{IsIndex, hex_len_of, id_digits, id_kind, matches, place};
 ghost use Rattle.id_digits.specs.Letters.{is_line_len};
-ghost use Rattle.id_lookup.specs.Indexes.{IsIndex};
-ghost use Rattle.id_lookup.specs.Runs.{matches};
 ghost use Rattle.oidtool_commands.specs.Searches.{CanSkip, IsFor, IsLeast, TakesLength, allows_repeats, error_of_all, first_refused, error_of_first};
 ghost use Rattle.oidtool_commands.specs.declared.search.Search.{Search};
 

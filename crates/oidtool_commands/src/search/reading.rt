@@ -1,7 +1,7 @@
 //! Searches in the list text of a source, chunk by chunk.
 
 ghost use Rattle.std.specs.Prelude.{◌≡◌, ◌↔◌, ◌+◌, ◌^◌, ◌<◌, ◌≤◌, [], length, take, false, true, map, IsTrue, IfOk, IfErr, OnOk, IsErrOf, Ok};
-ghost use Rattle.gix_hash.specs.Ids.{id_digits};
+ghost use Rattle.id_lookup.specs.Words.{id_digits};
 ghost use Rattle.id_digits.specs.Letters.{is_line_len};
 ghost use Rattle.oidtool_commands.specs.Lists.{list_read};
 ghost use Rattle.oidtool_commands.specs.Searches.{From, IsRefusedIn, OfAll, Searches, Stops, found_in_list};

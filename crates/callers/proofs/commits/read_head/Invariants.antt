@@ -1,6 +1,5 @@
-use Rattle.std.proofs.Common.{◌≡◌, ◌++◌, length}
-use Rattle.std.specs.Prelude.{All, codes}
-use Rattle.gix_hash.specs.Ids.{id_digits, id_kind}
+use Rattle.std.proofs.Common.{◌≡◌, ◌++◌, length, All, codes}
+use Rattle.gix_hash.specs.Words.{id_digits, id_kind}
 use Rattle.callers.specs.Commits.{keyed_then, parent_lines}
 use Rattle.callers.proofs.commits.read_head.Given as goal
 

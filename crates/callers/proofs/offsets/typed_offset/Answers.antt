@@ -1,7 +1,6 @@
 use Rattle.std.proofs.Common.{◌≡◌, ◌+◌, true≢false, refl, sym, ap, ◌∙◌, subst}
-use Rattle.gix_hash.specs.Prefixes.{KindDigits}
-use Rattle.id_lookup.specs.Runs.{IsRun}
-use Rattle.id_lookup.specs.Indexes.{IsAnswer}
+use Rattle.gix_hash.specs.Words.{KindDigits}
+use Rattle.id_lookup.specs.Words.{IsAnswer, IsRun}
 use Rattle.pack_index.specs.Format.{IndexFile, names_in}
 use Rattle.callers.proofs.OnlyMatches.{not_one}
 use Rattle.callers.proofs.offsets.typed_offset.Goals as goal

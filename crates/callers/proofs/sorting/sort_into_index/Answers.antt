@@ -1,10 +1,8 @@
-use Rattle.std.proofs.Common.{◌≡◌, map, ap, refl, subst, sym, ◌∙◌}
-use Rattle.std.specs.Prelude.{◌↔◌, ℕ, List, Contains, IfOk, IsOk, Result, Ok, Err}
-use Rattle.std.specs.List.{All}
+use Rattle.std.proofs.Common.{◌≡◌, map, ap, refl, subst, sym, ◌∙◌, ◌↔◌, ℕ, List, Contains, IfOk, IsOk, Result, Ok, Err, All}
 use Rattle.std.proofs.lemmas.List.Elements.{All-contains, Contains-get_or}
-use Rattle.gix_hash.specs.Ids.{id_digits, id_kind}
+use Rattle.gix_hash.specs.Words.{id_digits, id_kind}
 use Rattle.gix_hash.specs.declared.ObjectId.{ObjectId}
-use Rattle.id_lookup.specs.Indexes.{Index, IsIndex}
+use Rattle.id_lookup.specs.Words.{Index, IsIndex}
 use Rattle.callers.proofs.sorting.sort_into_index.Goals as goal
 
 pub returns-clause-accepted : goal.returns-clause-accepted

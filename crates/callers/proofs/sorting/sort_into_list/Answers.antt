@@ -1,7 +1,7 @@
 use Rattle.std.proofs.Common.{◌≡◌, map, subst, rules}
 use Rattle.std.specs.List.Sorted.{IsPermutation}
 use Rattle.std.proofs.lemmas.List.Sorted.{IsPermutation-map}
-use Rattle.gix_hash.specs.Ids.{id_digits}
+use Rattle.gix_hash.specs.Words.{id_digits}
 use Rattle.callers.proofs.sorting.sort_into_list.Goals as goal
 
 pub returns-clause-permutation : goal.returns-clause-permutation

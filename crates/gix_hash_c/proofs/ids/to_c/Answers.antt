@@ -1,9 +1,6 @@
 use Rattle.std.proofs.Common.{◌≡◌, ◌∙◌, append-nil, length, refl, replicate, sym, ap}
 use Rattle.id_digits.proofs.Packing.{padded-bytes}
-use Rattle.gix_hash.specs.Digits.{digits_of}
-use Rattle.gix_hash.specs.Kinds.{byte_len_of}
-use Rattle.gix_hash.specs.Ids.{id_bytes, id_kind}
-use Rattle.gix_hash.specs.declared.object_id.ObjectId.{ObjectId}
+use Rattle.id_lookup.specs.Words.{ObjectId, byte_len_of, digits_of, id_bytes, id_kind}
 use Rattle.gix_hash_c.proofs.ids.to_c.Goals as goal
 
 pub returns-in-Sha1 : goal.returns-in-Sha1

@@ -1,6 +1,5 @@
 use Rattle.std.proofs.Common.{◌≤◌, length, subst, arith}
-use Rattle.gix_hash.specs.Kinds.{hex_len_of}
-use Rattle.gix_hash.specs.declared.kind.Kind.TheVariants.{Sha1, Sha256}
+use Rattle.id_lookup.specs.Words.{Sha1, Sha256, hex_len_of}
 use Rattle.pack_index.proofs.Counted.{digests_in-reach}
 use Rattle.gix_hash_c.proofs.Runs.{found_in}
 use Rattle.gix_hash_c.proofs.look_up.find_in.Goals as goal

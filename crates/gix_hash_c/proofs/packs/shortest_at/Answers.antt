@@ -1,9 +1,5 @@
-use Rattle.std.proofs.Common.{◌≡◌, ◌<◌, ℕ, List, [], length, map, slice_index_or, sym, ap, ◌∙◌, subst, arith}
-use Rattle.std.specs.Prelude.{IfSome}
-use Rattle.gix_hash.specs.Digits.{digits_of}
-use Rattle.gix_hash.specs.Kinds.{hex_len_of}
-use Rattle.gix_hash.specs.Prefixes.{KindDigits}
-use Rattle.gix_hash.specs.declared.kind.Kind.{Kind}
+use Rattle.std.proofs.Common.{◌≡◌, ◌<◌, ℕ, List, [], length, map, slice_index_or, sym, ap, ◌∙◌, subst, arith, IfSome}
+use Rattle.id_lookup.specs.Words.{Kind, KindDigits, digits_of, hex_len_of}
 use Rattle.pack_index.specs.Format.{digests_in}
 use Rattle.pack_index.proofs.Counted.{length-digests_in_at}
 use Rattle.gix_hash_c.proofs.packs.shortest_at.Goals as goal

@@ -1,7 +1,5 @@
 use Rattle.std.proofs.Common.{sym, ap, ◌∙◌, arith}
-use Rattle.gix_hash.specs.Digits.{digits_of}
-use Rattle.gix_hash.specs.Kinds.{byte_len_of}
-use Rattle.gix_hash.specs.Ids.{oid_kind}
+use Rattle.id_lookup.specs.Words.{byte_len_of, digits_of, oid_kind}
 use Rattle.gix_hash_c.proofs.CommonPlace.{place-apart, place-common}
 use Rattle.gix_hash_c.proofs.prefixes.first_digits_cmp.Goals as goal
 

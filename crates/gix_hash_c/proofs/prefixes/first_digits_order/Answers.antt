@@ -1,5 +1,5 @@
 use Rattle.std.proofs.Common.{◌≡◌, length, sym, ◌∙◌, ap, arith}
-use Rattle.gix_hash.specs.Kinds.{hex_len_of}
+use Rattle.id_lookup.specs.Words.{hex_len_of}
 use Rattle.gix_hash_c.proofs.CommonPlace.{too_few}
 use Rattle.gix_hash_c.proofs.prefixes.first_digits_order.Goals as goal
 

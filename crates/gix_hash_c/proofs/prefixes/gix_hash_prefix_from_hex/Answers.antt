@@ -1,5 +1,5 @@
 use Rattle.std.proofs.Common.{ap, ◌∙◌, arith}
-use Rattle.gix_hash.specs.Digits.{digits_of}
+use Rattle.id_lookup.specs.Words.{digits_of}
 use Rattle.gix_hash_c.proofs.Reading.{read_answer}
 use Rattle.gix_hash_c.proofs.prefixes.gix_hash_prefix_from_hex.Goals as goal
 

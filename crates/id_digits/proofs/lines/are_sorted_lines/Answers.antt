@@ -1,7 +1,6 @@
-use Rattle.std.proofs.Common.{◌≡◌, ◌+◌, ◌-◌, ◌/◌, ◌<◌, ◌≤◌, suc, refl, sym, ap, ap₂, subst, ◌∙◌, arith, length, length-take, take, get_or, [], true, eqb, ◌&&◌, IsTrue}
+use Rattle.std.proofs.Common.{◌≡◌, ◌+◌, ◌-◌, ◌/◌, ◌<◌, ◌≤◌, suc, refl, sym, ap, ap₂, subst, ◌∙◌, arith, length, length-take, take, get_or, [], true, eqb, ◌&&◌, IsTrue, nat_cmp}
 use Rattle.std.proofs.lemmas.Bool.{and_parts, not-false}
 use Rattle.std.proofs.lemmas.List.{get_or_default}
-use Rattle.std.specs.Ordering.{nat_cmp}
 use Rattle.std.specs.Cmp.Lexicographic.{slice_cmp}
 use Rattle.id_digits.specs.Digits.{digits_of, word}
 use Rattle.id_digits.specs.Letters.{line_values, may_follow, IsIdLine}

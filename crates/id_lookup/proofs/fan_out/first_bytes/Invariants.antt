@@ -1,5 +1,4 @@
-use Rattle.std.proofs.Common.{◌≡◌, ℕ, ◌<◌, [], get_or, take, length, map}
-use Rattle.std.specs.List.{All, count_by}
+use Rattle.std.proofs.Common.{◌≡◌, ℕ, ◌<◌, [], get_or, take, length, map, All, count_by}
 use Rattle.id_lookup.specs.Runs.{has_first_byte}
 use Rattle.id_lookup.proofs.fan_out.first_bytes.Given as goal
 

@@ -1,7 +1,5 @@
-use Rattle.std.proofs.Common.{◌≡◌, length}
-use Rattle.std.specs.List.{All}
-use Rattle.gix_hash.specs.Kinds.{hex_len_of}
-use Rattle.gix_hash.specs.Ids.{id_digits, id_kind}
+use Rattle.std.proofs.Common.{◌≡◌, length, All}
+use Rattle.gix_hash.specs.Words.{hex_len_of, id_digits, id_kind}
 use Rattle.id_lookup.proofs.OneKind.{index-of_kind, kind-of_index}
 use Rattle.id_lookup.proofs.laws.strictly_sorted.Goals as goal
 

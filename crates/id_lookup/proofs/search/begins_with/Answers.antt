@@ -1,7 +1,5 @@
-use Rattle.std.proofs.Common.{sym, ap, ◌∙◌}
-use Rattle.std.specs.Ordering.{is_eq}
-use Rattle.gix_hash.specs.Digits.{hex_letter, spelling}
-use Rattle.gix_hash.specs.Ids.{id_digits}
+use Rattle.std.proofs.Common.{sym, ap, ◌∙◌, is_eq}
+use Rattle.gix_hash.specs.Words.{hex_letter, id_digits, spelling}
 use Rattle.id_lookup.proofs.Spelled.{begins_with-place, starts_with-spelling, starts_with-BeginsWith}
 use Rattle.id_lookup.proofs.search.begins_with.Goals as goal
 

@@ -1,6 +1,5 @@
-use Rattle.std.proofs.Common.{◌≡◌, ap, ◌∙◌}
-use Rattle.std.specs.List.{count_by}
-use Rattle.gix_hash.specs.Digits.{first_byte_of}
+use Rattle.std.proofs.Common.{◌≡◌, ap, ◌∙◌, count_by}
+use Rattle.gix_hash.specs.Words.{first_byte_of}
 use Rattle.id_lookup.specs.Runs.{is_below, is_up_to}
 use Rattle.id_lookup.proofs.FirstByteCounts.{are_candidates}
 use Rattle.id_lookup.proofs.FirstByteOrder.{are_digits, last_byte_is, last_byte_of}

@@ -1,7 +1,5 @@
 use Rattle.std.proofs.Common.{◌≡◌, ◌≤◌, [], length, map, max, refl, take, ap, ◌∙◌, arith}
-use Rattle.gix_hash.specs.Kinds.{hex_len_of}
-use Rattle.gix_hash.specs.Ids.{oid_digits, oid_kind}
-use Rattle.gix_hash.specs.Prefixes.{KindDigits}
+use Rattle.gix_hash.specs.Words.{KindDigits, hex_len_of, oid_digits, oid_kind}
 use Rattle.id_lookup.proofs.Neighbours.{has_room, shortest}
 use Rattle.id_lookup.proofs.short_names.shortest_name.Goals as goal
 

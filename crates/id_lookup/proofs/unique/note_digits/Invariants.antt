@@ -1,5 +1,5 @@
 use Rattle.std.specs.List.{AllWithin}
-use Rattle.gix_hash.specs.Ids.{AreIdDigits, id_digits, id_kind}
+use Rattle.gix_hash.specs.Words.{AreIdDigits, id_digits, id_kind}
 use Rattle.id_lookup.proofs.unique.note_digits.Given as goal
 
 abbrev pub invariant-loop-id : goal.invariant-loop-id

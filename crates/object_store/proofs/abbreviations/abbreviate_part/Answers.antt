@@ -1,10 +1,5 @@
-use Rattle.std.proofs.Common.{◌/◌, ◌%◌, ◌∷◌, [], ℕ, List, map, sym, subst, arith}
-use Rattle.std.specs.List.{All}
-use Rattle.gix_hash.specs.Ids.{id_digits}
-use Rattle.gix_hash.specs.declared.Kind.{Kind}
-use Rattle.gix_hash.specs.declared.ObjectId.{ObjectId}
-use Rattle.id_lookup.specs.Indexes.{IsIndexOf}
-use Rattle.id_lookup.specs.Runs.{matches}
+use Rattle.std.proofs.Common.{◌/◌, ◌%◌, ◌∷◌, [], ℕ, List, map, sym, subst, arith, All}
+use Rattle.id_lookup.specs.Words.{IsIndexOf, Kind, ObjectId, id_digits, matches}
 use Rattle.object_store.specs.Stores.{AreMatches, HasRead, IsOfKind, StoreView}
 use Rattle.object_store.proofs.Named.{named_digits, names_read}
 use Rattle.object_store.proofs.abbreviations.abbreviate_part.Goals as goal

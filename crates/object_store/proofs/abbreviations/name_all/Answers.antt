@@ -1,7 +1,6 @@
-use Rattle.std.proofs.Common.{◌≡◌, rules, sym, subst}
-use Rattle.std.specs.List.{All}
+use Rattle.std.proofs.Common.{◌≡◌, rules, sym, subst, All}
 use Rattle.std.proofs.lemmas.List.Elements.{All-push}
-use Rattle.gix_hash.specs.declared.Kind.{Kind}
+use Rattle.id_lookup.specs.Words.{Kind}
 use Rattle.object_store.specs.Stores.{IsOfKind}
 use Rattle.object_store.proofs.Named.{named_more}
 use Rattle.object_store.proofs.abbreviations.name_all.Goals as goal

@@ -1,7 +1,5 @@
-use Rattle.std.proofs.Common.{◌≡◌, ℕ, ◌<◌, length, map, get_or, take}
-use Rattle.std.specs.List.{All}
-use Rattle.gix_hash.specs.Ids.{id_digits}
-use Rattle.id_lookup.specs.Indexes.{IsShortestNameFrom}
+use Rattle.std.proofs.Common.{◌≡◌, ℕ, ◌<◌, length, map, get_or, take, All}
+use Rattle.id_lookup.specs.Words.{IsShortestNameFrom, id_digits}
 use Rattle.object_store.specs.Stores.{IsOfKind}
 use Rattle.object_store.specs.declared.abbreviations.NamedId.{NamedId}
 use Rattle.object_store.proofs.abbreviations.name_all.Given as goal

@@ -1,9 +1,5 @@
 use Rattle.std.proofs.Common.{◌≡◌, ◌∙◌, ◌≤◌, ◌∷◌, [], take, ap, arith}
-use Rattle.gix_hash.specs.Digits.{digits_of, first_byte_of}
-use Rattle.gix_hash.specs.Kinds.{hex_len_of}
-use Rattle.gix_hash.specs.Prefixes.{KindDigits, kind_digits}
-use Rattle.gix_hash.specs.declared.Kind.{Kind}
-use Rattle.gix_hash.specs.declared.Kind.TheVariants.{Sha1, Sha256}
+use Rattle.id_lookup.specs.Words.{Kind, KindDigits, Sha1, Sha256, digits_of, first_byte_of, hex_len_of, kind_digits}
 use Rattle.object_store.proofs.abbreviations.two_digits.Goals as goal
 
 two : (kind : Kind) → 2 ≤ hex_len_of kind

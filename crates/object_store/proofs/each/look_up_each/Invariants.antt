@@ -1,5 +1,4 @@
-use Rattle.std.proofs.Common.{◌≡◌, ℕ, length, take}
-use Rattle.std.specs.List.{All}
+use Rattle.std.proofs.Common.{◌≡◌, ℕ, length, take, All}
 use Rattle.object_store.proofs.FoundAt.{IsFoundAt}
 use Rattle.object_store.proofs.each.look_up_each.Given as goal
 

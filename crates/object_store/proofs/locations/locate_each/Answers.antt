@@ -1,8 +1,7 @@
-use Rattle.std.proofs.Common.{◌∙◌, [], ap, get_or, refl, sym, subst}
-use Rattle.std.proofs.lemmas.List.{take_all}
+use Rattle.std.proofs.Common.{◌∙◌, [], ap, get_or, refl, sym, subst, take_all}
 use Rattle.std.proofs.lemmas.Result.{err_from_is_err_and}
 use Rattle.gix_hash.specs.declared.ObjectId.TheVariants.{Sha1}
-use Rattle.gix_hash.specs.Ids.{id_digits}
+use Rattle.id_lookup.specs.Words.{id_digits}
 use Rattle.id_lookup.proofs.Beginnings.{first_byte_of-begins}
 use Rattle.object_store.specs.Stores.{AreMatches, StoreView}
 use Rattle.object_store.proofs.Whole.{found_begins}

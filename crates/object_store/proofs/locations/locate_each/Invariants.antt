@@ -1,5 +1,4 @@
-use Rattle.std.proofs.Common.{◌≡◌, map, take}
-use Rattle.std.specs.List.{All}
+use Rattle.std.proofs.Common.{◌≡◌, map, take, All}
 use Rattle.object_store.specs.Several.{IsLocated}
 use Rattle.object_store.proofs.locations.locate_each.Given as goal
 

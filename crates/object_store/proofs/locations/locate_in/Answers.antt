@@ -1,9 +1,7 @@
-use Rattle.std.proofs.Common.{◌∙◌, [], ◌∷◌, ◌++◌, cond, ap, sym, append-nil}
+use Rattle.std.proofs.Common.{◌∙◌, [], ◌∷◌, ◌++◌, cond, ap, sym, append-nil, bytes_eq}
 use Rattle.std.specs.List.{list_any}
-use Rattle.std.specs.Str.{bytes_eq}
-use Rattle.gix_hash.specs.Ids.{id_digits}
+use Rattle.id_lookup.specs.Words.{Index, id_digits}
 use Rattle.object_store.specs.declared.locations.Location.TheVariants.{Loose}
-use Rattle.id_lookup.specs.Indexes.{Index}
 use Rattle.object_store.proofs.LooseParts.{any_is}
 use Rattle.object_store.proofs.locations.locate_in.Goals as goal
 use Rattle.object_store.proofs.locations.locate_in.Goals.{then-contains+in_ok-push, else-contains}

@@ -1,5 +1,5 @@
 use Rattle.std.proofs.Common.{◌≡◌, ap, length, subst, arith}
-use Rattle.gix_hash.specs.Ids.{id_digits}
+use Rattle.id_lookup.specs.Words.{id_digits}
 use Rattle.object_store.specs.Stores.{ArePacked, HasLocation, IsLocationFault}
 use Rattle.object_store.proofs.Held.{fault_at, have_all, have_more, pack_at}
 use Rattle.object_store.proofs.Located.{packed_more}

@@ -1,6 +1,5 @@
-use Rattle.std.proofs.Common.{take}
-use Rattle.std.specs.List.{All}
-use Rattle.gix_hash.specs.Ids.{id_digits}
+use Rattle.std.proofs.Common.{take, All}
+use Rattle.id_lookup.specs.Words.{id_digits}
 use Rattle.object_store.specs.Stores.{ArePacked, HasLocation}
 use Rattle.pack_index.specs.Lazy.{IfKnown}
 use Rattle.object_store.proofs.locations.packed_locations.Given as goal

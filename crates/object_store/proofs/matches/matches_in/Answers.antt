@@ -1,14 +1,8 @@
-use Rattle.std.proofs.Common.{◌≡◌, ◌∙◌, ◌++◌, List, ℕ, ap, map, refl, subst, sym, arith}
+use Rattle.std.proofs.Common.{◌≡◌, ◌∙◌, ◌++◌, List, ℕ, ap, map, refl, subst, sym, arith, nat_eq}
 use Rattle.std.specs.List.{All, flat_map, starts_with}
-use Rattle.std.specs.Prelude.{nat_eq}
-use Rattle.gix_hash.specs.Ids.{id_digits, id_kind}
-use Rattle.gix_hash.specs.declared.Kind.{Kind}
-use Rattle.gix_hash.specs.declared.ObjectId.{ObjectId}
-use Rattle.id_lookup.specs.Indexes.{Index, IsIndexOf}
-use Rattle.id_lookup.specs.Runs.{matches}
+use Rattle.id_lookup.specs.Words.{Index, IsIndexOf, Kind, ObjectId, first_byte_of, id_digits, id_kind, matches}
 use Rattle.pack_index.specs.Lazy.{BucketNames}
 use Rattle.object_store.specs.Stores.{ids_in}
-use Rattle.gix_hash.specs.Digits.{first_byte_of}
 use Rattle.object_store.proofs.PartNames.{are_of_kind, gathered}
 use Rattle.object_store.proofs.matches.matches_in.Goals as goal
 

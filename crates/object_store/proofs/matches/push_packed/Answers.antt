@@ -1,12 +1,6 @@
-use Rattle.std.proofs.Common.{◌≡◌, ◌≤◌, ◌∙◌, ◌++◌, List, ap, length, map, subst, sym}
+use Rattle.std.proofs.Common.{◌≡◌, ◌≤◌, ◌∙◌, ◌++◌, List, ap, length, map, subst, sym, nat_eq, take_all}
 use Rattle.std.specs.List.{All, flat_map, starts_with}
-use Rattle.std.specs.Prelude.{nat_eq}
-use Rattle.std.proofs.lemmas.List.{take_all}
-use Rattle.gix_hash.specs.Kinds.{hex_len_of}
-use Rattle.gix_hash.specs.Ids.{id_digits, id_kind}
-use Rattle.gix_hash.specs.declared.Kind.{Kind}
-use Rattle.gix_hash.specs.declared.ObjectId.{ObjectId}
-use Rattle.id_lookup.specs.Runs.{matches}
+use Rattle.id_lookup.specs.Words.{Kind, ObjectId, hex_len_of, id_digits, id_kind, matches}
 use Rattle.object_store.proofs.PartNames.{bucket_more}
 use Rattle.pack_index.specs.Lazy.{BucketNames}
 use Rattle.object_store.proofs.matches.push_packed.Goals as goal

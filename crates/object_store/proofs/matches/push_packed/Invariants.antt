@@ -1,7 +1,5 @@
-use Rattle.std.proofs.Common.{◌≡◌, ◌++◌, map, take}
-use Rattle.std.specs.List.{All, flat_map}
-use Rattle.gix_hash.specs.Ids.{id_digits, id_kind}
-use Rattle.id_lookup.specs.Runs.{matches}
+use Rattle.std.proofs.Common.{◌≡◌, ◌++◌, map, take, All, flat_map}
+use Rattle.id_lookup.specs.Words.{id_digits, id_kind, matches}
 use Rattle.pack_index.specs.Lazy.{BucketNames}
 use Rattle.object_store.proofs.matches.push_packed.Given as goal
 

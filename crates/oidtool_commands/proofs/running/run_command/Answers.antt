@@ -1,6 +1,6 @@
 use Rattle.std.proofs.Common.{ℕ, Option, List, inr, refl}
 use Rattle.std.specs.Io.KnownBytes.{Keeps}
-use Rattle.gix_hash.specs.declared.Alphabet.TheVariants.{Hex, Reverse}
+use Rattle.id_lookup.specs.Words.{Hex, Reverse}
 use Rattle.oidtool_commands.specs.Commands.{Does}
 use Rattle.oidtool_commands.specs.Searches.{Finds, From}
 use Rattle.oidtool_commands.specs.declared.command.Command.{Command}

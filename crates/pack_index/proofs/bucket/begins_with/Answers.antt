@@ -1,5 +1,4 @@
-use Rattle.std.proofs.Common.{sym, ap, ◌∙◌}
-use Rattle.std.specs.Ordering.{is_eq}
+use Rattle.std.proofs.Common.{sym, ap, ◌∙◌, is_eq}
 use Rattle.id_lookup.proofs.Spelled.{begins_with-place, starts_with-spelling}
 use Rattle.pack_index.proofs.bucket.begins_with.Goals as goal
 

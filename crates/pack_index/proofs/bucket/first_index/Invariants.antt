@@ -1,5 +1,5 @@
 use Rattle.std.proofs.Common.{◌≢◌, ℕ, ◌<◌, [], get_or, map}
-use Rattle.gix_hash.specs.Ids.{oid_digits}
+use Rattle.id_lookup.specs.Words.{oid_digits}
 use Rattle.pack_index.proofs.bucket.first_index.Given as goal
 
 abbrev pub invariant-loop-at : goal.invariant-loop-at

@@ -1,6 +1,5 @@
 use Rattle.std.proofs.Common.{◌≢◌, ◌≤◌, ◌<◌, ◌∙◌, ℕ, List, [], length, get_or, map, sym, ap, subst}
-use Rattle.gix_hash.specs.Prefixes.{KindDigits}
-use Rattle.id_lookup.specs.Runs.{least_hex_len}
+use Rattle.id_lookup.specs.Words.{KindDigits, least_hex_len}
 use Rattle.pack_index.specs.Format.{IsFirstIndexOf}
 use Rattle.pack_index.proofs.Looked.{absent, present}
 use Rattle.pack_index.proofs.bucket.position_in.Goals as goal

@@ -1,7 +1,5 @@
-use Rattle.std.proofs.Common.{◌≡◌, ◌++◌, map, take}
-use Rattle.std.specs.List.{All}
-use Rattle.gix_hash.specs.Ids.{id_digits, id_kind}
-use Rattle.id_lookup.specs.Runs.{matches}
+use Rattle.std.proofs.Common.{◌≡◌, ◌++◌, map, take, All}
+use Rattle.id_lookup.specs.Words.{id_digits, id_kind, matches}
 use Rattle.pack_index.proofs.bucket.push_each.Given as goal
 
 abbrev pub invariant-loop-id : goal.invariant-loop-id

@@ -1,6 +1,6 @@
 use Rattle.std.proofs.Common.{ℕ, List, map, nat_eq, ap, ◌∙◌}
 use Rattle.std.specs.List.{starts_with}
-use Rattle.id_lookup.specs.Runs.{matches}
+use Rattle.id_lookup.specs.Words.{matches}
 use Rattle.id_lookup.proofs.Filters.{filter_within}
 use Rattle.id_lookup.proofs.Matched.{run_matches}
 use Rattle.pack_index.proofs.bucket.run_of.Goals as goal

@@ -1,5 +1,5 @@
 use Rattle.std.proofs.Common.{inr, subst}
-use Rattle.gix_hash.specs.declared.Kind.{Kind}
+use Rattle.id_lookup.specs.Words.{Kind}
 use Rattle.pack_index.specs.Format.{IsPackIndex}
 use Rattle.pack_index.proofs.Refusals.{no_index}
 use Rattle.pack_index.proofs.index_file.error_or_other.Goals as goal

@@ -1,4 +1,4 @@
-use Rattle.gix_hash.specs.declared.Kind.TheVariants.{Sha1, Sha256}
+use Rattle.id_lookup.specs.Words.{Sha1, Sha256}
 use Rattle.pack_index.proofs.Buckets.{have_first}
 use Rattle.pack_index.proofs.lazy.have_first_byte.Goals as goal
 

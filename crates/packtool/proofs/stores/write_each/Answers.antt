@@ -1,6 +1,5 @@
 use Rattle.std.proofs.Common.{All, List, Some, subst, sym, ℕ, ◌≡◌}
-use Rattle.gix_hash.specs.Digits.{first_byte_of}
-use Rattle.gix_hash.specs.Prefixes.{KindDigits}
+use Rattle.gix_hash.specs.Words.{KindDigits, first_byte_of}
 use Rattle.store_folders.specs.Listed.{only_of}
 use Rattle.store_folders.specs.declared.loose.LooseIds.{LooseIds}
 use Rattle.packtool.proofs.stores.write_each.Goals as goal

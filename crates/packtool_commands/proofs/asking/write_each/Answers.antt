@@ -1,5 +1,4 @@
-use Rattle.std.proofs.Common.{ap, subst}
-use Rattle.std.specs.Prelude.{option_copied}
+use Rattle.std.proofs.Common.{ap, subst, option_copied}
 use Rattle.streams.specs.Streams.{Wrote}
 use Rattle.streams.proofs.WritingLemmas.{Wrote-line}
 use Rattle.packtool_commands.proofs.asking.write_each.Goals as goal

@@ -1,6 +1,4 @@
-use Rattle.std.proofs.Common.{◌≡◌, false, take}
-use Rattle.std.specs.Prelude.{option_copied}
-use Rattle.std.specs.List.{flat_map}
+use Rattle.std.proofs.Common.{◌≡◌, false, take, option_copied, flat_map}
 use Rattle.std.specs.Io.KnownBytes.{Appends}
 use Rattle.packtool_commands.proofs.asking.write_each.Given as goal
 

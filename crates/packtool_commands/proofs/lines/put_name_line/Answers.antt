@@ -1,6 +1,5 @@
 use Rattle.std.proofs.Common.{take}
-use Rattle.gix_hash.specs.Digits.{hex_letter, spelling}
-use Rattle.gix_hash.specs.Ids.{id_digits}
+use Rattle.id_lookup.specs.Words.{hex_letter, id_digits, spelling}
 use Rattle.packtool_commands.proofs.LineLemmas.{name_parts}
 use Rattle.packtool_commands.proofs.lines.put_name_line.Goals as goal
 

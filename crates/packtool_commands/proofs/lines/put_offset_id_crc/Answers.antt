@@ -1,7 +1,5 @@
-use Rattle.std.proofs.Common.{take}
-use Rattle.std.specs.Prelude.{decimal}
-use Rattle.gix_hash.specs.Digits.{hex_letter, spelling}
-use Rattle.gix_hash.specs.Ids.{oid_digits}
+use Rattle.std.proofs.Common.{take, decimal}
+use Rattle.id_lookup.specs.Words.{hex_letter, oid_digits, spelling}
 use Rattle.packtool_commands.specs.Files.{crc_text}
 use Rattle.packtool_commands.proofs.LineLemmas.{line_parts}
 use Rattle.packtool_commands.proofs.lines.put_offset_id_crc.Goals as goal

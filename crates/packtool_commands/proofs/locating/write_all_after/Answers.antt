@@ -1,6 +1,5 @@
-use Rattle.std.proofs.Common.{List, ℕ, map}
-use Rattle.std.specs.Prelude.{option_copied, string_bytes}
-use Rattle.gix_hash.specs.Ids.{id_digits}
+use Rattle.std.proofs.Common.{List, ℕ, map, option_copied, string_bytes}
+use Rattle.id_lookup.specs.Words.{id_digits}
 use Rattle.object_store.specs.declared.locations.Location.{Location}
 use Rattle.streams.proofs.WritingLemmas.{Wrote-line}
 use Rattle.packtool_commands.specs.Stores.{lines_at_after}

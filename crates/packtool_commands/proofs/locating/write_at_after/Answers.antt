@@ -1,6 +1,5 @@
-use Rattle.std.proofs.Common.{List, ℕ, None, map, refl, subst}
-use Rattle.std.specs.Prelude.{option_copied, string_bytes}
-use Rattle.gix_hash.specs.Ids.{id_digits}
+use Rattle.std.proofs.Common.{List, ℕ, None, map, refl, subst, option_copied, string_bytes}
+use Rattle.id_lookup.specs.Words.{id_digits}
 use Rattle.streams.specs.Streams.{Wrote}
 use Rattle.packtool_commands.specs.Stores.{location_line_after}
 use Rattle.packtool_commands.proofs.LocationLemmas.{same_lines}

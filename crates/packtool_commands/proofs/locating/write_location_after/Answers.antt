@@ -1,8 +1,6 @@
-use Rattle.std.proofs.Common.{List, ℕ, ◌∷◌, [], ◌++◌, ap, subst, ◌∙◌}
-use Rattle.std.specs.Prelude.{option_copied}
+use Rattle.std.proofs.Common.{List, ℕ, ◌∷◌, [], ◌++◌, ap, subst, ◌∙◌, option_copied}
 use Rattle.std.specs.Io.KnownBytes.{Appends}
-use Rattle.gix_hash.specs.Digits.{hex_letter, spelling}
-use Rattle.gix_hash.specs.Ids.{id_digits}
+use Rattle.id_lookup.specs.Words.{hex_letter, id_digits, spelling}
 use Rattle.streams.specs.Streams.{Wrote}
 use Rattle.streams.proofs.WritingLemmas.{Wrote-stop, Wrote-then}
 use Rattle.packtool_commands.specs.Stores.{front_text}

@@ -1,8 +1,6 @@
-use Rattle.std.proofs.Common.{◌≡◌, false, None, take}
-use Rattle.std.specs.Prelude.{option_copied, string_bytes}
-use Rattle.std.specs.List.{flat_map}
+use Rattle.std.proofs.Common.{◌≡◌, false, None, take, option_copied, string_bytes, flat_map}
 use Rattle.std.specs.Io.KnownBytes.{Appends}
-use Rattle.gix_hash.specs.Ids.{id_digits}
+use Rattle.id_lookup.specs.Words.{id_digits}
 use Rattle.packtool_commands.specs.Stores.{location_line_after}
 use Rattle.packtool_commands.proofs.locating.write_loose.Given as goal
 

@@ -1,6 +1,5 @@
 use Rattle.std.proofs.Common.{◌≤◌, sym, subst}
-use Rattle.gix_hash.specs.Kinds.{hex_len_of}
-use Rattle.gix_hash.specs.declared.Kind.{Kind}
+use Rattle.id_lookup.specs.Words.{Kind, hex_len_of}
 use Rattle.streams.specs.Streams.{lines_of}
 use Rattle.packtool_commands.proofs.AskingLemmas.{can_look_up}
 use Rattle.packtool_commands.proofs.naming.name_each.Goals as goal

@@ -1,6 +1,4 @@
-use Rattle.std.proofs.Common.{ℕ, List, ◌++◌, take, sym, ap, subst, ◌∙◌, arith}
-use Rattle.std.specs.List.{flat_map}
-use Rattle.std.proofs.lemmas.List.{take_all}
+use Rattle.std.proofs.Common.{ℕ, List, ◌++◌, take, sym, ap, subst, ◌∙◌, arith, flat_map, take_all}
 use Rattle.object_store.proofs.Held.{flat_map-take}
 use Rattle.packtool_commands.specs.Files.{KeepsBack}
 use Rattle.packtool_commands.specs.Stores.{name_line}

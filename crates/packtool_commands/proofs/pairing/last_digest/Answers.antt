@@ -1,6 +1,6 @@
 use Rattle.std.proofs.Common.{ap, arith}
 use Rattle.std.proofs.lemmas.Result.{err_from_is_err_and}
-use Rattle.gix_hash.specs.Kinds.{byte_len_of}
+use Rattle.id_lookup.specs.Words.{byte_len_of}
 use Rattle.packtool_commands.proofs.pairing.last_digest.Goals as goal
 
 pub returns-in_err-read_exact_at-clause-err : goal.returns-in_err-read_exact_at-clause-err

@@ -1,5 +1,5 @@
 use Rattle.std.proofs.Common.{◌≡◌, All}
-use Rattle.gix_hash.specs.Ids.{id_kind}
+use Rattle.id_lookup.specs.Words.{id_kind}
 use Rattle.packtool_tests.proofs.memory.ids_of_kind.Given as goal
 
 abbrev pub invariant-loop-id : goal.invariant-loop-id

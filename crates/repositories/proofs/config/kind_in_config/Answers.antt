@@ -1,5 +1,4 @@
-use Rattle.std.proofs.Common.{◌≡◌, List, ℕ, Ok, Err, sym, rules}
-use Rattle.std.specs.Prelude.{Option, Result, map}
+use Rattle.std.proofs.Common.{◌≡◌, List, ℕ, Ok, Err, sym, rules, Option, Result, map}
 use Rattle.std.proofs.lemmas.Option.{IfSome_then}
 use Rattle.gix_hash.specs.declared.Kind.{Kind}
 use Rattle.git_config.specs.Grammar.{IsConfig}

@@ -1,5 +1,4 @@
-use Rattle.std.proofs.Common.{◌≡◌, ◌∙◌, refl}
-use Rattle.std.specs.Prelude.{Option, None, Some, is_some, option_map}
+use Rattle.std.proofs.Common.{◌≡◌, ◌∙◌, refl, Option, None, Some, is_some, option_map}
 use Rattle.repositories.specs.Formats.{Fault, reported}
 use Rattle.repositories.specs.declared.config.ConfigError.{ConfigError}
 use Rattle.repositories.proofs.format.is_wrong.Goals as goal

@@ -1,5 +1,4 @@
-use Rattle.std.proofs.Common.{◌≡◌, ◌∙◌, ℕ, ap, refl, sym, subst, rules}
-use Rattle.std.specs.Prelude.{Option, None, Some, Result, option_and_then, option_map}
+use Rattle.std.proofs.Common.{◌≡◌, ◌∙◌, ℕ, ap, refl, sym, subst, rules, Option, None, Some, Result, option_and_then, option_map}
 use Rattle.gix_hash.specs.declared.Kind.{Kind}
 use Rattle.repositories.specs.Formats.{Fault, Reports, fault_of, first_wrong, kind_by, unless_faulty}
 use Rattle.repositories.proofs.format.kind_or_fault.Goals as goal

@@ -1,5 +1,5 @@
 use Rattle.std.proofs.Common.{All, ◌≡◌}
-use Rattle.gix_hash.specs.Ids.{id_kind}
+use Rattle.gix_hash.specs.Words.{id_kind}
 use Rattle.store_folders.proofs.loose.folder_of.Given as goal
 
 abbrev pub invariant-loop-part : goal.invariant-loop-part

@@ -1,6 +1,6 @@
 use Rattle.std.proofs.Common.{◌∙◌, ◌++◌, List, ℕ, [], ◌∷◌, append-nil, ap, cond, map, string_bytes, sym}
 use Rattle.std.proofs.lemmas.List.{map-append}
-use Rattle.gix_hash.specs.Ids.{id_digits}
+use Rattle.gix_hash.specs.Words.{id_digits}
 use Rattle.object_store.proofs.LooseParts.{any_is}
 use Rattle.store_folders.specs.LoosePaths.{path_in}
 use Rattle.store_folders.proofs.loose.push_path.Goals as goal

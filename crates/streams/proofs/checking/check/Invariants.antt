@@ -1,6 +1,5 @@
-use Rattle.std.proofs.Common.{◌≡◌, ℕ, ◌+◌, ◌-◌, ◌^◌, List, ◌++◌, length, take, false}
-use Rattle.std.specs.Prelude.{min}
-use Rattle.gix_hash.specs.Hashing.{WasFed, hasher_kind}
+use Rattle.std.proofs.Common.{◌≡◌, ℕ, ◌+◌, ◌-◌, ◌^◌, List, ◌++◌, length, take, false, min}
+use Rattle.gix_hash.specs.Words.{WasFed, hasher_kind}
 use Rattle.streams.specs.Streams.{AreFed, HasReadCounted}
 use Rattle.streams.proofs.checking.check.Given as goal
 

@@ -1,6 +1,6 @@
 use Rattle.std.proofs.Common.{◌≡◌, ◌-◌, ◌^◌, List, ℕ, false}
 use Rattle.std.specs.Io.KnownBytes.{Appends}
-use Rattle.gix_hash.specs.Hashing.{WasFed, hasher_kind}
+use Rattle.gix_hash.specs.Words.{WasFed, hasher_kind}
 use Rattle.streams.specs.Streams.{HasReadCounted}
 use Rattle.streams.proofs.pipe.copy_all.Given as goal
 

@@ -1,6 +1,6 @@
 use Rattle.std.proofs.Common.{ap, ◌∙◌}
 use Rattle.std.proofs.lemmas.Result.{err_from_is_err_and}
-use Rattle.gix_hash.specs.Ids.{id_bytes}
+use Rattle.gix_hash.specs.Words.{id_bytes}
 use Rattle.streams.proofs.WritingLemmas.{AppendsPart-after}
 use Rattle.streams.proofs.pipe.seal.Goals as goal
 

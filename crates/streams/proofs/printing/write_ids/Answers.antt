@@ -1,8 +1,7 @@
 use Rattle.std.proofs.Common.{subst, sym}
 use Rattle.std.specs.Io.KnownBytes.{Appends}
 use Rattle.std.proofs.lemmas.List.Folds.{flat_map-map}
-use Rattle.gix_hash.specs.Reading.{letter_of}
-use Rattle.gix_hash.specs.Ids.{id_digits}
+use Rattle.gix_hash.specs.Words.{id_digits, letter_of}
 use Rattle.gix_hash.specs.declared.ObjectId.{ObjectId}
 use Rattle.streams.specs.Streams.{Wrote, line_of}
 use Rattle.streams.proofs.WritingLemmas.{Wrote-line}

@@ -1,8 +1,7 @@
 use Rattle.std.proofs.Common.{◌≡◌, false, map, take}
 use Rattle.std.specs.Io.KnownBytes.{Appends}
-use Rattle.gix_hash.specs.Ids.{id_digits}
+use Rattle.gix_hash.specs.Words.{id_digits, letter_of}
 use Rattle.streams.specs.Streams.{printed}
-use Rattle.gix_hash.specs.Reading.{letter_of}
 use Rattle.streams.proofs.printing.write_ids.Given as goal
 
 abbrev pub invariant-loop-id : goal.invariant-loop-id

@@ -1,5 +1,4 @@
-use Rattle.std.proofs.Common.{◌≡◌, ◌<◌, ◌-◌, ℕ, List, length, ap, subst, ◌∙◌}
-use Rattle.std.specs.Prelude.{All}
+use Rattle.std.proofs.Common.{◌≡◌, ◌<◌, ◌-◌, ℕ, List, length, ap, subst, ◌∙◌, All}
 use Rattle.id_digits.specs.Digits.{digits_of, padded, words_of}
 use Rattle.gix_hash.specs.Ids.{id_bytes}
 use Rattle.id_digits.proofs.DigitNumbers.{word-padded, word-padded_from}

@@ -1,5 +1,5 @@
 use Rattle.std.proofs.Common.{ap, refl, ◌∙◌}
-use Rattle.gix_hash.specs.Digits.{place}
+use Rattle.gix_hash.specs.Words.{place}
 use Rattle.id_lookup.proofs.probes.Probes.ask.Goals as goal
 
 pub returns-clause-counted : goal.returns-clause-counted

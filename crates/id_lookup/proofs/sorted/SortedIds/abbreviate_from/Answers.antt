@@ -1,6 +1,6 @@
 use Rattle.std.proofs.Common.{map}
 use Rattle.std.proofs.lemmas.Option.{IfSome_then}
-use Rattle.gix_hash.specs.Prefixes.{KindDigits}
+use Rattle.gix_hash.specs.Words.{KindDigits}
 use Rattle.id_lookup.specs.Indexes.{IsShortestNameFrom}
 use Rattle.id_lookup.specs.Runs.{IsSortedIds}
 use Rattle.id_lookup.proofs.UniqueRun.{name_run}

@@ -1,9 +1,8 @@
-use Rattle.std.proofs.Common.{◌≡◌, ◌-◌, ◌<◌, false, [], length, map, slice_index_or, sym, ap, ◌∙◌, add-one, arith}
+use Rattle.std.proofs.Common.{◌≡◌, ◌-◌, ◌<◌, false, [], length, map, slice_index_or, sym, ap, ◌∙◌, add-one, arith, nat_cmp, is_lt}
 use Rattle.std.proofs.lemmas.Bool.{false≢true}
 use Rattle.std.proofs.lemmas.List.{length-map}
-use Rattle.std.specs.Ordering.{nat_cmp, is_lt}
 use Rattle.std.specs.Cmp.Lexicographic.{slice_cmp}
-use Rattle.gix_hash.specs.Kinds.{hex_len_of}
+use Rattle.gix_hash.specs.Words.{hex_len_of}
 use Rattle.id_lookup.proofs.Least.{least_hex_len-take}
 use Rattle.id_lookup.proofs.Ordered.{adjacent_more, not_less}
 use Rattle.id_lookup.proofs.sorted.SortedIds.try_new.Goals as goal

@@ -1,11 +1,7 @@
 use Rattle.std.proofs.Common.{◌∙◌, List, map, ap, sym, subst, arith}
-use Rattle.gix_hash.specs.Kinds.{hex_len_of}
-use Rattle.gix_hash.specs.Ids.{id_digits}
-use Rattle.gix_hash.specs.declared.ObjectId.{ObjectId}
+use Rattle.id_lookup.specs.Words.{Index, IsIndex, IsRun, ObjectId, hex_len_of, id_digits, matches}
 use Rattle.id_lookup.proofs.Indexes.{index-sorted}
 use Rattle.id_lookup.proofs.Matched.{run_matches}
-use Rattle.id_lookup.specs.Indexes.{Index, IsIndex}
-use Rattle.id_lookup.specs.Runs.{IsRun, matches}
 use Rattle.object_store.proofs.LooseParts.{index_least}
 use Rattle.object_store.proofs.loose.LooseTable.beginning_with.Goals as goal
 

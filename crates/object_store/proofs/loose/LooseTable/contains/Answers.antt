@@ -1,10 +1,6 @@
 use Rattle.std.proofs.Common.{◌≡◌, ◌∙◌, length, ap, refl, subst, sym}
-use Rattle.gix_hash.specs.Kinds.{hex_len_of, kind_by_number}
-use Rattle.gix_hash.specs.Ids.{id_digits}
-use Rattle.gix_hash.specs.Prefixes.{KindDigits}
+use Rattle.id_lookup.specs.Words.{Index, IsIndex, KindDigits, hex_len_of, id_digits, kind_by_number, matches}
 use Rattle.id_lookup.proofs.Beginnings.{test_same}
-use Rattle.id_lookup.specs.Indexes.{Index, IsIndex}
-use Rattle.id_lookup.specs.Runs.{matches}
 use Rattle.object_store.proofs.LooseParts.{found_decides}
 use Rattle.object_store.proofs.loose.LooseTable.contains.Goals as goal
 

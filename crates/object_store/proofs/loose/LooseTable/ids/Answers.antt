@@ -1,7 +1,5 @@
-use Rattle.std.proofs.Common.{subst}
-use Rattle.std.specs.List.{All}
-use Rattle.gix_hash.specs.Ids.{AreIdDigits}
-use Rattle.id_lookup.specs.Indexes.{Index}
+use Rattle.std.proofs.Common.{subst, All}
+use Rattle.id_lookup.specs.Words.{AreIdDigits, Index}
 use Rattle.object_store.proofs.loose.LooseTable.ids.Goals as goal
 
 pub returns-clause-digits : goal.returns-clause-digits

@@ -1,7 +1,6 @@
 use Rattle.std.proofs.Common.{get_or, subst}
 use Rattle.std.proofs.lemmas.List.Elements.{All-map}
-use Rattle.gix_hash.specs.Ids.{AreIdDigits, id_digits}
-use Rattle.gix_hash.specs.declared.Kind.{Kind}
+use Rattle.id_lookup.specs.Words.{AreIdDigits, Kind, id_digits}
 use Rattle.object_store.proofs.loose.LooseTable.new.Goals as goal
 
 pub invariant_of-result : goal.invariant_of-result

@@ -1,10 +1,7 @@
-use Rattle.std.proofs.Common.{◌∙◌, ap, sym, subst}
-use Rattle.std.specs.List.{All}
-use Rattle.gix_hash.specs.Ids.{AreIdDigits}
+use Rattle.std.proofs.Common.{◌∙◌, ap, sym, subst, All}
+use Rattle.id_lookup.specs.Words.{AreIdDigits, Index, IsIndex, has_first_byte, matches}
 use Rattle.id_lookup.proofs.Beginnings.{part-matches}
 use Rattle.id_lookup.proofs.SameMembers.{index-filter}
-use Rattle.id_lookup.specs.Runs.{has_first_byte, matches}
-use Rattle.id_lookup.specs.Indexes.{Index, IsIndex}
 use Rattle.object_store.proofs.loose.LooseTable.with_first_byte.Goals as goal
 
 pub returns-clause-ids : goal.returns-clause-ids

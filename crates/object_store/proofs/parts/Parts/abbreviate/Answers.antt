@@ -1,7 +1,5 @@
 use Rattle.std.proofs.Common.{◌≡◌, ◌∙◌, None, inl, inr, ap, length, subst}
-use Rattle.gix_hash.specs.Ids.{id_digits}
-use Rattle.gix_hash.specs.Kinds.{hex_len_of}
-use Rattle.gix_hash.specs.Prefixes.{KindDigits}
+use Rattle.id_lookup.specs.Words.{KindDigits, hex_len_of, id_digits}
 use Rattle.object_store.specs.Several.{IsAbbreviated}
 use Rattle.object_store.specs.Stores.{IsNameOf}
 use Rattle.object_store.proofs.Abbreviated.{name_ambiguous, name_missing, name_named}

@@ -1,8 +1,6 @@
 use Rattle.std.proofs.Common.{List, map, subst}
 use Rattle.std.proofs.lemmas.Result.{err_from_is_err_and}
-use Rattle.gix_hash.specs.Ids.{id_digits}
-use Rattle.gix_hash.specs.declared.Kind.{Kind}
-use Rattle.gix_hash.specs.declared.ObjectId.{ObjectId}
+use Rattle.id_lookup.specs.Words.{Kind, ObjectId, id_digits}
 use Rattle.object_store.specs.Several.{IsAbbreviatedAt, IsAbbreviationOfKind}
 use Rattle.object_store.proofs.Abbreviated.{abbreviated, front_byte}
 use Rattle.object_store.proofs.parts.Parts.abbreviate_prefix.Goals as goal

@@ -1,6 +1,5 @@
 use Rattle.std.proofs.Common.{◌≡◌, ◌⊎◌, inr, subst}
-use Rattle.gix_hash.specs.Digits.{first_byte_of}
-use Rattle.gix_hash.specs.Ids.{id_digits}
+use Rattle.id_lookup.specs.Words.{first_byte_of, id_digits}
 use Rattle.object_store.specs.Stores.{HaveBuckets, IsLocateFault, IsStoreFault, StoreView}
 use Rattle.object_store.proofs.LocatedIds.{fault_by}
 use Rattle.object_store.proofs.parts.Parts.locate.Goals as goal

@@ -1,7 +1,6 @@
 use Rattle.std.proofs.Common.{ap, arith, sym, ◌∙◌}
 use Rattle.std.proofs.lemmas.Bool.Decides.{nat_tests}
-use Rattle.gix_hash.specs.Digits.{hex_letter}
-use Rattle.gix_hash.specs.Reading.{full_read}
+use Rattle.id_lookup.specs.Words.{full_read, hex_letter}
 use Rattle.oidtool_commands.proofs.ChunkLemmas.{short_line}
 use Rattle.oidtool_commands.proofs.search.list_reader.read_line.Goals as goal
 

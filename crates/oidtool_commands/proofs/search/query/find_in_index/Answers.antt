@@ -1,7 +1,7 @@
 use Rattle.std.proofs.Common.{◌≡◌, ◌+◌, ◌∙◌, ap, refl, inl, inr, Some, arith}
 use Rattle.oidtool_commands.specs.declared.search.error.SearchError.TheVariants.{WrongKind, NotRising}
 use Rattle.oidtool_commands.specs.declared.search.Search.TheVariants.{In}
-use Rattle.id_lookup.specs.Indexes.{Index}
+use Rattle.id_lookup.specs.Words.{Index}
 use Rattle.oidtool_commands.proofs.FinderLemmas.{no_more_found}
 use Rattle.oidtool_commands.proofs.Orders.{bad_is}
 use Rattle.oidtool_commands.proofs.search.query.find_in_index.Goals as goal

@@ -3,7 +3,7 @@ use Rattle.std.proofs.Common.{◌≡◌, ◌≢◌, ◌<◌, ◌≤◌, ◌++◌
 use Rattle.std.proofs.lemmas.List.{map-append}
 use Rattle.std.proofs.KnownBytes.{Consumes-nil, Consumes-trans}
 use Rattle.std.specs.Io.KnownBytes.{Consumes}
-use Rattle.gix_hash.specs.Ids.{id_digits}
+use Rattle.id_lookup.specs.Words.{id_digits}
 use Rattle.oidtool_commands.specs.Lists.{IsListRefusal, list_read}
 use Rattle.oidtool_commands.proofs.ChunkLemmas.{first_of_list, some_after}
 use Rattle.oidtool_commands.proofs.StopLemmas.{stopped_good, holds_of_all, settled_of_all, settled, too_much, split_read, not_failed, refused_exit, end_exit}

@@ -1,5 +1,4 @@
-use Rattle.std.proofs.Common.{refl, [], ◌*◌, ◌/◌, ◌-◌, ◌+◌, length, sym, ap, subst, ◌∙◌, arith}
-use Rattle.std.proofs.Math.Nat.{mul_comm}
+use Rattle.std.proofs.Common.{refl, [], ◌*◌, ◌/◌, ◌-◌, ◌+◌, length, sym, ap, subst, ◌∙◌, arith, mul_comm}
 use Rattle.oidtool_commands.specs.Searches.{HasSkipped, Searches}
 use Rattle.oidtool_commands.proofs.SkippedLines.{none_skipped, skipped, whole_lines}
 use Rattle.oidtool_commands.proofs.search.reading.skip_lines.Goals as goal

@@ -1,11 +1,6 @@
-use Rattle.std.proofs.Common.{◌≡◌, ◌≤◌, ◌∙◌, length, sym, ap, subst}
-use Rattle.gix_hash.specs.Digits.{digits_of}
-use Rattle.gix_hash.specs.Kinds.{hex_len_of}
-use Rattle.gix_hash.specs.Ids.{oid_digits}
-use Rattle.gix_hash.specs.declared.Kind.TheVariants.{Sha1, Sha256}
+use Rattle.std.proofs.Common.{◌≡◌, ◌≤◌, ◌∙◌, length, sym, ap, subst, map}
+use Rattle.id_lookup.specs.Words.{Sha1, Sha256, digits_of, hex_len_of, least_hex_len, oid_digits}
 use Rattle.id_lookup.proofs.Indexes.{no_other}
-use Rattle.id_lookup.specs.Runs.{least_hex_len}
-use Rattle.std.specs.Prelude.{map}
 use Rattle.pack_index.proofs.Counted.{chunks-long, chunks-reach, length-digests_in_at}
 use Rattle.pack_index.proofs.Looked.{kinds_differ}
 use Rattle.pack_index.proofs.bucket.Bucket.position.Goals as goal

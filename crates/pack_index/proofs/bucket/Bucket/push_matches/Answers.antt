@@ -1,6 +1,5 @@
 use Rattle.std.proofs.Common.{◌∙◌, ap, sym, arith}
-use Rattle.gix_hash.specs.Kinds.{hex_len_of}
-use Rattle.gix_hash.specs.declared.Kind.TheVariants.{Sha1, Sha256}
+use Rattle.id_lookup.specs.Words.{Sha1, Sha256, hex_len_of}
 use Rattle.pack_index.specs.Lazy.{BucketNames}
 use Rattle.pack_index.proofs.Counted.{chunks-reach}
 use Rattle.pack_index.proofs.bucket.Bucket.push_matches.Goals as goal

@@ -1,6 +1,5 @@
-use Rattle.std.proofs.Common.{◌≤◌, length, subst, arith}
-use Rattle.std.specs.Prelude.{slice_range}
-use Rattle.gix_hash.specs.Kinds.{hex_len_of}
+use Rattle.std.proofs.Common.{◌≤◌, length, subst, arith, slice_range}
+use Rattle.id_lookup.specs.Words.{hex_len_of}
 use Rattle.pack_index.specs.Format.{crc_table_start, names_start}
 use Rattle.pack_index.proofs.Counted.{digests_in-reach}
 use Rattle.pack_index.proofs.index_file.File.find_prefix.Goals as goal

@@ -1,8 +1,6 @@
-use Rattle.std.proofs.Common.{length, sym, ap, subst, ◌∙◌}
-use Rattle.gix_hash.specs.Kinds.{hex_len_of}
-use Rattle.gix_hash.specs.Prefixes.{KindDigits}
+use Rattle.std.proofs.Common.{length, sym, ap, subst, ◌∙◌, slice_range}
+use Rattle.id_lookup.specs.Words.{KindDigits, hex_len_of}
 use Rattle.pack_index.specs.Format.{IndexFile, IsFirstIndexOf, crc_table_start, names_in, names_start}
-use Rattle.std.specs.Prelude.{slice_range}
 use Rattle.id_lookup.proofs.Indexes.{no_other}
 use Rattle.pack_index.proofs.Counted.{length-digests_in_at}
 use Rattle.pack_index.proofs.Looked.{kinds_differ, present}

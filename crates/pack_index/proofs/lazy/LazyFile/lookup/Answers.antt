@@ -1,4 +1,4 @@
-use Rattle.gix_hash.specs.Ids.{oid_digits}
+use Rattle.id_lookup.specs.Words.{oid_digits}
 use Rattle.pack_index.proofs.LookedUp.{found_first, none_counted, not_found, some_counted}
 use Rattle.pack_index.proofs.lazy.LazyFile.lookup.Goals as goal
 

@@ -1,7 +1,6 @@
-use Rattle.std.proofs.Common.{◌≡◌, ◌∙◌, ◌+◌, ◌*◌, ◌<◌, length, ap, subst, arith, rules}
+use Rattle.std.proofs.Common.{◌≡◌, ◌∙◌, ◌+◌, ◌*◌, ◌<◌, length, ap, subst, arith, rules, IsTrue}
 use Rattle.std.proofs.lemmas.Result.{err_from_is_err_and}
-use Rattle.std.specs.Prelude.{IsTrue}
-use Rattle.gix_hash.specs.declared.Kind.{Kind}
+use Rattle.id_lookup.specs.Words.{Kind}
 use Rattle.pack_index.specs.Format.{num_objects, offset_table_start}
 use Rattle.pack_index.specs.Lazy.{LazyIndex}
 use Rattle.pack_index.proofs.ReadOffsets.{word_inside, word_is}

@@ -1,6 +1,5 @@
-use Rattle.std.proofs.Common.{ap, List, ℕ, arith}
+use Rattle.std.proofs.Common.{ap, List, ℕ, arith, option_map}
 use Rattle.std.proofs.lemmas.Grind.{common_steps}
-use Rattle.std.specs.Option.{option_map}
 use Rattle.std.specs.Io.KnownBytes.{prepend_known}
 use Rattle.packtool.specs.WholeLines.{ended}
 use Rattle.packtool.proofs.LineLemmas.{moved-front}

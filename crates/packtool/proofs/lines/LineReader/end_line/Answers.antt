@@ -1,6 +1,5 @@
-use Rattle.std.proofs.Common.{◌+◌, ◌<◌, ◌∷◌, [], ap, ◌∙◌, take, length, set, arith}
+use Rattle.std.proofs.Common.{◌+◌, ◌<◌, ◌∷◌, [], ap, ◌∙◌, take, length, set, arith, length-take-le}
 use Rattle.std.proofs.lemmas.Grind.{common_steps}
-use Rattle.std.proofs.lemmas.List.{length-take-le}
 use Rattle.packtool.specs.WholeLines.{last_after}
 use Rattle.packtool.proofs.LineLemmas.{held-fed, last-append, line-taken, none-after}
 use Rattle.packtool.proofs.lines.LineReader.end_line.Goals as goal

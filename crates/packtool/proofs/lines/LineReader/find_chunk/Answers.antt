@@ -1,6 +1,5 @@
-use Rattle.std.proofs.Common.{◌≤◌, take, sym, arith}
+use Rattle.std.proofs.Common.{◌≤◌, take, sym, arith, take-take}
 use Rattle.std.proofs.lemmas.Grind.{common_steps}
-use Rattle.std.proofs.lemmas.List.{take-take}
 use Rattle.packtool.specs.WholeLines.{AreWhole}
 use Rattle.packtool.proofs.LineLemmas.{lines-taken}
 use Rattle.packtool.proofs.lines.LineReader.find_chunk.Goals as goal

@@ -1,6 +1,5 @@
 use Rattle.std.specs.Prelude.{option_copied}
-use Rattle.gix_hash.specs.Digits.{hex_letter}
-use Rattle.gix_hash.specs.Ids.{id_digits}
+use Rattle.id_lookup.specs.Words.{hex_letter, id_digits}
 use Rattle.streams.specs.Streams.{line_of}
 use Rattle.streams.proofs.WritingLemmas.{Wrote-stop, Wrote-then}
 use Rattle.packtool_commands.specs.Stores.{front_text}

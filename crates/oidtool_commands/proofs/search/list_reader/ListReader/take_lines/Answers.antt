@@ -1,5 +1,4 @@
-use Rattle.std.proofs.Common.{length, ap, arith}
-use Rattle.std.specs.List.{slice_range}
+use Rattle.std.proofs.Common.{length, ap, arith, slice_range}
 use Rattle.oidtool_commands.proofs.ChunkLemmas.{takes_more, range_parts}
 use Rattle.oidtool_commands.proofs.search.list_reader.ListReader.take_lines.Goals as goal
 

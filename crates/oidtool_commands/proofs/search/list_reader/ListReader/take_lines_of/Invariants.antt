@@ -1,5 +1,4 @@
-use Rattle.std.proofs.Common.{◌≡◌, ◌-◌, ◌≤◌, length}
-use Rattle.std.specs.List.{slice_range}
+use Rattle.std.proofs.Common.{◌≡◌, ◌-◌, ◌≤◌, length, slice_range}
 use Rattle.oidtool_commands.specs.Lists.{Takes}
 use Rattle.oidtool_commands.proofs.search.list_reader.ListReader.take_lines_of.Given as goal
 
