@@ -1,6 +1,6 @@
 # shellcheck shell=bash disable=SC2207
-# Completions of oidtool and packtool for bash, and by _nunbirdstand for zsh. They ask the programs: --help lists the commands
-# and options, and names what a word is: KIND, DIR, FILE, INDEX or PATH.
+# Completions of oidtool and packtool for bash. They ask the programs: --help lists the commands and options, and names what a
+# word is: KIND, DIR, FILE, INDEX or PATH.
 
 # (the program of a clone would first prove itself, if it has to)
 _nunbirdstand_help() { timeout 2 "$@" --help < /dev/null 2> /dev/null; }

@@ -58,7 +58,7 @@ extern "C" {
  * index. "detail" is a number that gix_hash_pack_check writes, and "at" one of gix_hash_check_sorted. */
 #define GIX_HASH_CODES(CODE) \
     CODE(OK, 0, "success") \
-    CODE(BAD_LENGTH, 1, "no id or prefix has this length") \
+    CODE(BAD_LENGTH, 1, "no id or prefix has this length (an id 40 or 64 digits, 20 or 32 bytes; a prefix up to 64 digits)") \
     CODE(BAD_DIGIT, 2, "a byte of the text is not a hex digit") \
     CODE(BAD_KIND, 3, "the kind is neither GIX_HASH_SHA1 nor GIX_HASH_SHA256") \
     CODE(NO_ROOM, 4, "the buffer is too short") \

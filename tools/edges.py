@@ -5,7 +5,6 @@ A group of `CASES` yields cases: the name, what packtool must print, its errors 
 `ran` of probe.py, and maybe the words `around` it. A group of `TALKS` yields the names of its comparisons, each with what is wrong, if anything."""
 
 import fcntl
-import hashlib
 import itertools
 import os
 import random
@@ -14,9 +13,10 @@ import subprocess
 from pathlib import Path
 
 import made
-from probe import DIGITS, POWERLESS, ROOT, git, index_of, listed, pack_index, sealed, shortest, sorted_ids, started
+from gitstore import (CONFIGS, DATA, DIGITS, HEAD, SHA256, add_objects, add_pack, add_repository, changed, digest_of, index_of, listed,
+                      pack_index, plain_index, sealed, shortest, sorted_ids, write)
+from probe import POWERLESS, git, started
 
-DATA = ROOT / "crates" / "packtool_tests" / "data"
 NO_FILE = "No such file or directory (os error 2)"
 LOOP = "Too many levels of symbolic links (os error 40)"
 IS_FOLDER = "Is a directory (os error 21)"
@@ -57,27 +57,6 @@ ODD_LINES = [
 SET_PIPE_SIZE, PIPE_SIZE = 1031, 1 << 20
 
 
-def write(path, content=b""):
-    """Writes a file, and makes the folders that it is in."""
-    path.parent.mkdir(parents=True, exist_ok=True)
-    path.write_bytes(content)
-
-
-def add_ids(objects, ids):
-    """Adds loose objects to an object directory. They are empty: nothing of them is read."""
-    for id in ids:
-        write(objects / id[:2] / id[2:])
-
-
-def add_repository(folder, kind="sha1", ids=()):
-    """Makes a folder a repository with loose objects."""
-    write(folder / "HEAD", made.HEAD)
-    write(folder / "config", made.SHA256 if kind == "sha256" else b"")
-    write(folder / "refs" / "none")
-    write(folder / "objects" / "info" / "none")
-    add_ids(folder / "objects", ids)
-
-
 def error_of(text):
     """The line of an error."""
     escaped = text.replace("\\", "\\\\").replace("\n", "\\n").replace("\r", "\\r")
@@ -92,11 +71,6 @@ def finds(name, ids, *words, errors="", **how):
 def fails(name, text, *words, **how):
     """A case that ends with an error."""
     return name, ("", error_of(text), 2), words, how
-
-
-def digest_of(kind):
-    """The hash function of a kind of ids, and the length of its digests."""
-    return getattr(hashlib, kind), DIGITS[kind] // 2
 
 
 def verdict_of(content, kinds):
@@ -217,14 +191,13 @@ def names_in_errors(room):
 def names_of_files(room):
     """Files in an object directory whose names have each length up to the longest."""
     objects, ids = room / "objects", [made.PACKED, made.BOTH, made.LOOSE]
-    add_ids(objects, ids[2:])
+    add_objects(objects, ids[2:])
     for size in (*range(1, 42), *range(120, 136), 200, *range(250, 256)):
         for folder in ("4b", "pack"):
             write(objects / folder / ("x" * size))
     for size, id in ((127, ids[0]), (128, ids[0]), (129, ids[0]), (255 - 1, ids[1])):
         name = "p" * (size - len(".idx"))
-        write(objects / "pack" / f"{name}.idx", made.index_of([id]))
-        write(objects / "pack" / f"{name}.pack")
+        add_pack(objects, name, plain_index([id]))
     yield finds("names of files of up to 255 bytes", ids, "--objects", "objects", cwd=room)
     yield "the same with find", ("".join(f"{id}\n" for id in ids), "", 0), ("find", "4b", "--objects", "objects"), {"cwd": room}
 
@@ -239,8 +212,7 @@ def counts(room):
         if count < 0:
             continue
         at, name = 8 + 4 * byte, f"pack-{byte:02x}{'+' if by > 0 else '-'}"
-        write(room / "objects" / "pack" / f"{name}.idx", whole[:at] + count.to_bytes(4, "big") + whole[at + 4 :])
-        write(room / "objects" / "pack" / f"{name}.pack")
+        add_pack(room / "objects", name, whole[:at] + count.to_bytes(4, "big") + whole[at + 4 :])
         fall = f"the fan-out entry of the first byte {byte + (by > 0):02x} is below the one before it"
         # (with the last count too low, what is left of the tables is whole 8-byte offsets)
         texts[name] = NOT_FILLED if (byte, by) == (255, 2) else fall
@@ -268,7 +240,7 @@ def last_lines(room):
 def skipped(room):
     """Up to three things that are skipped, each said once for many lines, and no line is lost."""
     objects, errors = room / "objects", ""
-    add_repository(room, ids=[made.LOOSE])
+    add_repository(room, loose=[made.LOOSE])
     given = (b"4bff\n" + b"ff\n" * (MANY_LINES - 2) + b"4b\n") * 2
     for count in range(4):
         for words, found in (("find",), [made.LOOSE] * 2), (("where",), [f"{made.LOOSE} objects/4b/{made.LOOSE[2:]}"] * 2), (("names",), None):
@@ -276,8 +248,7 @@ def skipped(room):
             printed = (first + "ff missing\n" * (MANY_LINES - 2) + last) * 2
             name = f"{words[0]} --stdin of {2 * MANY_LINES} lines, {count} things skipped"
             yield name, (printed, errors, 2 if count else 1), (*words, "--stdin", "--objects", "objects"), {"cwd": room, "given": given}
-        write(objects / "pack" / f"{count}.idx", b"x")
-        write(objects / "pack" / f"{count}.pack")
+        add_pack(objects, f"{count}", b"x")
         errors += error_of(f"objects/pack/{count}.idx: {TOO_FEW}, skipped")
 
 
@@ -285,8 +256,7 @@ def much_found(room):
     """Lines of 2, 3 and 4 digits that find each of many ids, within the memory that packtool(1) names."""
     ids = list(sorted_ids(1 << 18, [20]))
     index = index_of(ids)
-    write(room / "objects" / "pack" / "pack-0.idx", index)
-    write(room / "objects" / "pack" / "pack-0.pack")
+    add_pack(room / "objects", "pack-0", index)
     listed_lines = (line.split() for line in git(room, "show-index", given=index).splitlines())
     places = {id: f"{id} objects/pack/pack-0.pack {offset}" for offset, id, _ in listed_lines}
     asked = [("find", size, str, 6) for size in (2, 3, 4)] + [("where", size, places.get, 16) for size in (2, 3)]
@@ -308,17 +278,21 @@ def damaged_asked(room):
     first, second = made.TWO.values()
     commands = [("find", "4b"), ("where", "4b"), ("names",)]
     commands += [(*words, "--stdin") for words in (("find",), ("find", "--one"), ("where",), ("where", "--one"), ("names",))]
-    for (at, value, why), is_skipped in [*((row, True) for row in made.BAD_HEADS), *((row, False) for row in made.DAMAGED)]:
-        write(room / "pack" / "pack-1.idx", first[:at] + bytes([value]) + first[at + 1 :])
-        write(room / "pack" / "pack-2.idx", second)
-        for name in made.TWO:
-            write(room / "pack" / f"{name}.pack")
+    indexes = [(changed(first, at, value), why, True) for at, value, why in made.BAD_HEADS] + [(first[: LEAST - 1], TOO_FEW, True)]
+    indexes += [(changed(first, at, value), why, False) for at, value, why in made.DAMAGED]
+    add_pack(room, "pack-2", second)
+    for index, why, is_skipped in indexes:
+        add_pack(room, "pack-1", index)
         error = error_of(f"./pack/pack-1.idx: {why}{', skipped' if is_skipped else ''}")
         for words in commands:
             # (`names` prints the ids with the bytes before)
             before = f"0000 {'0' * 40}\n" if words == ("names",) else ""
             wanted = answers_of_second(words) if is_skipped else before, error, 2
             yield f"{' '.join(words)}: {why}", wanted, (*words, "--objects", "."), {"cwd": room, "given": b"4b825d\n"}
+    # (the second name of the second index has the third 8-byte offset of two)
+    add_pack(room, "pack-1", first)
+    add_pack(room, "pack-2", changed(second, 1032 + 3 * (20 + 4) + 4 + 3, 2))
+    yield fails("where: no offset", "./pack/pack-2.idx: the object at position 1 has no offset", "where", made.PACKED, "--objects", ".", cwd=room)
 
 
 def answers_of_second(words):
@@ -347,7 +321,7 @@ def by_links(room):
         (here / "objects").symlink_to(f"../{there.name}/objects")
         for folder, kind in ((here, link), (there, target)):
             if kind:
-                write(folder / "config", made.SHA256 if kind == "sha256" else b"[core]\n")
+                write(folder / "config", CONFIGS[kind])
         for path in ("objects", "objects/"):
             text = made.NO_PREFIX[target or link or "sha1"]
             yield fails(f"--objects {path}, a link with {link}, of {target}", text, "find", "x", "--objects", path, cwd=here)
@@ -358,14 +332,26 @@ def no_stores(room):
     write(room / "file")
     (room / "loop").symlink_to("loop")
     (room / "link").symlink_to("none")
-    write(room / "locked" / "objects" / "pack" / "none")
-    write(room / "list" / "info" / "alternates" / "none")
+    for path in ("locked/objects/pack/none", "list/info/alternates/none", "config_folder/objects/pack/none", "config_folder/config/none"):
+        write(room / path)
+    add_repository(room / "r" / ".git", "sha256")
+    for path in ("r/.git/objects/pack/none", "two/objects/pack/none", "two/.git/objects/pack/none", "only_0a/0a/none", "only_f0/f0/none", "only_info/info/alternates"):
+        write(room / path)
     for name in ("pack", "4b", "00", "ff", "info"):
         write(room / f"file_{name}" / name)
     reasons = [("none", NO_FILE), ("link", NO_FILE), ("file", "not a directory"), ("file/x", NO_FOLDER)]
     for path, why in [*reasons, ("loop/pack", LOOP), ("loop/x/pack", LOOP)]:
         name = path.removesuffix("/pack")
         yield fails(f"--objects {name}", f"{path}: {why}", "names", "--objects", name, cwd=room)
+    for name, better in (("r", "r/.git/objects"), ("r/.git", "r/.git/objects"), ("two", "two/objects")):
+        yield fails(f"--objects {name}", f"{name}: no object store: try {better}", "names", "--objects", name, cwd=room)
+    for name in ("only_0a", "only_f0", "only_info", "r/.git/objects"):
+        yield f"--objects {name}", ("", "", 1), ("names", "--objects", name), {"cwd": room}
+    yield fails("--objects beside a folder", f"config_folder/objects/../config: {IS_FOLDER}", "names", "--objects", "config_folder/objects", cwd=room)
+    for name, path in (("file_22", "file_22/22"), ("file_pack", "file_pack/pack")):
+        write(room / path)
+        env = {"GIT_OBJECT_DIRECTORY": str(room / name)}
+        yield fails(f"$GIT_OBJECT_DIRECTORY {name}", f"{room}/{path}: {NO_FOLDER}", "names", cwd=room / "r", env=env)
     for name in ("list", *(f"file_{name}" for name in ("pack", "4b", "00", "ff", "info"))):
         yield fails(f"--objects {name}", f"{name}: no object store", "names", "--objects", name, cwd=room)
     (room / "locked").chmod(0)
@@ -383,7 +369,7 @@ def files_in_each_way(room):
                 # (which git rejects)
                 continue
             folder = room / f"{name.rpartition('/')[2]} {way}"
-            add_repository(folder, ids=[id])
+            add_repository(folder, loose=[id])
             path = folder / name
             path.unlink(missing_ok=True)
             if way == "a folder":
@@ -405,7 +391,7 @@ def files_in_each_way(room):
 def links_to_nothing(room):
     """Prefixes of each length over a loose object whose file is a link to nothing, and over one beside it."""
     objects = room / "objects"
-    add_ids(objects, [made.LOOSE])
+    add_objects(objects, [made.LOOSE])
     path = objects / "4b" / made.BOTH[2:]
     path.symlink_to("gone")
     for size in (2, 3, 4, 5, 39, 40):
@@ -418,6 +404,96 @@ def links_to_nothing(room):
             yield f"where of {size} digits beside it", wanted, ("where", made.LOOSE[:size], "--objects", "objects"), {"cwd": room}
 
 
+def faulty(room):
+    """Repositories in which git finds none either, and the error of each; and a folder that was removed."""
+    add_repository(room / "r")
+    write(room / "r" / "worktrees" / "empty" / "commondir")
+    write(room / "r" / "worktrees" / "empty" / "HEAD", HEAD)
+    rows = [(b"gitdir:../r", ".git: names no directory"), (b"gitdir: ../gone\n", "../gone: not a git repository")]
+    for content, why in rows:
+        folder = room / f"work{len(content)}"
+        write(folder / ".git", content)
+        yield fails(f"a gitfile with {content!r}", f"{folder}/{why}", "find", "4b", cwd=folder)
+    folder = room / "r" / "worktrees" / "empty"
+    yield fails("an empty commondir", f"{folder}/commondir: empty", "find", "4b", cwd=folder)
+    gone = ("sh", "-c", 'mkdir gone && cd gone && rmdir ../gone && "$@"', "sh")
+    yield fails("a folder that was removed", f".: {NO_FILE}", "find", "4b", cwd=room, around=gone)
+
+
+def later_configs(room):
+    """Configs with extensions that Git knows from a later version on than 2.39, and what its documentation says of them; the first
+    is one that packtool does not know."""
+    for version, text, wanted in [
+        (1, "compatObjectFormat = sha256", "unknown repository extension found: compatobjectformat"),
+        (1, "refStorage=reftable\nrelativeWorktrees=true\nobjectFormat=sha256", "sha256"),
+        (0, "refStorage = files", "repo version is 0, but v1-only extension found: refstorage"),
+        (0, "relativeWorktrees = true", "repo version is 0, but v1-only extension found: relativeworktrees"),
+    ]:
+        folder = room / f"{version} {text[:9]}"
+        add_repository(folder / ".git")
+        write(folder / ".git" / "config", f"[core]\nrepositoryformatversion = {version}\n[extensions]\n{text}\n".encode())
+        error = made.NO_PREFIX.get(wanted, f"{folder}/.git/config: {wanted}")
+        yield fails(f"a config of version {version} with {text!r}", error, "find", "x", cwd=folder)
+
+
+def chained(room):
+    """Alternates of alternates, of the own directory and of the environment's, each of them once, and one that is nested too deep; two
+    errors of one text, which is printed once; and an alternate's pack index that is none."""
+    ids = [f"{level:039x}a" for level in range(8)]
+    for level, id in enumerate(ids):
+        add_objects(room / str(level), [id])
+        write(room / str(level) / "info" / "alternates", f"../{level + 1}\n../{level + 1}\n../0\n../{level}\n".encode())
+    write(room / "0" / "info" / "alternates", b"../\xff\n../gone\n../1\n../\xfe\n")
+    add_pack(room / "3", "x", b"")
+    add_repository(room / "bare")
+    for name, deep in ("GIT_OBJECT_DIRECTORY", 7), ("GIT_ALTERNATE_OBJECT_DIRECTORIES", 6):
+        env = {name: str(room / "0")}
+        texts = ["0/info/alternates: a path is not UTF-8", f"0/../gone: {NO_FILE}", f"{deep - 1}/../{deep}: nested more than 5 deep"]
+        errors = "".join(error_of(f"{room}/{text}, skipped") for text in [*texts, f"3/pack/x.idx: {TOO_FEW}"])
+        if listed(room / "bare", env) != ids[:deep]:
+            raise ValueError(f"git lists other ids with ${name}")
+        yield finds(f"alternates of alternates, ${name}", ids[:deep], errors=errors, cwd=room / "bare", env=env)
+
+
+def lent(room):
+    """The locations of an object in a store and its alternates, in their order and as their paths are printed."""
+    main, quoted, third = (room / name / "objects" for name in ("main", 'a "b"', "third"))
+    for objects in (main, quoted, third):
+        add_objects(objects, [made.BOTH])
+    for objects, offsets in (main, ()), (quoted, (12, 0x1_0000_000C)):
+        add_pack(objects, "pack-1", plain_index([made.PACKED, made.BOTH], offsets))
+    write(main / "info" / "alternates", rb'"../../a \"b\"/objects"')
+    write(quoted / "info" / "alternates", b"# none\n\n../../main/objects\n../../third/objects\n../../third/../third/objects\n")
+    packed = [f"{made.BOTH} main/objects/pack/pack-1.pack 3073\n", f"{made.BOTH} {quoted}/pack/pack-1.pack 4294967308\n"]
+    loose = [f"{made.BOTH} {objects}/4b/{made.BOTH[2:]}\n" for objects in ("main/objects", quoted, third)]
+    yield "where over alternates", ("".join(packed + loose), "", 0), ("where", "4b9", "--objects", "main/objects"), {"cwd": room}
+    how = {"cwd": room, "env": {"GIT_OBJECT_DIRECTORY": "main/objects", "GIT_ALTERNATE_OBJECT_DIRECTORIES": "third/objects"}}
+    wanted = "".join([*packed, loose[0], loose[2], loose[1]])
+    yield "alternates of the environment first", (wanted, "", 0), ("where", "4b9"), how
+
+
+def links(room):
+    """Files that are links to nothing or to themselves: loose objects, also the id of zeros and in an alternate, pack indexes, and a pack."""
+    objects = ("--objects", "objects")
+    add_objects(room / "objects", ["0" * 40])
+    write(room / "objects" / "info" / "alternates", b"../lent\n")
+    write(room / "lent" / "ff" / "none")
+    (room / "lent" / "ff" / ("0" * 38)).symlink_to("gone")
+    yield "the id of zeros", (f"{'0' * 40} objects/00/{'0' * 38}\n", "", 0), ("where", "00", *objects), {"cwd": room}
+    yield fails("a link to nothing in an alternate", f"{room}/lent/ff/{'0' * 38}: {NO_FILE}", "where", "ff", *objects, cwd=room)
+    names = [f"pack-{number:02}" for number in range(70)]
+    for name in names:
+        add_pack(room / "many", name, plain_index([made.BOTH]))
+    lines = "".join(f"{made.BOTH} many/pack/{name}.pack 3072\n" for name in names)
+    yield "70 packs", (lines, "", 0), ("where", "4b", "--objects", "many"), {"cwd": room}
+    for path, target, why in [("many/pack/pack-00.pack", "pack-00.pack", LOOP), ("many/pack/pack-69.idx", "gone", NO_FILE)]:
+        (room / path).unlink()
+        (room / path).symlink_to(target)
+        yield fails(f"{path}, a link to {target}", f"{path}: {why}", "find", "4b", "--objects", "many", cwd=room)
+        (room / path).unlink()
+        write(room / path)
+
+
 def odd_lines(room):
     """Lists of alternates with an odd line, before and after a good one."""
     own, good = made.IDS["sha1"], made.LOOSE
@@ -425,11 +501,11 @@ def odd_lines(room):
     (room / "loop").symlink_to("loop")
     (room / "loop\r").symlink_to("loop\r")
     (room / "folder\r").mkdir()
-    add_ids(room / "good", [good])
+    add_objects(room / "good", [good])
     for at, (line, why) in enumerate(ODD_LINES):
         for order in (1, -1):
             repository = room / f"{at}{'+' if order > 0 else '-'}" / "own"
-            add_repository(repository, ids=[own])
+            add_repository(repository, loose=[own])
             objects = str(repository / "objects")
             lines = [line.replace(b"{room}", os.fsencode(room)), os.fsencode(room / "good")][::order]
             write(Path(objects, "info", "alternates"), b"\n".join(lines))
@@ -442,27 +518,27 @@ def odd_lines(room):
 def long_texts(room):
     """Texts that are longer than a buffer, each with what counts at its end."""
     own, good = made.IDS["sha256"], "f" * 64
-    add_ids(room / "good", [good])
+    add_objects(room / "good", [good])
     for size in (1 << 12, 1 << 16, 1 << 18, 1 << 20):
         repository = room / str(size) / "own"
         fill = b"x" * size
         configs = [("a comment", b"#" + fill), ("a value", b"[a]\nb=" + fill), ("a section", b'[a "' + fill + b'"]')]
         for name, text in [*configs, ("lines", b"\n" * size)]:
             add_repository(repository, "sha256", [own])
-            write(repository / "config", text + b"\n" + made.SHA256)
+            write(repository / "config", text + b"\n" + SHA256)
             yield finds(f"a config with {name} of {size} bytes", [own], cwd=repository)
         lists = [("a comment", b"#" + fill + b"\n"), ("lines", b"\n" * size), ("comments", b"#x\n" * (size // 3))]
         for name, text in lists:
             write(repository / "objects" / "info" / "alternates", text + os.fsencode(room / "good"))
             yield finds(f"alternates with {name} of {size} bytes", [own, good], cwd=repository)
         (repository / "objects" / "info" / "alternates").unlink()
-        write(repository / "HEAD", made.HEAD + fill)
+        write(repository / "HEAD", HEAD + fill)
         yield finds(f"HEAD with {size} more bytes", [own], cwd=repository)
         if size < 1 << 20:
             # (Git reads no longer gitfile)
             work = room / str(size) / "work"
             write(work / ".git", b"gitdir: ../own/worktrees/w" + b"\n" * size)
-            write(repository / "worktrees" / "w" / "HEAD", made.HEAD)
+            write(repository / "worktrees" / "w" / "HEAD", HEAD)
             write(repository / "worktrees" / "w" / "commondir", b"../.." + b"\r\n" * (size // 2))
             yield finds(f"a gitfile and commondir with {size} line ends", [own], cwd=work)
         if size < 1 << 17:
@@ -471,10 +547,10 @@ def long_texts(room):
 
 
 def environments(room):
-    """--objects with each variable of the environment, a relative $GIT_COMMON_DIR, and a repository without objects."""
+    """--objects with each variable of the environment, which counts for nothing then."""
     ids = [f"{at}{'0' * 39}" for at in range(4)]
     for at, name in enumerate(("own", "other", "third")):
-        add_repository(room / name, ids=[ids[at]])
+        add_repository(room / name, loose=[ids[at]])
     values = {
         "GIT_DIR": "../other",
         "GIT_COMMON_DIR": "../other",
@@ -484,23 +560,6 @@ def environments(room):
     rows = [{name: text} for name, value in values.items() for text in (value, f"{room}{value[2:]}", "none", "", "\udcff", '"\\377"')]
     for env in [*rows, values]:
         yield finds(f"--objects with {env}", ids[:1], "--objects", "../own/objects", cwd=room / "third", env=env)
-    work = room / "work"
-    below = work / "d"
-    for path, id in ((work / ".git", ids[0]), (work / "c", ids[1]), (below / "c", ids[2])):
-        add_repository(path, ids=[id])
-    env = {"GIT_COMMON_DIR": "c"}
-    for folder in (work, below):
-        if listed(folder, env) != [ids[1]]:
-            raise ValueError(f"git lists other ids in {folder.name} with $GIT_COMMON_DIR")
-        yield finds(f"$GIT_COMMON_DIR, relative, in {folder.name}", [ids[1]], cwd=folder, env=env)
-    lacks, id = room / "lacks", made.IDS["sha256"]
-    for name, content in (("HEAD", made.HEAD), ("refs/none", b""), ("config", made.SHA256)):
-        write(lacks / ".git" / name, content)
-    add_ids(room / "elsewhere", [id])
-    env = {"GIT_OBJECT_DIRECTORY": str(room / "elsewhere")}
-    if listed(lacks, env) != [id]:
-        raise ValueError("git lists other ids of a repository without objects")
-    yield finds("a repository without objects, with $GIT_OBJECT_DIRECTORY", [id], cwd=lacks, env=env)
 
 
 class Talk:
@@ -542,7 +601,7 @@ def answer_to(line, id):
 
 def exchanges(program, room):
     """Inputs of exactly as many bytes as a read takes, each answered before the next comes, in lines of each length."""
-    add_repository(room, ids=[made.LOOSE])
+    add_repository(room, loose=[made.LOOSE])
     for size in (1, 2, 3, 4, 5, 9, 41):
         with talk(program, room, "find") as child:
             asked, wrong = Talk(child), None
@@ -556,7 +615,7 @@ def exchanges(program, room):
 
 def statuses(program, room):
     """Chunks of each status in each order: the worst is the status of all."""
-    add_repository(room, ids=[made.LOOSE])
+    add_repository(room, loose=[made.LOOSE])
     for order in (order for size in (1, 2, 3) for order in itertools.permutations(range(3), size)):
         with talk(program, room, "find") as child:
             asked, wrong = Talk(child), None
@@ -571,5 +630,6 @@ def statuses(program, room):
 
 
 CASES = [endings, cut, long_offsets, packs_beside, names_in_errors, names_of_files, counts, last_lines, skipped]
-CASES += [much_found, damaged_asked, by_links, no_stores, files_in_each_way, links_to_nothing, odd_lines, long_texts, environments]
+CASES += [much_found, damaged_asked, by_links, no_stores, files_in_each_way, links_to_nothing, links]
+CASES += [faulty, later_configs, chained, lent, odd_lines, long_texts, environments]
 TALKS = [exchanges, statuses]

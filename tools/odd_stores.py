@@ -6,8 +6,7 @@ import os
 import shutil
 from contextlib import suppress
 
-import made
-from probe import DIGITS, pack_index
+from gitstore import DIGITS, SHA256, pack_index, version_1
 
 # Of each kind of ids the other one.
 OTHER = {"sha1": "sha256", "sha256": "sha1"}
@@ -15,18 +14,27 @@ OTHER = {"sha1": "sha256", "sha256": "sha1"}
 SECTIONS = ["[core]"] * 6 + ["[extensions]"] * 6
 SECTIONS += ["[CORE]", "[Extensions]", "[a]", "[core.x]", '[core "x"]', '[a "b\\"]#"]', '[a\t"\\b"]', "[core]\r"]
 SECTIONS += ["[]", "[ core]", "[core", "[core ]", "[core]x=y", '[extensions "noop"]', "[a_b]", "[.]", '[a "b" ]', '[a "b']
-SECTIONS += ['[a\r"b"]', '[ "a"]', '[extensions "objectformat\0"]', '[core "\0"]']
+SECTIONS += ['[a\r"b"]', '[ "a"]', '[extensions "objectformat\0"]', '[core "\0"]', '[extensions "a"]', '[core "extensions"]']
+SECTIONS += ["[core\n]", '[a "b"\n]', '[a "b"\r]', '[a "b\\\n"]', "[ extensions ]"]
 VERSIONS = ["0"] * 6 + ["1"] * 6
 VERSIONS += ["2", "-1", "0x1", "0X0", "01", "08", "+1", "-0", "1k", "0k", "0g", "1 k", '"1"', '"1 "', '" 1"', "1 ; x", "1#"]
 VERSIONS += ["\\t1", "1\\n", "1\\\n", "\\\n1", "0x", "2147483648", "-2147483649", "0xg", "1\0x", "\0", '1"', "1\\x", "1\t", "1.0"]
-VERSIONS += ["3m", "9m", "x", ""]
+VERSIONS += ["3m", "9m", "x", "", "1K", "010", "0Xa", "1023m", "-1g", "-2", "+01", "1 2", "2g", "k", "1kb", "+-1", "0x+1", "2147483648"]
+VERSIONS += ["-2147483648"]
 KINDS = ["sha256"] * 6 + ["sha1"] * 3
 KINDS += ["SHA256", "sha512", "", '"sha256"', "sha2\\\n56", "sha256 # x", "sha256\0x", "sha256\\n", 'sha"2"56', '"sha256 "']
-BOOLS = ["true", "false", "yes", "on", "", "TRUE", "0", "1k", "no", "refs", "2x", '"off"', "truex", "\0"]
+KINDS += ["SHA1", '"sha256#"', "\\\n sha2\\\n56"]
+BOOLS = ["true", "false", "yes", "on", "", "TRUE", "0", "1k", "no", "refs", "2x", '"off"', "truex", "\0", "ON", "-0x1K"]
 KEYS = ["repositoryformatversion", "objectformat", "noop", "noop-v1", "worktreeConfig", "preciousObjects", "partialclone"]
 KEYS += ["foo", "bare", "x-1", "a_b", "1"]
 JUNK = ["", "\n", "# [x]", "; a=b", "  ", "= x", "x", "x ; y", "x = \\x", 'x = "a\nb"', "x = a\\", "\0", "\ufeff", "\f", "x\f= 1"]
-JUNK += ['X9=\\"\\\\\\t', "\r", "x\0 = 1"]
+JUNK += ['X9=\\"\\\\\\t', "\r", "x\0 = 1", "name = J\udcf6rg", "b=\\r", '[a]b="\\n\\b;\\\\"', 'b="c\r\n"']
+# Texts with which a config ends, within a header, a value or quotation marks.
+LAST = ["[a", "[a\r\n", "[a ", "[a \n\n", '[a "b', '[a "b"', '[a "b"\n', '[a "b"\r\n', '[a]\nb="c', '[a]\nb="c\\', '[a]\nb="c\\\n', "x = \\"]
+# What lists of alternates are made of, and the letters of names that directories have.
+PIECES = ["x", "y", '"', "\\", "#", " ", ":", "\n", "\r", "\0", '"x', 'y"', '"x"\n', '"y" ', '\\"', "\\\\", "\\170", "\\x", "\\n", "\\r", "\\400", "\\08"]
+PIECES += ["\\a", "\\b", "\\t", "\\v", "\\f", "\\e", "\\000", "\n#", "\n\n", ":#", "::"]
+LETTERS = 'xy"\\# :\n\r\t\a\b\v\f'
 # Names of what is no loose object, beside those of the other kind.
 NO_OBJECTS = ["tmp_obj_f0K1Cz", "x", ".", "g" * 38, "0" * 37, "0" * 39, "0" * 37 + "G", "0" * 37 + ".", " " + "0" * 37]
 NO_FOLDERS = ["0", "000", "4", "4g", "4B", "AA", "FF", "4b ", "-1", "\u00e9"]
@@ -39,23 +47,30 @@ def chance(rng, share):
     return rng.randrange(1000) >= 1000 - 1000 * share
 
 
-def config(rng):
-    """The text of a config."""
-    if chance(rng, 0.5):
+def config(rng, plain=0.5):
+    """The text of a config, this often a plain one."""
+    if chance(rng, plain):
         kind, version = rng.choice(["sha1", "sha256"]), rng.choice("11110")
         text = f"[core]\n\trepositoryformatversion = {version}\n"
         return text + (f"[extensions]\n\tobjectformat = {kind}\n" if version == "1" else "")
+    if chance(rng, 0.5):
+        version = rng.choice(VERSIONS if chance(rng, 0.5) else "1110")
+        section = rng.choice(["[extensions]"] * 8 + ['[extensions "a"]', "[core]"])
+        variables = [f"objectformat={rng.choice(KINDS)}"] if chance(rng, 0.7) else []
+        variables += [variable(rng, KEYS) for _ in range(rng.choice([0, 0, 1, 2]))]
+        return "\n".join([f"[core]\nrepositoryformatversion={version}", section, *variables, ""])
     lines = ["\ufeff"] if chance(rng, 0.1) else []
     for _ in range(rng.randrange(6)):
         lines.append(rng.choice(SECTIONS[:12] if chance(rng, 0.7) else SECTIONS))
         lines += [variable(rng) if chance(rng, 0.9) else rng.choice(JUNK) for _ in range(rng.randrange(4))]
     ends = ["\n", "\r\n", "\n\n", " ", "\n\t", "\r"] if chance(rng, 0.2) else ["\n"]
-    return "".join(line + rng.choice(ends) for line in lines)
+    text = "".join(line + rng.choice(ends) for line in lines)
+    return text + rng.choice(LAST) if chance(rng, 0.2) else text.rstrip("\n") if chance(rng, 0.1) else text
 
 
-def variable(rng):
+def variable(rng, keys=KEYS[:2] * 4 + KEYS):
     """A line of a config."""
-    key = rng.choice(KEYS[:2] * 4 + KEYS)
+    key = rng.choice(keys)
     values = {"repositoryformatversion": VERSIONS, "objectformat": KINDS, "bare": BOOLS}
     values |= {"worktreeConfig": BOOLS, "preciousObjects": BOOLS}
     value = rng.choice(values.get(key, ["x", "", '"a;b"', "a # b"]))
@@ -79,6 +94,12 @@ def spelled(rng, path, start):
     for old, new in [("/", "//"), ("/", "/./"), ("/objects", "/info/../objects")]:
         text = text.replace(old, new, 1) if chance(rng, 0.1) and not text.startswith("/") else text
     return text + ("/" if chance(rng, 0.1) else "")
+
+
+def list_of_alternates(rng, end):
+    """A list of alternates by short names, each before this end but the last. (The environment has no NUL.)"""
+    parts = ["".join(rng.choices(PIECES, k=rng.randrange(1, 4))) for _ in range(rng.randrange(1, 4))]
+    return end.join(parts) if end == "\n" else end.join(parts).replace("\0", "")
 
 
 class Oddity:
@@ -111,23 +132,29 @@ class Oddity:
         wrong += ["ref: Refs/x", "ref:" + " " * 300 + "refs/x"]
         return rng.choice(wrong if chance(rng, 0.15) else right)
 
-    def repository(self, folder, text=None):
-        """Makes a folder a repository, or something like it."""
+    def repository(self, folder, text=None, lacks=0.03):
+        """Makes a folder a repository, or something like it, which lacks each of its parts this often."""
         rng = self.rng
         if chance(rng, 0.1):
             self.write(folder / "x")
             (folder / "HEAD").symlink_to(rng.choice(["refs/heads/main", "refs/", "main", "/refs/x", "../HEAD"]))
-        elif not chance(rng, 0.03):
+        elif not chance(rng, lacks):
             self.write(folder / "HEAD", self.head())
-        if not chance(rng, 0.03):
+        if chance(rng, 0.04) and not (folder / "objects").exists():
+            (self.room / "far").mkdir(exist_ok=True)
+            folder.mkdir(parents=True, exist_ok=True)
+            (folder / "objects").symlink_to(self.room / "far")
+        elif not chance(rng, lacks):
             (folder / "objects").mkdir(parents=True, exist_ok=True)
         for name in ("refs", "objects"):
             if chance(rng, 0.03):
                 self.write(folder / name)
-        if not chance(rng, 0.03):
+        if not chance(rng, lacks):
             self.write(folder / "refs" / "none")
         if not chance(rng, 0.1):
             self.write(folder / "config", config(rng) if text is None else text)
+        if chance(rng, 0.05):
+            self.write(folder / "config.worktree", SHA256)
         self.objects.append(folder / "objects")
 
     def link(self, at, target):
@@ -155,17 +182,20 @@ class Oddity:
             end = rng.choice(["\n", "", "\r\n", "\n\n", " \n"])
             common = rng.choice([spelled(rng, inner, gitdir) + end] * 8 + ["\n", ""])
             self.write(gitdir / "commondir", common)
+            self.write(gitdir / "config", config(rng)) if chance(rng, 0.3) else None
         if form == "symlink":
             (top / ".git").symlink_to(spelled(rng, inner, top).rstrip("/"))
         elif form in ("file", "linked"):
             self.link(top / ".git", gitdir)
-        below = [top / "d", top / "d/e/f/g/h/i", inner, inner / "refs", inner / "info"]
-        self.cwd = rng.choice([top, top, top, *below])
+        if form == "worktree" and chance(rng, 0.15):
+            self.repository(top)
+        below = [top / "d", top / "d/e/f/g/h/i"] + ([inner, inner / "refs", inner / "info", top, top, top] if form != "nested" else [])
+        self.cwd = rng.choice(below)
         with suppress(FileExistsError):
             self.cwd.mkdir(parents=True, exist_ok=True)
         self.cwd = self.cwd if self.cwd.is_dir() else top
         if form == "nested":
-            self.repository(rng.choice([top / "d", top / "d/.git", top / "d/e/.git"]))
+            self.repository(rng.choice([top / "d", top / "d/.git", top / "d/e/.git"]), lacks=0.15)
         # Where a bare repository is found above, Git reads its config by a relative $GIT_COMMON_DIR from the top, and its
         # objects from the current folder.
         is_worktree = form not in ("bare", "nested") and inner not in [self.cwd, *self.cwd.parents]
@@ -189,6 +219,8 @@ class Oddity:
             self.objects.append(other)
             paths = [spelled(rng, other, start) for start in (cwd, self.top)]
             self.env["GIT_OBJECT_DIRECTORY"] = rng.choice([str(other)] * 4 + paths * 2 + ["", "none"])
+            # (the repository then needs no objects of its own)
+            shutil.rmtree(gitdir / "objects", ignore_errors=True) if chance(rng, 0.3) else None
         others = {"GIT_CEILING_DIRECTORIES": "/none", "GIT_DEFAULT_HASH": "sha256", "GIT_NAMESPACE": "x"}
         self.env |= {name: value for name, value in others.items() if chance(rng, 0.03)}
 
@@ -298,7 +330,7 @@ class Oddity:
             at = 8 + 4 * rng.choice(falls)
             ways += [whole[:at] + bytes(4) + whole[at + 4 :]] * 2
         if kind == "sha1":
-            ways += [made.version_1([(12, *row[1:]) for row in rows], bytes(20))]
+            ways += [version_1([(12, *row[1:]) for row in rows], bytes(20))]
         return rng.choice(ways)
 
     def alternate(self, folder, target):

@@ -1,15 +1,11 @@
-"""What the tools share: counts of what passed, how other programs are started, edits of sources, a program that is
-compiled in a copy of this repository's crates, and ids, pack indexes and stores."""
+"""What the tools share: counts of what passed, how other programs are started, edits of sources, and a program that is
+compiled in a copy of this repository's crates."""
 
-import bisect
 import contextlib
-import hashlib
 import os
-import random
 import re
 import shutil
 import signal
-import struct
 import subprocess
 import sys
 import tempfile
@@ -27,13 +23,8 @@ CLEAN |= {"GIT_CONFIG_GLOBAL": os.devnull, "GIT_CONFIG_NOSYSTEM": "1"}
 ONLY = CLEAN.pop("ONLY", "")
 # What takes longer than so many seconds has failed; of what lets others go first, six times as many.
 LIMIT = 1800
-# How many blobs a store has in its packs, if nobody says it.
-PACKED = 3000
 # Takes from root the power to read what has the mode 000.
 POWERLESS = ["setpriv", "--bounding-set=-dac_override,-dac_read_search"] if os.geteuid() == 0 else []
-# Of each kind of ids how many digits they have, and the letters of a change id, from that of the digit 0 on.
-DIGITS = {"sha1": 40, "sha256": 64}
-LETTERS = str.maketrans("0123456789abcdef", "zyxwvutsrqponmlk")
 # An error of the compiler: /room/crates/x/src/y.rt:5:7: error[private-field]: ..
 ERROR = re.compile(r"^([^:\n]+):(\d+):\d+: error\[([^\]\n]+)\]", re.MULTILINE)
 
@@ -134,6 +125,16 @@ def ran(*words, cwd=None, env=None, given=b"", limits=(), seconds=LIMIT, stderr=
     return printed, errors, child.returncode
 
 
+def answer(child, text):
+    """What a packtool that reads standard input prints for a text and an empty line, up to the line for that, or up to its end."""
+    with contextlib.suppress(BrokenPipeError):
+        child.stdin.write(f"{text}\n\n".encode())
+    printed = b"\n"
+    while not printed.endswith(b"\n bad\n") and (more := os.read(child.stdout.fileno(), 1 << 16)):
+        printed += more
+    return os.fsdecode(printed[1:])
+
+
 def git(folder, *words, **how):
     """What git prints in a folder, as the user n. It packs nothing by itself."""
     words = ["git", "-c", "gc.auto=0", "-c", "user.name=n", "-c", "user.email=e", *words]
@@ -214,81 +215,3 @@ def program(name):
     if made.returncode:
         sys.exit(f"{name} is not measured, since it was not proved and built")
     return str(ROOT / "crates" / name / "out" / name)
-
-
-def sorted_ids(size, id_lens):
-    """That many random sorted ids in hex, each of one of these numbers of bytes, the same at each run."""
-    rng = random.Random(size + sum(id_lens))
-    for word in sorted(rng.getrandbits(64) for _ in range(size)):
-        yield f"{word:016x}{rng.randbytes(rng.choice(id_lens) - 8).hex()}"
-
-
-def sealed(body, digest=hashlib.sha1):
-    """The bytes with their digest after them."""
-    return body + digest(body).digest()
-
-
-def pack_index(rows, longs=None, pack=None):
-    """The bytes of a pack index of version 2 of sorted rows, each an offset, an id in hex and a CRC. Offsets are long at
-    these positions, and else from 2^31 on. The pack's digest is zeros if it is not given."""
-    digest = hashlib.sha1 if len(rows[0][1]) == 40 else hashlib.sha256
-    names = [bytes.fromhex(id) for _, id, _ in rows]
-    is_long = [at in longs if longs is not None else offset >> 31 > 0 for at, (offset, _, _) in enumerate(rows)]
-    firsts = [name[0] for name in names]
-    counts = [bisect.bisect_right(firsts, byte) for byte in range(256)]
-    words = [(1 << 31) + sum(is_long[:at]) if is_long[at] else offset for at, (offset, _, _) in enumerate(rows)]
-    parts = [b"\xfftOc\0\0\0\2", struct.pack(">256I", *counts), *names]
-    parts += [struct.pack(f">{len(rows)}I", *(crc for _, _, crc in rows)), struct.pack(f">{len(rows)}I", *words)]
-    parts += [struct.pack(">Q", offset) for at, (offset, _, _) in enumerate(rows) if is_long[at]]
-    return sealed(b"".join(parts) + (pack or bytes(digest().digest_size)), digest)
-
-
-def index_of(ids):
-    """A pack index of sorted ids, each with a random CRC and an offset of its own."""
-    ids = list(ids)
-    rng = random.Random(len(ids))
-    offsets = [12 + 40 * position for position in range(len(ids))]
-    rng.shuffle(offsets)
-    return pack_index([(offset, id, rng.getrandbits(32)) for offset, id in zip(offsets, ids)])
-
-
-def shortest(ids):
-    """The lines of `names` for sorted ids: each after its shortest beginning, of 4 digits or more, that no other one has."""
-    shared = [len(os.path.commonprefix(pair)) for pair in zip(ids, ids[1:])]
-    needed = [max(pair) + 1 for pair in zip([0, *shared], [*shared, 0])]
-    return "".join(f"{id[: max(4, size)]} {id}\n" for id, size in zip(ids, needed))
-
-
-def listed(cwd, env=None):
-    """The ids of all objects, sorted, by git."""
-    return sorted(set(git(cwd, "cat-file", "--batch-all-objects", "--batch-check=%(objectname)", env=env).split()))
-
-
-def make_blobs(folder, kind, packs=2, packed=PACKED, loose=200, seed=0):
-    """Makes a bare repository with that many packs, blobs in them, and loose blobs."""
-    git(folder.parent, "init", "--quiet", "--bare", f"--object-format={kind}", folder)
-    texts = [f"{seed} {number}" for number in range(packed)]
-    for at in range(packs):
-        given = "".join(f"blob\ndata {len(text)}\n{text}\n" for text in texts[at::packs])
-        git(folder, "-c", "fastimport.unpackLimit=0", "fast-import", "--quiet", given=given.encode())
-    add_loose(folder, f"{seed} loose", loose)
-
-
-def add_loose(folder, name, size):
-    """Adds loose blobs, and returns their ids."""
-    with tempfile.TemporaryDirectory() as room:
-        paths = [Path(room, str(number)) for number in range(size)]
-        for path in paths:
-            path.write_text(f"{name} {path.name}", encoding="utf-8")
-        return git(folder, "hash-object", "-w", "--stdin-paths", given="".join(f"{path}\n" for path in paths).encode()).split()
-
-
-def make_objects(objects, packs, loose):
-    """Makes these packs, which have an index and no object, and these loose objects, which are empty, in an object directory."""
-    (objects / "pack").mkdir(exist_ok=True)
-    for number, ids in enumerate(packs):
-        (objects / "pack" / f"pack-{number}.idx").write_bytes(index_of(ids))
-        (objects / "pack" / f"pack-{number}.pack").touch()
-    for digits in loose:
-        (objects / digits[:2]).mkdir(exist_ok=True)
-        (objects / digits[:2] / digits[2:]).touch()

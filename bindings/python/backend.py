@@ -9,6 +9,7 @@ import hashlib
 import re
 import zipfile
 from pathlib import Path
+from typing import Dict, Optional
 
 HERE = Path(__file__).resolve().parent
 ABOUT = """Metadata-Version: 2.4
@@ -23,14 +24,17 @@ LIBRARY, PROGRAM = "gix_hash/libgix_hash.so", "gix_hash/packtool"
 LICENCES = ("LICENSE-MIT", "LICENSE-APACHE", "NOTICE")
 
 
-def build_wheel(wheel_directory, config_settings=None, metadata_directory=None):
-    """Writes the wheel into a directory, and returns its name. Its bytes depend on those of its files alone."""
+def build_wheel(
+    wheel_directory: str, config_settings: Optional[Dict[str, str]] = None, metadata_directory: Optional[str] = None
+) -> str:
+    """Writes the wheel into a directory, and returns its name. Its bytes depend only on those of its files."""
     names = ("gix_hash/__init__.py", "gix_hash/_store.py", "gix_hash/py.typed", LIBRARY, PROGRAM)
     files = {name: (HERE / name).read_bytes() for name in names if (HERE / name).exists()}
     tag = "py3-none-any"
     if is_built := not files.keys().isdisjoint((LIBRARY, PROGRAM)):
         tag = f"py3-none-{(config_settings or {}).get('platform', 'linux_x86_64')}"
-    version = re.search(r'__version__ = "(.*)"', files["gix_hash/__init__.py"].decode())[1].replace("-dev", ".dev0")
+    (version,) = re.findall(r'__version__ = "(.*)"', files["gix_hash/__init__.py"].decode())
+    version = version.replace("-dev", ".dev0")
     name = f"nunbirdstand-{version}"
     listed = "".join(f"License-File: {it}\n" for it in LICENCES)
     readme = (HERE / "README.md").read_text(encoding="utf-8")

@@ -98,17 +98,18 @@ class Bindings(unittest.TestCase):
             with tempfile.TemporaryDirectory() as directory:
                 git("init", "-q", f"--object-format={name}", directory)
                 for object_type in ObjectType:
-                    words = "-C", directory, "hash-object", "--literally", "--stdin", "-t", object_type.name.lower()
+                    words = "-C", directory, "hash-object", "--literally", "--stdin", "-t", str(object_type)
                     for data in (b"", b"abc\n", bytes(4095)):
                         found = Id.of_object(kind, object_type, data)
                         self.assertEqual(str(found), git(*words, data=data).strip())
-                        self.assertEqual(Id.of_object(name, object_type.name.lower(), data), found)
+                        self.assertEqual(Id.of_object(name, f"{object_type}", data), found)
                         hasher = Hasher.for_object(kind, object_type, len(data))
                         for at in range(0, len(data), 100):
                             hasher.update(data[at : at + 100])
                         self.assertEqual(hasher.id(), found)
                         self.assertEqual(found == Id.empty_blob(kind), (object_type, data) == (ObjectType.BLOB, b""))
                         self.assertEqual(found == Id.empty_tree(kind), (object_type, data) == (ObjectType.TREE, b""))
+            self.assertEqual((str(kind), f"{kind:>8}"), (name, name.rjust(8)))
             self.assertEqual(bytes(Id.null(kind)), bytes(kind.len_in_bytes))
             for length in (0, 9, 10, 2**63, 2**64 - 1):
                 self.assertEqual(Hasher.for_object(name, "tree", length).id(), Id.digest(name, f"tree {length}\0".encode()))
@@ -192,6 +193,7 @@ class Bindings(unittest.TestCase):
         public = {"Buffer", "Code", "Entry", "Error", "Hasher", "Id", "Kind", "ObjectType", "PackIndex", "Prefix", "SortedDigests"}
         of_stores = {"Ambiguous", "Location", "Missing", "SkippedWarning", "Store", "StoreError"}
         self.assertEqual(found.keys() - {"__builtins__"}, public | of_stores)
+        self.assertEqual({found[name].__module__ for name in public - {"Buffer"} | of_stores}, {"gix_hash"})
 
     def test_hostile_calls(self):
         """Calls that are wrong, and the exception of each."""

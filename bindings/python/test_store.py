@@ -27,7 +27,8 @@ TOOLS = pathlib.Path(__file__).resolve().parents[2] / "tools"
 os.environ.setdefault("GIX_HASH_LIB", str(TOOLS.parent / "out" / "libgix_hash.so"))
 os.environ.setdefault("PACKTOOL", str(TOOLS.parent / "crates" / "packtool" / "out" / "packtool"))
 sys.path.insert(0, str(TOOLS))
-from probe import add_loose, git, listed, make_blobs, shortest  # noqa: E402
+from gitstore import add_blobs, beginning_with, keep, listed, make_blobs, places, shortest, unpack  # noqa: E402
+from probe import git  # noqa: E402
 
 from gix_hash import (  # noqa: E402
     Ambiguous, Code, Error, Id, Kind, Location, Missing, Prefix, SkippedWarning, Store, StoreError,
@@ -117,7 +118,7 @@ class Stores(unittest.TestCase):
                 self.assertEqual(store.abbreviate(Id(id), least), name)
         prefixes = [*OF_GIT["some_prefixes"](ids, 20 * size, 2)]
         given = [rng.choice((str, Prefix))(prefix) for prefix in prefixes] + [Id(id) for id in rng.sample(ids, size)]
-        found = {prefix: OF_GIT["beginning_with"](ids, str(prefix)) for prefix in given}
+        found = {prefix: beginning_with(ids, str(prefix)) for prefix in given}
         many = [(prefix, [str(id) for id in ids]) for prefix, ids in store.find_many(iter(given))]
         self.assertEqual(many, [(prefix, found[prefix]) for prefix in given])
         for prefix in rng.sample(given, size):
@@ -132,7 +133,7 @@ class Stores(unittest.TestCase):
                 self.assertEqual([str(id) for id in getattr(raised.exception, "ids", [])], wanted)
             if objects and wanted:
                 lines = [f"{it.id} {it.path}{'' if it.offset is None else f' {it.offset}'}\n" for it in store.locate(prefix)]
-                self.assertEqual("".join(lines), OF_GIT["places"](objects, wanted))
+                self.assertEqual("".join(lines), places(objects, wanted))
         self.assertTrue(all(Id(id) in store for id in rng.sample(ids, 5)))
         self.assertFalse(Id("1" * 40) in store or Id("1" * 64) in store or "1" * len(ids[0]) in store)
         self.assertTrue(ids[0] in store and ids[0][:7] in store)
@@ -156,7 +157,7 @@ class Stores(unittest.TestCase):
         git(self.room, "init", "--quiet", "work")
         for name in "ab":
             git(self.room / "work", "commit", "--quiet", "--allow-empty", "-m", name)
-        add_loose(self.room / "work", "loose", 50)
+        add_blobs(self.room / "work", [f"loose {at}" for at in range(50)])
         git(self.room / "work", "worktree", "add", "--quiet", "-b", "b", str(self.room / "tree"))
         (self.room / "tree" / "deep").mkdir()
         self.compare(self.room / "tree" / "deep", listed(self.room / "work"), size=5)
@@ -165,11 +166,11 @@ class Stores(unittest.TestCase):
 
     def test_packed_meanwhile(self):
         live, _ = self.blobs("sha1", packed=600, loose=50)
-        ids = [Id(id) for id in OF_GIT["keep"](live)]
+        ids = [Id(id) for id in keep(live)]
         names = [(name, Id(id)) for name, id in (line.split() for line in shortest([str(id) for id in ids]).splitlines())]
         store, asked = self.opened(live), 0
         with ThreadPoolExecutor(1) as pool:
-            moved = pool.submit(OF_GIT["move"], live, lambda: OF_GIT["unpack"](live, self.room))
+            moved = pool.submit(OF_GIT["move"], live, lambda: unpack(live, self.room))
             while not moved.done() or asked < 50:
                 id = ids[asked * 7919 % len(ids)]
                 self.assertEqual((store.find(str(id)[:12]), store.resolve(id), id in store), ([id], id, True))
@@ -185,7 +186,7 @@ class Stores(unittest.TestCase):
         bare, _ = self.blobs(packed=20, loose=5)
         store = self.opened(bare)
         for at in range(20):
-            (id,) = add_loose(bare, f"new {at}", 1)
+            (id,) = add_blobs(bare, [f"new {at}"])
             self.assertEqual((store.find(id[:9]), store.locate(id)[0].offset), ([Id(id)], None))
             self.assertEqual(os.stat(store.locate(Prefix(id))[0].path).st_nlink, 1)
 
@@ -237,7 +238,7 @@ class Stores(unittest.TestCase):
         store, rng = self.opened(bare), random.Random(3)
         short = [ids[rng.randrange(len(ids))][: rng.choice((2, 2, 2, 3, 4, 12))] for _ in range(3000)]
         for given in (short, ["00"] * 30000, [ids[0]] * 20000, short[:1], [], [id[:9] for id in ids] * 12):
-            wanted = {prefix: OF_GIT["beginning_with"](ids, prefix) for prefix in set(given)}
+            wanted = {prefix: beginning_with(ids, prefix) for prefix in set(given)}
             left = iter(given)
             for (prefix, found), asked in zip(store.find_many(left), given):
                 self.assertEqual((prefix, list(map(str, found))), (asked, wanted[asked]))
@@ -474,7 +475,7 @@ class Stores(unittest.TestCase):
         (self.room / "old").chmod(0o755)
         for given in ("/bin/cat", "/nowhere", "/", "false", str(self.room / "old"), str(bare / "HEAD"), "nowhere", ""):
             os.environ.update(PACKTOOL=given, PATH=path if given else "")
-            with self.assertRaisesRegex(StoreError, r"is not packtool \d+\.\d+: set PACKTOOL to its path$"):
+            with self.assertRaisesRegex(StoreError, r": no packtool \d+\.\d+ is there: set PACKTOOL to its path$"):
                 Store(bare)
         folder = self.room / "bin"
         folder.mkdir()

@@ -6,7 +6,7 @@ use std::path::{Path, PathBuf};
 fn main() {
     println!("cargo:rerun-if-env-changed=GIX_HASH_LIB");
     let target = ["ARCH", "OS"].map(|name| std::env::var(format!("CARGO_CFG_TARGET_{name}")).unwrap());
-    assert!(target == ["x86_64", "linux"], "libgix_hash is for x86-64 Linux alone, not for {target:?}");
+    assert!(target == ["x86_64", "linux"], "libgix_hash is only for x86-64 Linux, not for {target:?}");
     let here = std::env::var("CARGO_MANIFEST_DIR").unwrap();
     let given = std::env::var("GIX_HASH_LIB").ok().map(PathBuf::from);
     // This crate has the library in it, or is bindings/rust of the repository, or share/gix_hash/rust of what was installed.

@@ -9,8 +9,8 @@ nobody may change them during a call, in which other threads run, nor while a So
 file of an mmap is cut off, reading what is gone ends the program by SIGBUS.
 
 >>> digest = Id.digest(Kind.SHA1, b"blob 0\\0")
->>> str(digest), digest.kind.name
-('e69de29bb2d1d6434b8b29ae775ad8c2e48c5391', 'SHA1')
+>>> str(digest), str(digest.kind)
+('e69de29bb2d1d6434b8b29ae775ad8c2e48c5391', 'sha1')
 >>> Prefix("e69").cmp(digest)
 0
 """
@@ -38,7 +38,17 @@ _T = TypeVar("_T")
 _M = TypeVar("_M", "Kind", "ObjectType")
 
 
-class Kind(enum.IntEnum):
+class _Named(enum.IntEnum):
+    """Numbers with names, which are printed as Git spells them."""
+
+    def __str__(self) -> str:
+        return self.name.lower()
+
+    def __format__(self, spec: str) -> str:
+        return format(str(self), spec)
+
+
+class Kind(_Named):
     """The hash function of an id: 20 bytes and 40 hex digits, or 32 bytes and 64. Where a kind is taken, its name is too, "sha1"
     or "sha256"."""
 
@@ -51,7 +61,7 @@ class Kind(enum.IntEnum):
         return 20 if self is Kind.SHA1 else 32
 
 
-class ObjectType(enum.IntEnum):
+class ObjectType(_Named):
     """The type of an object, by the number that it has in packs. Where one is taken, its name is too, as "blob"."""
 
     COMMIT = 1
@@ -70,7 +80,7 @@ class Code(enum.IntEnum):
         code._value_, code.text = number, text
         return code
 
-    BAD_LENGTH = 1, "no id or prefix has this length"
+    BAD_LENGTH = 1, "no id or prefix has this length (an id 40 or 64 digits, 20 or 32 bytes; a prefix up to 64 digits)"
     BAD_DIGIT = 2, "a byte of the text is not a hex digit"
     BAD_KIND = 3, "the kind is neither GIX_HASH_SHA1 nor GIX_HASH_SHA256"
     NO_ROOM = 4, "the buffer is too short"
@@ -100,7 +110,7 @@ class Error(ValueError):
     """Why a call failed: its code, and the position, byte, version, kind or code that its text speaks of, else 0."""
 
     def __init__(self, code: Code, detail: int = 0):
-        shown = Kind(detail).name.lower() if code is Code.OTHER_KIND and detail in (1, 2) else detail
+        shown = str(Kind(detail)) if code is Code.OTHER_KIND and detail in (1, 2) else detail
         super().__init__(re.sub(r"\((?:detail|at): (.*)\)", rf"(\1: {shown})", code.text))
         self.code, self.detail = code, detail
 
@@ -209,12 +219,12 @@ def _member(kind: Type[_M], value: object) -> _M:
         return value
     if isinstance(value, str):
         found = kind.__members__.get(value.upper())
-        if found is not None and value in (found.name, found.name.lower()):
+        if found is not None and value in (found.name, str(found)):
             return found
     # (True is 1, and so is ObjectType.COMMIT, and yet no kind)
     elif isinstance(value, int) and not isinstance(value, (bool, enum.Enum)):
         return kind(value)
-    wanted = f"{kind.__name__} or one of {', '.join(repr(it.name.lower()) for it in kind)}"
+    wanted = f"{kind.__name__} or one of {', '.join(repr(str(it)) for it in kind)}"
     raise ValueError(f"expected {wanted}, not {value!r:.80}") if isinstance(value, str) else _wrong(value, wanted)
 
 
@@ -390,7 +400,7 @@ class Hasher:
     @property
     def name(self) -> str:
         """The kind as hashlib names it."""
-        return self.kind.name.lower()
+        return str(self.kind)
 
     @property
     def digest_size(self) -> int:

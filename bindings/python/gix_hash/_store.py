@@ -23,7 +23,7 @@ __all__ = ["Ambiguous", "Location", "Missing", "SkippedWarning", "Store", "Store
 
 _Digits = Union[str, Prefix, Id]
 _D = TypeVar("_D", bound=_Digits)
-# An empty line is no prefix, and only its answer begins with a space. So it ends the answer to the lines before it.
+# An empty line is no prefix, and only what is printed for it begins with a space. So that ends the reply to the lines before it.
 _MARK = b"\n bad\n"
 # How many lines packtool looks up at once beside an empty one, and as how many one of few digits counts, since it may find many
 # ids.
@@ -100,7 +100,7 @@ def _program() -> str:
     path = os.path.abspath(shutil.which(given) or given)
     wanted = __version__.rpartition(".")[0]
     if not _version(path).startswith(f"packtool {wanted}."):
-        raise StoreError(f"{path if os.path.exists(path) else given} is not packtool {wanted}: set PACKTOOL to its path")
+        raise StoreError(f"{path if os.path.exists(path) else given}: no packtool {wanted} is there: set PACKTOOL to its path")
     return path
 
 
@@ -172,7 +172,7 @@ class _Process:
             self._unsent = self._unsent[:0]
 
     def receive(self) -> str:
-        """The answer to the first lines that were sent and have none yet. It reads while it cannot write, so neither waits for the
+        """The reply to the first lines that were sent and have none yet. It reads while it cannot write, so neither waits for the
         other for ever. The error is EOFError if the process has ended."""
         self._check_owner()
         poll, start, got = select.poll(), 0, self._got
@@ -188,9 +188,9 @@ class _Process:
                 if not data:
                     raise EOFError
                 got += data
-        answer = os.fsdecode(bytes(got[1 : end + 1]))
+        reply = os.fsdecode(bytes(got[1 : end + 1]))
         del got[: end + len(_MARK) - 1]
-        return answer
+        return reply
 
     def blocks(self) -> Iterator[str]:
         """What it prints until it ends, in blocks of whole lines."""
@@ -201,7 +201,7 @@ class _Process:
             self._check_owner()
 
     def _check_owner(self) -> None:
-        """Fails after a fork, in the process that has not begun it: both would read parts of the same answers."""
+        """Fails after a fork, in the process that has not begun it: both would read parts of the same replies."""
         if self._owner != os.getpid():
             raise StoreError("the look-up was begun before a fork, and goes on in the process that began it")
 
@@ -249,10 +249,10 @@ def _chunks(prefixes: Iterable[_D]) -> Iterator[List[Tuple[_D, str]]]:
         yield chunk
 
 
-def _ids_by_line(answer: str) -> Dict[str, List[Id]]:
+def _ids_by_line(reply: str) -> Dict[str, List[Id]]:
     """What `find --stdin` prints, by the lines that it was asked."""
     found: Dict[str, List[Id]] = {}
-    words, of_key, from_hex = iter(answer.split()), Id._of_key, bytes.fromhex
+    words, of_key, from_hex = iter(reply.split()), Id._of_key, bytes.fromhex
     for line, digits in zip(words, words):
         if digits == "missing":
             found[line] = []
@@ -283,7 +283,7 @@ class Store(contextlib.AbstractContextManager["Store"]):
 
     def __init__(self, path: "Union[str, bytes, os.PathLike[Any], None]" = None, kind: "Union[Kind, str, None]" = None) -> None:
         self._closed, self._program = False, _program()
-        self._options = [] if kind is None else ["--kind", _kind(kind).name.lower()]
+        self._options = [] if kind is None else ["--kind", str(_kind(kind))]
         self._directory = os.path.abspath(os.fsdecode("." if path is None else path))
         self._environment = {name: text for name, text in os.environ.items() if path is None or name not in _VARIABLES}
         self._skipped: Dict[str, object] = {}
@@ -291,7 +291,7 @@ class Store(contextlib.AbstractContextManager["Store"]):
         # The processes that are asked in turn, while they are not, and a lock for each, by the process that asks and the command.
         self._idle: Dict[Tuple[int, str], _Process] = {}
         self._locks: Dict[Tuple[int, str], Any] = {}
-        # (so many digits are a prefix in a store of SHA-256 alone)
+        # (64 digits are a prefix only in a store of SHA-256)
         self._kind = Kind.SHA1 if self._ask("find", "0" * 64) == [f"{'0' * 64} bad"] else Kind.SHA256
 
     @property
@@ -348,13 +348,13 @@ class Store(contextlib.AbstractContextManager["Store"]):
         return new
 
     def _receive(self, process: _Process) -> Tuple[str, List[str]]:
-        """The next answer of a process, and what it has skipped."""
+        """The next reply of a process, and what it has skipped."""
         try:
-            answer = process.receive()
+            reply = process.receive()
         except EOFError:
             self._new_skips(process, has_ended=True)
             raise StoreError("packtool ended") from None
-        return answer, self._new_skips(process)
+        return reply, self._new_skips(process)
 
     def _ask(self, command: str, line: str) -> List[str]:
         """The lines that a command prints for a line."""
@@ -365,8 +365,8 @@ class Store(contextlib.AbstractContextManager["Store"]):
             try:
                 process = self._idle.pop(key, None) or self._begin(command, "--stdin", is_bulk=False)
                 process.send(f"{line}\n")
-                answer, new = self._receive(process)
-            except BaseException:  # (the rest of an answer would be taken for the next one)
+                reply, new = self._receive(process)
+            except BaseException:  # (the rest of a reply would be taken for the next one)
                 if process:
                     self._end(process)
                 raise
@@ -375,7 +375,7 @@ class Store(contextlib.AbstractContextManager["Store"]):
         if self._closed:
             self.close()
         _warn(new)
-        return answer.split("\n")[:-1]
+        return reply.split("\n")[:-1]
 
     def _found(self, command: str, prefix: _Digits) -> List[str]:
         """What a command finds for a prefix, without the prefix before it."""
@@ -463,8 +463,13 @@ class Store(contextlib.AbstractContextManager["Store"]):
             self._end(process)
 
     def _found_many(self, process: _Process, chunk: List[Tuple[_D, str]]) -> Iterator[Tuple[_D, List[Id]]]:
-        answer, new = self._receive(process)
+        reply, new = self._receive(process)
         _warn(new)
-        found = _ids_by_line(answer)
+        found = _ids_by_line(reply)
         for prefix, line in chunk:
             yield prefix, found[line][:]  # (a prefix may be given twice)
+
+
+# To users they are of the package, also in tracebacks and pickles.
+for _public in (Ambiguous, Location, Missing, SkippedWarning, Store, StoreError):
+    _public.__module__ = "gix_hash"

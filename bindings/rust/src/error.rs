@@ -34,7 +34,7 @@ macro_rules! codes {
 }
 
 codes! {
-    BadLength = 1, "no id or prefix has this length";
+    BadLength = 1, "no id or prefix has this length (an id 40 or 64 digits, 20 or 32 bytes; a prefix up to 64 digits)";
     BadDigit = 2, "a byte of the text is not a hex digit";
     BadKind = 3, "the kind is neither SHA-1 nor SHA-256";
     NoRoom = 4, "the buffer is too short";

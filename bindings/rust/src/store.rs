@@ -94,7 +94,8 @@ const COMMANDS: [&str; 3] = ["find", "where", "names"];
 const FIND: usize = 0;
 const WHERE: usize = 1;
 const NAMES: usize = 2;
-// An empty line is no prefix, and only its answer begins with a space. So it ends the answer to the lines before it.
+// An empty line is no prefix, and only what is printed for it begins with a space. So that ends the reply to the lines
+// before it.
 const MARK: &[u8] = b" bad";
 // How many lines are looked up at once beside an empty one, and as how many one counts by its number of digits.
 const AT_ONCE: usize = 8191;
@@ -119,7 +120,7 @@ impl Store {
         let directory = fs::canonicalize(path).map_err(|error| named(path, &error))?;
         let (program, skipped, asked) = (program()?, Mutex::default(), Default::default());
         let mut store = Store { program, options, directory, variables, kind: Kind::Sha256, skipped, asked };
-        // (so many digits are a prefix in a store of SHA-256 alone)
+        // (64 digits are a prefix only in a store of SHA-256)
         match store.ask(FIND, &"0".repeat(64)) {
             Err(StoreError::Prefix(_)) => store.kind = Kind::Sha1,
             asked => drop(asked?),
@@ -246,7 +247,7 @@ impl Store {
         self.ask(command, &prefix.to_string())
     }
 
-    // The same for the line of a prefix. A process in whose answer something fails is dropped, which ends it.
+    // The same for the line of a prefix. A process in whose reply something fails is dropped, which ends it.
     fn ask(&self, command: usize, asked: &str) -> Result<Vec<Vec<u8>>> {
         let mut resting = locked(&self.asked[command]);
         let mut process = match resting.take() {
@@ -350,7 +351,7 @@ impl<I: Iterator<Item = Prefix>> FindMany<'_, I> {
                 self.ready = pairs.into_iter();
                 return Ok(true);
             }
-            // The answers have the order of the lines, of which no two are equal.
+            // What is printed has the order of the lines, of which no two are equal.
             let (asked, id) = split(&line);
             if asked != last {
                 found.push(Vec::new());
@@ -494,7 +495,8 @@ fn program() -> Result<OsString> {
         let is_path = Path::new(&path).components().count() > 1;
         return Ok(if is_path { fs::canonicalize(&path)?.into() } else { path });
     }
-    let text = format!("{} is not packtool {version}: set PACKTOOL to its path", path.to_string_lossy());
+    let text =
+        format!("{}: no packtool {version} is there: set PACKTOOL to its path", path.to_string_lossy());
     Err(io::Error::new(io::ErrorKind::NotFound, text).into())
 }
 

@@ -1,2 +1,1 @@
 pub mod OneReading
-pub mod Texts

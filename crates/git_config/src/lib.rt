@@ -40,7 +40,7 @@ pub fn read(alloc: Global, text: &[u8]) -> Result<Config, AllocError>
     let mut variables = Vec::new(alloc);
     let mut section = Vec::new(alloc);
     let mut left = without_mark(text);
-    while let [byte, rest @ ..] = left {
+    while let Some((byte, rest)) = left.split_first() {
         match read_item(alloc, &mut section, *byte, rest) {
             Ok((found, after)) => {
                 if let Some(variable) = found {
@@ -49,10 +49,9 @@ pub fn read(alloc: Global, text: &[u8]) -> Result<Config, AllocError>
                 left = after;
             }
             Err(Stop::Wrong(after)) => {
-                let bad_line = Some(line_number(text, after));
                 return Ok(Config {
                     variables,
-                    bad_line,
+                    bad_line: Some(line_number(text, after)),
                 });
             }
             Err(Stop::Memory) => return Err(AllocError),

@@ -2,7 +2,7 @@
 
 ghost use Rattle.std.specs.Prelude.{◌≡◌, ◌≤◌, ◌-◌, ◌+◌, ◌++◌, ◌∷◌, ◌==◌, ◌||◌, [], length, take, drop, false, option_map, position, IfOk};
 ghost use Rattle.std.specs.List.{prefix_len};
-ghost use Rattle.git_config.specs.Grammar.{after_line, assignment, before_nul, close, ends_line, expect, header, header_end, is_blank, is_key_byte, is_name_byte, is_space, item, line_number, piece, quoted, value, variable, without_mark};
+ghost use Rattle.git_config.specs.Grammar.{after_line, assignment, before_nul, close, ends_line, expect, header_end, is_blank, is_key_byte, is_name_byte, is_space, item, line_number, piece, quoted, value, variable, without_mark};
 ghost use Rattle.git_config.specs.Views.{Gives, GivesFrom, piece_of, said};
 ghost use Rattle.git_config.specs.declared.syntax.Stop.TheVariants.{Memory};
 
@@ -53,7 +53,8 @@ pub(crate) fn read_item<'a>(
         b' ' | b'\t' | b'\r' | b'\n' => Ok((None, rest)),
         b'#' | b';' => Ok((None, after_line(rest))),
         b'[' => {
-            let (name, rest) = read_header(alloc, rest)?;
+            let (name, rest) = rest.split_at(name_len(rest));
+            let (name, rest) = end_header(name.to_ascii_lowercase(alloc)?, rest)?;
             *section = name;
             Ok((None, rest))
         }
@@ -65,14 +66,6 @@ pub(crate) fn read_item<'a>(
         }
         _ => Err(Stop::Wrong(rest.len() + 1)),
     }
-}
-
-// Reads a section's header after its opening bracket.
-fn read_header(alloc: Global, text: &[u8]) -> Read<'_, Vec<u8>>
-    ensures { GivesFrom text.now (λ name. name.items) result (header text.now) }
-{
-    let (name, rest) = text.split_at(name_len(text));
-    end_header(name.to_ascii_lowercase(alloc)?, rest)
 }
 
 // Reads what follows the name of a section: maybe a subsection, and the closing bracket.

@@ -18,7 +18,7 @@ use id_lookup::{SortedIds, Unsorted, find_assuming_sorted_near};
 pub struct Run {
     /// The first position.
     pub start: usize,
-    /// The index after the last one.
+    /// The position after the last one.
     pub end: usize,
 }
 

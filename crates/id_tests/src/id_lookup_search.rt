@@ -1,12 +1,10 @@
 //! Runs in lists of the well-known ids and in a list of a thousand ids.
 
-use crate::expecting::expect;
-use crate::types::{BLOB, BLOB_256, TREE, TREE_256, expect_text, id};
+use crate::expecting::{expect, expect_text};
+use crate::well_known::{BLOB, BLOB_256, TREE, TREE_256, id};
 use gix_hash::{Kind, ObjectId, Prefix};
 use id_lookup::{Probes, Run, SortedIds, lookup};
 use std::process::Abort;
-
-mod id_lookup_index;
 
 // The ids of the empty blobs and trees, in order.
 fn well_known() -> [ObjectId; 4] {
@@ -18,8 +16,8 @@ fn well_known() -> [ObjectId; 4] {
     ]
 }
 
-// The SHA-1 ids whose first four digits are the numbers below a thousand, each followed by zeros.
-fn thousand() -> [ObjectId; 1000] {
+/// The SHA-1 ids whose first four digits are the numbers below a thousand, each followed by zeros.
+pub fn thousand() -> [ObjectId; 1000] {
     let mut ids = [ObjectId::Sha1([0; 20]); 1000];
     for number in 0..1000 {
         let mut digest = [0; 20];

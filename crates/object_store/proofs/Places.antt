@@ -1,35 +1,54 @@
 -- Positions in an order, each after a key.
-use Rattle.std.proofs.Common.{◌≡◌, ℕ, zero, suc, ◌+◌, ◌<◌, ◌≤◌, ◌⊎◌, inl, inr, List, [], ◌∷◌, ◌++◌, get_or, ap, arith, All, Contains}
+use Rattle.std.proofs.Common.{◌≡◌, ◌≢◌, ◌∙◌, ℕ, ◌+◌, ◌<◌, List, [], ◌∷◌, ◌++◌, length, get_or, map, sym, ap, subst, arith, All}
+use Rattle.std.specs.List.{IsDistinct, range_with_len}
 use Rattle.std.specs.List.Sorted.{IsPermutation}
-use Rattle.std.proofs.lemmas.Bool.{cases_lt}
-use Rattle.std.proofs.lemmas.List.Elements.{All-append, All-contains, Contains-append_left, Contains-append_right}
-use Rattle.std.proofs.lemmas.List.Sorted.{All-permutation, Contains-permutation}
+use Rattle.std.proofs.Math.Dec.{eqb}
+use Rattle.std.proofs.lemmas.Bool.{eqb-false, ne_eqb}
+use Rattle.std.proofs.lemmas.List.{get_or-map, length-map, map-append, map-id}
+use Rattle.std.proofs.lemmas.List.Elements.{All-map}
+use Rattle.std.proofs.lemmas.List.FromFn.{get_or-range_with_len, length-range_with_len, map-range_with_len_more}
+use Rattle.std.proofs.lemmas.List.Sorted.{All-permutation, IsPermutation-sym}
+use Rattle.std.proofs.lemmas.Map.Keys.{IsDistinct-IsPermutation, IsDistinct-from_apart, apart_from_distinct}
 use Rattle.object_store.specs.Stores.{ArePlaces}
 
 -- the place of one more position
-pub places_more : (n : ℕ) (places : List (ℕ × ℕ)) (key : ℕ) → ArePlaces n places → ArePlaces (n + 1) (places ++ (key, n) ∷ [])
-places_more n places key are = record {
-  in_range = All-append (λ (place : ℕ × ℕ). place.1 < n + 1) places ((key, n) ∷ []) (λ k d low. omega (arith, are.in_range k d low)) last;
-  all = λ k low. by k low (cases_lt k n);
-}
-  where
-    last : (k : ℕ) (d : ℕ × ℕ) → k < 1 → (get_or ((key, n) ∷ []) k d).1 < n + 1
-    last zero d low = omega arith
-    last (suc k) d low = absurd (omega (arith, low))
+pub one_more : (n : ℕ) (places more : List (ℕ × ℕ)) (key : ℕ) → more ≡ places ++ (key, n) ∷ [] → map (λ (place : ℕ × ℕ). place.1) places ≡ range_with_len 0 n
+    → map (λ (place : ℕ × ℕ). place.1) more ≡ range_with_len 0 (n + 1)
+one_more n places more key is all =
+    ap (map (λ (place : ℕ × ℕ). place.1)) is ∙ map-append (λ (place : ℕ × ℕ). place.1) places ((key, n) ∷ []) ∙ ap (λ (xs : List ℕ). xs ++ n ∷ []) all
+    ∙ sym (sym (map-id (range_with_len 0 (n + 1))) ∙ map-range_with_len_more (λ k. k) 0 n n (omega arith) ∙ ap (λ (xs : List ℕ). xs ++ n ∷ []) (map-id (range_with_len 0 n)))
 
-    by : (k : ℕ) → k < n + 1 → ((k < n) ⊎ (n ≤ k)) → (other : ℕ) × Contains (places ++ (key, n) ∷ []) (other, k)
-    by k low (inl below) = let has = are.all k below in (has.0, Contains-append_left places ((key, n) ∷ []) (has.0, k) has.1)
-    by k low (inr from) =
-        let same : n ≡ k = omega (arith, low, from) in
-        (key, Contains-append_right places ((key, n) ∷ []) (key, k) (0, omega arith, ap (λ m. (key, m)) same))
+nth : (n k d : ℕ) → k < n → get_or (range_with_len 0 n) k d ≡ k
+nth n k d low = get_or-range_with_len 0 n k d low ∙ omega arith
 
--- they may have any order
-pub places_in_order : (n : ℕ) (places sorted : List (ℕ × ℕ)) → IsPermutation places sorted → ArePlaces n places → ArePlaces n sorted
-places_in_order n places sorted same are = record {
-  in_range = All-permutation (λ (place : ℕ × ℕ). place.1 < n) places sorted same are.in_range;
-  all = λ k low. let has = are.all k low in (has.0, Contains-permutation places sorted (has.0, k) same has.1);
-}
+-- each of the numbers below n is below n
+below : (n : ℕ) → All (λ k. k < n) (range_with_len 0 n)
+below n k d low = let high : k < n = omega (arith, low, length-range_with_len 0 n) in rw (nth n k d high) high
 
--- what holds at each place holds of each position
-pub at_each_place : (n : ℕ) (places : List (ℕ × ℕ)) (P : ℕ → Type 0) → ArePlaces n places → All (λ (place : ℕ × ℕ). P place.1) places → (k : ℕ) → k < n → P k
-at_each_place n places P are all k low = let has = are.all k low in All-contains (λ (place : ℕ × ℕ). P place.1) places (has.0, k) all has.1
+-- each of the places is of one of them
+pub in_range : (n : ℕ) (places : List (ℕ × ℕ)) → IsPermutation (range_with_len 0 n) (map (λ (place : ℕ × ℕ). place.1) places) → All (λ (place : ℕ × ℕ). place.1 < n) places
+in_range n places order j p low =
+    subst (λ k. k < n) (get_or-map (λ (place : ℕ × ℕ). place.1) places j p 0 low) (All-permutation (λ k. k < n) _ _ order (below n) j 0 (omega (arith, low, length-map places (λ (place : ℕ × ℕ). place.1))))
+
+module _ (n : ℕ) (places : List (ℕ × ℕ)) (are : ArePlaces n places) where
+  many : length (map (λ (place : ℕ × ℕ). place.1) places) ≡ length places
+  many = length-map places (λ (place : ℕ × ℕ). place.1)
+
+  -- what holds at each place holds of each position
+  pub at_each_place : (P : ℕ → Type 0) → All (λ (place : ℕ × ℕ). P place.1) places → (k : ℕ) → k < n → P k
+  at_each_place P all k low =
+      subst P (nth n k 0 low)
+      (All-permutation P _ _ (IsPermutation-sym _ _ are.order) (All-map P (λ (place : ℕ × ℕ). place.1) places all) k 0 (omega (arith, low, length-range_with_len 0 n)))
+
+  -- two places have two positions
+  pub apart : (i j : ℕ) (p : ℕ × ℕ) → i < j → j < length places → (get_or places i p).1 ≢ (get_or places j p).1
+  apart i j p less low same =
+      let differ : IsDistinct eqb (range_with_len 0 n) = IsDistinct-from_apart eqb (range_with_len 0 n) (λ i j d less low.
+      let high : j < n = omega (arith, low, length-range_with_len 0 n) in
+      let lower : i < n = omega (arith, less, high) in
+      rw (nth n i d lower, nth n j d high) (ne_eqb i j (λ e. omega (arith, e, less)))) in
+      eqb-false _ _ (apart_from_distinct eqb _ i j 0 (IsDistinct-IsPermutation eqb flips _ _ are.order differ) less (omega (arith, low, many)))
+      (get_or-map (λ (place : ℕ × ℕ). place.1) places i p 0 (omega (arith, less, low)) ∙ same ∙ sym (get_or-map (λ (place : ℕ × ℕ). place.1) places j p 0 low))
+    where
+      flips : (x y : ℕ) → eqb x y ≡ eqb y x
+      flips x y = grind arith

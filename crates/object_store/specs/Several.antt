@@ -1,7 +1,8 @@
 -- The locations and the abbreviations of the ids that begin with each of several prefixes.
 use Rattle.std.specs.Prelude.{◌≡◌, ℕ, ◌<◌, ◌/◌, ◌%◌, List, [], ◌∷◌, Vec, length, map, slice_index_or, string_bytes, All}
+use Rattle.std.specs.List.{sum_by}
 use Rattle.id_lookup.specs.Words.{IsIndexOf, IsShortestNameFrom, Kind, KindDigits, first_byte_of, id_digits, matches}
-use Rattle.object_store.specs.Stores.{AreFoundOfEach, AreLocations, AreMatches, HasRead, IsLocationsFault, IsNameIn, IsOfKind, IsOfOne, StoreView}
+use Rattle.object_store.specs.Stores.{AreFoundOfEach, AreLocations, AreMatches, HasRead, HaveMore, IsLocationsFault, IsNameIn, IsOfKind, IsOfOne, StoreView}
 use Rattle.object_store.specs.declared.error.Error.{Error}
 use Rattle.object_store.specs.declared.locations.LocatedId.{LocatedId}
 use Rattle.object_store.specs.declared.abbreviations.NamedId.{NamedId}
@@ -21,6 +22,15 @@ pub record AreLocated {A : Type 0} (view : StoreView) (loose_paths : List ℕ �
 -- a list for each prefix: the ids that begin with it, each with its locations
 abbrev pub AreLocatedOfEach : {A : Type 0} → StoreView → (List ℕ → List (List ℕ)) → List KindDigits → List (Vec (LocatedId A) A) → Type 0
 AreLocatedOfEach view loose_paths prefixes located = AreFoundOfEach (λ digits ids. AreLocated view loose_paths digits ids.items) prefixes located
+
+-- how many locations ids have
+abbrev pub location_count : {A : Type 0} → Vec (LocatedId A) A → ℕ
+location_count ids = sum_by (λ located. length located.locations.items) ids.items
+
+-- the ids that begin with some of the prefixes have more than `most` locations
+abbrev pub HaveMoreLocations : Type 0 → StoreView → (List ℕ → List (List ℕ)) → ℕ → List KindDigits → Type 0
+HaveMoreLocations A view loose_paths most prefixes =
+    HaveMore {Found = Vec (LocatedId A) A} (λ digits ids. AreLocated view loose_paths digits ids.items) location_count most prefixes
 
 -- why they are not found: why they are not of one of the prefixes, or memory ran out
 abbrev pub IsLocationsFaultOfOne : StoreView → List KindDigits → Error → Type 0
@@ -62,6 +72,12 @@ pub record AreNamed (fewest : ℕ) (view : StoreView) (byte : ℕ) (named : List
   pub index : IsIndexOf view.kind (matches (byte / 16 ∷ byte % 16 ∷ []) read) (map (λ (n : NamedId). id_digits n.id) named)
   pub names : All (λ (n : NamedId). IsNameIn fewest read (id_digits n.id) n.name.digits) named
   pub kinds : All (IsOfKind view.kind) named
+
+-- how many prefixes of an abbreviation have ids: one, or none if no id begins with it
+abbrev pub id_count : Abbreviation → ℕ
+id_count Missing = 0
+id_count Ambiguous = 1
+id_count (Named named) = 1
 
 -- an abbreviation for each prefix
 abbrev pub AreAbbreviatedOfEach : ℕ → StoreView → List KindDigits → List Abbreviation → Type 0

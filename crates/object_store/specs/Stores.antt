@@ -1,6 +1,7 @@
 -- What an object store holds, where it has an object, and what is found in it. Ids and names are given by their digits.
 use Rattle.std.specs.Prelude.{[], ℕ, ◌++◌, ◌<◌, ◌∷◌, ◌≡◌, ◌≢◌, ◌≤◌, ◌⊎◌, All, Bool, Contains, IsTrue, List, MatchOption, None, Option, Some, Vec, flat_map, if◌then◌else◌, length, map, nat_eq, option_map, slice_get, slice_index_or, suc, take, zero, bytes_eq}
-use Rattle.std.specs.List.{list_any, position, starts_with}
+use Rattle.std.specs.List.{list_any, position, range_with_len, starts_with, sum_by}
+use Rattle.std.specs.List.Sorted.{IsPermutation}
 use Rattle.id_lookup.specs.Words.{IsIndexOf, Kind, KindDigits, ObjectId, first_byte_of, id_digits, id_kind, matches}
 use Rattle.pack_index.specs.Format.{HasOffset, IsFirstIndexOf, IsPackIndex, names_in, offset_in}
 use Rattle.pack_index.specs.Lazy.{BucketNames, HasBucket, IfKnown, IsBucketFault, IsBucketOf, IsFirstCounted, LazyIndex, counted_with}
@@ -193,6 +194,16 @@ pub record AreFoundOfEach {Found : Type 0} (Finds : List ℕ → Found → Type 
 abbrev pub AreMatchesOfEach : {A : Type 0} → StoreView → List KindDigits → List (Vec ObjectId A) → Type 0
 AreMatchesOfEach view prefixes found = AreFoundOfEach (λ digits ids. AreMatches view digits ids.items) prefixes found
 
+-- what was found for some of the prefixes is more than `most`; what counts for the others is nothing
+pub record HaveMore {Found : Type 0} (Finds : List ℕ → Found → Type 0) (size : Found → ℕ) (most : ℕ) (prefixes : List KindDigits) : Type 0 where
+  pub some : List Found
+  pub each : AreFoundOfEach (λ digits one. Finds digits one ⊎ (size one ≡ 0)) prefixes some
+  pub more : most < sum_by size some
+
+-- more than `most` ids begin with some of the prefixes
+abbrev pub HaveMoreMatches : Type 0 → StoreView → ℕ → List KindDigits → Type 0
+HaveMoreMatches A view most prefixes = HaveMore {Found = Vec ObjectId A} (λ digits ids. AreMatches view digits ids.items) (λ ids. length ids.items) most prefixes
+
 -- why several prefixes are not looked up: why one of them is not, or memory ran out
 abbrev pub IsOfOne : (List ℕ → Error → Type 0) → List KindDigits → Error → Type 0
 IsOfOne Fails prefixes (Index at error) = (prefix : KindDigits) × Contains prefixes prefix × Fails prefix.digits (Index at error)
@@ -223,7 +234,7 @@ pub record AreLocations (view : StoreView) (digits : List ℕ) (locations : List
   pub all : locations ≡ packed ++ loose_at digits view.loose
   pub sound : HaveLocations view digits
 
--- the places of n positions: each is after a key, and no other one
+-- the places of n positions: the numbers below n in an order, each after a key
 pub record ArePlaces (n : ℕ) (places : List (ℕ × ℕ)) : Type 0 where
   pub in_range : All (λ (place : ℕ × ℕ). place.1 < n) places
-  pub all : (k : ℕ) → k < n → (key : ℕ) × Contains places (key, k)
+  pub order : IsPermutation (range_with_len 0 n) (map (λ (place : ℕ × ℕ). place.1) places)

@@ -1,13 +1,14 @@
 //! Abbreviations in a whole store.
 
 ghost use Rattle.std.specs.Prelude.{◌≡◌, ◌≤◌, ◌<◌, ◌/◌, ◌%◌, ℕ, [], ◌∷◌, All, List, IfErr, IfNone, IfOk, IfSome, Some, length, map, slice_get, slice_index_or, take};
+ghost use Rattle.std.specs.List.{sum_by};
 ghost use Rattle.id_lookup.specs.Words.{IsIndex, IsShortestNameFrom, first_byte_of, hex_len_of, id_digits, id_kind};
-ghost use Rattle.object_store.specs.Stores.{CanLookUp, IsFaultOfOne, IsListed, IsOfKind, IsStoreFault};
-ghost use Rattle.object_store.specs.Several.{AreAbbreviatedOfEach, AreNamed, IsAbbreviated, IsAbbreviatedAt, IsAbbreviationOfKind};
+ghost use Rattle.object_store.specs.Stores.{CanLookUp, HaveMore, IsFaultOfOne, IsListed, IsOfKind, IsStoreFault};
+ghost use Rattle.object_store.specs.Several.{AreAbbreviatedOfEach, AreNamed, IsAbbreviated, IsAbbreviatedAt, IsAbbreviationOfKind, id_count};
 
-use crate::each::{LookUp, look_up_each};
 use crate::error::Error;
 use crate::parts::Parts;
+use crate::several::{LookUp, look_up_each};
 use crate::store::Store;
 use gix_hash::{Kind, ObjectId, Prefix};
 use id_lookup::{Answer, IdIndex};
@@ -59,7 +60,8 @@ pub enum Abbreviation {
 /// first byte are read once, if a prefix has it, and memory is allocated for those with one first
 /// byte at a time. The error is that of reading the ids with the first byte of one of the prefixes.
 ///
-/// `None` is returned only if there are several prefixes, more than `most`.
+/// `None` is returned if and only if there are several prefixes, and ids begin with more than
+/// `most` of them.
 ///
 /// ```
 /// if let Some(found) = abbreviate_prefixes(rt.alloc(), &store, &prefixes, 4, 65_536)? {
@@ -79,6 +81,10 @@ pub fn abbreviate_prefixes<S: Store, A: Allocator + Copy>(
     ensures named { IfOk result (λ named. IfSome named (λ named. AreAbbreviatedOfEach least
         (S.view store.now) prefixes.now named.items)) }
     ensures several { IfOk result (λ named. IfNone named (1 < length prefixes.now)) }
+    ensures more { IfOk result (λ named. IfNone named
+        (HaveMore (IsAbbreviated least (S.view store.now)) id_count most prefixes.now)) }
+    ensures few { IfOk result (λ named. IfSome named (λ named. 1 < length prefixes.now
+        → sum_by id_count named.items ≤ most)) }
     ensures err { IfErr result (IsFaultOfOne (S.view store.now) prefixes.now) }
 {
     look_up_each(alloc, store, prefixes, most, &Abbreviating { least })
@@ -100,6 +106,8 @@ impl<S: Store, A: Allocator + Copy> LookUp<S, A> for Abbreviating {
 
     ghost fails = { λ _ view digits error. IsStoreFault view (first_byte_of digits) error };
 
+    ghost size = { λ found. id_count found };
+
     fn placeholder(&self) -> Abbreviation {
         Abbreviation::Missing
     }
@@ -108,8 +116,11 @@ impl<S: Store, A: Allocator + Copy> LookUp<S, A> for Abbreviating {
         parts.abbreviate_prefix(prefix, self.least)
     }
 
-    fn len(&self, _found: &Abbreviation) -> usize {
-        1
+    fn left(&self, found: &Abbreviation, room: usize) -> Option<usize> {
+        match found {
+            Abbreviation::Missing => Some(room),
+            Abbreviation::Ambiguous | Abbreviation::Named(_) => room.checked_sub(1),
+        }
     }
 }
 

@@ -10,13 +10,13 @@
 #![tactic(auto)]
 
 mod abbreviations;
-mod each;
 mod error;
 pub mod laws;
 mod locations;
 mod loose;
 mod matches;
 mod parts;
+mod several;
 mod store;
 
 pub use abbreviations::{Abbreviation, NamedId, abbreviate_part, abbreviate_prefixes};

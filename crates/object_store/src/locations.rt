@@ -1,14 +1,15 @@
 //! Where an object store has an object.
 
 ghost use Rattle.std.specs.Prelude.{◌≡◌, ◌⊎◌, [], ◌∷◌, ◌++◌, ◌<◌, ◌≤◌, All, IfErr, IfNone, IfOk, IfSome, OnOk, length, map};
+ghost use Rattle.std.specs.List.{sum_by};
 ghost use Rattle.id_lookup.specs.Words.{first_byte_of, id_digits, id_kind};
 ghost use Rattle.object_store.specs.Stores.{AreBuckets, AreLocations, AreMatches, ArePacked, CanLookUp, HasLocation, HaveLocations, IsListed, IsLocateFault, IsLocationFault, IsLocationsFault, IsOffsetOf, packed_at};
-ghost use Rattle.object_store.specs.Several.{AreLocated, AreLocatedOfEach, IsLocationsFaultOfOne};
+ghost use Rattle.object_store.specs.Several.{AreLocated, AreLocatedOfEach, HaveMoreLocations, IsLocationsFaultOfOne, location_count};
 ghost use Rattle.pack_index.specs.Lazy.{IfKnown, IsBucketOf};
 
-use crate::each::{LookUp, look_up_each};
 use crate::error::Error;
 use crate::parts::Parts;
+use crate::several::{LookUp, look_up_each};
 use crate::store::{Store, StorePaths};
 use gix_hash::{ObjectId, Prefix};
 use pack_index::{Bucket, LazyError, LazyFile};
@@ -79,7 +80,7 @@ pub fn locate_prefix<S: StorePaths, A: Allocator + Copy>(
 {
     let mut parts = Parts::new(alloc, store);
     let ids = parts.lookup_prefix(prefix)?;
-    locate_each(alloc, store, &mut parts, &ids, prefix)
+    locate_ids(alloc, store, &mut parts, &ids, prefix)
 }
 
 /// The ids of a store that begin with each of several prefixes, with their locations: as many lists
@@ -90,8 +91,8 @@ pub fn locate_prefix<S: StorePaths, A: Allocator + Copy>(
 /// byte at a time. The error is that of reading the ids with the first byte of one of the prefixes,
 /// or the offset of an id that begins with it.
 ///
-/// `None` is returned only if there are several prefixes, whose ids have more than `most`
-/// locations.
+/// `None` is returned if and only if there are several prefixes, and more than `most` locations are
+/// found for them; those of an id that is found for two of them count twice.
 ///
 /// ```
 /// if let Some(found) = locate_prefixes(rt.alloc(), &store, &prefixes, 65_536)? {
@@ -108,6 +109,10 @@ pub fn locate_prefixes<S: StorePaths, A: Allocator + Copy>(
     ensures located { IfOk result (λ located. IfSome located (λ located. AreLocatedOfEach
         (S.view store.now) (S.loose_paths store.now) prefixes.now located.items)) }
     ensures several { IfOk result (λ located. IfNone located (1 < length prefixes.now)) }
+    ensures more { IfOk result (λ located. IfNone located (HaveMoreLocations A (S.view store.now)
+        (S.loose_paths store.now) most prefixes.now)) }
+    ensures few { IfOk result (λ located. IfSome located (λ located. 1 < length prefixes.now
+        → sum_by location_count located.items ≤ most)) }
     ensures err { IfErr result (IsLocationsFaultOfOne (S.view store.now) prefixes.now) }
 {
     look_up_each(alloc, store, prefixes, most, &Locating { alloc, store })
@@ -130,6 +135,8 @@ impl<S: StorePaths, A: Allocator + Copy> LookUp<S, A> for Locating<'_, S, A> {
 
     ghost fails = { λ _ view digits error. IsLocationsFault view digits error };
 
+    ghost size = { λ ids. location_count ids };
+
     fn placeholder(&self) -> Vec<LocatedId<A>, A> {
         Vec::new(self.alloc)
     }
@@ -140,20 +147,20 @@ impl<S: StorePaths, A: Allocator + Copy> LookUp<S, A> for Locating<'_, S, A> {
         prefix: &Prefix,
     ) -> Result<Vec<LocatedId<A>, A>, Error> {
         let ids = parts.lookup_prefix(prefix)?;
-        locate_each(self.alloc, self.store, parts, &ids, prefix)
+        locate_ids(self.alloc, self.store, parts, &ids, prefix)
     }
 
-    fn len(&self, ids: &Vec<LocatedId<A>, A>) -> usize {
-        let mut len = 0usize;
+    fn left(&self, ids: &Vec<LocatedId<A>, A>, room: usize) -> Option<usize> {
+        let mut left = room;
         for located in ids {
-            len = len.saturating_add(located.locations.len());
+            left = left.checked_sub(located.locations.len())?;
         }
-        len
+        Some(left)
     }
 }
 
 // The ids that begin with a prefix, with their locations.
-fn locate_each<S: StorePaths, A: Allocator + Copy>(
+fn locate_ids<S: StorePaths, A: Allocator + Copy>(
     alloc: A,
     store: &S,
     parts: &mut Parts<'_, S, A>,

@@ -1,13 +1,14 @@
 //! The ids of a store that begin with a prefix, or with each of several.
 
 ghost use Rattle.std.specs.Prelude.{◌≡◌, ◌<◌, ◌≤◌, ◌++◌, All, IfErr, IfNone, IfOk, IfSome, OnOk, flat_map, length, map};
+ghost use Rattle.std.specs.List.{sum_by};
 ghost use Rattle.id_lookup.specs.Words.{first_byte_of, hex_len_of, id_digits, id_kind, matches};
-ghost use Rattle.object_store.specs.Stores.{AreBuckets, AreMatches, AreMatchesOfEach, CanLookUp, IsFaultOfOne, IsListed, IsStoreFault};
+ghost use Rattle.object_store.specs.Stores.{AreBuckets, AreMatches, AreMatchesOfEach, CanLookUp, HaveMoreMatches, IsFaultOfOne, IsListed, IsStoreFault};
 ghost use Rattle.pack_index.specs.Lazy.{BucketNames};
 
-use crate::each::{LookUp, look_up_each};
 use crate::error::Error;
 use crate::parts::Parts;
+use crate::several::{LookUp, look_up_each};
 use crate::store::Store;
 use gix_hash::{Kind, ObjectId, Prefix};
 use id_lookup::sort_unique;
@@ -48,7 +49,8 @@ pub fn lookup_prefix<S: Store, A: Allocator + Copy>(
 /// first byte are read once, if a prefix has it, and memory is allocated for those with one first
 /// byte at a time. The error is that of reading the ids with the first byte of one of the prefixes.
 ///
-/// `None` is returned only if there are several prefixes, with which more than `most` ids begin.
+/// `None` is returned if and only if there are several prefixes, and more than `most` ids are found
+/// for them; an id that is found for two of them counts twice.
 ///
 /// ```
 /// if let Some(found) = lookup_prefixes(rt.alloc(), &store, &prefixes, 65_536)? {
@@ -67,6 +69,10 @@ pub fn lookup_prefixes<S: Store, A: Allocator + Copy>(
     ensures matches { IfOk result (λ found. IfSome found (λ found.
         AreMatchesOfEach (S.view store.now) prefixes.now found.items)) }
     ensures several { IfOk result (λ found. IfNone found (1 < length prefixes.now)) }
+    ensures more { IfOk result (λ found. IfNone found
+        (HaveMoreMatches A (S.view store.now) most prefixes.now)) }
+    ensures few { IfOk result (λ found. IfSome found (λ found. 1 < length prefixes.now
+        → sum_by (λ ids. length ids.items) found.items ≤ most)) }
     ensures err { IfErr result (IsFaultOfOne (S.view store.now) prefixes.now) }
 {
     look_up_each(alloc, store, prefixes, most, &Matching { alloc })
@@ -87,6 +93,8 @@ impl<S: Store, A: Allocator + Copy> LookUp<S, A> for Matching<A> {
 
     ghost fails = { λ _ view digits error. IsStoreFault view (first_byte_of digits) error };
 
+    ghost size = { λ ids. length ids.items };
+
     fn placeholder(&self) -> Vec<ObjectId, A> {
         Vec::new(self.alloc)
     }
@@ -99,8 +107,8 @@ impl<S: Store, A: Allocator + Copy> LookUp<S, A> for Matching<A> {
         parts.lookup_prefix(prefix)
     }
 
-    fn len(&self, ids: &Vec<ObjectId, A>) -> usize {
-        ids.len()
+    fn left(&self, ids: &Vec<ObjectId, A>, room: usize) -> Option<usize> {
+        room.checked_sub(ids.len())
     }
 }
 

@@ -10,7 +10,8 @@ use Rattle.id_lookup.specs.Words.{IsLetterOf, Kind, KindDigits, ObjectId, ReadsA
 use Rattle.gix_hash.specs.declared.decode.Error.{Error}
 use Rattle.gix_hash.specs.declared.decode.Error.TheVariants.{InvalidHexEncodingLength, Invalid}
 use Rattle.streams.specs.Streams.{is_line_feed, lines_of}
-use Rattle.oidtool_commands.specs.Lists.{HasIdLine, HasTaken, IsFirstRead, IsLine, IsLineOf, IsListRefusal, NoBadLineEnded, Takes, ended, ids_read, list_read}
+use Rattle.oidtool_commands.specs.Lists.{IsFirstRead, IsLine, IsLineOf, IsListRefusal, NoBadLineEnded, ended, ids_read, list_read}
+use Rattle.oidtool_commands.specs.SearchStates.{HasIdLine, HasTaken, Takes}
 use Rattle.oidtool_commands.specs.declared.search.error.SearchError.{SearchError}
 use Rattle.oidtool_commands.specs.declared.search.list_reader.ListReader.{ListReader}
 use Rattle.oidtool_commands.specs.declared.search.error.SearchError.TheVariants.{BadLine, Memory}

@@ -7,7 +7,8 @@ use Rattle.std.proofs.lemmas.List.Sums.{length-filter, count_by-le-length}
 use Rattle.std.specs.Option.{option_map, option_or, is_some}
 use Rattle.std.specs.List.{starts_with}
 use Rattle.id_lookup.specs.Words.{ObjectId, id_digits, least_hex_len, matches}
-use Rattle.oidtool_commands.specs.Searches.{order_error, error_of_all, first_refused, last_or, IsLeast, HasFound}
+use Rattle.oidtool_commands.specs.Searches.{order_error, error_of_all, first_refused}
+use Rattle.oidtool_commands.specs.SearchStates.{HasFound, IsLeast, last_or}
 use Rattle.oidtool_commands.specs.declared.search.error.SearchError.{SearchError}
 use Rattle.oidtool_commands.specs.declared.search.finder.Finder.{Finder}
 use Rattle.oidtool_commands.specs.declared.search.Search.{Search}

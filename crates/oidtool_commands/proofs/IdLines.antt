@@ -13,13 +13,13 @@ use Rattle.id_digits.specs.Letters.{AreSortedLines, IsIdLine, is_line_len, line_
 use Rattle.id_digits.proofs.ReadLines.{length-letters, packed_line, line_reads}
 use Rattle.id_lookup.proofs.Indexes.{index-sorted}
 use Rattle.id_lookup.proofs.OutsidePrefixes.{no_matches}
-use Rattle.oidtool_commands.specs.Searches.{AreLinesOf, CanSkip, IsLeast, IsLineOfId, TakesLength, allows_repeats, error_of_first}
 use Rattle.oidtool_commands.specs.declared.search.error.SearchError.{SearchError}
 use Rattle.oidtool_commands.specs.declared.search.error.SearchError.TheVariants.{Unsorted, NotRising}
 use Rattle.oidtool_commands.specs.declared.search.Search.{Search}
 use Rattle.oidtool_commands.specs.declared.search.Search.TheVariants.{Sorted, In}
 use Rattle.oidtool_commands.proofs.FinderLemmas.{last_or-at}
 use Rattle.oidtool_commands.proofs.Orders.{IsUpTo, in_order_after, less}
+use Rattle.oidtool_commands.specs.SearchStates.{AreLinesOf, CanSkip, IsLeast, IsLineOfId, TakesLength, allows_repeats, error_of_first}
 
 -- the kind of the ids in lines of a length
 pub kind_of_line : (len : ℕ) → IsTrue (is_line_len len) → (kind : Kind) × (len - 1 ≡ hex_len_of kind)

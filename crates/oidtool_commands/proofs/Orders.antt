@@ -8,7 +8,8 @@ use Rattle.std.specs.Cmp.Lexicographic.{slice_cmp}
 use Rattle.std.specs.declared.cmp.Ordering.{Ordering}
 use Rattle.std.specs.declared.cmp.Ordering.TheVariants.{Less, Equal, Greater}
 use Rattle.id_lookup.specs.Words.{IsFirstUnsorted, IsIndexUpTo, IsNotRising, IsWrongKind, Kind, hex_len_of}
-use Rattle.oidtool_commands.specs.Searches.{order_error, first_refused, is_above, error_of_first}
+use Rattle.oidtool_commands.specs.Searches.{order_error, first_refused, is_above}
+use Rattle.oidtool_commands.specs.SearchStates.{error_of_first}
 use Rattle.oidtool_commands.specs.declared.search.error.SearchError.{SearchError}
 use Rattle.oidtool_commands.specs.declared.search.error.SearchError.TheVariants.{Unsorted, WrongKind, NotRising}
 use Rattle.oidtool_commands.specs.declared.search.Search.{Search}

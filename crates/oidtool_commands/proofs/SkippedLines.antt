@@ -5,8 +5,8 @@ use Rattle.std.proofs.lemmas.List.{length-take-le, map-append, take_all, take_mo
 use Rattle.std.specs.Simd.{first_chunks}
 use Rattle.id_lookup.specs.Words.{ObjectId, id_digits}
 use Rattle.id_digits.specs.Letters.{is_line_len}
-use Rattle.oidtool_commands.specs.Lists.{HasTaken, IsListRefusal, Takes, ended}
-use Rattle.oidtool_commands.specs.Searches.{AreLinesOf, HasFound, HasSearched, HasSkipped, IsRefusedIn, Searches}
+use Rattle.oidtool_commands.specs.Lists.{IsListRefusal, ended}
+use Rattle.oidtool_commands.specs.SearchStates.{AreLinesOf, HasFound, HasSearched, HasSkipped, HasTaken, IsRefusedIn, Searches, Takes}
 use Rattle.oidtool_commands.specs.declared.search.error.SearchError.{SearchError}
 use Rattle.oidtool_commands.specs.declared.search.error.SearchError.TheVariants.{Memory}
 use Rattle.oidtool_commands.specs.declared.search.finder.Finder.{Finder}

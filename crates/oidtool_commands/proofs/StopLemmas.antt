@@ -5,8 +5,9 @@ use Rattle.std.proofs.KnownBytes.{Consumes-trans, Consumes-kept}
 use Rattle.std.specs.Io.KnownBytes.{Consumes, Keeps, IsAtEnd, Appends}
 use Rattle.std.proofs.Math.Seq.{take-append_seam}
 use Rattle.id_lookup.specs.Words.{KindDigits, ObjectId, id_digits}
-use Rattle.oidtool_commands.specs.Searches.{HasSearched, HoldsOfAll, IsSettled, GivesGoodLines, GivesTooMuch, Fails, Finds, FoundHolds, From, Searched, IsOwn, OfAll, Stops, found_among, found_in_list, found_texts, letter_for, prefix_of}
-use Rattle.oidtool_commands.specs.Lists.{HasTaken, NoBadLineEnded, list_read, IsListRefusal}
+use Rattle.oidtool_commands.specs.Searches.{HoldsOfAll, IsSettled, GivesGoodLines, GivesTooMuch, Fails, Finds, FoundHolds, From, Searched, IsOwn, OfAll, Stops, found_among, found_in_list, found_texts, letter_for, prefix_of}
+use Rattle.oidtool_commands.specs.Lists.{NoBadLineEnded, list_read, IsListRefusal}
+use Rattle.oidtool_commands.specs.SearchStates.{HasSearched, HasTaken}
 use Rattle.oidtool_commands.specs.declared.search.finder.Finder.{Finder}
 use Rattle.oidtool_commands.specs.declared.search.list_reader.ListReader.{ListReader}
 use Rattle.oidtool_commands.specs.declared.search.Search.{Search}

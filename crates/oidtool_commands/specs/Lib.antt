@@ -2,4 +2,5 @@
 -- in them.
 pub mod Commands
 pub mod Lists
+pub mod SearchStates
 pub mod Searches

@@ -1,22 +1,19 @@
 -- What a search finds in a list text, what its result says of the text, and where it stops.
-use Rattle.std.specs.Prelude.{[], ℕ, ◌&&◌, ◌++◌, ◌+◌, ◌-◌, ◌<◌, ◌==◌, ◌∷◌, ◌≡◌, ◌≤◌, ◌⊎◌, Bool, Err, IsOk, List, None, Ok, Option, Result, Some, false, if◌then◌else◌, length, map, nat_lt, not, slice_index, take, true}
+use Rattle.std.specs.Prelude.{[], ℕ, ◌++◌, ◌+◌, ◌-◌, ◌<◌, ◌==◌, ◌∷◌, ◌≡◌, ◌≤◌, ◌⊎◌, Bool, Err, IsOk, List, None, Ok, Option, Result, Some, if◌then◌else◌, length, nat_lt, not, take, true}
 use Rattle.std.specs.Cmp.Lexicographic.{slice_cmp}
 use Rattle.std.specs.Io.KnownBytes.{Appends, Consumes, IsAtEnd}
-use Rattle.std.specs.List.{AllZip}
 use Rattle.std.specs.Option.{option_map, option_or}
 use Rattle.std.specs.Ordering.{is_lt, nat_cmp}
-use Rattle.id_lookup.specs.Words.{IsFirstIndexError, IsFirstUnsorted, IsIndex, IsSortedIds, Kind, KindDigits, ObjectId, full_read, hex_len_of, hex_letter, id_digits, least_hex_len, letter_of, matches, prefix_read, prefix_read_in, whole_of}
+use Rattle.id_lookup.specs.Words.{IsFirstIndexError, IsFirstUnsorted, IsIndex, IsSortedIds, Kind, KindDigits, hex_len_of, hex_letter, least_hex_len, letter_of, matches, prefix_read, prefix_read_in}
 use Rattle.gix_hash.specs.declared.prefix.from_hex.Error.{Error as PrefixError}
 use Rattle.streams.specs.Streams.{AppendsPart, lines_of, printed}
 use Rattle.id_lookup.specs.declared.index.IndexError.{IndexError}
 use Rattle.id_lookup.specs.declared.index.IndexError.TheVariants as index
-use Rattle.oidtool_commands.specs.Lists.{HasTaken, IsFirstBadLine, IsFirstRead, IsListOf, IsListRefusal, NoBadLineEnded, list_read}
+use Rattle.oidtool_commands.specs.Lists.{IsFirstBadLine, IsFirstRead, IsListOf, NoBadLineEnded, list_read}
 use Rattle.oidtool_commands.specs.declared.search.Search.{Search}
 use Rattle.oidtool_commands.specs.declared.search.Search.TheVariants.{In, Sorted}
 use Rattle.oidtool_commands.specs.declared.search.error.SearchError.{SearchError}
 use Rattle.oidtool_commands.specs.declared.search.error.SearchError.TheVariants.{BadLine, Input, Memory, NotRising, Output, Prefix, PrefixTooLong, TooMuch, Unsorted, WrongKind}
-use Rattle.oidtool_commands.specs.declared.search.finder.Finder.{Finder}
-use Rattle.oidtool_commands.specs.declared.search.list_reader.ListReader.{ListReader}
 
 -- what the prefix reads as
 abbrev pub prefix_of : Search → List ℕ → Result KindDigits PrefixError
@@ -42,13 +39,6 @@ abbrev pub order_error : Search → Option (List ℕ) → List ℕ → Option (�
 order_error (Sorted alphabet) None id = None
 order_error (Sorted alphabet) (Some last) id = if is_lt (slice_cmp nat_cmp id last) then Some Unsorted else None
 order_error (In kind) last id = if not (length id == hex_len_of kind) then Some WrongKind else if is_above last id then None else Some NotRising
-
--- the error of the first of some ids, on line n, for the id before them, if it has none by itself
-abbrev pub error_of_first : Search → ℕ → Option (List ℕ) → List (List ℕ) → Option SearchError
-error_of_first search n None ids = None
-error_of_first search n (Some last) [] = None
-error_of_first (Sorted alphabet) n (Some last) (id ∷ ids) = if is_lt (slice_cmp nat_cmp id last) then Some (Unsorted n) else None
-error_of_first (In kind) n (Some last) (id ∷ ids) = if (length id == hex_len_of kind) && not (is_lt (slice_cmp nat_cmp last id)) then Some (NotRising n) else None
 
 -- the error of digits that are more than an id has, though the list is in order
 abbrev pub error_of_all : Search → List ℕ → List (List ℕ) → Option SearchError
@@ -109,80 +99,6 @@ abbrev pub ResultHolds : Search → List ℕ → List ℕ → Result (List (List
 ResultHolds search prefix text (Err (Prefix error)) = prefix_of search prefix ≡ Err error
 ResultHolds search prefix text (Err (BadLine n error)) = IsOk (prefix_of search prefix) × IsFirstBadLine text n error
 ResultHolds search prefix text answer = (read : IsSearch (prefix_of search prefix) text) × FoundHolds search read.start.digits read.ids answer
-
--- the last of some ids, or `last` if there are none
-abbrev pub last_or : Option (List ℕ) → List (List ℕ) → Option (List ℕ)
-last_or last [] = last
-last_or last (id ∷ ids) = last_or (Some id) ids
-
--- the smallest number of digits of an id, if it matters
-abbrev pub IsLeast : Search → ℕ → List (List ℕ) → Type 0
-IsLeast (Sorted alphabet) least ids = least ≡ least_hex_len ids
-IsLeast (In kind) least ids = Unit {0}
-
--- the state of a finder that took these ids: their number, the error of the first that is refused, and, if none is, the last of them, their smallest
--- number of digits, and those that are found
-pub record HasFound {A : Type 0} (search : Search) (digits : List ℕ) (ids : List (List ℕ)) (finder : Finder A) : Type 0 where
-  pub counted : finder.count ≡ length ids
-  pub in_order : finder.refusal ≡ first_refused search None 1 ids
-  pub is_last : finder.refusal ≡ None → option_map id_digits finder.last ≡ last_or None ids
-  pub is_least : finder.refusal ≡ None → IsLeast search finder.min_hex_len ids
-  pub are_found : finder.refusal ≡ None → error_of_all search digits ids ≡ None → map id_digits finder.found.items ≡ matches digits ids
-
--- Lines of ids that a search skips, and what it does with a chunk.
-
--- a search takes ids of n digits
-abbrev pub TakesLength : Search → ℕ → Type 0
-TakesLength (Sorted alphabet) n = Unit {0}
-TakesLength (In kind) n = n ≡ hex_len_of kind
-
--- whether an id may be repeated in the list of a search
-abbrev pub allows_repeats : Search → Bool
-allows_repeats (Sorted alphabet) = true
-allows_repeats (In kind) = false
-
--- the line begins with n letters that read as the id, and a line feed
-pub record IsLineOfId (n : ℕ) (line : List ℕ) (id : ObjectId) : Type 0 where
-  pub feed : slice_index line n ≡ 10
-  pub reads : full_read hex_letter (take n line) ≡ Ok (whole_of id)
-
--- and so is each of the lines, with the id at the same index
-abbrev pub AreLinesOf : ℕ → List (List ℕ) → List ObjectId → Type 0
-AreLinesOf n lines ids = AllZip (IsLineOfId n) lines ids
-
--- lines of ids of n digits can be skipped: after the id `last` they are in order, and none of them begins with the digits. `end` is the last of them
-pub record CanSkip (search : Search) (digits : List ℕ) (n : ℕ) (last : Option (List ℕ)) (lines : List (List ℕ)) (end : ObjectId) : Type 0 where
-  pub ids : List ObjectId
-  pub each : AreLinesOf n lines ids
-  pub is_last : Some (id_digits end) ≡ last_or last (map id_digits ids)
-  pub in_order : (number : ℕ) → first_refused search last number (map id_digits ids) ≡ None
-  pub least : IsLeast search n (map id_digits ids)
-  pub none : matches digits (map id_digits ids) ≡ []
-
--- a finder has skipped lines: its state is as if it had taken their ids
-pub record HasSkipped {A : Type 0} (search : Search) (digits : List ℕ) (n : ℕ) (lines : List (List ℕ)) (old new : Finder A) : Type 0 where
-  pub ids : List ObjectId
-  pub each : AreLinesOf n lines ids
-  pub counted : new.count ≡ old.count + length ids
-  pub found : (before : List (List ℕ)) → HasFound search digits before old → HasFound search digits (before ++ map id_digits ids) new
-
--- the state of a search that has taken a text: the reader has taken the text, and the finder the ids that the reader has dropped
-pub record HasSearched {A : Type 0} (search : Search) (digits : List ℕ) (reader : ListReader A) (finder : Finder A) (text : List ℕ) : Type 0 where
-  pub earlier : List ObjectId
-  pub dropped : length earlier ≡ reader.dropped
-  pub found : HasFound search digits (map id_digits earlier) finder
-  pub taken : HasTaken (earlier ++ reader.ids.items) reader.line reader.len text
-
--- a search comes from one state to another by these bytes: what it had taken grows by them
-pub record Searches {A : Type 0} (search : Search) (digits : List ℕ) (reader reader' : ListReader A) (finder finder' : Finder A) (bytes : List ℕ) : Type 0 where
-  pub onward : (text : List ℕ) → HasSearched search digits reader finder text → HasSearched search digits reader' finder' (text ++ bytes)
-  pub empty : reader'.ids.items ≡ []
-  pub count : finder'.count ≡ reader'.dropped
-  pub short : reader'.dropped + reader'.len ≤ reader.dropped + reader.len + length bytes
-
--- after what a search in this state has taken, the text is rejected for these bytes, whatever follows them
-abbrev pub IsRefusedIn : {A : Type 0} → Search → List ℕ → ListReader A → Finder A → List ℕ → SearchError → Type 0
-IsRefusedIn search digits reader finder bytes error = (text more : List ℕ) → HasSearched search digits reader finder text → IsListRefusal (text ++ (bytes ++ more)) error
 
 -- Where a search stops in what it is given, and what it has written then.
 

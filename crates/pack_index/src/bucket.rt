@@ -1,7 +1,9 @@
 //! The ids of a pack index with a first byte.
 
-ghost use Rattle.std.specs.Prelude.{◌≡◌, ◌≢◌, ◌*◌, ◌<◌, ◌≤◌, ◌↔◌, ◌++◌, ℕ, [], All, IsTrue, MatchOption, OnOk, length, map, nat_eq, slice_index_or, slice_range};
+ghost use Rattle.std.specs.Prelude.{◌≡◌, ◌≢◌, ◌*◌, ◌<◌, ◌≤◌, ◌↔◌, ◌++◌, ℕ, [], All, Contains, IsTrue, MatchOption, OnOk, length, map, nat_eq, slice_index_or, slice_range};
+ghost use Rattle.std.specs.Cmp.Lexicographic.{slice_cmp};
 ghost use Rattle.std.specs.List.{starts_with};
+ghost use Rattle.std.specs.Ordering.{is_lt, nat_cmp};
 ghost use Rattle.id_lookup.specs.Words.{IsSortedIds, byte_len_of, hex_len_of, id_digits, id_kind, least_hex_len, matches, oid_digits};
 ghost use Rattle.pack_index.specs.Format.{IsFirstIndexOf, digests_in};
 
@@ -23,7 +25,7 @@ use std::marker::Model;
 #[derive(Drop)]
 pub struct Bucket<A: Allocator> {
     kind: Kind,
-    // The index of the first of them in the pack index.
+    // The position of the first of them in the pack index.
     start: usize,
     // The ids, one after the other.
     table: Vec<u8, A>,
@@ -117,14 +119,14 @@ impl<A: Allocator> Bucket<A> {
         }
     }
 
-    // The index of the first of them in the pack index.
+    // The position of the first of them in the pack index.
     pub(crate) fn start(&self) -> usize
         ensures { result ≡ self.now.start }
     {
         self.start
     }
 
-    // The first index of an id among them.
+    // The first position of an id among them.
     pub(crate) fn position(&self, id: oid<'_>) -> Option<usize>
         ensures { MatchOption result ((k : ℕ) → k < length self.now.names
             → slice_index_or self.now.names k [] ≢ oid_digits id.entry)
@@ -144,8 +146,8 @@ impl<A: Allocator> Bucket<A> {
     }
 }
 
-// The first index of an id in a list whose members have as many digits as it has. If the list is
-// sorted, it is searched first at an index, which is then where the search ended.
+// The first position of an id in a list whose members have as many digits as it has. A sorted list
+// is searched first at a position, which is then that after the id, or where the id would be.
 fn position_in<I: Id>(ids: &[I], id: oid<'_>, is_sorted: bool, near: &Cell<usize>) -> Option<usize>
     requires sorted { IsTrue is_sorted → IsSortedIds (map I.digits ids.now) }
     requires enough_digits { length (oid_digits id) ≤ least_hex_len (map I.digits ids.now) }
@@ -159,22 +161,47 @@ fn position_in<I: Id>(ids: &[I], id: oid<'_>, is_sorted: bool, near: &Cell<usize
     if !is_sorted {
         return first_index(ids, id);
     }
-    let prefix = all_digits(id);
-    laws::beginnings(&prefix);
-    let start = near.get();
-    let mut end = start;
-    if start < ids.len() && is_at(ids, start, id) {
-        end = start + 1;
-    }
-    let run = find_assuming_sorted_near(ids, &prefix, Run { start, end });
-    near.set(run.end);
-    if run.start == run.end {
+    let start = start_of(ids, id, near.get());
+    if start == ids.len() || !is_at(ids, start, id) {
+        near.set(start);
         return None;
     }
-    Some(run.start)
+    near.set(start + 1);
+    Some(start)
 }
 
-// The first index of an id in a list.
+// The first position of an id in a sorted list whose members have as many digits as it has, if it
+// is there. If the ids below it end at the position `near`, nothing is searched.
+fn start_of<I: Id>(ids: &[I], id: oid<'_>, near: usize) -> usize
+    requires sorted { IsSortedIds (map I.digits ids.now) }
+    requires enough_digits { length (oid_digits id) ≤ least_hex_len (map I.digits ids.now) }
+    requires long { (k : ℕ) → k < length (map I.digits ids.now)
+        → length (slice_index_or (map I.digits ids.now) k []) ≡ length (oid_digits id) }
+    ensures in_range { result ≤ length ids.now }
+    ensures first { Contains (map I.digits ids.now) (oid_digits id.entry)
+        → IsFirstIndexOf (map I.digits ids.now) (oid_digits id.entry) result }
+{
+    let start = near.min(ids.len());
+    let is_after = start == 0 || is_below(ids, start - 1, id);
+    let is_before = start == ids.len() || !is_below(ids, start, id);
+    if is_after && is_before {
+        return start;
+    }
+    let prefix = all_digits(id);
+    laws::beginnings(&prefix);
+    find_assuming_sorted_near(ids, &prefix, Run { start, end: start }).start
+}
+
+// Whether the id at a position of a list is below this one.
+fn is_below<I: Id>(ids: &[I], at: usize, id: oid<'_>) -> bool
+    requires { at < length ids.now }
+    ensures { result ≡ is_lt (slice_cmp nat_cmp (slice_index_or (map I.digits ids.now) at [])
+        (oid_digits id.entry)) }
+{
+    ids[at].as_oid().cmp(&id).is_lt()
+}
+
+// The first position of an id in a list.
 fn first_index<I: Id>(ids: &[I], id: oid<'_>) -> Option<usize>
     ensures { let names = map I.digits ids.now in
         MatchOption result ((k : ℕ) → k < length names
@@ -189,7 +216,7 @@ fn first_index<I: Id>(ids: &[I], id: oid<'_>) -> Option<usize>
     None
 }
 
-// Whether the id at an index of a list is this one.
+// Whether the id at a position of a list is this one.
 fn is_at<I: Id>(ids: &[I], at: usize, id: oid<'_>) -> bool
     requires { at < length ids.now }
     ensures { IsTrue result
@@ -225,7 +252,7 @@ fn push_found<I: Id, A: Allocator>(
 }
 
 // A run of a list in which are all ids that begin with a prefix: theirs if the list is sorted, or
-// the whole list. A sorted list is searched first at an index, which is then where the search
+// the whole list. A sorted list is searched first at a position, which is then where the search
 // ended.
 fn run_of<I: Id>(list: &[I], is_sorted: bool, near: &Cell<usize>, prefix: &Prefix) -> Run
     requires sorted { IsTrue is_sorted → IsSortedIds (map I.digits list.now) }

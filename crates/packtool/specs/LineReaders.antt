@@ -2,7 +2,7 @@
 use Rattle.std.specs.Prelude.{ℕ, List, Option, take, drop, option_map}
 use Rattle.std.specs.Io.KnownBytes.{prepend_known}
 use Rattle.packtool.specs.WholeLines.{ended}
-use Rattle.packtool.specs.declared.lines.LineReader.{LineReader}
+use Rattle.packtool.specs.declared.line_reader.LineReader.{LineReader}
 
 -- the bytes that were read and are still held
 abbrev pub held : {R : Type 0} → LineReader R → List ℕ

@@ -1,12 +1,17 @@
 -- What contracts see of requests.
-use Rattle.std.specs.Prelude.{◌≤◌, ⊤}
+use Rattle.std.specs.Prelude.{ℕ, ◌≤◌, Option, None, Some}
+use Rattle.std.specs.Option.{ForSome}
 use Rattle.gix_hash.specs.declared.kind.Kind.{Kind}
 use Rattle.gix_hash.specs.Words.{hex_len_of}
 use Rattle.packtool.specs.declared.arguments.Question.{Question}
 use Rattle.packtool.specs.declared.arguments.Question.TheVariants.{Find, Locate, Names}
 
--- abbreviations of the least number of digits, if there is one, are no longer than ids of a kind
+-- the least number of digits of abbreviations, if they are asked for
+abbrev pub least_of : {P : Type 0} → Question P → Option ℕ
+least_of (Find given) = None
+least_of (Locate given) = None
+least_of (Names least) = Some least
+
+-- abbreviations of the least number of digits are no longer than ids of a kind
 abbrev pub LeastFits : {P : Type 0} → Kind → Question P → Type 0
-LeastFits kind (Find given) = ⊤
-LeastFits kind (Locate given) = ⊤
-LeastFits kind (Names least) = (4 ≤ least) × (least ≤ hex_len_of kind)
+LeastFits kind question = ForSome (least_of question) (λ least. (4 ≤ least) × (least ≤ hex_len_of kind))

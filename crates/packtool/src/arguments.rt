@@ -172,8 +172,8 @@ const ORIGIN: &str = "packtool 0.5.0-dev of Nunbirdstand, a port of the Rust cra
 
 // Printed after each help.
 const AFTER: &str =
-    "The status is 0 if something was found and all is right, 1 if nothing was found or a file is
-wrong, and 2 for an error, which is printed on standard error.";
+    "The status is 0 if something was found and all is right, 1 if nothing was found, more than one
+id with --one, or a file is wrong, and 2 for an error, which is printed on standard error.";
 
 /// The program's words: what `--help` prints and what is read.
 pub fn command<'a>(alloc: Global) -> Result<Command<'a>, AllocError> {
@@ -219,7 +219,7 @@ fn arg_of<'a>(alloc: Global, argument: Argument) -> Result<Arg<'a>, AllocError> 
             .action(ArgAction::SetTrue),
         Argument::One => Arg::new(alloc, "one")
             .long("one")
-            .help("Wants exactly one id of a prefix, and prints it or its locations alone")
+            .help("Prints only the one id of a prefix, or its locations")
             .action(ArgAction::SetTrue),
         Argument::Indexes => files(alloc)
             .value_name("INDEX")
@@ -258,42 +258,20 @@ fn files<'a>(alloc: Global) -> Arg<'a> {
 /// The request that was read, or `None` if it names no command.
 pub fn read_request<'m, 'a>(matches: &'m ArgMatches<'a>) -> Option<Request<'m, 'a>> {
     let (name, matches) = matches.subcommand()?;
-    match action_of(name)? {
-        Action::Store(command) => Some(Request::Store(store_request(command, matches))),
-        Action::Files(command) => file_request(command, matches),
-    }
-}
-
-// The request of a command over a store.
-fn store_request<'a>(command: StoreCommand, matches: &ArgMatches<'a>) -> StoreRequest<'a> {
-    let ask = ask_of(command, matches);
-    let objects = matches.get_str("objects");
+    let row = COMMANDS.iter().find(|row| row.name == name)?;
     let kind = kind_of(matches);
-    StoreRequest { ask, objects, kind }
-}
-
-// The request of a command over files.
-fn file_request<'m, 'a>(
-    command: FileCommand,
-    matches: &'m ArgMatches<'a>,
-) -> Option<Request<'m, 'a>> {
-    let paths = matches.get_strs("files")?;
-    let kind = kind_of(matches);
-    Some(Request::Files(FileRequest {
-        command,
-        paths,
-        kind,
-    }))
-}
-
-// The command of this name.
-fn action_of(name: &str) -> Option<Action> {
-    for row in &COMMANDS {
-        if row.name == name {
-            return Some(row.action);
-        }
+    match row.action {
+        Action::Store(command) => Some(Request::Store(StoreRequest {
+            ask: ask_of(command, matches),
+            objects: matches.get_str("objects"),
+            kind,
+        })),
+        Action::Files(command) => Some(Request::Files(FileRequest {
+            command,
+            paths: matches.get_strs("files")?,
+            kind,
+        })),
     }
-    None
 }
 
 // What a command asks of a store.

@@ -3,6 +3,7 @@
 ghost use Rattle.std.specs.Prelude.{◌≡◌, ◌↔◌, IsTrue, Some};
 ghost use Rattle.pack_index.specs.declared.error.Error.{Error as IndexError};
 ghost use Rattle.pack_index.specs.declared.lazy_error.LazyError.{LazyError};
+ghost use Rattle.packtool.specs.declared.failure.Failure.TheVariants as failures;
 ghost use Rattle.streams.specs.Devices.{plain_error};
 
 use pack_index::LazyError;
@@ -119,18 +120,24 @@ fn is_version_1(error: &LazyError) -> bool
 }
 
 impl From<repositories::Error> for Failure<'_> {
+    ghost from_gives = { λ error made. made ≡ failures.Repository error };
+
     fn from(error: repositories::Error) -> Self {
         Failure::Repository(error)
     }
 }
 
 impl From<store_folders::Error> for Failure<'_> {
+    ghost from_gives = { λ error made. made ≡ failures.Store error };
+
     fn from(error: store_folders::Error) -> Self {
         Failure::Store(error)
     }
 }
 
 impl From<AllocError> for Failure<'_> {
+    ghost from_gives = { λ _ made. made ≡ failures.Memory };
+
     fn from(_error: AllocError) -> Self {
         Failure::Memory
     }

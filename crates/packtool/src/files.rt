@@ -1,9 +1,10 @@
 //! Commands over files.
 
-ghost use Rattle.std.specs.Prelude.{◌≡◌, ◌≢◌, ◌↔◌, ◌+◌, ◌*◌, ◌≤◌, ◌++◌, ◌⊎◌, ℕ, List, Some, false, length, true, IfOk, IsTrue, MatchOption, string_bytes};
+ghost use Rattle.std.specs.Prelude.{◌≡◌, ◌≢◌, ◌↔◌, ◌+◌, ◌*◌, ◌≤◌, ◌++◌, ◌∷◌, ◌⊎◌, ℕ, [], List, Some, false, length, true, IfOk, IsTrue, MatchOption, OnOk, string_bytes};
 ghost use Rattle.pack_index.specs.Format.{names_start, num_objects};
-ghost use Rattle.packtool.specs.Verdicts.{IsRight};
-ghost use Rattle.streams.specs.Devices.{plain_failed};
+ghost use Rattle.packtool.specs.Verdicts.{IsAt, IsRight};
+ghost use Rattle.packtool.specs.declared.failure.FileWhy.{FileWhy};
+ghost use Rattle.streams.specs.Devices.{plain_error, plain_failed};
 ghost use Rattle.streams.specs.Streams.{IsReadAt};
 ghost use Rattle.streams.specs.declared.checking.Ending.{Ending};
 
@@ -29,10 +30,16 @@ const INDEX_END: &str = ".idx";
 
 const PACK_END: &str = ".pack";
 
-// How the names of files end that Git keeps beside packs and writes with no digest.
+// How the names of files end that Git writes with no digest: marks of packs, and the lists of the
+// files of a chain.
 const KEEP_END: &str = ".keep";
 
 const PROMISOR_END: &str = ".promisor";
+
+const CHAIN_END: &str = "-chain";
+
+// The directory of a chain of indexes, which Git keeps beside the packs.
+const CHAIN_FOLDER: &str = "multi-pack-index.d";
 
 /// Prints the lines of a pack index, and returns whether there is one. With no kind, its length
 /// says it.
@@ -41,7 +48,9 @@ pub fn show<'a, W: io::Write>(
     path: &str,
     kind: Option<Kind>,
     out: &mut Plain<W>,
-) -> Result<bool, Failure<'a>> {
+) -> Result<bool, Failure<'a>>
+    ensures { OnOk result (plain_failed out.new ≡ false) }
+{
     if path == "-" {
         show_from(rt, path, kind, rt.reader(), out)
     } else {
@@ -56,7 +65,9 @@ fn show_from<'a, R: io::Read + Drop, W: io::Write>(
     kind: Option<Kind>,
     reader: R,
     out: &mut Plain<W>,
-) -> Result<bool, Failure<'a>> {
+) -> Result<bool, Failure<'a>>
+    ensures { OnOk result (plain_failed out.new ≡ false) }
+{
     if out.failed() {
         return Err(Failure::of_output(out));
     }
@@ -168,7 +179,7 @@ fn read_more<'a, R: io::Read>(
     match reader.take(most).read_to_end(bytes) {
         Ok(_) => Ok(()),
         Err(error) if error.kind() == io::ErrorKind::OutOfMemory => Err(Failure::Memory),
-        Err(error) => Err(unreadable(rt, path, error)),
+        Err(error) => Err(failure(rt, path, FileWhy::Read(error))),
     }
 }
 
@@ -189,6 +200,9 @@ fn verdict_of_file<'a>(
     path: &str,
     kind: Option<Kind>,
 ) -> Result<Verdict, Failure<'a>> {
+    if is_chain_folder(rt, path) {
+        return Ok(Verdict::Skipped);
+    }
     let mut file = open(rt, path)?;
     if has_no_digest(path) {
         return Ok(Verdict::Skipped);
@@ -227,16 +241,22 @@ fn verdict_of_index<'a>(
     };
     match pair(&index, &pack) {
         Ok(pairing) => Ok(Verdict::Paired(pairing)),
-        Err(error) => Err(unreadable(rt, &pack_path, error)),
+        Err(error) => Err(failure(rt, &pack_path, FileWhy::Read(error))),
     }
 }
 
 // Whether Git writes files of this name with no digest.
 fn has_no_digest(path: &str) -> bool
     ensures { IsTrue result ↔ ((stem : List ℕ) × (path.now ≡ stem ++ KEEP_END.now))
-        ⊎ ((stem : List ℕ) × (path.now ≡ stem ++ PROMISOR_END.now)) }
+        ⊎ (((stem : List ℕ) × (path.now ≡ stem ++ PROMISOR_END.now))
+        ⊎ ((stem : List ℕ) × (path.now ≡ stem ++ CHAIN_END.now))) }
 {
-    path.ends_with(KEEP_END) || path.ends_with(PROMISOR_END)
+    path.ends_with(KEEP_END) || path.ends_with(PROMISOR_END) || path.ends_with(CHAIN_END)
+}
+
+// Whether this is Git's directory of a chain of indexes.
+fn is_chain_folder(rt: &HostRuntime, path: &str) -> bool {
+    path.ends_with(CHAIN_FOLDER) && metadata(rt, path).is_ok_and(|found| found.is_dir())
 }
 
 // Whether the name is that of a pack index, or the bytes begin as one of version 2.
@@ -264,7 +284,7 @@ fn ending_in<'a, R: io::Read + Seek>(
         return Ok(ending);
     }
     if let Err(error) = reader.seek(SeekFrom::Start(0)) {
-        return Err(unreadable(rt, path, error));
+        return Err(failure(rt, path, FileWhy::Read(error)));
     }
     let other = ending_of(rt, reader, path, Some(Kind::Sha256))?;
     Ok(if is_sealed(&other) { other } else { ending })
@@ -324,7 +344,9 @@ fn pack_path_of(alloc: Global, path: &str) -> Result<Option<String>, AllocError>
 }
 
 // Opens a file, whose name is UTF-8.
-fn open<'a>(rt: &HostRuntime, path: &str) -> Result<File, Failure<'a>> {
+fn open<'a>(rt: &HostRuntime, path: &str) -> Result<File, Failure<'a>>
+    ensures { OnOk result ((text : List ℕ) → path.now ≢ text ++ (0 ∷ [])) }
+{
     expect_text(rt, path)?;
     match open_regular(rt, path) {
         Ok(file) => Ok(file),
@@ -341,7 +363,9 @@ fn open_regular(rt: &HostRuntime, path: &str) -> Result<File, FileWhy> {
 }
 
 /// Fails if the name of a file is not UTF-8.
-pub fn expect_text<'a>(rt: &HostRuntime, path: &str) -> Result<(), Failure<'a>> {
+pub fn expect_text<'a>(rt: &HostRuntime, path: &str) -> Result<(), Failure<'a>>
+    ensures { OnOk result ((text : List ℕ) → path.now ≢ text ++ (0 ∷ [])) }
+{
     match lossy_text(path) {
         Some(text) => Err(failure(rt, text, FileWhy::NotText)),
         None => Ok(()),
@@ -349,22 +373,19 @@ pub fn expect_text<'a>(rt: &HostRuntime, path: &str) -> Result<(), Failure<'a>> 
 }
 
 // A file cannot be read, by what its reads returned.
-fn unread<'a, R: io::Read>(rt: &HostRuntime, path: &str, input: &Plain<R>) -> Failure<'a> {
+fn unread<'a, R: io::Read>(rt: &HostRuntime, path: &str, input: &Plain<R>) -> Failure<'a>
+    ensures { (error : _) → plain_error input.now ≡ Some error
+        → IsAt (FileWhy.Read error) path.now result }
+{
     let error = input.error();
-    unreadable(
-        rt,
-        path,
-        error.unwrap_or(io::ErrorKind::UnexpectedEof.into()),
-    )
-}
-
-// A file cannot be read.
-fn unreadable<'a>(rt: &HostRuntime, path: &str, error: io::Error) -> Failure<'a> {
+    let error = error.unwrap_or(io::ErrorKind::UnexpectedEof.into());
     failure(rt, path, FileWhy::Read(error))
 }
 
 // Why a file is not shown or checked.
-fn failure<'a>(rt: &HostRuntime, path: &str, why: FileWhy) -> Failure<'a> {
+fn failure<'a>(rt: &HostRuntime, path: &str, why: FileWhy) -> Failure<'a>
+    ensures { IsAt why path.now result }
+{
     match (
         String::from_str(rt.alloc(), path),
         Box::new(rt.alloc(), why),

@@ -1,18 +1,19 @@
 //! `packtool` looks ids up in a Git object store, and reads pack indexes.
 //!
-//! Its status is 0 if something was found and all is right, 1 if nothing was found or a file is
-//! wrong, and 2 for an error, which is printed on standard error. If nobody reads its output any
-//! more, it ends in silence with 0, but for `check`, which goes on reading for the status.
+//! Its status is 0 if something was found and all is right, 1 if nothing was found, more than one
+//! id with `--one`, or a file is wrong, and 2 for an error, which is printed on standard error. If
+//! nobody reads its output any more, it ends in silence with 0, but for `check`, which goes on
+//! reading for the status.
 #![tactic(auto)]
 
-ghost use Rattle.std.specs.Prelude.{◌≡◌, ◌↔◌, IsTrue};
+ghost use Rattle.std.specs.Prelude.{◌≡◌, ◌≢◌, ◌↔◌, ◌++◌, ◌∷◌, ℕ, [], All, IsNone, IsTrue, List, string_bytes};
 ghost use Rattle.std.specs.IoError.{error_kind};
 ghost use Rattle.std.specs.declared.io.ErrorKind.{ErrorKind};
 
 mod arguments;
 mod failure;
 mod files;
-mod lines;
+mod line_reader;
 mod output;
 mod stores;
 mod words;
@@ -98,7 +99,10 @@ fn print_usage<'a>(
 }
 
 // The number, from 1, of the first word whose argument is not UTF-8.
-fn first_not_text(words: &[String]) -> Option<usize> {
+fn first_not_text(words: &[String]) -> Option<usize>
+    ensures { IsNone result → All (λ word. (text : List ℕ) → string_bytes word ≢ text ++ (0 ∷ []))
+        words.now }
+{
     for (before, word) in words.iter().enumerate() {
         if lossy_text(word).is_some() {
             return Some(before.saturating_add(1));

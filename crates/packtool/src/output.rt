@@ -48,7 +48,9 @@ pub fn buffered<'a, W: io::Write + Drop>(
 pub fn flushed<'a, W: io::Write + Drop>(
     status: u8,
     out: &mut Plain<BufWriter<W>>,
-) -> Result<u8, Failure<'a>> {
+) -> Result<u8, Failure<'a>>
+    ensures { IfOk result (λ returned. (returned ≡ status) × (plain_failed out.new ≡ false)) }
+{
     let _ = out.flush();
     match out.error() {
         None => Ok(status),

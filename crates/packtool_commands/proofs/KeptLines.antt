@@ -1,6 +1,9 @@
 -- Lines of which the last are kept back, to be written together.
-use Rattle.std.proofs.Common.{◌≡◌, ℕ, Bool, true, Option, List, ◌++◌, take, drop, Result, Err, sym, ap, subst, ◌∙◌, append_assoc, take-append-drop, IsErr, flat_map}
+use Rattle.std.proofs.Common.{◌≡◌, ℕ, ◌+◌, ◌<◌, arith, Bool, true, Option, List, ◌++◌, take, drop, Result, Err, sym, ap, subst, ◌∙◌, append_assoc, take-append-drop, IsErr, flat_map}
+use Rattle.std.specs.List.{range_with_len}
 use Rattle.std.proofs.lemmas.Grind.{flat_map-append}
+use Rattle.std.proofs.lemmas.List.FromFn.{get_or-range_with_len, length-range_with_len}
+use Rattle.object_store.proofs.Held.{flat_map-take}
 use Rattle.std.proofs.KnownBytes.{Appends-trans}
 use Rattle.streams.specs.Streams.{AppendsPart, Wrote}
 use Rattle.streams.specs.declared.sink.WriteFailed.{WriteFailed}
@@ -33,3 +36,9 @@ keeps_stop {S} {taken} {has_failed} {a} {c} b r kept lines more is before part f
 -- the lines of the first elements, and those of the rest
 pub lines_split : {X : Type 0} (line : X → List ℕ) (xs : List X) (k : ℕ) → flat_map line xs ≡ flat_map line (take k xs) ++ flat_map line (drop k xs)
 lines_split line xs k = ap (flat_map line) (sym (take-append-drop k xs)) ∙ flat_map-append line (take k xs) (drop k xs)
+
+-- the line of one index more
+pub lines_more : (line : ℕ → List ℕ) (n k : ℕ) → k < n → flat_map line (take (k + 1) (range_with_len 0 n)) ≡ flat_map line (take k (range_with_len 0 n)) ++ line k
+lines_more line n k low =
+    flat_map-take line (range_with_len 0 n) k 0 (omega (arith, low, length-range_with_len 0 n))
+    ∙ ap (λ i. flat_map line (take k (range_with_len 0 n)) ++ line i) (get_or-range_with_len 0 n k 0 low ∙ omega arith)

@@ -1,7 +1,6 @@
-mod AskingLemmas
+mod AnswerLemmas
 mod LineLemmas
 mod KeptLines
 mod ShownLemmas
 mod NamedLemmas
-mod LocationLemmas
 mod EscapeLemmas

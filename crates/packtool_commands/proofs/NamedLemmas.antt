@@ -1,12 +1,9 @@
 -- The lines of the ids of a store with their names, a part after the other.
-use Rattle.std.proofs.Common.{◌≡◌, ◌≢◌, ℕ, zero, suc, ◌+◌, ◌<◌, Bool, Option, List, [], ◌∷◌, ◌++◌, length, get_or, map, take, drop, refl, sym, ap, subst, ◌∙◌, ◌⊎◌, inl, inr, append-nil, take-append-drop, zero-add, arith, ◌↔◌, IsTrue, map-id}
-use Rattle.std.specs.List.{flat_map, range_with_len}
+use Rattle.std.proofs.Common.{◌≡◌, ◌≢◌, ℕ, zero, suc, ◌+◌, Bool, Option, List, [], ◌∷◌, ◌++◌, refl, sym, subst, ◌⊎◌, inl, inr, append-nil, arith, ◌↔◌, IsTrue}
+use Rattle.std.specs.List.{flat_map}
 use Rattle.std.specs.Io.KnownBytes.{Appends}
 use Rattle.std.proofs.KnownBytes.{Appends-trans}
 use Rattle.std.proofs.lemmas.Grind.{flat_map-append}
-use Rattle.std.proofs.lemmas.List.Folds.{flat_map-map}
-use Rattle.std.proofs.lemmas.List.FromFn.{map-range_with_len_more, take-map-range_with_len}
-use Rattle.object_store.proofs.Held.{flat_map-take}
 use Rattle.object_store.specs.Several.{AreNamed}
 use Rattle.object_store.specs.Stores.{HaveBuckets, StoreView}
 use Rattle.pack_index.specs.Format.{Each}
@@ -15,29 +12,6 @@ use Rattle.object_store.specs.declared.abbreviations.NamedId.{NamedId}
 use Rattle.packtool_commands.specs.Stores.{AreNamedBelow, HasNamedAtMost, HasNamedBelow, name_line}
 use Rattle.streams.specs.Streams.{AppendsAtMost, AppendsPart}
 use Rattle.streams.proofs.WritingLemmas.{AppendsPart-after, part_written}
-
--- one line more
-pub Appends-item : {X : Type 0} (a b c : Option (List ℕ)) (line : X → List ℕ) (xs : List X) (k : ℕ) (d : X) → k < length xs
-    → Appends a b (flat_map line (take k xs)) → Appends b c (line (get_or xs k d)) → Appends a c (flat_map line (take (k + 1) xs))
-Appends-item a b c line xs k d within before last =
-    subst (Appends a c) (sym (flat_map-take line xs k d within)) (Appends-trans a b c (flat_map line (take k xs)) (line (get_or xs k d)) before last)
-
--- the lines at the indexes below n + 1
-pub lines-more : {X : Type 0} (line : ℕ → List X) (n : ℕ) → flat_map line (range_with_len 0 (n + 1)) ≡ flat_map line (range_with_len 0 n) ++ line n
-lines-more {X} line n =
-    let parts : (m : ℕ) → flat_map line (range_with_len 0 m) ≡ flat_map (λ l. l) (map line (range_with_len 0 m)) = λ m. sym (flat_map-map (λ l. l) line (range_with_len 0 m)) in
-    parts (n + 1) ∙ ap (flat_map (λ l. l)) (map-range_with_len_more line 0 n n (zero-add n))
-    ∙ flat_map-append (λ l. l) (map line (range_with_len 0 n)) (line n ∷ []) ∙ ap (λ (front : List X). front ++ (line n ++ [])) (sym (parts n))
-    ∙ ap (λ (last : List X). flat_map line (range_with_len 0 n) ++ last) (append-nil (line n))
-
--- the lines before one, that line, and those after it
-pub lines-at : {X : Type 0} (line : ℕ → List X) (n k : ℕ) → k < n
-    → flat_map line (range_with_len 0 n) ≡ flat_map line (range_with_len 0 k) ++ line k ++ flat_map line (drop (k + 1) (range_with_len 0 n))
-lines-at {X} line n k within =
-    let after : List ℕ = drop (k + 1) (range_with_len 0 n) in
-    let front : take (k + 1) (range_with_len 0 n) ≡ range_with_len 0 (k + 1) = simp map-id at (take-map-range_with_len (λ (i : ℕ). i) 0 n (k + 1) (omega arith)) in
-    ap (flat_map line) (sym (take-append-drop (k + 1) (range_with_len 0 n)) ∙ ap (λ (indexes : List ℕ). indexes ++ after) front)
-    ∙ flat_map-append line (range_with_len 0 (k + 1)) after ∙ ap (λ (lines : List X). lines ++ flat_map line after) (lines-more line k)
 
 -- the ids with one first byte more have their names
 pub named_below_more : (n least : ℕ) (Sees : StoreView → Type 0) (seen : StoreView) (named more : List NamedId) → AreNamedBelow n least Sees named → Sees seen

@@ -1,5 +1,5 @@
 -- What was read of an input, and what was printed of all of it.
-use Rattle.std.proofs.Common.{◌≡◌, ℕ, Option, Some, None, List, append-nil, IfSome}
+use Rattle.std.proofs.Common.{ℕ, Option, Some, None, List, append-nil, IfSome}
 use Rattle.std.specs.Io.KnownBytes.{Consumes, IsAtEnd}
 
 -- the bytes read to the end of a source are all its bytes

@@ -14,8 +14,8 @@ use Rattle.object_store.specs.declared.abbreviations.Abbreviation.{Abbreviation}
 use Rattle.object_store.specs.declared.abbreviations.Abbreviation.TheVariants.{Ambiguous, Missing, Named}
 use Rattle.object_store.specs.declared.abbreviations.NamedId.{NamedId}
 use Rattle.packtool_commands.specs.Files.{escape_mark, escaped}
-use Rattle.packtool_commands.specs.declared.asking.Answers.{Answers}
-use Rattle.packtool_commands.specs.declared.asking.Answers.TheVariants as answers_of
+use Rattle.packtool_commands.specs.declared.printing.Answers.{Answers}
+use Rattle.packtool_commands.specs.declared.printing.Answers.TheVariants as answers_of
 use Rattle.packtool_commands.specs.declared.error.StoreError.{StoreError}
 use Rattle.packtool_commands.specs.declared.error.StoreError.TheVariants.{Output, Store, TooMany}
 

@@ -1,17 +1,20 @@
-//! The ids of a store that begin with a prefix.
+//! The ids of a store that begin with a prefix, or with each line of a text.
 
-ghost use Rattle.std.specs.Prelude.{◌≡◌, ◌≢◌, ◌↔◌, ◌≤◌, false, true, length, IfErr, IfOk, IsErrOf};
-ghost use Rattle.id_lookup.specs.Words.{first_byte_of};
-ghost use Rattle.object_store.specs.Stores.{IsListed, IsReopened, IsStoreFault};
-ghost use Rattle.packtool_commands.specs.Stores.{HasPrinted, HasPrintedPart, IsFaultOf};
+ghost use Rattle.std.specs.Prelude.{◌≡◌, ◌≢◌, ◌↔◌, ◌<◌, ◌≤◌, false, true, length, option_copied, All, IfErr, IfOk, IsErrOf};
+ghost use Rattle.id_lookup.specs.Words.{first_byte_of, id_digits};
+ghost use Rattle.object_store.specs.Stores.{CanLookUp, HaveMoreMatches, IsFaultOfOne, IsListed, IsReopened, IsStoreFault};
+ghost use Rattle.packtool_commands.specs.Stores.{AreListed, HasAnsweredMatches, HasAnsweredMatchesPart, HasPrinted, HasPrintedPart, IsFaultOf, id_line};
 ghost use Rattle.packtool_commands.specs.declared.error.StoreError.{StoreError};
+ghost use Rattle.streams.specs.Streams.{Wrote, lines_of};
 
 use crate::error::StoreError;
+use crate::prefixes::PrefixLines;
+use crate::printing::{Answers, Entry, Listed, write_answers, write_front};
 use crate::reopening::look_up_again;
-use gix_hash::{Alphabet, Prefix};
-use object_store::{Reopen, lookup_prefix};
+use gix_hash::{Alphabet, ObjectId, Prefix};
+use object_store::{Reopen, lookup_prefix, lookup_prefixes};
 use std::alloc::Allocator;
-use streams::{Sink, write_ids};
+use streams::{Sink, WriteFailed, write_id, write_ids};
 
 /// Writes a line for each id of a store that begins with a prefix, in order, each once. Returns
 /// whether there is one.
@@ -58,4 +61,83 @@ pub fn find<S: Reopen, A: Allocator + Copy, W: Sink>(
     let ids = looked?;
     write_ids(Alphabet::Hex, &ids, out)?;
     Ok(!ids.is_empty())
+}
+
+/// Writes for each of some lines, in order, the ids of a store that begin with it. Returns whether
+/// each line found what is asked for: an id, or for [`Answers::One`] a single one.
+///
+/// The lines are of the store's kind. For a line that is no prefix the line and ` bad` are written,
+/// for a prefix of no id the line and ` missing`, and for [`Answers::One`] and a prefix of several
+/// ids the line and ` ambiguous`.
+///
+/// Of each pack index the ids with a first byte are read once. Nothing is written before all ids
+/// are found; if a pack index is gone until then, the store is opened again. If the ids are more
+/// than `most`, and there are several prefixes, then nothing is written, and
+/// [`StoreError::TooMany`] is returned. [`StoreError::Output`] is returned if and only if a write
+/// fails, after a proper beginning of the text. The sink must not have failed before.
+///
+/// ```
+/// let lines = PrefixLines::read(rt.alloc(), Kind::Sha1, b"4b8\n4b9\n")?;
+/// if !find_each(rt.alloc(), &mut store, &lines, Answers::One, 65_536, &mut out)? {
+///     println!(rt; "not each of the two is one id")?;
+/// }
+/// ```
+pub fn find_each<S: Reopen, A: Allocator + Copy, W: Sink>(
+    alloc: A,
+    store: &mut S,
+    lines: &PrefixLines<'_, A>,
+    answers: Answers,
+    most: usize,
+    out: &mut W,
+) -> Result<bool, StoreError>
+    requires kind { lines.now.kind ≡ (S.view store.old).kind }
+    requires listed { AreListed (S.view store.old) lines.now.prefixes.items }
+    requires output { W.has_failed out.old ≡ false }
+    ensures reopened { IsReopened (S.may_have store.old) (S.may_have store.new)
+        (S.view store.old) (S.view store.new) }
+    ensures found { IfOk result (λ all. HasAnsweredMatches A answers (S.view store.new)
+        (lines_of lines.now.text.now) all (W.taken out.old) (W.taken out.new)) }
+    ensures refused { IfErr result (IsFaultOf (IsFaultOfOne (S.view store.new)
+        lines.now.prefixes.items)) }
+    ensures several { IsErrOf result StoreError.TooMany → 1 < length lines.now.prefixes.items }
+    ensures more { IsErrOf result StoreError.TooMany → HaveMoreMatches A (S.view store.new) most
+        lines.now.prefixes.items }
+    ensures untouched { IfErr result (λ e. e ≢ StoreError.Output → out.new ≡ out.old) }
+    ensures output { IsErrOf result StoreError.Output ↔ (W.has_failed out.new ≡ true) }
+    ensures part { IsErrOf result StoreError.Output → HasAnsweredMatchesPart A answers
+        (S.view store.new) (lines_of lines.now.text.now) (W.taken out.old) (W.taken out.new) }
+{
+    let prefixes = lines.prefixes();
+    let looked = look_up_again(
+        store,
+        |store: &S|
+            requires { All (CanLookUp (S.view store.now)) prefixes.now }
+        { lookup_prefixes(alloc, store, prefixes, most) },
+    );
+    let Some(found) = looked? else {
+        return Err(StoreError::TooMany);
+    };
+    let form = Listed {
+        answers,
+        entry: IdEntry,
+    };
+    Ok(write_answers(lines.kind, lines.text, &found, &form, out)?)
+}
+
+// How an id is printed.
+#[derive(Drop)]
+struct IdEntry;
+
+impl Entry<ObjectId> for IdEntry {
+    ghost text = { λ _ line id. id_line line (id_digits id) };
+
+    fn write_after<W: Sink>(
+        &self,
+        line: Option<&[u8]>,
+        id: &ObjectId,
+        out: &mut W,
+    ) -> Result<(), WriteFailed> {
+        write_front(line, out)?;
+        write_id(Alphabet::Hex, id, out)
+    }
 }

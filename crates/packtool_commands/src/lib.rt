@@ -10,7 +10,6 @@
 //! [`pair`] finds, and [`write_named`] another line of a file. They escape names as `sha1sum` does.
 #![tactic(auto)]
 
-mod asking;
 mod ending;
 mod error;
 mod escaping;
@@ -22,16 +21,17 @@ mod locating;
 mod naming;
 mod pairing;
 mod prefixes;
+mod printing;
 mod reopening;
 mod showing;
 
-pub use asking::{Answers, find_each};
 pub use ending::write_ending;
 pub use error::{FileError, StoreError};
 pub use escaping::write_named;
-pub use finding::find;
+pub use finding::{find, find_each};
 pub use locating::{locate, locate_each, write_location};
 pub use naming::{name_each, names, write_names};
 pub use pairing::{Pairing, pair, write_pairing};
 pub use prefixes::PrefixLines;
+pub use printing::Answers;
 pub use showing::{open_index, show};

@@ -2,18 +2,18 @@
 
 ghost use Rattle.std.specs.Prelude.{◌≡◌, ◌≢◌, ◌↔◌, ◌<◌, ◌≤◌, [], ◌∷◌, ◌++◌, None, Some, false, true, flat_map, length, map, option_copied, string_bytes, take, All, IfErr, IfOk, IsErrOf};
 ghost use Rattle.id_lookup.specs.Words.{hex_letter, id_digits, spelling};
-ghost use Rattle.object_store.specs.Several.{AreLocated, IsLocationsFaultOfOne};
+ghost use Rattle.object_store.specs.Several.{AreLocated, HaveMoreLocations, IsLocationsFaultOfOne};
 ghost use Rattle.object_store.specs.Stores.{CanLookUp, IsLocationsFault, IsReopened};
 ghost use Rattle.packtool_commands.specs.Stores.{AreListed, HasLocated, HasLocatedEach, HasLocatedPart, HasLocatedSome, IsFaultOf, lines_at_after, located_lines, location_end, location_line, location_line_after};
 ghost use Rattle.packtool_commands.specs.declared.error.StoreError.{StoreError};
 ghost use Rattle.streams.specs.Streams.{Wrote, lines_of};
 
-use crate::asking::{Answers, Entry, Listed, write_answers, write_each, write_front};
 use crate::error::StoreError;
 use crate::escaping::{write_before, write_mark};
 use crate::line::push;
 use crate::lines::{put, put_id};
 use crate::prefixes::PrefixLines;
+use crate::printing::{Answers, Entry, Listed, write_answers, write_each, write_front};
 use crate::reopening::look_up_again;
 use arrayvec::ArrayVec;
 use gix_hash::{ObjectId, Prefix};
@@ -131,6 +131,8 @@ pub fn locate_each<S: Reopen + StorePaths, A: Allocator + Copy, W: Sink>(
     ensures refused { IfErr result (IsFaultOf (IsLocationsFaultOfOne (S.view store.new)
         lines.now.prefixes.items)) }
     ensures several { IsErrOf result StoreError.TooMany → 1 < length lines.now.prefixes.items }
+    ensures more { IsErrOf result StoreError.TooMany → HaveMoreLocations A (S.view store.new)
+        (S.loose_paths store.new) most lines.now.prefixes.items }
     ensures untouched { IfErr result (λ e. e ≢ StoreError.Output → out.new ≡ out.old) }
     ensures output { IsErrOf result StoreError.Output ↔ (W.has_failed out.new ≡ true) }
     ensures part { IsErrOf result StoreError.Output → HasLocatedPart A answers
@@ -169,73 +171,61 @@ impl<S: StorePaths, A: Allocator> Entry<LocatedId<A>> for LocationsEntry<'_, S> 
         located: &LocatedId<A>,
         out: &mut W,
     ) -> Result<(), WriteFailed> {
-        let LocatedId {
-            id,
-            locations,
-            loose_paths,
-        } = located;
-        write_all_after(line, self.store, id, locations, loose_paths, out)
+        let entry = LocationEntry {
+            store: self.store,
+            id: &located.id,
+            loose_paths: &located.loose_paths,
+        };
+        write_each(line, &located.locations, &entry, out)
     }
 }
 
-// Writes the lines of some locations of an object, each after a line of a text or nothing.
-fn write_all_after<S: StorePaths, W: Sink>(
-    line: Option<&[u8]>,
-    store: &S,
-    id: &ObjectId,
-    locations: &[Location],
-    loose_paths: &[String],
-    out: &mut W,
-) -> Result<(), WriteFailed>
-    requires { W.has_failed out.old ≡ false }
-    ensures { Wrote W.taken W.has_failed out.old out.new result (flat_map
-        (lines_at_after (option_copied line.entry) (S.pack_path store.now)
-        (map string_bytes loose_paths.now) (id_digits id.now)) locations.now) }
-{
-    for location in locations {
-        write_at_after(line, store, id, *location, loose_paths, out)?;
-    }
-    Ok(())
+// How a location of an object is printed: a line, or one for each file of a loose object.
+#[derive(Drop)]
+struct LocationEntry<'s, S> {
+    store: &'s S,
+    id: &'s ObjectId,
+    loose_paths: &'s [String],
 }
 
-// Writes the lines of one location of an object, each after a line of a text or nothing.
-fn write_at_after<S: StorePaths, W: Sink>(
-    line: Option<&[u8]>,
-    store: &S,
-    id: &ObjectId,
-    location: Location,
-    loose_paths: &[String],
-    out: &mut W,
-) -> Result<(), WriteFailed>
-    requires { W.has_failed out.old ≡ false }
-    ensures { Wrote W.taken W.has_failed out.old out.new result
-        (lines_at_after (option_copied line.entry) (S.pack_path store.now)
-        (map string_bytes loose_paths.now) (id_digits id.now) location) }
-{
-    match location {
-        Location::Packed { pack, offset } => {
-            write_location_after(line, id, store.pack_path(pack), Some(offset), out)
+impl<S: StorePaths> Entry<Location> for LocationEntry<'_, S> {
+    ghost text = { λ entry line location. lines_at_after line (S.pack_path entry.store.now)
+        (map string_bytes entry.loose_paths.now) (id_digits entry.id.now) location };
+
+    fn write_after<W: Sink>(
+        &self,
+        line: Option<&[u8]>,
+        location: &Location,
+        out: &mut W,
+    ) -> Result<(), WriteFailed> {
+        match location {
+            Location::Packed { pack, offset } => {
+                let path = self.store.pack_path(*pack);
+                write_location_after(line, self.id, path, Some(*offset), out)
+            }
+            Location::Loose => write_each(line, self.loose_paths, &PathEntry { id: self.id }, out),
         }
-        Location::Loose => write_loose(line, id, loose_paths, out),
     }
 }
 
-// Writes the lines of the files of a loose object, each after a line of a text or nothing.
-fn write_loose<W: Sink>(
-    line: Option<&[u8]>,
-    id: &ObjectId,
-    paths: &[String],
-    out: &mut W,
-) -> Result<(), WriteFailed>
-    requires { W.has_failed out.old ≡ false }
-    ensures { Wrote W.taken W.has_failed out.old out.new result (flat_map
-        (λ path. location_line_after (option_copied line.entry) (id_digits id.now)
-        (string_bytes path) None) paths.now) }
-{
-    for path in paths {
-        write_location_after(line, id, path.as_str(), None, out)?;
+// How the path of a file of a loose object is printed.
+#[derive(Drop)]
+struct PathEntry<'i> {
+    id: &'i ObjectId,
+}
+
+impl Entry<String> for PathEntry<'_> {
+    ghost text = { λ entry line path. location_line_after line (id_digits entry.id.now)
+        (string_bytes path) None };
+
+    fn write_after<W: Sink>(
+        &self,
+        line: Option<&[u8]>,
+        path: &String,
+        out: &mut W,
+    ) -> Result<(), WriteFailed> {
+        write_location_after(line, self.id, path.as_str(), None, out)
     }
-    Ok(())
 }
 
 /// Writes the line of an object's location: the id, a space, the path of the file that has it, and,

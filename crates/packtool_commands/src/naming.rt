@@ -2,16 +2,16 @@
 
 ghost use Rattle.std.specs.Prelude.{◌≡◌, ◌≢◌, ◌↔◌, ◌⊎◌, ◌<◌, ◌≤◌, ◌∷◌, ◌++◌, ℕ, [], false, true, flat_map, length, All, IfErr, IfOk, IsErrOf, IsTrue};
 ghost use Rattle.id_lookup.specs.Words.{hex_len_of, hex_letter, spelling};
-ghost use Rattle.object_store.specs.Several.{AreNamed};
-ghost use Rattle.object_store.specs.Stores.{CanLookUp, IsFaultOfOne, IsListed, IsReopened, IsSeen, IsStoreFault};
+ghost use Rattle.object_store.specs.Several.{AreNamed, IsAbbreviated, id_count};
+ghost use Rattle.object_store.specs.Stores.{CanLookUp, HaveMore, IsFaultOfOne, IsListed, IsReopened, IsSeen, IsStoreFault};
 ghost use Rattle.packtool_commands.specs.Stores.{AreListed, HasNamedAtMost, HasNamedBelow, HasNamedEach, HasNamedPart, IsFaultOf, IsWalkFault, abbreviation_text, is_named, name_line};
 ghost use Rattle.packtool_commands.specs.declared.error.StoreError.{StoreError};
 ghost use Rattle.streams.specs.Streams.{Wrote, lines_of};
 
-use crate::asking::{Form, write_answers, write_two};
 use crate::error::StoreError;
 use crate::lines::{LINES_LEN, next_line_at, put_name_line};
 use crate::prefixes::PrefixLines;
+use crate::printing::{Form, write_answers, write_two};
 use crate::reopening::look_up_again;
 use gix_hash::{Kind, Prefix};
 use object_store::{Abbreviation, NamedId, Reopen, abbreviate_part, abbreviate_prefixes};
@@ -135,9 +135,9 @@ pub fn write_names<W: Sink>(named: &[NamedId], out: &mut W) -> Result<(), WriteF
 ///
 /// Of each pack index the ids with a first byte are read once. Nothing is written before all ids
 /// are found; if a pack index is gone until then, the store is opened again. If there are several
-/// prefixes, more than `most`, then nothing is written, and [`StoreError::TooMany`] is returned.
-/// [`StoreError::Output`] is returned if and only if a write fails, after a proper beginning of the
-/// text. The sink must not have failed before.
+/// prefixes, and ids begin with more than `most` of them, then nothing is written, and
+/// [`StoreError::TooMany`] is returned. [`StoreError::Output`] is returned if and only if a write
+/// fails, after a proper beginning of the text. The sink must not have failed before.
 ///
 /// ```
 /// let lines = PrefixLines::read(rt.alloc(), Kind::Sha1, b"4b8\n4b9\n")?;
@@ -165,6 +165,8 @@ pub fn name_each<S: Reopen, A: Allocator + Copy, W: Sink>(
     ensures refused { IfErr result (IsFaultOf (IsFaultOfOne (S.view store.new)
         lines.now.prefixes.items)) }
     ensures several { IsErrOf result StoreError.TooMany → 1 < length lines.now.prefixes.items }
+    ensures more { IsErrOf result StoreError.TooMany → HaveMore
+        (IsAbbreviated least (S.view store.new)) id_count most lines.now.prefixes.items }
     ensures untouched { IfErr result (λ e. e ≢ StoreError.Output → out.new ≡ out.old) }
     ensures output { IsErrOf result StoreError.Output ↔ (W.has_failed out.new ≡ true) }
     ensures part { IsErrOf result StoreError.Output → HasNamedPart least (S.view store.new)

@@ -18,12 +18,12 @@ mod pack_index_lazy;
 #[cfg(test)]
 mod pack_index_shared;
 #[cfg(test)]
-mod packtool_commands_asking;
-#[cfg(test)]
 mod packtool_commands_error;
 #[cfg(test)]
 mod packtool_commands_finding;
 #[cfg(test)]
 mod packtool_commands_pairing;
+#[cfg(test)]
+mod packtool_commands_printing;
 #[cfg(test)]
 mod packtool_commands_showing;

@@ -2,8 +2,6 @@
 
 use crate::expecting::expect_printed;
 use packtool_commands::{FileError, StoreError};
-use repositories::config::ConfigError;
-use std::alloc::AllocError;
 
 // Those that `packtool` does not print.
 #[test]
@@ -12,10 +10,4 @@ fn texts_of_errors(rt: HostRuntime) {
     expect_printed(&rt, FileError::Input, "cannot read");
     expect_printed(&rt, FileError::Output, "cannot write");
     expect_printed(&rt, StoreError::Output, "cannot write");
-    expect_printed(&rt, ConfigError::Memory(AllocError), "out of memory");
-    expect_printed(
-        &rt,
-        repositories::Error::Memory(AllocError),
-        "out of memory",
-    );
 }

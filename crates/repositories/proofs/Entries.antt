@@ -3,7 +3,8 @@ use Rattle.std.proofs.Common.{◌≡◌, ◌≢◌, true, false, arith, ℕ, ◌
 use Rattle.std.proofs.lemmas.Bool.Decides.{nat_tests}
 use Rattle.std.proofs.lemmas.List.{map-append}
 use Rattle.std.proofs.lemmas.List.Elements.{filter-append}
-use Rattle.repositories.specs.Alternates.{HasEntry, HasEntries, NamesPaths, before_nul}
+use Rattle.git_config.specs.Grammar.{before_nul}
+use Rattle.repositories.specs.Alternates.{HasEntry, HasEntries, NamesPaths}
 
 -- from a list entries were read that name the paths, and this is left
 pub record ReadsEntries (separator : ℕ) (list : List ℕ) (paths : List (List ℕ)) (left : List ℕ) : Type 0 where

@@ -1,3 +1,4 @@
 mod Entries
 mod LoosePaths
 mod Quoted
+mod Settings

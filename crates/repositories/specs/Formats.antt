@@ -1,5 +1,6 @@
 -- What the variables of a config (git-config) say of a repository's format and its ids, as setup.c reads them.
-use Rattle.std.specs.Prelude.{◌≡◌, ℕ, ◌||◌, if◌then◌else◌, Option, Some, None, Result, Ok, Err, List, [], ◌∷◌, take, drop, find, map, reverse, codes, bytes_eq, option_and_then, option_map, unwrap_or, is_some, ℤ, pos, negsuc, int_lt, string_bytes, IfSome}
+use Rattle.std.specs.Prelude.{◌≡◌, ℕ, ◌&&◌, ◌||◌, not, if◌then◌else◌, Option, Some, None, Result, Ok, Err, List, [], ◌∷◌, take, drop, find, map, codes, bytes_eq, option_and_then, option_map, unwrap_or, is_some, ℤ, pos, negsuc, int_lt, string_bytes, IfSome}
+use Rattle.std.specs.Option.{option_or}
 use Rattle.std.specs.Str.Lossy.{utf8_lossy}
 use Rattle.git_config.specs.Grammar.{IsConfig}
 use Rattle.git_config.specs.Values.{is_boolean, number}
@@ -67,53 +68,40 @@ unknown_of variable = option_and_then (λ name. if is_some (known of_version_1 n
 -- what is wrong with the value of a variable
 abbrev pub fault_of : Variable → Option Fault
 fault_of variable =
-    if bytes_eq variable.name.items (codes "core.repositoryformatversion") then (if is_some (version_of variable) then None else Some BadVersion) else
-    if bytes_eq variable.name.items (codes "extensions.objectformat") then (if is_some (kind_of variable) then None else Some BadKind) else
+    if bytes_eq variable.name.items (codes "core.repositoryformatversion") && not (is_some (version_of variable)) then Some BadVersion else
+    if bytes_eq variable.name.items (codes "extensions.objectformat") && not (is_some (kind_of variable)) then Some BadKind else
     if is_boolean (said variable).value then None else option_map BadBoolean (known booleans variable.name.items)
 
--- the last variable of which something is set
-abbrev pub last_with : {T : Type 0} → (Variable → Option T) → List Variable → Option Variable
-last_with pick variables = find (λ variable. is_some (pick variable)) (reverse variables)
+-- what the last variable of these sets that sets something, or else this
+abbrev pub last_of : {T : Type 0} → (Variable → Option T) → Option T → List Variable → Option T
+last_of pick before [] = before
+last_of pick before (variable ∷ rest) = last_of pick (option_or (pick variable) before) rest
 
--- what is set last
-abbrev pub last_of : {T : Type 0} → (Variable → Option T) → List Variable → Option T
-last_of pick variables = option_and_then pick (last_with pick variables)
+-- the fault of the first value that is wrong
+abbrev pub first_fault : List Variable → Option Fault
+first_fault [] = None
+first_fault (variable ∷ rest) = option_or (fault_of variable) (first_fault rest)
 
--- the first variable whose value is wrong
-abbrev pub first_wrong : List Variable → Option Variable
-first_wrong variables = find (λ variable. is_some (fault_of variable)) variables
+-- this fault if there is one, or else this
+abbrev pub unless : Option Fault → Result Kind Fault → Result Kind Fault
+unless (Some fault) format = Err fault
+unless None format = format
 
--- this kind, unless there is an extension that this is a fault of
-abbrev pub kind_without : Option (List ℕ) → (List ℕ → Fault) → Kind → Result Kind Fault
-kind_without None fault kind = Ok kind
-kind_without (Some extension) fault kind = Err (fault extension)
-
--- the kind in a format: SHA-1 without a version and in version -1, which git takes for none; else the one that was set, if versions 0 and 1 have all extensions
-abbrev pub kind_in_format : Option ℤ → Option (List ℕ) → Option (List ℕ) → Kind → Result Kind Fault
-kind_in_format None unknown needs kind = Ok Sha1
-kind_in_format (Some version) unknown needs kind =
+-- the kind in a format: SHA-1 without a version and in version -1, which git takes for none; else the one that was set, or SHA-1, if versions 0 and 1 have all extensions
+abbrev pub kind_in_format : Option ℤ → Option Kind → Option (List ℕ) → Option (List ℕ) → Result Kind Fault
+kind_in_format version_set kind_set needs unknown =
+    let version = unwrap_or version_set (negsuc 0) in
+    let kind = unwrap_or kind_set Sha1 in
     if int_lt version (negsuc 0) then Ok kind else
     if int_lt version (pos 0) then Ok Sha1 else
-    if int_lt version (pos 1) then kind_without needs OnlyInVersion1 kind else
-    if int_lt version (pos 2) then kind_without (option_map utf8_lossy unknown) UnknownExtension kind else Err (UnknownVersion version)
+    if int_lt version (pos 1) then unless (option_map OnlyInVersion1 needs) (Ok kind) else
+    if int_lt version (pos 2) then unless (option_map (λ name. UnknownExtension (utf8_lossy name)) unknown) (Ok kind) else Err (UnknownVersion version)
 
--- the kind that variables say, of which none is wrong by itself
-abbrev pub kind_by : List Variable → Result Kind Fault
-kind_by variables = kind_in_format (last_of version_of variables) (last_of unknown_of variables) (last_of needs_of variables) (unwrap_or (last_of kind_of variables) Sha1)
-
--- the first fault of a value, that of a bad line, or what the format says
-abbrev pub unless_faulty : Option Fault → Option ℕ → Result Kind Fault → Result Kind Fault
-unless_faulty (Some fault) bad_line format = Err fault
-unless_faulty None (Some line) format = Err (BadLine line)
-unless_faulty None None format = format
-
--- what a config says with these variables, up to a bad line if there is one
+-- what a config says with these variables, up to a bad line if there is one: the first fault of a value, that of the line, or what the format says
 abbrev pub kind_or_fault : List Variable → Option ℕ → Result Kind Fault
-kind_or_fault variables bad_line = unless_faulty (option_and_then fault_of (first_wrong variables)) bad_line (kind_by variables)
-
--- a config says this
-abbrev pub Says : List ℕ → Result Kind Fault → Type 0
-Says text outcome = (variables : List Variable) × (bad_line : Option ℕ) × IsConfig text (map said variables) bad_line × (outcome ≡ kind_or_fault variables bad_line)
+kind_or_fault variables bad_line =
+    unless (option_or (first_fault variables) (option_map BadLine bad_line))
+    (kind_in_format (last_of version_of None variables) (last_of kind_of None variables) (last_of needs_of None variables) (last_of unknown_of None variables))
 
 -- the fault that an error reports, but for want of memory
 abbrev pub reported : ConfigError → Option Fault
@@ -126,7 +114,11 @@ reported (NeedsVersion1 name) = Some (OnlyInVersion1 name.now)
 reported WrongKind = Some BadKind
 reported (Memory error) = None
 
--- what was returned is one that holds, unless memory ran out
-abbrev pub Reports : (Result Kind Fault → Type 0) → Result Kind ConfigError → Type 0
-Reports P (Ok kind) = P (Ok kind)
-Reports P (Err error) = IfSome (reported error) (λ fault. P (Err fault))
+-- this was returned, unless memory ran out
+abbrev pub Reports : Result Kind Fault → Result Kind ConfigError → Type 0
+Reports outcome (Ok kind) = outcome ≡ Ok kind
+Reports outcome (Err error) = IfSome (reported error) (λ fault. outcome ≡ Err fault)
+
+-- a config says what was returned
+abbrev pub Says : List ℕ → Result Kind ConfigError → Type 0
+Says text result = (variables : List Variable) × (bad_line : Option ℕ) × IsConfig text (map said variables) bad_line × Reports (kind_or_fault variables bad_line) result

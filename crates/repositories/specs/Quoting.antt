@@ -2,8 +2,8 @@
 use Rattle.std.specs.Prelude.{◌≡◌, ℕ, ◌+◌, ◌-◌, ◌*◌, ◌&&◌, Bool, ◌==◌, nat_le, if◌then◌else◌, Option, Some, None, List, [], ◌∷◌, option_map}
 
 -- the byte that a letter after a backslash means
-abbrev pub escaped : ℕ → Option ℕ
-escaped letter =
+abbrev pub unescaped : ℕ → Option ℕ
+unescaped letter =
     if letter == 97 then Some 7 else
     if letter == 98 then Some 8 else
     if letter == 116 then Some 9 else
@@ -27,14 +27,14 @@ octal_byte (high ∷ (middle ∷ (low ∷ rest))) =
 octal_byte _ = None
 
 -- the byte that is meant after a backslash, and the rest: three octal digits, or else a letter
-abbrev pub escaped_byte : List ℕ → Option (ℕ × List ℕ)
-escaped_byte [] = None
-escaped_byte (letter ∷ rest) = if is_digit_to 51 letter then octal_byte (letter ∷ rest) else option_map (λ byte. (byte, rest)) (escaped letter)
+abbrev pub unescaped_byte : List ℕ → Option (ℕ × List ℕ)
+unescaped_byte [] = None
+unescaped_byte (letter ∷ rest) = if is_digit_to 51 letter then octal_byte (letter ∷ rest) else option_map (λ byte. (byte, rest)) (unescaped letter)
 
 -- the first byte that a quoted text means, and the rest; or none, at a quotation mark, a wrong escape and the end
 abbrev pub quoted_byte : List ℕ → Option (ℕ × List ℕ)
 quoted_byte [] = None
-quoted_byte (byte ∷ rest) = if byte == 34 then None else if byte == 92 then escaped_byte rest else Some (byte, rest)
+quoted_byte (byte ∷ rest) = if byte == 34 then None else if byte == 92 then unescaped_byte rest else Some (byte, rest)
 
 -- a quoted text means the bytes, up to where no more is meant
 abbrev pub Means : List ℕ → List ℕ → List ℕ → Type 0

@@ -2,8 +2,9 @@
 
 ghost use Rattle.std.specs.Prelude.{◌≡◌, ◌≢◌, ◌==◌, ◌-◌, ◌<◌, ◌≤◌, [], ◌∷◌, ◌++◌, ℕ, List, OnOk, not, filter, IfOk, IfSome, MatchOption, drop, length, map, position, option_map};
 ghost use Rattle.std.specs.List.{after_first, before_first};
-ghost use Rattle.repositories.specs.Alternates.{HasEntry, NamesPaths, before_nul, is_comment};
-ghost use Rattle.repositories.specs.Quoting.{Means, escaped, escaped_byte, quoted_byte};
+ghost use Rattle.git_config.specs.Grammar.{before_nul};
+ghost use Rattle.repositories.specs.Alternates.{HasEntry, NamesPaths, is_comment};
+ghost use Rattle.repositories.specs.Quoting.{Means, unescaped, unescaped_byte, quoted_byte};
 
 use std::alloc::{AllocError, Allocator};
 
@@ -144,7 +145,7 @@ fn next_byte(quoted: &[u8]) -> Option<(u8, &[u8])>
 // The byte that is meant after a backslash, and the rest of the text.
 fn next_escaped(escape: &[u8]) -> Option<(u8, &[u8])>
     ensures fewer { IfSome result (λ next. length next.1.now < length escape.now) }
-    ensures byte { option_map (λ next. (next.0, next.1.now)) result ≡ escaped_byte escape.now }
+    ensures byte { option_map (λ next. (next.0, next.1.now)) result ≡ unescaped_byte escape.now }
 {
     match escape {
         [
@@ -156,14 +157,14 @@ fn next_escaped(escape: &[u8]) -> Option<(u8, &[u8])>
             let byte = (high - b'0') * 64 + (middle - b'0') * 8 + (low - b'0');
             Some((byte, rest))
         }
-        [letter, rest @ ..] => Some((escaped(*letter)?, rest)),
+        [letter, rest @ ..] => Some((unescaped(*letter)?, rest)),
         [] => None,
     }
 }
 
 // The byte that a letter after a backslash means.
-fn escaped(letter: u8) -> Option<u8>
-    ensures { result ≡ escaped letter }
+fn unescaped(letter: u8) -> Option<u8>
+    ensures { result ≡ unescaped letter }
 {
     match letter {
         b'a' => Some(7),

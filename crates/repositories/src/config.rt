@@ -1,11 +1,26 @@
 //! What a repository's config (git-config) says of its format and its ids.
 
-ghost use Rattle.repositories.specs.Formats.{Reports, Says};
+ghost use Rattle.std.specs.Prelude.{◌≡◌, ◌⊎◌, IsErrAnd, IsSome, MatchOption, None, bytes_eq, find, option_map};
+ghost use Rattle.repositories.specs.Formats.{Reports, Says, extension, fault_of, kind_in_format, kind_of, kind_or_fault, needs_of, reported, unknown_of, value_of, version_of};
 
-use crate::format::kind_or_fault;
+use git_config::{Config, Variable, is_boolean, number};
 use gix_hash::Kind;
 use std::alloc::{AllocError, Global};
 use thiserror::Error as ThisError;
+
+// The extensions that only version 1 of the format has. The last two are of Git 2.45 and 2.48: how
+// refs are stored, and how worktrees are linked.
+const OF_VERSION_1: [&str; 4] = ["noop-v1", "objectformat", "refstorage", "relativeworktrees"];
+
+// Those that version 0 has, too.
+const OF_ANY_VERSION: [&str; 4] = ["noop", "partialclone", "preciousobjects", "worktreeconfig"];
+
+// The variables about the format that are booleans.
+const BOOLEANS: [&str; 3] = [
+    "core.bare",
+    "extensions.preciousobjects",
+    "extensions.worktreeconfig",
+];
 
 /// Why a config says no kind.
 #[derive(Debug, Drop, ThisError)]
@@ -48,10 +63,147 @@ pub enum ConfigError {
 /// assert!(rt; matches!(kind_in_config(rt.alloc(), text), Ok(Kind::Sha256)));
 /// ```
 pub fn kind_in_config(alloc: Global, text: &[u8]) -> Result<Kind, ConfigError>
-    ensures { Reports (Says text.now) result }
+    ensures { IsErrAnd result (λ error. reported error ≡ None) ⊎ Says text.now result }
 {
     match git_config::read(alloc, text) {
         Ok(config) => kind_or_fault(alloc, &config),
         Err(error) => Err(ConfigError::Memory(error)),
     }
+}
+
+// The kind of a repository's ids by its config, or what is wrong first.
+#[tactic(auto, using(crate::proofs::Settings::view_or, crate::proofs::Settings::first_is))]
+fn kind_or_fault(alloc: Global, config: &Config) -> Result<Kind, ConfigError>
+    ensures { Reports (kind_or_fault config.now.variables.items config.now.bad_line) result }
+{
+    let (mut version, mut kind, mut needs, mut unknown) = (None, None, None, None);
+    let mut left = config.variables.as_slice();
+    while let Some((variable, rest)) = left.split_first() {
+        if let Some(error) = fault_of(variable) {
+            return Err(error);
+        }
+        version = version_of(variable).or(version);
+        kind = kind_of(variable).or(kind);
+        needs = needs_of(variable).or(needs);
+        unknown = unknown_of(variable).or(unknown);
+        left = rest;
+    }
+    match config.bad_line {
+        Some(line) => Err(ConfigError::Line(line)),
+        None => kind_in_format(alloc, version, kind, needs, unknown),
+    }
+}
+
+// The kind in this version of the format, if it has the extensions.
+fn kind_in_format(
+    alloc: Global,
+    version: Option<i64>,
+    kind: Option<Kind>,
+    needs: Option<&'static str>,
+    unknown: Option<&[u8]>,
+) -> Result<Kind, ConfigError>
+    ensures { Reports (kind_in_format version kind (option_map (λ name. name.now) needs.entry)
+        (option_map (λ name. name.now) unknown.entry)) result }
+{
+    let (version, kind) = (version.unwrap_or(-1), kind.unwrap_or(Kind::Sha1));
+    match (needs, unknown) {
+        _ if version < -1 => Ok(kind),
+        _ if version < 0 => Ok(Kind::Sha1),
+        _ if version > 1 => Err(ConfigError::Version(version)),
+        (Some(name), _) if version < 1 => Err(ConfigError::NeedsVersion1(name)),
+        (_, Some(name)) if version > 0 => match String::from_utf8_lossy(alloc, name) {
+            Ok(name) => Err(ConfigError::Extension(name)),
+            Err(error) => Err(ConfigError::Memory(error)),
+        },
+        _ => Ok(kind),
+    }
+}
+
+// What is wrong with the value of a variable.
+fn fault_of(variable: &Variable) -> Option<ConfigError>
+    ensures { MatchOption result (fault_of variable.now ≡ None)
+        (λ error. (fault_of variable.now ≡ reported error) × IsSome (reported error)) }
+{
+    if is(&variable.name, "core.repositoryformatversion") && version_of(variable).is_none() {
+        return Some(ConfigError::NoVersion);
+    }
+    if is(&variable.name, "extensions.objectformat") && kind_of(variable).is_none() {
+        return Some(ConfigError::Kind);
+    }
+    if is_boolean(&variable.value) {
+        return None;
+    }
+    Some(ConfigError::NoBoolean(known(&BOOLEANS, &variable.name)?))
+}
+
+// The version of the format that a variable sets.
+fn version_of(variable: &Variable) -> Option<i64>
+    ensures { result ≡ version_of variable.now }
+{
+    number(value_of(variable, "core.repositoryformatversion")?)
+}
+
+// The kind that a variable sets.
+fn kind_of(variable: &Variable) -> Option<Kind>
+    ensures { result ≡ kind_of variable.now }
+{
+    let text = value_of(variable, "extensions.objectformat")?;
+    if is(text, "sha1") {
+        Some(Kind::Sha1)
+    } else if is(text, "sha256") {
+        Some(Kind::Sha256)
+    } else {
+        None
+    }
+}
+
+// The value that a variable of this name has.
+fn value_of<'a>(variable: &'a Variable, name: &str) -> Option<&'a [u8]>
+    ensures { option_map (λ text. text.now) result ≡ value_of name.now variable.now }
+{
+    if is(&variable.name, name) {
+        variable.value.as_deref()
+    } else {
+        None
+    }
+}
+
+// The extension that a variable is and that only version 1 has.
+fn needs_of(variable: &Variable) -> Option<&'static str>
+    ensures { option_map (λ name. name.now) result ≡ needs_of variable.now }
+{
+    known(&OF_VERSION_1, extension(&variable.name)?)
+}
+
+// The extension that a variable is and that no version has.
+fn unknown_of(variable: &Variable) -> Option<&[u8]>
+    ensures { option_map (λ name. name.now) result ≡ unknown_of variable.now }
+{
+    let name = extension(&variable.name)?;
+    if known(&OF_VERSION_1, name).is_some() || known(&OF_ANY_VERSION, name).is_some() {
+        None
+    } else {
+        Some(name)
+    }
+}
+
+// The name of an extension, after its section.
+fn extension(name: &[u8]) -> Option<&[u8]>
+    ensures { option_map (λ extension. extension.now) result ≡ extension name.now }
+{
+    name.strip_prefix(b"extensions.")
+}
+
+// The name among some that this one is, if it is one of them.
+fn known(names: &[&'static str], name: &[u8]) -> Option<&'static str>
+    ensures { result ≡ find (λ known. bytes_eq name.now known.now) names.now }
+{
+    names.iter().copied().find(|known| is(name, known))
+}
+
+// Whether a text is this one.
+fn is(text: &[u8], word: &str) -> bool
+    ensures { result ≡ bytes_eq text.now word.now }
+{
+    text == word.as_bytes()
 }

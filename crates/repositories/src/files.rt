@@ -1,14 +1,18 @@
-//! Paths, and texts of files.
+//! Paths, and what they lead to.
+
+ghost use Rattle.std.specs.Prelude.{◌≢◌, IfErr};
+ghost use Rattle.std.specs.IoError.{error_kind};
+ghost use Rattle.std.specs.declared.io.ErrorKind.{ErrorKind};
 
 use crate::config::kind_in_config;
 use crate::error::Error;
-use crate::state::{metadata, retried};
 use gix_hash::Kind;
 use std::alloc::AllocError;
 use std::fs::{self, Metadata};
-use std::io;
+use std::io::{self, ErrorKind};
 use std::path::Path;
 use std::rt::Files;
+use std::str;
 
 /// A path below a directory, or the path itself if it is absolute.
 ///
@@ -19,12 +23,51 @@ pub fn join(rt: &impl AllocGlobal, folder: &str, path: &str) -> Result<String, A
     Ok(Path::new(folder).join(rt.alloc(), path)?.into_string())
 }
 
+// Adds a path that the list of a directory names, if it is UTF-8, and returns whether it is.
+pub(crate) fn push_path(
+    rt: &impl AllocGlobal,
+    folder: &str,
+    path: &[u8],
+    paths: &mut Vec<String>,
+) -> Result<bool, AllocError> {
+    let Ok(path) = str::from_utf8(path) else {
+        return Ok(false);
+    };
+    paths.push(join(rt, folder, path)?)?;
+    Ok(true)
+}
+
+/// What a call returns that is made again if a signal interrupts it. The error is any other one of
+/// the call.
+///
+/// ```
+/// let folder = retried(|| rt.open_dir(".git/objects/pack/"))?;
+/// ```
+pub fn retried<T: Drop, F: FnMut() -> io::Result<T>>(mut call: F) -> io::Result<T>
+    requires { F.IsAlwaysCallable call }
+    ensures { IfErr result (λ error. error_kind error ≢ ErrorKind.Interrupted) }
+{
+    for _ in 0..u64::MAX {
+        match call() {
+            Err(error) if error.kind() == ErrorKind::Interrupted => {}
+            result => return result,
+        }
+    }
+    Err(ErrorKind::TimedOut.into())
+}
+
+/// What a path leads to, by a call that is made again if a signal interrupts it.
+///
+/// ```
+/// let size = metadata(rt, ".git/HEAD")?.len();
+/// ```
+pub fn metadata<R: Files>(rt: &R, path: &str) -> io::Result<Metadata> {
+    retried(|| fs::metadata(rt, path))
+}
+
 // Whether a call failed because there is no such directory or file.
 pub(crate) fn is_missing(error: &io::Error) -> bool {
-    matches!(
-        error.kind(),
-        io::ErrorKind::NotFound | io::ErrorKind::NotADirectory
-    )
+    matches!(error.kind(), ErrorKind::NotFound | ErrorKind::NotADirectory)
 }
 
 // What was read of a file, or `None` if there is no such file.
@@ -44,7 +87,7 @@ pub(crate) fn if_there<T: Drop>(
 pub(crate) fn real_folder<R: Files + AllocGlobal>(rt: &R, path: &str) -> io::Result<String> {
     let real = match retried(|| fs::canonicalize(rt, path)) {
         Ok(real) => real.into_string(),
-        Err(error) if error.kind() == io::ErrorKind::InvalidFilename => {
+        Err(error) if error.kind() == ErrorKind::InvalidFilename => {
             String::from_str(rt.alloc(), path)?
         }
         Err(error) => return Err(error),
@@ -52,7 +95,7 @@ pub(crate) fn real_folder<R: Files + AllocGlobal>(rt: &R, path: &str) -> io::Res
     if metadata(rt, &real)?.is_dir() {
         Ok(real)
     } else {
-        Err(io::ErrorKind::NotADirectory.into())
+        Err(ErrorKind::NotADirectory.into())
     }
 }
 
@@ -69,7 +112,7 @@ pub(crate) fn parent(path: &str) -> Option<&str> {
 // What a path leads to, or `None` if there is nothing, or the path is too long for it.
 fn look_at<R: Files + AllocGlobal>(rt: &R, path: &str) -> Result<Option<Metadata>, Error> {
     match metadata(rt, path) {
-        Err(error) if error.kind() == io::ErrorKind::InvalidFilename => Ok(None),
+        Err(error) if error.kind() == ErrorKind::InvalidFilename => Ok(None),
         found => if_there(rt, path, found),
     }
 }

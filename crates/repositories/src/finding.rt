@@ -2,10 +2,8 @@
 
 use crate::alternates::alternate_paths;
 use crate::error::{Cause, Error};
-use crate::files::{has_folder, is_file, join, kind_beside, kind_by_config};
-use crate::folders::push_path;
-use crate::repository::{Environment, Repository, find_repository, variable};
-use crate::state::metadata;
+use crate::files::{has_folder, is_file, join, kind_beside, kind_by_config, metadata, push_path};
+use crate::repository::{Environment, Repository, Search, variable};
 use gix_hash::Kind;
 use std::io;
 use std::rt::{Env, Files};
@@ -72,7 +70,8 @@ impl ObjectsFolder {
 /// [`Cause::File`] and [`Cause::Config`].
 pub fn find_objects<R: Files + Env + AllocGlobal>(rt: &R) -> Result<ObjectsFolder, Error> {
     let given = Environment::read(rt)?;
-    match find_repository(rt, &given)? {
+    let search = Search { rt, given: &given };
+    match search.find()? {
         Some(repository) => objects_of(rt, &given, &repository),
         None => objects_given(rt, &given),
     }

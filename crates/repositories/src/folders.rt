@@ -2,12 +2,12 @@
 
 use crate::alternates::alternate_paths;
 use crate::error::Error;
-use crate::files::{existing_folder, if_there, is_missing, join, real_folder};
+use crate::files::{existing_folder, if_there, is_missing, join, push_path, real_folder};
 use crate::finding::ObjectsFolder;
 use crate::state::FileState;
 use std::alloc::AllocError;
 use std::rt::Files;
-use std::{fs, io, str};
+use std::{fs, io};
 
 // How many levels of alternates are read, as by Git: those of the directory itself, and five more,
 // each named by the one before.
@@ -75,7 +75,11 @@ pub fn with_alternates<R: Files + AllocGlobal>(
         skipped: Vec::new(rt.alloc()),
     };
     let real = existing_folder(rt, &objects.path)?;
-    push_with_alternates(rt, &real, &objects.alternates, &mut found)?;
+    let mut walk = Walk {
+        rt,
+        found: &mut found,
+    };
+    walk.push_with_alternates(&real, &objects.alternates)?;
     // Errors show the path as it was given.
     if let Some(first) = found.paths.first_mut() {
         *first = objects.path.clone()?;
@@ -83,64 +87,84 @@ pub fn with_alternates<R: Files + AllocGlobal>(
     Ok(found)
 }
 
-// Adds an object directory by its absolute path, the alternates of the environment, and those of
-// its list.
-fn push_with_alternates<R: Files + AllocGlobal>(
-    rt: &R,
-    real: &str,
-    given: &[String],
-    found: &mut Folders,
-) -> Result<(), Error> {
-    found.paths.push(String::from_str(rt.alloc(), real)?)?;
-    push_folders(rt, given, LEVELS, found)?;
-    let alternates = alternates_of(rt, real, found)?;
-    push_folders(rt, &alternates, LEVELS, found)
+// A walk over directories and their alternates.
+#[derive(Drop)]
+struct Walk<'a, R> {
+    rt: &'a R,
+    found: &'a mut Folders,
 }
 
-// Adds directories and their alternates, `levels` levels together.
-fn push_folders<R: Files + AllocGlobal>(
-    rt: &R,
-    paths: &[String],
-    levels: u8,
-    found: &mut Folders,
-) -> Result<(), Error> {
-    for path in paths {
-        if let Some(alternates) = push_folder(rt, path, levels, found)?
-            && levels > 0
-        {
-            push_folders(rt, &alternates, levels - 1, found)?;
+impl<R: Files + AllocGlobal> Walk<'_, R> {
+    // Adds an object directory by its absolute path, the alternates of the environment, and those
+    // of its list.
+    fn push_with_alternates(&mut self, real: &str, given: &[String]) -> Result<(), Error> {
+        self.found
+            .paths
+            .push(String::from_str(self.rt.alloc(), real)?)?;
+        self.push_folders(given, LEVELS)?;
+        let alternates = self.alternates_of(real)?;
+        self.push_folders(&alternates, LEVELS)
+    }
+
+    // Adds directories and their alternates, `levels` levels together.
+    fn push_folders(&mut self, paths: &[String], levels: u8) -> Result<(), Error> {
+        for path in paths {
+            if let Some(alternates) = self.push_folder(path, levels)?
+                && levels > 0
+            {
+                self.push_folders(&alternates, levels - 1)?;
+            }
+        }
+        Ok(())
+    }
+
+    // Adds a directory, and returns its alternates. Returns none if it is there already, or is
+    // skipped: it cannot be read, or no level is left.
+    fn push_folder(&mut self, path: &str, levels: u8) -> Result<Option<Vec<String>>, Error> {
+        match real_folder(self.rt, path) {
+            Ok(real) if self.found.paths.contains(&real) => Ok(None),
+            Ok(_) if levels == 0 => {
+                let error = Error::text(self.rt.alloc(), path, "nested more than 5 deep");
+                self.found.skipped.push(error)?;
+                Ok(None)
+            }
+            Ok(real) => {
+                let alternates = self.alternates_of(&real)?;
+                self.found.paths.push(real)?;
+                Ok(Some(alternates))
+            }
+            Err(error) => {
+                self.found.skipped.push(unusable(self.rt, path, error)?)?;
+                if let Ok(state) = FileState::of(self.rt, path) {
+                    self.found.states.push(state)?;
+                }
+                Ok(None)
+            }
         }
     }
-    Ok(())
-}
 
-// Adds a directory, and returns its alternates. Returns none if it is there already, or is skipped:
-// it cannot be read, or no level is left.
-fn push_folder<R: Files + AllocGlobal>(
-    rt: &R,
-    path: &str,
-    levels: u8,
-    found: &mut Folders,
-) -> Result<Option<Vec<String>>, Error> {
-    match real_folder(rt, path) {
-        Ok(real) if found.paths.contains(&real) => Ok(None),
-        Ok(_) if levels == 0 => {
-            let error = Error::text(rt.alloc(), path, "nested more than 5 deep");
-            found.skipped.push(error)?;
-            Ok(None)
-        }
-        Ok(real) => {
-            let alternates = alternates_of(rt, &real, found)?;
-            found.paths.push(real)?;
-            Ok(Some(alternates))
-        }
-        Err(error) => {
-            found.skipped.push(unusable(rt, path, error)?)?;
-            if let Ok(state) = FileState::of(rt, path) {
-                found.states.push(state)?;
+    // The paths in the list of alternates of a directory. Those that are not UTF-8 are skipped.
+    fn alternates_of(&mut self, folder: &str) -> Result<Vec<String>, Error> {
+        let mut paths = Vec::new(self.rt.alloc());
+        let list = list_path(self.rt, folder)?;
+        for path in &alternate_paths(self.rt.alloc(), &self.list_of(&list)?, b'\n')? {
+            if !push_path(self.rt, folder, path, &mut paths)? {
+                let error = Error::text(self.rt.alloc(), &list, "a path is not UTF-8");
+                self.found.skipped.push(error)?;
             }
-            Ok(None)
         }
+        Ok(paths)
+    }
+
+    // The text of a list of alternates, which is empty if there is none.
+    fn list_of(&mut self, list: &str) -> Result<Vec<u8>, Error> {
+        let state = list_state(self.rt, list)?;
+        self.found.states.push(state)?;
+        if state.is_missing() {
+            return Ok(Vec::new(self.rt.alloc()));
+        }
+        let text = if_there(self.rt, list, fs::read(self.rt, list))?;
+        Ok(text.unwrap_or(Vec::new(self.rt.alloc())))
     }
 }
 
@@ -158,23 +182,6 @@ fn unusable(rt: &impl AllocGlobal, path: &str, error: io::Error) -> Result<Error
     }
 }
 
-// The paths in the list of alternates of a directory. Those that are not UTF-8 are skipped.
-fn alternates_of<R: Files + AllocGlobal>(
-    rt: &R,
-    folder: &str,
-    found: &mut Folders,
-) -> Result<Vec<String>, Error> {
-    let mut paths = Vec::new(rt.alloc());
-    let list = list_path(rt, folder)?;
-    for path in &alternate_paths(rt.alloc(), &list_of(rt, &list, found)?, b'\n')? {
-        if !push_path(rt, folder, path, &mut paths)? {
-            let error = Error::text(rt.alloc(), &list, "a path is not UTF-8");
-            found.skipped.push(error)?;
-        }
-    }
-    Ok(paths)
-}
-
 // The path of the list of alternates of a directory.
 fn list_path(rt: &impl AllocGlobal, folder: &str) -> Result<String, AllocError> {
     join(rt, folder, "info/alternates")
@@ -183,33 +190,4 @@ fn list_path(rt: &impl AllocGlobal, folder: &str) -> Result<String, AllocError> 
 // The state of a list of alternates.
 fn list_state<R: Files + AllocGlobal>(rt: &R, list: &str) -> Result<FileState, Error> {
     FileState::of(rt, list).map_err(|error| Error::file(rt.alloc(), list, error))
-}
-
-// The text of a list of alternates, which is empty if there is none.
-fn list_of<R: Files + AllocGlobal>(
-    rt: &R,
-    list: &str,
-    found: &mut Folders,
-) -> Result<Vec<u8>, Error> {
-    let state = list_state(rt, list)?;
-    found.states.push(state)?;
-    if state.is_missing() {
-        return Ok(Vec::new(rt.alloc()));
-    }
-    let text = if_there(rt, list, fs::read(rt, list))?;
-    Ok(text.unwrap_or(Vec::new(rt.alloc())))
-}
-
-// Adds a path that the list of a directory names, if it is UTF-8, and returns whether it is.
-pub(crate) fn push_path(
-    rt: &impl AllocGlobal,
-    folder: &str,
-    path: &[u8],
-    paths: &mut Vec<String>,
-) -> Result<bool, AllocError> {
-    let Ok(path) = str::from_utf8(path) else {
-        return Ok(false);
-    };
-    paths.push(join(rt, folder, path)?)?;
-    Ok(true)
 }

@@ -14,7 +14,6 @@ mod error;
 mod files;
 mod finding;
 mod folders;
-mod format;
 /// Paths of loose objects.
 pub mod paths;
 /// Ids in texts.
@@ -23,7 +22,7 @@ mod repository;
 mod state;
 
 pub use error::{Cause, Error};
-pub use files::join;
+pub use files::{join, metadata, retried};
 pub use finding::{ObjectsFolder, find_objects};
 pub use folders::{Folders, with_alternates};
-pub use state::{FileState, metadata, retried};
+pub use state::FileState;

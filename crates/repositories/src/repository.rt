@@ -1,8 +1,9 @@
 //! Where a repository has its objects, references and config.
 
 use crate::error::Error;
-use crate::files::{existing_folder, has_folder, if_there, is_file, is_folder, join, parent};
-use crate::state::{metadata, retried};
+use crate::files::{
+    existing_folder, has_folder, if_there, is_file, is_folder, join, metadata, parent, retried,
+};
 use std::alloc::AllocError;
 use std::env::VarError;
 use std::os::unix::fs::MetadataExt;
@@ -64,64 +65,122 @@ pub(crate) struct Repository {
     pub(crate) top: String,
 }
 
-// The repository, if there is one. It is looked for from the current directory, and read from the
-// top of its worktree, as by Git: so a relative `$GIT_COMMON_DIR` leads from there.
-pub(crate) fn find_repository<R: Files + Env + AllocGlobal>(
-    rt: &R,
-    given: &Environment,
-) -> Result<Option<Repository>, Error> {
-    let mut found = look_for_repository(rt, given)?;
-    if let (Some(repository), Some(common)) = (&mut found, &given.common) {
-        repository.folder = join(rt, &repository.top, common)?;
-    }
-    Ok(found)
+// The search for the repository, by what the environment says.
+#[derive(Drop)]
+pub(crate) struct Search<'a, R> {
+    pub(crate) rt: &'a R,
+    pub(crate) given: &'a Environment,
 }
 
-// The repository that the environment names, or that is in the current directory or above it.
-fn look_for_repository<R: Files + Env + AllocGlobal>(
-    rt: &R,
-    given: &Environment,
-) -> Result<Option<Repository>, Error> {
-    if let Some(path) = &given.dir {
-        return with_top(rt, required(rt, given, path)?, "");
+impl<R: Files + Env + AllocGlobal> Search<'_, R> {
+    // The repository, if there is one. It is looked for from the current directory, and read from
+    // the top of its worktree, as by Git: so a relative `$GIT_COMMON_DIR` leads from there.
+    pub(crate) fn find(&self) -> Result<Option<Repository>, Error> {
+        let mut found = self.look_for_repository()?;
+        if let (Some(repository), Some(common)) = (&mut found, &self.given.common) {
+            repository.folder = join(self.rt, &repository.top, common)?;
+        }
+        Ok(found)
     }
-    match env::current_dir(rt) {
-        Ok(here) => find_from(rt, given, here.as_path()),
-        Err(error) if error.kind() == io::ErrorKind::InvalidFilename => find_above(rt, given),
-        Err(error) => Err(Error::file(rt.alloc(), ".", error)),
-    }
-}
 
-// The repository of a directory, or of the first above it that has one.
-fn find_from<R: Files + AllocGlobal>(
-    rt: &R,
-    given: &Environment,
-    here: Path<'_>,
-) -> Result<Option<Repository>, Error> {
-    for folder in here.ancestors() {
-        if let Some(mut found) = repository_in(rt, given, folder.as_str())? {
-            if folder.as_str() == here.as_str() {
-                found.top.clear();
+    // The repository that the environment names, or that is in the current directory or above it.
+    fn look_for_repository(&self) -> Result<Option<Repository>, Error> {
+        if let Some(path) = &self.given.dir {
+            return with_top(self.rt, self.required(path)?, "");
+        }
+        match env::current_dir(self.rt) {
+            Ok(here) => self.find_from(here.as_path()),
+            Err(error) if error.kind() == io::ErrorKind::InvalidFilename => self.find_above(),
+            Err(error) => Err(Error::file(self.rt.alloc(), ".", error)),
+        }
+    }
+
+    // The repository of a directory, or of the first above it that has one.
+    fn find_from(&self, here: Path<'_>) -> Result<Option<Repository>, Error> {
+        for folder in here.ancestors() {
+            if let Some(mut found) = self.repository_in(folder.as_str())? {
+                if folder.as_str() == here.as_str() {
+                    found.top.clear();
+                }
+                return Ok(Some(found));
             }
-            return Ok(Some(found));
         }
+        Ok(None)
     }
-    Ok(None)
-}
 
-// The same by relative paths, for a current directory whose path is not UTF-8.
-fn find_above<R: Files + AllocGlobal>(
-    rt: &R,
-    given: &Environment,
-) -> Result<Option<Repository>, Error> {
-    let mut folder = String::from_str(rt.alloc(), ".")?;
-    for _ in 0..MAX_ABOVE {
-        let found = repository_in(rt, given, &folder)?;
-        if found.is_some() || !go_up(rt, &mut folder)? {
-            return Ok(found);
+    // The same by relative paths, for a current directory whose path is not UTF-8.
+    fn find_above(&self) -> Result<Option<Repository>, Error> {
+        let mut folder = String::from_str(self.rt.alloc(), ".")?;
+        for _ in 0..MAX_ABOVE {
+            let found = self.repository_in(&folder)?;
+            if found.is_some() || !go_up(self.rt, &mut folder)? {
+                return Ok(found);
+            }
+        }
+        Ok(None)
+    }
+
+    // The repository of a directory, if it has one: as `.git`, which is a directory or a gitfile,
+    // or else as a bare repository.
+    fn repository_in(&self, folder: &str) -> Result<Option<Repository>, Error> {
+        if let Some(repository) = self.repository_of_worktree(folder)? {
+            return with_top(self.rt, repository, folder);
+        }
+        match self.repository_at(folder)? {
+            Some(repository) => with_top(self.rt, repository, ""),
+            None => Ok(None),
         }
     }
-    Ok(None)
+
+    // The repository that a directory has as `.git`.
+    fn repository_of_worktree(&self, folder: &str) -> Result<Option<String>, Error> {
+        let path = join(self.rt, folder, ".git")?;
+        if is_file(self.rt, &path)? {
+            Ok(Some(self.required(&path)?))
+        } else {
+            self.repository_at(&path)
+        }
+    }
+
+    // The repository that is a directory, or the one that a file names.
+    fn required(&self, path: &str) -> Result<String, Error> {
+        let folder = if is_file(self.rt, path)? {
+            named_by(self.rt, path)?
+        } else {
+            String::from_str(self.rt.alloc(), path)?
+        };
+        match self.repository_at(&folder)? {
+            Some(repository) => Ok(repository),
+            None => Err(Error::text(self.rt.alloc(), &folder, "not a git repository")),
+        }
+    }
+
+    // The repository that is a directory with `HEAD`, by the directory with its objects and
+    // references; `None` if there are none. Objects that the environment names need not be there.
+    fn repository_at(&self, folder: &str) -> Result<Option<String>, Error> {
+        if !has_head(self.rt, folder)? {
+            return Ok(None);
+        }
+        let common = match &self.given.common {
+            Some(common) => String::from_str(self.rt.alloc(), common)?,
+            None => common_of(self.rt, folder)?,
+        };
+        if self.has_both(&common)? {
+            Ok(Some(common))
+        } else {
+            Ok(None)
+        }
+    }
+
+    // Whether there are the objects that the environment names, or else those of a directory, and
+    // the references of the directory.
+    fn has_both(&self, folder: &str) -> Result<bool, Error> {
+        let has_objects = match &self.given.objects {
+            Some(objects) => is_folder(self.rt, objects)?,
+            None => has_folder(self.rt, folder, "objects")?,
+        };
+        Ok(has_objects && has_folder(self.rt, folder, "refs")?)
+    }
 }
 
 // Lets a path lead to the directory above, and returns whether it does.
@@ -142,57 +201,10 @@ fn is_highest<R: Files + AllocGlobal>(rt: &R, folder: &str, above: &str) -> bool
     }
 }
 
-// The repository of a directory, if it has one: as `.git`, which is a directory or a gitfile, or
-// else as a bare repository.
-fn repository_in<R: Files + AllocGlobal>(
-    rt: &R,
-    given: &Environment,
-    folder: &str,
-) -> Result<Option<Repository>, Error> {
-    if let Some(repository) = repository_of_worktree(rt, given, folder)? {
-        return with_top(rt, repository, folder);
-    }
-    match repository_at(rt, given, folder)? {
-        Some(repository) => with_top(rt, repository, ""),
-        None => Ok(None),
-    }
-}
-
-// The repository that a directory has as `.git`.
-fn repository_of_worktree<R: Files + AllocGlobal>(
-    rt: &R,
-    given: &Environment,
-    folder: &str,
-) -> Result<Option<String>, Error> {
-    let path = join(rt, folder, ".git")?;
-    if is_file(rt, &path)? {
-        Ok(Some(required(rt, given, &path)?))
-    } else {
-        repository_at(rt, given, &path)
-    }
-}
-
 // A repository that was found, and its top.
 fn with_top(rt: &impl AllocGlobal, folder: String, top: &str) -> Result<Option<Repository>, Error> {
     let top = String::from_str(rt.alloc(), top)?;
     Ok(Some(Repository { folder, top }))
-}
-
-// The repository that is a directory, or the one that a file names.
-fn required<R: Files + AllocGlobal>(
-    rt: &R,
-    given: &Environment,
-    path: &str,
-) -> Result<String, Error> {
-    let folder = if is_file(rt, path)? {
-        named_by(rt, path)?
-    } else {
-        String::from_str(rt.alloc(), path)?
-    };
-    match repository_at(rt, given, &folder)? {
-        Some(repository) => Ok(repository),
-        None => Err(Error::text(rt.alloc(), &folder, "not a git repository")),
-    }
 }
 
 // The directory that a file `.git` names.
@@ -204,41 +216,6 @@ fn named_by<R: Files + AllocGlobal>(rt: &R, path: &str) -> Result<String, Error>
         return Ok(join(rt, folder, without_line_ends(name))?);
     }
     Err(Error::text(rt.alloc(), path, "names no directory"))
-}
-
-// The repository that is a directory with `HEAD`, by the directory with its objects and references;
-// `None` if there are none. Objects that the environment names need not be there.
-fn repository_at<R: Files + AllocGlobal>(
-    rt: &R,
-    given: &Environment,
-    folder: &str,
-) -> Result<Option<String>, Error> {
-    if !has_head(rt, folder)? {
-        return Ok(None);
-    }
-    let common = match &given.common {
-        Some(common) => String::from_str(rt.alloc(), common)?,
-        None => common_of(rt, folder)?,
-    };
-    if has_both(rt, given, &common)? {
-        Ok(Some(common))
-    } else {
-        Ok(None)
-    }
-}
-
-// Whether there are the objects that the environment names, or else those of a directory, and the
-// references of the directory.
-fn has_both<R: Files + AllocGlobal>(
-    rt: &R,
-    given: &Environment,
-    folder: &str,
-) -> Result<bool, Error> {
-    let has_objects = match &given.objects {
-        Some(objects) => is_folder(rt, objects)?,
-        None => has_folder(rt, folder, "objects")?,
-    };
-    Ok(has_objects && has_folder(rt, folder, "refs")?)
 }
 
 // The directory that the file `commondir` of a worktree names, or else the directory itself.

@@ -1,11 +1,9 @@
 //! What directories and files are before they are read, to know whether they changed meanwhile.
 
-ghost use Rattle.std.specs.Prelude.{◌≡◌, ◌≢◌, ◌==◌, IfErr, not};
-ghost use Rattle.std.specs.IoError.{error_kind};
-ghost use Rattle.std.specs.declared.io.ErrorKind.{ErrorKind};
+ghost use Rattle.std.specs.Prelude.{◌≡◌, ◌==◌, not};
 
-use crate::files::is_missing;
-use std::fs::{self, Metadata};
+use crate::files::{is_missing, metadata};
+use std::fs::Metadata;
 use std::io::{self, ErrorKind};
 use std::os::unix::fs::MetadataExt;
 use std::path::Path;
@@ -126,32 +124,4 @@ fn is_past(time: (i64, i64), now: i64) -> bool {
 // A time in nanoseconds.
 fn nanos_of((secs, nanos): (i64, i64)) -> i64 {
     secs.saturating_mul(SECOND).saturating_add(nanos)
-}
-
-/// What a call returns that is made again if a signal interrupts it. The error is any other one of
-/// the call.
-///
-/// ```
-/// let folder = retried(|| rt.open_dir(".git/objects/pack/"))?;
-/// ```
-pub fn retried<T: Drop, F: FnMut() -> io::Result<T>>(mut call: F) -> io::Result<T>
-    requires { F.IsAlwaysCallable call }
-    ensures { IfErr result (λ error. error_kind error ≢ ErrorKind.Interrupted) }
-{
-    for _ in 0..u64::MAX {
-        match call() {
-            Err(error) if error.kind() == ErrorKind::Interrupted => {}
-            result => return result,
-        }
-    }
-    Err(ErrorKind::TimedOut.into())
-}
-
-/// What a path leads to, by a call that is made again if a signal interrupts it.
-///
-/// ```
-/// let size = metadata(rt, ".git/HEAD")?.len();
-/// ```
-pub fn metadata<R: Files>(rt: &R, path: &str) -> io::Result<Metadata> {
-    retried(|| fs::metadata(rt, path))
 }

@@ -1,3 +1,2 @@
 -- Object stores in directories.
-pub mod Listed
-pub mod LoosePaths
+pub mod Stores

@@ -1,5 +1,8 @@
 //! Why a store in directories cannot be opened or read.
 
+ghost use Rattle.std.specs.Prelude.{◌≡◌};
+ghost use Rattle.store_folders.specs.Stores.{IsChanged, IsOfIndex, of_repository};
+
 use pack_index::LazyError;
 use std::alloc::{AllocError, Global};
 use std::io;
@@ -53,6 +56,8 @@ pub enum Error {
 }
 
 impl From<repositories::Error> for Error {
+    ghost from_gives = { λ error made. made ≡ of_repository error };
+
     fn from(error: repositories::Error) -> Error {
         match error {
             repositories::Error::Memory(error) => Error::Memory(error),
@@ -61,14 +66,14 @@ impl From<repositories::Error> for Error {
     }
 }
 
-impl Error {
-    // A directory or file cannot be read.
-    pub(crate) fn file(alloc: Global, path: &str, error: io::Error) -> Error {
-        Error::from(repositories::Error::file(alloc, path, error))
-    }
+// The system's error of a process that has as many open files as it may have: EMFILE.
+const TOO_MANY_OPEN: i32 = 24;
 
+impl Error {
     // A pack index is not there, cannot be read, or is damaged.
-    pub(crate) fn index(alloc: Global, path: &str, error: LazyError) -> Error {
+    pub(crate) fn index(alloc: Global, path: &str, error: LazyError) -> Error
+        ensures { IsOfIndex path.now error result }
+    {
         let Ok(path) = String::from_str(alloc, path) else {
             return Error::Memory(AllocError);
         };
@@ -85,29 +90,22 @@ impl Error {
     }
 
     // A directory was changed while the store was read.
-    pub(crate) fn changed(alloc: Global, path: &str) -> Error {
+    pub(crate) fn changed(alloc: Global, path: &str) -> Error
+        ensures { IsChanged path.now result }
+    {
         match String::from_str(alloc, path) {
             Ok(path) => Error::Changed { path },
             Err(error) => Error::Memory(error),
         }
     }
 
-    // The system's number of the error by which a directory or file cannot be read, if there is
-    // one.
-    pub(crate) fn raw_os_error(&self) -> Option<i32> {
-        match self {
-            Error::Repository(error) => error.raw_os_error(),
-            _ => None,
-        }
+    // Whether a directory or file is not read because too many files are open.
+    pub(crate) fn is_too_many_open(&self) -> bool {
+        matches!(self, Error::Repository(error) if error.raw_os_error() == Some(TOO_MANY_OPEN))
     }
 
     // Whether a pack index was read, and is damaged or none.
     pub(crate) fn is_damage(&self) -> bool {
         matches!(self, Error::Index { error, .. } if !matches!(**error, LazyError::Read(_)))
-    }
-
-    // The name of a file is not what it is to be.
-    pub(crate) fn text(alloc: Global, path: &str, why: &'static str) -> Error {
-        Error::from(repositories::Error::text(alloc, path, why))
     }
 }

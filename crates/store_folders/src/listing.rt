@@ -1,7 +1,6 @@
 //! The names in directories, and the states of directories.
 
-use crate::error::Error;
-use repositories::{FileState, join, retried};
+use repositories::{Error, FileState, join, retried};
 use std::io;
 use std::io::{BufReader, Read};
 use std::rt::Files;

@@ -1,8 +1,8 @@
 //! The loose objects in object directories, by the names of their files.
 
-ghost use Rattle.std.specs.Prelude.{◌≡◌, ◌++◌, All, IfOk, IfSome, OnOk, map, string_bytes};
+ghost use Rattle.std.specs.Prelude.{◌≡◌, ◌++◌, All, IfOk, IfSome, MatchOption, OnOk, map, string_bytes};
 ghost use Rattle.gix_hash.specs.Words.{id_digits, id_kind};
-ghost use Rattle.store_folders.specs.LoosePaths.{path_in, paths_in};
+ghost use Rattle.store_folders.specs.Stores.{only_of, path_in, paths_in};
 
 use crate::error::Error;
 use crate::listing::{names_in, state_if_there, state_of};
@@ -50,6 +50,7 @@ pub(crate) struct LooseObjects {
     // others.
     states: Option<Vec<FileState>>,
     ghost of_kind: { table.kind ≡ kind },
+    ghost folders_of_kind: { All (λ folder. folder.table.kind ≡ kind) folders.items },
 }
 
 impl LooseObjects {
@@ -66,22 +67,19 @@ impl LooseObjects {
     }
 }
 
-// Takes from listed loose objects those of a kind that were asked for so, if they are there.
-pub(crate) fn take_listed(
+// Takes from listed loose objects of a kind those that were asked for so, if they are there.
+pub(crate) fn take_loose(
     listed: &mut Vec<LooseObjects>,
     which: LooseIds,
     kind: Kind,
 ) -> Option<LooseObjects>
+    requires { All (λ loose. loose.kind ≡ kind) listed.old.items }
     ensures which { IfSome result (λ loose. loose.which ≡ which) }
     ensures kind { IfSome result (λ loose. loose.kind ≡ kind) }
+    ensures rest { All (λ loose. loose.kind ≡ kind) listed.new.items }
 {
     let at = listed.iter().position(|loose| loose.which == which)?;
-    let loose = listed.swap_remove(at);
-    if loose.which == which && loose.kind == kind {
-        Some(loose)
-    } else {
-        None
-    }
+    Some(listed.remove(at))
 }
 
 // The names in the fan-out directory of a first byte, in the object directory at a position.
@@ -104,11 +102,11 @@ pub(crate) fn list_loose<R: Files + AllocGlobal>(
     ensures kind { IfOk result (λ loose. loose.kind ≡ kind) }
     ensures which { IfOk result (λ loose. loose.which ≡ which) }
 {
-    let states = match now {
-        Some(now) => settled_states(rt, paths, which, now)?,
-        None => None,
+    let states = settled_states(rt, paths, which, now)?;
+    let Some(parts) = list_parts(rt, paths, which)? else {
+        let path = paths.first().map_or("", |path| path.as_str());
+        return Err(Error::changed(rt.alloc(), path));
     };
-    let parts = list_parts(rt, paths, which)?;
     let mut folders = Vec::with_capacity(rt.alloc(), paths.len())?;
     let mut all = Vec::new(rt.alloc());
     for path in paths {
@@ -126,19 +124,20 @@ pub(crate) fn list_loose<R: Files + AllocGlobal>(
     })
 }
 
-// The states of fan-out directories, if each later change leaves others.
+// The states of fan-out directories, if the time before is given, and each later change leaves
+// others.
 fn settled_states<R: Files + AllocGlobal>(
     rt: &R,
     paths: &[String],
     which: LooseIds,
-    now: SystemTime,
+    now: Option<SystemTime>,
 ) -> Result<Option<Vec<FileState>>, Error> {
+    let Some(now) = now else {
+        return Ok(None);
+    };
     let states = fan_out_states(rt, paths, which)?;
-    if states.iter().all(|state| state.is_settled(now)) {
-        Ok(Some(states))
-    } else {
-        Ok(None)
-    }
+    let are_settled = states.iter().all(|state| state.is_settled(now));
+    Ok(are_settled.then_some(states))
 }
 
 // The states of the fan-out directories that are asked for, in object directories.
@@ -158,7 +157,10 @@ fn fan_out_states<R: Files + AllocGlobal>(
 }
 
 // The first and the last of the first bytes that are asked for.
-fn bytes_of(which: LooseIds) -> (u8, u8) {
+fn bytes_of(which: LooseIds) -> (u8, u8)
+    ensures { MatchOption (only_of which) (result ≡ record { 0 = 0; 1 = 255 })
+        (λ byte. result ≡ record { 0 = byte; 1 = byte }) }
+{
     match which {
         LooseIds::All => (0, u8::MAX),
         LooseIds::WithFirstByte(byte) => (byte, byte),
@@ -166,24 +168,24 @@ fn bytes_of(which: LooseIds) -> (u8, u8) {
 }
 
 // Lists the fan-out directories in object directories, one first byte after the other. If there are
-// several object directories, in none a fan-out directory may come or go meanwhile.
+// several object directories, in none a fan-out directory may come or go meanwhile; returns `None`
+// if one does, or if one changes each time that it is listed.
 fn list_parts<R: Files + AllocGlobal>(
     rt: &R,
     paths: &[String],
     which: LooseIds,
-) -> Result<Vec<Part>, Error> {
+) -> Result<Option<Vec<Part>>, Error> {
     let (first, last) = bytes_of(which);
     let before = states_of_several(rt, paths)?;
     let mut parts = Vec::new(rt.alloc());
     for byte in first..=last {
-        let mut more = parts_with(rt, paths, byte)?;
+        let Some(mut more) = parts_with(rt, paths, byte)? else {
+            return Ok(None);
+        };
         parts.append(&mut more)?;
     }
-    if states_of_several(rt, paths)? == before {
-        Ok(parts)
-    } else {
-        Err(changed(rt, paths))
-    }
+    let are_unchanged = states_of_several(rt, paths)? == before;
+    Ok(are_unchanged.then_some(parts))
 }
 
 // The states of directories if there are several, or else none.
@@ -200,31 +202,26 @@ fn states_of_several<R: Files + AllocGlobal>(
     Ok(states)
 }
 
-// That one of some object directories has changed. The path is that of the first.
-fn changed(rt: &impl AllocGlobal, paths: &[String]) -> Error {
-    let path = paths.first().map_or("", |path| path.as_str());
-    Error::changed(rt.alloc(), path)
-}
-
 // Lists the fan-out directory of a first byte, in each object directory. The names of several were
 // there at one time: else an object that is moved from one into another might be in neither.
+// Returns `None` if one of them changes each time.
 fn parts_with<R: Files + AllocGlobal>(
     rt: &R,
     paths: &[String],
     byte: u8,
-) -> Result<Vec<Part>, Error> {
+) -> Result<Option<Vec<Part>>, Error> {
     if let [path] = paths {
         let mut parts = Vec::new(rt.alloc());
         let names = names_in(rt, &fan_out(rt, path, byte)?)?;
         parts.push(Part { at: 0, byte, names })?;
-        return Ok(parts);
+        return Ok(Some(parts));
     }
-    for _ in 0..MAX_TRIES {
+    for _ in 1..MAX_TRIES {
         if let Some(parts) = parts_if_unchanged(rt, paths, byte)? {
-            return Ok(parts);
+            return Ok(Some(parts));
         }
     }
-    Err(changed(rt, paths))
+    parts_if_unchanged(rt, paths, byte)
 }
 
 // Lists the fan-out directories of a first byte that are there, or returns `None` if one of them
@@ -236,14 +233,15 @@ fn parts_if_unchanged<R: Files + AllocGlobal>(
 ) -> Result<Option<Vec<Part>>, Error> {
     let mut before = Vec::with_capacity(rt.alloc(), paths.len())?;
     for path in paths {
-        before.push(state_if_there(rt, &fan_out(rt, path, byte)?)?)?;
+        let folder = fan_out(rt, path, byte)?;
+        let state = state_if_there(rt, &folder)?;
+        before.push((folder, state))?;
     }
     let mut parts = Vec::with_capacity(rt.alloc(), paths.len())?;
-    for (at, path) in paths.iter().enumerate() {
-        if let Some(Some(state)) = before.get(at) {
-            let folder = fan_out(rt, path, byte)?;
-            let names = names_in(rt, &folder)?;
-            if state_of(rt, &folder)? != *state {
+    for (at, (folder, state)) in before.iter().enumerate() {
+        if let Some(state) = state {
+            let names = names_in(rt, folder)?;
+            if state_of(rt, folder)? != *state {
                 return Ok(None);
             }
             parts.push(Part { at, byte, names })?;

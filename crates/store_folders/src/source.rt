@@ -1,6 +1,7 @@
 //! What a pack index is read from.
 
-ghost use Rattle.std.specs.Prelude.{◌≤◌, None, true};
+ghost use Rattle.std.specs.Prelude.{◌≡◌, ◌+◌, ◌-◌, ◌≤◌, None, false, length, true, vec_len};
+ghost use Rattle.streams.specs.Streams.{IsReadAt};
 
 use repositories::retried;
 use std::alloc::Global;
@@ -44,16 +45,14 @@ struct Kept {
 
 impl Kept {
     // Whether they contain those from a position on that fill a buffer. If so, it has them.
-    fn copy_to(&self, buf: &mut [u8], at: u64) -> bool {
-        if at < self.start || at - self.start > self.bytes.len() as u64 {
-            return false;
-        }
-        let bytes = &self.bytes[(at - self.start) as usize..];
-        if bytes.len() < buf.len() {
-            return false;
-        }
-        buf.copy_from_slice(&bytes[..buf.len()]);
-        true
+    fn copy_to(&self, buf: &mut [u8], at: u64) -> bool
+        ensures copied { result ≡ true → (self.now.start ≤ at)
+            × IsReadAt self.now.bytes.items (at - self.now.start) buf.new }
+        ensures missing { result ≡ false → self.now.start ≤ at
+            → ¬ (at - self.now.start + length buf.old ≤ vec_len self.now.bytes) }
+    {
+        let bytes = self.bytes.as_slice();
+        at >= self.start && bytes.read_exact_at(buf, at - self.start).is_ok()
     }
 }
 

@@ -1,20 +1,17 @@
 //! An object store in directories.
 
-ghost use Rattle.std.specs.Prelude.{◌≡◌, All, IfErr, IfOk, [], flat_map, true, map, slice_index_or, string_bytes};
-ghost use Rattle.gix_hash.specs.Words.{id_kind};
+ghost use Rattle.std.specs.Prelude.{◌≡◌, ◌≤◌, All, IfErr, IfOk, MatchOption, Some, [], flat_map, map, option_map, slice_get, slice_index_or, string_bytes, true, vec_len};
+ghost use Rattle.store_folders.specs.Stores.{index_path, of_repository, pack_path_of};
 
 use crate::error::Error;
-use crate::loose::{LooseIds, LooseObjects, list_loose, loose_path, push_path, take_listed};
-use crate::packs::{
-    OpenIndexes, PackFolders, PackIndexes, is_too_many_open, open_indexes, pack_paths,
-};
+use crate::loose::{LooseIds, LooseObjects, list_loose, loose_path, push_path, take_loose};
+use crate::packs::{OpenIndexes, PackFolders, PackIndexes, PackPaths, open_indexes};
 use crate::source::Source;
 use gix_hash::{Kind, ObjectId, Prefix};
 use object_store::{LooseTable, Reopen, Store, StorePaths};
 use pack_index::{LazyError, LazyFile};
 use repositories::{Folders, ObjectsFolder, metadata, retried, with_alternates};
 use std::alloc::AllocError;
-use std::cmp::Ordering;
 use std::fs::File;
 use std::rt::Files;
 use std::time::SystemTime;
@@ -39,21 +36,21 @@ pub struct FolderStore<R: Files<File = File>> {
     pack_folders: PackFolders,
     // Whether the packs are those that are there as long as the directories are unchanged.
     is_settled: bool,
-    kind: Kind,
     skipped: Vec<Error>,
     // What was skipped in the store before it was opened again.
     skipped_before: Vec<Error>,
     // Why it could not be opened again.
     failed: Option<Error>,
-    paths: Vec<String>,
-    packs: Vec<String>,
+    // The paths of each pack, and its pack index.
+    packs: Vec<PackPaths>,
     indexes: Vec<LazyFile<Source<R>>>,
     loose: LooseObjects,
     // The loose objects that were asked for before, and may be again.
-    listed: Vec<LooseObjects>,
-    ghost of_kind: { All (λ index. index.kind ≡ kind) indexes.items },
-    ghost loose_of_kind: { loose.kind ≡ kind },
-    ghost of_folder: { folder.kind ≡ kind },
+    loose_before: Vec<LooseObjects>,
+    ghost as_many: { vec_len packs ≡ vec_len indexes },
+    ghost of_kind: { All (λ index. index.kind ≡ folder.kind) indexes.items },
+    ghost loose_of_kind: { loose.kind ≡ folder.kind },
+    ghost before_of_kind: { All (λ loose. loose.kind ≡ folder.kind) loose_before.items },
 }
 
 impl<R: Files<File = File> + AllocGlobal + Clone + Drop> FolderStore<R> {
@@ -73,7 +70,7 @@ impl<R: Files<File = File> + AllocGlobal + Clone + Drop> FolderStore<R> {
     /// let store = FolderStore::open(rt, &ObjectsFolder::at(rt, ".git/objects")?, LooseIds::All)?;
     /// ```
     pub fn open(rt: &R, folder: &ObjectsFolder, loose: LooseIds) -> Result<FolderStore<R>, Error>
-        ensures kind { IfOk result (λ store. store.kind ≡ folder.now.kind) }
+        ensures kind { IfOk result (λ store. store.folder.kind ≡ folder.now.kind) }
         ensures listed { IfOk result (λ store. store.loose.which ≡ loose) }
     {
         FolderStore::open_at(rt, folder, loose, None)
@@ -86,7 +83,7 @@ impl<R: Files<File = File> + AllocGlobal + Clone + Drop> FolderStore<R> {
         loose: LooseIds,
         now: Option<SystemTime>,
     ) -> Result<FolderStore<R>, Error>
-        ensures kind { IfOk result (λ store. store.kind ≡ folder.now.kind) }
+        ensures kind { IfOk result (λ store. store.folder.kind ≡ folder.now.kind) }
         ensures listed { IfOk result (λ store. store.loose.which ≡ loose) }
     {
         for _ in 1..MAX_TRIES {
@@ -105,24 +102,25 @@ impl<R: Files<File = File> + AllocGlobal + Clone + Drop> FolderStore<R> {
         loose: LooseIds,
         now: Option<SystemTime>,
     ) -> Result<FolderStore<R>, Error>
-        ensures kind { IfOk result (λ store. store.kind ≡ folder.now.kind) }
+        ensures kind { IfOk result (λ store. store.folder.kind ≡ folder.now.kind) }
         ensures listed { IfOk result (λ store. store.loose.which ≡ loose) }
     {
-        let kind = folder.kind;
-        let folders = with_alternates(rt, folder)?;
+        let mut folders = with_alternates(rt, folder)?;
         let pack_folders = PackFolders::of(rt, &folders.paths)?;
-        let objects = &folders.paths;
-        let (mut listed, objects) = list(rt, &pack_folders, objects, kind, loose, now)?;
-        let mut folders = expect_alternates(rt, folder, &folders)?;
-        let opened = open_indexes(rt, &listed.paths, kind)?;
-        let packs = pack_paths(rt.alloc(), &opened.paths)?;
-        let mut skipped = skipped_alternates(rt, &mut folders)?;
-        skipped.append(&mut listed.skipped)?;
+        let (listed, loose) = list(rt, &pack_folders, &folders.paths, folder.kind, loose, now)?;
+        // An alternate that came later may have got objects that the directory had, and had no more
+        // as it was listed.
+        if !folders.are_unchanged(rt, folder)? {
+            return Err(Error::changed(rt.alloc(), &folder.path));
+        }
         let OpenIndexes {
-            paths,
+            paths: packs,
             indexes,
             skipped: mut damaged,
-        } = opened;
+        } = open_indexes(rt, &listed.paths, folder.kind)?;
+        let mut skipped = skipped_alternates(rt, &mut folders)?;
+        let mut unnamed = listed.skipped;
+        skipped.append(&mut unnamed)?;
         skipped.append(&mut damaged)?;
         let is_whole = listed.are_all && skipped.is_empty();
         Ok(FolderStore {
@@ -131,15 +129,13 @@ impl<R: Files<File = File> + AllocGlobal + Clone + Drop> FolderStore<R> {
             is_settled: is_whole && now.is_some_and(|now| pack_folders.are_settled(now)),
             folders,
             pack_folders,
-            kind,
             skipped,
             skipped_before: Vec::new(rt.alloc()),
             failed: None,
-            paths,
             packs,
             indexes,
-            loose: objects,
-            listed: Vec::new(rt.alloc()),
+            loose,
+            loose_before: Vec::new(rt.alloc()),
         })
     }
 
@@ -162,17 +158,19 @@ impl<R: Files<File = File> + AllocGlobal + Clone + Drop> FolderStore<R> {
     /// let is_same = store.refresh(LooseIds::WithFirstByte(0x4b), SystemTime::now(rt)?)?;
     /// ```
     pub fn refresh(&mut self, loose: LooseIds, now: SystemTime) -> Result<bool, Error>
-        ensures kind { self.new.kind ≡ self.old.kind }
+        ensures kind { self.new.folder.kind ≡ self.old.folder.kind }
         ensures listed { IfOk result (λ _. self.new.loose.which ≡ loose) }
         ensures same { IfOk result (λ is_same. is_same ≡ true
             → (self.new.indexes.items ≡ self.old.indexes.items)
             × (self.new.loose ≡ self.old.loose)) }
     {
-        let looked = self.look_again(loose, now);
-        if !is_to_be_read(&looked) {
-            return looked;
+        match self.look_again(loose, now) {
+            Err(Error::Gone { .. } | Error::Changed { .. }) => {}
+            Err(error) if error.is_too_many_open() => {}
+            looked => return looked,
         }
         // Its files are closed before as many are opened.
+        self.packs = Vec::new(self.rt.alloc());
         self.indexes = Vec::new(self.rt.alloc());
         *self = FolderStore::open_at(&self.rt, &self.folder, loose, Some(now))?;
         Ok(false)
@@ -180,7 +178,7 @@ impl<R: Files<File = File> + AllocGlobal + Clone + Drop> FolderStore<R> {
 
     // The same, but for a change of packs or alternates, which is an error.
     fn look_again(&mut self, loose: LooseIds, now: SystemTime) -> Result<bool, Error>
-        ensures kind { self.new.kind ≡ self.old.kind }
+        ensures kind { self.new.folder.kind ≡ self.old.folder.kind }
         ensures listed { IfOk result (λ _. self.new.loose.which ≡ loose) }
         ensures same { IfOk result (λ is_same. is_same ≡ true
             → (self.new.indexes.items ≡ self.old.indexes.items)
@@ -194,7 +192,7 @@ impl<R: Files<File = File> + AllocGlobal + Clone + Drop> FolderStore<R> {
         let chosen = self.loose_now(loose, now)?;
         let last = mem::replace(&mut self.loose, chosen);
         if !is_listed {
-            let _ = self.listed.push(last);
+            let _ = self.loose_before.push(last);
         }
         Ok(false)
     }
@@ -213,17 +211,18 @@ impl<R: Files<File = File> + AllocGlobal + Clone + Drop> FolderStore<R> {
     // are unchanged, or else a listing, during which the packs and the alternates stay.
     fn loose_now(&mut self, loose: LooseIds, now: SystemTime) -> Result<LooseObjects, Error>
         ensures which { IfOk result (λ objects. objects.which ≡ loose) }
-        ensures of_kind { IfOk result (λ objects. objects.kind ≡ self.old.kind) }
-        ensures kind { self.new.kind ≡ self.old.kind }
+        ensures of_kind { IfOk result (λ objects. objects.kind ≡ self.old.folder.kind) }
+        ensures kind { self.new.folder.kind ≡ self.old.folder.kind }
         ensures indexes { self.new.indexes.items ≡ self.old.indexes.items }
         ensures loose { self.new.loose ≡ self.old.loose }
     {
-        if let Some(listed) = take_listed(&mut self.listed, loose, self.kind) {
-            if listed.are_unchanged(&self.rt, &self.folders.paths)? {
-                return Ok(listed);
-            }
+        if let Some(listed) = take_loose(&mut self.loose_before, loose, self.folder.kind)
+            && listed.are_unchanged(&self.rt, &self.folders.paths)?
+        {
+            return Ok(listed);
         }
-        let listed = list_loose(&self.rt, &self.folders.paths, self.kind, loose, Some(now))?;
+        let kind = self.folder.kind;
+        let listed = list_loose(&self.rt, &self.folders.paths, kind, loose, Some(now))?;
         self.expect_unchanged()?;
         Ok(listed)
     }
@@ -238,18 +237,25 @@ impl<R: Files<File = File> + AllocGlobal + Clone + Drop> FolderStore<R> {
     ///     println!(rt; "{error}, skipped")?;
     /// }
     /// ```
-    pub fn skipped(&self) -> &[Error] {
+    pub fn skipped(&self) -> &[Error]
+        ensures { result.now ≡ self.now.skipped.items }
+    {
         &self.skipped
     }
 
     /// What was not read of the store as it was before it was opened again ([`Reopen`]).
-    pub fn skipped_before(&self) -> &[Error] {
+    pub fn skipped_before(&self) -> &[Error]
+        ensures { result.now ≡ self.now.skipped_before.items }
+    {
         &self.skipped_before
     }
 
     /// The path of the pack index at this position among `indexes()`, if there is one.
-    pub fn index_path(&self, at: usize) -> Option<&str> {
-        self.paths.get(at).map(|path| path.as_str())
+    pub fn index_path(&self, at: usize) -> Option<&str>
+        ensures { MatchOption result (vec_len self.now.indexes ≤ at)
+            (λ path. Some path.now ≡ option_map index_path (slice_get self.now.packs.items at)) }
+    {
+        Some(self.packs.get(at)?.index.as_str())
     }
 
     /// The error of a look-up in this store, with the path of the pack index; or why the store
@@ -290,11 +296,12 @@ impl<R: Files<File = File> + AllocGlobal + Clone + Drop> FolderStore<R> {
     /// store.check_loose_files(&prefix)?;
     /// ```
     pub fn check_loose_files(&self, prefix: &Prefix) -> Result<(), Error> {
+        if prefix.hex_len() > self.folder.kind.len_in_hex() {
+            return Ok(());
+        }
         for folder in &self.loose.folders {
-            for id in may_begin_with(&folder.table, prefix) {
-                if begins_with(id, prefix) {
-                    self.check_loose_file(&folder.path, id)?;
-                }
+            for id in folder.table.beginning_with(prefix) {
+                self.check_loose_file(&folder.path, id)?;
             }
         }
         Ok(())
@@ -302,7 +309,7 @@ impl<R: Files<File = File> + AllocGlobal + Clone + Drop> FolderStore<R> {
 
     // Takes the place of itself, as the store is now. Under an error it has what it had.
     fn open_again(&mut self) -> Result<(), Error>
-        ensures kind { self.new.kind ≡ self.old.kind }
+        ensures kind { self.new.folder.kind ≡ self.old.folder.kind }
         ensures listed { self.new.loose.which ≡ self.old.loose.which }
         ensures indexes { IfErr result (λ _. self.new.indexes.items ≡ self.old.indexes.items) }
         ensures loose { IfErr result (λ _. self.new.loose ≡ self.old.loose) }
@@ -325,17 +332,8 @@ impl<R: Files<File = File> + AllocGlobal + Clone + Drop> FolderStore<R> {
             // (one that has come back)
             Ok(found) if is_missing && found.is_file() => Ok(()),
             Err(gone) if gone.kind() == io::ErrorKind::NotFound => Ok(()),
-            _ => Err(Error::file(self.rt.alloc(), &path, error)),
+            _ => Err(repositories::Error::file(self.rt.alloc(), &path, error))?,
         }
-    }
-}
-
-// Whether a store has changed since it was read, or too many files are open to look at it.
-fn is_to_be_read(looked: &Result<bool, Error>) -> bool {
-    match looked {
-        Err(Error::Gone { .. } | Error::Changed { .. }) => true,
-        Err(error) => is_too_many_open(error),
-        Ok(_) => false,
     }
 }
 
@@ -379,61 +377,33 @@ fn list<R: Files + AllocGlobal>(
     Ok((after, loose))
 }
 
-// The alternates of a directory once more. Fails if they or their lists have changed: one that came
-// later may have got objects that the directory had, and had no more as it was listed.
-fn expect_alternates<R: Files + AllocGlobal>(
-    rt: &R,
-    folder: &ObjectsFolder,
-    earlier: &Folders,
-) -> Result<Folders, Error> {
-    let folders = with_alternates(rt, folder)?;
-    if folders.paths == earlier.paths && folders.states == earlier.states {
-        Ok(folders)
-    } else {
-        Err(Error::changed(rt.alloc(), &folder.path))
-    }
-}
-
 // Takes from directories why alternates are skipped.
 fn skipped_alternates(
     rt: &impl AllocGlobal,
     folders: &mut Folders,
-) -> Result<Vec<Error>, AllocError> {
+) -> Result<Vec<Error>, AllocError>
+    ensures { IfOk result (λ taken. taken.items ≡ map of_repository folders.old.skipped.items) }
+{
     let skipped = mem::replace(&mut folders.skipped, Vec::new(rt.alloc()));
     let skipped = skipped.into_iter();
     skipped.map(|error| Error::from(error)).collect(rt.alloc())
-}
-
-// The ids of a table among which are those that begin with a prefix: the ones with its first byte,
-// if it has one.
-fn may_begin_with<'a>(table: &'a LooseTable, prefix: &Prefix) -> &'a [ObjectId] {
-    if prefix.hex_len() < 2 {
-        table.ids()
-    } else {
-        table.with_first_byte(prefix.first_byte())
-    }
-}
-
-// Whether an id begins with a prefix.
-fn begins_with(id: &ObjectId, prefix: &Prefix) -> bool {
-    prefix.hex_len() <= id.kind().len_in_hex() && prefix.cmp_oid(id.as_oid()) == Ordering::Equal
 }
 
 /// What files contain is not known.
 impl<R: Files<File = File> + AllocGlobal + Clone + Drop> Store for FolderStore<R> {
     type Source = Source<R>;
 
-    ghost use Rattle.store_folders.specs.Listed.{only_of};
+    ghost use Rattle.store_folders.specs.Stores.{only_of};
 
     ghost view = { λ store. record {
-      kind = store.kind;
+      kind = store.folder.kind;
       packs = store.indexes.items;
       loose = store.loose.table.ids;
       listed = only_of store.loose.which;
     } };
 
     fn object_hash(&self) -> Kind {
-        self.kind
+        self.folder.kind
     }
 
     fn indexes(&self) -> &[LazyFile<Source<R>>] {
@@ -447,9 +417,9 @@ impl<R: Files<File = File> + AllocGlobal + Clone + Drop> Store for FolderStore<R
 
 impl<R: Files<File = File> + AllocGlobal + Clone + Drop> Reopen for FolderStore<R> {
     ghost use Rattle.std.specs.Prelude.{◌≡◌};
-    ghost use Rattle.store_folders.specs.Listed.{only_of};
+    ghost use Rattle.store_folders.specs.Stores.{only_of};
 
-    ghost may_have = { λ store view. (view.kind ≡ store.kind)
+    ghost may_have = { λ store view. (view.kind ≡ store.folder.kind)
         × (view.listed ≡ only_of store.loose.which) };
 
     fn is_gone(&self, error: &object_store::Error) -> bool {
@@ -469,16 +439,16 @@ impl<R: Files<File = File> + AllocGlobal + Clone + Drop> Reopen for FolderStore<
 }
 
 impl<R: Files<File = File> + AllocGlobal + Clone + Drop> StorePaths for FolderStore<R> {
-    ghost use Rattle.store_folders.specs.LoosePaths.{paths_in};
+    ghost use Rattle.store_folders.specs.Stores.{paths_in};
 
-    ghost pack_path = { λ store pack. slice_index_or (map string_bytes store.packs.items) pack [] };
+    ghost pack_path = { λ store pack. slice_index_or (map pack_path_of store.packs.items) pack [] };
 
     ghost loose_paths = { λ store digits. flat_map (λ folder. paths_in (string_bytes folder.path)
         folder.table.ids digits) store.loose.folders.items };
 
     fn pack_path(&self, pack: usize) -> &str {
         match self.packs.get(pack) {
-            Some(path) => path.as_str(),
+            Some(paths) => paths.pack.as_str(),
             None => "",
         }
     }

@@ -1,6 +1,6 @@
-//! Tests of `store_folders`, over directories that change and reads that fail, of the states of
-//! `repositories`, and a call of each kind of `callers`, by public calls only. What the built
-//! program shows is tested by `tools/stores` and `tools/live`.
+//! Tests of `store_folders`, over directories that change and reads that fail, and a call of each
+//! kind of `callers`, by public calls only. What the built program shows is tested by
+//! `tools/stores` and `tools/live`.
 #![tactic(auto)]
 
 #[cfg(test)]
@@ -11,8 +11,6 @@ mod callers_resolving;
 mod expecting;
 #[cfg(test)]
 mod folders;
-#[cfg(test)]
-mod repositories_state;
 #[cfg(test)]
 mod store_folders_source;
 #[cfg(test)]

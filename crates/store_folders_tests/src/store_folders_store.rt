@@ -1,7 +1,7 @@
 //! Stores in directories that change while they are opened or looked up in, and whose reads fail.
 
 ghost use Rattle.std.specs.Prelude.{◌≡◌, Some};
-ghost use Rattle.store_folders.specs.Listed.{only_of};
+ghost use Rattle.store_folders.specs.Stores.{only_of};
 
 use crate::expecting::{expect, expect_ids, expect_printed};
 use crate::folders::{BOTH, Bytes, Index, LOOSE, PACKED, make};

@@ -4,7 +4,8 @@ ghost use Rattle.std.specs.Prelude.{false, IsTrue, ◌≡◌, ◌≢◌, ◌+◌
 ghost use Rattle.std.specs.Result.{result_map_both};
 ghost use Rattle.id_lookup.specs.Words.{id_digits};
 ghost use Rattle.id_digits.specs.Letters.{is_line_len};
-ghost use Rattle.oidtool_commands.specs.Searches.{HasFound, HasSkipped, found_among, last_or};
+ghost use Rattle.oidtool_commands.specs.Searches.{found_among};
+ghost use Rattle.oidtool_commands.specs.SearchStates.{HasFound, HasSkipped, last_or};
 ghost use Rattle.oidtool_commands.specs.declared.search.error.SearchError.{SearchError};
 ghost use Rattle.oidtool_commands.specs.declared.search.Search.{Search};
 

@@ -3,7 +3,8 @@
 ghost use Rattle.std.specs.Prelude.{◌≡◌, ◌↔◌, ℕ, false, MatchOption, ◌+◌, ◌^◌, ◌<◌, ◌≤◌, List, [], ◌∷◌, ◌++◌, map, take, drop, length, IfOk, IfErr, IfSome, OnOk, position, slice_range};
 ghost use Rattle.id_lookup.specs.Words.{full_read, hex_letter, id_digits, result_digits};
 ghost use Rattle.streams.specs.Streams.{is_line_feed};
-ghost use Rattle.oidtool_commands.specs.Lists.{HasIdLine, HasTaken, IsListRefusal, IsRefusalAfter, Takes, list_read};
+ghost use Rattle.oidtool_commands.specs.Lists.{IsListRefusal, list_read};
+ghost use Rattle.oidtool_commands.specs.SearchStates.{HasIdLine, HasTaken, IsRefusalAfter, Takes};
 
 use crate::search::error::SearchError;
 use gix_hash::{Alphabet, Kind, ObjectId, decode};
@@ -128,8 +129,8 @@ impl<A: Allocator> ListReader<A> {
         self.dropped += lines;
     }
 
-    // Takes the whole lines that begin at this index, if the chunk has at least one and it is an
-    // id, and else one byte. Returns the index after them.
+    // Takes the whole lines that begin at this position, if the chunk has at least one and it is an
+    // id, and else one byte. Returns the position after them.
     #[inline(always)]
     fn take_next(&mut self, chunk: &[u8], at: usize) -> Result<usize, SearchError>
         requires in_chunk { at < length chunk.now }
@@ -146,8 +147,9 @@ impl<A: Allocator> ListReader<A> {
         Ok(at + 1)
     }
 
-    // Takes whole lines from this index on, if no line is begun, as long as the next is an id and
-    // there is room for it: first ids of SHA-1, then ids of SHA-256. Returns the index after them.
+    // Takes whole lines from this position on, if no line is begun, as long as the next is an id
+    // and there is room for it: first ids of SHA-1, then ids of SHA-256. Returns the position after
+    // them.
     #[inline(always)]
     fn take_lines(&mut self, chunk: &[u8], at: usize) -> usize
         requires { at ≤ length chunk.now }
@@ -221,7 +223,7 @@ impl<A: Allocator> ListReader<A> {
     }
 }
 
-// The index of the first line feed.
+// The position of the first line feed.
 fn line_feed_in(chunk: &[u8]) -> Option<usize>
     ensures first { result ≡ position is_line_feed chunk.now }
     ensures within { IfSome result (λ at. at < length chunk.now) }
@@ -251,8 +253,9 @@ fn store_byte(kept: &mut [u8; MAX_DIGITS], len: usize, byte: u8)
     }
 }
 
-// The id of the kind in the line that begins at this index, and the index after its line feed.
-// There is no separate search for the line feed: if it comes early, it is rejected as a digit.
+// The id of the kind in the line that begins at this position, and the position after its line
+// feed. There is no separate search for the line feed: if it comes early, it is rejected as a
+// digit.
 #[inline(always)]
 fn id_line_at(kind: Kind, chunk: &[u8], at: usize) -> Option<(ObjectId, usize)>
     requires { at ≤ length chunk.now }

@@ -4,7 +4,8 @@ ghost use Rattle.std.specs.Prelude.{◌⊎◌, IsTrue, IfSome, ◌≡◌, ◌+�
 ghost use Rattle.std.specs.declared.cmp.Ordering.TheVariants.{Less, Greater};
 ghost use Rattle.id_lookup.specs.Words.{IsIndex, hex_len_of, id_digits, id_kind, matches, place};
 ghost use Rattle.id_digits.specs.Letters.{is_line_len};
-ghost use Rattle.oidtool_commands.specs.Searches.{CanSkip, IsFor, IsLeast, TakesLength, allows_repeats, error_of_all, first_refused, error_of_first};
+ghost use Rattle.oidtool_commands.specs.Searches.{IsFor, error_of_all, first_refused};
+ghost use Rattle.oidtool_commands.specs.SearchStates.{CanSkip, IsLeast, TakesLength, allows_repeats, error_of_first};
 ghost use Rattle.oidtool_commands.specs.declared.search.Search.{Search};
 
 use crate::search::Search;

@@ -4,7 +4,8 @@ ghost use Rattle.std.specs.Prelude.{◌≡◌, ◌↔◌, ◌+◌, ◌^◌, ◌<
 ghost use Rattle.id_lookup.specs.Words.{id_digits};
 ghost use Rattle.id_digits.specs.Letters.{is_line_len};
 ghost use Rattle.oidtool_commands.specs.Lists.{list_read};
-ghost use Rattle.oidtool_commands.specs.Searches.{From, IsRefusedIn, OfAll, Searches, Stops, found_in_list};
+ghost use Rattle.oidtool_commands.specs.Searches.{From, OfAll, Stops, found_in_list};
+ghost use Rattle.oidtool_commands.specs.SearchStates.{IsRefusedIn, Searches};
 ghost use Rattle.oidtool_commands.specs.declared.search.error.SearchError.{SearchError};
 
 use crate::search::error::SearchError;

@@ -1,5 +1,5 @@
 use Rattle.streams.specs.Streams.{lines_of}
-use Rattle.packtool_commands.proofs.AskingLemmas.{can_look_up}
+use Rattle.packtool_commands.proofs.AnswerLemmas.{can_look_up}
 use Rattle.packtool_commands.proofs.locating.locate_each.Goals as goal
 
 pub look_up_again-looked-requires : goal.look_up_again-looked-requires

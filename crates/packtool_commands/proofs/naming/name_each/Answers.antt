@@ -1,7 +1,7 @@
 use Rattle.std.proofs.Common.{◌≤◌, sym, subst}
 use Rattle.id_lookup.specs.Words.{Kind, hex_len_of}
 use Rattle.streams.specs.Streams.{lines_of}
-use Rattle.packtool_commands.proofs.AskingLemmas.{can_look_up}
+use Rattle.packtool_commands.proofs.AnswerLemmas.{can_look_up}
 use Rattle.packtool_commands.proofs.naming.name_each.Goals as goal
 
 pub look_up_again-looked-requires : goal.look_up_again-looked-requires

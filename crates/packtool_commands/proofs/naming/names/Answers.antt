@@ -1,4 +1,4 @@
-use Rattle.std.proofs.Common.{◌≡◌, ◌≢◌, ◌↔◌, ◌⊎◌, ◌∙◌, List, [], refl, sym, subst, arith, flat_map, IsTrue}
+use Rattle.std.proofs.Common.{◌≢◌, ◌↔◌, ◌⊎◌, ◌∙◌, List, [], refl, sym, subst, arith, flat_map, IsTrue}
 use Rattle.std.proofs.lemmas.Result.{err_from_is_err_and}
 use Rattle.std.specs.Io.KnownBytes.{Appends}
 use Rattle.std.proofs.lemmas.Bool.{false≢true}

@@ -1,5 +1,5 @@
 use Rattle.std.proofs.Common.{sym, subst}
-use Rattle.repositories.specs.Alternates.{before_nul}
+use Rattle.git_config.specs.Grammar.{before_nul}
 use Rattle.repositories.proofs.Entries.{ReadsEntries, is_empty, is_some, reads_all, reads_entry}
 use Rattle.repositories.proofs.alternates.alternate_paths.Goals as goal
 

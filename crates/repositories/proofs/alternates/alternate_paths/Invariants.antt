@@ -1,5 +1,5 @@
 use Rattle.std.proofs.Common.{length, map}
-use Rattle.repositories.specs.Alternates.{before_nul}
+use Rattle.git_config.specs.Grammar.{before_nul}
 use Rattle.repositories.proofs.Entries.{ReadsEntries}
 use Rattle.repositories.proofs.alternates.alternate_paths.Given as goal
 

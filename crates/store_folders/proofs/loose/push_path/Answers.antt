@@ -2,7 +2,7 @@ use Rattle.std.proofs.Common.{◌∙◌, ◌++◌, List, ℕ, [], ◌∷◌, app
 use Rattle.std.proofs.lemmas.List.{map-append}
 use Rattle.gix_hash.specs.Words.{id_digits}
 use Rattle.object_store.proofs.LooseParts.{any_is}
-use Rattle.store_folders.specs.LoosePaths.{path_in}
+use Rattle.store_folders.specs.Stores.{path_in}
 use Rattle.store_folders.proofs.loose.push_path.Goals as goal
 
 pub returns-in_ok-push : goal.returns-in_ok-push

@@ -1,7 +1,7 @@
 use Rattle.std.proofs.Common.{refl, [], ◌*◌, ◌/◌, ◌-◌, ◌+◌, length, sym, ap, subst, ◌∙◌, arith, mul_comm}
-use Rattle.oidtool_commands.specs.Searches.{HasSkipped, Searches}
 use Rattle.oidtool_commands.proofs.SkippedLines.{none_skipped, skipped, whole_lines}
 use Rattle.oidtool_commands.proofs.search.reading.skip_lines.Goals as goal
+use Rattle.oidtool_commands.specs.SearchStates.{HasSkipped, Searches}
 
 pub returns-then-has_begun_line-clause-searches : goal.returns-then-has_begun_line-clause-searches
 returns-then-has_begun_line-clause-searches g c = none_skipped _ _ c.args.reader.now c.args.finder.now c.args.chunk.now c.requires.empty c.requires.count

@@ -1,6 +1,6 @@
 use Rattle.std.proofs.Common.{◌≡◌, map, take, string_bytes, flat_map}
 use Rattle.gix_hash.specs.Words.{id_digits}
-use Rattle.store_folders.specs.LoosePaths.{paths_in}
+use Rattle.store_folders.specs.Stores.{paths_in}
 use Rattle.store_folders.specs.declared.loose.LooseFolder.{LooseFolder}
 use Rattle.store_folders.proofs.store.FolderStoreStorePaths.loose_paths.Given as goal
 

@@ -1,5 +1,6 @@
 use Rattle.std.proofs.Common.{[], refl}
-use Rattle.oidtool_commands.specs.Searches.{IsLeast, first_refused}
+use Rattle.oidtool_commands.specs.Searches.{first_refused}
+use Rattle.oidtool_commands.specs.SearchStates.{IsLeast}
 use Rattle.oidtool_commands.specs.declared.search.Search.TheVariants.{Sorted, In}
 use Rattle.oidtool_commands.proofs.search.finder.Finder.new.Goals as goal
 

@@ -1,6 +1,6 @@
 use Rattle.std.proofs.Common.{◌-◌, ◌≤◌, length, take}
-use Rattle.oidtool_commands.specs.Lists.{Takes}
 use Rattle.oidtool_commands.proofs.search.list_reader.ListReader.take_chunk.Given as goal
+use Rattle.oidtool_commands.specs.SearchStates.{Takes}
 
 abbrev pub invariant-loop-at : goal.invariant-loop-at
 invariant-loop-at g l = record {

@@ -1,6 +1,6 @@
 use Rattle.std.proofs.Common.{◌≡◌, ◌-◌, ◌≤◌, length, slice_range}
-use Rattle.oidtool_commands.specs.Lists.{Takes}
 use Rattle.oidtool_commands.proofs.search.list_reader.ListReader.take_lines_of.Given as goal
+use Rattle.oidtool_commands.specs.SearchStates.{Takes}
 
 abbrev pub invariant-loop-kind : goal.invariant-loop-kind
 invariant-loop-kind g l = record {

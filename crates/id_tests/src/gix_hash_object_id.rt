@@ -1,0 +1,224 @@
+//! Ids that own or borrow their bytes.
+
+use crate::expecting::{
+    converted, expect, expect_below, expect_debug, expect_error, expect_fed, expect_outcome,
+    expect_same, expect_text, expect_writes, parsed, tried,
+};
+use crate::well_known::{BLOB, BLOB_256, BLOB_256_BYTES, BLOB_BYTES, TREE, id};
+use gix_hash::{Kind, ObjectId, Prefix, decode, oid, verify};
+use std::process::Abort;
+use std::test::Fail;
+
+// Reads by each of the calls that read an id.
+fn expect_read(rt: &(impl Abort + AllocGlobal), rows: &[(&str, &str)]) {
+    for &(text, want) in rows {
+        expect_outcome(rt, ObjectId::from_hex(text.as_bytes()), want);
+        expect_outcome(rt, parsed::<ObjectId>(text), want);
+    }
+}
+
+// Makes ids of the bytes, by each of the calls that test the length.
+fn expect_made(rt: &(impl Abort + AllocGlobal), bytes: &[u8], want: &str) {
+    expect_outcome(rt, oid::try_from_bytes(bytes), want);
+    expect_outcome(rt, tried::<&[u8], oid<'_>>(bytes), want);
+    expect_outcome(rt, tried::<&[u8], ObjectId>(bytes), want)
+}
+
+#[test]
+fn documented_example(rt: HostRuntime) -> Result<(), Fail> {
+    let blob = ObjectId::from_hex(BLOB.as_bytes())?;
+    expect_debug(&rt, blob, "Sha1(e69de29bb2d1d6434b8b29ae775ad8c2e48c5391)");
+    let prefix = Prefix::new(blob.as_oid(), 7)?;
+    expect_text(&rt, prefix, "e69de29");
+    expect_text(
+        &rt,
+        prefix.as_oid(),
+        "e69de29000000000000000000000000000000000",
+    );
+    Ok(())
+}
+
+// Texts, and what the id prints as, or the error.
+const TEXTS: [(&str, &str); 8] = [
+    (BLOB, BLOB),
+    ("E69DE29BB2D1D6434B8B29AE775AD8C2E48C5391", BLOB),
+    ("e69DE29bb2d1d6434B8B29ae775ad8c2E48C5391", BLOB),
+    (BLOB_256, BLOB_256),
+    (
+        "473A0F4C3BE8A93681A267E3B1E9A7DCDA1185436FE141F7749120A303721813",
+        BLOB_256,
+    ),
+    (
+        "g69de29bb2d1d6434b8b29ae775ad8c2e48c5391",
+        "Invalid character encountered",
+    ),
+    (
+        "473a0f4c3be8a93681a267e3b1e9a7dcda1185436fe141f7749120a30372181g",
+        "Invalid character encountered",
+    ),
+    (
+        "e69de29bb2d1d6434b8b29ae775ad8c2e48c539/",
+        "Invalid character encountered",
+    ),
+];
+
+#[test]
+fn read_from_text(rt: HostRuntime) {
+    expect_read(&rt, &TEXTS);
+    expect_error(
+        &rt,
+        decode::Error::InvalidHexEncodingLength(2),
+        "A hash sized 2 hexadecimal characters is invalid",
+    );
+    expect_error(&rt, decode::Error::Invalid, "Invalid character encountered");
+}
+
+#[test]
+fn compared_with_text(rt: HostRuntime) {
+    let blob = id(&rt, BLOB);
+    for &(text, same) in &[
+        (BLOB, true),
+        ("E69DE29BB2D1D6434B8B29AE775AD8C2E48C5391", false),
+        (TREE, false),
+        ("e69de29", false),
+    ] {
+        expect!(&rt; blob.eq_str(text) == same, text);
+    }
+}
+
+#[test]
+fn made_from_bytes(rt: HostRuntime) {
+    expect_made(&rt, &BLOB_BYTES, BLOB);
+    expect_made(&rt, &BLOB_256_BYTES, BLOB_256);
+    expect_made(
+        &rt,
+        &[0; 19],
+        "Cannot instantiate git hash from a digest of length 19",
+    );
+    expect_made(
+        &rt,
+        &[0; 33],
+        "Cannot instantiate git hash from a digest of length 33",
+    );
+}
+
+#[test]
+fn converted_from_bytes(rt: HostRuntime) {
+    let blob: ObjectId = converted(BLOB_BYTES);
+    let view: oid<'_> = converted(&BLOB_BYTES);
+    let wide: ObjectId = converted(BLOB_256_BYTES);
+    let wide_view: oid<'_> = converted(&BLOB_256_BYTES);
+    for &(id, want) in &[
+        (blob, BLOB),
+        (ObjectId::from_bytes_or_panic(&BLOB_BYTES), BLOB),
+        (converted(view), BLOB),
+        (view.to_owned(), BLOB),
+        (wide, BLOB_256),
+    ] {
+        expect_text(&rt, id, want);
+    }
+    expect!(&rt; wide.eq_oid(wide_view));
+}
+
+#[test]
+fn written_digest(rt: HostRuntime) {
+    let mut digest = Kind::Sha1.null();
+    if let Some(first) = digest.as_mut_slice().first_mut() {
+        *first = 0xe6;
+    }
+    expect_text(&rt, digest, "e600000000000000000000000000000000000000");
+}
+
+#[test]
+fn order(rt: HostRuntime) {
+    let (tree, wide) = (id(&rt, TREE), id(&rt, BLOB_256));
+    // Views are ordered by digits only, owned ids by kind first.
+    expect_below(&rt, &wide.as_oid(), &tree.as_oid());
+    expect_below(&rt, &Kind::Sha1.null_ref(), &Kind::Sha256.null_ref());
+    expect_same(&rt, &wide.as_oid(), &id(&rt, BLOB_256).as_oid());
+    expect_below(&rt, &tree, &wide);
+}
+
+#[test]
+fn order_in_a_kind(rt: HostRuntime) {
+    let tree = id(&rt, TREE);
+    expect_below(&rt, &tree, &id(&rt, BLOB));
+    expect_same(&rt, &tree, &id(&rt, TREE));
+}
+
+#[test]
+fn fed_to_a_hash(rt: HostRuntime) {
+    let (blob, wide) = (id(&rt, BLOB), id(&rt, BLOB_256));
+    expect_fed(&rt, &blob, &[&BLOB_BYTES]);
+    expect_fed(&rt, &blob.as_oid(), &[&BLOB_BYTES]);
+    expect_fed(&rt, &wide, &[&BLOB_256_BYTES]);
+    expect_fed(&rt, &wide.as_oid(), &[&BLOB_256_BYTES]);
+    expect_writes(&rt, &blob, 1, 20);
+    expect_fed(
+        &rt,
+        &blob.to_hex_with_len(50),
+        &[&BLOB_BYTES, &[50, 0, 0, 0, 0, 0, 0, 0]],
+    );
+}
+
+#[test]
+fn printed(rt: HostRuntime) {
+    let (blob, wide) = (id(&rt, BLOB), id(&rt, BLOB_256));
+    let shown = "Sha256(473a0f4c3be8a93681a267e3b1e9a7dcda1185436fe141f7749120a303721813)";
+    expect_debug(&rt, wide, shown);
+    expect_debug(&rt, wide.as_oid(), shown);
+    for &(hex_len, want) in &[(0, ""), (1, "e"), (7, "e69de29"), (50, BLOB), (100, BLOB)] {
+        expect_text(&rt, blob.to_hex_with_len(hex_len), want);
+    }
+}
+
+// How many digits two ids share.
+#[test]
+fn shared_digits(rt: HostRuntime) {
+    let (blob, tree, wide) = (id(&rt, BLOB), id(&rt, TREE), id(&rt, BLOB_256));
+    let (null, wide_null) = (Kind::Sha1.null(), Kind::Sha256.null());
+    for &(one, other, want) in &[
+        (blob, blob, 40),
+        (tree, blob, 0),
+        (wide, tree, 1),
+        (null, wide_null, 40),
+    ] {
+        expect!(&rt; one.common_hex_len(other.as_oid()) == want, one);
+    }
+}
+
+#[test]
+fn displays_compared(rt: HostRuntime) {
+    let (blob, tree) = (id(&rt, BLOB), id(&rt, TREE));
+    // The number of digits asked for counts, not that of the digits printed.
+    expect_below(&rt, &blob.to_hex_with_len(50), &blob.to_hex_with_len(100));
+    expect_below(&rt, &tree.to_hex_with_len(100), &blob.to_hex_with_len(50));
+    expect_same(&rt, &blob.to_hex(), &blob.as_oid().to_hex_with_len(40));
+}
+
+#[test]
+fn written_into_a_buffer(rt: HostRuntime) {
+    let blob = id(&rt, BLOB);
+    assert!(rt; blob.kind().len_in_hex() == 40);
+    let mut buffer = [b'#'; 64];
+    expect!(&rt; blob.hex_to_buf(&mut buffer) == BLOB);
+    let mut buffer = [b'#'; 64];
+    blob.put_hex(&mut buffer);
+    expect!(&rt; &buffer == b"e69de29bb2d1d6434b8b29ae775ad8c2e48c5391########################");
+}
+
+#[test]
+fn verified(rt: HostRuntime) -> Result<(), Fail> {
+    let (blob, tree) = (id(&rt, BLOB), id(&rt, TREE));
+    blob.verify(blob.as_oid())?;
+    let error: verify::Error = blob
+        .verify(tree.as_oid())
+        .err()
+        .ok_or("another id is verified")?;
+    expect_error(
+        &rt,
+        error,
+        "Hash was e69de29bb2d1d6434b8b29ae775ad8c2e48c5391, but should have been 4b825dc642cb6eb9a060e54bf8d69288fbee4904",
+    );
+    Ok(())
+}

@@ -1,0 +1,6 @@
+use Rattle.std.proofs.Common.{◌≡◌, ◌+◌, length, take}
+use Rattle.std.specs.List.{sum_by}
+use Rattle.object_store.proofs.locations.LocatingLookUp.left.Given as goal
+
+abbrev pub invariant-loop-located : goal.invariant-loop-located
+invariant-loop-located g l = l.left + sum_by (λ located. length located.locations.items) (take l.located-index l.ids.items) ≡ l.room

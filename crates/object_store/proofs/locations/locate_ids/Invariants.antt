@@ -1,0 +1,8 @@
+use Rattle.std.proofs.Common.{◌≡◌, map, take, All}
+use Rattle.object_store.specs.Several.{IsLocated}
+use Rattle.object_store.proofs.locations.locate_ids.Given as goal
+
+abbrev pub invariant-loop-id : goal.invariant-loop-id
+invariant-loop-id g l =
+    (l.parts ≡ l.fn.parts) × (map (λ located. located.id) l.located.items ≡ take l.id-index l.ids)
+    × All (IsLocated l.fn.parts (g.S.StorePaths.loose_paths l.store)) l.located.items

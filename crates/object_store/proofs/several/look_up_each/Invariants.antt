@@ -1,0 +1,11 @@
+use Rattle.std.proofs.Common.{◌≡◌, ◌+◌, ◌<◌, length}
+use Rattle.std.specs.List.{sum_by}
+use Rattle.object_store.proofs.FoundAt.{AreFoundAt}
+use Rattle.object_store.proofs.several.look_up_each.Given as goal
+
+abbrev pub invariant-loop-place : goal.invariant-loop-place
+invariant-loop-place g l = record {
+  parts : l.parts ≡ g.S.Store.view l.store;
+  found : AreFoundAt (g.L.LookUp.finds l.look_up (g.S.Store.view l.store)) g.L.LookUp.size l.prefixes l.places.items l.place l.found.items;
+  room : 1 < length l.prefixes → l.room + sum_by g.L.LookUp.size l.found.items ≡ l.fn.most;
+}

@@ -1,0 +1,6 @@
+use Rattle.std.proofs.Common.{◌≡◌, length}
+use Rattle.std.specs.List.{sum_by}
+use Rattle.object_store.proofs.several.placeholders.Given as goal
+
+abbrev pub invariant-loop-at : goal.invariant-loop-at
+invariant-loop-at g l = (length l.found.items ≡ l._at) × (sum_by g.L.LookUp.size l.found.items ≡ 0)

@@ -1,0 +1,15 @@
+use Rattle.std.proofs.Common.{◌<◌, ◌-◌, ◌^◌, drop, count_by}
+use Rattle.std.specs.Io.KnownBytes.{Consumes}
+use Rattle.packtool.specs.WholeLines.{AreWhole, HasNoLineFeed, is_line_feed}
+use Rattle.packtool.specs.LineReaders.{chunk, held, to_come}
+use Rattle.packtool.proofs.line_reader.LineReader.next.Given as goal
+
+abbrev pub invariant-loop-self : goal.invariant-loop-self
+invariant-loop-self g l = record {
+  lines : Consumes (to_come g.R.Read.remaining l.fn.self) (to_come g.R.Read.remaining l.self) (chunk l.self);
+  whole : AreWhole (chunk l.self);
+  full : count_by is_line_feed (chunk l.self) < 8192 → HasNoLineFeed (drop l.self.chunk_len (held l.self));
+}
+
+abbrev pub decreases-loop-self : goal.decreases-loop-self
+decreases-loop-self g l = 2 ^ 64 - l.self.filled

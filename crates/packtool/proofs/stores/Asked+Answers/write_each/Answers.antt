@@ -1,0 +1,35 @@
+use Rattle.std.proofs.Common.{All, List, Some, ap, subst, sym, ℕ, ◌≡◌}
+use Rattle.gix_hash.specs.Words.{KindDigits, first_byte_of}
+use Rattle.store_folders.specs.Stores.{only_of}
+use Rattle.store_folders.specs.declared.loose.LooseIds.{LooseIds}
+use Rattle.packtool.specs.Requests.{least_of}
+use Rattle.packtool.proofs.stores.Asked+Answers.write_each.Goals as goal
+
+-- what may be asked of a store where these loose objects are listed
+abbrev AreOf : LooseIds → List KindDigits → Type 0
+AreOf loose prefixes = All (λ (prefix : KindDigits). (only : ℕ) → only_of loose ≡ Some only → first_byte_of prefix.digits ≡ only) prefixes
+
+are_of : (listed asked : LooseIds) (prefixes read : List KindDigits) → listed ≡ asked → read ≡ prefixes → AreOf asked read → AreOf listed prefixes
+are_of listed asked prefixes read is same all = subst (AreOf listed) same (subst (λ loose. AreOf loose read) (sym is) all)
+
+pub find_each-ran-requires-clause-listed : goal.find_each-ran-requires-clause-listed
+find_each-ran-requires-clause-listed g c =
+    are_of c.in_ok-store.store.loose.which c.loose_of.result c.in_ok-lines.lines.prefixes.items c.prefixes.result.now c.in_ok-store.ensures.listed
+    c.prefixes.ensures.items c.loose_of.ensures
+
+pub locate_each-ran-requires-clause-listed : goal.locate_each-ran-requires-clause-listed
+locate_each-ran-requires-clause-listed g c =
+    are_of c.in_ok-store.store.loose.which c.loose_of.result c.in_ok-lines.lines.prefixes.items c.prefixes.result.now c.in_ok-store.ensures.listed
+    c.prefixes.ensures.items c.loose_of.ensures
+
+pub name_each-ran-requires-clause-listed : goal.name_each-ran-requires-clause-listed
+name_each-ran-requires-clause-listed g c =
+    are_of c.in_ok-store.store.loose.which c.loose_of.result c.in_ok-lines.lines.prefixes.items c.prefixes.result.now c.in_ok-store.ensures.listed
+    c.prefixes.ensures.items c.loose_of.ensures
+
+pub name_each-ran-requires-clause-enough : goal.name_each-ran-requires-clause-enough
+name_each-ran-requires-clause-enough g c = (c.args.self.now.fits c.in-Names.least (ap least_of c.in-Names.is)).0
+
+pub name_each-ran-requires-clause-fits : goal.name_each-ran-requires-clause-fits
+name_each-ran-requires-clause-fits g c =
+    rw c.in_ok-store.ensures.kind ((c.args.self.now.fits c.in-Names.least (ap least_of c.in-Names.is)).1)

@@ -1,0 +1,100 @@
+-- The lines of a text and what is printed for them, one after the other.
+use Rattle.std.proofs.Common.{◌≡◌, ℕ, zero, suc, ◌<◌, ◌≤◌, Bool, true, false, ◌&&◌, nat_lt, Option, None, Some, List, [], ◌∷◌, ◌++◌, length, refl, sym, ap, subst, ◌∙◌, arith, if◌then◌else◌, All, flat_map, is_some, option_map, option_to_list}
+use Rattle.std.proofs.lemmas.Bool.Decides.{nat_tests}
+use Rattle.std.proofs.lemmas.List.{length-drop, nil_from_length}
+use Rattle.std.proofs.lemmas.List.Elements.{All-append}
+use Rattle.streams.proofs.LineLemmas.{lines_of-nil}
+use Rattle.id_lookup.specs.Words.{Kind, KindDigits, digits_read, hex_len_of, hex_letter, kind_digits}
+use Rattle.object_store.specs.Stores.{CanLookUp, IsReopened, StoreView}
+use Rattle.streams.specs.Streams.{lines_of}
+use Rattle.packtool_commands.specs.Stores.{AreListed, answer_to, answers_by, are_answers_by, found_text, is_answer_to, lists_after, of_two, prefix_of, prefixes_of}
+use Rattle.packtool_commands.specs.declared.printing.Answers.{Answers}
+use Rattle.packtool_commands.specs.declared.printing.Answers.TheVariants.{All as AllOfThem}
+
+-- a text that is empty has no line
+pub lines_at_end : (text : List ℕ) → length text ≡ 0 → lines_of text ≡ []
+lines_at_end text none = ap lines_of (nil_from_length text none) ∙ lines_of-nil
+
+-- all that was found after a line, if there is something
+pub found_all : {X : Type 0} (text : Option (List ℕ) → X → List ℕ) (answers : Answers) (line : List ℕ) (found : List X) → answers ≡ AllOfThem → 0 < length found
+    → flat_map (text (Some line)) found ≡ found_text text answers line found
+found_all text answers line [] all some = absurd (omega (arith, some))
+found_all text answers line (x ∷ found) all some = ap (λ a. found_text text a line (x ∷ found)) (sym all)
+
+pub and_true : (a : Bool) → (a && true) ≡ a
+and_true true = refl
+and_true false = refl
+
+pub and_assoc : (a b c : Bool) → ((a && b) && c) ≡ (a && (b && c))
+and_assoc true b c = refl
+and_assoc false b c = refl
+
+module _ (kind : Kind) (rest after : List (List ℕ)) (line : List ℕ) (p : Bool) (is : rest ≡ line ∷ after) (same : p ≡ is_some (prefix_of kind line)) where
+  -- what is printed for a line, and for those after it
+  pub answers_step : {X : Type 0} (found : List X) (text : List ℕ → X → List ℕ)
+      → answers_by text kind rest found ≡ answer_to text line p found ++ answers_by text kind after (lists_after p found)
+  answers_step found text =
+      ap (λ ls. answers_by text kind ls found) is ∙ ap (λ q. answer_to text line q found ++ answers_by text kind after (lists_after q found)) (sym same)
+
+  pub are_answers_step : {X : Type 0} (found : List X) (is_wanted : X → Bool)
+      → are_answers_by is_wanted kind rest found ≡ (is_answer_to is_wanted p found && are_answers_by is_wanted kind after (lists_after p found))
+  are_answers_step found is_wanted =
+      ap (λ ls. are_answers_by is_wanted kind ls found) is ∙ ap (λ q. is_answer_to is_wanted q found && are_answers_by is_wanted kind after (lists_after q found)) (sym same)
+
+  -- as many lists are left as prefixes
+  pub as_many_left : {X : Type 0} (left : List X) → length left ≡ length (prefixes_of kind rest) → length (lists_after p left) ≡ length (prefixes_of kind after)
+  as_many_left {X} left many =
+      ap (λ q. length (lists_after q left)) same ∙ by (prefix_of kind line) (many ∙ ap (λ ls. length (prefixes_of kind ls)) is)
+    where
+      by : (o : Option KindDigits) → length left ≡ length (option_to_list o ++ prefixes_of kind after) → length (lists_after (is_some o) left) ≡ length (prefixes_of kind after)
+      by None e = e
+      by (Some prefix) e = omega (arith, length-drop 1 left, e)
+
+nothing : {X : Type 0} (P : X → Type 0) → All P []
+nothing P k d low = absurd (omega (arith, low))
+
+-- the prefixes among lines have 2 digits or more, and the kind
+pub are_long : (kind : Kind) (lines : List (List ℕ)) → All (λ (prefix : KindDigits). (2 ≤ length prefix.digits) × (prefix.kind ≡ kind)) (prefixes_of kind lines)
+are_long kind [] = nothing IsLong
+  where
+    IsLong : KindDigits → Type 0
+    IsLong prefix = (2 ≤ length prefix.digits) × (prefix.kind ≡ kind)
+are_long kind (line ∷ lines) = All-append IsLong (option_to_list (prefix_of kind line)) (prefixes_of kind lines) one (are_long kind lines)
+  where
+    IsLong : KindDigits → Type 0
+    IsLong prefix = (2 ≤ length prefix.digits) × (prefix.kind ≡ kind)
+
+    not_below : (n : ℕ) → nat_lt n 2 ≡ false → 2 ≤ n
+    not_below n e = grind (arith, nat_tests)
+
+    only : (prefix : KindDigits) → IsLong prefix → All IsLong (prefix ∷ [])
+    only prefix is zero d low = is
+    only prefix is (suc k) d low = absurd (omega (arith, low))
+
+    long : (ds : List ℕ) (b : Bool) → nat_lt (length ds) 2 ≡ b → All IsLong (option_to_list (if b then None else Some (kind_digits kind ds)))
+    long ds true e = nothing IsLong
+    long ds false e = only (kind_digits kind ds) (not_below (length ds) e, refl)
+
+    read : (o : Option (List ℕ)) → All IsLong (option_to_list (of_two (option_map (kind_digits kind) o)))
+    read None = nothing IsLong
+    read (Some ds) = long ds (nat_lt (length ds) 2) refl
+
+    fits : (b : Bool) → All IsLong (option_to_list (if b then None else of_two (option_map (kind_digits kind) (digits_read hex_letter line))))
+    fits true = nothing IsLong
+    fits false = read (digits_read hex_letter line)
+
+    one : All IsLong (option_to_list (prefix_of kind line))
+    one = fits (nat_lt (hex_len_of kind) (length line))
+
+-- the prefixes that were read of a store's kind can be looked up, also after it was opened again
+pub can_look_up : (MayHave MayHaveThen : StoreView → Type 0) (old new : StoreView) (kind : Kind) (lines : List (List ℕ)) (read prefixes : List KindDigits)
+    → IsReopened MayHave MayHaveThen old new → kind ≡ old.kind → AreListed old read → prefixes ≡ read → prefixes ≡ prefixes_of kind lines
+    → All (CanLookUp new) prefixes
+can_look_up MayHave MayHaveThen old new kind lines read prefixes is same listed all are k prefix low =
+    let long = subst (All (λ (p : KindDigits). (2 ≤ length p.digits) × (p.kind ≡ kind))) (sym are) (are_long kind lines) k prefix low in
+    let known = subst (AreListed old) (sym all) listed k prefix low in
+    record {
+      enough = long.0;
+      kind = long.1 ∙ same ∙ sym is.kind;
+      listed = λ only e. known only (sym is.listed ∙ e);
+    }

@@ -1,9 +1,0 @@
-use Rattle.std.proofs.Common.{◌<◌, length, rules, subst}
-use Rattle.streams.specs.Streams.{Wrote}
-use Rattle.packtool_commands.proofs.AskingLemmas.{found_all}
-use Rattle.packtool_commands.proofs.asking.write_found.Goals as goal
-
-pub returns-in-All : goal.returns-in-All
-returns-in-All g c =
-    let some : 0 < length c.args.found.now = search rules in
-    subst (Wrote _ _ _ _ _) (found_all (g.E.Entry.text c.args.entry.now) c.args.answers c.args.line.now c.args.found.now c.in-All.is some) c.write_each.ensures

@@ -1,0 +1,7 @@
+use Rattle.std.proofs.Common.{◌≡◌, false, take, option_copied, flat_map}
+use Rattle.std.specs.Io.KnownBytes.{Appends}
+use Rattle.packtool_commands.proofs.printing.write_each.Given as goal
+
+abbrev pub invariant-loop-item : goal.invariant-loop-item
+invariant-loop-item g l =
+    Appends (g.W.Sink.taken l.fn.out) (g.W.Sink.taken l.out) (flat_map (g.E.Entry.text l.entry (option_copied l.line)) (take l.item-index l.found)) × (g.W.Sink.has_failed l.out ≡ false)

@@ -1,0 +1,228 @@
+//! What is printed for each line of a text, by what is found in a store.
+
+ghost use Rattle.std.specs.Prelude.{◌≡◌, ◌++◌, ◌-◌, ◌<◌, ◌≤◌, ◌∷◌, ◌&&◌, ℕ, Bool, List, IfOk, OnErr, OnOk, Option, Some, false, flat_map, length, option_copied, true};
+ghost use Rattle.std.specs.List.{after_first, before_first, position};
+ghost use Rattle.std.specs.Io.KnownBytes.{Appends};
+ghost use Rattle.packtool_commands.specs.Stores.{answer_to, answers_by, are_answers_by, found_text, front_text, is_answer_to, is_found, lists_after, prefix_of, prefixes_of};
+ghost use Rattle.streams.specs.Streams.{AppendsPart, Wrote, is_line_feed, lines_of};
+
+use crate::prefixes::{first_line, prefix_in};
+use gix_hash::Kind;
+use std::alloc::Allocator;
+use streams::{Sink, WriteFailed, write_all};
+
+/// What [`find_each`](crate::find_each) and [`locate_each`](crate::locate_each) print for a prefix.
+///
+/// ```
+/// let lines = PrefixLines::read(rt.alloc(), Kind::Sha1, b"4b8\n4b9\n")?;
+/// let all = find_each(rt.alloc(), &mut store, &lines, Answers::All, 65_536, &mut out)?;
+/// ```
+#[derive(Clone, Copy, PartialEq, Eq, Debug)]
+pub enum Answers {
+    /// Each id that begins with it, after the line as it is and a space.
+    All,
+    /// The one id that begins with it.
+    One,
+}
+
+/// How what is found for a prefix, a `T`, is printed.
+pub(crate) trait Form<T> {
+    /// What is printed for a line that is a prefix.
+    ghost text: { Self → List ℕ → T → List ℕ };
+
+    /// Whether what was found is what is asked for.
+    ghost is_found: { Self → T → Bool };
+
+    /// Writes what is printed for a line that is a prefix.
+    fn write<W: Sink>(&self, line: &[u8], found: &T, out: &mut W) -> Result<(), WriteFailed>
+        requires { W.has_failed out.old ≡ false }
+        ensures { Wrote W.taken W.has_failed out.old out.new result
+            (text self.now line.now found.now) };
+
+    /// Whether what was found is what is asked for.
+    fn is_found(&self, found: &T) -> bool
+        ensures { result ≡ is_found self.now found.now };
+}
+
+/// Writes what is printed for each line of a text, by what was found for each prefix among them.
+/// Returns whether each found what is asked for.
+pub(crate) fn write_answers<T, F: Form<T>, W: Sink>(
+    kind: Kind,
+    lines: &[u8],
+    found: &[T],
+    form: &F,
+    out: &mut W,
+) -> Result<bool, WriteFailed>
+    requires enough { length found.now ≡ length (prefixes_of kind (lines_of lines.now)) }
+    requires output { W.has_failed out.old ≡ false }
+    ensures written { OnOk result (Appends (W.taken out.old) (W.taken out.new)
+        (answers_by (F.text form.now) kind (lines_of lines.now) found.now)) }
+    ensures all { IfOk result (λ all. all ≡ are_answers_by (F.is_found form.now) kind
+        (lines_of lines.now) found.now) }
+    ensures not_failed { OnOk result (W.has_failed out.new ≡ false) }
+    ensures part { OnErr result (AppendsPart (W.taken out.old) (W.taken out.new)
+        (answers_by (F.text form.now) kind (lines_of lines.now) found.now)) }
+    ensures failed { OnErr result (W.has_failed out.new ≡ true) }
+{
+    let mut all = true;
+    let mut rest = lines;
+    let mut left = found;
+    while !rest.is_empty() {
+        let (line, after) = first_line(rest);
+        let is_prefix = prefix_in(kind, line).is_some();
+        write_answer(line, is_prefix, left, form, out)?;
+        all = are_answered(all, is_prefix, left, form);
+        left = lists_after(is_prefix, left);
+        rest = after;
+    }
+    Ok(all)
+}
+
+// What was found for the lines after one.
+fn lists_after<T>(is_prefix: bool, found: &[T]) -> &[T]
+    requires { is_prefix ≡ true → 0 < length found.now }
+    ensures { result.now ≡ lists_after is_prefix found.now }
+{
+    if is_prefix { &found[1..] } else { found }
+}
+
+// Whether the lines before a line find what is asked for, and it does, by the first of what was
+// found if it is a prefix.
+fn are_answered<T, F: Form<T>>(before: bool, is_prefix: bool, found: &[T], form: &F) -> bool
+    requires { is_prefix ≡ true → 0 < length found.now }
+    ensures { result ≡ (before && is_answer_to (F.is_found form.now) is_prefix found.now) }
+{
+    before && is_prefix && form.is_found(&found[0])
+}
+
+// Writes what is printed for a line, by the first of what was found if it is a prefix.
+fn write_answer<T, F: Form<T>, W: Sink>(
+    line: &[u8],
+    is_prefix: bool,
+    found: &[T],
+    form: &F,
+    out: &mut W,
+) -> Result<(), WriteFailed>
+    requires enough { is_prefix ≡ true → 0 < length found.now }
+    requires output { W.has_failed out.old ≡ false }
+    ensures { Wrote W.taken W.has_failed out.old out.new result
+        (answer_to (F.text form.now) line.now is_prefix found.now) }
+{
+    if is_prefix {
+        form.write(line, &found[0], out)
+    } else {
+        write_two(line, b" bad\n", out)
+    }
+}
+
+/// How one thing that is found, an `X`, is printed.
+pub(crate) trait Entry<X> {
+    /// What is printed for it, after a line or nothing.
+    ghost text: { Self → Option (List ℕ) → X → List ℕ };
+
+    /// Writes it, after a line or nothing.
+    fn write_after<W: Sink>(
+        &self,
+        line: Option<&[u8]>,
+        item: &X,
+        out: &mut W,
+    ) -> Result<(), WriteFailed>
+        requires { W.has_failed out.old ≡ false }
+        ensures { Wrote W.taken W.has_failed out.old out.new result
+            (text self.now (option_copied line.entry) item.now) };
+}
+
+/// How a list of what is found is printed: all of it, or the only one.
+#[derive(Drop)]
+pub(crate) struct Listed<E> {
+    /// What is asked for.
+    pub(crate) answers: Answers,
+    /// How each is printed.
+    pub(crate) entry: E,
+}
+
+impl<X, A: Allocator, E: Entry<X>> Form<Vec<X, A>> for Listed<E> {
+    ghost text = { λ form line ids. found_text (E.text form.entry) form.answers line ids.items };
+
+    ghost is_found = { λ form found. is_found form.answers found.items };
+
+    fn write<W: Sink>(
+        &self,
+        line: &[u8],
+        found: &Vec<X, A>,
+        out: &mut W,
+    ) -> Result<(), WriteFailed> {
+        write_found(line, found, self.answers, &self.entry, out)
+    }
+
+    fn is_found(&self, found: &Vec<X, A>) -> bool {
+        match self.answers {
+            Answers::All => !found.is_empty(),
+            Answers::One => found.len() == 1,
+        }
+    }
+}
+
+// Writes what is printed for a prefix, by the things that were found.
+fn write_found<X, E: Entry<X>, W: Sink>(
+    line: &[u8],
+    found: &[X],
+    answers: Answers,
+    entry: &E,
+    out: &mut W,
+) -> Result<(), WriteFailed>
+    requires { W.has_failed out.old ≡ false }
+    ensures { Wrote W.taken W.has_failed out.old out.new result
+        (found_text (E.text entry.now) answers line.now found.now) }
+{
+    if found.is_empty() {
+        return write_two(line, b" missing\n", out);
+    }
+    match answers {
+        Answers::All => write_each(Some(line), found, entry, out),
+        Answers::One if found.len() == 1 => entry.write_after(None, &found[0], out),
+        Answers::One => write_two(line, b" ambiguous\n", out),
+    }
+}
+
+/// Writes each of some things after a line or nothing.
+pub(crate) fn write_each<X, E: Entry<X>, W: Sink>(
+    line: Option<&[u8]>,
+    found: &[X],
+    entry: &E,
+    out: &mut W,
+) -> Result<(), WriteFailed>
+    requires { W.has_failed out.old ≡ false }
+    ensures { Wrote W.taken W.has_failed out.old out.new result
+        (flat_map (E.text entry.now (option_copied line.entry)) found.now) }
+{
+    for item in found {
+        entry.write_after(line, item, out)?;
+    }
+    Ok(())
+}
+
+/// Writes what is before a result: a line and a space, or nothing.
+pub(crate) fn write_front<W: Sink>(line: Option<&[u8]>, out: &mut W) -> Result<(), WriteFailed>
+    requires { W.has_failed out.old ≡ false }
+    ensures { Wrote W.taken W.has_failed out.old out.new result
+        (front_text (option_copied line.entry)) }
+{
+    match line {
+        Some(line) => write_two(line, b" ", out),
+        None => Ok(()),
+    }
+}
+
+/// Writes two texts, one after the other.
+pub(crate) fn write_two<W: Sink>(
+    first: &[u8],
+    second: &[u8],
+    out: &mut W,
+) -> Result<(), WriteFailed>
+    requires { W.has_failed out.old ≡ false }
+    ensures { Wrote W.taken W.has_failed out.old out.new result (first.now ++ second.now) }
+{
+    write_all(out, first)?;
+    write_all(out, second)
+}

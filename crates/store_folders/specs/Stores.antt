@@ -1,0 +1,51 @@
+-- What contracts say of object stores in directories.
+use Rattle.std.specs.Prelude.{ℕ, ◌≡◌, ◌++◌, List, [], ◌∷◌, Option, None, Some, if◌then◌else◌, bytes_eq, string_bytes}
+use Rattle.std.specs.List.{list_any}
+use Rattle.pack_index.specs.declared.lazy_error.LazyError.{LazyError}
+use Rattle.repositories.specs.Paths.{loose_path}
+use Rattle.repositories.specs.declared.error.Error as repositories
+use Rattle.repositories.specs.declared.error.Error.TheVariants as repository_errors
+use Rattle.store_folders.specs.declared.error.Error.{Error}
+use Rattle.store_folders.specs.declared.error.Error.TheVariants.{Changed, Gone, Index, Memory, Repository}
+use Rattle.store_folders.specs.declared.loose.LooseIds.{LooseIds}
+use Rattle.store_folders.specs.declared.loose.LooseIds.TheVariants.{All, WithFirstByte}
+use Rattle.store_folders.specs.declared.packs.PackPaths.{PackPaths}
+
+-- the only first byte that loose objects have, if not all are listed
+abbrev pub only_of : LooseIds → Option ℕ
+only_of All = None
+only_of (WithFirstByte byte) = Some byte
+
+-- the path of the file of a loose object in a directory, by its digits
+abbrev pub path_in : List ℕ → List ℕ → List ℕ
+path_in folder digits = folder ++ 47 ∷ loose_path digits
+
+-- the paths of the files that an object has in a directory where the loose objects `ids` are listed: one, or none
+abbrev pub paths_in : List ℕ → List (List ℕ) → List ℕ → List (List ℕ)
+paths_in folder ids digits = if list_any (λ id. bytes_eq id digits) ids then path_in folder digits ∷ [] else []
+
+-- the path of a pack index
+abbrev pub index_path : PackPaths → List ℕ
+index_path paths = string_bytes paths.index
+
+-- the path of a pack
+abbrev pub pack_path_of : PackPaths → List ℕ
+pack_path_of paths = string_bytes paths.pack
+
+-- the error that an error of a repository is
+abbrev pub of_repository : repositories.Error → Error
+of_repository (repository_errors.Memory error) = Memory error
+of_repository (repository_errors.Cause cause) = Repository (repository_errors.Cause cause)
+
+-- that a directory of this path was changed, or memory ran out
+abbrev pub IsChanged : List ℕ → Error → Type 0
+IsChanged path (Changed text) = string_bytes text ≡ path
+IsChanged path (Memory error) = Unit {0}
+IsChanged path _ = ⊥
+
+-- that a pack index of this path is gone, or why it is not read; or memory ran out
+abbrev pub IsOfIndex : List ℕ → LazyError → Error → Type 0
+IsOfIndex path why (Gone text) = string_bytes text ≡ path
+IsOfIndex path why (Index text boxed) = (string_bytes text ≡ path) × (boxed.value ≡ why)
+IsOfIndex path why (Memory error) = Unit {0}
+IsOfIndex path why _ = ⊥
