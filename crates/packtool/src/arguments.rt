@@ -166,9 +166,9 @@ const COMMANDS: [Row; 5] = [
 ];
 
 // The version and the origin, as `--version` and `--help` print them.
-const VERSION: &str = "0.5.0 of Nunbirdstand, a port of the Rust crate gix-hash 0.26.2";
+const VERSION: &str = "0.6.0-dev of Nunbirdstand, a port of the Rust crate gix-hash 0.26.2";
 
-const ORIGIN: &str = "packtool 0.5.0 of Nunbirdstand, a port of the Rust crate gix-hash 0.26.2";
+const ORIGIN: &str = "packtool 0.6.0-dev of Nunbirdstand, a port of the Rust crate gix-hash 0.26.2";
 
 // Printed after each help.
 const AFTER: &str =
