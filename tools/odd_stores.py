@@ -360,7 +360,7 @@ class Oddity:
         names = ("pack", "info/alternates", "[0-9a-f][0-9a-f]")
         found = [path for name in names for path in folder.glob(name)] if folder.is_dir() else []
         if found := [path for path in found if not path.is_symlink()]:
-            self.locked.append(rng.choice(found))
+            self.locked.append(rng.choice(found).resolve())
             self.locked[0].chmod(0)
             # (a folder may be listed, and yet no file in it be looked at)
             if len(self.locked[0].name) == 2 and chance(rng, 0.5):
