@@ -21,10 +21,9 @@ pub fn resolve<R: Files<File = File> + Env + AllocGlobal + Clone + Drop>(
         return Ok(None);
     }
     let loose = LooseIds::WithFirstByte(prefix.first_byte());
-    let mut store = FolderStore::open(rt, &folder, loose)?;
-    match lookup_prefix(rt.alloc(), &store, &prefix) {
-        Ok(ids) if ids.len() == 1 => Ok(Some(ids[0])),
-        Ok(_) => Ok(None),
-        Err(error) => Err(store.with_path(error)),
+    let store = FolderStore::open(rt, &folder, loose)?;
+    match lookup_prefix(rt.alloc(), &store, &prefix)?.as_slice() {
+        [id] => Ok(Some(*id)),
+        _ => Ok(None),
     }
 }

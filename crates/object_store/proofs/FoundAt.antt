@@ -7,7 +7,7 @@ use Rattle.std.proofs.lemmas.List.Sums.{get_or-le-sum_by, sum_by-set}
 use Rattle.id_lookup.specs.Words.{KindDigits}
 use Rattle.object_store.specs.Stores.{AreFoundOfEach, ArePlaces, HaveMore, IsOfOne}
 use Rattle.object_store.specs.declared.error.Error.{Error}
-use Rattle.object_store.specs.declared.error.Error.TheVariants.{Index, Memory}
+use Rattle.object_store.specs.declared.error.Error.TheVariants.{Memory}
 use Rattle.object_store.proofs.Places.{apart, at_each_place}
 
 -- what was found at a position has the relation to the digits of its prefix
@@ -97,5 +97,5 @@ module _ {F : Type 0} (Finds : List ℕ → F → Type 0) (size : F → ℕ) (pr
 -- why one of them is not found
 pub of_one : (Fails : List ℕ → Error → Type 0) (prefixes : List KindDigits) (prefix : KindDigits) (error : Error) → Contains prefixes prefix → Fails prefix.digits error
     → IsOfOne Fails prefixes error
-of_one Fails prefixes prefix (Index at error) has fails = (prefix, has, fails)
 of_one Fails prefixes prefix (Memory error) has fails = tt
+of_one Fails prefixes prefix error has fails = (prefix, has, fails)

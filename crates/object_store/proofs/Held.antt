@@ -4,10 +4,10 @@ use Rattle.std.proofs.lemmas.Option.{get_or_from_slice_get, slice_get-get_or, sl
 use Rattle.std.proofs.lemmas.List.{get_or-map, length-map, take_all}
 use Rattle.std.proofs.lemmas.List.Elements.{All-more, filter-append}
 use Rattle.id_lookup.specs.Words.{Kind, first_byte_of}
-use Rattle.object_store.specs.Stores.{HasLocation, Holds, IsFirstFault, IsIndexReadOrMemory, IsLocateFault, IsLocationFault, IsStoreFault, StoreView}
+use Rattle.object_store.specs.Stores.{HasLocation, Holds, IsFirstFault, IsIndexReadOrMemory, IsLocateFault, IsLocationFault, IsOfIndex, IsStoreFault, StoreView}
 use Rattle.pack_index.specs.Lazy.{HasBucket, IfKnown, IsBucketFault, LazyIndex}
 use Rattle.object_store.specs.declared.error.Error.{Error}
-use Rattle.object_store.specs.declared.error.Error.TheVariants.{Index, Memory}
+use Rattle.object_store.specs.declared.error.Error.TheVariants.{Memory}
 use Rattle.pack_index.proofs.Buckets.{no_bucket_fault}
 use Rattle.pack_index.specs.Format.{IsPackIndex}
 use Rattle.pack_index.specs.Lazy as lazy
@@ -52,19 +52,24 @@ pack_at {kind} {packs} {given} {at} {pack} value kinds less here =
     record { low = low; is = is; of_kind = ap (λ (p : LazyIndex). p.kind) is ∙ kinds at pack low }
 
 -- the pack index at a position has what is asked for, as those before it, or is the first that has not
-module _ (Has : Kind → List ℕ → Type 0) (HasFault : Kind → Bool → List ℕ → LazyError → Type 0) {kind : Kind} {packs : List LazyIndex} {at : ℕ} {pack : LazyIndex}
-    (here : IsPackAt kind packs at pack) (before : All (IfKnown (Has kind)) (take at packs)) where
-  pub have_more : IfKnown (Has pack.kind) pack → All (IfKnown (Has kind)) (take (at + 1) packs)
+module _ (Has : Kind → List ℕ → Type 0) (HasFault : Kind → Bool → List ℕ → LazyError → Type 0) (view : StoreView) {at : ℕ} {pack : LazyIndex}
+    (here : IsPackAt view.kind view.packs at pack) (before : All (IfKnown (Has view.kind)) (take at view.packs)) where
+  pub have_more : IfKnown (Has pack.kind) pack → All (IfKnown (Has view.kind)) (take (at + 1) view.packs)
   have_more has =
-      All-more (IfKnown (Has kind)) packs at pack here.low before
-      (subst (IfKnown (Has kind)) here.is (λ bytes known. subst (λ (k : Kind). Has k bytes) here.of_kind (has bytes known)))
+      All-more (IfKnown (Has view.kind)) view.packs at pack here.low before
+      (subst (IfKnown (Has view.kind)) here.is (λ bytes known. subst (λ (k : Kind). Has k bytes) here.of_kind (has bytes known)))
 
-  pub fault_at : (e : LazyError) → IfKnown (λ bytes. HasFault pack.kind pack.can_fail bytes e) pack → IsFirstFault (Has kind) (HasFault kind) packs (Index at e)
-  fault_at e why = (
+  pub fault_at : (fault : LazyError) (e : Error) → IfKnown (λ bytes. HasFault pack.kind pack.can_fail bytes fault) pack → IsOfIndex (get_or view.paths at []) fault e
+      → IsFirstFault (Has view.kind) (HasFault view.kind) view e
+  fault_at fault (Memory error) why is = tt
+  fault_at fault e why is = (
+    at,
     pack,
-    slice_get-get_or packs at pack here.low ∙ ap Some (sym here.is),
+    slice_get-get_or view.packs at pack here.low ∙ ap Some (sym here.is),
     before,
-    λ bytes known. subst (λ (k : Kind). HasFault k pack.can_fail bytes e) here.of_kind (why bytes known),
+    fault,
+    is,
+    λ bytes known. subst (λ (k : Kind). HasFault k pack.can_fail bytes fault) here.of_kind (why bytes known),
   )
 
 -- all of them have it
@@ -74,20 +79,24 @@ have_all Has {packs} {given} {at} value all have = subst (All (IfKnown Has)) (ta
 -- a store whose pack indexes are ones has no fault
 no_first_fault : (Has : List ℕ → Type 0) (HasFault : Bool → List ℕ → LazyError → Type 0) (view : StoreView) (whole : List (List ℕ))
     (e : Error) → ((can_fail : Bool) (bytes : List ℕ) (why : LazyError) → IsPackIndex view.kind bytes → HasFault can_fail bytes why → lazy.IsReadOrMemory can_fail why)
-    → Holds view whole → IsFirstFault Has HasFault view.packs e → IsIndexReadOrMemory view e
-no_first_fault Has HasFault view whole (Index at error) no_fault h fault =
+    → Holds view whole → IsFirstFault Has HasFault view e → IsIndexReadOrMemory view e
+no_first_fault Has HasFault view whole (Memory error) no_fault h first = tt
+no_first_fault Has HasFault view whole e no_fault h first =
     let packs = view.packs in
     let content : LazyIndex → Option (List ℕ) = λ p. p.content in
-    let pack = fault.0 in
-    let low : at < length packs = slice_get_within packs at pack fault.1 in
+    let at = first.0 in
+    let pack = first.1 in
+    let low : at < length packs = slice_get_within packs at pack first.2 in
     let inside : at < length h.indexes = omega (arith, low, as_many content packs h.indexes h.known) in
     let known = known_at content packs h.indexes h.known at pack low in (
+      at,
       pack,
-      fault.1,
-      no_fault pack.can_fail (get_or h.indexes at []) error (h.are_indexes at [] inside)
-          (fault.3 (get_or h.indexes at []) (ap content (sym (get_or_from_slice_get packs at pack pack fault.1)) ∙ known)),
+      first.2,
+      first.4,
+      first.5,
+      no_fault pack.can_fail (get_or h.indexes at []) first.4 (h.are_indexes at [] inside)
+          (first.6 (get_or h.indexes at []) (ap content (sym (get_or_from_slice_get packs at pack pack first.2)) ∙ known)),
     )
-no_first_fault Has HasFault view whole (Memory error) no_fault h fault = tt
 
 pub no_store_fault : (view : StoreView) (whole : List (List ℕ)) (byte : ℕ) (e : Error) → Holds view whole → IsStoreFault view byte e → IsIndexReadOrMemory view e
 no_store_fault view whole byte e =

@@ -1,24 +1,26 @@
 -- What an object store holds, where it has an object, and what is found in it. Ids and names are given by their digits.
-use Rattle.std.specs.Prelude.{[], ℕ, ◌++◌, ◌<◌, ◌∷◌, ◌≡◌, ◌≢◌, ◌≤◌, ◌⊎◌, All, Bool, Contains, IsTrue, List, MatchOption, None, Option, Some, Vec, flat_map, if◌then◌else◌, length, map, nat_eq, option_map, slice_get, slice_index_or, suc, take, zero, bytes_eq}
+use Rattle.std.specs.Prelude.{[], ℕ, ◌++◌, ◌<◌, ◌∷◌, ◌≡◌, ◌≢◌, ◌≤◌, ◌⊎◌, All, Bool, Contains, IsTrue, List, MatchOption, None, Option, Some, Vec, flat_map, if◌then◌else◌, length, map, nat_eq, option_map, slice_get, slice_index_or, string_bytes, suc, take, zero, bytes_eq}
 use Rattle.std.specs.List.{list_any, position, range_with_len, starts_with, sum_by}
 use Rattle.std.specs.List.Sorted.{IsPermutation}
+use Rattle.std.specs.declared.io.Error.{Error as IoError}
 use Rattle.id_lookup.specs.Words.{IsIndexOf, Kind, KindDigits, ObjectId, first_byte_of, id_digits, id_kind, matches}
 use Rattle.pack_index.specs.Format.{HasOffset, IsFirstIndexOf, IsPackIndex, names_in, offset_in}
 use Rattle.pack_index.specs.Lazy.{BucketNames, HasBucket, IfKnown, IsBucketFault, IsBucketOf, IsFirstCounted, LazyIndex, counted_with}
 use Rattle.pack_index.specs.Lazy as lazy
 use Rattle.pack_index.specs.declared.lazy_error.LazyError.{LazyError}
-use Rattle.pack_index.specs.declared.lazy_error.LazyError.TheVariants.{NoOffset}
+use Rattle.pack_index.specs.declared.lazy_error.LazyError.TheVariants.{NoOffset, Read}
 use Rattle.object_store.specs.declared.error.Error.{Error}
-use Rattle.object_store.specs.declared.error.Error.TheVariants.{Index, Memory}
+use Rattle.object_store.specs.declared.error.Error.TheVariants.{Gone, Index, Memory}
 use Rattle.object_store.specs.declared.locations.Location.{Location}
 use Rattle.object_store.specs.declared.locations.Location.TheVariants.{Loose, Packed}
 use Rattle.object_store.specs.declared.abbreviations.NamedId.{NamedId}
 
--- the kind of all ids, the pack indexes, the ids of the loose objects that were listed, each by its digits, and the only first byte of which they were listed, if
--- they were not of all
+-- the kind of all ids, the pack indexes, their paths, the ids of the loose objects that were listed, each by its digits, and the only first byte of which they
+-- were listed, if they were not of all
 pub record StoreView : Type 0 where
   pub kind : Kind
   pub packs : List LazyIndex
+  pub paths : List (List ℕ)
   pub loose : List (List ℕ)
   pub listed : Option ℕ
 
@@ -58,13 +60,19 @@ pub record IsNameIn (fewest : ℕ) (ids : List (List ℕ)) (id name : List ℕ) 
 abbrev pub IsOfKind : Kind → NamedId → Type 0
 IsOfKind kind named = (id_kind named.id ≡ kind) × (named.name.kind ≡ kind)
 
--- why a look-up fails that asks the pack indexes in order: the one at the index has the fault, where a read of it may fail or not, and those before it
--- have what is asked for
-abbrev pub IsFirstFault : (List ℕ → Type 0) → (Bool → List ℕ → LazyError → Type 0) → List LazyIndex → Error → Type 0
-IsFirstFault Has HasFault packs (Index at error) =
-    (pack : LazyIndex) × (slice_get packs at ≡ Some pack) × All (IfKnown Has) (take at packs)
-    × IfKnown (λ bytes. HasFault pack.can_fail bytes error) pack
-IsFirstFault Has HasFault packs (Memory error) = Unit {0}
+-- the error is that the pack index of this path has the fault, or is gone, which a failed read says; or memory ran out
+abbrev pub IsOfIndex : List ℕ → LazyError → Error → Type 0
+IsOfIndex path fault (Index text error) = (string_bytes text ≡ path) × (error ≡ fault)
+IsOfIndex path fault (Gone text) = (string_bytes text ≡ path) × (error : IoError) × (fault ≡ Read error)
+IsOfIndex path fault (Memory error) = Unit {0}
+
+-- why a look-up fails that asks the pack indexes in order: one of them has the fault, where a read of it may fail or not, and those before it have what is
+-- asked for; or memory ran out
+abbrev pub IsFirstFault : (List ℕ → Type 0) → (Bool → List ℕ → LazyError → Type 0) → StoreView → Error → Type 0
+IsFirstFault Has HasFault view (Memory error) = Unit {0}
+IsFirstFault Has HasFault view error =
+    (at : ℕ) × (pack : LazyIndex) × (slice_get view.packs at ≡ Some pack) × All (IfKnown Has) (take at view.packs)
+    × (fault : LazyError) × IsOfIndex (slice_index_or view.paths at []) fault error × IfKnown (λ bytes. HasFault pack.can_fail bytes fault) pack
 
 -- the pack indexes have the names that are counted with a first byte
 abbrev pub HaveBuckets : StoreView → ℕ → Type 0
@@ -73,7 +81,7 @@ HaveBuckets view byte = All (IfKnown (λ bytes. HasBucket view.kind bytes byte))
 -- why they are not read
 abbrev pub IsStoreFault : StoreView → ℕ → Error → Type 0
 IsStoreFault view byte error =
-    IsFirstFault (λ bytes. HasBucket view.kind bytes byte) (λ can_fail bytes why. IsBucketFault can_fail view.kind bytes byte why) view.packs error
+    IsFirstFault (λ bytes. HasBucket view.kind bytes byte) (λ can_fail bytes why. IsBucketFault can_fail view.kind bytes byte why) view error
 
 -- a pack index has the names that are counted with the first byte of the id of these digits, and an offset if the id is one of them
 pub record HasLocation (kind : Kind) (bytes digits : List ℕ) : Type 0 where
@@ -93,7 +101,7 @@ HaveLocations view digits = All (IfKnown (λ bytes. HasLocation view.kind bytes 
 -- why the locations of an id are not read: the first pack index with a fault, and that fault
 abbrev pub IsLocateFault : StoreView → List ℕ → Error → Type 0
 IsLocateFault view digits error =
-    IsFirstFault (λ bytes. HasLocation view.kind bytes digits) (λ can_fail bytes why. IsLocationFault can_fail view.kind bytes digits why) view.packs error
+    IsFirstFault (λ bytes. HasLocation view.kind bytes digits) (λ can_fail bytes why. IsLocationFault can_fail view.kind bytes digits why) view error
 
 -- why the locations of the ids that begin with the digits are not found: a look-up of the ids fails, or none of the names does, and that of the locations of
 -- one of the ids
@@ -102,10 +110,12 @@ IsLocationsFault view digits error =
     IsStoreFault view (first_byte_of digits) error
     ⊎ (HaveBuckets view (first_byte_of digits) × (id : List ℕ) × IsTrue (starts_with nat_eq id digits) × IsLocateFault view id error)
 
--- a read failed that may, of the pack index at the index, or memory ran out
+-- a read failed of a pack index that is read from what may fail, or memory ran out
 abbrev pub IsIndexReadOrMemory : StoreView → Error → Type 0
-IsIndexReadOrMemory view (Index at error) = (pack : LazyIndex) × (slice_get view.packs at ≡ Some pack) × lazy.IsReadOrMemory pack.can_fail error
 IsIndexReadOrMemory view (Memory error) = Unit {0}
+IsIndexReadOrMemory view error =
+    (at : ℕ) × (pack : LazyIndex) × (slice_get view.packs at ≡ Some pack)
+    × (fault : LazyError) × IsOfIndex (slice_index_or view.paths at []) fault error × lazy.IsReadOrMemory pack.can_fail fault
 
 -- Where an object store has an object. Ids and names are given by their digits.
 
@@ -206,8 +216,8 @@ HaveMoreMatches A view most prefixes = HaveMore {Found = Vec ObjectId A} (λ dig
 
 -- why several prefixes are not looked up: why one of them is not, or memory ran out
 abbrev pub IsOfOne : (List ℕ → Error → Type 0) → List KindDigits → Error → Type 0
-IsOfOne Fails prefixes (Index at error) = (prefix : KindDigits) × Contains prefixes prefix × Fails prefix.digits (Index at error)
 IsOfOne Fails prefixes (Memory error) = Unit {0}
+IsOfOne Fails prefixes error = (prefix : KindDigits) × Contains prefixes prefix × Fails prefix.digits error
 
 -- the names with the first byte of one of them are not read, or memory ran out
 abbrev pub IsFaultOfOne : StoreView → List KindDigits → Error → Type 0

@@ -1,10 +1,12 @@
 //! Why a store does not give what was asked.
 
-ghost use Rattle.std.specs.Prelude.{◌≡◌};
+ghost use Rattle.std.specs.Prelude.{◌≡◌, string_bytes};
+ghost use Rattle.object_store.specs.Stores.{IsOfIndex};
 ghost use Rattle.object_store.specs.declared.error.Error.TheVariants as errors;
 
 use pack_index::LazyError;
 use std::alloc::AllocError;
+use std::io;
 use thiserror::Error as ThisError;
 
 /// Why a look-up in a store fails. Nothing of its result is known then.
@@ -12,24 +14,46 @@ use thiserror::Error as ThisError;
 /// ```
 /// match lookup_prefix(rt.alloc(), &store, &prefix) {
 ///     Ok(found) => println!(rt; "{} ids", found.len())?,
-///     Err(Error::Index { at, error }) => println!(rt; "pack index {at}: {error}")?,
+///     Err(Error::Gone { path }) => println!(rt; "{path}: open the store again")?,
 ///     Err(error) => println!(rt; "{error}")?,
 /// }
 /// ```
 #[derive(Debug, Drop, ThisError)]
 pub enum Error {
-    /// A pack index cannot be read, is damaged where it was read, or memory for its ids ran out
-    /// (`LazyError::Memory`); and none before it.
-    #[error("pack index {at}: {error}")]
+    /// A pack index cannot be read, or is damaged where it was read; and none before it.
+    #[error("{path}: {error}")]
     Index {
-        /// Its position among those of the store, from 0.
-        at: usize,
+        /// Its path.
+        path: String,
         /// Why.
         error: LazyError,
     },
-    /// There is not enough memory for the result.
+    /// A pack index was removed after it was listed, as by `git gc`, which has packed its objects
+    /// anew; and none before it is at fault. The store is to be opened again.
+    #[error("{path}: removed since it was listed")]
+    Gone {
+        /// Its path.
+        path: String,
+    },
+    /// There is not enough memory.
     #[error("out of memory")]
     Memory(AllocError),
+}
+
+impl Error {
+    /// The error that the pack index of this path gives: [`Error::Gone`] if its file is not found,
+    /// and [`Error::Memory`] if that is why.
+    pub fn of_index(path: String, error: LazyError) -> Error
+        ensures { IsOfIndex (string_bytes path) error result }
+    {
+        match error {
+            LazyError::Memory(error) => Error::Memory(error),
+            LazyError::Read(error) if error.kind() == io::ErrorKind::NotFound => Error::Gone {
+                path,
+            },
+            error => Error::Index { path, error },
+        }
+    }
 }
 
 impl From<AllocError> for Error {

@@ -228,7 +228,7 @@ fn packed_locations<S: Store, A: Allocator + Copy>(
     for pack in 0..packs.len() {
         let offset = match packed_offset(&packs[pack], &buckets[pack], id) {
             Ok(offset) => offset,
-            Err(error) => return Err(Error::Index { at: pack, error }),
+            Err(error) => return Err(Error::of_index(store.index_path(pack)?, error)),
         };
         push_packed(&mut locations, pack, offset)?;
     }

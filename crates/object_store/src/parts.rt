@@ -186,7 +186,7 @@ fn read_buckets<S: Store, A: Allocator + Copy>(
     for at in 0..packs.len() {
         match packs[at].bucket(alloc, byte) {
             Ok(bucket) => push(&mut buckets, bucket)?,
-            Err(error) => return Err(Error::Index { at, error }),
+            Err(error) => return Err(Error::of_index(store.index_path(at)?, error)),
         }
     }
     Ok(buckets)

@@ -1,6 +1,5 @@
 //! What an object store is to a look-up.
 
-use crate::error::Error;
 use crate::loose::LooseTable;
 use gix_hash::{Kind, ObjectId};
 use pack_index::LazyFile;
@@ -11,20 +10,20 @@ use streams::ReadAt;
 /// it has was listed when it was opened, so a look-up lists nothing.
 ///
 /// ```
-/// for pack in store.indexes() {
-///     println!(rt; "{} ids", pack.num_objects())?;
+/// for (at, pack) in store.indexes().iter().enumerate() {
+///     println!(rt; "{}: {} ids", store.index_path(at)?, pack.num_objects())?;
 /// }
 /// println!(rt; "{} loose ids", store.loose().ids().len())?;
 /// ```
 pub trait Store {
-    ghost use Rattle.std.specs.Prelude.{◌≡◌, All};
+    ghost use Rattle.std.specs.Prelude.{◌≡◌, [], All, IfOk, slice_index_or, string_bytes};
     ghost use Rattle.object_store.specs.Stores.{StoreView};
 
     /// What the bytes of a pack index are read from.
     type Source: ReadAt + Drop;
 
-    /// What it has: the kind of all ids, the pack indexes, and the ids of the loose objects, of
-    /// all or of those with one first byte.
+    /// What it has: the kind of all ids, the pack indexes, their paths, and the ids of the loose
+    /// objects, of all or of those with one first byte.
     ghost view: { Self → StoreView };
 
     /// The kind of all ids.
@@ -35,6 +34,11 @@ pub trait Store {
     fn indexes(&self) -> &[LazyFile<Self::Source>]
         ensures value { result.now ≡ (view self.now).packs }
         ensures kinds { All (λ pack. pack.kind ≡ (view self.now).kind) (view self.now).packs };
+
+    /// The path of the pack index at a position among [`Store::indexes`], from 0, for errors.
+    fn index_path(&self, at: usize) -> Result<String, AllocError>
+        ensures { IfOk result (λ path. string_bytes path
+            ≡ slice_index_or (view self.now).paths at []) };
 
     /// The ids of the loose objects.
     fn loose(&self) -> &LooseTable
@@ -74,7 +78,7 @@ pub trait StorePaths: Store {
 ///
 /// ```
 /// let found = lookup_prefix(rt.alloc(), &store, &prefix);
-/// if matches!(&found, Err(error) if store.is_gone(error)) && store.reopen() {
+/// if matches!(&found, Err(Error::Gone { .. })) && store.reopen() {
 ///     println!(rt; "{} pack indexes", store.indexes().len())?;
 /// }
 /// ```
@@ -84,9 +88,6 @@ pub trait Reopen: Store {
 
     /// What it may have after it is opened again, once or more often.
     ghost may_have: { Self → StoreView → Type 0 };
-
-    /// Whether an error is that a pack index is gone.
-    fn is_gone(&self, error: &Error) -> bool;
 
     /// Opens the store again, and returns whether that was possible; if not, it has what it had.
     /// Its kind stays, and of which first byte the loose objects are listed.

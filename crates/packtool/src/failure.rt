@@ -6,6 +6,7 @@ ghost use Rattle.pack_index.specs.declared.lazy_error.LazyError.{LazyError};
 ghost use Rattle.packtool.specs.declared.failure.Failure.TheVariants as failures;
 ghost use Rattle.streams.specs.Devices.{plain_error};
 
+use object_store::Error as LookUpError;
 use pack_index::LazyError;
 use std::alloc::AllocError;
 use std::io;
@@ -18,9 +19,12 @@ pub enum Failure<'a> {
     /// The repository or its object directory is not found, or cannot be read.
     #[error("{0}")]
     Repository(repositories::Error),
-    /// The store cannot be read.
+    /// The store cannot be opened.
     #[error("{0}")]
     Store(store_folders::Error),
+    /// A look-up in the store fails.
+    #[error("{0}")]
+    LookUp(LookUpError),
     /// This file cannot be read, or is not what it should be.
     #[error("{path}: {why}")]
     File {
@@ -105,7 +109,7 @@ pub enum FileWhy {
 /// What is printed after the error of a part of a store that is skipped.
 pub fn skipped_mark(error: &store_folders::Error) -> &'static str {
     match error {
-        store_folders::Error::Index { error, .. } if is_version_1(error) => {
+        store_folders::Error::Index(LookUpError::Index { error, .. }) if is_version_1(error) => {
             " (git repack -ad replaces them), skipped"
         }
         _ => ", skipped",

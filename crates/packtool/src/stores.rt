@@ -141,7 +141,7 @@ impl<'r, P: Copy> Asked<'r, P> {
     // The status of a command that ran over a store, which is kept.
     fn status_of<'a, W>(
         &mut self,
-        mut store: FolderStore<HostRuntime>,
+        store: FolderStore<HostRuntime>,
         ran: Result<bool, StoreError>,
         out: &Plain<W>,
     ) -> Result<u8, Failure<'a>>
@@ -159,7 +159,7 @@ impl<'r, P: Copy> Asked<'r, P> {
             }
             Err(StoreError::TooMany) => Err(Failure::TooMany),
             Err(StoreError::Output) => Err(Failure::of_output(out)),
-            Err(StoreError::Store(error)) => return Err(Failure::Store(store.with_path(error))),
+            Err(StoreError::Store(error)) => return Err(failure_of(store, error)),
         };
         self.kept = Some(store);
         status
@@ -268,6 +268,15 @@ impl Asked<'_, Answers> {
             Question::Names(least) => name_each(alloc, &mut store, &lines, least, MAX_FOUND, out),
         };
         self.status_of(store, ran, out)
+    }
+}
+
+// Why a look-up in a store fails; or why the store could not be opened again, after a pack index
+// was gone.
+fn failure_of<'a>(store: FolderStore<HostRuntime>, error: object_store::Error) -> Failure<'a> {
+    match (error, store.into_reopen_error()) {
+        (object_store::Error::Gone { .. }, Some(failed)) => Failure::Store(failed),
+        (error, _) => Failure::LookUp(error),
     }
 }
 

@@ -22,7 +22,7 @@ pub(crate) fn look_up_again<S: Reopen, T: Drop, F: Fn(&S) -> Result<T, Error>>(
 {
     for _try in 1..MAX_TRIES {
         let looked = look_up(store);
-        if !is_gone(store, &looked) {
+        if !matches!(looked, Err(Error::Gone { .. })) {
             return looked;
         }
         if !store.reopen() {
@@ -30,12 +30,4 @@ pub(crate) fn look_up_again<S: Reopen, T: Drop, F: Fn(&S) -> Result<T, Error>>(
         }
     }
     look_up(store)
-}
-
-// Whether a look-up failed because a pack index is gone that was listed.
-fn is_gone<S: Reopen, T>(store: &S, looked: &Result<T, Error>) -> bool {
-    match looked {
-        Err(error) => store.is_gone(error),
-        Ok(_) => false,
-    }
 }

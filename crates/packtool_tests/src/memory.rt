@@ -4,7 +4,7 @@ ghost use Rattle.std.specs.Prelude.{◌≡◌, [], ◌∷◌, All, IfOk};
 ghost use Rattle.id_lookup.specs.Words.{id_kind};
 
 use gix_hash::{Kind, ObjectId};
-use object_store::{Error, LooseTable, Reopen, Store, StorePaths};
+use object_store::{LooseTable, Reopen, Store, StorePaths};
 use pack_index::{LazyError, LazyFile};
 use std::alloc::{AllocError, Global};
 use std::cell::Cell;
@@ -163,13 +163,14 @@ impl<'a> Memory<'a> {
 }
 
 impl<'a> Store for Memory<'a> {
-    ghost use Rattle.std.specs.Prelude.{None};
+    ghost use Rattle.std.specs.Prelude.{◌∷◌, [], None, codes};
 
     type Source = Counted<'a>;
 
     ghost view = { λ store. record {
       kind = store.kind;
       packs = store.packs.items;
+      paths = codes "1.idx" ∷ codes "2.idx" ∷ [];
       loose = store.loose.ids;
       listed = None;
     } };
@@ -182,6 +183,15 @@ impl<'a> Store for Memory<'a> {
         &self.packs
     }
 
+    fn index_path(&self, at: usize) -> Result<String, AllocError> {
+        let path = match at {
+            0 => "1.idx",
+            1 => "2.idx",
+            _ => "",
+        };
+        String::from_str(self.alloc, path)
+    }
+
     fn loose(&self) -> &LooseTable {
         &self.loose
     }
@@ -189,16 +199,6 @@ impl<'a> Store for Memory<'a> {
 
 impl Reopen for Memory<'_> {
     ghost may_have = { λ _ _. Unit {0} };
-
-    fn is_gone(&self, error: &Error) -> bool {
-        match error {
-            Error::Index {
-                error: LazyError::Read(error),
-                ..
-            } => error.kind() == io::ErrorKind::NotFound,
-            _ => false,
-        }
-    }
 
     fn reopen(&mut self) -> bool {
         self.reads.reopen()

@@ -125,18 +125,18 @@ const IDS: [&str; 7] = [
     "the pack index cannot be read: permission denied",
     "the pack index cannot be read: permission denied",
     "the pack index cannot be read: permission denied",
-    "pack index 0: the pack index cannot be read: permission denied",
-    "pack index 1: the pack index cannot be read: permission denied",
+    "1.idx: the pack index cannot be read: permission denied",
+    "2.idx: the pack index cannot be read: permission denied",
     "found",
 ];
 
 // One of locations reads the same, and then an offset of each index, and a long one.
 const LOCATED: [&str; 6] = [
-    "pack index 0: the pack index cannot be read: permission denied",
-    "pack index 1: the pack index cannot be read: permission denied",
-    "pack index 0: the pack index cannot be read: permission denied",
-    "pack index 1: the pack index cannot be read: permission denied",
-    "pack index 1: the pack index cannot be read: permission denied",
+    "1.idx: the pack index cannot be read: permission denied",
+    "2.idx: the pack index cannot be read: permission denied",
+    "1.idx: the pack index cannot be read: permission denied",
+    "2.idx: the pack index cannot be read: permission denied",
+    "2.idx: the pack index cannot be read: permission denied",
     "found",
 ];
 

@@ -1,12 +1,15 @@
 -- What contracts say of object stores in directories.
 use Rattle.std.specs.Prelude.{ℕ, ◌≡◌, ◌++◌, List, [], ◌∷◌, Option, None, Some, if◌then◌else◌, bytes_eq, string_bytes}
 use Rattle.std.specs.List.{list_any}
+use Rattle.object_store.specs.Stores as stores
+use Rattle.object_store.specs.declared.error.Error as look_ups
+use Rattle.object_store.specs.declared.error.Error.TheVariants as look_up_errors
 use Rattle.pack_index.specs.declared.lazy_error.LazyError.{LazyError}
 use Rattle.repositories.specs.Paths.{loose_path}
 use Rattle.repositories.specs.declared.error.Error as repositories
 use Rattle.repositories.specs.declared.error.Error.TheVariants as repository_errors
 use Rattle.store_folders.specs.declared.error.Error.{Error}
-use Rattle.store_folders.specs.declared.error.Error.TheVariants.{Changed, Gone, Index, Memory, Repository}
+use Rattle.store_folders.specs.declared.error.Error.TheVariants.{Changed, Index, Memory, Repository}
 use Rattle.store_folders.specs.declared.loose.LooseIds.{LooseIds}
 use Rattle.store_folders.specs.declared.loose.LooseIds.TheVariants.{All, WithFirstByte}
 use Rattle.store_folders.specs.declared.packs.PackPaths.{PackPaths}
@@ -37,6 +40,11 @@ abbrev pub of_repository : repositories.Error → Error
 of_repository (repository_errors.Memory error) = Memory error
 of_repository (repository_errors.Cause cause) = Repository (repository_errors.Cause cause)
 
+-- the error that an error of a look-up is
+abbrev pub of_look_up : look_ups.Error → Error
+of_look_up (look_up_errors.Memory error) = Memory error
+of_look_up error = Index error
+
 -- that a directory of this path was changed, or memory ran out
 abbrev pub IsChanged : List ℕ → Error → Type 0
 IsChanged path (Changed text) = string_bytes text ≡ path
@@ -45,7 +53,6 @@ IsChanged path _ = ⊥
 
 -- that a pack index of this path is gone, or why it is not read; or memory ran out
 abbrev pub IsOfIndex : List ℕ → LazyError → Error → Type 0
-IsOfIndex path why (Gone text) = string_bytes text ≡ path
-IsOfIndex path why (Index text boxed) = (string_bytes text ≡ path) × (boxed.value ≡ why)
+IsOfIndex path why (Index error) = stores.IsOfIndex path why error
 IsOfIndex path why (Memory error) = Unit {0}
 IsOfIndex path why _ = ⊥

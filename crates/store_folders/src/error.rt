@@ -1,11 +1,10 @@
 //! Why a store in directories cannot be opened or read.
 
 ghost use Rattle.std.specs.Prelude.{◌≡◌};
-ghost use Rattle.store_folders.specs.Stores.{IsChanged, IsOfIndex, of_repository};
+ghost use Rattle.store_folders.specs.Stores.{IsChanged, IsOfIndex, of_look_up, of_repository};
 
 use pack_index::LazyError;
 use std::alloc::{AllocError, Global};
-use std::io;
 use thiserror::Error as ThisError;
 
 /// Why a store in directories is not opened, or a look-up in it fails. Each error of a directory or
@@ -21,28 +20,10 @@ pub enum Error {
     /// A directory or file cannot be read, or does not say what it is to say.
     #[error("{0}")]
     Repository(repositories::Error),
-    /// A pack index cannot be read, or is damaged where it was read.
-    #[error("{path}: {error}")]
-    Index {
-        /// Its path.
-        path: String,
-        /// Why.
-        error: Box<LazyError>,
-    },
-    /// A pack index was removed after it was listed, as by `git gc`, which has packed its objects
-    /// anew. The store is to be opened again.
-    ///
-    /// ```
-    /// let folder = find_objects(rt)?;
-    /// if let Err(Error::Gone { path }) = FolderStore::open(rt, &folder, LooseIds::All) {
-    ///     println!(rt; "{path}: open the store again")?;
-    /// }
-    /// ```
-    #[error("{path}: removed since it was listed")]
-    Gone {
-        /// Its path.
-        path: String,
-    },
+    /// A pack index cannot be read, is damaged where it was read, or was removed after it was
+    /// listed.
+    #[error("{0}")]
+    Index(object_store::Error),
     /// A directory of packs, the alternates of the store or with them a fan-out directory were
     /// changed while they were read, each time anew. The store is to be opened again.
     #[error("{path}: changed while it was read")]
@@ -66,6 +47,17 @@ impl From<repositories::Error> for Error {
     }
 }
 
+impl From<object_store::Error> for Error {
+    ghost from_gives = { λ error made. made ≡ of_look_up error };
+
+    fn from(error: object_store::Error) -> Error {
+        match error {
+            object_store::Error::Memory(error) => Error::Memory(error),
+            error => Error::Index(error),
+        }
+    }
+}
+
 // The system's error of a process that has as many open files as it may have: EMFILE.
 const TOO_MANY_OPEN: i32 = 24;
 
@@ -74,18 +66,9 @@ impl Error {
     pub(crate) fn index(alloc: Global, path: &str, error: LazyError) -> Error
         ensures { IsOfIndex path.now error result }
     {
-        let Ok(path) = String::from_str(alloc, path) else {
-            return Error::Memory(AllocError);
-        };
-        match error {
-            LazyError::Memory(error) => Error::Memory(error),
-            LazyError::Read(error) if error.kind() == io::ErrorKind::NotFound => Error::Gone {
-                path,
-            },
-            error => match Box::new(alloc, error) {
-                Ok(error) => Error::Index { path, error },
-                Err(_) => Error::Memory(AllocError),
-            },
+        match String::from_str(alloc, path) {
+            Ok(path) => Error::from(object_store::Error::of_index(path, error)),
+            Err(error) => Error::Memory(error),
         }
     }
 
@@ -106,6 +89,19 @@ impl Error {
 
     // Whether a pack index was read, and is damaged or none.
     pub(crate) fn is_damage(&self) -> bool {
-        matches!(self, Error::Index { error, .. } if !matches!(**error, LazyError::Read(_)))
+        match self {
+            Error::Index(object_store::Error::Index { error, .. }) => {
+                !matches!(error, LazyError::Read(_))
+            }
+            _ => false,
+        }
+    }
+
+    // Whether the store was changed while it was read.
+    pub(crate) fn is_change(&self) -> bool {
+        matches!(
+            self,
+            Error::Changed { .. } | Error::Index(object_store::Error::Gone { .. })
+        )
     }
 }

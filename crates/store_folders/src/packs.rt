@@ -110,7 +110,7 @@ impl PackIndexes {
             return Ok(());
         };
         let path = String::from_str(alloc, &gone.index)?;
-        Err(Error::Gone { path })
+        Err(Error::Index(object_store::Error::Gone { path }))
     }
 
     // Those whose packs are there. Fails if an index was removed with its pack.

@@ -1,6 +1,6 @@
 //! An object store in directories.
 
-ghost use Rattle.std.specs.Prelude.{◌≡◌, ◌≤◌, All, IfErr, IfOk, MatchOption, Some, [], flat_map, map, option_map, slice_get, slice_index_or, string_bytes, true, vec_len};
+ghost use Rattle.std.specs.Prelude.{◌≡◌, All, IfErr, IfOk, [], flat_map, map, slice_index_or, string_bytes, true, vec_len};
 ghost use Rattle.store_folders.specs.Stores.{index_path, of_repository, pack_path_of};
 
 use crate::error::Error;
@@ -9,7 +9,7 @@ use crate::packs::{OpenIndexes, PackFolders, PackIndexes, PackPaths, open_indexe
 use crate::source::Source;
 use gix_hash::{Kind, ObjectId, Prefix};
 use object_store::{LooseTable, Reopen, Store, StorePaths};
-use pack_index::{LazyError, LazyFile};
+use pack_index::LazyFile;
 use repositories::{Folders, ObjectsFolder, metadata, retried, with_alternates};
 use std::alloc::AllocError;
 use std::fs::File;
@@ -58,7 +58,8 @@ impl<R: Files<File = File> + AllocGlobal + Clone + Drop> FolderStore<R> {
     ///
     /// No object is missed that is packed, unpacked or moved into another directory meanwhile, as
     /// by `git gc`. If a directory of packs or a list of alternates is changed while the store is
-    /// opened, it is read again; the 100th time [`Error::Gone`] or [`Error::Changed`] is returned.
+    /// opened, it is read again; the 100th time that is the error: [`Error::Changed`], or
+    /// [`Error::Index`] with [`object_store::Error::Gone`].
     ///
     /// The directory's alternates are read as by Git: each once, and nested up to 5 times. Those
     /// that cannot be used are skipped ([`FolderStore::skipped`]). A missing directory `pack` or
@@ -87,9 +88,9 @@ impl<R: Files<File = File> + AllocGlobal + Clone + Drop> FolderStore<R> {
         ensures listed { IfOk result (λ store. store.loose.which ≡ loose) }
     {
         for _ in 1..MAX_TRIES {
-            match FolderStore::read(rt, folder, loose, now) {
-                Err(Error::Gone { .. } | Error::Changed { .. }) => {}
-                opened => return opened,
+            let opened = FolderStore::read(rt, folder, loose, now);
+            if !matches!(&opened, Err(error) if error.is_change()) {
+                return opened;
             }
         }
         FolderStore::read(rt, folder, loose, now)
@@ -165,8 +166,7 @@ impl<R: Files<File = File> + AllocGlobal + Clone + Drop> FolderStore<R> {
             × (self.new.loose ≡ self.old.loose)) }
     {
         match self.look_again(loose, now) {
-            Err(Error::Gone { .. } | Error::Changed { .. }) => {}
-            Err(error) if error.is_too_many_open() => {}
+            Err(error) if error.is_change() || error.is_too_many_open() => {}
             looked => return looked,
         }
         // Its files are closed before as many are opened.
@@ -250,41 +250,11 @@ impl<R: Files<File = File> + AllocGlobal + Clone + Drop> FolderStore<R> {
         &self.skipped_before
     }
 
-    /// The path of the pack index at this position among `indexes()`, if there is one.
-    pub fn index_path(&self, at: usize) -> Option<&str>
-        ensures { MatchOption result (vec_len self.now.indexes ≤ at)
-            (λ path. Some path.now ≡ option_map index_path (slice_get self.now.packs.items at)) }
+    /// Why the store could not be opened again the last time ([`Reopen`]), if it could not.
+    pub fn into_reopen_error(self) -> Option<Error>
+        ensures { result ≡ self.failed }
     {
-        Some(self.packs.get(at)?.index.as_str())
-    }
-
-    /// The error of a look-up in this store, with the path of the pack index; or why the store
-    /// could not be opened again after that was gone.
-    pub fn with_path(&mut self, error: object_store::Error) -> Error {
-        match self.failure_after(&error) {
-            Some(failed) => failed,
-            None => self.at_path(error),
-        }
-    }
-
-    // Why the store could not be opened again after an error.
-    fn failure_after(&mut self, error: &object_store::Error) -> Option<Error> {
-        if self.is_gone(error) {
-            self.failed.take()
-        } else {
-            None
-        }
-    }
-
-    // The error of a look-up, with the path of the pack index.
-    fn at_path(&self, error: object_store::Error) -> Error {
-        match error {
-            object_store::Error::Index { at, error } => {
-                let path = self.index_path(at).unwrap_or("pack index");
-                Error::index(self.rt.alloc(), path, error)
-            }
-            object_store::Error::Memory(error) => Error::Memory(error),
-        }
+        self.failed
     }
 
     /// Checks the files of the loose objects whose ids begin with a prefix: one that is a link to
@@ -312,6 +282,7 @@ impl<R: Files<File = File> + AllocGlobal + Clone + Drop> FolderStore<R> {
         ensures kind { self.new.folder.kind ≡ self.old.folder.kind }
         ensures listed { self.new.loose.which ≡ self.old.loose.which }
         ensures indexes { IfErr result (λ _. self.new.indexes.items ≡ self.old.indexes.items) }
+        ensures packs { IfErr result (λ _. self.new.packs.items ≡ self.old.packs.items) }
         ensures loose { IfErr result (λ _. self.new.loose ≡ self.old.loose) }
     {
         let mut store = FolderStore::open(&self.rt, &self.folder, self.loose.which)?;
@@ -398,6 +369,7 @@ impl<R: Files<File = File> + AllocGlobal + Clone + Drop> Store for FolderStore<R
     ghost view = { λ store. record {
       kind = store.folder.kind;
       packs = store.indexes.items;
+      paths = map index_path store.packs.items;
       loose = store.loose.table.ids;
       listed = only_of store.loose.which;
     } };
@@ -408,6 +380,14 @@ impl<R: Files<File = File> + AllocGlobal + Clone + Drop> Store for FolderStore<R
 
     fn indexes(&self) -> &[LazyFile<Source<R>>] {
         &self.indexes
+    }
+
+    fn index_path(&self, at: usize) -> Result<String, AllocError> {
+        let path = match self.packs.get(at) {
+            Some(paths) => paths.index.as_str(),
+            None => "",
+        };
+        String::from_str(self.rt.alloc(), path)
     }
 
     fn loose(&self) -> &LooseTable {
@@ -421,16 +401,6 @@ impl<R: Files<File = File> + AllocGlobal + Clone + Drop> Reopen for FolderStore<
 
     ghost may_have = { λ store view. (view.kind ≡ store.folder.kind)
         × (view.listed ≡ only_of store.loose.which) };
-
-    fn is_gone(&self, error: &object_store::Error) -> bool {
-        match error {
-            object_store::Error::Index {
-                error: LazyError::Read(error),
-                ..
-            } => error.kind() == io::ErrorKind::NotFound,
-            _ => false,
-        }
-    }
 
     fn reopen(&mut self) -> bool {
         self.failed = self.open_again().err();

@@ -207,13 +207,11 @@ fn find<R: Files<File = File> + AllocGlobal + Clone + Drop>(
 fn expect_in_order<R: Files<File = File> + AllocGlobal + Clone + Drop>(
     rt: &impl Abort,
     store: &FolderStore<R>,
-) {
-    let count = store.indexes().len();
-    expect!(rt; store.index_path(count).is_none());
-    for at in 1..count {
-        let before = store.index_path(at - 1).map_or("", |path| path);
-        expect!(rt; store.index_path(at).is_some_and(|path| before < path), at);
+) -> Result<(), Fail> {
+    for at in 1..store.indexes().len() {
+        expect!(rt; store.index_path(at - 1)? < store.index_path(at)?, at);
     }
+    Ok(())
 }
 
 // Opens the store with these moves and `left` reads of directories, and compares the ids that are
@@ -237,7 +235,7 @@ fn expect_opened<R: Abort + Files<File = File> + AllocGlobal>(
         Ok(store) => {
             let ids = want.expect(rt, "a store where an error is wanted");
             expect_ids(rt, &find(rt, &store)?, ids);
-            expect_in_order(rt, &store);
+            expect_in_order(rt, &store)?;
         }
         Err(error) => expect_printed(rt, error, want.err().unwrap_or("a store")),
     }
@@ -337,17 +335,17 @@ const MANY_LOOSE: &str = "many/objects/4b/ffffffffffffffffffffffffffffffffffffff
 fn files_may_be_removed_after_opening(rt: HostRuntime) -> Result<(), Fail> {
     make_many(&rt)?;
     let folder = ObjectsFolder::at(&rt, "many/objects")?;
-    let mut store = FolderStore::open(&rt, &folder, LooseIds::WithFirstByte(0x4b))?;
-    expect_in_order(&rt, &store);
+    let store = FolderStore::open(&rt, &folder, LooseIds::WithFirstByte(0x4b))?;
+    expect_in_order(&rt, &store)?;
     rt.remove_file(MANY_LOOSE)?;
     store.check_loose_files(&Prefix::from_hex("4bff")?)?;
     rt.remove_file("many/objects/pack/pack-69.idx")?;
     let loose = "4bffffffffffffffffffffffffffffffffffffff";
     expect_ids(&rt, &find(&rt, &store)?, &[BOTH, loose]);
     let error = LazyError::Read(io::ErrorKind::NotFound.into());
-    let error = object_store::Error::Index { at: 69, error };
+    let error = object_store::Error::of_index(store.index_path(69)?, error);
     let want = "many/objects/pack/pack-69.idx: removed since it was listed";
-    expect_printed(&rt, store.with_path(error), want);
+    expect_printed(&rt, error, want);
     fs::remove_dir_all(&rt, "many")?;
     Ok(())
 }

@@ -12,8 +12,8 @@ loop-pack-init g c = (c.new-locations.ensures.items, λ k d low. absurd (omega a
 pub returns-in-Err-clause-err : goal.returns-in-Err-clause-err
 returns-in-Err-clause-err g c =
     let here = pack_at c.indexes-packs.ensures.value c.indexes-packs.ensures.kinds c.loop-pack-test.true c.index-packs-pack.is in
-    fault_at (λ k bytes. HasLocation k bytes (id_digits c.args.id.now)) (λ k can_fail bytes why. IsLocationFault can_fail k bytes (id_digits c.args.id.now) why) here c.loop-pack.invariant.1
-    c.in-Err.error c.in-Err.ensures.err
+    fault_at (λ k bytes. HasLocation k bytes (id_digits c.args.id.now)) (λ k can_fail bytes why. IsLocationFault can_fail k bytes (id_digits c.args.id.now) why)
+    (g.S.Store.view c.args.store.now) here c.loop-pack.invariant.1 c.in-Err.error c.of_index.result c.in-Err.ensures.err (rw c.in_ok-index_path-in-Err.ensures at c.of_index.ensures)
 
 pub returns-clause-sound : goal.returns-clause-sound
 returns-clause-sound g c =
@@ -24,8 +24,8 @@ loop-pack-preserved g c =
     let here = pack_at c.indexes-packs.ensures.value c.indexes-packs.ensures.kinds c.loop-pack-test.true c.index-packs-pack.is in (
       packed_more (g.S.Store.view c.args.store.now) (id_digits c.args.id.now) c.loop-pack.pack c.index-packs-pack.result c.in-Ok.offset c.loop-pack.locations.items
           c.push_packed.new.locations.items here c.in-Ok.ensures.offset c.loop-pack.invariant.0 c.in_ok-push_packed.ensures,
-      have_more (λ k bytes. HasLocation k bytes (id_digits c.args.id.now)) (λ k can_fail bytes why. IsLocationFault can_fail k bytes (id_digits c.args.id.now) why) here c.loop-pack.invariant.1
-          c.in-Ok.ensures.sound,
+      have_more (λ k bytes. HasLocation k bytes (id_digits c.args.id.now)) (λ k can_fail bytes why. IsLocationFault can_fail k bytes (id_digits c.args.id.now) why)
+          (g.S.Store.view c.args.store.now) here c.loop-pack.invariant.1 c.in-Ok.ensures.sound,
     )
 
 pub returns-clause-locations : goal.returns-clause-locations
