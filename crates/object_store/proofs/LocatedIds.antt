@@ -1,24 +1,42 @@
 -- Ids that are located one after the other.
-use Rattle.std.proofs.Common.{◌≡◌, ◌∙◌, ℕ, ◌+◌, ◌<◌, ◌≤◌, ◌⊎◌, inl, inr, Err, Ok, Result, List, [], ◌∷◌, ◌++◌, length, get_or, map, take, sym, ap, subst, IfErr, All}
+use Rattle.std.proofs.Common.{◌≡◌, ◌∙◌, ℕ, ◌+◌, ◌<◌, ◌≤◌, ◌⊎◌, inl, inr, true, nat_eq, Err, None, Ok, Option, Result, Some, List, [], ◌∷◌, ◌++◌, length, get_or, map, take, sym, ap, subst, IfErr, All, Contains}
+use Rattle.std.specs.List.{starts_with}
 use Rattle.std.proofs.lemmas.List.{map-append, take_more}
-use Rattle.std.proofs.lemmas.List.Elements.{All-push}
-use Rattle.id_lookup.specs.Words.{ObjectId, first_byte_of, id_digits}
+use Rattle.std.proofs.lemmas.List.Elements.{All-push, All-take, Contains-get_or}
+use Rattle.id_lookup.specs.Words.{ObjectId, first_byte_of, id_digits, id_kind}
 use Rattle.id_lookup.proofs.Beginnings.{first_byte_of-begins}
-use Rattle.object_store.specs.Stores.{AreMatches, HaveBuckets, IsLocateFault, IsLocationsFault, IsStoreFault, StoreView}
-use Rattle.object_store.specs.Several.{IsLocated}
+use Rattle.object_store.specs.Stores.{AreMatches, HaveBuckets, IsLocateFault, IsStoreFault, StoreView}
+use Rattle.object_store.specs.Several.{IsLocated, IsLocationsFault, limited_to}
 use Rattle.object_store.proofs.Whole.{found_begins}
 use Rattle.object_store.specs.declared.error.Error.{Error}
 use Rattle.object_store.specs.declared.locations.LocatedId.{LocatedId}
 
--- why an id that was found is not located is why those that begin with the digits are not
-pub fault_of_found : (view : StoreView) (digits : List ℕ) (ids : List ObjectId) (at : ℕ) (d : ObjectId) (error : Error) → 2 ≤ length digits → AreMatches view digits ids
-    → at < length ids
-    → IsStoreFault view (first_byte_of (id_digits (get_or ids at d))) error
-    ⊎ (HaveBuckets view (first_byte_of (id_digits (get_or ids at d))) × IsLocateFault view (id_digits (get_or ids at d)) error)
-    → IsLocationsFault view digits error
-fault_of_found view digits ids at d error enough are low (inl fault) =
-    inl (subst (λ (b : ℕ). IsStoreFault view b error) (first_byte_of-begins (id_digits (get_or ids at d)) digits enough (found_begins view digits ids are at d low)) fault)
-fault_of_found view digits ids at d error enough are low (inr both) = inr (are.has_read.are_read.sound, id_digits (get_or ids at d), found_begins view digits ids are at d low, both.1)
+-- the first of the ids that begin with the digits
+module _ (view : StoreView) (digits : List ℕ) (limit : Option ℕ) (ids first : List ObjectId) (are : AreMatches view digits ids) (is : first ≡ limited_to limit ids) where
+  all_first : (P : ObjectId → Type 0) → All P ids → All P first
+  all_first P all = subst (All P) (sym is) (by limit)
+    where
+      by : (n : Option ℕ) → All P (limited_to n ids)
+      by None = all
+      by (Some n) = All-take P n ids all
+
+  pub first_kinds : All (λ id. id_kind id ≡ view.kind) first
+  first_kinds = all_first (λ id. id_kind id ≡ view.kind) are.kinds
+
+  -- they have the first byte of the digits
+  pub first_bytes : 2 ≤ length digits → All (λ id. first_byte_of (id_digits id) ≡ first_byte_of digits) first
+  first_bytes enough at d low =
+      first_byte_of-begins (id_digits (get_or first at d)) digits enough
+      (all_first (λ id. starts_with nat_eq (id_digits id) digits ≡ true) (found_begins view digits ids are) at d low)
+
+  -- why one of them is not located is why they are not
+  pub fault_of_first : (at : ℕ) (d : ObjectId) (error : Error) → 2 ≤ length digits → at < length first
+      → IsStoreFault view (first_byte_of (id_digits (get_or first at d))) error
+      ⊎ (HaveBuckets view (first_byte_of (id_digits (get_or first at d))) × IsLocateFault view (id_digits (get_or first at d)) error)
+      → IsLocationsFault limit view digits error
+  fault_of_first at d error enough low (inl fault) = inl (subst (λ (b : ℕ). IsStoreFault view b error) (first_bytes enough at d low) fault)
+  fault_of_first at d error enough low (inr both) =
+      inr (ids, are, get_or first at d, subst (λ (some : List ObjectId). Contains some (get_or first at d)) is (Contains-get_or first at d low), both.1)
 
 -- a result that fails so fails for a weaker reason
 pub fault_by : {T : Type 0} (P Q : Error → Type 0) → ((e : Error) → P e → Q e) → (result : Result T Error) → IfErr result P → IfErr result Q

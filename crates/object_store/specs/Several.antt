@@ -1,8 +1,8 @@
 -- The locations and the abbreviations of the ids that begin with each of several prefixes.
-use Rattle.std.specs.Prelude.{◌≡◌, ℕ, ◌<◌, ◌/◌, ◌%◌, List, [], ◌∷◌, Vec, length, map, slice_index_or, string_bytes, All}
+use Rattle.std.specs.Prelude.{◌≡◌, ℕ, ◌<◌, ◌/◌, ◌%◌, ◌⊎◌, List, [], ◌∷◌, None, Option, Some, Vec, length, map, slice_index_or, string_bytes, take, All, Contains}
 use Rattle.std.specs.List.{sum_by}
-use Rattle.id_lookup.specs.Words.{IsIndexOf, IsShortestNameFrom, Kind, KindDigits, first_byte_of, id_digits, matches}
-use Rattle.object_store.specs.Stores.{AreFoundOfEach, AreLocations, AreMatches, HasRead, HaveMore, IsLocationsFault, IsNameIn, IsOfKind, IsOfOne, StoreView}
+use Rattle.id_lookup.specs.Words.{IsIndexOf, IsShortestNameFrom, Kind, KindDigits, ObjectId, first_byte_of, id_digits, matches}
+use Rattle.object_store.specs.Stores.{AreFoundOfEach, AreLocations, AreMatches, HasRead, HaveMore, IsLocateFault, IsNameIn, IsOfKind, IsOfOne, IsStoreFault, StoreView}
 use Rattle.object_store.specs.declared.error.Error.{Error}
 use Rattle.object_store.specs.declared.locations.LocatedId.{LocatedId}
 use Rattle.object_store.specs.declared.abbreviations.NamedId.{NamedId}
@@ -14,27 +14,40 @@ pub record IsLocated {A : Type 0} (view : StoreView) (loose_paths : List ℕ →
   pub locations : AreLocations view (id_digits located.id) located.locations.items
   pub paths : map string_bytes located.loose_paths.items ≡ loose_paths (id_digits located.id)
 
--- the ids of the store that begin with the digits, each with its locations
-pub record AreLocated {A : Type 0} (view : StoreView) (loose_paths : List ℕ → List (List ℕ)) (digits : List ℕ) (located : List (LocatedId A)) : Type 0 where
-  pub ids : AreMatches view digits (map (λ (l : LocatedId A). l.id) located)
+-- the first of a list, as many as the limit, or all if there is none
+abbrev pub limited_to : {X : Type 0} → Option ℕ → List X → List X
+limited_to None xs = xs
+limited_to (Some limit) xs = take limit xs
+
+-- of the ids of the store that begin with the digits the first up to the limit, each with its locations
+pub record AreLocated {A : Type 0} (limit : Option ℕ) (view : StoreView) (loose_paths : List ℕ → List (List ℕ)) (digits : List ℕ) (located : List (LocatedId A)) : Type 0 where
+  pub ids : List ObjectId
+  pub are_matches : AreMatches view digits ids
+  pub first : map (λ (l : LocatedId A). l.id) located ≡ limited_to limit ids
   pub each : All (IsLocated view loose_paths) located
 
--- a list for each prefix: the ids that begin with it, each with its locations
-abbrev pub AreLocatedOfEach : {A : Type 0} → StoreView → (List ℕ → List (List ℕ)) → List KindDigits → List (Vec (LocatedId A) A) → Type 0
-AreLocatedOfEach view loose_paths prefixes located = AreFoundOfEach (λ digits ids. AreLocated view loose_paths digits ids.items) prefixes located
+-- why they are not found: a look-up of the ids fails, or that of the locations of one of the first
+abbrev pub IsLocationsFault : Option ℕ → StoreView → List ℕ → Error → Type 0
+IsLocationsFault limit view digits error =
+    IsStoreFault view (first_byte_of digits) error
+    ⊎ ((ids : List ObjectId) × AreMatches view digits ids × (id : ObjectId) × Contains (limited_to limit ids) id × IsLocateFault view (id_digits id) error)
+
+-- a list for each prefix: of the ids that begin with it the first up to the limit, each with its locations
+abbrev pub AreLocatedOfEach : {A : Type 0} → Option ℕ → StoreView → (List ℕ → List (List ℕ)) → List KindDigits → List (Vec (LocatedId A) A) → Type 0
+AreLocatedOfEach limit view loose_paths prefixes located = AreFoundOfEach (λ digits ids. AreLocated limit view loose_paths digits ids.items) prefixes located
 
 -- how many locations ids have
 abbrev pub location_count : {A : Type 0} → Vec (LocatedId A) A → ℕ
 location_count ids = sum_by (λ located. length located.locations.items) ids.items
 
--- the ids that begin with some of the prefixes have more than `most` locations
-abbrev pub HaveMoreLocations : Type 0 → StoreView → (List ℕ → List (List ℕ)) → ℕ → List KindDigits → Type 0
-HaveMoreLocations A view loose_paths most prefixes =
-    HaveMore {Found = Vec (LocatedId A) A} (λ digits ids. AreLocated view loose_paths digits ids.items) location_count most prefixes
+-- the ids that are located of some of the prefixes have more than `most` locations
+abbrev pub HaveMoreLocations : Type 0 → Option ℕ → StoreView → (List ℕ → List (List ℕ)) → ℕ → List KindDigits → Type 0
+HaveMoreLocations A limit view loose_paths most prefixes =
+    HaveMore {Found = Vec (LocatedId A) A} (λ digits ids. AreLocated limit view loose_paths digits ids.items) location_count most prefixes
 
 -- why they are not found: why they are not of one of the prefixes, or memory ran out
-abbrev pub IsLocationsFaultOfOne : StoreView → List KindDigits → Error → Type 0
-IsLocationsFaultOfOne view prefixes error = IsOfOne (IsLocationsFault view) prefixes error
+abbrev pub IsLocationsFaultOfOne : Option ℕ → StoreView → List KindDigits → Error → Type 0
+IsLocationsFaultOfOne limit view prefixes error = IsOfOne (IsLocationsFault limit view) prefixes error
 
 -- the only one that was found, with its name among the ids; or none was found, or more than one
 abbrev pub IsAbbreviatedAs : ℕ → List (List ℕ) → List (List ℕ) → Abbreviation → Type 0

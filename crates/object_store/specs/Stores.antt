@@ -103,13 +103,6 @@ abbrev pub IsLocateFault : StoreView → List ℕ → Error → Type 0
 IsLocateFault view digits error =
     IsFirstFault (λ bytes. HasLocation view.kind bytes digits) (λ can_fail bytes why. IsLocationFault can_fail view.kind bytes digits why) view error
 
--- why the locations of the ids that begin with the digits are not found: a look-up of the ids fails, or none of the names does, and that of the locations of
--- one of the ids
-abbrev pub IsLocationsFault : StoreView → List ℕ → Error → Type 0
-IsLocationsFault view digits error =
-    IsStoreFault view (first_byte_of digits) error
-    ⊎ (HaveBuckets view (first_byte_of digits) × (id : List ℕ) × IsTrue (starts_with nat_eq id digits) × IsLocateFault view id error)
-
 -- a read failed of a pack index that is read from what may fail, or memory ran out
 abbrev pub IsIndexReadOrMemory : StoreView → Error → Type 0
 IsIndexReadOrMemory view (Memory error) = Unit {0}

@@ -1,10 +1,10 @@
 //! Where an object store has an object.
 
-ghost use Rattle.std.specs.Prelude.{◌≡◌, ◌⊎◌, [], ◌∷◌, ◌++◌, ◌<◌, ◌≤◌, All, IfErr, IfNone, IfOk, IfSome, OnOk, length, map};
+ghost use Rattle.std.specs.Prelude.{◌≡◌, [], ◌∷◌, ◌++◌, ◌<◌, ◌≤◌, All, IfErr, IfNone, IfOk, IfSome, None, OnOk, length, map};
 ghost use Rattle.std.specs.List.{sum_by};
 ghost use Rattle.id_lookup.specs.Words.{first_byte_of, id_digits, id_kind};
-ghost use Rattle.object_store.specs.Stores.{AreBuckets, AreLocations, AreMatches, ArePacked, CanLookUp, HasLocation, HaveLocations, IsListed, IsLocateFault, IsLocationFault, IsLocationsFault, IsOffsetOf, packed_at};
-ghost use Rattle.object_store.specs.Several.{AreLocated, AreLocatedOfEach, HaveMoreLocations, IsLocationsFaultOfOne, location_count};
+ghost use Rattle.object_store.specs.Stores.{AreBuckets, AreLocations, AreMatches, ArePacked, CanLookUp, HasLocation, HaveLocations, IsListed, IsLocateFault, IsLocationFault, IsOffsetOf, packed_at};
+ghost use Rattle.object_store.specs.Several.{AreLocated, AreLocatedOfEach, HaveMoreLocations, IsLocationsFault, IsLocationsFaultOfOne, limited_to, location_count};
 ghost use Rattle.pack_index.specs.Lazy.{IfKnown, IsBucketOf};
 
 use crate::error::Error;
@@ -42,7 +42,7 @@ pub enum Location {
 /// An id with all locations of its object.
 ///
 /// ```
-/// if let Some(found) = locate_prefixes(rt.alloc(), &store, &prefixes, 65_536)? {
+/// if let Some(found) = locate_prefixes(rt.alloc(), &store, &prefixes, None, 65_536)? {
 ///     for located in found.iter().flatten() {
 ///         println!(rt; "{}: {} copies", located.id, located.locations.len())?;
 ///     }
@@ -74,28 +74,29 @@ pub fn locate_prefix<S: StorePaths, A: Allocator + Copy>(
     prefix: &Prefix,
 ) -> Result<Vec<LocatedId<A>, A>, Error>
     requires { CanLookUp (S.view store.now) prefix.now }
-    ensures located { IfOk result (λ located. AreLocated (S.view store.now)
+    ensures located { IfOk result (λ located. AreLocated None (S.view store.now)
         (S.loose_paths store.now) prefix.now.digits located.items) }
-    ensures err { IfErr result (IsLocationsFault (S.view store.now) prefix.now.digits) }
+    ensures err { IfErr result (IsLocationsFault None (S.view store.now) prefix.now.digits) }
 {
     let mut parts = Parts::new(alloc, store);
     let ids = parts.lookup_prefix(prefix)?;
-    locate_ids(alloc, store, &mut parts, &ids, prefix)
+    locate_ids(alloc, store, &mut parts, &ids, None, prefix)
 }
 
 /// The ids of a store that begin with each of several prefixes, with their locations: as many lists
-/// as prefixes, in their order.
+/// as prefixes, in their order. Of the ids of a prefix the first `limit` are located, or all if it
+/// is `None`: two are enough to see whether there is one, or more.
 ///
 /// Each prefix must have 2 digits or more, and the store's kind. Of each pack index the ids with a
 /// first byte are read once, if a prefix has it, and memory is allocated for those with one first
 /// byte at a time. The error is that of reading the ids with the first byte of one of the prefixes,
-/// or the offset of an id that begins with it.
+/// or the offset of an id that is located.
 ///
 /// `None` is returned if and only if there are several prefixes, and more than `most` locations are
 /// found for them; those of an id that is found for two of them count twice.
 ///
 /// ```
-/// if let Some(found) = locate_prefixes(rt.alloc(), &store, &prefixes, 65_536)? {
+/// if let Some(found) = locate_prefixes(rt.alloc(), &store, &prefixes, None, 65_536)? {
 ///     println!(rt; "{} prefixes", found.len())?;
 /// }
 /// ```
@@ -103,26 +104,34 @@ pub fn locate_prefixes<S: StorePaths, A: Allocator + Copy>(
     alloc: A,
     store: &S,
     prefixes: &[Prefix],
+    limit: Option<usize>,
     most: usize,
 ) -> Result<Option<Vec<Vec<LocatedId<A>, A>, A>>, Error>
     requires { All (CanLookUp (S.view store.now)) prefixes.now }
-    ensures located { IfOk result (λ located. IfSome located (λ located. AreLocatedOfEach
+    ensures located { IfOk result (λ located. IfSome located (λ located. AreLocatedOfEach limit
         (S.view store.now) (S.loose_paths store.now) prefixes.now located.items)) }
     ensures several { IfOk result (λ located. IfNone located (1 < length prefixes.now)) }
-    ensures more { IfOk result (λ located. IfNone located (HaveMoreLocations A (S.view store.now)
-        (S.loose_paths store.now) most prefixes.now)) }
+    ensures more { IfOk result (λ located. IfNone located (HaveMoreLocations A limit
+        (S.view store.now) (S.loose_paths store.now) most prefixes.now)) }
     ensures few { IfOk result (λ located. IfSome located (λ located. 1 < length prefixes.now
         → sum_by location_count located.items ≤ most)) }
-    ensures err { IfErr result (IsLocationsFaultOfOne (S.view store.now) prefixes.now) }
+    ensures err { IfErr result (IsLocationsFaultOfOne limit (S.view store.now) prefixes.now) }
 {
-    look_up_each(alloc, store, prefixes, most, &Locating { alloc, store })
+    let look_up = Locating {
+        alloc,
+        store,
+        limit,
+    };
+    look_up_each(alloc, store, prefixes, most, &look_up)
 }
 
-// Looks up the locations of the ids that begin with a prefix.
+// Looks up the locations of the first ids that begin with a prefix.
 #[derive(Drop)]
 struct Locating<'s, S: StorePaths, A: Allocator> {
     alloc: A,
     store: &'s S,
+    // How many, or all.
+    limit: Option<usize>,
 }
 
 impl<S: StorePaths, A: Allocator + Copy> LookUp<S, A> for Locating<'_, S, A> {
@@ -131,9 +140,9 @@ impl<S: StorePaths, A: Allocator + Copy> LookUp<S, A> for Locating<'_, S, A> {
     ghost fits = { λ _ _. Unit {0} };
 
     ghost finds = { λ it view digits located.
-        AreLocated view (S.loose_paths it.store.now) digits located.items };
+        AreLocated it.limit view (S.loose_paths it.store.now) digits located.items };
 
-    ghost fails = { λ _ view digits error. IsLocationsFault view digits error };
+    ghost fails = { λ it view digits error. IsLocationsFault it.limit view digits error };
 
     ghost size = { λ ids. location_count ids };
 
@@ -147,7 +156,7 @@ impl<S: StorePaths, A: Allocator + Copy> LookUp<S, A> for Locating<'_, S, A> {
         prefix: &Prefix,
     ) -> Result<Vec<LocatedId<A>, A>, Error> {
         let ids = parts.lookup_prefix(prefix)?;
-        locate_ids(self.alloc, self.store, parts, &ids, prefix)
+        locate_ids(self.alloc, self.store, parts, &ids, self.limit, prefix)
     }
 
     fn left(&self, ids: &Vec<LocatedId<A>, A>, room: usize) -> Option<usize> {
@@ -159,24 +168,26 @@ impl<S: StorePaths, A: Allocator + Copy> LookUp<S, A> for Locating<'_, S, A> {
     }
 }
 
-// The ids that begin with a prefix, with their locations.
+// Of the ids that begin with a prefix the first up to the limit, with their locations.
 fn locate_ids<S: StorePaths, A: Allocator + Copy>(
     alloc: A,
     store: &S,
     parts: &mut Parts<'_, S, A>,
     ids: &[ObjectId],
+    limit: Option<usize>,
     prefix: &Prefix,
 ) -> Result<Vec<LocatedId<A>, A>, Error>
     requires enough { 2 ≤ length prefix.now.digits }
     requires listed { IsListed parts.old (first_byte_of prefix.now.digits) }
     requires ids { AreMatches parts.old prefix.now.digits ids.now }
     ensures store { parts.new ≡ parts.old }
-    ensures located { IfOk result (λ located. AreLocated parts.old
+    ensures located { IfOk result (λ located. AreLocated limit parts.old
         (S.loose_paths store.now) prefix.now.digits located.items) }
-    ensures err { IfErr result (IsLocationsFault parts.old prefix.now.digits) }
+    ensures err { IfErr result (IsLocationsFault limit parts.old prefix.now.digits) }
 {
-    let mut located = Vec::with_capacity(alloc, ids.len())?;
-    for id in ids {
+    let first = limited_to(ids, limit);
+    let mut located = Vec::with_capacity(alloc, first.len())?;
+    for id in first {
         let locations = parts.locate(id)?;
         let loose_paths = store.loose_paths(id)?;
         let one = LocatedId {
@@ -187,6 +198,16 @@ fn locate_ids<S: StorePaths, A: Allocator + Copy>(
         push(&mut located, one)?;
     }
     Ok(located)
+}
+
+// The first of some ids, as many as the limit, or all if there is none.
+fn limited_to(ids: &[ObjectId], limit: Option<usize>) -> &[ObjectId]
+    ensures { result.now ≡ limited_to limit ids.now }
+{
+    match limit {
+        Some(limit) => &ids[..limit.min(ids.len())],
+        None => ids,
+    }
 }
 
 // All locations of an object, by the buckets of its first byte.

@@ -5,11 +5,12 @@ use Rattle.std.proofs.lemmas.List.{length-drop, nil_from_length}
 use Rattle.std.proofs.lemmas.List.Elements.{All-append}
 use Rattle.streams.proofs.LineLemmas.{lines_of-nil}
 use Rattle.id_lookup.specs.Words.{Kind, KindDigits, digits_read, hex_len_of, hex_letter, kind_digits}
+use Rattle.object_store.specs.Several.{limited_to}
 use Rattle.object_store.specs.Stores.{CanLookUp, IsReopened, StoreView}
 use Rattle.streams.specs.Streams.{lines_of}
-use Rattle.packtool_commands.specs.Stores.{AreListed, answer_to, answers_by, are_answers_by, found_text, is_answer_to, lists_after, of_two, prefix_of, prefixes_of}
+use Rattle.packtool_commands.specs.Stores.{AreListed, answer_to, answers_by, are_answers_by, found_text, is_answer_to, is_found, limit_for, lists_after, of_two, prefix_of, prefixes_of}
 use Rattle.packtool_commands.specs.declared.printing.Answers.{Answers}
-use Rattle.packtool_commands.specs.declared.printing.Answers.TheVariants.{All as AllOfThem}
+use Rattle.packtool_commands.specs.declared.printing.Answers.TheVariants.{All as AllOfThem, One}
 
 -- a text that is empty has no line
 pub lines_at_end : (text : List ℕ) → length text ≡ 0 → lines_of text ≡ []
@@ -20,6 +21,20 @@ pub found_all : {X : Type 0} (text : Option (List ℕ) → X → List ℕ) (answ
     → flat_map (text (Some line)) found ≡ found_text text answers line found
 found_all text answers line [] all some = absurd (omega (arith, some))
 found_all text answers line (x ∷ found) all some = ap (λ a. found_text text a line (x ∷ found)) (sym all)
+
+-- what is printed by the first two is what is printed by all, if only one is asked for
+pub text_of_first : {X : Type 0} (text : Option (List ℕ) → X → List ℕ) (answers : Answers) (line : List ℕ) (found : List X)
+    → found_text text answers line (limited_to (limit_for answers) found) ≡ found_text text answers line found
+text_of_first text AllOfThem line found = refl
+text_of_first text One line [] = refl
+text_of_first text One line (x ∷ []) = refl
+text_of_first text One line (x ∷ (other ∷ found)) = refl
+
+pub first_is_found : {X : Type 0} (answers : Answers) (found : List X) → is_found answers (limited_to (limit_for answers) found) ≡ is_found answers found
+first_is_found AllOfThem found = refl
+first_is_found One [] = refl
+first_is_found One (x ∷ []) = refl
+first_is_found One (x ∷ (other ∷ found)) = refl
 
 pub and_true : (a : Bool) → (a && true) ≡ a
 and_true true = refl

@@ -83,6 +83,11 @@ found_text text answers_of.One line [] = line_with line (codes "missing")
 found_text text answers_of.One line (x ∷ []) = text None x
 found_text text answers_of.One line (x ∷ (other ∷ xs)) = line_with line (codes "ambiguous")
 
+-- how many of the things are needed for that: all, or the first two, which show whether there are several
+abbrev pub limit_for : Answers → Option ℕ
+limit_for answers_of.All = None
+limit_for answers_of.One = Some 2
+
 -- whether that is what is asked for: at least one thing, or exactly one
 abbrev pub is_found : {X : Type 0} → Answers → List X → Bool
 is_found answers_of.All [] = false
@@ -229,7 +234,7 @@ located_lines pack_path line located =
 pub record HasLocated (A : Type 0) (pack_path : ℕ → List ℕ) (loose_paths : List ℕ → List (List ℕ)) (view : StoreView) (digits : List ℕ) (any : Bool)
     (old new : Option (List ℕ)) : Type 0 where
   pub ids : List (LocatedId A)
-  pub are_located : AreLocated view loose_paths digits ids
+  pub are_located : AreLocated None view loose_paths digits ids
   pub found : IsTrue any ↔ (ids ≢ [])
   pub written : Appends old new (flat_map (located_lines pack_path None) ids)
 
@@ -237,20 +242,20 @@ pub record HasLocated (A : Type 0) (pack_path : ℕ → List ℕ) (loose_paths :
 pub record HasLocatedSome (A : Type 0) (pack_path : ℕ → List ℕ) (loose_paths : List ℕ → List (List ℕ)) (view : StoreView) (digits : List ℕ)
     (old new : Option (List ℕ)) : Type 0 where
   pub ids : List (LocatedId A)
-  pub are_located : AreLocated view loose_paths digits ids
+  pub are_located : AreLocated None view loose_paths digits ids
   pub written : AppendsPart old new (flat_map (located_lines pack_path None) ids)
 
--- the ids that begin with each prefix among lines were found, and the lines of their locations printed, and whether each line has what is asked for was
--- returned; A is the type of the allocator of what was found
+-- of the ids that begin with each prefix among lines as many as are needed were located, and the lines of their locations printed, and whether each line has
+-- what is asked for was returned; A is the type of the allocator of what was found
 abbrev pub HasLocatedEach : (A : Type 0) → Answers → (ℕ → List ℕ) → (List ℕ → List (List ℕ)) → StoreView → List (List ℕ) → Bool → Option (List ℕ)
     → Option (List ℕ) → Type 0
 HasLocatedEach A answers pack_path loose_paths view lines all old new =
-    HasAnsweredBy {X = Vec (LocatedId A) A} (AreLocatedOfEach view loose_paths (prefixes_of view.kind lines))
+    HasAnsweredBy {X = Vec (LocatedId A) A} (AreLocatedOfEach (limit_for answers) view loose_paths (prefixes_of view.kind lines))
     (λ line ids. found_text (located_lines pack_path) answers line ids.items) (λ ids. is_found answers ids.items) view.kind lines all old new
 
 -- a proper beginning of it was printed
 abbrev pub HasLocatedPart : (A : Type 0) → Answers → (ℕ → List ℕ) → (List ℕ → List (List ℕ)) → StoreView → List (List ℕ) → Option (List ℕ)
     → Option (List ℕ) → Type 0
 HasLocatedPart A answers pack_path loose_paths view lines old new =
-    HasAnsweredPart {X = Vec (LocatedId A) A} (AreLocatedOfEach view loose_paths (prefixes_of view.kind lines))
+    HasAnsweredPart {X = Vec (LocatedId A) A} (AreLocatedOfEach (limit_for answers) view loose_paths (prefixes_of view.kind lines))
     (λ line ids. found_text (located_lines pack_path) answers line ids.items) view.kind lines old new

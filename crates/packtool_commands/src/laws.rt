@@ -1,9 +1,12 @@
-//! A law of the lines of files that no single call carries, as the contract of a function that
+//! Laws of what is printed that no single call carries. Each is the contract of a function that
 //! computes nothing: a call of it brings the law into a caller's proof.
 
-ghost use Rattle.std.specs.Prelude.{◌≡◌, ◌≢◌, ◌++◌, false, ℕ, All, List};
+ghost use Rattle.std.specs.Prelude.{◌≡◌, ◌≢◌, ◌++◌, false, ℕ, All, List, Option};
 ghost use Rattle.std.specs.List.{list_any};
+ghost use Rattle.object_store.specs.Several.{limited_to};
 ghost use Rattle.packtool_commands.specs.Files.{escape_mark, escaped, is_special, named};
+ghost use Rattle.packtool_commands.specs.Stores.{found_text, is_found, limit_for};
+ghost use Rattle.packtool_commands.specs.declared.printing.Answers.{Answers as AnswersAsked};
 
 /// How a name is printed by [`write_named`](crate::write_named): with no line feed, so that no name
 /// looks like a further line; and as it is if it has no byte that is escaped.
@@ -12,4 +15,14 @@ pub fn printed_names()
         (escape_mark name ++ escaped name) }
     ensures plain { (name text : List ℕ) → list_any is_special name ≡ false
         → named name text ≡ name ++ text }
+{}
+
+/// The first two things that a prefix finds are enough for [`Answers::One`](crate::Answers::One):
+/// what is printed by them, and whether it is what is asked for, is so by all.
+pub fn two_are_enough<X>()
+    ensures text { (text : Option (List ℕ) → X → List ℕ) (answers : AnswersAsked) (line : List ℕ)
+        (found : List X) → found_text text answers line (limited_to (limit_for answers) found)
+        ≡ found_text text answers line found }
+    ensures is_found { (answers : AnswersAsked) (found : List X)
+        → is_found answers (limited_to (limit_for answers) found) ≡ is_found answers found }
 {}

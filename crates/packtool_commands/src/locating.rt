@@ -1,10 +1,10 @@
 //! The locations of the objects of a store, a line for each.
 
-ghost use Rattle.std.specs.Prelude.{◌≡◌, ◌≢◌, ◌↔◌, ◌<◌, ◌≤◌, [], ◌∷◌, ◌++◌, None, Some, false, true, flat_map, length, map, option_copied, string_bytes, take, All, IfErr, IfOk, IsErrOf};
+ghost use Rattle.std.specs.Prelude.{◌≡◌, ◌≢◌, ◌↔◌, ◌<◌, ◌≤◌, [], ◌∷◌, ◌++◌, None, Some, false, true, flat_map, length, map, option_copied, string_bytes, take, All, IfErr, IfNone, IfOk, IfSome, IsErrOf};
 ghost use Rattle.id_lookup.specs.Words.{hex_letter, id_digits, spelling};
-ghost use Rattle.object_store.specs.Several.{AreLocated, HaveMoreLocations, IsLocationsFaultOfOne};
-ghost use Rattle.object_store.specs.Stores.{CanLookUp, IsLocationsFault, IsReopened};
-ghost use Rattle.packtool_commands.specs.Stores.{AreListed, HasLocated, HasLocatedEach, HasLocatedPart, HasLocatedSome, IsFaultOf, lines_at_after, located_lines, location_end, location_line, location_line_after};
+ghost use Rattle.object_store.specs.Several.{AreLocated, AreLocatedOfEach, HaveMoreLocations, IsLocationsFault, IsLocationsFaultOfOne};
+ghost use Rattle.object_store.specs.Stores.{CanLookUp, IsReopened};
+ghost use Rattle.packtool_commands.specs.Stores.{AreListed, HasLocated, HasLocatedEach, HasLocatedPart, HasLocatedSome, IsFaultOf, limit_for, lines_at_after, located_lines, location_end, location_line, location_line_after};
 ghost use Rattle.packtool_commands.specs.declared.error.StoreError.{StoreError};
 ghost use Rattle.streams.specs.Streams.{Wrote, lines_of};
 
@@ -56,7 +56,7 @@ pub fn locate<S: Reopen + StorePaths, A: Allocator + Copy, W: Sink>(
     ensures located { IfOk result (λ any. HasLocated A (S.pack_path store.new)
         (S.loose_paths store.new) (S.view store.new) prefix.now.digits any
         (W.taken out.old) (W.taken out.new)) }
-    ensures refused { IfErr result (IsFaultOf (IsLocationsFault (S.view store.new)
+    ensures refused { IfErr result (IsFaultOf (IsLocationsFault None (S.view store.new)
         prefix.now.digits)) }
     ensures untouched { IfErr result (λ e. e ≢ StoreError.Output → out.new ≡ out.old) }
     ensures output { IsErrOf result StoreError.Output ↔ (W.has_failed out.new ≡ true) }
@@ -78,9 +78,9 @@ fn locations_of<S: Reopen + StorePaths, A: Allocator + Copy>(
     requires { CanLookUp (S.view store.old) prefix.now }
     ensures reopened { IsReopened (S.may_have store.old) (S.may_have store.new)
         (S.view store.old) (S.view store.new) }
-    ensures located { IfOk result (λ located. AreLocated (S.view store.new)
+    ensures located { IfOk result (λ located. AreLocated None (S.view store.new)
         (S.loose_paths store.new) prefix.now.digits located.items) }
-    ensures err { IfErr result (IsLocationsFault (S.view store.new) prefix.now.digits) }
+    ensures err { IfErr result (IsLocationsFault None (S.view store.new) prefix.now.digits) }
 {
     look_up_again(
         store,
@@ -100,11 +100,12 @@ fn locations_of<S: Reopen + StorePaths, A: Allocator + Copy>(
 /// prefix, for a prefix of no id, and for [`Answers::One`] and a prefix of several ids, is said at
 /// [`find_each`](crate::find_each).
 ///
-/// Of each pack index the ids with a first byte are read once. Nothing is written before all
-/// locations are found; if a pack index is gone until then, the store is opened again. If the
-/// locations are more than `most`, and there are several prefixes, then nothing is written, and
-/// [`StoreError::TooMany`] is returned. [`StoreError::Output`] is returned if and only if a write
-/// fails, after a proper beginning of the text. The sink must not have failed before.
+/// Of each pack index the ids with a first byte are read once. For [`Answers::One`] only the first
+/// two ids of a prefix are located: if a further one has no offset, that is no error. Nothing is
+/// written before all locations are found; if a pack index is gone until then, the store is opened
+/// again. If the locations are more than `most`, and there are several prefixes, then nothing is
+/// written, and [`StoreError::TooMany`] is returned. [`StoreError::Output`] is returned if and only
+/// if a write fails, after a proper beginning of the text. The sink must not have failed before.
 ///
 /// ```
 /// let lines = PrefixLines::read(rt.alloc(), Kind::Sha1, b"4b8\n4b9\n")?;
@@ -128,11 +129,11 @@ pub fn locate_each<S: Reopen + StorePaths, A: Allocator + Copy, W: Sink>(
     ensures located { IfOk result (λ all. HasLocatedEach A answers (S.pack_path store.new)
         (S.loose_paths store.new) (S.view store.new) (lines_of lines.now.text.now) all
         (W.taken out.old) (W.taken out.new)) }
-    ensures refused { IfErr result (IsFaultOf (IsLocationsFaultOfOne (S.view store.new)
-        lines.now.prefixes.items)) }
+    ensures refused { IfErr result (IsFaultOf (IsLocationsFaultOfOne (limit_for answers)
+        (S.view store.new) lines.now.prefixes.items)) }
     ensures several { IsErrOf result StoreError.TooMany → 1 < length lines.now.prefixes.items }
-    ensures more { IsErrOf result StoreError.TooMany → HaveMoreLocations A (S.view store.new)
-        (S.loose_paths store.new) most lines.now.prefixes.items }
+    ensures more { IsErrOf result StoreError.TooMany → HaveMoreLocations A (limit_for answers)
+        (S.view store.new) (S.loose_paths store.new) most lines.now.prefixes.items }
     ensures untouched { IfErr result (λ e. e ≢ StoreError.Output → out.new ≡ out.old) }
     ensures output { IsErrOf result StoreError.Output ↔ (W.has_failed out.new ≡ true) }
     ensures part { IsErrOf result StoreError.Output → HasLocatedPart A answers
@@ -144,7 +145,7 @@ pub fn locate_each<S: Reopen + StorePaths, A: Allocator + Copy, W: Sink>(
         store,
         |store: &S|
             requires { All (CanLookUp (S.view store.now)) prefixes.now }
-        { locate_prefixes(alloc, store, prefixes, most) },
+        { locations_of_each(alloc, store, prefixes, answers, most) },
     );
     let Some(located) = looked? else {
         return Err(StoreError::TooMany);
@@ -154,6 +155,40 @@ pub fn locate_each<S: Reopen + StorePaths, A: Allocator + Copy, W: Sink>(
         entry: LocationsEntry { store: &*store },
     };
     Ok(write_answers(lines.kind, lines.text, &located, &form, out)?)
+}
+
+// The ids of a store that begin with each of several prefixes, as many as are needed, with their
+// locations.
+fn locations_of_each<S: StorePaths, A: Allocator + Copy>(
+    alloc: A,
+    store: &S,
+    prefixes: &[Prefix],
+    answers: Answers,
+    most: usize,
+) -> Result<Option<Vec<Vec<LocatedId<A>, A>, A>>, object_store::Error>
+    requires { All (CanLookUp (S.view store.now)) prefixes.now }
+    ensures located { IfOk result (λ located. IfSome located (λ located.
+        AreLocatedOfEach (limit_for answers) (S.view store.now) (S.loose_paths store.now)
+        prefixes.now located.items)) }
+    ensures several { IfOk result (λ located. IfNone located (1 < length prefixes.now)) }
+    ensures more { IfOk result (λ located. IfNone located (HaveMoreLocations A (limit_for answers)
+        (S.view store.now) (S.loose_paths store.now) most prefixes.now)) }
+    ensures err { IfErr result (IsLocationsFaultOfOne (limit_for answers) (S.view store.now)
+        prefixes.now) }
+{
+    let limit = limit_for(answers);
+    locate_prefixes(alloc, store, prefixes, limit, most)
+}
+
+// How many ids of a prefix are located: all, or the first two, which show whether there are more
+// than one.
+fn limit_for(answers: Answers) -> Option<usize>
+    ensures { result ≡ limit_for answers }
+{
+    match answers {
+        Answers::All => None,
+        Answers::One => Some(2),
+    }
 }
 
 // How an id is printed with its locations in a store: a line for each.

@@ -85,7 +85,7 @@ enum Asked {
 }
 
 // What is asked for of which lines, whether each line finds it, and what is printed.
-const ROWS: [(Asked, &str, bool, &str); 8] = [
+const ROWS: [(Asked, &str, bool, &str); 9] = [
     (Asked::Find(Answers::All), LINES, false, FOUND),
     (Asked::Find(Answers::One), LINES, false, FOUND_ONE),
     (Asked::Locate(Answers::All), LINES, false, LOCATED),
@@ -104,6 +104,7 @@ const ROWS: [(Asked, &str, bool, &str); 8] = [
         "4b90000000000000000000000000000000000000 2.pack 3074\n",
     ),
     (Asked::Names, "4b9\nff", true, "4b9000\nffffff\n"),
+    (Asked::Locate(Answers::One), "4b\n", false, "4b ambiguous\n"),
 ];
 
 // More than are made when a store is opened and all of it is read.
@@ -168,8 +169,9 @@ fn writes_fail_in_turn(rt: HostRuntime) -> Result<(), Fail> {
 }
 
 // How many reads each takes: four open the store, and two find the ids with each of three first
-// bytes. Then each offset is one more, and a long one two.
-const READS: [(usize, usize); 5] = [(0, 10), (1, 10), (2, 19), (3, 19), (4, 10)];
+// bytes, or with one in the last row. Then each offset is one more, and a long one two; in the last
+// row that of the third id is not read.
+const READS: [(usize, usize); 6] = [(0, 10), (1, 10), (2, 19), (3, 19), (4, 10), (8, 10)];
 
 #[test]
 fn reads_fail_in_turn(rt: HostRuntime) -> Result<(), Fail> {

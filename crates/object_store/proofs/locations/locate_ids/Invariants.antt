@@ -4,5 +4,5 @@ use Rattle.object_store.proofs.locations.locate_ids.Given as goal
 
 abbrev pub invariant-loop-id : goal.invariant-loop-id
 invariant-loop-id g l =
-    (l.parts ≡ l.fn.parts) × (map (λ located. located.id) l.located.items ≡ take l.id-index l.ids)
+    (l.parts ≡ l.fn.parts) × (map (λ located. located.id) l.located.items ≡ take l.id-index l.first)
     × All (IsLocated l.fn.parts (g.S.StorePaths.loose_paths l.store)) l.located.items
