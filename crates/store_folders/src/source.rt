@@ -80,16 +80,17 @@ impl<R: Files<File = File> + AllocGlobal + Clone> Source<R> {
 }
 
 impl<R: Files<File = File>> Source<R> {
-    // Reads and keeps at most `most` bytes, from a position on. If memory runs out, none are read.
+    // Reads and keeps at most `most` bytes, from a position on, in place of those that were kept.
+    // If memory runs out, none are read.
     fn keep(&self, start: u64, most: usize) -> io::Result<()>
         requires { most ≤ 16384 }
     {
         let len = self.len.saturating_sub(start).min(most as u64) as usize;
-        let Ok(mut bytes) = vec![in self.alloc; 0; len] else {
-            return Ok(());
-        };
-        self.read(&mut bytes, start)?;
-        self.kept.set(Kept { start, bytes });
+        let mut bytes = self.take_kept().bytes;
+        if bytes.resize(len, 0).is_ok() {
+            self.read(&mut bytes, start)?;
+            self.kept.set(Kept { start, bytes });
+        }
         Ok(())
     }
 
@@ -103,13 +104,18 @@ impl<R: Files<File = File>> Source<R> {
 
     // Fills the buffer from what is kept, if that has the bytes.
     fn copy_kept(&self, buf: &mut [u8], at: u64) -> bool {
-        let kept = self.kept.replace(Kept {
-            start: 0,
-            bytes: Vec::new(self.alloc),
-        });
+        let kept = self.take_kept();
         let is_copied = kept.copy_to(buf, at);
         self.kept.set(kept);
         is_copied
+    }
+
+    // What is kept, of which nothing is left.
+    fn take_kept(&self) -> Kept {
+        self.kept.replace(Kept {
+            start: 0,
+            bytes: Vec::new(self.alloc),
+        })
     }
 }
 
