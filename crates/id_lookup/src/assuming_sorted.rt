@@ -82,6 +82,7 @@ fn part_near<I: Id>(ids: &[I], prefix: &Prefix, guess: Run) -> Run
 // A part with a bound of the run, if the list is sorted and the bound is at least `first`: from
 // there to `high`, or the first of the parts after it that has the bound. Each is as long as all
 // before it.
+#[inline(always)]
 fn part_from<I: Id>(ids: &[I], prefix: &Prefix, bound: Bound, first: usize, mut high: usize) -> Run
     requires enough_digits { length prefix.now.digits ≤ least_hex_len (map I.digits ids.now) }
     requires in_order { first ≤ high }
@@ -144,6 +145,7 @@ fn is_after<I: Id>(ids: &[I], prefix: &Prefix, bound: Bound, at: usize) -> bool
 }
 
 // The bound of the run, if the list is sorted and the bound is from `low` to `high`.
+#[inline(always)]
 fn bound_assuming_sorted<I: Id>(
     ids: &[I],
     prefix: &Prefix,
