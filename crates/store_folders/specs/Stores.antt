@@ -1,6 +1,6 @@
 -- What contracts say of object stores in directories.
-use Rattle.std.specs.Prelude.{ℕ, ◌≡◌, ◌++◌, List, [], ◌∷◌, Option, None, Some, if◌then◌else◌, bytes_eq, string_bytes}
-use Rattle.std.specs.List.{list_any}
+use Rattle.std.specs.Prelude.{ℕ, ◌≡◌, ◌++◌, List, [], ◌∷◌, Option, None, Some, if◌then◌else◌, bytes_eq, codes, map, string_bytes}
+use Rattle.std.specs.List.{Contains, list_any}
 use Rattle.object_store.specs.Stores as stores
 use Rattle.object_store.specs.declared.error.Error as look_ups
 use Rattle.object_store.specs.declared.error.Error.TheVariants as look_up_errors
@@ -34,6 +34,14 @@ index_path paths = string_bytes paths.index
 -- the path of a pack
 abbrev pub pack_path_of : PackPaths → List ℕ
 pack_path_of paths = string_bytes paths.pack
+
+-- a pack index of this path is among those listed
+abbrev pub IsListed : List PackPaths → PackPaths → Type 0
+IsListed listed paths = Contains (map index_path listed) (index_path paths)
+
+-- the path of a pack is that of its pack index, with another end
+abbrev pub HasPack : PackPaths → Type 0
+HasPack paths = (stem : List ℕ) → index_path paths ≡ stem ++ codes ".idx" → pack_path_of paths ≡ stem ++ codes ".pack"
 
 -- the error that an error of a repository is
 abbrev pub of_repository : repositories.Error → Error

@@ -1,7 +1,8 @@
 //! Why a store in directories cannot be opened or read.
 
-ghost use Rattle.std.specs.Prelude.{◌≡◌};
+ghost use Rattle.std.specs.Prelude.{◌≡◌, IsTrue};
 ghost use Rattle.store_folders.specs.Stores.{IsChanged, IsOfIndex, of_look_up, of_repository};
+ghost use Rattle.store_folders.specs.declared.error.Error.TheVariants as errors;
 
 use pack_index::LazyError;
 use std::alloc::{AllocError, Global};
@@ -83,7 +84,9 @@ impl Error {
     }
 
     // Whether a directory or file is not read because too many files are open.
-    pub(crate) fn is_too_many_open(&self) -> bool {
+    pub(crate) fn is_too_many_open(&self) -> bool
+        ensures { IsTrue result → (why : _) × (self.now ≡ errors.Repository why) }
+    {
         matches!(self, Error::Repository(error) if error.raw_os_error() == Some(TOO_MANY_OPEN))
     }
 

@@ -7,6 +7,7 @@
 mod error;
 mod listing;
 mod loose;
+mod objects;
 mod packs;
 mod source;
 mod store;

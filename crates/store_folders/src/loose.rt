@@ -1,6 +1,6 @@
 //! The loose objects in object directories, by the names of their files.
 
-ghost use Rattle.std.specs.Prelude.{◌≡◌, ◌++◌, All, IfOk, IfSome, MatchOption, OnOk, map, string_bytes};
+ghost use Rattle.std.specs.Prelude.{◌≡◌, ◌≤◌, ◌<◌, ◌++◌, [], All, IfOk, IfSome, MatchOption, None, OnOk, false, length, map, string_bytes, vec_len};
 ghost use Rattle.gix_hash.specs.Words.{id_digits, id_kind};
 ghost use Rattle.store_folders.specs.Stores.{only_of, path_in, paths_in};
 
@@ -8,11 +8,12 @@ use crate::error::Error;
 use crate::listing::{names_in, state_if_there, state_of};
 use gix_hash::{Kind, ObjectId};
 use object_store::LooseTable;
-use repositories::FileState;
 use repositories::paths::{read_loose_path, write_loose_path};
+use repositories::{FileState, metadata, retried};
 use std::alloc::{AllocError, Global};
 use std::rt::Files;
 use std::time::SystemTime;
+use std::{fs, io};
 
 // How often the fan-out directories of a first byte are listed that change meanwhile.
 const MAX_TRIES: usize = 100;
@@ -59,7 +60,9 @@ impl LooseObjects {
         &self,
         rt: &R,
         paths: &[String],
-    ) -> Result<bool, Error> {
+    ) -> Result<bool, Error>
+        ensures { self.now.states ≡ None → IfOk result (λ same. same ≡ false) }
+    {
         match &self.states {
             Some(states) => Ok(fan_out_states(rt, paths, self.which)? == *states),
             None => Ok(false),
@@ -101,6 +104,7 @@ pub(crate) fn list_loose<R: Files + AllocGlobal>(
 ) -> Result<LooseObjects, Error>
     ensures kind { IfOk result (λ loose. loose.kind ≡ kind) }
     ensures which { IfOk result (λ loose. loose.which ≡ which) }
+    ensures once { now ≡ None → IfOk result (λ loose. loose.states ≡ None) }
 {
     let states = settled_states(rt, paths, which, now)?;
     let Some(parts) = list_parts(rt, paths, which)? else {
@@ -131,7 +135,9 @@ fn settled_states<R: Files + AllocGlobal>(
     paths: &[String],
     which: LooseIds,
     now: Option<SystemTime>,
-) -> Result<Option<Vec<FileState>>, Error> {
+) -> Result<Option<Vec<FileState>>, Error>
+    ensures { now ≡ None → IfOk result (λ states. states ≡ None) }
+{
     let Some(now) = now else {
         return Ok(None);
     };
@@ -192,12 +198,17 @@ fn list_parts<R: Files + AllocGlobal>(
 fn states_of_several<R: Files + AllocGlobal>(
     rt: &R,
     paths: &[String],
-) -> Result<Vec<FileState>, Error> {
+) -> Result<Vec<FileState>, Error>
+    ensures one { length paths.now ≤ 1 → IfOk result (λ states. states.items ≡ []) }
+    ensures several { 1 < length paths.now → IfOk result (λ states. vec_len states
+        ≡ length paths.now) }
+{
     let mut states = Vec::new(rt.alloc());
+    if paths.len() <= 1 {
+        return Ok(states);
+    }
     for path in paths {
-        if paths.len() > 1 {
-            states.push(state_of(rt, path)?)?;
-        }
+        states.push(state_of(rt, path)?)?;
     }
     Ok(states)
 }
@@ -337,5 +348,24 @@ pub(crate) fn loose_path(alloc: Global, folder: &str, id: &ObjectId) -> Result<S
     match String::from_utf8(path) {
         Ok(path) => Ok(path),
         Err(_) => Err(AllocError),
+    }
+}
+
+// Checks the file of a loose object in an object directory.
+pub(crate) fn check_loose_file<R: Files + AllocGlobal>(
+    rt: &R,
+    folder: &str,
+    id: &ObjectId,
+) -> Result<(), Error> {
+    let path = loose_path(rt.alloc(), folder, id)?;
+    let Err(error) = metadata(rt, &path) else {
+        return Ok(());
+    };
+    let is_missing = error.kind() == io::ErrorKind::NotFound;
+    match retried(|| fs::symlink_metadata(rt, path.as_str())) {
+        // (one that has come back)
+        Ok(found) if is_missing && found.is_file() => Ok(()),
+        Err(gone) if gone.kind() == io::ErrorKind::NotFound => Ok(()),
+        _ => Err(repositories::Error::file(rt.alloc(), &path, error))?,
     }
 }

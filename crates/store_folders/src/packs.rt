@@ -1,7 +1,8 @@
 //! The pack indexes in object directories.
 
-ghost use Rattle.std.specs.Prelude.{◌≡◌, ◌++◌, ℕ, All, IfOk, List, codes, vec_len};
-ghost use Rattle.store_folders.specs.Stores.{index_path, pack_path_of};
+ghost use Rattle.std.specs.Prelude.{◌≡◌, ◌⊎◌, All, IfOk, IsNone, OnOk, length, true, vec_len};
+ghost use Rattle.pack_index.specs.declared.lazy_error.LazyError.TheVariants as errors;
+ghost use Rattle.store_folders.specs.Stores.{HasPack, IsListed, IsOfIndex, of_repository};
 
 use crate::error::Error;
 use crate::listing::{names_in, state_of};
@@ -38,7 +39,9 @@ impl PackFolders {
     pub(crate) fn of<R: Files + AllocGlobal>(
         rt: &R,
         objects: &[String],
-    ) -> Result<PackFolders, Error> {
+    ) -> Result<PackFolders, Error>
+        ensures { IfOk result (λ packs. vec_len packs.folders ≡ length objects.now) }
+    {
         let mut folders = Vec::with_capacity(rt.alloc(), objects.len())?;
         for folder in objects {
             let path = join(rt, folder, "pack")?;
@@ -49,7 +52,10 @@ impl PackFolders {
     }
 
     // The pack indexes in them, with or without packs.
-    pub(crate) fn list<R: Files + AllocGlobal>(&self, rt: &R) -> Result<PackIndexes, Error> {
+    pub(crate) fn list<R: Files + AllocGlobal>(&self, rt: &R) -> Result<PackIndexes, Error>
+        ensures all { IfOk result (λ listed. listed.are_all ≡ true) }
+        ensures packs { IfOk result (λ listed. All HasPack listed.paths.items) }
+    {
         let mut indexes = PackIndexes {
             paths: Vec::new(rt.alloc()),
             skipped: Vec::new(rt.alloc()),
@@ -99,14 +105,10 @@ pub(crate) struct PackIndexes {
 
 impl PackIndexes {
     // Fails if one of those of an earlier list is not among them, since it was removed.
-    pub(crate) fn expect_all(&self, alloc: Global, earlier: &PackIndexes) -> Result<(), Error> {
-        let mut at = 0;
-        for paths in &self.paths {
-            if at < earlier.paths.len() && earlier.paths[at].index == paths.index {
-                at += 1;
-            }
-        }
-        let Some(gone) = earlier.paths.get(at) else {
+    pub(crate) fn expect_all(&self, alloc: Global, earlier: &PackIndexes) -> Result<(), Error>
+        ensures { OnOk result (All (IsListed self.now.paths.items) earlier.now.paths.items) }
+    {
+        let Some(gone) = first_gone(&earlier.paths, &self.paths) else {
             return Ok(());
         };
         let path = String::from_str(alloc, &gone.index)?;
@@ -114,10 +116,11 @@ impl PackIndexes {
     }
 
     // Those whose packs are there. Fails if an index was removed with its pack.
-    pub(crate) fn with_packs<R: Files + AllocGlobal>(
-        mut self,
-        rt: &R,
-    ) -> Result<PackIndexes, Error> {
+    pub(crate) fn with_packs<R: Files + AllocGlobal>(mut self, rt: &R) -> Result<PackIndexes, Error>
+        ensures all { IfOk result (λ kept. kept.are_all ≡ true
+            → kept.paths.items ≡ self.paths.items) }
+        ensures skipped { IfOk result (λ kept. kept.skipped ≡ self.skipped) }
+    {
         let listed = mem::replace(&mut self.paths, Vec::new(rt.alloc()));
         for paths in listed {
             if has_pack(rt, &paths)? {
@@ -130,13 +133,31 @@ impl PackIndexes {
     }
 }
 
+// The first pack index of an earlier list that is not in this one, which is in the same order.
+fn first_gone<'a>(earlier: &'a [PackPaths], listed: &[PackPaths]) -> Option<&'a PackPaths>
+    ensures { IsNone result → All (IsListed listed.now) earlier.now }
+{
+    let mut at = 0;
+    for paths in listed {
+        let next = earlier.get(at)?;
+        if next.index == paths.index {
+            at += 1;
+        }
+    }
+    earlier.get(at)
+}
+
 // Adds the pack indexes in a directory of packs, in the order of their names. One is skipped if its
 // name is not UTF-8, as paths are.
 fn push_indexes<R: Files + AllocGlobal>(
     rt: &R,
     folder: &str,
     indexes: &mut PackIndexes,
-) -> Result<(), Error> {
+) -> Result<(), Error>
+    ensures packs { OnOk result (All HasPack indexes.old.paths.items
+        → All HasPack indexes.new.paths.items) }
+    ensures all { indexes.new.are_all ≡ indexes.old.are_all }
+{
     let listed = names_in(rt, folder)?;
     let names = listed.split(|byte| *byte == 0);
     let mut names: Vec<&[u8]> = names
@@ -158,8 +179,7 @@ fn push_indexes<R: Files + AllocGlobal>(
 
 // The paths of the pack index of this name in a directory, and of its pack.
 fn paths_of(rt: &impl AllocGlobal, folder: &str, name: &str) -> Result<PackPaths, AllocError>
-    ensures { IfOk result (λ paths. (stem : List ℕ) → index_path paths ≡ stem ++ codes ".idx"
-        → pack_path_of paths ≡ stem ++ codes ".pack") }
+    ensures { IfOk result HasPack }
 {
     let index = join(rt, folder, name)?;
     let stem = index.strip_suffix(".idx").unwrap_or(&index);
@@ -258,7 +278,10 @@ fn open_index<R: Files<File = File> + AllocGlobal + Clone + Drop>(
 
 // Why a pack index cannot be opened. A link to nothing is there, and so it was not removed; a file
 // that was not found and is there now was, and has come back.
-fn not_opened<R: Files + AllocGlobal>(rt: &R, path: &str, error: io::Error) -> Error {
+fn not_opened<R: Files + AllocGlobal>(rt: &R, path: &str, error: io::Error) -> Error
+    ensures { ((why : _) × (result ≡ of_repository why))
+        ⊎ IsOfIndex path.now (errors.Read error) result }
+{
     let is_missing = error.kind() == io::ErrorKind::NotFound;
     match retried(|| fs::symlink_metadata(rt, path)) {
         Ok(found) if !is_missing || !found.is_file() => {

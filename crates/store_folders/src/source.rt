@@ -1,6 +1,6 @@
 //! What a pack index is read from.
 
-ghost use Rattle.std.specs.Prelude.{◌≡◌, ◌+◌, ◌-◌, ◌≤◌, None, false, length, true, vec_len};
+ghost use Rattle.std.specs.Prelude.{◌≡◌, ◌↔◌, ◌+◌, ◌-◌, ◌≤◌, IfOk, IsSome, None, false, length, string_bytes, true, vec_len};
 ghost use Rattle.streams.specs.Streams.{IsReadAt};
 
 use repositories::retried;
@@ -58,7 +58,10 @@ impl Kept {
 
 impl<R: Files<File = File> + AllocGlobal + Clone> Source<R> {
     /// Opens a file, to stay open or to be opened again for each read of what is not kept.
-    pub fn open(rt: &R, path: &str, stays_open: bool) -> io::Result<Source<R>> {
+    pub fn open(rt: &R, path: &str, stays_open: bool) -> io::Result<Source<R>>
+        ensures path { IfOk result (λ source. string_bytes source.path ≡ path.now) }
+        ensures file { IfOk result (λ source. IsSome source.file ↔ (stays_open ≡ true)) }
+    {
         let file = fs::open(rt, path)?;
         let mut source = Source {
             rt: rt.clone()?,

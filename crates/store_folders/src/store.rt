@@ -1,21 +1,23 @@
 //! An object store in directories.
 
-ghost use Rattle.std.specs.Prelude.{◌≡◌, All, IfErr, IfOk, [], flat_map, map, slice_index_or, string_bytes, true, vec_len};
+ghost use Rattle.std.specs.Prelude.{◌≡◌, ◌≤◌, ◌<◌, All, IfErr, IfOk, IsOk, OnOk, [], flat_map, length, map, slice_index_or, string_bytes, true, vec_len};
+ghost use Rattle.gix_hash.specs.Words.{hex_len_of};
 ghost use Rattle.store_folders.specs.Stores.{index_path, of_repository, pack_path_of};
 
 use crate::error::Error;
-use crate::loose::{LooseIds, LooseObjects, list_loose, loose_path, push_path, take_loose};
-use crate::packs::{OpenIndexes, PackFolders, PackIndexes, PackPaths, open_indexes};
+use crate::loose::{LooseIds, LooseObjects, check_loose_file, list_loose, push_path, take_loose};
+use crate::objects::list;
+use crate::packs::{OpenIndexes, PackFolders, PackPaths, open_indexes};
 use crate::source::Source;
 use gix_hash::{Kind, ObjectId, Prefix};
 use object_store::{LooseTable, Reopen, Store, StorePaths};
 use pack_index::LazyFile;
-use repositories::{Folders, ObjectsFolder, metadata, retried, with_alternates};
+use repositories::{Folders, ObjectsFolder, with_alternates};
 use std::alloc::AllocError;
 use std::fs::File;
 use std::rt::Files;
 use std::time::SystemTime;
-use std::{fs, io, mem};
+use std::{io, mem};
 
 // How often a store that changes while it is read is read.
 const MAX_TRIES: usize = 100;
@@ -199,7 +201,9 @@ impl<R: Files<File = File> + AllocGlobal + Clone + Drop> FolderStore<R> {
 
     // Fails if the alternates, a list of them or a directory of packs have changed since they were
     // read, or if that is not known.
-    fn expect_unchanged(&self) -> Result<(), Error> {
+    fn expect_unchanged(&self) -> Result<(), Error>
+        ensures { OnOk result (self.now.is_settled ≡ true) }
+    {
         if self.is_settled && self.folders.are_unchanged(&self.rt, &self.folder)? {
             self.pack_folders.expect_unchanged(&self.rt)
         } else {
@@ -265,13 +269,16 @@ impl<R: Files<File = File> + AllocGlobal + Clone + Drop> FolderStore<R> {
     /// let store = FolderStore::open(rt, &find_objects(rt)?, LooseIds::All)?;
     /// store.check_loose_files(&prefix)?;
     /// ```
-    pub fn check_loose_files(&self, prefix: &Prefix) -> Result<(), Error> {
+    pub fn check_loose_files(&self, prefix: &Prefix) -> Result<(), Error>
+        ensures { hex_len_of self.now.folder.kind < length prefix.now.digits
+            → IsOk result }
+    {
         if prefix.hex_len() > self.folder.kind.len_in_hex() {
             return Ok(());
         }
         for folder in &self.loose.folders {
             for id in folder.table.beginning_with(prefix) {
-                self.check_loose_file(&folder.path, id)?;
+                check_loose_file(&self.rt, &folder.path, id)?;
             }
         }
         Ok(())
@@ -291,21 +298,6 @@ impl<R: Files<File = File> + AllocGlobal + Clone + Drop> FolderStore<R> {
         *self = store;
         Ok(())
     }
-
-    // Checks the file of a loose object in a directory.
-    fn check_loose_file(&self, folder: &str, id: &ObjectId) -> Result<(), Error> {
-        let path = loose_path(self.rt.alloc(), folder, id)?;
-        let Err(error) = metadata(&self.rt, &path) else {
-            return Ok(());
-        };
-        let is_missing = error.kind() == io::ErrorKind::NotFound;
-        match retried(|| fs::symlink_metadata(&self.rt, path.as_str())) {
-            // (one that has come back)
-            Ok(found) if is_missing && found.is_file() => Ok(()),
-            Err(gone) if gone.kind() == io::ErrorKind::NotFound => Ok(()),
-            _ => Err(repositories::Error::file(self.rt.alloc(), &path, error))?,
-        }
-    }
 }
 
 // A copy of an object directory that was found.
@@ -317,35 +309,6 @@ fn copy_of(folder: &ObjectsFolder) -> Result<ObjectsFolder, AllocError>
         kind: folder.kind,
         alternates: folder.alternates.clone()?,
     })
-}
-
-// Lists the pack indexes with packs and the loose objects in object directories. No object is
-// missed that is there all the time: as the directories of packs are in the same state before and
-// after, all was in them what was found there, and an object that was in none of its packs was
-// loose.
-//
-// Within one tick of the file system's clock a directory may change twice and be in the same state.
-// An object is in a new pack before its loose file or its old pack is removed, and loose before its
-// pack is removed: so the packs are listed after the loose objects, and before them too, and none
-// may be gone after.
-fn list<R: Files + AllocGlobal>(
-    rt: &R,
-    packs: &PackFolders,
-    folders: &[String],
-    kind: Kind,
-    loose: LooseIds,
-    now: Option<SystemTime>,
-) -> Result<(PackIndexes, LooseObjects), Error>
-    ensures kind { IfOk result (λ listed. listed.1.kind ≡ kind) }
-    ensures which { IfOk result (λ listed. listed.1.which ≡ loose) }
-{
-    let before = packs.list(rt)?;
-    let loose = list_loose(rt, folders, kind, loose, now)?;
-    let after = packs.list(rt)?;
-    after.expect_all(rt.alloc(), &before)?;
-    let after = after.with_packs(rt)?;
-    packs.expect_unchanged(rt)?;
-    Ok((after, loose))
 }
 
 // Takes from directories why alternates are skipped.
