@@ -12,6 +12,8 @@ mod expecting;
 #[cfg(test)]
 mod folders;
 #[cfg(test)]
+mod moving;
+#[cfg(test)]
 mod store_folders_source;
 #[cfg(test)]
 mod store_folders_store;
