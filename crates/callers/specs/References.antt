@@ -8,12 +8,12 @@ use Rattle.callers.specs.declared.references.Reference.{Reference}
 use Rattle.callers.specs.declared.references.Reference.TheVariants.{Id, Symbolic}
 
 -- whether a name may have the byte: no control character, no space, and none of ~ ^ : ? * [ \
-abbrev pub is_name_byte : ℕ → Bool
-is_name_byte byte = nat_lt 32 byte && not (byte == 127) && not (list_any (nat_eq byte) (codes "~^:?*[" ++ 92 ∷ []))
+abbrev pub is_reference_byte : ℕ → Bool
+is_reference_byte byte = nat_lt 32 byte && not (byte == 127) && not (list_any (nat_eq byte) (codes "~^:?*[" ++ 92 ∷ []))
 
 -- the bytes are a name: at least one, and only bytes that names may have
 abbrev pub IsName : List ℕ → Type 0
-IsName name = (1 ≤ length name) × IsTrue (list_all is_name_byte name)
+IsName name = (1 ≤ length name) × IsTrue (list_all is_reference_byte name)
 
 -- the line of a reference to another
 abbrev pub symbolic_line : List ℕ → List ℕ

@@ -4,7 +4,7 @@
 ghost use Rattle.std.specs.Prelude.{◌≡◌, ◌≢◌, ◌++◌, ◌∷◌, ◌↔◌, [], ℕ, List, IsTrue, MatchOption, OnOk};
 ghost use Rattle.std.specs.Io.KnownBytes.{Appends};
 ghost use Rattle.std.specs.List.{list_all};
-ghost use Rattle.callers.specs.References.{is_name_byte, reference_text, IsName, IsReference, IsNoReference};
+ghost use Rattle.callers.specs.References.{is_reference_byte, reference_text, IsName, IsReference, IsNoReference};
 
 use gix_hash::{Kind, ObjectId};
 use repositories::printed::{Line, after_key, read_line};
@@ -28,7 +28,7 @@ pub enum Reference<'a> {
 /// Reads the file of a reference, or returns `None` if it is not one that Git writes.
 ///
 /// Of the rules on names (git-check-ref-format) those on single bytes are tested, by
-/// [`is_name_byte`], and that a name is not empty.
+/// [`is_reference_byte`], and that a name is not empty.
 pub fn read_reference(kind: Kind, text: &[u8]) -> Option<Reference<'_>>
     ensures { MatchOption result (IsNoReference kind text.now) (IsReference kind text.now) }
 {
@@ -61,8 +61,8 @@ pub fn write_reference<W: io::Write>(reference: &Reference<'_>, out: &mut W) -> 
 
 /// Whether a name may have the byte: no control character, no space, and none of `~^:?*[\`
 /// (git-check-ref-format).
-pub fn is_name_byte(byte: u8) -> bool
-    ensures { result ≡ is_name_byte byte }
+pub fn is_reference_byte(byte: u8) -> bool
+    ensures { result ≡ is_reference_byte byte }
 {
     byte > b' ' && byte != 0x7f && !b"~^:?*[\\".contains(&byte)
 }
@@ -76,9 +76,9 @@ fn is_name(name: &[u8]) -> bool
 
 // Whether a name may have each of the bytes.
 fn has_name_bytes(name: &[u8]) -> bool
-    ensures { result ≡ list_all is_name_byte name.now }
+    ensures { result ≡ list_all is_reference_byte name.now }
 {
-    name.iter().all(|byte| is_name_byte(*byte))
+    name.iter().all(|byte| is_reference_byte(*byte))
 }
 
 // A line without its line feed, if the text ends in one.

@@ -3,7 +3,7 @@
 ghost use Rattle.std.specs.Prelude.{◌≡◌, ◌≢◌, ◌↔◌, true, false, IsErr, IfOk, IfErr, IsErrOf};
 ghost use Rattle.gix_hash.specs.declared.Alphabet.{Alphabet};
 ghost use Rattle.find_calls.specs.Errors.{cause_from};
-ghost use Rattle.oidtool_commands.specs.Searches.{Fails, Finds, From, IsOwn, prefix_of};
+ghost use Rattle.oidtool_commands.specs.Searches.{Fails, Finds, From, IsOwn, prefix_for};
 ghost use Rattle.find_calls.specs.declared.finding_from.FindFromError.{FindFromError};
 ghost use Rattle.oidtool_commands.specs.declared.Search.{Search};
 
@@ -113,7 +113,7 @@ pub fn find_from<A: Allocator, R: Source, W: Sink>(
     ensures stopped { IfErr result (λ e. Fails (Search.Sorted Alphabet.Hex) prefix.now
         (From MAX_LEN (R.remaining list.old) (R.remaining list.new)) (cause_from e)
         (W.taken out.old) (W.taken out.new)) }
-    ensures unread { IsErr (prefix_of (Search.Sorted Alphabet.Hex) prefix.now)
+    ensures unread { IsErr (prefix_for (Search.Sorted Alphabet.Hex) prefix.now)
         → list.new ≡ list.old }
     ensures untouched { IfErr result (λ e. e ≢ FindFromError.Output → out.new ≡ out.old) }
     ensures input { IsErrOf result FindFromError.Input ↔ (R.has_failed list.new ≡ true) }

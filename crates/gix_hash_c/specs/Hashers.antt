@@ -36,26 +36,26 @@ HoldsState Sha1 hasher message = Holds (sha1_in hasher) message
 HoldsState Sha256 hasher message = Holds256 (sha256_in hasher) message
 
 -- it is of the kind, and was fed the message. Bytes that no call wrote may be so for no message
-pub record WasFed (kind : Kind) (hasher : Hasher) (message : List ℕ) : Type 0 where
+pub record HoldsMessage (kind : Kind) (hasher : Hasher) (message : List ℕ) : Type 0 where
   pub kind_is : hasher.kind ≡ number_of kind
   pub state : HoldsState kind hasher message
 
 -- what making a hasher returns, and leaves
 abbrev pub NewAnswer : Option Kind → ℕ → Hasher → Hasher → Type 0
 NewAnswer None code old new = (code ≡ BAD_KIND) × (new ≡ old)
-NewAnswer (Some kind) code old new = (code ≡ OK) × WasFed kind new []
+NewAnswer (Some kind) code old new = (code ≡ OK) × HoldsMessage kind new []
 
 -- what feeding one returns, and leaves
 abbrev pub UpdateAnswer : Option Kind → List ℕ → ℕ → Hasher → Hasher → Type 0
 UpdateAnswer None bytes code old new = (code ≡ BAD_KIND) × (new ≡ old)
 UpdateAnswer (Some kind) bytes code old new =
-    (code ≡ OK) × ((message : List ℕ) → WasFed kind old message → WasFed kind new (message ++ bytes))
+    (code ≡ OK) × ((message : List ℕ) → HoldsMessage kind old message → HoldsMessage kind new (message ++ bytes))
 
 -- what asking one for the digest returns, and leaves
 abbrev pub FinishAnswer : Option Kind → Hasher → ℕ → Id → Id → Type 0
 FinishAnswer None hasher code old new = (code ≡ BAD_KIND) × (new ≡ old)
 FinishAnswer (Some kind) hasher code old new =
-    (code ≡ OK) × ((message : List ℕ) → WasFed kind hasher message → HoldsId (whole_of (digest kind message)) new)
+    (code ≡ OK) × ((message : List ℕ) → HoldsMessage kind hasher message → HoldsId (whole_of (digest kind message)) new)
 
 -- The ids of Git's objects.
 
@@ -84,4 +84,4 @@ ObjectAnswer (Some kind) (Some name) bytes code old new =
 abbrev pub ObjectHasherAnswer : Option Kind → Option (List ℕ) → ℕ → ℕ → Hasher → Hasher → Type 0
 ObjectHasherAnswer None name len code old new = (code ≡ BAD_KIND) × (new ≡ old)
 ObjectHasherAnswer (Some kind) None len code old new = (code ≡ BAD_TYPE) × (new ≡ old)
-ObjectHasherAnswer (Some kind) (Some name) len code old new = (code ≡ OK) × WasFed kind new (object_header name len)
+ObjectHasherAnswer (Some kind) (Some name) len code old new = (code ≡ OK) × HoldsMessage kind new (object_header name len)

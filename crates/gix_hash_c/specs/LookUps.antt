@@ -122,8 +122,8 @@ EntryAnswer (Some kind) bytes at code old new =
     ⊎ ((new ≡ old) × IsNoEntry kind bytes at code)
 
 -- why there is no object at a position
-abbrev pub IsNoName : Kind → List ℕ → ℕ → ℕ → Type 0
-IsNoName kind bytes at code =
+abbrev pub IsNoObject : Kind → List ℕ → ℕ → ℕ → Type 0
+IsNoObject kind bytes at code =
     ((code ≡ OUT_OF_RANGE) × IsLaidOut kind bytes × (num_objects bytes ≤ at)) ⊎ IsTablesFault kind bytes code
 
 -- the id of the object at a position
@@ -131,7 +131,7 @@ abbrev pub NameAnswer : Option Kind → List ℕ → ℕ → ℕ → Id → Id �
 NameAnswer None bytes at code old new = (code ≡ BAD_KIND) × (new ≡ old)
 NameAnswer (Some kind) bytes at code old new =
     ((code ≡ OK) × IsLaidOut kind bytes × (at < num_objects bytes) × HoldsId (kind_digits kind (slice_index_or (names_in kind bytes) at [])) new)
-    ⊎ ((new ≡ old) × IsNoName kind bytes at code)
+    ⊎ ((new ≡ old) × IsNoObject kind bytes at code)
 
 -- the run of a prefix
 abbrev pub PackFindAnswer : Option Kind → List ℕ → Option (List ℕ) → ℕ → Run → Run → Type 0
@@ -152,7 +152,7 @@ abbrev pub IsNameless : Kind → List ℕ → ℕ → ℕ → Type 0
 IsNameless kind bytes at code =
     ((code ≡ NOT_UNIQUE) × IsLaidOut kind bytes × (at < num_objects bytes)
     × (IsSortedIds (names_in kind bytes) → (name : List ℕ) → ¬ IsShortestName (names_in kind bytes) at name))
-    ⊎ IsNoName kind bytes at code
+    ⊎ IsNoObject kind bytes at code
 
 -- the result of abbreviating
 abbrev pub ShortestAnswer : Option Kind → List ℕ → ℕ → ℕ → ℕ → ℕ → Type 0

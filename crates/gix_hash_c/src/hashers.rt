@@ -2,7 +2,7 @@
 
 ghost use Rattle.std.specs.Prelude.{[], ◌≡◌};
 ghost use Rattle.gix_hash_c.specs.Face.{kind_of_number};
-ghost use Rattle.gix_hash_c.specs.Hashers.{FinishAnswer, NewAnswer, UpdateAnswer, WasFed, sha1_in, sha256_in};
+ghost use Rattle.gix_hash_c.specs.Hashers.{FinishAnswer, HoldsMessage, NewAnswer, UpdateAnswer, sha1_in, sha256_in};
 
 use crate::codes::{BAD_KIND, OK, kind_of};
 use crate::ids::{Id, to_c};
@@ -42,7 +42,7 @@ pub extern "C" fn gix_hash_hasher_new(kind: u32, hasher: &mut Hasher) -> u32
 
 // A hasher of an empty message.
 pub(crate) fn new_hasher(kind: Kind) -> Hasher
-    ensures { WasFed kind result [] }
+    ensures { HoldsMessage kind result [] }
 {
     match kind {
         Kind::Sha1 => sha1_to_c(Sha1::new()),

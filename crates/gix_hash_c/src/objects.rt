@@ -2,7 +2,7 @@
 
 ghost use Rattle.std.specs.Prelude.{◌≡◌, MatchOption, Some, None};
 ghost use Rattle.gix_hash_c.specs.Face.{kind_of_number};
-ghost use Rattle.gix_hash_c.specs.Hashers.{ObjectAnswer, ObjectHasherAnswer, WasFed, object_header, type_name};
+ghost use Rattle.gix_hash_c.specs.Hashers.{HoldsMessage, ObjectAnswer, ObjectHasherAnswer, object_header, type_name};
 
 use crate::codes::{BAD_KIND, BAD_TYPE, OK, kind_of};
 use crate::hashers::{Hasher, gix_hash_hasher_finish, gix_hash_hasher_update, new_hasher};
@@ -68,7 +68,7 @@ fn type_name(number: u32) -> Option<&'static [u8]>
 
 // The hasher that was fed the header of an object of `len` bytes, whose type has that name.
 fn object_hasher(kind: Kind, name: &[u8], len: u64) -> Hasher
-    ensures { WasFed kind result (object_header name.now len) }
+    ensures { HoldsMessage kind result (object_header name.now len) }
 {
     let mut buffer = Buffer::new();
     let mut hasher = new_hasher(kind);

@@ -9,7 +9,7 @@ use Rattle.id_lookup.proofs.Filters.{contains_had, contains_kept, filter_within,
 use Rattle.id_lookup.proofs.SameMembers.{index-filter, one_position}
 use Rattle.id_lookup.proofs.Spelled.{starts_with-BeginsWith}
 use Rattle.object_store.specs.Several.{IsAbbreviated, IsAbbreviatedAs, IsAbbreviatedAt, IsAbbreviationOfKind}
-use Rattle.object_store.specs.Stores.{AreMatches, HasRead, IsNameIn, IsNameOf, StoreView}
+use Rattle.object_store.specs.Stores.{AreIdsRead, AreMatches, IsAbbreviationOf, IsNameIn, StoreView}
 use Rattle.object_store.specs.declared.abbreviations.Abbreviation.{Abbreviation}
 use Rattle.object_store.specs.declared.abbreviations.Abbreviation.TheVariants.{Ambiguous, Missing, Named}
 use Rattle.object_store.specs.declared.abbreviations.NamedId.{NamedId}
@@ -53,7 +53,7 @@ pub abbreviated : (fewest : ℕ) (view : StoreView) (digits front : List ℕ) (i
     → IsAbbreviated fewest view digits abbreviation
 abbreviated fewest view digits front ids abbreviation is enough two are at kind = record {
   read = are.read;
-  has_read = subst (λ b. HasRead view b are.read) (front_byte fewest digits front is enough two) are.has_read;
+  ids_read = subst (λ b. AreIdsRead view b are.read) (front_byte fewest digits front is enough two) are.ids_read;
   found = matches digits (map id_digits ids);
   index = subst (λ (all : List (List ℕ)). IsIndexOf view.kind all (matches digits (map id_digits ids)))
       (filter_within (λ id. starts_with nat_eq id front) (λ id. starts_with nat_eq id digits) begins are.read)
@@ -111,16 +111,16 @@ module _ (fewest : ℕ) (view : StoreView) (id : List ℕ) (long : length id ≡
     is_only : (other : List ℕ) → found ≡ other ∷ [] → other ≡ id
     is_only other one = only other (subst (λ (xs : List (List ℕ)). Contains xs other) (sym one) (0, omega arith, refl))
 
-  pub name_missing : IsAbbreviated fewest view id Missing → IsNameOf fewest view id None
-  name_missing is = record { read = is.read; has_read = is.has_read; is = none_found is.read is.found is.index is.name }
+  pub name_missing : IsAbbreviated fewest view id Missing → IsAbbreviationOf fewest view id None
+  name_missing is = record { read = is.read; ids_read = is.ids_read; is = none_found is.read is.found is.index is.name }
 
-  pub name_ambiguous : IsAbbreviated fewest view id Ambiguous → IsNameOf fewest view id None
+  pub name_ambiguous : IsAbbreviated fewest view id Ambiguous → IsAbbreviationOf fewest view id None
   name_ambiguous is = absurd (not_many is.read is.found is.index is.name)
 
-  pub name_named : (n : NamedId) → IsAbbreviated fewest view id (Named n) → IsNameOf fewest view id (Some n.name)
+  pub name_named : (n : NamedId) → IsAbbreviated fewest view id (Named n) → IsAbbreviationOf fewest view id (Some n.name)
   name_named n is = record {
     read = is.read;
-    has_read = is.has_read;
+    ids_read = is.ids_read;
     is = (
       subst (λ (x : List ℕ). IsNameIn fewest is.read x n.name.digits) (is_only is.read is.found is.index (id_digits n.id) is.name.0) is.name.1,
       is.kind.1,

@@ -86,13 +86,13 @@ named_digits ids named all = map_twice named ∙ ap (map id_digits) all
     map_twice (n ∷ named) = ap (λ (rest : List (List ℕ)). id_digits n.id ∷ rest) (map_twice named)
 
 -- each id up to a position has its name
-abbrev pub AreNamed : ℕ → List ObjectId → List NamedId → Type 0
-AreNamed least ids named = (k : ℕ) (d : NamedId) → k < length named → IsShortestNameFrom least (map id_digits ids) k (get_or named k d).name.digits
+abbrev pub HaveNames : ℕ → List ObjectId → List NamedId → Type 0
+HaveNames least ids named = (k : ℕ) (d : NamedId) → k < length named → IsShortestNameFrom least (map id_digits ids) k (get_or named k d).name.digits
 
 -- one id more
 pub named_more : (least at : ℕ) (ids : List ObjectId) (named more : List NamedId) (n : NamedId) → more ≡ named ++ n ∷ [] → at < length ids → slice_get ids at ≡ Some n.id
-    → IsShortestNameFrom least (map id_digits ids) at n.name.digits → map (λ (n : NamedId). n.id) named ≡ take at ids → AreNamed least ids named
-    → (map (λ (n : NamedId). n.id) more ≡ take (at + 1) ids) × AreNamed least ids more
+    → IsShortestNameFrom least (map id_digits ids) at n.name.digits → map (λ (n : NamedId). n.id) named ≡ take at ids → HaveNames least ids named
+    → (map (λ (n : NamedId). n.id) more ≡ take (at + 1) ids) × HaveNames least ids more
 named_more least at ids named more n is within here short before each = (
   ap (map (λ (n : NamedId). n.id)) is ∙ map-append (λ (n : NamedId). n.id) named (n ∷ [])
       ∙ ap (λ (front : List ObjectId). front ++ n.id ∷ []) before

@@ -11,11 +11,11 @@ use Rattle.id_lookup.proofs.SameMembers.{part_is}
 use Rattle.pack_index.specs.Format.{names_in}
 use Rattle.pack_index.specs.Lazy.{LazyIndex}
 use Rattle.pack_index.proofs.Buckets.{counted_all}
-use Rattle.object_store.specs.Stores.{AreMatches, HasRead, Holds, IsNameIn, StoreView}
+use Rattle.object_store.specs.Stores.{AreIdsRead, AreMatches, Holds, IsNameIn, StoreView}
 use Rattle.object_store.proofs.Held.{as_many, filter-flat_map, known_at}
 use Rattle.object_store.proofs.Named.{begins_itself}
 
-module _ (view : StoreView) (whole : List (List ℕ)) (byte : ℕ) (read : List (List ℕ)) (h : Holds view whole) (r : HasRead view byte read) where
+module _ (view : StoreView) (whole : List (List ℕ)) (byte : ℕ) (read : List (List ℕ)) (h : Holds view whole) (r : AreIdsRead view byte read) where
   abbrev packed : List (List ℕ)
   packed = flat_map (names_in view.kind) h.indexes
 
@@ -99,7 +99,7 @@ filter-true (id ∷ ids) = ap (λ (rest : List (List ℕ)). id ∷ rest) (filter
 
 -- if all bytes are known, what was read is determined, whatever they are
 module _ (view : StoreView) (indexes : List (List ℕ)) (known : map (λ (pack : LazyIndex). pack.content) view.packs ≡ map Some indexes) where
-  read_once : (byte : ℕ) (one other : List (List ℕ)) → HasRead view byte one → HasRead view byte other → one ≡ other
+  read_once : (byte : ℕ) (one other : List (List ℕ)) → AreIdsRead view byte one → AreIdsRead view byte other → one ≡ other
   read_once byte one other r s =
       let content : LazyIndex → Option (List ℕ) = λ p. p.content in
       let p : LazyIndex = record { kind = view.kind; count = 0; content = None; can_fail = true } in
@@ -114,7 +114,7 @@ module _ (view : StoreView) (indexes : List (List ℕ)) (known : map (λ (pack :
   -- so is what is found
   pub found_once : (digits : List ℕ) (one other : List ObjectId) → AreMatches view digits one → AreMatches view digits other → map id_digits one ≡ map id_digits other
   found_once digits one other a b =
-      let same : a.read ≡ b.read = read_once (first_byte_of digits) a.read b.read a.has_read b.has_read in
+      let same : a.read ≡ b.read = read_once (first_byte_of digits) a.read b.read a.ids_read b.ids_read in
       let ids = matches digits b.read in
       let all = subst (λ (read : List (List ℕ)). IsIndexOf view.kind (matches digits read) (map id_digits one)) same a.index in
       part_is view.kind (λ _. true) ids (map id_digits other) (map id_digits one) b.index

@@ -2,7 +2,7 @@
 use Rattle.std.specs.Prelude.{◌≡◌, ℕ, ◌<◌, ◌/◌, ◌%◌, ◌⊎◌, List, [], ◌∷◌, None, Option, Some, Vec, length, map, slice_index_or, string_bytes, take, All, Contains}
 use Rattle.std.specs.List.{sum_by}
 use Rattle.id_lookup.specs.Words.{IsIndexOf, IsShortestNameFrom, Kind, KindDigits, ObjectId, first_byte_of, id_digits, matches}
-use Rattle.object_store.specs.Stores.{AreFoundOfEach, AreLocations, AreMatches, HasRead, HaveMore, IsLocateFault, IsNameIn, IsOfKind, IsOfOne, IsStoreFault, StoreView}
+use Rattle.object_store.specs.Stores.{AreFoundOfEach, AreIdsRead, AreLocations, AreMatches, HaveMore, IsLocateFault, IsNameIn, IsOfKind, IsOfOne, IsStoreFault, StoreView}
 use Rattle.object_store.specs.declared.error.Error.{Error}
 use Rattle.object_store.specs.declared.locations.LocatedId.{LocatedId}
 use Rattle.object_store.specs.declared.abbreviations.NamedId.{NamedId}
@@ -72,7 +72,7 @@ IsAbbreviationOfKind kind Ambiguous = Unit {0}
 -- so of those that were read: `found` are the ones that begin with the digits, each once
 pub record IsAbbreviated (fewest : ℕ) (view : StoreView) (digits : List ℕ) (abbreviation : Abbreviation) : Type 0 where
   pub read : List (List ℕ)
-  pub has_read : HasRead view (first_byte_of digits) read
+  pub ids_read : AreIdsRead view (first_byte_of digits) read
   pub found : List (List ℕ)
   pub index : IsIndexOf view.kind (matches digits read) found
   pub name : IsAbbreviatedAs fewest read found abbreviation
@@ -81,7 +81,7 @@ pub record IsAbbreviated (fewest : ℕ) (view : StoreView) (digits : List ℕ) (
 -- those with a first byte, which are those that begin with its two digits, each once, in order, with its name
 pub record AreNamed (fewest : ℕ) (view : StoreView) (byte : ℕ) (named : List NamedId) : Type 0 where
   pub read : List (List ℕ)
-  pub has_read : HasRead view byte read
+  pub ids_read : AreIdsRead view byte read
   pub index : IsIndexOf view.kind (matches (byte / 16 ∷ byte % 16 ∷ []) read) (map (λ (n : NamedId). id_digits n.id) named)
   pub names : All (λ (n : NamedId). IsNameIn fewest read (id_digits n.id) n.name.digits) named
   pub kinds : All (IsOfKind view.kind) named

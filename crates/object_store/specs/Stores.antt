@@ -164,7 +164,7 @@ abbrev pub ids_in : StoreView → List (List (List ℕ)) → List (List ℕ)
 ids_in view names = flat_map (λ (some : List (List ℕ)). some) names ++ view.loose
 
 -- the ids in which a store looks up what has the first byte: the names that were read, and the loose ids
-pub record HasRead (view : StoreView) (byte : ℕ) (ids : List (List ℕ)) : Type 0 where
+pub record AreIdsRead (view : StoreView) (byte : ℕ) (ids : List (List ℕ)) : Type 0 where
   pub names : List (List (List ℕ))
   pub are_read : AreRead view byte names
   pub all : ids ≡ ids_in view names
@@ -172,14 +172,14 @@ pub record HasRead (view : StoreView) (byte : ℕ) (ids : List (List ℕ)) : Typ
 -- the ids that begin with the digits, of those that were read, each once, in order
 pub record AreMatches (view : StoreView) (digits : List ℕ) (ids : List ObjectId) : Type 0 where
   pub read : List (List ℕ)
-  pub has_read : HasRead view (first_byte_of digits) read
+  pub ids_read : AreIdsRead view (first_byte_of digits) read
   pub index : IsIndexOf view.kind (matches digits read) (map id_digits ids)
   pub kinds : All (λ id. id_kind id ≡ view.kind) ids
 
 -- the name of an id among those that were read, or none if it is none of them
-pub record IsNameOf (fewest : ℕ) (view : StoreView) (id : List ℕ) (name : Option KindDigits) : Type 0 where
+pub record IsAbbreviationOf (fewest : ℕ) (view : StoreView) (id : List ℕ) (name : Option KindDigits) : Type 0 where
   pub read : List (List ℕ)
-  pub has_read : HasRead view (first_byte_of id) read
+  pub ids_read : AreIdsRead view (first_byte_of id) read
   pub is : MatchOption name (¬ Contains read id) (λ name. IsNameIn fewest read id name.digits × (name.kind ≡ view.kind))
 
 -- a prefix that is looked up in the part of its first byte: it has 2 digits or more, and the store's kind, and the loose objects with this byte were listed

@@ -4,7 +4,7 @@ ghost use Rattle.std.specs.Prelude.{◌↔◌, ◌≡◌, ℕ, ◌<◌, ◌≤�
 ghost use Rattle.std.specs.List.{starts_with};
 ghost use Rattle.id_lookup.specs.Words.{IsIndex, IsIndexOf, IsShortestNameFrom, Kind, ObjectId, first_byte_of, id_digits, matches, part_of};
 ghost use Rattle.pack_index.specs.Lazy.{IsFirstCounted, LazyIndex};
-ghost use Rattle.object_store.specs.Stores.{AreLocations, AreMatches, HasObjectAt, HasRead, Holds, IsIndexReadOrMemory, IsLocateFault, IsNameIn, IsStoreFault, StoreView, locations_of};
+ghost use Rattle.object_store.specs.Stores.{AreIdsRead, AreLocations, AreMatches, HasObjectAt, Holds, IsIndexReadOrMemory, IsLocateFault, IsNameIn, IsStoreFault, StoreView, locations_of};
 ghost use Rattle.object_store.specs.declared.error.Error.{Error as StoreError};
 ghost use Rattle.object_store.specs.declared.locations.Location.{Location};
 ghost use Rattle.object_store.specs.declared.locations.Location.TheVariants.{Packed, Loose};
@@ -34,15 +34,15 @@ pub fn locations()
 /// it. So what is found is what the whole store has, and a name is one in the whole store.
 pub fn whole()
     ensures read { (view : StoreView) (whole : List (List ℕ)) (byte : ℕ) (read : List (List ℕ))
-        (id : List ℕ) → Holds view whole → HasRead view byte read → first_byte_of id ≡ byte
+        (id : List ℕ) → Holds view whole → AreIdsRead view byte read → first_byte_of id ≡ byte
         → Contains read id ↔ Contains whole id }
     ensures ids { (view : StoreView) (whole : List (List ℕ)) (byte : ℕ) (read : List (List ℕ))
-        (digits : List ℕ) (found : List (List ℕ)) → Holds view whole → HasRead view byte read
+        (digits : List ℕ) (found : List (List ℕ)) → Holds view whole → AreIdsRead view byte read
         → 2 ≤ length digits → first_byte_of digits ≡ byte
         → IsIndexOf view.kind (matches digits read) found → found ≡ matches digits whole }
     ensures names { (view : StoreView) (whole : List (List ℕ)) (read : List (List ℕ))
         (fewest : ℕ) (id name : List ℕ) → Holds view whole
-        → HasRead view (first_byte_of id) read → 2 ≤ fewest
+        → AreIdsRead view (first_byte_of id) read → 2 ≤ fewest
         → IsNameIn fewest read id name → IsNameIn fewest whole id name }
     ensures locations { (view : StoreView) (whole : List (List ℕ)) (id : List ℕ)
         (locations : List Location) → (h : Holds view whole)

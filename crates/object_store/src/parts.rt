@@ -4,7 +4,7 @@ ghost use Rattle.std.specs.Prelude.{◌≡◌, ◌⊎◌, ◌≤◌, IfErr, IfOk
 ghost use Rattle.std.specs.Option.{ForSome};
 ghost use Rattle.id_lookup.specs.Words.{first_byte_of, hex_len_of, id_digits, id_kind};
 ghost use Rattle.object_store.specs.Several.{IsAbbreviated};
-ghost use Rattle.object_store.specs.Stores.{AreBuckets, AreLocations, AreMatches, CanLookUp, HaveBuckets, IsListed, IsLocateFault, IsNameOf, IsStoreFault};
+ghost use Rattle.object_store.specs.Stores.{AreBuckets, AreLocations, AreMatches, CanLookUp, HaveBuckets, IsAbbreviationOf, IsListed, IsLocateFault, IsStoreFault};
 
 use crate::abbreviations::{Abbreviation, abbreviation_in, front_of};
 use crate::error::Error;
@@ -94,7 +94,7 @@ impl<'s, S: Store, A: Allocator + Copy> Parts<'s, S, A> {
         requires enough { 4 ≤ least }
         requires fits { least ≤ hex_len_of self.old.kind }
         ensures store { self.new ≡ self.old }
-        ensures name { IfOk result (IsNameOf least self.old (id_digits id.now)) }
+        ensures name { IfOk result (IsAbbreviationOf least self.old (id_digits id.now)) }
         ensures err { IfErr result (IsStoreFault self.old (first_byte_of (id_digits id.now))) }
     {
         // The contract of this call says how many digits the id has.

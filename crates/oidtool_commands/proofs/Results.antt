@@ -9,7 +9,7 @@ use Rattle.gix_hash.specs.declared.decode.Error.{Error}
 use Rattle.gix_hash.specs.declared.prefix.from_hex.Error.{Error as PrefixError}
 use Rattle.streams.specs.Streams.{lines_of}
 use Rattle.oidtool_commands.specs.Lists.{IsFirstBad, IsLineOf, ids_read, list_read, prepend_line}
-use Rattle.oidtool_commands.specs.Searches.{IsSearch, error_of_all, error_or, finding, first_refused, found_among, found_texts, prefix_of, FoundHolds, ResultHolds}
+use Rattle.oidtool_commands.specs.Searches.{IsSearch, error_of_all, error_or, finding, first_refused, found_among, found_texts, prefix_for, FoundHolds, ResultHolds}
 use Rattle.oidtool_commands.specs.declared.search.error.SearchError.{SearchError}
 use Rattle.oidtool_commands.specs.declared.search.error.SearchError.TheVariants.{Prefix, BadLine, Unsorted, PrefixTooLong, WrongKind, NotRising}
 use Rattle.oidtool_commands.specs.declared.search.Search.{Search}
@@ -93,7 +93,7 @@ found_is (In kind) digits ids (Err (NotRising n)) m =
 found_is search digits ids answer m = absurd m
 
 -- so it is with the texts
-holds_of : (search : Search) (prefix text : List ℕ) (read : IsSearch (prefix_of search prefix) text) (answer : Result (List (List ℕ)) SearchError)
+holds_of : (search : Search) (prefix text : List ℕ) (read : IsSearch (prefix_for search prefix) text) (answer : Result (List (List ℕ)) SearchError)
     → FoundHolds search read.start.digits read.ids answer → ResultHolds search prefix text answer
 holds_of (Sorted alphabet) prefix text read (Err (Prefix error)) h = absurd h
 holds_of (In kind) prefix text read (Err (Prefix error)) h = absurd h
@@ -103,9 +103,9 @@ holds_of search prefix text read answer h = (read, h)
 
 -- the function's result holds
 result_holds : (search : Search) (prefix text : List ℕ) → ResultHolds search prefix text (finding search prefix text)
-result_holds search prefix text = by_texts (prefix_of search prefix) refl (list_read text) (ids_read-means 1 (lines_of text))
+result_holds search prefix text = by_texts (prefix_for search prefix) refl (list_read text) (ids_read-means 1 (lines_of text))
   where
-    by_texts : (read : Result KindDigits PrefixError) → prefix_of search prefix ≡ read → (ids : Result (List (List ℕ)) SearchError)
+    by_texts : (read : Result KindDigits PrefixError) → prefix_for search prefix ≡ read → (ids : Result (List (List ℕ)) SearchError)
         → LinesHold 1 (lines_of text) ids → ResultHolds search prefix text (found_texts search read ids)
     by_texts (Err error) is ids h = is
     by_texts (Ok p) is (Err (BadLine n error)) h = (ap is_ok is, h)
@@ -152,7 +152,7 @@ found_texts-list search (Err e) error h = cc h
 is_result : (search : Search) (prefix text : List ℕ) (answer : Result (List (List ℕ)) SearchError) → ResultHolds search prefix text answer
     → finding search prefix text ≡ answer
 is_result search prefix text (Err (Prefix error)) m = rw m refl
-is_result search prefix text (Err (BadLine n error)) m = rw (list_read-bad text n error m.1) (found_texts-list search (prefix_of search prefix) (BadLine n error) m.0)
+is_result search prefix text (Err (BadLine n error)) m = rw (list_read-bad text n error m.1) (found_texts-list search (prefix_for search prefix) (BadLine n error) m.0)
 is_result search prefix text answer m =
     rw (m.0.prefix_reads, ids_read-of 1 (lines_of text) m.0.ids m.0.list_reads) (found_is search m.0.start.digits m.0.ids answer m.1)
 

@@ -5,7 +5,7 @@ use Rattle.std.proofs.KnownBytes.{Consumes-trans, Consumes-kept}
 use Rattle.std.specs.Io.KnownBytes.{Consumes, Keeps, IsAtEnd, Appends}
 use Rattle.std.proofs.Math.Seq.{take-append_seam}
 use Rattle.id_lookup.specs.Words.{KindDigits, ObjectId, id_digits}
-use Rattle.oidtool_commands.specs.Searches.{HoldsOfAll, IsSettled, GivesGoodLines, GivesTooMuch, Fails, Finds, FoundHolds, From, Searched, IsOwn, OfAll, Stops, found_among, found_in_list, found_texts, letter_for, prefix_of}
+use Rattle.oidtool_commands.specs.Searches.{HoldsOfAll, IsSettled, GivesGoodLines, GivesTooMuch, Fails, Finds, FoundHolds, From, Searched, IsOwn, OfAll, Stops, found_among, found_in_list, found_texts, letter_for, prefix_for}
 use Rattle.oidtool_commands.specs.Lists.{NoBadLineEnded, list_read, IsListRefusal}
 use Rattle.oidtool_commands.specs.SearchStates.{HasSearched, HasTaken}
 use Rattle.oidtool_commands.specs.declared.search.finder.Finder.{Finder}
@@ -182,7 +182,7 @@ step_gave {given = Ok y} D is went = cc (is, went)
 step_gave {given = Err e} D is went = absurd went
 
 -- if the prefix reads, the search stops where the reading does, with an error of its own order
-module _ (search : Search) (prefix : List ℕ) (start : KindDigits) (reads : prefix_of search prefix ≡ Ok start) (query : Query) (same : query.search ≡ search)
+module _ (search : Search) (prefix : List ℕ) (start : KindDigits) (reads : prefix_for search prefix ≡ Ok start) (query : Query) (same : query.search ≡ search)
     (same_prefix : query.prefix ≡ start) (most : ℕ) (old new sink sink' : Option (List ℕ)) where
   stops : (error : SearchError) → Stops (λ text. found_in_list query.search query.prefix.digits (list_read text)) (From most old new) error
       → Fails search prefix (From most old new) error sink sink'

@@ -16,9 +16,9 @@ use Rattle.oidtool_commands.specs.declared.search.error.SearchError.{SearchError
 use Rattle.oidtool_commands.specs.declared.search.error.SearchError.TheVariants.{BadLine, Input, Memory, NotRising, Output, Prefix, PrefixTooLong, TooMuch, Unsorted, WrongKind}
 
 -- what the prefix reads as
-abbrev pub prefix_of : Search → List ℕ → Result KindDigits PrefixError
-prefix_of (Sorted alphabet) text = prefix_read (letter_of alphabet) 4 text
-prefix_of (In kind) text = prefix_read_in kind hex_letter text
+abbrev pub prefix_for : Search → List ℕ → Result KindDigits PrefixError
+prefix_for (Sorted alphabet) text = prefix_read (letter_of alphabet) 4 text
+prefix_for (In kind) text = prefix_read_in kind hex_letter text
 
 -- the letters in which ids are written
 abbrev pub letter_for : Search → ℕ → ℕ
@@ -71,7 +71,7 @@ found_texts search (Ok prefix) list = found_in_list search prefix.digits list
 
 -- the ids of a list text that begin with a prefix, or the first error
 abbrev pub finding : Search → List ℕ → List ℕ → Result (List (List ℕ)) SearchError
-finding search prefix text = found_texts search (prefix_of search prefix) (list_read text)
+finding search prefix text = found_texts search (prefix_for search prefix) (list_read text)
 
 -- the prefix reads, and the text reads as ids
 pub record IsSearch (prefix_read : Result KindDigits PrefixError) (text : List ℕ) : Type 0 where
@@ -96,9 +96,9 @@ FoundHolds search digits ids answer = ⊥
 
 -- what a result says of the prefix and of the text
 abbrev pub ResultHolds : Search → List ℕ → List ℕ → Result (List (List ℕ)) SearchError → Type 0
-ResultHolds search prefix text (Err (Prefix error)) = prefix_of search prefix ≡ Err error
-ResultHolds search prefix text (Err (BadLine n error)) = IsOk (prefix_of search prefix) × IsFirstBadLine text n error
-ResultHolds search prefix text answer = (read : IsSearch (prefix_of search prefix) text) × FoundHolds search read.start.digits read.ids answer
+ResultHolds search prefix text (Err (Prefix error)) = prefix_for search prefix ≡ Err error
+ResultHolds search prefix text (Err (BadLine n error)) = IsOk (prefix_for search prefix) × IsFirstBadLine text n error
+ResultHolds search prefix text answer = (read : IsSearch (prefix_for search prefix) text) × FoundHolds search read.start.digits read.ids answer
 
 -- Where a search stops in what it is given, and what it has written then.
 
@@ -187,9 +187,9 @@ Finds search prefix given sink sink' count = OfAll given (λ text. IsFound (lett
 
 -- where a search stops that fails, and what it has written
 abbrev pub Fails : Search → List ℕ → Searched → SearchError → Option (List ℕ) → Option (List ℕ) → Type 0
-Fails search prefix given (Prefix error) sink sink' = prefix_of search prefix ≡ Err error
+Fails search prefix given (Prefix error) sink sink' = prefix_for search prefix ≡ Err error
 Fails search prefix given Output sink sink' = OfAll given (λ text. IsFoundInPart (letter_for search) (finding search prefix text) sink sink')
-Fails search prefix given error sink sink' = IsOk (prefix_of search prefix) × Stops (finding search prefix) given error
+Fails search prefix given error sink sink' = IsOk (prefix_for search prefix) × Stops (finding search prefix) given error
 
 -- the error is none of the other order
 abbrev pub IsOwn : Search → SearchError → Type 0

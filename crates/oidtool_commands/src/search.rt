@@ -2,7 +2,7 @@
 
 ghost use Rattle.std.specs.Prelude.{◌≡◌, ◌≢◌, ◌↔◌, ◌^◌, ◌<◌, false, true, IsErr, IfOk, IfErr, IsErrOf};
 ghost use Rattle.id_lookup.specs.Words.{letter_of};
-ghost use Rattle.oidtool_commands.specs.Searches.{Fails, Finds, From, IsFor, IsOwn, letter_for, prefix_of};
+ghost use Rattle.oidtool_commands.specs.Searches.{Fails, Finds, From, IsFor, IsOwn, letter_for, prefix_for};
 
 pub mod error;
 mod finder;
@@ -36,7 +36,7 @@ pub enum Search {
 
 impl Search {
     fn read_prefix(self, text: &str) -> Result<Prefix, prefix::from_hex::Error>
-        ensures value { result ≡ prefix_of self text.now }
+        ensures value { result ≡ prefix_for self text.now }
         ensures kind { IfOk result (IsFor self) }
     {
         match self {
@@ -92,7 +92,7 @@ pub fn search_from<A: Allocator, R: Source, W: Sink>(
         (From most (R.remaining list.old) (R.remaining list.new)) e
         (W.taken out.old) (W.taken out.new)) }
     ensures own { IfErr result (IsOwn search) }
-    ensures unread { IsErr (prefix_of search prefix.now) → list.new ≡ list.old }
+    ensures unread { IsErr (prefix_for search prefix.now) → list.new ≡ list.old }
     ensures untouched { IfErr result (λ e. e ≢ SearchError.Output → out.new ≡ out.old) }
     ensures input { IsErrOf result SearchError.Input ↔ (R.has_failed list.new ≡ true) }
     ensures output { IsErrOf result SearchError.Output ↔ (W.has_failed out.new ≡ true) }

@@ -31,7 +31,7 @@ unfolding AreNamedBelow
 below_sound zero least Sees named are k low = absurd (omega (arith, low))
 below_sound (suc n) least Sees named are k low = elim (cases_lt k n) [
   | inl less ↦ below_sound n least Sees are.0 are.3 k less
-  | inr from ↦ let same : n ≡ k = omega (arith, low, from) in (are.2, are.4, subst (HaveBuckets are.2) same are.5.has_read.are_read.sound)
+  | inr from ↦ let same : n ≡ k = omega (arith, low, from) in (are.2, are.4, subst (HaveBuckets are.2) same are.5.ids_read.are_read.sound)
 ]
 
 some_of : {X : Type 0} (xs ys : List X) → (xs ++ ys ≢ []) ↔ ((xs ≢ []) ⊎ (ys ≢ []))

@@ -42,8 +42,8 @@ abbrev pub extension : List ℕ → Option (List ℕ)
 extension name = if bytes_eq (take 11 name) (codes "extensions.") then Some (drop 11 name) else None
 
 -- the value of a variable, if it has this name
-abbrev pub value_of : List ℕ → Variable → Option (List ℕ)
-value_of name variable = if bytes_eq variable.name.items name then (said variable).value else None
+abbrev pub value_named : List ℕ → Variable → Option (List ℕ)
+value_named name variable = if bytes_eq variable.name.items name then (said variable).value else None
 
 -- the kind of this name
 abbrev pub kind_named : List ℕ → Option Kind
@@ -51,11 +51,11 @@ kind_named text = if bytes_eq text (codes "sha1") then Some Sha1 else if bytes_e
 
 -- the version that a variable sets
 abbrev pub version_of : Variable → Option ℤ
-version_of variable = option_and_then number (value_of (codes "core.repositoryformatversion") variable)
+version_of variable = option_and_then number (value_named (codes "core.repositoryformatversion") variable)
 
 -- the kind that it sets
 abbrev pub kind_of : Variable → Option Kind
-kind_of variable = option_and_then kind_named (value_of (codes "extensions.objectformat") variable)
+kind_of variable = option_and_then kind_named (value_named (codes "extensions.objectformat") variable)
 
 -- the extension that it sets, if only version 1 has that
 abbrev pub needs_of : Variable → Option (List ℕ)

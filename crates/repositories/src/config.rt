@@ -1,7 +1,7 @@
 //! What a repository's config (git-config) says of its format and its ids.
 
 ghost use Rattle.std.specs.Prelude.{◌≡◌, ◌⊎◌, IsErrAnd, IsSome, MatchOption, None, bytes_eq, find, option_map};
-ghost use Rattle.repositories.specs.Formats.{Reports, Says, extension, fault_of, kind_in_format, kind_of, kind_or_fault, needs_of, reported, unknown_of, value_of, version_of};
+ghost use Rattle.repositories.specs.Formats.{Reports, Says, extension, fault_of, kind_in_format, kind_of, kind_or_fault, needs_of, reported, unknown_of, value_named, version_of};
 
 use git_config::{Config, Variable, is_boolean, number};
 use gix_hash::Kind;
@@ -140,14 +140,14 @@ fn fault_of(variable: &Variable) -> Option<ConfigError>
 fn version_of(variable: &Variable) -> Option<i64>
     ensures { result ≡ version_of variable.now }
 {
-    number(value_of(variable, "core.repositoryformatversion")?)
+    number(value_named(variable, "core.repositoryformatversion")?)
 }
 
 // The kind that a variable sets.
 fn kind_of(variable: &Variable) -> Option<Kind>
     ensures { result ≡ kind_of variable.now }
 {
-    let text = value_of(variable, "extensions.objectformat")?;
+    let text = value_named(variable, "extensions.objectformat")?;
     if is(text, "sha1") {
         Some(Kind::Sha1)
     } else if is(text, "sha256") {
@@ -158,8 +158,8 @@ fn kind_of(variable: &Variable) -> Option<Kind>
 }
 
 // The value that a variable of this name has.
-fn value_of<'a>(variable: &'a Variable, name: &str) -> Option<&'a [u8]>
-    ensures { option_map (λ text. text.now) result ≡ value_of name.now variable.now }
+fn value_named<'a>(variable: &'a Variable, name: &str) -> Option<&'a [u8]>
+    ensures { option_map (λ text. text.now) result ≡ value_named name.now variable.now }
 {
     if is(&variable.name, name) {
         variable.value.as_deref()

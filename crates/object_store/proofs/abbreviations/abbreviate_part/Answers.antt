@@ -1,6 +1,6 @@
 use Rattle.std.proofs.Common.{◌/◌, ◌%◌, ◌∷◌, [], ℕ, List, map, sym, subst, arith, All}
 use Rattle.id_lookup.specs.Words.{IsIndexOf, Kind, ObjectId, id_digits, matches}
-use Rattle.object_store.specs.Stores.{AreMatches, HasRead, IsOfKind, StoreView}
+use Rattle.object_store.specs.Stores.{AreIdsRead, AreMatches, IsOfKind, StoreView}
 use Rattle.object_store.proofs.Named.{named_digits, names_read}
 use Rattle.object_store.proofs.abbreviations.abbreviate_part.Goals as goal
 
@@ -18,7 +18,7 @@ returns-clause-named g c =
     (subst (λ (xs : List ObjectId). IsIndexOf view.kind (matches c.two_digits.result.digits found.read) (map id_digits xs)) (sym c.deref.ensures.value) found.index) in
     record {
       read = found.read;
-      has_read = subst (λ b. HasRead view b found.read) c.two_digits.ensures.byte found.has_read;
+      ids_read = subst (λ b. AreIdsRead view b found.read) c.two_digits.ensures.byte found.ids_read;
       index = subst (IsIndexOf view.kind (matches digits found.read)) (sym (named_digits ids named c.in_ok-name_all.ensures.ids)) index;
       names = names_read view.kind c.args.least found.read digits ids named (omega (arith, c.requires.enough)) index c.in_ok-name_all.ensures.ids c.in_ok-name_all.ensures.names;
       kinds = subst (λ (k : Kind). All (IsOfKind k) named) c.object_hash-kind.ensures c.in_ok-name_all.ensures.kinds;

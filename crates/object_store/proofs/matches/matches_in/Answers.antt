@@ -33,7 +33,7 @@ returns g c =
     c.in_ok-push_all.ensures.digits ∙ (λ i. front i ++ loose i) ∙ gathered (λ id. starts_with nat_eq id digits) buckets view.loose in
     record {
       read = ids_in view names;
-      has_read = record { names = names; are_read = c.requires.buckets.read; all = refl };
+      ids_read = record { names = names; are_read = c.requires.buckets.read; all = refl };
       index = subst (λ (ids : List (List ℕ)). IsIndexOf view.kind ids (map id_digits c.sort_unique.new.ids.items)) all (c.sort_unique.ensures.index view.kind kinds);
       kinds = c.sort_unique.ensures.kinds view.kind kinds;
     }

@@ -1,7 +1,7 @@
 use Rattle.std.proofs.Common.{◌≡◌, ◌∙◌, None, inl, inr, ap, length, subst}
 use Rattle.id_lookup.specs.Words.{KindDigits, hex_len_of, id_digits}
 use Rattle.object_store.specs.Several.{IsAbbreviated}
-use Rattle.object_store.specs.Stores.{IsNameOf}
+use Rattle.object_store.specs.Stores.{IsAbbreviationOf}
 use Rattle.object_store.proofs.Abbreviated.{name_ambiguous, name_missing, name_named}
 use Rattle.object_store.proofs.parts.Parts.abbreviate.Given.{Over}
 use Rattle.object_store.proofs.parts.Parts.abbreviate.Goals.{In_ok-named}
@@ -25,7 +25,7 @@ returns-in-Missing g c =
     let here = (goal.at.returns-in-Missing g c).In_ok-named in
     let view = c.args.self.now in
     let id = id_digits c.args.id.now in
-    let none : IsNameOf c.args.least view id None = elim c.in-Missing.is [
+    let none : IsAbbreviationOf c.args.least view id None = elim c.in-Missing.is [
       | inl missing ↦ name_missing c.args.least view id (long g here) (subst (IsAbbreviated c.args.least view id) missing (name g here))
       | inr ambiguous ↦ name_ambiguous c.args.least view id (long g here) (subst (IsAbbreviated c.args.least view id) ambiguous (name g here))
     ] in
