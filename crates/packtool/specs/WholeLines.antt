@@ -1,9 +1,6 @@
 -- What contracts say of lines.
-use Rattle.std.specs.Prelude.{ℕ, ◌≡◌, ◌++◌, Bool, List, [], ◌∷◌, nat_eq, cond, count_by}
-
--- whether a byte is a line feed
-abbrev pub is_line_feed : ℕ → Bool
-is_line_feed byte = nat_eq byte 10
+use Rattle.std.specs.Prelude.{ℕ, ◌≡◌, ◌++◌, List, [], ◌∷◌, cond, count_by}
+pub use Rattle.streams.specs.Streams.{is_line_feed}
 
 -- no byte is a line feed
 abbrev pub HasNoLineFeed : List ℕ → Type 0
@@ -19,5 +16,5 @@ abbrev pub AreWhole : List ℕ → Type 0
 AreWhole bytes = last_after 10 bytes ≡ 10
 
 -- bytes with the line feed that their last line may lack
-abbrev pub ended : List ℕ → List ℕ
-ended bytes = cond (is_line_feed (last_after 10 bytes)) bytes (bytes ++ (10 ∷ []))
+abbrev pub made_whole : List ℕ → List ℕ
+made_whole bytes = cond (is_line_feed (last_after 10 bytes)) bytes (bytes ++ (10 ∷ []))

@@ -42,7 +42,7 @@ pub struct LineReader<R> {
 
 impl<R: io::Read> LineReader<R> {
     ghost use Rattle.packtool.specs.LineReaders.{chunk, held, to_come};
-    ghost use Rattle.packtool.specs.WholeLines.{ended};
+    ghost use Rattle.packtool.specs.WholeLines.{made_whole};
     ghost use Rattle.std.specs.Option.{option_map};
 
     /// It reads from this reader, which tries interrupted reads again.
@@ -51,7 +51,7 @@ impl<R: io::Read> LineReader<R> {
         R: Drop,
         ensures chunk { IfOk result (λ lines. chunk lines ≡ []) }
         ensures lines { IfOk result (λ lines. to_come R.remaining lines
-            ≡ option_map ended (R.remaining reader)) }
+            ≡ option_map made_whole (R.remaining reader)) }
     {
         let mut buf = Vec::new(alloc);
         buf.extend_from_slice(&[0; FIRST_LEN])?;
