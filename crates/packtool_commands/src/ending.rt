@@ -5,7 +5,7 @@ ghost use Rattle.packtool_commands.specs.Files.{named, verdict};
 ghost use Rattle.streams.specs.Streams.{Wrote};
 
 use crate::escaping::write_named;
-use crate::line::{Line, push, push_digest};
+use crate::line_end::{LineEnd, push, push_digest};
 use streams::{Ending, Sink, WriteFailed};
 
 /// Writes the line of a file with this name whose bytes end so: `NAME: OK`, or `NAME: FAILED` and
@@ -29,10 +29,10 @@ pub fn write_ending<W: Sink>(name: &str, ending: &Ending, out: &mut W) -> Result
 }
 
 // What is said of a checked file after its name.
-fn verdict(ending: &Ending) -> Line
+fn verdict(ending: &Ending) -> LineEnd
     ensures { result.items ≡ verdict ending.now }
 {
-    let mut line = Line::new();
+    let mut line = LineEnd::new();
     match ending {
         Ending::Sealed(_) => push(&mut line, b": OK\n"),
         Ending::Unsealed {

@@ -10,8 +10,8 @@ ghost use Rattle.streams.specs.Streams.{Wrote, lines_of};
 
 use crate::error::StoreError;
 use crate::escaping::{write_before, write_mark};
-use crate::line::push;
-use crate::lines::{put, put_id};
+use crate::line_buffer::{put, put_id};
+use crate::line_end::push;
 use crate::prefixes::PrefixLines;
 use crate::printing::{Answers, Entry, Listed, write_answers, write_each, write_front};
 use crate::reopening::look_up_again;

@@ -9,7 +9,7 @@ ghost use Rattle.packtool_commands.specs.declared.error.StoreError.{StoreError};
 ghost use Rattle.streams.specs.Streams.{Wrote, lines_of};
 
 use crate::error::StoreError;
-use crate::lines::{LINES_LEN, next_line_at, put_name_line};
+use crate::line_buffer::{LINES_LEN, next_line_at, put_name_line};
 use crate::prefixes::PrefixLines;
 use crate::printing::{Form, write_answers, write_two};
 use crate::reopening::look_up_again;

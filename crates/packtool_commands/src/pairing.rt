@@ -6,7 +6,7 @@ ghost use Rattle.packtool_commands.specs.Files.{EndsIn, IsFirstBeyond, IsOffsetB
 ghost use Rattle.streams.specs.Streams.{Wrote};
 
 use crate::escaping::write_named;
-use crate::line::{Line, push, push_digest, push_number};
+use crate::line_end::{LineEnd, push, push_digest, push_number};
 use gix_hash::{Kind, ObjectId};
 use pack_index::File;
 use std::io;
@@ -139,10 +139,10 @@ pub fn write_pairing<W: Sink>(name: &str, pairing: &Pairing, out: &mut W) -> Res
 }
 
 // What is said of a pack index after its name.
-fn verdict(pairing: &Pairing) -> Line
+fn verdict(pairing: &Pairing) -> LineEnd
     ensures { result.items ≡ pairing_verdict pairing.now }
 {
-    let mut line = Line::new();
+    let mut line = LineEnd::new();
     match pairing {
         Pairing::Same => push(&mut line, b": OK\n"),
         Pairing::Other { named, found } => {

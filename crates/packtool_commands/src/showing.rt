@@ -8,7 +8,7 @@ ghost use Rattle.packtool_commands.specs.Files.{HasShown, HasShownPart, IsFileRe
 ghost use Rattle.packtool_commands.specs.declared.error.FileError.{FileError};
 
 use crate::error::FileError;
-use crate::lines::{LINES_LEN, next_line_at, put_index_line};
+use crate::line_buffer::{LINES_LEN, next_line_at, put_index_line};
 use gix_hash::Kind;
 use pack_index::File;
 use pack_index::tables::check_tables;

@@ -1,7 +1,7 @@
 use Rattle.std.proofs.Common.{take}
 use Rattle.id_lookup.specs.Words.{hex_letter, id_digits, spelling}
 use Rattle.packtool_commands.proofs.LineLemmas.{name_parts}
-use Rattle.packtool_commands.proofs.lines.put_name_line.Goals as goal
+use Rattle.packtool_commands.proofs.line_buffer.put_name_line.Goals as goal
 
 pub returns-clause-text : goal.returns-clause-text
 returns-clause-text c =

@@ -1,4 +1,4 @@
-//! A line that knows its length.
+//! The ends of lines, each after the name of a file.
 
 ghost use Rattle.std.specs.Prelude.{◌≡◌, ◌+◌, ◌≤◌, ◌++◌, decimal, length};
 ghost use Rattle.arrayvec.specs.ArrayVec.{array_vec_len};
@@ -8,14 +8,14 @@ use arrayvec::ArrayVec;
 use gix_hash::{Kind, ObjectId};
 use itoa::Buffer;
 
-// The length of the longest line: two ids of 64 digits, and 61 bytes around them.
+// The length of the longest end: two ids of 64 digits, and 61 bytes around them.
 const MAX_LEN: usize = 189;
 
-/// What is after the name in a line.
-pub(crate) type Line = ArrayVec<u8, MAX_LEN>;
+/// What is after the name of a file in its line.
+pub(crate) type LineEnd = ArrayVec<u8, MAX_LEN>;
 
 /// Adds an id after a text.
-pub(crate) fn push_digest(line: &mut Line, text: &[u8], id: &ObjectId)
+pub(crate) fn push_digest(line: &mut LineEnd, text: &[u8], id: &ObjectId)
     requires { array_vec_len line.old + length text.now + 64 ≤ MAX_LEN }
     ensures text { line.new.items ≡ line.old.items ++ text.now ++ hex_of id.now }
     ensures len { array_vec_len line.new ≤ array_vec_len line.old + length text.now + 64 }
@@ -25,7 +25,7 @@ pub(crate) fn push_digest(line: &mut Line, text: &[u8], id: &ObjectId)
 }
 
 /// Adds a number after a text.
-pub(crate) fn push_number(line: &mut Line, text: &[u8], number: u64)
+pub(crate) fn push_number(line: &mut LineEnd, text: &[u8], number: u64)
     requires { array_vec_len line.old + length text.now + 20 ≤ MAX_LEN }
     ensures text { line.new.items ≡ line.old.items ++ text.now ++ decimal number }
     ensures len { array_vec_len line.new ≤ array_vec_len line.old + length text.now + 20 }

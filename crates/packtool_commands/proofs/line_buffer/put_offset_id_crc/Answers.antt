@@ -2,7 +2,7 @@ use Rattle.std.proofs.Common.{take, decimal}
 use Rattle.id_lookup.specs.Words.{hex_letter, oid_digits, spelling}
 use Rattle.packtool_commands.specs.Files.{crc_text}
 use Rattle.packtool_commands.proofs.LineLemmas.{line_parts}
-use Rattle.packtool_commands.proofs.lines.put_offset_id_crc.Goals as goal
+use Rattle.packtool_commands.proofs.line_buffer.put_offset_id_crc.Goals as goal
 
 pub returns-clause-text : goal.returns-clause-text
 returns-clause-text c =

@@ -1,5 +1,5 @@
 use Rattle.std.proofs.Common.{[], refl}
-use Rattle.packtool_commands.proofs.lines.put_index_line.Goals as goal
+use Rattle.packtool_commands.proofs.line_buffer.put_index_line.Goals as goal
 
 pub returns-clause-text : goal.returns-clause-text
 returns-clause-text c =
