@@ -9,7 +9,7 @@ ghost use Rattle.streams.specs.Streams.{Wrote, lines_of};
 
 use crate::error::StoreError;
 use crate::prefixes::PrefixLines;
-use crate::printing::{Answers, Entry, Listed, write_answers, write_front};
+use crate::printing::{Answers, ItemForm, ListForm, write_answers, write_front};
 use crate::reopening::look_up_again;
 use gix_hash::{Alphabet, ObjectId, Prefix};
 use object_store::{Reopen, lookup_prefix, lookup_prefixes};
@@ -117,18 +117,18 @@ pub fn find_each<S: Reopen, A: Allocator + Copy, W: Sink>(
     let Some(found) = looked? else {
         return Err(StoreError::TooMany);
     };
-    let form = Listed {
+    let form = ListForm {
         answers,
-        entry: IdEntry,
+        item: IdForm,
     };
     Ok(write_answers(lines.kind, lines.text, &found, &form, out)?)
 }
 
 // How an id is printed.
 #[derive(Drop)]
-struct IdEntry;
+struct IdForm;
 
-impl Entry<ObjectId> for IdEntry {
+impl ItemForm<ObjectId> for IdForm {
     ghost text = { λ _ line id. id_line line (id_digits id) };
 
     fn write_after<W: Sink>(

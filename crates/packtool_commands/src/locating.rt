@@ -13,7 +13,7 @@ use crate::escaping::{write_before, write_mark};
 use crate::line_buffer::{put, put_id};
 use crate::line_end::push;
 use crate::prefixes::PrefixLines;
-use crate::printing::{Answers, Entry, Listed, write_answers, write_each, write_front};
+use crate::printing::{Answers, ItemForm, ListForm, write_answers, write_each, write_front};
 use crate::reopening::look_up_again;
 use arrayvec::ArrayVec;
 use gix_hash::{ObjectId, Prefix};
@@ -65,7 +65,7 @@ pub fn locate<S: Reopen + StorePaths, A: Allocator + Copy, W: Sink>(
         (W.taken out.old) (W.taken out.new) }
 {
     let located = locations_of(alloc, store, prefix)?;
-    write_each(None, &located, &LocationsEntry { store: &*store }, out)?;
+    write_each(None, &located, &LocationsForm { store: &*store }, out)?;
     Ok(!located.is_empty())
 }
 
@@ -150,9 +150,9 @@ pub fn locate_each<S: Reopen + StorePaths, A: Allocator + Copy, W: Sink>(
     let Some(located) = looked? else {
         return Err(StoreError::TooMany);
     };
-    let form = Listed {
+    let form = ListForm {
         answers,
-        entry: LocationsEntry { store: &*store },
+        item: LocationsForm { store: &*store },
     };
     Ok(write_answers(lines.kind, lines.text, &located, &form, out)?)
 }
@@ -193,12 +193,12 @@ fn limit_for(answers: Answers) -> Option<usize>
 
 // How an id is printed with its locations in a store: a line for each.
 #[derive(Drop)]
-struct LocationsEntry<'s, S> {
+struct LocationsForm<'s, S> {
     store: &'s S,
 }
 
-impl<S: StorePaths, A: Allocator> Entry<LocatedId<A>> for LocationsEntry<'_, S> {
-    ghost text = { λ entry line id. located_lines (S.pack_path entry.store.now) line id };
+impl<S: StorePaths, A: Allocator> ItemForm<LocatedId<A>> for LocationsForm<'_, S> {
+    ghost text = { λ form line id. located_lines (S.pack_path form.store.now) line id };
 
     fn write_after<W: Sink>(
         &self,
@@ -206,26 +206,26 @@ impl<S: StorePaths, A: Allocator> Entry<LocatedId<A>> for LocationsEntry<'_, S> 
         located: &LocatedId<A>,
         out: &mut W,
     ) -> Result<(), WriteFailed> {
-        let entry = LocationEntry {
+        let form = LocationForm {
             store: self.store,
             id: &located.id,
             loose_paths: &located.loose_paths,
         };
-        write_each(line, &located.locations, &entry, out)
+        write_each(line, &located.locations, &form, out)
     }
 }
 
 // How a location of an object is printed: a line, or one for each file of a loose object.
 #[derive(Drop)]
-struct LocationEntry<'s, S> {
+struct LocationForm<'s, S> {
     store: &'s S,
     id: &'s ObjectId,
     loose_paths: &'s [String],
 }
 
-impl<S: StorePaths> Entry<Location> for LocationEntry<'_, S> {
-    ghost text = { λ entry line location. lines_at_after line (S.pack_path entry.store.now)
-        (map string_bytes entry.loose_paths.now) (id_digits entry.id.now) location };
+impl<S: StorePaths> ItemForm<Location> for LocationForm<'_, S> {
+    ghost text = { λ form line location. lines_at_after line (S.pack_path form.store.now)
+        (map string_bytes form.loose_paths.now) (id_digits form.id.now) location };
 
     fn write_after<W: Sink>(
         &self,
@@ -238,19 +238,19 @@ impl<S: StorePaths> Entry<Location> for LocationEntry<'_, S> {
                 let path = self.store.pack_path(*pack);
                 write_location_after(line, self.id, path, Some(*offset), out)
             }
-            Location::Loose => write_each(line, self.loose_paths, &PathEntry { id: self.id }, out),
+            Location::Loose => write_each(line, self.loose_paths, &PathForm { id: self.id }, out),
         }
     }
 }
 
 // How the path of a file of a loose object is printed.
 #[derive(Drop)]
-struct PathEntry<'i> {
+struct PathForm<'i> {
     id: &'i ObjectId,
 }
 
-impl Entry<String> for PathEntry<'_> {
-    ghost text = { λ entry line path. location_line_after line (id_digits entry.id.now)
+impl ItemForm<String> for PathForm<'_> {
+    ghost text = { λ form line path. location_line_after line (id_digits form.id.now)
         (string_bytes path) None };
 
     fn write_after<W: Sink>(

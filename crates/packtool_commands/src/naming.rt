@@ -11,7 +11,7 @@ ghost use Rattle.streams.specs.Streams.{Wrote, lines_of};
 use crate::error::StoreError;
 use crate::line_buffer::{LINES_LEN, next_line_at, put_name_line};
 use crate::prefixes::PrefixLines;
-use crate::printing::{Form, write_answers, write_two};
+use crate::printing::{AnswerForm, write_answers, write_two};
 use crate::reopening::look_up_again;
 use gix_hash::{Kind, Prefix};
 use object_store::{Abbreviation, NamedId, Reopen, abbreviate_part, abbreviate_prefixes};
@@ -190,7 +190,7 @@ pub fn name_each<S: Reopen, A: Allocator + Copy, W: Sink>(
 // How the abbreviation of the only id that begins with a prefix is printed.
 struct AbbreviationForm;
 
-impl Form<Abbreviation> for AbbreviationForm {
+impl AnswerForm<Abbreviation> for AbbreviationForm {
     ghost text = { λ _ line found. abbreviation_text line found };
 
     ghost is_found = { λ _ found. is_named found };

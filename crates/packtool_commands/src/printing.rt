@@ -26,7 +26,7 @@ pub enum Answers {
 }
 
 /// How what is found for a prefix, a `T`, is printed.
-pub(crate) trait Form<T> {
+pub(crate) trait AnswerForm<T> {
     /// What is printed for a line that is a prefix.
     ghost text: { Self → List ℕ → T → List ℕ };
 
@@ -46,7 +46,7 @@ pub(crate) trait Form<T> {
 
 /// Writes what is printed for each line of a text, by what was found for each prefix among them.
 /// Returns whether each found what is asked for.
-pub(crate) fn write_answers<T, F: Form<T>, W: Sink>(
+pub(crate) fn write_answers<T, F: AnswerForm<T>, W: Sink>(
     kind: Kind,
     lines: &[u8],
     found: &[T],
@@ -88,7 +88,7 @@ fn lists_after<T>(is_prefix: bool, found: &[T]) -> &[T]
 
 // Whether the lines before a line find what is asked for, and it does, by the first of what was
 // found if it is a prefix.
-fn are_answered<T, F: Form<T>>(before: bool, is_prefix: bool, found: &[T], form: &F) -> bool
+fn are_answered<T, F: AnswerForm<T>>(before: bool, is_prefix: bool, found: &[T], form: &F) -> bool
     requires { is_prefix ≡ true → 0 < length found.now }
     ensures { result ≡ (before && is_answer_to (F.is_found form.now) is_prefix found.now) }
 {
@@ -96,7 +96,7 @@ fn are_answered<T, F: Form<T>>(before: bool, is_prefix: bool, found: &[T], form:
 }
 
 // Writes what is printed for a line, by the first of what was found if it is a prefix.
-fn write_answer<T, F: Form<T>, W: Sink>(
+fn write_answer<T, F: AnswerForm<T>, W: Sink>(
     line: &[u8],
     is_prefix: bool,
     found: &[T],
@@ -116,7 +116,7 @@ fn write_answer<T, F: Form<T>, W: Sink>(
 }
 
 /// How one thing that is found, an `X`, is printed.
-pub(crate) trait Entry<X> {
+pub(crate) trait ItemForm<X> {
     /// What is printed for it, after a line or nothing.
     ghost text: { Self → Option (List ℕ) → X → List ℕ };
 
@@ -134,15 +134,15 @@ pub(crate) trait Entry<X> {
 
 /// How a list of what is found is printed: all of it, or the only one.
 #[derive(Drop)]
-pub(crate) struct Listed<E> {
+pub(crate) struct ListForm<F> {
     /// What is asked for.
     pub(crate) answers: Answers,
     /// How each is printed.
-    pub(crate) entry: E,
+    pub(crate) item: F,
 }
 
-impl<X, A: Allocator, E: Entry<X>> Form<Vec<X, A>> for Listed<E> {
-    ghost text = { λ form line ids. found_text (E.text form.entry) form.answers line ids.items };
+impl<X, A: Allocator, F: ItemForm<X>> AnswerForm<Vec<X, A>> for ListForm<F> {
+    ghost text = { λ form line ids. found_text (F.text form.item) form.answers line ids.items };
 
     ghost is_found = { λ form found. is_found form.answers found.items };
 
@@ -152,7 +152,7 @@ impl<X, A: Allocator, E: Entry<X>> Form<Vec<X, A>> for Listed<E> {
         found: &Vec<X, A>,
         out: &mut W,
     ) -> Result<(), WriteFailed> {
-        write_found(line, found, self.answers, &self.entry, out)
+        write_found(line, found, self.answers, &self.item, out)
     }
 
     fn is_found(&self, found: &Vec<X, A>) -> bool {
@@ -164,40 +164,40 @@ impl<X, A: Allocator, E: Entry<X>> Form<Vec<X, A>> for Listed<E> {
 }
 
 // Writes what is printed for a prefix, by the things that were found.
-fn write_found<X, E: Entry<X>, W: Sink>(
+fn write_found<X, F: ItemForm<X>, W: Sink>(
     line: &[u8],
     found: &[X],
     answers: Answers,
-    entry: &E,
+    form: &F,
     out: &mut W,
 ) -> Result<(), WriteFailed>
     requires { W.has_failed out.old ≡ false }
     ensures { Wrote W.taken W.has_failed out.old out.new result
-        (found_text (E.text entry.now) answers line.now found.now) }
+        (found_text (F.text form.now) answers line.now found.now) }
 {
     if found.is_empty() {
         return write_two(line, b" missing\n", out);
     }
     match answers {
-        Answers::All => write_each(Some(line), found, entry, out),
-        Answers::One if found.len() == 1 => entry.write_after(None, &found[0], out),
+        Answers::All => write_each(Some(line), found, form, out),
+        Answers::One if found.len() == 1 => form.write_after(None, &found[0], out),
         Answers::One => write_two(line, b" ambiguous\n", out),
     }
 }
 
 /// Writes each of some things after a line or nothing.
-pub(crate) fn write_each<X, E: Entry<X>, W: Sink>(
+pub(crate) fn write_each<X, F: ItemForm<X>, W: Sink>(
     line: Option<&[u8]>,
     found: &[X],
-    entry: &E,
+    form: &F,
     out: &mut W,
 ) -> Result<(), WriteFailed>
     requires { W.has_failed out.old ≡ false }
     ensures { Wrote W.taken W.has_failed out.old out.new result
-        (flat_map (E.text entry.now (option_copied line.entry)) found.now) }
+        (flat_map (F.text form.now (option_copied line.entry)) found.now) }
 {
     for item in found {
-        entry.write_after(line, item, out)?;
+        form.write_after(line, item, out)?;
     }
     Ok(())
 }

@@ -9,7 +9,7 @@ use Rattle.packtool_commands.proofs.printing.write_answers.Goals as goal
 
 pub returns-in_err-write_answer-clause-part : goal.returns-in_err-write_answer-clause-part
 returns-in_err-write_answer-clause-part g c =
-    let text = g.F.Form.text c.args.form.now in
+    let text = g.F.AnswerForm.text c.args.form.now in
     let kind = c.args.kind in
     let line = c.first_line.result.0.now in
     let p = c.is_some-is_prefix.result in
@@ -26,8 +26,8 @@ returns-in_err-write_answer-clause-part g c =
 
 pub loop-rest-preserved : goal.loop-rest-preserved
 loop-rest-preserved g c =
-    let text = g.F.Form.text c.args.form.now in
-    let is_found = g.F.Form.is_found c.args.form.now in
+    let text = g.F.AnswerForm.text c.args.form.now in
+    let is_found = g.F.AnswerForm.is_found c.args.form.now in
     let kind = c.args.kind in
     let line = c.first_line.result.0.now in
     let p = c.is_some-is_prefix.result in
@@ -59,12 +59,12 @@ pub returns-clause-written : goal.returns-clause-written
 returns-clause-written g c =
     let none : length c.loop-rest.rest.now ≡ 0 = search rules in
     let w = c.loop-rest.invariant.2.0 in
-    let total = sym (append-nil w) ∙ ap (λ (ls : List (List ℕ)). w ++ answers_by (g.F.Form.text c.args.form.now) c.args.kind ls c.loop-rest.left.now) (sym (lines_at_end c.loop-rest.rest.now none)) ∙ c.loop-rest.invariant.2.2 in
+    let total = sym (append-nil w) ∙ ap (λ (ls : List (List ℕ)). w ++ answers_by (g.F.AnswerForm.text c.args.form.now) c.args.kind ls c.loop-rest.left.now) (sym (lines_at_end c.loop-rest.rest.now none)) ∙ c.loop-rest.invariant.2.2 in
     subst (Appends (g.W.Sink.taken c.args.out.now) (g.W.Sink.taken c.loop-rest.out)) total c.loop-rest.invariant.2.1
 
 pub returns-clause-all : goal.returns-clause-all
 returns-clause-all g c =
     let none : length c.loop-rest.rest.now ≡ 0 = search rules in
     sym (and_true c.loop-rest.all)
-    ∙ ap (λ (ls : List (List ℕ)). c.loop-rest.all && are_answers_by (g.F.Form.is_found c.args.form.now) c.args.kind ls c.loop-rest.left.now) (sym (lines_at_end c.loop-rest.rest.now none))
+    ∙ ap (λ (ls : List (List ℕ)). c.loop-rest.all && are_answers_by (g.F.AnswerForm.is_found c.args.form.now) c.args.kind ls c.loop-rest.left.now) (sym (lines_at_end c.loop-rest.rest.now none))
     ∙ c.loop-rest.invariant.3

@@ -9,8 +9,8 @@ invariant-loop-rest g l =
     (length l.left ≡ length (prefixes_of l.kind (lines_of l.rest)))
     × (g.W.Sink.has_failed l.out ≡ false)
     × ((w : List ℕ) × Appends (g.W.Sink.taken l.fn.out) (g.W.Sink.taken l.out) w
-    × (w ++ answers_by (g.F.Form.text l.form) l.kind (lines_of l.rest) l.left ≡ answers_by (g.F.Form.text l.form) l.kind (lines_of l.lines) l.found))
-    × ((l.all && are_answers_by (g.F.Form.is_found l.form) l.kind (lines_of l.rest) l.left) ≡ are_answers_by (g.F.Form.is_found l.form) l.kind (lines_of l.lines) l.found)
+    × (w ++ answers_by (g.F.AnswerForm.text l.form) l.kind (lines_of l.rest) l.left ≡ answers_by (g.F.AnswerForm.text l.form) l.kind (lines_of l.lines) l.found))
+    × ((l.all && are_answers_by (g.F.AnswerForm.is_found l.form) l.kind (lines_of l.rest) l.left) ≡ are_answers_by (g.F.AnswerForm.is_found l.form) l.kind (lines_of l.lines) l.found)
 
 abbrev pub decreases-loop-rest : goal.decreases-loop-rest
 decreases-loop-rest g l = length l.rest

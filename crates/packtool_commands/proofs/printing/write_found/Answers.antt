@@ -6,4 +6,4 @@ use Rattle.packtool_commands.proofs.printing.write_found.Goals as goal
 pub returns-in-All : goal.returns-in-All
 returns-in-All g c =
     let some : 0 < length c.args.found.now = search rules in
-    subst (Wrote _ _ _ _ _) (found_all (g.E.Entry.text c.args.entry.now) c.args.answers c.args.line.now c.args.found.now c.in-All.is some) c.write_each.ensures
+    subst (Wrote _ _ _ _ _) (found_all (g.F.ItemForm.text c.args.form.now) c.args.answers c.args.line.now c.args.found.now c.in-All.is some) c.write_each.ensures

@@ -3,7 +3,7 @@ use Rattle.id_lookup.specs.Words.{hex_letter, id_digits}
 use Rattle.streams.specs.Streams.{line_of}
 use Rattle.streams.proofs.WritingLemmas.{Wrote-stop, Wrote-then}
 use Rattle.packtool_commands.specs.Stores.{front_text}
-use Rattle.packtool_commands.proofs.finding.IdEntryEntryObjectId.write_after.Goals as goal
+use Rattle.packtool_commands.proofs.finding.IdFormItemFormObjectId.write_after.Goals as goal
 
 pub returns-in_err-write_front : goal.returns-in_err-write_front
 returns-in_err-write_front g c = Wrote-stop _ (front_text (option_copied c.args.line)) _ c.from_residual.ensures.0 c.in_err-write_front.ensures

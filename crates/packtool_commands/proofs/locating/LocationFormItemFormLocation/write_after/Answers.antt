@@ -3,7 +3,7 @@ use Rattle.std.proofs.lemmas.List.Folds.{flat_map-map}
 use Rattle.id_lookup.specs.Words.{id_digits}
 use Rattle.streams.specs.Streams.{Wrote}
 use Rattle.packtool_commands.specs.Stores.{location_line_after}
-use Rattle.packtool_commands.proofs.locating.LocationEntryEntryLocation.write_after.Goals as goal
+use Rattle.packtool_commands.proofs.locating.LocationFormItemFormLocation.write_after.Goals as goal
 
 pub returns-in-Loose : goal.returns-in-Loose
 returns-in-Loose g c =
