@@ -21,7 +21,7 @@ use streams::{Plain, Retrying};
 
 fn main(rt: HostRuntime) -> ExitCode {
     let outcome = match command_line_args(&rt) {
-        Ok(words) => return report(&rt, run(&rt, &words)),
+        Ok(words) => return report(&rt, run_words(&rt, &words)),
         Err(WordsError::NotText) => Failure::Args(ArgError::Usage),
         Err(WordsError::Memory) => Failure::Command(CommandError::Memory),
     };
@@ -30,7 +30,7 @@ fn main(rt: HostRuntime) -> ExitCode {
 
 /// Prints the help or the version, or runs the command that the words ask for. Nothing is read if
 /// the words are rejected.
-fn run<'a>(
+fn run_words<'a>(
     rt: &(impl Input + Print + Files + AllocGlobal),
     words: &'a [String],
 ) -> Result<usize, Failure<'a>> {

@@ -56,8 +56,8 @@ fn answer_once<'a>(
     let mut asked = Asked::of(rt, folder, question)?;
     let mut out = buffered(rt, rt.stdout())?;
     let status = match asked.question {
-        Question::Find(text) | Question::Locate(text) => asked.write_found(text, &mut out)?,
-        Question::Names(least) => asked.write_names(least, &mut out)?,
+        Question::Find(text) | Question::Locate(text) => asked.write_for_prefix(text, &mut out)?,
+        Question::Names(least) => asked.write_all_names(least, &mut out)?,
     };
     flushed(status, &mut out)
 }
@@ -73,7 +73,7 @@ fn answer_one<'a>(
     let mut asked = Asked::of(rt, folder, question)?;
     read_prefix(text, asked.folder.kind)?;
     let mut answer = Plain::new(Vec::new(rt.alloc()));
-    let status = match asked.write_each(text.as_bytes(), &mut answer) {
+    let status = match asked.write_for_lines(text.as_bytes(), &mut answer) {
         Err(Failure::Output(_)) => return Err(Failure::Memory),
         status => status?,
     };
@@ -168,7 +168,7 @@ impl<'r, P: Copy> Asked<'r, P> {
 
 impl<'a> Asked<'_, &'a str> {
     // Opens the store, and writes the lines of `find` or `where` for a prefix.
-    fn write_found<W: io::Write>(
+    fn write_for_prefix<W: io::Write>(
         &mut self,
         text: &'a str,
         out: &mut Plain<W>,
@@ -190,7 +190,7 @@ impl<'a> Asked<'_, &'a str> {
 
     // Opens the store, and writes the lines of `names`. Those that were written before the store
     // was opened again may lack what was skipped then.
-    fn write_names<W: io::Write>(
+    fn write_all_names<W: io::Write>(
         &mut self,
         least: usize,
         out: &mut Plain<W>,
@@ -234,12 +234,12 @@ impl Asked<'_, Answers> {
     // Prints what each of the lines finds.
     fn answer_part<'a>(&mut self, lines: &[u8]) -> Result<u8, Failure<'a>> {
         let mut out = buffered(self.rt, self.rt.stdout())?;
-        let status = self.write_each(lines, &mut out)?;
+        let status = self.write_for_lines(lines, &mut out)?;
         flushed(status, &mut out)
     }
 
     // Writes what each of the lines finds in the store as it is now.
-    fn write_each<'a, W: io::Write>(
+    fn write_for_lines<'a, W: io::Write>(
         &mut self,
         lines: &[u8],
         out: &mut Plain<W>,

@@ -135,11 +135,11 @@ pub fn write_pairing<W: Sink>(name: &str, pairing: &Pairing, out: &mut W) -> Res
     ensures { Wrote W.taken W.has_failed out.old out.new result
         (named name.now (pairing_verdict pairing.now)) }
 {
-    write_named(name, verdict(pairing).as_slice(), out)
+    write_named(name, pairing_verdict(pairing).as_slice(), out)
 }
 
 // What is said of a pack index after its name.
-fn verdict(pairing: &Pairing) -> LineEnd
+fn pairing_verdict(pairing: &Pairing) -> LineEnd
     ensures { result.items ≡ pairing_verdict pairing.now }
 {
     let mut line = LineEnd::new();

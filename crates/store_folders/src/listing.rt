@@ -7,15 +7,15 @@ use std::rt::Files;
 
 // The names in a directory, each ended by a NUL, or none if the directory is missing. They are
 // bytes: a name need not be UTF-8.
-pub(crate) fn names_in<R: Files + AllocGlobal>(rt: &R, folder: &str) -> Result<Vec<u8>, Error> {
-    match read_names(rt, folder) {
+pub(crate) fn list_names<R: Files + AllocGlobal>(rt: &R, folder: &str) -> Result<Vec<u8>, Error> {
+    match read_dir(rt, folder) {
         Ok(names) => Ok(names),
         Err(error) if error.kind() == io::ErrorKind::NotFound => Ok(Vec::new(rt.alloc())),
         Err(error) => Err(Error::file(rt.alloc(), folder, error)),
     }
 }
 
-fn read_names<R: Files + AllocGlobal>(rt: &R, folder: &str) -> io::Result<Vec<u8>> {
+fn read_dir<R: Files + AllocGlobal>(rt: &R, folder: &str) -> io::Result<Vec<u8>> {
     // A path that ends in a slash leads to a directory by a link, too.
     let path = join(rt, folder, "")?;
     let mut names = Vec::new(rt.alloc());

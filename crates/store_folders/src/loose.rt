@@ -5,7 +5,7 @@ ghost use Rattle.gix_hash.specs.Words.{id_digits, id_kind};
 ghost use Rattle.store_folders.specs.Stores.{only_of, path_in, paths_in};
 
 use crate::error::Error;
-use crate::listing::{names_in, state_if_there, state_of};
+use crate::listing::{list_names, state_if_there, state_of};
 use gix_hash::{Kind, ObjectId};
 use object_store::LooseTable;
 use repositories::paths::{read_loose_path, write_loose_path};
@@ -223,7 +223,7 @@ fn parts_with<R: Files + AllocGlobal>(
 ) -> Result<Option<Vec<Part>>, Error> {
     if let [path] = paths {
         let mut parts = Vec::new(rt.alloc());
-        let names = names_in(rt, &fan_out(rt, path, byte)?)?;
+        let names = list_names(rt, &fan_out(rt, path, byte)?)?;
         parts.push(Part { at: 0, byte, names })?;
         return Ok(Some(parts));
     }
@@ -251,7 +251,7 @@ fn parts_if_unchanged<R: Files + AllocGlobal>(
     let mut parts = Vec::with_capacity(rt.alloc(), paths.len())?;
     for (at, (folder, state)) in before.iter().enumerate() {
         if let Some(state) = state {
-            let names = names_in(rt, folder)?;
+            let names = list_names(rt, folder)?;
             if state_of(rt, folder)? != *state {
                 return Ok(None);
             }

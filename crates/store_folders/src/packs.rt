@@ -5,7 +5,7 @@ ghost use Rattle.pack_index.specs.declared.lazy_error.LazyError.TheVariants as e
 ghost use Rattle.store_folders.specs.Stores.{HasPack, IsListed, IsOfIndex, of_repository};
 
 use crate::error::Error;
-use crate::listing::{names_in, state_of};
+use crate::listing::{list_names, state_of};
 use crate::source::Source;
 use gix_hash::Kind;
 use pack_index::{LazyError, LazyFile};
@@ -158,7 +158,7 @@ fn push_indexes<R: Files + AllocGlobal>(
         → All HasPack indexes.new.paths.items) }
     ensures all { indexes.new.are_all ≡ indexes.old.are_all }
 {
-    let listed = names_in(rt, folder)?;
+    let listed = list_names(rt, folder)?;
     let names = listed.split(|byte| *byte == 0);
     let mut names: Vec<&[u8]> = names
         .filter(|name| name.ends_with(b".idx"))

@@ -3,7 +3,7 @@ use Rattle.gix_hash.specs.Words.{KindDigits, first_byte_of}
 use Rattle.store_folders.specs.Stores.{only_of}
 use Rattle.store_folders.specs.declared.loose.LooseIds.{LooseIds}
 use Rattle.packtool.specs.Requests.{least_of}
-use Rattle.packtool.proofs.stores.Asked+Answers.write_each.Goals as goal
+use Rattle.packtool.proofs.stores.Asked+Answers.write_for_lines.Goals as goal
 
 -- what may be asked of a store where these loose objects are listed
 abbrev AreOf : LooseIds → List KindDigits → Type 0
