@@ -102,10 +102,10 @@ are_long kind (line ∷ lines) = All-append IsLong (option_to_list (prefix_of ki
     one = fits (nat_lt (hex_len_of kind) (length line))
 
 -- the prefixes that were read of a store's kind can be looked up, also after it was opened again
-pub can_look_up : (MayHave MayHaveThen : StoreView → Type 0) (old new : StoreView) (kind : Kind) (lines : List (List ℕ)) (read prefixes : List KindDigits)
+pub can_look_up : {MayHave MayHaveThen : StoreView → Type 0} {old new : StoreView} (kind : Kind) (lines : List (List ℕ)) {read prefixes : List KindDigits}
     → IsReopened MayHave MayHaveThen old new → kind ≡ old.kind → AreListed old read → prefixes ≡ read → prefixes ≡ prefixes_of kind lines
     → All (CanLookUp new) prefixes
-can_look_up MayHave MayHaveThen old new kind lines read prefixes is same listed all are k prefix low =
+can_look_up {old = old} kind lines is same listed all are k prefix low =
     let long = subst (All (λ (p : KindDigits). (2 ≤ length p.digits) × (p.kind ≡ kind))) (sym are) (are_long kind lines) k prefix low in
     let known = subst (AreListed old) (sym all) listed k prefix low in
     record {
