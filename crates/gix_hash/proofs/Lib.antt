@@ -16,6 +16,6 @@ mod OnlyChunks
 mod Packing
 mod PlaceLaws
 mod Reaching
-mod ReadingLaws
+pub mod ReadingLaws
 pub mod SpellingLaws
 mod Spellings

@@ -122,7 +122,7 @@ no_hex_len : (n : ℕ) → kind_of_hex_len n ≡ None → 64 < n
 no_hex_len n h = grind (arith, nat_tests)
 
 -- some kind has room for up to 64 digits
-some_hex_len : (n : ℕ) → n ≤ 64 → (kind : Kind) × (kind_of_hex_len n ≡ Some kind)
+pub some_hex_len : (n : ℕ) → n ≤ 64 → (kind : Kind) × (kind_of_hex_len n ≡ Some kind)
 some_hex_len n h = by_kind (kind_of_hex_len n) refl
   where
     by_kind : (kind : Option Kind) → kind_of_hex_len n ≡ kind → (k : Kind) × (kind_of_hex_len n ≡ Some k)

@@ -1,11 +1,12 @@
 //! Ids that own their bytes.
 
-ghost use Rattle.gix_hash.specs.Ids.{asked_len, cut_kind, empty_blob_digits, empty_tree_digits, id_bytes, id_digits, id_kind, null_digits, oid_digits, oid_kind, shown_digits, whole_digits, id_eq, id_cmp, id_hash_input, same_id_input};
+ghost use Rattle.gix_hash.specs.Ids.{asked_len, cut_kind, empty_blob_digits, empty_tree_digits, id_bytes, id_digits, id_kind, null_digits, oid_digits, oid_kind, shown_digits, whole_digits};
 ghost use Rattle.gix_hash.specs.Reading.{full_read, result_digits};
 ghost use Rattle.gix_hash.specs.Kinds.{byte_len_of, hex_len_of, kind_of_byte_len, IsLengthRefusal};
 ghost use Rattle.id_digits.specs.Digits.{digits_of, first_byte_of, hex_letter, is_digest_len, spelling};
-ghost use Rattle.std.proofs.Common.{◌≡◌, ◌≤◌, ◌<◌, ◌*◌, All, length, slice_range, ◌↔◌, ◌++◌, ℕ, List, IsTrue, IsOk, IfErr, OnOk, IsAscii, drop, nat_eq, Some, MatchResult, rules};
-ghost use Rattle.std.specs.Cmp.Rules.{comparing};
+ghost use Rattle.std.proofs.Common.{◌≡◌, ◌≤◌, ◌<◌, ◌*◌, All, length, slice_range, ◌↔◌, ◌++◌, ℕ, List, IsTrue, IsOk, IfErr, OnOk, IsAscii, drop, nat_eq, Some, MatchResult};
+
+mod order;
 
 use crate::alphabet::Alphabet;
 use crate::borrowed::oid;
@@ -14,8 +15,6 @@ use crate::error::Error;
 use crate::kind::Kind;
 use crate::prefix::Prefix;
 use crate::{decode, verify};
-use std::cmp::Ordering;
-use std::hash::{Hash, Hasher};
 use std::ops::Range;
 use std::str::FromStr;
 use std::{fmt, io};
@@ -330,62 +329,6 @@ impl fmt::Display for ObjectId {
 impl fmt::Debug for ObjectId {
     fn fmt<W: fmt::Write>(&self, f: &mut fmt::Formatter<W>) -> fmt::Result {
         self.as_oid().fmt(f)
-    }
-}
-
-impl PartialEq for ObjectId {
-    ghost eq = { id_eq };
-
-    ghost laws = { Prim.search (comparing, rules) };
-
-    fn eq(&self, other: &Self) -> bool {
-        self.kind() == other.kind() && self.as_oid() == other.as_oid()
-    }
-}
-
-impl Eq for ObjectId {
-    ghost laws = { Prim.search (comparing, rules) };
-}
-
-impl PartialOrd for ObjectId {
-    ghost use Rattle.std.specs.Cmp.{partial_order_from_own_ties};
-    ghost use Rattle.std.specs.Ordering.{as_partial_cmp};
-
-    ghost partial_cmp = { as_partial_cmp id_cmp };
-
-    ghost laws = { partial_order_from_own_ties (Prim.search (comparing, rules))
-        (Prim.search (comparing, rules)) };
-
-    fn partial_cmp(&self, other: &Self) -> Option<Ordering> {
-        Some(self.cmp(other))
-    }
-}
-
-/// By kind, and then by digits.
-impl Ord for ObjectId {
-    ghost cmp = { id_cmp };
-
-    ghost total = { Prim.search (comparing, rules) };
-
-    ghost matches_partial_cmp = { Prim.search (comparing, rules) };
-
-    ghost matches_eq = { Prim.search (comparing, rules) };
-
-    fn cmp(&self, other: &Self) -> Ordering {
-        self.kind()
-            .cmp(&other.kind())
-            .then(self.as_oid().cmp(&other.as_oid()))
-    }
-}
-
-/// Feeds the bytes of the digest in one write, without a length.
-impl Hash for ObjectId {
-    ghost hash_input = { id_hash_input };
-
-    ghost respects_eq = { same_id_input };
-
-    fn hash<H: Hasher>(&self, state: &mut H) {
-        state.write(self.as_slice());
     }
 }
 

@@ -1,19 +1,12 @@
 -- What reading a prefix's text gives in a struct.
-use Rattle.std.proofs.Common.{◌≡◌, ℕ, ◌≤◌, Bool, true, false, nat_lt, Option, Some, None, Ok, List, length, refl, sym, ap, ◌∙◌, arith, nat_le, ok_or, option_map}
+use Rattle.std.proofs.Common.{◌≡◌, ℕ, ◌≤◌, false, nat_lt, Option, Some, None, Ok, List, length, refl, sym, ap, ◌∙◌, arith, ok_or, option_map}
 use Rattle.std.proofs.lemmas.Bool.Decides.{nat_tests}
-use Rattle.id_lookup.specs.Words.{Kind, KindDigits, Sha1, Sha256, digits_of, digits_read, hex_len_of, hex_letter, kind_digits, kind_of_hex_len, padded, prefix_read}
+use Rattle.id_lookup.specs.Words.{KindDigits, Sha256, digits_of, digits_read, hex_len_of, hex_letter, kind_digits, padded, prefix_read}
 use Rattle.gix_hash.specs.declared.prefix.from_hex.Error.TheVariants.{Invalid}
+use Rattle.gix_hash.proofs.ReadingLaws.{some_hex_len}
 use Rattle.id_digits.proofs.ReadingFacts.{length-digits_read}
 use Rattle.gix_hash_c.specs.Face.{PrefixAnswer}
 use Rattle.gix_hash_c.specs.declared.prefixes.Prefix.{Prefix}
-
--- up to 64 digits some kind has room
-some_kind : (n : ℕ) → n ≤ 64 → (kind : Kind) × (kind_of_hex_len n ≡ Some kind)
-some_kind n most = by (nat_le n 40) refl
-  where
-    by : (test : Bool) → nat_le n 40 ≡ test → (kind : Kind) × (kind_of_hex_len n ≡ Some kind)
-    by true e = (Sha1, rw e refl)
-    by false e = let room : nat_le n 64 ≡ true = grind (arith, nat_tests) in (Sha256, rw (e, room) refl)
 
 -- the digits that a text reads as, with zeros after them
 pub read_answer : (text bytes : List ℕ) (old : Prefix) (read : KindDigits) → 1 ≤ length text → length text ≤ 64
@@ -26,7 +19,7 @@ read_answer text bytes old read some most is pads = by (digits_read hex_letter t
         → PrefixAnswer (prefix_read hex_letter 1 text) 0 old (record { hex_len = length text; bytes = bytes })
     by None e reads = cc reads
     by (Some digits) e reads =
-        let kind = some_kind (length text) most in
+        let kind = some_hex_len (length text) most in
         let enough : nat_lt (length text) 1 ≡ false = grind (arith, nat_tests) in
         let same : read ≡ kind_digits Sha256 digits = cc reads in
         rw (enough, kind.1, e) (
