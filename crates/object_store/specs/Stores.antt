@@ -2,7 +2,9 @@
 use Rattle.std.specs.Prelude.{[], ℕ, ◌++◌, ◌<◌, ◌∷◌, ◌≡◌, ◌≢◌, ◌≤◌, ◌⊎◌, All, Bool, Contains, IsTrue, List, MatchOption, None, Option, Some, Vec, flat_map, if◌then◌else◌, length, map, nat_eq, option_map, slice_get, slice_index_or, string_bytes, suc, take, zero, bytes_eq}
 use Rattle.std.specs.List.{list_any, position, range_with_len, starts_with, sum_by}
 use Rattle.std.specs.List.Sorted.{IsPermutation}
+use Rattle.std.specs.IoError.{error_kind}
 use Rattle.std.specs.declared.io.Error.{Error as IoError}
+use Rattle.std.specs.declared.io.ErrorKind.TheVariants.{NotFound}
 use Rattle.id_lookup.specs.Words.{IsIndexOf, Kind, KindDigits, ObjectId, first_byte_of, id_digits, id_kind, matches}
 use Rattle.pack_index.specs.Format.{HasOffset, IsFirstIndexOf, IsPackIndex, names_in, offset_in}
 use Rattle.pack_index.specs.Lazy.{BucketNames, HasBucket, IfKnown, IsBucketFault, IsBucketOf, IsFirstCounted, LazyIndex, counted_with}
@@ -60,10 +62,10 @@ pub record IsNameIn (fewest : ℕ) (ids : List (List ℕ)) (id name : List ℕ) 
 abbrev pub IsOfKind : Kind → NamedId → Type 0
 IsOfKind kind named = (id_kind named.id ≡ kind) × (named.name.kind ≡ kind)
 
--- the error is that the pack index of this path has the fault, or is gone, which a failed read says; or memory ran out
+-- the error is that the pack index of this path has the fault, or is gone, as a read says that does not find its file; or memory ran out
 abbrev pub IsOfIndex : List ℕ → LazyError → Error → Type 0
 IsOfIndex path fault (Index text error) = (string_bytes text ≡ path) × (error ≡ fault)
-IsOfIndex path fault (Gone text) = (string_bytes text ≡ path) × (error : IoError) × (fault ≡ Read error)
+IsOfIndex path fault (Gone text) = (string_bytes text ≡ path) × (error : IoError) × (fault ≡ Read error) × (error_kind error ≡ NotFound)
 IsOfIndex path fault (Memory error) = Unit {0}
 
 -- why a look-up fails that asks the pack indexes in order: one of them has the fault, where a read of it may fail or not, and those before it have what is
