@@ -1,7 +1,8 @@
 //! What `--help` and `--version` print. `tools/runs` compares it with the file `help`.
 
 /// The first line of the help.
-pub const VERSION: &str = "oidtool 0.6.0-dev of Nunbirdstand, a port of the Rust crate gix-hash 0.26.2
+pub const VERSION: &str =
+    "oidtool 0.6.0-dev of Nunbirdstand, a port of the Rust crate gix-hash 0.26.2
 ";
 
 /// The lines after it.
