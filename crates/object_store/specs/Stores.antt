@@ -1,16 +1,18 @@
 -- What an object store holds, where it has an object, and what is found in it. Ids and names are given by their digits.
-use Rattle.std.specs.Prelude.{[], ℕ, ◌++◌, ◌<◌, ◌∷◌, ◌≡◌, ◌≢◌, ◌≤◌, ◌⊎◌, All, Bool, Contains, IsTrue, List, MatchOption, None, Option, Some, Vec, flat_map, if◌then◌else◌, length, map, nat_eq, option_map, slice_get, slice_index_or, string_bytes, suc, take, zero, bytes_eq}
+use Rattle.std.specs.Prelude.{[], ℕ, ◌++◌, ◌<◌, ◌∷◌, ◌≡◌, ◌≢◌, ◌≤◌, ◌⊎◌, All, Bool, Contains, IsTrue, List, MatchOption, None, Option, Some, String, Vec, flat_map, if◌then◌else◌, length, map, nat_eq, option_map, slice_get, slice_index_or, string_bytes, suc, take, zero, bytes_eq}
 use Rattle.std.specs.List.{list_any, position, range_with_len, starts_with, sum_by}
 use Rattle.std.specs.List.Sorted.{IsPermutation}
 use Rattle.std.specs.IoError.{error_kind}
+use Rattle.std.specs.Global.{Global}
 use Rattle.std.specs.declared.io.Error.{Error as IoError}
+use Rattle.std.specs.declared.io.ErrorKind.{ErrorKind}
 use Rattle.std.specs.declared.io.ErrorKind.TheVariants.{NotFound}
 use Rattle.id_lookup.specs.Words.{IsIndexOf, Kind, KindDigits, ObjectId, first_byte_of, id_digits, id_kind, matches}
 use Rattle.pack_index.specs.Format.{HasOffset, IsFirstIndexOf, IsPackIndex, names_in, offset_in}
 use Rattle.pack_index.specs.Lazy.{BucketNames, HasBucket, IfKnown, IsBucketFault, IsBucketOf, IsFirstCounted, LazyIndex, counted_with}
 use Rattle.pack_index.specs.Lazy as lazy
 use Rattle.pack_index.specs.declared.lazy_error.LazyError.{LazyError}
-use Rattle.pack_index.specs.declared.lazy_error.LazyError.TheVariants.{NoOffset, Read}
+use Rattle.pack_index.specs.declared.lazy_error.LazyError.TheVariants as faults
 use Rattle.object_store.specs.declared.error.Error.{Error}
 use Rattle.object_store.specs.declared.error.Error.TheVariants.{Gone, Index, Memory}
 use Rattle.object_store.specs.declared.locations.Location.{Location}
@@ -62,11 +64,20 @@ pub record IsNameIn (fewest : ℕ) (ids : List (List ℕ)) (id name : List ℕ) 
 abbrev pub IsOfKind : Kind → NamedId → Type 0
 IsOfKind kind named = (id_kind named.id ≡ kind) × (named.name.kind ≡ kind)
 
--- the error is that the pack index of this path has the fault, or is gone, as a read says that does not find its file; or memory ran out
+-- the error that a read of the pack index of this path gives that fails with this kind
+abbrev pub of_read : String Global → IoError → ErrorKind → Error
+of_read path error NotFound = Gone path
+of_read path error _ = Index path (faults.Read error)
+
+-- the error that a fault of the pack index of this path gives
+abbrev pub of_index : String Global → LazyError → Error
+of_index path (faults.Memory error) = Memory error
+of_index path (faults.Read error) = of_read path error (error_kind error)
+of_index path fault = Index path fault
+
+-- the error is that of a pack index whose path has these bytes
 abbrev pub IsOfIndex : List ℕ → LazyError → Error → Type 0
-IsOfIndex path fault (Index text error) = (string_bytes text ≡ path) × (error ≡ fault)
-IsOfIndex path fault (Gone text) = (string_bytes text ≡ path) × (error : IoError) × (fault ≡ Read error) × (error_kind error ≡ NotFound)
-IsOfIndex path fault (Memory error) = Unit {0}
+IsOfIndex path fault error = (text : String Global) × (string_bytes text ≡ path) × (error ≡ of_index text fault)
 
 -- why a look-up fails that asks the pack indexes in order: one of them has the fault, where a read of it may fail or not, and those before it have what is
 -- asked for; or memory ran out
@@ -92,7 +103,7 @@ pub record HasLocation (kind : Kind) (bytes digits : List ℕ) : Type 0 where
 
 -- why they are not read
 abbrev pub IsLocationFault : Bool → Kind → List ℕ → List ℕ → LazyError → Type 0
-IsLocationFault can_fail kind bytes digits (NoOffset at) =
+IsLocationFault can_fail kind bytes digits (faults.NoOffset at) =
     HasBucket kind bytes (first_byte_of digits) × IsFirstCounted kind bytes digits at × ¬ HasOffset kind bytes at
 IsLocationFault can_fail kind bytes digits error = IsBucketFault can_fail kind bytes (first_byte_of digits) error
 

@@ -1,7 +1,7 @@
 //! Why a store does not give what was asked.
 
-ghost use Rattle.std.specs.Prelude.{◌≡◌, string_bytes};
-ghost use Rattle.object_store.specs.Stores.{IsOfIndex};
+ghost use Rattle.std.specs.Prelude.{◌≡◌};
+ghost use Rattle.object_store.specs.Stores.{of_index};
 ghost use Rattle.object_store.specs.declared.error.Error.TheVariants as errors;
 
 use pack_index::LazyError;
@@ -41,10 +41,11 @@ pub enum Error {
 }
 
 impl Error {
-    /// The error that the pack index of this path gives: [`Error::Gone`] if its file is not found,
-    /// and [`Error::Memory`] if that is why.
+    /// The error that the pack index of this path gives: [`Error::Gone`] if and only if a read
+    /// does not find its file, [`Error::Memory`] if and only if that is why, and else
+    /// [`Error::Index`].
     pub fn of_index(path: String, error: LazyError) -> Error
-        ensures { IsOfIndex (string_bytes path) error result }
+        ensures { result ≡ of_index path error }
     {
         match error {
             LazyError::Memory(error) => Error::Memory(error),

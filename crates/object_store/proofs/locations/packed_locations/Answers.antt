@@ -13,7 +13,7 @@ pub returns-in-Err-clause-err : goal.returns-in-Err-clause-err
 returns-in-Err-clause-err g c =
     let here = pack_at c.indexes-packs.ensures.value c.indexes-packs.ensures.kinds c.loop-pack-test.true c.index-packs-pack.is in
     fault_at (λ k bytes. HasLocation k bytes (id_digits c.args.id.now)) (λ k can_fail bytes why. IsLocationFault can_fail k bytes (id_digits c.args.id.now) why)
-    (g.S.Store.view c.args.store.now) here c.loop-pack.invariant.1 c.in-Err.error c.of_index.result c.in-Err.ensures.err (rw c.in_ok-index_path-in-Err.ensures at c.of_index.ensures)
+    (g.S.Store.view c.args.store.now) here c.loop-pack.invariant.1 c.in-Err.error c.of_index.result c.in-Err.ensures.err (_, c.in_ok-index_path-in-Err.ensures, c.of_index.ensures)
 
 pub returns-clause-sound : goal.returns-clause-sound
 returns-clause-sound g c =

@@ -16,7 +16,7 @@ returns-in-Err-clause-err g c =
     fault_at (λ k bytes. HasBucket k bytes c.args.byte) (λ k can_fail bytes why. IsBucketFault can_fail k bytes c.args.byte why) (g.S.Store.view c.args.store.now) here
     (have_first (g.S.Store.view c.args.store.now).kind (g.S.Store.view c.args.store.now).packs c.args.byte c.loop-at.at c.loop-at.buckets.items c.indexes-packs.ensures.kinds
     (omega (arith, c.loop-at.invariant.0)) (omega (arith, here.low)) c.loop-at.invariant.1) c.in-Err.error c.of_index.result c.in-Err.ensures.err
-    (rw c.in_ok-index_path-in-Err.ensures at c.of_index.ensures)
+    (_, c.in_ok-index_path-in-Err.ensures, c.of_index.ensures)
 
 pub returns-clause-read : goal.returns-clause-read
 returns-clause-read g c =
