@@ -1,8 +1,8 @@
 //! The syntax of a config.
 
-ghost use Rattle.std.specs.Prelude.{◌≡◌, ◌≤◌, ◌-◌, ◌+◌, ◌++◌, ◌∷◌, ◌==◌, ◌||◌, [], length, take, drop, false, option_map, position, IfOk};
+ghost use Rattle.std.specs.Prelude.{◌≡◌, ◌≤◌, ◌==◌, [], length, false, option_map, position, IfOk};
 ghost use Rattle.std.specs.List.{prefix_len};
-ghost use Rattle.git_config.specs.Grammar.{after_line, assignment, before_nul, close, ends_line, expect, header_end, is_blank, is_key_byte, is_name_byte, is_space, item, line_number, piece, quoted, value, variable, without_mark};
+ghost use Rattle.git_config.specs.Grammar.{after_line, assignment, before_nul, close, expect, header_end, is_blank, is_key_byte, is_name_byte, is_space, item, line_number, piece, quoted, value, variable, without_mark};
 ghost use Rattle.git_config.specs.Views.{Gives, GivesFrom, piece_of, said};
 ghost use Rattle.git_config.specs.declared.syntax.Stop.TheVariants.{Memory};
 

@@ -6,7 +6,6 @@ ghost use Rattle.id_digits.specs.Digits.{digits_of, digits_read, hex_letter, is_
 ghost use Rattle.gix_hash.specs.Kinds.{hex_len_of};
 ghost use Rattle.gix_hash.specs.Prefixes.{kind_digits};
 ghost use Rattle.gix_hash.specs.Reading.{letter_of, prefix_read};
-ghost use Rattle.gix_hash.specs.declared.decode.Error as decode;
 ghost use Rattle.gix_hash.specs.declared.prefix.from_hex.Error as from_hex;
 
 use crate::borrowed::oid;

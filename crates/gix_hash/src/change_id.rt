@@ -1,6 +1,6 @@
 //! Ids in the letters by which Jujutsu spells change ids.
 
-ghost use Rattle.std.specs.Prelude.{◌≡◌, ◌≤◌, ◌<◌, ◌↔◌, All, IsTrue, length, Some};
+ghost use Rattle.std.specs.Prelude.{◌≡◌, ◌<◌, ◌↔◌, All, IsTrue, length, Some};
 ghost use Rattle.gix_hash.specs.Ids.{asked_len, cut_kind, id_bytes, id_digits, id_kind, shown_digits, whole_digits};
 ghost use Rattle.id_digits.specs.Digits.{reverse_letter, spelling};
 ghost use Rattle.gix_hash.specs.Kinds.{hex_len_of, byte_len_of};

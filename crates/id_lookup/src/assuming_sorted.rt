@@ -1,7 +1,7 @@
 //! Look-ups in lists that were not checked to be sorted. They are safe for any list, and for a
 //! sorted one return what [`SortedIds`](crate::SortedIds) returns.
 
-ghost use Rattle.std.specs.Prelude.{◌≡◌, ◌+◌, ◌<◌, ◌≤◌, ℕ, [], List, IfSome, IsNone, length, map, nat_lt, slice_index_or, take};
+ghost use Rattle.std.specs.Prelude.{◌≡◌, ◌<◌, ◌≤◌, ℕ, [], List, IfSome, IsNone, length, map, nat_lt, slice_index_or, take};
 ghost use Rattle.gix_hash.specs.Words.{hex_len_of};
 ghost use Rattle.id_lookup.specs.Runs.{IsRun, IsSortedIds, bound_of, least_hex_len};
 ghost use Rattle.id_lookup.specs.Indexes.{IsShortestName};

@@ -1,6 +1,6 @@
 //! Abbreviations in a whole store.
 
-ghost use Rattle.std.specs.Prelude.{◌≡◌, ◌≤◌, ◌<◌, ◌/◌, ◌%◌, ℕ, [], ◌∷◌, All, List, IfErr, IfNone, IfOk, IfSome, Some, length, map, slice_get, slice_index_or, take};
+ghost use Rattle.std.specs.Prelude.{◌≡◌, ◌≤◌, ◌<◌, ◌/◌, ◌%◌, ℕ, [], ◌∷◌, All, IfErr, IfNone, IfOk, IfSome, Some, length, map, slice_get, slice_index_or, take};
 ghost use Rattle.std.specs.List.{sum_by};
 ghost use Rattle.id_lookup.specs.Words.{IsIndex, IsShortestNameFrom, first_byte_of, hex_len_of, id_digits, id_kind};
 ghost use Rattle.object_store.specs.Stores.{CanLookUp, HaveMore, IsFaultOfOne, IsListed, IsOfKind, IsStoreFault};

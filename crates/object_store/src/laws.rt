@@ -1,9 +1,8 @@
 //! Laws of stores that no single call carries. Each is the contract of a function.
 
-ghost use Rattle.std.specs.Prelude.{◌↔◌, ◌≡◌, ℕ, ◌<◌, ◌≤◌, All, Contains, IsTrue, List, Some, [], length, map, nat_eq, slice_index_or};
-ghost use Rattle.std.specs.List.{starts_with};
-ghost use Rattle.id_lookup.specs.Words.{IsIndex, IsIndexOf, IsShortestNameFrom, Kind, ObjectId, first_byte_of, id_digits, matches, part_of};
-ghost use Rattle.pack_index.specs.Lazy.{IsFirstCounted, LazyIndex};
+ghost use Rattle.std.specs.Prelude.{◌↔◌, ◌≡◌, ℕ, ◌<◌, ◌≤◌, Contains, List, Some, [], length, map, slice_index_or};
+ghost use Rattle.id_lookup.specs.Words.{IsIndexOf, Kind, ObjectId, first_byte_of, id_digits, matches};
+ghost use Rattle.pack_index.specs.Lazy.{LazyIndex};
 ghost use Rattle.object_store.specs.Stores.{AreIdsRead, AreLocations, AreMatches, HasObjectAt, Holds, IsIndexReadOrMemory, IsLocateFault, IsNameIn, IsStoreFault, StoreView, locations_of};
 ghost use Rattle.object_store.specs.declared.error.Error.{Error as StoreError};
 ghost use Rattle.object_store.specs.declared.locations.Location.{Location};

@@ -1,6 +1,6 @@
 //! Where an object store has an object.
 
-ghost use Rattle.std.specs.Prelude.{◌≡◌, [], ◌∷◌, ◌++◌, ◌<◌, ◌≤◌, All, IfErr, IfNone, IfOk, IfSome, None, OnOk, length, map};
+ghost use Rattle.std.specs.Prelude.{◌≡◌, [], ◌∷◌, ◌++◌, ◌<◌, ◌≤◌, All, IfErr, IfNone, IfOk, IfSome, None, OnOk, length};
 ghost use Rattle.std.specs.List.{sum_by};
 ghost use Rattle.id_lookup.specs.Words.{first_byte_of, id_digits, id_kind};
 ghost use Rattle.object_store.specs.Stores.{AreBuckets, AreLocations, AreMatches, ArePacked, CanLookUp, HasLocation, HaveLocations, IsListed, IsLocateFault, IsLocationFault, IsOffsetOf, packed_at};

@@ -2,7 +2,6 @@
 
 ghost use Rattle.std.specs.Prelude.{◌≡◌, ◌-◌, ◌<◌, ◌≤◌, ℕ, All, IfErr, IfNone, IfOk, IfSome, List, SomeIff, length};
 ghost use Rattle.std.specs.List.{sum_by};
-ghost use Rattle.id_lookup.specs.Words.{KindDigits};
 ghost use Rattle.object_store.specs.Stores.{AreFoundOfEach, ArePlaces, CanLookUp, HaveMore, IsOfOne, StoreView};
 ghost use Rattle.object_store.specs.declared.error.Error.{Error as StoreError};
 

@@ -1,6 +1,6 @@
 //! What is checked of the bytes of a pack index.
 
-ghost use Rattle.std.specs.Prelude.{◌≡◌, ◌↔◌, ◌+◌, ◌*◌, ◌<◌, ◌≤◌, IfErr, IsTrue, MatchOption, OnOk, length};
+ghost use Rattle.std.specs.Prelude.{◌≡◌, ◌↔◌, ◌<◌, ◌≤◌, IfErr, IsTrue, MatchOption, OnOk, length};
 ghost use Rattle.id_lookup.specs.Words.{IsFanOut};
 ghost use Rattle.pack_index.specs.Format.{BeginsIndex, Each, FillsBytes, HasCount, HasHead, HasOffset, HasTables, IsFault, IsFirstNot, IsHeadFault, min_len, names_in, names_start, num_objects, other_than, version_1_len};
 ghost use Rattle.pack_index.specs.Lazy.{Rises};

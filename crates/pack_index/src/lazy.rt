@@ -2,7 +2,7 @@
 
 ghost use Rattle.std.specs.Prelude.{◌≡◌, ◌≢◌, ◌↔◌, ◌+◌, ◌-◌, ◌*◌, ◌<◌, ◌≤◌, ℕ, [], All, IfErr, IfOk, IfSome, IsTrue, List, MatchOption, OnOk, Some, length, slice_index_or};
 ghost use Rattle.id_lookup.specs.Words.{byte_len_of, first_byte_of, has_first_byte, oid_digits};
-ghost use Rattle.pack_index.specs.Format.{Each, HasCount, HasHead, HasOffset, HasTables, IsFirstIndexOf, digests_in, names_in, num_objects, offset_in, offset_word, word_at};
+ghost use Rattle.pack_index.specs.Format.{Each, HasCount, HasHead, HasOffset, HasTables, IsFirstIndexOf, digests_in, names_in, num_objects, offset_in, offset_word};
 ghost use Rattle.pack_index.specs.Lazy.{HaveFirstByte, IfKnown, IsBucketFault, IsBucketOf, IsFirstCounted, IsOffsetFault, IsOpenFault, IsReadOrMemory, Rises, bucket_end, bucket_start};
 ghost use Rattle.streams.specs.Streams.{IsReadAt};
 

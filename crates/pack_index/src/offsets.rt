@@ -1,6 +1,6 @@
 //! What is checked of the offsets of a pack index.
 
-ghost use Rattle.std.specs.Prelude.{◌≡◌, ◌+◌, ◌*◌, ◌^◌, ◌<◌, IfErr, IfOk, MatchOption, OnOk, length};
+ghost use Rattle.std.specs.Prelude.{◌≡◌, ◌^◌, ◌<◌, IfErr, IfOk, MatchOption, OnOk};
 ghost use Rattle.pack_index.specs.Format.{Each, HasNames, HasOffset, HasOffsets, HasTables, IsFault, IsFirstNot, IsNextLong, IsPastHeader, IsSigned, longs_before, num_objects};
 
 use crate::checks::first_without_offset;

@@ -1,11 +1,11 @@
 //! The ids of a store that begin with a prefix, or with each line of a text.
 
-ghost use Rattle.std.specs.Prelude.{◌≡◌, ◌≢◌, ◌↔◌, ◌<◌, ◌≤◌, false, true, length, option_copied, All, IfErr, IfOk, IsErrOf};
+ghost use Rattle.std.specs.Prelude.{◌≡◌, ◌≢◌, ◌↔◌, ◌<◌, ◌≤◌, false, true, length, All, IfErr, IfOk, IsErrOf};
 ghost use Rattle.id_lookup.specs.Words.{first_byte_of, id_digits};
 ghost use Rattle.object_store.specs.Stores.{CanLookUp, HaveMoreMatches, IsFaultOfOne, IsListed, IsReopened, IsStoreFault};
 ghost use Rattle.packtool_commands.specs.Stores.{AreListed, HasAnsweredMatches, HasAnsweredMatchesPart, HasPrinted, HasPrintedPart, IsFaultOf, id_line};
 ghost use Rattle.packtool_commands.specs.declared.error.StoreError.{StoreError};
-ghost use Rattle.streams.specs.Streams.{Wrote, lines_of};
+ghost use Rattle.streams.specs.Streams.{lines_of};
 
 use crate::error::StoreError;
 use crate::prefixes::PrefixLines;

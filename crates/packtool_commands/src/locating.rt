@@ -1,6 +1,6 @@
 //! The locations of the objects of a store, a line for each.
 
-ghost use Rattle.std.specs.Prelude.{◌≡◌, ◌≢◌, ◌↔◌, ◌<◌, ◌≤◌, [], ◌∷◌, ◌++◌, None, Some, false, true, flat_map, length, map, option_copied, string_bytes, take, All, IfErr, IfNone, IfOk, IfSome, IsErrOf};
+ghost use Rattle.std.specs.Prelude.{◌≡◌, ◌≢◌, ◌↔◌, ◌<◌, ◌≤◌, [], ◌∷◌, ◌++◌, None, false, true, length, map, option_copied, string_bytes, take, All, IfErr, IfNone, IfOk, IfSome, IsErrOf};
 ghost use Rattle.id_lookup.specs.Words.{hex_letter, id_digits, spelling};
 ghost use Rattle.object_store.specs.Several.{AreLocated, AreLocatedOfEach, HaveMoreLocations, IsLocationsFault, IsLocationsFaultOfOne};
 ghost use Rattle.object_store.specs.Stores.{CanLookUp, IsReopened};

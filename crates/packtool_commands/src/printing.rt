@@ -1,6 +1,6 @@
 //! What is printed for each line of a text, by what is found in a store.
 
-ghost use Rattle.std.specs.Prelude.{◌≡◌, ◌++◌, ◌-◌, ◌<◌, ◌&&◌, ℕ, Bool, List, IfOk, OnErr, OnOk, Option, Some, false, flat_map, length, option_copied, true};
+ghost use Rattle.std.specs.Prelude.{◌≡◌, ◌++◌, ◌<◌, ◌&&◌, ℕ, Bool, List, IfOk, OnErr, OnOk, Option, false, flat_map, length, option_copied, true};
 ghost use Rattle.std.specs.Io.KnownBytes.{Appends};
 ghost use Rattle.packtool_commands.specs.Stores.{answer_to, answers_by, are_answers_by, found_text, front_text, is_answer_to, is_found, lists_after, prefixes_of};
 ghost use Rattle.streams.specs.Streams.{AppendsPart, Wrote, lines_of};
