@@ -1,6 +1,7 @@
 -- The abbreviation of the only id that begins with a prefix, which is decided among those that begin with its first digits.
-use Rattle.std.proofs.Common.{◌≡◌, ℕ, zero, suc, ◌+◌, ◌-◌, ◌<◌, ◌≤◌, min, Bool, true, nat_eq, None, Some, List, [], ◌∷◌, ◌++◌, filter, length, get_or, map, take, drop, refl, sym, ap, ◌∙◌, subst, arith, append-nil, append_assoc, take-append-drop}
+use Rattle.std.proofs.Common.{◌≡◌, ℕ, ◌+◌, ◌-◌, ◌<◌, ◌≤◌, min, Bool, true, nat_eq, None, Some, List, [], ◌∷◌, ◌++◌, filter, length, get_or, map, take, drop, refl, sym, ap, ◌∙◌, subst, arith, append-nil, append_assoc, take-append-drop}
 use Rattle.std.specs.List.{Contains, starts_with}
+use Rattle.std.proofs.Math.Seq.{drop-cons}
 use Rattle.std.proofs.lemmas.List.{length-append, length-take, nil_from_length}
 use Rattle.std.proofs.lemmas.List.Elements.{All-contains, All-from_all_within, Contains-get_or}
 use Rattle.id_lookup.specs.Words.{IsIndexOf, IsRun, Kind, KindDigits, ObjectId, first_byte_of, hex_len_of, id_digits, matches}
@@ -19,12 +20,7 @@ use Rattle.object_store.proofs.Named.{begins_itself, name_in_read}
 pub only_one : (prefix : KindDigits) (ids : List (List ℕ)) (at : ℕ) → IsRun prefix ids (record { start = at; end = at + 1 }) → matches prefix.digits ids ≡ get_or ids at [] ∷ []
 only_one prefix ids at is =
     let one : at + 1 - at ≡ 1 = omega arith in
-    sym is.found ∙ ap (λ n. take n (drop at ids)) one ∙ first at ids (omega (arith, is.in_range))
-  where
-    first : (at : ℕ) (ids : List (List ℕ)) → at < length ids → take 1 (drop at ids) ≡ get_or ids at [] ∷ []
-    first at [] low = absurd (omega (arith, low))
-    first zero (id ∷ ids) low = refl
-    first (suc at) (id ∷ ids) low = first at ids (omega (arith, low))
+    sym is.found ∙ ap (λ n. take n (drop at ids)) one ∙ ap (take 1) (drop-cons ids at [] (omega (arith, is.in_range)))
 
 -- what passes of an index is the index of what passes
 index_of_passing : (kind : Kind) (p : List ℕ → Bool) (all whole : List (List ℕ)) → IsIndexOf kind all whole → IsIndexOf kind (filter p all) (filter p whole)

@@ -1,7 +1,10 @@
 -- What is gathered of a store is what passes of the index of all its ids.
-use Rattle.std.proofs.Common.{◌≡◌, ℕ, zero, suc, ◌+◌, ◌<◌, ◌≤◌, Bool, Option, Some, List, [], ◌∷◌, ◌++◌, length, get_or, map, filter, take, refl, sym, ap, ◌∙◌, subst, arith, append-nil, append_assoc, All, flat_map}
+use Rattle.std.proofs.Common.{◌≡◌, ℕ, inl, inr, ◌+◌, ◌<◌, ◌≤◌, Bool, Some, List, [], ◌∷◌, ◌++◌, length, get_or, map, filter, take, refl, sym, ap, ◌∙◌, subst, arith, append-nil, All, flat_map}
 use Rattle.std.proofs.lemmas.Option.{get_or_from_slice_get, slice_get-get_or, slice_get_within}
-use Rattle.std.proofs.lemmas.List.{get_or-map, length-map, take_all}
+use Rattle.std.proofs.lemmas.Grind.{flat_map-append}
+use Rattle.std.proofs.Math.Seq.{get_or-append_seam}
+use Rattle.std.proofs.lemmas.Bool.{cases_lt}
+use Rattle.std.proofs.lemmas.List.{get_or-map, get_or_append_left, length-append, length-map, take_all, take_more}
 use Rattle.std.proofs.lemmas.List.Elements.{All-more, filter-append}
 use Rattle.id_lookup.specs.Words.{Kind, first_byte_of}
 use Rattle.object_store.specs.Stores.{HasLocation, Holds, IsFirstFault, IsIndexReadOrMemory, IsLocateFault, IsLocationFault, IsOfIndex, IsStoreFault, StoreView}
@@ -20,22 +23,29 @@ filter-flat_map {A} {X} p f (x ∷ xs) = filter-append p (f x) (flat_map f xs) �
 
 -- one list more
 pub flat_map-take : {A X : Type 0} (f : A → List X) (xs : List A) (i : ℕ) (d : A) → i < length xs → flat_map f (take (i + 1) xs) ≡ flat_map f (take i xs) ++ f (get_or xs i d)
-flat_map-take f [] i d low = absurd (omega arith)
-flat_map-take f (x ∷ xs) zero d low = append-nil (f x)
-flat_map-take {A} {X} f (x ∷ xs) (suc i) d low =
-    let next : suc i + 1 ≡ suc (i + 1) = omega arith in
-    ap (λ n. flat_map f (take n (x ∷ xs))) next ∙ ap (λ (rest : List X). f x ++ rest) (flat_map-take f xs i d (omega arith))
-    ∙ sym (append_assoc (f x) (flat_map f (take i xs)) (f (get_or xs i d)))
+flat_map-take {A} {X} f xs i d low =
+    ap (flat_map f) (take_more xs i d low) ∙ flat_map-append f (take i xs) (get_or xs i d ∷ [])
+    ∙ ap (λ (last : List X). flat_map f (take i xs) ++ last) (append-nil (f (get_or xs i d)))
+
+-- what holds of each at its position, and of one more after them
+pub each-push : {X : Type 0} (P : ℕ → X → Type 0) (xs : List X) (x : X) → ((k : ℕ) (d : X) → k < length xs → P k (get_or xs k d)) → P (length xs) x
+    → (k : ℕ) (d : X) → k < length (xs ++ x ∷ []) → P k (get_or (xs ++ x ∷ []) k d)
+each-push P xs x each last k d low = elim (cases_lt k (length xs)) [
+  | inl less ↦ subst (P k) (sym (get_or_append_left xs (x ∷ []) d k less)) (each k d less)
+  | inr from ↦
+      let here : length xs ≡ k = omega (arith, from, low, length-append xs (x ∷ [])) in
+      subst (λ m. P m (get_or (xs ++ x ∷ []) m d)) here (subst (P (length xs)) (sym (get_or-append_seam xs x [] d)) last)
+]
 
 -- the bytes of the pack index at a position
-pub known_at : {S : Type 0} (content : S → Option (List ℕ)) (packs : List S) (indexes : List (List ℕ)) → map content packs ≡ map Some indexes
-    → (i : ℕ) (d : S) → i < length packs → content (get_or packs i d) ≡ Some (get_or indexes i [])
-known_at content packs indexes same i d low =
-    let long : length packs ≡ length indexes = sym (length-map packs content) ∙ ap length same ∙ length-map indexes Some in
-    sym (get_or-map content packs i d (Some []) low) ∙ ap (λ xs. get_or xs i (Some [])) same ∙ get_or-map Some indexes i [] (Some []) (omega (arith, long))
+module _ (packs : List LazyIndex) (indexes : List (List ℕ)) (same : map (λ (pack : LazyIndex). pack.content) packs ≡ map Some indexes) where
+  pub as_many : length packs ≡ length indexes
+  as_many = sym (length-map packs (λ (pack : LazyIndex). pack.content)) ∙ ap length same ∙ length-map indexes Some
 
-pub as_many : {S : Type 0} (content : S → Option (List ℕ)) (packs : List S) (indexes : List (List ℕ)) → map content packs ≡ map Some indexes → length packs ≡ length indexes
-as_many content packs indexes same = sym (length-map packs content) ∙ ap length same ∙ length-map indexes Some
+  pub known_at : (i : ℕ) (d : LazyIndex) → i < length packs → (get_or packs i d).content ≡ Some (get_or indexes i [])
+  known_at i d low =
+      sym (get_or-map (λ (pack : LazyIndex). pack.content) packs i d (Some []) low) ∙ ap (λ xs. get_or xs i (Some [])) same
+      ∙ get_or-map Some indexes i [] (Some []) (omega (arith, low, as_many))
 
 -- the pack index that a store has at a position
 pub record IsPackAt (kind : Kind) (packs : List LazyIndex) (at : ℕ) (pack : LazyIndex) : Type 0 where
@@ -83,19 +93,18 @@ no_first_fault : (Has : List ℕ → Type 0) (HasFault : Bool → List ℕ → L
 no_first_fault Has HasFault view whole (Memory error) no_fault h first = tt
 no_first_fault Has HasFault view whole e no_fault h first =
     let packs = view.packs in
-    let content : LazyIndex → Option (List ℕ) = λ p. p.content in
     let at = first.0 in
     let pack = first.1 in
     let low : at < length packs = slice_get_within packs at pack first.2 in
-    let inside : at < length h.indexes = omega (arith, low, as_many content packs h.indexes h.known) in
-    let known = known_at content packs h.indexes h.known at pack low in (
+    let inside : at < length h.indexes = omega (arith, low, as_many packs h.indexes h.known) in
+    let known = known_at packs h.indexes h.known at pack low in (
       at,
       pack,
       first.2,
       first.4,
       first.5,
       no_fault pack.can_fail (get_or h.indexes at []) first.4 (h.are_indexes at [] inside)
-          (first.6 (get_or h.indexes at []) (ap content (sym (get_or_from_slice_get packs at pack pack first.2)) ∙ known)),
+          (first.6 (get_or h.indexes at []) (ap (λ (p : LazyIndex). p.content) (sym (get_or_from_slice_get packs at pack pack first.2)) ∙ known)),
     )
 
 pub no_store_fault : (view : StoreView) (whole : List (List ℕ)) (byte : ℕ) (e : Error) → Holds view whole → IsStoreFault view byte e → IsIndexReadOrMemory view e

@@ -1,5 +1,5 @@
 -- Ids that are located one after the other.
-use Rattle.std.proofs.Common.{◌≡◌, ◌∙◌, ℕ, ◌+◌, ◌<◌, ◌≤◌, ◌⊎◌, inl, inr, true, nat_eq, Err, None, Ok, Option, Result, Some, List, [], ◌∷◌, ◌++◌, length, get_or, map, take, sym, ap, subst, IfErr, All, Contains}
+use Rattle.std.proofs.Common.{◌≡◌, ◌∙◌, ℕ, ◌+◌, ◌<◌, ◌≤◌, ◌⊎◌, inl, inr, true, nat_eq, None, Option, Some, List, [], ◌∷◌, ◌++◌, length, get_or, map, take, sym, ap, subst, All, Contains}
 use Rattle.std.specs.List.{starts_with}
 use Rattle.std.proofs.lemmas.List.{map-append, take_more}
 use Rattle.std.proofs.lemmas.List.Elements.{All-push, All-take, Contains-get_or}
@@ -37,11 +37,6 @@ module _ (view : StoreView) (digits : List ℕ) (limit : Option ℕ) (ids first 
   fault_of_first at d error enough low (inl fault) = inl (subst (λ (b : ℕ). IsStoreFault view b error) (first_bytes enough at d low) fault)
   fault_of_first at d error enough low (inr both) =
       inr (ids, are, get_or first at d, subst (λ (some : List ObjectId). Contains some (get_or first at d)) is (Contains-get_or first at d low), both.1)
-
--- a result that fails so fails for a weaker reason
-pub fault_by : {T : Type 0} (P Q : Error → Type 0) → ((e : Error) → P e → Q e) → (result : Result T Error) → IfErr result P → IfErr result Q
-fault_by P Q weaker (Ok found) is = tt
-fault_by P Q weaker (Err e) is = weaker e is
 
 -- one more is located
 pub located_more : {A : Type 0} (view : StoreView) (paths : List ℕ → List (List ℕ)) (at : ℕ) (ids : List ObjectId) (d : ObjectId) (located more : List (LocatedId A))

@@ -4,7 +4,6 @@ use Rattle.std.specs.Cmp.Lexicographic.{bytes_decides}
 use Rattle.std.specs.List.{Contains, list_any, position}
 use Rattle.std.proofs.lemmas.Bool.{cases_lt, false≢true}
 use Rattle.std.proofs.lemmas.List.Elements.{Contains-append_cases, Contains-append_left, Contains-append_right}
-use Rattle.std.proofs.lemmas.List.Folds.{Any-from_list_any, list_any-from_Any}
 use Rattle.std.proofs.lemmas.List.Quantifiers.{position-Some}
 use Rattle.std.proofs.lemmas.Option.{none-some, same_Some}
 use Rattle.id_lookup.specs.Words.{Kind}
@@ -12,6 +11,7 @@ use Rattle.object_store.specs.Stores.{HasObjectAt, offset_of, packed_at, packed_
 use Rattle.object_store.specs.declared.locations.Location.{Location}
 use Rattle.object_store.specs.declared.locations.Location.TheVariants.{Packed, Loose}
 use Rattle.object_store.proofs.Located.{offset_some}
+use Rattle.object_store.proofs.LooseParts.{any_decides}
 use Rattle.pack_index.specs.Format.{names_in, offset_in}
 
 -- the offset that is found is that of the first index of the name
@@ -37,19 +37,16 @@ contains_one : {X : Type 0} (x y : X) → Contains (x ∷ []) y → x ≡ y
 contains_one x y (zero, low, is) = is
 contains_one x y (suc k, low, is) = absurd (omega (arith, low))
 
-contains_none : {X : Type 0} (y : X) → ¬ Contains [] y
-contains_none y (k, low, is) = absurd (omega (arith, low))
-
 -- the location in one pack
 in_one : (n : ℕ) (found : Option ℕ) (location : Location) → Contains (packed_at n found) location → (offset : ℕ) × (found ≡ Some offset) × (Packed n offset ≡ location)
-in_one n None location has = absurd (contains_none location has)
+in_one n None location (k, low, is) = absurd (omega (arith, low))
 in_one n (Some offset) location has = (offset, refl, contains_one (Packed n offset) location has)
 
 -- the locations in the first n packs
 in_packs : (kind : Kind) (id : List ℕ) (indexes : List (List ℕ)) (n : ℕ) (location : Location) → Contains (packed_locations kind id indexes n) location
     → (pack : ℕ) × (offset : ℕ) × (pack < n) × (offset_of kind (get_or indexes pack []) id ≡ Some offset) × (Packed pack offset ≡ location)
 unfolding packed_locations
-in_packs kind id indexes zero location has = absurd (contains_none location has)
+in_packs kind id indexes zero location (k, low, is) = absurd (omega (arith, low))
 in_packs kind id indexes (suc n) location has =
     elim (Contains-append_cases (packed_locations kind id indexes n) (packed_at n (offset_of kind (get_or indexes n []) id)) location has) [
       | inl before ↦ let rest = in_packs kind id indexes n location before in (rest.0, rest.1, omega (arith, rest.2), rest.3, rest.4)
@@ -92,7 +89,7 @@ module _ (kind : Kind) (id : List ℕ) (indexes loose_ids : List (List ℕ)) whe
   in_last : (location : Location) → Contains last location → (is_loose ≡ true) × (Loose ≡ location)
   in_last location = elim is_loose as (λ b. Contains (cond b (Loose ∷ []) []) location → (b ≡ true) × (Loose ≡ location)) [
     | true ↦ λ has. (refl, contains_one Loose location has)
-    | false ↦ λ has. absurd (contains_none location has)
+    | false ↦ λ (k, low, is). absurd (omega (arith, low))
   ]
 
   pub packed_location : (pack offset : ℕ) → Contains (locations_of kind id indexes loose_ids) (Packed pack offset) ↔ ((pack < length indexes) × HasObjectAt kind (get_or indexes pack []) id offset)
@@ -115,11 +112,7 @@ module _ (kind : Kind) (id : List ℕ) (indexes loose_ids : List (List ℕ)) whe
   loose_location = (
     λ has. elim (Contains-append_cases front last Loose has) [
       | inl packed ↦ let is = (in_packs kind id indexes (length indexes) Loose packed).4 in cc
-      | inr loose ↦
-          let any = Any-from_list_any (λ other. bytes_eq other id) loose_ids (in_last Loose loose).0 in
-          subst (Contains loose_ids) ((bytes_decides any.1 id).0 any.4) (any.0, any.2, any.3)
+      | inr loose ↦ (any_decides loose_ids id).0 (in_last Loose loose).0
     ],
-    λ has.
-        let any : is_loose ≡ true = list_any-from_Any (λ other. bytes_eq other id) loose_ids (has.0, id, has.1, has.2, (bytes_decides id id).1 refl) in
-        Contains-append_right front last Loose (subst (λ b. Contains (cond b (Loose ∷ []) []) Loose) (sym any) (0, omega arith, refl)),
+    λ has. Contains-append_right front last Loose (subst (λ b. Contains (cond b (Loose ∷ []) []) Loose) (sym ((any_decides loose_ids id).1 has)) (0, omega arith, refl)),
   )

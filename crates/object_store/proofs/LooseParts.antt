@@ -1,8 +1,9 @@
 -- Where ids are in an index.
-use Rattle.std.proofs.Common.{◌≡◌, ℕ, suc, ◌∷◌, ◌<◌, ◌≤◌, inl, inr, Bool, true, false, not, nat_eq, List, [], ◌++◌, length, get_or, map, refl, sym, ap, subst, ◌∙◌, arith, append-nil, ◌↔◌, IsTrue, bytes_eq}
+use Rattle.std.proofs.Common.{◌≡◌, ℕ, suc, ◌∷◌, ◌<◌, ◌≤◌, inl, inr, Bool, true, not, nat_eq, List, [], ◌++◌, length, get_or, map, refl, sym, ap, subst, ◌∙◌, arith, append-nil, ◌↔◌, Decides, IsTrue, bytes_eq}
 use Rattle.std.specs.Cmp.Lexicographic.{bytes_decides}
 use Rattle.std.specs.List.{All, Contains, list_any, starts_with}
 use Rattle.std.proofs.lemmas.Bool.{cases_lt, eq-eqb, false≢true, ne_eqb}
+use Rattle.std.proofs.lemmas.Bool.Decides.{same_from_decides}
 use Rattle.std.proofs.lemmas.List.{length-append, length-map, nil_from_length}
 use Rattle.std.proofs.lemmas.List.Elements.{All-contains, All-from_all_within, Contains-get_or}
 use Rattle.std.proofs.lemmas.List.Folds.{Any-from_list_any, list_any-from_Any}
@@ -64,16 +65,12 @@ module _ (kind : Kind) (ids : List (List ℕ)) (index : IsIndex kind ids) where
           ap not (is ∙ ne_eqb n 0 (λ zero. omega (arith, kept.1, as_many, zero))),
     )
 
-is_false : (b : Bool) → ¬ (b ≡ true) → b ≡ false
-is_false true fails = absurd (fails refl)
-is_false false fails = refl
+-- an id is one of them if and only if one of them is equal
+pub any_decides : (ids : List (List ℕ)) (id : List ℕ) → Decides (list_any (λ other. bytes_eq other id) ids) (Contains ids id)
+any_decides ids id = (
+  λ yes. let any = Any-from_list_any (λ other. bytes_eq other id) ids yes in subst (Contains ids) ((bytes_decides any.1 id).0 any.4) (any.0, any.2, any.3),
+  λ has. list_any-from_Any (λ other. bytes_eq other id) ids (has.0, id, has.1, has.2, (bytes_decides id id).1 refl),
+)
 
--- an id is one of them if one of them is equal
 pub any_is : (ids : List (List ℕ)) (id : List ℕ) (has : Bool) → IsTrue has ↔ Contains ids id → has ≡ list_any (λ other. bytes_eq other id) ids
-any_is ids id true decides =
-    let there = decides.0 refl in
-    sym (list_any-from_Any (λ other. bytes_eq other id) ids (there.0, id, there.1, there.2, (bytes_decides id id).1 refl))
-any_is ids id false decides =
-    sym (is_false (list_any (λ other. bytes_eq other id) ids) (λ yes.
-    let any = Any-from_list_any (λ other. bytes_eq other id) ids yes in
-    false≢true (decides.1 (subst (Contains ids) ((bytes_decides any.1 id).0 any.4) (any.0, any.2, any.3)))))
+any_is ids id has decides = same_from_decides has _ decides (any_decides ids id)

@@ -1,10 +1,10 @@
 -- A name that is decided among the ids that were gathered is the name in the whole store.
-use Rattle.std.proofs.Common.{◌≡◌, ℕ, suc, ◌+◌, ◌-◌, ◌⊎◌, inl, inr, ◌<◌, ◌≤◌, true, nat_eq, Some, List, [], ◌∷◌, ◌++◌, length, get_or, map, take, drop, refl, sym, ap, ◌∙◌, subst, arith, append_assoc, take-append-drop, slice_get}
+use Rattle.std.proofs.Common.{◌≡◌, ℕ, ◌+◌, ◌-◌, inl, inr, ◌<◌, ◌≤◌, true, nat_eq, Some, List, [], ◌∷◌, ◌++◌, length, get_or, map, take, drop, refl, sym, ap, ◌∙◌, subst, arith, append_assoc, take-append-drop, slice_get}
 use Rattle.std.specs.List.{All, Contains, starts_with}
-use Rattle.std.proofs.Math.Seq.{get_or-append_seam, take-append-add, take-suc}
-use Rattle.std.proofs.lemmas.Bool.{cases_lt, cases_order, false≢true}
+use Rattle.std.proofs.Math.Seq.{take-append-add}
+use Rattle.std.proofs.lemmas.Bool.{cases_order, false≢true}
 use Rattle.std.proofs.lemmas.Option.{get_or_from_slice_get}
-use Rattle.std.proofs.lemmas.List.{get_or_append_left, get_or_default, get_or-map, length-append, length-map, length-take-le, map-append}
+use Rattle.std.proofs.lemmas.List.{get_or_default, get_or-map, length-map, length-take-le, map-append, take_more}
 use Rattle.std.proofs.lemmas.List.Elements.{Contains-get_or}
 use Rattle.id_lookup.specs.Words.{IsIndexOf, IsShortestNameFrom, Kind, ObjectId, id_digits, matches}
 use Rattle.id_lookup.proofs.Filters.{contains_had, contains_kept, kept_passes}
@@ -12,6 +12,7 @@ use Rattle.id_lookup.proofs.SameMembers.{one_position}
 use Rattle.id_lookup.proofs.Spelled.{starts_with-BeginsWith}
 use Rattle.object_store.specs.Stores.{IsNameIn}
 use Rattle.object_store.specs.declared.abbreviations.NamedId.{NamedId}
+use Rattle.object_store.proofs.Held.{each-push}
 
 -- an id begins with its first digits
 pub begins_itself : (id : List ℕ) (n : ℕ) → starts_with nat_eq id (take n id) ≡ true
@@ -96,21 +97,11 @@ pub named_more : (least at : ℕ) (ids : List ObjectId) (named more : List Named
 named_more least at ids named more n is within here short before each = (
   ap (map (λ (n : NamedId). n.id)) is ∙ map-append (λ (n : NamedId). n.id) named (n ∷ [])
       ∙ ap (λ (front : List ObjectId). front ++ n.id ∷ []) before
-      ∙ ap (λ (x : ObjectId). take at ids ++ x ∷ []) (sym (get_or_from_slice_get ids at n.id n.id here))
-      ∙ sym (take-suc ids at n.id within) ∙ (let next : suc at ≡ at + 1 = omega arith in ap (λ m. take m ids) next),
-  λ k d low. by k d low (cases_lt k at),
+      ∙ ap (λ (x : ObjectId). take at ids ++ x ∷ []) (sym (get_or_from_slice_get ids at n.id n.id here)) ∙ sym (take_more ids at n.id within),
+  subst (HaveNames least ids) (sym is)
+      (each-push (λ k (x : NamedId). IsShortestNameFrom least (map id_digits ids) k x.name.digits) named n each
+      (subst (λ m. IsShortestNameFrom least (map id_digits ids) m n.name.digits) (sym many) short)),
 )
   where
     many : length named ≡ at
     many = sym (length-map named (λ (n : NamedId). n.id)) ∙ ap length before ∙ length-take-le at ids (omega arith)
-
-    by : (k : ℕ) (d : NamedId) → k < length more → ((k < at) ⊎ (at ≤ k)) → IsShortestNameFrom least (map id_digits ids) k (get_or more k d).name.digits
-    by k d low (inl less) =
-        let same : get_or more k d ≡ get_or named k d = ap (λ (xs : List NamedId). get_or xs k d) is ∙ get_or_append_left named (n ∷ []) d k (omega (arith, many, less)) in
-        subst (λ (x : NamedId). IsShortestNameFrom least (map id_digits ids) k x.name.digits) (sym same) (each k d (omega (arith, many, less)))
-    by k d low (inr more_than) =
-        let last : k ≡ length named = omega (arith, low, many, more_than, ap length is, length-append named (n ∷ [])) in
-        let same : get_or more k d ≡ n = ap (λ (xs : List NamedId). get_or xs k d) is ∙ ap (λ m. get_or (named ++ n ∷ []) m d) last ∙ get_or-append_seam named n [] d in
-        let here_is : k ≡ at = omega (arith, last, many) in
-        subst (λ (x : NamedId). IsShortestNameFrom least (map id_digits ids) k x.name.digits) (sym same)
-        (subst (λ m. IsShortestNameFrom least (map id_digits ids) m n.name.digits) (sym here_is) short)

@@ -1,15 +1,13 @@
 -- What the buckets of a first byte have of a store.
-use Rattle.std.proofs.Common.{◌≡◌, ℕ, ◌+◌, ◌<◌, ◌≤◌, ◌⊎◌, inl, inr, Bool, true, None, List, [], ◌∷◌, ◌++◌, length, get_or, map, filter, take, sym, ap, ◌∙◌, subst, arith, append_assoc, All, flat_map}
-use Rattle.std.proofs.Math.Seq.{get_or-append_seam}
-use Rattle.std.proofs.lemmas.Bool.{cases_lt}
-use Rattle.std.proofs.lemmas.List.{get_or-map, get_or-take, get_or_append_left, get_or_default, length-append, length-map, length-take-le, take_all}
+use Rattle.std.proofs.Common.{◌≡◌, ℕ, ◌+◌, ◌<◌, ◌≤◌, Bool, true, None, List, [], ◌∷◌, ◌++◌, length, get_or, map, filter, take, sym, ap, ◌∙◌, subst, arith, append_assoc, All, flat_map}
+use Rattle.std.proofs.lemmas.List.{get_or-map, get_or-take, get_or_default, length-append, length-map, length-take-le, take_all}
 use Rattle.std.proofs.lemmas.List.Elements.{filter-append}
 use Rattle.std.proofs.lemmas.List.Folds.{flat_map-map}
 use Rattle.id_lookup.specs.Words.{Kind}
 use Rattle.id_lookup.proofs.Filters.{filter-flat}
 use Rattle.object_store.specs.Stores.{AreBuckets, AreFirstBuckets, AreRead, StoreView}
 use Rattle.pack_index.specs.Lazy.{BucketNames, HasBucket, IfKnown, IsBucketOf, LazyIndex, counted_with}
-use Rattle.object_store.proofs.Held.{IsPackAt, flat_map-take}
+use Rattle.object_store.proofs.Held.{IsPackAt, each-push, flat_map-take}
 
 -- one bucket more
 pub one_more : (kind : Kind) (packs : List LazyIndex) (byte at : ℕ) (pack : LazyIndex) (bucket : BucketNames) (old new : List BucketNames) → IsPackAt kind packs at pack
@@ -17,19 +15,14 @@ pub one_more : (kind : Kind) (packs : List LazyIndex) (byte at : ℕ) (pack : La
     → (length new ≡ at + 1) × AreFirstBuckets packs byte new
 one_more kind packs byte at pack bucket old new here long before last is = (
   ap length is ∙ length-append old (bucket ∷ []) ∙ omega (arith, long),
-  λ k p b low. by k p b low (cases_lt k at),
+  λ k p b low.
+      subst (λ (xs : List BucketNames). k < length xs → IsBucketOf (get_or packs k p) byte (get_or xs k b)) (sym is)
+      (each-push (λ j (x : BucketNames). IsBucketOf (get_or packs j p) byte x) old bucket (λ j d. before j p d)
+      (subst (λ (x : LazyIndex). IsBucketOf x byte bucket) (sym (pack_is p)) last) k b) low,
 )
   where
-    by : (k : ℕ) (p : LazyIndex) (b : BucketNames) → k < length new → ((k < at) ⊎ (at ≤ k)) → IsBucketOf (get_or packs k p) byte (get_or new k b)
-    by k p b low (inl less) =
-        let same : get_or new k b ≡ get_or old k b = ap (λ (xs : List BucketNames). get_or xs k b) is ∙ get_or_append_left old (bucket ∷ []) b k (omega (arith, long, less)) in
-        subst (IsBucketOf (get_or packs k p) byte) (sym same) (before k p b (omega (arith, long, less)))
-    by k p b low (inr more) =
-        let there : k ≡ length old = omega (arith, low, long, more, ap length is, length-append old (bucket ∷ [])) in
-        let same : get_or new k b ≡ bucket = ap (λ (xs : List BucketNames). get_or xs k b) is ∙ ap (λ m. get_or (old ++ bucket ∷ []) m b) there ∙ get_or-append_seam old bucket [] b in
-        let pack_is : get_or packs k p ≡ pack =
-        ap (λ m. get_or packs m p) (there ∙ long) ∙ get_or_default packs at p pack here.low ∙ sym here.is in
-        subst (λ (x : LazyIndex). IsBucketOf x byte (get_or new k b)) (sym pack_is) (subst (IsBucketOf pack byte) (sym same) last)
+    pack_is : (p : LazyIndex) → get_or packs (length old) p ≡ pack
+    pack_is p = ap (λ m. get_or packs m p) long ∙ get_or_default packs at p pack here.low ∙ sym here.is
 
 -- so the pack indexes up to there have the names that are counted
 pub have_first : (kind : Kind) (packs : List LazyIndex) (byte n : ℕ) (buckets : List BucketNames) → All (λ (p : LazyIndex). p.kind ≡ kind) packs

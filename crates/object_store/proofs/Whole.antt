@@ -1,11 +1,12 @@
 -- What a store whose pack indexes are ones has read with a first byte: all ids that have it.
-use Rattle.std.proofs.Common.{◌≡◌, ℕ, ◌<◌, ◌≤◌, inl, inr, Bool, true, nat_eq, Option, None, Some, List, [], ◌∷◌, ◌++◌, length, filter, get_or, map, refl, sym, ap, ◌∙◌, subst, arith}
+use Rattle.std.proofs.Common.{◌≡◌, ℕ, ◌<◌, ◌≤◌, inl, inr, Bool, true, nat_eq, None, Some, List, [], ◌++◌, length, get_or, map, refl, sym, ap, ◌∙◌, subst, arith}
 use Rattle.std.specs.List.{All, Contains, flat_map, starts_with}
 use Rattle.std.proofs.lemmas.List.{ext_get_or, get_or-map, length-map}
 use Rattle.std.proofs.lemmas.List.Elements.{Contains-append_cases, Contains-append_left, Contains-append_right, Contains-get_or, filter-append}
 use Rattle.std.proofs.lemmas.List.Folds.{flat_map-map}
 use Rattle.id_lookup.specs.Words.{IsIndexOf, ObjectId, first_byte_of, has_first_byte, id_digits, matches, part_of}
 use Rattle.id_lookup.proofs.Beginnings.{first_byte_of-begins, matches-part, same_test}
+use Rattle.id_lookup.proofs.Filtering.{filter_all}
 use Rattle.id_lookup.proofs.Filters.{contains_had, contains_kept, kept_passes}
 use Rattle.id_lookup.proofs.SameMembers.{part_is}
 use Rattle.pack_index.specs.Format.{names_in}
@@ -25,14 +26,13 @@ module _ (view : StoreView) (whole : List (List ℕ)) (byte : ℕ) (read : List 
   -- each pack index counts all of its names that have it
   each_counted : r.names ≡ map counted h.indexes
   each_counted =
-      let content : LazyIndex → Option (List ℕ) = λ p. p.content in
-      let many = as_many content view.packs h.indexes h.known in
+      let many = as_many view.packs h.indexes h.known in
       ext_get_or [] r.names (map counted h.indexes) (omega (arith, r.are_read.as_many, many, length-map h.indexes counted)) (λ k low.
       let p : LazyIndex = record { kind = view.kind; count = 0; content = None; can_fail = true } in
       let inside : k < length view.packs = omega (arith, low, r.are_read.as_many) in
       let within : k < length h.indexes = omega (arith, inside, many) in
       let bytes = get_or h.indexes k [] in
-      let known = known_at content view.packs h.indexes h.known k p inside in
+      let known = known_at view.packs h.indexes h.known k p inside in
       let index = h.are_indexes k [] within in
       let bucket = r.are_read.sound k p inside bytes known in
       r.are_read.each k p inside bytes known
@@ -93,21 +93,16 @@ found_begins view digits ids are k d low =
     subst (Contains (map id_digits ids)) (get_or-map id_digits ids k d [] low) (Contains-get_or (map id_digits ids) k [] (omega (arith, low, length-map ids id_digits))) in
     kept_passes (λ x. starts_with nat_eq x digits) are.read id ((are.index.members id).0 there)
 
-filter-true : (ids : List (List ℕ)) → filter (λ _. true) ids ≡ ids
-filter-true [] = refl
-filter-true (id ∷ ids) = ap (λ (rest : List (List ℕ)). id ∷ rest) (filter-true ids)
-
 -- if all bytes are known, what was read is determined, whatever they are
 module _ (view : StoreView) (indexes : List (List ℕ)) (known : map (λ (pack : LazyIndex). pack.content) view.packs ≡ map Some indexes) where
   read_once : (byte : ℕ) (one other : List (List ℕ)) → AreIdsRead view byte one → AreIdsRead view byte other → one ≡ other
   read_once byte one other r s =
-      let content : LazyIndex → Option (List ℕ) = λ p. p.content in
       let p : LazyIndex = record { kind = view.kind; count = 0; content = None; can_fail = true } in
       let same : r.names ≡ s.names =
       ext_get_or [] r.names s.names (omega (arith, r.are_read.as_many, s.are_read.as_many)) (λ k low.
       let inside : k < length view.packs = omega (arith, low, r.are_read.as_many) in
       let bytes = get_or indexes k [] in
-      let here = known_at content view.packs indexes known k p inside in
+      let here = known_at view.packs indexes known k p inside in
       r.are_read.each k p inside bytes here ∙ sym (s.are_read.each k p inside bytes here)) in
       r.all ∙ ap (λ (names : List (List (List ℕ))). flat_map (λ (some : List (List ℕ)). some) names ++ view.loose) same ∙ sym s.all
 
@@ -116,6 +111,7 @@ module _ (view : StoreView) (indexes : List (List ℕ)) (known : map (λ (pack :
   found_once digits one other a b =
       let same : a.read ≡ b.read = read_once (first_byte_of digits) a.read b.read a.ids_read b.ids_read in
       let ids = matches digits b.read in
+      let all_pass = λ (xs : List (List ℕ)). filter_all (λ _. true) xs (λ k d low. refl) in
       let all = subst (λ (read : List (List ℕ)). IsIndexOf view.kind (matches digits read) (map id_digits one)) same a.index in
       part_is view.kind (λ _. true) ids (map id_digits other) (map id_digits one) b.index
-      (subst (λ (xs : List (List ℕ)). IsIndexOf view.kind xs (map id_digits one)) (sym (filter-true ids)) all) ∙ filter-true (map id_digits other)
+      (subst (λ (xs : List (List ℕ)). IsIndexOf view.kind xs (map id_digits one)) (sym (all_pass ids)) all) ∙ all_pass (map id_digits other)

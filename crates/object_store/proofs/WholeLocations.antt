@@ -1,8 +1,10 @@
 -- The locations in a store whose pack indexes are ones.
-use Rattle.std.proofs.Common.{◌≡◌, ◌≢◌, ℕ, zero, suc, ◌+◌, ◌-◌, ◌<◌, ◌≤◌, inl, inr, true, false, Option, None, Some, List, [], ◌∷◌, ◌++◌, length, get_or, drop, refl, sym, ap, ◌∙◌, subst, arith, Contains, bytes_eq}
+use Rattle.std.proofs.Common.{◌≡◌, ℕ, zero, suc, ◌+◌, ◌-◌, ◌<◌, ◌≤◌, inl, inr, true, Bool, Option, None, Some, List, [], ◌++◌, length, get_or, drop, refl, sym, ap, ◌∙◌, subst, arith, Contains, bytes_eq}
 use Rattle.std.specs.Cmp.Lexicographic.{bytes_decides}
-use Rattle.std.proofs.lemmas.Bool.{cases_Bool, false≢true}
+use Rattle.std.specs.List.{position_or_len}
+use Rattle.std.proofs.lemmas.Bool.{cases_lt, false≢true}
 use Rattle.std.proofs.lemmas.List.{get_or_default, length-drop, length-take-le}
+use Rattle.std.proofs.lemmas.List.Sums.{fails_before_first, passes_at_first}
 use Rattle.std.proofs.lemmas.Option.{same_Some}
 use Rattle.id_lookup.specs.Words.{Kind, first_byte_of}
 use Rattle.pack_index.specs.Format.{IsFirstIndexOf, IsPackIndex, names_in}
@@ -16,23 +18,15 @@ use Rattle.object_store.proofs.Held.{as_many, known_at}
 use Rattle.object_store.proofs.Located.{offset_none, offset_some}
 
 -- a member has a first index
-first_later : (x id : List ℕ) (xs : List (List ℕ)) (at : ℕ) → bytes_eq x id ≡ false → ((k : ℕ) → k < at → get_or xs k [] ≢ id) → (k : ℕ) → k < suc at
-    → get_or (x ∷ xs) k [] ≢ id
-first_later x id xs at differs rest zero low same = false≢true (sym differs ∙ (bytes_decides x id).1 same)
-first_later x id xs at differs rest (suc k) low same = rest k (omega (arith, low)) same
-
 first_index : (names : List (List ℕ)) (id : List ℕ) → Contains names id → (at : ℕ) × IsFirstIndexOf names id at
-first_index [] id (k, low, is) = absurd (omega (arith, low))
-first_index (x ∷ xs) id (zero, low, is) = (0, record { in_range = omega arith; same = is; first = λ k less. absurd (omega (arith, less)) })
-first_index (x ∷ xs) id (suc k, low, is) =
-    let rest = first_index xs id (k, omega (arith, low), is) in
-    elim (cases_Bool (bytes_eq x id)) [
-      | inl same ↦ (0, record { in_range = omega arith; same = (bytes_decides x id).0 same; first = λ j less. absurd (omega (arith, less)) })
-      | inr differs ↦ (
-        suc rest.0,
-        record { in_range = omega (arith, rest.1.in_range); same = rest.1.same; first = first_later x id xs rest.0 differs rest.1.first },
-      )
-    ]
+first_index names id (k, low, is) =
+    let p : List ℕ → Bool = λ name. bytes_eq name id in
+    let before = λ (j : ℕ) (d : List ℕ) (less : j < position_or_len p names) (same : get_or names j d ≡ id).
+    false≢true (sym (fails_before_first p names j d less) ∙ (bytes_decides (get_or names j d) id).1 same) in
+    let inside : position_or_len p names < length names = elim (cases_lt k (position_or_len p names)) [ inl less ↦ absurd (before k id less is) | inr from ↦ omega (arith, from, low) ] in (
+      position_or_len p names,
+      record { in_range = inside; same = (bytes_decides _ id).0 (passes_at_first p names [] inside); first = λ j less. before j [] less },
+    )
 
 -- the offset of the first name that is counted is that of the first name
 module _ (kind : Kind) (bytes id : List ℕ) (index : IsPackIndex kind bytes) (small : first_byte_of id < 256) (has : HasBucket kind bytes (first_byte_of id)) where
@@ -74,18 +68,17 @@ module _ (view : StoreView) (whole : List (List ℕ)) (id : List ℕ) (locations
   unfolding ArePacked packed_locations
   whole_packed zero packed low is = is
   whole_packed (suc n) packed low is =
-      let content : LazyIndex → Option (List ℕ) = λ p. p.content in
       let p : LazyIndex = record { kind = view.kind; count = 0; content = None; can_fail = true } in
       let bytes = get_or h.indexes n [] in
       let inside : n < length view.packs = omega (arith, low) in
-      let within : n < length h.indexes = omega (arith, inside, as_many content view.packs h.indexes h.known) in
-      let known = known_at content view.packs h.indexes h.known n p inside in
+      let within : n < length h.indexes = omega (arith, inside, as_many view.packs h.indexes h.known) in
+      let known = known_at view.packs h.indexes h.known n p inside in
       let offset = offset_is view.kind bytes id (h.are_indexes n [] within) all.small (all.sound n p inside bytes known).bucket is.1 (is.3 p bytes known) in
       let before : is.0 ≡ packed_locations view.kind id h.indexes n = whole_packed n is.0 (omega (arith, low)) is.2 in
       is.4 ∙ (λ i. before i ++ packed_at n (offset i))
 
   pub whole_locations : locations ≡ locations_of view.kind id h.indexes view.loose
   whole_locations =
-      let many = as_many (λ (p : LazyIndex). p.content) view.packs h.indexes h.known in
+      let many = as_many view.packs h.indexes h.known in
       all.all ∙ ap (λ (front : List Location). front ++ loose_at id view.loose)
       (whole_packed (length view.packs) all.packed (omega arith) all.are_packed ∙ ap (packed_locations view.kind id h.indexes) many)

@@ -74,12 +74,8 @@ impl<'s, S: Store, A: Allocator + Copy> Parts<'s, S, A> {
         ensures matches { IfOk result (λ ids. AreMatches self.old prefix.now.digits ids.items) }
         ensures err { IfErr result (IsStoreFault self.old (first_byte_of prefix.now.digits)) }
     {
-        let part = part_of(
-            self.alloc,
-            self.store,
-            self.part.take(),
-            prefix.first_byte(),
-        )?;
+        let byte = prefix.first_byte();
+        let part = part_of(self.alloc, self.store, self.part.take(), byte)?;
         let ids = matches_in(self.alloc, self.store, &part.buckets, prefix);
         self.part = Some(part);
         Ok(ids?)

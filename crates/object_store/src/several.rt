@@ -40,7 +40,7 @@ pub(crate) trait LookUp<S: Store, A: Allocator + Copy> {
         ensures found { IfOk result (finds self.now parts.old prefix.now.digits) }
         ensures err { IfErr result (fails self.now parts.old prefix.now.digits) };
 
-    // What is left of some room beside what was found, or `None` if this is more.
+    // What is left of some room after what was found, or `None` if this is more.
     fn left(&self, found: &Self::Found, room: usize) -> Option<usize>
         ensures { SomeIff result (size found.now ≤ room) (room - size found.now) };
 }

@@ -1,7 +1,7 @@
 use Rattle.std.proofs.Common.{◌≡◌, ◌⊎◌, inr, subst}
+use Rattle.std.proofs.lemmas.Result.{IfErr-weaker}
 use Rattle.id_lookup.specs.Words.{first_byte_of, id_digits}
 use Rattle.object_store.specs.Stores.{HaveBuckets, IsLocateFault, IsStoreFault, StoreView}
-use Rattle.object_store.proofs.LocatedIds.{fault_by}
 use Rattle.object_store.proofs.parts.Parts.locate.Goals as goal
 
 pub returns-clause-err : goal.returns-clause-err
@@ -12,5 +12,5 @@ returns-clause-err g c =
     let same : store ≡ view = c.self.view_is in
     let sound : HaveBuckets view (first_byte_of id) =
     subst (λ (v : StoreView). HaveBuckets v (first_byte_of id)) same (subst (HaveBuckets store) c.first_byte.ensures c.in_ok-part.ensures.read.read.sound) in
-    fault_by (IsLocateFault store id) (λ e. IsStoreFault view (first_byte_of id) e ⊎ (HaveBuckets view (first_byte_of id) × IsLocateFault view id e))
-    (λ e fault. inr (sound, subst (λ (v : StoreView). IsLocateFault v id e) same fault)) c.locate_in-locations.result c.locate_in-locations.ensures.err
+    IfErr-weaker c.locate_in-locations.result (IsLocateFault store id) (λ e. IsStoreFault view (first_byte_of id) e ⊎ (HaveBuckets view (first_byte_of id) × IsLocateFault view id e))
+    (λ e fault. inr (sound, subst (λ (v : StoreView). IsLocateFault v id e) same fault)) c.locate_in-locations.ensures.err
