@@ -1,8 +1,8 @@
 -- The lines of a text and what is printed for them, one after the other.
-use Rattle.std.proofs.Common.{◌≡◌, ℕ, zero, suc, ◌<◌, ◌≤◌, Bool, true, false, ◌&&◌, nat_lt, Option, None, Some, List, [], ◌∷◌, ◌++◌, length, refl, sym, ap, subst, ◌∙◌, arith, if◌then◌else◌, All, flat_map, is_some, option_map, option_to_list}
+use Rattle.std.proofs.Common.{◌≡◌, ℕ, ◌<◌, ◌≤◌, Bool, true, false, ◌&&◌, nat_lt, Option, None, Some, List, [], ◌∷◌, ◌++◌, length, refl, sym, ap, subst, ◌∙◌, arith, if◌then◌else◌, All, flat_map, is_some, option_map, option_to_list}
 use Rattle.std.proofs.lemmas.Bool.Decides.{nat_tests}
 use Rattle.std.proofs.lemmas.List.{length-drop, nil_from_length}
-use Rattle.std.proofs.lemmas.List.Elements.{All-append}
+use Rattle.std.proofs.lemmas.List.Elements.{All-append, All-cons, All-nil}
 use Rattle.streams.proofs.LineLemmas.{lines_of-nil}
 use Rattle.id_lookup.specs.Words.{Kind, KindDigits, digits_read, hex_len_of, hex_letter, kind_digits}
 use Rattle.object_store.specs.Several.{limited_to}
@@ -65,48 +65,34 @@ module _ (kind : Kind) (rest after : List (List ℕ)) (line : List ℕ) (p : Boo
       by None e = e
       by (Some prefix) e = omega (arith, length-drop 1 left, e)
 
-nothing : {X : Type 0} (P : X → Type 0) → All P []
-nothing P k d low = absurd (omega (arith, low))
-
 -- the prefixes among lines have 2 digits or more, and the kind
-pub are_long : (kind : Kind) (lines : List (List ℕ)) → All (λ (prefix : KindDigits). (2 ≤ length prefix.digits) × (prefix.kind ≡ kind)) (prefixes_of kind lines)
-are_long kind [] = nothing IsLong
-  where
-    IsLong : KindDigits → Type 0
-    IsLong prefix = (2 ≤ length prefix.digits) × (prefix.kind ≡ kind)
-are_long kind (line ∷ lines) = All-append IsLong (option_to_list (prefix_of kind line)) (prefixes_of kind lines) one (are_long kind lines)
-  where
-    IsLong : KindDigits → Type 0
-    IsLong prefix = (2 ≤ length prefix.digits) × (prefix.kind ≡ kind)
+abbrev IsLong : Kind → KindDigits → Type 0
+IsLong kind prefix = (2 ≤ length prefix.digits) × (prefix.kind ≡ kind)
 
-    not_below : (n : ℕ) → nat_lt n 2 ≡ false → 2 ≤ n
-    not_below n e = grind (arith, nat_tests)
+not_below : (n : ℕ) → nat_lt n 2 ≡ false → 2 ≤ n
+not_below n e = grind (arith, nat_tests)
 
-    only : (prefix : KindDigits) → IsLong prefix → All IsLong (prefix ∷ [])
-    only prefix is zero d low = is
-    only prefix is (suc k) d low = absurd (omega (arith, low))
+long_if : (kind : Kind) (ds : List ℕ) (b : Bool) → nat_lt (length ds) 2 ≡ b → All (IsLong kind) (option_to_list (if b then None else Some (kind_digits kind ds)))
+long_if kind ds true e = All-nil (IsLong kind)
+long_if kind ds false e = All-cons (IsLong kind) (kind_digits kind ds) [] (not_below (length ds) e, refl) (All-nil (IsLong kind))
 
-    long : (ds : List ℕ) (b : Bool) → nat_lt (length ds) 2 ≡ b → All IsLong (option_to_list (if b then None else Some (kind_digits kind ds)))
-    long ds true e = nothing IsLong
-    long ds false e = only (kind_digits kind ds) (not_below (length ds) e, refl)
+long_of : (kind : Kind) (b : Bool) (o : Option (List ℕ)) → All (IsLong kind) (option_to_list (if b then None else of_two (option_map (kind_digits kind) o)))
+long_of kind true o = All-nil (IsLong kind)
+long_of kind false None = All-nil (IsLong kind)
+long_of kind false (Some ds) = long_if kind ds (nat_lt (length ds) 2) refl
 
-    read : (o : Option (List ℕ)) → All IsLong (option_to_list (of_two (option_map (kind_digits kind) o)))
-    read None = nothing IsLong
-    read (Some ds) = long ds (nat_lt (length ds) 2) refl
-
-    fits : (b : Bool) → All IsLong (option_to_list (if b then None else of_two (option_map (kind_digits kind) (digits_read hex_letter line))))
-    fits true = nothing IsLong
-    fits false = read (digits_read hex_letter line)
-
-    one : All IsLong (option_to_list (prefix_of kind line))
-    one = fits (nat_lt (hex_len_of kind) (length line))
+are_long : (kind : Kind) (lines : List (List ℕ)) → All (IsLong kind) (prefixes_of kind lines)
+are_long kind [] = All-nil (IsLong kind)
+are_long kind (line ∷ lines) =
+    All-append (IsLong kind) (option_to_list (prefix_of kind line)) (prefixes_of kind lines)
+    (long_of kind (nat_lt (hex_len_of kind) (length line)) (digits_read hex_letter line)) (are_long kind lines)
 
 -- the prefixes that were read of a store's kind can be looked up, also after it was opened again
 pub can_look_up : {MayHave MayHaveThen : StoreView → Type 0} {old new : StoreView} (kind : Kind) (lines : List (List ℕ)) {read prefixes : List KindDigits}
     → IsReopened MayHave MayHaveThen old new → kind ≡ old.kind → AreListed old read → prefixes ≡ read → prefixes ≡ prefixes_of kind lines
     → All (CanLookUp new) prefixes
 can_look_up {old = old} kind lines is same listed all are k prefix low =
-    let long = subst (All (λ (p : KindDigits). (2 ≤ length p.digits) × (p.kind ≡ kind))) (sym are) (are_long kind lines) k prefix low in
+    let long = subst (All (IsLong kind)) (sym are) (are_long kind lines) k prefix low in
     let known = subst (AreListed old) (sym all) listed k prefix low in
     record {
       enough = long.0;

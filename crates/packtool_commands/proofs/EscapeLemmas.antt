@@ -1,33 +1,23 @@
 -- How names are printed.
-use Rattle.std.proofs.Common.{◌≡◌, ◌≢◌, ℕ, Bool, true, false, List, [], ◌∷◌, ◌++◌, refl, sym, ap, ◌∙◌, arith, ◌==◌, ◌||◌, if◌then◌else◌}
+use Rattle.std.proofs.Common.{◌≡◌, ◌≢◌, ℕ, Bool, true, false, List, [], ◌∷◌, ◌++◌, refl, ap, ◌∙◌, arith, ◌==◌, ◌||◌, if◌then◌else◌}
 use Rattle.std.specs.List.{All, list_any}
-use Rattle.std.proofs.lemmas.Bool.{eqb-false, false≢true}
+use Rattle.std.proofs.lemmas.Bool.{eqb-false, or_parts}
 use Rattle.std.proofs.lemmas.List.Elements.{All-append, All-cons, All-nil}
 use Rattle.packtool_commands.specs.Files.{escape_mark, escape_of, escaped, is_special, named}
-
--- of three tests that fail none chooses
-plain-tests : (a b c : Bool) (x y z plain : List ℕ) → (a || (b || c)) ≡ false → (if a then x else if b then y else if c then z else plain) ≡ plain
-plain-tests true b c x y z plain none = absurd (false≢true (sym none))
-plain-tests false true c x y z plain none = absurd (false≢true (sym none))
-plain-tests false false true x y z plain none = absurd (false≢true (sym none))
-plain-tests false false false x y z plain none = refl
 
 -- a byte that is not escaped is printed as it is
 escape_of-plain : (byte : ℕ) → is_special byte ≡ false → escape_of byte ≡ byte ∷ []
 unfolding escape_of
 escape_of-plain byte plain =
-    plain-tests (byte == 92) (byte == 10) (byte == 13) (92 ∷ 92 ∷ []) (92 ∷ 110 ∷ []) (92 ∷ 114 ∷ []) (byte ∷ []) plain
-
--- if neither of two tests holds, each fails
-neither : (a b : Bool) → (a || b) ≡ false → (a ≡ false) × (b ≡ false)
-neither true b none = absurd (false≢true (sym none))
-neither false b none = (refl, none)
+    let first = or_parts (byte == 92) (byte == 10 || byte == 13) plain in
+    let rest = or_parts (byte == 10) (byte == 13) first.1 in
+    rw (first.0, rest.0, rest.1) refl
 
 -- a name with no byte that is escaped is printed as it is
 pub escaped-plain : (name : List ℕ) → list_any is_special name ≡ false → escaped name ≡ name
 escaped-plain [] plain = refl
 escaped-plain (x ∷ xs) plain =
-    let both = neither (is_special x) (list_any is_special xs) plain in
+    let both = or_parts (is_special x) (list_any is_special xs) plain in
     ap (λ (first : List ℕ). first ++ escaped xs) (escape_of-plain x both.0) ∙ ap (λ (rest : List ℕ). x ∷ rest) (escaped-plain xs both.1)
 
 -- and its line has no mark
@@ -42,12 +32,9 @@ NotFeed byte = byte ≢ 10
 abbrev IsOneLine : List ℕ → Type 0
 IsOneLine bytes = All NotFeed bytes
 
--- of no byte, of one, and of two
-empty : IsOneLine []
-empty = All-nil NotFeed
-
+-- of one byte, and of two
 one : (a : ℕ) → a ≢ 10 → IsOneLine (a ∷ [])
-one a other = All-cons NotFeed a [] other empty
+one a other = All-cons NotFeed a [] other (All-nil NotFeed)
 
 two : (a b : ℕ) → a ≢ 10 → b ≢ 10 → IsOneLine (a ∷ b ∷ [])
 two a b first second = All-cons NotFeed a (b ∷ []) first (one b second)
@@ -66,12 +53,12 @@ unfolding escape_of
 escape_of-one_line byte = one_line-tests (byte == 92) (byte == 10) (byte == 13) (byte ∷ []) (λ other. one byte (eqb-false byte 10 other))
 
 escaped-one_line : (name : List ℕ) → IsOneLine (escaped name)
-escaped-one_line [] = empty
+escaped-one_line [] = All-nil NotFeed
 escaped-one_line (x ∷ xs) = All-append NotFeed (escape_of x) (escaped xs) (escape_of-one_line x) (escaped-one_line xs)
 
 mark-one_line : (special : Bool) → IsOneLine (if special then 92 ∷ [] else [])
 mark-one_line true = one 92 (omega arith)
-mark-one_line false = empty
+mark-one_line false = All-nil NotFeed
 
 -- and what is printed for a name has none
 pub named-one_line : (name : List ℕ) → IsOneLine (escape_mark name ++ escaped name)

@@ -1,8 +1,8 @@
 //! The locations of the objects of a store, a line for each.
 
-ghost use Rattle.std.specs.Prelude.{◌≡◌, ◌≢◌, ◌↔◌, ◌<◌, ◌≤◌, [], ◌∷◌, ◌++◌, None, false, true, length, map, option_copied, string_bytes, take, All, IfErr, IfNone, IfOk, IfSome, IsErrOf};
+ghost use Rattle.std.specs.Prelude.{◌≡◌, ◌≢◌, ◌↔◌, ◌<◌, ◌≤◌, [], ◌∷◌, ◌++◌, None, false, true, length, map, option_copied, string_bytes, take, All, IfErr, IfOk, IsErrOf};
 ghost use Rattle.id_lookup.specs.Words.{hex_letter, id_digits, spelling};
-ghost use Rattle.object_store.specs.Several.{AreLocated, AreLocatedOfEach, HaveMoreLocations, IsLocationsFault, IsLocationsFaultOfOne};
+ghost use Rattle.object_store.specs.Several.{AreLocated, HaveMoreLocations, IsLocationsFault, IsLocationsFaultOfOne};
 ghost use Rattle.object_store.specs.Stores.{CanLookUp, IsReopened};
 ghost use Rattle.packtool_commands.specs.Stores.{AreListed, HasLocated, HasLocatedEach, HasLocatedPart, HasLocatedSome, IsFaultOf, limit_for, lines_at_after, located_lines, location_end, location_line, location_line_after};
 ghost use Rattle.packtool_commands.specs.declared.error.StoreError.{StoreError};
@@ -141,11 +141,12 @@ pub fn locate_each<S: Reopen + StorePaths, A: Allocator + Copy, W: Sink>(
         (lines_of lines.now.text.now) (W.taken out.old) (W.taken out.new) }
 {
     let prefixes = lines.prefixes();
+    let limit = limit_for(answers);
     let looked = look_up_again(
         store,
         |store: &S|
             requires { All (CanLookUp (S.view store.now)) prefixes.now }
-        { locations_of_each(alloc, store, prefixes, answers, most) },
+        { locate_prefixes(alloc, store, prefixes, limit, most) },
     );
     let Some(located) = looked? else {
         return Err(StoreError::TooMany);
@@ -155,29 +156,6 @@ pub fn locate_each<S: Reopen + StorePaths, A: Allocator + Copy, W: Sink>(
         item: LocationsForm { store: &*store },
     };
     Ok(write_answers(lines.kind, lines.text, &located, &form, out)?)
-}
-
-// The ids of a store that begin with each of several prefixes, as many as are needed, with their
-// locations.
-fn locations_of_each<S: StorePaths, A: Allocator + Copy>(
-    alloc: A,
-    store: &S,
-    prefixes: &[Prefix],
-    answers: Answers,
-    most: usize,
-) -> Result<Option<Vec<Vec<LocatedId<A>, A>, A>>, object_store::Error>
-    requires { All (CanLookUp (S.view store.now)) prefixes.now }
-    ensures located { IfOk result (λ located. IfSome located (λ located.
-        AreLocatedOfEach (limit_for answers) (S.view store.now) (S.loose_paths store.now)
-        prefixes.now located.items)) }
-    ensures several { IfOk result (λ located. IfNone located (1 < length prefixes.now)) }
-    ensures more { IfOk result (λ located. IfNone located (HaveMoreLocations A (limit_for answers)
-        (S.view store.now) (S.loose_paths store.now) most prefixes.now)) }
-    ensures err { IfErr result (IsLocationsFaultOfOne (limit_for answers) (S.view store.now)
-        prefixes.now) }
-{
-    let limit = limit_for(answers);
-    locate_prefixes(alloc, store, prefixes, limit, most)
 }
 
 // How many ids of a prefix are located: all, or the first two, which show whether there are more
