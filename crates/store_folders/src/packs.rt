@@ -137,14 +137,14 @@ impl PackIndexes {
 fn first_gone<'a>(earlier: &'a [PackPaths], listed: &[PackPaths]) -> Option<&'a PackPaths>
     ensures { IsNone result → All (IsListed listed.now) earlier.now }
 {
-    let mut at = 0;
+    let mut left = earlier;
     for paths in listed {
-        let next = earlier.get(at)?;
+        let (next, rest) = left.split_first()?;
         if next.index == paths.index {
-            at += 1;
+            left = rest;
         }
     }
-    earlier.get(at)
+    left.first()
 }
 
 // Adds the pack indexes in a directory of packs, in the order of their names. One is skipped if its
