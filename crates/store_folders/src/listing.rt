@@ -1,9 +1,13 @@
 //! The names in directories, and the states of directories.
 
+ghost use Rattle.std.specs.Prelude.{◌≡◌, IfOk, length, vec_len};
+
 use repositories::{Error, FileState, join, retried};
-use std::io;
-use std::io::{BufReader, Read};
+use std::alloc::Global;
+use std::fs::{self, Metadata};
+use std::io::{self, BufReader, Read};
 use std::rt::Files;
+use std::time::SystemTime;
 
 // The names in a directory, each ended by a NUL, or none if the directory is missing. They are
 // bytes: a name need not be UTF-8.
@@ -18,9 +22,13 @@ pub(crate) fn list_names<R: Files + AllocGlobal>(rt: &R, folder: &str) -> Result
 fn read_dir<R: Files + AllocGlobal>(rt: &R, folder: &str) -> io::Result<Vec<u8>> {
     // A path that ends in a slash leads to a directory by a link, too.
     let path = join(rt, folder, "")?;
-    let mut names = Vec::new(rt.alloc());
-    // A directory is read by chunks that have room for any name, which are those of a `BufReader`.
-    let mut dir = BufReader::new(rt.alloc(), retried(|| rt.open_dir(&path))?)?;
+    read_whole(rt.alloc(), retried(|| rt.open_dir(&path))?)
+}
+
+// A directory is read by chunks that have room for any name, which are those of a `BufReader`.
+fn read_whole<D: Read + Drop>(alloc: Global, dir: D) -> io::Result<Vec<u8>> {
+    let mut dir = BufReader::new(alloc, dir)?;
+    let mut names = Vec::new(alloc);
     dir.read_to_end(&mut names)?;
     Ok(names)
 }
@@ -30,10 +38,50 @@ pub(crate) fn state_of<R: Files + AllocGlobal>(rt: &R, folder: &str) -> Result<F
     FileState::of(rt, folder).map_err(|error| Error::file(rt.alloc(), folder, error))
 }
 
+// The states of directories.
+pub(crate) fn states_of<R: Files + AllocGlobal>(
+    rt: &R,
+    paths: &[String],
+) -> Result<Vec<FileState>, Error>
+    ensures { IfOk result (λ states. vec_len states ≡ length paths.now) }
+{
+    let mut states = Vec::new(rt.alloc());
+    for path in paths {
+        states.push(state_of(rt, path)?)?;
+    }
+    Ok(states)
+}
+
+// Fails if one of the directories is in another state.
+pub(crate) fn expect_states<R: Files + AllocGlobal>(
+    rt: &R,
+    paths: &[String],
+    states: &[FileState],
+) -> Result<(), crate::error::Error>
+    requires { length states.now ≡ length paths.now }
+{
+    for (path, state) in paths.iter().zip(states) {
+        if state_of(rt, path)? != *state {
+            return Err(crate::error::Error::changed(rt.alloc(), path));
+        }
+    }
+    Ok(())
+}
+
+// Whether each later change leaves other states.
+pub(crate) fn are_settled(states: &[FileState], now: SystemTime) -> bool {
+    states.iter().all(|state| state.is_settled(now))
+}
+
 // The state of a directory, or `None` if it is missing.
 pub(crate) fn state_if_there<R: Files + AllocGlobal>(
     rt: &R,
     folder: &str,
 ) -> Result<Option<FileState>, Error> {
     FileState::if_there(rt, folder).map_err(|error| Error::file(rt.alloc(), folder, error))
+}
+
+// What is at a path, also if it is a link.
+pub(crate) fn what_is_at<R: Files>(rt: &R, path: &str) -> io::Result<Metadata> {
+    retried(|| fs::symlink_metadata(rt, path))
 }

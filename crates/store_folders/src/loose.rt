@@ -1,19 +1,21 @@
 //! The loose objects in object directories, by the names of their files.
 
-ghost use Rattle.std.specs.Prelude.{◌≡◌, ◌≤◌, ◌<◌, ◌++◌, [], All, IfOk, IfSome, MatchOption, None, OnOk, false, length, map, string_bytes, vec_len};
+ghost use Rattle.std.specs.Prelude.{◌≡◌, ◌++◌, All, IfOk, IfSome, MatchOption, None, OnOk, false, map, string_bytes};
 ghost use Rattle.gix_hash.specs.Words.{id_digits, id_kind};
 ghost use Rattle.store_folders.specs.Stores.{only_of, path_in, paths_in};
 
 use crate::error::Error;
-use crate::listing::{list_names, state_if_there, state_of};
+use crate::listing::{
+    are_settled, expect_states, list_names, state_if_there, state_of, states_of, what_is_at,
+};
 use gix_hash::{Kind, ObjectId};
 use object_store::LooseTable;
 use repositories::paths::{read_loose_path, write_loose_path};
-use repositories::{FileState, metadata, retried};
+use repositories::{FileState, metadata};
 use std::alloc::{AllocError, Global};
+use std::io;
 use std::rt::Files;
 use std::time::SystemTime;
-use std::{fs, io};
 
 // How often the fan-out directories of a first byte are listed that change meanwhile.
 const MAX_TRIES: usize = 100;
@@ -85,12 +87,28 @@ pub(crate) fn take_loose(
     Some(listed.remove(at))
 }
 
-// The names in the fan-out directory of a first byte, in the object directory at a position.
+// The fan-out directory of a first byte, in the object directory at a position, and its names.
 #[derive(Drop)]
 struct Part {
     at: usize,
     byte: u8,
+    path: String,
+    // Its state before it is listed, if it must not have changed then.
+    state: Option<FileState>,
     names: Vec<u8>,
+}
+
+impl Part {
+    // Lists the names. Fails if the directory has changed.
+    fn list<R: Files + AllocGlobal>(&mut self, rt: &R) -> Result<(), Error> {
+        self.names = list_names(rt, &self.path)?;
+        if let Some(state) = self.state
+            && state_of(rt, &self.path)? != state
+        {
+            return Err(Error::changed(rt.alloc(), &self.path));
+        }
+        Ok(())
+    }
 }
 
 // Lists the loose objects in object directories. If the time before is given, it is also looked at
@@ -107,18 +125,8 @@ pub(crate) fn list_loose<R: Files + AllocGlobal>(
     ensures once { now ≡ None → IfOk result (λ loose. loose.states ≡ None) }
 {
     let states = settled_states(rt, paths, which, now)?;
-    let Some(parts) = list_parts(rt, paths, which)? else {
-        let path = paths.first().map_or("", |path| path.as_str());
-        return Err(Error::changed(rt.alloc(), path));
-    };
-    let mut folders = Vec::with_capacity(rt.alloc(), paths.len())?;
-    let mut all = Vec::new(rt.alloc());
-    for path in paths {
-        let folder = folder_of(rt, path, kind, folders.len(), &parts)?;
-        all.extend_from_slice(folder.table.ids())?;
-        folders.push(folder)?;
-    }
-    let table = LooseTable::new(all, kind);
+    let folders = list_folders(rt, paths, kind, which)?;
+    let table = table_of(rt.alloc(), &folders, kind)?;
     Ok(LooseObjects {
         which,
         kind,
@@ -126,6 +134,35 @@ pub(crate) fn list_loose<R: Files + AllocGlobal>(
         table,
         states,
     })
+}
+
+// The loose objects in each of these object directories.
+fn list_folders<R: Files + AllocGlobal>(
+    rt: &R,
+    paths: &[String],
+    kind: Kind,
+    which: LooseIds,
+) -> Result<Vec<LooseFolder>, Error>
+    ensures { IfOk result (λ folders. All (λ folder. folder.table.kind ≡ kind) folders.items) }
+{
+    let parts = list_parts(rt, paths, which)?;
+    let mut folders = Vec::new(rt.alloc());
+    for path in paths {
+        folders.push(folder_of(rt, path, kind, folders.len(), &parts)?)?;
+    }
+    Ok(folders)
+}
+
+// The ids of all loose objects in object directories.
+fn table_of(alloc: Global, folders: &[LooseFolder], kind: Kind) -> Result<LooseTable, AllocError>
+    requires { All (λ folder. folder.table.kind ≡ kind) folders.now }
+    ensures { IfOk result (λ table. table.kind ≡ kind) }
+{
+    let mut ids = Vec::new(alloc);
+    for folder in folders {
+        ids.extend_from_slice(folder.table.ids())?;
+    }
+    Ok(LooseTable::new(ids, kind))
 }
 
 // The states of fan-out directories, if the time before is given, and each later change leaves
@@ -142,8 +179,11 @@ fn settled_states<R: Files + AllocGlobal>(
         return Ok(None);
     };
     let states = fan_out_states(rt, paths, which)?;
-    let are_settled = states.iter().all(|state| state.is_settled(now));
-    Ok(are_settled.then_some(states))
+    if are_settled(&states, now) {
+        Ok(Some(states))
+    } else {
+        Ok(None)
+    }
 }
 
 // The states of the fan-out directories that are asked for, in object directories.
@@ -174,91 +214,83 @@ fn bytes_of(which: LooseIds) -> (u8, u8)
 }
 
 // Lists the fan-out directories in object directories, one first byte after the other. If there are
-// several object directories, in none a fan-out directory may come or go meanwhile; returns `None`
-// if one does, or if one changes each time that it is listed.
+// several object directories, in none a fan-out directory may come or go meanwhile. Fails if one
+// does, or if one changes each time that it is listed.
 fn list_parts<R: Files + AllocGlobal>(
     rt: &R,
     paths: &[String],
     which: LooseIds,
-) -> Result<Option<Vec<Part>>, Error> {
+) -> Result<Vec<Part>, Error> {
     let (first, last) = bytes_of(which);
-    let before = states_of_several(rt, paths)?;
+    let several = if paths.len() > 1 { paths } else { &[] };
+    let before = states_of(rt, several)?;
     let mut parts = Vec::new(rt.alloc());
     for byte in first..=last {
-        let Some(mut more) = parts_with(rt, paths, byte)? else {
-            return Ok(None);
-        };
-        parts.append(&mut more)?;
+        parts.append(&mut parts_with(rt, paths, byte)?)?;
     }
-    let are_unchanged = states_of_several(rt, paths)? == before;
-    Ok(are_unchanged.then_some(parts))
-}
-
-// The states of directories if there are several, or else none.
-fn states_of_several<R: Files + AllocGlobal>(
-    rt: &R,
-    paths: &[String],
-) -> Result<Vec<FileState>, Error>
-    ensures one { length paths.now ≤ 1 → IfOk result (λ states. states.items ≡ []) }
-    ensures several { 1 < length paths.now → IfOk result (λ states. vec_len states
-        ≡ length paths.now) }
-{
-    let mut states = Vec::new(rt.alloc());
-    if paths.len() <= 1 {
-        return Ok(states);
-    }
-    for path in paths {
-        states.push(state_of(rt, path)?)?;
-    }
-    Ok(states)
+    expect_states(rt, several, &before)?;
+    Ok(parts)
 }
 
 // Lists the fan-out directory of a first byte, in each object directory. The names of several were
-// there at one time: else an object that is moved from one into another might be in neither.
-// Returns `None` if one of them changes each time.
+// there at one time: else an object that is moved from one into another might be in neither. Fails
+// if one of them changes each time.
 fn parts_with<R: Files + AllocGlobal>(
     rt: &R,
     paths: &[String],
     byte: u8,
-) -> Result<Option<Vec<Part>>, Error> {
-    if let [path] = paths {
-        let mut parts = Vec::new(rt.alloc());
-        let names = list_names(rt, &fan_out(rt, path, byte)?)?;
-        parts.push(Part { at: 0, byte, names })?;
-        return Ok(Some(parts));
-    }
+) -> Result<Vec<Part>, Error> {
     for _ in 1..MAX_TRIES {
-        if let Some(parts) = parts_if_unchanged(rt, paths, byte)? {
-            return Ok(Some(parts));
+        let listed = parts_if_unchanged(rt, paths, byte);
+        if !matches!(&listed, Err(error) if error.is_change()) {
+            return listed;
         }
     }
     parts_if_unchanged(rt, paths, byte)
 }
 
-// Lists the fan-out directories of a first byte that are there, or returns `None` if one of them
-// has changed since all were there.
+// Lists the fan-out directories of a first byte that are there. Fails if there are several object
+// directories, and one of them has changed since all were there.
 fn parts_if_unchanged<R: Files + AllocGlobal>(
     rt: &R,
     paths: &[String],
     byte: u8,
-) -> Result<Option<Vec<Part>>, Error> {
-    let mut before = Vec::with_capacity(rt.alloc(), paths.len())?;
-    for path in paths {
-        let folder = fan_out(rt, path, byte)?;
-        let state = state_if_there(rt, &folder)?;
-        before.push((folder, state))?;
+) -> Result<Vec<Part>, Error> {
+    let mut parts = parts_there(rt, paths, byte)?;
+    for part in &mut parts {
+        part.list(rt)?;
     }
-    let mut parts = Vec::with_capacity(rt.alloc(), paths.len())?;
-    for (at, (folder, state)) in before.iter().enumerate() {
-        if let Some(state) = state {
-            let names = list_names(rt, folder)?;
-            if state_of(rt, folder)? != *state {
-                return Ok(None);
-            }
-            parts.push(Part { at, byte, names })?;
+    Ok(parts)
+}
+
+// The fan-out directories of a first byte that are there, with their states; in a single object
+// directory, without.
+fn parts_there<R: Files + AllocGlobal>(
+    rt: &R,
+    paths: &[String],
+    byte: u8,
+) -> Result<Vec<Part>, Error> {
+    let is_single = paths.len() == 1;
+    let mut parts = Vec::new(rt.alloc());
+    for (at, path) in paths.iter().enumerate() {
+        let path = fan_out(rt, path, byte)?;
+        let state = if is_single {
+            None
+        } else {
+            state_if_there(rt, &path)?
+        };
+        if is_single || state.is_some() {
+            let names = Vec::new(rt.alloc());
+            parts.push(Part {
+                at,
+                byte,
+                path,
+                state,
+                names,
+            })?;
         }
     }
-    Ok(Some(parts))
+    Ok(parts)
 }
 
 // The path of the fan-out directory of a first byte.
@@ -362,7 +394,7 @@ pub(crate) fn check_loose_file<R: Files + AllocGlobal>(
         return Ok(());
     };
     let is_missing = error.kind() == io::ErrorKind::NotFound;
-    match retried(|| fs::symlink_metadata(rt, path.as_str())) {
+    match what_is_at(rt, &path) {
         // (one that has come back)
         Ok(found) if is_missing && found.is_file() => Ok(()),
         Err(gone) if gone.kind() == io::ErrorKind::NotFound => Ok(()),

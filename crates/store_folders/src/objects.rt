@@ -31,9 +31,5 @@ pub(crate) fn list<R: Files + AllocGlobal>(
 {
     let before = packs.list(rt)?;
     let loose = list_loose(rt, folders, kind, loose, now)?;
-    let after = packs.list(rt)?;
-    after.expect_all(rt.alloc(), &before)?;
-    let after = after.with_packs(rt)?;
-    packs.expect_unchanged(rt)?;
-    Ok((after, loose))
+    Ok((packs.list_again(rt, &before)?, loose))
 }

@@ -1,20 +1,20 @@
 //! The pack indexes in object directories.
 
-ghost use Rattle.std.specs.Prelude.{◌≡◌, ◌⊎◌, All, IfOk, IsNone, OnOk, length, true, vec_len};
+ghost use Rattle.std.specs.Prelude.{◌≡◌, ◌⊎◌, All, IfOk, IsNone, None, OnOk, false, length, true, vec_len};
 ghost use Rattle.pack_index.specs.declared.lazy_error.LazyError.TheVariants as errors;
 ghost use Rattle.store_folders.specs.Stores.{HasPack, IsListed, IsOfIndex, of_repository};
 
 use crate::error::Error;
-use crate::listing::{list_names, state_of};
+use crate::listing::{are_settled, expect_states, list_names, states_of, what_is_at};
 use crate::source::Source;
 use gix_hash::Kind;
 use pack_index::{LazyError, LazyFile};
-use repositories::{FileState, join, metadata, retried};
+use repositories::{FileState, join, metadata};
 use std::alloc::{AllocError, Global};
 use std::fs::File;
 use std::rt::Files;
 use std::time::SystemTime;
-use std::{fs, io, mem, str};
+use std::{io, mem, str};
 
 // How many pack indexes are kept open. The others are opened again to be read, so that a store of
 // any number of packs is read with few open files.
@@ -24,31 +24,25 @@ const MAX_OPEN: usize = 64;
 // listed.
 #[derive(Drop)]
 pub(crate) struct PackFolders {
-    folders: Vec<PackFolder>,
-}
-
-// A directory of packs, which may be missing, and its state.
-#[derive(Drop)]
-struct PackFolder {
-    path: String,
-    state: FileState,
+    paths: Vec<String>,
+    states: Vec<FileState>,
+    ghost as_many: { vec_len states ≡ vec_len paths },
 }
 
 impl PackFolders {
-    // Those in object directories, as they are now.
+    // Those in object directories, as they are now. One may be missing.
     pub(crate) fn of<R: Files + AllocGlobal>(
         rt: &R,
         objects: &[String],
     ) -> Result<PackFolders, Error>
-        ensures { IfOk result (λ packs. vec_len packs.folders ≡ length objects.now) }
+        ensures { IfOk result (λ packs. vec_len packs.paths ≡ length objects.now) }
     {
-        let mut folders = Vec::with_capacity(rt.alloc(), objects.len())?;
+        let mut paths = Vec::new(rt.alloc());
         for folder in objects {
-            let path = join(rt, folder, "pack")?;
-            let state = state_of(rt, &path)?;
-            folders.push(PackFolder { path, state })?;
+            paths.push(join(rt, folder, "pack")?)?;
         }
-        Ok(PackFolders { folders })
+        let states = states_of(rt, &paths)?;
+        Ok(PackFolders { paths, states })
     }
 
     // The pack indexes in them, with or without packs.
@@ -61,27 +55,42 @@ impl PackFolders {
             skipped: Vec::new(rt.alloc()),
             are_all: true,
         };
-        for folder in &self.folders {
-            push_indexes(rt, &folder.path, &mut indexes)?;
+        for folder in &self.paths {
+            push_indexes(rt, folder, &mut indexes)?;
         }
         Ok(indexes)
     }
 
-    // Whether each later change of one of them leaves another state.
-    pub(crate) fn are_settled(&self, now: SystemTime) -> bool {
-        self.folders
-            .iter()
-            .all(|folder| folder.state.is_settled(now))
+    // The pack indexes in them whose packs are there. Fails if one of an earlier list is gone, or a
+    // directory has changed.
+    pub(crate) fn list_again<R: Files + AllocGlobal>(
+        &self,
+        rt: &R,
+        earlier: &PackIndexes,
+    ) -> Result<PackIndexes, Error>
+        ensures { IfOk result (λ listed. listed.are_all ≡ true
+            → All (IsListed listed.paths.items) earlier.now.paths.items) }
+    {
+        let listed = self.list(rt)?;
+        listed.expect_all(rt.alloc(), earlier)?;
+        let listed = listed.with_packs(rt)?;
+        self.expect_unchanged(rt)?;
+        Ok(listed)
+    }
+
+    // Whether each later change of one of them leaves another state, if the time before is given.
+    pub(crate) fn are_settled(&self, now: Option<SystemTime>) -> bool
+        ensures { now ≡ None → result ≡ false }
+    {
+        match now {
+            Some(now) => are_settled(&self.states, now),
+            None => false,
+        }
     }
 
     // Fails if one of them has changed.
     pub(crate) fn expect_unchanged<R: Files + AllocGlobal>(&self, rt: &R) -> Result<(), Error> {
-        for folder in &self.folders {
-            if state_of(rt, &folder.path)? != folder.state {
-                return Err(Error::changed(rt.alloc(), &folder.path));
-            }
-        }
-        Ok(())
+        expect_states(rt, &self.paths, &self.states)
     }
 }
 
@@ -195,7 +204,7 @@ fn has_pack<R: Files + AllocGlobal>(rt: &R, paths: &PackPaths) -> Result<bool, E
         Err(error) if error.kind() == io::ErrorKind::NotFound => {}
         Err(error) => Err(repositories::Error::file(rt.alloc(), &paths.pack, error))?,
     }
-    match retried(|| fs::symlink_metadata(rt, paths.index.as_str())) {
+    match what_is_at(rt, &paths.index) {
         Ok(_) => Ok(false),
         Err(error) => Err(Error::index(rt.alloc(), &paths.index, LazyError::Read(error))),
     }
@@ -283,7 +292,7 @@ fn not_opened<R: Files + AllocGlobal>(rt: &R, path: &str, error: io::Error) -> E
         ⊎ IsOfIndex path.now (errors.Read error) result }
 {
     let is_missing = error.kind() == io::ErrorKind::NotFound;
-    match retried(|| fs::symlink_metadata(rt, path)) {
+    match what_is_at(rt, path) {
         Ok(found) if !is_missing || !found.is_file() => {
             Error::from(repositories::Error::file(rt.alloc(), path, error))
         }

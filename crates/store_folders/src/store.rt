@@ -1,23 +1,23 @@
 //! An object store in directories.
 
-ghost use Rattle.std.specs.Prelude.{◌≡◌, ◌≤◌, ◌<◌, All, IfErr, IfOk, IsOk, OnOk, [], flat_map, length, map, slice_index_or, string_bytes, true, vec_len};
+ghost use Rattle.std.specs.Prelude.{◌≡◌, ◌<◌, ◌++◌, All, IfErr, IfOk, IsOk, OnOk, [], false, flat_map, length, map, slice_index_or, string_bytes, true, vec_len};
 ghost use Rattle.gix_hash.specs.Words.{hex_len_of};
-ghost use Rattle.store_folders.specs.Stores.{index_path, of_repository, pack_path_of};
+ghost use Rattle.store_folders.specs.Stores.{IsChanged, index_path, of_repository, pack_path_of};
 
 use crate::error::Error;
 use crate::loose::{LooseIds, LooseObjects, check_loose_file, list_loose, push_path, take_loose};
 use crate::objects::list;
-use crate::packs::{OpenIndexes, PackFolders, PackPaths, open_indexes};
+use crate::packs::{OpenIndexes, PackFolders, PackIndexes, PackPaths, open_indexes};
 use crate::source::Source;
 use gix_hash::{Kind, ObjectId, Prefix};
 use object_store::{LooseTable, Reopen, Store, StorePaths};
 use pack_index::LazyFile;
 use repositories::{Folders, ObjectsFolder, with_alternates};
-use std::alloc::AllocError;
+use std::alloc::{AllocError, Global};
 use std::fs::File;
+use std::mem;
 use std::rt::Files;
 use std::time::SystemTime;
-use std::{io, mem};
 
 // How often a store that changes while it is read is read.
 const MAX_TRIES: usize = 100;
@@ -53,6 +53,43 @@ pub struct FolderStore<R: Files<File = File>> {
     ghost of_kind: { All (λ index. index.kind ≡ folder.kind) indexes.items },
     ghost loose_of_kind: { loose.kind ≡ folder.kind },
     ghost before_of_kind: { All (λ loose. loose.kind ≡ folder.kind) loose_before.items },
+}
+
+// What was found in the directories of a store.
+#[derive(Drop)]
+struct Found {
+    folders: Folders,
+    pack_folders: PackFolders,
+    indexes: PackIndexes,
+    loose: LooseObjects,
+}
+
+impl Found {
+    // Lists what is in an object directory and its alternates.
+    fn of<R: Files + AllocGlobal>(
+        rt: &R,
+        folder: &ObjectsFolder,
+        loose: LooseIds,
+        now: Option<SystemTime>,
+    ) -> Result<Found, Error>
+        ensures kind { IfOk result (λ found. found.loose.kind ≡ folder.now.kind) }
+        ensures listed { IfOk result (λ found. found.loose.which ≡ loose) }
+    {
+        let folders = with_alternates(rt, folder)?;
+        let pack_folders = PackFolders::of(rt, &folders.paths)?;
+        let (indexes, loose) = list(rt, &pack_folders, &folders.paths, folder.kind, loose, now)?;
+        // An alternate that came later may have got objects that the directory had, and had no more
+        // as it was listed.
+        if !folders.are_unchanged(rt, folder)? {
+            return Err(Error::changed(rt.alloc(), &folder.path));
+        }
+        Ok(Found {
+            folders,
+            pack_folders,
+            indexes,
+            loose,
+        })
+    }
 }
 
 impl<R: Files<File = File> + AllocGlobal + Clone + Drop> FolderStore<R> {
@@ -108,37 +145,44 @@ impl<R: Files<File = File> + AllocGlobal + Clone + Drop> FolderStore<R> {
         ensures kind { IfOk result (λ store. store.folder.kind ≡ folder.now.kind) }
         ensures listed { IfOk result (λ store. store.loose.which ≡ loose) }
     {
-        let mut folders = with_alternates(rt, folder)?;
-        let pack_folders = PackFolders::of(rt, &folders.paths)?;
-        let (listed, loose) = list(rt, &pack_folders, &folders.paths, folder.kind, loose, now)?;
-        // An alternate that came later may have got objects that the directory had, and had no more
-        // as it was listed.
-        if !folders.are_unchanged(rt, folder)? {
-            return Err(Error::changed(rt.alloc(), &folder.path));
-        }
-        let OpenIndexes {
-            paths: packs,
-            indexes,
-            skipped: mut damaged,
-        } = open_indexes(rt, &listed.paths, folder.kind)?;
-        let mut skipped = skipped_alternates(rt, &mut folders)?;
-        let mut unnamed = listed.skipped;
-        skipped.append(&mut unnamed)?;
-        skipped.append(&mut damaged)?;
+        let folder = copy_of(folder)?;
+        let found = Found::of(rt, &folder, loose, now)?;
+        let opened = open_indexes(rt, &found.indexes.paths, folder.kind)?;
+        Ok(FolderStore::new(rt.clone()?, folder, found, opened, now)?)
+    }
+
+    // The store of what was found, and was opened of it.
+    fn new(
+        rt: R,
+        folder: ObjectsFolder,
+        found: Found,
+        opened: OpenIndexes<R>,
+        now: Option<SystemTime>,
+    ) -> Result<FolderStore<R>, AllocError>
+        requires loose { found.loose.kind ≡ folder.kind }
+        requires indexes { All (λ index. index.kind ≡ folder.kind) opened.indexes.items }
+        ensures kind { IfOk result (λ store. store.folder.kind ≡ folder.kind) }
+        ensures loose { IfOk result (λ store. store.loose ≡ found.loose) }
+    {
+        let alloc = rt.alloc();
+        let mut folders = found.folders;
+        let listed = found.indexes;
+        let alternates = mem::replace(&mut folders.skipped, Vec::new(alloc));
+        let skipped = all_skipped(alloc, alternates, listed.skipped, opened.skipped)?;
         let is_whole = listed.are_all && skipped.is_empty();
         Ok(FolderStore {
-            rt: rt.clone()?,
-            folder: copy_of(folder)?,
-            is_settled: is_whole && now.is_some_and(|now| pack_folders.are_settled(now)),
+            rt,
+            folder,
+            is_settled: is_whole && found.pack_folders.are_settled(now),
             folders,
-            pack_folders,
+            pack_folders: found.pack_folders,
             skipped,
-            skipped_before: Vec::new(rt.alloc()),
+            skipped_before: Vec::new(alloc),
             failed: None,
-            packs,
-            indexes,
-            loose,
-            loose_before: Vec::new(rt.alloc()),
+            packs: opened.paths,
+            indexes: opened.indexes,
+            loose: found.loose,
+            loose_before: Vec::new(alloc),
         })
     }
 
@@ -202,7 +246,9 @@ impl<R: Files<File = File> + AllocGlobal + Clone + Drop> FolderStore<R> {
     // Fails if the alternates, a list of them or a directory of packs have changed since they were
     // read, or if that is not known.
     fn expect_unchanged(&self) -> Result<(), Error>
-        ensures { OnOk result (self.now.is_settled ≡ true) }
+        ensures settled { OnOk result (self.now.is_settled ≡ true) }
+        ensures unsettled { self.now.is_settled ≡ false → IfErr result
+            (IsChanged (string_bytes self.now.folder.path)) }
     {
         if self.is_settled && self.folders.are_unchanged(&self.rt, &self.folder)? {
             self.pack_folders.expect_unchanged(&self.rt)
@@ -294,7 +340,7 @@ impl<R: Files<File = File> + AllocGlobal + Clone + Drop> FolderStore<R> {
     {
         let mut store = FolderStore::open(&self.rt, &self.folder, self.loose.which)?;
         self.skipped_before.append(&mut self.skipped)?;
-        store.skipped_before.append(&mut self.skipped_before)?;
+        mem::swap(&mut store.skipped_before, &mut self.skipped_before);
         *self = store;
         Ok(())
     }
@@ -311,16 +357,21 @@ fn copy_of(folder: &ObjectsFolder) -> Result<ObjectsFolder, AllocError>
     })
 }
 
-// Takes from directories why alternates are skipped.
-fn skipped_alternates(
-    rt: &impl AllocGlobal,
-    folders: &mut Folders,
+// Why alternates and pack indexes are skipped, in this order.
+fn all_skipped(
+    alloc: Global,
+    alternates: Vec<repositories::Error>,
+    mut unnamed: Vec<Error>,
+    mut damaged: Vec<Error>,
 ) -> Result<Vec<Error>, AllocError>
-    ensures { IfOk result (λ taken. taken.items ≡ map of_repository folders.old.skipped.items) }
+    ensures { IfOk result (λ all. all.items
+        ≡ map of_repository alternates.items ++ unnamed.items ++ damaged.items) }
 {
-    let skipped = mem::replace(&mut folders.skipped, Vec::new(rt.alloc()));
-    let skipped = skipped.into_iter();
-    skipped.map(|error| Error::from(error)).collect(rt.alloc())
+    let alternates = alternates.into_iter();
+    let mut all: Vec<Error> = alternates.map(|error| Error::from(error)).collect(alloc)?;
+    all.append(&mut unnamed)?;
+    all.append(&mut damaged)?;
+    Ok(all)
 }
 
 /// What files contain is not known.

@@ -1,5 +1,5 @@
 use Rattle.std.proofs.Common.{◌≡◌, vec_len}
-use Rattle.store_folders.proofs.loose.states_of_several.Given as goal
+use Rattle.store_folders.proofs.listing.states_of.Given as goal
 
 abbrev pub invariant-loop-path : goal.invariant-loop-path
 invariant-loop-path g l = vec_len l.states ≡ l.path-index

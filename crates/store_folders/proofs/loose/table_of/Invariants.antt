@@ -1,0 +1,6 @@
+use Rattle.std.proofs.Common.{All, ◌≡◌}
+use Rattle.gix_hash.specs.Words.{id_kind}
+use Rattle.store_folders.proofs.loose.table_of.Given as goal
+
+abbrev pub invariant-loop-folder : goal.invariant-loop-folder
+invariant-loop-folder l = All (λ id. id_kind id ≡ l.kind) l.ids.items
