@@ -68,7 +68,7 @@ test:
 
 bench: $(PROGRAMS)
 	$(APART) tools/bench
-	$(APART) tools/instructions --calls
+	$(APART) tools/instructions $(foreach name,$(PROGRAMS),crates/$(name)/out/$(name))
 
 docs:
 	tools/promises

@@ -187,10 +187,10 @@ def room_with(crates, sources):
         yield room
 
 
-def compiled(room, verb="try"):
+def compiled(room):
     """Compiles the program with all crates below it, and proves nothing. Returns the status, the output, and its
-    errors, each with its file and line. The verb `run` also proves and runs it."""
-    output, _, status = ran("rt", verb, cwd=room / "crates" / PROGRAM, stderr=STDOUT)
+    errors, each with its file and line."""
+    output, _, status = ran("rt", "try", cwd=room / "crates" / PROGRAM, stderr=STDOUT)
     return status, output, [(file, int(line), name) for file, line, name in ERROR.findall(output)]
 
 
