@@ -6,10 +6,12 @@ import os
 import re
 import shutil
 import signal
+import struct
 import subprocess
 import sys
 import tempfile
 import threading
+from concurrent.futures import ThreadPoolExecutor
 from pathlib import Path
 from subprocess import STDOUT
 
@@ -73,19 +75,32 @@ def difference(got, wanted):
     return "; ".join(differ) or None
 
 
+def outcome(result):
+    """The line of a result, and whether it passed. A result is a text and whether it passed, or a function that tries it and returns
+    what is wrong, if anything."""
+    text, holds = result
+    if callable(holds):
+        try:
+            wrong = holds()
+        except (OSError, ValueError, LookupError, struct.error, subprocess.SubprocessError) as why:
+            wrong = f"{type(why).__name__}: {why}"
+        text, holds = f"{text}: {wrong or 'as wanted'}", not wrong
+    return text, holds
+
+
+def at_once(results):
+    """The outcomes of results, in their order. As many are tried at once as there are processors."""
+    with ThreadPoolExecutor(os.cpu_count()) as pool:
+        yield from pool.map(outcome, results)
+
+
 def count(results):
-    """Prints a line for each result, and then their counts. A result is a text and whether it passed, or a function that tries it and
-    returns what is wrong, if anything. Returns the status, 1 if any failed or none passed."""
+    """Prints the line of each result, and then their counts. Returns the status, 1 if any failed or none passed."""
     passed = failed = 0
     for text, holds in results:
         if ONLY not in text:
             continue
-        if callable(holds):
-            try:
-                wrong = holds()
-            except (OSError, ValueError, subprocess.SubprocessError) as why:
-                wrong = str(why)
-            text, holds = f"{text}: {wrong or 'as wanted'}", not wrong
+        text, holds = outcome((text, holds))
         print(text, flush=True)
         passed += bool(holds)
         failed += not holds
@@ -97,6 +112,8 @@ def count(results):
 def started(words, limit=LIMIT, **options):
     """A command that runs in the environment CLEAN, or in that of the options. It and all that it started are killed
     after so many seconds, or six times as many, and end when the block is left."""
+    if STOPPED.is_set():
+        raise OSError("stopped")
     with subprocess.Popen(words, **{"env": CLEAN, "stdout": subprocess.PIPE, "start_new_session": True, **options}) as child:
         # (where the kernel shares processors by sessions, of which the command is one, nice(1) alone says nothing)
         with contextlib.suppress(OSError):
@@ -116,8 +133,6 @@ def started(words, limit=LIMIT, **options):
 def ran(*words, cwd=None, env=None, given=b"", limits=(), seconds=LIMIT, stderr=subprocess.PIPE):
     """What a command prints, its errors, or with STDOUT none, since they are in what it prints, and its status; with these limits of
     prlimit(1). Bytes that are not UTF-8 are as Python has them in paths."""
-    if STOPPED.is_set():
-        raise OSError("stopped")
     words = ["prlimit", *limits, *words] if limits else words
     options = {"cwd": cwd, "env": CLEAN | (env or {}), "stdin": subprocess.PIPE, "stderr": stderr}
     with started(words, seconds, **options) as child:
