@@ -21,8 +21,9 @@ LETTERS = str.maketrans("0123456789abcdef", "zyxwvutsrqponmlk")
 HEAD = b"ref: refs/heads/main\n"
 SHA256 = b"[core]\nrepositoryformatversion = 1\n[extensions]\n\tobjectformat = sha256\n"
 CONFIGS = {"sha1": b"[core]\n", "sha256": SHA256}
-# How many blobs a store has in its packs, if nobody says it; and the first offset in a pack index of ids.
-PACKED, FIRST = 3000, 3072
+# How many blobs a store has in its packs, if nobody says it; the first offset in a pack index of ids; and how often a store is packed
+# again while it is read.
+PACKED, FIRST, ROUNDS = 3000, 3072, 4
 
 
 def write(path, content=b""):
@@ -152,6 +153,17 @@ def make_blobs(folder, kind, packs=2, packed=PACKED, loose=200, seed=0):
     add_blobs(folder, [f"{seed} loose {number}" for number in range(loose)])
 
 
+def some_prefixes(ids, size, least):
+    """That many random prefixes, of ids and of none, some in capitals: of at least so many digits, and most of few."""
+    rng = random.Random(size + least)
+    for _ in range(size):
+        id = rng.choice(ids)
+        prefix = id[: rng.randint(least, rng.choice((least + 1, 8, len(id))))]
+        if rng.random() < 0.3:
+            prefix = prefix[:-1] + rng.choice("0123456789abcdef")
+        yield prefix.upper() if rng.random() < 0.1 else prefix
+
+
 def beginning_with(ids, prefix):
     """The sorted ids that begin with a prefix."""
     return ids[bisect.bisect_left(ids, prefix.lower()) : bisect.bisect_left(ids, f"{prefix.lower()}g")]
@@ -206,6 +218,13 @@ def unpack(live, room):
             if not target.exists():
                 os.link(path, target)
     remove(packs)
+
+
+def move(live, back):
+    """Packs a store, which goes back to what it was, again and again."""
+    for _ in range(ROUNDS):
+        git(live, "repack", "-adq")
+        back()
 
 
 def remove(packs):

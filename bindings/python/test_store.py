@@ -1,6 +1,6 @@
 """Compares gix_hash.Store with Git, over stores that live, beside threads, signals, forks and processes that end.
 
-It runs in this repository, by what tools/stores compares packtool with Git. The variable PACKTOOL is the path of the program.
+It runs in this repository, by what tools/gitstore.py says of stores. The variable PACKTOOL is the path of the program.
 """
 
 import contextlib
@@ -10,7 +10,6 @@ import pathlib
 import pickle
 import random
 import re
-import runpy
 import shutil
 import signal
 import subprocess
@@ -27,14 +26,13 @@ TOOLS = pathlib.Path(__file__).resolve().parents[2] / "tools"
 os.environ.setdefault("GIX_HASH_LIB", str(TOOLS.parent / "out" / "libgix_hash.so"))
 os.environ.setdefault("PACKTOOL", str(TOOLS.parent / "crates" / "packtool" / "out" / "packtool"))
 sys.path.insert(0, str(TOOLS))
-from gitstore import add_blobs, beginning_with, keep, listed, make_blobs, places, shortest, unpack  # noqa: E402
+from gitstore import add_blobs, beginning_with, keep, listed, make_blobs, move, places, shortest, some_prefixes, unpack  # noqa: E402
 from probe import git  # noqa: E402
 
 from gix_hash import (  # noqa: E402
     Ambiguous, Code, Error, Id, Kind, Location, Missing, Prefix, SkippedWarning, Store, StoreError,
 )  # fmt: skip
 
-OF_GIT = runpy.run_path(str(TOOLS / "stores"))
 KINDS = {"sha1": Kind.SHA1, "sha256": Kind.SHA256}
 # How often a store is asked by each thread, and within how many seconds what is begun in a test has to end.
 QUESTIONS, LIMIT = 1000, 60
@@ -116,7 +114,7 @@ class Stores(unittest.TestCase):
             self.assertEqual([(name, str(id)) for name, id in store.names(least)], wanted)
             for name, id in rng.sample(wanted, min(size, len(ids))):
                 self.assertEqual(store.abbreviate(Id(id), least), name)
-        prefixes = [*OF_GIT["some_prefixes"](ids, 20 * size, 2)]
+        prefixes = [*some_prefixes(ids, 20 * size, 2)]
         given = [rng.choice((str, Prefix))(prefix) for prefix in prefixes] + [Id(id) for id in rng.sample(ids, size)]
         found = {prefix: beginning_with(ids, str(prefix)) for prefix in given}
         many = [(prefix, [str(id) for id in ids]) for prefix, ids in store.find_many(iter(given))]
@@ -170,7 +168,7 @@ class Stores(unittest.TestCase):
         names = [(name, Id(id)) for name, id in (line.split() for line in shortest([str(id) for id in ids]).splitlines())]
         store, asked = self.opened(live), 0
         with ThreadPoolExecutor(1) as pool:
-            moved = pool.submit(OF_GIT["move"], live, lambda: unpack(live, self.room))
+            moved = pool.submit(move, live, lambda: unpack(live, self.room))
             while not moved.done() or asked < 50:
                 id = ids[asked * 7919 % len(ids)]
                 self.assertEqual((store.find(str(id)[:12]), store.resolve(id), id in store), ([id], id, True))
