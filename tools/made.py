@@ -1,4 +1,4 @@
-"""Pack indexes that are changed or cut, and what packtool says of them."""
+"""Pack indexes that are changed, and what packtool says of them."""
 
 from gitstore import plain_index
 
@@ -25,18 +25,6 @@ BROKEN = [
     # The last byte of the pack's digest, and the last of all.
     (1639, 0, "the checksum of the pack index is wrong"),
     (1659, 0, "the checksum of the pack index is wrong"),
-    # Others whose errors have another number: the highest byte of the version, the count of byte 254, the first byte of the
-    # last name, and the highest of the last offset.
-    (4, 1, "pack indexes of version 16777218 are not read"),
-    (1027, 22, "the fan-out entry of the first byte fe is wrong"),
-    (1432, 0, "the id at position 20 is below the one before it"),
-    (1616, 128, "the object at position 20 has no offset"),
-]
-# The lengths to which it is cut: one byte less than any index has, one less than one of version 2, and one less than it has.
-CUT = [
-    (1063, "the bytes are too few for a pack index"),
-    (1071, "the tables of the pack index do not fill its bytes"),
-    (1659, "the tables of the pack index do not fill its bytes"),
 ]
 # Bytes of longs.idx, whose 4 names have long offsets but the second, as many as there may be. The checksum is made right.
 RESEALED = [
@@ -55,21 +43,10 @@ RESEALED = [
     (1152, 128, "the offset of the object at position 2 is 2^63 or more"),
     (1152, 127, ""),
 ]
-# Bytes of sha256.idx, by position and value, and what `check` says of the changed index on standard input: as of a file, the
-# length says the kind.
-CHECKED = [
-    # The count of byte 0, which is above the next then.
-    (11, 21, "the fan-out entry of the first byte 00 is wrong"),
-    # The first byte of the second name, and the last of all.
-    (1064, 0, "the id at position 1 is below the one before it"),
-    (1935, 0, "the checksum of the pack index is wrong"),
-]
 # Whole files that are read as what they are not, or are no index of version 2 that Git's reader takes: one has as many long
 # offsets as names.
 OTHERS = [
-    ("sha1.idx", "sha256", "the ids of the pack index are of the kind sha1"),
     ("sha256.idx", "sha1", "the ids of the pack index are of the kind sha256"),
-    ("version-1.idx", "sha1", "pack indexes of version 1 are not read"),
     ("version-1-none.idx", "sha1", "pack indexes of version 1 are not read"),
     ("all-long.idx", "sha1", "the tables of the pack index do not fill its bytes"),
     ("none.idx", "sha1", ""),
