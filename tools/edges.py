@@ -4,11 +4,11 @@ in which a file may be missing, texts that are longer than a buffer, and an inpu
 A group of `CASES` yields cases: the name, what packtool must print, its errors and status, its words, and how it is run, as by
 `ran` of probe.py, and maybe the words `around` it. A group of `TALKS` yields the names of its comparisons, each with what is wrong, if anything."""
 
+import contextlib
 import fcntl
 import itertools
 import os
 import random
-import select
 import subprocess
 from pathlib import Path
 
@@ -25,7 +25,7 @@ LOCKED = "Permission denied (os error 13)"
 # The errors of a pack index that is cut, and the least length of one.
 TOO_FEW, NOT_FILLED = "the bytes are too few for a pack index", "the tables of the pack index do not fill its bytes"
 LEAST = 1064
-# More lines than are looked up at once, and how long an answer may take, in seconds.
+# More lines than are looked up at once, and how long all answers to an input may take, in seconds.
 MANY_LINES, PATIENCE = 20_000, 60
 # How many bytes a read of standard input takes at most: at first, after one that got as many, and then.
 READS = [1 << 14, 1 << 16, 1 << 18]
@@ -562,34 +562,22 @@ def environments(room):
         yield finds(f"--objects with {env}", ids[:1], "--objects", "../own/objects", cwd=room / "third", env=env)
 
 
-class Talk:
-    """A coprocess, whose input is a pipe that holds much, and which must answer in time."""
-
-    def __init__(self, child):
-        self.child = child
-        fcntl.fcntl(child.stdin, SET_PIPE_SIZE, PIPE_SIZE)
-
-    def ask(self, given, wanted):
-        """Writes bytes, and returns what is wrong with the answer, of which not a byte is missing or too much, if anything."""
-        self.child.stdin.write(given)
-        got = b""
-        while len(got) < len(wanted) and select.select([self.child.stdout], [], [], PATIENCE)[0]:
-            if not (part := os.read(self.child.stdout.fileno(), 1 << 20)):
-                break
-            got += part
-        return None if got == wanted else f"{len(got)} bytes of {len(wanted)}, as {got[-60:]!r}"
-
-    def end(self, status):
-        """Ends it, and returns what is wrong with its status, if anything."""
-        self.child.stdin.close()
-        got = self.child.wait()
-        return None if got == status else f"status {got} in place of {status}"
-
-
+@contextlib.contextmanager
 def talk(program, room, *words):
-    """Starts packtool as a coprocess over the object directory `objects`."""
+    """A packtool over the object directory `objects`, whose input is a pipe that holds much, and which is killed if it waits too long."""
     pipes = {"stdin": subprocess.PIPE, "stderr": subprocess.DEVNULL, "bufsize": 0}
-    return started([program, *words, "--stdin", "--objects", "objects"], PATIENCE * 2, cwd=room, **pipes)
+    with started([program, *words, "--stdin", "--objects", "objects"], PATIENCE, cwd=room, **pipes) as child:
+        fcntl.fcntl(child.stdin, SET_PIPE_SIZE, PIPE_SIZE)
+        yield child
+
+
+def ask(child, given, wanted):
+    """Writes bytes, and returns what is wrong with the answer, of which not a byte is missing or too much, if anything."""
+    child.stdin.write(given)
+    got = b""
+    while len(got) < len(wanted) and (part := os.read(child.stdout.fileno(), 1 << 20)):
+        got += part
+    return None if got == wanted else f"{len(got)} bytes of {len(wanted)}, as {got[-60:]!r}"
 
 
 def answer_to(line, id):
@@ -604,12 +592,12 @@ def exchanges(program, room):
     add_repository(room, loose=[made.LOOSE])
     for size in (1, 2, 3, 4, 5, 9, 41):
         with talk(program, room, "find") as child:
-            asked, wrong = Talk(child), None
+            wrong = None
             for total in [*READS, READS[-1], READS[0] - 1, READS[0] + 1]:
                 lines = [made.LOOSE[: size - 1]] * (total // size)
                 lines[-1] += "0" * (total % size)
                 given = "".join(f"{line}\n" for line in lines).encode()
-                wrong = wrong or asked.ask(given, "".join(answer_to(line, made.LOOSE) for line in lines).encode())
+                wrong = wrong or ask(child, given, "".join(answer_to(line, made.LOOSE) for line in lines).encode())
         yield f"find --stdin of whole reads of lines of {size} bytes", wrong
 
 
@@ -618,14 +606,15 @@ def statuses(program, room):
     add_repository(room, loose=[made.LOOSE])
     for order in (order for size in (1, 2, 3) for order in itertools.permutations(range(3), size)):
         with talk(program, room, "find") as child:
-            asked, wrong = Talk(child), None
+            wrong = None
             for status in order:
                 paths = [room / "objects" / "pack" / name for name in ("x.pack", "x.idx")]
                 for path in paths:
                     write(path) if status == 2 else path.unlink(missing_ok=True)
                 line, answer = ("4bff", made.LOOSE) if status != 1 else ("4b00", "missing")
-                wrong = wrong or asked.ask(f"{line}\n".encode(), f"{line} {answer}\n".encode())
-            wrong = wrong or asked.end(max(order))
+                wrong = wrong or ask(child, f"{line}\n".encode(), f"{line} {answer}\n".encode())
+            child.stdin.close()
+            wrong = wrong or (f"status {child.returncode}" if child.wait() != max(order) else None)
         yield f"find --stdin of chunks of the statuses {order}", wrong
 
 
