@@ -89,6 +89,20 @@ class Texts(dict):
         passed_on = self[f"{parent}.Lib"].modules if f"{parent}.Lib" in self else {}
         return self.get(module) or self.get(passed_on.get(last))
 
+    def below(self, roots):
+        """The roots, pairs of a text and a name, with all that they cite in turn, and what passes that on."""
+        seen, left = set(roots), list(roots)
+        while left:
+            text, name = left.pop()
+            for cited in text.cites(name):
+                passing, last = self.found(*cited)
+                seen.update(passing)
+                it = last and (last[0], last[0].types.get(last[1], last[1]))
+                if it and it[1] in it[0].parts and it not in seen:
+                    seen.add(it)
+                    left.append(it)
+        return seen
+
     def found(self, module, name):
         """The texts that pass a name of a module on, one from the other, and the last one, which may define it."""
         passing = []
