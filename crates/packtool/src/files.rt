@@ -38,7 +38,7 @@ const PROMISOR_END: &str = ".promisor";
 
 const CHAIN_END: &str = "-chain";
 
-// The directory of a chain of indexes, which Git keeps beside the packs.
+// The directory of a chain of indexes, which Git keeps among the packs.
 const CHAIN_FOLDER: &str = "multi-pack-index.d";
 
 /// Prints the lines of a pack index, and returns whether there is one. With no kind, its length
@@ -90,14 +90,14 @@ enum Verdict {
     Ends(Ending),
     // Why it is no right pack index.
     Faulty(pack_index::Error),
-    // It is a right pack index, with no pack beside it.
+    // It is a right pack index, and there is no pack of its name.
     Alone,
-    // It is one, and whether it belongs to the pack beside it.
+    // It is one, and whether it belongs to the pack of its name.
     Paired(Pairing),
 }
 
 /// Prints whether a file is right, and returns it: whether a pack index is one and belongs to the
-/// pack beside it, or another file ends with its digest. A file that Git writes with no digest is
+/// pack of its name, or another file ends with its digest. A file that Git writes with no digest is
 /// skipped, and right. If the output failed, nothing is printed.
 ///
 /// With no kind it is right in either, and a pack index in the one that its length says; a file
@@ -221,7 +221,7 @@ fn verdict_of_file<'a>(
     verdict_of_index(rt, path, &bytes, kind)
 }
 
-// What is said of the bytes of a pack index, and of the pack beside it, if there is one.
+// What is said of the bytes of a pack index, and of the pack of its name, if there is one.
 fn verdict_of_index<'a>(
     rt: &HostRuntime,
     path: &str,
@@ -316,7 +316,7 @@ fn ending_of<'a, R: io::Read>(
     }
 }
 
-// The pack beside a pack index, or `None` if there is none, or the file is not named as an index.
+// The pack of a pack index, or `None` if there is none, or the file is not named as an index.
 fn pack_beside<'a>(rt: &HostRuntime, path: &str) -> Result<Option<(String, File)>, Failure<'a>> {
     let Some(pack_path) = pack_path_of(rt.alloc(), path)? else {
         return Ok(None);
@@ -328,7 +328,7 @@ fn pack_beside<'a>(rt: &HostRuntime, path: &str) -> Result<Option<(String, File)
     }
 }
 
-// The path of the pack beside a pack index, or `None` if the file is not named as an index.
+// The path of the pack of a pack index, or `None` if the file is not named as an index.
 fn pack_path_of(alloc: Global, path: &str) -> Result<Option<String>, AllocError>
     ensures { IfOk result (λ pack. MatchOption pack
         ((stem : List ℕ) → path.now ≢ stem ++ INDEX_END.now)
