@@ -7,11 +7,11 @@ use Rattle.packtool.specs.declared.arguments.Question.{Question}
 use Rattle.packtool.specs.declared.arguments.Question.TheVariants.{Find, Locate, Names}
 
 -- the least number of digits of abbreviations, if they are asked for
-abbrev pub least_of : {P : Type 0} → Question P → Option ℕ
-least_of (Find given) = None
-least_of (Locate given) = None
+abbrev pub least_of : Question → Option ℕ
+least_of Find = None
+least_of Locate = None
 least_of (Names least) = Some least
 
 -- abbreviations of the least number of digits are no longer than ids of a kind
-abbrev pub LeastFits : {P : Type 0} → Kind → Question P → Type 0
+abbrev pub LeastFits : Kind → Question → Type 0
 LeastFits kind question = ForSome (least_of question) (λ least. (4 ≤ least) × (least ≤ hex_len_of kind))

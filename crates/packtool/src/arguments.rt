@@ -22,6 +22,8 @@ pub enum Request<'m, 'a> {
 #[derive(Clone, Copy)]
 pub struct StoreRequest<'a> {
     /// What is asked of the store.
+    pub question: Question,
+    /// Of what it is asked.
     pub ask: Ask<'a>,
     /// The object directory, or `None` for the one that Git would find.
     pub objects: Option<&'a str>,
@@ -29,26 +31,26 @@ pub struct StoreRequest<'a> {
     pub kind: Option<Kind>,
 }
 
-/// What is asked of a store.
+/// A question to a store.
 #[derive(Clone, Copy)]
-pub enum Ask<'a> {
-    /// One question, with the text of its prefix.
-    Once(Question<&'a str>),
-    /// A question of which the only id is wanted, and the text of its prefix.
-    One(Question<Answers>, &'a str),
-    /// A question for each line of standard input, and what is printed for each.
-    Lines(Question<Answers>),
-}
-
-/// A question to a store, with what `find` and `where` are given.
-#[derive(Clone, Copy)]
-pub enum Question<P> {
+pub enum Question {
     /// `find`: which ids begin with a prefix.
-    Find(P),
+    Find,
     /// `where`: in which packs and loose files these ids are.
-    Locate(P),
+    Locate,
     /// `names`: which abbreviations of this many digits or more ids have.
     Names(usize),
+}
+
+/// Of what a question is asked.
+#[derive(Clone, Copy)]
+pub enum Ask<'a> {
+    /// Of a prefix, which is this text; `names` of all ids.
+    Once(&'a str),
+    /// Of a prefix, which is this text, and the only id is wanted.
+    One(&'a str),
+    /// Of each line of standard input, and what is printed for each.
+    Lines(Answers),
 }
 
 /// A request to read files.
@@ -177,7 +179,11 @@ id with --one, or a file is wrong, and 2 for an error, which is printed on stand
 
 /// The program's words: what `--help` prints and what is read.
 pub fn command<'a>(alloc: Global) -> Result<Command<'a>, AllocError> {
-    let mut program = Command::new(alloc, "packtool")
+    let mut commands = Vec::new(alloc);
+    for row in &COMMANDS {
+        commands.push(subcommand(alloc, row)?)?;
+    }
+    Command::new(alloc, "packtool")
         .before_help(ORIGIN)
         .about("Looks ids up in a Git object store, and reads pack indexes.")
         .version(VERSION)
@@ -185,71 +191,74 @@ pub fn command<'a>(alloc: Global) -> Result<Command<'a>, AllocError> {
         .no_binary_name(true)
         .bin_name("packtool")?
         .subcommand_required(true)
-        .after_help(AFTER);
-    for row in &COMMANDS {
-        program = program.subcommand(subcommand(alloc, row)?)?;
-    }
-    Ok(program)
+        .after_help(AFTER)
+        .subcommands(commands)
 }
 
 // A command of the program.
 fn subcommand<'a>(alloc: Global, row: &Row) -> Result<Command<'a>, AllocError> {
-    let mut command = Command::new(alloc, row.name)
+    let mut arguments = Vec::new(alloc);
+    for argument in row.arguments {
+        arguments.push(arg_of(alloc, *argument)?)?;
+    }
+    Command::new(alloc, row.name)
         .display_name("packtool")?
         .override_usage(row.usage)
         .about(row.about)
-        .after_help(AFTER);
-    for argument in row.arguments {
-        command = command.arg(arg_of(alloc, *argument)?)?;
-    }
-    Ok(command)
+        .after_help(AFTER)
+        .args(arguments)
 }
 
 // An argument of a command.
 fn arg_of<'a>(alloc: Global, argument: Argument) -> Result<Arg<'a>, AllocError> {
-    Ok(match argument {
+    let arg = match argument {
         Argument::Prefix => Arg::new(alloc, "prefix")
             .value_name("PREFIX")
-            .help("2 hex digits or more")
             .required_unless_present("stdin")?
             .conflicts_with("stdin")?,
-        Argument::Lines => Arg::new(alloc, "stdin")
-            .long("stdin")
-            .help("Reads a prefix from each line of standard input")
-            .action(ArgAction::SetTrue),
-        Argument::One => Arg::new(alloc, "one")
-            .long("one")
-            .help("Prints only the one id of a prefix, or its locations")
-            .action(ArgAction::SetTrue),
-        Argument::Indexes => files(alloc)
-            .value_name("INDEX")
-            .help("A pack index of version 2; - is standard input"),
-        Argument::Files => files(alloc).value_name("FILE").help(
-            "A pack, pack index, multi-pack-index or commit-graph; - is standard input",
-        ),
-        Argument::Least => Arg::new(alloc, "least")
-            .long("least")
-            .value_name("N")
-            .help("The fewest digits of an abbreviation")
+        Argument::Lines => flag(alloc, "stdin"),
+        Argument::One => flag(alloc, "one"),
+        Argument::Indexes => files(alloc, "INDEX"),
+        Argument::Files => files(alloc, "FILE"),
+        Argument::Least => option(alloc, "least", "N")
             .value_parser(value_parser!(u8).range(4..=64))
             .default_value("4"),
-        Argument::Objects => Arg::new(alloc, "objects")
-            .long("objects")
-            .value_name("DIR")
-            .help(
-                "The object directory [default: the repository's, by $GIT_OBJECT_DIRECTORY, $GIT_DIR or from here upwards]",
-            ),
-        Argument::Kind => Arg::new(alloc, "kind")
-            .long("kind")
-            .value_name("KIND")
-            .help("The kind of ids [default: what the repository or the file has]")
-            .value_parser(["sha1", "sha256"].as_slice()),
-    })
+        Argument::Objects => option(alloc, "objects", "DIR"),
+        Argument::Kind => option(alloc, "kind", "KIND").value_parser(["sha1", "sha256"].as_slice()),
+    };
+    Ok(arg.help(help_of(argument)))
+}
+
+// What the help says of an argument.
+fn help_of(argument: Argument) -> &'static str {
+    match argument {
+        Argument::Prefix => "2 hex digits or more",
+        Argument::Lines => "Reads a prefix from each line of standard input",
+        Argument::One => "Prints only the one id of a prefix, or its locations",
+        Argument::Indexes => "A pack index of version 2; - is standard input",
+        Argument::Files =>
+            "A pack, pack index, multi-pack-index or commit-graph; - is standard input",
+        Argument::Least => "The fewest digits of an abbreviation",
+        Argument::Objects =>
+            "The object directory [default: the repository's, by $GIT_OBJECT_DIRECTORY, $GIT_DIR or from here upwards]",
+        Argument::Kind => "The kind of ids [default: what the repository or the file has]",
+    }
+}
+
+// An option without a value.
+fn flag<'a>(alloc: Global, name: &'a str) -> Arg<'a> {
+    Arg::new(alloc, name).long(name).action(ArgAction::SetTrue)
+}
+
+// An option with a value.
+fn option<'a>(alloc: Global, name: &'a str, value: &'a str) -> Arg<'a> {
+    Arg::new(alloc, name).long(name).value_name(value)
 }
 
 // The paths of files, one or more.
-fn files<'a>(alloc: Global) -> Arg<'a> {
+fn files<'a>(alloc: Global, value: &'a str) -> Arg<'a> {
     Arg::new(alloc, "files")
+        .value_name(value)
         .required(true)
         .action(ArgAction::Append)
         .num_args(1..)
@@ -262,7 +271,8 @@ pub fn read_request<'m, 'a>(matches: &'m ArgMatches<'a>) -> Option<Request<'m, '
     let kind = kind_of(matches);
     match row.action {
         Action::Store(command) => Some(Request::Store(StoreRequest {
-            ask: ask_of(command, matches),
+            question: question_of(command, matches),
+            ask: ask_of(matches),
             objects: matches.get_str("objects"),
             kind,
         })),
@@ -274,24 +284,25 @@ pub fn read_request<'m, 'a>(matches: &'m ArgMatches<'a>) -> Option<Request<'m, '
     }
 }
 
-// What a command asks of a store.
-fn ask_of<'a>(command: StoreCommand, matches: &ArgMatches<'a>) -> Ask<'a> {
-    let least = usize::from(matches.get_one::<u8>("least").unwrap_or(4));
-    let prefix = matches.get_str("prefix").unwrap_or("");
-    match (matches.get_flag("stdin"), matches.get_flag("one")) {
-        (false, false) => Ask::Once(question_of(command, prefix, least)),
-        (false, true) => Ask::One(question_of(command, Answers::One, least), prefix),
-        (true, false) => Ask::Lines(question_of(command, Answers::All, least)),
-        (true, true) => Ask::Lines(question_of(command, Answers::One, least)),
+// The question of a command.
+fn question_of(command: StoreCommand, matches: &ArgMatches<'_>) -> Question {
+    match command {
+        StoreCommand::Find => Question::Find,
+        StoreCommand::Locate => Question::Locate,
+        StoreCommand::Names => {
+            Question::Names(usize::from(matches.get_one::<u8>("least").unwrap_or(4)))
+        }
     }
 }
 
-// The question of a command.
-fn question_of<P: Copy>(command: StoreCommand, given: P, least: usize) -> Question<P> {
-    match command {
-        StoreCommand::Find => Question::Find(given),
-        StoreCommand::Locate => Question::Locate(given),
-        StoreCommand::Names => Question::Names(least),
+// Of what it is asked.
+fn ask_of<'a>(matches: &ArgMatches<'a>) -> Ask<'a> {
+    let prefix = matches.get_str("prefix").unwrap_or("");
+    match (matches.get_flag("stdin"), matches.get_flag("one")) {
+        (false, false) => Ask::Once(prefix),
+        (false, true) => Ask::One(prefix),
+        (true, false) => Ask::Lines(Answers::All),
+        (true, true) => Ask::Lines(Answers::One),
     }
 }
 

@@ -9,21 +9,21 @@ ghost use Rattle.streams.specs.Devices.{plain_error};
 use object_store::Error as LookUpError;
 use pack_index::LazyError;
 use std::alloc::AllocError;
-use std::io;
+use std::{fmt, io};
 use streams::Plain;
 use thiserror::Error as ThisError;
 
 /// Why a command stops.
-#[derive(Debug, Drop, ThisError)]
+#[derive(Drop, ThisError)]
 pub enum Failure<'a> {
     /// The repository or its object directory is not found, or cannot be read.
-    #[error("{0}")]
+    #[error(transparent)]
     Repository(repositories::Error),
     /// The store cannot be opened.
-    #[error("{0}")]
+    #[error(transparent)]
     Store(store_folders::Error),
     /// A look-up in the store fails.
-    #[error("{0}")]
+    #[error(transparent)]
     LookUp(LookUpError),
     /// This file cannot be read, or is not what it should be.
     #[error("{path}: {why}")]
@@ -77,6 +77,13 @@ pub enum Failure<'a> {
     Memory,
 }
 
+// As each error has to have a debug text.
+impl fmt::Debug for Failure<'_> {
+    fn fmt<W: fmt::Write>(&self, f: &mut fmt::Formatter<W>) -> fmt::Result {
+        fmt::Display::fmt(self, f)
+    }
+}
+
 impl Failure<'_> {
     /// That standard output, which is this, cannot be written.
     pub fn of_output<W>(out: &Plain<W>) -> Self
@@ -90,7 +97,7 @@ impl Failure<'_> {
 #[derive(Debug, Drop, ThisError)]
 pub enum FileWhy {
     /// It cannot be read.
-    #[error("{0}")]
+    #[error(transparent)]
     Read(#[from] io::Error),
     /// Its name is not UTF-8, which paths are.
     #[error("the name is not UTF-8")]
@@ -99,7 +106,7 @@ pub enum FileWhy {
     #[error("not a regular file")]
     NotRegular,
     /// It is no pack index.
-    #[error("{0}")]
+    #[error(transparent)]
     Index(pack_index::Error),
     /// It has 2^61 bytes or more.
     #[error("too long")]

@@ -21,10 +21,10 @@ mod words;
 use arguments::{FileCommand, FileRequest, Request};
 use failure::Failure;
 use gix_hash::Kind;
-use output::{buffered, flushed, report};
+use output::{buffered, report};
 use std::io::{self, ErrorKind};
 use std::process::ExitCode;
-use streams::Plain;
+use streams::{BufferedSink, Plain};
 use words::lossy_text;
 
 // The statuses, a worse one above a better.
@@ -38,20 +38,23 @@ const FAILED: u8 = 2;
 const USAGE_MARK: &str = "error: ";
 
 fn main(rt: HostRuntime) -> ExitCode {
-    match words::read_words(&rt) {
-        Ok(words) => end(&rt, run_words(&rt, &words)),
-        Err(error) => end(&rt, Err(Failure::from(error))),
-    }
+    let words = words::read_words(&rt);
+    let outcome = match &words {
+        Ok(words) => run_words(&rt, words),
+        Err(_) => Err(Failure::Memory),
+    };
+    ExitCode::from(status_of(&rt, &outcome))
 }
 
-// Prints the failure, if it is one, but for that of a pipe that was closed, and returns the status.
-fn end(rt: &HostRuntime, outcome: Result<u8, Failure<'_>>) -> ExitCode {
+// The status of the program, after the failure was printed, if it is one, but for that of a pipe
+// that was closed.
+fn status_of(rt: &HostRuntime, outcome: &Result<u8, Failure<'_>>) -> u8 {
     match outcome {
-        Ok(status) => ExitCode::from(status),
-        Err(Failure::Output(error)) if is_closed_pipe(&error) => ExitCode::from(FOUND),
+        Ok(status) => *status,
+        Err(Failure::Output(error)) if is_closed_pipe(error) => FOUND,
         Err(failure) => {
-            report(rt, &failure, "");
-            ExitCode::from(FAILED)
+            report(rt, failure, "");
+            FAILED
         }
     }
 }
@@ -119,9 +122,11 @@ fn read_files<'a>(rt: &HostRuntime, request: &FileRequest<'_, '_>) -> Result<u8,
     for path in request.paths {
         status = status.max(read_file(rt, request.command, path, request.kind, &mut out)?);
     }
-    match (flushed(status, &mut out), request.command) {
-        (Err(Failure::Output(error)), FileCommand::Check) if is_closed_pipe(&error) => Ok(status),
-        (flushed, _) => flushed,
+    let _ = out.flush();
+    match (out.error(), request.command) {
+        (Some(error), FileCommand::Check) if is_closed_pipe(&error) => Ok(status),
+        (Some(error), _) => Err(Failure::Output(error)),
+        (None, _) => Ok(status),
     }
 }
 

@@ -1,10 +1,11 @@
 //! Standard output, through a buffer.
 
-ghost use Rattle.std.specs.Prelude.{◌≡◌, false, IfOk};
+ghost use Rattle.std.specs.Prelude.{◌≡◌, Ok, false, IfOk};
 ghost use Rattle.streams.specs.Devices.{plain_failed};
 
 use crate::failure::Failure;
 use packtool_commands::write_named;
+use std::alloc::AllocError;
 use std::fmt::Display;
 use std::io::{self, BufWriter};
 use streams::{BufferedSink, Plain, Retrying};
@@ -19,11 +20,7 @@ pub fn report(rt: &HostRuntime, error: &impl Display, after: &str) {
 }
 
 // Writes that line, unless memory runs out.
-fn write_report<'a>(
-    rt: &HostRuntime,
-    error: &impl Display,
-    after: &str,
-) -> Result<(), Failure<'a>> {
+fn write_report(rt: &HostRuntime, error: &impl Display, after: &str) -> Result<(), AllocError> {
     let line = format!(in rt.alloc(); "packtool: {error}{after}")?;
     let mut out = buffered(rt, rt.stderr())?;
     let _ = write_named(&line, b"\n", &mut out);
@@ -32,25 +29,26 @@ fn write_report<'a>(
 }
 
 /// A buffer before a writer, whose calls are tried again if they are interrupted.
-pub fn buffered<'a, W: io::Write + Drop>(
+pub fn buffered<W: io::Write + Drop>(
     rt: &HostRuntime,
     inner: W,
-) -> Result<Plain<BufWriter<Retrying<W>>>, Failure<'a>>
+) -> Result<Plain<BufWriter<Retrying<W>>>, AllocError>
     ensures { IfOk result (λ out. plain_failed out ≡ false) }
 {
     match BufWriter::new(rt.alloc(), Retrying::new(inner)) {
         Ok(writer) => Ok(Plain::new(writer)),
-        Err(_) => Err(Failure::Memory),
+        Err(_) => Err(AllocError),
     }
 }
 
-/// Writes what is left of the output, and returns the status.
+/// The status of a command that ran, after what is left of its output was written.
 pub fn flushed<'a, W: io::Write + Drop>(
-    status: u8,
+    ran: Result<u8, Failure<'a>>,
     out: &mut Plain<BufWriter<W>>,
 ) -> Result<u8, Failure<'a>>
-    ensures { IfOk result (λ returned. (returned ≡ status) × (plain_failed out.new ≡ false)) }
+    ensures { IfOk result (λ status. (ran.entry ≡ Ok status) × (plain_failed out.new ≡ false)) }
 {
+    let status = ran?;
     let _ = out.flush();
     match out.error() {
         None => Ok(status),

@@ -40,78 +40,26 @@ const AMBIGUOUS: &str = " ambiguous";
 /// worst status of theirs.
 pub fn answer<'a>(rt: &HostRuntime, request: &StoreRequest<'a>) -> Result<u8, Failure<'a>> {
     let folder = objects_folder(rt, request)?;
+    let mut asked = Asked {
+        rt,
+        question: in_kind(request.question, folder.kind)?,
+        folder: &folder,
+        kept: None,
+        reported: Vec::new(rt.alloc()),
+    };
     match request.ask {
-        Ask::Once(question) => answer_once(rt, &folder, question),
-        Ask::One(question, text) => answer_one(rt, &folder, question, text),
-        Ask::Lines(question) => answer_input(rt, &folder, question),
+        Ask::Once(text) => asked.answer_once(text),
+        Ask::One(text) => asked.answer_one(text),
+        Ask::Lines(answers) => asked.answer_input(answers),
     }
-}
-
-// Prints what is found for a prefix, or all names.
-fn answer_once<'a>(
-    rt: &HostRuntime,
-    folder: &ObjectsFolder,
-    question: Question<&'a str>,
-) -> Result<u8, Failure<'a>> {
-    let mut asked = Asked::of(rt, folder, question)?;
-    let mut out = buffered(rt, rt.stdout())?;
-    let status = match asked.question {
-        Question::Find(text) | Question::Locate(text) => asked.write_for_prefix(text, &mut out)?,
-        Question::Names(least) => asked.write_all_names(least, &mut out)?,
-    };
-    flushed(status, &mut out)
-}
-
-// Prints what is found for a prefix of exactly one id, as for a line of standard input. That
-// there is none, or that there are more, is reported.
-fn answer_one<'a>(
-    rt: &HostRuntime,
-    folder: &ObjectsFolder,
-    question: Question<Answers>,
-    text: &'a str,
-) -> Result<u8, Failure<'a>> {
-    let mut asked = Asked::of(rt, folder, question)?;
-    read_prefix(text, asked.folder.kind)?;
-    let mut answer = Plain::new(Vec::new(rt.alloc()));
-    let status = match asked.write_for_lines(text.as_bytes(), &mut answer) {
-        Err(Failure::Output(_)) => return Err(Failure::Memory),
-        status => status?,
-    };
-    let answer = answer.into_inner();
-    if let Some(mark) = mark_of(answer.trim_ascii_end()) {
-        report(rt, &text, mark);
-        return Ok(status);
-    }
-    let mut out = buffered(rt, rt.stdout())?;
-    let _ = write_all(&mut out, &answer);
-    flushed(status, &mut out)
-}
-
-// Looks the lines of standard input up. A chunk of them is looked up in the store as it is
-// after they were read, and its output is written before more is read.
-fn answer_input<'a>(
-    rt: &HostRuntime,
-    folder: &ObjectsFolder,
-    question: Question<Answers>,
-) -> Result<u8, Failure<'a>> {
-    let mut asked = Asked::of(rt, folder, question)?;
-    let mut input = LineReader::new(rt.alloc(), Retrying::new(rt.reader()))?;
-    let mut status = FOUND;
-    for _ in 0..u64::MAX {
-        if !input.next()? {
-            break;
-        }
-        status = status.max(asked.answer_lines(input.lines())?);
-    }
-    Ok(status)
 }
 
 // What is asked of the store of an object directory.
 #[derive(Drop)]
-struct Asked<'r, P: Copy> {
+struct Asked<'r> {
     rt: &'r HostRuntime,
     folder: &'r ObjectsFolder,
-    question: Question<P>,
+    question: Question,
     // The store in which it was asked last.
     kept: Option<FolderStore<HostRuntime>>,
     // What was reported of what is skipped.
@@ -120,22 +68,148 @@ struct Asked<'r, P: Copy> {
     ghost kept_of_kind: { ForSome kept (λ store. store.folder.kind ≡ folder.now.kind) },
 }
 
-impl<'r, P: Copy> Asked<'r, P> {
-    // A question to the store of an object directory.
-    fn of<'a>(
-        rt: &'r HostRuntime,
-        folder: &'r ObjectsFolder,
-        question: Question<P>,
-    ) -> Result<Asked<'r, P>, Failure<'a>>
-        ensures { IfOk result (λ asked. asked.folder.now.kind ≡ folder.now.kind) }
+impl Asked<'_> {
+    // Prints what is found for a prefix, or all names.
+    fn answer_once<'a>(&mut self, text: &'a str) -> Result<u8, Failure<'a>> {
+        let mut out = buffered(self.rt, self.rt.stdout())?;
+        let status = match self.question {
+            Question::Find | Question::Locate => self.write_for_prefix(text, &mut out)?,
+            Question::Names(least) => self.write_all_names(least, &mut out)?,
+        };
+        flushed(Ok(status), &mut out)
+    }
+
+    // Prints what is found for a prefix of exactly one id, as for a line of standard input. That
+    // there is none, or that there are more, is reported.
+    fn answer_one<'a>(&mut self, text: &'a str) -> Result<u8, Failure<'a>> {
+        read_prefix(text, self.folder.kind)?;
+        let mut answer = Plain::new(Vec::new(self.rt.alloc()));
+        let status = match self.write_for_lines(text.as_bytes(), Answers::One, &mut answer) {
+            Err(Failure::Output(_)) => return Err(Failure::Memory),
+            status => status?,
+        };
+        let answer = answer.into_inner();
+        if let Some(mark) = mark_of(answer.trim_ascii_end()) {
+            report(self.rt, &text, mark);
+            return Ok(status);
+        }
+        let mut out = buffered(self.rt, self.rt.stdout())?;
+        let _ = write_all(&mut out, &answer);
+        flushed(Ok(status), &mut out)
+    }
+
+    // Looks the lines of standard input up. A chunk of them is looked up in the store as it is
+    // after they were read, and its output is written before more is read.
+    fn answer_input<'a>(&mut self, answers: Answers) -> Result<u8, Failure<'a>> {
+        let mut input = LineReader::new(self.rt.alloc(), Retrying::new(self.rt.reader()))?;
+        let mut status = FOUND;
+        for _ in 0..u64::MAX {
+            if !input.next()? {
+                break;
+            }
+            status = status.max(self.answer_lines(input.lines(), answers)?);
+        }
+        Ok(status)
+    }
+
+    // Looks lines up, fewer at a time if they find too much, and returns the worst status. A single
+    // line may find more.
+    fn answer_lines<'a>(&mut self, lines: &[u8], answers: Answers) -> Result<u8, Failure<'a>> {
+        let mut rest = lines;
+        let mut len = lines.len();
+        let mut status = FOUND;
+        for _ in 0..u64::MAX {
+            if rest.is_empty() {
+                break;
+            }
+            let (part, after) = first_lines(rest, len);
+            match self.answer_part(part, answers) {
+                Err(Failure::TooMany) => len = part.len() / 2,
+                ran => {
+                    status = status.max(ran?);
+                    rest = after;
+                }
+            }
+        }
+        Ok(status)
+    }
+
+    // Prints what each of the lines finds.
+    fn answer_part<'a>(&mut self, lines: &[u8], answers: Answers) -> Result<u8, Failure<'a>> {
+        let mut out = buffered(self.rt, self.rt.stdout())?;
+        let ran = self.write_for_lines(lines, answers, &mut out);
+        flushed(ran, &mut out)
+    }
+
+    // Opens the store, and writes the lines of `find` or `where` for a prefix.
+    fn write_for_prefix<'a, W: io::Write>(
+        &mut self,
+        text: &'a str,
+        out: &mut Plain<W>,
+    ) -> Result<u8, Failure<'a>>
+        requires { plain_failed out.old ≡ false }
+        ensures { OnOk result (plain_failed out.new ≡ false) }
     {
-        Ok(Asked {
-            rt,
-            question: in_kind(question, folder.kind)?,
-            folder,
-            kept: None,
-            reported: Vec::new(rt.alloc()),
-        })
+        let prefix = read_prefix(text, self.folder.kind)?;
+        let loose = LooseIds::WithFirstByte(prefix.first_byte());
+        let prefixes = [prefix];
+        let checked = self.checked(&prefixes);
+        let mut store = store_now(self.rt, self.folder, None, loose, checked)?;
+        let ran = match self.question {
+            Question::Locate => locate(self.rt.alloc(), &mut store, &prefix, out),
+            _ => find(self.rt.alloc(), &mut store, &prefix, out),
+        };
+        self.status_of(store, ran, out)
+    }
+
+    // Opens the store, and writes the lines of `names`. Those that were written before the store
+    // was opened again may lack what was skipped then.
+    fn write_all_names<'a, W: io::Write>(
+        &mut self,
+        least: usize,
+        out: &mut Plain<W>,
+    ) -> Result<u8, Failure<'a>>
+        requires enough { 4 ≤ least }
+        requires fits { least ≤ hex_len_of self.old.folder.now.kind }
+        requires output { plain_failed out.old ≡ false }
+        ensures { OnOk result (plain_failed out.new ≡ false) }
+    {
+        let mut store = FolderStore::open(self.rt, self.folder, LooseIds::All)?;
+        let ran = names(self.rt.alloc(), &mut store, least, out);
+        let was_whole = report_skipped(self.rt, store.skipped_before(), &mut self.reported);
+        let status = self.status_of(store, ran, out)?;
+        Ok(if was_whole? { status } else { FAILED })
+    }
+
+    // Writes what each of the lines finds in the store as it is now.
+    fn write_for_lines<'a, W: io::Write>(
+        &mut self,
+        lines: &[u8],
+        answers: Answers,
+        out: &mut Plain<W>,
+    ) -> Result<u8, Failure<'a>>
+        requires { plain_failed out.old ≡ false }
+        ensures { OnOk result (plain_failed out.new ≡ false) }
+    {
+        let alloc = self.rt.alloc();
+        let lines = PrefixLines::read(alloc, self.folder.kind, lines)?;
+        let loose = loose_of(lines.prefixes());
+        let checked = self.checked(lines.prefixes());
+        let mut store = store_now(self.rt, self.folder, self.kept.take(), loose, checked)?;
+        let ran = match self.question {
+            Question::Find => find_each(alloc, &mut store, &lines, answers, MAX_FOUND, out),
+            Question::Locate => locate_each(alloc, &mut store, &lines, answers, MAX_FOUND, out),
+            Question::Names(least) => name_each(alloc, &mut store, &lines, least, MAX_FOUND, out),
+        };
+        self.status_of(store, ran, out)
+    }
+
+    // Those of some prefixes whose loose objects are checked: all for `where`.
+    fn checked<'p>(&self, prefixes: &'p [Prefix]) -> &'p [Prefix] {
+        match self.question {
+            Question::Locate => prefixes,
+            _ => &[],
+        }
     }
 
     // The status of a command that ran over a store, which is kept.
@@ -153,121 +227,16 @@ impl<'r, P: Copy> Asked<'r, P> {
         ensures output { OnOk result (plain_failed out.now ≡ false) }
     {
         let status = match ran {
-            Ok(any) => {
-                let is_whole = report_skipped(self.rt, store.skipped(), &mut self.reported)?;
-                Ok(status_if(is_whole, any))
-            }
+            Ok(any) => match report_skipped(self.rt, store.skipped(), &mut self.reported) {
+                Ok(is_whole) => Ok(status_if(is_whole, any)),
+                Err(error) => Err(Failure::from(error)),
+            },
             Err(StoreError::TooMany) => Err(Failure::TooMany),
             Err(StoreError::Output) => Err(Failure::of_output(out)),
             Err(StoreError::Store(error)) => return Err(failure_of(store, error)),
         };
-        self.kept = Some(store);
+        drop(self.kept.replace(store));
         status
-    }
-}
-
-impl<'a> Asked<'_, &'a str> {
-    // Opens the store, and writes the lines of `find` or `where` for a prefix.
-    fn write_for_prefix<W: io::Write>(
-        &mut self,
-        text: &'a str,
-        out: &mut Plain<W>,
-    ) -> Result<u8, Failure<'a>>
-        requires { plain_failed out.old ≡ false }
-        ensures { OnOk result (plain_failed out.new ≡ false) }
-    {
-        let prefix = read_prefix(text, self.folder.kind)?;
-        let loose = LooseIds::WithFirstByte(prefix.first_byte());
-        let mut store = FolderStore::open(self.rt, self.folder, loose)?;
-        let ran = if let Question::Locate(_) = self.question {
-            store.check_loose_files(&prefix)?;
-            locate(self.rt.alloc(), &mut store, &prefix, out)
-        } else {
-            find(self.rt.alloc(), &mut store, &prefix, out)
-        };
-        self.status_of(store, ran, out)
-    }
-
-    // Opens the store, and writes the lines of `names`. Those that were written before the store
-    // was opened again may lack what was skipped then.
-    fn write_all_names<W: io::Write>(
-        &mut self,
-        least: usize,
-        out: &mut Plain<W>,
-    ) -> Result<u8, Failure<'a>>
-        requires enough { 4 ≤ least }
-        requires fits { least ≤ hex_len_of self.old.folder.now.kind }
-        requires output { plain_failed out.old ≡ false }
-        ensures { OnOk result (plain_failed out.new ≡ false) }
-    {
-        let mut store = FolderStore::open(self.rt, self.folder, LooseIds::All)?;
-        let ran = names(self.rt.alloc(), &mut store, least, out);
-        let was_whole = report_skipped(self.rt, store.skipped_before(), &mut self.reported)?;
-        let status = self.status_of(store, ran, out)?;
-        Ok(if was_whole { status } else { FAILED })
-    }
-}
-
-impl Asked<'_, Answers> {
-    // Looks lines up, fewer at a time if they find too much, and returns the worst status. A single
-    // line may find more.
-    fn answer_lines<'a>(&mut self, lines: &[u8]) -> Result<u8, Failure<'a>> {
-        let mut rest = lines;
-        let mut len = lines.len();
-        let mut status = FOUND;
-        for _ in 0..u64::MAX {
-            if rest.is_empty() {
-                break;
-            }
-            let (part, after) = first_lines(rest, len);
-            match self.answer_part(part) {
-                Err(Failure::TooMany) => len = part.len() / 2,
-                ran => {
-                    status = status.max(ran?);
-                    rest = after;
-                }
-            }
-        }
-        Ok(status)
-    }
-
-    // Prints what each of the lines finds.
-    fn answer_part<'a>(&mut self, lines: &[u8]) -> Result<u8, Failure<'a>> {
-        let mut out = buffered(self.rt, self.rt.stdout())?;
-        let status = self.write_for_lines(lines, &mut out)?;
-        flushed(status, &mut out)
-    }
-
-    // Writes what each of the lines finds in the store as it is now.
-    fn write_for_lines<'a, W: io::Write>(
-        &mut self,
-        lines: &[u8],
-        out: &mut Plain<W>,
-    ) -> Result<u8, Failure<'a>>
-        requires { plain_failed out.old ≡ false }
-        ensures { OnOk result (plain_failed out.new ≡ false) }
-    {
-        let alloc = self.rt.alloc();
-        let lines = PrefixLines::read(alloc, self.folder.kind, lines)?;
-        let mut store = store_now(
-            self.rt,
-            self.folder,
-            self.kept.take(),
-            loose_of(lines.prefixes()),
-        )?;
-        let ran = match self.question {
-            Question::Find(answers) => {
-                find_each(alloc, &mut store, &lines, answers, MAX_FOUND, out)
-            }
-            Question::Locate(answers) => {
-                for prefix in lines.prefixes() {
-                    store.check_loose_files(prefix)?;
-                }
-                locate_each(alloc, &mut store, &lines, answers, MAX_FOUND, out)
-            }
-            Question::Names(least) => name_each(alloc, &mut store, &lines, least, MAX_FOUND, out),
-        };
-        self.status_of(store, ran, out)
     }
 }
 
@@ -317,21 +286,29 @@ fn first_lines(lines: &[u8], len: usize) -> (&[u8], &[u8])
     lines.split_at(end)
 }
 
-// The store as it is now: the one that was kept, if there is one, refreshed.
+// The store as it is now: the one that was kept, if there is one, refreshed. The files of loose
+// objects are checked whose ids begin with one of the prefixes.
 fn store_now<'a>(
     rt: &HostRuntime,
     folder: &ObjectsFolder,
     kept: Option<FolderStore<HostRuntime>>,
     loose: LooseIds,
+    checked: &[Prefix],
 ) -> Result<FolderStore<HostRuntime>, Failure<'a>>
     requires { ForSome kept (λ store. store.folder.kind ≡ folder.now.kind) }
     ensures kind { IfOk result (λ store. store.folder.kind ≡ folder.now.kind) }
     ensures listed { IfOk result (λ store. store.loose.which ≡ loose) }
 {
-    let Some(mut store) = kept else {
-        return Ok(FolderStore::open(rt, folder, loose)?);
+    let store = match kept {
+        Some(mut store) => {
+            store.refresh(loose, SystemTime::now(rt).unwrap_or(UNIX_EPOCH))?;
+            store
+        }
+        None => FolderStore::open(rt, folder, loose)?,
     };
-    store.refresh(loose, SystemTime::now(rt).unwrap_or(UNIX_EPOCH))?;
+    for prefix in checked {
+        store.check_loose_files(prefix)?;
+    }
     Ok(store)
 }
 
@@ -402,7 +379,7 @@ fn objects_folder<'a>(
 
 // A question to a store of this kind of ids, which fails if abbreviations would have more digits
 // than they.
-fn in_kind<'a, P: Copy>(question: Question<P>, kind: Kind) -> Result<Question<P>, Failure<'a>>
+fn in_kind<'a>(question: Question, kind: Kind) -> Result<Question, Failure<'a>>
     ensures { IfOk result (LeastFits kind) }
 {
     let Question::Names(least) = question else {

@@ -3,7 +3,7 @@ use Rattle.gix_hash.specs.Words.{KindDigits, first_byte_of}
 use Rattle.store_folders.specs.Stores.{only_of}
 use Rattle.store_folders.specs.declared.loose.LooseIds.{LooseIds}
 use Rattle.packtool.specs.Requests.{least_of}
-use Rattle.packtool.proofs.stores.Asked+Answers.write_for_lines.Goals as goal
+use Rattle.packtool.proofs.stores.Asked.write_for_lines.Goals as goal
 
 -- what may be asked of a store where these loose objects are listed
 abbrev AreOf : LooseIds → List KindDigits → Type 0
@@ -14,18 +14,18 @@ are_of listed asked prefixes read is same all = subst (AreOf listed) same (subst
 
 pub find_each-ran-requires-clause-listed : goal.find_each-ran-requires-clause-listed
 find_each-ran-requires-clause-listed g c =
-    are_of c.in_ok-store.store.loose.which c.loose_of.result c.in_ok-lines.lines.prefixes.items c.prefixes.result.now c.in_ok-store.ensures.listed
-    c.prefixes.ensures.items c.loose_of.ensures
+    are_of c.in_ok-store.store.loose.which c.loose_of-loose.result c.in_ok-lines.lines.prefixes.items c.prefixes.result.now c.in_ok-store.ensures.listed
+    c.prefixes.ensures.items c.loose_of-loose.ensures
 
 pub locate_each-ran-requires-clause-listed : goal.locate_each-ran-requires-clause-listed
 locate_each-ran-requires-clause-listed g c =
-    are_of c.in_ok-store.store.loose.which c.loose_of.result c.in_ok-lines.lines.prefixes.items c.prefixes.result.now c.in_ok-store.ensures.listed
-    c.prefixes.ensures.items c.loose_of.ensures
+    are_of c.in_ok-store.store.loose.which c.loose_of-loose.result c.in_ok-lines.lines.prefixes.items c.prefixes.result.now c.in_ok-store.ensures.listed
+    c.prefixes.ensures.items c.loose_of-loose.ensures
 
 pub name_each-ran-requires-clause-listed : goal.name_each-ran-requires-clause-listed
 name_each-ran-requires-clause-listed g c =
-    are_of c.in_ok-store.store.loose.which c.loose_of.result c.in_ok-lines.lines.prefixes.items c.prefixes.result.now c.in_ok-store.ensures.listed
-    c.prefixes.ensures.items c.loose_of.ensures
+    are_of c.in_ok-store.store.loose.which c.loose_of-loose.result c.in_ok-lines.lines.prefixes.items c.prefixes.result.now c.in_ok-store.ensures.listed
+    c.prefixes.ensures.items c.loose_of-loose.ensures
 
 pub name_each-ran-requires-clause-enough : goal.name_each-ran-requires-clause-enough
 name_each-ran-requires-clause-enough g c = (c.args.self.now.fits c.in-Names.least (ap least_of c.in-Names.is)).0
