@@ -1,6 +1,7 @@
 //! Why the program stops.
 
-ghost use Rattle.std.specs.Prelude.{◌≡◌, ◌↔◌, IsTrue, Some};
+ghost use Rattle.std.specs.Prelude.{◌≡◌, ◌↔◌, IsTrue, Some, codes, nat_eq, true};
+ghost use Rattle.std.specs.List.{ends_with};
 ghost use Rattle.pack_index.specs.declared.error.Error.{Error as IndexError};
 ghost use Rattle.pack_index.specs.declared.lazy_error.LazyError.{LazyError};
 ghost use Rattle.packtool.specs.declared.failure.Failure.TheVariants as failures;
@@ -114,7 +115,9 @@ pub enum FileWhy {
 }
 
 /// What is printed after the error of a part of a store that is skipped.
-pub fn skipped_mark(error: &store_folders::Error) -> &'static str {
+pub fn skipped_mark(error: &store_folders::Error) -> &'static str
+    ensures { ends_with nat_eq result.now (codes ", skipped") ≡ true }
+{
     match error {
         store_folders::Error::Index(LookUpError::Index { error, .. }) if is_version_1(error) => {
             " (git repack -ad replaces them), skipped"

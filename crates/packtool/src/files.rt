@@ -1,6 +1,8 @@
 //! Commands over files.
 
 ghost use Rattle.std.specs.Prelude.{◌≡◌, ◌≢◌, ◌↔◌, ◌+◌, ◌*◌, ◌≤◌, ◌++◌, ◌∷◌, ◌⊎◌, ℕ, [], List, Some, false, length, true, IfOk, IsTrue, MatchOption, OnOk, string_bytes};
+ghost use Rattle.std.specs.Io.{StartsWith};
+ghost use Rattle.std.specs.Option.{ForSome};
 ghost use Rattle.pack_index.specs.Format.{names_start, num_objects};
 ghost use Rattle.packtool.specs.Verdicts.{IsAt, IsRight};
 ghost use Rattle.packtool.specs.declared.failure.FileWhy.{FileWhy};
@@ -175,7 +177,9 @@ fn read_more<'a, R: io::Read>(
     reader: &mut R,
     most: u64,
     bytes: &mut Vec<u8>,
-) -> Result<(), Failure<'a>> {
+) -> Result<(), Failure<'a>>
+    ensures { StartsWith bytes.new.items bytes.old.items }
+{
     match reader.take(most).read_to_end(bytes) {
         Ok(_) => Ok(()),
         Err(error) if error.kind() == io::ErrorKind::OutOfMemory => Err(Failure::Memory),
@@ -255,7 +259,9 @@ fn has_no_digest(path: &str) -> bool
 }
 
 // Whether this is Git's directory of a chain of indexes.
-fn is_chain_folder(rt: &HostRuntime, path: &str) -> bool {
+fn is_chain_folder(rt: &HostRuntime, path: &str) -> bool
+    ensures { IsTrue result → (stem : List ℕ) × (path.now ≡ stem ++ CHAIN_FOLDER.now) }
+{
     path.ends_with(CHAIN_FOLDER) && metadata(rt, path).is_ok_and(|found| found.is_dir())
 }
 
@@ -317,7 +323,10 @@ fn ending_of<'a, R: io::Read>(
 }
 
 // The pack of a pack index, or `None` if there is none, or the file is not named as an index.
-fn pack_beside<'a>(rt: &HostRuntime, path: &str) -> Result<Option<(String, File)>, Failure<'a>> {
+fn pack_beside<'a>(rt: &HostRuntime, path: &str) -> Result<Option<(String, File)>, Failure<'a>>
+    ensures { IfOk result (λ pack. ForSome pack (λ found. (stem : List ℕ)
+        × (path.now ≡ stem ++ INDEX_END.now) × (string_bytes found.0 ≡ stem ++ PACK_END.now))) }
+{
     let Some(pack_path) = pack_path_of(rt.alloc(), path)? else {
         return Ok(None);
     };

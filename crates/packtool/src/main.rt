@@ -6,9 +6,10 @@
 //! reading for the status.
 #![tactic(auto)]
 
-ghost use Rattle.std.specs.Prelude.{◌≡◌, ◌≢◌, ◌↔◌, ◌++◌, ◌∷◌, ℕ, [], All, IsNone, IsTrue, List, string_bytes};
+ghost use Rattle.std.specs.Prelude.{◌≡◌, ◌≢◌, ◌↔◌, ◌++◌, ◌∷◌, ℕ, [], All, IfErr, IfOk, IsNone, IsTrue, List, string_bytes};
 ghost use Rattle.std.specs.IoError.{error_kind};
 ghost use Rattle.std.specs.declared.io.ErrorKind.{ErrorKind};
+ghost use Rattle.packtool.specs.declared.failure.Failure.{Failure};
 
 mod arguments;
 mod failure;
@@ -48,7 +49,11 @@ fn main(rt: HostRuntime) -> ExitCode {
 
 // The status of the program, after the failure was printed, if it is one, but for that of a pipe
 // that was closed.
-fn status_of(rt: &HostRuntime, outcome: &Result<u8, Failure<'_>>) -> u8 {
+fn status_of(rt: &HostRuntime, outcome: &Result<u8, Failure<'_>>) -> u8
+    ensures given { IfOk outcome.now (λ status. result ≡ status) }
+    ensures failed { IfErr outcome.now (λ failure. result ≢ FAILED → (error : _)
+        × (failure ≡ Failure.Output error) × (error_kind error ≡ ErrorKind.BrokenPipe)) }
+{
     match outcome {
         Ok(status) => *status,
         Err(Failure::Output(error)) if is_closed_pipe(error) => FOUND,

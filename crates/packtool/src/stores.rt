@@ -363,7 +363,9 @@ fn status_if(is_whole: bool, any: bool) -> u8
 fn objects_folder<'a>(
     rt: &HostRuntime,
     request: &StoreRequest<'a>,
-) -> Result<ObjectsFolder, Failure<'a>> {
+) -> Result<ObjectsFolder, Failure<'a>>
+    ensures { IfOk result (λ folder. ForSome request.now.kind (λ kind. folder.kind ≡ kind)) }
+{
     let mut folder = match request.objects {
         Some(path) => {
             expect_text(rt, path)?;
