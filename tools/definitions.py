@@ -65,11 +65,12 @@ class Text:
     def cites(self, name):
         """The names that a definition, or what is beside them, may cite, each after its module."""
         text = FIELD.sub("", "\n".join(self.parts[name]))
+        operators = {name.split("◌")[0]: name for name in self.names if "◌" in name.strip("◌")}
         for path in END.split(text):
             words = path.split(".")
             for at, word in enumerate(words):
-                # (an operator has a place for an argument on each side)
-                yield from (self.names.get(it, (self.module, it)) for it in (word, f"◌{word}◌"))
+                # (an operator has a place for an argument on each side, or after each of its words, as if◌then◌else◌)
+                yield from (self.names.get(it, (self.module, it)) for it in (word, f"◌{word}◌", operators.get(word, word)))
                 yield self.modules.get(".".join(words[:at]), ".".join(words[:at])), word
         for crate, module, lemma in LEMMA.findall(text):
             crate = self.crate if crate == "crate" else crate

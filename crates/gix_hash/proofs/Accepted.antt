@@ -1,6 +1,5 @@
 -- What follows of a hashing writer from many calls of it.
-use Rattle.std.proofs.Common.{◌∙◌, ℕ, List, [], ◌∷◌, ◌++◌, Option, refl, subst, append_assoc, append-nil}
-use Rattle.std.proofs.KnownBytes.{Appends-nil, Appends-trans}
+use Rattle.id_digits.proofs.Std.{◌∙◌, ℕ, List, [], ◌∷◌, ◌++◌, Option, refl, subst, append_assoc, append-nil, Appends-nil, Appends-trans}
 use Rattle.std.proofs.lemmas.List.Concat.{flat_map-cons}
 use Rattle.gix_hash.specs.Hashing.{Reaches, WriterCall, WriterStep, WritesAndFeeds, accepted, accepted_by}
 use Rattle.gix_hash.specs.declared.io.write.Write.{Write}

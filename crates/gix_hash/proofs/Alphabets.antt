@@ -1,6 +1,5 @@
 -- Letters of either alphabet.
-use Rattle.std.proofs.Common.{ℕ, ◌<◌, arith}
-use Rattle.std.proofs.lemmas.Bool.Decides.{nat_tests}
+use Rattle.id_digits.proofs.Std.{ℕ, ◌<◌, arith, nat_tests}
 use Rattle.gix_hash.specs.declared.alphabet.Alphabet.{Alphabet}
 use Rattle.gix_hash.specs.declared.alphabet.Alphabet.TheVariants.{Hex, Reverse}
 use Rattle.gix_hash.specs.Reading.{letter_of}

@@ -1,5 +1,5 @@
 -- How a buffer ends that a text borrows from. Assumes `Logic`.
-use Rattle.std.proofs.Common.{◌≡◌, List, [], ◌∷◌, ℕ, MutBor, refl}
+use Rattle.id_digits.proofs.Std.{◌≡◌, List, [], ◌∷◌, ℕ, MutBor, refl}
 use Rattle.std.specs.Prelude.{⊤}
 use Rattle.gix_hash.specs.Loans.{IsLeftAs}
 use mathlib.Core.Option.{none}

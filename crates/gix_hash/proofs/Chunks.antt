@@ -1,7 +1,5 @@
 -- How the chunks of n bytes follow one another.
-use Rattle.std.proofs.Common.{◌≡◌, ℕ, zero, suc, ◌+◌, ◌-◌, ◌*◌, ◌/◌, ◌%◌, ◌<◌, ◌≤◌, min, [], ◌∷◌, ◌++◌, length, take, replicate, get_or, refl, arith, length-append}
-use Rattle.std.proofs.lemmas.List.{length-replicate, take_more}
-use Rattle.std.proofs.lemmas.Grind.{common_steps}
+use Rattle.id_digits.proofs.Std.{◌≡◌, ℕ, zero, suc, ◌+◌, ◌-◌, ◌*◌, ◌/◌, ◌%◌, ◌<◌, ◌≤◌, min, [], ◌∷◌, ◌++◌, length, take, replicate, get_or, refl, arith, length-append, length-replicate, take_more, common_steps}
 use Rattle.gix_hash.specs.Hashing.{chunks, last_chunk}
 
 length-last_chunk : (r : ℕ) → length (last_chunk r) ≡ min r 1

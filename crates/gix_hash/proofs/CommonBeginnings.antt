@@ -1,8 +1,5 @@
 -- The prefixes that two lists have in common: as long as the digits that they share, and no longer.
-use Rattle.std.proofs.Common.{◌≡◌, ℕ, suc, ◌+◌, ◌≤◌, Bool, true, false, cond, nat_eq, List, [], ◌∷◌, ◌++◌, length, take, drop, refl, sym, ap, ◌∙◌, arith, eqb-true, take-append-drop, length-take-le}
-use Rattle.std.specs.List.{common_prefix_len}
-use Rattle.std.proofs.lemmas.Bool.Decides.{nat_tests}
-use Rattle.std.proofs.lemmas.List.Sums.{common_prefix_len-le}
+use Rattle.id_digits.proofs.Std.{◌≡◌, ℕ, suc, ◌+◌, ◌≤◌, Bool, true, false, cond, nat_eq, List, [], ◌∷◌, ◌++◌, length, take, drop, refl, sym, ap, ◌∙◌, arith, eqb-true, take-append-drop, length-take-le, common_prefix_len, nat_tests, common_prefix_len-le}
 pub use Rattle.id_digits.proofs.DigitOrder.{take_less}
 use Rattle.gix_hash.specs.Prefixes.{BeginsWith, IsCommonLen}
 

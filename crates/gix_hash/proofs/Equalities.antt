@@ -1,10 +1,6 @@
 -- Equality of ids and of prefixes is that of their kinds and digits.
-use Rattle.std.proofs.Common.{◌≡◌, ◌↔◌, ℕ, ◌&&◌, List, refl, sym, ap, ◌∙◌, eqb-true, IsTrue, Contains, nat_eq}
-use Rattle.std.specs.List.{list_any}
-use Rattle.std.proofs.lemmas.List.Folds.{list_any-from_Any}
+use Rattle.id_digits.proofs.Std.{◌≡◌, ◌↔◌, ℕ, ◌&&◌, List, refl, sym, ap, ◌∙◌, eqb-true, IsTrue, Contains, nat_eq, list_any, list_any-from_Any, pointwise, bytes_decides, and_parts, eq-eqb}
 use Rattle.std.proofs.lemmas.Map.Views.{Contains-from_any}
-use Rattle.std.specs.Cmp.Lexicographic.{pointwise, bytes_decides}
-use Rattle.std.proofs.lemmas.Bool.{and_parts, eq-eqb}
 use Rattle.gix_hash.specs.Kinds.{number_of, kind_by_number}
 use Rattle.gix_hash.specs.Ids.{id_digits, id_eq, id_kind, oid_digits, oid_eq}
 use Rattle.gix_hash.specs.Prefixes.{KindDigits, prefix_eq}

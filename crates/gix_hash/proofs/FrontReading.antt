@@ -1,6 +1,5 @@
 -- Reading a text into the front of zeros: whole bytes, and the last of an odd number of letters with the letter 0.
-use Rattle.std.proofs.Common.{◌≡◌, ℕ, suc, ◌*◌, ◌<◌, Bool, true, false, ◌&&◌, List, [], ◌∷◌, ◌++◌, length, take, drop, get_or, slice_set, replicate, refl, sym, ap, ◌∙◌, arith, drop-cons, Option, Some, None, if◌then◌else◌, option_map}
-use Rattle.std.proofs.lemmas.List.{drop_all, take_all, take-append-drop}
+use Rattle.id_digits.proofs.Std.{◌≡◌, ℕ, suc, ◌*◌, ◌<◌, Bool, true, false, ◌&&◌, List, [], ◌∷◌, ◌++◌, length, take, drop, get_or, slice_set, replicate, refl, sym, ap, ◌∙◌, arith, drop-cons, Option, Some, None, if◌then◌else◌, option_map, drop_all, take_all, take-append-drop}
 use Rattle.id_digits.specs.Digits.{digit_below, digit_in, digits_of, digits_read, hex_letter, padded, put_digit}
 use Rattle.id_digits.proofs.Packing.{padded-bytes, padded-half}
 use Rattle.id_digits.proofs.ReadingFacts.{length-digits_read}

@@ -1,7 +1,5 @@
 -- What the crate `hex` decodes is what the definition of reading gives.
-use Rattle.std.proofs.Common.{◌≡◌, ℕ, ◌+◌, ◌*◌, ◌/◌, ◌%◌, ◌<◌, List, [], ◌∷◌, length, refl, sym, arith, Option, Some, None, Result, Ok, Err, if◌then◌else◌, MatchResult, is_ok}
-use Rattle.std.specs.Char.{to_ascii_lowercase}
-use Rattle.std.proofs.lemmas.Bool.Decides.{nat_tests}
+use Rattle.id_digits.proofs.Std.{◌≡◌, ℕ, ◌+◌, ◌*◌, ◌/◌, ◌%◌, ◌<◌, List, [], ◌∷◌, length, refl, sym, arith, Option, Some, None, Result, Ok, Err, if◌then◌else◌, MatchResult, is_ok, to_ascii_lowercase, nat_tests}
 use Rattle.hex.specs.Hex.{hex_digit_value, digit_or_error, decode_pairs, decode_sized, ◌>>=◌}
 use Rattle.hex.proofs.Pairs.{decode_sized-pairs}
 use Rattle.hex.specs.declared.error.FromHexError.{FromHexError}

@@ -1,7 +1,6 @@
 -- The digits that ids and digests have.
-use Rattle.std.proofs.Common.{◌≡◌, ◌↔◌, ℕ, zero, suc, ◌<◌, ◌*◌, ◌+◌, ◌++◌, ◌/◌, ◌%◌, ◌^◌, List, [], ◌∷◌, length, length-append, refl, ap, subst, mod-lt, arith, All, slice_index}
+use Rattle.id_digits.proofs.Std.{◌≡◌, ◌↔◌, ℕ, zero, suc, ◌<◌, ◌*◌, ◌+◌, ◌++◌, ◌/◌, ◌%◌, ◌^◌, List, [], ◌∷◌, length, length-append, refl, ap, subst, mod-lt, arith, All, slice_index, All-nil, All-cons, All-head, All-tail, All-append}
 use Rattle.std.specs.Int.{w32, byte_at, bytes_high_first, to_be_bytes}
-use Rattle.std.proofs.lemmas.List.Elements.{All-nil, All-cons, All-head, All-tail, All-append}
 use Rattle.sha1.specs.Sha1 as sha1
 use Rattle.sha2.specs.Sha256 as sha256
 use Rattle.id_digits.proofs.ByteDigits.{length-digits_of}

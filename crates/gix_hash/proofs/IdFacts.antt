@@ -1,5 +1,5 @@
 -- What the bytes of an id say of its digits.
-use Rattle.std.proofs.Common.{◌≡◌, ℕ, ◌<◌, List, length, sym, ap, ◌∙◌, subst, arith, All}
+use Rattle.id_digits.proofs.Std.{◌≡◌, ℕ, ◌<◌, List, length, sym, ap, ◌∙◌, subst, arith, All}
 use Rattle.gix_hash.specs.Kinds.{hex_len_of, byte_len_of}
 use Rattle.gix_hash.specs.Ids.{id_bytes, id_digits, id_kind, oid_bytes, oid_digits, oid_kind}
 use Rattle.gix_hash.specs.declared.borrowed.oid.{oid}

@@ -1,8 +1,5 @@
 -- The digits that a prefix stores: their number, their range and their order.
-use Rattle.std.proofs.Common.{◌≡◌, ℕ, ◌<◌, ◌≤◌, sym, ap, ◌∙◌, arith, Ordering, All}
-use Rattle.std.specs.Ordering.{nat_cmp, ordering_then}
-use Rattle.std.specs.Cmp.Lexicographic.{slice_cmp}
-use Rattle.std.proofs.lemmas.List.Elements.{All-take}
+use Rattle.id_digits.proofs.Std.{◌≡◌, ℕ, ◌<◌, ◌≤◌, sym, ap, ◌∙◌, arith, Ordering, All, nat_cmp, ordering_then, slice_cmp, All-take}
 use Rattle.gix_hash.specs.Kinds.{hex_len_of}
 use Rattle.gix_hash.specs.Ids.{id_kind, id_bytes, id_digits}
 use Rattle.id_digits.specs.Digits.{padded}

@@ -1,6 +1,5 @@
 -- The lengths of kinds, in digits and in bytes.
-use Rattle.std.proofs.Common.{◌≡◌, ℕ, ◌*◌, refl, arith, IsTrue}
-use Rattle.std.proofs.lemmas.Bool.Decides.{nat_tests}
+use Rattle.id_digits.proofs.Std.{◌≡◌, ℕ, ◌*◌, refl, arith, IsTrue, nat_tests}
 use Rattle.gix_hash.specs.Kinds.{hex_len_of, byte_len_of, kind_of_byte_len}
 use Rattle.id_digits.specs.Digits.{is_digest_len}
 use Rattle.gix_hash.specs.declared.kind.Kind.{Kind}

@@ -2,7 +2,7 @@
 --     lending          the code of `front_text(self, with_digits(self, buffer))`
 --     Fills, Fronts    what it needs of the two functions that it calls
 --     lends            it runs to `post`, if the tokens, what is owned at the end and the `ensures` give `post`
-use Rattle.std.proofs.Common.{◌≡◌, ℕ, ◌≤◌, List, ◌++◌, Bor, MutBor, ap, w8, IsAscii}
+use Rattle.id_digits.proofs.Std.{◌≡◌, ℕ, ◌≤◌, List, ◌++◌, Bor, MutBor, ap, w8, IsAscii}
 use Rattle.gix_hash.specs.Loans.{IsLeftAs}
 use Rattle.gix_hash.proofs.BufferEnds.{ends}
 pub use mir.Syntax.{Ty, Lifetime, Callee, Fn, named, erased, imm, mut, ty_ref, ty_int, local, value_local, place, field, deref, copy, addr_of, aggregate, assign, call, seq, return}

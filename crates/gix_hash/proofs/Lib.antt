@@ -1,3 +1,4 @@
+pub use Rattle.id_digits.proofs.Std
 mod Accepted
 mod Alphabets
 mod BufferEnds

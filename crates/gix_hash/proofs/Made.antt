@@ -1,5 +1,5 @@
 -- What is known of a result after its error was made into another one.
-use Rattle.std.proofs.Common.{◌≡◌, Result, Ok, Err, OnOk, IsErrAnd, MatchResult, is_ok}
+use Rattle.id_digits.proofs.Std.{◌≡◌, Result, Ok, Err, OnOk, IsErrAnd, MatchResult, is_ok}
 
 -- what the Ok said
 pub ok-kept : {T E D P : Type 0} (r : Result T E) (s : Result T D) (x : T) → is_ok s ≡ is_ok r → s ≡ Ok x → OnOk r P → P

@@ -1,7 +1,5 @@
 -- The chunks of n bytes are the only numbers with the sum n of which all but the last are full.
-use Rattle.std.proofs.Common.{◌≡◌, ℕ, zero, suc, ◌+◌, ◌-◌, ◌*◌, ◌/◌, ◌%◌, ◌<◌, ◌≤◌, List, [], ◌∷◌, length, take, refl, ap, arith, ◌⊎◌, inl, inr, eq-or-lt_of_le, sum}
-use Rattle.std.proofs.lemmas.List.Sums.{sum_by-cons}
-use Rattle.std.proofs.lemmas.List.Elements.{All-nil, All-cons, All-head, All-tail}
+use Rattle.id_digits.proofs.Std.{◌≡◌, ℕ, zero, suc, ◌+◌, ◌-◌, ◌*◌, ◌/◌, ◌%◌, ◌<◌, ◌≤◌, List, [], ◌∷◌, length, take, refl, ap, arith, ◌⊎◌, inl, inr, eq-or-lt_of_le, sum, sum_by-cons, All-nil, All-cons, All-head, All-tail}
 use Rattle.gix_hash.specs.Hashing.{chunks, last_chunk, IsChunkLen, AreChunks}
 
 abbrev IsFull : ℕ → Type 0

@@ -1,5 +1,5 @@
 -- The first digits of bytes, copied into zeros.
-use Rattle.std.proofs.Common.{◌≡◌, ℕ, ◌-◌, ◌*◌, ◌≤◌, List, length, take, drop, replicate, slice_range, arith, take-take, take_at, length-take-le}
+use Rattle.id_digits.proofs.Std.{◌≡◌, ℕ, ◌-◌, ◌*◌, ◌≤◌, List, length, take, drop, replicate, slice_range, arith, take-take, take_at, length-take-le}
 use Rattle.id_digits.specs.Digits.{digits_of, padded}
 use Rattle.id_digits.proofs.ByteDigits.{length-digits_of, take-digits_of, drop-digits_of}
 

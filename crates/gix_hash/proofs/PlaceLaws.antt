@@ -1,9 +1,5 @@
 -- Prefixes of ids, and what two prefixes match.
-use Rattle.std.proofs.Common.{◌≡◌, ℕ, ◌≤◌, ◌⊎◌, inl, inr, List, ◌++◌, length, take, drop, refl, sym, ap, ◌∙◌, arith, Equal, nat_eq}
-use Rattle.std.specs.Cmp.Lexicographic.{bytes_decides, pointwise}
-use Rattle.std.proofs.lemmas.Bool.{cases_Bool, cases_lt, false≢true}
-use Rattle.std.proofs.lemmas.Cmp.{tied_itself, nat_list_cmp_total}
-use Rattle.std.proofs.lemmas.List.{take_at, take-append-drop, take-append-le}
+use Rattle.id_digits.proofs.Std.{◌≡◌, ℕ, ◌≤◌, ◌⊎◌, inl, inr, List, ◌++◌, length, take, drop, refl, sym, ap, ◌∙◌, arith, Equal, nat_eq, bytes_decides, pointwise, cases_Bool, cases_lt, false≢true, tied_itself, nat_list_cmp_total, take_at, take-append-drop, take-append-le}
 use Rattle.std.proofs.lemmas.Map.Lookups.{exact_bytes}
 use Rattle.id_digits.specs.Digits.{place}
 use Rattle.gix_hash.specs.Prefixes.{BeginsWith}

@@ -1,7 +1,5 @@
 -- The calls of a progress and of an interruption for one chunk more.
-use Rattle.std.proofs.Common.{◌≡◌, ℕ, ◌+◌, ◌-◌, ◌*◌, ◌<◌, Bool, false, min, List, [], ◌∷◌, ◌++◌, length, refl}
-use Rattle.std.proofs.lemmas.Fn.{FoldsTo-push}
-use Rattle.std.proofs.lemmas.List.{replicate-append-replicate, map-append}
+use Rattle.id_digits.proofs.Std.{◌≡◌, ℕ, ◌+◌, ◌-◌, ◌*◌, ◌<◌, Bool, false, min, List, [], ◌∷◌, ◌++◌, length, refl, FoldsTo-push, replicate-append-replicate, map-append}
 use Rattle.gix_hash.specs.Hashing.{Reaches, ProgressCall, IncBy, heard, all_false}
 use Rattle.gix_hash.proofs.Chunks.{take-chunks}
 

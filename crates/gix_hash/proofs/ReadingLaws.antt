@@ -1,9 +1,5 @@
 -- Which texts the reading calls accept, and why they reject any other.
-use Rattle.std.proofs.Common.{◌≡◌, ◌==◌, ◌↔◌, Option, None, Some, Err, nat_lt, ℕ, ◌<◌, ◌≤◌, ◌⊎◌, inl, inr, Bool, true, false, Ok, List, length, map, refl, sym, ap, ◌∙◌, arith, All, MatchResult, Result}
-use Rattle.std.specs.Char.{to_ascii_lowercase}
-use Rattle.std.proofs.lemmas.Bool.{cases_Bool}
-use Rattle.std.proofs.lemmas.Bool.Decides.{nat_tests}
-use Rattle.std.proofs.lemmas.List.{length-map}
+use Rattle.id_digits.proofs.Std.{◌≡◌, ◌==◌, ◌↔◌, Option, None, Some, Err, nat_lt, ℕ, ◌<◌, ◌≤◌, ◌⊎◌, inl, inr, Bool, true, false, Ok, List, length, map, refl, sym, ap, ◌∙◌, arith, All, MatchResult, Result, to_ascii_lowercase, cases_Bool, nat_tests, length-map}
 use borrow.Author.Tests.{ltb-true}
 use Rattle.gix_hash.specs.Reading.{IsFullReading, IsFullRefusal, IsPrefixReading, IsPrefixRefusal, IsReadingIn, IsRefusalIn, full_read, letter_of, prefix_read, prefix_read_in, reading_of}
 use Rattle.id_digits.specs.Digits.{digits_read, spelling}

@@ -1,12 +1,6 @@
 -- Spellings determine their digits, and the order of spellings.
-use Rattle.std.proofs.Common.{◌≡◌, ◌↔◌, ℕ, ◌<◌, ◌==◌, true, List, [], ◌∷◌, length, map, slice_index, refl, sym, ap, ◌∙◌, arith, eqb-true, Ordering, All, IsTrue, codes}
+use Rattle.id_digits.proofs.Std.{◌≡◌, ◌↔◌, ℕ, ◌<◌, ◌==◌, true, List, [], ◌∷◌, length, map, slice_index, refl, sym, ap, ◌∙◌, arith, eqb-true, Ordering, All, IsTrue, codes, slice_cmp, nat_cmp, ordering_then, ordering_reverse, to_ascii_lowercase, agree_below, agree_below_at, nat_tests, All-nil, All-cons, All-head, All-tail}
 use Rattle.std.specs.Cmp.{tied_itself, nat_cmp_total}
-use Rattle.std.specs.Cmp.Lexicographic.{slice_cmp}
-use Rattle.std.specs.Ordering.{nat_cmp, ordering_then, ordering_reverse}
-use Rattle.std.specs.Char.{to_ascii_lowercase}
-use Rattle.std.proofs.lemmas.Bool.{agree_below, agree_below_at}
-use Rattle.std.proofs.lemmas.Bool.Decides.{nat_tests}
-use Rattle.std.proofs.lemmas.List.Elements.{All-nil, All-cons, All-head, All-tail}
 use Rattle.gix_hash.specs.Reading.{letter_of}
 use Rattle.id_digits.specs.Digits.{hex_letter, reverse_letter, spelling, ReadsAs}
 use Rattle.gix_hash.proofs.Equalities.{id_eq-parts, oid_eq-digits, prefix_eq-parts}

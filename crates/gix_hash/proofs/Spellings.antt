@@ -1,5 +1,5 @@
 -- Spellings of ids.
-use Rattle.std.proofs.Common.{◌++◌, ◌≡◌, ◌<◌, ℕ, ◌*◌, List, length, take, drop, min, subst, sym, ap, ◌∙◌, All, IsAscii, take_at, drop_at}
+use Rattle.id_digits.proofs.Std.{◌++◌, ◌≡◌, ◌<◌, ℕ, ◌*◌, List, length, take, drop, min, subst, sym, ap, ◌∙◌, All, IsAscii, take_at, drop_at}
 use Rattle.id_digits.specs.Digits.{digits_of, spelling, hex_letter}
 use Rattle.gix_hash.specs.Kinds.{hex_len_of}
 use Rattle.gix_hash.specs.Ids.{oid_digits, oid_kind}

@@ -1,8 +1,5 @@
 -- The order of the first digits of two lists, by how many digits these have in common; and that there is none for too many.
-use Rattle.std.proofs.Common.{◌≡◌, ℕ, zero, suc, ◌+◌, ◌*◌, ◌<◌, ◌≤◌, pos, Bool, true, false, ◌||◌, Equal, List, [], ◌∷◌, length, take, nat_lt, refl, sym, ap, ◌∙◌, arith, ◌==◌, if◌then◌else◌, Some, None, length-take-le, take-take}
-use Rattle.std.specs.Ordering.{nat_cmp, ordering_then}
-use Rattle.std.specs.Cmp.Lexicographic.{slice_cmp, texts_ties}
-use Rattle.std.proofs.lemmas.Bool.Decides.{nat_tests}
+use Rattle.gix_hash.proofs.Std.{◌≡◌, ℕ, zero, suc, ◌+◌, ◌*◌, ◌<◌, ◌≤◌, pos, Bool, true, false, ◌||◌, Equal, List, [], ◌∷◌, length, take, nat_lt, refl, sym, ap, ◌∙◌, arith, ◌==◌, if◌then◌else◌, Some, None, length-take-le, take-take, nat_cmp, ordering_then, slice_cmp, texts_ties, nat_tests}
 use Rattle.id_lookup.specs.Words.{Kind, KindDigits, Sha1, Sha256, byte_len_of, digits_of, hex_len_of, place}
 use Rattle.id_digits.proofs.ByteDigits.{length-digits_of, take-digits_of}
 use Rattle.id_lookup.proofs.CommonDigits.{begins-common, common, cond_yes}

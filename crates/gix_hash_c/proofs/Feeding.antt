@@ -1,5 +1,5 @@
 -- What calls do to a hasher that was fed a message.
-use Rattle.std.proofs.Common.{◌≡◌, ◌++◌, ℕ, List, Some, ap}
+use Rattle.gix_hash.proofs.Std.{◌≡◌, ◌++◌, ℕ, List, Some, ap}
 use Rattle.id_lookup.specs.Words.{Kind, Sha1, Sha256}
 use Rattle.gix_hash_c.specs.Face.{kind_of_number}
 use Rattle.gix_hash_c.specs.Hashers.{HoldsMessage, UpdateAnswer}

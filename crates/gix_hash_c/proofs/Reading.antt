@@ -1,6 +1,5 @@
 -- What reading a prefix's text gives in a struct.
-use Rattle.std.proofs.Common.{◌≡◌, ℕ, ◌≤◌, false, nat_lt, Option, Some, None, Ok, List, length, refl, sym, ap, ◌∙◌, arith, ok_or, option_map}
-use Rattle.std.proofs.lemmas.Bool.Decides.{nat_tests}
+use Rattle.gix_hash.proofs.Std.{◌≡◌, ℕ, ◌≤◌, false, nat_lt, Option, Some, None, Ok, List, length, refl, sym, ap, ◌∙◌, arith, ok_or, option_map, nat_tests}
 use Rattle.id_lookup.specs.Words.{KindDigits, Sha256, digits_of, digits_read, hex_len_of, hex_letter, kind_digits, padded, prefix_read}
 use Rattle.gix_hash.specs.declared.prefix.from_hex.Error.TheVariants.{Invalid}
 use Rattle.gix_hash.proofs.ReadingLaws.{some_hex_len}

@@ -1,6 +1,5 @@
 -- Runs of digits, whatever kind the prefix has that they are of.
-use Rattle.std.proofs.Common.{ℕ, ◌≤◌, List, length, map, arith}
-use Rattle.std.proofs.lemmas.List.{length-map}
+use Rattle.gix_hash.proofs.Std.{ℕ, ◌≤◌, List, length, map, arith, length-map}
 use Rattle.id_lookup.specs.Words.{IsRun, IsSortedIds, Kind, KindDigits, digits_of, kind_digits}
 use Rattle.id_lookup.specs.declared.search.Run as found
 use Rattle.gix_hash_c.specs.LookUps.{IsRunIfSorted, run_in}

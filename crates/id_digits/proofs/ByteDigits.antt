@@ -1,5 +1,5 @@
 -- The digits of bytes: their number, the first and the last of them.
-use Rattle.std.proofs.Common.{◌≡◌, ℕ, zero, suc, ◌*◌, ◌/◌, ◌%◌, List, [], ◌∷◌, length, take, drop, get_or, refl, ap, arith}
+use Rattle.id_digits.proofs.Std.{◌≡◌, ℕ, zero, suc, ◌*◌, ◌/◌, ◌%◌, List, [], ◌∷◌, length, take, drop, get_or, refl, ap, arith}
 use Rattle.id_digits.specs.Digits.{digits_of, first_byte_of}
 
 -- bytes have two digits each

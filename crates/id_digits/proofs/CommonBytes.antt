@@ -1,9 +1,5 @@
 -- The digits that two lists of bytes share: two for each byte, and one more if the next bytes share their high half.
-use Rattle.std.proofs.Common.{◌≡◌, ◌≢◌, ℕ, suc, ◌+◌, ◌/◌, ◌%◌, ◌<◌, ◌≤◌, cond, nat_eq, List, [], ◌∷◌, length, get_or, min, drop, refl, ◌∙◌, arith, inl, inr, ◌⊎◌, drop-cons}
-use Rattle.std.specs.List.{common_prefix_len}
-use Rattle.std.proofs.lemmas.Bool.Decides.{nat_tests}
-use Rattle.std.proofs.lemmas.Bool.{cases_lt, cond-false, cond-true, eq-eqb, ne_eqb}
-use Rattle.std.proofs.lemmas.List.{drop_all}
+use Rattle.id_digits.proofs.Std.{◌≡◌, ◌≢◌, ℕ, suc, ◌+◌, ◌/◌, ◌%◌, ◌<◌, ◌≤◌, cond, nat_eq, List, [], ◌∷◌, length, get_or, min, drop, refl, ◌∙◌, arith, inl, inr, ◌⊎◌, drop-cons, common_prefix_len, nat_tests, cases_lt, cond-false, cond-true, eq-eqb, ne_eqb, drop_all}
 use Rattle.id_digits.specs.Digits.{digits_of}
 
 abbrev common : List ℕ → List ℕ → ℕ

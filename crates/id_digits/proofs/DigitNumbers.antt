@@ -1,8 +1,6 @@
 -- The number that digits write: its parts, its size, the bits of a digit in it, and the bytes that make it.
-use Rattle.std.proofs.Common.{◌≡◌, ℕ, zero, suc, ◌+◌, ◌-◌, ◌*◌, ◌/◌, ◌%◌, ◌^◌, ◌<◌, ◌≤◌, List, [], ◌∷◌, ◌++◌, length, take, drop, get_or, replicate, refl, sym, ap, ◌∙◌, arith, All, pow-suc, mul-le-mul_right, add-mul, mul_assoc}
+use Rattle.id_digits.proofs.Std.{◌≡◌, ℕ, zero, suc, ◌+◌, ◌-◌, ◌*◌, ◌/◌, ◌%◌, ◌^◌, ◌<◌, ◌≤◌, List, [], ◌∷◌, ◌++◌, length, take, drop, get_or, replicate, refl, sym, ap, ◌∙◌, arith, All, pow-suc, mul-le-mul_right, add-mul, mul_assoc, drop_all, drop-replicate, length-take, get_or-drop, All-head, All-tail, All-drop}
 use Rattle.std.proofs.lemmas.Nat.{pow-add, div-mul-add, mod-mul-add}
-use Rattle.std.proofs.lemmas.List.{drop_all, drop-replicate, length-take, get_or-drop}
-use Rattle.std.proofs.lemmas.List.Elements.{All-head, All-tail, All-drop}
 use Rattle.id_digits.specs.Digits.{digits_of, word}
 use Rattle.id_digits.proofs.ByteDigits.{length-digits_of}
 

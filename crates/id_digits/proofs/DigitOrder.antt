@@ -1,9 +1,5 @@
 -- Comparing bytes is comparing digits: the laws by which equality and order speak only of digits.
-use Rattle.std.proofs.Common.{◌∙◌, sym, ap, ◌≡◌, ℕ, ◌/◌, ◌%◌, List, [], ◌∷◌, zero, suc, take, Less, Equal, Greater, refl, arith, IsTrue, nat_eq}
-use Rattle.std.proofs.lemmas.Bool.Decides.{nat_tests}
-use Rattle.std.specs.declared.cmp.Ordering.{Ordering}
-use Rattle.std.specs.Ordering.{is_eq, nat_cmp, ordering_then}
-use Rattle.std.specs.Cmp.Lexicographic.{slice_cmp, pointwise, bytes_decides, texts_ties}
+use Rattle.id_digits.proofs.Std.{◌∙◌, sym, ap, ◌≡◌, ℕ, ◌/◌, ◌%◌, List, [], ◌∷◌, zero, suc, take, Less, Equal, Greater, refl, arith, IsTrue, nat_eq, nat_tests, Ordering, is_eq, nat_cmp, ordering_then, slice_cmp, pointwise, bytes_decides, texts_ties}
 use Rattle.id_digits.specs.Digits.{digits_of}
 
 -- a list is below another if its first elements are

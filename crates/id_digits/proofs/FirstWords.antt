@@ -1,9 +1,5 @@
 -- Digests compare as the numbers of their first sixteen digits do, and then as the rest of their bytes.
-use Rattle.std.proofs.Common.{◌≡◌, ℕ, zero, suc, ◌^◌, ◌<◌, ◌≤◌, ◌-◌, List, [], ◌∷◌, length, take, drop, Ordering, Less, Equal, Greater, true, false, refl, sym, ◌∙◌, arith, All, IsTrue, take_all, length-drop}
-use Rattle.std.specs.Ordering.{nat_cmp, ordering_then, is_eq}
-use Rattle.std.specs.Cmp.Lexicographic.{slice_cmp}
-use Rattle.std.proofs.lemmas.Bool.Decides.{nat_tests}
-use Rattle.std.proofs.lemmas.List.Elements.{All-tail}
+use Rattle.id_digits.proofs.Std.{◌≡◌, ℕ, zero, suc, ◌^◌, ◌<◌, ◌≤◌, ◌-◌, List, [], ◌∷◌, length, take, drop, Ordering, Less, Equal, Greater, true, false, refl, sym, ◌∙◌, arith, All, IsTrue, take_all, length-drop, nat_cmp, ordering_then, is_eq, slice_cmp, nat_tests, All-tail}
 use Rattle.id_digits.specs.Digits.{digits_of, is_digest_len, word}
 use Rattle.id_digits.proofs.DigitNumbers.{AreDigits, word-zero, word-cons, word_lt}
 use Rattle.id_digits.proofs.DigitOrder.{slice_cmp-digits_of}

@@ -1,9 +1,5 @@
 -- Bytes packed of two values each.
-use Rattle.std.proofs.Common.{◌≡◌, ℕ, zero, suc, ◌+◌, ◌*◌, ◌/◌, ◌%◌, true, ltb, List, [], ◌∷◌, ◌++◌, length, take, drop, refl, ap, arith, ltb-true, length-append}
-use Rattle.std.proofs.lemmas.Bool.{and_parts}
-use Rattle.std.proofs.lemmas.Simd.{pick_l_whole}
-use Rattle.std.specs.List.{list_all, range_with_len}
-use Rattle.std.specs.Simd.Lanes.{pick_l}
+use Rattle.id_digits.proofs.Std.{◌≡◌, ℕ, zero, suc, ◌+◌, ◌*◌, ◌/◌, ◌%◌, true, ltb, List, [], ◌∷◌, ◌++◌, length, take, drop, refl, ap, arith, ltb-true, length-append, and_parts, pick_l_whole, list_all, range_with_len, pick_l}
 use Rattle.id_digits.specs.Digits.{digits_of}
 use Rattle.id_digits.specs.Letters.{is_digit, packed}
 

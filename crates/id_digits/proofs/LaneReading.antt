@@ -1,13 +1,6 @@
 -- A text read as the values of its letters, of which the first are packed, and the last.
-use Rattle.std.proofs.Common.{◌≡◌, ℕ, zero, suc, ◌+◌, ◌-◌, ◌*◌, ◌≤◌, ◌⊎◌, inl, inr, Bool, true, false, ◌&&◌, ltb, min, List, [], ◌∷◌, ◌++◌, length, take, drop, Option, Some, None, if◌then◌else◌, refl, sym, ap, ap₂, ◌∙◌, arith, append-nil, append_assoc, length-drop, take-add, IsTrue}
-use Rattle.std.proofs.lemmas.Bool.{cases_eq, ne_eqb}
-use Rattle.std.proofs.lemmas.Bool.Decides.{nat_tests}
-use Rattle.std.proofs.lemmas.List.{nil_from_length, length-map, length-take-le, take_all, take_at, drop_at, take-map, drop-map, drop-drop, take-append-drop}
-use Rattle.std.proofs.lemmas.List.Folds.{list_all-append}
-use Rattle.std.proofs.lemmas.Simd.{put_chunk_is, length-put_chunk}
-use Rattle.std.specs.List.{list_all}
+use Rattle.id_digits.proofs.Std.{◌≡◌, ℕ, zero, suc, ◌+◌, ◌-◌, ◌*◌, ◌≤◌, ◌⊎◌, inl, inr, Bool, true, false, ◌&&◌, ltb, min, List, [], ◌∷◌, ◌++◌, length, take, drop, Option, Some, None, if◌then◌else◌, refl, sym, ap, ap₂, ◌∙◌, arith, append-nil, append_assoc, length-drop, take-add, IsTrue, cases_eq, ne_eqb, nat_tests, nil_from_length, length-map, length-take-le, take_all, take_at, drop_at, take-map, drop-map, drop-drop, take-append-drop, list_all-append, put_chunk_is, length-put_chunk, list_all, put_chunk}
 use borrow.Rule.Slice.PartMut.{post_of}
-use Rattle.std.specs.Simd.Lanes.{put_chunk}
 use Rattle.id_digits.specs.Digits.{digit_in, digits_of, digits_read, hex_letter, is_digest_len, put_digit}
 use Rattle.id_digits.specs.Letters.{lane_of, value_of, values_of, is_digit, packed}
 use Rattle.id_digits.proofs.ReadingFacts.{digit_in-letter}

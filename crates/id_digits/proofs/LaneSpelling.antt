@@ -1,8 +1,5 @@
 -- The letters of bytes, computed lane by lane, and stored in two parts.
-use Rattle.std.proofs.Common.{◌≡◌, ℕ, ◌+◌, ◌-◌, ◌*◌, ◌/◌, ◌%◌, ◌≤◌, List, [], ◌∷◌, ◌++◌, map, length, take, drop, refl, sym, ap, ap₂, subst, ◌∙◌, arith, length-drop}
-use Rattle.std.specs.Simd.Lanes.{put_chunk, pick_l}
-use Rattle.std.proofs.lemmas.List.{length-map, length-take-le, take_all, take-take, take-map, drop-map, take-append-drop}
-use Rattle.std.proofs.lemmas.Simd.{length-put_chunk, take_more_put_chunk, pick_l_whole}
+use Rattle.id_digits.proofs.Std.{◌≡◌, ℕ, ◌+◌, ◌-◌, ◌*◌, ◌/◌, ◌%◌, ◌≤◌, List, [], ◌∷◌, ◌++◌, map, length, take, drop, refl, sym, ap, ap₂, subst, ◌∙◌, arith, length-drop, put_chunk, pick_l, length-map, length-take-le, take_all, take-take, take-map, drop-map, take-append-drop, length-put_chunk, take_more_put_chunk, pick_l_whole}
 use Rattle.id_digits.specs.Digits.{digits_of, hex_letter, spelling}
 use Rattle.id_digits.proofs.ByteDigits.{length-digits_of, take-digits_of, drop-digits_of}
 

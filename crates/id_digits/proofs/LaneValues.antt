@@ -1,11 +1,5 @@
 -- The values of letters, computed lane by lane.
-use Rattle.std.proofs.Common.{◌≡◌, ℕ, ◌+◌, ◌*◌, ◌%◌, ◌^◌, ◌≤◌, Bool, true, false, not, ◌&&◌, cond, eqb, ltb, List, [], ◌∷◌, map, length, refl, ap, ap₂, ◌∙◌, arith, w8, Fits, eqb-true, nat_eq}
-use Rattle.std.proofs.lemmas.Bool.{agree_below, agree_below_at}
-use Rattle.std.proofs.lemmas.Bool.Decides.{nat_tests}
-use Rattle.std.proofs.lemmas.List.{length-map}
-use Rattle.std.proofs.lemmas.Simd.{map-map, mask_l-mod, tops_compared}
-use Rattle.std.specs.List.{list_all}
-use Rattle.std.specs.Simd.Lanes.{sel_l, mask_l, top, zip2, Each1}
+use Rattle.id_digits.proofs.Std.{◌≡◌, ℕ, ◌+◌, ◌*◌, ◌%◌, ◌^◌, ◌≤◌, Bool, true, false, not, ◌&&◌, cond, eqb, ltb, List, [], ◌∷◌, map, length, refl, ap, ap₂, ◌∙◌, arith, w8, Fits, eqb-true, nat_eq, agree_below, agree_below_at, nat_tests, length-map, map-map, mask_l-mod, tops_compared, list_all, sel_l, mask_l, top, zip2, Each1}
 use Rattle.id_digits.specs.Letters.{is_digit}
 
 -- lanes chosen between two maps by a map of tests

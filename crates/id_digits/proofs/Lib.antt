@@ -1,3 +1,4 @@
+pub mod Std
 mod CommonBytes
 pub mod DigitNumbers
 pub mod DigitOrder

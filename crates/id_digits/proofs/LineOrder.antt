@@ -1,12 +1,5 @@
 -- Lines in order: by the numbers of their first eight digits, and if these are equal by the bytes that they read as.
-use Rattle.std.proofs.Common.{min, ◌≡◌, ℕ, zero, suc, ◌+◌, ◌-◌, ◌*◌, ◌/◌, ◌<◌, ◌≤◌, Bool, true, false, ◌&&◌, List, [], ◌∷◌, length, take, drop, get_or, refl, sym, ap, ap₂, ◌∙◌, arith, drop-cons, Less, Option, Some, None, if◌then◌else◌, All, IsTrue, nat_eq, nat_cmp, unwrap_or}
-use Rattle.std.proofs.lemmas.Bool.Decides.{nat_tests}
-use Rattle.std.proofs.lemmas.Cmp.{nat_list_cmp_total, tied_itself}
-use Rattle.std.proofs.lemmas.List.{length-take, length-take-le, drop_all}
-use Rattle.std.proofs.lemmas.List.Elements.{All-nil, All-cons, All-take}
-use Rattle.std.specs.List.{list_all}
-use Rattle.std.specs.Cmp.Lexicographic.{slice_cmp, pointwise, bytes_decides}
-use Rattle.std.specs.declared.cmp.Ordering.{Ordering}
+use Rattle.id_digits.proofs.Std.{min, ◌≡◌, ℕ, zero, suc, ◌+◌, ◌-◌, ◌*◌, ◌/◌, ◌<◌, ◌≤◌, Bool, true, false, ◌&&◌, List, [], ◌∷◌, length, take, drop, get_or, refl, sym, ap, ap₂, ◌∙◌, arith, drop-cons, Less, Option, Some, None, if◌then◌else◌, All, IsTrue, nat_eq, nat_cmp, unwrap_or, nat_tests, nat_list_cmp_total, tied_itself, length-take, length-take-le, drop_all, All-nil, All-cons, All-take, list_all, slice_cmp, pointwise, bytes_decides, Ordering}
 use Rattle.id_digits.specs.Digits.{digit_in, digits_of, digits_read, hex_letter, is_digest_len, word}
 use Rattle.id_digits.specs.Letters.{AreSortedLines, IsIdLine, is_digit, is_line_len, lane_of, line_values, may_follow, value_of, values_of}
 use Rattle.id_digits.proofs.DigitNumbers.{AreDigits, word-nil, word-take}

@@ -1,6 +1,5 @@
 -- What a mask of a word's first digits keeps.
-use Rattle.std.proofs.Common.{◌≡◌, ℕ, ◌+◌, ◌-◌, ◌*◌, ◌/◌, ◌%◌, ◌^◌, ◌<◌, ◌≤◌, List, take, refl, ◌∙◌, arith, inl, inr, cond, ltb, bit_and}
-use Rattle.std.proofs.lemmas.Bool.{cases_lt}
+use Rattle.id_digits.proofs.Std.{◌≡◌, ℕ, ◌+◌, ◌-◌, ◌*◌, ◌/◌, ◌%◌, ◌^◌, ◌<◌, ◌≤◌, List, take, refl, ◌∙◌, arith, inl, inr, cond, ltb, bit_and, cases_lt}
 use Rattle.std.proofs.lemmas.Nat.Bits.{and_high_mask, ones_shl}
 use borrow.Author.Tests.{le-ltb, lt-ltb}
 use Rattle.id_digits.specs.Digits.{word}

@@ -1,7 +1,5 @@
 -- Numbers of two parts, of which the higher decides first.
-use Rattle.std.proofs.Common.{◌≡◌, ◌≢◌, ℕ, ◌+◌, ◌*◌, ◌<◌, ◌≤◌, refl, arith, Ordering, Less, Equal, Greater, mul-le-mul_right, add-mul}
-use Rattle.std.specs.Ordering.{nat_cmp, ordering_then}
-use Rattle.std.proofs.lemmas.Bool.Decides.{nat_tests}
+use Rattle.id_digits.proofs.Std.{◌≡◌, ◌≢◌, ℕ, ◌+◌, ◌*◌, ◌<◌, ◌≤◌, refl, arith, Ordering, Less, Equal, Greater, mul-le-mul_right, add-mul, nat_cmp, ordering_then, nat_tests}
 
 -- orders one after another
 pub then_assoc : (a b c : Ordering) → ordering_then (ordering_then a b) c ≡ ordering_then a (ordering_then b c)

@@ -1,6 +1,5 @@
 -- The first digits of bytes, copied into zeros.
-use Rattle.std.proofs.Common.{◌≡◌, ℕ, zero, suc, ◌-◌, ◌*◌, ◌/◌, ◌%◌, ◌<◌, ◌≤◌, List, [], ◌∷◌, ◌++◌, length, take, drop, get_or, replicate, slice_set, refl, sym, ap, arith}
-use Rattle.std.proofs.lemmas.List.{append_assoc, drop-replicate, set_at, length-take-le, length-append}
+use Rattle.id_digits.proofs.Std.{◌≡◌, ℕ, zero, suc, ◌-◌, ◌*◌, ◌/◌, ◌%◌, ◌<◌, ◌≤◌, List, [], ◌∷◌, ◌++◌, length, take, drop, get_or, replicate, slice_set, refl, sym, ap, arith, append_assoc, drop-replicate, set_at, length-take-le, length-append}
 use Rattle.id_digits.specs.Digits.{digits_of, padded}
 use Rattle.id_digits.proofs.ByteDigits.{length-digits_of, take-digits_of}
 

@@ -1,6 +1,5 @@
 -- What a line of a full id reads as.
-use Rattle.std.proofs.Common.{refl, ◌≡◌, ◌*◌, ℕ, List, length, take, true, Some, sym, ◌∙◌}
-use Rattle.std.proofs.lemmas.List.{length-take-le, length-map}
+use Rattle.id_digits.proofs.Std.{refl, ◌≡◌, ◌*◌, ℕ, List, length, take, true, Some, sym, ◌∙◌, length-take-le, length-map}
 use Rattle.id_digits.specs.Digits.{digits_of, digits_read, hex_letter}
 use Rattle.id_digits.specs.Letters.{IsIdLine, line_values, packed, value_of}
 use Rattle.id_digits.proofs.LanePacking.{digits_of-packed}

@@ -1,8 +1,5 @@
 -- Reading as a function is the relation: a text reads as the digits that the function gives, and as no others.
-use Rattle.std.proofs.Common.{◌≡◌, ℕ, zero, suc, ◌<◌, ◌≤◌, ◌⊎◌, inl, inr, List, [], ◌∷◌, length, refl, sym, ap, ◌∙◌, arith, Option, Some, None}
-use Rattle.std.specs.Char.{to_ascii_lowercase}
-use Rattle.std.proofs.lemmas.Bool.Decides.{nat_tests}
-use Rattle.std.proofs.lemmas.List.Elements.{length_all_zip}
+use Rattle.id_digits.proofs.Std.{◌≡◌, ℕ, zero, suc, ◌<◌, ◌≤◌, ◌⊎◌, inl, inr, List, [], ◌∷◌, length, refl, sym, ap, ◌∙◌, arith, Option, Some, None, to_ascii_lowercase, nat_tests, length_all_zip}
 use Rattle.id_digits.specs.Digits.{IsLetterOf, IsUnreadable, ReadsAs, digit_below, digit_in, digits_read, hex_letter, put_digit}
 
 -- what is found nowhere is None, and what is found where something else is, is that

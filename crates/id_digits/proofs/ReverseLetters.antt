@@ -1,10 +1,5 @@
 -- The reverse alphabet through hex letters: reading and spelling.
-use Rattle.std.proofs.Common.{◌≡◌, ℕ, ◌+◌, ◌<◌, List, [], ◌∷◌, ◌++◌, length, map, take, drop, get_or, slice_set, refl, sym, arith, All}
-use Rattle.std.specs.Char.{to_ascii_lowercase}
-use Rattle.std.proofs.lemmas.Bool.Decides.{nat_tests}
-use Rattle.std.proofs.lemmas.List.{get_or_default}
-use Rattle.std.proofs.lemmas.List.Edits.{map_over_more}
-use Rattle.std.proofs.lemmas.List.Elements.{All-head, All-tail}
+use Rattle.id_digits.proofs.Std.{◌≡◌, ℕ, ◌+◌, ◌<◌, List, [], ◌∷◌, ◌++◌, length, map, take, drop, get_or, slice_set, refl, sym, arith, All, to_ascii_lowercase, nat_tests, get_or_default, map_over_more, All-head, All-tail}
 use Rattle.id_digits.specs.Letters.{hex_of_reverse, reverse_of_hex}
 use Rattle.id_digits.specs.Digits.{digit_in, digits_read, hex_letter, reverse_letter, spelling}
 use Rattle.id_digits.proofs.ReadingFacts.{IsAlphabet, hex_alphabet, digit_in-is, digit_in-letter, same_found}

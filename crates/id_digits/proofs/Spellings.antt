@@ -1,9 +1,6 @@
 -- Spellings: their lengths, letters and first digits.
-use Rattle.std.proofs.Common.{◌++◌, ◌≤◌, ◌≡◌, ℕ, ◌/◌, ◌%◌, ◌<◌, List, [], ◌∷◌, length, take, min, ap, ◌∙◌, arith, IsAscii, All}
-use Rattle.std.proofs.lemmas.List.{length-map, take_min, take-map, take-append-le}
-use Rattle.std.proofs.lemmas.List.Elements.{All-nil, All-cons, All-head, All-tail}
+use Rattle.id_digits.proofs.Std.{◌++◌, ◌≤◌, ◌≡◌, ℕ, ◌/◌, ◌%◌, ◌<◌, List, [], ◌∷◌, length, take, min, ap, ◌∙◌, arith, IsAscii, All, length-map, take_min, take-map, take-append-le, All-nil, All-cons, All-head, All-tail, nat_tests}
 use Rattle.std.proofs.lemmas.Str.Ascii.{IsAscii-nil, IsAscii-cons}
-use Rattle.std.proofs.lemmas.Bool.Decides.{nat_tests}
 use Rattle.id_digits.specs.Digits.{digits_of, spelling, hex_letter}
 
 -- a spelling has a letter a digit

@@ -1,11 +1,5 @@
 -- Why words and then the number of digits are the dictionary order of digits.
-use Rattle.std.proofs.Common.{◌≡◌, ℕ, zero, suc, ◌+◌, ◌-◌, ◌^◌, ◌<◌, ◌≤◌, List, [], ◌∷◌, length, take, drop, refl, sym, ap, ◌∙◌, arith, Equal, Ordering}
-use Rattle.std.specs.Ordering.{nat_cmp, ordering_then}
-use Rattle.std.specs.Cmp.{nat_cmp_is}
-use Rattle.std.specs.Cmp.Lexicographic.{slice_cmp}
-use Rattle.std.proofs.lemmas.Bool.Decides.{nat_tests}
-use Rattle.std.proofs.lemmas.List.{drop-take, length-take-le, take-take}
-use Rattle.std.proofs.lemmas.List.Elements.{All-tail, All-drop, All-take}
+use Rattle.id_digits.proofs.Std.{◌≡◌, ℕ, zero, suc, ◌+◌, ◌-◌, ◌^◌, ◌<◌, ◌≤◌, List, [], ◌∷◌, length, take, drop, refl, sym, ap, ◌∙◌, arith, Equal, Ordering, nat_cmp, ordering_then, nat_cmp_is, slice_cmp, nat_tests, drop-take, length-take-le, take-take, All-tail, All-drop, All-take}
 use Rattle.id_digits.specs.Digits.{place, word}
 use Rattle.id_digits.proofs.NumberParts.{then_assoc, then_equal, cmp_parts}
 use Rattle.id_digits.proofs.DigitNumbers.{AreDigits, word-nil, word-cons, word_lt, word-split, word-take}

@@ -1,8 +1,5 @@
 -- What begins with two digits or more has their first byte.
-use Rattle.std.proofs.Common.{◌≡◌, ℕ, ◌<◌, ◌≤◌, ◌/◌, ◌%◌, true, cond, nat_eq, List, [], ◌∷◌, ◌++◌, length, refl, ap, ◌∙◌, arith}
-use Rattle.std.specs.List.{All, starts_with}
-use Rattle.std.proofs.lemmas.Bool.Decides.{nat_tests}
-use Rattle.std.proofs.lemmas.List.Elements.{All-tail}
+use Rattle.gix_hash.proofs.Std.{◌≡◌, ℕ, ◌<◌, ◌≤◌, ◌/◌, ◌%◌, true, cond, nat_eq, List, [], ◌∷◌, ◌++◌, length, refl, ap, ◌∙◌, arith, All, starts_with, nat_tests, All-tail}
 pub use Rattle.std.proofs.lemmas.Bool.{eq-eqb as same_test, eqb-true as test_same}
 use Rattle.gix_hash.specs.Words.{AreIdDigits, first_byte_of}
 use Rattle.gix_hash.specs.declared.Kind.{Kind}

@@ -1,6 +1,5 @@
 -- The number of binary digits is the smallest b with n < 2 ^ b, and half of a number has one less.
-use Rattle.std.proofs.Common.{◌≡◌, ℕ, zero, suc, ◌+◌, ◌*◌, ◌/◌, ◌^◌, ◌≤◌, ◌<◌, ◌⊎◌, inl, inr, arith, pow-suc, pow_mono}
-use Rattle.std.proofs.lemmas.Bool.{cases_lt}
+use Rattle.gix_hash.proofs.Std.{◌≡◌, ℕ, zero, suc, ◌+◌, ◌*◌, ◌/◌, ◌^◌, ◌≤◌, ◌<◌, ◌⊎◌, inl, inr, arith, pow-suc, pow_mono, cases_lt}
 use Rattle.std.proofs.lemmas.Nat.{leading_length}
 use Rattle.std.specs.Int.Count.{count_leading_zeros}
 use Rattle.id_lookup.specs.Runs.{halvings_within, bits}

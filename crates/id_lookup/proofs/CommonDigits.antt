@@ -1,10 +1,5 @@
 -- How many first digits ids of a sorted list have in common.
-use Rattle.std.proofs.Common.{◌≡◌, ℕ, ◌+◌, ◌<◌, ◌≤◌, true, false, Less, List, [], ◌∷◌, length, take, drop, cond, nat_eq, inl, inr, refl, sym, ap, ◌∙◌, subst, take_all, arith, true≢false, nat_cmp, is_lt, length-take-le, take-append-drop, take-take}
-use Rattle.std.specs.List.{starts_with}
-use Rattle.std.specs.Cmp.Lexicographic.{bytes_decides, slice_cmp}
-use Rattle.std.proofs.lemmas.Bool.{cases_lt, false_from_ne_true}
-use Rattle.std.proofs.lemmas.Bool.Decides.{nat_tests}
-use Rattle.std.proofs.lemmas.Cmp.{nat_eq_equiv, nat_list_cmp_total, tied_itself}
+use Rattle.gix_hash.proofs.Std.{◌≡◌, ℕ, ◌+◌, ◌<◌, ◌≤◌, true, false, Less, List, [], ◌∷◌, length, take, drop, cond, nat_eq, inl, inr, refl, sym, ap, ◌∙◌, subst, take_all, arith, true≢false, nat_cmp, is_lt, length-take-le, take-append-drop, take-take, starts_with, bytes_decides, slice_cmp, cases_lt, false_from_ne_true, nat_tests, nat_eq_equiv, nat_list_cmp_total, tied_itself}
 pub use Rattle.gix_hash.proofs.CommonBeginnings.{common}
 use Rattle.gix_hash.proofs.CommonBeginnings.{begins_both, take-common}
 use Rattle.id_lookup.proofs.Spelled.{starts_with-BeginsWith}

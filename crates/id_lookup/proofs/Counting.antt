@@ -1,9 +1,5 @@
 -- If each member that passes a test comes before each that fails it, those that pass are the first ones, by their count.
-use Rattle.std.proofs.Common.{◌≡◌, ℕ, zero, suc, ◌+◌, ◌<◌, Bool, true, false, cond, nat_lt, List, [], ◌∷◌, ◌++◌, length, get_or, refl, sym, ap, ◌∙◌, arith, All, count_by}
-use Rattle.std.specs.List.Sorted.{IsPartitionedBy}
-use Rattle.std.proofs.lemmas.Bool.{false≢true, false_from_ne_true, lt-ltb, le-ltb}
-use Rattle.std.proofs.lemmas.Bool.Decides.{nat_tests}
-use Rattle.std.proofs.lemmas.List.Sums.{sum_by-append, sum_by-cons, length-filter}
+use Rattle.gix_hash.proofs.Std.{◌≡◌, ℕ, zero, suc, ◌+◌, ◌<◌, Bool, true, false, cond, nat_lt, List, [], ◌∷◌, ◌++◌, length, get_or, refl, sym, ap, ◌∙◌, arith, All, count_by, IsPartitionedBy, false≢true, false_from_ne_true, lt-ltb, le-ltb, nat_tests, sum_by-append, sum_by-cons, length-filter}
 use Rattle.id_lookup.proofs.Filtering.{filter_none}
 
 -- two tests of order are equal if their conditions imply each other

@@ -1,6 +1,5 @@
 -- A run of as many elements as pass a test, each of which passes, is the filtered list.
-use Rattle.std.proofs.Common.{◌≡◌, ℕ, zero, suc, ◌+◌, ◌-◌, ◌≤◌, Bool, true, false, cond, List, [], ◌∷◌, ◌++◌, length, filter, take, drop, refl, sym, ap, ◌∙◌, arith, length-drop, slice_range, All, count_by, length-take-le}
-use Rattle.std.proofs.lemmas.List.Sums.{length-filter}
+use Rattle.gix_hash.proofs.Std.{◌≡◌, ℕ, zero, suc, ◌+◌, ◌-◌, ◌≤◌, Bool, true, false, cond, List, [], ◌∷◌, ◌++◌, length, filter, take, drop, refl, sym, ap, ◌∙◌, arith, length-drop, slice_range, All, count_by, length-take-le, length-filter}
 use Rattle.id_lookup.proofs.Counting.{count_by-append, count_by-cons}
 use Rattle.id_lookup.proofs.Filtering.{filter_all, filter_run, three_parts}
 

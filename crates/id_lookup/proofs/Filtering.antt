@@ -1,7 +1,5 @@
 -- If the elements that pass a test are next to each other, the filtered list is that part of the list.
-use Rattle.std.proofs.Common.{◌≡◌, ℕ, suc, ◌≤◌, Bool, true, false, List, [], ◌∷◌, ◌++◌, take, drop, filter, refl, sym, ap, ◌∙◌, arith, append-nil, take-append-drop, All, slice_range}
-use Rattle.std.proofs.lemmas.List.Folds.{drop_split}
-use Rattle.std.proofs.lemmas.List.Elements.{filter-append}
+use Rattle.gix_hash.proofs.Std.{◌≡◌, ℕ, suc, ◌≤◌, Bool, true, false, List, [], ◌∷◌, ◌++◌, take, drop, filter, refl, sym, ap, ◌∙◌, arith, append-nil, take-append-drop, All, slice_range, drop_split, filter-append}
 
 module _ {X : Type 0} (p : X → Bool) where
   -- where no element passes, the filtered list is empty

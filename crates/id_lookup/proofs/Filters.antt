@@ -1,7 +1,5 @@
 -- What a filter keeps.
-use Rattle.std.proofs.Common.{◌≡◌, zero, suc, Bool, true, false, cond, List, [], ◌∷◌, ◌++◌, filter, inl, inr, refl, sym, ap, ◌∙◌, arith, Contains, flat_map}
-use Rattle.std.proofs.lemmas.Bool.{cases_Bool, false≢true, false_from_ne_true}
-use Rattle.std.proofs.lemmas.List.Elements.{All-contains, All-contains_itself, All-filter, filter_passes, filter-append}
+use Rattle.gix_hash.proofs.Std.{◌≡◌, zero, suc, Bool, true, false, cond, List, [], ◌∷◌, ◌++◌, filter, inl, inr, refl, sym, ap, ◌∙◌, arith, Contains, flat_map, cases_Bool, false≢true, false_from_ne_true, All-contains, All-contains_itself, All-filter, filter_passes, filter-append}
 
 module _ {X : Type 0} (p : X → Bool) where
   -- what passes is kept

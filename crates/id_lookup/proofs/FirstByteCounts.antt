@@ -1,9 +1,5 @@
 -- Counts of ids by their first byte, and the run of a prefix between two of them.
-use Rattle.std.proofs.Common.{◌≡◌, ◌≢◌, ℕ, ◌+◌, ◌-◌, ◌<◌, ◌≤◌, Bool, true, false, cond, ltb, leb, nat_eq, List, [], ◌∷◌, length, get_or, set, get_or-set_other, get_or-set_same, below_more, take, inl, inr, refl, sym, ap, ◌∙◌, arith, All, count_by, is_gt, is_ge}
-use Rattle.std.proofs.lemmas.Bool.{cases_eq, eq-eqb, false≢true, le-leb, le-ltb, leb-true, lt-ltb, ltb-true, ne_eqb}
-use Rattle.std.proofs.lemmas.Bool.Decides.{nat_tests}
-use Rattle.std.proofs.lemmas.List.Sums.{count_by-le-length, count_by_more_no, count_by_more_yes}
-use Rattle.std.proofs.lemmas.List.Elements.{All-head, All-tail}
+use Rattle.gix_hash.proofs.Std.{◌≡◌, ◌≢◌, ℕ, ◌+◌, ◌-◌, ◌<◌, ◌≤◌, Bool, true, false, cond, ltb, leb, nat_eq, List, [], ◌∷◌, length, get_or, set, get_or-set_other, get_or-set_same, below_more, take, inl, inr, refl, sym, ap, ◌∙◌, arith, All, count_by, is_gt, is_ge, cases_eq, eq-eqb, false≢true, le-leb, le-ltb, leb-true, lt-ltb, ltb-true, ne_eqb, nat_tests, count_by-le-length, count_by_more_no, count_by_more_yes, All-head, All-tail}
 use Rattle.gix_hash.specs.Words.{KindDigits, first_byte_of, place}
 use Rattle.id_lookup.specs.Runs.{AreCandidates, CanProbe, bound_of, has_first_byte, is_before_bound, is_below, is_up_to}
 use Rattle.id_lookup.specs.declared.search.Bound.TheVariants.{Start, End}

@@ -1,11 +1,5 @@
 -- The place of a prefix against an id, by the id's first byte.
-use Rattle.std.proofs.Common.{◌≡◌, ℕ, ◌+◌, ◌*◌, ◌<◌, ◌≤◌, List, [], ◌∷◌, length, slice_index, inl, inr, refl, arith, All}
-use Rattle.std.specs.declared.cmp.Ordering.{Ordering}
-use Rattle.std.specs.declared.cmp.Ordering.TheVariants.{Less, Equal, Greater}
-use Rattle.std.specs.Ordering.{nat_cmp, ordering_then, MatchOrdering}
-use Rattle.std.specs.Cmp.{ranks}
-use Rattle.std.proofs.lemmas.Bool.{cases_lt}
-use Rattle.std.proofs.lemmas.List.{get_or_past}
+use Rattle.gix_hash.proofs.Std.{◌≡◌, ℕ, ◌+◌, ◌*◌, ◌<◌, ◌≤◌, List, [], ◌∷◌, length, slice_index, inl, inr, refl, arith, All, Ordering, Less, Equal, Greater, nat_cmp, ordering_then, MatchOrdering, ranks, cases_lt, get_or_past}
 use Rattle.gix_hash.specs.Words.{first_byte_of, place}
 
 -- each digit is below 16, and what is read after the last one too

@@ -1,15 +1,5 @@
 -- Indexes are sorted, so a prefix of their kind can be looked up in them.
-use Rattle.std.proofs.Common.{◌≡◌, ℕ, not, nat_eq, ◌+◌, ◌-◌, ◌<◌, ◌≤◌, true, false, List, [], length, get_or, Bool, ◌↔◌, IsTrue, ◌⊎◌, inl, inr, sym, ap, ◌∙◌, subst, arith, AllPairs}
-use Rattle.std.specs.List.Sorted.{IsStrictlySortedBy}
-use Rattle.std.specs.Ordering.{nat_cmp, is_lt, ordering_reverse}
-use Rattle.std.specs.Cmp.Lexicographic.{slice_cmp}
-use Rattle.std.specs.declared.cmp.Ordering.TheVariants.{Less}
-use Rattle.std.proofs.lemmas.Bool.{cases_lt, false≢true}
-use Rattle.std.proofs.lemmas.Bool.Decides.{nat_tests}
-use Rattle.std.proofs.lemmas.Cmp.{nat_list_cmp_total}
-use Rattle.std.proofs.lemmas.List.{get_or_default}
-use Rattle.std.proofs.lemmas.List.Elements.{AllWithin-more}
-use Rattle.std.proofs.lemmas.Map.Keys.{Less-from_sorted, sorted_from_all_adjacent}
+use Rattle.gix_hash.proofs.Std.{◌≡◌, ℕ, not, nat_eq, ◌+◌, ◌-◌, ◌<◌, ◌≤◌, true, false, List, [], length, get_or, Bool, ◌↔◌, IsTrue, ◌⊎◌, inl, inr, sym, ap, ◌∙◌, subst, arith, AllPairs, IsStrictlySortedBy, nat_cmp, is_lt, ordering_reverse, slice_cmp, Less, cases_lt, false≢true, nat_tests, nat_list_cmp_total, get_or_default, AllWithin-more, Less-from_sorted, sorted_from_all_adjacent}
 pub use Rattle.gix_hash.proofs.KindFacts.{same_kind}
 use Rattle.gix_hash.specs.Words.{KindDigits, hex_len_of, kind_by_number, number_of}
 use Rattle.gix_hash.specs.declared.Kind.{Kind}

@@ -1,5 +1,5 @@
 -- Comparisons change only the count of probes.
-use Rattle.std.proofs.Common.{◌≡◌, ℕ, sym, ap, ◌∙◌}
+use Rattle.gix_hash.proofs.Std.{◌≡◌, ℕ, sym, ap, ◌∙◌}
 use Rattle.id_lookup.specs.Runs.{Probing}
 
 -- if q differs from p, and r from q, only in the count, then r differs from p only in the count

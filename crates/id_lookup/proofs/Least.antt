@@ -1,5 +1,5 @@
 -- The smallest number of digits of an id of a list.
-use Rattle.std.proofs.Common.{◌≡◌, ℕ, zero, suc, ◌≤◌, ◌<◌, min, List, [], ◌∷◌, length, get_or, take, refl, arith, All}
+use Rattle.gix_hash.proofs.Std.{◌≡◌, ℕ, zero, suc, ◌≤◌, ◌<◌, min, List, [], ◌∷◌, length, get_or, take, refl, arith, All}
 use Rattle.id_lookup.specs.Runs.{least_hex_len}
 
 -- no member has fewer digits

@@ -1,6 +1,5 @@
 -- The ids of a run are those that match.
-use Rattle.std.proofs.Common.{◌≡◌, ℕ, ◌-◌, List, map, take, drop, sym, ap, ◌∙◌, slice_range}
-use Rattle.std.proofs.lemmas.List.{take-map, drop-map}
+use Rattle.gix_hash.proofs.Std.{◌≡◌, ℕ, ◌-◌, List, map, take, drop, sym, ap, ◌∙◌, slice_range, take-map, drop-map}
 use Rattle.gix_hash.specs.Words.{KindDigits}
 use Rattle.id_lookup.specs.Runs.{IsRun, matches}
 use Rattle.id_lookup.specs.declared.search.Run.{Run}

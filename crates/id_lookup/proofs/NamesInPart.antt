@@ -1,10 +1,5 @@
 -- A member's abbreviation is decided among the members that begin as the name has to.
-use Rattle.std.proofs.Common.{◌≡◌, ◌≢◌, ℕ, ◌<◌, ◌≤◌, Bool, true, false, nat_eq, List, [], length, filter, get_or, take, inl, inr, sym, ap, ◌∙◌, subst}
-use Rattle.std.specs.Cmp.Lexicographic.{bytes_decides}
-use Rattle.std.specs.List.{starts_with}
-use Rattle.std.proofs.lemmas.Bool.{cases_Bool, false≢true, false_from_ne_true}
-use Rattle.std.proofs.lemmas.List.{get_or_default, length-take-le, take-take}
-use Rattle.std.proofs.lemmas.List.Elements.{Contains-get_or}
+use Rattle.gix_hash.proofs.Std.{◌≡◌, ◌≢◌, ℕ, ◌<◌, ◌≤◌, Bool, true, false, nat_eq, List, [], length, filter, get_or, take, inl, inr, sym, ap, ◌∙◌, subst, bytes_decides, starts_with, cases_Bool, false≢true, false_from_ne_true, get_or_default, length-take-le, take-take, Contains-get_or}
 use Rattle.gix_hash.specs.declared.Kind.{Kind}
 use Rattle.id_lookup.specs.Indexes.{IsIndex, IsShortestNameFrom}
 use Rattle.id_lookup.proofs.Filters.{contains_kept, contains_had}

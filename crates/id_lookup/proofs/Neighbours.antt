@@ -1,7 +1,5 @@
 -- The two neighbours of an id in a sorted list decide how many first digits distinguish it from all others.
-use Rattle.std.proofs.Common.{◌≡◌, ◌≢◌, ℕ, zero, suc, ◌+◌, ◌-◌, ◌<◌, ◌≤◌, true, max, List, [], length, get_or, take, nat_eq, inl, inr, sym, ap, ◌∙◌, arith, length-take, length-take-le, take-take}
-use Rattle.std.specs.List.{starts_with}
-use Rattle.std.proofs.lemmas.Bool.{cases_lt, false≢true}
+use Rattle.gix_hash.proofs.Std.{◌≡◌, ◌≢◌, ℕ, zero, suc, ◌+◌, ◌-◌, ◌<◌, ◌≤◌, true, max, List, [], length, get_or, take, nat_eq, inl, inr, sym, ap, ◌∙◌, arith, length-take, length-take-le, take-take, starts_with, cases_lt, false≢true}
 use Rattle.gix_hash.specs.Words.{hex_len_of}
 use Rattle.gix_hash.specs.declared.Kind.{Kind}
 use Rattle.id_lookup.specs.Indexes.{IsIndex, IsShortestNameFrom, IsUniqueLen, common_at}

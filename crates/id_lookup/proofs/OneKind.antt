@@ -1,8 +1,5 @@
 -- Lists that are sorted by an order of their ids, in words of the ids' digits.
-use Rattle.std.proofs.Common.{◌≡◌, ◌+◌, ◌<◌, Bool, List, [], ◌∷◌, length, get_or, map, sym, ap, ◌∙◌, arith, All}
-use Rattle.std.specs.List.Sorted.{IsSortedBy, IsStrictlySortedBy}
-use Rattle.std.proofs.lemmas.List.{get_or-map, length-map}
-use Rattle.std.proofs.lemmas.Map.Keys.{Less-from_sorted}
+use Rattle.gix_hash.proofs.Std.{◌≡◌, ◌+◌, ◌<◌, Bool, List, [], ◌∷◌, length, get_or, map, sym, ap, ◌∙◌, arith, All, IsSortedBy, IsStrictlySortedBy, get_or-map, length-map, Less-from_sorted}
 use Rattle.gix_hash.specs.Words.{hex_len_of, id_cmp, id_digits, id_kind}
 use Rattle.gix_hash.specs.declared.Kind.{Kind}
 use Rattle.gix_hash.specs.declared.ObjectId.{ObjectId}

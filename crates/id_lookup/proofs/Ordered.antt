@@ -1,13 +1,5 @@
 -- Sorted lists: up to an index, and at any two indexes.
-use Rattle.std.proofs.Common.{◌≡◌, ◌≢◌, ℕ, ◌+◌, ◌-◌, ◌<◌, ◌≤◌, List, [], length, get_or, false, ◌⊎◌, inl, inr, refl, arith, nat_cmp, is_lt}
-use Rattle.std.specs.List.{AllAdjacentBelow}
-use Rattle.std.specs.Cmp.Lexicographic.{slice_cmp}
-use Rattle.std.specs.declared.cmp.Ordering.{Ordering}
-use Rattle.std.specs.declared.cmp.Ordering.TheVariants.{Less, Equal, Greater}
-use Rattle.std.proofs.lemmas.Bool.{cases_lt}
-use Rattle.std.proofs.lemmas.Cmp.{nat_list_cmp_total}
-use Rattle.std.proofs.lemmas.List.{get_or_default}
-use Rattle.std.proofs.lemmas.List.Sorted.{all_adjacent_more, sorted_far, ranks_by}
+use Rattle.gix_hash.proofs.Std.{◌≡◌, ◌≢◌, ℕ, ◌+◌, ◌-◌, ◌<◌, ◌≤◌, List, [], length, get_or, false, ◌⊎◌, inl, inr, refl, arith, nat_cmp, is_lt, AllAdjacentBelow, slice_cmp, Ordering, Less, Equal, Greater, cases_lt, nat_list_cmp_total, get_or_default, all_adjacent_more, sorted_far, ranks_by}
 use Rattle.id_lookup.specs.Runs.{IsSortedIds}
 
 -- an order that is not Less fails the test for Less

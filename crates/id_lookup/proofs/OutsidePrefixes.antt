@@ -1,11 +1,5 @@
 -- A prefix that comes before the first of sorted ids, or after the last: none begins with it.
-use Rattle.std.proofs.Common.{◌≡◌, ◌⊎◌, inl, inr, ℕ, ◌-◌, ◌<◌, true, false, nat_eq, List, [], length, take, get_or, refl, sym, ap, ◌∙◌, arith, is_eq, is_gt, is_ge}
-use Rattle.std.specs.List.{starts_with}
-use Rattle.std.proofs.lemmas.Bool.{false≢true, false_from_ne_true}
-use Rattle.std.proofs.lemmas.List.Elements.{All-from_get_or}
-use Rattle.std.specs.Cmp.Lexicographic.{texts_ties}
-use Rattle.std.specs.declared.cmp.Ordering.{Ordering}
-use Rattle.std.specs.declared.cmp.Ordering.TheVariants.{Less, Equal, Greater}
+use Rattle.gix_hash.proofs.Std.{◌≡◌, ◌⊎◌, inl, inr, ℕ, ◌-◌, ◌<◌, true, false, nat_eq, List, [], length, take, get_or, refl, sym, ap, ◌∙◌, arith, is_eq, is_gt, is_ge, starts_with, false≢true, false_from_ne_true, All-from_get_or, texts_ties, Ordering, Less, Equal, Greater}
 use Rattle.gix_hash.specs.Words.{KindDigits, place}
 use Rattle.id_lookup.specs.Runs.{IsSortedIds, matches}
 use Rattle.id_lookup.specs.declared.search.Bound.TheVariants.{Start, End}

@@ -1,11 +1,5 @@
 -- In a sorted list the ids with a first byte are a run, and the parts one after the other are the list.
-use Rattle.std.proofs.Common.{◌≡◌, ℕ, zero, suc, ◌+◌, ◌-◌, ◌<◌, ◌≤◌, true, false, ltb, leb, List, [], ◌∷◌, ◌++◌, length, get_or, slice_index, take, drop, sym, ap, ◌∙◌, subst, take-add, take_all, arith, true≢false, length-drop, slice_range, nat_cmp, is_lt, eq-eqb, le-ltb, leb-true, lt-ltb, ltb-false, ltb-true, drop-drop, get_or-take, get_or-drop, length-take-le}
-use Rattle.std.specs.List.{All, count_by, flat_map, range_with_len}
-use Rattle.std.specs.List.Sorted.{IsNonDecreasingBy}
-use Rattle.std.specs.Cmp.Lexicographic.{slice_cmp}
-use Rattle.std.proofs.lemmas.Bool.Decides.{nat_tests}
-use Rattle.std.proofs.lemmas.List.Sorted.{IsPartitionedBy-leb, IsPartitionedBy-ltb}
-use Rattle.std.proofs.lemmas.List.Sums.{count_by-le-length}
+use Rattle.gix_hash.proofs.Std.{◌≡◌, ℕ, zero, suc, ◌+◌, ◌-◌, ◌<◌, ◌≤◌, true, false, ltb, leb, List, [], ◌∷◌, ◌++◌, length, get_or, slice_index, take, drop, sym, ap, ◌∙◌, subst, take-add, take_all, arith, true≢false, length-drop, slice_range, nat_cmp, is_lt, eq-eqb, le-ltb, leb-true, lt-ltb, ltb-false, ltb-true, drop-drop, get_or-take, get_or-drop, length-take-le, All, count_by, flat_map, range_with_len, IsNonDecreasingBy, slice_cmp, nat_tests, IsPartitionedBy-leb, IsPartitionedBy-ltb, count_by-le-length}
 use Rattle.gix_hash.specs.Words.{first_byte_of}
 use Rattle.id_lookup.specs.Runs.{IsSortedIds, has_first_byte, is_below, is_up_to}
 use Rattle.id_lookup.proofs.Counting.{passes_below}

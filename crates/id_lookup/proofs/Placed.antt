@@ -1,11 +1,5 @@
 -- The place of a prefix against each member of a sorted list, by the two bounds of its run.
-use Rattle.std.proofs.Common.{◌≡◌, ℕ, ◌+◌, ◌-◌, ◌≤◌, ◌<◌, ◌↔◌, Bool, true, cond, nat_eq, nat_lt, IsTrue, List, [], ◌∷◌, length, take, drop, get_or, inl, inr, refl, ap, ◌∙◌, arith, slice_range, is_gt, is_ge, is_eq, get_or-take, get_or-drop, length-take, length-drop}
-use Rattle.std.specs.declared.cmp.Ordering.{Ordering}
-use Rattle.std.specs.declared.cmp.Ordering.TheVariants.{Less, Equal, Greater}
-use Rattle.std.specs.List.{All, HoldsAt, count_by, starts_with}
-use Rattle.std.specs.Cmp.Lexicographic.{texts_ties}
-use Rattle.std.proofs.lemmas.List.Sums.{count_by-le-length}
-use Rattle.std.proofs.lemmas.Bool.{cases_lt, false≢true, le-ltb, lt-ltb}
+use Rattle.gix_hash.proofs.Std.{◌≡◌, ℕ, ◌+◌, ◌-◌, ◌≤◌, ◌<◌, ◌↔◌, Bool, true, cond, nat_eq, nat_lt, IsTrue, List, [], ◌∷◌, length, take, drop, get_or, inl, inr, refl, ap, ◌∙◌, arith, slice_range, is_gt, is_ge, is_eq, get_or-take, get_or-drop, length-take, length-drop, Ordering, Less, Equal, Greater, All, HoldsAt, count_by, starts_with, texts_ties, count_by-le-length, cases_lt, false≢true, le-ltb, lt-ltb}
 use Rattle.gix_hash.specs.Words.{KindDigits, place}
 use Rattle.id_lookup.specs.declared.search.Bound.{Bound}
 use Rattle.id_lookup.specs.declared.search.Bound.TheVariants.{Start, End}

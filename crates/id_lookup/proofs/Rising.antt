@@ -1,13 +1,5 @@
 -- Against the members of a sorted list the place of a prefix is first Greater, then Equal, then Less.
-use Rattle.std.proofs.Common.{◌≡◌, ℕ, ◌≤◌, true, false, List, length, take, get_or, refl, sym, ap, ◌∙◌, arith}
-use Rattle.std.specs.declared.cmp.Ordering.{Ordering}
-use Rattle.std.specs.declared.cmp.Ordering.TheVariants.{Less, Equal, Greater}
-use Rattle.std.specs.Ordering.{nat_cmp, is_lt, ordering_reverse, ordering_index}
-use Rattle.std.specs.Cmp.Lexicographic.{slice_cmp}
-use Rattle.std.specs.List.Sorted.{IsNonDecreasingBy, IsPartitionedBy}
-use Rattle.std.proofs.lemmas.Cmp.{nat_list_cmp_total}
-use Rattle.std.proofs.lemmas.List.Sorted.{searchable_from_sorted}
-use Rattle.std.proofs.lemmas.Bool.{false≢true}
+use Rattle.gix_hash.proofs.Std.{◌≡◌, ℕ, ◌≤◌, true, false, List, length, take, get_or, refl, sym, ap, ◌∙◌, arith, Ordering, Less, Equal, Greater, nat_cmp, is_lt, ordering_reverse, ordering_index, slice_cmp, IsNonDecreasingBy, IsPartitionedBy, nat_list_cmp_total, searchable_from_sorted, false≢true}
 use Rattle.gix_hash.proofs.CommonBeginnings.{take_less}
 use Rattle.id_lookup.proofs.Ordered.{not_less}
 use Rattle.gix_hash.specs.Words.{KindDigits, place}

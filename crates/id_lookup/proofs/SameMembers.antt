@@ -1,11 +1,5 @@
 -- Indexes: what passes a test of one is one, each member has one position, and two with the same members are equal.
-use Rattle.std.proofs.Common.{◌≡◌, ℕ, ◌+◌, ◌<◌, inl, inr, Bool, List, [], length, get_or, filter, subst, arith, ◌↔◌, Contains, nat_cmp}
-use Rattle.std.specs.Cmp.Lexicographic.{slice_cmp}
-use Rattle.std.specs.declared.cmp.Ordering.TheVariants.{Less}
-use Rattle.std.proofs.lemmas.Bool.{cases_order}
-use Rattle.std.proofs.lemmas.Bool.Decides.{same_from_decides}
-use Rattle.std.proofs.lemmas.Cmp.{nat_list_cmp_total, tied_itself}
-use Rattle.std.proofs.lemmas.List.Elements.{All-filter, AllWithin-from_all, All-from_all_within}
+use Rattle.gix_hash.proofs.Std.{◌≡◌, ℕ, ◌+◌, ◌<◌, inl, inr, Bool, List, [], length, get_or, filter, subst, arith, ◌↔◌, Contains, nat_cmp, slice_cmp, Less, cases_order, same_from_decides, nat_list_cmp_total, tied_itself, All-filter, AllWithin-from_all, All-from_all_within}
 use Rattle.std.proofs.lemmas.List.Kept.{AllPairs-filter}
 use Rattle.std.proofs.lemmas.Map.Lookups.{btree_set_from_contains, exact_bytes}
 use Rattle.std.proofs.lemmas.Map.Views.{btree_set_contains_iff}

@@ -1,14 +1,6 @@
 -- Ids of one kind that were sorted, and of which each was kept once, are the index of them.
-use Rattle.std.proofs.Common.{◌≡◌, ◌↔◌, List, length, get_or, map, refl, sym, ap, ◌∙◌, subst, arith, rules}
-use Rattle.std.specs.Cmp.{IsTotalOrder, IsEquivalence}
-use Rattle.std.specs.Cmp.Rules.{comparing}
-use Rattle.std.specs.List.{All, Contains, dedup}
-use Rattle.std.specs.List.Sorted.{IsSorted, IsStrictlySortedBy, IsPermutation}
-use Rattle.std.specs.Ordering.{eq_by_cmp}
-use Rattle.std.proofs.lemmas.List.{get_or-map, length-map}
-use Rattle.std.proofs.lemmas.List.Elements.{All-contains, All-map, Contains-get_or}
+use Rattle.gix_hash.proofs.Std.{◌≡◌, ◌↔◌, List, length, get_or, map, refl, sym, ap, ◌∙◌, subst, arith, rules, IsTotalOrder, IsEquivalence, comparing, All, Contains, dedup, IsSorted, IsStrictlySortedBy, IsPermutation, eq_by_cmp, get_or-map, length-map, All-contains, All-map, Contains-get_or, Contains-permutation, IsPermutation-sym}
 use Rattle.std.proofs.lemmas.List.Kept.{Contains-dedup, Contains-from_dedup, IsStrictlySortedBy-dedup}
-use Rattle.std.proofs.lemmas.List.Sorted.{Contains-permutation, IsPermutation-sym}
 use Rattle.gix_hash.proofs.Equalities.{id_eq-same}
 use Rattle.gix_hash.specs.Words.{hex_len_of, id_cmp, id_digits, id_eq, id_kind}
 use Rattle.gix_hash.specs.declared.Kind.{Kind}

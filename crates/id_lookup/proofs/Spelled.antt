@@ -1,12 +1,5 @@
 -- Lowercase hex spellings are equal if and only if the digits are, since distinct digits have distinct letters.
-use Rattle.std.proofs.Common.{◌≡◌, ℕ, ◌↔◌, true, List, length, take, drop, nat_eq, refl, ap, ◌∙◌, is_eq}
-use Rattle.std.specs.declared.cmp.Ordering.{Ordering}
-use Rattle.std.specs.declared.cmp.Ordering.TheVariants.{Less, Equal, Greater}
-use Rattle.std.specs.Cmp.Lexicographic.{bytes_decides, pointwise, texts_ties}
-use Rattle.std.specs.List.{starts_with}
-use Rattle.std.proofs.lemmas.Bool.Decides.{Decides-eqb, Decides-like, same_from_decides}
-use Rattle.std.proofs.lemmas.List.{take-map, length-map}
-use Rattle.std.proofs.lemmas.Slice.Eq.{starts_is}
+use Rattle.gix_hash.proofs.Std.{◌≡◌, ℕ, ◌↔◌, true, List, length, take, drop, nat_eq, refl, ap, ◌∙◌, is_eq, Ordering, Less, Equal, Greater, bytes_decides, pointwise, texts_ties, starts_with, Decides-eqb, Decides-like, same_from_decides, take-map, length-map, starts_is}
 use Rattle.gix_hash.specs.Words.{BeginsWith, KindDigits, hex_letter, place, spelling}
 use Rattle.gix_hash.proofs.SpellingLaws.{spelling-injective}
 use Rattle.id_lookup.specs.Runs.{begins_with}

@@ -1,7 +1,5 @@
 -- The run of an abbreviation contains only its id, and a look-up finds only that id.
-use Rattle.std.proofs.Common.{◌≡◌, ◌≢◌, ℕ, ◌+◌, ◌-◌, ◌<◌, ◌≤◌, true, false, List, [], length, get_or, inl, inr, refl, sym, ◌∙◌, arith}
-use Rattle.std.specs.Cmp.Lexicographic.{bytes_decides}
-use Rattle.std.proofs.lemmas.Bool.{cases_eq, false≢true}
+use Rattle.gix_hash.proofs.Std.{◌≡◌, ◌≢◌, ℕ, ◌+◌, ◌-◌, ◌<◌, ◌≤◌, true, false, List, [], length, get_or, inl, inr, refl, sym, ◌∙◌, arith, bytes_decides, cases_eq, false≢true}
 use Rattle.gix_hash.specs.Words.{KindDigits}
 use Rattle.id_lookup.specs.Runs.{IsRun, IsSortedIds, begins_with, bound_of}
 use Rattle.id_lookup.specs.Indexes.{IsShortestNameFrom}

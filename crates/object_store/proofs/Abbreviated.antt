@@ -1,9 +1,5 @@
 -- The abbreviation of the only id that begins with a prefix, which is decided among those that begin with its first digits.
-use Rattle.std.proofs.Common.{◌≡◌, ℕ, ◌+◌, ◌-◌, ◌<◌, ◌≤◌, min, Bool, true, nat_eq, None, Some, List, [], ◌∷◌, ◌++◌, filter, length, get_or, map, take, drop, refl, sym, ap, ◌∙◌, subst, arith, append-nil, append_assoc, take-append-drop}
-use Rattle.std.specs.List.{Contains, starts_with}
-use Rattle.std.proofs.Math.Seq.{drop-cons}
-use Rattle.std.proofs.lemmas.List.{length-append, length-take, nil_from_length}
-use Rattle.std.proofs.lemmas.List.Elements.{All-contains, All-from_all_within, Contains-get_or}
+use Rattle.gix_hash.proofs.Std.{◌≡◌, ℕ, ◌+◌, ◌-◌, ◌<◌, ◌≤◌, min, Bool, true, nat_eq, None, Some, List, [], ◌∷◌, ◌++◌, filter, length, get_or, map, take, drop, refl, sym, ap, ◌∙◌, subst, arith, append-nil, append_assoc, take-append-drop, Contains, starts_with, drop-cons, length-append, length-take, nil_from_length, All-contains, All-from_all_within, Contains-get_or}
 use Rattle.id_lookup.specs.Words.{IsIndexOf, IsRun, Kind, KindDigits, ObjectId, first_byte_of, hex_len_of, id_digits, matches}
 use Rattle.id_lookup.proofs.Beginnings.{first_byte_of-begins}
 use Rattle.id_lookup.proofs.Filters.{contains_had, contains_kept, filter_within, kept_passes}

@@ -1,9 +1,5 @@
 -- Several prefixes that are looked up one after the other.
-use Rattle.std.proofs.Common.{◌≡◌, ◌≢◌, ◌∙◌, ℕ, ◌+◌, ◌<◌, ◌≤◌, ◌⊎◌, inl, inr, List, length, get_or, sym, ap, subst, arith, Contains, slice_set, length-set}
-use Rattle.std.specs.List.{sum_by}
-use Rattle.std.proofs.lemmas.Bool.{cases_lt, cases_order}
-use Rattle.std.proofs.lemmas.List.{get_or_default, get_or-set_same, get_or-set_other}
-use Rattle.std.proofs.lemmas.List.Sums.{get_or-le-sum_by, sum_by-set}
+use Rattle.gix_hash.proofs.Std.{◌≡◌, ◌≢◌, ◌∙◌, ℕ, ◌+◌, ◌<◌, ◌≤◌, ◌⊎◌, inl, inr, List, length, get_or, sym, ap, subst, arith, Contains, slice_set, length-set, sum_by, cases_lt, cases_order, get_or_default, get_or-set_same, get_or-set_other, get_or-le-sum_by, sum_by-set}
 use Rattle.id_lookup.specs.Words.{KindDigits}
 use Rattle.object_store.specs.Stores.{AreFoundOfEach, ArePlaces, HaveMore, IsOfOne}
 use Rattle.object_store.specs.declared.error.Error.{Error}

@@ -1,11 +1,5 @@
 -- What is gathered of a store is what passes of the index of all its ids.
-use Rattle.std.proofs.Common.{◌≡◌, ℕ, inl, inr, ◌+◌, ◌<◌, ◌≤◌, Bool, Some, List, [], ◌∷◌, ◌++◌, length, get_or, map, filter, take, refl, sym, ap, ◌∙◌, subst, arith, append-nil, All, flat_map}
-use Rattle.std.proofs.lemmas.Option.{get_or_from_slice_get, slice_get-get_or, slice_get_within}
-use Rattle.std.proofs.lemmas.Grind.{flat_map-append}
-use Rattle.std.proofs.Math.Seq.{get_or-append_seam}
-use Rattle.std.proofs.lemmas.Bool.{cases_lt}
-use Rattle.std.proofs.lemmas.List.{get_or-map, get_or_append_left, length-append, length-map, take_all, take_more}
-use Rattle.std.proofs.lemmas.List.Elements.{All-more, filter-append}
+use Rattle.gix_hash.proofs.Std.{◌≡◌, ℕ, inl, inr, ◌+◌, ◌<◌, ◌≤◌, Bool, Some, List, [], ◌∷◌, ◌++◌, length, get_or, map, filter, take, refl, sym, ap, ◌∙◌, subst, arith, append-nil, All, flat_map, get_or_from_slice_get, slice_get-get_or, slice_get_within, flat_map-append, get_or-append_seam, cases_lt, get_or-map, get_or_append_left, length-append, length-map, take_all, take_more, All-more, filter-append}
 use Rattle.id_lookup.specs.Words.{Kind, first_byte_of}
 use Rattle.object_store.specs.Stores.{HasLocation, Holds, IsFirstFault, IsIndexReadOrMemory, IsLocateFault, IsLocationFault, IsOfIndex, IsStoreFault, StoreView}
 use Rattle.pack_index.specs.Lazy.{HasBucket, IfKnown, IsBucketFault, LazyIndex}

@@ -1,10 +1,5 @@
 -- What was found in each pack index and among the loose ids are the locations of the object.
-use Rattle.std.proofs.Common.{◌≡◌, ◌≢◌, ℕ, suc, ◌+◌, ◌<◌, ◌≤◌, Bool, Option, None, Some, List, [], ◌++◌, length, get_or, refl, sym, ap, ◌∙◌, subst, arith, ◌↔◌, bytes_eq}
-use Rattle.std.specs.Cmp.Lexicographic.{bytes_decides}
-use Rattle.std.specs.List.{position_or_len}
-use Rattle.std.proofs.lemmas.Bool.{false_from_ne_true, le-ltb, lt-ltb}
-use Rattle.std.proofs.lemmas.List.{get_or_default}
-use Rattle.std.proofs.lemmas.List.Sums.{position_or_len_is}
+use Rattle.gix_hash.proofs.Std.{◌≡◌, ◌≢◌, ℕ, suc, ◌+◌, ◌<◌, ◌≤◌, Bool, Option, None, Some, List, [], ◌++◌, length, get_or, refl, sym, ap, ◌∙◌, subst, arith, ◌↔◌, bytes_eq, bytes_decides, position_or_len, false_from_ne_true, le-ltb, lt-ltb, get_or_default, position_or_len_is}
 use Rattle.id_lookup.specs.Words.{Kind, first_byte_of}
 use Rattle.object_store.specs.Stores.{ArePacked, HasLocation, IsLocationFault, IsOffsetOf, StoreView, offset_of, packed_at}
 use Rattle.object_store.specs.declared.locations.Location.{Location}

@@ -1,8 +1,5 @@
 -- Ids that are located one after the other.
-use Rattle.std.proofs.Common.{◌≡◌, ◌∙◌, ℕ, ◌+◌, ◌<◌, ◌≤◌, ◌⊎◌, inl, inr, true, nat_eq, None, Option, Some, List, [], ◌∷◌, ◌++◌, length, get_or, map, take, sym, ap, subst, All, Contains}
-use Rattle.std.specs.List.{starts_with}
-use Rattle.std.proofs.lemmas.List.{map-append, take_more}
-use Rattle.std.proofs.lemmas.List.Elements.{All-push, All-take, Contains-get_or}
+use Rattle.gix_hash.proofs.Std.{◌≡◌, ◌∙◌, ℕ, ◌+◌, ◌<◌, ◌≤◌, ◌⊎◌, inl, inr, true, nat_eq, None, Option, Some, List, [], ◌∷◌, ◌++◌, length, get_or, map, take, sym, ap, subst, All, Contains, starts_with, map-append, take_more, All-push, All-take, Contains-get_or}
 use Rattle.id_lookup.specs.Words.{ObjectId, first_byte_of, id_digits, id_kind}
 use Rattle.id_lookup.proofs.Beginnings.{first_byte_of-begins}
 use Rattle.object_store.specs.Stores.{AreMatches, HaveBuckets, IsLocateFault, IsStoreFault, StoreView}

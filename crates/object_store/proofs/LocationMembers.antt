@@ -1,11 +1,6 @@
 -- Which locations an object has.
-use Rattle.std.proofs.Common.{◌≡◌, ℕ, zero, suc, ◌<◌, inl, inr, Bool, true, false, cond, Option, None, Some, List, [], ◌∷◌, length, get_or, refl, sym, ap, ◌∙◌, subst, arith, ◌↔◌, option_map, bytes_eq}
-use Rattle.std.specs.Cmp.Lexicographic.{bytes_decides}
-use Rattle.std.specs.List.{Contains, list_any, position}
-use Rattle.std.proofs.lemmas.Bool.{cases_lt, false≢true}
-use Rattle.std.proofs.lemmas.List.Elements.{Contains-append_cases, Contains-append_left, Contains-append_right}
+use Rattle.gix_hash.proofs.Std.{◌≡◌, ℕ, zero, suc, ◌<◌, inl, inr, Bool, true, false, cond, Option, None, Some, List, [], ◌∷◌, length, get_or, refl, sym, ap, ◌∙◌, subst, arith, ◌↔◌, option_map, bytes_eq, bytes_decides, Contains, list_any, position, cases_lt, false≢true, Contains-append_cases, Contains-append_left, Contains-append_right, none-some, same_Some}
 use Rattle.std.proofs.lemmas.List.Quantifiers.{position-Some}
-use Rattle.std.proofs.lemmas.Option.{none-some, same_Some}
 use Rattle.id_lookup.specs.Words.{Kind}
 use Rattle.object_store.specs.Stores.{HasObjectAt, offset_of, packed_at, packed_locations, locations_of}
 use Rattle.object_store.specs.declared.locations.Location.{Location}

@@ -1,12 +1,5 @@
 -- Where ids are in an index.
-use Rattle.std.proofs.Common.{◌≡◌, ℕ, suc, ◌∷◌, ◌<◌, ◌≤◌, inl, inr, Bool, true, not, nat_eq, List, [], ◌++◌, length, get_or, map, refl, sym, ap, subst, ◌∙◌, arith, append-nil, ◌↔◌, Decides, IsTrue, bytes_eq}
-use Rattle.std.specs.Cmp.Lexicographic.{bytes_decides}
-use Rattle.std.specs.List.{All, Contains, list_any, starts_with}
-use Rattle.std.proofs.lemmas.Bool.{cases_lt, eq-eqb, false≢true, ne_eqb}
-use Rattle.std.proofs.lemmas.Bool.Decides.{same_from_decides}
-use Rattle.std.proofs.lemmas.List.{length-append, length-map, nil_from_length}
-use Rattle.std.proofs.lemmas.List.Elements.{All-contains, All-from_all_within, Contains-get_or}
-use Rattle.std.proofs.lemmas.List.Folds.{Any-from_list_any, list_any-from_Any}
+use Rattle.gix_hash.proofs.Std.{◌≡◌, ℕ, suc, ◌∷◌, ◌<◌, ◌≤◌, inl, inr, Bool, true, not, nat_eq, List, [], ◌++◌, length, get_or, map, refl, sym, ap, subst, ◌∙◌, arith, append-nil, ◌↔◌, Decides, IsTrue, bytes_eq, bytes_decides, All, Contains, list_any, starts_with, cases_lt, eq-eqb, false≢true, ne_eqb, same_from_decides, length-append, length-map, nil_from_length, All-contains, All-from_all_within, Contains-get_or, Any-from_list_any, list_any-from_Any}
 use Rattle.id_lookup.specs.Words.{IsIndex, Kind, ObjectId, Sha1, Sha256, hex_len_of, id_digits, least_hex_len, matches}
 use Rattle.id_lookup.proofs.Filters.{contains_had, contains_kept, kept_passes}
 use Rattle.id_lookup.proofs.Spelled.{starts_with-BeginsWith}

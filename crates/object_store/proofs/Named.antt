@@ -1,11 +1,5 @@
 -- A name that is decided among the ids that were gathered is the name in the whole store.
-use Rattle.std.proofs.Common.{◌≡◌, ℕ, ◌+◌, ◌-◌, inl, inr, ◌<◌, ◌≤◌, true, nat_eq, Some, List, [], ◌∷◌, ◌++◌, length, get_or, map, take, drop, refl, sym, ap, ◌∙◌, subst, arith, append_assoc, take-append-drop, slice_get}
-use Rattle.std.specs.List.{All, Contains, starts_with}
-use Rattle.std.proofs.Math.Seq.{take-append-add}
-use Rattle.std.proofs.lemmas.Bool.{cases_order, false≢true}
-use Rattle.std.proofs.lemmas.Option.{get_or_from_slice_get}
-use Rattle.std.proofs.lemmas.List.{get_or_default, get_or-map, length-map, length-take-le, map-append, take_more}
-use Rattle.std.proofs.lemmas.List.Elements.{Contains-get_or}
+use Rattle.gix_hash.proofs.Std.{◌≡◌, ℕ, ◌+◌, ◌-◌, inl, inr, ◌<◌, ◌≤◌, true, nat_eq, Some, List, [], ◌∷◌, ◌++◌, length, get_or, map, take, drop, refl, sym, ap, ◌∙◌, subst, arith, append_assoc, take-append-drop, slice_get, All, Contains, starts_with, take-append-add, cases_order, false≢true, get_or_from_slice_get, get_or_default, get_or-map, length-map, length-take-le, map-append, take_more, Contains-get_or}
 use Rattle.id_lookup.specs.Words.{IsIndexOf, IsShortestNameFrom, Kind, ObjectId, id_digits, matches}
 use Rattle.id_lookup.proofs.Filters.{contains_had, contains_kept, kept_passes}
 use Rattle.id_lookup.proofs.SameMembers.{one_position}

@@ -1,8 +1,5 @@
 -- What the buckets of a first byte have of a store.
-use Rattle.std.proofs.Common.{◌≡◌, ℕ, ◌+◌, ◌<◌, ◌≤◌, Bool, true, None, List, [], ◌∷◌, ◌++◌, length, get_or, map, filter, take, sym, ap, ◌∙◌, subst, arith, append_assoc, All, flat_map}
-use Rattle.std.proofs.lemmas.List.{get_or-map, get_or-take, get_or_default, length-append, length-map, length-take-le, take_all}
-use Rattle.std.proofs.lemmas.List.Elements.{filter-append}
-use Rattle.std.proofs.lemmas.List.Folds.{flat_map-map}
+use Rattle.gix_hash.proofs.Std.{◌≡◌, ℕ, ◌+◌, ◌<◌, ◌≤◌, Bool, true, None, List, [], ◌∷◌, ◌++◌, length, get_or, map, filter, take, sym, ap, ◌∙◌, subst, arith, append_assoc, All, flat_map, get_or-map, get_or-take, get_or_default, length-append, length-map, length-take-le, take_all, filter-append, flat_map-map}
 use Rattle.id_lookup.specs.Words.{Kind}
 use Rattle.id_lookup.proofs.Filters.{filter-flat}
 use Rattle.object_store.specs.Stores.{AreBuckets, AreFirstBuckets, AreRead, StoreView}

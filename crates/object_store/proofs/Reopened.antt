@@ -1,5 +1,5 @@
 -- Stores that are opened again.
-use Rattle.std.proofs.Common.{◌∙◌, inl, inr, refl, subst, sym}
+use Rattle.gix_hash.proofs.Std.{◌∙◌, inl, inr, refl, subst, sym}
 use Rattle.object_store.specs.Stores.{IsReopened, IsSeen, StoreView}
 
 -- a store that was not opened again

@@ -1,9 +1,5 @@
 -- What a store whose pack indexes are ones has read with a first byte: all ids that have it.
-use Rattle.std.proofs.Common.{◌≡◌, ℕ, ◌<◌, ◌≤◌, inl, inr, Bool, true, nat_eq, None, Some, List, [], ◌++◌, length, get_or, map, refl, sym, ap, ◌∙◌, subst, arith}
-use Rattle.std.specs.List.{All, Contains, flat_map, starts_with}
-use Rattle.std.proofs.lemmas.List.{ext_get_or, get_or-map, length-map}
-use Rattle.std.proofs.lemmas.List.Elements.{Contains-append_cases, Contains-append_left, Contains-append_right, Contains-get_or, filter-append}
-use Rattle.std.proofs.lemmas.List.Folds.{flat_map-map}
+use Rattle.gix_hash.proofs.Std.{◌≡◌, ℕ, ◌<◌, ◌≤◌, inl, inr, Bool, true, nat_eq, None, Some, List, [], ◌++◌, length, get_or, map, refl, sym, ap, ◌∙◌, subst, arith, All, Contains, flat_map, starts_with, ext_get_or, get_or-map, length-map, Contains-append_cases, Contains-append_left, Contains-append_right, Contains-get_or, filter-append, flat_map-map}
 use Rattle.id_lookup.specs.Words.{IsIndexOf, ObjectId, first_byte_of, has_first_byte, id_digits, matches, part_of}
 use Rattle.id_lookup.proofs.Beginnings.{first_byte_of-begins, matches-part, same_test}
 use Rattle.id_lookup.proofs.Filtering.{filter_all}

@@ -1,11 +1,5 @@
 -- The locations in a store whose pack indexes are ones.
-use Rattle.std.proofs.Common.{◌≡◌, ℕ, zero, suc, ◌+◌, ◌-◌, ◌<◌, ◌≤◌, inl, inr, true, Bool, Option, None, Some, List, [], ◌++◌, length, get_or, drop, refl, sym, ap, ◌∙◌, subst, arith, Contains, bytes_eq}
-use Rattle.std.specs.Cmp.Lexicographic.{bytes_decides}
-use Rattle.std.specs.List.{position_or_len}
-use Rattle.std.proofs.lemmas.Bool.{cases_lt, false≢true}
-use Rattle.std.proofs.lemmas.List.{get_or_default, length-drop, length-take-le}
-use Rattle.std.proofs.lemmas.List.Sums.{fails_before_first, passes_at_first}
-use Rattle.std.proofs.lemmas.Option.{same_Some}
+use Rattle.gix_hash.proofs.Std.{◌≡◌, ℕ, zero, suc, ◌+◌, ◌-◌, ◌<◌, ◌≤◌, inl, inr, true, Bool, Option, None, Some, List, [], ◌++◌, length, get_or, drop, refl, sym, ap, ◌∙◌, subst, arith, Contains, bytes_eq, bytes_decides, position_or_len, cases_lt, false≢true, get_or_default, length-drop, length-take-le, fails_before_first, passes_at_first, same_Some}
 use Rattle.id_lookup.specs.Words.{Kind, first_byte_of}
 use Rattle.pack_index.specs.Format.{IsFirstIndexOf, IsPackIndex, names_in}
 use Rattle.pack_index.specs.Lazy.{AreCounted, BucketNames, HasBucket, LazyIndex, bucket_end, bucket_start, counted_with}

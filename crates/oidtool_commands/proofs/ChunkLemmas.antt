@@ -1,10 +1,5 @@
 -- What a list reader has taken, line by line.
-use Rattle.std.proofs.Common.{◌≡◌, ◌≢◌, ℕ, ◌+◌, ◌-◌, ◌<◌, ◌≤◌, false, Option, Some, None, List, [], ◌∷◌, ◌++◌, length, take, drop, map, get_or, set, refl, arith, sym, ap, ◌∙◌, subst, append_assoc, append-nil, drop-cons, length-drop, get_or-drop, take-add, Result, Ok, Err, All, IsOk, flat_map}
-use Rattle.std.proofs.lemmas.Bool.Decides.{nat_tests}
-use Rattle.std.proofs.lemmas.List.{nil_from_length, length-map, map-append, length-append, take_more_set, take_more, take_all, take-append-le, drop-drop}
-use Rattle.std.proofs.lemmas.List.Elements.{All-append, All-push, All-head, All-tail, All-nil, All-cons}
-use Rattle.std.proofs.lemmas.Grind.{flat_map-append}
-use Rattle.std.specs.List.{AllZip, slice_range}
+use Rattle.gix_hash.proofs.Std.{◌≡◌, ◌≢◌, ℕ, ◌+◌, ◌-◌, ◌<◌, ◌≤◌, false, Option, Some, None, List, [], ◌∷◌, ◌++◌, length, take, drop, map, get_or, set, refl, arith, sym, ap, ◌∙◌, subst, append_assoc, append-nil, drop-cons, length-drop, get_or-drop, take-add, Result, Ok, Err, All, IsOk, flat_map, nat_tests, nil_from_length, length-map, map-append, length-append, take_more_set, take_more, take_all, take-append-le, drop-drop, All-append, All-push, All-head, All-tail, All-nil, All-cons, flat_map-append, AllZip, slice_range}
 use Rattle.std.specs.Result.{result_ok}
 use Rattle.id_lookup.specs.Words.{IsLetterOf, Kind, KindDigits, ObjectId, ReadsAs, digits_read, full_read, hex_letter, id_digits, id_kind, kind_of_full_len, reading_of, whole_of}
 use Rattle.gix_hash.specs.declared.decode.Error.{Error}

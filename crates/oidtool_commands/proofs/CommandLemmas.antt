@@ -1,5 +1,5 @@
 -- Words by their number, and words that are rejected.
-use Rattle.std.proofs.Common.{ℕ, List, [], ◌∷◌, refl, codes}
+use Rattle.gix_hash.proofs.Std.{ℕ, List, [], ◌∷◌, refl, codes}
 use Rattle.id_lookup.specs.Words.{IsNameOf, Kind}
 use Rattle.oidtool_commands.specs.declared.command.ArgError.{ArgError}
 use Rattle.oidtool_commands.specs.declared.command.ArgError.TheVariants.{Usage, BadKind, BadNumber}

@@ -1,11 +1,5 @@
 -- A part more of a list that comes in parts.
-use Rattle.std.proofs.Common.{◌≡◌, ◌↔◌, ℕ, zero, suc, ◌+◌, ◌≤◌, min, nat_lt, if◌then◌else◌, true, false, Option, Some, None, List, [], ◌∷◌, ◌++◌, map, length, length-append, get_or, refl, sym, ap, ◌∙◌, arith, nat_eq}
-use Rattle.std.proofs.lemmas.Bool.Decides.{nat_tests}
-use Rattle.std.proofs.lemmas.List.{map-append, length-map}
-use Rattle.std.proofs.lemmas.List.Elements.{filter-append}
-use Rattle.std.proofs.lemmas.List.Sums.{length-filter, count_by-le-length}
-use Rattle.std.specs.Option.{option_map, option_or, is_some}
-use Rattle.std.specs.List.{starts_with}
+use Rattle.gix_hash.proofs.Std.{◌≡◌, ◌↔◌, ℕ, zero, suc, ◌+◌, ◌≤◌, min, nat_lt, if◌then◌else◌, true, false, Option, Some, None, List, [], ◌∷◌, ◌++◌, map, length, length-append, get_or, refl, sym, ap, ◌∙◌, arith, nat_eq, nat_tests, map-append, length-map, filter-append, length-filter, count_by-le-length, option_map, option_or, is_some, starts_with}
 use Rattle.id_lookup.specs.Words.{ObjectId, id_digits, least_hex_len, matches}
 use Rattle.oidtool_commands.specs.Searches.{order_error, error_of_all, first_refused}
 use Rattle.oidtool_commands.specs.SearchStates.{HasFound, IsLeast, last_or}

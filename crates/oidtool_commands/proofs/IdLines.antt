@@ -1,11 +1,5 @@
 -- Sorted lines of full ids: the ids that they read as, and what is known of these.
-use Rattle.std.proofs.Common.{◌≡◌, ◌⊎◌, inl, inr, ℕ, zero, suc, ◌+◌, ◌-◌, ◌<◌, ◌≤◌, Bool, true, false, nat_eq, if◌then◌else◌, IsTrue, Option, Some, None, Ok, List, [], ◌∷◌, map, length, take, get_or, refl, sym, ap, subst, ◌∙◌, arith, Less, Equal, Greater}
-use Rattle.std.proofs.lemmas.Bool.Decides.{nat_tests}
-use Rattle.std.proofs.lemmas.Cmp.{nat_list_cmp_total}
-use Rattle.std.proofs.lemmas.List.{length-map, get_or-map}
-use Rattle.std.specs.Ordering.{nat_cmp, is_lt, is_le, ordering_reverse}
-use Rattle.std.specs.Cmp.Lexicographic.{slice_cmp}
-use Rattle.std.specs.declared.cmp.Ordering.{Ordering}
+use Rattle.gix_hash.proofs.Std.{◌≡◌, ◌⊎◌, inl, inr, ℕ, zero, suc, ◌+◌, ◌-◌, ◌<◌, ◌≤◌, Bool, true, false, nat_eq, if◌then◌else◌, IsTrue, Option, Some, None, Ok, List, [], ◌∷◌, map, length, take, get_or, refl, sym, ap, subst, ◌∙◌, arith, Less, Equal, Greater, nat_tests, nat_list_cmp_total, length-map, get_or-map, nat_cmp, is_lt, is_le, ordering_reverse, slice_cmp, Ordering}
 use Rattle.id_lookup.specs.Words.{IsSortedIds, Kind, KindDigits, ObjectId, Sha1, Sha256, byte_len_of, digits_of, full_read, hex_len_of, hex_letter, id_digits, id_of as made, kind_of_full_len, least_hex_len, place, reading_of, whole_of}
 use Rattle.gix_hash.specs.declared.decode.Error.TheVariants.{InvalidHexEncodingLength, Invalid}
 use Rattle.gix_hash.proofs.KindFacts.{hex_len_of-bytes}

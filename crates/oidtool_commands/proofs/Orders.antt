@@ -1,12 +1,5 @@
 -- The order of a list: its first error as a function, and as `id_lookup` states it.
-use Rattle.std.proofs.Common.{◌≡◌, ◌==◌, ◌⊎◌, inl, inr, ℕ, zero, suc, ◌+◌, ◌-◌, ◌<◌, ◌≤◌, ◌&&◌, not, if◌then◌else◌, Bool, true, false, Option, Some, None, List, [], ◌∷◌, length, get_or, refl, sym, ap, subst, ◌∙◌, arith, nat_cmp, is_lt}
-use Rattle.std.proofs.lemmas.Bool.Decides.{nat_tests}
-use Rattle.std.proofs.lemmas.List.{get_or_default}
-use Rattle.std.specs.List.Sorted.{IsSortedWithin}
-use Rattle.std.specs.Option.{option_map, option_or}
-use Rattle.std.specs.Cmp.Lexicographic.{slice_cmp}
-use Rattle.std.specs.declared.cmp.Ordering.{Ordering}
-use Rattle.std.specs.declared.cmp.Ordering.TheVariants.{Less, Equal, Greater}
+use Rattle.gix_hash.proofs.Std.{◌≡◌, ◌==◌, ◌⊎◌, inl, inr, ℕ, zero, suc, ◌+◌, ◌-◌, ◌<◌, ◌≤◌, ◌&&◌, not, if◌then◌else◌, Bool, true, false, Option, Some, None, List, [], ◌∷◌, length, get_or, refl, sym, ap, subst, ◌∙◌, arith, nat_cmp, is_lt, nat_tests, get_or_default, IsSortedWithin, option_map, option_or, slice_cmp, Ordering, Less, Equal, Greater}
 use Rattle.id_lookup.specs.Words.{IsFirstUnsorted, IsIndexUpTo, IsNotRising, IsWrongKind, Kind, hex_len_of}
 use Rattle.oidtool_commands.specs.Searches.{order_error, first_refused, is_above}
 use Rattle.oidtool_commands.specs.SearchStates.{error_of_first}

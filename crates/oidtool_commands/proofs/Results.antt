@@ -1,9 +1,5 @@
 -- Each result of a search holds of the two texts, and only one does.
-use Rattle.std.proofs.Common.{◌≡◌, ◌↔◌, ℕ, ◌+◌, ◌-◌, ◌<◌, ◌≤◌, nat_lt, Bool, true, false, Option, Some, None, List, [], ◌∷◌, ◌++◌, length, refl, ap, subst, arith, Result, Ok, Err, IsOk, is_ok, ◌∙◌, inl, inr, All}
-use Rattle.std.proofs.lemmas.Bool.Decides.{nat_tests}
-use Rattle.std.proofs.lemmas.List.Elements.{All-cons, All-head, All-tail}
-use Rattle.std.specs.List.{AllZip}
-use Rattle.std.specs.Option.{option_or}
+use Rattle.gix_hash.proofs.Std.{◌≡◌, ◌↔◌, ℕ, ◌+◌, ◌-◌, ◌<◌, ◌≤◌, nat_lt, Bool, true, false, Option, Some, None, List, [], ◌∷◌, ◌++◌, length, refl, ap, subst, arith, Result, Ok, Err, IsOk, is_ok, ◌∙◌, inl, inr, All, nat_tests, All-cons, All-head, All-tail, AllZip, option_or}
 use Rattle.id_lookup.specs.Words.{KindDigits, full_read, hex_letter, least_hex_len, matches}
 use Rattle.gix_hash.specs.declared.decode.Error.{Error}
 use Rattle.gix_hash.specs.declared.prefix.from_hex.Error.{Error as PrefixError}

@@ -1,8 +1,5 @@
 -- What a search does with a chunk, step by step: lines that are skipped, and lines that are read.
-use Rattle.std.proofs.Common.{◌-◌, ◌/◌, Bool, true, false, nat_eq, IsTrue, take-append-drop, ◌≡◌, ◌≢◌, ℕ, zero, suc, ◌+◌, ◌*◌, ◌<◌, ◌≤◌, List, [], ◌∷◌, ◌++◌, map, length, take, drop, refl, sym, ap, subst, ◌∙◌, arith, append_assoc, append-nil, take-add, length-append, length-take, length-drop, suc-mul}
-use Rattle.std.proofs.lemmas.Bool.Decides.{nat_tests}
-use Rattle.std.proofs.lemmas.List.{length-take-le, map-append, take_all, take_more}
-use Rattle.std.specs.Simd.{first_chunks}
+use Rattle.gix_hash.proofs.Std.{◌-◌, ◌/◌, Bool, true, false, nat_eq, IsTrue, take-append-drop, ◌≡◌, ◌≢◌, ℕ, zero, suc, ◌+◌, ◌*◌, ◌<◌, ◌≤◌, List, [], ◌∷◌, ◌++◌, map, length, take, drop, refl, sym, ap, subst, ◌∙◌, arith, append_assoc, append-nil, take-add, length-append, length-take, length-drop, suc-mul, nat_tests, length-take-le, map-append, take_all, take_more, first_chunks}
 use Rattle.id_lookup.specs.Words.{ObjectId, id_digits}
 use Rattle.id_digits.specs.Letters.{is_line_len}
 use Rattle.oidtool_commands.specs.Lists.{IsListRefusal, ended}

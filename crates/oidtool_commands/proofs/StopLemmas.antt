@@ -1,9 +1,5 @@
 -- The bytes of a source that a search has taken, read by read, and where the search stops: where the reading does, or at the end of what it is given.
-use Rattle.std.proofs.Common.{◌≡◌, ◌||◌, Bool, false, ℕ, ◌+◌, ◌<◌, ◌≤◌, inl, inr, Option, List, [], ◌++◌, length, take, drop, refl, sym, ap, ◌∙◌, subst, arith, append_assoc, length-append, take-append-drop, append-nil, ◌≢◌, ◌↔◌, true, map, Result, Ok, Err, IfOk, IfErr, IsErrAnd, IsErrOf, IsOk, OnOk}
-use Rattle.std.proofs.lemmas.List.{take-take, length-map}
-use Rattle.std.proofs.KnownBytes.{Consumes-trans, Consumes-kept}
-use Rattle.std.specs.Io.KnownBytes.{Consumes, Keeps, IsAtEnd, Appends}
-use Rattle.std.proofs.Math.Seq.{take-append_seam}
+use Rattle.gix_hash.proofs.Std.{◌≡◌, ◌||◌, Bool, false, ℕ, ◌+◌, ◌<◌, ◌≤◌, inl, inr, Option, List, [], ◌++◌, length, take, drop, refl, sym, ap, ◌∙◌, subst, arith, append_assoc, length-append, take-append-drop, append-nil, ◌≢◌, ◌↔◌, true, map, Result, Ok, Err, IfOk, IfErr, IsErrAnd, IsErrOf, IsOk, OnOk, take-take, length-map, Consumes-trans, Consumes-kept, Consumes, Keeps, IsAtEnd, Appends, take-append_seam, false≢true}
 use Rattle.id_lookup.specs.Words.{KindDigits, ObjectId, id_digits}
 use Rattle.oidtool_commands.specs.Searches.{HoldsOfAll, IsSettled, GivesGoodLines, GivesTooMuch, Fails, Finds, FoundHolds, From, Searched, IsOwn, OfAll, Stops, found_among, found_in_list, found_texts, letter_for, prefix_for}
 use Rattle.oidtool_commands.specs.Lists.{NoBadLineEnded, list_read, IsListRefusal}
@@ -12,7 +8,6 @@ use Rattle.oidtool_commands.specs.declared.search.finder.Finder.{Finder}
 use Rattle.oidtool_commands.specs.declared.search.list_reader.ListReader.{ListReader}
 use Rattle.oidtool_commands.specs.declared.search.Search.{Search}
 use Rattle.oidtool_commands.proofs.ChunkLemmas.{no_bad_line}
-use Rattle.std.proofs.lemmas.Bool.{false≢true}
 use Rattle.std.specs.Result.{MatchResult, result_map_both}
 use Rattle.streams.specs.Streams.{printed}
 use Rattle.oidtool_commands.specs.declared.search.query.Query.{Query}

@@ -1,8 +1,5 @@
 -- The names of a bucket, by its bytes.
-use Rattle.std.proofs.Common.{◌≡◌, Bool, true, ℕ, zero, suc, ◌+◌, ◌-◌, ◌*◌, ◌/◌, ◌<◌, ◌≤◌, List, [], ◌∷◌, length, get_or, slice_index, take, drop, sym, ap, ◌∙◌, subst, arith, ◌↔◌, slice_range, IsTrue, All, count_by, mul-le-mul_left}
-use Rattle.std.specs.Simd.{first_chunks}
-use Rattle.std.proofs.lemmas.List.{take-take, drop-drop, drop-take, get_or-drop, get_or-map, get_or-take, length-drop, length-map, length-take-le, same_lists}
-use Rattle.std.proofs.lemmas.List.Elements.{All-map, filter_passes}
+use Rattle.gix_hash.proofs.Std.{◌≡◌, Bool, true, ℕ, zero, suc, ◌+◌, ◌-◌, ◌*◌, ◌/◌, ◌<◌, ◌≤◌, List, [], ◌∷◌, length, get_or, slice_index, take, drop, sym, ap, ◌∙◌, subst, arith, ◌↔◌, slice_range, IsTrue, All, count_by, mul-le-mul_left, first_chunks, take-take, drop-drop, drop-take, get_or-drop, get_or-map, get_or-take, length-drop, length-map, length-take-le, same_lists, All-map, filter_passes}
 use Rattle.id_lookup.specs.Words.{Kind, byte_len_of, digits_of, has_first_byte, is_below, is_up_to, part_of}
 use Rattle.id_lookup.proofs.FilterCounted.{filter_counted}
 use Rattle.id_lookup.proofs.FirstByteCounts.{count_by-below_0, count_by-up_to, up_to_step}

@@ -1,8 +1,6 @@
 -- How many names the bytes of a pack index have, and how many digits each.
-use Rattle.std.proofs.Common.{◌≡◌, ℕ, ◌-◌, ◌+◌, ◌*◌, ◌/◌, ◌<◌, ◌≤◌, zero, suc, List, [], ◌∷◌, length, map, get_or, take, drop, refl, sym, ap, subst, ◌∙◌, arith, length-drop, slice_range}
-use Rattle.std.proofs.lemmas.List.{drop-drop, get_or-map, length-map, length-take-le}
+use Rattle.gix_hash.proofs.Std.{◌≡◌, ℕ, ◌-◌, ◌+◌, ◌*◌, ◌/◌, ◌<◌, ◌≤◌, zero, suc, List, [], ◌∷◌, length, map, get_or, take, drop, refl, sym, ap, subst, ◌∙◌, arith, length-drop, slice_range, drop-drop, get_or-map, length-map, length-take-le, first_chunks}
 use Rattle.id_lookup.specs.Words.{Kind, Sha1, Sha256, byte_len_of, digits_of, hex_len_of, least_hex_len}
-use Rattle.std.specs.Simd.{first_chunks}
 use Rattle.id_digits.proofs.ByteDigits.{length-digits_of}
 use Rattle.pack_index.specs.Format.{HasTables, crc_table_start, digests_in, names_in, names_start, num_objects}
 

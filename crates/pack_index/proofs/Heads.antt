@@ -1,5 +1,5 @@
 -- The numbers in the head of a pack index are those of all its bytes.
-use Rattle.std.proofs.Common.{◌≡◌, ℕ, zero, suc, ◌+◌, ◌-◌, ◌*◌, ◌<◌, ◌≤◌, List, [], ◌∷◌, length, get_or, take, drop, refl, sym, ap, ◌∙◌, arith, zero-add, get_or-take, get_or-drop}
+use Rattle.gix_hash.proofs.Std.{◌≡◌, ℕ, zero, suc, ◌+◌, ◌-◌, ◌*◌, ◌<◌, ◌≤◌, List, [], ◌∷◌, length, get_or, take, drop, refl, sym, ap, ◌∙◌, arith, zero-add, get_or-take, get_or-drop}
 use Rattle.std.specs.Int.{from_be_bytes, w32}
 use Rattle.id_lookup.specs.Words.{Kind, Sha1, Sha256, byte_len_of}
 use Rattle.pack_index.specs.Format.{BeginsIndex, Each, FillsBytes, HasHead, HasTables, IsFirstNot, IsHeadFault, long_table_start, min_len, names_start, num_objects, offset_table_start, other_than, word_at}

@@ -1,15 +1,6 @@
 -- Where an id is among names of its kind, by the run of all its digits.
-use Rattle.std.proofs.Common.{◌≡◌, ◌≢◌, ℕ, ◌-◌, ◌<◌, ◌≤◌, true, false, not, nat_eq, Option, None, Some, List, [], length, get_or, take, inl, inr, refl, sym, ap, subst, ◌∙◌, arith, append-nil, ◌↔◌, IfSome, IsTrue, take_all, take_at}
-use Rattle.std.specs.Cmp.Lexicographic.{slice_cmp}
+use Rattle.gix_hash.proofs.Std.{◌≡◌, ◌≢◌, ℕ, ◌-◌, ◌<◌, ◌≤◌, true, false, not, nat_eq, Option, None, Some, List, [], length, get_or, take, inl, inr, refl, sym, ap, subst, ◌∙◌, arith, append-nil, ◌↔◌, IfSome, IsTrue, take_all, take_at, slice_cmp, Contains, is_lt, nat_cmp, ordering_reverse, Ordering, Equal, Greater, Less, cases_lt, false≢true, nat_list_cmp_total, get_or_default, ranks_by, sorted_far}
 use Rattle.std.specs.FinMap.{nat_cmp-IsAntisymmetric, slice_cmp-IsAntisymmetric}
-use Rattle.std.specs.List.{Contains}
-use Rattle.std.specs.Ordering.{is_lt, nat_cmp, ordering_reverse}
-use Rattle.std.specs.declared.cmp.Ordering.{Ordering}
-use Rattle.std.specs.declared.cmp.Ordering.TheVariants.{Equal, Greater, Less}
-use Rattle.std.proofs.lemmas.Bool.{cases_lt, false≢true}
-use Rattle.std.proofs.lemmas.Cmp.{nat_list_cmp_total}
-use Rattle.std.proofs.lemmas.List.{get_or_default}
-use Rattle.std.proofs.lemmas.List.Sorted.{ranks_by, sorted_far}
 use Rattle.id_lookup.specs.Words.{BeginsWith, IsRun, IsSortedIds, Kind, KindDigits, begins_with, hex_len_of, number_of}
 use Rattle.id_lookup.specs.declared.search.Run.{Run}
 use Rattle.id_lookup.proofs.Indexes.{not_other, same_kind}

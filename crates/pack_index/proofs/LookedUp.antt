@@ -1,8 +1,5 @@
 -- Where an id is among the names of a pack index, by those that are counted with its first byte.
-use Rattle.std.proofs.Common.{◌≡◌, ◌≢◌, ℕ, ◌+◌, ◌-◌, ◌<◌, ◌≤◌, ◌⊎◌, inl, inr, true, List, [], ◌++◌, length, filter, get_or, take, drop, refl, sym, ap, ◌∙◌, subst, arith, eq-eqb, ◌↔◌, None, Some, slice_range, All, Contains}
-use Rattle.std.proofs.lemmas.Bool.{cases_lt}
-use Rattle.std.proofs.lemmas.List.{get_or-drop, get_or-take, get_or_default, length-append, length-take-le}
-use Rattle.std.proofs.lemmas.List.Elements.{filter-append, filter_passes}
+use Rattle.gix_hash.proofs.Std.{◌≡◌, ◌≢◌, ℕ, ◌+◌, ◌-◌, ◌<◌, ◌≤◌, ◌⊎◌, inl, inr, true, List, [], ◌++◌, length, filter, get_or, take, drop, refl, sym, ap, ◌∙◌, subst, arith, eq-eqb, ◌↔◌, None, Some, slice_range, All, Contains, cases_lt, get_or-drop, get_or-take, get_or_default, length-append, length-take-le, filter-append, filter_passes}
 use Rattle.id_lookup.specs.Words.{Kind, first_byte_of, has_first_byte}
 use Rattle.id_lookup.proofs.Filtering.{filter_all, three_parts}
 use Rattle.id_lookup.proofs.Filters.{contains_kept}

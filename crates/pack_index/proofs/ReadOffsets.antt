@@ -1,6 +1,5 @@
 -- The offset of a name, by what was read of it.
-use Rattle.std.proofs.Common.{◌≡◌, ℕ, ◌+◌, ◌-◌, ◌*◌, ◌^◌, ◌<◌, ◌≤◌, List, length, sym, ap, ◌∙◌, arith}
-use Rattle.std.proofs.lemmas.Bool.{cond-false, le-ltb}
+use Rattle.gix_hash.proofs.Std.{◌≡◌, ℕ, ◌+◌, ◌-◌, ◌*◌, ◌^◌, ◌<◌, ◌≤◌, List, length, sym, ap, ◌∙◌, arith, cond-false, le-ltb}
 use Rattle.id_lookup.specs.Words.{Kind}
 use Rattle.pack_index.specs.Format.{HasOffset, HasTables, long_entry, long_table_start, long_word, num_objects, offset_in, offset_table_start, offset_word, tables_end, word_at}
 use Rattle.pack_index.proofs.Heads.{head_count, offsets_in_head, word_within}

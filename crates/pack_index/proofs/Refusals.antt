@@ -1,8 +1,5 @@
 -- Bytes that are rejected are no pack index.
-use Rattle.std.proofs.Common.{◌≡◌, ℕ, ◌+◌, ◌-◌, List, [], get_or, sym, ap, subst, ◌∙◌, arith, nat_cmp, is_lt}
-use Rattle.std.specs.Cmp.Lexicographic.{slice_cmp}
-use Rattle.std.specs.declared.cmp.Ordering.TheVariants.{Less}
-use Rattle.std.proofs.lemmas.Bool.{false≢true}
+use Rattle.gix_hash.proofs.Std.{◌≡◌, ℕ, ◌+◌, ◌-◌, List, [], get_or, sym, ap, subst, ◌∙◌, arith, nat_cmp, is_lt, slice_cmp, Less, false≢true}
 use Rattle.id_lookup.specs.Words.{Kind}
 use Rattle.pack_index.specs.Format.{IsFault, IsPackIndex, names_in}
 use Rattle.pack_index.specs.declared.error.Error.{Error}

@@ -1,10 +1,5 @@
 -- Lines that a reader gives, and those that are still to come.
-use Rattle.std.proofs.Common.{◌≡◌, ℕ, Bool, true, false, ◌+◌, ◌-◌, ◌<◌, ◌≤◌, List, [], ◌∷◌, ◌++◌, Option, None, Some, cond, length, take, drop, count_by, set, get_or, refl, sym, ap, ◌∙◌, arith, append_assoc, add-one, zero-add, length-append, length-drop, option_map}
-use Rattle.std.specs.Io.KnownBytes.{Consumes, IsAtEnd, Keeps, prepend_known}
-use Rattle.std.proofs.Math.Seq.{paste, take-append-add, take-suc-set}
-use Rattle.std.proofs.lemmas.List.{append-nil, drop-take, drop_all, length-take, length-take-le, take-append-drop, take-append-le, take-take, take_more}
-use Rattle.std.proofs.lemmas.List.Edits.{take-paste}
-use Rattle.std.proofs.lemmas.List.Sums.{sum_by-append}
+use Rattle.gix_hash.proofs.Std.{◌≡◌, ℕ, Bool, true, false, ◌+◌, ◌-◌, ◌<◌, ◌≤◌, List, [], ◌∷◌, ◌++◌, Option, None, Some, cond, length, take, drop, count_by, set, get_or, refl, sym, ap, ◌∙◌, arith, append_assoc, add-one, zero-add, length-append, length-drop, option_map, Consumes, IsAtEnd, Keeps, prepend_known, paste, take-append-add, take-suc-set, append-nil, drop-take, drop_all, length-take, length-take-le, take-append-drop, take-append-le, take-take, take_more, take-paste, sum_by-append}
 use Rattle.packtool.specs.WholeLines.{AreWhole, HasNoLineFeed, is_line_feed, last_after, made_whole}
 
 pub last-append : (before : ℕ) (xs ys : List ℕ) → last_after before (xs ++ ys) ≡ last_after (last_after before xs) ys

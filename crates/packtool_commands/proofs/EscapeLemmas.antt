@@ -1,8 +1,5 @@
 -- How names are printed.
-use Rattle.std.proofs.Common.{◌≡◌, ◌≢◌, ℕ, Bool, true, false, List, [], ◌∷◌, ◌++◌, refl, ap, ◌∙◌, arith, ◌==◌, ◌||◌, if◌then◌else◌}
-use Rattle.std.specs.List.{All, list_any}
-use Rattle.std.proofs.lemmas.Bool.{eqb-false, or_parts}
-use Rattle.std.proofs.lemmas.List.Elements.{All-append, All-cons, All-nil}
+use Rattle.gix_hash.proofs.Std.{◌≡◌, ◌≢◌, ℕ, Bool, true, false, List, [], ◌∷◌, ◌++◌, refl, ap, ◌∙◌, arith, ◌==◌, ◌||◌, if◌then◌else◌, All, list_any, eqb-false, or_parts, All-append, All-cons, All-nil}
 use Rattle.packtool_commands.specs.Files.{escape_mark, escape_of, escaped, is_special, named}
 
 -- a byte that is not escaped is printed as it is

@@ -1,10 +1,6 @@
 -- Lines of which the last are kept back, to be written together.
-use Rattle.std.proofs.Common.{◌≡◌, ℕ, ◌+◌, ◌<◌, arith, Bool, true, Option, List, ◌++◌, take, drop, Result, Err, sym, ap, subst, ◌∙◌, append_assoc, take-append-drop, IsErr, flat_map}
-use Rattle.std.specs.List.{range_with_len}
-use Rattle.std.proofs.lemmas.Grind.{flat_map-append}
-use Rattle.std.proofs.lemmas.List.FromFn.{get_or-range_with_len, length-range_with_len}
+use Rattle.gix_hash.proofs.Std.{◌≡◌, ℕ, ◌+◌, ◌<◌, arith, Bool, true, Option, List, ◌++◌, take, drop, Result, Err, sym, ap, subst, ◌∙◌, append_assoc, take-append-drop, IsErr, flat_map, range_with_len, flat_map-append, get_or-range_with_len, length-range_with_len, Appends-trans}
 use Rattle.object_store.proofs.Held.{flat_map-take}
-use Rattle.std.proofs.KnownBytes.{Appends-trans}
 use Rattle.streams.specs.Streams.{AppendsPart, Wrote}
 use Rattle.streams.specs.declared.sink.WriteFailed.{WriteFailed}
 use Rattle.streams.proofs.WritingLemmas.{Wrote-stop, Wrote-then}

@@ -1,5 +1,5 @@
 -- The parts of a line, one after the other.
-use Rattle.std.proofs.Common.{◌≡◌, ℕ, List, [], ◌∷◌, ◌++◌, append_assoc}
+use Rattle.gix_hash.proofs.Std.{◌≡◌, ℕ, List, [], ◌∷◌, ◌++◌, append_assoc}
 use Rattle.packtool_commands.specs.Files.{line_of_object}
 use Rattle.packtool_commands.specs.Stores.{line_of_name}
 

@@ -1,13 +1,8 @@
 -- The lines of the ids of a store with their names, a part after the other.
-use Rattle.std.proofs.Common.{◌≡◌, ◌≢◌, ℕ, zero, suc, ◌+◌, Bool, Option, List, [], ◌∷◌, ◌++◌, refl, sym, subst, ◌⊎◌, inl, inr, append-nil, arith, ◌↔◌, IsTrue}
-use Rattle.std.specs.List.{flat_map}
-use Rattle.std.specs.Io.KnownBytes.{Appends}
-use Rattle.std.proofs.KnownBytes.{Appends-trans}
-use Rattle.std.proofs.lemmas.Grind.{flat_map-append}
+use Rattle.gix_hash.proofs.Std.{◌≡◌, ◌≢◌, ℕ, zero, suc, ◌+◌, Bool, Option, List, [], ◌∷◌, ◌++◌, refl, sym, subst, ◌⊎◌, inl, inr, append-nil, arith, ◌↔◌, IsTrue, flat_map, Appends, Appends-trans, flat_map-append, cases_lt}
 use Rattle.object_store.specs.Several.{AreNamed}
 use Rattle.object_store.specs.Stores.{HaveBuckets, StoreView}
 use Rattle.pack_index.specs.Format.{Each}
-use Rattle.std.proofs.lemmas.Bool.{cases_lt}
 use Rattle.object_store.specs.declared.abbreviations.NamedId.{NamedId}
 use Rattle.packtool_commands.specs.Stores.{AreNamedBelow, HasNamedAtMost, HasNamedBelow, name_line}
 use Rattle.streams.specs.Streams.{AppendsAtMost, AppendsPart}

@@ -1,6 +1,5 @@
 -- What was read of an input, and what was printed of all of it.
-use Rattle.std.proofs.Common.{ℕ, Option, Some, None, List, append-nil, IfSome}
-use Rattle.std.specs.Io.KnownBytes.{Consumes, IsAtEnd}
+use Rattle.gix_hash.proofs.Std.{ℕ, Option, Some, None, List, append-nil, IfSome, Consumes, IsAtEnd}
 
 -- the bytes read to the end of a source are all its bytes
 pub read_whole : (P : List ℕ → Type 0) (a b : Option (List ℕ)) (items : List ℕ) → Consumes a b items → IsAtEnd b → P items → IfSome a P

@@ -1,8 +1,5 @@
 -- A list of alternates that is read entry by entry.
-use Rattle.std.proofs.Common.{◌≡◌, ◌≢◌, true, false, arith, ℕ, ◌++◌, ◌∷◌, ◌==◌, List, [], length, refl, sym, ap, ◌∙◌, subst, append_assoc, append-nil, filter, map, not}
-use Rattle.std.proofs.lemmas.Bool.Decides.{nat_tests}
-use Rattle.std.proofs.lemmas.List.{map-append}
-use Rattle.std.proofs.lemmas.List.Elements.{filter-append}
+use Rattle.gix_hash.proofs.Std.{◌≡◌, ◌≢◌, true, false, arith, ℕ, ◌++◌, ◌∷◌, ◌==◌, List, [], length, refl, sym, ap, ◌∙◌, subst, append_assoc, append-nil, filter, map, not, nat_tests, map-append, filter-append}
 use Rattle.git_config.specs.Grammar.{before_nul}
 use Rattle.repositories.specs.Alternates.{HasEntry, HasEntries, NamesPaths}
 

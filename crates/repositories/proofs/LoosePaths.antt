@@ -1,8 +1,5 @@
 -- How the path of a loose object is written.
-use Rattle.std.proofs.Common.{◌++◌, ◌∷◌, [], ◌≡◌, ◌-◌, ◌≤◌, ℕ, List, length, map, take, drop, subst, ap, ◌∙◌, arith, Option}
-use Rattle.std.proofs.lemmas.List.{length-map, take_at}
-use Rattle.std.specs.Io.KnownBytes.{Appends}
-use Rattle.std.proofs.KnownBytes.{Appends-trans}
+use Rattle.gix_hash.proofs.Std.{◌++◌, ◌∷◌, [], ◌≡◌, ◌-◌, ◌≤◌, ℕ, List, length, map, take, drop, subst, ap, ◌∙◌, arith, Option, length-map, take_at, Appends, Appends-trans}
 use Rattle.gix_hash.specs.Words.{hex_len_of, hex_letter, spelling}
 use Rattle.gix_hash.specs.declared.kind.Kind.{Kind}
 use Rattle.gix_hash.specs.declared.kind.Kind.TheVariants.{Sha1, Sha256}

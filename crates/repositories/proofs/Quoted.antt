@@ -1,6 +1,5 @@
 -- A quoted text that is read byte by byte.
-use Rattle.std.proofs.Common.{◌≡◌, ℕ, ◌++◌, ◌∷◌, List, [], Some, None, refl, sym, ap, ◌∙◌, subst, append_assoc, append-nil}
-use Rattle.std.proofs.lemmas.Option.{some_pair_parts}
+use Rattle.gix_hash.proofs.Std.{◌≡◌, ℕ, ◌++◌, ◌∷◌, List, [], Some, None, refl, sym, ap, ◌∙◌, subst, append_assoc, append-nil, some_pair_parts}
 use Rattle.repositories.specs.Quoting.{Means, quoted_byte}
 
 -- from a text some bytes were read, and this is left: what is meant from the one is what is meant from the other

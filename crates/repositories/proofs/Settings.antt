@@ -1,6 +1,5 @@
 -- What one variable more sets.
-use Rattle.std.proofs.Common.{◌≡◌, Err, None, Option, Result, Some, option_map, refl}
-use Rattle.std.specs.Option.{IfSome, option_or}
+use Rattle.gix_hash.proofs.Std.{◌≡◌, Err, None, Option, Result, Some, option_map, refl, IfSome, option_or}
 use Rattle.gix_hash.specs.declared.Kind.{Kind}
 use Rattle.repositories.specs.Formats.{Fault, unless}
 

@@ -1,9 +1,5 @@
 -- Which bytes are sealed, and what is held back of those that were read.
-use Rattle.std.proofs.Common.{◌≡◌, ◌≢◌, ◌<◌, ◌≤◌, ◌+◌, ◌-◌, ℕ, List, [], ◌∷◌, ◌++◌, length, take, drop, refl, sym, ap, subst, ◌∙◌, arith, append_assoc, take-append-drop, length-append, length-drop, min}
-use Rattle.std.specs.List.{copy_within}
-use Rattle.std.proofs.Math.Seq.{take-add, take-append-add, take-append_seam, drop-append_seam}
-use Rattle.std.proofs.lemmas.List.{length-take, nil_from_length, same_from_push, take-append-le}
-use Rattle.std.proofs.lemmas.List.Edits.{take-paste}
+use Rattle.gix_hash.proofs.Std.{◌≡◌, ◌≢◌, ◌<◌, ◌≤◌, ◌+◌, ◌-◌, ℕ, List, [], ◌∷◌, ◌++◌, length, take, drop, refl, sym, ap, subst, ◌∙◌, arith, append_assoc, take-append-drop, length-append, length-drop, min, copy_within, take-add, take-append-add, take-append_seam, drop-append_seam, length-take, nil_from_length, same_from_push, take-append-le, take-paste}
 use borrow.Rule.Slice.PartMut.{put_mid, post_of}
 use Rattle.gix_hash.specs.Words.{EndsInDigest, byte_len_of, digest, id_bytes}
 use Rattle.gix_hash.specs.declared.Kind.{Kind}

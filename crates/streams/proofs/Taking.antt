@@ -1,9 +1,5 @@
 -- Writing a list of bytes chunk by chunk.
-use Rattle.std.proofs.lemmas.Bool.Decides.{nat_tests}
-use Rattle.std.proofs.Common.{Bool, false, ◌||◌, Ok, ◌≡◌, ◌≢◌, ℕ, ◌+◌, ◌-◌, ◌<◌, Option, Some, None, List, [], ◌++◌, length, take, drop, sym, ap, ◌∙◌, subst, arith, take-append-drop, append-nil, take-add}
-use Rattle.std.proofs.lemmas.List.{length-drop, take_rest}
-use Rattle.std.proofs.KnownBytes.{Appends-trans}
-use Rattle.std.specs.Io.KnownBytes.{Appends, Keeps}
+use Rattle.gix_hash.proofs.Std.{nat_tests, Bool, false, ◌||◌, Ok, ◌≡◌, ◌≢◌, ℕ, ◌+◌, ◌-◌, ◌<◌, Option, Some, None, List, [], ◌++◌, length, take, drop, sym, ap, ◌∙◌, subst, arith, take-append-drop, append-nil, take-add, length-drop, take_rest, Appends-trans, Appends, Keeps}
 use Rattle.streams.specs.Streams.{AppendsPart, write_fails}
 use Rattle.streams.proofs.WritingLemmas.{Appends-kept}
 

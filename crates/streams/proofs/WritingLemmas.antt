@@ -1,9 +1,5 @@
 -- What was taken, after one write and another.
-use Rattle.std.specs.Io.KnownBytes.{Appends, Keeps}
-use Rattle.std.proofs.Common.{◌≡◌, Bool, Option, Some, None, ℕ, ◌+◌, ◌<◌, List, [], ◌∷◌, ◌++◌, length, get_or, take, drop, Result, Ok, Err, IsErr, OnErr, flat_map, refl, sym, ap, subst, ◌∙◌, append_assoc, take-append-drop}
-use Rattle.std.proofs.KnownBytes.{Appends-trans}
-use Rattle.std.proofs.lemmas.List.{drop_more}
-use Rattle.std.proofs.lemmas.Grind.{flat_map-append}
+use Rattle.gix_hash.proofs.Std.{Appends, Keeps, ◌≡◌, Bool, Option, Some, None, ℕ, ◌+◌, ◌<◌, List, [], ◌∷◌, ◌++◌, length, get_or, take, drop, Result, Ok, Err, IsErr, OnErr, flat_map, refl, sym, ap, subst, ◌∙◌, append_assoc, take-append-drop, Appends-trans, drop_more, flat_map-append}
 use Rattle.streams.specs.Streams.{AppendsPart, AppendsAtMost, Wrote}
 use Rattle.streams.specs.declared.sink.WriteFailed.{WriteFailed}
 

@@ -1,4 +1,4 @@
-use Rattle.std.proofs.Common.{All, ◌≢◌, ◌++◌, ◌∷◌, [], ℕ, List, take, string_bytes}
+use Rattle.gix_hash.proofs.Std.{All, ◌≢◌, ◌++◌, ◌∷◌, [], ℕ, List, take, string_bytes}
 use Rattle.packtool.proofs.first_not_text.Given as goal
 
 abbrev pub invariant-loop-before : goal.invariant-loop-before

@@ -1,4 +1,4 @@
-use Rattle.std.proofs.Common.{◌≡◌, ◌*◌, ◌/◌, length, get_or, suc, ◌∙◌, arith, length-take-le}
+use Rattle.id_digits.proofs.Std.{◌≡◌, ◌*◌, ◌/◌, length, get_or, suc, ◌∙◌, arith, length-take-le}
 use Rattle.gix_hash.proofs.FrontReading.{even_read, odd_read, one_left}
 use Rattle.gix_hash.proofs.alphabet.decode_hex.Goals as goal
 

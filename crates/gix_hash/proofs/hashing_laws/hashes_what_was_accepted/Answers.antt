@@ -1,4 +1,4 @@
-use Rattle.std.proofs.Common.{[]}
+use Rattle.id_digits.proofs.Std.{[]}
 use Rattle.gix_hash.proofs.Accepted.{WritesAndFeeds-accepted}
 use Rattle.gix_hash.proofs.hashing_laws.hashes_what_was_accepted.Goals as goal
 

@@ -1,6 +1,4 @@
-use Rattle.std.proofs.Common.{◌∙◌, []}
-use Rattle.std.proofs.lemmas.List.{take_more, map-append, append-nil}
-use Rattle.std.proofs.lemmas.List.Folds.{concat-append}
+use Rattle.id_digits.proofs.Std.{◌∙◌, [], take_more, map-append, append-nil, concat-append}
 use Rattle.gix_hash.proofs.hashing_laws.id_of_chunks.Goals as goal
 
 pub loop-slice-preserved : goal.loop-slice-preserved

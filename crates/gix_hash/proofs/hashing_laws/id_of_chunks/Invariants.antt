@@ -1,5 +1,4 @@
-use Rattle.std.proofs.Common.{◌≡◌, map, take}
-use Rattle.std.specs.List.{concat}
+use Rattle.id_digits.proofs.Std.{◌≡◌, map, take, concat}
 use Rattle.gix_hash.specs.Hashing.{hasher_kind, WasFed}
 use Rattle.gix_hash.proofs.hashing_laws.id_of_chunks.Given as goal
 

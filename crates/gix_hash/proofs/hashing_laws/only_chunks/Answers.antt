@@ -1,4 +1,4 @@
-use Rattle.std.proofs.Common.{sym, subst}
+use Rattle.id_digits.proofs.Std.{sym, subst}
 use Rattle.gix_hash.specs.Hashing.{AreChunks}
 use Rattle.gix_hash.proofs.OnlyChunks.{AreChunks-chunks, chunks-unique}
 use Rattle.gix_hash.proofs.hashing_laws.only_chunks.Goals as goal

@@ -1,4 +1,4 @@
-use Rattle.std.proofs.Common.{◌≡◌, [], ◌∷◌, ◌++◌, codes, refl}
+use Rattle.id_digits.proofs.Std.{◌≡◌, [], ◌∷◌, ◌++◌, codes, refl}
 use Rattle.sha1.specs.Sha1 as fips1
 use Rattle.sha2.specs.Sha256 as fips256
 use Rattle.id_digits.specs.Digits.{digit_below, digits_of}

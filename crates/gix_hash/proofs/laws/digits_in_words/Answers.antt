@@ -1,5 +1,4 @@
-use Rattle.std.proofs.Common.{◌≡◌, ◌<◌, ◌+◌, ◌-◌, ◌/◌, ◌%◌, ◌^◌, ℕ, List, suc, drop, get_or, ◌∙◌, arith, get_or-drop}
-use Rattle.std.proofs.lemmas.List.Elements.{All-drop}
+use Rattle.id_digits.proofs.Std.{◌≡◌, ◌<◌, ◌+◌, ◌-◌, ◌/◌, ◌%◌, ◌^◌, ℕ, List, suc, drop, get_or, ◌∙◌, arith, get_or-drop, All-drop}
 use Rattle.id_digits.specs.Digits.{word}
 use Rattle.id_digits.proofs.DigitNumbers.{AreDigits, word-digit}
 use Rattle.gix_hash.proofs.laws.digits_in_words.Goals as goal

@@ -1,5 +1,4 @@
-use Rattle.std.proofs.Common.{sym, ap, ◌∙◌}
-use Rattle.std.specs.Ordering.{ordering_reverse}
+use Rattle.id_digits.proofs.Std.{sym, ap, ◌∙◌, ordering_reverse}
 use Rattle.gix_hash.specs.Kinds.{hex_len_of}
 use Rattle.gix_hash.proofs.SpellingLaws.{id_cmp-digits, opposite_spellings}
 use Rattle.gix_hash.proofs.laws.opposite_order.Goals as goal

@@ -1,5 +1,4 @@
-use Rattle.std.proofs.Common.{rules}
-use Rattle.std.specs.Cmp.Rules.{comparing}
+use Rattle.id_digits.proofs.Std.{rules, comparing}
 use Rattle.gix_hash.proofs.laws.order_of_views.Goals as goal
 
 pub returns-clause-total : goal.returns-clause-total

@@ -1,4 +1,4 @@
-use Rattle.std.proofs.Common.{refl}
+use Rattle.id_digits.proofs.Std.{refl}
 use Rattle.gix_hash.specs.Reading.{letter_of}
 use Rattle.gix_hash.proofs.ReadingLaws.{letter_of-alphabet, prefix_read-printed, prefix_read-same}
 use Rattle.gix_hash.proofs.laws.read_prefix_back.Goals as goal

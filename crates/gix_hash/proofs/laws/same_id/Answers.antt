@@ -1,4 +1,4 @@
-use Rattle.std.proofs.Common.{ap}
+use Rattle.id_digits.proofs.Std.{ap}
 use Rattle.gix_hash.proofs.Equalities.{same_id}
 use Rattle.gix_hash.specs.Reading.{whole_of}
 use Rattle.gix_hash.proofs.laws.same_id.Goals as goal

@@ -1,4 +1,4 @@
-use Rattle.std.proofs.Common.{refl}
+use Rattle.id_digits.proofs.Std.{refl}
 use Rattle.id_digits.specs.Digits.{digit_below, word}
 use Rattle.gix_hash.proofs.laws.words_written_out.Goals as goal
 

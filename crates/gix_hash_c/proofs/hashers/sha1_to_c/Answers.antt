@@ -1,5 +1,4 @@
-use Rattle.std.proofs.Common.{◌≡◌, ℕ, List, length, arith, sym, ap, ◌∙◌}
-use Rattle.std.proofs.lemmas.List.{take-append-le, take_all}
+use Rattle.gix_hash.proofs.Std.{◌≡◌, ℕ, List, length, arith, sym, ap, ◌∙◌, take-append-le, take_all}
 use Rattle.sha1.specs.declared.Sha1.{Sha1}
 use Rattle.gix_hash_c.proofs.hashers.sha1_to_c.Goals as goal
 

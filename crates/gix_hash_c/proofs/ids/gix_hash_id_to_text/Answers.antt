@@ -1,5 +1,4 @@
-use Rattle.std.proofs.Common.{◌≡◌, ◌<◌, ◌++◌, ◌∷◌, ℕ, List, suc, drop, length, get_or, inr, refl, ap, ◌∙◌, arith, drop-cons}
-use Rattle.std.proofs.lemmas.List.{set_at}
+use Rattle.gix_hash.proofs.Std.{◌≡◌, ◌<◌, ◌++◌, ◌∷◌, ℕ, List, suc, drop, length, get_or, inr, refl, ap, ◌∙◌, arith, drop-cons, set_at}
 use Rattle.id_lookup.specs.Words.{hex_len_of, hex_letter, oid_digits, oid_kind, spelling}
 use Rattle.id_digits.proofs.Spellings.{length-spelling}
 use Rattle.gix_hash_c.proofs.ids.gix_hash_id_to_text.Goals as goal

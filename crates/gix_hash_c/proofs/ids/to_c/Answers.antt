@@ -1,4 +1,4 @@
-use Rattle.std.proofs.Common.{◌≡◌, ◌∙◌, append-nil, length, refl, replicate, sym, ap}
+use Rattle.gix_hash.proofs.Std.{◌≡◌, ◌∙◌, append-nil, length, refl, replicate, sym, ap}
 use Rattle.id_digits.proofs.Packing.{padded-bytes}
 use Rattle.id_lookup.specs.Words.{ObjectId, byte_len_of, digits_of, id_bytes, id_kind}
 use Rattle.gix_hash_c.proofs.ids.to_c.Goals as goal

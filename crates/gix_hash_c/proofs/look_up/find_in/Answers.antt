@@ -1,4 +1,4 @@
-use Rattle.std.proofs.Common.{◌≤◌, length, subst, arith}
+use Rattle.gix_hash.proofs.Std.{◌≤◌, length, subst, arith}
 use Rattle.id_lookup.specs.Words.{Sha1, Sha256, hex_len_of}
 use Rattle.pack_index.proofs.Counted.{digests_in-reach}
 use Rattle.gix_hash_c.proofs.Runs.{found_in}

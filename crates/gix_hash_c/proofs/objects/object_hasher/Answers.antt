@@ -1,4 +1,4 @@
-use Rattle.std.proofs.Common.{◌≡◌, [], ◌∷◌, ◌++◌, refl, append_assoc}
+use Rattle.gix_hash.proofs.Std.{◌≡◌, [], ◌∷◌, ◌++◌, refl, append_assoc}
 use Rattle.gix_hash_c.specs.Hashers.{object_header}
 use Rattle.gix_hash_c.proofs.Feeding.{fed_more}
 use Rattle.gix_hash_c.proofs.objects.object_hasher.Goals as goal

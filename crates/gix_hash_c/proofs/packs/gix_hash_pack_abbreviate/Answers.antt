@@ -1,4 +1,4 @@
-use Rattle.std.proofs.Common.{◌<◌, inl, inr, refl, sym, arith}
+use Rattle.gix_hash.proofs.Std.{◌<◌, inl, inr, refl, sym, arith}
 use Rattle.pack_index.specs.Format.{num_objects}
 use Rattle.pack_index.proofs.Counted.{length-names_in}
 use Rattle.gix_hash_c.proofs.packs.gix_hash_pack_abbreviate.Goals as goal

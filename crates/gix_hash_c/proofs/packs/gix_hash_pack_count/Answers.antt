@@ -1,4 +1,4 @@
-use Rattle.std.proofs.Common.{inl, refl, sym, ◌∙◌}
+use Rattle.gix_hash.proofs.Std.{inl, refl, sym, ◌∙◌}
 use Rattle.pack_index.proofs.Counted.{length-names_in}
 use Rattle.gix_hash_c.proofs.packs.gix_hash_pack_count.Goals as goal
 

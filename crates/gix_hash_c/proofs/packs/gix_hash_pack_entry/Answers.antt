@@ -1,5 +1,4 @@
-use Rattle.std.proofs.Common.{◌<◌, inl, inr, refl, sym, ◌∙◌, arith}
-use Rattle.std.proofs.lemmas.Bool.{false≢true}
+use Rattle.gix_hash.proofs.Std.{◌<◌, inl, inr, refl, sym, ◌∙◌, arith, false≢true}
 use Rattle.pack_index.specs.Format.{num_objects}
 use Rattle.pack_index.proofs.Counted.{length-names_in}
 use Rattle.gix_hash_c.proofs.packs.gix_hash_pack_entry.Goals as goal

@@ -1,4 +1,4 @@
-use Rattle.std.proofs.Common.{◌≡◌, ◌<◌, ℕ, List, [], length, map, slice_index_or, sym, ap, ◌∙◌, subst, arith, IfSome}
+use Rattle.gix_hash.proofs.Std.{◌≡◌, ◌<◌, ℕ, List, [], length, map, slice_index_or, sym, ap, ◌∙◌, subst, arith, IfSome}
 use Rattle.id_lookup.specs.Words.{Kind, KindDigits, digits_of, hex_len_of}
 use Rattle.pack_index.specs.Format.{digests_in}
 use Rattle.pack_index.proofs.Counted.{length-digests_in_at}

@@ -1,4 +1,4 @@
-use Rattle.std.proofs.Common.{sym, ap, ◌∙◌, arith}
+use Rattle.gix_hash.proofs.Std.{sym, ap, ◌∙◌, arith}
 use Rattle.id_lookup.specs.Words.{byte_len_of, digits_of, oid_kind}
 use Rattle.gix_hash_c.proofs.CommonPlace.{place-apart, place-common}
 use Rattle.gix_hash_c.proofs.prefixes.first_digits_cmp.Goals as goal

@@ -1,4 +1,4 @@
-use Rattle.std.proofs.Common.{◌≡◌, length, sym, ◌∙◌, ap, arith}
+use Rattle.gix_hash.proofs.Std.{◌≡◌, length, sym, ◌∙◌, ap, arith}
 use Rattle.id_lookup.specs.Words.{hex_len_of}
 use Rattle.gix_hash_c.proofs.CommonPlace.{too_few}
 use Rattle.gix_hash_c.proofs.prefixes.first_digits_order.Goals as goal

@@ -1,4 +1,4 @@
-use Rattle.std.proofs.Common.{ap, ◌∙◌, arith}
+use Rattle.gix_hash.proofs.Std.{ap, ◌∙◌, arith}
 use Rattle.id_lookup.specs.Words.{digits_of}
 use Rattle.gix_hash_c.proofs.Reading.{read_answer}
 use Rattle.gix_hash_c.proofs.prefixes.gix_hash_prefix_from_hex.Goals as goal

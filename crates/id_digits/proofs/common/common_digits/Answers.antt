@@ -1,5 +1,4 @@
-use Rattle.std.proofs.Common.{ℕ, add-one, arith}
-use Rattle.std.proofs.lemmas.Bool.{cond-false, cond-true, eq-eqb, ne_eqb}
+use Rattle.id_digits.proofs.Std.{ℕ, add-one, arith, cond-false, cond-true, eq-eqb, ne_eqb}
 use Rattle.id_digits.proofs.CommonBytes.{same_byte, other_byte, no_more}
 use Rattle.id_digits.proofs.common.common_digits.Goals as goal
 

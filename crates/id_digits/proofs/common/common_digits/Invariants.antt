@@ -1,5 +1,4 @@
-use Rattle.std.proofs.Common.{◌≡◌, ◌+◌, ◌*◌, drop, nat_eq}
-use Rattle.std.specs.List.{common_prefix_len}
+use Rattle.id_digits.proofs.Std.{◌≡◌, ◌+◌, ◌*◌, drop, nat_eq, common_prefix_len}
 use Rattle.id_digits.specs.Digits.{digits_of}
 use Rattle.id_digits.proofs.common.common_digits.Given as goal
 

@@ -1,4 +1,4 @@
-use Rattle.std.proofs.Common.{◌≡◌, suc, ◌*◌, ◌/◌, ◌<◌, ◌≤◌, length, arith}
+use Rattle.id_digits.proofs.Std.{◌≡◌, suc, ◌*◌, ◌/◌, ◌<◌, ◌≤◌, length, arith}
 use Rattle.id_digits.proofs.Packing.{padded-even, padded-odd}
 use Rattle.id_digits.proofs.copying.copy_digits.Goals as goal
 

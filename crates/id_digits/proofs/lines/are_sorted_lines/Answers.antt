@@ -1,7 +1,4 @@
-use Rattle.std.proofs.Common.{◌≡◌, ◌+◌, ◌-◌, ◌/◌, ◌<◌, ◌≤◌, suc, refl, sym, ap, ap₂, subst, ◌∙◌, arith, length, length-take, take, get_or, [], true, eqb, ◌&&◌, IsTrue, nat_cmp}
-use Rattle.std.proofs.lemmas.Bool.{and_parts, not-false}
-use Rattle.std.proofs.lemmas.List.{get_or_default}
-use Rattle.std.specs.Cmp.Lexicographic.{slice_cmp}
+use Rattle.id_digits.proofs.Std.{◌≡◌, ◌+◌, ◌-◌, ◌/◌, ◌<◌, ◌≤◌, suc, refl, sym, ap, ap₂, subst, ◌∙◌, arith, length, length-take, take, get_or, [], true, eqb, ◌&&◌, IsTrue, nat_cmp, and_parts, not-false, get_or_default, slice_cmp}
 use Rattle.id_digits.specs.Digits.{digits_of, word}
 use Rattle.id_digits.specs.Letters.{line_values, may_follow, IsIdLine}
 use Rattle.id_digits.proofs.LineOrder.{line_of, line_before, line_before-is, line_word, word_none, word_follows, letters_tested, one_more, none_left}

@@ -1,5 +1,4 @@
-use Rattle.std.proofs.Common.{◌≡◌, ◌-◌, [], true, drop}
-use Rattle.std.specs.List.{list_all}
+use Rattle.id_digits.proofs.Std.{◌≡◌, ◌-◌, [], true, drop, list_all}
 use Rattle.id_digits.specs.Letters.{AreSortedLines, is_digit}
 use Rattle.id_digits.proofs.LineOrder.{line_word, line_before}
 use Rattle.id_digits.proofs.lines.are_sorted_lines.Given as goal

@@ -1,4 +1,4 @@
-use Rattle.std.proofs.Common.{true, false, sym, ap, ◌∙◌, is_le, is_lt}
+use Rattle.id_digits.proofs.Std.{true, false, sym, ap, ◌∙◌, is_le, is_lt}
 use Rattle.id_digits.specs.Digits.{digits_of, word}
 use Rattle.id_digits.proofs.LineOrder.{read_order, word_follows, same_follows}
 use Rattle.id_digits.proofs.lines.is_in_order.Goals as goal

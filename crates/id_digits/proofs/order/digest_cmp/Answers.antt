@@ -1,5 +1,4 @@
-use Rattle.std.proofs.Common.{◌<◌, ℕ, ◌∙◌, sym, ap₂, nat_cmp}
-use Rattle.std.proofs.lemmas.List.Elements.{All-from_get_or}
+use Rattle.id_digits.proofs.Std.{◌<◌, ℕ, ◌∙◌, sym, ap₂, nat_cmp, All-from_get_or}
 use Rattle.id_digits.proofs.FirstWords.{tied_words, untied_words}
 use Rattle.id_digits.proofs.order.digest_cmp.Goals as goal
 

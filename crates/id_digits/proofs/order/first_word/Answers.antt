@@ -1,4 +1,4 @@
-use Rattle.std.proofs.Common.{◌≡◌, sym, ◌∙◌, arith}
+use Rattle.id_digits.proofs.Std.{◌≡◌, sym, ◌∙◌, arith}
 use Rattle.id_digits.proofs.DigitNumbers.{word-bytes, big_from}
 use Rattle.id_digits.proofs.order.first_word.Goals as goal
 

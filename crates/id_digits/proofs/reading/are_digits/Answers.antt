@@ -1,5 +1,4 @@
-use Rattle.std.proofs.Common.{leb, cond, refl, arith}
-use Rattle.std.proofs.lemmas.Simd.{zip2_splat_left}
+use Rattle.id_digits.proofs.Std.{leb, cond, refl, arith, zip2_splat_left}
 use Rattle.id_digits.specs.Letters.{is_digit}
 use Rattle.id_digits.proofs.LaneValues.{all_clear}
 use Rattle.id_digits.proofs.reading.are_digits.Goals as goal

@@ -1,4 +1,4 @@
-use Rattle.std.proofs.Common.{sym, ◌∙◌}
+use Rattle.id_digits.proofs.Std.{sym, ◌∙◌}
 use Rattle.id_digits.proofs.LaneValues.{greater_digits}
 use Rattle.id_digits.proofs.reading.greater.Goals as goal
 

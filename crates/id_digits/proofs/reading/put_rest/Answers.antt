@@ -1,5 +1,4 @@
-use Rattle.std.proofs.Common.{◌≤◌, length, refl, arith}
-use Rattle.std.proofs.lemmas.Bool.Decides.{nat_tests}
+use Rattle.id_digits.proofs.Std.{◌≤◌, length, refl, arith, nat_tests}
 use Rattle.id_digits.proofs.LaneReading.{rest_stored}
 use Rattle.id_digits.proofs.reading.put_rest.Goals as goal
 

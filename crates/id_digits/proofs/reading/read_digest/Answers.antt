@@ -1,6 +1,4 @@
-use Rattle.std.proofs.Common.{◌&&◌, ap, arith, length, take, refl, ◌∙◌}
-use Rattle.std.proofs.lemmas.Simd.{length-put_chunk}
-use Rattle.std.specs.List.{list_all}
+use Rattle.id_digits.proofs.Std.{◌&&◌, ap, arith, length, take, refl, ◌∙◌, length-put_chunk, list_all}
 use Rattle.id_digits.specs.Letters.{values_of, is_digit}
 use Rattle.id_digits.proofs.LaneReading.{first_values, both_digits, tested, stored, read_values, least}
 use Rattle.id_digits.proofs.reading.read_digest.Goals as goal

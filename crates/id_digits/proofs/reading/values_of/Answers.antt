@@ -1,5 +1,4 @@
-use Rattle.std.proofs.Common.{ℕ, leb, cond, refl}
-use Rattle.std.proofs.lemmas.Simd.{zip2_splat, zip2_of_maps, splat_is_map}
+use Rattle.id_digits.proofs.Std.{ℕ, leb, cond, refl, zip2_splat, zip2_of_maps, splat_is_map}
 use Rattle.id_digits.specs.Letters.{value_of}
 use Rattle.id_digits.proofs.LaneValues.{selected, same_lanes}
 use Rattle.id_digits.specs.Digits.{digit_below}

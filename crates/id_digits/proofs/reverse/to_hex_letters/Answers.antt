@@ -1,4 +1,4 @@
-use Rattle.std.proofs.Common.{◌<◌, length, arith}
+use Rattle.id_digits.proofs.Std.{◌<◌, length, arith}
 use Rattle.id_digits.specs.Letters.{hex_of_reverse}
 use Rattle.id_digits.proofs.ReverseLetters.{replaced_more}
 use Rattle.id_digits.proofs.reverse.to_hex_letters.Goals as goal

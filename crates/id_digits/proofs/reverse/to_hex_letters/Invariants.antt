@@ -1,4 +1,4 @@
-use Rattle.std.proofs.Common.{◌≡◌, ◌++◌, map, take, drop}
+use Rattle.id_digits.proofs.Std.{◌≡◌, ◌++◌, map, take, drop}
 use Rattle.id_digits.specs.Letters.{hex_of_reverse}
 use Rattle.id_digits.proofs.reverse.to_hex_letters.Given as goal
 

@@ -1,4 +1,4 @@
-use Rattle.std.proofs.Common.{◌<◌, length, arith}
+use Rattle.id_digits.proofs.Std.{◌<◌, length, arith}
 use Rattle.id_digits.specs.Letters.{reverse_of_hex}
 use Rattle.id_digits.proofs.ReverseLetters.{replaced_more}
 use Rattle.id_digits.proofs.reverse.to_reverse_letters.Goals as goal

@@ -1,4 +1,4 @@
-use Rattle.std.proofs.Common.{◌≡◌, ◌++◌, map, take, drop}
+use Rattle.id_digits.proofs.Std.{◌≡◌, ◌++◌, map, take, drop}
 use Rattle.id_digits.specs.Letters.{reverse_of_hex}
 use Rattle.id_digits.proofs.reverse.to_reverse_letters.Given as goal
 

@@ -1,5 +1,4 @@
-use Rattle.std.proofs.Common.{ℕ, ◌%◌, refl, sym, map-id}
-use Rattle.std.proofs.lemmas.Simd.{zip2_splat, zip2_of_maps, splat_is_map}
+use Rattle.id_digits.proofs.Std.{ℕ, ◌%◌, refl, sym, map-id, zip2_splat, zip2_of_maps, splat_is_map}
 use Rattle.id_digits.specs.Digits.{hex_letter}
 use Rattle.id_digits.proofs.LaneValues.{selected, same_lanes}
 use Rattle.id_digits.proofs.spelling.digit_letters.Goals as goal

@@ -1,5 +1,4 @@
-use Rattle.std.proofs.Common.{ℕ, ◌/◌, ◌%◌, map, refl, ap, ◌∙◌}
-use Rattle.std.proofs.lemmas.Simd.{zip2_splat, map-map}
+use Rattle.id_digits.proofs.Std.{ℕ, ◌/◌, ◌%◌, map, refl, ap, ◌∙◌, zip2_splat, map-map}
 use Rattle.id_digits.specs.Digits.{hex_letter}
 use Rattle.id_digits.proofs.LaneSpelling.{spelled_in_turn}
 use Rattle.id_digits.proofs.LaneValues.{same_lanes}

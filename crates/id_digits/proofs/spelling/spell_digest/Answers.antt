@@ -1,5 +1,4 @@
-use Rattle.std.proofs.Common.{◌≤◌, length, refl, arith}
-use Rattle.std.proofs.lemmas.Bool.Decides.{nat_tests}
+use Rattle.id_digits.proofs.Std.{◌≤◌, length, refl, arith, nat_tests}
 use Rattle.id_digits.proofs.LaneReading.{least}
 use Rattle.id_digits.proofs.LaneSpelling.{stored_whole}
 use Rattle.id_digits.proofs.spelling.spell_digest.Goals as goal

@@ -1,4 +1,4 @@
-use Rattle.std.proofs.Common.{◌≡◌, ℕ, List, ◌-◌, length, take, drop, sym, ap, ◌∙◌, arith, take_all, length-drop}
+use Rattle.id_digits.proofs.Std.{◌≡◌, ℕ, List, ◌-◌, length, take, drop, sym, ap, ◌∙◌, arith, take_all, length-drop}
 use Rattle.id_digits.specs.Digits.{digits_of, word}
 use Rattle.id_digits.proofs.ByteDigits.{drop-digits_of}
 use Rattle.id_digits.proofs.words.second_word.Goals as goal

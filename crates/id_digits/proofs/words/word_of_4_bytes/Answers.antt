@@ -1,5 +1,4 @@
-use Rattle.std.proofs.Common.{◌≡◌, ◌<◌, ℕ, arith}
-use Rattle.std.proofs.lemmas.List.Elements.{All-from_get_or}
+use Rattle.id_digits.proofs.Std.{◌≡◌, ◌<◌, ℕ, arith, All-from_get_or}
 use Rattle.id_digits.proofs.DigitNumbers.{word-four, big_from}
 use Rattle.id_digits.proofs.Spellings.{All-digits_of}
 use Rattle.id_digits.proofs.words.word_of_4_bytes.Goals as goal

@@ -1,4 +1,4 @@
-use Rattle.std.proofs.Common.{◌-◌, ◌≤◌, map}
+use Rattle.gix_hash.proofs.Std.{◌-◌, ◌≤◌, map}
 use Rattle.id_lookup.specs.Runs.{IsSortedIds, bound_of}
 use Rattle.id_lookup.proofs.assuming_sorted.bound_assuming_sorted.Given as goal
 

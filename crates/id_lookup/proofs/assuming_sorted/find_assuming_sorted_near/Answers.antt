@@ -1,4 +1,4 @@
-use Rattle.std.proofs.Common.{map, arith}
+use Rattle.gix_hash.proofs.Std.{map, arith}
 use Rattle.id_lookup.proofs.Placed.{bound_of-end, run_is}
 use Rattle.id_lookup.proofs.assuming_sorted.find_assuming_sorted_near.Goals as goal
 

@@ -1,5 +1,4 @@
-use Rattle.std.proofs.Common.{◌<◌, [], length, map, ap, ◌∙◌, arith}
-use Rattle.std.proofs.lemmas.List.{length-map}
+use Rattle.gix_hash.proofs.Std.{◌<◌, [], length, map, ap, ◌∙◌, arith, length-map}
 use Rattle.gix_hash.specs.Words.{place}
 use Rattle.id_lookup.proofs.Least.{least_hex_len-le}
 use Rattle.id_lookup.proofs.Placed.{before_bound_at}

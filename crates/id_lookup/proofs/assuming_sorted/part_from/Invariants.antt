@@ -1,4 +1,4 @@
-use Rattle.std.proofs.Common.{◌≡◌, ◌-◌, ◌≤◌, length, map}
+use Rattle.gix_hash.proofs.Std.{◌≡◌, ◌-◌, ◌≤◌, length, map}
 use Rattle.id_lookup.specs.Runs.{IsSortedIds, bound_of}
 use Rattle.id_lookup.proofs.assuming_sorted.part_from.Given as goal
 

@@ -1,5 +1,4 @@
-use Rattle.std.proofs.Common.{◌<◌, [], length-set, below_more, refl, ap, subst, ◌∙◌, arith, map, All}
-use Rattle.std.proofs.lemmas.List.{get_or-replicate, get_or_default, length-map}
+use Rattle.gix_hash.proofs.Std.{◌<◌, [], length-set, below_more, refl, ap, subst, ◌∙◌, arith, map, All, get_or-replicate, get_or_default, length-map}
 use Rattle.gix_hash.specs.Words.{first_byte_of}
 use Rattle.id_lookup.proofs.FirstByteCounts.{one_more}
 use Rattle.id_lookup.proofs.fan_out.first_bytes.Goals as goal

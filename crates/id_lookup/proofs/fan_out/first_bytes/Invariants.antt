@@ -1,4 +1,4 @@
-use Rattle.std.proofs.Common.{◌≡◌, ℕ, ◌<◌, [], get_or, take, length, map, All, count_by}
+use Rattle.gix_hash.proofs.Std.{◌≡◌, ℕ, ◌<◌, [], get_or, take, length, map, All, count_by}
 use Rattle.id_lookup.specs.Runs.{has_first_byte}
 use Rattle.id_lookup.proofs.fan_out.first_bytes.Given as goal
 

@@ -1,4 +1,4 @@
-use Rattle.std.proofs.Common.{◌≡◌, length, All}
+use Rattle.gix_hash.proofs.Std.{◌≡◌, length, All}
 use Rattle.gix_hash.specs.Words.{hex_len_of, id_digits, id_kind}
 use Rattle.id_lookup.proofs.OneKind.{index-of_kind, kind-of_index}
 use Rattle.id_lookup.proofs.laws.strictly_sorted.Goals as goal

@@ -1,4 +1,4 @@
-use Rattle.std.proofs.Common.{ℕ, ◌<◌, List, slice_index, get_or, All}
+use Rattle.gix_hash.proofs.Std.{ℕ, ◌<◌, List, slice_index, get_or, All}
 use Rattle.id_lookup.proofs.FirstByteOrder.{are_digits}
 use Rattle.id_lookup.proofs.PartsInOrder.{part-run, parts-row}
 use Rattle.id_lookup.proofs.part_laws.parts_in_order.Goals as goal

@@ -1,4 +1,4 @@
-use Rattle.std.proofs.Common.{sym, ap, ◌∙◌, is_eq}
+use Rattle.gix_hash.proofs.Std.{sym, ap, ◌∙◌, is_eq}
 use Rattle.gix_hash.specs.Words.{hex_letter, id_digits, spelling}
 use Rattle.id_lookup.proofs.Spelled.{begins_with-place, starts_with-spelling, starts_with-BeginsWith}
 use Rattle.id_lookup.proofs.search.begins_with.Goals as goal

@@ -1,4 +1,4 @@
-use Rattle.std.proofs.Common.{arith}
+use Rattle.gix_hash.proofs.Std.{arith}
 use Rattle.id_lookup.proofs.Binary.{bits-above, bits-least, bits-half, bits-leading}
 use Rattle.id_lookup.proofs.search.bits_of.Goals as goal
 

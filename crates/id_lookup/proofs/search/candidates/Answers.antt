@@ -1,4 +1,4 @@
-use Rattle.std.proofs.Common.{◌≡◌, ap, ◌∙◌, count_by}
+use Rattle.gix_hash.proofs.Std.{◌≡◌, ap, ◌∙◌, count_by}
 use Rattle.gix_hash.specs.Words.{first_byte_of}
 use Rattle.id_lookup.specs.Runs.{is_below, is_up_to}
 use Rattle.id_lookup.proofs.FirstByteCounts.{are_candidates}

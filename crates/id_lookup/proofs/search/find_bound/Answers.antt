@@ -1,4 +1,4 @@
-use Rattle.std.proofs.Common.{◌+◌, ◌-◌, ◌/◌, sym, ap, ◌∙◌, arith, ltb-true, ltb-false}
+use Rattle.gix_hash.proofs.Std.{◌+◌, ◌-◌, ◌/◌, sym, ap, ◌∙◌, arith, ltb-true, ltb-false}
 use Rattle.id_lookup.specs.Runs.{Probing}
 use Rattle.id_lookup.proofs.Binary.{bits-half}
 use Rattle.id_lookup.proofs.Kept.{kept}

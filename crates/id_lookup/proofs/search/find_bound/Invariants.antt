@@ -1,4 +1,4 @@
-use Rattle.std.proofs.Common.{◌≡◌, ◌+◌, ◌-◌, ◌≤◌}
+use Rattle.gix_hash.proofs.Std.{◌≡◌, ◌+◌, ◌-◌, ◌≤◌}
 use Rattle.id_lookup.specs.Runs.{bits, bound_of}
 use Rattle.id_lookup.proofs.search.find_bound.Given as goal
 

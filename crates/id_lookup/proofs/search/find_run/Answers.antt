@@ -1,4 +1,4 @@
-use Rattle.std.proofs.Common.{◌-◌, ap, arith}
+use Rattle.gix_hash.proofs.Std.{◌-◌, ap, arith}
 use Rattle.id_lookup.specs.Runs.{Probing}
 use Rattle.id_lookup.proofs.Binary.{bits-least, bits-mono}
 use Rattle.id_lookup.proofs.Placed.{bound_of-end, run_is}

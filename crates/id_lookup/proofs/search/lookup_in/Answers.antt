@@ -1,4 +1,4 @@
-use Rattle.std.proofs.Common.{◌<◌, length, arith}
+use Rattle.gix_hash.proofs.Std.{◌<◌, length, arith}
 use Rattle.id_lookup.proofs.Placed.{run_is}
 use Rattle.id_lookup.proofs.search.lookup_in.Goals as goal
 

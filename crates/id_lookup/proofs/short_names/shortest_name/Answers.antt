@@ -1,4 +1,4 @@
-use Rattle.std.proofs.Common.{◌≡◌, ◌≤◌, [], length, map, max, refl, take, ap, ◌∙◌, arith}
+use Rattle.gix_hash.proofs.Std.{◌≡◌, ◌≤◌, [], length, map, max, refl, take, ap, ◌∙◌, arith}
 use Rattle.gix_hash.specs.Words.{KindDigits, hex_len_of, oid_digits, oid_kind}
 use Rattle.id_lookup.proofs.Neighbours.{has_room, shortest}
 use Rattle.id_lookup.proofs.short_names.shortest_name.Goals as goal

@@ -1,5 +1,4 @@
-use Rattle.std.proofs.Common.{map, ◌∙◌, arith}
-use Rattle.std.proofs.lemmas.List.{length-map}
+use Rattle.gix_hash.proofs.Std.{map, ◌∙◌, arith, length-map}
 use Rattle.id_lookup.proofs.Neighbours.{unique_by}
 use Rattle.id_lookup.proofs.short_names.unique_len.Goals as goal
 

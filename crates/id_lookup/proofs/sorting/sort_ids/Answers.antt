@@ -1,8 +1,4 @@
-use Rattle.std.proofs.Common.{rules, is_lt, nat_cmp}
-use Rattle.std.specs.Cmp.Lexicographic.{slice_cmp}
-use Rattle.std.proofs.lemmas.Cmp.{nat_list_cmp_total}
-use Rattle.std.proofs.lemmas.Fn.{always_returns_same}
-use Rattle.std.proofs.lemmas.List.Sorted.{ranks_by}
+use Rattle.gix_hash.proofs.Std.{rules, is_lt, nat_cmp, slice_cmp, nat_list_cmp_total, always_returns_same, ranks_by}
 use Rattle.id_lookup.proofs.OneKind.{sorted-map}
 use Rattle.id_lookup.proofs.sorting.sort_ids.Goals as goal
 

@@ -1,4 +1,4 @@
-use Rattle.std.specs.List.{AllWithin}
+use Rattle.gix_hash.proofs.Std.{AllWithin}
 use Rattle.gix_hash.specs.Words.{AreIdDigits, id_digits, id_kind}
 use Rattle.id_lookup.proofs.unique.note_digits.Given as goal
 

@@ -1,5 +1,4 @@
-use Rattle.std.proofs.Common.{sym}
-use Rattle.std.proofs.lemmas.List.Elements.{All-same}
+use Rattle.gix_hash.proofs.Std.{sym, All-same}
 use Rattle.std.proofs.lemmas.List.Filters.{dedup_is}
 use Rattle.gix_hash.specs.Words.{AreIdDigits, id_digits, id_kind}
 use Rattle.id_lookup.proofs.SortedOnce.{kept_kinds, kept_members, kept_strict, index_of_sorted}

@@ -1,4 +1,4 @@
-use Rattle.std.proofs.Common.{◌/◌, ◌%◌, ◌∷◌, [], ℕ, List, map, sym, subst, arith, All}
+use Rattle.gix_hash.proofs.Std.{◌/◌, ◌%◌, ◌∷◌, [], ℕ, List, map, sym, subst, arith, All}
 use Rattle.id_lookup.specs.Words.{IsIndexOf, Kind, ObjectId, id_digits, matches}
 use Rattle.object_store.specs.Stores.{AreIdsRead, AreMatches, IsOfKind, StoreView}
 use Rattle.object_store.proofs.Named.{named_digits, names_read}

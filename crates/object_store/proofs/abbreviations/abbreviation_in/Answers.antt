@@ -1,6 +1,4 @@
-use Rattle.std.proofs.Common.{◌≡◌, ◌∙◌, ◌+◌, ◌∷◌, [], ℕ, List, ap, arith, get_or, map, rules, subst}
-use Rattle.std.proofs.lemmas.Option.{get_or_from_slice_get}
-use Rattle.std.proofs.lemmas.List.{get_or-map, length-map}
+use Rattle.gix_hash.proofs.Std.{◌≡◌, ◌∙◌, ◌+◌, ◌∷◌, [], ℕ, List, ap, arith, get_or, map, rules, subst, get_or_from_slice_get, get_or-map, length-map}
 use Rattle.id_lookup.specs.Words.{IsRun, id_digits}
 use Rattle.object_store.proofs.Abbreviated.{only_one}
 use Rattle.object_store.proofs.abbreviations.abbreviation_in.Goals as goal

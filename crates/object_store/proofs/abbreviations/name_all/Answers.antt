@@ -1,5 +1,4 @@
-use Rattle.std.proofs.Common.{◌≡◌, rules, sym, subst, All}
-use Rattle.std.proofs.lemmas.List.Elements.{All-push}
+use Rattle.gix_hash.proofs.Std.{◌≡◌, rules, sym, subst, All, All-push}
 use Rattle.id_lookup.specs.Words.{Kind}
 use Rattle.object_store.specs.Stores.{IsOfKind}
 use Rattle.object_store.proofs.Named.{named_more}

@@ -1,4 +1,4 @@
-use Rattle.std.proofs.Common.{◌≡◌, ℕ, ◌<◌, length, map, get_or, take, All}
+use Rattle.gix_hash.proofs.Std.{◌≡◌, ℕ, ◌<◌, length, map, get_or, take, All}
 use Rattle.id_lookup.specs.Words.{IsShortestNameFrom, id_digits}
 use Rattle.object_store.specs.Stores.{IsOfKind}
 use Rattle.object_store.specs.declared.abbreviations.NamedId.{NamedId}

@@ -1,4 +1,4 @@
-use Rattle.std.proofs.Common.{◌≡◌, ◌∙◌, ◌≤◌, ◌∷◌, [], take, ap, arith}
+use Rattle.gix_hash.proofs.Std.{◌≡◌, ◌∙◌, ◌≤◌, ◌∷◌, [], take, ap, arith}
 use Rattle.id_lookup.specs.Words.{Kind, KindDigits, Sha1, Sha256, digits_of, first_byte_of, hex_len_of, kind_digits}
 use Rattle.object_store.proofs.abbreviations.two_digits.Goals as goal
 

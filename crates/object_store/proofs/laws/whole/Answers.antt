@@ -1,6 +1,6 @@
 use Rattle.object_store.proofs.Whole.{read_had, read_has, whole_found, whole_name}
 use Rattle.object_store.proofs.WholeLocations.{whole_locations}
-use Rattle.std.proofs.Common.{refl}
+use Rattle.gix_hash.proofs.Std.{refl}
 use Rattle.object_store.proofs.laws.whole.Goals as goal
 
 pub returns-clause-read : goal.returns-clause-read

@@ -1,5 +1,4 @@
-use Rattle.std.proofs.Common.{◌∙◌, [], ap, refl, sym, take_all}
-use Rattle.std.proofs.lemmas.Result.{err_from_is_err_and}
+use Rattle.gix_hash.proofs.Std.{◌∙◌, [], ap, refl, sym, take_all, err_from_is_err_and}
 use Rattle.gix_hash.specs.declared.ObjectId.TheVariants.{Sha1}
 use Rattle.object_store.specs.Stores.{StoreView}
 use Rattle.object_store.proofs.LocatedIds.{fault_of_first, first_bytes, first_kinds, located_more}

@@ -1,4 +1,4 @@
-use Rattle.std.proofs.Common.{◌≡◌, map, take, All}
+use Rattle.gix_hash.proofs.Std.{◌≡◌, map, take, All}
 use Rattle.object_store.specs.Several.{IsLocated}
 use Rattle.object_store.proofs.locations.locate_ids.Given as goal
 

@@ -1,5 +1,4 @@
-use Rattle.std.proofs.Common.{◌∙◌, [], ◌∷◌, ◌++◌, cond, ap, sym, append-nil, bytes_eq}
-use Rattle.std.specs.List.{list_any}
+use Rattle.gix_hash.proofs.Std.{◌∙◌, [], ◌∷◌, ◌++◌, cond, ap, sym, append-nil, bytes_eq, list_any}
 use Rattle.id_lookup.specs.Words.{Index, id_digits}
 use Rattle.object_store.specs.declared.locations.Location.TheVariants.{Loose}
 use Rattle.object_store.proofs.LooseParts.{any_is}

@@ -1,4 +1,4 @@
-use Rattle.std.proofs.Common.{◌≡◌, ap, length, subst, arith}
+use Rattle.gix_hash.proofs.Std.{◌≡◌, ap, length, subst, arith}
 use Rattle.id_lookup.specs.Words.{id_digits}
 use Rattle.object_store.specs.Stores.{ArePacked, HasLocation, IsLocationFault}
 use Rattle.object_store.proofs.Held.{fault_at, have_all, have_more, pack_at}

@@ -1,4 +1,4 @@
-use Rattle.std.proofs.Common.{take, All}
+use Rattle.gix_hash.proofs.Std.{take, All}
 use Rattle.id_lookup.specs.Words.{id_digits}
 use Rattle.object_store.specs.Stores.{ArePacked, HasLocation}
 use Rattle.pack_index.specs.Lazy.{IfKnown}

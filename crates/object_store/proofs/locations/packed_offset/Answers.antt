@@ -1,4 +1,4 @@
-use Rattle.std.proofs.lemmas.Result.{err_from_is_err_and}
+use Rattle.gix_hash.proofs.Std.{err_from_is_err_and}
 use Rattle.object_store.proofs.Located.{has_offset_none, has_offset_some, offset_fault, location_none, location_some}
 use Rattle.object_store.proofs.locations.packed_offset.Goals as goal
 

@@ -1,5 +1,4 @@
-use Rattle.std.proofs.Common.{◌≡◌, ◌∙◌, ◌++◌, List, ℕ, ap, map, refl, subst, sym, arith, nat_eq}
-use Rattle.std.specs.List.{All, flat_map, starts_with}
+use Rattle.gix_hash.proofs.Std.{◌≡◌, ◌∙◌, ◌++◌, List, ℕ, ap, map, refl, subst, sym, arith, nat_eq, All, flat_map, starts_with}
 use Rattle.id_lookup.specs.Words.{Index, IsIndexOf, Kind, ObjectId, first_byte_of, id_digits, id_kind, matches}
 use Rattle.pack_index.specs.Lazy.{BucketNames}
 use Rattle.object_store.specs.Stores.{ids_in}

@@ -1,5 +1,4 @@
-use Rattle.std.proofs.Common.{◌≡◌, ◌≤◌, ◌∙◌, ◌++◌, List, ap, length, map, subst, sym, nat_eq, take_all}
-use Rattle.std.specs.List.{All, flat_map, starts_with}
+use Rattle.gix_hash.proofs.Std.{◌≡◌, ◌≤◌, ◌∙◌, ◌++◌, List, ap, length, map, subst, sym, nat_eq, take_all, All, flat_map, starts_with}
 use Rattle.id_lookup.specs.Words.{Kind, ObjectId, hex_len_of, id_digits, id_kind, matches}
 use Rattle.object_store.proofs.PartNames.{bucket_more}
 use Rattle.pack_index.specs.Lazy.{BucketNames}

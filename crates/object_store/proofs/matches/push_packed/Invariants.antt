@@ -1,4 +1,4 @@
-use Rattle.std.proofs.Common.{◌≡◌, ◌++◌, map, take, All, flat_map}
+use Rattle.gix_hash.proofs.Std.{◌≡◌, ◌++◌, map, take, All, flat_map}
 use Rattle.id_lookup.specs.Words.{id_digits, id_kind, matches}
 use Rattle.pack_index.specs.Lazy.{BucketNames}
 use Rattle.object_store.proofs.matches.push_packed.Given as goal

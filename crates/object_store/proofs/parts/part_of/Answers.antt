@@ -1,4 +1,4 @@
-use Rattle.std.proofs.Common.{subst}
+use Rattle.gix_hash.proofs.Std.{subst}
 use Rattle.object_store.specs.Stores.{AreBuckets}
 use Rattle.object_store.proofs.parts.part_of.Goals as goal
 

@@ -1,4 +1,4 @@
-use Rattle.std.proofs.Common.{◌≡◌, ap, length, arith}
+use Rattle.gix_hash.proofs.Std.{◌≡◌, ap, length, arith}
 use Rattle.pack_index.specs.Lazy.{HasBucket, IsBucketFault}
 use Rattle.object_store.proofs.Held.{fault_at, pack_at}
 use Rattle.object_store.proofs.PartNames.{are_read, have_first, one_more}

@@ -1,4 +1,4 @@
-use Rattle.std.proofs.Common.{◌≡◌, length}
+use Rattle.gix_hash.proofs.Std.{◌≡◌, length}
 use Rattle.object_store.specs.Stores.{AreFirstBuckets}
 use Rattle.object_store.proofs.parts.read_buckets.Given as goal
 

@@ -1,7 +1,4 @@
-use Rattle.std.proofs.Common.{◌≡◌, ℕ, arith, length, map, subst}
-use Rattle.std.specs.List.{range_with_len}
-use Rattle.std.specs.List.Sorted.{IsPermutation}
-use Rattle.std.proofs.lemmas.List.Sorted.{IsPermutation-map}
+use Rattle.gix_hash.proofs.Std.{◌≡◌, ℕ, arith, length, map, subst, range_with_len, IsPermutation, IsPermutation-map}
 use Rattle.object_store.proofs.Places.{in_range, one_more}
 use Rattle.object_store.proofs.several.in_order.Goals as goal
 

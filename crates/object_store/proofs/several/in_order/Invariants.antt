@@ -1,5 +1,4 @@
-use Rattle.std.proofs.Common.{◌≡◌, ℕ, map}
-use Rattle.std.specs.List.{range_with_len}
+use Rattle.gix_hash.proofs.Std.{◌≡◌, ℕ, map, range_with_len}
 use Rattle.object_store.proofs.several.in_order.Given as goal
 
 abbrev pub invariant-loop-at : goal.invariant-loop-at

@@ -1,6 +1,4 @@
-use Rattle.std.proofs.Common.{◌∙◌, ◌+◌, ◌≡◌, ◌<◌, ℕ, arith, length, subst, sym, slice_set}
-use Rattle.std.specs.List.{sum_by}
-use Rattle.std.proofs.lemmas.Result.{err_from_is_err_and}
+use Rattle.gix_hash.proofs.Std.{◌∙◌, ◌+◌, ◌≡◌, ◌<◌, ℕ, arith, length, subst, sym, slice_set, sum_by, err_from_is_err_and}
 use Rattle.object_store.specs.Stores.{StoreView}
 use Rattle.object_store.proofs.FoundAt.{all_found, have_more, none_found, of_one, one_more, size_more}
 use Rattle.object_store.proofs.several.look_up_each.Goals as goal

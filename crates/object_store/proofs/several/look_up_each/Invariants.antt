@@ -1,5 +1,4 @@
-use Rattle.std.proofs.Common.{◌≡◌, ◌+◌, ◌<◌, length}
-use Rattle.std.specs.List.{sum_by}
+use Rattle.gix_hash.proofs.Std.{◌≡◌, ◌+◌, ◌<◌, length, sum_by}
 use Rattle.object_store.proofs.FoundAt.{AreFoundAt}
 use Rattle.object_store.proofs.several.look_up_each.Given as goal
 

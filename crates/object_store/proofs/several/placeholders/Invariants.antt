@@ -1,5 +1,4 @@
-use Rattle.std.proofs.Common.{◌≡◌, length}
-use Rattle.std.specs.List.{sum_by}
+use Rattle.gix_hash.proofs.Std.{◌≡◌, length, sum_by}
 use Rattle.object_store.proofs.several.placeholders.Given as goal
 
 abbrev pub invariant-loop-at : goal.invariant-loop-at

@@ -1,5 +1,4 @@
-use Rattle.std.proofs.Common.{refl, inl, inr}
-use Rattle.std.proofs.lemmas.Result.{err_from_is_err_and}
+use Rattle.gix_hash.proofs.Std.{refl, inl, inr, err_from_is_err_and}
 use Rattle.oidtool_commands.proofs.CommandLemmas.{refuses_kind}
 use Rattle.oidtool_commands.proofs.command.read_two_words.Goals as goal
 

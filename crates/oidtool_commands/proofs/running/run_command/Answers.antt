@@ -1,5 +1,4 @@
-use Rattle.std.proofs.Common.{ℕ, Option, List, inr, refl}
-use Rattle.std.specs.Io.KnownBytes.{Keeps}
+use Rattle.gix_hash.proofs.Std.{ℕ, Option, List, inr, refl, Keeps}
 use Rattle.id_lookup.specs.Words.{Hex, Reverse}
 use Rattle.oidtool_commands.specs.Commands.{Does}
 use Rattle.oidtool_commands.specs.Searches.{Finds, From}

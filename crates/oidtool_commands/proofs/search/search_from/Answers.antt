@@ -1,5 +1,4 @@
-use Rattle.std.proofs.Common.{arith}
-use Rattle.std.proofs.lemmas.Result.{err_from_is_err_and}
+use Rattle.gix_hash.proofs.Std.{arith, err_from_is_err_and}
 use Rattle.oidtool_commands.proofs.StopLemmas.{step_gave, search_stops, search_finds}
 use Rattle.oidtool_commands.proofs.search.search_from.Goals as goal
 

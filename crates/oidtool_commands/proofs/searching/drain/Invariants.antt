@@ -1,4 +1,4 @@
-use Rattle.std.proofs.Common.{◌≡◌, ◌-◌, ◌^◌, List, ℕ, false}
+use Rattle.gix_hash.proofs.Std.{◌≡◌, ◌-◌, ◌^◌, List, ℕ, false}
 use Rattle.streams.specs.Streams.{HasReadCounted}
 use Rattle.oidtool_commands.proofs.searching.drain.Given as goal
 

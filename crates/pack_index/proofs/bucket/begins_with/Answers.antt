@@ -1,4 +1,4 @@
-use Rattle.std.proofs.Common.{sym, ap, ◌∙◌, is_eq}
+use Rattle.gix_hash.proofs.Std.{sym, ap, ◌∙◌, is_eq}
 use Rattle.id_lookup.proofs.Spelled.{begins_with-place, starts_with-spelling}
 use Rattle.pack_index.proofs.bucket.begins_with.Goals as goal
 

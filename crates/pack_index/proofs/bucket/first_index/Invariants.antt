@@ -1,4 +1,4 @@
-use Rattle.std.proofs.Common.{◌≢◌, ℕ, ◌<◌, [], get_or, map}
+use Rattle.gix_hash.proofs.Std.{◌≢◌, ℕ, ◌<◌, [], get_or, map}
 use Rattle.id_lookup.specs.Words.{oid_digits}
 use Rattle.pack_index.proofs.bucket.first_index.Given as goal
 

@@ -1,6 +1,4 @@
-use Rattle.std.proofs.Common.{◌≡◌, ◌∙◌, [], get_or, map, sym, ap}
-use Rattle.std.specs.Cmp.Lexicographic.{bytes_decides}
-use Rattle.std.proofs.lemmas.List.{get_or-map}
+use Rattle.gix_hash.proofs.Std.{◌≡◌, ◌∙◌, [], get_or, map, sym, ap, bytes_decides, get_or-map}
 use Rattle.id_lookup.specs.Words.{oid_digits}
 use Rattle.pack_index.proofs.bucket.is_at.Goals as goal
 

@@ -1,4 +1,4 @@
-use Rattle.std.proofs.Common.{◌≡◌, ◌++◌, map, take, All}
+use Rattle.gix_hash.proofs.Std.{◌≡◌, ◌++◌, map, take, All}
 use Rattle.id_lookup.specs.Words.{id_digits, id_kind, matches}
 use Rattle.pack_index.proofs.bucket.push_each.Given as goal
 

@@ -1,5 +1,4 @@
-use Rattle.std.proofs.Common.{ℕ, List, map, nat_eq, ap, ◌∙◌}
-use Rattle.std.specs.List.{starts_with}
+use Rattle.gix_hash.proofs.Std.{ℕ, List, map, nat_eq, ap, ◌∙◌, starts_with}
 use Rattle.id_lookup.specs.Words.{matches}
 use Rattle.id_lookup.proofs.Filters.{filter_within}
 use Rattle.id_lookup.proofs.Matched.{run_matches}

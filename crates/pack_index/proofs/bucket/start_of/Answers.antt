@@ -1,9 +1,5 @@
-use Rattle.std.proofs.Common.{◌≡◌, ◌-◌, ◌<◌, ◌≤◌, ◌∙◌, List, ℕ, [], true, false, length, get_or, map, nat_cmp, is_lt, sym, ap, subst, arith}
-use Rattle.std.specs.Cmp.Lexicographic.{slice_cmp}
-use Rattle.std.proofs.lemmas.Bool.{not-true}
-use Rattle.std.proofs.lemmas.List.{length-map}
+use Rattle.gix_hash.proofs.Std.{◌≡◌, ◌-◌, ◌<◌, ◌≤◌, ◌∙◌, List, ℕ, [], true, false, length, get_or, map, nat_cmp, is_lt, sym, ap, subst, arith, slice_cmp, not-true, length-map, Contains}
 use Rattle.id_lookup.specs.Words.{oid_digits}
-use Rattle.std.specs.List.{Contains}
 use Rattle.id_lookup.specs.Words.{KindDigits, least_hex_len}
 use Rattle.pack_index.specs.Format.{IsFirstIndexOf}
 use Rattle.pack_index.proofs.Looked.{first_between, found_first}

@@ -1,4 +1,4 @@
-use Rattle.std.proofs.Common.{◌≡◌}
+use Rattle.gix_hash.proofs.Std.{◌≡◌}
 use Rattle.pack_index.specs.Format.{Each}
 use Rattle.pack_index.specs.Lazy.{Rises, bucket_start}
 use Rattle.pack_index.proofs.checks.first_fall.Given as goal

@@ -1,4 +1,4 @@
-use Rattle.std.proofs.Common.{ℕ, ◌<◌}
+use Rattle.gix_hash.proofs.Std.{ℕ, ◌<◌}
 use Rattle.pack_index.specs.Format.{HasOffset}
 use Rattle.pack_index.proofs.checks.first_without_offset.Given as goal
 

@@ -1,4 +1,4 @@
-use Rattle.std.proofs.Common.{below_more, sym, ◌∙◌, arith}
+use Rattle.gix_hash.proofs.Std.{below_more, sym, ◌∙◌, arith}
 use Rattle.pack_index.proofs.checks.first_wrong_count.Goals as goal
 
 pub loop-byte-preserved : goal.loop-byte-preserved

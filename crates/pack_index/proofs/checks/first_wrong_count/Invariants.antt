@@ -1,4 +1,4 @@
-use Rattle.std.proofs.Common.{ℕ, ◌<◌}
+use Rattle.gix_hash.proofs.Std.{ℕ, ◌<◌}
 use Rattle.pack_index.specs.Format.{HasCount}
 use Rattle.pack_index.proofs.checks.first_wrong_count.Given as goal
 

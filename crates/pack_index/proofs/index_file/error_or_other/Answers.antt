@@ -1,4 +1,4 @@
-use Rattle.std.proofs.Common.{inr, subst}
+use Rattle.gix_hash.proofs.Std.{inr, subst}
 use Rattle.id_lookup.specs.Words.{Kind}
 use Rattle.pack_index.specs.Format.{IsPackIndex}
 use Rattle.pack_index.proofs.Refusals.{no_index}

@@ -1,4 +1,4 @@
-use Rattle.std.proofs.Common.{◌≡◌, ◌≤◌}
+use Rattle.gix_hash.proofs.Std.{◌≡◌, ◌≤◌}
 use Rattle.pack_index.specs.Format.{Each, IsNextLong, longs_before}
 use Rattle.pack_index.proofs.offsets.count_longs.Given as goal
 

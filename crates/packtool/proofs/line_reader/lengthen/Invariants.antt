@@ -1,4 +1,4 @@
-use Rattle.std.proofs.Common.{◌≡◌, ◌+◌, ◌*◌, vec_len}
+use Rattle.gix_hash.proofs.Std.{◌≡◌, ◌+◌, ◌*◌, vec_len}
 use Rattle.std.specs.Io.{StartsWith}
 use Rattle.packtool.proofs.line_reader.lengthen.Given as goal
 

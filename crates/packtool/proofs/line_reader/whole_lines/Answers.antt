@@ -1,7 +1,4 @@
-use Rattle.std.proofs.Common.{◌≡◌, ℕ, ◌+◌, ◌<◌, false, ap, sym, ◌∙◌, get_or, length, take, drop, count_by, cond, arith}
-use Rattle.std.proofs.lemmas.Bool.Decides.{nat_tests}
-use Rattle.std.proofs.Math.Seq.{take-length}
-use Rattle.std.proofs.lemmas.List.Sums.{count_by_more_no, count_by_more_yes, sum_by-take-drop}
+use Rattle.gix_hash.proofs.Std.{◌≡◌, ℕ, ◌+◌, ◌<◌, false, ap, sym, ◌∙◌, get_or, length, take, drop, count_by, cond, arith, nat_tests, take-length, count_by_more_no, count_by_more_yes, sum_by-take-drop}
 use Rattle.packtool.specs.WholeLines.{is_line_feed}
 use Rattle.packtool.proofs.LineLemmas.{whole-more}
 use Rattle.packtool.proofs.line_reader.whole_lines.Goals.{then-bytes-at-eq10+else-count-ge-MAX_LINES, else-bytes-at-eq10}

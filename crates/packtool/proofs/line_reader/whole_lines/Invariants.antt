@@ -1,4 +1,4 @@
-use Rattle.std.proofs.Common.{◌≡◌, ◌≤◌, ◌<◌, take, count_by}
+use Rattle.gix_hash.proofs.Std.{◌≡◌, ◌≤◌, ◌<◌, take, count_by}
 use Rattle.packtool.specs.WholeLines.{AreWhole, is_line_feed}
 use Rattle.packtool.proofs.line_reader.whole_lines.Given as goal
 

@@ -1,4 +1,4 @@
-use Rattle.std.proofs.Common.{arith}
+use Rattle.gix_hash.proofs.Std.{arith}
 use Rattle.packtool.proofs.LineLemmas.{whole-more}
 use Rattle.packtool.proofs.stores.first_lines.Goals.{then-lines-at-eq10, else-lines-at-eq10}
 use Rattle.packtool.proofs.stores.first_lines.Goals as goal

@@ -1,4 +1,4 @@
-use Rattle.std.proofs.Common.{◌≤◌, take}
+use Rattle.gix_hash.proofs.Std.{◌≤◌, take}
 use Rattle.packtool.specs.WholeLines.{AreWhole}
 use Rattle.packtool.proofs.stores.first_lines.Given as goal
 

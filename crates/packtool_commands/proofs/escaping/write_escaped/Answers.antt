@@ -1,4 +1,4 @@
-use Rattle.std.proofs.Common.{ap, subst, sym, ◌∙◌}
+use Rattle.gix_hash.proofs.Std.{ap, subst, sym, ◌∙◌}
 use Rattle.streams.specs.Streams.{Wrote}
 use Rattle.streams.proofs.WritingLemmas.{Wrote-line}
 use Rattle.packtool_commands.specs.Files.{escape_of, escaped}

@@ -1,5 +1,4 @@
-use Rattle.std.proofs.Common.{◌≡◌, false, take, flat_map}
-use Rattle.std.specs.Io.KnownBytes.{Appends}
+use Rattle.gix_hash.proofs.Std.{◌≡◌, false, take, flat_map, Appends}
 use Rattle.packtool_commands.specs.Files.{escape_of}
 use Rattle.packtool_commands.proofs.escaping.write_escaped.Given as goal
 

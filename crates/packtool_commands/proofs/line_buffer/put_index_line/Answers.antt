@@ -1,4 +1,4 @@
-use Rattle.std.proofs.Common.{[], refl}
+use Rattle.gix_hash.proofs.Std.{[], refl}
 use Rattle.packtool_commands.proofs.line_buffer.put_index_line.Goals as goal
 
 pub returns-clause-text : goal.returns-clause-text

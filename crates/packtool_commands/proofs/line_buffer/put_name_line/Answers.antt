@@ -1,4 +1,4 @@
-use Rattle.std.proofs.Common.{take}
+use Rattle.gix_hash.proofs.Std.{take}
 use Rattle.id_lookup.specs.Words.{hex_letter, id_digits, spelling}
 use Rattle.packtool_commands.proofs.LineLemmas.{name_parts}
 use Rattle.packtool_commands.proofs.line_buffer.put_name_line.Goals as goal

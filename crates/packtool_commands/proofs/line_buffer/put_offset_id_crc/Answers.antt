@@ -1,4 +1,4 @@
-use Rattle.std.proofs.Common.{take, decimal}
+use Rattle.gix_hash.proofs.Std.{take, decimal}
 use Rattle.id_lookup.specs.Words.{hex_letter, oid_digits, spelling}
 use Rattle.packtool_commands.specs.Files.{crc_text}
 use Rattle.packtool_commands.proofs.LineLemmas.{line_parts}

@@ -1,5 +1,4 @@
-use Rattle.std.proofs.Common.{List, ℕ, ◌∷◌, [], ◌++◌, ap, subst, ◌∙◌, option_copied}
-use Rattle.std.specs.Io.KnownBytes.{Appends}
+use Rattle.gix_hash.proofs.Std.{List, ℕ, ◌∷◌, [], ◌++◌, ap, subst, ◌∙◌, option_copied, Appends}
 use Rattle.id_lookup.specs.Words.{hex_letter, id_digits, spelling}
 use Rattle.streams.specs.Streams.{Wrote}
 use Rattle.streams.proofs.WritingLemmas.{Wrote-stop, Wrote-then}

@@ -1,4 +1,4 @@
-use Rattle.std.proofs.Common.{◌≤◌, sym, subst}
+use Rattle.gix_hash.proofs.Std.{◌≤◌, sym, subst}
 use Rattle.id_lookup.specs.Words.{Kind, hex_len_of}
 use Rattle.streams.specs.Streams.{lines_of}
 use Rattle.packtool_commands.proofs.AnswerLemmas.{can_look_up}

@@ -1,8 +1,4 @@
-use Rattle.std.proofs.Common.{◌≢◌, ◌↔◌, ◌⊎◌, ◌∙◌, List, [], refl, sym, subst, arith, flat_map, IsTrue}
-use Rattle.std.proofs.lemmas.Result.{err_from_is_err_and}
-use Rattle.std.specs.Io.KnownBytes.{Appends}
-use Rattle.std.proofs.lemmas.Bool.{false≢true}
-use Rattle.std.proofs.KnownBytes.{Appends-nil}
+use Rattle.gix_hash.proofs.Std.{◌≢◌, ◌↔◌, ◌⊎◌, ◌∙◌, List, [], refl, sym, subst, arith, flat_map, IsTrue, err_from_is_err_and, Appends, false≢true, Appends-nil}
 use Rattle.streams.specs.Streams.{AppendsPart}
 use Rattle.object_store.specs.Stores.{IsSeen}
 use Rattle.object_store.specs.declared.abbreviations.NamedId.{NamedId}

@@ -1,4 +1,4 @@
-use Rattle.std.proofs.Common.{◌≡◌, false}
+use Rattle.gix_hash.proofs.Std.{◌≡◌, false}
 use Rattle.object_store.specs.Stores.{IsReopened, IsSeen}
 use Rattle.packtool_commands.specs.Stores.{HasNamedBelow}
 use Rattle.packtool_commands.proofs.naming.names.Given as goal

@@ -1,4 +1,4 @@
-use Rattle.std.proofs.Common.{ℕ, List, ◌++◌, take, sym, ap, subst, ◌∙◌, arith, flat_map, take_all}
+use Rattle.gix_hash.proofs.Std.{ℕ, List, ◌++◌, take, sym, ap, subst, ◌∙◌, arith, flat_map, take_all}
 use Rattle.object_store.proofs.Held.{flat_map-take}
 use Rattle.packtool_commands.specs.Files.{KeepsBack}
 use Rattle.packtool_commands.specs.Stores.{name_line}

@@ -1,4 +1,4 @@
-use Rattle.std.proofs.Common.{◌≡◌, ◌≤◌, false, take, flat_map}
+use Rattle.gix_hash.proofs.Std.{◌≡◌, ◌≤◌, false, take, flat_map}
 use Rattle.packtool_commands.specs.Files.{KeepsBack}
 use Rattle.packtool_commands.specs.Stores.{name_line}
 use Rattle.packtool_commands.proofs.naming.write_names.Given as goal

@@ -1,4 +1,4 @@
-use Rattle.std.proofs.Common.{ℕ, ◌<◌}
+use Rattle.gix_hash.proofs.Std.{ℕ, ◌<◌}
 use Rattle.packtool_commands.specs.Files.{IsOffsetBelow}
 use Rattle.packtool_commands.proofs.pairing.first_beyond.Given as goal
 

@@ -1,5 +1,4 @@
-use Rattle.std.proofs.Common.{ap, arith}
-use Rattle.std.proofs.lemmas.Result.{err_from_is_err_and}
+use Rattle.gix_hash.proofs.Std.{ap, arith, err_from_is_err_and}
 use Rattle.id_lookup.specs.Words.{byte_len_of}
 use Rattle.packtool_commands.proofs.pairing.last_digest.Goals as goal
 

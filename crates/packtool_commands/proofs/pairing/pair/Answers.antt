@@ -1,4 +1,4 @@
-use Rattle.std.proofs.Common.{subst}
+use Rattle.gix_hash.proofs.Std.{subst}
 use Rattle.id_lookup.specs.Words.{Kind}
 use Rattle.packtool_commands.specs.Files.{EndsIn}
 use Rattle.packtool_commands.proofs.pairing.pair.Goals as goal

@@ -1,4 +1,4 @@
-use Rattle.std.proofs.Common.{ap, arith, drop, length, length-drop, length-take-le, subst, ◌-◌, ◌*◌, ◌<◌, ◌∙◌}
+use Rattle.gix_hash.proofs.Std.{ap, arith, drop, length, length-drop, length-take-le, subst, ◌-◌, ◌*◌, ◌<◌, ◌∙◌}
 use Rattle.id_lookup.specs.Words.{byte_len_of, digits_of}
 use Rattle.packtool_commands.specs.Files.{EndsIn}
 use Rattle.packtool_commands.proofs.pairing.pairing_of.Goals as goal

@@ -1,4 +1,4 @@
-use Rattle.std.proofs.Common.{◌∷◌, ◌∙◌, sym}
+use Rattle.gix_hash.proofs.Std.{◌∷◌, ◌∙◌, sym}
 use Rattle.streams.specs.Streams.{lines_of}
 use Rattle.streams.proofs.LineLemmas.{lines_step}
 use Rattle.packtool_commands.proofs.prefixes.first_line.Goals as goal

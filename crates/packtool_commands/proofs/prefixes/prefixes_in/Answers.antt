@@ -1,4 +1,4 @@
-use Rattle.std.proofs.Common.{◌≡◌, ◌∙◌, ◌++◌, append-nil, ap, length, rules, sym}
+use Rattle.gix_hash.proofs.Std.{◌≡◌, ◌∙◌, ◌++◌, append-nil, ap, length, rules, sym}
 use Rattle.packtool_commands.specs.Stores.{prefixes_of}
 use Rattle.packtool_commands.proofs.AnswerLemmas.{lines_at_end}
 use Rattle.packtool_commands.proofs.prefixes.prefixes_in.Goals as goal

@@ -1,4 +1,4 @@
-use Rattle.std.proofs.Common.{◌≡◌, ◌++◌, length}
+use Rattle.gix_hash.proofs.Std.{◌≡◌, ◌++◌, length}
 use Rattle.streams.specs.Streams.{lines_of}
 use Rattle.packtool_commands.specs.Stores.{prefixes_of}
 use Rattle.packtool_commands.proofs.prefixes.prefixes_in.Given as goal

@@ -1,6 +1,4 @@
-use Rattle.std.proofs.Common.{◌≡◌, ◌∙◌, ◌&&◌, ◌++◌, ℕ, Bool, List, append-nil, append_assoc, ap, length, rules, sym, subst, is_some}
-use Rattle.std.specs.Io.KnownBytes.{Appends}
-use Rattle.std.proofs.KnownBytes.{Appends-trans}
+use Rattle.gix_hash.proofs.Std.{◌≡◌, ◌∙◌, ◌&&◌, ◌++◌, ℕ, Bool, List, append-nil, append_assoc, ap, length, rules, sym, subst, is_some, Appends, Appends-trans}
 use Rattle.streams.specs.Streams.{AppendsPart, lines_of}
 use Rattle.streams.proofs.WritingLemmas.{AppendsPart-after, AppendsPart-more, OnErr-of}
 use Rattle.packtool_commands.specs.Stores.{answer_to, answers_by, are_answers_by, is_answer_to, lists_after, prefix_of}

@@ -1,5 +1,4 @@
-use Rattle.std.proofs.Common.{◌≡◌, ◌++◌, ◌&&◌, ℕ, List, false, length}
-use Rattle.std.specs.Io.KnownBytes.{Appends}
+use Rattle.gix_hash.proofs.Std.{◌≡◌, ◌++◌, ◌&&◌, ℕ, List, false, length, Appends}
 use Rattle.streams.specs.Streams.{lines_of}
 use Rattle.packtool_commands.specs.Stores.{answers_by, are_answers_by, prefixes_of}
 use Rattle.packtool_commands.proofs.printing.write_answers.Given as goal

@@ -1,4 +1,4 @@
-use Rattle.std.proofs.Common.{ap, subst, option_copied}
+use Rattle.gix_hash.proofs.Std.{ap, subst, option_copied}
 use Rattle.streams.specs.Streams.{Wrote}
 use Rattle.streams.proofs.WritingLemmas.{Wrote-line}
 use Rattle.packtool_commands.proofs.printing.write_each.Goals as goal

@@ -1,5 +1,4 @@
-use Rattle.std.proofs.Common.{◌≡◌, false, take, option_copied, flat_map}
-use Rattle.std.specs.Io.KnownBytes.{Appends}
+use Rattle.gix_hash.proofs.Std.{◌≡◌, false, take, option_copied, flat_map, Appends}
 use Rattle.packtool_commands.proofs.printing.write_each.Given as goal
 
 abbrev pub invariant-loop-item : goal.invariant-loop-item

@@ -1,4 +1,4 @@
-use Rattle.std.proofs.Common.{◌<◌, length, rules, subst}
+use Rattle.gix_hash.proofs.Std.{◌<◌, length, rules, subst}
 use Rattle.streams.specs.Streams.{Wrote}
 use Rattle.packtool_commands.proofs.AnswerLemmas.{found_all}
 use Rattle.packtool_commands.proofs.printing.write_found.Goals as goal

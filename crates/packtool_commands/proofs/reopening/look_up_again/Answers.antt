@@ -1,5 +1,4 @@
-use Rattle.std.proofs.Common.{refl}
-use Rattle.std.proofs.lemmas.Fn.{says_at}
+use Rattle.gix_hash.proofs.Std.{refl, says_at}
 use Rattle.packtool_commands.proofs.reopening.look_up_again.Goals as goal
 
 pub returns-then-not-matches-clause-found : goal.returns-then-not-matches-clause-found

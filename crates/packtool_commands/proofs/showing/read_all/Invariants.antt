@@ -1,5 +1,4 @@
-use Rattle.std.proofs.Common.{◌≡◌, ◌-◌, ◌^◌, false, vec_len}
-use Rattle.std.specs.Io.KnownBytes.{Consumes}
+use Rattle.gix_hash.proofs.Std.{◌≡◌, ◌-◌, ◌^◌, false, vec_len, Consumes}
 use Rattle.packtool_commands.proofs.showing.read_all.Given as goal
 
 abbrev pub invariant-chunks : goal.invariant-chunks

@@ -1,4 +1,4 @@
-use Rattle.std.proofs.Common.{ℕ, List, subst}
+use Rattle.gix_hash.proofs.Std.{ℕ, List, subst}
 use Rattle.packtool_commands.specs.Files.{HasShown, HasShownPart, IsOpenedAs}
 use Rattle.packtool_commands.proofs.ShownLemmas.{read_whole}
 use Rattle.packtool_commands.proofs.showing.show.Goals as goal

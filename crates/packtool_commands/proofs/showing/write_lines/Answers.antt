@@ -1,6 +1,4 @@
-use Rattle.std.proofs.Common.{◌<◌, ◌≤◌, ap, arith, length, subst, sym, take_all}
-use Rattle.std.specs.List.{flat_map, range_with_len}
-use Rattle.std.proofs.lemmas.List.FromFn.{length-range_with_len}
+use Rattle.gix_hash.proofs.Std.{◌<◌, ◌≤◌, ap, arith, length, subst, sym, take_all, flat_map, range_with_len, length-range_with_len}
 use Rattle.pack_index.specs.Format.{names_in}
 use Rattle.packtool_commands.specs.Files.{KeepsBack, index_line}
 use Rattle.packtool_commands.proofs.KeptLines.{keeps_more, keeps_stop, keeps_written, lines_more, lines_split}

@@ -1,5 +1,4 @@
-use Rattle.std.proofs.Common.{◌≡◌, ◌≤◌, false, length, take}
-use Rattle.std.specs.List.{flat_map, range_with_len}
+use Rattle.gix_hash.proofs.Std.{◌≡◌, ◌≤◌, false, length, take, flat_map, range_with_len}
 use Rattle.pack_index.specs.Format.{names_in}
 use Rattle.packtool_commands.specs.Files.{KeepsBack, index_line}
 use Rattle.packtool_commands.proofs.showing.write_lines.Given as goal

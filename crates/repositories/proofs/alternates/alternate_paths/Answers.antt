@@ -1,4 +1,4 @@
-use Rattle.std.proofs.Common.{sym, subst}
+use Rattle.gix_hash.proofs.Std.{sym, subst}
 use Rattle.git_config.specs.Grammar.{before_nul}
 use Rattle.repositories.proofs.Entries.{ReadsEntries, is_empty, is_some, reads_all, reads_entry}
 use Rattle.repositories.proofs.alternates.alternate_paths.Goals as goal

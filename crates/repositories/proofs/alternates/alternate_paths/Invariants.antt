@@ -1,4 +1,4 @@
-use Rattle.std.proofs.Common.{length, map}
+use Rattle.gix_hash.proofs.Std.{length, map}
 use Rattle.git_config.specs.Grammar.{before_nul}
 use Rattle.repositories.proofs.Entries.{ReadsEntries}
 use Rattle.repositories.proofs.alternates.alternate_paths.Given as goal

@@ -1,4 +1,4 @@
-use Rattle.std.proofs.Common.{rules}
+use Rattle.gix_hash.proofs.Std.{rules}
 use Rattle.repositories.proofs.alternates.first_path.Goals as goal
 
 pub returns-clause-entry : goal.returns-clause-entry

@@ -1,4 +1,4 @@
-use Rattle.std.proofs.Common.{sym, subst, rules}
+use Rattle.gix_hash.proofs.Std.{sym, subst, rules}
 use Rattle.repositories.specs.Quoting.{Means}
 use Rattle.repositories.proofs.Quoted.{Reads, means_all, means_no_other, reads_byte}
 use Rattle.repositories.proofs.alternates.unquote.Goals as goal

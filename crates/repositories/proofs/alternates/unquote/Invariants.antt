@@ -1,4 +1,4 @@
-use Rattle.std.proofs.Common.{◌≤◌, length}
+use Rattle.gix_hash.proofs.Std.{◌≤◌, length}
 use Rattle.repositories.proofs.Quoted.{Reads}
 use Rattle.repositories.proofs.alternates.unquote.Given as goal
 

@@ -1,4 +1,4 @@
-use Rattle.std.proofs.Common.{inr}
+use Rattle.gix_hash.proofs.Std.{inr}
 use Rattle.repositories.proofs.config.kind_in_config.Goals as goal
 
 pub returns-in-Ok : goal.returns-in-Ok

@@ -1,4 +1,4 @@
-use Rattle.std.proofs.Common.{◌≡◌, None, length, option_map}
+use Rattle.gix_hash.proofs.Std.{◌≡◌, None, length, option_map}
 use Rattle.repositories.specs.Formats.{first_fault, kind_of, last_of, needs_of, unknown_of, version_of}
 use Rattle.repositories.proofs.config.kind_or_fault.Given as goal
 

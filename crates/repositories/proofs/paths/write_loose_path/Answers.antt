@@ -1,5 +1,4 @@
-use Rattle.std.proofs.Common.{rules, ◌≡◌, ◌-◌, subst, take, drop}
-use Rattle.std.specs.Io.KnownBytes.{Appends}
+use Rattle.gix_hash.proofs.Std.{rules, ◌≡◌, ◌-◌, subst, take, drop, Appends}
 use Rattle.gix_hash.specs.Words.{hex_len_of, id_kind}
 use Rattle.repositories.proofs.LoosePaths.{written, two_or_more}
 use Rattle.repositories.proofs.paths.write_loose_path.Goals as goal

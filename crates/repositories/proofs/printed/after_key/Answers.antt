@@ -1,5 +1,4 @@
-use Rattle.std.proofs.lemmas.Slice.Eq.{strip_prefix_is}
-use Rattle.std.proofs.lemmas.Bool.Decides.{Decides-eqb}
+use Rattle.gix_hash.proofs.Std.{strip_prefix_is, Decides-eqb}
 use Rattle.repositories.proofs.printed.after_key.Goals as goal
 
 pub returns : goal.returns

@@ -1,4 +1,4 @@
-use Rattle.std.proofs.Common.{arith}
+use Rattle.gix_hash.proofs.Std.{arith}
 use Rattle.repositories.proofs.printed.read_printed.Goals as goal
 
 pub returns-in_default : goal.returns-in_default

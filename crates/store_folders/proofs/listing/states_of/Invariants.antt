@@ -1,4 +1,4 @@
-use Rattle.std.proofs.Common.{◌≡◌, vec_len}
+use Rattle.gix_hash.proofs.Std.{◌≡◌, vec_len}
 use Rattle.store_folders.proofs.listing.states_of.Given as goal
 
 abbrev pub invariant-loop-path : goal.invariant-loop-path

@@ -1,4 +1,4 @@
-use Rattle.std.proofs.Common.{All, ◌≡◌}
+use Rattle.gix_hash.proofs.Std.{All, ◌≡◌}
 use Rattle.store_folders.specs.declared.loose.LooseFolder.{LooseFolder}
 use Rattle.store_folders.proofs.loose.list_folders.Given as goal
 

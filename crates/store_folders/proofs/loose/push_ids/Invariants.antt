@@ -1,4 +1,4 @@
-use Rattle.std.proofs.Common.{All, ◌≡◌}
+use Rattle.gix_hash.proofs.Std.{All, ◌≡◌}
 use Rattle.gix_hash.specs.Words.{id_kind}
 use Rattle.store_folders.proofs.loose.push_ids.Given as goal
 

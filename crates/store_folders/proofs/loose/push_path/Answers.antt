@@ -1,5 +1,4 @@
-use Rattle.std.proofs.Common.{◌∙◌, ◌++◌, List, ℕ, [], ◌∷◌, append-nil, ap, cond, map, string_bytes, sym}
-use Rattle.std.proofs.lemmas.List.{map-append}
+use Rattle.gix_hash.proofs.Std.{◌∙◌, ◌++◌, List, ℕ, [], ◌∷◌, append-nil, ap, cond, map, string_bytes, sym, map-append}
 use Rattle.gix_hash.specs.Words.{id_digits}
 use Rattle.object_store.proofs.LooseParts.{any_is}
 use Rattle.store_folders.specs.Stores.{path_in}

@@ -1,9 +1,5 @@
-use Rattle.std.proofs.Common.{◌≡◌, ℕ, ◌<◌, ◌∙◌, List, All, ap, arith, get_or, length, map, subst, sym}
+use Rattle.gix_hash.proofs.Std.{◌≡◌, ℕ, ◌<◌, ◌∙◌, List, All, ap, arith, get_or, length, map, subst, sym, length-map, All-cons, Contains-get_or, bytes_eq-Decides, Contains}
 use Rattle.std.proofs.Math.ListN.{get_or-map}
-use Rattle.std.proofs.lemmas.List.{length-map}
-use Rattle.std.proofs.lemmas.List.Elements.{All-cons, Contains-get_or}
-use Rattle.std.proofs.lemmas.Slice.Eq.{bytes_eq-Decides}
-use Rattle.std.specs.List.{Contains}
 use Rattle.store_folders.specs.Stores.{IsListed, index_path}
 use Rattle.store_folders.specs.declared.packs.PackPaths.{PackPaths}
 use Rattle.store_folders.proofs.packs.first_gone.Goals.{then-eq, else-eq}

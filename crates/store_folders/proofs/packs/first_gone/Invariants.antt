@@ -1,4 +1,4 @@
-use Rattle.std.proofs.Common.{All}
+use Rattle.gix_hash.proofs.Std.{All}
 use Rattle.store_folders.specs.Stores.{IsListed}
 use Rattle.store_folders.proofs.packs.first_gone.Given as goal
 

@@ -1,5 +1,4 @@
-use Rattle.std.proofs.Common.{All, ℕ, ◌≡◌, ◌+◌, ◌∙◌, ap, subst, sym, vec_len}
-use Rattle.std.proofs.lemmas.List.Elements.{All-push}
+use Rattle.gix_hash.proofs.Std.{All, ℕ, ◌≡◌, ◌+◌, ◌∙◌, ap, subst, sym, vec_len, All-push}
 use Rattle.pack_index.specs.Lazy.{LazyIndex}
 use Rattle.store_folders.proofs.packs.open_all.Goals.{in-Ok+in_ok-clone-in-Ok+in_ok-push-in-Ok+in_ok-push-in-Ok-2, in-Err+in_ok-push-in-Err}
 use Rattle.store_folders.proofs.packs.open_all.Goals as goal

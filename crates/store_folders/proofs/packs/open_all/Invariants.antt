@@ -1,4 +1,4 @@
-use Rattle.std.proofs.Common.{All, ◌≡◌, vec_len}
+use Rattle.gix_hash.proofs.Std.{All, ◌≡◌, vec_len}
 use Rattle.pack_index.specs.Lazy.{LazyIndex}
 use Rattle.store_folders.proofs.packs.open_all.Given as goal
 

@@ -1,4 +1,4 @@
-use Rattle.std.proofs.Common.{◌≡◌, All}
+use Rattle.gix_hash.proofs.Std.{◌≡◌, All}
 use Rattle.store_folders.specs.Stores.{HasPack}
 use Rattle.store_folders.proofs.packs.push_indexes.Given as goal
 

@@ -1,4 +1,4 @@
-use Rattle.std.proofs.Common.{◌≡◌, ◌+◌, ◌-◌, ◌≤◌, ◌++◌, List, ℕ, length, take, sym, ap, subst, ◌∙◌, arith, min, length-take}
+use Rattle.gix_hash.proofs.Std.{◌≡◌, ◌+◌, ◌-◌, ◌≤◌, ◌++◌, List, ℕ, length, take, sym, ap, subst, ◌∙◌, arith, min, length-take}
 use Rattle.std.proofs.lemmas.Slice.{take-put_mid_below}
 use borrow.Rule.Slice.PartMut.{put_mid}
 use Rattle.streams.specs.Streams.{HasReadCounted}

@@ -1,4 +1,4 @@
-use Rattle.std.proofs.Common.{◌≡◌, ℕ, ◌+◌, ◌-◌, ◌^◌, List, ◌++◌, length, take, false, min}
+use Rattle.gix_hash.proofs.Std.{◌≡◌, ℕ, ◌+◌, ◌-◌, ◌^◌, List, ◌++◌, length, take, false, min}
 use Rattle.gix_hash.specs.Words.{WasFed, hasher_kind}
 use Rattle.streams.specs.Streams.{AreFed, HasReadCounted}
 use Rattle.streams.proofs.checking.check.Given as goal

@@ -1,4 +1,4 @@
-use Rattle.std.proofs.Common.{◌≡◌, ◌++◌, arith}
+use Rattle.gix_hash.proofs.Std.{◌≡◌, ◌++◌, arith}
 use Rattle.gix_hash.specs.Words.{digest}
 use Rattle.streams.proofs.SealedLemmas.{ends_after}
 use Rattle.streams.proofs.checking.ending_of.Goals as goal

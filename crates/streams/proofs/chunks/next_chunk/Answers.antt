@@ -1,5 +1,4 @@
-use Rattle.std.proofs.Common.{arith, rules}
-use Rattle.std.proofs.lemmas.Grind.{common_steps}
+use Rattle.gix_hash.proofs.Std.{arith, rules, common_steps}
 use Rattle.streams.proofs.chunks.next_chunk.Goals as goal
 
 pub returns-clause-counted : goal.returns-clause-counted

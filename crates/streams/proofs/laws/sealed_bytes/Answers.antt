@@ -1,4 +1,4 @@
-use Rattle.std.proofs.Common.{List, ℕ, ◌++◌, ap}
+use Rattle.gix_hash.proofs.Std.{List, ℕ, ◌++◌, ap}
 use Rattle.streams.proofs.SealedLemmas.{sealed-end, sealed-last}
 use Rattle.streams.proofs.laws.sealed_bytes.Goals as goal
 

@@ -1,5 +1,4 @@
-use Rattle.std.proofs.Common.{take}
-use Rattle.std.proofs.lemmas.Result.{err_from_is_err_and}
+use Rattle.gix_hash.proofs.Std.{take, err_from_is_err_and}
 use Rattle.streams.proofs.WritingLemmas.{AppendsPart-after, AppendsPart-more}
 use Rattle.streams.proofs.pipe.copy_all.Goals as goal
 

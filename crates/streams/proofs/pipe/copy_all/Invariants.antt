@@ -1,5 +1,4 @@
-use Rattle.std.proofs.Common.{◌≡◌, ◌-◌, ◌^◌, List, ℕ, false}
-use Rattle.std.specs.Io.KnownBytes.{Appends}
+use Rattle.gix_hash.proofs.Std.{◌≡◌, ◌-◌, ◌^◌, List, ℕ, false, Appends}
 use Rattle.gix_hash.specs.Words.{WasFed, hasher_kind}
 use Rattle.streams.specs.Streams.{HasReadCounted}
 use Rattle.streams.proofs.pipe.copy_all.Given as goal

@@ -1,5 +1,4 @@
-use Rattle.std.proofs.Common.{ap, ◌∙◌}
-use Rattle.std.proofs.lemmas.Result.{err_from_is_err_and}
+use Rattle.gix_hash.proofs.Std.{ap, ◌∙◌, err_from_is_err_and}
 use Rattle.gix_hash.specs.Words.{id_bytes}
 use Rattle.streams.proofs.WritingLemmas.{AppendsPart-after}
 use Rattle.streams.proofs.pipe.seal.Goals as goal

@@ -1,6 +1,4 @@
-use Rattle.std.proofs.Common.{subst, sym}
-use Rattle.std.specs.Io.KnownBytes.{Appends}
-use Rattle.std.proofs.lemmas.List.Folds.{flat_map-map}
+use Rattle.gix_hash.proofs.Std.{subst, sym, Appends, flat_map-map}
 use Rattle.gix_hash.specs.Words.{id_digits, letter_of}
 use Rattle.gix_hash.specs.declared.ObjectId.{ObjectId}
 use Rattle.streams.specs.Streams.{Wrote, line_of}

@@ -1,5 +1,4 @@
-use Rattle.std.proofs.Common.{◌≡◌, false, map, take}
-use Rattle.std.specs.Io.KnownBytes.{Appends}
+use Rattle.gix_hash.proofs.Std.{◌≡◌, false, map, take, Appends}
 use Rattle.gix_hash.specs.Words.{id_digits, letter_of}
 use Rattle.streams.specs.Streams.{printed}
 use Rattle.streams.proofs.printing.write_ids.Given as goal

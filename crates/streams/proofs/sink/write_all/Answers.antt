@@ -1,4 +1,4 @@
-use Rattle.std.proofs.Common.{arith, rules}
+use Rattle.gix_hash.proofs.Std.{arith, rules}
 use Rattle.streams.proofs.Taking.{Appends-chunk, AppendsPart-take, AppendsPart-none, not_failed}
 use Rattle.streams.proofs.sink.write_all.Goals as goal
 

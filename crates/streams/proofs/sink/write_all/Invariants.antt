@@ -1,5 +1,4 @@
-use Rattle.std.proofs.Common.{◌≡◌, ◌≤◌, ◌-◌, false, length, take}
-use Rattle.std.specs.Io.KnownBytes.{Appends}
+use Rattle.gix_hash.proofs.Std.{◌≡◌, ◌≤◌, ◌-◌, false, length, take, Appends}
 use Rattle.streams.proofs.sink.write_all.Given as goal
 
 abbrev pub invariant-loop-at : goal.invariant-loop-at

@@ -1,4 +1,4 @@
-use Rattle.std.proofs.Common.{length, refl}
+use Rattle.id_digits.proofs.Std.{length, refl}
 use Rattle.id_digits.specs.Digits.{digits_of}
 use Rattle.gix_hash.specs.Ids.{oid_bytes}
 use Rattle.id_digits.proofs.ReverseLetters.{spelling-reverse_of_hex}

@@ -1,4 +1,4 @@
-use Rattle.std.proofs.Common.{refl}
+use Rattle.id_digits.proofs.Std.{refl}
 use Rattle.gix_hash.specs.Reading.{letter_of}
 use Rattle.gix_hash.proofs.FrontReading.{first_read}
 use Rattle.gix_hash.proofs.alphabet.Alphabet.read_prefix_in.Goals as goal

@@ -1,4 +1,4 @@
-use Rattle.std.proofs.Common.{sym, ap, ◌∙◌}
+use Rattle.id_digits.proofs.Std.{sym, ap, ◌∙◌}
 use Rattle.gix_hash.specs.Kinds.{hex_len_of}
 use Rattle.gix_hash.specs.Ids.{oid_digits}
 use Rattle.gix_hash.proofs.Spellings.{IsAscii-front}

@@ -1,4 +1,4 @@
-use Rattle.std.proofs.Common.{ap, ◌∙◌}
+use Rattle.id_digits.proofs.Std.{ap, ◌∙◌}
 use Rattle.gix_hash.proofs.Packing.{digits_of-range}
 use Rattle.gix_hash.proofs.borrowed.oid.to_prefix.Goals as goal
 

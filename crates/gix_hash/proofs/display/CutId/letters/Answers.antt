@@ -1,5 +1,4 @@
-use Rattle.std.proofs.Common.{◌≡◌, ℕ, ◌<◌, take, min, subst, sym, ap, ◌∙◌, IsAscii}
-use Rattle.std.proofs.lemmas.List.Elements.{All-take}
+use Rattle.id_digits.proofs.Std.{◌≡◌, ℕ, ◌<◌, take, min, subst, sym, ap, ◌∙◌, IsAscii, All-take}
 use Rattle.gix_hash.specs.Reading.{letter_of}
 use Rattle.gix_hash.specs.Ids.{oid_bytes, oid_digits, shown_digits}
 use Rattle.id_digits.specs.Digits.{spelling}

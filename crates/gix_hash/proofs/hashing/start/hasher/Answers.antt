@@ -1,4 +1,4 @@
-use Rattle.std.proofs.Common.{rules}
+use Rattle.id_digits.proofs.Std.{rules}
 use Rattle.gix_hash.proofs.hashing.start.hasher.Goals as goal
 
 pub returns-clause-kind : goal.returns-clause-kind

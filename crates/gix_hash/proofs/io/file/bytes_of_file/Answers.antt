@@ -1,5 +1,4 @@
-use Rattle.std.proofs.Common.{◌≡◌, inl, refl}
-use Rattle.std.proofs.lemmas.Result.{err_from_is_err_and}
+use Rattle.id_digits.proofs.Std.{◌≡◌, inl, refl, err_from_is_err_and}
 use Rattle.gix_hash.specs.declared.io.error.Error.TheVariants as errors
 use Rattle.gix_hash.proofs.Made.{err-made}
 use Rattle.gix_hash.proofs.Reaching.{Reaches-none}

@@ -1,6 +1,4 @@
-use Rattle.std.proofs.Common.{◌≡◌, ◌∙◌, [], ◌++◌, length, ◌+◌, ◌*◌, ◌<◌, arith, refl, append_assoc, length-append, append-nil, length-take}
-use Rattle.std.proofs.lemmas.Result.{err_from_is_err_and}
-use Rattle.std.proofs.KnownBytes.{Consumes-nil, Consumes-trans}
+use Rattle.id_digits.proofs.Std.{◌≡◌, ◌∙◌, [], ◌++◌, length, ◌+◌, ◌*◌, ◌<◌, arith, refl, append_assoc, length-append, append-nil, length-take, err_from_is_err_and, Consumes-nil, Consumes-trans}
 use Rattle.gix_hash.specs.declared.io.error.Error.TheVariants as errors
 use Rattle.gix_hash.specs.Hashing.{chunks}
 use Rattle.gix_hash.proofs.Chunks.{chunk_is_there, chunks_end}

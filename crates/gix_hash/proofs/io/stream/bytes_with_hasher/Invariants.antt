@@ -1,4 +1,4 @@
-use Rattle.std.proofs.Common.{◌≡◌, ℕ, List, ◌++◌, length, ◌-◌, ◌*◌, ◌≤◌}
+use Rattle.id_digits.proofs.Std.{◌≡◌, ℕ, List, ◌++◌, length, ◌-◌, ◌*◌, ◌≤◌}
 use Rattle.gix_hash.specs.Hashing.{Reaches, ReadsNext, WasFed, all_false, chunks, hasher_kind, heard}
 use Rattle.gix_hash.proofs.io.stream.bytes_with_hasher.Given as goal
 

@@ -1,5 +1,4 @@
-use Rattle.std.proofs.Common.{arith}
-use Rattle.std.proofs.lemmas.Grind.{common_steps}
+use Rattle.id_digits.proofs.Std.{arith, common_steps}
 use Rattle.gix_hash.proofs.prefix.Prefix.cmp_oid.Goals as goal
 
 pub returns : goal.returns

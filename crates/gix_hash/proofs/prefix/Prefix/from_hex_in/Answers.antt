@@ -1,4 +1,4 @@
-use Rattle.std.proofs.Common.{rules}
+use Rattle.id_digits.proofs.Std.{rules}
 use Rattle.gix_hash.proofs.prefix.Prefix.from_hex_in.Goals as goal
 
 pub returns-clause-read : goal.returns-clause-read

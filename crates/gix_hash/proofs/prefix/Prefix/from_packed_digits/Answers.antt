@@ -1,4 +1,4 @@
-use Rattle.std.proofs.Common.{◌-◌, refl, arith}
+use Rattle.id_digits.proofs.Std.{◌-◌, refl, arith}
 use Rattle.gix_hash.proofs.Packing.{take-digits_of-take}
 use Rattle.gix_hash.proofs.prefix.Prefix.from_packed_digits.Goals as goal
 

@@ -1,6 +1,4 @@
-use Rattle.std.proofs.Common.{◌≡◌, ℕ, List, take, Equal}
-use Rattle.std.proofs.lemmas.List.{length-take, take_min}
-use Rattle.std.proofs.lemmas.Cmp.{tied_itself, nat_list_cmp_total}
+use Rattle.id_digits.proofs.Std.{◌≡◌, ℕ, List, take, Equal, length-take, take_min, tied_itself, nat_list_cmp_total}
 use Rattle.id_digits.specs.Digits.{place}
 use Rattle.gix_hash.proofs.prefix.Prefix.new.Goals as goal
 

@@ -1,4 +1,4 @@
-use Rattle.std.proofs.Common.{◌≡◌, take, ap, ◌∙◌}
+use Rattle.id_digits.proofs.Std.{◌≡◌, take, ap, ◌∙◌}
 use Rattle.id_digits.specs.Digits.{digits_of}
 use Rattle.gix_hash.specs.Ids.{id_digits}
 use Rattle.gix_hash.specs.Prefixes.{kind_digits}

@@ -1,4 +1,4 @@
-use Rattle.std.proofs.Common.{◌≡◌, ◌<◌, ◌-◌, ℕ, List, length, ap, subst, ◌∙◌, All}
+use Rattle.id_digits.proofs.Std.{◌≡◌, ◌<◌, ◌-◌, ℕ, List, length, ap, subst, ◌∙◌, All}
 use Rattle.id_digits.specs.Digits.{digits_of, padded, words_of}
 use Rattle.gix_hash.specs.Ids.{id_bytes}
 use Rattle.id_digits.proofs.DigitNumbers.{word-padded, word-padded_from}

@@ -1,6 +1,4 @@
-use Rattle.std.proofs.Common.{◌≡◌, ◌<◌, ◌≤◌, ◌-◌, ◌*◌, ℕ, List, length, drop, take, sym, ap, ◌∙◌, arith, Ordering, Equal}
-use Rattle.std.specs.Ordering.{nat_cmp, ordering_then}
-use Rattle.std.proofs.lemmas.List.Elements.{All-drop, All-from_get_or}
+use Rattle.id_digits.proofs.Std.{◌≡◌, ◌<◌, ◌≤◌, ◌-◌, ◌*◌, ℕ, List, length, drop, take, sym, ap, ◌∙◌, arith, Ordering, Equal, nat_cmp, ordering_then, All-drop, All-from_get_or}
 use Rattle.id_digits.specs.Digits.{digits_of, word}
 use Rattle.id_digits.specs.declared.words.Words.{Words}
 use Rattle.id_digits.proofs.Masks.{word-masked}

@@ -1,4 +1,4 @@
-use Rattle.std.proofs.Common.{sym}
+use Rattle.gix_hash.proofs.Std.{sym}
 use Rattle.id_lookup.proofs.FirstByteCounts.{count_by-below_0}
 use Rattle.id_lookup.proofs.fan_out.FanOut.below.Goals as goal
 

@@ -1,6 +1,4 @@
-use Rattle.std.proofs.Common.{◌≢◌, ◌-◌, length-set, get_or-set_other, map, arith}
-use Rattle.std.proofs.lemmas.List.{length-map}
-use Rattle.std.proofs.lemmas.List.Sums.{count_by-le-length}
+use Rattle.gix_hash.proofs.Std.{◌≢◌, ◌-◌, length-set, get_or-set_other, map, arith, length-map, count_by-le-length}
 use Rattle.id_lookup.specs.Runs.{is_up_to}
 use Rattle.id_lookup.proofs.FirstByteCounts.{running, up_to_step}
 use Rattle.id_lookup.proofs.fan_out.FanOut.of.Goals as goal

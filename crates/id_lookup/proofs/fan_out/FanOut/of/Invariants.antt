@@ -1,4 +1,4 @@
-use Rattle.std.proofs.Common.{◌≡◌, ℕ, ◌<◌, ◌≤◌, get_or, length, map, count_by}
+use Rattle.gix_hash.proofs.Std.{◌≡◌, ℕ, ◌<◌, ◌≤◌, get_or, length, map, count_by}
 use Rattle.id_lookup.specs.Runs.{has_first_byte, is_up_to}
 use Rattle.id_lookup.proofs.fan_out.FanOut.of.Given as goal
 

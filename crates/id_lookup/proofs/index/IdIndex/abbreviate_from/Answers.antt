@@ -1,5 +1,4 @@
-use Rattle.std.proofs.Common.{◌<◌, ◌≤◌, [], length, map, max, refl, arith}
-use Rattle.std.proofs.lemmas.Bool.{true_from_ne_false}
+use Rattle.gix_hash.proofs.Std.{◌<◌, ◌≤◌, [], length, map, max, refl, arith, true_from_ne_false}
 use Rattle.gix_hash.specs.Words.{hex_len_of}
 use Rattle.id_lookup.specs.Runs.{IsSortedIds}
 use Rattle.id_lookup.proofs.Indexes.{index-sorted}

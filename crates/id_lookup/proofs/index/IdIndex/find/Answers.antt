@@ -1,4 +1,4 @@
-use Rattle.std.proofs.Common.{arith}
+use Rattle.gix_hash.proofs.Std.{arith}
 use Rattle.id_lookup.proofs.Indexes.{run_ending}
 use Rattle.id_lookup.proofs.index.IdIndex.find.Goals as goal
 

@@ -1,4 +1,4 @@
-use Rattle.std.proofs.Common.{refl}
+use Rattle.gix_hash.proofs.Std.{refl}
 use Rattle.id_lookup.proofs.Matched.{run_matches}
 use Rattle.id_lookup.proofs.index.IdIndex.matches.Goals as goal
 

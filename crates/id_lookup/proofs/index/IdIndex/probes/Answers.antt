@@ -1,4 +1,4 @@
-use Rattle.std.proofs.Common.{◌≤◌, length, map, subst}
+use Rattle.gix_hash.proofs.Std.{◌≤◌, length, map, subst}
 use Rattle.gix_hash.specs.Words.{hex_len_of}
 use Rattle.id_lookup.proofs.Indexes.{index-can_probe}
 use Rattle.id_lookup.proofs.index.IdIndex.probes.Goals as goal

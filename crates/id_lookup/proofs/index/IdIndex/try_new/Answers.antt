@@ -1,7 +1,4 @@
-use Rattle.std.proofs.Common.{◌≡◌, [], length, map, sym, ap, ◌∙◌, arith}
-use Rattle.std.proofs.lemmas.Bool.{false≢true}
-use Rattle.std.proofs.lemmas.List.{length-map}
-use Rattle.std.proofs.lemmas.List.Elements.{AllWithin-more}
+use Rattle.gix_hash.proofs.Std.{◌≡◌, [], length, map, sym, ap, ◌∙◌, arith, false≢true, length-map, AllWithin-more}
 use Rattle.gix_hash.specs.Words.{hex_len_of}
 use Rattle.id_lookup.proofs.Indexes.{index_more, no_other, wrong_there, not_rising, no_index}
 use Rattle.id_lookup.specs.declared.index.IndexError.TheVariants.{WrongKind, NotRising}

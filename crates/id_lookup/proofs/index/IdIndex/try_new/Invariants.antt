@@ -1,5 +1,4 @@
-use Rattle.std.proofs.Common.{◌≡◌, map}
-use Rattle.std.specs.List.{AllWithin}
+use Rattle.gix_hash.proofs.Std.{◌≡◌, map, AllWithin}
 use Rattle.id_lookup.specs.Indexes.{IsIndexUpTo}
 use Rattle.id_lookup.proofs.index.IdIndex.try_new.Given as goal
 

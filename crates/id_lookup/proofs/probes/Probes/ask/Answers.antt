@@ -1,4 +1,4 @@
-use Rattle.std.proofs.Common.{ap, refl, ◌∙◌}
+use Rattle.gix_hash.proofs.Std.{ap, refl, ◌∙◌}
 use Rattle.gix_hash.specs.Words.{place}
 use Rattle.id_lookup.proofs.probes.Probes.ask.Goals as goal
 

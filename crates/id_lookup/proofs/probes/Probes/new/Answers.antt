@@ -1,4 +1,4 @@
-use Rattle.std.proofs.Common.{arith}
+use Rattle.gix_hash.proofs.Std.{arith}
 use Rattle.id_lookup.proofs.Least.{least_hex_len-le}
 use Rattle.id_lookup.proofs.probes.Probes.new.Goals as goal
 

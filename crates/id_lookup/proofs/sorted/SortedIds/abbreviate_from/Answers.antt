@@ -1,5 +1,4 @@
-use Rattle.std.proofs.Common.{map}
-use Rattle.std.proofs.lemmas.Option.{IfSome_then}
+use Rattle.gix_hash.proofs.Std.{map, IfSome_then}
 use Rattle.gix_hash.specs.Words.{KindDigits}
 use Rattle.id_lookup.specs.Indexes.{IsShortestNameFrom}
 use Rattle.id_lookup.specs.Runs.{IsSortedIds}

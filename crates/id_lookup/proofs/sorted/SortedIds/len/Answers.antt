@@ -1,5 +1,4 @@
-use Rattle.std.proofs.Common.{sym, ap, ◌∙◌, arith, is_lt}
-use Rattle.std.proofs.lemmas.Bool.{false≢true}
+use Rattle.gix_hash.proofs.Std.{sym, ap, ◌∙◌, arith, is_lt, false≢true}
 use Rattle.id_lookup.proofs.Ordered.{sorted-in_order}
 use Rattle.id_lookup.proofs.sorted.SortedIds.len.Goals as goal
 

@@ -1,4 +1,4 @@
-use Rattle.std.proofs.Common.{ap, ◌∙◌}
+use Rattle.gix_hash.proofs.Std.{ap, ◌∙◌}
 use Rattle.id_lookup.specs.Runs.{matches}
 use Rattle.id_lookup.proofs.Matched.{run_matches}
 use Rattle.id_lookup.proofs.sorted.SortedIds.matches.Goals as goal

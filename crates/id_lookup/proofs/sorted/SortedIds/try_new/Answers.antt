@@ -1,7 +1,4 @@
-use Rattle.std.proofs.Common.{◌≡◌, ◌-◌, ◌<◌, false, [], length, map, slice_index_or, sym, ap, ◌∙◌, add-one, arith, nat_cmp, is_lt}
-use Rattle.std.proofs.lemmas.Bool.{false≢true}
-use Rattle.std.proofs.lemmas.List.{length-map}
-use Rattle.std.specs.Cmp.Lexicographic.{slice_cmp}
+use Rattle.gix_hash.proofs.Std.{◌≡◌, ◌-◌, ◌<◌, false, [], length, map, slice_index_or, sym, ap, ◌∙◌, add-one, arith, nat_cmp, is_lt, false≢true, length-map, slice_cmp}
 use Rattle.gix_hash.specs.Words.{hex_len_of}
 use Rattle.id_lookup.proofs.Least.{least_hex_len-take}
 use Rattle.id_lookup.proofs.Ordered.{adjacent_more, not_less}

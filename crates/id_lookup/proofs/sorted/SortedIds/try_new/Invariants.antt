@@ -1,6 +1,4 @@
-use Rattle.std.proofs.Common.{◌≡◌, map, take, nat_cmp, is_lt}
-use Rattle.std.specs.Cmp.Lexicographic.{slice_cmp}
-use Rattle.std.specs.List.Sorted.{IsSortedWithin}
+use Rattle.gix_hash.proofs.Std.{◌≡◌, map, take, nat_cmp, is_lt, slice_cmp, IsSortedWithin}
 use Rattle.id_lookup.specs.Runs.{least_hex_len}
 use Rattle.id_lookup.proofs.sorted.SortedIds.try_new.Given as goal
 

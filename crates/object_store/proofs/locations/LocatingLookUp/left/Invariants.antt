@@ -1,5 +1,4 @@
-use Rattle.std.proofs.Common.{◌≡◌, ◌+◌, length, take}
-use Rattle.std.specs.List.{sum_by}
+use Rattle.gix_hash.proofs.Std.{◌≡◌, ◌+◌, length, take, sum_by}
 use Rattle.object_store.proofs.locations.LocatingLookUp.left.Given as goal
 
 abbrev pub invariant-loop-located : goal.invariant-loop-located

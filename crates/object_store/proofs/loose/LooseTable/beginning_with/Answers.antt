@@ -1,4 +1,4 @@
-use Rattle.std.proofs.Common.{◌∙◌, List, map, ap, sym, subst, arith}
+use Rattle.gix_hash.proofs.Std.{◌∙◌, List, map, ap, sym, subst, arith}
 use Rattle.id_lookup.specs.Words.{Index, IsIndex, IsRun, ObjectId, hex_len_of, id_digits, matches}
 use Rattle.id_lookup.proofs.Indexes.{index-sorted}
 use Rattle.id_lookup.proofs.Matched.{run_matches}

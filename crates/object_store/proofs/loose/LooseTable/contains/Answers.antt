@@ -1,4 +1,4 @@
-use Rattle.std.proofs.Common.{◌≡◌, ◌∙◌, length, ap, refl, subst, sym}
+use Rattle.gix_hash.proofs.Std.{◌≡◌, ◌∙◌, length, ap, refl, subst, sym}
 use Rattle.id_lookup.specs.Words.{Index, IsIndex, KindDigits, hex_len_of, id_digits, kind_by_number, matches}
 use Rattle.id_lookup.proofs.Beginnings.{test_same}
 use Rattle.object_store.proofs.LooseParts.{found_decides}

@@ -1,4 +1,4 @@
-use Rattle.std.proofs.Common.{subst, All}
+use Rattle.gix_hash.proofs.Std.{subst, All}
 use Rattle.id_lookup.specs.Words.{AreIdDigits, Index}
 use Rattle.object_store.proofs.loose.LooseTable.ids.Goals as goal
 

@@ -1,5 +1,4 @@
-use Rattle.std.proofs.Common.{get_or, subst}
-use Rattle.std.proofs.lemmas.List.Elements.{All-map}
+use Rattle.gix_hash.proofs.Std.{get_or, subst, All-map}
 use Rattle.id_lookup.specs.Words.{AreIdDigits, Kind, id_digits}
 use Rattle.object_store.proofs.loose.LooseTable.new.Goals as goal
 

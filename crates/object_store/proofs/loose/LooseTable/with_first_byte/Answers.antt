@@ -1,4 +1,4 @@
-use Rattle.std.proofs.Common.{◌∙◌, ap, sym, subst, All}
+use Rattle.gix_hash.proofs.Std.{◌∙◌, ap, sym, subst, All}
 use Rattle.id_lookup.specs.Words.{AreIdDigits, Index, IsIndex, has_first_byte, matches}
 use Rattle.id_lookup.proofs.Beginnings.{part-matches}
 use Rattle.id_lookup.proofs.SameMembers.{index-filter}

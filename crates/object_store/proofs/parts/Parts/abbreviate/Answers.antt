@@ -1,4 +1,4 @@
-use Rattle.std.proofs.Common.{◌≡◌, ◌∙◌, None, inl, inr, ap, length, subst}
+use Rattle.gix_hash.proofs.Std.{◌≡◌, ◌∙◌, None, inl, inr, ap, length, subst}
 use Rattle.id_lookup.specs.Words.{KindDigits, hex_len_of, id_digits}
 use Rattle.object_store.specs.Several.{IsAbbreviated}
 use Rattle.object_store.specs.Stores.{IsAbbreviationOf}

@@ -1,5 +1,4 @@
-use Rattle.std.proofs.Common.{List, map, subst}
-use Rattle.std.proofs.lemmas.Result.{err_from_is_err_and}
+use Rattle.gix_hash.proofs.Std.{List, map, subst, err_from_is_err_and}
 use Rattle.id_lookup.specs.Words.{Kind, ObjectId, id_digits}
 use Rattle.object_store.specs.Several.{IsAbbreviatedAt, IsAbbreviationOfKind}
 use Rattle.object_store.proofs.Abbreviated.{abbreviated, front_byte}

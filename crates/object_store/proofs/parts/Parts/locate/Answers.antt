@@ -1,5 +1,4 @@
-use Rattle.std.proofs.Common.{◌≡◌, ◌⊎◌, inr, subst}
-use Rattle.std.proofs.lemmas.Result.{IfErr-weaker}
+use Rattle.gix_hash.proofs.Std.{◌≡◌, ◌⊎◌, inr, subst, IfErr-weaker}
 use Rattle.id_lookup.specs.Words.{first_byte_of, id_digits}
 use Rattle.object_store.specs.Stores.{HaveBuckets, IsLocateFault, IsStoreFault, StoreView}
 use Rattle.object_store.proofs.parts.Parts.locate.Goals as goal

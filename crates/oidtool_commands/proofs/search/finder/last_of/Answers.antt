@@ -1,4 +1,4 @@
-use Rattle.std.proofs.Common.{◌-◌, length, arith}
+use Rattle.gix_hash.proofs.Std.{◌-◌, length, arith}
 use Rattle.oidtool_commands.proofs.FinderLemmas.{last_or-at}
 use Rattle.oidtool_commands.proofs.search.finder.last_of.Goals as goal
 

@@ -1,4 +1,4 @@
-use Rattle.std.proofs.Common.{◌≡◌, ◌+◌, ◌-◌, take, drop, ap, arith}
+use Rattle.gix_hash.proofs.Std.{◌≡◌, ◌+◌, ◌-◌, take, drop, ap, arith}
 use Rattle.oidtool_commands.proofs.ChunkLemmas.{line_taken, id_found}
 use Rattle.oidtool_commands.proofs.search.list_reader.id_line_at.Goals as goal
 

@@ -1,5 +1,4 @@
-use Rattle.std.proofs.Common.{ap, arith, sym, ◌∙◌}
-use Rattle.std.proofs.lemmas.Bool.Decides.{nat_tests}
+use Rattle.gix_hash.proofs.Std.{ap, arith, sym, ◌∙◌, nat_tests}
 use Rattle.id_lookup.specs.Words.{full_read, hex_letter}
 use Rattle.oidtool_commands.proofs.ChunkLemmas.{short_line}
 use Rattle.oidtool_commands.proofs.search.list_reader.read_line.Goals as goal

@@ -1,4 +1,4 @@
-use Rattle.std.proofs.Common.{arith}
+use Rattle.gix_hash.proofs.Std.{arith}
 use Rattle.oidtool_commands.proofs.ChunkLemmas.{kept_short, kept_long}
 use Rattle.oidtool_commands.proofs.search.list_reader.store_byte.Goals as goal
 

@@ -1,4 +1,4 @@
-use Rattle.std.proofs.Common.{◌≡◌, ◌+◌, ◌∙◌, ap, refl, inl, inr, Some, arith}
+use Rattle.gix_hash.proofs.Std.{◌≡◌, ◌+◌, ◌∙◌, ap, refl, inl, inr, Some, arith}
 use Rattle.oidtool_commands.specs.declared.search.error.SearchError.TheVariants.{WrongKind, NotRising}
 use Rattle.oidtool_commands.specs.declared.search.Search.TheVariants.{In}
 use Rattle.id_lookup.specs.Words.{Index}

@@ -1,8 +1,5 @@
 -- Each exit says where the reading stopped, by the bytes taken and by the last read.
-use Rattle.std.proofs.Common.{◌≡◌, ◌≢◌, ◌<◌, ◌≤◌, ◌++◌, ◌∙◌, Ok, [], map, sym, append-nil, take, drop, length, subst, arith, length-append, length-drop, length-take}
-use Rattle.std.proofs.lemmas.List.{map-append}
-use Rattle.std.proofs.KnownBytes.{Consumes-nil, Consumes-trans}
-use Rattle.std.specs.Io.KnownBytes.{Consumes}
+use Rattle.gix_hash.proofs.Std.{◌≡◌, ◌≢◌, ◌<◌, ◌≤◌, ◌++◌, ◌∙◌, Ok, [], map, sym, append-nil, take, drop, length, subst, arith, length-append, length-drop, length-take, map-append, Consumes-nil, Consumes-trans, Consumes}
 use Rattle.id_lookup.specs.Words.{id_digits}
 use Rattle.oidtool_commands.specs.Lists.{IsListRefusal, list_read}
 use Rattle.oidtool_commands.proofs.ChunkLemmas.{first_of_list, some_after}

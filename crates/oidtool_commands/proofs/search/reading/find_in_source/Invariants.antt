@@ -1,4 +1,4 @@
-use Rattle.std.proofs.Common.{◌≡◌, ◌+◌, ◌≤◌, [], false}
+use Rattle.gix_hash.proofs.Std.{◌≡◌, ◌+◌, ◌≤◌, [], false}
 use Rattle.oidtool_commands.proofs.StopLemmas.{IsTaken}
 use Rattle.oidtool_commands.proofs.search.reading.find_in_source.Given as goal
 

@@ -1,5 +1,4 @@
-use Rattle.std.proofs.Common.{◌≢◌, [], subst}
-use Rattle.std.proofs.lemmas.Result.{err_from_is_err_and}
+use Rattle.gix_hash.proofs.Std.{◌≢◌, [], subst, err_from_is_err_and}
 use Rattle.oidtool_commands.proofs.SkippedLines.{read_searches, refused_memory}
 use Rattle.oidtool_commands.proofs.search.reading.read_chunk.Goals as goal
 

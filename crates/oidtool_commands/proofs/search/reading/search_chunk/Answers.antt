@@ -1,5 +1,4 @@
-use Rattle.std.proofs.Common.{◌+◌, ◌-◌, ◌++◌, [], length, take, drop, ap, ◌∙◌, take-append-drop, append-nil}
-use Rattle.std.proofs.lemmas.Result.{err_from_is_err_and, on_ok_weaker, IfErr-weaker}
+use Rattle.gix_hash.proofs.Std.{◌+◌, ◌-◌, ◌++◌, [], length, take, drop, ap, ◌∙◌, take-append-drop, append-nil, err_from_is_err_and, on_ok_weaker, IfErr-weaker}
 use Rattle.oidtool_commands.proofs.SkippedLines.{none_skipped, searches_on, searches_more, refused_after, two_parts}
 use Rattle.oidtool_commands.proofs.search.reading.search_chunk.Goals as goal
 

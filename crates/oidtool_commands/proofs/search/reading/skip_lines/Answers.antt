@@ -1,4 +1,4 @@
-use Rattle.std.proofs.Common.{refl, [], ◌*◌, ◌/◌, ◌-◌, ◌+◌, length, sym, ap, subst, ◌∙◌, arith, mul_comm}
+use Rattle.gix_hash.proofs.Std.{refl, [], ◌*◌, ◌/◌, ◌-◌, ◌+◌, length, sym, ap, subst, ◌∙◌, arith, mul_comm}
 use Rattle.oidtool_commands.proofs.SkippedLines.{none_skipped, skipped, whole_lines}
 use Rattle.oidtool_commands.proofs.search.reading.skip_lines.Goals as goal
 use Rattle.oidtool_commands.specs.SearchStates.{HasSkipped, Searches}

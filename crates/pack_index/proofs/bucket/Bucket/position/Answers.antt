@@ -1,4 +1,4 @@
-use Rattle.std.proofs.Common.{◌≡◌, ◌≤◌, ◌∙◌, length, sym, ap, subst, map}
+use Rattle.gix_hash.proofs.Std.{◌≡◌, ◌≤◌, ◌∙◌, length, sym, ap, subst, map}
 use Rattle.id_lookup.specs.Words.{Sha1, Sha256, digits_of, hex_len_of, least_hex_len, oid_digits}
 use Rattle.id_lookup.proofs.Indexes.{no_other}
 use Rattle.pack_index.proofs.Counted.{chunks-long, chunks-reach, length-digests_in_at}

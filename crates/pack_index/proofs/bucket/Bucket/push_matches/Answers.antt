@@ -1,4 +1,4 @@
-use Rattle.std.proofs.Common.{◌∙◌, ap, sym, arith}
+use Rattle.gix_hash.proofs.Std.{◌∙◌, ap, sym, arith}
 use Rattle.id_lookup.specs.Words.{Sha1, Sha256, hex_len_of}
 use Rattle.pack_index.specs.Lazy.{BucketNames}
 use Rattle.pack_index.proofs.Counted.{chunks-reach}

@@ -1,4 +1,4 @@
-use Rattle.std.proofs.Common.{◌≡◌, ◌<◌, [], length, get_or, subst, sym, slice_range}
+use Rattle.gix_hash.proofs.Std.{◌≡◌, ◌<◌, [], length, get_or, subst, sym, slice_range}
 use Rattle.id_lookup.specs.Words.{hex_len_of}
 use Rattle.pack_index.specs.Format.{crc_table_start, list_of, names_in, names_start}
 use Rattle.pack_index.proofs.Counted.{length-digests_in_at}

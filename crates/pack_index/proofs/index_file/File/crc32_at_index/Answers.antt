@@ -1,4 +1,4 @@
-use Rattle.std.proofs.Common.{arith}
+use Rattle.gix_hash.proofs.Std.{arith}
 use Rattle.pack_index.proofs.Counted.{length-names_in}
 use Rattle.pack_index.proofs.index_file.File.crc32_at_index.Goals as goal
 

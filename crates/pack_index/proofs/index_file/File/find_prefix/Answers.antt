@@ -1,4 +1,4 @@
-use Rattle.std.proofs.Common.{◌≤◌, length, subst, arith, slice_range}
+use Rattle.gix_hash.proofs.Std.{◌≤◌, length, subst, arith, slice_range}
 use Rattle.id_lookup.specs.Words.{hex_len_of}
 use Rattle.pack_index.specs.Format.{crc_table_start, names_start}
 use Rattle.pack_index.proofs.Counted.{digests_in-reach}

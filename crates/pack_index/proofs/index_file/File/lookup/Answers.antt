@@ -1,4 +1,4 @@
-use Rattle.std.proofs.Common.{length, sym, ap, subst, ◌∙◌, slice_range}
+use Rattle.gix_hash.proofs.Std.{length, sym, ap, subst, ◌∙◌, slice_range}
 use Rattle.id_lookup.specs.Words.{KindDigits, hex_len_of}
 use Rattle.pack_index.specs.Format.{IndexFile, IsFirstIndexOf, crc_table_start, names_in, names_start}
 use Rattle.id_lookup.proofs.Indexes.{no_other}

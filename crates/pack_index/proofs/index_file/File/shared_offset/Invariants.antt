@@ -1,4 +1,4 @@
-use Rattle.std.proofs.Common.{◌≡◌, ◌≢◌, ℕ, ◌<◌, MatchOption, nat_cmp}
+use Rattle.gix_hash.proofs.Std.{◌≡◌, ◌≢◌, ℕ, ◌<◌, MatchOption, nat_cmp}
 use Rattle.std.specs.BTreeMap.{get}
 use Rattle.pack_index.specs.Format.{Each, HaveOwnOffsets, offset_in}
 use Rattle.pack_index.proofs.index_file.File.shared_offset.Given as goal

@@ -1,4 +1,4 @@
-use Rattle.std.proofs.lemmas.Bool.{false≢true}
+use Rattle.gix_hash.proofs.Std.{false≢true}
 use Rattle.pack_index.proofs.Refusals.{no_index}
 use Rattle.pack_index.proofs.index_file.File.try_new.Goals as goal
 

@@ -1,5 +1,4 @@
-use Rattle.std.proofs.Common.{◌≡◌, ◌∙◌, ◌-◌, ◌*◌, ◌/◌, ◌≤◌, ℕ, List, Some, length, refl, sym, ap, subst, arith}
-use Rattle.std.proofs.lemmas.Bool.{false≢true}
+use Rattle.gix_hash.proofs.Std.{◌≡◌, ◌∙◌, ◌-◌, ◌*◌, ◌/◌, ◌≤◌, ℕ, List, Some, length, refl, sym, ap, subst, arith, false≢true}
 use Rattle.id_lookup.specs.Words.{Kind, byte_len_of}
 use Rattle.pack_index.specs.Format.{digests_in, num_objects}
 use Rattle.pack_index.specs.Lazy.{BucketNames, HasBucket, HaveFirstByte, IfKnown, IsBucketOf, bucket_end, bucket_start, counted_with}

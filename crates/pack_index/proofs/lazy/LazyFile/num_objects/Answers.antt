@@ -1,4 +1,4 @@
-use Rattle.std.proofs.Common.{◌≡◌, ◌∙◌, length, arith, rules}
+use Rattle.gix_hash.proofs.Std.{◌≡◌, ◌∙◌, length, arith, rules}
 use Rattle.pack_index.proofs.Heads.{head_count}
 use Rattle.pack_index.proofs.lazy.LazyFile.num_objects.Goals as goal
 

@@ -1,5 +1,4 @@
-use Rattle.std.proofs.Common.{◌≡◌, length, arith, rules}
-use Rattle.std.proofs.lemmas.Result.{err_from_is_err_and}
+use Rattle.gix_hash.proofs.Std.{◌≡◌, length, arith, rules, err_from_is_err_and}
 use Rattle.pack_index.specs.Format.{Each}
 use Rattle.pack_index.specs.Lazy.{Rises}
 use Rattle.pack_index.proofs.Heads.{all_rise, begins, first_falls, head_fault, head_inside, tables_by_head}

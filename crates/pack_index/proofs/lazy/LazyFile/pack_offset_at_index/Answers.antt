@@ -1,5 +1,4 @@
-use Rattle.std.proofs.Common.{◌≡◌, ◌∙◌, ℕ, ◌+◌, ◌-◌, ◌*◌, List, Some, length, refl, ap, subst, arith, rules, IsTrue}
-use Rattle.std.proofs.lemmas.Result.{err_from_is_err_and}
+use Rattle.gix_hash.proofs.Std.{◌≡◌, ◌∙◌, ℕ, ◌+◌, ◌-◌, ◌*◌, List, Some, length, refl, ap, subst, arith, rules, IsTrue, err_from_is_err_and}
 use Rattle.id_lookup.specs.Words.{Kind}
 use Rattle.pack_index.specs.Format.{long_table_start, long_word, tables_end}
 use Rattle.pack_index.specs.Lazy.{LazyIndex}

@@ -1,5 +1,4 @@
-use Rattle.std.proofs.Common.{◌≡◌, ◌≤◌, ℕ, length, ap, subst, arith, rules, IsTrue}
-use Rattle.std.proofs.lemmas.Result.{err_from_is_err_and}
+use Rattle.gix_hash.proofs.Std.{◌≡◌, ◌≤◌, ℕ, length, ap, subst, arith, rules, IsTrue, err_from_is_err_and}
 use Rattle.id_lookup.specs.Words.{Kind, Sha1, Sha256}
 use Rattle.pack_index.specs.Format.{HasTables, num_objects}
 use Rattle.pack_index.specs.Lazy.{LazyIndex}

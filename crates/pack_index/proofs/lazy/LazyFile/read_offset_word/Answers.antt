@@ -1,5 +1,4 @@
-use Rattle.std.proofs.Common.{◌≡◌, ◌∙◌, ◌+◌, ◌*◌, ◌<◌, length, ap, subst, arith, rules, IsTrue}
-use Rattle.std.proofs.lemmas.Result.{err_from_is_err_and}
+use Rattle.gix_hash.proofs.Std.{◌≡◌, ◌∙◌, ◌+◌, ◌*◌, ◌<◌, length, ap, subst, arith, rules, IsTrue, err_from_is_err_and}
 use Rattle.id_lookup.specs.Words.{Kind}
 use Rattle.pack_index.specs.Format.{num_objects, offset_table_start}
 use Rattle.pack_index.specs.Lazy.{LazyIndex}

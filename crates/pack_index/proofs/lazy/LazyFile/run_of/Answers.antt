@@ -1,4 +1,4 @@
-use Rattle.std.proofs.Common.{◌≡◌, ◌∙◌, length, ap, arith, rules}
+use Rattle.gix_hash.proofs.Std.{◌≡◌, ◌∙◌, length, ap, arith, rules}
 use Rattle.pack_index.specs.Lazy.{LazyIndex}
 use Rattle.pack_index.proofs.Heads.{count_inside, end_in_head, start_in_head}
 use Rattle.pack_index.proofs.lazy.LazyFile.run_of.Goals as goal

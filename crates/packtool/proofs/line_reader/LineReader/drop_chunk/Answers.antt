@@ -1,6 +1,4 @@
-use Rattle.std.proofs.Common.{ap, List, ℕ, arith, option_map}
-use Rattle.std.proofs.lemmas.Grind.{common_steps}
-use Rattle.std.specs.Io.KnownBytes.{prepend_known}
+use Rattle.gix_hash.proofs.Std.{ap, List, ℕ, arith, option_map, common_steps, prepend_known}
 use Rattle.packtool.specs.WholeLines.{made_whole}
 use Rattle.packtool.proofs.LineLemmas.{moved-front}
 use Rattle.packtool.proofs.line_reader.LineReader.drop_chunk.Goals as goal

@@ -1,5 +1,4 @@
-use Rattle.std.proofs.Common.{◌+◌, ◌<◌, ◌∷◌, [], ap, ◌∙◌, take, length, set, arith, length-take-le}
-use Rattle.std.proofs.lemmas.Grind.{common_steps}
+use Rattle.gix_hash.proofs.Std.{◌+◌, ◌<◌, ◌∷◌, [], ap, ◌∙◌, take, length, set, arith, length-take-le, common_steps}
 use Rattle.packtool.specs.WholeLines.{last_after}
 use Rattle.packtool.proofs.LineLemmas.{held-fed, last-append, line-taken, none-after}
 use Rattle.packtool.proofs.line_reader.LineReader.end_line.Goals as goal

@@ -1,5 +1,4 @@
-use Rattle.std.proofs.Common.{◌≤◌, take, sym, arith, take-take}
-use Rattle.std.proofs.lemmas.Grind.{common_steps}
+use Rattle.gix_hash.proofs.Std.{◌≤◌, take, sym, arith, take-take, common_steps}
 use Rattle.packtool.specs.WholeLines.{AreWhole}
 use Rattle.packtool.proofs.LineLemmas.{lines-taken}
 use Rattle.packtool.proofs.line_reader.LineReader.find_chunk.Goals as goal

@@ -1,5 +1,4 @@
-use Rattle.std.proofs.Common.{◌<◌, ◌-◌, ◌^◌, drop, count_by}
-use Rattle.std.specs.Io.KnownBytes.{Consumes}
+use Rattle.gix_hash.proofs.Std.{◌<◌, ◌-◌, ◌^◌, drop, count_by, Consumes}
 use Rattle.packtool.specs.WholeLines.{AreWhole, HasNoLineFeed, is_line_feed}
 use Rattle.packtool.specs.LineReaders.{chunk, held, to_come}
 use Rattle.packtool.proofs.line_reader.LineReader.next.Given as goal

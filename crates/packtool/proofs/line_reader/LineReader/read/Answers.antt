@@ -1,6 +1,4 @@
-use Rattle.std.proofs.Common.{◌≡◌, ◌+◌, ◌≤◌, ◌++◌, List, ℕ, ap, subst, ◌∙◌, take, length, arith}
-use Rattle.std.proofs.lemmas.Grind.{common_steps}
-use Rattle.std.specs.Io.KnownBytes.{Consumes, Keeps}
+use Rattle.gix_hash.proofs.Std.{◌≡◌, ◌+◌, ◌≤◌, ◌++◌, List, ℕ, ap, subst, ◌∙◌, take, length, arith, common_steps, Consumes, Keeps}
 use Rattle.packtool.specs.LineReaders.{held}
 use Rattle.packtool.proofs.LineLemmas.{held-read, held-same, none-kept, read-kept}
 use Rattle.packtool.proofs.line_reader.LineReader.read.Goals as goal

@@ -1,4 +1,4 @@
-use Rattle.std.proofs.Common.{ap}
+use Rattle.gix_hash.proofs.Std.{ap}
 use Rattle.packtool.specs.Requests.{least_of}
 use Rattle.packtool.proofs.stores.Asked.answer_once.Goals as goal
 

@@ -1,4 +1,4 @@
-use Rattle.std.proofs.Common.{All, List, Some, ap, subst, sym, ℕ, ◌≡◌}
+use Rattle.gix_hash.proofs.Std.{All, List, Some, ap, subst, sym, ℕ, ◌≡◌}
 use Rattle.gix_hash.specs.Words.{KindDigits, first_byte_of}
 use Rattle.store_folders.specs.Stores.{only_of}
 use Rattle.store_folders.specs.declared.loose.LooseIds.{LooseIds}

@@ -1,4 +1,4 @@
-use Rattle.std.specs.Prelude.{option_copied}
+use Rattle.gix_hash.proofs.Std.{option_copied}
 use Rattle.id_lookup.specs.Words.{hex_letter, id_digits}
 use Rattle.streams.specs.Streams.{line_of}
 use Rattle.streams.proofs.WritingLemmas.{Wrote-stop, Wrote-then}

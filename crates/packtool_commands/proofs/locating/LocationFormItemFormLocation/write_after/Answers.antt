@@ -1,5 +1,4 @@
-use Rattle.std.proofs.Common.{List, ℕ, None, subst, sym, option_copied, string_bytes}
-use Rattle.std.proofs.lemmas.List.Folds.{flat_map-map}
+use Rattle.gix_hash.proofs.Std.{List, ℕ, None, subst, sym, option_copied, string_bytes, flat_map-map}
 use Rattle.id_lookup.specs.Words.{id_digits}
 use Rattle.streams.specs.Streams.{Wrote}
 use Rattle.packtool_commands.specs.Stores.{location_line_after}

@@ -1,4 +1,4 @@
-use Rattle.std.proofs.Common.{◌≡◌}
+use Rattle.gix_hash.proofs.Std.{◌≡◌}
 use Rattle.repositories.proofs.folders.Walk.+push_folders.Given as goal
 
 abbrev pub decreases-push_folders : goal.decreases-push_folders

@@ -1,4 +1,4 @@
-use Rattle.std.proofs.Common.{ℕ, List}
+use Rattle.gix_hash.proofs.Std.{ℕ, List}
 use Rattle.object_store.specs.Stores as stores
 use Rattle.object_store.specs.declared.error.Error as look_ups
 use Rattle.object_store.specs.declared.error.Error.TheVariants as look_up_errors

@@ -1,4 +1,4 @@
-use Rattle.std.proofs.Common.{◌≡◌, All, true}
+use Rattle.gix_hash.proofs.Std.{◌≡◌, All, true}
 use Rattle.store_folders.specs.Stores.{HasPack}
 use Rattle.store_folders.proofs.packs.PackFolders.list.Given as goal
 

@@ -1,4 +1,4 @@
-use Rattle.std.proofs.Common.{All, subst, sym}
+use Rattle.gix_hash.proofs.Std.{All, subst, sym}
 use Rattle.store_folders.specs.Stores.{IsListed}
 use Rattle.store_folders.proofs.packs.PackFolders.list_again.Goals as goal
 

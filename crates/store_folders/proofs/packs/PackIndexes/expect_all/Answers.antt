@@ -1,4 +1,4 @@
-use Rattle.std.proofs.Common.{All, IsNone, rules, subst}
+use Rattle.gix_hash.proofs.Std.{All, IsNone, rules, subst}
 use Rattle.store_folders.specs.Stores.{IsListed}
 use Rattle.store_folders.proofs.packs.PackIndexes.expect_all.Goals as goal
 

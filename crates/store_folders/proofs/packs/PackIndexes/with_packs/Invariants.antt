@@ -1,4 +1,4 @@
-use Rattle.std.proofs.Common.{◌≡◌, true}
+use Rattle.gix_hash.proofs.Std.{◌≡◌, true}
 use Rattle.store_folders.proofs.packs.PackIndexes.with_packs.Given as goal
 
 abbrev pub invariant-loop-paths : goal.invariant-loop-paths

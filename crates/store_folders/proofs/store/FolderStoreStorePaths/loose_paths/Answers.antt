@@ -1,5 +1,4 @@
-use Rattle.std.proofs.Common.{◌≡◌, ◌∙◌, ◌+◌, ◌<◌, ℕ, List, [], ◌∷◌, ◌++◌, ap, arith, flat_map, get_or, length, string_bytes, sym, take}
-use Rattle.std.proofs.lemmas.List.{flat_map_more, take_more}
+use Rattle.gix_hash.proofs.Std.{◌≡◌, ◌∙◌, ◌+◌, ◌<◌, ℕ, List, [], ◌∷◌, ◌++◌, ap, arith, flat_map, get_or, length, string_bytes, sym, take, flat_map_more, take_more}
 use Rattle.gix_hash.specs.Words.{id_digits}
 use Rattle.store_folders.specs.Stores.{paths_in}
 use Rattle.store_folders.specs.declared.loose.LooseFolder.{LooseFolder}

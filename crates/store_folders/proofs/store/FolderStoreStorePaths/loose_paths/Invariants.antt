@@ -1,4 +1,4 @@
-use Rattle.std.proofs.Common.{◌≡◌, map, take, string_bytes, flat_map}
+use Rattle.gix_hash.proofs.Std.{◌≡◌, map, take, string_bytes, flat_map}
 use Rattle.gix_hash.specs.Words.{id_digits}
 use Rattle.store_folders.specs.Stores.{paths_in}
 use Rattle.store_folders.specs.declared.loose.LooseFolder.{LooseFolder}

@@ -1,5 +1,4 @@
-use Rattle.std.proofs.Common.{◌≡◌, length}
-use Rattle.std.specs.Io.KnownBytes.{Keeps}
+use Rattle.gix_hash.proofs.Std.{◌≡◌, length, Keeps}
 use Rattle.streams.proofs.retrying.RetryingRead.read.Given as goal
 
 abbrev pub invariant-loop : goal.invariant-loop

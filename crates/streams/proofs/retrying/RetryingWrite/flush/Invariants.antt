@@ -1,4 +1,4 @@
-use Rattle.std.specs.Io.KnownBytes.{Keeps}
+use Rattle.gix_hash.proofs.Std.{Keeps}
 use Rattle.streams.proofs.retrying.RetryingWrite.flush.Given as goal
 
 abbrev pub invariant-loop : goal.invariant-loop

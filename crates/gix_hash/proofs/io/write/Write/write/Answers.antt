@@ -1,4 +1,4 @@
-use Rattle.std.proofs.Common.{rules}
+use Rattle.id_digits.proofs.Std.{rules}
 use Rattle.gix_hash.proofs.io.write.Write.write.Goals as goal
 
 pub returns-clause-passes : goal.returns-clause-passes

@@ -1,6 +1,4 @@
-use Rattle.std.proofs.Common.{sym, ◌∙◌, ap, is_eq}
-use Rattle.std.specs.Cmp.{both_tied, unsigned_ties}
-use Rattle.std.specs.Cmp.Lexicographic.{texts_ties}
+use Rattle.id_digits.proofs.Std.{sym, ◌∙◌, ap, is_eq, both_tied, unsigned_ties, texts_ties}
 use Rattle.gix_hash.specs.Prefixes.{prefix_kind_number}
 use Rattle.gix_hash.proofs.prefix.order.PrefixPartialEq.eq.Goals as goal
 

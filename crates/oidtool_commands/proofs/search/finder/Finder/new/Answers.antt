@@ -1,4 +1,4 @@
-use Rattle.std.proofs.Common.{[], refl}
+use Rattle.gix_hash.proofs.Std.{[], refl}
 use Rattle.oidtool_commands.specs.Searches.{first_refused}
 use Rattle.oidtool_commands.specs.SearchStates.{IsLeast}
 use Rattle.oidtool_commands.specs.declared.search.Search.TheVariants.{Sorted, In}

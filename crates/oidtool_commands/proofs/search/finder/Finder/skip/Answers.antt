@@ -1,4 +1,4 @@
-use Rattle.std.proofs.Common.{[], ◌-◌, sym, ◌∙◌, append-nil, arith}
+use Rattle.gix_hash.proofs.Std.{[], ◌-◌, sym, ◌∙◌, append-nil, arith}
 use Rattle.oidtool_commands.proofs.FinderLemmas.{is_none, found_further}
 use Rattle.oidtool_commands.proofs.SkippedLines.{lines_counted}
 use Rattle.oidtool_commands.proofs.search.finder.Finder.skip.Goals as goal

@@ -1,4 +1,4 @@
-use Rattle.std.proofs.Common.{sym, ◌∙◌, refl}
+use Rattle.gix_hash.proofs.Std.{sym, ◌∙◌, refl}
 use Rattle.oidtool_commands.proofs.FinderLemmas.{is_none, is_some_of, found_refused, found_stops, found_further}
 use Rattle.oidtool_commands.proofs.search.finder.Finder.take.Goals as goal
 

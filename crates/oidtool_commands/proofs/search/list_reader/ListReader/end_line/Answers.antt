@@ -1,6 +1,4 @@
-use Rattle.std.proofs.Common.{◌++◌, ◌∷◌, [], ap, length-append, length, append_assoc, append-nil, arith, refl, sym, ◌∙◌}
-use Rattle.std.proofs.lemmas.List.Elements.{All-nil}
-use Rattle.std.proofs.lemmas.Result.{err_from_is_err_and}
+use Rattle.gix_hash.proofs.Std.{◌++◌, ◌∷◌, [], ap, length-append, length, append_assoc, append-nil, arith, refl, sym, ◌∙◌, All-nil, err_from_is_err_and}
 use Rattle.oidtool_commands.proofs.ChunkLemmas.{ended_taken, refused_line, first_read-taken}
 use Rattle.oidtool_commands.proofs.search.list_reader.ListReader.end_line.Goals as goal
 

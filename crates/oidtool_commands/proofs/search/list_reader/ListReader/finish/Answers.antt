@@ -1,5 +1,4 @@
-use Rattle.std.proofs.Common.{[], ap, ◌∙◌, arith, sym}
-use Rattle.std.proofs.lemmas.Result.{err_from_is_err_and}
+use Rattle.gix_hash.proofs.Std.{[], ap, ◌∙◌, arith, sym, err_from_is_err_and}
 use Rattle.oidtool_commands.specs.Lists.{ids_read}
 use Rattle.oidtool_commands.proofs.ChunkLemmas.{list_taken, lines_of-unended, refuses_same}
 use Rattle.oidtool_commands.proofs.search.list_reader.ListReader.finish.Goals as goal

@@ -1,4 +1,4 @@
-use Rattle.std.proofs.Common.{◌≡◌, ◌++◌, false, refl, rules, arith}
+use Rattle.gix_hash.proofs.Std.{◌≡◌, ◌++◌, false, refl, rules, arith}
 use Rattle.streams.specs.Streams.{is_line_feed}
 use Rattle.oidtool_commands.proofs.ChunkLemmas.{longer_taken}
 use Rattle.oidtool_commands.proofs.search.list_reader.ListReader.take_byte.Goals as goal

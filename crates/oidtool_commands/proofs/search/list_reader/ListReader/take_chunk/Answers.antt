@@ -1,5 +1,4 @@
-use Rattle.std.proofs.Common.{◌++◌, take, drop, subst, sym, ap, ◌∙◌, arith, append_assoc, take-append-drop}
-use Rattle.std.proofs.lemmas.Result.{err_from_is_err_and}
+use Rattle.gix_hash.proofs.Std.{◌++◌, take, drop, subst, sym, ap, ◌∙◌, arith, append_assoc, take-append-drop, err_from_is_err_and}
 use Rattle.oidtool_commands.specs.Lists.{IsListRefusal}
 use Rattle.oidtool_commands.proofs.ChunkLemmas.{takes_more, take_range}
 use Rattle.oidtool_commands.proofs.search.list_reader.ListReader.take_chunk.Goals as goal

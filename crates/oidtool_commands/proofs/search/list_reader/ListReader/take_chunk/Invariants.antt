@@ -1,4 +1,4 @@
-use Rattle.std.proofs.Common.{◌-◌, ◌≤◌, length, take}
+use Rattle.gix_hash.proofs.Std.{◌-◌, ◌≤◌, length, take}
 use Rattle.oidtool_commands.proofs.search.list_reader.ListReader.take_chunk.Given as goal
 use Rattle.oidtool_commands.specs.SearchStates.{Takes}
 

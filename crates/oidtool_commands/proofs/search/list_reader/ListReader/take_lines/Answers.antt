@@ -1,4 +1,4 @@
-use Rattle.std.proofs.Common.{length, ap, arith, slice_range}
+use Rattle.gix_hash.proofs.Std.{length, ap, arith, slice_range}
 use Rattle.oidtool_commands.proofs.ChunkLemmas.{takes_more, range_parts}
 use Rattle.oidtool_commands.proofs.search.list_reader.ListReader.take_lines.Goals as goal
 

@@ -1,4 +1,4 @@
-use Rattle.std.proofs.Common.{◌++◌, ◌∷◌, ◌-◌, [], ap, drop, append_assoc, arith, length, length-append, length-drop, length-take, refl, sym, ◌∙◌}
+use Rattle.gix_hash.proofs.Std.{◌++◌, ◌∷◌, ◌-◌, [], ap, drop, append_assoc, arith, length, length-append, length-drop, length-take, refl, sym, ◌∙◌}
 use Rattle.oidtool_commands.proofs.ChunkLemmas.{line_pushed, takes_more, range_parts}
 use Rattle.oidtool_commands.proofs.search.list_reader.ListReader.take_lines_of.Goals as goal
 

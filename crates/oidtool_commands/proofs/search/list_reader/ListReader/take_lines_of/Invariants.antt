@@ -1,4 +1,4 @@
-use Rattle.std.proofs.Common.{◌≡◌, ◌-◌, ◌≤◌, length, slice_range}
+use Rattle.gix_hash.proofs.Std.{◌≡◌, ◌-◌, ◌≤◌, length, slice_range}
 use Rattle.oidtool_commands.proofs.search.list_reader.ListReader.take_lines_of.Given as goal
 use Rattle.oidtool_commands.specs.SearchStates.{Takes}
 

@@ -1,5 +1,4 @@
-use Rattle.std.proofs.Common.{◌≡◌, ◌++◌, append-nil, suc, drop, drop-cons, subst, sym, ◌∙◌, arith}
-use Rattle.std.proofs.lemmas.Result.{err_from_is_err_and}
+use Rattle.gix_hash.proofs.Std.{◌≡◌, ◌++◌, append-nil, suc, drop, drop-cons, subst, sym, ◌∙◌, arith, err_from_is_err_and}
 use Rattle.oidtool_commands.specs.Lists.{IsListRefusal}
 use Rattle.oidtool_commands.proofs.ChunkLemmas.{takes_more, range_one, range_none}
 use Rattle.oidtool_commands.proofs.search.list_reader.ListReader.take_next.Goals as goal

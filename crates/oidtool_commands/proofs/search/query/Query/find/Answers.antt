@@ -1,5 +1,4 @@
-use Rattle.std.proofs.Common.{◌≡◌, ◌+◌, ◌∙◌, ap, sym, refl, Some, arith}
-use Rattle.std.proofs.lemmas.Result.{err_from_is_err_and}
+use Rattle.gix_hash.proofs.Std.{◌≡◌, ◌+◌, ◌∙◌, ap, sym, refl, Some, arith, err_from_is_err_and}
 use Rattle.oidtool_commands.specs.declared.search.error.SearchError.TheVariants.{Unsorted}
 use Rattle.oidtool_commands.specs.declared.search.Search.TheVariants.{Sorted}
 use Rattle.oidtool_commands.proofs.FinderLemmas.{no_more_found}

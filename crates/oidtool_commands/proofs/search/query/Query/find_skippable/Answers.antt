@@ -1,6 +1,4 @@
-use Rattle.std.proofs.Common.{◌≡◌, ◌-◌, ◌<◌, Ok, [], length, take, get_or, refl, sym, subst, ◌∙◌, arith}
-use Rattle.std.proofs.lemmas.Bool.Decides.{nat_tests}
-use Rattle.std.proofs.lemmas.List.{get_or_default}
+use Rattle.gix_hash.proofs.Std.{◌≡◌, ◌-◌, ◌<◌, Ok, [], length, take, get_or, refl, sym, subst, ◌∙◌, arith, nat_tests, get_or_default}
 use Rattle.id_lookup.specs.Words.{full_read, hex_letter, whole_of}
 use Rattle.oidtool_commands.proofs.FinderLemmas.{is_none}
 use Rattle.oidtool_commands.proofs.ChunkLemmas.{id_found}
