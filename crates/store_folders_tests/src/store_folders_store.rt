@@ -90,6 +90,18 @@ fn expect_in_order<R: Files<File = File> + AllocGlobal + Clone + Drop>(
     Ok(())
 }
 
+// These ids are found, and the pack indexes are in order.
+fn expect_found<R: Files<File = File> + AllocGlobal + Clone + Drop>(
+    rt: &(impl Abort + AllocGlobal),
+    store: &FolderStore<R>,
+    ids: &[&str],
+) -> Result<(), Fail>
+    requires { only_of store.now.loose.which ≡ Some 75 }
+{
+    expect_ids(rt, &find(rt, store)?, ids);
+    expect_in_order(rt, store)
+}
+
 // Opens the store with these moves and `left` reads of directories, and compares the ids that are
 // found, or the error.
 fn expect_opened<R: Abort + Files<File = File> + AllocGlobal>(
@@ -110,12 +122,15 @@ fn expect_opened<R: Abort + Files<File = File> + AllocGlobal>(
     match FolderStore::open(&moving, &folder, LooseIds::WithFirstByte(0x4b)) {
         Ok(store) => {
             let ids = want.expect(rt, "a store where an error is wanted");
-            expect_ids(rt, &find(rt, &store)?, ids);
-            expect_in_order(rt, &store)?;
+            let ended = expect_found(rt, &store, ids);
+            drop(store);
+            ended
         }
-        Err(error) => expect_printed(rt, error, want.err().unwrap_or("a store")),
+        Err(error) => {
+            expect_printed(rt, error, want.err().unwrap_or("a store"));
+            Ok(())
+        }
     }
-    Ok(())
 }
 
 const AMPLE: usize = 10_000;
@@ -207,21 +222,33 @@ const MANY_LOOSE: &str = "many/objects/4b/ffffffffffffffffffffffffffffffffffffff
 
 // A loose object that is gone is no fault, and neither is a small pack index: it was read as it was
 // opened. A larger one that is gone is one that says so.
+fn expect_without_files<R: Files<File = File> + AllocGlobal + Clone + Drop>(
+    rt: &(impl Abort + AllocGlobal + Files<File = File>),
+    store: &FolderStore<R>,
+) -> Result<(), Fail>
+    requires { only_of store.now.loose.which ≡ Some 75 }
+{
+    expect_in_order(rt, store)?;
+    rt.remove_file(MANY_LOOSE)?;
+    store.check_loose_files(&Prefix::from_hex("4bff")?)?;
+    rt.remove_file("many/objects/pack/pack-69.idx")?;
+    let loose = "4bffffffffffffffffffffffffffffffffffffff";
+    expect_ids(rt, &find(rt, store)?, &[BOTH, loose]);
+    let error = LazyError::Read(io::ErrorKind::NotFound.into());
+    let error = object_store::Error::of_index(store.index_path(69)?, error);
+    let want = "many/objects/pack/pack-69.idx: removed since it was listed";
+    expect_printed(rt, error, want);
+    Ok(())
+}
+
 #[test]
 fn files_may_be_removed_after_opening(rt: HostRuntime) -> Result<(), Fail> {
     make_many(&rt)?;
     let folder = ObjectsFolder::at(&rt, "many/objects")?;
     let store = FolderStore::open(&rt, &folder, LooseIds::WithFirstByte(0x4b))?;
-    expect_in_order(&rt, &store)?;
-    rt.remove_file(MANY_LOOSE)?;
-    store.check_loose_files(&Prefix::from_hex("4bff")?)?;
-    rt.remove_file("many/objects/pack/pack-69.idx")?;
-    let loose = "4bffffffffffffffffffffffffffffffffffffff";
-    expect_ids(&rt, &find(&rt, &store)?, &[BOTH, loose]);
-    let error = LazyError::Read(io::ErrorKind::NotFound.into());
-    let error = object_store::Error::of_index(store.index_path(69)?, error);
-    let want = "many/objects/pack/pack-69.idx: removed since it was listed";
-    expect_printed(&rt, error, want);
+    let ended = expect_without_files(&rt, &store);
+    drop(store);
+    ended?;
     fs::remove_dir_all(&rt, "many")?;
     Ok(())
 }
@@ -277,7 +304,21 @@ const COMING: [Coming; 4] = [
     ),
 ];
 
-// By the time all states are settled, so that the store is the same until it changes.
+// After what comes the store is another, and then the same until it changes.
+fn expect_refreshed_as_they_come<R: Files<File = File> + AllocGlobal + Clone + Drop>(
+    rt: &(impl Abort + AllocGlobal + Files<File = File>),
+    store: &mut FolderStore<R>,
+    now: SystemTime,
+) -> Result<(), Fail> {
+    for (empty, files, indexes, want) in &COMING {
+        make(rt, empty, files, indexes)?;
+        expect_refreshed(rt, store, now, false, want)?;
+        expect_refreshed(rt, store, now, true, want)?;
+    }
+    Ok(())
+}
+
+// By the time all states are settled.
 #[test]
 fn a_store_is_refreshed(rt: HostRuntime) -> Result<(), Fail> {
     make(&rt, COMING[0].0, &[], &[])?;
@@ -285,16 +326,25 @@ fn a_store_is_refreshed(rt: HostRuntime) -> Result<(), Fail> {
     let now = SystemTime::now(&rt)?.checked_add(Duration::from_secs(60));
     let now = now.expect(&rt, "no time");
     let mut store = FolderStore::open(&rt, &folder, FRESH)?;
-    for (empty, files, indexes, want) in &COMING {
-        make(&rt, empty, files, indexes)?;
-        expect_refreshed(&rt, &mut store, now, false, want)?;
-        expect_refreshed(&rt, &mut store, now, true, want)?;
-    }
+    let ended = expect_refreshed_as_they_come(&rt, &mut store, now);
+    drop(store);
+    ended?;
     fs::remove_dir_all(&rt, "fresh")?;
     Ok(())
 }
 
 // Loose objects are kept by what was asked for, and what may change in the same tick is not.
+fn expect_refreshed_each_time<R: Files<File = File> + AllocGlobal + Clone + Drop>(
+    rt: &(impl Abort + AllocGlobal + Files<File = File>),
+    store: &mut FolderStore<R>,
+) -> Result<(), Fail> {
+    expect_refreshed(rt, store, UNIX_EPOCH, false, &[LOOSE])?;
+    expect_refreshed(rt, store, UNIX_EPOCH, false, &[LOOSE])?;
+    expect!(rt; !store.refresh(LooseIds::WithFirstByte(0), UNIX_EPOCH)?);
+    expect!(rt; store.loose().ids().is_empty());
+    expect_refreshed(rt, store, UNIX_EPOCH, false, &[LOOSE])
+}
+
 #[test]
 fn a_store_is_refreshed_for_other_loose_objects(rt: HostRuntime) -> Result<(), Fail> {
     make(
@@ -305,11 +355,9 @@ fn a_store_is_refreshed_for_other_loose_objects(rt: HostRuntime) -> Result<(), F
     )?;
     let folder = ObjectsFolder::at(&rt, "kept/objects")?;
     let mut store = FolderStore::open(&rt, &folder, FRESH)?;
-    expect_refreshed(&rt, &mut store, UNIX_EPOCH, false, &[LOOSE])?;
-    expect_refreshed(&rt, &mut store, UNIX_EPOCH, false, &[LOOSE])?;
-    expect!(&rt; !store.refresh(LooseIds::WithFirstByte(0), UNIX_EPOCH)?);
-    expect!(&rt; store.loose().ids().is_empty());
-    expect_refreshed(&rt, &mut store, UNIX_EPOCH, false, &[LOOSE])?;
+    let ended = expect_refreshed_each_time(&rt, &mut store);
+    drop(store);
+    ended?;
     fs::remove_dir_all(&rt, "kept")?;
     Ok(())
 }
