@@ -7,16 +7,16 @@ use Rattle.repositories.specs.Alternates.{HasEntry, HasEntries, NamesPaths}
 pub record ReadsEntries (separator : ℕ) (list : List ℕ) (paths : List (List ℕ)) (left : List ℕ) : Type 0 where
   pub entries : List (List ℕ)
   pub on : (more : List (List ℕ)) → HasEntries separator left more → HasEntries separator list (entries ++ more)
-  pub named : paths ≡ filter (λ path. not (length path == 0)) (map before_nul entries)
+  pub named : paths ≡ map before_nul (filter (λ path. not (length path == 0)) entries)
 
 pub reads_entry : (separator : ℕ) (list left path rest : List ℕ) (paths : List (List ℕ)) → left ≢ [] → HasEntry separator left path rest
-    → ReadsEntries separator list paths left → ReadsEntries separator list (paths ++ filter (λ path. not (length path == 0)) (before_nul path ∷ [])) rest
+    → ReadsEntries separator list paths left → ReadsEntries separator list (paths ++ map before_nul (filter (λ path. not (length path == 0)) (path ∷ []))) rest
 reads_entry separator list left path rest paths some entry reads = record {
   entries = reads.entries ++ path ∷ [];
   on = λ more h. subst (HasEntries separator list) (sym (append_assoc reads.entries (path ∷ []) more)) (reads.on (path ∷ more) (some, (rest, entry, h)));
-  named = ap (λ l. l ++ filter (λ path. not (length path == 0)) (before_nul path ∷ [])) reads.named
-      ∙ sym (filter-append (λ path. not (length path == 0)) (map before_nul reads.entries) (before_nul path ∷ []))
-      ∙ ap (filter (λ path. not (length path == 0))) (sym (map-append before_nul reads.entries (path ∷ [])));
+  named = ap (λ l. l ++ map before_nul (filter (λ path. not (length path == 0)) (path ∷ []))) reads.named
+      ∙ sym (map-append before_nul (filter (λ path. not (length path == 0)) reads.entries) (filter (λ path. not (length path == 0)) (path ∷ [])))
+      ∙ ap (map before_nul) (sym (filter-append (λ path. not (length path == 0)) reads.entries (path ∷ [])));
 }
 
 pub is_empty : (list : List ℕ) → true ≡ (length list == 0) → list ≡ []

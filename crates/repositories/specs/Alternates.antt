@@ -28,6 +28,6 @@ abbrev pub HasEntries : ℕ → List ℕ → List (List ℕ) → Type 0
 HasEntries separator list [] = list ≡ []
 HasEntries separator list (path ∷ paths) = (list ≢ []) × ((rest : List ℕ) × HasEntry separator list path rest × HasEntries separator rest paths)
 
--- the list names these paths: its entries up to a NUL that ends the list, each up to a NUL of its own, but no empty ones
+-- the list names these paths: its entries up to a NUL that ends the list, but no empty ones, each up to a NUL of its own
 abbrev pub NamesPaths : ℕ → List ℕ → List (List ℕ) → Type 0
-NamesPaths separator list paths = (entries : List (List ℕ)) × HasEntries separator (before_nul list) entries × (paths ≡ filter (λ path. not (length path == 0)) (map before_nul entries))
+NamesPaths separator list paths = (entries : List (List ℕ)) × HasEntries separator (before_nul list) entries × (paths ≡ map before_nul (filter (λ path. not (length path == 0)) entries))

@@ -16,6 +16,9 @@ use std::alloc::{AllocError, Allocator};
 /// is unquoted (C's escapes, with bytes as three octal digits), up to the closing one, after which
 /// one byte is skipped, mostly the separator. If it is not quoted right, it is the path itself.
 ///
+/// A path that begins with a NUL is not skipped: it is then empty. To Git it is the directory of
+/// the list in `objects/info/alternates`, and an error in `$GIT_ALTERNATE_OBJECT_DIRECTORIES`.
+///
 /// ```
 /// let list = b"../../main/.git/objects\n# more\n\"../caf\\303\\251\"\n";
 /// let paths = alternate_paths(rt.alloc(), list, b'\n')?;
@@ -39,19 +42,19 @@ pub fn alternate_paths<A: Allocator + Copy>(
     Ok(paths)
 }
 
-// Adds a path up to its first NUL, unless that is empty.
+// Adds a path up to its first NUL, unless the path is empty.
 fn push_path<A: Allocator>(
     paths: &mut Vec<Vec<u8, A>, A>,
     mut path: Vec<u8, A>,
 ) -> Result<(), AllocError>
     ensures { OnOk result (map (λ path. path.items) paths.new.items
         ≡ map (λ path. path.items) paths.old.items
-        ++ filter (λ path. not (length path == 0)) (before_nul path.items ∷ [])) }
+        ++ map before_nul (filter (λ path. not (length path == 0)) (path.items ∷ []))) }
 {
-    if let Some(at) = position_of(&path, 0) {
-        path.truncate(at);
-    }
     if !path.is_empty() {
+        if let Some(at) = position_of(&path, 0) {
+            path.truncate(at);
+        }
         paths.push(path)?;
     }
     Ok(())

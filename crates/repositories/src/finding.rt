@@ -8,7 +8,7 @@ use gix_hash::Kind;
 use std::io;
 use std::rt::{Env, Files};
 
-const ALTERNATES: &str = "GIT_ALTERNATE_OBJECT_DIRECTORIES";
+pub(crate) const ALTERNATES: &str = "GIT_ALTERNATE_OBJECT_DIRECTORIES";
 
 /// An object directory that was found, and the kind of its ids.
 ///
@@ -22,7 +22,8 @@ pub struct ObjectsFolder {
     pub path: String,
     /// The kind of all ids: by the config, or SHA-1 without one. A caller may set another.
     pub kind: Kind,
-    /// The object directories that the environment adds to its alternates.
+    /// The object directories that the environment adds to its alternates. An empty path is none:
+    /// it began with a NUL, and is skipped.
     pub alternates: Vec<String>,
 }
 
@@ -116,7 +117,8 @@ fn alternates(rt: &(impl Env + AllocGlobal), top: &str) -> Result<Vec<String>, E
     let mut folders = Vec::new(rt.alloc());
     if let Some(list) = variable(rt, ALTERNATES)? {
         for path in &alternate_paths(rt.alloc(), list.as_bytes(), b':')? {
-            if !push_path(rt, top, path, &mut folders)? {
+            let folder = if path.is_empty() { "" } else { top };
+            if !push_path(rt, folder, path, &mut folders)? {
                 return Err(Error::text(rt.alloc(), ALTERNATES, "a path is not UTF-8"));
             }
         }

@@ -3,7 +3,7 @@
 use crate::alternates::alternate_paths;
 use crate::error::Error;
 use crate::files::{existing_folder, if_there, is_missing, join, push_path, real_folder};
-use crate::finding::ObjectsFolder;
+use crate::finding::{ALTERNATES, ObjectsFolder};
 use crate::state::FileState;
 use std::alloc::AllocError;
 use std::rt::Files;
@@ -22,7 +22,7 @@ pub struct Folders {
     /// alternates that cannot be used, in the order in which they were looked at.
     pub states: Vec<FileState>,
     /// Why other alternates are skipped: they are missing, are no directories, cannot be read or
-    /// are nested too deep. Each has its path.
+    /// are nested too deep. Each has its path, or the variable if its path there begins with a NUL.
     pub skipped: Vec<Error>,
 }
 
@@ -133,6 +133,11 @@ impl<R: Files + AllocGlobal> Walk<'_, R> {
                 self.found.paths.push(real)?;
                 Ok(Some(alternates))
             }
+            Err(_) if path.is_empty() => {
+                let error = Error::text(self.rt.alloc(), ALTERNATES, "a path begins with a NUL");
+                self.found.skipped.push(error)?;
+                Ok(None)
+            }
             Err(error) => {
                 self.found.skipped.push(unusable(self.rt, path, error)?)?;
                 if let Ok(state) = FileState::of(self.rt, path) {
@@ -148,7 +153,8 @@ impl<R: Files + AllocGlobal> Walk<'_, R> {
         let mut paths = Vec::new(self.rt.alloc());
         let list = list_path(self.rt, folder)?;
         for path in &alternate_paths(self.rt.alloc(), &self.list_of(&list)?, b'\n')? {
-            if !push_path(self.rt, folder, path, &mut paths)? {
+            // (An empty one is the directory itself.)
+            if !path.is_empty() && !push_path(self.rt, folder, path, &mut paths)? {
                 let error = Error::text(self.rt.alloc(), &list, "a path is not UTF-8");
                 self.found.skipped.push(error)?;
             }
