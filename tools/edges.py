@@ -35,6 +35,8 @@ ODD_LINES = [
     (b"", None),
     (b"#", None),
     (b"# x", None),
+    (b'""', None),
+    (b'"\\000x"', None),
     (b"../../own/objects", None),
     (b"{room}/good", None),
     (b"{room}/folder\r", None),

@@ -33,7 +33,7 @@ JUNK += ['X9=\\"\\\\\\t', "\r", "x\0 = 1", "name = J\udcf6rg", "b=\\r", '[a]b="\
 LAST = ["[a", "[a\r\n", "[a ", "[a \n\n", '[a "b', '[a "b"', '[a "b"\n', '[a "b"\r\n', '[a]\nb="c', '[a]\nb="c\\', '[a]\nb="c\\\n', "x = \\"]
 # What lists of alternates are made of, and the letters of names that directories have.
 PIECES = ["x", "y", '"', "\\", "#", " ", ":", "\n", "\r", "\0", '"x', 'y"', '"x"\n', '"y" ', '\\"', "\\\\", "\\170", "\\x", "\\n", "\\r", "\\400", "\\08"]
-PIECES += ["\\a", "\\b", "\\t", "\\v", "\\f", "\\e", "\\000", "\n#", "\n\n", ":#", "::"]
+PIECES += ["\\a", "\\b", "\\t", "\\v", "\\f", "\\e", "\\000", '"\\000"', "\n#", "\n\n", ":#", "::"]
 LETTERS = 'xy"\\# :\n\r\t\a\b\v\f'
 # Names of what is no loose object, beside those of the other kind.
 NO_OBJECTS = ["tmp_obj_f0K1Cz", "x", ".", "g" * 38, "0" * 37, "0" * 39, "0" * 37 + "G", "0" * 37 + ".", " " + "0" * 37]
@@ -338,7 +338,7 @@ class Oddity:
         rng = self.rng
         path = spelled(rng, target, folder)
         odd = ["none", "/none/a", "../none/../none", "HEAD", ".", "", "#x", " ", f"{path}\r", f" {path}", '"x', "/", str(folder)]
-        odd += ["../../HEAD", "info", f"{path}\0", f"{path}\0x", "\0", quoted(rng, path)[:-1] + '\\000x"']
+        odd += ["../../HEAD", "info", f"{path}\0", f"{path}\0x", "\0", '"\\000x"', quoted(rng, path)[:-1] + '\\000x"']
         if chance(rng, 0.25):
             return rng.choice(odd)
         return quoted(rng, path) if chance(rng, 0.2) else path
