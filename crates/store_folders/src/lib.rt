@@ -7,7 +7,6 @@
 mod error;
 mod listing;
 mod loose;
-mod objects;
 mod packs;
 mod source;
 mod store;

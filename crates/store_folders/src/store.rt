@@ -6,8 +6,7 @@ ghost use Rattle.store_folders.specs.Stores.{IsChanged, index_path, of_repositor
 
 use crate::error::Error;
 use crate::loose::{LooseIds, LooseObjects, check_loose_file, list_loose, push_path, take_loose};
-use crate::objects::list;
-use crate::packs::{OpenIndexes, PackFolders, PackIndexes, PackPaths, open_indexes};
+use crate::packs::{PackFolders, PackIndexes, PackPaths, open_indexes};
 use crate::source::Source;
 use gix_hash::{Kind, ObjectId, Prefix};
 use object_store::{LooseTable, Reopen, Store, StorePaths};
@@ -53,43 +52,6 @@ pub struct FolderStore<R: Files<File = File>> {
     ghost of_kind: { All (λ index. index.kind ≡ folder.kind) indexes.items },
     ghost loose_of_kind: { loose.kind ≡ folder.kind },
     ghost before_of_kind: { All (λ loose. loose.kind ≡ folder.kind) loose_before.items },
-}
-
-// What was found in the directories of a store.
-#[derive(Drop)]
-struct Found {
-    folders: Folders,
-    pack_folders: PackFolders,
-    indexes: PackIndexes,
-    loose: LooseObjects,
-}
-
-impl Found {
-    // Lists what is in an object directory and its alternates.
-    fn of<R: Files + AllocGlobal>(
-        rt: &R,
-        folder: &ObjectsFolder,
-        loose: LooseIds,
-        now: Option<SystemTime>,
-    ) -> Result<Found, Error>
-        ensures kind { IfOk result (λ found. found.loose.kind ≡ folder.now.kind) }
-        ensures listed { IfOk result (λ found. found.loose.which ≡ loose) }
-    {
-        let folders = with_alternates(rt, folder)?;
-        let pack_folders = PackFolders::of(rt, &folders.paths)?;
-        let (indexes, loose) = list(rt, &pack_folders, &folders.paths, folder.kind, loose, now)?;
-        // An alternate that came later may have got objects that the directory had, and had no more
-        // as it was listed.
-        if !folders.are_unchanged(rt, folder)? {
-            return Err(Error::changed(rt.alloc(), &folder.path));
-        }
-        Ok(Found {
-            folders,
-            pack_folders,
-            indexes,
-            loose,
-        })
-    }
 }
 
 impl<R: Files<File = File> + AllocGlobal + Clone + Drop> FolderStore<R> {
@@ -145,44 +107,31 @@ impl<R: Files<File = File> + AllocGlobal + Clone + Drop> FolderStore<R> {
         ensures kind { IfOk result (λ store. store.folder.kind ≡ folder.now.kind) }
         ensures listed { IfOk result (λ store. store.loose.which ≡ loose) }
     {
-        let folder = copy_of(folder)?;
-        let found = Found::of(rt, &folder, loose, now)?;
-        let opened = open_indexes(rt, &found.indexes.paths, folder.kind)?;
-        Ok(FolderStore::new(rt.clone()?, folder, found, opened, now)?)
-    }
-
-    // The store of what was found, and was opened of it.
-    fn new(
-        rt: R,
-        folder: ObjectsFolder,
-        found: Found,
-        opened: OpenIndexes<R>,
-        now: Option<SystemTime>,
-    ) -> Result<FolderStore<R>, AllocError>
-        requires loose { found.loose.kind ≡ folder.kind }
-        requires indexes { All (λ index. index.kind ≡ folder.kind) opened.indexes.items }
-        ensures kind { IfOk result (λ store. store.folder.kind ≡ folder.kind) }
-        ensures loose { IfOk result (λ store. store.loose ≡ found.loose) }
-    {
-        let alloc = rt.alloc();
-        let mut folders = found.folders;
-        let listed = found.indexes;
-        let alternates = mem::replace(&mut folders.skipped, Vec::new(alloc));
-        let skipped = all_skipped(alloc, alternates, listed.skipped, opened.skipped)?;
+        let mut folders = with_alternates(rt, folder)?;
+        let pack_folders = PackFolders::of(rt, &folders.paths)?;
+        let (listed, loose) = list(rt, &pack_folders, &folders.paths, folder.kind, loose, now)?;
+        // An alternate that came later may have got objects that the directory had, and had no more
+        // as it was listed.
+        if !folders.are_unchanged(rt, folder)? {
+            return Err(Error::changed(rt.alloc(), &folder.path));
+        }
+        let opened = open_indexes(rt, &listed.paths, folder.kind)?;
+        let alternates = mem::replace(&mut folders.skipped, Vec::new(rt.alloc()));
+        let skipped = all_skipped(rt.alloc(), alternates, listed.skipped, opened.skipped)?;
         let is_whole = listed.are_all && skipped.is_empty();
         Ok(FolderStore {
-            rt,
-            folder,
-            is_settled: is_whole && found.pack_folders.are_settled(now),
+            rt: rt.clone()?,
+            folder: copy_of(folder)?,
+            is_settled: is_whole && pack_folders.are_settled(now),
             folders,
-            pack_folders: found.pack_folders,
+            pack_folders,
             skipped,
-            skipped_before: Vec::new(alloc),
+            skipped_before: Vec::new(rt.alloc()),
             failed: None,
             packs: opened.paths,
             indexes: opened.indexes,
-            loose: found.loose,
-            loose_before: Vec::new(alloc),
+            loose,
+            loose_before: Vec::new(rt.alloc()),
         })
     }
 
@@ -344,6 +293,31 @@ impl<R: Files<File = File> + AllocGlobal + Clone + Drop> FolderStore<R> {
         *self = store;
         Ok(())
     }
+}
+
+// Lists the pack indexes with packs and the loose objects in object directories. No object is
+// missed that is there all the time: as the directories of packs are in the same state before and
+// after, all was in them what was found there, and an object that was in none of its packs was
+// loose.
+//
+// Within one tick of the file system's clock a directory may change twice and be in the same state.
+// An object is in a new pack before its loose file or its old pack is removed, and loose before its
+// pack is removed: so the packs are listed after the loose objects, and before them too, and none
+// may be gone after.
+fn list<R: Files + AllocGlobal>(
+    rt: &R,
+    packs: &PackFolders,
+    folders: &[String],
+    kind: Kind,
+    loose: LooseIds,
+    now: Option<SystemTime>,
+) -> Result<(PackIndexes, LooseObjects), Error>
+    ensures kind { IfOk result (λ listed. listed.1.kind ≡ kind) }
+    ensures which { IfOk result (λ listed. listed.1.which ≡ loose) }
+{
+    let before = packs.list(rt)?;
+    let loose = list_loose(rt, folders, kind, loose, now)?;
+    Ok((packs.list_again(rt, &before)?, loose))
 }
 
 // A copy of an object directory that was found.
