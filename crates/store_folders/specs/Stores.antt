@@ -1,5 +1,5 @@
 -- What contracts say of object stores in directories.
-use Rattle.std.specs.Prelude.{ℕ, ◌≡◌, ◌++◌, List, [], ◌∷◌, Option, None, Some, if◌then◌else◌, bytes_eq, codes, map, string_bytes}
+use Rattle.std.specs.Prelude.{ℕ, ◌≡◌, ◌⊎◌, ◌++◌, List, [], ◌∷◌, Option, None, Some, if◌then◌else◌, bytes_eq, codes, map, string_bytes}
 use Rattle.std.specs.List.{Contains, list_any}
 use Rattle.object_store.specs.Stores as stores
 use Rattle.object_store.specs.declared.error.Error as look_ups
@@ -48,6 +48,10 @@ abbrev pub of_repository : repositories.Error → Error
 of_repository (repository_errors.Memory error) = Memory error
 of_repository (repository_errors.Cause cause) = Repository (repository_errors.Cause cause)
 
+-- that a directory or file is not read
+abbrev pub IsUnread : Error → Type 0
+IsUnread error = (why : repositories.Error) × (error ≡ of_repository why)
+
 -- the error that an error of a look-up is
 abbrev pub of_look_up : look_ups.Error → Error
 of_look_up (look_up_errors.Memory error) = Memory error
@@ -61,6 +65,4 @@ IsChanged path _ = ⊥
 
 -- that a pack index of this path is gone, or why it is not read; or memory ran out
 abbrev pub IsOfIndex : List ℕ → LazyError → Error → Type 0
-IsOfIndex path why (Index error) = stores.IsOfIndex path why error
-IsOfIndex path why (Memory error) = Unit {0}
-IsOfIndex path why _ = ⊥
+IsOfIndex path why error = ((look_up : look_ups.Error) × stores.IsOfIndex path why look_up × (error ≡ of_look_up look_up)) ⊎ ((memory : _) × (error ≡ Memory memory))

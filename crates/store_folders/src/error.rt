@@ -1,11 +1,12 @@
 //! Why a store in directories cannot be opened or read.
 
 ghost use Rattle.std.specs.Prelude.{◌≡◌, IsTrue};
-ghost use Rattle.store_folders.specs.Stores.{IsChanged, IsOfIndex, of_look_up, of_repository};
+ghost use Rattle.store_folders.specs.Stores.{IsChanged, IsOfIndex, IsUnread, of_look_up, of_repository};
 ghost use Rattle.store_folders.specs.declared.error.Error.TheVariants as errors;
 
 use pack_index::LazyError;
 use std::alloc::{AllocError, Global};
+use std::io;
 use thiserror::Error as ThisError;
 
 /// Why a store in directories is not opened, or a look-up in it fails. Each error of a directory or
@@ -63,6 +64,13 @@ impl From<object_store::Error> for Error {
 const TOO_MANY_OPEN: i32 = 24;
 
 impl Error {
+    // A directory or file cannot be read.
+    pub(crate) fn file(alloc: Global, path: &str, error: io::Error) -> Error
+        ensures { IsUnread result }
+    {
+        Error::from(repositories::Error::file(alloc, path, error))
+    }
+
     // A pack index is not there, cannot be read, or is damaged.
     pub(crate) fn index(alloc: Global, path: &str, error: LazyError) -> Error
         ensures { IsOfIndex path.now error result }

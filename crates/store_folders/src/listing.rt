@@ -1,8 +1,10 @@
 //! The names in directories, and the states of directories.
 
-ghost use Rattle.std.specs.Prelude.{◌≡◌, IfOk, length, vec_len};
+ghost use Rattle.std.specs.Prelude.{◌≡◌, ◌⊎◌, IfErr, IfOk, length, vec_len};
+ghost use Rattle.store_folders.specs.Stores.{IsChanged, IsUnread};
 
-use repositories::{Error, FileState, join, retried};
+use crate::error::Error;
+use repositories::{FileState, join, retried};
 use std::alloc::Global;
 use std::fs::{self, Metadata};
 use std::io::{self, BufReader, Read};
@@ -34,8 +36,18 @@ fn read_whole<D: Read + Drop>(alloc: Global, dir: D) -> io::Result<Vec<u8>> {
 }
 
 // The state of a directory, before it is read or after.
-pub(crate) fn state_of<R: Files + AllocGlobal>(rt: &R, folder: &str) -> Result<FileState, Error> {
+pub(crate) fn state_of<R: Files + AllocGlobal>(rt: &R, folder: &str) -> Result<FileState, Error>
+    ensures { IfErr result IsUnread }
+{
     FileState::of(rt, folder).map_err(|error| Error::file(rt.alloc(), folder, error))
+}
+
+// The state of a directory, or `None` if it is missing.
+pub(crate) fn state_if_there<R: Files + AllocGlobal>(
+    rt: &R,
+    folder: &str,
+) -> Result<Option<FileState>, Error> {
+    FileState::if_there(rt, folder).map_err(|error| Error::file(rt.alloc(), folder, error))
 }
 
 // The states of directories.
@@ -52,18 +64,31 @@ pub(crate) fn states_of<R: Files + AllocGlobal>(
     Ok(states)
 }
 
+// Fails if a directory is in another state.
+pub(crate) fn expect_state<R: Files + AllocGlobal>(
+    rt: &R,
+    path: &str,
+    state: &FileState,
+) -> Result<(), Error>
+    ensures { IfErr result (λ error. IsUnread error ⊎ IsChanged path.now error) }
+{
+    if state_of(rt, path)? == *state {
+        Ok(())
+    } else {
+        Err(Error::changed(rt.alloc(), path))
+    }
+}
+
 // Fails if one of the directories is in another state.
 pub(crate) fn expect_states<R: Files + AllocGlobal>(
     rt: &R,
     paths: &[String],
     states: &[FileState],
-) -> Result<(), crate::error::Error>
+) -> Result<(), Error>
     requires { length states.now ≡ length paths.now }
 {
     for (path, state) in paths.iter().zip(states) {
-        if state_of(rt, path)? != *state {
-            return Err(crate::error::Error::changed(rt.alloc(), path));
-        }
+        expect_state(rt, path, state)?;
     }
     Ok(())
 }
@@ -71,14 +96,6 @@ pub(crate) fn expect_states<R: Files + AllocGlobal>(
 // Whether each later change leaves other states.
 pub(crate) fn are_settled(states: &[FileState], now: SystemTime) -> bool {
     states.iter().all(|state| state.is_settled(now))
-}
-
-// The state of a directory, or `None` if it is missing.
-pub(crate) fn state_if_there<R: Files + AllocGlobal>(
-    rt: &R,
-    folder: &str,
-) -> Result<Option<FileState>, Error> {
-    FileState::if_there(rt, folder).map_err(|error| Error::file(rt.alloc(), folder, error))
 }
 
 // What is at a path, also if it is a link.

@@ -6,7 +6,8 @@ ghost use Rattle.store_folders.specs.Stores.{only_of, path_in, paths_in};
 
 use crate::error::Error;
 use crate::listing::{
-    are_settled, expect_states, list_names, state_if_there, state_of, states_of, what_is_at,
+    are_settled, expect_state, expect_states, list_names, state_if_there, state_of, states_of,
+    what_is_at,
 };
 use gix_hash::{Kind, ObjectId};
 use object_store::LooseTable;
@@ -66,7 +67,7 @@ impl LooseObjects {
         ensures { self.now.states ≡ None → IfOk result (λ same. same ≡ false) }
     {
         match &self.states {
-            Some(states) => Ok(fan_out_states(rt, paths, self.which)? == *states),
+            Some(states) => Ok(Places { rt, paths }.states(self.which)? == *states),
             None => Ok(false),
         }
     }
@@ -100,14 +101,14 @@ struct Part {
 
 impl Part {
     // Lists the names. Fails if the directory has changed.
-    fn list<R: Files + AllocGlobal>(&mut self, rt: &R) -> Result<(), Error> {
+    fn list<R: Files + AllocGlobal>(&mut self, rt: &R) -> Result<(), Error>
+        ensures { (self.new.at ≡ self.old.at) × (self.new.byte ≡ self.old.byte) }
+    {
         self.names = list_names(rt, &self.path)?;
-        if let Some(state) = self.state
-            && state_of(rt, &self.path)? != state
-        {
-            return Err(Error::changed(rt.alloc(), &self.path));
+        match &self.state {
+            Some(state) => expect_state(rt, &self.path, state),
+            None => Ok(()),
         }
-        Ok(())
     }
 }
 
@@ -124,8 +125,9 @@ pub(crate) fn list_loose<R: Files + AllocGlobal>(
     ensures which { IfOk result (λ loose. loose.which ≡ which) }
     ensures once { now ≡ None → IfOk result (λ loose. loose.states ≡ None) }
 {
-    let states = settled_states(rt, paths, which, now)?;
-    let folders = list_folders(rt, paths, kind, which)?;
+    let places = Places { rt, paths };
+    let states = places.settled_states(which, now)?;
+    let folders = places.list_folders(kind, which)?;
     let table = table_of(rt.alloc(), &folders, kind)?;
     Ok(LooseObjects {
         which,
@@ -134,23 +136,6 @@ pub(crate) fn list_loose<R: Files + AllocGlobal>(
         table,
         states,
     })
-}
-
-// The loose objects in each of these object directories.
-fn list_folders<R: Files + AllocGlobal>(
-    rt: &R,
-    paths: &[String],
-    kind: Kind,
-    which: LooseIds,
-) -> Result<Vec<LooseFolder>, Error>
-    ensures { IfOk result (λ folders. All (λ folder. folder.table.kind ≡ kind) folders.items) }
-{
-    let parts = list_parts(rt, paths, which)?;
-    let mut folders = Vec::new(rt.alloc());
-    for path in paths {
-        folders.push(folder_of(rt, path, kind, folders.len(), &parts)?)?;
-    }
-    Ok(folders)
 }
 
 // The ids of all loose objects in object directories.
@@ -165,41 +150,120 @@ fn table_of(alloc: Global, folders: &[LooseFolder], kind: Kind) -> Result<LooseT
     Ok(LooseTable::new(ids, kind))
 }
 
-// The states of fan-out directories, if the time before is given, and each later change leaves
-// others.
-fn settled_states<R: Files + AllocGlobal>(
-    rt: &R,
-    paths: &[String],
-    which: LooseIds,
-    now: Option<SystemTime>,
-) -> Result<Option<Vec<FileState>>, Error>
-    ensures { now ≡ None → IfOk result (λ states. states ≡ None) }
-{
-    let Some(now) = now else {
-        return Ok(None);
-    };
-    let states = fan_out_states(rt, paths, which)?;
-    if are_settled(&states, now) {
-        Ok(Some(states))
-    } else {
-        Ok(None)
-    }
+// Object directories.
+#[derive(Drop)]
+struct Places<'a, R> {
+    rt: &'a R,
+    paths: &'a [String],
 }
 
-// The states of the fan-out directories that are asked for, in object directories.
-fn fan_out_states<R: Files + AllocGlobal>(
-    rt: &R,
-    paths: &[String],
-    which: LooseIds,
-) -> Result<Vec<FileState>, Error> {
-    let (first, last) = bytes_of(which);
-    let mut states = Vec::new(rt.alloc());
-    for path in paths {
-        for byte in first..=last {
-            states.push(state_of(rt, &fan_out(rt, path, byte)?)?)?;
-        }
+impl<R: Files + AllocGlobal> Places<'_, R> {
+    // The states of the fan-out directories that are asked for, if the time before is given, and
+    // each later change leaves others.
+    fn settled_states(
+        &self,
+        which: LooseIds,
+        now: Option<SystemTime>,
+    ) -> Result<Option<Vec<FileState>>, Error>
+        ensures { now ≡ None → IfOk result (λ states. states ≡ None) }
+    {
+        let Some(now) = now else {
+            return Ok(None);
+        };
+        let states = self.states(which)?;
+        Ok(are_settled(&states, now).then_some(states))
     }
-    Ok(states)
+
+    // The states of the fan-out directories that are asked for.
+    fn states(&self, which: LooseIds) -> Result<Vec<FileState>, Error> {
+        let (first, last) = bytes_of(which);
+        let mut states = Vec::new(self.rt.alloc());
+        for path in self.paths {
+            for byte in first..=last {
+                states.push(state_of(self.rt, &fan_out(self.rt, path, byte)?)?)?;
+            }
+        }
+        Ok(states)
+    }
+
+    // The loose objects in each of the directories.
+    fn list_folders(&self, kind: Kind, which: LooseIds) -> Result<Vec<LooseFolder>, Error>
+        ensures { IfOk result (λ folders. All (λ folder. folder.table.kind ≡ kind) folders.items) }
+    {
+        let parts = self.list_parts(which)?;
+        let mut folders = Vec::new(self.rt.alloc());
+        for path in self.paths {
+            folders.push(folder_of(self.rt, path, kind, folders.len(), &parts)?)?;
+        }
+        Ok(folders)
+    }
+
+    // Lists the fan-out directories, one first byte after the other. If there are several object
+    // directories, in none a fan-out directory may come or go meanwhile. Fails if one does, or if
+    // one changes each time that it is listed.
+    fn list_parts(&self, which: LooseIds) -> Result<Vec<Part>, Error> {
+        let (first, last) = bytes_of(which);
+        let several = if self.paths.len() > 1 {
+            self.paths
+        } else {
+            &[]
+        };
+        let before = states_of(self.rt, several)?;
+        let mut parts = Vec::new(self.rt.alloc());
+        for byte in first..=last {
+            parts.append(&mut self.parts_with(byte)?)?;
+        }
+        expect_states(self.rt, several, &before)?;
+        Ok(parts)
+    }
+
+    // Lists the fan-out directory of a first byte, in each object directory. The names of several
+    // were there at one time: else an object that is moved from one into another might be in
+    // neither. Fails if one of them changes each time.
+    fn parts_with(&self, byte: u8) -> Result<Vec<Part>, Error> {
+        for _ in 1..MAX_TRIES {
+            let listed = self.parts_if_unchanged(byte);
+            if !matches!(&listed, Err(error) if error.is_change()) {
+                return listed;
+            }
+        }
+        self.parts_if_unchanged(byte)
+    }
+
+    // Lists the fan-out directories of a first byte that are there. Fails if there are several
+    // object directories, and one of them has changed since all were there.
+    fn parts_if_unchanged(&self, byte: u8) -> Result<Vec<Part>, Error> {
+        let mut parts = self.parts_there(byte)?;
+        for part in &mut parts {
+            part.list(self.rt)?;
+        }
+        Ok(parts)
+    }
+
+    // The fan-out directories of a first byte that are there, with their states; in a single object
+    // directory, without.
+    fn parts_there(&self, byte: u8) -> Result<Vec<Part>, Error> {
+        let mut parts = Vec::new(self.rt.alloc());
+        for (at, path) in self.paths.iter().enumerate() {
+            let path = fan_out(self.rt, path, byte)?;
+            let mut state = None;
+            if self.paths.len() > 1 {
+                state = state_if_there(self.rt, &path)?;
+                if state.is_none() {
+                    continue;
+                }
+            }
+            let names = Vec::new(self.rt.alloc());
+            parts.push(Part {
+                at,
+                byte,
+                path,
+                state,
+                names,
+            })?;
+        }
+        Ok(parts)
+    }
 }
 
 // The first and the last of the first bytes that are asked for.
@@ -211,86 +275,6 @@ fn bytes_of(which: LooseIds) -> (u8, u8)
         LooseIds::All => (0, u8::MAX),
         LooseIds::WithFirstByte(byte) => (byte, byte),
     }
-}
-
-// Lists the fan-out directories in object directories, one first byte after the other. If there are
-// several object directories, in none a fan-out directory may come or go meanwhile. Fails if one
-// does, or if one changes each time that it is listed.
-fn list_parts<R: Files + AllocGlobal>(
-    rt: &R,
-    paths: &[String],
-    which: LooseIds,
-) -> Result<Vec<Part>, Error> {
-    let (first, last) = bytes_of(which);
-    let several = if paths.len() > 1 { paths } else { &[] };
-    let before = states_of(rt, several)?;
-    let mut parts = Vec::new(rt.alloc());
-    for byte in first..=last {
-        parts.append(&mut parts_with(rt, paths, byte)?)?;
-    }
-    expect_states(rt, several, &before)?;
-    Ok(parts)
-}
-
-// Lists the fan-out directory of a first byte, in each object directory. The names of several were
-// there at one time: else an object that is moved from one into another might be in neither. Fails
-// if one of them changes each time.
-fn parts_with<R: Files + AllocGlobal>(
-    rt: &R,
-    paths: &[String],
-    byte: u8,
-) -> Result<Vec<Part>, Error> {
-    for _ in 1..MAX_TRIES {
-        let listed = parts_if_unchanged(rt, paths, byte);
-        if !matches!(&listed, Err(error) if error.is_change()) {
-            return listed;
-        }
-    }
-    parts_if_unchanged(rt, paths, byte)
-}
-
-// Lists the fan-out directories of a first byte that are there. Fails if there are several object
-// directories, and one of them has changed since all were there.
-fn parts_if_unchanged<R: Files + AllocGlobal>(
-    rt: &R,
-    paths: &[String],
-    byte: u8,
-) -> Result<Vec<Part>, Error> {
-    let mut parts = parts_there(rt, paths, byte)?;
-    for part in &mut parts {
-        part.list(rt)?;
-    }
-    Ok(parts)
-}
-
-// The fan-out directories of a first byte that are there, with their states; in a single object
-// directory, without.
-fn parts_there<R: Files + AllocGlobal>(
-    rt: &R,
-    paths: &[String],
-    byte: u8,
-) -> Result<Vec<Part>, Error> {
-    let is_single = paths.len() == 1;
-    let mut parts = Vec::new(rt.alloc());
-    for (at, path) in paths.iter().enumerate() {
-        let path = fan_out(rt, path, byte)?;
-        let state = if is_single {
-            None
-        } else {
-            state_if_there(rt, &path)?
-        };
-        if is_single || state.is_some() {
-            let names = Vec::new(rt.alloc());
-            parts.push(Part {
-                at,
-                byte,
-                path,
-                state,
-                names,
-            })?;
-        }
-    }
-    Ok(parts)
 }
 
 // The path of the fan-out directory of a first byte.
@@ -398,6 +382,6 @@ pub(crate) fn check_loose_file<R: Files + AllocGlobal>(
         // (one that has come back)
         Ok(found) if is_missing && found.is_file() => Ok(()),
         Err(gone) if gone.kind() == io::ErrorKind::NotFound => Ok(()),
-        _ => Err(repositories::Error::file(rt.alloc(), &path, error))?,
+        _ => Err(Error::file(rt.alloc(), &path, error)),
     }
 }

@@ -2,7 +2,7 @@
 
 ghost use Rattle.std.specs.Prelude.{◌≡◌, ◌⊎◌, All, IfOk, IsNone, None, OnOk, false, length, true, vec_len};
 ghost use Rattle.pack_index.specs.declared.lazy_error.LazyError.TheVariants as errors;
-ghost use Rattle.store_folders.specs.Stores.{HasPack, IsListed, IsOfIndex, of_repository};
+ghost use Rattle.store_folders.specs.Stores.{HasPack, IsListed, IsOfIndex, IsUnread};
 
 use crate::error::Error;
 use crate::listing::{are_settled, expect_states, list_names, states_of, what_is_at};
@@ -82,10 +82,7 @@ impl PackFolders {
     pub(crate) fn are_settled(&self, now: Option<SystemTime>) -> bool
         ensures { now ≡ None → result ≡ false }
     {
-        match now {
-            Some(now) => are_settled(&self.states, now),
-            None => false,
-        }
+        now.is_some_and(|now| are_settled(&self.states, now))
     }
 
     // Fails if one of them has changed.
@@ -202,7 +199,7 @@ fn has_pack<R: Files + AllocGlobal>(rt: &R, paths: &PackPaths) -> Result<bool, E
         Ok(found) if found.is_file() => return Ok(true),
         Ok(_) => {}
         Err(error) if error.kind() == io::ErrorKind::NotFound => {}
-        Err(error) => Err(repositories::Error::file(rt.alloc(), &paths.pack, error))?,
+        Err(error) => return Err(Error::file(rt.alloc(), &paths.pack, error)),
     }
     match what_is_at(rt, &paths.index) {
         Ok(_) => Ok(false),
@@ -288,14 +285,11 @@ fn open_index<R: Files<File = File> + AllocGlobal + Clone + Drop>(
 // Why a pack index cannot be opened. A link to nothing is there, and so it was not removed; a file
 // that was not found and is there now was, and has come back.
 fn not_opened<R: Files + AllocGlobal>(rt: &R, path: &str, error: io::Error) -> Error
-    ensures { ((why : _) × (result ≡ of_repository why))
-        ⊎ IsOfIndex path.now (errors.Read error) result }
+    ensures { IsUnread result ⊎ IsOfIndex path.now (errors.Read error) result }
 {
     let is_missing = error.kind() == io::ErrorKind::NotFound;
     match what_is_at(rt, path) {
-        Ok(found) if !is_missing || !found.is_file() => {
-            Error::from(repositories::Error::file(rt.alloc(), path, error))
-        }
+        Ok(found) if !is_missing || !found.is_file() => Error::file(rt.alloc(), path, error),
         _ => Error::index(rt.alloc(), path, LazyError::Read(error)),
     }
 }
