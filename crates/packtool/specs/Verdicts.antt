@@ -1,8 +1,5 @@
 -- What contracts say of checked files.
-use Rattle.std.specs.Prelude.{ℕ, ◌≡◌, List, string_bytes}
-use Rattle.packtool.specs.declared.failure.Failure.{Failure}
-use Rattle.packtool.specs.declared.failure.Failure.TheVariants.{File, Memory}
-use Rattle.packtool.specs.declared.failure.FileWhy.{FileWhy}
+use Rattle.std.specs.Prelude.{◌≡◌}
 use Rattle.packtool.specs.declared.files.Verdict.{Verdict}
 use Rattle.packtool.specs.declared.files.Verdict.TheVariants.{Alone, Ends, Faulty, Paired, Skipped}
 use Rattle.packtool_commands.specs.declared.pairing.Pairing.TheVariants.{Same}
@@ -15,9 +12,3 @@ IsRight (Ends ending) = (id : _) × (ending ≡ Sealed id)
 IsRight (Faulty error) = ⊥
 IsRight Alone = Unit {0}
 IsRight (Paired pairing) = pairing ≡ Same
-
--- that a file of this path is not shown or checked, and why; or memory ran out
-abbrev pub IsAt : FileWhy → List ℕ → Failure → Type 0
-IsAt why path (File text boxed) = (string_bytes text ≡ path) × (boxed.value ≡ why)
-IsAt why path Memory = Unit {0}
-IsAt why path _ = ⊥

@@ -1,9 +1,7 @@
 //! Why the program stops.
 
-ghost use Rattle.std.specs.Prelude.{◌≡◌, ◌↔◌, IsTrue, Some, codes, nat_eq, true};
-ghost use Rattle.std.specs.List.{ends_with};
-ghost use Rattle.pack_index.specs.declared.error.Error.{Error as IndexError};
-ghost use Rattle.pack_index.specs.declared.lazy_error.LazyError.{LazyError};
+ghost use Rattle.std.specs.Prelude.{◌≡◌, Some};
+ghost use Rattle.packtool.specs.Failures.{skipped_mark};
 ghost use Rattle.packtool.specs.declared.failure.Failure.TheVariants as failures;
 ghost use Rattle.streams.specs.Devices.{plain_error};
 
@@ -116,21 +114,17 @@ pub enum FileWhy {
 
 /// What is printed after the error of a part of a store that is skipped.
 pub fn skipped_mark(error: &store_folders::Error) -> &'static str
-    ensures { ends_with nat_eq result.now (codes ", skipped") ≡ true }
+    ensures { result.now ≡ skipped_mark error.now }
 {
     match error {
-        store_folders::Error::Index(LookUpError::Index { error, .. }) if is_version_1(error) => {
-            " (git repack -ad replaces them), skipped"
-        }
+        store_folders::Error::Index(
+            LookUpError::Index {
+                error: LazyError::Head(pack_index::Error::Version1),
+                ..
+            },
+        ) => " (git repack -ad replaces them), skipped",
         _ => ", skipped",
     }
-}
-
-// Whether a pack index is not read because it is of version 1.
-fn is_version_1(error: &LazyError) -> bool
-    ensures { IsTrue result ↔ (error.now ≡ LazyError.Head IndexError.Version1) }
-{
-    matches!(error, LazyError::Head(pack_index::Error::Version1))
 }
 
 impl From<repositories::Error> for Failure<'_> {

@@ -1,10 +1,11 @@
 //! Commands over files.
 
-ghost use Rattle.std.specs.Prelude.{◌≡◌, ◌≢◌, ◌↔◌, ◌+◌, ◌*◌, ◌≤◌, ◌++◌, ◌∷◌, ◌⊎◌, ℕ, [], List, Some, false, length, true, IfOk, IsTrue, MatchOption, OnOk, string_bytes};
+ghost use Rattle.std.specs.Prelude.{◌≡◌, ◌≢◌, ◌↔◌, ◌+◌, ◌*◌, ◌≤◌, ◌++◌, ◌∷◌, ◌⊎◌, ℕ, [], List, Some, false, length, take, true, IfOk, IfSome, IsTrue, MatchOption, OnOk, string_bytes};
 ghost use Rattle.std.specs.Io.{StartsWith};
 ghost use Rattle.std.specs.Option.{ForSome};
 ghost use Rattle.pack_index.specs.Format.{names_start, num_objects};
-ghost use Rattle.packtool.specs.Verdicts.{IsAt, IsRight};
+ghost use Rattle.packtool.specs.Failures.{IsAt};
+ghost use Rattle.packtool.specs.Verdicts.{IsRight};
 ghost use Rattle.packtool.specs.declared.failure.FileWhy.{FileWhy};
 ghost use Rattle.streams.specs.Devices.{plain_error, plain_failed};
 ghost use Rattle.streams.specs.Streams.{IsReadAt};
@@ -158,7 +159,7 @@ fn write_verdict<'a, W: io::Write>(
 // is read than its counts allow.
 fn verdict_of_input<'a>(rt: &HostRuntime, kind: Option<Kind>) -> Result<Verdict, Failure<'a>> {
     let path = "-";
-    let mut reader = Retrying::new(rt.reader());
+    let mut reader = rt.reader();
     let mut bytes = Vec::new(rt.alloc());
     read_more(rt, path, &mut reader, NAMES_START as u64, &mut bytes)?;
     if !is_index(&&bytes[..], path) {
@@ -178,7 +179,9 @@ fn read_more<'a, R: io::Read>(
     most: u64,
     bytes: &mut Vec<u8>,
 ) -> Result<(), Failure<'a>>
-    ensures { StartsWith bytes.new.items bytes.old.items }
+    ensures kept { StartsWith bytes.new.items bytes.old.items }
+    ensures read { OnOk result (IfSome (R.remaining reader.old)
+        (λ rest. bytes.new.items ≡ bytes.old.items ++ take most rest)) }
 {
     match reader.take(most).read_to_end(bytes) {
         Ok(_) => Ok(()),
@@ -215,13 +218,7 @@ fn verdict_of_file<'a>(
         return Ok(Verdict::Ends(ending_in(rt, &mut file, path, kind)?));
     }
     let mut bytes = Vec::new(rt.alloc());
-    read_more(
-        rt,
-        path,
-        &mut Retrying::new(&mut file),
-        u64::MAX,
-        &mut bytes,
-    )?;
+    read_more(rt, path, &mut file, u64::MAX, &mut bytes)?;
     verdict_of_index(rt, path, &bytes, kind)
 }
 
@@ -386,8 +383,7 @@ fn unread<'a, R: io::Read>(rt: &HostRuntime, path: &str, input: &Plain<R>) -> Fa
     ensures { (error : _) → plain_error input.now ≡ Some error
         → IsAt (FileWhy.Read error) path.now result }
 {
-    let error = input.error();
-    let error = error.unwrap_or(io::ErrorKind::UnexpectedEof.into());
+    let error = input.error().unwrap_or(io::ErrorKind::UnexpectedEof.into());
     failure(rt, path, FileWhy::Read(error))
 }
 

@@ -7,9 +7,7 @@
 #![tactic(auto)]
 
 ghost use Rattle.std.specs.Prelude.{◌≡◌, ◌≢◌, ◌↔◌, ◌++◌, ◌∷◌, ℕ, [], All, IfErr, IfOk, IsNone, IsTrue, List, string_bytes};
-ghost use Rattle.std.specs.IoError.{error_kind};
-ghost use Rattle.std.specs.declared.io.ErrorKind.{ErrorKind};
-ghost use Rattle.packtool.specs.declared.failure.Failure.{Failure};
+ghost use Rattle.packtool.specs.Failures.{IsClosedPipe};
 
 mod arguments;
 mod failure;
@@ -22,10 +20,10 @@ mod words;
 use arguments::{FileCommand, FileRequest, Request};
 use failure::Failure;
 use gix_hash::Kind;
-use output::{buffered, report};
+use output::{buffered, flushed, report};
 use std::io::{self, ErrorKind};
 use std::process::ExitCode;
-use streams::{BufferedSink, Plain};
+use streams::Plain;
 use words::lossy_text;
 
 // The statuses, a worse one above a better.
@@ -51,12 +49,12 @@ fn main(rt: HostRuntime) -> ExitCode {
 // that was closed.
 fn status_of(rt: &HostRuntime, outcome: &Result<u8, Failure<'_>>) -> u8
     ensures given { IfOk outcome.now (λ status. result ≡ status) }
-    ensures failed { IfErr outcome.now (λ failure. result ≢ FAILED → (error : _)
-        × (failure ≡ Failure.Output error) × (error_kind error ≡ ErrorKind.BrokenPipe)) }
+    ensures closed { IfErr outcome.now (λ failure. IsClosedPipe failure → result ≡ FOUND) }
+    ensures failed { IfErr outcome.now (λ failure. ¬ (IsClosedPipe failure) → result ≡ FAILED) }
 {
     match outcome {
         Ok(status) => *status,
-        Err(Failure::Output(error)) if is_closed_pipe(error) => FOUND,
+        Err(failure) if is_closed_pipe(failure) => FOUND,
         Err(failure) => {
             report(rt, failure, "");
             FAILED
@@ -65,10 +63,10 @@ fn status_of(rt: &HostRuntime, outcome: &Result<u8, Failure<'_>>) -> u8
 }
 
 // Whether nobody reads the output any more.
-fn is_closed_pipe(error: &io::Error) -> bool
-    ensures { IsTrue result ↔ (error_kind error.now ≡ ErrorKind.BrokenPipe) }
+fn is_closed_pipe(failure: &Failure<'_>) -> bool
+    ensures { IsTrue result ↔ IsClosedPipe failure.now }
 {
-    error.kind() == ErrorKind::BrokenPipe
+    matches!(failure, Failure::Output(error) if error.kind() == ErrorKind::BrokenPipe)
 }
 
 // Runs the command that the words ask for over standard output, and returns the status.
@@ -127,11 +125,9 @@ fn read_files<'a>(rt: &HostRuntime, request: &FileRequest<'_, '_>) -> Result<u8,
     for path in request.paths {
         status = status.max(read_file(rt, request.command, path, request.kind, &mut out)?);
     }
-    let _ = out.flush();
-    match (out.error(), request.command) {
-        (Some(error), FileCommand::Check) if is_closed_pipe(&error) => Ok(status),
-        (Some(error), _) => Err(Failure::Output(error)),
-        (None, _) => Ok(status),
+    match (flushed(status, &mut out), request.command) {
+        (Err(failure), FileCommand::Check) if is_closed_pipe(&failure) => Ok(status),
+        (ran, _) => ran,
     }
 }
 

@@ -1,7 +1,9 @@
 //! Standard output, through a buffer.
 
-ghost use Rattle.std.specs.Prelude.{◌≡◌, Ok, false, IfOk};
-ghost use Rattle.streams.specs.Devices.{plain_failed};
+ghost use Rattle.std.specs.Prelude.{◌≡◌, [], false, IfOk, MatchOption, OnOk};
+ghost use Rattle.std.specs.Io.Buffered.{writer_buffer};
+ghost use Rattle.streams.specs.Devices.{plain_error, plain_failed, plain_inner};
+ghost use Rattle.packtool.specs.declared.failure.Failure.{Failure};
 
 use crate::failure::Failure;
 use packtool_commands::write_named;
@@ -41,14 +43,15 @@ pub fn buffered<W: io::Write + Drop>(
     }
 }
 
-/// The status of a command that ran, after what is left of its output was written.
+/// The status of a command that ran, once what is left of its output is written.
 pub fn flushed<'a, W: io::Write + Drop>(
-    ran: Result<u8, Failure<'a>>,
+    status: u8,
     out: &mut Plain<BufWriter<W>>,
 ) -> Result<u8, Failure<'a>>
-    ensures { IfOk result (λ status. (ran.entry ≡ Ok status) × (plain_failed out.new ≡ false)) }
+    ensures known { MatchOption (plain_error out.new) (result ≡ Ok status)
+        (λ error. result ≡ Err (Failure.Output error)) }
+    ensures written { OnOk result (writer_buffer (plain_inner out.new) ≡ []) }
 {
-    let status = ran?;
     let _ = out.flush();
     match out.error() {
         None => Ok(status),

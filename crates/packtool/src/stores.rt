@@ -76,7 +76,7 @@ impl Asked<'_> {
             Question::Find | Question::Locate => self.write_for_prefix(text, &mut out)?,
             Question::Names(least) => self.write_all_names(least, &mut out)?,
         };
-        flushed(Ok(status), &mut out)
+        flushed(status, &mut out)
     }
 
     // Prints what is found for a prefix of exactly one id, as for a line of standard input. That
@@ -95,7 +95,7 @@ impl Asked<'_> {
         }
         let mut out = buffered(self.rt, self.rt.stdout())?;
         let _ = write_all(&mut out, &answer);
-        flushed(Ok(status), &mut out)
+        flushed(status, &mut out)
     }
 
     // Looks the lines of standard input up. A chunk of them is looked up in the store as it is
@@ -137,8 +137,8 @@ impl Asked<'_> {
     // Prints what each of the lines finds.
     fn answer_part<'a>(&mut self, lines: &[u8], answers: Answers) -> Result<u8, Failure<'a>> {
         let mut out = buffered(self.rt, self.rt.stdout())?;
-        let ran = self.write_for_lines(lines, answers, &mut out);
-        flushed(ran, &mut out)
+        let status = self.write_for_lines(lines, answers, &mut out)?;
+        flushed(status, &mut out)
     }
 
     // Opens the store, and writes the lines of `find` or `where` for a prefix.

@@ -1,0 +1,28 @@
+-- What contracts say of why a command stops, or skips a part of a store.
+use Rattle.std.specs.Prelude.{ℕ, ◌≡◌, List, codes, string_bytes}
+use Rattle.std.specs.IoError.{error_kind}
+use Rattle.std.specs.declared.io.ErrorKind.TheVariants.{BrokenPipe}
+use Rattle.object_store.specs.declared.error.Error.TheVariants as look_ups
+use Rattle.pack_index.specs.declared.error.Error.TheVariants.{Version1}
+use Rattle.pack_index.specs.declared.lazy_error.LazyError.TheVariants.{Head}
+use Rattle.store_folders.specs.declared.error.Error.{Error as StoreError}
+use Rattle.store_folders.specs.declared.error.Error.TheVariants.{Index}
+use Rattle.packtool.specs.declared.failure.Failure.{Failure}
+use Rattle.packtool.specs.declared.failure.Failure.TheVariants.{File, Memory, Output}
+use Rattle.packtool.specs.declared.failure.FileWhy.{FileWhy}
+
+-- nobody reads the output any more
+abbrev pub IsClosedPipe : Failure → Type 0
+IsClosedPipe (Output error) = error_kind error ≡ BrokenPipe
+IsClosedPipe _ = ⊥
+
+-- that a file of this path is not shown or checked, and why; or memory ran out
+abbrev pub IsAt : FileWhy → List ℕ → Failure → Type 0
+IsAt why path (File text boxed) = (string_bytes text ≡ path) × (boxed.value ≡ why)
+IsAt why path Memory = Unit {0}
+IsAt why path _ = ⊥
+
+-- what is printed after the error of a part that is skipped: of a pack index of version 1 also what helps
+abbrev pub skipped_mark : StoreError → List ℕ
+skipped_mark (Index (look_ups.Index path (Head Version1))) = codes " (git repack -ad replaces them), skipped"
+skipped_mark _ = codes ", skipped"
