@@ -25,6 +25,8 @@ pub struct StoreRequest<'a> {
     pub question: Question,
     /// Of what it is asked.
     pub ask: Ask<'a>,
+    /// The fewest digits of an abbreviation.
+    pub least: usize,
     /// The object directory, or `None` for the one that Git would find.
     pub objects: Option<&'a str>,
     /// The kind of the ids, or `None` for the one that the repository has.
@@ -38,15 +40,17 @@ pub enum Question {
     Find,
     /// `where`: in which packs and loose files these ids are.
     Locate,
-    /// `names`: which abbreviations of this many digits or more ids have.
-    Names(usize),
+    /// `names`: which abbreviations ids have.
+    Names,
 }
 
 /// Of what a question is asked.
 #[derive(Clone, Copy)]
 pub enum Ask<'a> {
-    /// Of a prefix, which is this text; `names` of all ids.
-    Once(&'a str),
+    /// Of all ids, as only `names` is.
+    All,
+    /// Of a prefix, which is this text.
+    Prefix(&'a str),
     /// Of a prefix, which is this text, and the only id is wanted.
     One(&'a str),
     /// Of each line of standard input, and what is printed for each.
@@ -73,18 +77,10 @@ pub enum FileCommand {
     Check,
 }
 
-// A command over a store.
-#[derive(Clone, Copy)]
-enum StoreCommand {
-    Find,
-    Locate,
-    Names,
-}
-
 // A command, over a store or over files.
 #[derive(Clone, Copy)]
 enum Action {
-    Store(StoreCommand),
+    Store(Question),
     Files(FileCommand),
 }
 
@@ -114,7 +110,7 @@ enum Argument {
 
 const COMMANDS: [Row; 5] = [
     Row {
-        action: Action::Store(StoreCommand::Find),
+        action: Action::Store(Question::Find),
         name: "find",
         usage: "packtool find [--one] [--objects DIR] [--kind KIND] PREFIX\n       packtool find --stdin [--one] [--objects DIR] [--kind KIND]",
         about: "Prints each id of the store that begins with a prefix",
@@ -127,7 +123,7 @@ const COMMANDS: [Row; 5] = [
         ],
     },
     Row {
-        action: Action::Store(StoreCommand::Locate),
+        action: Action::Store(Question::Locate),
         name: "where",
         usage: "packtool where [--one] [--objects DIR] [--kind KIND] PREFIX\n       packtool where --stdin [--one] [--objects DIR] [--kind KIND]",
         about: "Prints each pack and offset, or loose file, of each id that begins with a prefix",
@@ -140,7 +136,7 @@ const COMMANDS: [Row; 5] = [
         ],
     },
     Row {
-        action: Action::Store(StoreCommand::Names),
+        action: Action::Store(Question::Names),
         name: "names",
         usage: "packtool names [--stdin] [--least N] [--objects DIR] [--kind KIND]",
         about: "Prints each id of the store after its shortest unique prefix",
@@ -270,9 +266,10 @@ pub fn read_request<'m, 'a>(matches: &'m ArgMatches<'a>) -> Option<Request<'m, '
     let row = COMMANDS.iter().find(|row| row.name == name)?;
     let kind = kind_of(matches);
     match row.action {
-        Action::Store(command) => Some(Request::Store(StoreRequest {
-            question: question_of(command, matches),
+        Action::Store(question) => Some(Request::Store(StoreRequest {
+            question,
             ask: ask_of(matches),
+            least: usize::from(matches.get_one::<u8>("least").unwrap_or(4)),
             objects: matches.get_str("objects"),
             kind,
         })),
@@ -284,25 +281,15 @@ pub fn read_request<'m, 'a>(matches: &'m ArgMatches<'a>) -> Option<Request<'m, '
     }
 }
 
-// The question of a command.
-fn question_of(command: StoreCommand, matches: &ArgMatches<'_>) -> Question {
-    match command {
-        StoreCommand::Find => Question::Find,
-        StoreCommand::Locate => Question::Locate,
-        StoreCommand::Names => {
-            Question::Names(usize::from(matches.get_one::<u8>("least").unwrap_or(4)))
-        }
-    }
-}
-
-// Of what it is asked.
+// Of what a question is asked.
 fn ask_of<'a>(matches: &ArgMatches<'a>) -> Ask<'a> {
-    let prefix = matches.get_str("prefix").unwrap_or("");
-    match (matches.get_flag("stdin"), matches.get_flag("one")) {
-        (false, false) => Ask::Once(prefix),
-        (false, true) => Ask::One(prefix),
-        (true, false) => Ask::Lines(Answers::All),
-        (true, true) => Ask::Lines(Answers::One),
+    let one = matches.get_flag("one");
+    match matches.get_str("prefix") {
+        Some(prefix) if one => Ask::One(prefix),
+        Some(prefix) => Ask::Prefix(prefix),
+        None if !matches.get_flag("stdin") => Ask::All,
+        None if one => Ask::Lines(Answers::One),
+        None => Ask::Lines(Answers::All),
     }
 }
 

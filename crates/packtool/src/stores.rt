@@ -1,13 +1,12 @@
 //! Commands over a store.
 
-ghost use Rattle.std.specs.Prelude.{◌≡◌, ◌≢◌, ◌↔◌, ◌<◌, ◌≤◌, ◌++◌, ℕ, [], All, Bool, IfOk, IsErrOf, IsTrue, MatchOption, OnOk, Some, false, if◌then◌else◌, length, nat_eq, true};
+ghost use Rattle.std.specs.Prelude.{◌≡◌, ◌≢◌, ◌↔◌, ◌<◌, ◌≤◌, ◌++◌, ℕ, [], All, Bool, IfOk, IsErrOf, IsTrue, MatchOption, OnOk, Some, false, if◌then◌else◌, length, max, nat_eq, true};
 ghost use Rattle.std.specs.List.{ends_with};
 ghost use Rattle.std.specs.Option.{ForSome};
 ghost use Rattle.gix_hash.specs.Words.{KindDigits, first_byte_of, hex_len_of};
 ghost use Rattle.store_folders.specs.Stores.{only_of};
 ghost use Rattle.packtool_commands.specs.declared.error.StoreError.{StoreError};
 ghost use Rattle.streams.specs.Devices.{plain_failed};
-ghost use Rattle.packtool.specs.Requests.{LeastFits};
 ghost use Rattle.packtool.specs.WholeLines.{AreWhole};
 
 use crate::arguments::{Ask, Question, StoreRequest};
@@ -42,13 +41,15 @@ pub fn answer<'a>(rt: &HostRuntime, request: &StoreRequest<'a>) -> Result<u8, Fa
     let folder = objects_folder(rt, request)?;
     let mut asked = Asked {
         rt,
-        question: in_kind(request.question, folder.kind)?,
+        least: least_in(folder.kind, request.least)?,
+        question: request.question,
         folder: &folder,
         kept: None,
         reported: Vec::new(rt.alloc()),
     };
     match request.ask {
-        Ask::Once(text) => asked.answer_once(text),
+        Ask::All => asked.answer_once(None),
+        Ask::Prefix(text) => asked.answer_once(Some(text)),
         Ask::One(text) => asked.answer_one(text),
         Ask::Lines(answers) => asked.answer_input(answers),
     }
@@ -60,21 +61,24 @@ struct Asked<'r> {
     rt: &'r HostRuntime,
     folder: &'r ObjectsFolder,
     question: Question,
+    // The fewest digits of an abbreviation.
+    least: usize,
     // The store in which it was asked last.
     kept: Option<FolderStore<HostRuntime>>,
     // What was reported of what is skipped.
     reported: Vec<String>,
-    ghost fits: { LeastFits folder.now.kind question },
+    ghost enough: { 4 ≤ least },
+    ghost fits: { least ≤ hex_len_of folder.now.kind },
     ghost kept_of_kind: { ForSome kept (λ store. store.folder.kind ≡ folder.now.kind) },
 }
 
 impl Asked<'_> {
-    // Prints what is found for a prefix, or all names.
-    fn answer_once<'a>(&mut self, text: &'a str) -> Result<u8, Failure<'a>> {
+    // Prints what is found for a prefix, or with none all names.
+    fn answer_once<'a>(&mut self, prefix: Option<&'a str>) -> Result<u8, Failure<'a>> {
         let mut out = buffered(self.rt, self.rt.stdout())?;
-        let status = match self.question {
-            Question::Find | Question::Locate => self.write_for_prefix(text, &mut out)?,
-            Question::Names(least) => self.write_all_names(least, &mut out)?,
+        let status = match prefix {
+            Some(text) => self.write_for_prefix(text, &mut out)?,
+            None => self.write_all_names(&mut out)?,
         };
         flushed(status, &mut out)
     }
@@ -164,18 +168,12 @@ impl Asked<'_> {
 
     // Opens the store, and writes the lines of `names`. Those that were written before the store
     // was opened again may lack what was skipped then.
-    fn write_all_names<'a, W: io::Write>(
-        &mut self,
-        least: usize,
-        out: &mut Plain<W>,
-    ) -> Result<u8, Failure<'a>>
-        requires enough { 4 ≤ least }
-        requires fits { least ≤ hex_len_of self.old.folder.now.kind }
-        requires output { plain_failed out.old ≡ false }
+    fn write_all_names<'a, W: io::Write>(&mut self, out: &mut Plain<W>) -> Result<u8, Failure<'a>>
+        requires { plain_failed out.old ≡ false }
         ensures { OnOk result (plain_failed out.new ≡ false) }
     {
         let mut store = FolderStore::open(self.rt, self.folder, LooseIds::All)?;
-        let ran = names(self.rt.alloc(), &mut store, least, out);
+        let ran = names(self.rt.alloc(), &mut store, self.least, out);
         let was_whole = report_skipped(self.rt, store.skipped_before(), &mut self.reported);
         let status = self.status_of(store, ran, out)?;
         Ok(if was_whole? { status } else { FAILED })
@@ -199,7 +197,7 @@ impl Asked<'_> {
         let ran = match self.question {
             Question::Find => find_each(alloc, &mut store, &lines, answers, MAX_FOUND, out),
             Question::Locate => locate_each(alloc, &mut store, &lines, answers, MAX_FOUND, out),
-            Question::Names(least) => name_each(alloc, &mut store, &lines, least, MAX_FOUND, out),
+            Question::Names => name_each(alloc, &mut store, &lines, self.least, MAX_FOUND, out),
         };
         self.status_of(store, ran, out)
     }
@@ -379,21 +377,17 @@ fn objects_folder<'a>(
     Ok(folder)
 }
 
-// A question to a store of this kind of ids, which fails if abbreviations would have more digits
-// than they.
-fn in_kind<'a>(question: Question, kind: Kind) -> Result<Question, Failure<'a>>
-    ensures { IfOk result (LeastFits kind) }
+// The fewest digits of an abbreviation, at least 4, which fails if ids of this kind have fewer.
+fn least_in<'a>(kind: Kind, least: usize) -> Result<usize, Failure<'a>>
+    ensures asked { IfOk result (λ digits. digits ≡ max least 4) }
+    ensures fits { IfOk result (λ digits. digits ≤ hex_len_of kind) }
 {
-    let Question::Names(least) = question else {
-        return Ok(question);
-    };
     let least = least.max(4);
     let most = kind.len_in_hex();
     if least > most {
-        Err(Failure::Least { least, most })
-    } else {
-        Ok(Question::Names(least))
+        return Err(Failure::Least { least, most });
     }
+    Ok(least)
 }
 
 // The prefix that a text is.

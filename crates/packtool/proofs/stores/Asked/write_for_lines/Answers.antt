@@ -1,8 +1,7 @@
-use Rattle.gix_hash.proofs.Std.{All, List, Some, ap, subst, sym, ℕ, ◌≡◌}
+use Rattle.gix_hash.proofs.Std.{All, List, Some, subst, sym, ℕ, ◌≡◌}
 use Rattle.gix_hash.specs.Words.{KindDigits, first_byte_of}
 use Rattle.store_folders.specs.Stores.{only_of}
 use Rattle.store_folders.specs.declared.loose.LooseIds.{LooseIds}
-use Rattle.packtool.specs.Requests.{least_of}
 use Rattle.packtool.proofs.stores.Asked.write_for_lines.Goals as goal
 
 -- what may be asked of a store where these loose objects are listed
@@ -13,23 +12,10 @@ are_of : (listed asked : LooseIds) (prefixes read : List KindDigits) → listed 
 are_of listed asked prefixes read is same all = subst (AreOf listed) same (subst (λ loose. AreOf loose read) (sym is) all)
 
 pub find_each-ran-requires-clause-listed : goal.find_each-ran-requires-clause-listed
-find_each-ran-requires-clause-listed g c =
-    are_of c.in_ok-store.store.loose.which c.loose_of-loose.result c.in_ok-lines.lines.prefixes.items c.prefixes.result.now c.in_ok-store.ensures.listed
-    c.prefixes.ensures.items c.loose_of-loose.ensures
+find_each-ran-requires-clause-listed g c = are_of _ _ _ _ c.in_ok-store.ensures.listed c.prefixes.ensures.items c.loose_of-loose.ensures
 
 pub locate_each-ran-requires-clause-listed : goal.locate_each-ran-requires-clause-listed
-locate_each-ran-requires-clause-listed g c =
-    are_of c.in_ok-store.store.loose.which c.loose_of-loose.result c.in_ok-lines.lines.prefixes.items c.prefixes.result.now c.in_ok-store.ensures.listed
-    c.prefixes.ensures.items c.loose_of-loose.ensures
+locate_each-ran-requires-clause-listed g c = are_of _ _ _ _ c.in_ok-store.ensures.listed c.prefixes.ensures.items c.loose_of-loose.ensures
 
 pub name_each-ran-requires-clause-listed : goal.name_each-ran-requires-clause-listed
-name_each-ran-requires-clause-listed g c =
-    are_of c.in_ok-store.store.loose.which c.loose_of-loose.result c.in_ok-lines.lines.prefixes.items c.prefixes.result.now c.in_ok-store.ensures.listed
-    c.prefixes.ensures.items c.loose_of-loose.ensures
-
-pub name_each-ran-requires-clause-enough : goal.name_each-ran-requires-clause-enough
-name_each-ran-requires-clause-enough g c = (c.args.self.now.fits c.in-Names.least (ap least_of c.in-Names.is)).0
-
-pub name_each-ran-requires-clause-fits : goal.name_each-ran-requires-clause-fits
-name_each-ran-requires-clause-fits g c =
-    rw c.in_ok-store.ensures.kind ((c.args.self.now.fits c.in-Names.least (ap least_of c.in-Names.is)).1)
+name_each-ran-requires-clause-listed g c = are_of _ _ _ _ c.in_ok-store.ensures.listed c.prefixes.ensures.items c.loose_of-loose.ensures
