@@ -1,7 +1,7 @@
-use Rattle.gix_hash.proofs.Std.{◌≡◌, ◌+◌, ◌∙◌, ap, refl, inl, inr, Some, arith}
+use Rattle.gix_hash.proofs.Std.{◌≡◌, ◌+◌, ◌∙◌, ap, refl, inl, inr, Some, arith, length-map}
 use Rattle.oidtool_commands.specs.declared.search.error.SearchError.TheVariants.{WrongKind, NotRising}
 use Rattle.oidtool_commands.specs.declared.search.Search.TheVariants.{In}
-use Rattle.id_lookup.specs.Words.{Index}
+use Rattle.id_lookup.specs.Words.{Index, id_digits}
 use Rattle.oidtool_commands.proofs.FinderLemmas.{no_more_found}
 use Rattle.oidtool_commands.proofs.Orders.{bad_is}
 use Rattle.oidtool_commands.proofs.search.query.find_in_index.Goals as goal
@@ -20,3 +20,15 @@ returns-in-Err-NotRising-clause-bad c =
 
 pub returns-in-Ok-clause-within : goal.returns-in-Ok-clause-within
 returns-in-Ok-clause-within c = no_more_found _ _ _ _ c.matches.ensures.value (ap (λ (index : Index). index.ids) c.in-Ok.ensures.ok)
+
+pub overflow_add-result : goal.overflow_add-result
+overflow_add-result c = omega (arith, c.requires.room, (rw c.in-Err-WrongKind.field-0-is at c.in-Err-WrongKind.ensures.err).in_range, length-map c.args.ids.now id_digits)
+
+pub overflow_add-result-in-Err-WrongKind : goal.overflow_add-result-in-Err-WrongKind
+overflow_add-result-in-Err-WrongKind c = omega (arith, c.requires.room, (rw c.in-Err-WrongKind.field-0-is at c.in-Err-WrongKind.ensures.err).in_range, length-map c.args.ids.now id_digits)
+
+pub overflow_add-result-in-Err-NotRising : goal.overflow_add-result-in-Err-NotRising
+overflow_add-result-in-Err-NotRising c = omega (arith, c.requires.room, (rw c.in-Err-NotRising.field-0-is at c.in-Err-NotRising.ensures.err).in_range, length-map c.args.ids.now id_digits)
+
+pub overflow_add-result-in-Err-NotRising-2 : goal.overflow_add-result-in-Err-NotRising-2
+overflow_add-result-in-Err-NotRising-2 c = omega (arith, c.requires.room, (rw c.in-Err-NotRising.field-0-is at c.in-Err-NotRising.ensures.err).in_range, length-map c.args.ids.now id_digits)

@@ -1,4 +1,5 @@
-use Rattle.gix_hash.proofs.Std.{◌≡◌, ◌+◌, ◌∙◌, ap, sym, refl, Some, arith, err_from_is_err_and}
+use Rattle.gix_hash.proofs.Std.{◌≡◌, ◌+◌, ◌∙◌, ap, sym, refl, Some, arith, length-map, err_from_is_err_and}
+use Rattle.id_lookup.specs.Words.{id_digits}
 use Rattle.oidtool_commands.specs.declared.search.error.SearchError.TheVariants.{Unsorted}
 use Rattle.oidtool_commands.specs.declared.search.Search.TheVariants.{Sorted}
 use Rattle.oidtool_commands.proofs.FinderLemmas.{no_more_found}
@@ -34,3 +35,9 @@ pub returns-in_err-find_in_index-in-In-clause-refused : goal.returns-in_err-find
 returns-in_err-find_in_index-in-In-clause-refused c =
     let p = err_from_is_err_and c.from_residual.result c.from_residual.ensures.1 in
     rw (p.1, p.2) (late_first _ _ _ _ ∙ rw (sym c.error_of_first.ensures ∙ c.in_default.is) (rw c.in-In.is c.in_err-find_in_index-in-In.ensures.bad))
+
+pub overflow_add-result : goal.overflow_add-result
+overflow_add-result c = omega (arith, c.requires, c.in-Err.ensures.err.in_range, length-map c.args.part.now id_digits)
+
+pub overflow_add-result-in-Err : goal.overflow_add-result-in-Err
+overflow_add-result-in-Err c = omega (arith, c.requires, c.in-Err.ensures.err.in_range, length-map c.args.part.now id_digits)
