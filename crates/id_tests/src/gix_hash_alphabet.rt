@@ -2,7 +2,8 @@
 //! that are no digits.
 
 use crate::expecting::{expect, tried};
-use crate::well_known::{BLOB_256, id};
+use crate::gix_hash_prefix::beginning;
+use crate::well_known::{BLOB_256, BLOB_256_ID};
 use gix_hash::prefix::from_hex;
 use gix_hash::{ChangeId, Kind, ObjectId, Prefix, decode};
 use std::alloc::{AllocError, Global};
@@ -106,7 +107,7 @@ fn expect_prefix(
 }
 
 // The calls that read hex.
-fn expect_hex(rt: &impl Abort, text: &str, [id, prefix, nonempty]: [Reading; 3]) {
+fn expect_hex(rt: &impl Abort, text: &str, &[id, prefix, nonempty]: &[Reading; 3]) {
     let len = text.len();
     expect_id(rt, ObjectId::from_hex(text.as_bytes()), len, id);
     expect_prefix(rt, Prefix::from_hex(text), len, prefix);
@@ -115,7 +116,7 @@ fn expect_hex(rt: &impl Abort, text: &str, [id, prefix, nonempty]: [Reading; 3])
 }
 
 // The calls that read the letters `z` to `k`.
-fn expect_reverse(rt: &impl Abort, text: &str, [id, prefix, nonempty]: [Reading; 3]) {
+fn expect_reverse(rt: &impl Abort, text: &str, &[id, prefix, nonempty]: &[Reading; 3]) {
     let len = text.len();
     let read = match ChangeId::from_reverse_hex(text.as_bytes()) {
         Ok(change) => Ok(ObjectId::from(change)),
@@ -126,7 +127,7 @@ fn expect_reverse(rt: &impl Abort, text: &str, [id, prefix, nonempty]: [Reading;
     expect_prefix(rt, Prefix::from_reverse_hex_nonempty(text), len, nonempty);
 }
 
-fn without_digits([id, prefix, nonempty]: [Reading; 3]) -> [Reading; 3] {
+fn without_digits(&[id, prefix, nonempty]: &[Reading; 3]) -> [Reading; 3] {
     [
         id.without_digits(),
         prefix.without_digits(),
@@ -139,7 +140,8 @@ fn expect_repeated(
     rt: &(impl Abort + AllocGlobal),
     letter: char,
     len: usize,
-    (hex, reverse): ([Reading; 3], [Reading; 3]),
+    hex: &[Reading; 3],
+    reverse: &[Reading; 3],
 ) {
     let text = text_of(rt, letter, len);
     expect_hex(rt, text.as_str(), hex);
@@ -149,10 +151,10 @@ fn expect_repeated(
 // In the alphabet of the other calls the texts have the same lengths, but no digits.
 #[test]
 fn each_length(rt: HostRuntime) {
-    for &(len, read) in &ROWS {
+    for (len, read) in &ROWS {
         let invalid = without_digits(read);
-        expect_repeated(&rt, '0', len, (read, invalid));
-        expect_repeated(&rt, 'z', len, (invalid, read));
+        expect_repeated(&rt, '0', *len, read, &invalid);
+        expect_repeated(&rt, 'z', *len, &invalid, read);
     }
 }
 
@@ -177,13 +179,12 @@ fn letters_that_are_no_digits(rt: HostRuntime) {
 
 #[test]
 fn prefixes_of_a_given_kind(rt: HostRuntime) {
-    let blob = id(&rt, BLOB_256);
-    let six = Prefix::new(blob.as_oid(), 6).expect(&rt, "six digits are no prefix");
-    for &(kind, text, prefix, is_same) in &[
-        (Kind::Sha256, "473a0f", six, true),
-        (Kind::Sha1, "473a0f", six, false),
-        (Kind::Sha256, BLOB_256, Prefix::from(blob), true),
+    for &(kind, text, hex_len, is_same) in &[
+        (Kind::Sha256, "473a0f", 6, true),
+        (Kind::Sha1, "473a0f", 6, false),
+        (Kind::Sha256, BLOB_256, 64, true),
     ] {
+        let prefix = beginning(&rt, &BLOB_256_ID, hex_len);
         let read = Prefix::from_hex_in(kind, text).expect(&rt, "a text that is no prefix");
         expect!(&rt; (read == prefix) == is_same, text);
     }

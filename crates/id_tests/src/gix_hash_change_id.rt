@@ -4,10 +4,10 @@ use crate::expecting::{
     converted, expect, expect_below, expect_fed, expect_outcome, expect_same, expect_shown,
     expect_text, parsed,
 };
-use crate::well_known::{BLOB, BLOB_256, BLOB_BYTES, BLOB_LETTERS, TREE, id};
+use crate::gix_hash_prefix::beginning;
+use crate::well_known::{BLOB, BLOB_256, BLOB_BYTES, BLOB_ID, BLOB_LETTERS, TREE_ID, id};
 use gix_hash::{ChangeId, ObjectId, Prefix};
 use std::process::Abort;
-use std::test::Fail;
 
 // The empty tree of SHA-1, and the empty blob of SHA-256.
 const TREE_LETTERS: &str = "vorxumntvxnotloqpztzluvokrmtqxrrkollvqzv";
@@ -24,9 +24,9 @@ fn expect_read(rt: &(impl Abort + AllocGlobal), rows: &[(&str, &str)]) {
 
 #[test]
 fn spelled(rt: HostRuntime) {
-    let blob = ChangeId::from(id(&rt, BLOB));
+    let blob = ChangeId::from(BLOB_ID);
     expect_text(&rt, blob, BLOB_LETTERS);
-    expect_text(&rt, ChangeId::from(id(&rt, TREE)), TREE_LETTERS);
+    expect_text(&rt, ChangeId::from(TREE_ID), TREE_LETTERS);
     for &(hex_len, want) in &[
         (0, ""),
         (8, "ltqmlxqo"),
@@ -39,7 +39,7 @@ fn spelled(rt: HostRuntime) {
 
 #[test]
 fn compared_with_text(rt: HostRuntime) {
-    let blob = ChangeId::from(id(&rt, BLOB));
+    let blob = ChangeId::from(BLOB_ID);
     expect!(&rt; [blob.eq_str(BLOB_LETTERS), blob.eq_str(BLOB)] == [true, false]);
     expect_shown(&rt, &blob);
 }
@@ -59,7 +59,7 @@ fn read_from_text(rt: HostRuntime) {
 }
 
 #[test]
-fn prefixes(rt: HostRuntime) -> Result<(), Fail> {
+fn prefixes(rt: HostRuntime) {
     for &(letters, digits) in &[
         ("LTQM", "e69d"),
         ("ltqmlxq", "e69de29"),
@@ -69,37 +69,36 @@ fn prefixes(rt: HostRuntime) -> Result<(), Fail> {
     ] {
         expect_outcome(&rt, Prefix::from_reverse_hex(letters), digits);
     }
-    let prefix = Prefix::new(id(&rt, BLOB).as_oid(), 7)?;
+    let prefix = beginning(&rt, &BLOB_ID, 7);
     expect_text(&rt, prefix.to_reverse_hex(), "ltqmlxq");
-    Ok(())
+}
+
+// The change id is that of the empty blob.
+fn expect_blob(rt: &impl Abort, change: ChangeId) {
+    expect!(rt; converted::<_, ObjectId>(change) == BLOB_ID);
+    expect!(rt; converted::<_, Prefix>(change) == Prefix::from(BLOB_ID));
 }
 
 #[test]
 fn conversions(rt: HostRuntime) {
-    let blob = id(&rt, BLOB);
-    for &change in &[converted::<_, ChangeId>(blob), converted(blob.as_oid())] {
-        expect!(&rt; converted::<_, ObjectId>(change) == blob);
-        expect!(&rt; converted::<_, Prefix>(change) == Prefix::from(blob));
-    }
+    expect_blob(&rt, converted(BLOB_ID));
+    expect_blob(&rt, converted(BLOB_ID.as_oid()));
 }
 
 #[test]
 fn compared(rt: HostRuntime) {
-    let (blob, tree) = (ChangeId::from(id(&rt, BLOB)), ChangeId::from(id(&rt, TREE)));
-    expect_below(&rt, &tree, &blob);
+    let blob = ChangeId::from(BLOB_ID);
+    expect_below(&rt, &ChangeId::from(TREE_ID), &blob);
     expect_same(&rt, &blob, &ChangeId::from(id(&rt, BLOB)));
     expect_fed(&rt, &blob, &[&BLOB_BYTES]);
 }
 
 #[test]
 fn displays_compared(rt: HostRuntime) {
-    let (blob, tree) = (ChangeId::from(id(&rt, BLOB)), ChangeId::from(id(&rt, TREE)));
+    let (blob, tree) = (ChangeId::from(BLOB_ID), ChangeId::from(TREE_ID));
     // The number of digits asked for counts, not that of the digits printed.
-    let (asked_50, asked_100) = (
-        blob.to_reverse_hex_with_len(50),
-        blob.to_reverse_hex_with_len(100),
-    );
-    expect_below(&rt, &asked_50, &asked_100);
+    let asked_50 = blob.to_reverse_hex_with_len(50);
+    expect_below(&rt, &asked_50, &blob.to_reverse_hex_with_len(100));
     expect_below(&rt, &tree.to_reverse_hex_with_len(100), &asked_50);
     expect_same(
         &rt,

@@ -9,43 +9,62 @@ const NULL: &str = "0000000000000000000000000000000000000000";
 
 const NULL_256: &str = "0000000000000000000000000000000000000000000000000000000000000000";
 
-fn expect_well_known(rt: &(impl Abort + AllocGlobal), kind: Kind, texts: [&str; 3]) {
-    let [null, blob, tree] = texts;
-    for &(id, want) in &[
-        (kind.null(), null),
-        (kind.null_ref().to_owned(), null),
-        (kind.empty_blob(), blob),
-        (kind.empty_tree(), tree),
-        (ObjectId::null(kind), null),
-        (ObjectId::empty_blob(kind), blob),
-        (ObjectId::empty_tree(kind), tree),
-    ] {
-        expect_text(rt, id, want);
-        let tests = [id.is_null(), id.is_empty_blob(), id.is_empty_tree()];
-        expect!(rt; tests == [want == null, want == blob, want == tree], want);
-    }
+// The id has this text, and is the null id, the empty blob or the empty tree, as is said.
+fn expect_one(
+    rt: &(impl Abort + AllocGlobal),
+    id: ObjectId,
+    want: &str,
+    (null, blob, tree): (bool, bool, bool),
+) {
+    expect_text(rt, id, want);
+    expect!(rt; id.is_null() == null, want);
+    expect!(rt; id.is_empty_blob() == blob, want);
+    expect!(rt; id.is_empty_tree() == tree, want);
 }
 
-// Names, and their kinds; none where an error returns the name.
-const NAMES: [(&str, Option<Kind>); 12] = [
-    ("sha1", Some(Kind::Sha1)),
-    ("SHA1", Some(Kind::Sha1)),
-    ("SHA-1", Some(Kind::Sha1)),
-    ("sha256", Some(Kind::Sha256)),
-    ("SHA256", Some(Kind::Sha256)),
-    ("SHA-256", Some(Kind::Sha256)),
-    ("sha-1", None),
-    ("Sha1", None),
-    ("md5", None),
-    ("", None),
-    ("sha1 ", None),
-    ("SHA-2560", None),
+const IS_NULL: (bool, bool, bool) = (true, false, false);
+
+const IS_BLOB: (bool, bool, bool) = (false, true, false);
+
+const IS_TREE: (bool, bool, bool) = (false, false, true);
+
+fn expect_of_kind(rt: &(impl Abort + AllocGlobal), kind: Kind, [null, blob, tree]: [&str; 3]) {
+    expect_one(rt, kind.null(), null, IS_NULL);
+    expect_one(rt, kind.null_ref().to_owned(), null, IS_NULL);
+    expect_one(rt, kind.empty_blob(), blob, IS_BLOB);
+    expect_one(rt, kind.empty_tree(), tree, IS_TREE);
+}
+
+fn expect_of_id(rt: &(impl Abort + AllocGlobal), kind: Kind, [null, blob, tree]: [&str; 3]) {
+    expect_one(rt, ObjectId::null(kind), null, IS_NULL);
+    expect_one(rt, ObjectId::empty_blob(kind), blob, IS_BLOB);
+    expect_one(rt, ObjectId::empty_tree(kind), tree, IS_TREE);
+}
+
+const TEXTS: [&str; 3] = [NULL, BLOB, TREE];
+
+const TEXTS_256: [&str; 3] = [NULL_256, BLOB_256, TREE_256];
+
+// Names, and their kinds, or an error that returns the name.
+const NAMES: [(&str, Result<Kind, &str>); 12] = [
+    ("sha1", Ok(Kind::Sha1)),
+    ("SHA1", Ok(Kind::Sha1)),
+    ("SHA-1", Ok(Kind::Sha1)),
+    ("sha256", Ok(Kind::Sha256)),
+    ("SHA256", Ok(Kind::Sha256)),
+    ("SHA-256", Ok(Kind::Sha256)),
+    ("sha-1", Err("sha-1")),
+    ("Sha1", Err("Sha1")),
+    ("md5", Err("md5")),
+    ("", Err("")),
+    ("sha1 ", Err("sha1 ")),
+    ("SHA-2560", Err("SHA-2560")),
 ];
 
 #[test]
 fn names(rt: HostRuntime) {
     for &(name, kind) in &NAMES {
-        expect!(&rt; Kind::from_str(name) == kind.ok_or(name), name);
+        expect!(&rt; Kind::from_str(name) == kind, name);
     }
     expect_text(&rt, Kind::Sha1, "sha1");
     expect_text(&rt, Kind::Sha256, "sha256");
@@ -86,6 +105,8 @@ fn order(rt: HostRuntime) {
 
 #[test]
 fn well_known_ids(rt: HostRuntime) {
-    expect_well_known(&rt, Kind::Sha1, [NULL, BLOB, TREE]);
-    expect_well_known(&rt, Kind::Sha256, [NULL_256, BLOB_256, TREE_256]);
+    expect_of_kind(&rt, Kind::Sha1, TEXTS);
+    expect_of_kind(&rt, Kind::Sha256, TEXTS_256);
+    expect_of_id(&rt, Kind::Sha1, TEXTS);
+    expect_of_id(&rt, Kind::Sha256, TEXTS_256);
 }

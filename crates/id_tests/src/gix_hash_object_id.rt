@@ -4,10 +4,12 @@ use crate::expecting::{
     converted, expect, expect_below, expect_debug, expect_error, expect_fed, expect_outcome,
     expect_same, expect_text, expect_writes, parsed, tried,
 };
-use crate::well_known::{BLOB, BLOB_256, BLOB_256_BYTES, BLOB_BYTES, TREE, id};
-use gix_hash::{Kind, ObjectId, Prefix, decode, oid, verify};
+use crate::gix_hash_prefix::beginning;
+use crate::well_known::{
+    BLOB, BLOB_256, BLOB_256_BYTES, BLOB_256_ID, BLOB_BYTES, BLOB_ID, TREE, TREE_ID, id,
+};
+use gix_hash::{Kind, ObjectId, decode, oid};
 use std::process::Abort;
-use std::test::Fail;
 
 // Reads by each of the calls that read an id.
 fn expect_read(rt: &(impl Abort + AllocGlobal), rows: &[(&str, &str)]) {
@@ -25,17 +27,16 @@ fn expect_made(rt: &(impl Abort + AllocGlobal), bytes: &[u8], want: &str) {
 }
 
 #[test]
-fn documented_example(rt: HostRuntime) -> Result<(), Fail> {
-    let blob = ObjectId::from_hex(BLOB.as_bytes())?;
+fn documented_example(rt: HostRuntime) {
+    let blob = id(&rt, BLOB);
     expect_debug(&rt, blob, "Sha1(e69de29bb2d1d6434b8b29ae775ad8c2e48c5391)");
-    let prefix = Prefix::new(blob.as_oid(), 7)?;
+    let prefix = beginning(&rt, &blob, 7);
     expect_text(&rt, prefix, "e69de29");
     expect_text(
         &rt,
         prefix.as_oid(),
         "e69de29000000000000000000000000000000000",
     );
-    Ok(())
 }
 
 // Texts, and what the id prints as, or the error.
@@ -75,14 +76,13 @@ fn read_from_text(rt: HostRuntime) {
 
 #[test]
 fn compared_with_text(rt: HostRuntime) {
-    let blob = id(&rt, BLOB);
     for &(text, same) in &[
         (BLOB, true),
         ("E69DE29BB2D1D6434B8B29AE775AD8C2E48C5391", false),
         (TREE, false),
         ("e69de29", false),
     ] {
-        expect!(&rt; blob.eq_str(text) == same, text);
+        expect!(&rt; BLOB_ID.eq_str(text) == same, text);
     }
 }
 
@@ -108,15 +108,11 @@ fn converted_from_bytes(rt: HostRuntime) {
     let view: oid<'_> = converted(&BLOB_BYTES);
     let wide: ObjectId = converted(BLOB_256_BYTES);
     let wide_view: oid<'_> = converted(&BLOB_256_BYTES);
-    for &(id, want) in &[
-        (blob, BLOB),
-        (ObjectId::from_bytes_or_panic(&BLOB_BYTES), BLOB),
-        (converted(view), BLOB),
-        (view.to_owned(), BLOB),
-        (wide, BLOB_256),
-    ] {
-        expect_text(&rt, id, want);
-    }
+    expect_text(&rt, blob, BLOB);
+    expect_text(&rt, ObjectId::from_bytes_or_panic(&BLOB_BYTES), BLOB);
+    expect_text(&rt, converted::<_, ObjectId>(view), BLOB);
+    expect_text(&rt, view.to_owned(), BLOB);
+    expect_text(&rt, wide, BLOB_256);
     expect!(&rt; wide.eq_oid(wide_view));
 }
 
@@ -131,7 +127,7 @@ fn written_digest(rt: HostRuntime) {
 
 #[test]
 fn order(rt: HostRuntime) {
-    let (tree, wide) = (id(&rt, TREE), id(&rt, BLOB_256));
+    let (tree, wide) = (TREE_ID, BLOB_256_ID);
     // Views are ordered by digits only, owned ids by kind first.
     expect_below(&rt, &wide.as_oid(), &tree.as_oid());
     expect_below(&rt, &Kind::Sha1.null_ref(), &Kind::Sha256.null_ref());
@@ -141,14 +137,13 @@ fn order(rt: HostRuntime) {
 
 #[test]
 fn order_in_a_kind(rt: HostRuntime) {
-    let tree = id(&rt, TREE);
-    expect_below(&rt, &tree, &id(&rt, BLOB));
-    expect_same(&rt, &tree, &id(&rt, TREE));
+    expect_below(&rt, &TREE_ID, &BLOB_ID);
+    expect_same(&rt, &TREE_ID, &id(&rt, TREE));
 }
 
 #[test]
 fn fed_to_a_hash(rt: HostRuntime) {
-    let (blob, wide) = (id(&rt, BLOB), id(&rt, BLOB_256));
+    let (blob, wide) = (BLOB_ID, BLOB_256_ID);
     expect_fed(&rt, &blob, &[&BLOB_BYTES]);
     expect_fed(&rt, &blob.as_oid(), &[&BLOB_BYTES]);
     expect_fed(&rt, &wide, &[&BLOB_256_BYTES]);
@@ -163,33 +158,32 @@ fn fed_to_a_hash(rt: HostRuntime) {
 
 #[test]
 fn printed(rt: HostRuntime) {
-    let (blob, wide) = (id(&rt, BLOB), id(&rt, BLOB_256));
     let shown = "Sha256(473a0f4c3be8a93681a267e3b1e9a7dcda1185436fe141f7749120a303721813)";
-    expect_debug(&rt, wide, shown);
-    expect_debug(&rt, wide.as_oid(), shown);
+    expect_debug(&rt, BLOB_256_ID, shown);
+    expect_debug(&rt, BLOB_256_ID.as_oid(), shown);
     for &(hex_len, want) in &[(0, ""), (1, "e"), (7, "e69de29"), (50, BLOB), (100, BLOB)] {
-        expect_text(&rt, blob.to_hex_with_len(hex_len), want);
+        expect_text(&rt, BLOB_ID.to_hex_with_len(hex_len), want);
     }
 }
 
 // How many digits two ids share.
+const SHARED: [(ObjectId, ObjectId, usize); 4] = [
+    (BLOB_ID, BLOB_ID, 40),
+    (TREE_ID, BLOB_ID, 0),
+    (BLOB_256_ID, TREE_ID, 1),
+    (ObjectId::Sha1([0; 20]), ObjectId::Sha256([0; 32]), 40),
+];
+
 #[test]
 fn shared_digits(rt: HostRuntime) {
-    let (blob, tree, wide) = (id(&rt, BLOB), id(&rt, TREE), id(&rt, BLOB_256));
-    let (null, wide_null) = (Kind::Sha1.null(), Kind::Sha256.null());
-    for &(one, other, want) in &[
-        (blob, blob, 40),
-        (tree, blob, 0),
-        (wide, tree, 1),
-        (null, wide_null, 40),
-    ] {
+    for &(one, other, want) in &SHARED {
         expect!(&rt; one.common_hex_len(other.as_oid()) == want, one);
     }
 }
 
 #[test]
 fn displays_compared(rt: HostRuntime) {
-    let (blob, tree) = (id(&rt, BLOB), id(&rt, TREE));
+    let (blob, tree) = (BLOB_ID, TREE_ID);
     // The number of digits asked for counts, not that of the digits printed.
     expect_below(&rt, &blob.to_hex_with_len(50), &blob.to_hex_with_len(100));
     expect_below(&rt, &tree.to_hex_with_len(100), &blob.to_hex_with_len(50));
@@ -198,7 +192,7 @@ fn displays_compared(rt: HostRuntime) {
 
 #[test]
 fn written_into_a_buffer(rt: HostRuntime) {
-    let blob = id(&rt, BLOB);
+    let blob = BLOB_ID;
     assert!(rt; blob.kind().len_in_hex() == 40);
     let mut buffer = [b'#'; 64];
     expect!(&rt; blob.hex_to_buf(&mut buffer) == BLOB);
@@ -208,17 +202,15 @@ fn written_into_a_buffer(rt: HostRuntime) {
 }
 
 #[test]
-fn verified(rt: HostRuntime) -> Result<(), Fail> {
-    let (blob, tree) = (id(&rt, BLOB), id(&rt, TREE));
-    blob.verify(blob.as_oid())?;
-    let error: verify::Error = blob
-        .verify(tree.as_oid())
+fn verified(rt: HostRuntime) {
+    expect!(&rt; BLOB_ID.verify(BLOB_ID.as_oid()).is_ok());
+    let error = BLOB_ID
+        .verify(TREE_ID.as_oid())
         .err()
-        .ok_or("another id is verified")?;
+        .expect(&rt, "another id is verified");
     expect_error(
         &rt,
         error,
         "Hash was e69de29bb2d1d6434b8b29ae775ad8c2e48c5391, but should have been 4b825dc642cb6eb9a060e54bf8d69288fbee4904",
     );
-    Ok(())
 }

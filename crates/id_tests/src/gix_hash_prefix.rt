@@ -4,12 +4,11 @@ use crate::expecting::{
     converted, expect, expect_below, expect_debug, expect_error, expect_fed, expect_outcome,
     expect_same, expect_text,
 };
-use crate::well_known::{BLOB, BLOB_256, TREE, id};
+use crate::well_known::{BLOB, BLOB_256, BLOB_256_ID, BLOB_ID, TREE, id};
 use gix_hash::prefix::{self, from_hex};
 use gix_hash::{Kind, ObjectId, Prefix};
 use std::cmp::Ordering;
 use std::process::Abort;
-use std::test::Fail;
 
 fn expect_new(rt: &(impl Abort + AllocGlobal), rows: &[(&str, usize, &str)]) {
     for &(text, hex_len, want) in rows {
@@ -35,26 +34,28 @@ const BEGINNINGS: [(&str, usize, &str); 6] = [
     ),
 ];
 
+/// The first digits of an id.
+pub fn beginning(rt: &impl Abort, id: &ObjectId, hex_len: usize) -> Prefix {
+    Prefix::new(id.as_oid(), hex_len).expect(rt, "a number of digits of no prefix")
+}
+
 #[test]
-fn beginnings_of_ids(rt: HostRuntime) -> Result<(), Fail> {
-    let blob = id(&rt, BLOB);
+fn beginnings_of_ids(rt: HostRuntime) {
     expect_new(&rt, &BEGINNINGS);
     expect_text(
         &rt,
-        Prefix::new(blob.as_oid(), 4)?.as_oid(),
+        beginning(&rt, &BLOB_ID, 4).as_oid(),
         "e69d000000000000000000000000000000000000",
     );
-    expect_same(&rt, &Prefix::new(blob.as_oid(), 40)?, &converted(blob));
-    Ok(())
+    expect_same(&rt, &beginning(&rt, &BLOB_ID, 40), &converted(BLOB_ID));
 }
 
 #[test]
 fn beginnings_by_ranges(rt: HostRuntime) {
-    let blob = id(&rt, BLOB);
+    let blob = BLOB_ID;
     assert!(rt; 3 <= blob.kind().len_in_bytes());
-    for &(prefix, want) in &[(blob.to_prefix(0..0), ""), (blob.to_prefix(1..3), "9de2")] {
-        expect_text(&rt, prefix, want);
-    }
+    expect_text(&rt, blob.to_prefix(0..0), "");
+    expect_text(&rt, blob.to_prefix(1..3), "9de2");
 }
 
 // Texts, and what the prefix prints as: lengths and other letters are in `bad_texts`.
@@ -98,7 +99,8 @@ fn error_texts(rt: HostRuntime) {
     );
 }
 
-fn read(rt: &impl Abort, digits: &str) -> Prefix {
+/// The prefix of these digits.
+pub fn read(rt: &impl Abort, digits: &str) -> Prefix {
     Prefix::from_hex(digits).expect(rt, "digits that are no prefix")
 }
 
@@ -108,8 +110,7 @@ fn order(rt: HostRuntime) {
     for &(lower, upper) in &[("e69d", "e69d0"), ("e69d0", "e69e"), ("e69d", "e69e")] {
         expect_below(&rt, &read(&rt, lower), &read(&rt, upper));
     }
-    let wide = Prefix::from(id(&rt, BLOB_256));
-    expect_below(&rt, &read(&rt, "ffff"), &wide);
+    expect_below(&rt, &read(&rt, "ffff"), &Prefix::from(BLOB_256_ID));
     expect_same(&rt, &read(&rt, "E69D"), &read(&rt, "e69d"));
 }
 
@@ -154,16 +155,15 @@ fn places_against_ids(rt: HostRuntime) {
     }
 }
 
+// The first seven digits of the empty blob, with zeros after them.
+const PADDED: [u8; 20] = [
+    0xe6, 0x9d, 0xe2, 0x90, 0, 0, 0, 0, 0, 0, 0, 0, 0, 0, 0, 0, 0, 0, 0, 0,
+];
+
 #[test]
-fn fed_to_a_hash(rt: HostRuntime) -> Result<(), Fail> {
-    let prefix = Prefix::new(id(&rt, BLOB).as_oid(), 7)?;
-    let mut padded = [0; 20];
-    padded[0] = 0xe6;
-    padded[1] = 0x9d;
-    padded[2] = 0xe2;
-    padded[3] = 0x90;
-    expect_fed(&rt, &prefix, &[&padded, &[7, 0, 0, 0, 0, 0, 0, 0]]);
-    Ok(())
+fn fed_to_a_hash(rt: HostRuntime) {
+    let prefix = beginning(&rt, &BLOB_ID, 7);
+    expect_fed(&rt, &prefix, &[&PADDED, &[7, 0, 0, 0, 0, 0, 0, 0]]);
 }
 
 #[test]

@@ -1,8 +1,8 @@
 //! Indexes of the well-known ids and of a thousand ids.
 
 use crate::expecting::{expect, expect_text};
-use crate::id_lookup_search::thousand;
-use crate::well_known::{BLOB, BLOB_256, TREE, TREE_256, id};
+use crate::id_lookup_search::{prefix_of, thousand};
+use crate::well_known::{BLOB_256_ID, BLOB_ID, TREE_256_ID, TREE_ID, id};
 use gix_hash::{Kind, ObjectId, Prefix};
 use id_lookup::laws::find_own_name;
 use id_lookup::{Answer, Id, IdIndex, Run, lookup_in};
@@ -20,34 +20,35 @@ fn answer_of(run: Run) -> Answer {
 fn expect_found<I: Id>(
     rt: &impl Abort,
     index: &IdIndex<'_, I>,
-    digits: &str,
+    prefix: &Prefix,
     want: Run,
     most: u64,
 ) {
-    let prefix = Prefix::from_hex_nonempty(digits).expect(rt, "digits that are no prefix");
     assert!(rt; prefix.as_oid().kind() == index.kind());
-    let mut probes = index.probes(&prefix);
-    let run = lookup_in(index.fan_out(), &mut probes);
-    expect!(rt; (run, index.find(&prefix)) == (want, answer_of(want)), prefix);
+    expect!(rt; index.find(prefix) == answer_of(want), prefix);
+    let mut probes = index.probes(prefix);
+    expect!(rt; lookup_in(index.fan_out(), &mut probes) == want, prefix);
     expect!(rt; probes.asked() <= most, prefix);
 }
 
+const NOT_ABOVE: &str = "the id at position 1 is not above the one before it";
+
+const NO_INDEXES: [(&[ObjectId], &str); 4] = [
+    (
+        &[BLOB_256_ID, TREE_ID, TREE_256_ID, BLOB_ID],
+        "the id at position 0 is of the other kind",
+    ),
+    (&[TREE_ID, TREE_ID], NOT_ABOVE),
+    (&[BLOB_ID, TREE_ID], NOT_ABOVE),
+    (
+        &[TREE_ID, BLOB_256_ID],
+        "the id at position 1 is of the other kind",
+    ),
+];
+
 #[test]
 fn no_index(rt: HostRuntime) {
-    let (tree, blob) = (id(&rt, TREE), id(&rt, BLOB));
-    let (blob_256, tree_256) = (id(&rt, BLOB_256), id(&rt, TREE_256));
-    let other_kind = "the id at position 0 is of the other kind";
-    let not_above = "the id at position 1 is not above the one before it";
-    let rows: [(&[ObjectId], &str); 4] = [
-        (&[blob_256, tree, tree_256, blob], other_kind),
-        (&[tree, tree], not_above),
-        (&[blob, tree], not_above),
-        (
-            &[tree, blob_256],
-            "the id at position 1 is of the other kind",
-        ),
-    ];
-    for (ids, want) in rows {
+    for &(ids, want) in &NO_INDEXES {
         let error = IdIndex::try_new(ids, Kind::Sha1).err();
         expect_text(&rt, error.expect(&rt, "it is accepted as an index"), want);
     }
@@ -57,14 +58,16 @@ fn no_index(rt: HostRuntime) {
 fn expect_each_found<I: Id>(rt: &impl Abort, ids: &[I], rows: &[(&str, usize, usize, u64)]) {
     let index = IdIndex::try_new(ids, Kind::Sha1).expect(rt, "ids of no index");
     for &(digits, start, end, most) in rows {
-        expect_found(rt, &index, digits, Run { start, end }, most);
+        expect_found(rt, &index, &prefix_of(rt, digits), Run { start, end }, most);
     }
 }
 
+// The empty tree and the empty blob of SHA-1.
+const TWO: [ObjectId; 2] = [TREE_ID, BLOB_ID];
+
 #[test]
 fn first_bytes_of_two(rt: HostRuntime) {
-    let ids = [id(&rt, TREE), id(&rt, BLOB)];
-    let index = IdIndex::try_new(&ids, Kind::Sha1).expect(&rt, "ids of no index");
+    let index = IdIndex::try_new(&TWO, Kind::Sha1).expect(&rt, "ids of no index");
     for &(byte, want) in &[(0x4a, 0), (0x4b, 1), (0xe5, 1), (0xe6, 2), (0xff, 2)] {
         expect!(&rt; index.fan_out().up_to(byte) == want, byte);
     }
@@ -83,7 +86,7 @@ fn two_alike(rt: &impl Abort) -> [ObjectId; 3] {
 fn none_one_and_many(rt: HostRuntime) {
     let none: [ObjectId; 0] = [];
     expect_each_found(&rt, &none, &[("4b82", 0, 0, 0)]);
-    expect_each_found(&rt, &[id(&rt, TREE), id(&rt, BLOB)], &[("4b82", 0, 1, 2)]);
+    expect_each_found(&rt, &TWO, &[("4b82", 0, 1, 2)]);
     let rows = [("abcd", 0, 2, 4), ("abcd1", 1, 2, 4), ("abce", 2, 2, 4)];
     expect_each_found(&rt, &two_alike(&rt), &rows);
     let rows = [
@@ -93,7 +96,11 @@ fn none_one_and_many(rt: HostRuntime) {
         ("04", 1000, 1000, 0),
     ];
     expect_each_found(&rt, &thousand(), &rows);
-    // A table of digests, one after the other, is a list of ids.
+}
+
+// A table of digests, one after the other, is a list of ids.
+#[test]
+fn one_of_a_table(rt: HostRuntime) {
     let mut table = [0; 60];
     table[20] = 0x4b;
     table[21] = 0x82;
@@ -122,7 +129,7 @@ fn expect_names(rt: &(impl Abort + AllocGlobal), ids: &[ObjectId], names: &[&str
 fn shortest_names(rt: HostRuntime) {
     let zeros = "0000000000000000000000000000000000000000";
     let last_one = "0000000000000000000000000000000000000001";
-    expect_names(&rt, &[id(&rt, TREE)], &["4b82"]);
+    expect_names(&rt, &[TREE_ID], &["4b82"]);
     expect_names(
         &rt,
         &[id(&rt, zeros), id(&rt, last_one)],

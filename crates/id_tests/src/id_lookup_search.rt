@@ -1,7 +1,7 @@
 //! Runs in lists of the well-known ids and in a list of a thousand ids.
 
 use crate::expecting::{expect, expect_text};
-use crate::well_known::{BLOB, BLOB_256, TREE, TREE_256, id};
+use crate::well_known::{BLOB, BLOB_256_ID, BLOB_ID, TREE_256_ID, TREE_ID};
 use gix_hash::{Kind, ObjectId, Prefix};
 use id_lookup::{Probes, Run, SortedIds, lookup};
 use std::process::Abort;
@@ -32,20 +32,24 @@ pub fn thousand() -> [ObjectId; 1000] {
 fn expect_run(rt: &impl Abort, list: &SortedIds<'_>, prefix: &Prefix, want: Run, most: u64) {
     assert!(rt; prefix.hex_len() <= list.min_hex_len());
     let mut probes = Probes::new(list, *prefix);
-    let runs = [lookup(&mut probes), list.find(prefix)];
-    expect!(rt; runs == [want, want], prefix);
+    expect!(rt; lookup(&mut probes) == want, prefix);
+    expect!(rt; list.find(prefix) == want, prefix);
     expect!(rt; probes.asked() <= most, prefix);
 }
 
-// Rows of digits and runs, by at most `most` asks. No digits make the prefix of all ids.
+/// The prefix of these digits. No digits make the prefix of all ids.
+pub fn prefix_of(rt: &impl Abort, digits: &str) -> Prefix {
+    match digits {
+        "" => Kind::Sha1.null().to_prefix(0..0),
+        _ => Prefix::from_hex_nonempty(digits).expect(rt, "digits that are no prefix"),
+    }
+}
+
+// Rows of digits and runs, by at most `most` asks.
 fn expect_runs(rt: &impl Abort, ids: &[ObjectId], most: u64, rows: &[(&str, usize, usize)]) {
     let list = SortedIds::try_new(ids).expect(rt, "ids out of order");
     for &(digits, start, end) in rows {
-        let prefix = match digits {
-            "" => Kind::Sha1.null().to_prefix(0..0),
-            _ => Prefix::from_hex_nonempty(digits).expect(rt, "digits that are no prefix"),
-        };
-        expect_run(rt, &list, &prefix, Run { start, end }, most);
+        expect_run(rt, &list, &prefix_of(rt, digits), Run { start, end }, most);
     }
 }
 
@@ -61,10 +65,18 @@ fn well_known_ids(rt: HostRuntime) {
     let ids = well_known();
     let list = SortedIds::try_new(&ids).expect(&rt, "ids out of order");
     assert!(rt; list.len() == 4);
-    expect!(&rt; (list.min_hex_len(), *list.get(3)) == (40, id(&rt, BLOB)));
+    expect!(&rt; (list.min_hex_len(), *list.get(3)) == (40, BLOB_ID));
 }
 
-// Also by the beginnings of one id, of each number of digits.
+// By the beginnings of one id, of each number of digits.
+#[test]
+fn runs_of_one(rt: HostRuntime) {
+    for hex_len in 1..=40 {
+        let digits = BLOB.get(..hex_len).expect(&rt, "the id has fewer digits");
+        expect_runs(&rt, &well_known(), 6, &[(digits, 3, 4)]);
+    }
+}
+
 #[test]
 fn runs_of_lists(rt: HostRuntime) {
     expect_runs(
@@ -81,11 +93,7 @@ fn runs_of_lists(rt: HostRuntime) {
             ("ffff", 4, 4),
         ],
     );
-    for hex_len in 1..=40 {
-        let digits = BLOB.get(..hex_len).expect(&rt, "the id has fewer digits");
-        expect_runs(&rt, &well_known(), 6, &[(digits, 3, 4)]);
-    }
-    expect_runs(&rt, &[id(&rt, BLOB); 5], 6, &[("e69d", 0, 5), ("", 0, 5)]);
+    expect_runs(&rt, &[BLOB_ID; 5], 6, &[("e69d", 0, 5), ("", 0, 5)]);
     expect_runs(
         &rt,
         &thousand(),
@@ -96,13 +104,7 @@ fn runs_of_lists(rt: HostRuntime) {
 
 #[test]
 fn not_sorted(rt: HostRuntime) {
-    let ids = [
-        id(&rt, TREE),
-        id(&rt, BLOB),
-        id(&rt, BLOB_256),
-        id(&rt, TREE_256),
-    ];
-    let error = SortedIds::try_new(&ids)
+    let error = SortedIds::try_new(&[TREE_ID, BLOB_ID, BLOB_256_ID, TREE_256_ID])
         .err()
         .expect(&rt, "it is accepted as sorted");
     expect_text(
