@@ -1,5 +1,6 @@
 //! Assertions that are calls, and print their condition.
 
+use gix_hash::ObjectId;
 use std::alloc::AllocError;
 use std::cell::Cell;
 use std::cmp::Ordering;
@@ -64,6 +65,18 @@ pub fn expect_kind<T: Drop>(rt: &impl Abort, outcome: io::Result<T>, kind: io::E
     }
 }
 
+/// Reading failed with a device's error of that kind.
+pub fn expect_io(
+    rt: &impl Abort,
+    outcome: Result<ObjectId, gix_hash::io::Error>,
+    kind: io::ErrorKind,
+) {
+    match outcome {
+        Err(gix_hash::io::Error::Io(error)) => expect_kind::<()>(rt, Err(error), kind),
+        _ => panic!(rt; "no error of a device where one of {kind} is wanted"),
+    }
+}
+
 /// The text of the value or of the error; no error has the text of a value.
 pub fn expect_outcome<T: Display + Drop, E: Display + Drop>(
     rt: &(impl Abort + AllocGlobal),
@@ -100,8 +113,9 @@ pub fn expect_same<T: Ord>(rt: &impl Abort, one: &T, other: &T) {
 
 /// The value feeds these bytes to a hash. Its clause says by which writes.
 pub fn expect_fed<T: Hash>(rt: &impl Abort, value: &T, writes: &[&[u8]]) {
-    let (mut fed, mut want) = (DefaultHasher::new(), DefaultHasher::new());
+    let mut fed = DefaultHasher::new();
     value.hash(&mut fed);
+    let mut want = DefaultHasher::new();
     for write in writes {
         want.write(write);
     }

@@ -1,39 +1,55 @@
 //! Digests of files.
 
-use crate::expecting::{expect, expect_kind, expect_outcome};
+use crate::expecting::{expect, expect_io, expect_outcome};
 use crate::gix_hash_stream::{ABC, ABC_256, EMPTY};
 use crate::listeners::{Asked, Call, Heard};
 use crate::opening::Opening;
 use gix_hash::io::{Never, NoProgress};
-use gix_hash::{Kind, bytes_of_file, io};
+use gix_hash::{Kind, bytes_of_file};
 use std::fs;
 use std::io::ErrorKind;
 use std::path::Path;
 use std::process::Abort;
 use std::rt::Files;
-use std::test::Fail;
 use test_devices::KINDS;
 
 const FILE: &str = "six_bytes_to_be_hashed";
 
+fn write_file(rt: &(impl Abort + Files), name: &str, bytes: &[u8]) {
+    fs::write(rt, name, bytes).expect(rt, "a file is not written");
+}
+
+fn remove_file(rt: &(impl Abort + Files), name: &str) {
+    fs::remove_file(rt, name).expect(rt, "a file is not removed");
+}
+
+// The digest of the first bytes of the file, which is opened once.
+fn expect_first_bytes(
+    rt: &(impl Abort + Files + AllocGlobal),
+    num_bytes: u64,
+    kind: Kind,
+    want: &str,
+) {
+    let files = Opening::new(rt);
+    let path = Path::new(FILE);
+    let id = bytes_of_file(&files, path, num_bytes, kind, &mut NoProgress, &mut Never);
+    expect_outcome(rt, id, want);
+    expect!(rt; files.times() == 1, num_bytes);
+}
+
 // The last by sha1sum.
 #[test]
-fn first_bytes_of_a_file(rt: HostRuntime) -> Result<(), Fail> {
-    fs::write(&rt, FILE, b"abcdef")?;
-    let path = Path::new(FILE);
+fn first_bytes_of_a_file(rt: HostRuntime) {
+    write_file(&rt, FILE, b"abcdef");
     for &(num_bytes, kind, want) in &[
         (0, Kind::Sha1, EMPTY),
         (3, Kind::Sha1, ABC),
         (3, Kind::Sha256, ABC_256),
         (6, Kind::Sha1, "1f8ac10f23c5b5bc1167bda84b833e5c057a77d2"),
     ] {
-        let files = Opening::new(&rt);
-        let id = bytes_of_file(&files, path, num_bytes, kind, &mut NoProgress, &mut Never);
-        expect_outcome(&rt, id, want);
-        expect!(&rt; files.times() == 1, num_bytes);
+        expect_first_bytes(&rt, num_bytes, kind, want);
     }
-    fs::remove_file(&rt, FILE)?;
-    Ok(())
+    remove_file(&rt, FILE);
 }
 
 // The file gives no digest because a call on it fails. It was opened once.
@@ -45,44 +61,51 @@ fn expect_failure<F: Files>(
     kind: ErrorKind,
     calls: &[Call],
 ) {
-    let (mut heard, mut asked) = (Heard::new(), Asked::stopping_at(1));
+    let mut heard = Heard::new();
+    let mut asked = Asked::stopping_at(1);
     let path = Path::new(name);
-    match bytes_of_file(files, path, num_bytes, Kind::Sha1, &mut heard, &mut asked) {
-        Err(io::Error::Io(error)) => expect_kind::<()>(rt, Err(error), kind),
-        _ => panic!(rt; "no error of {name}"),
-    }
+    let outcome = bytes_of_file(files, path, num_bytes, Kind::Sha1, &mut heard, &mut asked);
+    expect_io(rt, outcome, kind);
     heard.expect(rt, calls);
     expect!(rt; (asked.times, files.times()) == (0, 1), name);
 }
 
 // If opening fails, its error is returned, of whatever kind and however few bytes are asked for.
-#[test]
-fn files_that_cannot_be_opened(rt: HostRuntime) -> Result<(), Fail> {
-    let name = "not_a_folder";
-    fs::write(&rt, name, b"abc")?;
-    for &num_bytes in &[0, 3] {
-        for &kind in &KINDS {
-            let failing = Opening::failing(&rt, kind);
-            expect_failure(&rt, &failing, name, num_bytes, kind, &[]);
-        }
-        for &(name, kind) in &[
-            ("no_file_of_that_name", ErrorKind::NotFound),
-            ("", ErrorKind::NotFound),
-            ("not_a_folder/file", ErrorKind::NotADirectory),
-            ("a\0b", ErrorKind::InvalidInput),
-        ] {
-            expect_failure(&rt, &Opening::new(&rt), name, num_bytes, kind, &[]);
-        }
+fn expect_not_opened(rt: &(impl Abort + Files + AllocGlobal), num_bytes: u64) {
+    for &kind in &KINDS {
+        let failing = Opening::failing(rt, kind);
+        expect_failure(rt, &failing, "not_a_folder", num_bytes, kind, &[]);
     }
-    fs::remove_file(&rt, name)?;
-    Ok(())
+    for &(name, kind) in &[
+        ("no_file_of_that_name", ErrorKind::NotFound),
+        ("", ErrorKind::NotFound),
+        ("not_a_folder/file", ErrorKind::NotADirectory),
+        ("a\0b", ErrorKind::InvalidInput),
+    ] {
+        expect_failure(rt, &Opening::new(rt), name, num_bytes, kind, &[]);
+    }
+}
+
+#[test]
+fn files_that_cannot_be_opened(rt: HostRuntime) {
+    write_file(&rt, "not_a_folder", b"abc");
+    expect_not_opened(&rt, 0);
+    expect_not_opened(&rt, 3);
+    remove_file(&rt, "not_a_folder");
+}
+
+fn expect_interrupted(rt: &(impl Abort + Files + AllocGlobal), name: &str) {
+    let mut asked = Asked::stopping_at(1);
+    let path = Path::new(name);
+    let outcome = bytes_of_file(rt, path, 3, Kind::Sha1, &mut NoProgress, &mut asked);
+    expect_outcome(rt, outcome, "Interrupted");
 }
 
 // A directory opens, and can't be read.
 #[test]
-fn files_that_give_no_digest(rt: HostRuntime) -> Result<(), Fail> {
+fn files_that_give_no_digest(rt: HostRuntime) {
     let name = "three_bytes_to_be_hashed";
-    fs::write(&rt, name, b"abc")?;
+    write_file(&rt, name, b"abc");
     for &(name, num_bytes, kind) in &[
         (name, 4, ErrorKind::UnexpectedEof),
         (name, 70_000, ErrorKind::UnexpectedEof),
@@ -91,10 +114,6 @@ fn files_that_give_no_digest(rt: HostRuntime) -> Result<(), Fail> {
         let calls = [Call::Init(Some(num_bytes))];
         expect_failure(&rt, &Opening::new(&rt), name, num_bytes, kind, &calls);
     }
-    let mut asked = Asked::stopping_at(1);
-    let path = Path::new(name);
-    let outcome = bytes_of_file(&rt, path, 3, Kind::Sha1, &mut NoProgress, &mut asked);
-    expect_outcome(&rt, outcome, "Interrupted");
-    fs::remove_file(&rt, name)?;
-    Ok(())
+    expect_interrupted(&rt, name);
+    remove_file(&rt, name);
 }

@@ -1,10 +1,10 @@
 //! Hashers, and digests of what readers give.
 
 use crate::expecting::{
-    expect, expect_debug, expect_error, expect_kind, expect_outcome, expect_text,
+    expect, expect_debug, expect_error, expect_io, expect_outcome, expect_text,
 };
 use crate::listeners::{Asked, Call, Heard, chunks};
-use crate::well_known::{BLOB, id};
+use crate::well_known::BLOB_ID;
 use gix_hash::io::{Never, NoProgress};
 use gix_hash::{
     Hasher, Kind, ObjectId, bytes, bytes_with_hasher, digest_of, ends_in_digest, hasher, hashing,
@@ -50,23 +50,29 @@ fn expect_digest(rt: &(impl Abort + AllocGlobal), kind: Kind, parts: &[&[u8]], w
 }
 
 // The examples of FIPS 180-4, and the digest of nothing.
+const MESSAGES: [(Kind, &[&[u8]], &str); 6] = [
+    (Kind::Sha1, &[], EMPTY),
+    (Kind::Sha256, &[], EMPTY_256),
+    (Kind::Sha1, &[b"ab", b"", b"c"], ABC),
+    (Kind::Sha256, &[b"abc"], ABC_256),
+    (
+        Kind::Sha1,
+        &[b"abcdbcdecdefdefgefghfghighijhijkijkljklmklmnlmnomnopnopq"],
+        TWO_BLOCKS,
+    ),
+    (
+        Kind::Sha256,
+        &[
+            b"abc",
+            b"dbcdecdefdefgefghfghighijhijkijkljklmklmnlmnomnopnopq",
+        ],
+        TWO_BLOCKS_256,
+    ),
+];
+
 #[test]
 fn parts_are_one_message(rt: HostRuntime) {
-    let two_blocks: &[u8] = b"abcdbcdecdefdefgefghfghighijhijkijkljklmklmnlmnomnopnopq";
-    let (sha1, sha256) = (Kind::Sha1, Kind::Sha256);
-    let rows: [(Kind, &[&[u8]], &str); 6] = [
-        (sha1, &[], EMPTY),
-        (sha256, &[], EMPTY_256),
-        (sha1, &[b"ab", b"", b"c"], ABC),
-        (sha256, &[b"abc"], ABC_256),
-        (sha1, &[two_blocks], TWO_BLOCKS),
-        (
-            sha256,
-            &[&two_blocks[..3], &two_blocks[3..]],
-            TWO_BLOCKS_256,
-        ),
-    ];
-    for (kind, parts, want) in rows {
+    for &(kind, parts, want) in &MESSAGES {
         expect_digest(&rt, kind, parts, want);
     }
 }
@@ -74,10 +80,9 @@ fn parts_are_one_message(rt: HostRuntime) {
 // The digest of the 20 bytes of the empty blob's id, by sha1sum.
 #[test]
 fn an_id_is_hashed_by_its_bytes(rt: HostRuntime) {
-    let blob = id(&rt, BLOB);
     expect_text(
         &rt,
-        digest_of(Kind::Sha1, blob.as_slice()),
+        digest_of(Kind::Sha1, BLOB_ID.as_slice()),
         "d96f4801970aae11efea1c6d388b6a6c021b1095",
     );
 }
@@ -94,12 +99,11 @@ const PACK_256: &[u8] =
 
 #[test]
 fn packs_end_in_their_digest(rt: HostRuntime) {
-    let empty = digest_of(Kind::Sha1, b"");
+    expect!(&rt; ends_in_digest(Kind::Sha1, digest_of(Kind::Sha1, b"").as_slice()));
+    expect!(&rt; !ends_in_digest(Kind::Sha1, &PACK[1..]));
     for &(kind, bytes, ends) in &[
         (Kind::Sha1, PACK, true),
         (Kind::Sha256, PACK_256, true),
-        (Kind::Sha1, empty.as_slice(), true),
-        (Kind::Sha1, &PACK[1..], false),
         (Kind::Sha1, PACK_256, false),
         (Kind::Sha1, b"PACK", false),
         (Kind::Sha1, b"", false),
@@ -108,19 +112,26 @@ fn packs_end_in_their_digest(rt: HostRuntime) {
     }
 }
 
+fn expect_three_read(rt: &(impl Abort + AllocGlobal), chunk: usize) {
+    let mut input = Reader::new(b"abcdef", chunk, Fault::Never);
+    let id = bytes(&mut input, 3, Kind::Sha1, &mut NoProgress, &mut Never);
+    expect_outcome(rt, id, ABC);
+    expect!(rt; input.rest == b"def".as_slice());
+}
+
+fn expect_two_read(rt: &(impl Abort + AllocGlobal), chunk: usize) {
+    let mut input = Reader::new(b"bcX", chunk, Fault::Never);
+    let fed = hasher_fed(Kind::Sha1, &[b"a"]);
+    let id = bytes_with_hasher(&mut input, 2, fed, &mut NoProgress, &mut Never);
+    expect_outcome(rt, id, ABC);
+    expect!(rt; input.rest == b"X".as_slice());
+}
+
 #[test]
 fn only_the_next_bytes_are_read(rt: HostRuntime) {
     for &chunk in &[1, 6] {
-        let mut input = Reader::new(b"abcdef", chunk, Fault::Never);
-        let id = bytes(&mut input, 3, Kind::Sha1, &mut NoProgress, &mut Never);
-        expect_outcome(&rt, id, ABC);
-        expect!(&rt; input.rest == b"def".as_slice());
-
-        let mut input = Reader::new(b"bcX", chunk, Fault::Never);
-        let fed = hasher_fed(Kind::Sha1, &[b"a"]);
-        let id = bytes_with_hasher(&mut input, 2, fed, &mut NoProgress, &mut Never);
-        expect_outcome(&rt, id, ABC);
-        expect!(&rt; input.rest == b"X".as_slice());
+        expect_three_read(&rt, chunk);
+        expect_two_read(&rt, chunk);
     }
 }
 
@@ -271,26 +282,36 @@ fn a_million_bytes(rt: HostRuntime) {
     }
 }
 
+fn expect_ended(rt: &impl Abort, given: &[u8], num_bytes: u64, calls: &[Call]) {
+    let mut input = given;
+    let mut heard = Heard::new();
+    let outcome = bytes(&mut input, num_bytes, Kind::Sha1, &mut heard, &mut Never);
+    expect_io(rt, outcome, UnexpectedEof);
+    heard.expect(rt, calls);
+}
+
 #[test]
 fn a_reader_that_ends_too_early(rt: HostRuntime) {
-    let zeros = [0; 65536];
-    for &(given, num_bytes, heard) in &[
-        (b"abc".as_slice(), 5, [Call::Init(Some(5))].as_slice()),
-        (
-            &zeros,
-            65537,
-            &[Call::Init(Some(65537)), Call::IncBy(65535)],
-        ),
-    ] {
-        let mut input = given;
-        let mut progress = Heard::new();
-        let outcome = bytes(&mut input, num_bytes, Kind::Sha1, &mut progress, &mut Never);
-        match outcome {
-            Err(io::Error::Io(error)) => expect_kind::<()>(&rt, Err(error), UnexpectedEof),
-            _ => panic!(rt; "no error of a reader that ends too early"),
-        }
-        progress.expect(&rt, heard);
-    }
+    expect_ended(&rt, b"abc", 5, &[Call::Init(Some(5))]);
+    let calls = [Call::Init(Some(65537)), Call::IncBy(65535)];
+    expect_ended(&rt, &[0; 65536], 65537, &calls);
+}
+
+// The read with that number fails, after so many chunks and these calls of a progress.
+fn expect_failed_read(
+    rt: &(impl Abort + AllocGlobal),
+    zeros: &[u8],
+    at: usize,
+    chunks: usize,
+    calls: &[Call],
+) {
+    let mut input = Reader::new(zeros, 30000, Fault::AtCall(at));
+    let mut heard = Heard::new();
+    let mut asked = Asked::stopping_at(0);
+    let outcome = bytes(&mut input, 131071, Kind::Sha1, &mut heard, &mut asked);
+    expect_outcome(rt, outcome, FAILED);
+    heard.expect(rt, calls);
+    expect!(rt; (asked.times, input.calls) == (chunks, at), at);
 }
 
 // Three reads a chunk, and one for the last byte.
@@ -298,40 +319,29 @@ fn a_reader_that_ends_too_early(rt: HostRuntime) {
 fn each_read_fails_in_turn(rt: HostRuntime) {
     let zeros = [0; 131071];
     for at in 1..=7 {
-        let mut input = Reader::new(&zeros, 30000, Fault::AtCall(at));
-        let (mut heard, mut asked) = (Heard::new(), Asked::stopping_at(0));
-        let outcome = bytes(&mut input, 131071, Kind::Sha1, &mut heard, &mut asked);
-        expect_outcome(&rt, outcome, FAILED);
         let chunks = (at - 1) / 3;
-        heard.expect(&rt, &THREE_CHUNKS_HEARD[..1 + chunks]);
-        expect!(&rt; (asked.times, input.calls) == (chunks, at), at);
+        expect_failed_read(&rt, &zeros, at, chunks, &THREE_CHUNKS_HEARD[..1 + chunks]);
     }
+}
+
+fn expect_read(rt: &(impl Abort + AllocGlobal), mut input: Reader<'_>, num_bytes: u64, want: &str) {
+    let id = bytes(
+        &mut input,
+        num_bytes,
+        Kind::Sha1,
+        &mut NoProgress,
+        &mut Never,
+    );
+    expect_outcome(rt, id, want);
 }
 
 // By a reader that fails at an eighth read, and by one that returns its error after its bytes.
 #[test]
 fn readers_that_fail_at_the_end(rt: HostRuntime) {
     let zeros = [0; 131071];
-    for &(given, chunk, fault, num_bytes, want) in &[
-        (
-            zeros.as_slice(),
-            30000,
-            Fault::AtCall(8),
-            131071,
-            THREE_CHUNKS,
-        ),
-        (b"abc", 2, Fault::AfterBytes(3), 4, FAILED),
-    ] {
-        let mut input = Reader::new(given, chunk, fault);
-        let id = bytes(
-            &mut input,
-            num_bytes,
-            Kind::Sha1,
-            &mut NoProgress,
-            &mut Never,
-        );
-        expect_outcome(&rt, id, want);
-    }
+    let eighth = Reader::new(&zeros, 30000, Fault::AtCall(8));
+    expect_read(&rt, eighth, 131071, THREE_CHUNKS);
+    expect_read(&rt, Reader::new(b"abc", 2, Fault::AfterBytes(3)), 4, FAILED);
 }
 
 fn collision() -> hashing::Error {
