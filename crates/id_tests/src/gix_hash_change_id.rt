@@ -95,15 +95,25 @@ fn compared(rt: HostRuntime) {
 
 #[test]
 fn displays_compared(rt: HostRuntime) {
-    let (blob, tree) = (ChangeId::from(BLOB_ID), ChangeId::from(TREE_ID));
+    let blob = ChangeId::from(BLOB_ID);
     // The number of digits asked for counts, not that of the digits printed.
     let asked_50 = blob.to_reverse_hex_with_len(50);
     expect_below(&rt, &asked_50, &blob.to_reverse_hex_with_len(100));
+    let tree = ChangeId::from(TREE_ID);
     expect_below(&rt, &tree.to_reverse_hex_with_len(100), &asked_50);
     expect_same(
         &rt,
         &blob.to_reverse_hex(),
         &blob.to_reverse_hex_with_len(40),
     );
-    expect_fed(&rt, &asked_50, &[&BLOB_BYTES, &[50, 0, 0, 0, 0, 0, 0, 0]]);
+}
+
+#[test]
+fn display_fed_to_a_hash(rt: HostRuntime) {
+    let blob = ChangeId::from(BLOB_ID);
+    expect_fed(
+        &rt,
+        &blob.to_reverse_hex_with_len(50),
+        &[&BLOB_BYTES, &[50, 0, 0, 0, 0, 0, 0, 0]],
+    );
 }

@@ -34,6 +34,14 @@ impl Named<'_> {
     }
 }
 
+// The error's text, or "" if there is none.
+fn expect_end(rt: &(impl Abort + AllocGlobal), outcome: io::Result<()>, want: &str) {
+    match outcome {
+        Ok(()) => expect!(rt; want.is_empty(), want),
+        Err(error) => expect_text(rt, error, want),
+    }
+}
+
 // Writes to a writer that takes at most `chunk` bytes a call, and compares the error, or "" if
 // there is none, what was written, and the number of calls.
 fn expect_written(
@@ -45,10 +53,7 @@ fn expect_written(
     calls: usize,
 ) {
     let mut out = Writer::new(rt.alloc(), chunk, fault);
-    match named.write_hex_to(&mut out) {
-        Ok(()) => expect!(rt; error.is_empty(), calls),
-        Err(found) => expect_text(rt, found, error),
-    }
+    expect_end(rt, named.write_hex_to(&mut out), error);
     expect!(rt; out.bytes.as_slice() == written, calls);
     expect!(rt; (out.calls, out.flushes) == (calls, 0), calls);
 }

@@ -101,19 +101,21 @@ fn expect_interrupted(rt: &(impl Abort + Files + AllocGlobal), name: &str) {
     expect_outcome(rt, outcome, "Interrupted");
 }
 
+// A file of three bytes.
+const ABC_FILE: &str = "three_bytes_to_be_hashed";
+
 // A directory opens, and can't be read.
 #[test]
 fn files_that_give_no_digest(rt: HostRuntime) {
-    let name = "three_bytes_to_be_hashed";
-    write_file(&rt, name, b"abc");
+    write_file(&rt, ABC_FILE, b"abc");
     for &(name, num_bytes, kind) in &[
-        (name, 4, ErrorKind::UnexpectedEof),
-        (name, 70_000, ErrorKind::UnexpectedEof),
+        (ABC_FILE, 4, ErrorKind::UnexpectedEof),
+        (ABC_FILE, 70_000, ErrorKind::UnexpectedEof),
         (".", 1, ErrorKind::IsADirectory),
     ] {
         let calls = [Call::Init(Some(num_bytes))];
         expect_failure(&rt, &Opening::new(&rt), name, num_bytes, kind, &calls);
     }
-    expect_interrupted(&rt, name);
-    remove_file(&rt, name);
+    expect_interrupted(&rt, ABC_FILE);
+    remove_file(&rt, ABC_FILE);
 }

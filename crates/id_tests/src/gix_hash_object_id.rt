@@ -127,12 +127,11 @@ fn written_digest(rt: HostRuntime) {
 
 #[test]
 fn order(rt: HostRuntime) {
-    let (tree, wide) = (TREE_ID, BLOB_256_ID);
     // Views are ordered by digits only, owned ids by kind first.
-    expect_below(&rt, &wide.as_oid(), &tree.as_oid());
+    expect_below(&rt, &BLOB_256_ID.as_oid(), &TREE_ID.as_oid());
     expect_below(&rt, &Kind::Sha1.null_ref(), &Kind::Sha256.null_ref());
-    expect_same(&rt, &wide.as_oid(), &id(&rt, BLOB_256).as_oid());
-    expect_below(&rt, &tree, &wide);
+    expect_same(&rt, &BLOB_256_ID.as_oid(), &id(&rt, BLOB_256).as_oid());
+    expect_below(&rt, &TREE_ID, &BLOB_256_ID);
 }
 
 #[test]
@@ -141,17 +140,20 @@ fn order_in_a_kind(rt: HostRuntime) {
     expect_same(&rt, &TREE_ID, &id(&rt, TREE));
 }
 
+// The id, owned and borrowed, feeds its bytes to a hash.
+fn expect_id_fed(rt: &impl Abort, id: &ObjectId, bytes: &[u8]) {
+    expect_fed(rt, id, &[bytes]);
+    expect_fed(rt, &id.as_oid(), &[bytes]);
+}
+
 #[test]
 fn fed_to_a_hash(rt: HostRuntime) {
-    let (blob, wide) = (BLOB_ID, BLOB_256_ID);
-    expect_fed(&rt, &blob, &[&BLOB_BYTES]);
-    expect_fed(&rt, &blob.as_oid(), &[&BLOB_BYTES]);
-    expect_fed(&rt, &wide, &[&BLOB_256_BYTES]);
-    expect_fed(&rt, &wide.as_oid(), &[&BLOB_256_BYTES]);
-    expect_writes(&rt, &blob, 1, 20);
+    expect_id_fed(&rt, &BLOB_ID, &BLOB_BYTES);
+    expect_id_fed(&rt, &BLOB_256_ID, &BLOB_256_BYTES);
+    expect_writes(&rt, &BLOB_ID, 1, 20);
     expect_fed(
         &rt,
-        &blob.to_hex_with_len(50),
+        &BLOB_ID.to_hex_with_len(50),
         &[&BLOB_BYTES, &[50, 0, 0, 0, 0, 0, 0, 0]],
     );
 }
@@ -183,11 +185,15 @@ fn shared_digits(rt: HostRuntime) {
 
 #[test]
 fn displays_compared(rt: HostRuntime) {
-    let (blob, tree) = (BLOB_ID, TREE_ID);
     // The number of digits asked for counts, not that of the digits printed.
-    expect_below(&rt, &blob.to_hex_with_len(50), &blob.to_hex_with_len(100));
-    expect_below(&rt, &tree.to_hex_with_len(100), &blob.to_hex_with_len(50));
-    expect_same(&rt, &blob.to_hex(), &blob.as_oid().to_hex_with_len(40));
+    let asked_50 = BLOB_ID.to_hex_with_len(50);
+    expect_below(&rt, &asked_50, &BLOB_ID.to_hex_with_len(100));
+    expect_below(&rt, &TREE_ID.to_hex_with_len(100), &asked_50);
+    expect_same(
+        &rt,
+        &BLOB_ID.to_hex(),
+        &BLOB_ID.as_oid().to_hex_with_len(40),
+    );
 }
 
 #[test]
