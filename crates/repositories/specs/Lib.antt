@@ -3,3 +3,4 @@ pub mod Formats
 pub mod Paths
 pub mod Printed
 pub mod Quoting
+pub mod States

@@ -61,7 +61,9 @@ pub fn retried<T: Drop, F: FnMut() -> io::Result<T>>(mut call: F) -> io::Result<
 /// ```
 /// let size = metadata(rt, ".git/HEAD")?.len();
 /// ```
-pub fn metadata<R: Files>(rt: &R, path: &str) -> io::Result<Metadata> {
+pub fn metadata<R: Files>(rt: &R, path: &str) -> io::Result<Metadata>
+    ensures { IfErr result (λ error. error_kind error ≢ ErrorKind.Interrupted) }
+{
     retried(|| fs::metadata(rt, path))
 }
 

@@ -1,6 +1,7 @@
 //! What directories and files are before they are read, to know whether they changed meanwhile.
 
-ghost use Rattle.std.specs.Prelude.{◌≡◌, ◌==◌, not};
+ghost use Rattle.std.specs.Prelude.{◌≡◌, ◌==◌, ◌↔◌, IsTrue, not};
+ghost use Rattle.repositories.specs.States.{IsPast, IsSettled};
 
 use crate::files::{is_missing, metadata};
 use std::fs::Metadata;
@@ -8,19 +9,19 @@ use std::io::{self, ErrorKind};
 use std::os::unix::fs::MetadataExt;
 use std::path::Path;
 use std::rt::Files;
-use std::time::{SystemTime, UNIX_EPOCH};
-
-// How many nanoseconds a second has.
-const SECOND: i64 = 1_000_000_000;
+use std::time::{Duration, SystemTime, UNIX_EPOCH};
 
 // A change may leave a time that is so many nanoseconds earlier, since the clock of files ticks up
 // to 10 ms after the system's, and a file system may count in 10 ms.
-const GRAIN: i64 = 20_000_000;
+const GRAIN: u128 = 20_000_000;
+
+// The same of a time in whole seconds, as where a file system has no others.
+const GRAIN_OF_SECONDS: u128 = 2_000_000_000;
 
 /// The state of a directory or file: which one it is, its size in bytes, and when it was modified
-/// and when it was changed. If a path leads to nothing, its state is that of the first directory
-/// above that is there, and how many names are missing below: so what comes and goes again leaves
-/// another state, too.
+/// and when it was changed. A time before 1970 is taken for 1970. If a path leads to nothing, its
+/// state is that of the first directory above that is there, and how many names are missing below:
+/// so what comes and goes again leaves another state, too.
 ///
 /// What is read between two equal states was there at one time, unless it changed twice within one
 /// tick of the file system's clock.
@@ -36,9 +37,9 @@ pub struct FileState {
     dev: u64,
     ino: u64,
     size: u64,
-    // Seconds and nanoseconds.
-    modified: (i64, i64),
-    changed: (i64, i64),
+    // Since 1970.
+    modified: Duration,
+    changed: Duration,
 }
 
 impl FileState {
@@ -79,8 +80,8 @@ impl FileState {
             dev: found.dev(),
             ino: found.ino(),
             size: found.size(),
-            modified: (found.mtime(), found.mtime_nsec()),
-            changed: (found.ctime(), found.ctime_nsec()),
+            modified: since_1970(found.mtime(), found.mtime_nsec()),
+            changed: since_1970(found.ctime(), found.ctime_nsec()),
         }
     }
 
@@ -93,14 +94,9 @@ impl FileState {
     /// let now = SystemTime::now(rt)?;
     /// let is_settled = FileState::of(rt, ".git/objects/pack")?.is_settled(now);
     /// ```
-    pub fn is_settled(&self, now: SystemTime) -> bool {
-        let Ok(now) = now.duration_since(UNIX_EPOCH) else {
-            return false;
-        };
-        let Ok(secs) = i64::try_from(now.as_secs()) else {
-            return false;
-        };
-        let now = nanos_of((secs, i64::from(now.subsec_nanos())));
+    pub fn is_settled(&self, now: SystemTime) -> bool
+        ensures { IsTrue result ↔ IsSettled now self.now }
+    {
         is_past(self.modified, now) && is_past(self.changed, now)
     }
 
@@ -112,16 +108,22 @@ impl FileState {
     }
 }
 
-// Whether no change from now on leaves a time of a file, in seconds and nanoseconds.
-fn is_past(time: (i64, i64), now: i64) -> bool {
-    let grain = match time {
-        (_, 0) => 2 * SECOND,
+// Whether no change from now on leaves a time of a file.
+fn is_past(time: Duration, now: SystemTime) -> bool
+    ensures { IsTrue result ↔ IsPast now time }
+{
+    let grain = match time.subsec_nanos() {
+        0 => GRAIN_OF_SECONDS,
         _ => GRAIN,
     };
-    nanos_of(time) < now.saturating_sub(grain)
+    match now.duration_since(UNIX_EPOCH) {
+        Ok(now) => time.as_nanos().saturating_add(grain) < now.as_nanos(),
+        Err(_) => false,
+    }
 }
 
-// A time in nanoseconds.
-fn nanos_of((secs, nanos): (i64, i64)) -> i64 {
-    secs.saturating_mul(SECOND).saturating_add(nanos)
+// A time of a file, of seconds and nanoseconds. One before 1970 is taken for 1970.
+fn since_1970(secs: i64, nanos: i64) -> Duration {
+    let nanos = Duration::from_nanos(u64::try_from(nanos).unwrap_or(0));
+    Duration::from_secs(u64::try_from(secs).unwrap_or(0)).saturating_add(nanos)
 }

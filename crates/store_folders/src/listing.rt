@@ -1,6 +1,9 @@
 //! The names in directories, and the states of directories.
 
-ghost use Rattle.std.specs.Prelude.{◌≡◌, ◌⊎◌, IfErr, IfOk, length, vec_len};
+ghost use Rattle.std.specs.Prelude.{◌≡◌, ◌≢◌, ◌⊎◌, ◌↔◌, All, IfErr, IfOk, IsTrue, length, vec_len};
+ghost use Rattle.std.specs.IoError.{error_kind};
+ghost use Rattle.std.specs.declared.io.ErrorKind.{ErrorKind};
+ghost use Rattle.repositories.specs.States.{IsSettled};
 ghost use Rattle.store_folders.specs.Stores.{IsChanged, IsUnread};
 
 use crate::error::Error;
@@ -46,7 +49,9 @@ pub(crate) fn state_of<R: Files + AllocGlobal>(rt: &R, folder: &str) -> Result<F
 pub(crate) fn state_if_there<R: Files + AllocGlobal>(
     rt: &R,
     folder: &str,
-) -> Result<Option<FileState>, Error> {
+) -> Result<Option<FileState>, Error>
+    ensures { IfErr result IsUnread }
+{
     FileState::if_there(rt, folder).map_err(|error| Error::file(rt.alloc(), folder, error))
 }
 
@@ -94,11 +99,15 @@ pub(crate) fn expect_states<R: Files + AllocGlobal>(
 }
 
 // Whether each later change leaves other states.
-pub(crate) fn are_settled(states: &[FileState], now: SystemTime) -> bool {
+pub(crate) fn are_settled(states: &[FileState], now: SystemTime) -> bool
+    ensures { IsTrue result ↔ All (IsSettled now) states.now }
+{
     states.iter().all(|state| state.is_settled(now))
 }
 
 // What is at a path, also if it is a link.
-pub(crate) fn what_is_at<R: Files>(rt: &R, path: &str) -> io::Result<Metadata> {
+pub(crate) fn what_is_at<R: Files>(rt: &R, path: &str) -> io::Result<Metadata>
+    ensures { IfErr result (λ error. error_kind error ≢ ErrorKind.Interrupted) }
+{
     retried(|| fs::symlink_metadata(rt, path))
 }

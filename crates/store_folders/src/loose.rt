@@ -1,7 +1,8 @@
 //! The loose objects in object directories, by the names of their files.
 
-ghost use Rattle.std.specs.Prelude.{◌≡◌, ◌++◌, All, IfOk, IfSome, MatchOption, None, OnOk, false, map, string_bytes};
+ghost use Rattle.std.specs.Prelude.{◌≡◌, ◌++◌, All, IfOk, IfSome, IsSomeAnd, MatchOption, None, OnOk, false, map, string_bytes};
 ghost use Rattle.gix_hash.specs.Words.{id_digits, id_kind};
+ghost use Rattle.repositories.specs.States.{IsSettled};
 ghost use Rattle.store_folders.specs.Stores.{only_of, path_in, paths_in};
 
 use crate::error::Error;
@@ -123,7 +124,8 @@ pub(crate) fn list_loose<R: Files + AllocGlobal>(
 ) -> Result<LooseObjects, Error>
     ensures kind { IfOk result (λ loose. loose.kind ≡ kind) }
     ensures which { IfOk result (λ loose. loose.which ≡ which) }
-    ensures once { now ≡ None → IfOk result (λ loose. loose.states ≡ None) }
+    ensures settled { IfOk result (λ loose. IfSome loose.states (λ states.
+        IsSomeAnd now (λ now. All (IsSettled now) states.items))) }
 {
     let places = Places { rt, paths };
     let states = places.settled_states(which, now)?;
@@ -165,7 +167,8 @@ impl<R: Files + AllocGlobal> Places<'_, R> {
         which: LooseIds,
         now: Option<SystemTime>,
     ) -> Result<Option<Vec<FileState>>, Error>
-        ensures { now ≡ None → IfOk result (λ states. states ≡ None) }
+        ensures { IfOk result (λ states. IfSome states (λ states.
+            IsSomeAnd now (λ now. All (IsSettled now) states.items))) }
     {
         let Some(now) = now else {
             return Ok(None);

@@ -1,7 +1,8 @@
 //! The pack indexes in object directories.
 
-ghost use Rattle.std.specs.Prelude.{◌≡◌, ◌⊎◌, All, IfOk, IsNone, None, OnOk, false, length, true, vec_len};
+ghost use Rattle.std.specs.Prelude.{◌≡◌, ◌⊎◌, ◌↔◌, All, IfOk, IsNone, IsSomeAnd, IsTrue, OnOk, length, true, vec_len};
 ghost use Rattle.pack_index.specs.declared.lazy_error.LazyError.TheVariants as errors;
+ghost use Rattle.repositories.specs.States.{IsSettled};
 ghost use Rattle.store_folders.specs.Stores.{HasPack, IsListed, IsOfIndex, IsUnread};
 
 use crate::error::Error;
@@ -80,7 +81,7 @@ impl PackFolders {
 
     // Whether each later change of one of them leaves another state, if the time before is given.
     pub(crate) fn are_settled(&self, now: Option<SystemTime>) -> bool
-        ensures { now ≡ None → result ≡ false }
+        ensures { IsTrue result ↔ IsSomeAnd now (λ now. All (IsSettled now) self.now.states.items) }
     {
         now.is_some_and(|now| are_settled(&self.states, now))
     }
