@@ -472,6 +472,11 @@ def lent(room):
     how = {"cwd": room, "env": {"GIT_OBJECT_DIRECTORY": "main/objects", "GIT_ALTERNATE_OBJECT_DIRECTORIES": "third/objects"}}
     wanted = "".join([*packed, loose[0], loose[2], loose[1]])
     yield "alternates of the environment first", (wanted, "", 0), ("where", "4b9"), how
+    odd = room / "\udcff"
+    add_objects(odd / "objects", [made.BOTH])
+    write(odd / "objects" / "info" / "alternates", b".\n../objects\n")
+    wanted = f"{made.BOTH} objects/4b/{made.BOTH[2:]}\n"
+    yield "an alternate that is its own, in a directory that is not UTF-8", (wanted, "", 0), ("where", "4b9", "--objects", "objects"), {"cwd": odd}
 
 
 def links(room):

@@ -10,6 +10,7 @@ use gix_hash::Kind;
 use std::alloc::AllocError;
 use std::fs::{self, Metadata};
 use std::io::{self, ErrorKind};
+use std::os::unix::fs::MetadataExt;
 use std::path::Path;
 use std::rt::Files;
 use std::str;
@@ -85,24 +86,37 @@ pub(crate) fn if_there<T: Drop>(
     }
 }
 
-// The absolute path of a directory, without links; the same path if that is not UTF-8.
-pub(crate) fn real_folder<R: Files + AllocGlobal>(rt: &R, path: &str) -> io::Result<String> {
-    let real = match retried(|| fs::canonicalize(rt, path)) {
-        Ok(real) => real.into_string(),
+// A directory that is there.
+#[derive(Drop)]
+pub(crate) struct RealFolder {
+    // Its absolute path, without links; or the path as it was given, if that is not UTF-8.
+    pub(crate) path: String,
+    // The numbers of its file system and of it there, if its absolute path is not UTF-8.
+    pub(crate) number: Option<(u64, u64)>,
+}
+
+// The directory that a path leads to.
+pub(crate) fn real_folder<R: Files + AllocGlobal>(rt: &R, path: &str) -> io::Result<RealFolder> {
+    let (path, is_real) = match retried(|| fs::canonicalize(rt, path)) {
+        Ok(real) => (real.into_string(), true),
         Err(error) if error.kind() == ErrorKind::InvalidFilename => {
-            String::from_str(rt.alloc(), path)?
+            (String::from_str(rt.alloc(), path)?, false)
         }
         Err(error) => return Err(error),
     };
-    if metadata(rt, &real)?.is_dir() {
-        Ok(real)
-    } else {
-        Err(ErrorKind::NotADirectory.into())
+    let found = metadata(rt, &path)?;
+    if !found.is_dir() {
+        return Err(ErrorKind::NotADirectory.into());
     }
+    let number = (!is_real).then_some((found.dev(), found.ino()));
+    Ok(RealFolder { path, number })
 }
 
 // The same, where a directory that is not there is an error.
-pub(crate) fn existing_folder<R: Files + AllocGlobal>(rt: &R, path: &str) -> Result<String, Error> {
+pub(crate) fn existing_folder<R: Files + AllocGlobal>(
+    rt: &R,
+    path: &str,
+) -> Result<RealFolder, Error> {
     real_folder(rt, path).map_err(|error| Error::file(rt.alloc(), path, error))
 }
 

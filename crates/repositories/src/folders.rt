@@ -2,7 +2,9 @@
 
 use crate::alternates::alternate_paths;
 use crate::error::Error;
-use crate::files::{existing_folder, if_there, is_missing, join, push_path, real_folder};
+use crate::files::{
+    RealFolder, existing_folder, if_there, is_missing, join, push_path, real_folder,
+};
 use crate::finding::{ALTERNATES, ObjectsFolder};
 use crate::state::FileState;
 use std::alloc::AllocError;
@@ -16,7 +18,8 @@ const LEVELS: u8 = 6;
 /// An object directory and its alternates, each once.
 #[derive(Drop)]
 pub struct Folders {
-    /// The path of the directory as it was given, and the absolute paths of the alternates.
+    /// The path of the directory as it was given, and the absolute paths of the alternates. One
+    /// whose absolute path is not UTF-8 has the path by which it was found.
     pub paths: Vec<String>,
     /// The states of their lists of alternates before they were read, and of the paths of
     /// alternates that cannot be used, in the order in which they were looked at.
@@ -78,8 +81,10 @@ pub fn with_alternates<R: Files + AllocGlobal>(
     let mut walk = Walk {
         rt,
         found: &mut found,
+        numbers: Vec::new(rt.alloc()),
     };
-    walk.push_with_alternates(&real, &objects.alternates)?;
+    walk.push_with_alternates(real, &objects.alternates)?;
+    drop(walk);
     // Errors show the path as it was given.
     if let Some(first) = found.paths.first_mut() {
         *first = objects.path.clone()?;
@@ -92,18 +97,35 @@ pub fn with_alternates<R: Files + AllocGlobal>(
 struct Walk<'a, R> {
     rt: &'a R,
     found: &'a mut Folders,
+    // The numbers of those whose absolute paths are not UTF-8.
+    numbers: Vec<(u64, u64)>,
 }
 
 impl<R: Files + AllocGlobal> Walk<'_, R> {
-    // Adds an object directory by its absolute path, the alternates of the environment, and those
-    // of its list.
-    fn push_with_alternates(&mut self, real: &str, given: &[String]) -> Result<(), Error> {
-        self.found
-            .paths
-            .push(String::from_str(self.rt.alloc(), real)?)?;
+    // Adds an object directory, the alternates of the environment, and those of its list.
+    fn push_with_alternates(&mut self, real: RealFolder, given: &[String]) -> Result<(), Error> {
+        let path = real.path.clone()?;
+        self.push(real)?;
         self.push_folders(given, LEVELS)?;
-        let alternates = self.alternates_of(real)?;
+        let alternates = self.alternates_of(&path)?;
         self.push_folders(&alternates, LEVELS)
+    }
+
+    // Adds a directory.
+    fn push(&mut self, folder: RealFolder) -> Result<(), AllocError> {
+        if let Some(number) = folder.number {
+            self.numbers.push(number)?;
+        }
+        self.found.paths.push(folder.path)?;
+        Ok(())
+    }
+
+    // Whether a directory is there already.
+    fn has(&self, folder: &RealFolder) -> bool {
+        match folder.number {
+            Some(number) => self.numbers.contains(&number),
+            None => self.found.paths.contains(&folder.path),
+        }
     }
 
     // Adds directories and their alternates, `levels` levels together.
@@ -122,15 +144,15 @@ impl<R: Files + AllocGlobal> Walk<'_, R> {
     // skipped: it cannot be read, or no level is left.
     fn push_folder(&mut self, path: &str, levels: u8) -> Result<Option<Vec<String>>, Error> {
         match real_folder(self.rt, path) {
-            Ok(real) if self.found.paths.contains(&real) => Ok(None),
+            Ok(real) if self.has(&real) => Ok(None),
             Ok(_) if levels == 0 => {
                 let error = Error::text(self.rt.alloc(), path, "nested more than 5 deep");
                 self.found.skipped.push(error)?;
                 Ok(None)
             }
             Ok(real) => {
-                let alternates = self.alternates_of(&real)?;
-                self.found.paths.push(real)?;
+                let alternates = self.alternates_of(&real.path)?;
+                self.push(real)?;
                 Ok(Some(alternates))
             }
             Err(_) if path.is_empty() => {

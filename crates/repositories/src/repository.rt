@@ -225,7 +225,7 @@ fn common_of<R: Files + AllocGlobal>(rt: &R, folder: &str) -> Result<String, Err
         Some(name) if name.is_empty() => Err(Error::text(rt.alloc(), &path, "empty")),
         Some(name) => {
             let common = join(rt, folder, without_line_ends(&name))?;
-            existing_folder(rt, &common)
+            Ok(existing_folder(rt, &common)?.path)
         }
         None => Ok(String::from_str(rt.alloc(), folder)?),
     }
