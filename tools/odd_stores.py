@@ -275,7 +275,8 @@ class Oddity:
             others = [id[2:] + "0", id[2:-1], id[2:].upper(), id, rng.choice("0f") * (DIGITS[OTHER[kind]] - 2)]
             other = rng.choice([*NO_OBJECTS, *others])
             if chance(rng, 0.1):
-                (part / id[2:]).mkdir(exist_ok=True) if not (part / id[2:]).exists() else None
+                with suppress(FileExistsError):
+                    (part / id[2:]).mkdir()
             elif chance(rng, 0.2) and not os.path.lexists(part / other):
                 (part / other).symlink_to(rng.choice(["none", "../info", id[2:]]))
             else:
