@@ -198,7 +198,7 @@ class Oddity:
             self.repository(rng.choice([top / "d", top / "d/.git", top / "d/e/.git"]), lacks=0.15)
         # Where a bare repository is found above, Git reads its config by a relative $GIT_COMMON_DIR from the top, and its
         # objects from the current folder.
-        is_bare = form in ("bare", "nested") or top / "objects" in self.objects
+        is_bare = form == "nested" or top / "objects" in self.objects
         is_worktree = not is_bare and inner not in [self.cwd, *self.cwd.parents]
         if not self.is_alone:
             self.environment(gitdir, is_worktree)
