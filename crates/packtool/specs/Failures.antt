@@ -24,5 +24,5 @@ IsAt why path _ = ⊥
 
 -- what is printed after the error of a part that is skipped: of a pack index of version 1 also what helps
 abbrev pub skipped_mark : StoreError → List ℕ
-skipped_mark (Index (look_ups.Index path (Head Version1))) = codes " (git repack -ad replaces them), skipped"
+skipped_mark (Index (look_ups.Index path (Head Version1))) = codes " (git index-pack PACK replaces it), skipped"
 skipped_mark _ = codes ", skipped"

@@ -122,7 +122,7 @@ pub fn skipped_mark(error: &store_folders::Error) -> &'static str
                 error: LazyError::Head(pack_index::Error::Version1),
                 ..
             },
-        ) => " (git repack -ad replaces them), skipped",
+        ) => " (git index-pack PACK replaces it), skipped",
         _ => ", skipped",
     }
 }
