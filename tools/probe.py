@@ -95,17 +95,18 @@ def at_once(results):
 
 
 def count(results):
-    """Prints the line of each result, and then their counts. Returns the status, 1 if any failed or none passed."""
-    passed = failed = 0
+    """Prints the line of each result, then the beginning of each line that failed once more, and the counts. Returns the status, 1
+    if any failed or none passed."""
+    passed, failed = 0, []
     for text, holds in results:
         if ONLY not in text:
             continue
         text, holds = outcome((text, holds))
         print(text, flush=True)
         passed += bool(holds)
-        failed += not holds
-    print(f"{passed} passed, {failed} failed", flush=True)
-    return int(failed > 0 or passed == 0)
+        failed += [] if holds else [f"FAILED: {text[:300].partition(chr(10))[0]}"]
+    print(*failed, f"{passed} passed, {len(failed)} failed", sep="\n", flush=True)
+    return int(bool(failed) or passed == 0)
 
 
 @contextlib.contextmanager
