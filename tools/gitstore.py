@@ -169,6 +169,20 @@ def beginning_with(ids, prefix):
     return ids[bisect.bisect_left(ids, prefix.lower()) : bisect.bisect_left(ids, f"{prefix.lower()}g")]
 
 
+def answered(ids, prefixes):
+    """The lines of `find --stdin` for prefixes, no errors, and its status."""
+    found = [(prefix, beginning_with(ids, prefix)) for prefix in prefixes]
+    lines = [f"{prefix} {id}\n" for prefix, ids in found for id in ids or ["missing"]]
+    return "".join(lines), "", 0 if all(ids for _, ids in found) else 1
+
+
+def answered_one(ids, prefixes, printed=str):
+    """The same if each is to be of one id, which is printed so."""
+    found = [(prefix, beginning_with(ids, prefix)) for prefix in prefixes]
+    lines = [printed(ids[0]) if len(ids) == 1 else f"{prefix} {'ambiguous' if ids else 'missing'}" for prefix, ids in found]
+    return "".join(f"{line}\n" for line in lines), "", 0 if all(len(ids) == 1 for _, ids in found) else 1
+
+
 def shortest(ids):
     """The lines of `names` for sorted ids: each after its shortest beginning, of 4 digits or more, that no other one has."""
     shared = [len(os.path.commonprefix(pair)) for pair in zip(ids, ids[1:])]
