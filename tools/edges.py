@@ -25,6 +25,11 @@ LOCKED = "Permission denied (os error 13)"
 # The errors of a pack index that is cut, and the least length of one.
 TOO_FEW, NOT_FILLED = "the bytes are too few for a pack index", "the tables of the pack index do not fill its bytes"
 LEAST = 1064
+WRONG_CHECKSUM = "FAILED: the checksum of the pack index is wrong"
+# What `check` says of a file that Git writes with no digest.
+NO_DIGEST = "SKIPPED: it has no digest"
+# How many files one call checks: more than 16 bits count.
+MANY_FILES = 66_000
 # More lines than are looked up at once, and how long all answers to an input may take, in seconds.
 MANY_LINES, PATIENCE = 20_000, 60
 # How many bytes a read of standard input takes at most: at first, after one that got as many, and then.
@@ -88,7 +93,7 @@ def verdict_of(content, kinds):
 def checked(verdicts):
     """What `check` gives of files, each by its name and what is said of it."""
     lines = [f"{name}: {verdict}\n" for name, verdict in verdicts.items()]
-    return "".join(lines), "", int(any(verdict != "OK" for verdict in verdicts.values()))
+    return "".join(lines), "", int(any(verdict.startswith("FAILED") for verdict in verdicts.values()))
 
 
 def endings(room):
@@ -96,6 +101,8 @@ def endings(room):
     rng = random.Random(1)
     contents = [rng.randbytes(size) for size in range(100)]
     contents += [sealed(rng.randbytes(size), digest_of(kind)[0]) for kind in DIGITS for size in (0, 1, 11, 12, 13, 4096)]
+    # (as files whose last bytes were not written)
+    contents += [rng.randbytes(100) + bytes(size) for size in (20, 32)]
     files = {f"f{at}": content for at, content in enumerate(contents)}
     for name, content in files.items():
         write(room / name, content)
@@ -122,6 +129,38 @@ def cut(room):
                 verdicts[name] = said
             yield f"check of {size} bytes of {kind}.idx", checked({"-": other}), ("check", "-"), {"given": content}
         yield f"check of files with the beginnings of {kind}.idx", checked(verdicts), ("check", *verdicts), {"cwd": room}
+
+
+def many_files(room):
+    """More files in one call than 16 bits count, the last of which is wrong; and what is in Git's directory of a chain, or has its name."""
+    wrong = "FAILED: it is shorter than a digest"
+    write(room / "f", sealed(b""))
+    write(room / "wrong")
+    wanted = "f: OK\n" * MANY_FILES + f"wrong: {wrong}\n", "", 1
+    yield f"check of {MANY_FILES + 1} files", wanted, ("check", *["f"] * MANY_FILES, "wrong"), {"cwd": room}
+    chain = room / "multi-pack-index.d"
+    for name in ("right", "wrong", "x-chain", chain.name):
+        write(chain / name, sealed(b"") if name == "right" else b"")
+    verdicts = {f"{chain.name}/right": "OK", f"{chain.name}/wrong": wrong, f"{chain.name}/x-chain": NO_DIGEST}
+    verdicts |= {f"{chain.name}/{chain.name}": wrong, chain.name: NO_DIGEST}
+    yield "check of files in the directory of a chain", checked(verdicts), ("check", *verdicts), {"cwd": room}
+
+
+def long_files(room):
+    """Files and pack indexes of more than a mebibyte, as files and as standard input, right and with one other byte at the end; and an
+    input that begins as a pack index and never ends."""
+    body = bytes(1 << 20)
+    file, index = sealed(body), index_of(sorted_ids(40_000, [20]))
+    for name, content in ("a file", file), ("an index", index):
+        for way, given in ("right", content), ("wrong", changed(content, len(content) - 1, content[-1] ^ 1)):
+            verdict = "OK" if way == "right" else WRONG_CHECKSUM if content is index else verdict_of(given, tuple(DIGITS))
+            write(room / "x", given)
+            yield f"check of {name} of {len(given)} bytes, {way}", checked({"x": verdict}), ("check", "x"), {"cwd": room}
+            yield f"the same, standard input, {name}, {way}", checked({"-": verdict}), ("check", "-"), {"given": given}
+    write(room / "head", index[:1032])
+    endless = ("sh", "-c", '{ cat head; cat /dev/zero; } | "$@"', "sh")
+    how = {"cwd": room, "around": endless, "limits": [f"--data={16 << 20}"]}
+    yield "check of an input without an end in 16 MiB", checked({"-": f"FAILED: {NOT_FILLED}"}), ("check", "-"), how
 
 
 def long_offsets(room):
@@ -625,7 +664,7 @@ def statuses(program, room):
         yield f"find --stdin of chunks of the statuses {order}", wrong
 
 
-CASES = [endings, cut, long_offsets, packs_beside, names_in_errors, names_of_files, counts, last_lines, skipped]
+CASES = [endings, many_files, long_files, cut, long_offsets, packs_beside, names_in_errors, names_of_files, counts, last_lines, skipped]
 CASES += [much_found, damaged_asked, by_links, no_stores, files_in_each_way, links_to_nothing, links]
 CASES += [faulty, later_configs, chained, lent, odd_lines, long_texts, environments]
 TALKS = [exchanges, statuses]
