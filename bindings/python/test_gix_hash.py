@@ -180,9 +180,15 @@ class Bindings(unittest.TestCase):
             ("GIX_HASH_LIB", "/nowhere.so", "/nowhere.so"),
             ("GIX_HASH_LIB", "/", "/"),
             ("GIX_HASH_LIB", "libc.so.6", "gix_hash_"),
+            # (in the directory of the library, whose files must not be loaded)
+            ("GIX_HASH_LIB", "libgix_hash.so", "libgix_hash.so: "),
+            ("GIX_HASH_LIB", "./libgix_hash.so", "not an absolute path"),
+            ("GIX_HASH_LIB", ".", "\\.: "),
+            ("GIX_HASH_LIB", "./", "not an absolute path"),
         ):
             words = [sys.executable, "-c", "import gix_hash"]
-            ran = subprocess.run(words, env={**none, name: path}, stderr=subprocess.PIPE, text=True)
+            env = {**none, name: path}
+            ran = subprocess.run(words, env=env, cwd=os.path.dirname(file), stderr=subprocess.PIPE, text=True)
             self.assertRegex(ran.stderr, f"ImportError: .*{why}.*GIX_HASH_LIB" if why else "^$")
         source = pathlib.Path(gix_hash.__file__).read_text(encoding="utf-8")
         for version in ("9.9.0", "0.3.9", "0.4.0"):

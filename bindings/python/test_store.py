@@ -473,16 +473,41 @@ class Stores(unittest.TestCase):
         (self.room / "old").chmod(0o755)
         for given in ("/bin/cat", "/nowhere", "/", "false", str(self.room / "old"), str(bare / "HEAD"), "nowhere", ""):
             os.environ.update(PACKTOOL=given, PATH=path if given else "")
-            with self.assertRaisesRegex(StoreError, r": no packtool \d+\.\d+ is there: set PACKTOOL to its path$"):
+            with self.assertRaisesRegex(StoreError, r": no packtool \d+\.\d+ is there: set PACKTOOL to its absolute path$"):
                 Store(bare)
         folder = self.room / "bin"
         folder.mkdir()
         (folder / "packtool").symlink_to(os.path.abspath(program))
-        os.environ.update(PACKTOOL="", PATH=str(folder))
-        self.assertEqual(self.opened(bare).find(ids[0]), [Id(ids[0])])
-        os.environ.update(PACKTOOL=os.path.relpath(program), PATH="")
-        self.assertEqual(self.opened(bare).find(ids[0]), [Id(ids[0])])
-        self.assertEqual(len(children()), 2)
+        for given in "", "packtool", str(folder / "packtool"):
+            os.environ.update(PACKTOOL=given, PATH="/" if "/" in given else f"/nowhere:{folder}")
+            self.assertEqual(self.opened(bare).find(ids[0]), [Id(ids[0])])
+        self.assertEqual(len(children()), 3)
+
+    def test_programs_of_others(self):
+        """What is in the current directory or in the repository is not run, whatever the variables have beside it."""
+        bare, ids = self.blobs(packed=50, loose=5)
+        program, mark = os.path.abspath(os.environ["PACKTOOL"]), self.room / "mark"
+        self.addCleanup(os.environ.update, PACKTOOL=program, PATH=os.environ["PATH"])
+        self.addCleanup(os.chdir, os.getcwd())
+        for folder in bare, bare / "bin":
+            folder.mkdir(exist_ok=True)
+            (folder / "packtool").write_text(f'#!/bin/sh\n: > {mark}\nexec {program} "$@"\n')
+            (folder / "packtool").chmod(0o755)
+        folder = self.room / "bin"
+        folder.mkdir()
+        (folder / "packtool").symlink_to(program)
+        paths = ["/nowhere", "", ":", ":/nowhere", "/nowhere:", "/nowhere::/", ".", "bin", "./bin/", "../store/bin", "~"]
+        for here in bare, self.room:
+            os.chdir(here)
+            for path in paths:
+                for given in "", "packtool", "./packtool", "bin/packtool", "../store/packtool":
+                    os.environ.update(PACKTOOL=given, PATH=path)
+                    self.assertRaisesRegex(StoreError, "no packtool", Store, bare)
+                # (it goes on behind what is left out)
+                os.environ.update(PACKTOOL="", PATH=f"{path}:{folder}")
+                with Store(bare) as store:
+                    self.assertEqual(store.find(ids[0]), [Id(ids[0])])
+        self.assertFalse(mark.exists())
 
     def test_no_store(self):
         bare, ids = self.blobs("bare", "sha256", packed=50, loose=5)

@@ -17,8 +17,9 @@ fn main() {
             .map(|it| Path::new(&here).join(it))
             .to_vec(),
     };
-    let Some(directory) = directories.iter().find(|directory| directory.join("libgix_hash.a").exists())
-    else {
+    // (rustc may run in another directory, which a relative path would lead to)
+    let has_library = |it: &&PathBuf| it.is_absolute() && it.join("libgix_hash.a").exists();
+    let Some(directory) = directories.iter().find(has_library) else {
         panic!(
             "libgix_hash.a is not in {directories:?}: set GIX_HASH_LIB to its absolute path, or run `make lib` first"
         );

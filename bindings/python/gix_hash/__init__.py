@@ -1,8 +1,8 @@
 """Git's object ids over libgix_hash, whose calls are proved; this module is only tested.
 
 Ids are spelled and compared here, and the rest is done by the library, but for a Store, which asks the program packtool. The
-library is beside this module or where the loader looks, or the environment variable GIX_HASH_LIB is the path of its file, or of
-the directory that has libgix_hash.so.
+library is beside this module or where the loader looks, or the environment variable GIX_HASH_LIB is the absolute path of its file,
+or of the directory that has libgix_hash.so.
 
 Bytes are taken from any object that has them one after the other, as bytes, a memoryview or an mmap, and are not copied. So
 nobody may change them during a call, in which other threads run, nor while a SortedDigests or a PackIndex has them. If the
@@ -175,10 +175,13 @@ def _path() -> str:
     """Where the library is. It is installed under the first two numbers of its version."""
     # (the second name is that of earlier versions)
     given = os.environ.get("GIX_HASH_LIB") or os.environ.get("GIX_HASH_LIBRARY")
-    beside = os.path.dirname(__file__)
+    beside = os.path.dirname(os.path.abspath(__file__))
     for path in (given, os.path.join(given or beside, "libgix_hash.so")):
-        if path and os.path.isfile(path):
-            return os.path.abspath(path)
+        if path and os.path.isabs(path) and os.path.isfile(path):
+            return path
+    # (the loader looks for a name without a slash, and not in the current directory, whose files others may have written)
+    if given and os.path.dirname(given) and not os.path.isabs(given):
+        raise OSError(f"{given}: not an absolute path")
     return given or f"libgix_hash.so.{__version__.rpartition('.')[0]}"
 
 
@@ -191,7 +194,7 @@ try:
     if _lib.gix_hash_version() // 100 != 100 * _high + _low:
         raise OSError(f"the version of the library is not {_high}.{_low}")
 except (OSError, AttributeError) as _error:
-    raise ImportError(f"{_error}: set GIX_HASH_LIB to the path of libgix_hash.so, or of its directory") from None
+    raise ImportError(f"{_error}: set GIX_HASH_LIB to the absolute path of libgix_hash.so, or of its directory") from None
 _Id, _Prefix, _Run, _Entry, _Hasher = (_TYPES[f"gix_hash_{it}"] for it in ("id", "prefix", "run", "entry", "hasher"))
 _CODES = frozenset(Code)
 

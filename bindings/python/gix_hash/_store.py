@@ -33,6 +33,7 @@ _READ, _PIPE = 1 << 18, 1 << 20
 _F_SETPIPE_SZ = 1031  # (fcntl has it from Python 3.10 on)
 _VARIABLES = {"GIT_DIR", "GIT_COMMON_DIR", "GIT_OBJECT_DIRECTORY", "GIT_ALTERNATE_OBJECT_DIRECTORIES"}
 _ESCAPES = {"n": "\n", "r": "\r"}
+_BESIDE = os.path.join(os.path.dirname(os.path.abspath(__file__)), "packtool")
 _are_lines = re.compile("(?:[0-9A-Fa-f]{2,64}\n)+").fullmatch
 
 
@@ -94,14 +95,20 @@ def _unescaped(line: str) -> str:
 
 
 def _program() -> str:
-    """The path of packtool: what the variable PACKTOOL names, or else what is beside this module, or else on the PATH."""
-    beside = os.path.join(os.path.dirname(os.path.abspath(__file__)), "packtool")
-    given = os.environ.get("PACKTOOL") or (beside if os.path.exists(beside) else "packtool")
-    path = os.path.abspath(shutil.which(given) or given)
+    """The absolute path of packtool: what the variable PACKTOOL names, or else what is beside this module, or else on the PATH. No
+    relative path is followed, since it would lead into the current directory, whose files others may have written."""
+    given = os.environ.get("PACKTOOL") or (_BESIDE if os.path.exists(_BESIDE) else "packtool")
+    path = given if os.path.dirname(given) else _on_path(given)
     wanted = __version__.rpartition(".")[0]
-    if not _version(path).startswith(f"packtool {wanted}."):
-        raise StoreError(f"{path if os.path.exists(path) else given}: no packtool {wanted} is there: set PACKTOOL to its path")
+    if not os.path.isabs(path) or not _version(path).startswith(f"packtool {wanted}."):
+        raise StoreError(f"{path or given}: no packtool {wanted} is there: set PACKTOOL to its absolute path")
     return path
+
+
+def _on_path(name: str) -> str:
+    """The path of a program in the directories of the PATH that are absolute, or an empty text."""
+    entries = [entry for entry in os.get_exec_path() if os.path.isabs(entry)]
+    return shutil.which(name, path=os.pathsep.join(entries)) or ""
 
 
 @functools.lru_cache(maxsize=None)

@@ -6,7 +6,7 @@ use std::ffi::OsString;
 use std::fs::{self, File, OpenOptions};
 use std::io::{self, BufRead, BufReader, Write};
 use std::os::unix::ffi::OsStringExt;
-use std::os::unix::fs::{FileExt, OpenOptionsExt};
+use std::os::unix::fs::{FileExt, OpenOptionsExt, PermissionsExt};
 use std::os::unix::process::{CommandExt, ExitStatusExt};
 use std::path::{Path, PathBuf};
 use std::process::{Child, ChildStdin, ChildStdout, Command, Stdio};
@@ -68,8 +68,9 @@ pub struct Location {
 /// abbreviated.
 ///
 /// It asks the program `packtool`, of the same first two numbers of the version: the one that the variable `PACKTOOL`
-/// names, or else that in the directory of the running program, or else on the `PATH`. Threads may share a store: of one
-/// kind of look-up one is done at a time. Objects that come after it was opened are found. A prefix has 2 digits or more.
+/// names, or else that in the directory of the running program, or else on the `PATH`. A relative path in either variable is
+/// not followed, so nothing of the current directory is run. Threads may share a store: of one kind of look-up one is done at
+/// a time. Objects that come after it was opened are found. A prefix has 2 digits or more.
 ///
 /// ```no_run
 /// # use nunbirdstand::Store;
@@ -79,7 +80,7 @@ pub struct Location {
 /// # Ok::<(), nunbirdstand::StoreError>(())
 /// ```
 pub struct Store {
-    program: OsString,
+    program: PathBuf,
     options: Vec<String>,
     directory: PathBuf,
     // Git's variables, as they were when the store was opened, and are for its processes.
@@ -483,21 +484,36 @@ fn unnamed_file() -> Result<File> {
     Ok(file)
 }
 
-// The path of `packtool`, of this crate's version.
-fn program() -> Result<OsString> {
-    let beside = env::current_exe().map(|path| path.with_file_name("packtool")).ok();
-    let other = || beside.filter(|path| path.exists()).map_or("packtool".into(), PathBuf::into_os_string);
-    let path = env::var_os("PACKTOOL").filter(|path| !path.is_empty()).unwrap_or_else(other);
-    let printed = Command::new(&path).arg("--version").stdin(Stdio::null()).stderr(Stdio::null()).output();
+// The absolute path of `packtool`, of this crate's version. No relative path is followed, since it would lead into the current
+// directory, whose files others may have written.
+fn program() -> Result<PathBuf> {
+    let beside = || env::current_exe().map(|path| path.with_file_name("packtool")).ok();
+    let named = env::var_os("PACKTOOL").filter(|path| !path.is_empty()).map(PathBuf::from);
+    let given = named.or_else(|| beside().filter(|path| path.exists())).unwrap_or("packtool".into());
+    let path =
+        if given.file_name() == Some(given.as_os_str()) { on_path(&given) } else { Some(given.clone()) };
     let version = concat!(env!("CARGO_PKG_VERSION_MAJOR"), ".", env!("CARGO_PKG_VERSION_MINOR"));
-    if printed.map_or(false, |it| it.stdout.starts_with(format!("packtool {version}.").as_bytes())) {
-        // (the processes begin in another directory)
-        let is_path = Path::new(&path).components().count() > 1;
-        return Ok(if is_path { fs::canonicalize(&path)?.into() } else { path });
+    if let Some(path) = path.filter(|path| path.is_absolute()) {
+        let printed =
+            Command::new(&path).arg("--version").stdin(Stdio::null()).stderr(Stdio::null()).output();
+        if printed.map_or(false, |it| it.stdout.starts_with(format!("packtool {version}.").as_bytes())) {
+            return Ok(path);
+        }
     }
     let text =
-        format!("{}: no packtool {version} is there: set PACKTOOL to its path", path.to_string_lossy());
+        format!("{}: no packtool {version} is there: set PACKTOOL to its absolute path", given.display());
     Err(io::Error::new(io::ErrorKind::NotFound, text).into())
+}
+
+// The path of a program in the directories of the `PATH` that are absolute. (`Command` would also look in others.)
+fn on_path(name: &Path) -> Option<PathBuf> {
+    let is_program = |path: &PathBuf| {
+        fs::metadata(path).map_or(false, |it| it.is_file() && it.permissions().mode() & 0o111 != 0)
+    };
+    let entries = env::var_os("PATH").unwrap_or("/bin:/usr/bin".into());
+    env::split_paths(&entries)
+        .map(|entry| entry.join(name))
+        .find(|path| path.is_absolute() && is_program(path))
 }
 
 fn named(path: &Path, error: &io::Error) -> io::Error {

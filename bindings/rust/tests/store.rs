@@ -2,10 +2,12 @@
 
 use nunbirdstand::{Code, Id, Kind, Location, Prefix, Store, StoreError};
 use std::collections::BTreeMap;
+use std::env;
 use std::ffi::{OsStr, OsString};
-use std::fs;
+use std::fs::{self, Permissions};
 use std::io::Write;
 use std::os::unix::ffi::{OsStrExt, OsStringExt};
+use std::os::unix::fs::{symlink, PermissionsExt};
 use std::path::{Path, PathBuf};
 use std::process::{Command, Stdio};
 use std::sync::atomic::{AtomicBool, AtomicUsize, Ordering};
@@ -14,7 +16,7 @@ use std::thread;
 /// What git prints in a directory for some input. The user's own variables and configuration do not reach it.
 fn git(directory: &Path, words: &[&OsStr], input: &str) -> String {
     let mut git = Command::new("git");
-    git.env_clear().env("PATH", std::env::var_os("PATH").unwrap());
+    git.env_clear().env("PATH", env::var_os("PATH").unwrap());
     git.envs([("GIT_CONFIG_GLOBAL", "/dev/null"), ("GIT_CONFIG_NOSYSTEM", "1")]);
     git.current_dir(directory).args(words).stdin(Stdio::piped()).stdout(Stdio::piped());
     let mut child = git.spawn().unwrap();
@@ -49,6 +51,46 @@ fn made(name: impl AsRef<OsStr>, kind: Kind, packs: usize) -> (PathBuf, Vec<Id>)
 
 fn beginning_with(ids: &[Id], prefix: &Prefix) -> Vec<Id> {
     ids.iter().filter(|id| prefix.cmp_id(id) == Some(std::cmp::Ordering::Equal)).copied().collect()
+}
+
+/// Writes a program in sh.
+fn script(path: &Path, text: &str) {
+    fs::create_dir_all(path.parent().unwrap()).unwrap();
+    fs::write(path, format!("#!/bin/sh\n{text}\n")).unwrap();
+    fs::set_permissions(path, Permissions::from_mode(0o755)).unwrap();
+}
+
+/// What the store of a path, or without one that of the surroundings, has for a process of its own in a directory and with
+/// variables: its ids, or the error.
+fn found_by_another(
+    directory: &Path,
+    path: Option<&Path>,
+    variables: &[(&str, &OsStr)],
+) -> Result<Vec<Id>, String> {
+    let mut test = Command::new(env::current_exe().unwrap());
+    test.args(["--exact", "is_another", "--include-ignored", "--nocapture"]).current_dir(directory);
+    let output = test.env("IS_ANOTHER", path.unwrap_or(Path::new(""))).envs(variables.to_vec()).output();
+    let printed = String::from_utf8(output.unwrap().stdout).unwrap();
+    let said = |word: &'static str| printed.lines().filter_map(move |line| line.strip_prefix(word));
+    match said("error: ").next() {
+        Some(error) => Err(error.to_owned()),
+        None if printed.contains("\nall ids\n") => Ok(said("id: ").map(|id| id.parse().unwrap()).collect()),
+        None => panic!("{printed}"),
+    }
+}
+
+/// The process of `found_by_another`.
+#[test]
+#[ignore = "needs packtool"]
+fn is_another() {
+    let Some(path) = env::var_os("IS_ANOTHER") else { return };
+    let store = if path.is_empty() { Store::from_env(None) } else { Store::open(path, None) };
+    println!();
+    match store.and_then(|store| store.names(4)?.collect::<Result<Vec<_>, _>>()) {
+        Ok(names) => names.iter().for_each(|(_, id)| println!("id: {id}")),
+        Err(error) => println!("error: {error}"),
+    }
+    println!("all ids");
 }
 
 fn prefix(text: &str) -> Prefix {
@@ -239,4 +281,39 @@ fn skipped_and_failed() {
     }
     fs::write(path.join("config"), "[core]\n\trepositoryformatversion = 9\n").unwrap();
     assert!(matches!(Store::open(&path, None), Err(StoreError::Failed(text)) if text.contains("config: ")));
+}
+
+/// What is in the current directory or in the repository is not run, whatever the variables have beside it.
+#[test]
+#[ignore = "needs packtool"]
+fn programs_of_others() {
+    let (path, ids) = made("others", Kind::Sha1, 1);
+    let program = fs::canonicalize(env::var_os("PACKTOOL").unwrap()).unwrap();
+    let (mark, folder) = (path.join("mark"), path.with_file_name("others bin"));
+    for name in ["packtool", "bin/packtool"] {
+        let text = format!(": > '{}'\nexec '{}' \"$@\"", mark.display(), program.display());
+        script(&path.join(name), &text);
+    }
+    let _ = fs::remove_dir_all(&folder);
+    fs::create_dir(&folder).unwrap();
+    symlink(&program, folder.join("packtool")).unwrap();
+    let (other, relative) = (path.parent().unwrap(), ["./packtool", "bin/packtool", "others/packtool"]);
+    for paths in ["/nowhere", "", ":", ":/nowhere", "/nowhere:", ".", "bin", "./bin/", "others/bin"] {
+        for (directory, given) in
+            [&*path, other].iter().flat_map(|it| ["", "packtool"].map(|given| (it, given)))
+        {
+            let variables = [("PACKTOOL", OsStr::new(given)), ("PATH", OsStr::new(paths))];
+            let error = found_by_another(directory, Some(&path), &variables).unwrap_err();
+            assert!(error.contains("no packtool"), "{error}");
+        }
+        // (it goes on behind what is left out)
+        let paths = format!("{paths}:{}", folder.display());
+        let variables = [("PACKTOOL", OsStr::new("")), ("PATH", OsStr::new(&paths))];
+        assert_eq!(found_by_another(&path, Some(&path), &variables).unwrap(), ids);
+    }
+    for (directory, given) in [&*path, other].iter().flat_map(|it| relative.map(|given| (it, given))) {
+        let error = found_by_another(directory, Some(&path), &[("PACKTOOL", OsStr::new(given))]).unwrap_err();
+        assert!(error.contains("set PACKTOOL to its absolute path"), "{error}");
+    }
+    assert!(!mark.exists());
 }
