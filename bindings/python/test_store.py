@@ -4,6 +4,7 @@ It runs in this repository, by what tools/gitstore.py says of stores. The variab
 """
 
 import contextlib
+import errno
 import gc
 import os
 import pathlib
@@ -512,13 +513,16 @@ class Stores(unittest.TestCase):
     def test_no_store(self):
         bare, ids = self.blobs("bare", "sha256", packed=50, loose=5)
         (self.room / "none").mkdir()
-        for path, error, text in [
-            (self.room / "none", StoreError, "repository"), (self.room / "nowhere", FileNotFoundError, "nowhere"),
-            (bare / "HEAD", NotADirectoryError, "HEAD"), (b"/nowhere", FileNotFoundError, "nowhere"), ("a\0b", ValueError, "null"),
-            (3, TypeError, "int"), (["a"], TypeError, "list"),
+        for path, error, text, number in [
+            (self.room / "none", StoreError, f"^{self.room}/none: no git repository", None),
+            (self.room / "nowhere", StoreError, "directory: '.*/nowhere'$", errno.ENOENT),
+            (bare / "HEAD", StoreError, "HEAD'$", errno.ENOTDIR), (b"/nowhere", StoreError, "'/nowhere'$", errno.ENOENT),
+            ("a\0b", ValueError, "null", None), (3, TypeError, "int", None), (["a"], TypeError, "list", None),
         ]:  # fmt: skip
-            with self.assertRaisesRegex(error, text):
+            with self.assertRaisesRegex(error, text) as raised:
                 Store(path)
+            self.assertEqual(getattr(raised.exception, "errno", None), number)
+            self.assertTrue(raised.exception.__suppress_context__ or raised.exception.__context__ is None)
         for kind, error in (True, TypeError), ("md5", ValueError), (3, ValueError), (0, ValueError):
             self.assertRaises(error, Store, bare, kind)
         self.assertEqual(children(), [])
@@ -527,6 +531,19 @@ class Stores(unittest.TestCase):
         with self.assertRaisesRegex(StoreError, "config: "):
             Store(bare)
         self.assertEqual([str(id) for id in self.opened(self.blobs("own", "sha1", packed=9, loose=1)[0], 1)], listed(self.room / "own"))
+
+    def test_gone(self):
+        """A repository that is gone is a StoreError each time, and found again if it comes back."""
+        bare, ids = self.blobs(packed=50, loose=5)
+        store = self.opened(bare)
+        bare.rename(self.room / "away")
+        calls = [store.find, store.locate, lambda it: store.abbreviate(Id(it)), lambda it: next(store.find_many([it])), lambda _: next(store.names())]
+        for call in calls * 2:
+            with self.assertRaisesRegex(StoreError, str(bare)) as raised:
+                call(ids[0])
+            self.assertTrue(raised.exception.__suppress_context__ or raised.exception.__context__ is None)
+        (self.room / "away").rename(bare)
+        self.assertEqual(store.find(ids[0]), [Id(ids[0])])
 
     def test_hostile_calls(self):
         bare, ids = self.blobs(packed=50, loose=5)

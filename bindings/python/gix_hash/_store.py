@@ -38,7 +38,8 @@ _are_lines = re.compile("(?:[0-9A-Fa-f]{2,64}\n)+").fullmatch
 
 
 class StoreError(OSError):
-    """A store cannot be read, or packtool cannot be run: the last line that it said, or why."""
+    """A store cannot be read, or packtool cannot be run: the last line that it said, or why. If the directory is not there, or the
+    system fails, it has the errno."""
 
 
 class Missing(KeyError):
@@ -292,6 +293,7 @@ class Store(contextlib.AbstractContextManager["Store"]):
         self._closed, self._program = False, _program()
         self._options = [] if kind is None else ["--kind", str(_kind(kind))]
         self._directory = os.path.abspath(os.fsdecode("." if path is None else path))
+        self._name = os.fsencode(self._directory).decode("utf-8", "replace")
         self._environment = {name: text for name, text in os.environ.items() if path is None or name not in _VARIABLES}
         self._skipped: Dict[str, object] = {}
         self._running: Set[_Process] = set()
@@ -329,7 +331,10 @@ class Store(contextlib.AbstractContextManager["Store"]):
     def _begin(self, *words: str, is_bulk: bool) -> _Process:
         if self._closed:
             raise ValueError("the store is closed")
-        process = _Process(self._program, [*words, *self._options], self._directory, self._environment, is_bulk)
+        try:
+            process = _Process(self._program, [*words, *self._options], self._directory, self._environment, is_bulk)
+        except OSError as error:
+            raise StoreError(error.errno, error.strerror, error.filename) from None
         self._running.add(process)
         if self._closed:  # (by another thread, which may not have seen it)
             self._end(process)
@@ -347,7 +352,8 @@ class Store(contextlib.AbstractContextManager["Store"]):
         said = process.messages()
         # (setdefault is one step, so only one thread has a text for new)
         new = [text for text in said if text.endswith(", skipped") and self._skipped.setdefault(text, said) is said]
-        wrong = [text for text in said if not text.endswith(", skipped")]
+        # (where it says no path, the whole store is meant)
+        wrong = [text if text[:1] == "/" else f"{self._name}: {text}" for text in said if not text.endswith(", skipped")]
         if has_ended and not wrong and (failure := process.failure()):
             wrong.append(failure)
         if wrong:
@@ -356,12 +362,10 @@ class Store(contextlib.AbstractContextManager["Store"]):
 
     def _receive(self, process: _Process) -> Tuple[str, List[str]]:
         """The next reply of a process, and what it has skipped."""
-        try:
-            reply = process.receive()
-        except EOFError:
-            self._new_skips(process, has_ended=True)
-            raise StoreError("packtool ended") from None
-        return reply, self._new_skips(process)
+        with contextlib.suppress(EOFError):
+            return process.receive(), self._new_skips(process)
+        self._new_skips(process, has_ended=True)
+        raise StoreError("packtool ended")
 
     def _ask(self, command: str, line: str) -> List[str]:
         """The lines that a command prints for a line."""
