@@ -6,6 +6,8 @@ It runs in this repository, by what tools/gitstore.py says of stores. The variab
 import contextlib
 import errno
 import gc
+import hashlib
+import itertools
 import os
 import pathlib
 import pickle
@@ -27,7 +29,9 @@ TOOLS = pathlib.Path(__file__).resolve().parents[2] / "tools"
 os.environ.setdefault("GIX_HASH_LIB", str(TOOLS.parent / "out" / "libgix_hash.so"))
 os.environ.setdefault("PACKTOOL", str(TOOLS.parent / "crates" / "packtool" / "out" / "packtool"))
 sys.path.insert(0, str(TOOLS))
-from gitstore import add_blobs, beginning_with, keep, listed, make_blobs, move, places, shortest, some_prefixes, unpack  # noqa: E402
+from gitstore import (  # noqa: E402
+    add_blobs, add_pack, add_repository, beginning_with, keep, listed, make_blobs, move, pack_index, places, shortest, some_prefixes, unpack,
+)  # fmt: skip
 from probe import git  # noqa: E402
 
 from gix_hash import (  # noqa: E402
@@ -189,6 +193,47 @@ class Stores(unittest.TestCase):
             self.assertEqual((store.find(id[:9]), store.locate(id)[0].offset), ([Id(id)], None))
             self.assertEqual(os.stat(store.locate(Prefix(id))[0].path).st_nlink, 1)
 
+    def test_asked_before(self):
+        """A prefix is asked before and after an object comes, another one, and a pack of both."""
+        bare, ids = self.blobs(packed=300, loose=20)
+        store, texts = self.opened(bare), {}
+        for number in itertools.count():
+            text = f"new {number}"
+            id = hashlib.sha1(f"blob {len(text)}\0{text}".encode()).hexdigest()
+            if id[:4] in texts:
+                break
+            if not beginning_with(ids, id[:4]):
+                texts[id[:4]] = text, id
+        (other, first), prefix = texts[id[:4]], id[:4]
+        for change in (
+            lambda: None, lambda: add_blobs(bare, [other]), lambda: add_blobs(bare, [text]),
+            lambda: git(bare, "repack", "-adkq"),
+        ):  # fmt: skip
+            change()
+            ids = listed(bare)
+            names, wanted = dict(line.split()[::-1] for line in shortest(ids).splitlines()), beginning_with(ids, prefix)
+            for _ in range(2):
+                found = [Id(id) for id in wanted]
+                self.assertEqual((store.find(prefix), list(store.find_many([prefix]))), (found, [(prefix, found)]))
+                lines = [f"{it.id} {it.path}{'' if it.offset is None else f' {it.offset}'}\n" for it in store.locate(prefix)]
+                self.assertEqual("".join(lines), places(bare / "objects", wanted) if wanted else "")
+                self.assertEqual([Id(each) in store for each in (first, id)], [each in wanted for each in (first, id)])
+                for each in first, id:
+                    with contextlib.nullcontext() if each in wanted else self.assertRaises(Missing):
+                        self.assertEqual(store.abbreviate(Id(each)), names.get(each))
+                with contextlib.nullcontext() if len(wanted) == 1 else self.assertRaises(Ambiguous if wanted else Missing):
+                    self.assertEqual(store.resolve(prefix), found[0])
+                self.assertEqual([str(id) for id in store], ids)
+        self.assertEqual(len(wanted), 2)
+
+    def test_offsets(self):
+        offsets = [12, 2**31 - 1, 2**31, 2**32 + 5, 2**63 - 1]
+        rows = [(offset, f"{at:02}" * 20, 0) for at, offset in enumerate(offsets)]
+        add_repository(self.room / "store")
+        add_pack(self.room / "store" / "objects", "pack-1", pack_index(rows))
+        store, pack = self.opened(self.room / "store"), str(self.room / "store" / "objects" / "pack" / "pack-1.pack")
+        self.assertEqual([store.locate(id) for _, id, _ in rows], [[Location(Id(id), pack, offset)] for offset, id, _ in rows])
+
     def test_threads(self):
         bare, ids = self.blobs(packed=500, loose=50)
         store, wrong = self.opened(bare), []
@@ -300,7 +345,7 @@ class Stores(unittest.TestCase):
             except Alarm:
                 rung += 1
         self.assertTrue(rung > 20 and all(within), (rung, within))
-        gc.collect()
+        self.assertLessEqual(len(left(2)), 2)
 
     def test_close(self):
         bare, ids = self.blobs(packed=500, loose=50)
@@ -336,7 +381,7 @@ class Stores(unittest.TestCase):
             self.assertEqual((children(), len(os.listdir("/proc/self/fd"))), ([], files), how)
         with Store(bare) as store:
             self.assertEqual(store.find(ids[0]), [Id(ids[0])])
-        store.close()
+        self.assertEqual((children(), len(os.listdir("/proc/self/fd"))), ([], files))
         for call in (store.find, store.resolve, store.locate, lambda it: store.abbreviate(Id(it)), lambda it: Id(it) in store):
             self.assertRaisesRegex(ValueError, "^the store is closed$", call, ids[0])
         for iterator in (store.names(), store.find_many(ids), iter(store)):
@@ -347,21 +392,25 @@ class Stores(unittest.TestCase):
         bare, ids = self.blobs(packed=500, loose=50)
         store, id = self.opened(bare), Id(ids[3])
         many = store.find_many(ids * 100)
-        next(many)
+        next(many), store.find(id)
+        running, names = children(), store.names()
+        next(names)
 
         def use():
             for _ in range(9):
                 if store.find(id) != [id] or store.abbreviate(id) not in ids[3] or list(store.find_many([id])) != [(id, [id])]:
                     return False
-            try:
-                return len(list(many)) < 0
-            except StoreError as error:
-                return "fork" in str(error)
-            finally:
-                store.close()
+            for begun_before in many, names:
+                try:
+                    return len(list(begun_before)) < 0
+                except StoreError as error:
+                    if "fork" not in str(error):
+                        return False
+            return store.close() is None
 
         self.assertEqual([forked(use), forked(lambda: store.close() is None)], [0, 0])
-        self.assertEqual((store.find(id), len(list(many))), ([id], 100 * len(ids) - 1))
+        self.assertLessEqual({*running}, {*children()})
+        self.assertEqual((store.find(id), len(list(many)), len(list(names))), ([id], 100 * len(ids) - 1, len(ids) - 1))
         is_over, wrong = threading.Event(), []
 
         def ask():
@@ -370,8 +419,8 @@ class Stores(unittest.TestCase):
                     wrong.append(id)
 
         threads = [begun(ask) for _ in range(3)]
-        many = store.find_many(ids * 100)
-        next(many)
+        many, names = store.find_many(ids * 100), store.names()
+        next(many), next(names)
         statuses = [forked(use if at % 2 else lambda: store.close() is None) for at in range(20)]
         is_over.set()
         for thread in threads:
@@ -397,6 +446,11 @@ class Stores(unittest.TestCase):
                 self.assertEqual([os.fsencode(place.path) for place in places if not os.path.isabs(place.path)], [])
                 self.assertEqual((len(packs), len(loose), places[0]), (1, 5, Location(*places[0])))
                 store.close()
+            (folder / "config").write_text("[core]\n\trepositoryformatversion = 9\n")
+            with self.assertRaises(StoreError) as raised:
+                Store(path)
+            shown = path.decode("utf-8", "replace")
+            self.assertRegex(str(raised.exception), rf"^{re.escape(shown)}(: \.)?/config: ")
 
     def test_damaged_offset(self):
         folder, index, ids = self.room / "damaged.git", None, []
@@ -465,6 +519,22 @@ class Stores(unittest.TestCase):
         os.environ["GIT_ALTERNATE_OBJECT_DIRECTORIES"] = str(other / "objects")
         self.assertEqual([str(id) for id in self.opened()], sorted({*ids, *others}))
         self.assertEqual([str(id) for id in self.opened(one)], ids)
+
+    def test_interrupted(self):
+        """Ctrl-C, which all processes of a terminal's group get, ends nothing that runs for a store."""
+        bare, ids = self.blobs(packed=50, loose=5)
+
+        def use():
+            os.setsid()
+            signal.signal(signal.SIGINT, lambda *_: None)
+            with Store(bare) as store:
+                many, running = store.find_many(ids * 1000), children()
+                next(many)
+                os.killpg(0, signal.SIGINT)
+                time.sleep(0.1)
+                return store.find(ids[0]) == [Id(ids[0])] and len(list(many)) == 1000 * len(ids) - 1 and {*running} <= {*children()}
+
+        self.assertEqual(forked(use), 0)
 
     def test_programs(self):
         bare, ids = self.blobs(packed=50, loose=5)
