@@ -65,7 +65,7 @@ struct Asked<'r> {
     least: usize,
     // The store in which it was asked last.
     kept: Option<FolderStore<HostRuntime>>,
-    // What was reported of what is skipped.
+    // What was reported of what is skipped, sorted.
     reported: Vec<String>,
     ghost enough: { 4 ≤ least },
     ghost fits: { least ≤ hex_len_of folder.now.kind },
@@ -327,7 +327,8 @@ fn loose_of(prefixes: &[Prefix]) -> LooseIds
     }
 }
 
-// Prints what was skipped, unless it is reported already, and returns whether nothing was.
+// Prints what was skipped, unless it is reported already, and returns whether nothing was. What is
+// reported is sorted.
 fn report_skipped(
     rt: &HostRuntime,
     skipped: &[Error],
@@ -337,9 +338,9 @@ fn report_skipped(
 {
     for error in skipped {
         let text = format!(in rt.alloc(); "{error}")?;
-        if !reported.contains(&text) {
+        if let Err(at) = reported.binary_search(&text) {
             report(rt, error, skipped_mark(error));
-            reported.push(text)?;
+            reported.insert(at, text)?;
         }
     }
     Ok(skipped.is_empty())
