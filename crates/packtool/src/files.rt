@@ -19,7 +19,7 @@ use packtool_commands::{
     FileError, Pairing, open_index, pair, show as show_input, write_ending, write_named,
     write_pairing,
 };
-use repositories::metadata;
+use repositories::{metadata, retried};
 use std::alloc::{AllocError, Global};
 use std::fs::File;
 use std::io::{self, Cursor, Read, Seek, SeekFrom};
@@ -240,7 +240,7 @@ fn verdict_of_index<'a>(
     let Some((pack_path, pack)) = pack_beside(rt, path)? else {
         return Ok(Verdict::Alone);
     };
-    match pair(&index, &pack) {
+    match retried(|| pair(&index, &pack)) {
         Ok(pairing) => Ok(Verdict::Paired(pairing)),
         Err(error) => Err(failure(rt, &pack_path, FileWhy::Read(error))),
     }
