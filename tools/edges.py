@@ -9,6 +9,7 @@ import fcntl
 import itertools
 import os
 import random
+import struct
 import subprocess
 from pathlib import Path
 
@@ -496,6 +497,65 @@ def chained(room):
         yield finds(f"alternates of alternates, ${name}", ids[:deep], errors=errors, cwd=room / "bare", env=env)
 
 
+def many_alternates(room):
+    """Alternates of which the paths of some begin those of others, in both orders, in a list and in the environment."""
+    bare, ids = room / "bare", [f"4b{number:038x}" for number in range(300)]
+    add_repository(bare)
+    for number, id in enumerate(ids):
+        add_objects(room / str(number), [id])
+    wanted = "".join(f"{id}\n" for id in ids), "", 0
+    for order in ("first", "last"):
+        paths = [f"{room}/{number}" for number in range(len(ids))][:: 1 if order == "first" else -1]
+        write(bare / "objects" / "info" / "alternates", "\n".join(paths).encode())
+        yield f"{len(ids)} alternates, the {order} one first", wanted, ("find", "4b"), {"cwd": bare}
+        (bare / "objects" / "info" / "alternates").unlink()
+        env = {"GIT_ALTERNATE_OBJECT_DIRECTORIES": ":".join(paths)}
+        yield f"{len(ids)} alternates of the environment, the {order} one first", wanted, ("find", "4b"), {"cwd": bare, "env": env}
+
+
+def many_names(room):
+    """A fan-out directory with more than a mebibyte of names, of which some are ids, and a directory of many packs; and more ids with
+    one first byte than are held at a time for several lines, of which the first or the last finds nothing."""
+    write(room / "file")
+    folder, ids = f"{room}/loose/4b", [f"4b{number:038x}" for number in range(5000)]
+    os.makedirs(folder)
+    for id in ids:
+        for name in (id[2:], id.ljust(250, "x")):
+            os.link(room / "file", f"{folder}/{name}")
+    yield f"{len(ids)} loose objects", ("".join(f"{id}\n" for id in ids), "", 0), ("find", "4b", "--objects", "loose"), {"cwd": room}
+    folder, names = f"{room}/packs/pack", [f"pack-{number:04}" for number in range(5000)]
+    add_pack(room / "packs", names[0], plain_index([made.BOTH]))
+    for name, end in itertools.product(names[1:], (".idx", ".pack")):
+        os.link(f"{folder}/{names[0]}{end}", f"{folder}/{name}{end}")
+    lines = "".join(f"{made.BOTH} packs/pack/{name}.pack 3072\n" for name in names)
+    yield f"{len(names)} packs", (lines, "", 0), ("where", "4b", "--objects", "packs"), {"cwd": room}
+    ids = sorted({f"4b{id[2:]}" for id in sorted_ids(100_000, [20])})
+    add_pack(room / "index", "pack-0", index_of(ids))
+    yield f"find of {len(ids)} ids", ("".join(f"{id}\n" for id in ids), "", 0), ("find", "4b", "--objects", "index"), {"cwd": room}
+    found = {"ff": "ff missing\n", "4b": "".join(f"4b {id}\n" for id in ids)}
+    for asked in (["ff", "4b"], ["4b", "ff"]):
+        how = {"cwd": room, "given": "".join(f"{prefix}\n" for prefix in asked).encode()}
+        wanted = "".join(found[prefix] for prefix in asked), "", 1
+        yield f"find --stdin of {' and '.join(asked)}", wanted, ("find", "--stdin", "--objects", "index"), how
+
+
+def long_index(room):
+    """A pack index with ids and offsets beyond 16 MiB: what is at its beginning and at its end."""
+    size, step = 900_000, 1 << 12
+    names = b"".join(number.to_bytes(4, "big") + bytes(16) for number in range(0, size * step, step))
+    counts = struct.pack(">256I", *(min(size, (byte + 1) * step) for byte in range(256)))
+    offsets = struct.pack(f">{size}I", *range(12, 12 + size))
+    add_pack(room / "objects", "pack-0", sealed(b"".join([b"\xfftOc\0\0\0\2", counts, names, bytes(4 * size), offsets, bytes(20)])))
+    last = (size - 1) // step
+    for byte in (0, last):
+        places = [(f"{number * step:08x}{'0' * 32}", 12 + number) for number in range(byte * step, min(size, (byte + 1) * step))]
+        prefix, how = f"{byte:02x}", {"cwd": room}
+        wanted = "".join(f"{id}\n" for id, _ in places), "", 0
+        yield f"find {prefix} in an index of 24 MiB", wanted, ("find", prefix, "--objects", "objects"), how
+        wanted = "".join(f"{id} objects/pack/pack-0.pack {offset}\n" for id, offset in places), "", 0
+        yield f"where {prefix} in an index of 24 MiB", wanted, ("where", prefix, "--objects", "objects"), how
+
+
 def lent(room):
     """The locations of an object in a store and its alternates, in their order and as their paths are printed."""
     main, quoted, third = (room / name / "objects" for name in ("main", 'a "b"', "third"))
@@ -666,5 +726,6 @@ def statuses(program, room):
 
 CASES = [endings, many_files, long_files, cut, long_offsets, packs_beside, names_in_errors, names_of_files, counts, last_lines, skipped]
 CASES += [much_found, damaged_asked, by_links, no_stores, files_in_each_way, links_to_nothing, links]
-CASES += [faulty, later_configs, chained, lent, odd_lines, long_texts, environments]
+CASES += [many_names, long_index]
+CASES += [faulty, later_configs, chained, many_alternates, lent, odd_lines, long_texts, environments]
 TALKS = [exchanges, statuses]
