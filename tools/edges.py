@@ -33,6 +33,8 @@ NO_DIGEST = "SKIPPED: it has no digest"
 MANY_FILES = 66_000
 # More lines than are looked up at once, and how long all answers to an input may take, in seconds.
 MANY_LINES, PATIENCE = 20_000, 60
+# How many seconds of a processor a run may take that would take several times as many if each of its items were compared with all.
+SECONDS = 2
 # How many bytes a read of standard input takes at most: at first, after one that got as many, and then.
 READS = [1 << 14, 1 << 16, 1 << 18]
 # Lines of a list of alternates, and why each is skipped, if it is an alternate that cannot be used.
@@ -513,6 +515,26 @@ def many_alternates(room):
         yield f"{len(ids)} alternates of the environment, the {order} one first", wanted, ("find", "4b"), {"cwd": bare, "env": env}
 
 
+def missing_alternates(room):
+    """Many alternates that are missing: each is said once, in a time that does not grow with the square of their number."""
+    add_repository(room, loose=[made.LOOSE])
+    names = [f"{number:05}" for number in range(40_000)]
+    write(room / "objects" / "info" / "alternates", "".join(f"{room}/{name}\n" for name in [*names, *names[:9]]).encode())
+    errors = "".join(error_of(f"{room}/{name}: {NO_FILE}, skipped") for name in names)
+    how = {"cwd": room, "limits": [f"--cpu={SECONDS}"]}
+    yield f"{len(names)} missing alternates in {SECONDS} s", (f"{made.LOOSE}\n", errors, 2), ("find", "4b"), how
+
+
+def equal_beginnings(room):
+    """Abbreviations of ids of which all begin with the same six digits, in a time that does not grow with the square of their number."""
+    ids = sorted({f"4b825d{id[6:]}" for id in sorted_ids(20_000, [20])})
+    add_pack(room / "objects", "pack-0", index_of(ids))
+    names = [line.split() for line in shortest(ids).splitlines()][::5]
+    how = {"cwd": room, "given": "".join(f"{id}\n" for _, id in names).encode(), "limits": [f"--cpu={SECONDS}"]}
+    wanted = "".join(f"{name}\n" for name, _ in names), "", 0
+    yield f"names --stdin of {len(names)} ids in {SECONDS} s", wanted, ("names", "--stdin", "--objects", "objects"), how
+
+
 def many_names(room):
     """A fan-out directory with more than a mebibyte of names, of which some are ids, and a directory of many packs; and more ids with
     one first byte than are held at a time for several lines, of which the first or the last finds nothing."""
@@ -726,6 +748,6 @@ def statuses(program, room):
 
 CASES = [endings, many_files, long_files, cut, long_offsets, packs_beside, names_in_errors, names_of_files, counts, last_lines, skipped]
 CASES += [much_found, damaged_asked, by_links, no_stores, files_in_each_way, links_to_nothing, links]
-CASES += [many_names, long_index]
+CASES += [many_names, long_index, equal_beginnings, missing_alternates]
 CASES += [faulty, later_configs, chained, many_alternates, lent, odd_lines, long_texts, environments]
 TALKS = [exchanges, statuses]
