@@ -55,6 +55,7 @@ ODD_LINES = [
     (b'"x', f'{{objects}}/"x: {NO_FILE}'),
     (b" ", f"{{objects}}/ : {NO_FILE}"),
     (b"\r", f"{{objects}}/: {RETURN}"),
+    (b"~/x", f"{{objects}}/~/x: {NO_FILE}"),
     (b"{room}/none", f"{{room}}/none: {NO_FILE}"),
     (b"{room}/none\r", f"{{room}}/none: {RETURN}"),
     (b"{room}/file", "{room}/file: not a directory"),
@@ -281,6 +282,19 @@ def last_lines(room):
             yield name, wanted, ("find", "--stdin"), {"cwd": room / kind, "given": (before + line + end).encode()}
 
 
+def prefixes(room):
+    """A prefix of each length, of an id and with another last digit; and texts that are no prefixes."""
+    for kind, digits in DIGITS.items():
+        id = made.IDS[kind]
+        add_repository(room / kind, kind, [id])
+        for size, last in itertools.product(range(2, digits + 1), "0f"):
+            text = f"{id[: size - 1]}{last}"
+            wanted = (f"{id}\n", "", 0) if id.startswith(text) else ("", "", 1)
+            yield f"find of {size} digits of {kind}, the last {last}", wanted, ("find", text), {"cwd": room / kind}
+        for text in (" 4b", "4b ", "\t4b", "4b\v", "0x4b", "+4b", "4b_0", "", "4", "4g", f"{id}0", "\N{FULLWIDTH DIGIT FOUR}b"):
+            yield fails(f"find of {text!r} in {kind}", f"{text}: not 2 to {digits} hex digits", "find", "--", text, cwd=room / kind)
+
+
 def skipped(room):
     """Up to three things that are skipped, each said once for many lines, and no line is lost."""
     objects, errors = room / "objects", ""
@@ -379,7 +393,7 @@ def no_stores(room):
     for path in ("locked/objects/pack/none", "list/info/alternates/none", "config_folder/objects/pack/none", "config_folder/config/none"):
         write(room / path)
     add_repository(room / "r" / ".git", "sha256")
-    for path in ("r/.git/objects/pack/none", "two/objects/pack/none", "two/.git/objects/pack/none", "only_0a/0a/none", "only_f0/f0/none", "only_info/info/alternates"):
+    for path in ("r/.git/objects/pack/none", "two/objects/pack/none", "two/.git/objects/pack/none", "only_00/00/none", "only_f0/f0/none", "only_ff/ff/none", "only_info/info/alternates"):
         write(room / path)
     for name in ("pack", "4b", "00", "ff", "info"):
         write(room / f"file_{name}" / name)
@@ -389,7 +403,7 @@ def no_stores(room):
         yield fails(f"--objects {name}", f"{path}: {why}", "names", "--objects", name, cwd=room)
     for name, better in (("r", "r/.git/objects"), ("r/.git", "r/.git/objects"), ("two", "two/objects")):
         yield fails(f"--objects {name}", f"{name}: no object store: try {better}", "names", "--objects", name, cwd=room)
-    for name in ("only_0a", "only_f0", "only_info", "r/.git/objects"):
+    for name in ("only_00", "only_f0", "only_ff", "only_info", "r/.git/objects"):
         yield f"--objects {name}", ("", "", 1), ("names", "--objects", name), {"cwd": room}
     yield fails("--objects beside a folder", f"config_folder/objects/../config: {IS_FOLDER}", "names", "--objects", "config_folder/objects", cwd=room)
     for name, path in (("file_22", "file_22/22"), ("file_pack", "file_pack/pack")):
@@ -430,6 +444,11 @@ def files_in_each_way(room):
                 yield finds(title, [id], **how)
                 continue
             yield fails(title, f"{folder}/{name}: {why}", "names", around=POWERLESS if way == "locked" else (), **how)
+    folder = room / "locked info"
+    add_repository(folder, loose=[id])
+    (folder / "objects" / "info").chmod(0)
+    yield fails("info: locked", f"{folder}/objects/info/alternates: {LOCKED}", "names", around=POWERLESS, cwd=folder)
+    (folder / "objects" / "info").chmod(0o700)
 
 
 def links_to_nothing(room):
@@ -446,6 +465,39 @@ def links_to_nothing(room):
         if size > 2:
             wanted = f"{made.LOOSE} objects/4b/{made.LOOSE[2:]}\n", "", 0
             yield f"where of {size} digits beside it", wanted, ("where", made.LOOSE[:size], "--objects", "objects"), {"cwd": room}
+
+
+def links_among_others(room):
+    """Links to nothing among many loose objects, in an object directory whose alternate has the object, and after many lines; and links
+    that lead to what may not be looked at, and a directory whose files may not be."""
+    ids = [f"4b{number:038x}" for number in range(300)]
+    for at in (0, 1, 299):
+        add_objects(room / f"link{at}", ids[:at] + ids[at + 1 :])
+        path = f"link{at}/4b/{ids[at][2:]}"
+        (room / path).symlink_to("gone")
+        yield fails(f"where over a link to nothing after {at} others", f"{path}: {NO_FILE}", "where", "4b", "--objects", f"link{at}", cwd=room)
+    (room / "link1" / "info").mkdir()
+    write(room / "link1" / "info" / "alternates", b"../lent\n")
+    add_objects(room / "lent", ids[1:])
+    path = f"link1/4b/{ids[1][2:]}"
+    yield fails("where over a link to nothing whose object an alternate has", f"{path}: {NO_FILE}", "where", ids[1], "--objects", "link1", cwd=room)
+    # (a file is read by as many bytes as there is room for, a pipe by as many as were written at once)
+    write(room / "lines", b"ff\n" * 2000 + f"{ids[1]}\n".encode())
+    how = {"cwd": room, "around": ("sh", "-c", 'exec "$@" < lines', "sh")}
+    yield fails("where --stdin of a link to nothing after 2,000 lines", f"{path}: {NO_FILE}", "where", "--stdin", "--objects", "link1", **how)
+    for way, target, why in [("itself", ids[0][2:], LOOP), ("a locked directory", "../locked/x", LOCKED)]:
+        add_objects(room / way, ids[1:])
+        write(room / way / "locked" / "x")
+        (room / way / "locked").chmod(0)
+        path = f"{way}/4b/{ids[0][2:]}"
+        (room / path).symlink_to(target)
+        yield fails(f"where over a link to {way}", f"{path}: {why}", "where", "4b", "--objects", way, cwd=room, around=POWERLESS)
+        (room / way / "locked").chmod(0o700)
+    add_objects(room / "listed", ids[:1])
+    (room / "listed" / "4b").chmod(0o600)
+    text = f"listed/4b/{ids[0][2:]}: {LOCKED}"
+    yield fails("where in a directory that may be listed alone", text, "where", "4b", "--objects", "listed", cwd=room, around=POWERLESS)
+    (room / "listed" / "4b").chmod(0o700)
 
 
 def faulty(room):
@@ -688,6 +740,10 @@ def environments(room):
     rows = [{name: text} for name, value in values.items() for text in (value, f"{room}{value[2:]}", "none", "", "\udcff", '"\\377"')]
     for env in [*rows, values]:
         yield finds(f"--objects with {env}", ids[:1], "--objects", "../own/objects", cwd=room / "third", env=env)
+    add_repository(room / "work" / ".git", loose=ids[:1])
+    yield finds(f"--objects .git/objects with {values}", ids[:1], "--objects", ".git/objects", cwd=room / "work", env=values)
+    for name in values:
+        yield fails(f"${name} that is not UTF-8", f"{name}: not UTF-8", "names", cwd=room / "own", env={name: "../other\udcff"})
 
 
 @contextlib.contextmanager
@@ -746,8 +802,8 @@ def statuses(program, room):
         yield f"find --stdin of chunks of the statuses {order}", wrong
 
 
-CASES = [endings, many_files, long_files, cut, long_offsets, packs_beside, names_in_errors, names_of_files, counts, last_lines, skipped]
-CASES += [much_found, damaged_asked, by_links, no_stores, files_in_each_way, links_to_nothing, links]
+CASES = [endings, many_files, long_files, cut, long_offsets, packs_beside, names_in_errors, names_of_files, counts, last_lines, prefixes]
+CASES += [skipped, much_found, damaged_asked, by_links, no_stores, files_in_each_way, links_to_nothing, links_among_others, links]
 CASES += [many_names, long_index, equal_beginnings, missing_alternates]
 CASES += [faulty, later_configs, chained, many_alternates, lent, odd_lines, long_texts, environments]
 TALKS = [exchanges, statuses]
