@@ -1,4 +1,4 @@
-use Rattle.id_lookup.proofs.Beginnings.{matches-part}
+use Rattle.id_lookup.proofs.Beginnings.{matches-part, part-matches}
 use Rattle.id_lookup.proofs.Filters.{filter-flat}
 use Rattle.id_lookup.proofs.NamesInPart.{name-whole}
 use Rattle.id_lookup.proofs.SameMembers.{part_is}
@@ -12,6 +12,9 @@ returns-clause-lists c = λ p. filter-flat p
 
 pub returns-clause-found : goal.returns-clause-found
 returns-clause-found c = matches-part
+
+pub returns-clause-two : goal.returns-clause-two
+returns-clause-two c = part-matches
 
 pub returns-clause-names : goal.returns-clause-names
 returns-clause-names c = name-whole
