@@ -225,8 +225,11 @@ impl Store {
                 if !skipped.contains(&text) {
                     skipped.push(text);
                 }
-            } else {
+            } else if text.starts_with('/') {
                 wrong = Some(text);
+            } else {
+                // (where it says no path, the whole store is meant)
+                wrong = Some(format!("{}: {text}", self.directory.display()));
             }
         }
         wrong.map_or(Ok(()), |text| Err(StoreError::Failed(text)))

@@ -49,6 +49,55 @@ fn made(name: impl AsRef<OsStr>, kind: Kind, packs: usize) -> (PathBuf, Vec<Id>)
     (path, ids)
 }
 
+/// Where the packed objects of a repository are.
+fn packed(path: &Path) -> BTreeMap<Id, Location> {
+    let mut found = BTreeMap::new();
+    for entry in fs::read_dir(path.join("objects/pack")).unwrap().map(|it| it.unwrap().path()) {
+        if entry.extension() == Some(OsStr::new("idx")) {
+            let bytes = fs::read(&entry).unwrap();
+            let (index, path) =
+                (nunbirdstand::PackIndex::of_any_kind(&bytes).unwrap(), entry.with_extension("pack"));
+            let located = |(id, offset)| (id, Location { id, path: path.clone(), offset: Some(offset) });
+            found.extend(index.iter().map(|it| located((it.id, it.offset))));
+        }
+    }
+    found
+}
+
+/// A pack index of sorted ids, each with its offset.
+fn index_of(rows: &[(Id, u64)]) -> Vec<u8> {
+    let count = |byte| rows.iter().filter(|(id, _)| id.as_bytes()[0] <= byte).count() as u32;
+    let mut bytes: Vec<u8> = b"\xfftOc\0\0\0\x02".to_vec();
+    bytes.extend((0..=255).flat_map(|byte| count(byte).to_be_bytes()));
+    bytes.extend(rows.iter().flat_map(|(id, _)| id.as_bytes()));
+    bytes.extend(vec![0; 4 * rows.len()]);
+    let mut long = Vec::new();
+    for (_, offset) in rows {
+        let short = u32::try_from(*offset).ok().filter(|offset| offset >> 31 == 0);
+        bytes.extend(short.unwrap_or((1 << 31) + long.len() as u32 / 8).to_be_bytes());
+        long.extend(short.map_or(offset.to_be_bytes().to_vec(), |_| Vec::new()));
+    }
+    [bytes, long, vec![0; 40]].concat()
+}
+
+/// The processes that this thread has begun, and that run.
+fn children() -> Vec<String> {
+    let listed = fs::read_to_string("/proc/thread-self/children").unwrap();
+    let runs = |pid: &&str| {
+        fs::read_to_string(format!("/proc/{pid}/stat")).map_or(false, |stat| !stat.contains(") Z "))
+    };
+    listed.split_whitespace().filter(runs).map(str::to_owned).collect()
+}
+
+/// Kills them.
+fn kill_all() {
+    assert!(Command::new("kill").arg("-9").args(children()).status().unwrap().success());
+}
+
+fn is_killed(error: &StoreError) -> bool {
+    error.to_string() == "packtool was ended by the signal 9"
+}
+
 fn beginning_with(ids: &[Id], prefix: &Prefix) -> Vec<Id> {
     ids.iter().filter(|id| prefix.cmp_id(id) == Some(std::cmp::Ordering::Equal)).copied().collect()
 }
@@ -171,24 +220,163 @@ fn locations() {
     for name in [&b"place"[..], b"\xff", b"a\\b", b"a\nb\rc", b"\\n\n\\", b"a 12", b" bad"] {
         let (path, ids) = made(OsString::from_vec(name.to_vec()), Kind::Sha1, 1);
         let store = Store::open(&path, Some(Kind::Sha1)).unwrap();
-        let mut packed = BTreeMap::new();
-        for entry in fs::read_dir(path.join("objects/pack")).unwrap().map(|it| it.unwrap().path()) {
-            if entry.extension() == Some(OsStr::new("idx")) {
-                let bytes = fs::read(&entry).unwrap();
-                let index = nunbirdstand::PackIndex::of_any_kind(&bytes).unwrap();
-                packed.extend(index.iter().map(|it| (it.id, (entry.with_extension("pack"), it.offset))));
-            }
-        }
+        let packed = packed(&path);
         for id in ids {
             let digits = id.to_string();
             let own = path.join("objects").join(&digits[..2]).join(&digits[2..]);
-            let wanted = match packed.get(&id) {
-                Some((path, offset)) => Location { id, path: path.clone(), offset: Some(*offset) },
-                None => Location { id, path: own, offset: None },
-            };
+            let wanted = packed.get(&id).cloned().unwrap_or(Location { id, path: own, offset: None });
             assert!(wanted.path.exists());
             assert_eq!(store.locate(&id.into()).unwrap(), [wanted], "{:?}", OsStr::from_bytes(name));
         }
+        fs::write(path.join("config"), "[core]\n\trepositoryformatversion = 9\n").unwrap();
+        let error = Store::open(&path, None).unwrap_err().to_string();
+        // (where the path is not UTF-8, that of the config is relative)
+        let shown = error.replace(": ./config", "/config");
+        assert!(shown.starts_with(&format!("{}/config: ", path.display())), "{error}");
+    }
+}
+
+#[test]
+#[ignore = "needs packtool"]
+fn offsets() {
+    let (path, _) = made("offsets", Kind::Sha1, 0);
+    let store = Store::open(&path, None).unwrap();
+    let offsets = [12, (1 << 31) - 1, 1 << 31, (1 << 32) + 5, (1 << 63) - 1];
+    let ids = (0..).map(|at| Id::from_bytes(&[at; 20]).unwrap());
+    let rows: Vec<(Id, u64)> = ids.zip(offsets).collect();
+    let pack = path.join("objects/pack/pack-1.pack");
+    fs::write(&pack, "").unwrap();
+    fs::write(pack.with_extension("idx"), index_of(&rows)).unwrap();
+    for (id, offset) in rows {
+        let wanted = Location { id, path: pack.clone(), offset: Some(offset) };
+        assert_eq!(store.locate(&id.into()).unwrap(), [wanted]);
+    }
+}
+
+/// A prefix is asked before and after an object comes, another one, and a pack of both.
+#[test]
+#[ignore = "needs packtool"]
+fn asked_before() {
+    let ((source, all), (path, ids)) = (made("source", Kind::Sha1, 4), made("before", Kind::Sha1, 1));
+    let first_four = |id: &Id| prefix(&id.to_string()[..4]);
+    let is_new = |pair: &&[Id]| {
+        first_four(&pair[0]) == first_four(&pair[1]) && beginning_with(&ids, &first_four(&pair[0])).is_empty()
+    };
+    let pair = all.windows(2).find(is_new).unwrap();
+    let (store, asked) = (Store::open(&path, None).unwrap(), first_four(&pair[0]));
+    for (stage, wanted) in [&pair[..0], &pair[1..], pair, pair].into_iter().enumerate() {
+        if let 1 | 2 = stage {
+            let blob = git(&source, &words(&format!("cat-file blob {}", pair[2 - stage])), "");
+            git(&path, &words("hash-object -w --stdin"), &blob);
+        } else if stage == 3 {
+            git(&path, &words("repack -adkq"), "");
+        }
+        for _ in 0..2 {
+            same_as(&store, &asked, wanted, pair);
+            let (locations, packed) = (store.locate(&asked).unwrap(), packed(&path));
+            assert_eq!(locations.iter().map(|it| it.id).collect::<Vec<_>>(), wanted);
+            for it in locations {
+                assert!(it.path.exists() && (stage == 3) == it.offset.is_some(), "{stage} {it:?}");
+                assert!(stage < 3 || packed[&it.id] == it);
+            }
+            assert_eq!(store.names(4).unwrap().count(), ids.len() + wanted.len());
+        }
+    }
+}
+
+/// That a store has of two ids, which share the prefix of 4 digits, those that are wanted.
+fn same_as(store: &Store, asked: &Prefix, wanted: &[Id], pair: &[Id]) {
+    assert_eq!(store.find(asked).unwrap(), wanted);
+    assert_eq!(collected(store.find_many([*asked]).unwrap()), [(*asked, wanted.to_vec())]);
+    match (store.resolve(asked), wanted) {
+        (Ok(id), [one]) => assert_eq!(id, *one),
+        (Err(StoreError::Missing), []) => {}
+        (Err(StoreError::Ambiguous(ids)), several) => assert_eq!(ids, several),
+        other => panic!("{other:?}"),
+    }
+    for id in pair {
+        assert_eq!(store.contains(id).unwrap(), wanted.contains(id));
+        match store.abbreviate(id, 4) {
+            Ok(name) => {
+                assert_eq!(beginning_with(wanted, &prefix(&name)), [*id]);
+                assert_eq!(name.len() == 4, wanted.len() == 1);
+            }
+            Err(error) => assert!(matches!(error, StoreError::Missing) && !wanted.contains(id)),
+        }
+    }
+}
+
+#[test]
+#[ignore = "needs packtool"]
+fn killed() {
+    let (path, ids) = made("killed", Kind::Sha1, 15);
+    let store = Store::open(&path, None).unwrap();
+    let ask = |call: usize| match call {
+        0 => store.find(&ids[7].into()).map(drop),
+        1 => store.locate(&ids[7].into()).map(drop),
+        _ => store.abbreviate(&ids[7], 4).map(drop),
+    };
+    for call in [0, 0, 1, 1, 2, 2] {
+        ask(call).unwrap();
+        kill_all();
+        assert!(is_killed(&ask(call).unwrap_err()));
+        ask(call).unwrap();
+    }
+    for pid in children() {
+        // (Ctrl-C is sent to the whole group of this process, and each of them has its own)
+        let stat = fs::read_to_string(format!("/proc/{pid}/stat")).unwrap();
+        assert_eq!(stat.rsplit(") ").next().unwrap().split(' ').nth(2), Some(&*pid));
+    }
+    let mut many = store.find_many(ids.iter().cycle().take(500_000).map(|&id| id.into())).unwrap();
+    assert_eq!(many.next().unwrap().unwrap().1, [ids[0]]);
+    kill_all();
+    let mut rest: Vec<_> = many.by_ref().collect();
+    assert!(is_killed(&rest.pop().unwrap().unwrap_err()) && many.next().is_none());
+    for (found, id) in rest.into_iter().zip(ids.iter().cycle().skip(1)) {
+        assert_eq!(found.unwrap(), ((*id).into(), vec![*id]));
+    }
+    let mut names = store.names(4).unwrap();
+    names.next().unwrap().unwrap();
+    kill_all();
+    let mut rest: Vec<_> = names.by_ref().collect();
+    assert!(is_killed(&rest.pop().unwrap().unwrap_err()) && names.next().is_none());
+    for (found, id) in rest.into_iter().zip(&ids[1..]) {
+        let (name, found) = found.unwrap();
+        assert!(found == *id && id.to_string().starts_with(&name));
+    }
+}
+
+#[test]
+#[ignore = "needs packtool"]
+fn surroundings() {
+    let ((one, ids), (other, others)) = (made("one", Kind::Sha1, 1), made("other", Kind::Sha1, 2));
+    let (objects, top) = (other.join("objects"), Path::new("/"));
+    let (dir, common) = (("GIT_DIR", other.as_os_str()), ("GIT_COMMON_DIR", other.as_os_str()));
+    let of_one = ("GIT_DIR", one.as_os_str());
+    let (own, lent) = ("GIT_OBJECT_DIRECTORY", "GIT_ALTERNATE_OBJECT_DIRECTORIES");
+    for (directory, path, variables, wanted) in [
+        (&*one, None, &[][..], &ids),
+        (&*one, None, &[dir][..], &others),
+        (&*one, None, &[of_one, common][..], &others),
+        (&*one, None, &[(own, objects.as_os_str())][..], &others),
+        (&*one, None, &[(lent, objects.as_os_str())][..], &others),
+        (
+            &*one,
+            Some(Path::new(".")),
+            &[dir, (own, objects.as_os_str()), (lent, objects.as_os_str())][..],
+            &ids,
+        ),
+        (top, Some(&*one), &[dir, common][..], &ids),
+        (top, None, &[dir][..], &others),
+    ] {
+        assert_eq!(&found_by_another(directory, path, variables).unwrap(), wanted);
+    }
+    assert_eq!(Store::open(&one, Some(Kind::Sha256)).unwrap().kind(), Kind::Sha256);
+    for version in ["packtool 0.4.9 of Nunbirdstand", "packtool 10.6.0", "packtool", "git version 2.39.5"] {
+        let program = one.join("old/packtool");
+        script(&program, &format!("echo {version}"));
+        let error = found_by_another(top, Some(&one), &[("PACKTOOL", program.as_os_str())]).unwrap_err();
+        assert!(error.starts_with(&format!("{}: no packtool ", program.display())), "{error}");
     }
 }
 
@@ -274,7 +462,8 @@ fn skipped_and_failed() {
     assert_eq!(store.skipped().len(), 2000);
     assert!(store.skipped()[0].starts_with("/nowhere/long") && store.skipped()[0].ends_with(", skipped"));
     let (none, top) = (path.join("none"), Path::new("/"));
-    for (path, text) in [(&none, "none: "), (&path.join("HEAD"), "HEAD"), (&top.to_path_buf(), "repository")]
+    for (path, text) in
+        [(&none, "none: "), (&path.join("HEAD"), "HEAD"), (&top.to_path_buf(), "/: no git repository")]
     {
         let error = Store::open(path, None).unwrap_err().to_string();
         assert!(error.contains(text), "{error}");
