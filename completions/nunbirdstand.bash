@@ -2,8 +2,13 @@
 # Completions of oidtool and packtool for bash. They ask the programs: --help lists the commands and options, and names what a
 # word is: KIND, DIR, FILE, INDEX or PATH.
 
-# (the program of a clone would first prove itself, if it has to)
-_nunbirdstand_help() { timeout 2 "$@" --help < /dev/null 2> /dev/null; }
+# (the program of a clone would first prove itself, if it has to. Also of ./packtool that on the PATH is asked: a key runs nothing that
+# others may have left in the current directory)
+_nunbirdstand_help() {
+    local program
+    program=$(type -P -- "${1##*/}")
+    [[ $program != /* ]] || timeout 2 "$program" "${@:2}" --help < /dev/null 2> /dev/null
+}
 
 # Commands and options, in the first column of a help.
 _nunbirdstand_listed() { sed -nE 's/^ +(-., )?(-?-?[a-z][-a-z]*)( .*|$)/\2/p'; }

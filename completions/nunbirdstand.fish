@@ -1,9 +1,12 @@
 # Completions of oidtool and packtool for fish. They ask the programs: --help lists the commands and options, and names what a
 # word is: KIND, DIR, FILE, INDEX or PATH.
 
-# (the program of a clone would first prove itself, if it has to)
+# (the program of a clone would first prove itself, if it has to. Also of ./packtool that on the PATH is asked: a key runs nothing that
+# others may have left in the current directory)
 function __nunbirdstand_help
-    timeout 2 $argv --help </dev/null 2>/dev/null
+    set -l program (command -s (string replace -r '.*/' '' -- $argv[1]))
+    string match -q '/*' -- "$program"
+    and timeout 2 $program $argv[2..] --help </dev/null 2>/dev/null
 end
 
 # Commands and options of a help, each with its description.
