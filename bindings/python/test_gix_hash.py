@@ -266,6 +266,9 @@ class Bindings(unittest.TestCase):
             ("no id is at position 99999: there are 300", index.__getitem__, 99999),
             ("no id is at position -301: there are 300", index.abbreviate, -301),
             ("expected Id, not 'e6' of the type str", Prefix("e6").cmp, "e6"),
+            ("'HEAD': a byte of the text is not a hex digit", Prefix, "HEAD"),
+            (f"'{'g' * 40}': a byte of the text is not a hex digit", Id, "g" * 40),
+            (f"'e6': {Code.BAD_LENGTH.text}", Id, "e6"),
             ("a pack index of the other kind (its kind: sha1)", PackIndex, "sha256", index._data),
             ("a pack index of another version than 2 (its version: 3)", PackIndex, "sha1", b"\xfftOc\0\0\0\3" + bytes(2000)),
         ):

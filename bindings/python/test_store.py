@@ -493,6 +493,8 @@ class Stores(unittest.TestCase):
         for call in (store.find, store.locate):
             self.assertEqual(len(call(ids[3])), 1)
         self.assertEqual(list(store.find_many(ids[3:4])), [(ids[3], [Id(ids[3])])])
+        for call in store.resolve, lambda id: store.abbreviate(Id(id)):
+            self.assertRaisesRegex(Missing, r"^no id begins with 1{40} \(2001 parts of the store left out: see skipped\)$", call, "1" * 40)
         self.assertRaises(SkippedWarning, Store, bare)
 
     def test_surroundings(self):
@@ -629,6 +631,26 @@ class Stores(unittest.TestCase):
                     call(long)
                 self.assertEqual(raised.exception.code, Code.PREFIX_TOO_LONG)
             self.assertTrue(call(ids[0]))
+        for text, message in (
+            ("HEAD", "'HEAD': a byte of the text is not a hex digit"), ("5", "'5': a store's prefix has 2 digits or more"),
+            ("", "'': a store's prefix has 2 digits or more"), (Prefix("5"), "'5': a store's prefix has 2 digits or more"),
+            ("0" * 41, f"'{'0' * 41}': the prefix has more digits than ids of the kind"), ("ab\n", "'ab\\n': a byte of the text is not a hex digit"),
+        ):  # fmt: skip
+            for call in (store.find, lambda it: list(store.find_many([ids[0], it]))):
+                with self.assertRaises(Error) as raised:
+                    call(text)
+                self.assertEqual(str(raised.exception), message)
+                self.assertEqual(str(pickle.loads(pickle.dumps(raised.exception))), message)
+        for given in [ids[0], ids[0][:2], Id(ids[0])], [ids[0]] * 9000, [ids[0]] * 8191, [ids[0]] * 20000, [Id(ids[0])] * 8200, ["00"] * 9, []:
+            for wrong, error in ("zz", Error), ("5", Error), ("0" * 64, Error), (None, TypeError), (b"ab", TypeError):
+                many = store.find_many(iter([*given, wrong, ids[0], "zz"]))
+                for it in given:
+                    self.assertEqual(next(many), (it, [Id(id) for id in beginning_with(ids, str(it))]))
+                self.assertRaises(error, next, many)
+                self.assertEqual(list(many), [])
+        for wrong in ids[0], b"57e0":
+            with self.assertRaisesRegex(TypeError, "expected prefixes"):
+                next(store.find_many(wrong))
         for wrong in (None, ids[0], Prefix(ids[0])):
             self.assertRaises(TypeError, store.abbreviate, wrong)
         for id in Id("1" * 40), Id("1" * 64):
@@ -640,7 +662,8 @@ class Stores(unittest.TestCase):
                 self.assertEqual([*call(least)], [*call(same)])
         self.assertEqual((store.abbreviate(Id(ids[0]), 40), store.find(ids[0].upper())), (ids[0], [Id(ids[0])]))
         self.assertRaises(TypeError, store.find_many(3).__next__)
-        self.assertRaises(TypeError, pickle.dumps, store)
+        self.assertRaisesRegex(TypeError, "^a Store cannot be pickled", pickle.dumps, store)
+        self.assertEqual(repr(store), f"Store('{bare}', 'sha1')")
         self.assertRaises(AttributeError, setattr, store, "kind", Kind.SHA256)
         for error in (Ambiguous("2 ids", [Id(ids[0]), Id(ids[1])]), Missing("no id"), StoreError("gone")):
             same = pickle.loads(pickle.dumps(error))

@@ -107,15 +107,16 @@ class Code(enum.IntEnum):
 
 
 class Error(ValueError):
-    """Why a call failed: its code, and the position, byte, version, kind or code that its text speaks of, else 0."""
+    """Why a call failed: its code, and the position, byte, version, kind or code that its text speaks of, else 0. The message is by
+    default that text. That of digits which are no id or prefix begins with them."""
 
-    def __init__(self, code: Code, detail: int = 0):
+    def __init__(self, code: Code, detail: int = 0, message: str = ""):
         shown = str(Kind(detail)) if code is Code.OTHER_KIND and detail in (1, 2) else detail
-        super().__init__(re.sub(r"\((?:detail|at): (.*)\)", rf"(\1: {shown})", code.text))
+        super().__init__(message or re.sub(r"\((?:detail|at): (.*)\)", rf"(\1: {shown})", code.text))
         self.code, self.detail = code, detail
 
     def __reduce__(self) -> Tuple[Any, ...]:
-        return type(self), (self.code, self.detail)
+        return type(self), (self.code, self.detail, str(self))
 
 
 # The declarations of gix_hash.h, from which ctypes has its types.
@@ -199,9 +200,10 @@ _Id, _Prefix, _Run, _Entry, _Hasher = (_TYPES[f"gix_hash_{it}"] for it in ("id",
 _CODES = frozenset(Code)
 
 
-def _check(code: int, detail: int = 0) -> None:
+def _check(code: int, detail: int = 0, digits: Optional[str] = None) -> None:
     if code:
-        raise Error(Code(code), detail) if code in _CODES else Error(Code.UNKNOWN, code)
+        error = Error(Code(code), detail) if code in _CODES else Error(Code.UNKNOWN, code)
+        raise error if digits is None else Error(error.code, error.detail, f"{digits!r:.80}: {error}")
 
 
 def _wrong(value: object, wanted: str) -> TypeError:
@@ -277,7 +279,7 @@ class Id:
 
     def __new__(cls, text: str) -> "Id":
         made, digits = _Id(), _digits(text)
-        _check(_lib.gix_hash_id_from_hex(digits, len(digits), made))
+        _check(_lib.gix_hash_id_from_hex(digits, len(digits), made), digits=text)
         return cls._of(made)
 
     @classmethod
@@ -451,7 +453,7 @@ class Prefix:
     def __new__(cls, text: str) -> "Prefix":
         made, digits = object.__new__(cls), _digits(text)
         made._prefix = _Prefix()
-        _check(_lib.gix_hash_prefix_from_hex(digits, len(digits), made._prefix))
+        _check(_lib.gix_hash_prefix_from_hex(digits, len(digits), made._prefix), digits=text)
         return made
 
     @property

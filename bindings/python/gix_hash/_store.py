@@ -17,7 +17,7 @@ import weakref
 from collections import deque
 from typing import Any, Deque, Dict, Iterable, Iterator, List, NamedTuple, Optional, Set, Tuple, TypeVar, Union, cast
 
-from gix_hash import _HEADS, Code, Error, Id, Kind, Prefix, __version__, _kind, _only
+from gix_hash import _HEADS, Code, Error, Id, Kind, Prefix, __version__, _check, _kind, _only
 
 __all__ = ["Ambiguous", "Location", "Missing", "SkippedWarning", "Store", "StoreError"]
 
@@ -78,8 +78,9 @@ def _line(prefix: _Digits) -> str:
         raise TypeError(f"{prefix!r} is not a str, a Prefix or an Id")
     line = str.__str__(prefix) if isinstance(prefix, str) else str(prefix)
     if "\n" in line or not _are_lines(f"{line}\n"):
-        Prefix(line)  # raises why it is none
-        raise Error(Code.BAD_LENGTH)
+        if line:
+            Prefix(line)  # raises why it is none
+        raise Error(Code.BAD_LENGTH, 0, f"{line!r}: a store's prefix has 2 digits or more")
     return line
 
 
@@ -235,26 +236,44 @@ def _warn(texts: List[str]) -> None:
         warnings.warn(text, SkippedWarning, stacklevel=level)
 
 
+def _lines(given: List[_D]) -> List[str]:
+    """The lines of prefixes, up to the first that is none."""
+    if {*map(type, given)} == {str}:
+        text = "\n".join([*cast(List[str], given), ""])
+        if _are_lines(text) and text.count("\n") == len(given):
+            return cast(List[str], given)
+    lines: List[str] = []
+    with contextlib.suppress(TypeError, Error):
+        for prefix in given:
+            lines.append(_line(prefix))
+    return lines
+
+
 def _chunks(prefixes: Iterable[_D]) -> Iterator[List[Tuple[_D, str]]]:
-    """Prefixes with their lines, in chunks of as many as are looked up at once."""
+    """Prefixes with their lines, in chunks of as many as are looked up at once. At the first prefix that is none comes an empty chunk,
+    and then the error."""
     left = iter(prefixes)
     while given := list(itertools.islice(left, _AT_ONCE)):
-        lines = [prefix if type(prefix) is str else _line(prefix) for prefix in given]
-        text = "\n".join([*lines, ""])
-        if not _are_lines(text) or text.count("\n") != len(lines):
-            for prefix in given:
-                _line(prefix)  # raises why one is none
-        if min(map(len, lines)) > max(_COSTS):
+        lines = _lines(given)
+        if min(map(len, lines), default=0) > max(_COSTS):
             yield list(zip(given, lines))
-            continue
-        chunk, cost = [], 0  # type: List[Tuple[_D, str]], int
-        for pair in zip(given, lines):
-            cost += _COSTS.get(len(pair[1]), 1)
-            if cost > _AT_ONCE and chunk:
-                yield chunk
-                chunk, cost = [], _COSTS.get(len(pair[1]), 1)
-            chunk.append(pair)
-        yield chunk
+        else:
+            yield from _by_cost(zip(given, lines))
+        if len(lines) < len(given):
+            yield []
+            _line(given[len(lines)])
+
+
+def _by_cost(pairs: Iterable[Tuple[_D, str]]) -> Iterator[List[Tuple[_D, str]]]:
+    """Prefixes with their lines, in chunks of as many as may be looked up at once if some are short."""
+    chunk, cost = [], 0  # type: List[Tuple[_D, str]], int
+    for pair in pairs:
+        cost += _COSTS.get(len(pair[1]), 1)
+        if cost > _AT_ONCE and chunk:
+            yield chunk
+            chunk, cost = [], _COSTS.get(len(pair[1]), 1)
+        chunk.append(pair)
+    yield chunk
 
 
 def _ids_by_line(reply: str) -> Dict[str, List[Id]]:
@@ -264,9 +283,7 @@ def _ids_by_line(reply: str) -> Dict[str, List[Id]]:
     for line, digits in zip(words, words):
         if digits == "missing":
             found[line] = []
-        elif digits == "bad":
-            raise Error(Code.PREFIX_TOO_LONG)
-        else:
+        elif digits != "bad":
             id = of_key(_HEADS[len(digits) >> 1] + from_hex(digits))
             if line in found:
                 found[line].append(id)
@@ -327,6 +344,12 @@ class Store(contextlib.AbstractContextManager["Store"]):
 
     def __exit__(self, *_: object) -> None:
         self.close()
+
+    def __repr__(self) -> str:
+        return f"{type(self).__name__}({self._directory!r}, '{self._kind}')"
+
+    def __reduce__(self) -> Tuple[Any, ...]:
+        raise TypeError("a Store cannot be pickled: open another one by its path")
 
     def _begin(self, *words: str, is_bulk: bool) -> _Process:
         if self._closed:
@@ -392,8 +415,7 @@ class Store(contextlib.AbstractContextManager["Store"]):
         """What a command finds for a prefix, without the prefix before it."""
         line = _line(prefix)
         found = [_unescaped(text)[len(line) + 1 :] for text in self._ask(command, line)]
-        if found == ["bad"]:
-            raise Error(Code.PREFIX_TOO_LONG)
+        _check(Code.PREFIX_TOO_LONG if found == ["bad"] else 0, digits=line)
         return [] if found == ["missing"] else found
 
     def find(self, prefix: _Digits) -> List[Id]:
@@ -406,8 +428,14 @@ class Store(contextlib.AbstractContextManager["Store"]):
         if len(ids) > 1:
             raise Ambiguous(f"{len(ids)} ids begin with {prefix}", ids)
         if not ids:
-            raise Missing(f"no id begins with {prefix}")
+            raise self._missing(prefix)
         return ids[0]
+
+    def _missing(self, prefix: _Digits) -> Missing:
+        """That no id was found, and if that is not all that there may be."""
+        parts = len(self._skipped)
+        left_out = f" ({parts} part{'' if parts == 1 else 's'} of the store left out: see skipped)" if parts else ""
+        return Missing(f"no id begins with {prefix}{left_out}")
 
     def locate(self, prefix: _Digits) -> List[Location]:
         """Where the objects are whose ids begin with a prefix, in the order of the ids: an object may be in several places."""
@@ -433,7 +461,7 @@ class Store(contextlib.AbstractContextManager["Store"]):
         least = self._digits(least)
         printed = self._ask("names", str(id))[0] if _only(Id, id).kind is self._kind else " "
         if " " in printed:
-            raise Missing(f"no id begins with {id}")
+            raise self._missing(id)
         return str(id)[: max(len(printed), least)]
 
     def names(self, least: int = 4) -> Iterator[Tuple[str, Id]]:
@@ -460,13 +488,16 @@ class Store(contextlib.AbstractContextManager["Store"]):
 
     def find_many(self, prefixes: Iterable[_D]) -> Iterator[Tuple[_D, List[Id]]]:
         """Each of many prefixes with the ids that begin with it, in the order of the prefixes, of which some 16,000 are taken
-        before their turn. They are taken in the thread that asks for the pairs."""
+        before their turn. They are taken in the thread that asks for the pairs. An error of a prefix comes in its turn."""
+        if isinstance(prefixes, (str, bytes)):
+            raise TypeError(f"expected prefixes, not {prefixes!r:.80}: put it into a list")
         process, asked = self._begin("find", "--stdin", is_bulk=True), deque()  # type: _Process, Deque[List[Tuple[_D, str]]]
         try:
             for chunk in _chunks(prefixes):
-                process.send("\n".join([*dict.fromkeys(line for _, line in chunk), ""]))
-                asked.append(chunk)
-                if len(asked) == 2:
+                if chunk:
+                    process.send("\n".join([*dict.fromkeys(line for _, line in chunk), ""]))
+                    asked.append(chunk)
+                while len(asked) > bool(chunk):
                     yield from self._found_many(process, asked.popleft())
             while asked:
                 yield from self._found_many(process, asked.popleft())
@@ -478,6 +509,7 @@ class Store(contextlib.AbstractContextManager["Store"]):
         _warn(new)
         found = _ids_by_line(reply)
         for prefix, line in chunk:
+            _check(Code.PREFIX_TOO_LONG if len(line) > 2 * self._kind.len_in_bytes else 0, digits=line)
             yield prefix, found[line][:]  # (a prefix may be given twice)
 
 
