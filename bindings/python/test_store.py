@@ -548,6 +548,16 @@ class Stores(unittest.TestCase):
             os.environ.update(PACKTOOL=given, PATH=path if given else "")
             with self.assertRaisesRegex(StoreError, r": no packtool \d+\.\d+ is there: set PACKTOOL to its absolute path$"):
                 Store(bare)
+        # (the beginning of a line is none, and what is said last is the error)
+        for names, wanted in (
+            ("printf '0000 01'; kill -9 $$", "packtool was ended by the signal 9"),
+            ("echo packtool: /x: no >&2; echo packtool: /y: gone >&2; exit 2", "/y: gone"),
+        ):  # fmt: skip
+            (self.room / "wrong").write_text(f'#!/bin/sh\ncase $1 in names) {names} ;; *) exec {program} "$@" ;; esac\n')
+            (self.room / "wrong").chmod(0o755)
+            os.environ.update(PACKTOOL=str(self.room / "wrong"), PATH=path)
+            with Store(bare) as store, self.assertRaisesRegex(StoreError, f"^{wanted}$"):
+                list(store.names())
         folder = self.room / "bin"
         folder.mkdir()
         (folder / "packtool").symlink_to(os.path.abspath(program))

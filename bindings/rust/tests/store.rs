@@ -378,6 +378,16 @@ fn surroundings() {
         let error = found_by_another(top, Some(&one), &[("PACKTOOL", program.as_os_str())]).unwrap_err();
         assert!(error.starts_with(&format!("{}: no packtool ", program.display())), "{error}");
     }
+    // (the beginning of a line is none, and what is said last is the error)
+    for (names, wanted) in [
+        ("printf '0000 01'; kill -9 $$", "packtool was ended by the signal 9"),
+        ("echo packtool: /x: no >&2; echo packtool: /y: gone >&2; exit 2", "/y: gone"),
+    ] {
+        let (program, right) = (one.join("old/packtool"), env::var("PACKTOOL").unwrap());
+        script(&program, &format!("case $1 in names) {names} ;; *) exec '{right}' \"$@\" ;; esac"));
+        let error = found_by_another(top, Some(&one), &[("PACKTOOL", program.as_os_str())]).unwrap_err();
+        assert_eq!(error, wanted);
+    }
 }
 
 #[test]
