@@ -23,8 +23,9 @@ CLEAN = {key: value for key, value in os.environ.items() if not key.startswith((
 CLEAN |= {"GIT_CONFIG_GLOBAL": os.devnull, "GIT_CONFIG_NOSYSTEM": "1"}
 # Of what a tool tries, only what has this text in its line is tried, if it can be tried alone, and printed.
 ONLY = CLEAN.pop("ONLY", "")
-# What takes longer than so many seconds has failed; of what lets others go first, six times as many.
-LIMIT = 1800
+# What takes longer than so many seconds has failed: what only compiles or runs, anything else, and what proves. What lets others go first
+# has twice as many.
+SHORT, LIMIT, PROVING = 600, 1800, 5400
 # Takes from root the power to read what has the mode 000.
 POWERLESS = ["setpriv", "--bounding-set=-dac_override,-dac_read_search"] if os.geteuid() == 0 else []
 # An error of the compiler: /room/crates/x/src/y.rt:5:7: error[private-field]: ..
@@ -112,7 +113,7 @@ def count(results):
 @contextlib.contextmanager
 def started(words, limit=LIMIT, **options):
     """A command that runs in the environment CLEAN, or in that of the options. It and all that it started are killed
-    after so many seconds, or six times as many, and end when the block is left."""
+    after so many seconds, or twice as many, and end when the block is left."""
     if STOPPED.is_set():
         raise OSError("stopped")
     with subprocess.Popen(words, **{"env": CLEAN, "stdout": subprocess.PIPE, "start_new_session": True, **options}) as child:
@@ -120,7 +121,7 @@ def started(words, limit=LIMIT, **options):
         with contextlib.suppress(OSError):
             Path(f"/proc/{child.pid}/autogroup").write_text(str(os.nice(0)), encoding="ascii")
         # (what lets others go first may have to wait for them)
-        timer = threading.Timer(limit * (6 if os.nice(0) > 0 else 1), end, (child, signal.SIGKILL))
+        timer = threading.Timer(limit * (2 if os.nice(0) > 0 else 1), end, (child, signal.SIGKILL))
         timer.start()
         RUNNING.add(child)
         try:
@@ -206,7 +207,7 @@ def room_with(crates, sources):
 def compiled(room):
     """Compiles the program with all crates below it, and proves nothing. Returns the status, the output, and its
     errors, each with its file and line."""
-    output, _, status = ran("rt", "try", cwd=room / "crates" / PROGRAM, stderr=STDOUT)
+    output, _, status = ran("rt", "try", cwd=room / "crates" / PROGRAM, seconds=SHORT, stderr=STDOUT)
     return status, output, [(file, int(line), name) for file, line, name in ERROR.findall(output)]
 
 
