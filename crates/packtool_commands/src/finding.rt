@@ -45,6 +45,7 @@ pub fn find<S: Reopen, A: Allocator + Copy, W: Sink>(
         (W.taken out.old) (W.taken out.new)) }
     ensures refused { IfErr result (IsFaultOf (IsStoreFault (S.view store.new)
         (first_byte_of prefix.now.digits))) }
+    ensures few { IfErr result (λ e. e ≢ StoreError.TooMany) }
     ensures untouched { IfErr result (λ e. e ≢ StoreError.Output → out.new ≡ out.old) }
     ensures output { IsErrOf result StoreError.Output ↔ (W.has_failed out.new ≡ true) }
     ensures part { IsErrOf result StoreError.Output → HasPrintedPart (S.view store.new)

@@ -58,6 +58,7 @@ pub fn locate<S: Reopen + StorePaths, A: Allocator + Copy, W: Sink>(
         (W.taken out.old) (W.taken out.new)) }
     ensures refused { IfErr result (IsFaultOf (IsLocationsFault None (S.view store.new)
         prefix.now.digits)) }
+    ensures few { IfErr result (λ e. e ≢ StoreError.TooMany) }
     ensures untouched { IfErr result (λ e. e ≢ StoreError.Output → out.new ≡ out.old) }
     ensures output { IsErrOf result StoreError.Output ↔ (W.has_failed out.new ≡ true) }
     ensures part { IsErrOf result StoreError.Output → HasLocatedSome A (S.pack_path store.new)

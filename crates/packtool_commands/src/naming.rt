@@ -54,6 +54,7 @@ pub fn names<S: Reopen, A: Allocator + Copy, W: Sink>(
         (W.taken out.old) (W.taken out.new)) }
     ensures refused { IfErr result (IsFaultOf (IsWalkFault
         (IsSeen (S.may_have store.old) (S.view store.old)) (S.view store.new))) }
+    ensures few { IfErr result (λ e. e ≢ StoreError.TooMany) }
     ensures output { IsErrOf result StoreError.Output ↔ (W.has_failed out.new ≡ true) }
     ensures part { IfErr result (λ _. HasNamedAtMost least
         (IsSeen (S.may_have store.old) (S.view store.old)) (W.taken out.old) (W.taken out.new)) }
