@@ -182,8 +182,33 @@ impl<'a, I: Id> IdIndex<'a, I> {
         ensures name { IsShortestNameFrom least self.now.ids at result.digits }
         ensures run { IsRun result self.now.ids (record { start = at; end = at + 1 }) }
     {
-        shortest_name(self.ids, at, least).unwrap()
+        abbreviate_in(self.ids, self.kind, at, least)
     }
+}
+
+/// The abbreviation of the member at position `at` of a list, which must be below its length: that
+/// of [`IdIndex::abbreviate_from`]. The list must be an index of the kind, as [`sort_unique`] makes
+/// one; only the member and its two neighbours are looked at.
+///
+/// [`sort_unique`]: crate::sort_unique
+///
+/// ```
+/// sort_unique(&mut ids);
+/// let run = find_assuming_sorted(&ids, &prefix);
+/// if run.start < run.end {
+///     println!(rt; "{}", abbreviate_in(&ids, kind, run.start, 4))?;
+/// }
+/// ```
+#[inline(always)]
+pub fn abbreviate_in<I: Id>(ids: &[I], kind: Kind, at: usize, least: usize) -> Prefix
+    requires in_range { at < length ids.now }
+    requires index { IsIndex kind (map I.digits ids.now) }
+    requires enough { 4 ≤ least }
+    requires fits { least ≤ hex_len_of kind }
+    ensures kind { result.kind ≡ kind }
+    ensures name { IsShortestNameFrom least (map I.digits ids.now) at result.digits }
+{
+    shortest_name(ids, at, least).unwrap()
 }
 
 // Whether the id at a position is above the previous one, if there is one.

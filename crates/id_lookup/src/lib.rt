@@ -30,7 +30,7 @@ pub use assuming_sorted::{
 };
 pub use fan_out::FanOut;
 pub use ids::Id;
-pub use index::{Answer, IdIndex, IndexError};
+pub use index::{Answer, IdIndex, IndexError, abbreviate_in};
 pub use probes::Probes;
 pub use search::{Run, begins_with, bits_of, lookup, lookup_in};
 pub use sorted::{SortedIds, Unsorted};
