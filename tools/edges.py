@@ -537,18 +537,21 @@ def later_configs(room):
 
 def chained(room):
     """Alternates of alternates, of the own directory and of the environment's, each of them once, and one that is nested too deep; two
-    errors of one text, which is printed once; and an alternate's pack index that is none."""
+    errors of one text, which is printed once; and alternates' pack indexes that are none, or whose names are not UTF-8."""
     ids = [f"{level:039x}a" for level in range(8)]
     for level, id in enumerate(ids):
         add_objects(room / str(level), [id])
         write(room / str(level) / "info" / "alternates", f"../{level + 1}\n../{level + 1}\n../0\n../{level}\n".encode())
     write(room / "0" / "info" / "alternates", b"../\xff\n../gone\n../1\n../\xfe\n")
     add_pack(room / "3", "x", b"")
+    for level in "34":
+        write(room / level / "pack" / "\udcff.idx")
+    unnamed = [f"{level}/pack: the name of a pack index is not UTF-8" for level in "34"]
     add_repository(room / "bare")
     for name, deep in ("GIT_OBJECT_DIRECTORY", 7), ("GIT_ALTERNATE_OBJECT_DIRECTORIES", 6):
         env = {name: str(room / "0")}
         texts = ["0/info/alternates: a path is not UTF-8", f"0/../gone: {NO_FILE}", f"{deep - 1}/../{deep}: nested more than 5 deep"]
-        errors = "".join(error_of(f"{room}/{text}, skipped") for text in [*texts, f"3/pack/x.idx: {TOO_FEW}"])
+        errors = "".join(error_of(f"{room}/{text}, skipped") for text in [*texts, *unnamed, f"3/pack/x.idx: {TOO_FEW}"])
         if listed(room / "bare", env) != ids[:deep]:
             raise ValueError(f"git lists other ids with ${name}")
         yield finds(f"alternates of alternates, ${name}", ids[:deep], errors=errors, cwd=room / "bare", env=env)
