@@ -179,6 +179,9 @@ impl Alphabet {
 
     /// Spells all digits of an id into the front of `buffer`, as many as its kind's length in
     /// digits; the bytes after them stay. The caller must ensure that the buffer has room.
+    ///
+    /// It spells sixteen bytes at a time, for lists of many ids; [`oid::put_hex`] spells one at a
+    /// time, by the crate `hex`.
     pub fn put_id(self, id: oid<'_>, buffer: &mut [u8])
         requires { hex_len_of (oid_kind id) ≤ length buffer.old }
         ensures value { buffer.new ≡ spelling (letter_of self) (oid_digits id.entry) ++ drop
@@ -221,6 +224,15 @@ fn decode_pairs(text: &[u8], bytes: &mut [u8]) -> bool
         else None) }
 {
     hex::decode_to_slice(text, bytes).is_ok()
+}
+
+// Spells the digits of bytes in lowercase hex letters, two for each byte.
+#[inline(always)]
+pub(crate) fn spell_pairs(bytes: &[u8], text: &mut [u8])
+    requires { length text.old ≡ 2 * length bytes.now }
+    ensures { text.new ≡ spelling hex_letter (digits_of bytes.now) }
+{
+    hex::encode_to_slice(bytes, text).unwrap();
 }
 
 // Puts the hex letters for a text in the reverse alphabet into the front of `letters`, and lends

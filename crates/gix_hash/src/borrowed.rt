@@ -7,7 +7,7 @@ ghost use Rattle.std.specs.Ordering.{as_partial_cmp};
 ghost use Rattle.id_digits.specs.Digits.{first_byte_of, hex_letter, is_digest_len, spelling};
 ghost use Rattle.gix_hash.specs.Kinds.{hex_len_of};
 
-use crate::alphabet::Alphabet;
+use crate::alphabet::spell_pairs;
 use crate::ascii::ascii_text;
 use crate::display::HexDisplay;
 use crate::error::Error;
@@ -213,7 +213,7 @@ impl<'a> oid<'a> {
             (hex_len_of (oid_kind self.now)) buffer.old }
         ensures len { length (oid_digits self.now) ≡ hex_len_of (oid_kind self.now) }
     {
-        Alphabet::Hex.put_id(*self, buffer);
+        spell_pairs(self.bytes, &mut buffer[..2 * self.bytes.len()]);
     }
 
     /// Writes the lowercase hex digits into the front of `buffer` as [`oid::put_hex`] does, and

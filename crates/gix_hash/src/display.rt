@@ -4,10 +4,11 @@ ghost use Rattle.std.specs.Prelude.{◌≡◌, ◌≤◌, ◌↔◌, IsTrue, IsA
 ghost use Rattle.id_digits.specs.Digits.{spelling, hex_letter, reverse_letter};
 ghost use Rattle.gix_hash.specs.Reading.{letter_of};
 
-use crate::alphabet::Alphabet;
+use crate::alphabet::{Alphabet, spell_pairs};
 use crate::ascii::ascii_text;
 use crate::borrowed::oid;
 use crate::kind::Kind;
+use id_digits::to_reverse_letters;
 use std::fmt;
 use std::marker::Model;
 
@@ -35,8 +36,15 @@ impl<'a> CutId<'a> {
         ensures value { result.now ≡ spelling (letter_of alphabet) (shown_digits self.now) }
         ensures ascii { IsAscii result.now }
     {
-        alphabet.put_id(self.inner, buffer);
-        &buffer[..self.hex_len.min(self.inner.kind().len_in_hex())]
+        let bytes = self.inner.as_bytes();
+        let len = self.hex_len.min(2 * bytes.len());
+        let whole = len.div_ceil(2);
+        spell_pairs(&bytes[..whole], &mut buffer[..2 * whole]);
+        let letters = &mut buffer[..len];
+        if let Alphabet::Reverse = alphabet {
+            to_reverse_letters(letters);
+        }
+        letters
     }
 
     // The same as text.
