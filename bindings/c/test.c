@@ -499,7 +499,8 @@ static void test_hashers(uint32_t kind) {
     }
 }
 
-/* Any bytes are a hasher, also at the end of the count. One of no kind stays, and so does the id. */
+/* Any bytes are a hasher, also at the end of the count. The words that SHA-1 does not use are zeros once it was fed. A hasher
+ * of no kind stays, and so does the id. */
 static void test_any_hashers(void) {
     for (uint32_t i = 0; i < 3000; i++) {
         gix_hash_hasher hasher, old;
@@ -513,6 +514,7 @@ static void test_any_hashers(void) {
         CHECK(i, !memcmp(&id, &zeros, sizeof id) == (code != GIX_HASH_OK));
         CHECK(i, gix_hash_hasher_update(&hasher, content, i % 200) == code);
         CHECK(i, code ? !memcmp(&hasher, &old, sizeof old) : hasher.count == old.count + i % 200);
+        for (size_t k = 5; hasher.kind == GIX_HASH_SHA1 && k < 8; k++) CHECK(i, !hasher.words[k]);
         old = hasher;
         CHECK(i, gix_hash_hasher_new(i + 3, &hasher) == GIX_HASH_BAD_KIND && !memcmp(&hasher, &old, sizeof old));
     }
