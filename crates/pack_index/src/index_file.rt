@@ -13,7 +13,7 @@ use gix_hash::{Kind, Prefix, ends_in_digest, oid};
 use id_lookup::{Answer, FanOut, Run, laws};
 use std::marker::Model;
 
-/// A pack index of Git, of version 2, over its bytes.
+/// A pack index of Git, of version 2 (gitformat-pack), over its bytes.
 ///
 /// ```
 /// let file = File::try_new(content, Kind::Sha1)?;

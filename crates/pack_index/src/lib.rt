@@ -1,4 +1,5 @@
-//! Git's pack indexes of version 2, over their bytes.
+//! Git's pack indexes of version 2, over their bytes. Their format is that of gitformat-pack, and
+//! `CALLING.md` says which of its rules are checked.
 //!
 //! A [`File`] is made of bytes that were checked once: their tables, order, fan-out table, offsets
 //! and checksum. Opening does not allocate and copies no id. The ids are looked up by
