@@ -1,6 +1,6 @@
 //! The pack indexes in object directories.
 
-ghost use Rattle.std.specs.Prelude.{◌≡◌, ◌⊎◌, ◌↔◌, All, IfOk, IsNone, IsSomeAnd, IsTrue, OnOk, length, true, vec_len};
+ghost use Rattle.std.specs.Prelude.{◌≡◌, ◌⊎◌, ◌↔◌, ◌+◌, All, IfOk, IsNone, IsSomeAnd, IsTrue, OnOk, length, true, vec_len};
 ghost use Rattle.pack_index.specs.declared.lazy_error.LazyError.TheVariants as errors;
 ghost use Rattle.repositories.specs.States.{IsSettled};
 ghost use Rattle.store_folders.specs.Stores.{HasPack, IsListed, IsOfIndex, IsUnread};
@@ -226,7 +226,10 @@ pub(crate) fn open_indexes<R: Files<File = File> + AllocGlobal + Clone + Drop>(
     paths: &[PackPaths],
     kind: Kind,
 ) -> Result<OpenIndexes<R>, Error>
-    ensures { IfOk result (λ opened. All (λ index. index.kind ≡ kind) opened.indexes.items) }
+    ensures kinds { IfOk result (λ opened. All (λ index. index.kind ≡ kind)
+        opened.indexes.items) }
+    ensures all { IfOk result (λ opened. vec_len opened.indexes + vec_len opened.skipped
+        ≡ length paths.now) }
 {
     match open_all(rt, paths, MAX_OPEN, kind) {
         Ok(opened) => Ok(opened),
@@ -243,7 +246,10 @@ fn open_all<R: Files<File = File> + AllocGlobal + Clone + Drop>(
     most_open: usize,
     kind: Kind,
 ) -> Result<OpenIndexes<R>, Error>
-    ensures { IfOk result (λ opened. All (λ index. index.kind ≡ kind) opened.indexes.items) }
+    ensures kinds { IfOk result (λ opened. All (λ index. index.kind ≡ kind)
+        opened.indexes.items) }
+    ensures all { IfOk result (λ opened. vec_len opened.indexes + vec_len opened.skipped
+        ≡ length listed.now) }
 {
     let mut paths = Vec::with_capacity(rt.alloc(), listed.len())?;
     let mut indexes = Vec::with_capacity(rt.alloc(), listed.len())?;
