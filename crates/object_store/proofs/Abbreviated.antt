@@ -1,6 +1,7 @@
 -- The abbreviation of the only id that begins with a prefix, which is decided among those that begin with its first digits.
-use Rattle.gix_hash.proofs.Std.{◌≡◌, ℕ, ◌+◌, ◌-◌, ◌<◌, ◌≤◌, min, Bool, true, nat_eq, None, Some, List, [], ◌∷◌, ◌++◌, filter, length, get_or, map, take, drop, refl, sym, ap, ◌∙◌, subst, arith, append-nil, append_assoc, take-append-drop, Contains, starts_with, drop-cons, length-append, length-take, nil_from_length, All-contains, All-from_all_within, Contains-get_or}
+use Rattle.gix_hash.proofs.Std.{◌≡◌, ℕ, ◌+◌, ◌-◌, ◌<◌, ◌≤◌, min, Bool, true, nat_eq, None, Some, List, [], ◌∷◌, ◌++◌, filter, length, get_or, map, take, drop, refl, sym, ap, ◌∙◌, subst, arith, append-nil, append_assoc, take-append-drop, Contains, starts_with, drop-cons, length-append, length-drop, length-take, nil_from_length, All-contains, All-from_all_within, Contains-get_or}
 use Rattle.id_lookup.specs.Words.{IsIndexOf, IsRun, Kind, KindDigits, ObjectId, first_byte_of, hex_len_of, id_digits, matches}
+use Rattle.id_lookup.specs.declared.search.Run.{Run}
 use Rattle.id_lookup.proofs.Beginnings.{first_byte_of-begins}
 use Rattle.id_lookup.proofs.Filters.{contains_had, contains_kept, filter_within, kept_passes}
 use Rattle.id_lookup.proofs.SameMembers.{index-filter, one_position}
@@ -17,6 +18,12 @@ pub only_one : (prefix : KindDigits) (ids : List (List ℕ)) (at : ℕ) → IsRu
 only_one prefix ids at is =
     let one : at + 1 - at ≡ 1 = omega arith in
     sym is.found ∙ ap (λ n. take n (drop at ids)) one ∙ ap (take 1) (drop-cons ids at [] (omega (arith, is.in_range)))
+
+-- as many begin with a prefix as its run is long
+pub run_length : (prefix : KindDigits) (ids : List (List ℕ)) (run : Run) → IsRun prefix ids run → length (matches prefix.digits ids) ≡ run.end - run.start
+run_length prefix ids run is =
+    let found : take (run.end - run.start) (drop run.start ids) ≡ matches prefix.digits ids = is.found in
+    omega (arith, ap length found, length-take (run.end - run.start) (drop run.start ids), length-drop run.start ids, is.in_range)
 
 -- what passes of an index is the index of what passes
 index_of_passing : (kind : Kind) (p : List ℕ → Bool) (all whole : List (List ℕ)) → IsIndexOf kind all whole → IsIndexOf kind (filter p all) (filter p whole)

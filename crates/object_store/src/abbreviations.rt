@@ -11,7 +11,7 @@ use crate::parts::Parts;
 use crate::several::{LookUp, look_up_each};
 use crate::store::Store;
 use gix_hash::{Kind, ObjectId, Prefix};
-use id_lookup::{Answer, IdIndex};
+use id_lookup::{abbreviate_in, find_assuming_sorted};
 use std::alloc::{AllocError, Allocator};
 
 /// An id with its abbreviation.
@@ -192,33 +192,33 @@ fn name_all<A: Allocator>(
         → IsShortestNameFrom least (map id_digits ids.now) k
         (slice_index_or named.items k d).name.digits) }
 {
-    let index = IdIndex::try_new(ids, kind).unwrap();
     let mut named = Vec::with_capacity(alloc, ids.len())?;
     for at in 0..ids.len() {
-        named.push(name_at(ids, &index, at, least))?;
+        named.push(name_at(ids, kind, at, least))?;
     }
     Ok(named)
 }
 
 // The id at a position of an index with its abbreviation there.
 #[inline(always)]
-fn name_at(ids: &[ObjectId], index: &IdIndex<'_>, at: usize, least: usize) -> NamedId
+fn name_at(ids: &[ObjectId], kind: Kind, at: usize, least: usize) -> NamedId
     requires in_range { at < length ids.now }
-    requires index { index.now.ids ≡ map id_digits ids.now }
-    requires kinds { All (λ id. id_kind id ≡ index.now.kind) ids.now }
+    requires index { IsIndex kind (map id_digits ids.now) }
+    requires kinds { All (λ id. id_kind id ≡ kind) ids.now }
     requires enough { 4 ≤ least }
-    requires fits { least ≤ hex_len_of index.now.kind }
+    requires fits { least ≤ hex_len_of kind }
     ensures id { slice_get ids.now at ≡ Some result.id }
     ensures name { IsShortestNameFrom least (map id_digits ids.now) at result.name.digits }
-    ensures kind { IsOfKind index.now.kind result }
+    ensures kind { IsOfKind kind result }
 {
     NamedId {
         id: ids[at],
-        name: index.abbreviate_from(at, least),
+        name: abbreviate_in(ids, kind, at, least),
     }
 }
 
-// The abbreviation of the only id of an index of a prefix's kind that begins with the prefix.
+// The abbreviation of the only id of an index of a prefix's kind that begins with the prefix. It is
+// found by binary search, and compared with its two neighbours.
 pub(crate) fn abbreviation_in(ids: &[ObjectId], prefix: &Prefix, least: usize) -> Abbreviation
     requires index { IsIndex prefix.now.kind (map id_digits ids.now) }
     requires kinds { All (λ id. id_kind id ≡ prefix.now.kind) ids.now }
@@ -227,10 +227,12 @@ pub(crate) fn abbreviation_in(ids: &[ObjectId], prefix: &Prefix, least: usize) -
     ensures name { IsAbbreviatedAt least (map id_digits ids.now) prefix.now.digits result }
     ensures kind { IsAbbreviationOfKind prefix.now.kind result }
 {
-    let index = IdIndex::try_new(ids, prefix.as_oid().kind()).unwrap();
-    match index.find(prefix) {
-        Answer::None => Abbreviation::Missing,
-        Answer::One(at) => Abbreviation::Named(name_at(ids, &index, at, least)),
-        Answer::Many(_) => Abbreviation::Ambiguous,
+    // Its contract says how many digits the prefix has at most.
+    let _hex_len = prefix.hex_len();
+    let run = find_assuming_sorted(ids, prefix);
+    match run.end - run.start {
+        0 => Abbreviation::Missing,
+        1 => Abbreviation::Named(name_at(ids, prefix.as_oid().kind(), run.start, least)),
+        _ => Abbreviation::Ambiguous,
     }
 }

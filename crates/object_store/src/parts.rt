@@ -19,6 +19,7 @@ use std::marker::Model;
 /// A cursor over a store, whose ids with one first byte it holds. They are read when something with
 /// this byte is looked up, and kept until something with another is. So look-ups in the order of
 /// what is looked up read the ids with each first byte once, and hold memory for one at a time.
+/// Those with which an abbreviation was compared are kept too, until one is compared with others.
 ///
 /// ```
 /// let mut parts = Parts::new(rt.alloc(), &store);
@@ -32,6 +33,8 @@ pub struct Parts<'s, S: Store, A: Allocator> {
     store: &'s S,
     // The last that was read.
     part: Option<Part<A>>,
+    // The last among which an abbreviation was looked up.
+    front: Option<Front<A>>,
 }
 
 // The names with one first byte.
@@ -42,16 +45,25 @@ struct Part<A: Allocator> {
     buckets: Vec<Bucket<A>, A>,
 }
 
+// The ids that begin with a prefix.
+#[derive(Drop)]
+struct Front<A: Allocator> {
+    prefix: Prefix,
+    ids: Vec<ObjectId, A>,
+}
+
 impl<'s, S: Store, A: Allocator> Model for Parts<'s, S, A> {
     ghost use Rattle.std.specs.Option.{ForSome};
-    ghost use Rattle.object_store.specs.Stores.{AreBuckets, StoreView};
+    ghost use Rattle.object_store.specs.Stores.{AreBuckets, AreMatches, StoreView};
 
     ghost Value = { StoreView };
 
     ghost view = { λ parts. S.view parts.store.now };
 
     ghost invariant = { λ parts. ForSome parts.part (λ part.
-        AreBuckets (S.view parts.store.now) part.byte part.buckets.items) };
+        AreBuckets (S.view parts.store.now) part.byte part.buckets.items)
+        × ForSome parts.front (λ front.
+        AreMatches (S.view parts.store.now) front.prefix.digits front.ids.items) };
 }
 
 impl<'s, S: Store, A: Allocator + Copy> Parts<'s, S, A> {
@@ -63,6 +75,7 @@ impl<'s, S: Store, A: Allocator + Copy> Parts<'s, S, A> {
             alloc,
             store,
             part: None,
+            front: None,
         }
     }
 
@@ -116,8 +129,29 @@ impl<'s, S: Store, A: Allocator + Copy> Parts<'s, S, A> {
         ensures name { IfOk result (IsAbbreviated least self.old prefix.now.digits) }
         ensures err { IfErr result (IsStoreFault self.old (first_byte_of prefix.now.digits)) }
     {
-        let ids = self.lookup_prefix(&front_of(prefix, least))?;
-        Ok(abbreviation_in(&ids, prefix, least))
+        let front = self.take_front(front_of(prefix, least))?;
+        let found = abbreviation_in(&front.ids, prefix, least);
+        self.front = Some(front);
+        Ok(found)
+    }
+
+    // The ids that begin with a prefix: the last among which an abbreviation was looked up, if they
+    // do.
+    fn take_front(&mut self, prefix: Prefix) -> Result<Front<A>, Error>
+        requires { CanLookUp self.old prefix }
+        ensures store { self.new ≡ self.old }
+        ensures prefix { IfOk result (λ front. front.prefix.digits ≡ prefix.digits) }
+        ensures matches { IfOk result (λ front. AreMatches self.old prefix.digits
+            front.ids.items) }
+        ensures err { IfErr result (IsStoreFault self.old (first_byte_of prefix.digits)) }
+    {
+        if let Some(last) = self.front.take() {
+            if last.prefix == prefix {
+                return Ok(last);
+            }
+        }
+        let ids = self.lookup_prefix(&prefix)?;
+        Ok(Front { prefix, ids })
     }
 
     /// All locations of an object: one in each pack whose index has its id, in the order of

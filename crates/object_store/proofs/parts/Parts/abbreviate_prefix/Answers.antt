@@ -4,17 +4,17 @@ use Rattle.object_store.specs.Several.{IsAbbreviatedAt, IsAbbreviationOfKind}
 use Rattle.object_store.proofs.Abbreviated.{abbreviated, front_byte}
 use Rattle.object_store.proofs.parts.Parts.abbreviate_prefix.Goals as goal
 
-pub returns-in_err-ids-clause-err : goal.returns-in_err-ids-clause-err
-returns-in_err-ids-clause-err g c =
+pub returns-in_err-front-clause-err : goal.returns-in_err-front-clause-err
+returns-in_err-front-clause-err g c =
     let p = err_from_is_err_and c.from_residual.result c.from_residual.ensures.1 in
     let byte = front_byte c.args.least c.args.prefix.now.digits c.front_of.result.digits c.front_of.ensures.digits c.requires.enough c.requires.can.enough in
-    rw (p.1, p.2, ← byte) c.in_err-ids.ensures.err
+    rw (p.1, p.2, ← byte) c.in_err-front.ensures.err
 
 pub returns-clause-name : goal.returns-clause-name
 returns-clause-name g c =
     let digits = c.args.prefix.now.digits in
-    let a = c.abbreviation_in.result in
-    abbreviated c.args.least c.args.self.now digits c.front_of.result.digits c.in_ok-ids.ids.items a c.front_of.ensures.digits c.requires.enough c.requires.can.enough
-    c.in_ok-ids.ensures.matches
-    (subst (λ (ids : List ObjectId). IsAbbreviatedAt c.args.least (map id_digits ids) digits a) c.deref.ensures.value c.abbreviation_in.ensures.name)
-    (subst (λ (k : Kind). IsAbbreviationOfKind k a) c.requires.can.kind c.abbreviation_in.ensures.kind)
+    let a = c.abbreviation_in-found.result in
+    abbreviated c.args.least c.args.self.now digits c.front_of.result.digits c.in_ok-front.front.ids.items a c.front_of.ensures.digits c.requires.enough c.requires.can.enough
+    c.in_ok-front.ensures.matches
+    (subst (λ (ids : List ObjectId). IsAbbreviatedAt c.args.least (map id_digits ids) digits a) c.deref.ensures.value c.abbreviation_in-found.ensures.name)
+    (subst (λ (k : Kind). IsAbbreviationOfKind k a) c.requires.can.kind c.abbreviation_in-found.ensures.kind)
