@@ -19,12 +19,12 @@ use std::{env, fmt, thread};
 #[derive(Debug)]
 #[non_exhaustive]
 pub enum StoreError {
-    /// No id of the store begins with the prefix.
-    Missing,
+    /// No id of the store begins with the prefix. That many parts of the store were left out.
+    Missing { prefix: Prefix, skipped: usize },
     /// Several ids of the store begin with the prefix: these, in order.
-    Ambiguous(Vec<Id>),
+    Ambiguous { prefix: Prefix, ids: Vec<Id> },
     /// The prefix has one digit (`BadLength`), or more than ids of the store (`PrefixTooLong`).
-    Prefix(Error),
+    Prefix { prefix: Prefix, error: Error },
     /// The store cannot be read: the last line that `packtool` said.
     Failed(String),
     /// `packtool` cannot be run in the directory.
@@ -34,9 +34,16 @@ pub enum StoreError {
 impl fmt::Display for StoreError {
     fn fmt(&self, f: &mut fmt::Formatter<'_>) -> fmt::Result {
         match self {
-            StoreError::Missing => f.write_str("no id begins with the prefix"),
-            StoreError::Ambiguous(ids) => write!(f, "{} ids begin with the prefix", ids.len()),
-            StoreError::Prefix(error) => error.fmt(f),
+            StoreError::Missing { prefix, skipped: 0 } => write!(f, "no id begins with {prefix}"),
+            StoreError::Missing { prefix, skipped } => {
+                let parts = if *skipped == 1 { "part" } else { "parts" };
+                write!(f, "no id begins with {prefix} ({skipped} {parts} of the store left out: see skipped)")
+            }
+            StoreError::Ambiguous { prefix, ids } => write!(f, "{} ids begin with {prefix}", ids.len()),
+            StoreError::Prefix { prefix, error: Error { code: Code::BadLength, .. } } => {
+                write!(f, "{prefix}: a store's prefix has 2 digits or more")
+            }
+            StoreError::Prefix { prefix, error } => write!(f, "{prefix}: {error}"),
             StoreError::Failed(why) => f.write_str(why),
             StoreError::Program(error) => error.fmt(f),
         }
@@ -122,8 +129,8 @@ impl Store {
         let (program, skipped, asked) = (program()?, Mutex::default(), Default::default());
         let mut store = Store { program, options, directory, variables, kind: Kind::Sha256, skipped, asked };
         // (64 digits are a prefix only in a store of SHA-256)
-        match store.ask(FIND, &"0".repeat(64)) {
-            Err(StoreError::Prefix(_)) => store.kind = Kind::Sha1,
+        match store.ask(FIND, &"0".repeat(64).parse().expect("a prefix has 64 digits at most")) {
+            Err(StoreError::Prefix { .. }) => store.kind = Kind::Sha1,
             asked => drop(asked?),
         }
         Ok(store)
@@ -149,9 +156,13 @@ impl Store {
     /// The one id that begins with a prefix. The error is `Missing` or `Ambiguous`.
     pub fn resolve(&self, prefix: &Prefix) -> Result<Id> {
         match self.find(prefix)? {
-            ids if ids.len() > 1 => Err(StoreError::Ambiguous(ids)),
-            ids => ids.first().copied().ok_or(StoreError::Missing),
+            ids if ids.len() > 1 => Err(StoreError::Ambiguous { prefix: *prefix, ids }),
+            ids => ids.first().copied().ok_or_else(|| self.missing(*prefix)),
         }
+    }
+
+    fn missing(&self, prefix: Prefix) -> StoreError {
+        StoreError::Missing { prefix, skipped: locked(&self.skipped).len() }
     }
 
     /// Whether the store has an id.
@@ -180,11 +191,12 @@ impl Store {
     /// The shortest prefix of an id of the store, of `least` digits or more, with which no other id begins. Below 4 `least`
     /// is 4, and above all digits these. The error is `Missing` if the store does not have the id.
     pub fn abbreviate(&self, id: &Id, least: usize) -> Result<String> {
+        let prefix = Prefix::from(*id);
         if id.kind() != self.kind {
-            return Err(StoreError::Missing);
+            return Err(self.missing(prefix));
         }
         let mut digits = id.to_string();
-        let name = self.ask(NAMES, &digits)?.pop().ok_or(StoreError::Missing)?;
+        let name = self.ask(NAMES, &prefix)?.pop().ok_or_else(|| self.missing(prefix))?;
         digits.truncate(name.len().max(least));
         Ok(digits)
     }
@@ -198,7 +210,8 @@ impl Store {
     }
 
     /// Each of many prefixes with the ids that begin with it, in the order of the prefixes, of which some 16,000 are taken
-    /// before their turn, in the thread that asks for the pairs. After an error there are no more.
+    /// before their turn, in the thread that asks for the pairs. The error of a prefix comes in its turn. After an error there
+    /// are no more.
     pub fn find_many<I>(&self, prefixes: I) -> Result<FindMany<'_, I::IntoIter>>
     where
         I: IntoIterator<Item = Prefix>,
@@ -213,7 +226,7 @@ impl Store {
         })?;
         let prefixes = prefixes.into_iter();
         let (asked, ready) = (VecDeque::new(), VecDeque::new().into_iter());
-        Ok(FindMany { store: self, process: Some(process), sender, prefixes, asked, ready })
+        Ok(FindMany { store: self, process: Some(process), sender, prefixes, wrong: None, asked, ready })
     }
 
     // Keeps what a process has skipped. What else it has said is an error.
@@ -243,16 +256,24 @@ impl Store {
         Err(StoreError::Failed(signal.map_or("packtool ended".to_owned(), by_signal)))
     }
 
-    // What is found for a prefix, without the prefix before it.
-    fn found(&self, command: usize, prefix: &Prefix) -> Result<Vec<Vec<u8>>> {
-        if prefix.hex_len() < 2 {
-            return Err(StoreError::Prefix(Error { code: Code::BadLength, detail: 0 }));
-        }
-        self.ask(command, &prefix.to_string())
+    // Why a prefix is none of ids of the store, if so.
+    fn refusal(&self, prefix: &Prefix) -> Option<StoreError> {
+        let code = match prefix.hex_len() {
+            0 | 1 => Code::BadLength,
+            len if len > 2 * self.kind.len_in_bytes() => Code::PrefixTooLong,
+            _ => return None,
+        };
+        Some(StoreError::Prefix { prefix: *prefix, error: Error { code, detail: 0 } })
     }
 
-    // The same for the line of a prefix. A process in whose reply something fails is dropped, which ends it.
-    fn ask(&self, command: usize, asked: &str) -> Result<Vec<Vec<u8>>> {
+    // What is found for a prefix, without the prefix before it.
+    fn found(&self, command: usize, prefix: &Prefix) -> Result<Vec<Vec<u8>>> {
+        self.refusal(prefix).map_or_else(|| self.ask(command, prefix), Err)
+    }
+
+    // The same for a prefix of 2 digits or more. A process in whose reply something fails is dropped, which ends it.
+    fn ask(&self, command: usize, prefix: &Prefix) -> Result<Vec<Vec<u8>>> {
+        let asked = prefix.to_string();
         let mut resting = locked(&self.asked[command]);
         let mut process = match resting.take() {
             Some(process) => process,
@@ -267,8 +288,8 @@ impl Store {
             if line == MARK {
                 self.heed(&mut process)?;
                 *resting = Some(process);
-                let too_long = StoreError::Prefix(Error { code: Code::PrefixTooLong, detail: 0 });
-                return if is_bad { Err(too_long) } else { Ok(found) };
+                let error = Error { code: Code::PrefixTooLong, detail: 0 };
+                return if is_bad { Err(StoreError::Prefix { prefix: *prefix, error }) } else { Ok(found) };
             }
             match line.strip_prefix(asked.as_bytes()).and_then(|rest| rest.strip_prefix(b" ")) {
                 Some(b"missing") => {}
@@ -325,6 +346,8 @@ pub struct FindMany<'a, I> {
     process: Option<Process>,
     sender: SyncSender<String>,
     prefixes: I,
+    // The error of the first prefix that is wrong, which comes after what is asked.
+    wrong: Option<StoreError>,
     asked: VecDeque<Chunk>,
     ready: std::collections::vec_deque::IntoIter<(Prefix, Vec<Id>)>,
 }
@@ -332,8 +355,9 @@ pub struct FindMany<'a, I> {
 impl<I: Iterator<Item = Prefix>> FindMany<'_, I> {
     // What is found for the next chunk, after the one after it is sent.
     fn refill(&mut self) -> Result<bool> {
-        while self.asked.len() < 2 {
-            let (chunk, lines) = Chunk::next(&mut self.prefixes)?;
+        while self.asked.len() < 2 && self.wrong.is_none() {
+            let (chunk, lines, wrong) = Chunk::next(self.store, &mut self.prefixes);
+            self.wrong = wrong;
             if chunk.prefixes.is_empty() {
                 break;
             }
@@ -342,7 +366,7 @@ impl<I: Iterator<Item = Prefix>> FindMany<'_, I> {
             self.asked.push_back(chunk);
         }
         let (Some(chunk), Some(process)) = (self.asked.pop_front(), &mut self.process) else {
-            return Ok(false);
+            return self.wrong.take().map_or(Ok(false), Err);
         };
         let mut found: Vec<Vec<Id>> = Vec::new();
         let mut last = Vec::new();
@@ -364,7 +388,6 @@ impl<I: Iterator<Item = Prefix>> FindMany<'_, I> {
             }
             match id {
                 b"missing" => {}
-                b"bad" => return Err(StoreError::Prefix(Error { code: Code::PrefixTooLong, detail: 0 })),
                 id => found.last_mut().expect("a line was begun").push(id_of(id)?),
             }
         }
@@ -399,12 +422,17 @@ struct Chunk {
 }
 
 impl Chunk {
-    // The next one, and its lines, of which no two are equal.
-    fn next(prefixes: &mut impl Iterator<Item = Prefix>) -> Result<(Chunk, String)> {
+    // The next one, up to the first prefix that is wrong, its lines, of which no two are equal, and the error of that prefix.
+    fn next(
+        store: &Store,
+        prefixes: &mut impl Iterator<Item = Prefix>,
+    ) -> (Chunk, String, Option<StoreError>) {
+        let mut wrong = None;
         let (mut chunk, mut known, mut lines, mut cost) = (Vec::new(), HashMap::new(), String::new(), 0);
         while let Some(prefix) = if cost < AT_ONCE { prefixes.next() } else { None } {
-            if prefix.hex_len() < 2 {
-                return Err(StoreError::Prefix(Error { code: Code::BadLength, detail: 0 }));
+            wrong = store.refusal(&prefix);
+            if wrong.is_some() {
+                break;
             }
             cost += COSTS.get(prefix.hex_len()).unwrap_or(&1);
             let next = known.len();
@@ -416,7 +444,7 @@ impl Chunk {
             chunk.push((prefix, at));
         }
         lines.push('\n');
-        Ok((Chunk { prefixes: chunk }, lines))
+        (Chunk { prefixes: chunk }, lines, wrong)
     }
 }
 

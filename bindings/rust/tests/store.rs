@@ -175,8 +175,8 @@ fn stores() {
             assert_eq!(&store.find(prefix).unwrap(), found);
             match (store.resolve(prefix), &found[..]) {
                 (Ok(id), [one]) => assert_eq!((id, store.contains(one).unwrap()), (*one, true)),
-                (Err(StoreError::Missing), []) => {}
-                (Err(StoreError::Ambiguous(ids)), several) => assert_eq!(ids, several),
+                (Err(StoreError::Missing { skipped: 0, .. }), []) => {}
+                (Err(StoreError::Ambiguous { ids, .. }), several) => assert_eq!(ids, several),
                 other => panic!("{prefix}: {other:?}"),
             }
         }
@@ -194,22 +194,31 @@ fn wrong_questions(store: &Store, kind: Kind) {
     let other = Id::null(if kind == Kind::Sha1 { Kind::Sha256 } else { Kind::Sha1 });
     for id in [none, other] {
         assert!(
-            !store.contains(&id).unwrap() && matches!(store.abbreviate(&id, 4), Err(StoreError::Missing))
+            !store.contains(&id).unwrap()
+                && matches!(store.abbreviate(&id, 4), Err(StoreError::Missing { .. }))
         );
     }
-    let mut rows = vec![("a".to_owned(), Code::BadLength)];
+    let mut rows = vec![("a".to_owned(), Code::BadLength, "a store's prefix has 2 digits or more")];
     too_long.truncate(64);
     if kind == Kind::Sha1 {
-        rows.push((too_long, Code::PrefixTooLong));
+        rows.push((too_long, Code::PrefixTooLong, "the prefix has more digits than ids of the kind"));
     }
-    for (text, code) in rows {
-        let is = |error: Option<StoreError>| matches!(error, Some(StoreError::Prefix(error)) if error.code == code);
+    for (text, code, message) in rows {
         let asked = prefix(&text);
+        let is = |found: Option<StoreError>| match found.unwrap() {
+            StoreError::Prefix { prefix, error } => (prefix, error.code) == (asked, code),
+            _ => false,
+        };
         assert!(
             is(store.find(&asked).err()) && is(store.resolve(&asked).err()) && is(store.locate(&asked).err())
         );
-        let mut many = store.find_many([prefix("00"), asked]).unwrap();
-        assert!(is(many.find_map(Result::err)) && many.next().is_none());
+        assert_eq!(store.find(&asked).unwrap_err().to_string(), format!("{text}: {message}"));
+        for size in [0, 1, 8191, 9000, 20_000] {
+            let given = [vec![prefix("0011"); size], vec![asked, prefix("00")]].concat();
+            let mut many = store.find_many(given).unwrap();
+            assert!(many.by_ref().take(size).all(|found| found.unwrap().0 == prefix("0011")));
+            assert!(is(many.next().unwrap().err()) && many.next().is_none());
+        }
     }
     assert!(store.find(&prefix("ffffffff")).unwrap().is_empty());
 }
@@ -290,8 +299,12 @@ fn same_as(store: &Store, asked: &Prefix, wanted: &[Id], pair: &[Id]) {
     assert_eq!(collected(store.find_many([*asked]).unwrap()), [(*asked, wanted.to_vec())]);
     match (store.resolve(asked), wanted) {
         (Ok(id), [one]) => assert_eq!(id, *one),
-        (Err(StoreError::Missing), []) => {}
-        (Err(StoreError::Ambiguous(ids)), several) => assert_eq!(ids, several),
+        (Err(error @ StoreError::Missing { .. }), []) => {
+            assert_eq!(error.to_string(), format!("no id begins with {asked}"));
+        }
+        (Err(StoreError::Ambiguous { ids, prefix }), several) => {
+            assert_eq!((&*ids, prefix), (several, *asked))
+        }
         other => panic!("{other:?}"),
     }
     for id in pair {
@@ -301,7 +314,7 @@ fn same_as(store: &Store, asked: &Prefix, wanted: &[Id], pair: &[Id]) {
                 assert_eq!(beginning_with(wanted, &prefix(&name)), [*id]);
                 assert_eq!(name.len() == 4, wanted.len() == 1);
             }
-            Err(error) => assert!(matches!(error, StoreError::Missing) && !wanted.contains(id)),
+            Err(error) => assert!(matches!(error, StoreError::Missing { .. }) && !wanted.contains(id)),
         }
     }
 }
@@ -470,6 +483,8 @@ fn skipped_and_failed() {
         (1, ids.len())
     );
     assert_eq!(store.skipped().len(), 2000);
+    let none = "no id begins with ffffffff (2000 parts of the store left out: see skipped)";
+    assert_eq!(store.resolve(&prefix("ffffffff")).unwrap_err().to_string(), none);
     assert!(store.skipped()[0].starts_with("/nowhere/long") && store.skipped()[0].ends_with(", skipped"));
     let (none, top) = (path.join("none"), Path::new("/"));
     for (path, text) in
