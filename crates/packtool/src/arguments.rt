@@ -1,7 +1,7 @@
 //! The command line.
 
-ghost use Rattle.std.specs.Prelude.{◌≡◌, None, Some, codes};
-ghost use Rattle.clap.specs.Matches.{first_value, found_of};
+ghost use Rattle.std.specs.Prelude.{◌≡◌, None, Some, codes, map, option_map, IfSome};
+ghost use Rattle.clap.specs.Matches.{first_value, found_of, matched_of, raw_values};
 ghost use Rattle.gix_hash.specs.declared.Kind.{Kind};
 
 use clap::{Arg, ArgAction, ArgMatches, Command, value_parser};
@@ -264,21 +264,41 @@ fn files<'a>(alloc: Global, value: &'a str) -> Arg<'a> {
 pub fn read_request<'m, 'a>(matches: &'m ArgMatches<'a>) -> Option<Request<'m, 'a>> {
     let (name, matches) = matches.subcommand()?;
     let row = COMMANDS.iter().find(|row| row.name == name)?;
-    let kind = kind_of(matches);
     match row.action {
-        Action::Store(question) => Some(Request::Store(StoreRequest {
-            question,
-            ask: ask_of(matches),
-            least: usize::from(matches.get_one::<u8>("least").unwrap_or(4)),
-            objects: matches.get_str("objects"),
-            kind,
-        })),
-        Action::Files(command) => Some(Request::Files(FileRequest {
-            command,
-            paths: matches.get_strs("files")?,
-            kind,
-        })),
+        Action::Store(question) => Some(Request::Store(store_request(question, matches))),
+        Action::Files(command) => Some(Request::Files(file_request(command, matches)?)),
     }
+}
+
+// A request to look ids up in a store.
+fn store_request<'a>(question: Question, matches: &ArgMatches<'a>) -> StoreRequest<'a>
+    ensures question { result.question ≡ question }
+    ensures objects { option_map (λ path. path.now) result.objects
+        ≡ first_value (found_of matches.now) (codes "objects") }
+{
+    StoreRequest {
+        question,
+        ask: ask_of(matches),
+        least: usize::from(matches.get_one::<u8>("least").unwrap_or(4)),
+        objects: matches.get_str("objects"),
+        kind: kind_of(matches),
+    }
+}
+
+// A request to read files, or `None` if none is given.
+fn file_request<'m, 'a>(
+    command: FileCommand,
+    matches: &'m ArgMatches<'a>,
+) -> Option<FileRequest<'m, 'a>>
+    ensures { IfSome result (λ request. (request.command ≡ command)
+        × (Some (map (λ path. path.now) request.paths.now)
+        ≡ option_map raw_values (matched_of (found_of matches.now) (codes "files")))) }
+{
+    Some(FileRequest {
+        command,
+        paths: matches.get_strs("files")?,
+        kind: kind_of(matches),
+    })
 }
 
 // Of what a question is asked.
