@@ -1,5 +1,5 @@
 -- What contracts say of why a command stops, or skips a part of a store.
-use Rattle.std.specs.Prelude.{ℕ, ◌≡◌, List, codes, string_bytes}
+use Rattle.std.specs.Prelude.{ℕ, ◌≡◌, Bool, Err, List, Ok, Result, codes, false, string_bytes, true}
 use Rattle.std.specs.IoError.{error_kind}
 use Rattle.std.specs.declared.io.ErrorKind.TheVariants.{BrokenPipe}
 use Rattle.object_store.specs.declared.error.Error.TheVariants as look_ups
@@ -21,6 +21,13 @@ abbrev pub IsAt : FileWhy → List ℕ → Failure → Type 0
 IsAt why path (File text boxed) = (string_bytes text ≡ path) × (boxed.value ≡ why)
 IsAt why path Memory = Unit {0}
 IsAt why path _ = ⊥
+
+-- the status of a file by what became of it: 0 if it is right, 1 if not, 2 if it cannot be read; any other failure ends the command
+abbrev pub status_of_file : Result Bool Failure → Result ℕ Failure
+status_of_file (Ok true) = Ok 0
+status_of_file (Ok false) = Ok 1
+status_of_file (Err (File path why)) = Ok 2
+status_of_file (Err failure) = Err failure
 
 -- what is printed after the error of a part that is skipped: of a pack index of version 1 also what helps
 abbrev pub skipped_mark : StoreError → List ℕ

@@ -1,13 +1,14 @@
 //! Commands over files.
 
-ghost use Rattle.std.specs.Prelude.{◌≡◌, ◌≢◌, ◌↔◌, ◌+◌, ◌*◌, ◌≤◌, ◌++◌, ◌∷◌, ◌⊎◌, ℕ, [], List, Some, false, length, take, true, IfOk, IfSome, IsTrue, MatchOption, OnOk, string_bytes};
+ghost use Rattle.std.specs.Prelude.{◌≡◌, ◌≢◌, ◌↔◌, ◌+◌, ◌*◌, ◌≤◌, ◌++◌, ◌∷◌, ◌⊎◌, ℕ, [], List, Some, codes, false, length, take, true, IfOk, IfSome, IsTrue, MatchOption, OnOk, string_bytes};
 ghost use Rattle.std.specs.Io.{StartsWith};
 ghost use Rattle.std.specs.Option.{ForSome};
 ghost use Rattle.pack_index.specs.Format.{names_start, num_objects};
 ghost use Rattle.packtool.specs.Failures.{IsAt};
-ghost use Rattle.packtool.specs.Verdicts.{IsRight};
+ghost use Rattle.packtool.specs.Verdicts.{IsOfIndex, IsPrinted, IsRight};
 ghost use Rattle.packtool.specs.declared.failure.FileWhy.{FileWhy};
-ghost use Rattle.streams.specs.Devices.{plain_error, plain_failed};
+ghost use Rattle.packtool.specs.declared.files.Verdict.{Verdict};
+ghost use Rattle.streams.specs.Devices.{plain_error, plain_failed, plain_inner};
 ghost use Rattle.streams.specs.Streams.{IsReadAt};
 ghost use Rattle.streams.specs.declared.checking.Ending.{Ending};
 
@@ -110,7 +111,11 @@ pub fn check<'a, W: io::Write>(
     path: &str,
     kind: Option<Kind>,
     out: &mut Plain<W>,
-) -> Result<bool, Failure<'a>> {
+) -> Result<bool, Failure<'a>>
+    ensures { IfOk result (λ is_right. plain_failed out.new ≡ false → (said : Verdict)
+        × (IsTrue is_right ↔ IsRight said) × IsPrinted said path.now
+        (W.contents (plain_inner out.old)) (W.contents (plain_inner out.new))) }
+{
     let verdict = if path == "-" {
         verdict_of_input(rt, kind)?
     } else {
@@ -141,18 +146,30 @@ fn write_verdict<'a, W: io::Write>(
     out: &mut Plain<W>,
 ) -> Result<(), Failure<'a>>
     requires { plain_failed out.old ≡ false }
+    ensures { OnOk result (plain_failed out.new ≡ false → IsPrinted verdict.now path.now
+        (W.contents (plain_inner out.old)) (W.contents (plain_inner out.new))) }
 {
     let _ = match verdict {
         Verdict::Skipped => write_named(path, b": SKIPPED: it has no digest\n", out),
         Verdict::Ends(ending) => write_ending(path, ending, out),
         Verdict::Faulty(error) => {
-            let text = format!(in rt.alloc(); ": FAILED: {error}\n")?;
-            write_named(path, text.as_bytes(), out)
+            let end = fault_end(rt.alloc(), &format!(in rt.alloc(); "{error}")?)?;
+            write_named(path, end.as_bytes(), out)
         }
         Verdict::Alone => write_named(path, b": OK\n", out),
         Verdict::Paired(pairing) => write_pairing(path, pairing, out),
     };
     Ok(())
+}
+
+// What is printed after the name of a file that is wrong.
+fn fault_end(alloc: Global, why: &str) -> Result<String, AllocError>
+    ensures { IfOk result (λ end. string_bytes end ≡ codes ": FAILED: " ++ why.now ++ 10 ∷ []) }
+{
+    let mut end = String::from_str(alloc, ": FAILED: ")?;
+    end.push_str(why)?;
+    end.push('\n')?;
+    Ok(end)
 }
 
 // What is said of standard input. Its first bytes decide whether it is a pack index; of one no more
@@ -228,7 +245,9 @@ fn verdict_of_index<'a>(
     path: &str,
     bytes: &[u8],
     kind: Option<Kind>,
-) -> Result<Verdict, Failure<'a>> {
+) -> Result<Verdict, Failure<'a>>
+    ensures { IfOk result (IsOfIndex kind bytes.now) }
+{
     let index = match open_index(bytes, kind) {
         Ok(index) => index,
         // Such an index may be right.

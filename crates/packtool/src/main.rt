@@ -7,7 +7,7 @@
 #![tactic(auto)]
 
 ghost use Rattle.std.specs.Prelude.{◌≡◌, ◌≢◌, ◌↔◌, ◌++◌, ◌∷◌, ℕ, [], All, IfErr, IfOk, IsNone, IsTrue, List, string_bytes};
-ghost use Rattle.packtool.specs.Failures.{IsClosedPipe};
+ghost use Rattle.packtool.specs.Failures.{IsClosedPipe, status_of_file};
 
 mod arguments;
 mod failure;
@@ -118,7 +118,9 @@ fn first_not_text(words: &[String]) -> Option<usize>
 }
 
 // Shows or checks each file, also after one that cannot be read. `check` returns the status also if
-// nobody reads the output any more.
+// nobody reads the output any more. Not inlined, so that the chunk that is hashed is on the stack
+// only while this runs.
+#[inline(never)]
 fn read_files<'a>(rt: &HostRuntime, request: &FileRequest<'_, '_>) -> Result<u8, Failure<'a>> {
     let mut out = buffered(rt, rt.stdout())?;
     let mut status = FOUND;
@@ -143,6 +145,16 @@ fn read_file<'a, W: io::Write>(
         FileCommand::Show => files::show(rt, path, kind, out),
         FileCommand::Check => files::check(rt, path, kind, out),
     };
+    status_of_file(rt, outcome)
+}
+
+// The status of a file that was shown or checked. That it cannot be read is reported.
+fn status_of_file<'a>(
+    rt: &HostRuntime,
+    outcome: Result<bool, Failure<'a>>,
+) -> Result<u8, Failure<'a>>
+    ensures { result ≡ status_of_file outcome.entry }
+{
     match outcome {
         Ok(true) => Ok(FOUND),
         Ok(false) => Ok(NOTHING),
