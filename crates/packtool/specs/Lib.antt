@@ -1,3 +1,4 @@
+pub mod Answers
 pub mod Failures
 pub mod LineReaders
 pub mod Verdicts

@@ -1,12 +1,13 @@
 //! Commands over a store.
 
-ghost use Rattle.std.specs.Prelude.{◌≡◌, ◌≢◌, ◌↔◌, ◌<◌, ◌≤◌, ◌++◌, ℕ, [], All, Bool, IfOk, IsErrOf, IsTrue, MatchOption, OnOk, Some, false, if◌then◌else◌, length, max, nat_eq, true};
+ghost use Rattle.std.specs.Prelude.{◌≡◌, ◌≢◌, ◌↔◌, ◌<◌, ◌≤◌, ◌++◌, ℕ, [], All, Bool, IfErr, IfOk, IsErrOf, IsOk, IsTrue, MatchOption, OnOk, Some, false, if◌then◌else◌, length, max, nat_eq, true};
 ghost use Rattle.std.specs.List.{ends_with};
 ghost use Rattle.std.specs.Option.{ForSome};
-ghost use Rattle.gix_hash.specs.Words.{KindDigits, first_byte_of, hex_len_of};
+ghost use Rattle.gix_hash.specs.Words.{KindDigits, first_byte_of, hex_len_of, hex_letter, prefix_read_in};
 ghost use Rattle.store_folders.specs.Stores.{only_of};
 ghost use Rattle.packtool_commands.specs.declared.error.StoreError.{StoreError};
 ghost use Rattle.streams.specs.Devices.{plain_failed};
+ghost use Rattle.packtool.specs.Answers.{IsStatus};
 ghost use Rattle.packtool.specs.WholeLines.{AreWhole};
 
 use crate::arguments::{Ask, Question, StoreRequest};
@@ -219,9 +220,10 @@ impl Asked<'_> {
     ) -> Result<u8, Failure<'a>>
         requires kind { store.folder.kind ≡ self.old.folder.now.kind }
         requires output { IsErrOf ran StoreError.Output ↔ (plain_failed out.now ≡ true) }
-        ensures whole { store.skipped.items ≡ [] → IfOk result (λ status. (any : Bool)
-            → ran ≡ Ok any → status ≡ (if any then FOUND else NOTHING)) }
-        ensures lacking { store.skipped.items ≢ [] → IfOk result (λ status. status ≡ FAILED) }
+        ensures ran { OnOk result (IsOk ran) }
+        ensures status { IfOk result (λ status. (any : Bool) → ran ≡ Ok any
+            → IsStatus store.skipped.items any status) }
+        ensures kept { OnOk result (self.new.kept ≡ Some store) }
         ensures output { OnOk result (plain_failed out.now ≡ false) }
     {
         let status = match ran {
@@ -393,8 +395,11 @@ fn least_in<'a>(kind: Kind, least: usize) -> Result<usize, Failure<'a>>
 
 // The prefix that a text is.
 fn read_prefix<'a>(text: &'a str, kind: Kind) -> Result<Prefix, Failure<'a>>
+    ensures read { IfOk result (λ prefix. prefix_read_in kind hex_letter text.now ≡ Ok prefix) }
     ensures enough { IfOk result (λ prefix. 2 ≤ length prefix.digits) }
     ensures kind { IfOk result (λ prefix. prefix.kind ≡ kind) }
+    ensures refused { IfErr result (λ _. IfOk (prefix_read_in kind hex_letter text.now)
+        (λ prefix. length prefix.digits < 2)) }
 {
     if let Ok(prefix) = Prefix::from_hex_in(kind, text)
         && prefix.hex_len() >= 2
