@@ -181,8 +181,11 @@ def _path() -> str:
         if path and os.path.isabs(path) and os.path.isfile(path):
             return path
     # (the loader looks for a name without a slash, and not in the current directory, whose files others may have written)
-    if given and os.path.dirname(given) and not os.path.isabs(given):
-        raise OSError(f"{given}: not an absolute path")
+    if given and (os.path.dirname(given) or os.path.isdir(given)):
+        if not os.path.isabs(given):
+            raise OSError(f"{given}: not an absolute path")
+        if os.path.isdir(given):
+            raise OSError(f"{given}: it has no libgix_hash.so")
     return given or f"libgix_hash.so.{__version__.rpartition('.')[0]}"
 
 
