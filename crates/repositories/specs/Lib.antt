@@ -1,6 +1,9 @@
 pub mod Alternates
 pub mod Formats
+pub mod Heads
+pub mod Lookups
 pub mod Paths
 pub mod Printed
 pub mod Quoting
 pub mod States
+pub mod Walks

@@ -1,10 +1,15 @@
 -- States of directories and files.
-use Rattle.std.specs.Prelude.{◌+◌, ◌%◌, ◌<◌, ◌==◌, if◌then◌else◌}
+use Rattle.std.specs.Prelude.{ℕ, ℤ, pos, negsuc, ◌+◌, ◌%◌, ◌<◌, ◌==◌, if◌then◌else◌}
 use Rattle.std.specs.Time.{system_time_nanos}
 use Rattle.std.specs.declared.time.SystemTime.{SystemTime}
 use Rattle.std.specs.Duration.{as_nanos}
 use Rattle.std.specs.declared.time.Duration.{Duration}
 use Rattle.repositories.specs.declared.state.FileState.{FileState}
+
+-- a number, or 0 if it is negative
+abbrev pub from_zero : ℤ → ℕ
+from_zero (pos n) = n
+from_zero (negsuc n) = 0
 
 -- the time of a file is earlier than now by 20 ms, or by 2 s if it is a whole second: so each later change leaves another
 abbrev pub IsPast : SystemTime → Duration → Type 0

@@ -1,8 +1,11 @@
 //! Paths, and what they lead to.
 
-ghost use Rattle.std.specs.Prelude.{◌≢◌, IfErr};
+ghost use Rattle.std.specs.Prelude.{◌≡◌, ◌≢◌, ◌↔◌, ◌++◌, ◌∷◌, [], IfErr, IfOk, IsErr, IsTrue, None, Ok, Some, false, if◌then◌else◌, map, option_map, string_bytes, true};
 ghost use Rattle.std.specs.IoError.{error_kind};
+ghost use Rattle.std.specs.Path.{path_join, path_parent};
+ghost use Rattle.std.specs.Str.{IsUtf8};
 ghost use Rattle.std.specs.declared.io.ErrorKind.{ErrorKind};
+ghost use Rattle.repositories.specs.Lookups.{is_missing};
 
 use crate::config::kind_in_config;
 use crate::error::Error;
@@ -20,7 +23,9 @@ use std::str;
 /// ```
 /// let packs = join(rt, ".git/objects", "pack")?;
 /// ```
-pub fn join(rt: &impl AllocGlobal, folder: &str, path: &str) -> Result<String, AllocError> {
+pub fn join(rt: &impl AllocGlobal, folder: &str, path: &str) -> Result<String, AllocError>
+    ensures { IfOk result (λ joined. string_bytes joined ≡ path_join folder.now path.now) }
+{
     Ok(Path::new(folder).join(rt.alloc(), path)?.into_string())
 }
 
@@ -30,7 +35,12 @@ pub(crate) fn push_path(
     folder: &str,
     path: &[u8],
     paths: &mut Vec<String>,
-) -> Result<bool, AllocError> {
+) -> Result<bool, AllocError>
+    ensures text { IfOk result (λ is_text. IsTrue is_text ↔ IsUtf8 path.now) }
+    ensures pushed { IfOk result (λ is_text. map string_bytes paths.new.items
+        ≡ map string_bytes paths.old.items
+        ++ (if is_text then path_join folder.now path.now ∷ [] else [])) }
+{
     let Ok(path) = str::from_utf8(path) else {
         return Ok(false);
     };
@@ -69,7 +79,9 @@ pub fn metadata<R: Files>(rt: &R, path: &str) -> io::Result<Metadata>
 }
 
 // Whether a call failed because there is no such directory or file.
-pub(crate) fn is_missing(error: &io::Error) -> bool {
+pub(crate) fn is_missing(error: &io::Error) -> bool
+    ensures { result ≡ is_missing (error_kind error.now) }
+{
     matches!(error.kind(), ErrorKind::NotFound | ErrorKind::NotADirectory)
 }
 
@@ -78,7 +90,12 @@ pub(crate) fn if_there<T: Drop>(
     rt: &impl AllocGlobal,
     path: &str,
     read: io::Result<T>,
-) -> Result<Option<T>, Error> {
+) -> Result<Option<T>, Error>
+    ensures there { IfOk read (λ value. result ≡ Ok (Some value)) }
+    ensures missing { IfErr read (λ error. is_missing (error_kind error) ≡ true
+        → result ≡ Ok None) }
+    ensures unread { IfErr read (λ error. is_missing (error_kind error) ≡ false → IsErr result) }
+{
     match read {
         Ok(read) => Ok(Some(read)),
         Err(error) if is_missing(&error) => Ok(None),
@@ -91,8 +108,15 @@ pub(crate) fn if_there<T: Drop>(
 pub(crate) struct RealFolder {
     // Its absolute path, without links; or the path as it was given, if that is not UTF-8.
     pub(crate) path: String,
-    // The numbers of its file system and of it there, if its absolute path is not UTF-8.
-    pub(crate) number: Option<(u64, u64)>,
+    // Its number, if its absolute path is not UTF-8.
+    pub(crate) number: Option<FileNumber>,
+}
+
+// The number of a file system, and that of a directory in it.
+#[derive(Clone, Copy, PartialEq)]
+pub(crate) struct FileNumber {
+    pub(crate) dev: u64,
+    pub(crate) ino: u64,
 }
 
 // The directory that a path leads to.
@@ -108,7 +132,8 @@ pub(crate) fn real_folder<R: Files + AllocGlobal>(rt: &R, path: &str) -> io::Res
     if !found.is_dir() {
         return Err(ErrorKind::NotADirectory.into());
     }
-    let number = (!is_real).then_some((found.dev(), found.ino()));
+    let (dev, ino) = (found.dev(), found.ino());
+    let number = (!is_real).then_some(FileNumber { dev, ino });
     Ok(RealFolder { path, number })
 }
 
@@ -121,7 +146,9 @@ pub(crate) fn existing_folder<R: Files + AllocGlobal>(
 }
 
 // The path of the directory in which a path is, if it has one.
-pub(crate) fn parent(path: &str) -> Option<&str> {
+pub(crate) fn parent(path: &str) -> Option<&str>
+    ensures { option_map (λ folder. folder.now) result ≡ path_parent path.now }
+{
     Path::new(path).parent().map(|folder| folder.as_str())
 }
 

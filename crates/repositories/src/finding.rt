@@ -1,5 +1,7 @@
 //! Object directories: the one of the repository that a program runs in, and others by their paths.
 
+ghost use Rattle.std.specs.Prelude.{◌≡◌, IfOk, [], string_bytes};
+
 use crate::alternates::alternate_paths;
 use crate::error::{Cause, Error};
 use crate::files::{has_folder, is_file, join, kind_beside, kind_by_config, metadata, push_path};
@@ -41,7 +43,10 @@ impl ObjectsFolder {
     /// let folder = ObjectsFolder::at(rt, ".git/objects")?;
     /// assert!(rt; folder.alternates.is_empty());
     /// ```
-    pub fn at<R: Files + AllocGlobal>(rt: &R, path: &str) -> Result<ObjectsFolder, Error> {
+    pub fn at<R: Files + AllocGlobal>(rt: &R, path: &str) -> Result<ObjectsFolder, Error>
+        ensures path { IfOk result (λ folder. string_bytes folder.path ≡ path.now) }
+        ensures alternates { IfOk result (λ folder. folder.alternates.items ≡ []) }
+    {
         if !is_store(rt, path)? {
             return Err(no_store(rt, path)?);
         }

@@ -1,9 +1,13 @@
 //! An object directory and its alternates.
 
+ghost use Rattle.std.specs.Prelude.{◌≡◌, ◌⊎◌, ◌++◌, ◌∷◌, ◌+◌, ◌&&◌, [], IfOk, IsSome, None, OnOk, codes, string_bytes, vec_len};
+ghost use Rattle.std.specs.Path.{path_join};
+ghost use Rattle.repositories.specs.Walks.{WasFound, are_same_paths, are_same_states, is_found, numbers_with};
+
 use crate::alternates::alternate_paths;
 use crate::error::Error;
 use crate::files::{
-    RealFolder, existing_folder, if_there, is_missing, join, push_path, real_folder,
+    FileNumber, RealFolder, existing_folder, if_there, is_missing, join, push_path, real_folder,
 };
 use crate::finding::{ALTERNATES, ObjectsFolder};
 use crate::state::FileState;
@@ -50,8 +54,15 @@ impl Folders {
         {
             return Ok(list_state(rt, &list_path(rt, &objects.path)?)? == *state);
         }
-        let now = with_alternates(rt, objects)?;
-        Ok(now.paths == self.paths && now.states == self.states)
+        Ok(self.are_same(&with_alternates(rt, objects)?))
+    }
+
+    // Whether others have the same paths and states.
+    fn are_same(&self, others: &Folders) -> bool
+        ensures { result ≡ (are_same_paths self.now.paths.items others.now.paths.items
+            && are_same_states self.now.states.items others.now.states.items) }
+    {
+        self.paths == others.paths && self.states == others.states
     }
 }
 
@@ -72,19 +83,18 @@ pub fn with_alternates<R: Files + AllocGlobal>(
     rt: &R,
     objects: &ObjectsFolder,
 ) -> Result<Folders, Error> {
-    let mut found = Folders {
-        paths: Vec::new(rt.alloc()),
-        states: Vec::new(rt.alloc()),
-        skipped: Vec::new(rt.alloc()),
-    };
     let real = existing_folder(rt, &objects.path)?;
     let mut walk = Walk {
         rt,
-        found: &mut found,
+        found: Folders {
+            paths: Vec::new(rt.alloc()),
+            states: Vec::new(rt.alloc()),
+            skipped: Vec::new(rt.alloc()),
+        },
         numbers: Vec::new(rt.alloc()),
     };
     walk.push_with_alternates(real, &objects.alternates)?;
-    drop(walk);
+    let mut found = walk.found;
     // Errors show the path as it was given.
     if let Some(first) = found.paths.first_mut() {
         *first = objects.path.clone()?;
@@ -96,9 +106,9 @@ pub fn with_alternates<R: Files + AllocGlobal>(
 #[derive(Drop)]
 struct Walk<'a, R> {
     rt: &'a R,
-    found: &'a mut Folders,
+    found: Folders,
     // The numbers of those whose absolute paths are not UTF-8.
-    numbers: Vec<(u64, u64)>,
+    numbers: Vec<FileNumber>,
 }
 
 impl<R: Files + AllocGlobal> Walk<'_, R> {
@@ -112,7 +122,13 @@ impl<R: Files + AllocGlobal> Walk<'_, R> {
     }
 
     // Adds a directory.
-    fn push(&mut self, folder: RealFolder) -> Result<(), AllocError> {
+    fn push(&mut self, folder: RealFolder) -> Result<(), AllocError>
+        ensures paths { OnOk result (self.new.found.paths.items
+            ≡ self.old.found.paths.items ++ folder.path ∷ []) }
+        ensures numbers { OnOk result (self.new.numbers.items
+            ≡ numbers_with self.old.numbers.items folder) }
+        ensures skipped { OnOk result (self.new.found.skipped ≡ self.old.found.skipped) }
+    {
         if let Some(number) = folder.number {
             self.numbers.push(number)?;
         }
@@ -121,7 +137,9 @@ impl<R: Files + AllocGlobal> Walk<'_, R> {
     }
 
     // Whether a directory is there already.
-    fn has(&self, folder: &RealFolder) -> bool {
+    fn has(&self, folder: &RealFolder) -> bool
+        ensures { result ≡ is_found self.now.found.paths.items self.now.numbers.items folder.now }
+    {
         match folder.number {
             Some(number) => self.numbers.contains(&number),
             None => self.found.paths.contains(&folder.path),
@@ -143,7 +161,25 @@ impl<R: Files + AllocGlobal> Walk<'_, R> {
     // Adds a directory, and returns its alternates. Returns none if it is there already, or is
     // skipped: it cannot be read, or no level is left.
     fn push_folder(&mut self, path: &str, levels: u8) -> Result<Option<Vec<String>>, Error> {
-        match real_folder(self.rt, path) {
+        self.push_real(path, real_folder(self.rt, path), levels)
+    }
+
+    // The same of what a path leads to.
+    fn push_real(
+        &mut self,
+        path: &str,
+        real: io::Result<RealFolder>,
+        levels: u8,
+    ) -> Result<Option<Vec<String>>, Error>
+        ensures none { IfOk result (λ list. list ≡ None
+            → WasFound self.old.found.paths.items self.old.numbers.items real
+            ⊎ (vec_len self.new.found.skipped ≡ vec_len self.old.found.skipped + 1)) }
+        ensures kept { IfOk result (λ list. list ≡ None
+            → self.new.found.paths.items ≡ self.old.found.paths.items) }
+        ensures pushed { IfOk result (λ list. IsSome list → IfOk real (λ folder.
+            self.new.found.paths.items ≡ self.old.found.paths.items ++ folder.path ∷ [])) }
+    {
+        match real {
             Ok(real) if self.has(&real) => Ok(None),
             Ok(_) if levels == 0 => {
                 let error = Error::text(self.rt.alloc(), path, "nested more than 5 deep");
@@ -171,7 +207,9 @@ impl<R: Files + AllocGlobal> Walk<'_, R> {
     }
 
     // The paths in the list of alternates of a directory. Those that are not UTF-8 are skipped.
-    fn alternates_of(&mut self, folder: &str) -> Result<Vec<String>, Error> {
+    fn alternates_of(&mut self, folder: &str) -> Result<Vec<String>, Error>
+        ensures paths { self.new.found.paths.items ≡ self.old.found.paths.items }
+    {
         let mut paths = Vec::new(self.rt.alloc());
         let list = list_path(self.rt, folder)?;
         for path in &alternate_paths(self.rt.alloc(), &self.list_of(&list)?, b'\n')? {
@@ -185,7 +223,9 @@ impl<R: Files + AllocGlobal> Walk<'_, R> {
     }
 
     // The text of a list of alternates, which is empty if there is none.
-    fn list_of(&mut self, list: &str) -> Result<Vec<u8>, Error> {
+    fn list_of(&mut self, list: &str) -> Result<Vec<u8>, Error>
+        ensures paths { self.new.found.paths.items ≡ self.old.found.paths.items }
+    {
         let state = list_state(self.rt, list)?;
         self.found.states.push(state)?;
         if state.is_missing() {
@@ -211,7 +251,10 @@ fn unusable(rt: &impl AllocGlobal, path: &str, error: io::Error) -> Result<Error
 }
 
 // The path of the list of alternates of a directory.
-fn list_path(rt: &impl AllocGlobal, folder: &str) -> Result<String, AllocError> {
+fn list_path(rt: &impl AllocGlobal, folder: &str) -> Result<String, AllocError>
+    ensures { IfOk result (λ list. string_bytes list
+        ≡ path_join folder.now (codes "info/alternates")) }
+{
     join(rt, folder, "info/alternates")
 }
 

@@ -1,5 +1,10 @@
 //! Where a repository has its objects, references and config.
 
+ghost use Rattle.std.specs.Prelude.{◌≡◌, ◌≤◌, length, take};
+ghost use Rattle.std.specs.Char.{is_ascii_hexdigit};
+ghost use Rattle.std.specs.List.{prefix_len};
+ghost use Rattle.repositories.specs.Heads.{begins_head, is_blank, is_head};
+
 use crate::error::Error;
 use crate::files::{
     existing_folder, has_folder, if_there, is_file, is_folder, join, metadata, parent, retried,
@@ -246,14 +251,48 @@ fn has_head<R: Files + AllocGlobal>(rt: &R, folder: &str) -> Result<bool, Error>
 }
 
 // Git reads the first 255 bytes.
-fn is_head(text: &[u8]) -> bool {
-    match &text[..text.len().min(255)] {
-        [b'r', b'e', b'f', b':', rest @ ..] => {
-            let name = rest.iter().position(|byte| !b" \t\n\r".contains(byte));
-            name.is_some_and(|at| rest[at..].starts_with(b"refs/"))
-        }
-        text => text.len() >= 40 && text[..40].iter().all(|digit| digit.is_ascii_hexdigit()),
+#[tactic(auto, unfolding(crate::specs::Heads::is_head))]
+fn is_head(text: &[u8]) -> bool
+    ensures { result ≡ is_head text.now }
+{
+    begins_head(first_255(text))
+}
+
+// The first 255 bytes of a text.
+fn first_255(text: &[u8]) -> &[u8]
+    ensures { result.now ≡ take 255 text.now }
+{
+    &text[..text.len().min(255)]
+}
+
+// Whether a text names a reference or begins with an id.
+#[tactic(auto, unfolding(crate::specs::Heads::begins_head))]
+fn begins_head(text: &[u8]) -> bool
+    ensures { result ≡ begins_head text.now }
+{
+    match text.strip_prefix(b"ref:") {
+        Some(rest) => rest[blanks_len(rest)..].starts_with(b"refs/"),
+        None => 40 <= digits_len(text),
     }
+}
+
+// How many hex digits a text begins with.
+fn digits_len(text: &[u8]) -> usize
+    ensures { result ≡ prefix_len is_ascii_hexdigit text.now }
+{
+    text.iter()
+        .take_while(|byte| byte.is_ascii_hexdigit())
+        .count()
+}
+
+// How many spaces, tabs and line ends it begins with.
+fn blanks_len(text: &[u8]) -> usize
+    ensures len { result ≡ prefix_len is_blank text.now }
+    ensures bound { result ≤ length text.now }
+{
+    text.iter()
+        .take_while(|byte| matches!(**byte, b' ' | b'\t' | b'\n' | b'\r'))
+        .count()
 }
 
 // A line without the line feeds and carriage returns at its end.

@@ -1,7 +1,9 @@
 //! What directories and files are before they are read, to know whether they changed meanwhile.
 
-ghost use Rattle.std.specs.Prelude.{◌≡◌, ◌==◌, ◌↔◌, IsTrue, not};
-ghost use Rattle.repositories.specs.States.{IsPast, IsSettled};
+ghost use Rattle.std.specs.Prelude.{◌≡◌, ◌+◌, ◌*◌, ◌==◌, ◌↔◌, IsTrue, not};
+ghost use Rattle.std.specs.Duration.{as_nanos};
+ghost use Rattle.std.specs.Fs.{metadata_len};
+ghost use Rattle.repositories.specs.States.{IsPast, IsSettled, from_zero};
 
 use crate::files::{is_missing, metadata};
 use std::fs::Metadata;
@@ -19,9 +21,9 @@ const GRAIN: u128 = 20_000_000;
 const GRAIN_OF_SECONDS: u128 = 2_000_000_000;
 
 /// The state of a directory or file: which one it is, its size in bytes, and when it was modified
-/// and when it was changed. A time before 1970 is taken for 1970. If a path leads to nothing, its
-/// state is that of the first directory above that is there, and how many names are missing below:
-/// so what comes and goes again leaves another state, too.
+/// and when it was changed. Of a time before 1970 only the nanoseconds are kept. If a path leads to
+/// nothing, its state is that of the first directory above that is there, and how many names are
+/// missing below: so what comes and goes again leaves another state, too.
 ///
 /// What is read between two equal states was there at one time, unless it changed twice within one
 /// tick of the file system's clock.
@@ -73,7 +75,8 @@ impl FileState {
 
     // The state of what is there.
     fn new(found: &Metadata) -> FileState
-        ensures { result.missing ≡ 0 }
+        ensures there { result.missing ≡ 0 }
+        ensures size { result.size ≡ metadata_len found.now }
     {
         FileState {
             missing: 0,
@@ -122,8 +125,11 @@ fn is_past(time: Duration, now: SystemTime) -> bool
     }
 }
 
-// A time of a file, of seconds and nanoseconds. One before 1970 is taken for 1970.
-fn since_1970(secs: i64, nanos: i64) -> Duration {
+// A time of a file, of seconds and nanoseconds. Of one before 1970 the nanoseconds are kept, so
+// that two such times mostly differ, too.
+fn since_1970(secs: i64, nanos: i64) -> Duration
+    ensures { as_nanos result ≡ from_zero secs * 1_000_000_000 + from_zero nanos }
+{
     let nanos = Duration::from_nanos(u64::try_from(nanos).unwrap_or(0));
     Duration::from_secs(u64::try_from(secs).unwrap_or(0)).saturating_add(nanos)
 }
