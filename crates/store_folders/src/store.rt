@@ -146,7 +146,7 @@ impl<R: Files<File = File> + AllocGlobal + Clone + Drop> FolderStore<R> {
     /// What was changed less than 20 ms before it was read is read again, and so is what
     /// [`FolderStore::open`] has read, and a store of which something is skipped: see
     /// [`FileState::is_settled`](repositories::FileState::is_settled). The errors are those of
-    /// `open`, after which no pack index may be left.
+    /// `open`, after which no pack index may be left; the next call then reads the store again.
     ///
     /// ```
     /// let folder = find_objects(rt)?;
@@ -159,12 +159,15 @@ impl<R: Files<File = File> + AllocGlobal + Clone + Drop> FolderStore<R> {
         ensures same { IfOk result (λ is_same. is_same ≡ true
             → (self.new.indexes.items ≡ self.old.indexes.items)
             × (self.new.loose ≡ self.old.loose)) }
+        ensures left { IfErr result (λ _. self.new.is_settled ≡ true
+            → self.new.indexes.items ≡ self.old.indexes.items) }
     {
         match self.look_again(loose, now) {
             Err(error) if error.is_change() || error.is_too_many_open() => {}
             looked => return looked,
         }
-        // Its files are closed before as many are opened.
+        // Its files are closed before as many are opened. If that fails, the next call opens them.
+        self.is_settled = false;
         self.packs = Vec::new(self.rt.alloc());
         self.indexes = Vec::new(self.rt.alloc());
         *self = FolderStore::open_at(&self.rt, &self.folder, loose, Some(now))?;
@@ -175,9 +178,8 @@ impl<R: Files<File = File> + AllocGlobal + Clone + Drop> FolderStore<R> {
     fn look_again(&mut self, loose: LooseIds, now: SystemTime) -> Result<bool, Error>
         ensures kind { self.new.folder.kind ≡ self.old.folder.kind }
         ensures listed { IfOk result (λ _. self.new.loose.which ≡ loose) }
-        ensures same { IfOk result (λ is_same. is_same ≡ true
-            → (self.new.indexes.items ≡ self.old.indexes.items)
-            × (self.new.loose ≡ self.old.loose)) }
+        ensures indexes { self.new.indexes.items ≡ self.old.indexes.items }
+        ensures same { IfOk result (λ is_same. is_same ≡ true → self.new.loose ≡ self.old.loose) }
     {
         self.expect_unchanged()?;
         let is_listed = self.loose.which == loose;

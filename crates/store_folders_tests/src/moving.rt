@@ -1,4 +1,4 @@
-//! Directories in which files are moved as they are listed, and whose reads fail.
+//! Directories in which files are moved as they are listed, and whose reads and openings fail.
 
 use std::alloc::{Alloc, AllocError, Allocator, Global};
 use std::cell::Cell;
@@ -52,11 +52,29 @@ impl Read for Names {
 }
 
 /// Directories in which files are moved as they are listed, with the number of reads that are left.
+/// Of the next openings of a directory or file those fail whose bits are set, from the lowest bit
+/// on, as if too many files were open.
 pub struct Moving<'a, R> {
     pub rt: &'a R,
     pub moves: &'a [Move],
     pub listed: &'a Cell<usize>,
     pub reads: &'a Cell<usize>,
+    pub failing: &'a Cell<u8>,
+}
+
+// EMFILE.
+const TOO_MANY_OPEN: i32 = 24;
+
+impl<R> Moving<'_, R> {
+    fn expect_opening(&self) -> io::Result<()> {
+        let failing = self.failing.get();
+        self.failing.set(failing / 2);
+        if failing % 2 == 1 {
+            Err(io::Error::from_raw_os_error(TOO_MANY_OPEN))
+        } else {
+            Ok(())
+        }
+    }
 }
 
 impl<R> Copy for Moving<'_, R> {}
@@ -81,6 +99,7 @@ impl<R: Files<File = File> + AllocGlobal> Files for Moving<'_, R> {
     type Dir = Names;
 
     fn open_dir(&self, path: &str) -> io::Result<Names> {
+        self.expect_opening()?;
         for (before, (from, to)) in self.moves {
             if *before == self.listed.get() {
                 self.rt.rename(from, to)?;
@@ -91,6 +110,7 @@ impl<R: Files<File = File> + AllocGlobal> Files for Moving<'_, R> {
     }
 
     fn open_file(&self, how: &OpenOptions, path: &str) -> io::Result<File> {
+        self.expect_opening()?;
         self.rt.open_file(how, path)
     }
 

@@ -111,12 +111,13 @@ fn expect_opened<R: Abort + Files<File = File> + AllocGlobal>(
     left: usize,
     want: Result<&[&str], &str>,
 ) -> Result<(), Fail> {
-    let (listed, reads) = (Cell::new(0), Cell::new(left));
+    let (listed, reads, failing) = (Cell::new(0), Cell::new(left), Cell::new(0));
     let moving = Moving {
         rt,
         moves,
         listed: &listed,
         reads: &reads,
+        failing: &failing,
     };
     let folder = ObjectsFolder::at(rt, objects)?;
     match FolderStore::open(&moving, &folder, LooseIds::WithFirstByte(0x4b)) {
@@ -359,6 +360,58 @@ fn a_store_is_refreshed_for_other_loose_objects(rt: HostRuntime) -> Result<(), F
     drop(store);
     ended?;
     fs::remove_dir_all(&rt, "kept")?;
+    Ok(())
+}
+
+// Which openings fail: the one of the look for other loose objects, after which the store is opened
+// again, and one of each kind while it is opened: of the directory of packs, of a fan-out directory,
+// of the directory of packs again, and of a pack index, also as the only open file.
+const FAILING: [u8; 4] = [0b11, 0b101, 0b1001, 0b11_0001];
+
+// After a refresh that failed the next one finds the packs.
+fn expect_refreshed_after_failures<R: Files<File = File> + AllocGlobal + Clone + Drop>(
+    rt: &(impl Abort + AllocGlobal),
+    store: &mut FolderStore<R>,
+    failing: &Cell<u8>,
+    now: SystemTime,
+) -> Result<(), Fail> {
+    expect_refreshed(rt, store, now, false, &[BOTH])?;
+    for bits in &FAILING {
+        failing.set(*bits);
+        let error = store.refresh(LooseIds::WithFirstByte(0), now).err();
+        let error = error.expect(rt, "refreshed where openings fail");
+        drop(error);
+        failing.set(0);
+        expect_refreshed(rt, store, now, false, &[BOTH])?;
+        expect_refreshed(rt, store, now, true, &[BOTH])?;
+    }
+    Ok(())
+}
+
+#[test]
+fn no_pack_is_lost_by_a_refresh_that_fails(rt: HostRuntime) -> Result<(), Fail> {
+    make(
+        &rt,
+        &["failed/objects/pack/pack-1.pack"],
+        &[],
+        &[("failed/objects/pack/pack-1.idx", &[BOTH])],
+    )?;
+    let (listed, reads, failing) = (Cell::new(0), Cell::new(AMPLE), Cell::new(0));
+    let moving = Moving {
+        rt: &rt,
+        moves: &[],
+        listed: &listed,
+        reads: &reads,
+        failing: &failing,
+    };
+    let folder = ObjectsFolder::at(&rt, "failed/objects")?;
+    let now = SystemTime::now(&rt)?.checked_add(Duration::from_secs(60));
+    let now = now.expect(&rt, "no time");
+    let mut store = FolderStore::open(&moving, &folder, FRESH)?;
+    let ended = expect_refreshed_after_failures(&rt, &mut store, &failing, now);
+    drop(store);
+    ended?;
+    fs::remove_dir_all(&rt, "failed")?;
     Ok(())
 }
 
