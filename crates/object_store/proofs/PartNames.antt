@@ -36,7 +36,7 @@ have_first kind packs byte n buckets kinds few within each k d low bytes known =
 pub are_of_kind : (view : StoreView) (byte : ℕ) (buckets : List BucketNames) → All (λ (p : LazyIndex). p.kind ≡ view.kind) view.packs
     → AreBuckets view byte buckets → All (λ (b : BucketNames). b.kind ≡ view.kind) buckets
 are_of_kind view byte buckets kinds are k b low =
-    let p : LazyIndex = record { kind = view.kind; count = 0; content = None; can_fail = true } in
+    let p : LazyIndex = record { kind = view.kind; count = 0; content = None; path = []; can_fail = true } in
     (are.each k p b low).kind ∙ kinds k p (omega (arith, low, are.as_many))
 
 -- one bucket more was gathered

@@ -24,7 +24,7 @@ module _ (view : StoreView) (whole : List (List ℕ)) (byte : ℕ) (read : List 
   each_counted =
       let many = as_many view.packs h.indexes h.known in
       ext_get_or [] r.names (map counted h.indexes) (omega (arith, r.are_read.as_many, many, length-map h.indexes counted)) (λ k low.
-      let p : LazyIndex = record { kind = view.kind; count = 0; content = None; can_fail = true } in
+      let p : LazyIndex = record { kind = view.kind; count = 0; content = None; path = []; can_fail = true } in
       let inside : k < length view.packs = omega (arith, low, r.are_read.as_many) in
       let within : k < length h.indexes = omega (arith, inside, many) in
       let bytes = get_or h.indexes k [] in
@@ -93,7 +93,7 @@ found_begins view digits ids are k d low =
 module _ (view : StoreView) (indexes : List (List ℕ)) (known : map (λ (pack : LazyIndex). pack.content) view.packs ≡ map Some indexes) where
   read_once : (byte : ℕ) (one other : List (List ℕ)) → AreIdsRead view byte one → AreIdsRead view byte other → one ≡ other
   read_once byte one other r s =
-      let p : LazyIndex = record { kind = view.kind; count = 0; content = None; can_fail = true } in
+      let p : LazyIndex = record { kind = view.kind; count = 0; content = None; path = []; can_fail = true } in
       let same : r.names ≡ s.names =
       ext_get_or [] r.names s.names (omega (arith, r.are_read.as_many, s.are_read.as_many)) (λ k low.
       let inside : k < length view.packs = omega (arith, low, r.are_read.as_many) in

@@ -62,7 +62,7 @@ module _ (view : StoreView) (whole : List (List ℕ)) (id : List ℕ) (locations
   unfolding ArePacked packed_locations
   whole_packed zero packed low is = is
   whole_packed (suc n) packed low is =
-      let p : LazyIndex = record { kind = view.kind; count = 0; content = None; can_fail = true } in
+      let p : LazyIndex = record { kind = view.kind; count = 0; content = None; path = []; can_fail = true } in
       let bytes = get_or h.indexes n [] in
       let inside : n < length view.packs = omega (arith, low) in
       let within : n < length h.indexes = omega (arith, inside, as_many view.packs h.indexes h.known) in

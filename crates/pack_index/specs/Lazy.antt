@@ -5,12 +5,13 @@ use Rattle.pack_index.specs.Format.{Each, HasCount, HasHead, HasOffset, HasTable
 use Rattle.pack_index.specs.declared.lazy_error.LazyError.{LazyError}
 use Rattle.pack_index.specs.declared.lazy_error.LazyError.TheVariants.{Read, Memory, Head, CountsFall, WrongCount, NoOffset}
 
--- what contracts see: the kind of the ids, their number as the last fan-out entry says, all bytes if they are known, and whether a read of them may
--- fail
+-- what contracts see: the kind of the ids, their number as the last fan-out entry says, all bytes if they are known, the path of what they are read
+-- from, if it has one, and whether a read of them may fail
 pub record LazyIndex : Type 0 where
   pub kind : Kind
   pub count : ℕ
   pub content : Option (List ℕ)
+  pub path : List ℕ
   pub can_fail : Bool
 
 -- a statement holds of the bytes of a pack index, if they are known

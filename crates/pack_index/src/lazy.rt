@@ -53,6 +53,7 @@ impl<S: ReadAt> Model for LazyFile<S> {
       kind = file.kind;
       count = num_objects file.head;
       content = S.content file.source;
+      path = S.path file.source;
       can_fail = S.can_fail file.source;
     } };
 
@@ -71,6 +72,7 @@ impl<S: ReadAt + Drop> LazyFile<S> {
     pub fn open(source: S, kind: Kind) -> Result<LazyFile<S>, LazyError>
         ensures kind { IfOk result (λ file. file.kind ≡ kind) }
         ensures content { IfOk result (λ file. file.content ≡ S.content source) }
+        ensures path { IfOk result (λ file. file.path ≡ S.path source) }
         ensures reads { IfOk result (λ file. file.can_fail ≡ S.can_fail source) }
         ensures head { IfOk result (λ file. (bytes : List ℕ) → S.content source ≡ Some bytes
             → HasHead kind bytes) }

@@ -78,9 +78,11 @@ pub struct Counted<'a> {
 }
 
 impl ReadAt for Counted<'_> {
-    ghost use Rattle.std.specs.Prelude.{None, true};
+    ghost use Rattle.std.specs.Prelude.{None, [], true};
 
     ghost content = { λ _. None };
+
+    ghost path = { λ _. [] };
 
     ghost can_fail = { λ _. true };
 

@@ -1,9 +1,9 @@
 //! The pack indexes in object directories.
 
-ghost use Rattle.std.specs.Prelude.{◌≡◌, ◌⊎◌, ◌↔◌, ◌+◌, All, IfOk, IsNone, IsSomeAnd, IsTrue, OnOk, length, true, vec_len};
+ghost use Rattle.std.specs.Prelude.{◌≡◌, ◌⊎◌, ◌↔◌, ◌+◌, All, IfOk, IsNone, IsSomeAnd, IsTrue, OnOk, length, map, true, vec_len};
 ghost use Rattle.pack_index.specs.declared.lazy_error.LazyError.TheVariants as errors;
 ghost use Rattle.repositories.specs.States.{IsSettled};
-ghost use Rattle.store_folders.specs.Stores.{HasPack, IsListed, IsOfIndex, IsUnread};
+ghost use Rattle.store_folders.specs.Stores.{HasPack, IsListed, IsOfIndex, IsUnread, index_path, pack_path_of};
 
 use crate::error::Error;
 use crate::listing::{are_settled, expect_states, list_names, states_of, what_is_at};
@@ -93,10 +93,22 @@ impl PackFolders {
 }
 
 // The paths of a pack index and of its pack.
-#[derive(Drop, Clone)]
+#[derive(Drop)]
 pub(crate) struct PackPaths {
     pub(crate) index: String,
     pub(crate) pack: String,
+}
+
+impl PackPaths {
+    // The same paths.
+    fn copy(&self) -> Result<PackPaths, AllocError>
+        ensures index { IfOk result (λ copy. index_path copy ≡ index_path self.now) }
+        ensures pack { IfOk result (λ copy. pack_path_of copy ≡ pack_path_of self.now) }
+    {
+        let index = self.index.clone()?;
+        let pack = self.pack.clone()?;
+        Ok(PackPaths { index, pack })
+    }
 }
 
 // The pack indexes that object directories had as they were listed.
@@ -217,7 +229,7 @@ pub(crate) struct OpenIndexes<R: Files<File = File>> {
     // Why others are skipped: they are no pack indexes of version 2 and of the kind, or their
     // counts fall.
     pub(crate) skipped: Vec<Error>,
-    ghost as_many: { vec_len paths ≡ vec_len indexes },
+    ghost of_paths: { map index_path paths.items ≡ map (λ index. index.path) indexes.items },
 }
 
 // Opens pack indexes whose names are of a kind. If too many files are open, none stays open.
@@ -257,7 +269,7 @@ fn open_all<R: Files<File = File> + AllocGlobal + Clone + Drop>(
     for (at, one) in listed.iter().enumerate() {
         match open_index(rt, &one.index, at < most_open, kind) {
             Ok(index) => {
-                paths.push(one.clone()?)?;
+                paths.push(one.copy()?)?;
                 indexes.push(index)?;
             }
             Err(error) if error.is_damage() => skipped.push(error)?,
@@ -278,7 +290,8 @@ fn open_index<R: Files<File = File> + AllocGlobal + Clone + Drop>(
     stays_open: bool,
     kind: Kind,
 ) -> Result<LazyFile<Source<R>>, Error>
-    ensures { IfOk result (λ index. index.kind ≡ kind) }
+    ensures kind { IfOk result (λ index. index.kind ≡ kind) }
+    ensures path { IfOk result (λ index. index.path ≡ path.now) }
 {
     let source = Source::open(rt, path, stays_open);
     let source = source.map_err(|error| not_opened(rt, path, error))?;

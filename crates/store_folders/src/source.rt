@@ -126,6 +126,8 @@ impl<R: Files<File = File>> Source<R> {
 impl<R: Files<File = File>> ReadAt for Source<R> {
     ghost content = { λ _. None };
 
+    ghost path = { λ source. string_bytes source.path };
+
     ghost can_fail = { λ _. true };
 
     fn len(&self) -> io::Result<u64> {

@@ -1,6 +1,6 @@
 //! An object store in directories.
 
-ghost use Rattle.std.specs.Prelude.{◌≡◌, ◌<◌, ◌++◌, All, IfErr, IfOk, IsOk, OnOk, [], false, flat_map, length, map, slice_index_or, string_bytes, true, vec_len};
+ghost use Rattle.std.specs.Prelude.{◌≡◌, ◌<◌, ◌++◌, All, IfErr, IfOk, IsOk, OnOk, [], false, flat_map, length, map, slice_index_or, string_bytes, true};
 ghost use Rattle.gix_hash.specs.Words.{hex_len_of};
 ghost use Rattle.store_folders.specs.Stores.{IsChanged, index_path, of_repository, pack_path_of};
 
@@ -48,7 +48,7 @@ pub struct FolderStore<R: Files<File = File>> {
     loose: LooseObjects,
     // The loose objects that were asked for before, and may be again.
     loose_before: Vec<LooseObjects>,
-    ghost as_many: { vec_len packs ≡ vec_len indexes },
+    ghost of_paths: { map index_path packs.items ≡ map (λ index. index.path) indexes.items },
     ghost of_kind: { All (λ index. index.kind ≡ folder.kind) indexes.items },
     ghost loose_of_kind: { loose.kind ≡ folder.kind },
     ghost before_of_kind: { All (λ loose. loose.kind ≡ folder.kind) loose_before.items },

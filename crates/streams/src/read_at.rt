@@ -1,6 +1,6 @@
 //! Readers at a position.
 
-ghost use Rattle.std.specs.Prelude.{◌≡◌, ◌+◌, ◌≤◌, ℕ, Bool, List, Option, Some, OnErr, OnOk, IfOk, IsTrue, length, None, true, false};
+ghost use Rattle.std.specs.Prelude.{◌≡◌, ◌+◌, ◌≤◌, ℕ, Bool, List, Option, Some, OnErr, OnOk, IfOk, IsTrue, [], length, None, true, false};
 
 use std::fs::File;
 use std::io;
@@ -18,6 +18,9 @@ pub trait ReadAt {
 
     /// All bytes, or `None`, which claims nothing.
     ghost content: { Self → Option (List ℕ) };
+
+    /// Its path, or nothing if it has none.
+    ghost path: { Self → List ℕ };
 
     /// Whether [`len`](ReadAt::len) may fail, and a read that does not go past the end.
     ghost can_fail: { Self → Bool };
@@ -41,6 +44,8 @@ pub trait ReadAt {
 impl ReadAt for File {
     ghost content = { λ _. None };
 
+    ghost path = { λ _. [] };
+
     ghost can_fail = { λ _. true };
 
     fn len(&self) -> io::Result<u64> {
@@ -55,6 +60,8 @@ impl ReadAt for File {
 /// A read of a slice fails only if it goes past the end.
 impl ReadAt for &[u8] {
     ghost content = { λ slice. Some slice.now };
+
+    ghost path = { λ _. [] };
 
     ghost can_fail = { λ _. false };
 
