@@ -1,23 +1,19 @@
 """Files, directories and inputs at the edges of what packtool reads, for tools/stores: every length and count in turn, each way
-in which a file may be missing, texts that are longer than a buffer, and an input that waits for its answers.
+in which a file may be missing, and texts that are longer than a buffer.
 
 A group of `CASES` yields cases: the name, what packtool must print, its errors and status, its words, and how it is run, as by
-`ran` of probe.py, and maybe the words `around` it. A group of `TALKS` yields the names of its comparisons, each with what is wrong, if anything."""
+`ran` of probe.py, and maybe the words `around` it."""
 
-import contextlib
-import fcntl
 import itertools
 import os
 import random
 import struct
-import subprocess
-import time
 from pathlib import Path
 
 import made
 from gitstore import (CONFIGS, DATA, DIGITS, HEAD, SHA256, add_objects, add_pack, add_repository, changed, digest_of, index_of, listed,
                       pack_index, plain_index, sealed, shortest, sorted_ids, write)
-from probe import CLEAN, POWERLESS, difference, git, started
+from probe import POWERLESS, git
 
 NO_FILE = "No such file or directory (os error 2)"
 LOOP = "Too many levels of symbolic links (os error 40)"
@@ -32,14 +28,10 @@ WRONG_CHECKSUM = "FAILED: the checksum of the pack index is wrong"
 NO_DIGEST = "SKIPPED: it has no digest"
 # How many files one call checks: more than 16 bits count.
 MANY_FILES = 66_000
-# More lines than are looked up at once, and how long all answers to an input may take, in seconds.
-MANY_LINES, PATIENCE = 20_000, 60
-# A time, in seconds, after which a change leaves another time of a file, so that a store is kept.
-SETTLED = 0.025
+# More lines than are looked up at once.
+MANY_LINES = 20_000
 # How many seconds of a processor a run may take that would take several times as many if each of its items were compared with all.
 SECONDS = 2
-# How many bytes a read of standard input takes at most: at first, after one that got as many, and then.
-READS = [1 << 14, 1 << 16, 1 << 18]
 # Lines of a list of alternates, and why each is skipped, if it is an alternate that cannot be used.
 NOT_TEXT, RETURN = "{objects}/info/alternates: a path is not UTF-8", "its line ends in a carriage return"
 ODD_LINES = [
@@ -67,8 +59,6 @@ ODD_LINES = [
     (b"{room}/loop", f"{{room}}/loop: {LOOP}"),
     (b"{room}/loop\r", f"{{room}}/loop\r: {LOOP}"),
 ]
-# Sets how many bytes a pipe holds: the most that anybody may ask for.
-SET_PIPE_SIZE, PIPE_SIZE = 1031, 1 << 20
 
 
 def error_of(text):
@@ -752,161 +742,7 @@ def environments(room):
         yield fails(f"${name} that is not UTF-8", f"{name}: not UTF-8", "names", cwd=room / "own", env={name: "../other\udcff"})
 
 
-@contextlib.contextmanager
-def talk(program, room, *words, around=(), store=("--objects", "objects"), **how):
-    """A packtool over the object directory `objects`, whose input is a pipe that holds much, and which is killed if it waits too long."""
-    how = {"cwd": room, "stdin": subprocess.PIPE, "stderr": subprocess.DEVNULL, "bufsize": 0, **how}
-    with started([*around, program, *words, "--stdin", *store], PATIENCE, **how) as child:
-        fcntl.fcntl(child.stdin, SET_PIPE_SIZE, PIPE_SIZE)
-        yield child
-
-
-def ask(child, given, wanted):
-    """Writes bytes, and returns what is wrong with the answer, of which not a byte is missing or too much, if anything."""
-    child.stdin.write(given)
-    got = b""
-    while len(got) < len(wanted) and (part := os.read(child.stdout.fileno(), 1 << 20)):
-        got += part
-    return None if got == wanted else f"{len(got)} bytes of {len(wanted)}, as {got[-60:]!r}"
-
-
-def answer_to(line, id):
-    """What `find --stdin` prints for a line in a store of one id of SHA-1."""
-    if not 2 <= len(line) <= DIGITS["sha1"]:
-        return f"{line} bad\n"
-    return f"{line} {id if id.startswith(line) else 'missing'}\n"
-
-
-def exchanges(program, room):
-    """Inputs of exactly as many bytes as a read takes, each answered before the next comes, in lines of each length."""
-    add_repository(room, loose=[made.LOOSE])
-    for size in (1, 2, 3, 4, 5, 9, 41):
-        with talk(program, room, "find") as child:
-            wrong = None
-            for total in [*READS, READS[-1], READS[0] - 1, READS[0] + 1]:
-                lines = [made.LOOSE[: size - 1]] * (total // size)
-                lines[-1] += "0" * (total % size)
-                given = "".join(f"{line}\n" for line in lines).encode()
-                wrong = wrong or ask(child, given, "".join(answer_to(line, made.LOOSE) for line in lines).encode())
-        yield f"find --stdin of whole reads of lines of {size} bytes", wrong
-
-
-def statuses(program, room):
-    """Chunks of each status in each order: the worst is the status of all."""
-    add_repository(room, loose=[made.LOOSE])
-    for order in (order for size in (1, 2, 3) for order in itertools.permutations(range(3), size)):
-        with talk(program, room, "find") as child:
-            wrong = None
-            for status in order:
-                paths = [room / "objects" / "pack" / name for name in ("x.pack", "x.idx")]
-                for path in paths:
-                    write(path) if status == 2 else path.unlink(missing_ok=True)
-                line, answer = ("4bff", made.LOOSE) if status != 1 else ("4b00", "missing")
-                wrong = wrong or ask(child, f"{line}\n".encode(), f"{line} {answer}\n".encode())
-            child.stdin.close()
-            wrong = wrong or (f"status {child.returncode}" if child.wait() != max(order) else None)
-        yield f"find --stdin of chunks of the statuses {order}", wrong
-
-
-def asked_twice(child, given, wanted):
-    """Asks two times, of which the second finds a store that is kept. Returns what is wrong, if anything."""
-    for _ in range(2):
-        time.sleep(SETTLED)
-        if wrong := ask(child, given, wanted):
-            return wrong
-    return None
-
-
-def ends(child, given, wanted):
-    """Writes the last bytes, and returns what is wrong with what is printed then, the errors and the status, if anything."""
-    printed, errors = (os.fsdecode(it) for it in child.communicate(given))
-    return difference((printed, errors, child.returncode), wanted)
-
-
-def locked_later(program, room):
-    """What may not be looked at any more after two questions: the error has its path, and the status is 2."""
-    for name, link, asked, path in [
-        ("pack", "pack", "4b", "objects/pack"),
-        ("a fan-out directory", "4b", "4b", "objects/4b"),
-        ("a fan-out directory that was asked for before", "4b", "00", "objects/4b"),
-        ("a list of alternates", "info", "4b", f"{room}/a list of alternates/objects/info/alternates"),
-        ("a missing list of alternates", "info", "4b", "objects/info/alternates"),
-    ]:
-        place, objects = room / name, room / name / "objects"
-        add_objects(objects, [made.LOOSE, "0" * 40], packs=[[made.BOTH]])
-        if name == "a list of alternates":
-            write(objects / "info" / "alternates", f"{place}\n".encode())
-        (objects / link).mkdir(exist_ok=True)
-        (place / "above").mkdir()
-        (objects / link).rename(place / "above" / link)
-        (objects / link).symlink_to(f"../above/{link}")
-        answers = {"4b": f"4b {made.BOTH}\n4b {made.LOOSE}\n", "00": f"00 {'0' * 40}\n"}
-        with talk(program, place, "find", around=POWERLESS, stderr=subprocess.PIPE) as child:
-            wrong = asked_twice(child, b"4b\n", answers["4b"].encode())
-            wrong = wrong or asked_twice(child, f"{asked}\n".encode(), answers[asked].encode())
-            (place / "above").chmod(0)
-            wrong = wrong or ends(child, b"4b\n", ("", error_of(f"{path}: {LOCKED}"), 2))
-            (place / "above").chmod(0o700)
-        yield f"{name}, which may not be looked at any more", wrong
-
-
-def mended_later(program, room):
-    """What the directories do not show, after two questions: a damaged pack index that is mended in place, and a pack that is a link to
-    nothing and then to a file; a pack in the ninth alternate; and a link to nothing that is asked for later."""
-    index, whole = room / "objects" / "pack" / "x.idx", plain_index([made.BOTH])
-    found, missing = f"4b {made.BOTH}\n", "4b missing\n"
-    add_pack(room / "objects", "x", changed(whole, 0, 0))
-    skipped = error_of("objects/pack/x.idx: the bytes do not begin as a pack index, skipped")
-    with talk(program, room, "find", stderr=subprocess.PIPE) as child:
-        wrong = asked_twice(child, b"4b\n", missing.encode())
-        index.write_bytes(whole)
-        yield "a pack index that is mended in place", wrong or ends(child, b"4b\n", (found, skipped, 2))
-    index.with_suffix(".pack").unlink()
-    index.with_suffix(".pack").symlink_to("../../later")
-    with talk(program, room, "find", stderr=subprocess.PIPE) as child:
-        wrong = asked_twice(child, b"4b\n", missing.encode())
-        write(room / "later")
-        yield "a pack by a link that leads to nothing at first", wrong or ends(child, b"4b\n", (found, "", 1))
-    env = CLEAN | {"GIT_OBJECT_DIRECTORY": "objects", "GIT_ALTERNATE_OBJECT_DIRECTORIES": ":".join(map(str, range(9)))}
-    for number in range(9):
-        write(room / f"{number}" / "pack" / "none")
-    with talk(program, room, "find", store=(), env=env) as child:
-        wrong = asked_twice(child, b"4b\n", found.encode())
-        add_pack(room / "8", "y", plain_index([made.PACKED]))
-        wrong = wrong or ask(child, b"4b\n", f"4b {made.PACKED}\n{found}".encode())
-        add_pack(room / "objects", "z", plain_index([made.LOOSE]))
-        wrong = wrong or ask(child, b"4b\n", f"4b {made.PACKED}\n{found}4b {made.LOOSE}\n".encode())
-    yield "a pack in the ninth alternate of the environment, and then one in the store", wrong
-    with talk(program, room, "find", stderr=subprocess.PIPE) as child:
-        wrong = asked_twice(child, b"4b\n", f"{found}4b {made.LOOSE}\n".encode())
-        index.write_bytes(b"")
-        index.rename(index.with_name("later.idx"))
-        index.with_suffix(".pack").rename(index.with_name("later.pack"))
-        skipped = error_of(f"objects/pack/later.idx: {TOO_FEW}, skipped")
-        yield "a damaged pack index that comes later", wrong or ends(child, b"4b\n", (f"4b {made.LOOSE}\n", skipped, 2))
-    path = f"objects/ff/{'f' * 38}"
-    write(room / "objects" / "ff" / "none")
-    (room / path).symlink_to("gone")
-    index.with_name("later.idx").unlink()
-    with talk(program, room, "where", stderr=subprocess.PIPE) as child:
-        wrong = asked_twice(child, b"00\n", b"00 missing\n")
-        yield "a link to nothing that is asked for later", wrong or ends(child, b"ff\n", ("", error_of(f"{path}: {NO_FILE}"), 2))
-
-
-def few_files(program, room):
-    """Questions to a packtool that may open as many files as it keeps open, and none more."""
-    write(room / "objects" / "00" / "none")
-    for number in range(64):
-        add_pack(room / "objects", f"{number:02}", plain_index([made.BOTH]))
-    with talk(program, room, "find", around=("prlimit", "--nofile=67")) as child:
-        wrong = asked_twice(child, b"4b\n", f"4b {made.BOTH}\n".encode())
-        wrong = wrong or asked_twice(child, b"00\n", b"00 missing\n")
-        wrong = wrong or asked_twice(child, b"4b\n", f"4b {made.BOTH}\n".encode())
-    yield "64 packs, and 67 open files", wrong
-
-
 CASES = [endings, many_files, long_files, cut, long_offsets, packs_beside, names_in_errors, names_of_files, counts, last_lines, prefixes]
 CASES += [skipped, much_found, damaged_asked, by_links, no_stores, files_in_each_way, links_to_nothing, links_among_others, links]
 CASES += [many_names, long_index, equal_beginnings, missing_alternates]
 CASES += [faulty, later_configs, chained, many_alternates, lent, odd_lines, long_texts, environments]
-TALKS = [exchanges, statuses, locked_later, mended_later, few_files]
