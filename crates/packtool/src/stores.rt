@@ -1,6 +1,6 @@
 //! Commands over a store.
 
-ghost use Rattle.std.specs.Prelude.{◌≡◌, ◌≢◌, ◌↔◌, ◌<◌, ◌≤◌, ◌++◌, ℕ, [], All, Bool, IfErr, IfOk, IsErrOf, IsOk, IsTrue, MatchOption, OnOk, Some, false, if◌then◌else◌, length, max, nat_eq, true};
+ghost use Rattle.std.specs.Prelude.{◌≡◌, ◌≢◌, ◌↔◌, ◌<◌, ◌≤◌, ◌++◌, ℕ, [], All, Bool, IfErr, IfOk, IsErrOf, IsOk, IsTrue, MatchOption, OnOk, Some, false, if◌then◌else◌, length, max, nat_eq, string_bytes, true};
 ghost use Rattle.std.specs.List.{ends_with};
 ghost use Rattle.std.specs.Option.{ForSome};
 ghost use Rattle.gix_hash.specs.Words.{KindDigits, first_byte_of, hex_len_of, hex_letter, prefix_read_in};
@@ -365,7 +365,9 @@ fn objects_folder<'a>(
     rt: &HostRuntime,
     request: &StoreRequest<'a>,
 ) -> Result<ObjectsFolder, Failure<'a>>
-    ensures { IfOk result (λ folder. ForSome request.now.kind (λ kind. folder.kind ≡ kind)) }
+    ensures kind { IfOk result (λ folder. ForSome request.now.kind (λ kind. folder.kind ≡ kind)) }
+    ensures at { IfOk result (λ folder. ForSome request.now.objects (λ path.
+        string_bytes folder.path ≡ path.now)) }
 {
     let mut folder = match request.objects {
         Some(path) => {
