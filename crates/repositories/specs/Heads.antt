@@ -3,11 +3,11 @@ use Rattle.std.specs.Prelude.{ℕ, ◌||◌, ◌==◌, Bool, List, bytes_eq, cod
 use Rattle.std.specs.List.{prefix_len, starts_with}
 use Rattle.std.specs.Char.{is_ascii_hexdigit}
 
--- whether a byte is a blank before a reference
+-- whether a byte is white space before a reference
 abbrev pub is_blank : ℕ → Bool
 is_blank byte = byte == 32 || byte == 9 || byte == 10 || byte == 13
 
--- whether a text begins a HEAD: ref:, blanks if there are any, and a reference; or 40 hex digits
+-- whether a text begins a HEAD: ref:, white space if there is any, and a reference; or 40 hex digits
 unfoldable pub begins_head : List ℕ → Bool
 begins_head text =
     if bytes_eq (take 4 text) (codes "ref:") then (let rest = drop 4 text in starts_with nat_eq (drop (prefix_len is_blank rest) rest) (codes "refs/"))

@@ -59,10 +59,10 @@ impl ObjectsFolder {
     }
 }
 
-/// Finds the object directory of the repository that a program runs in, as Git does, but
+/// Finds the object directory of the repository that a program runs in, as Git does, except that
 /// `$GIT_CEILING_DIRECTORIES`, `$GIT_DISCOVERY_ACROSS_FILESYSTEM`, `$GIT_WORK_TREE`,
-/// `core.worktree` and `safe.directory` are ignored, and with `$GIT_OBJECT_DIRECTORY` no repository
-/// is needed.
+/// `core.worktree`, `safe.directory` and `safe.bareRepository` are ignored, and that with
+/// `$GIT_OBJECT_DIRECTORY` no repository is needed.
 ///
 /// The repository is that of `$GIT_DIR`, or else of the current directory or the first above it
 /// that has one: as `.git`, which is a directory or a gitfile, or as a bare repository. The
