@@ -21,6 +21,10 @@ use std::{io, mem, str};
 // any number of packs is read with few open files.
 const MAX_OPEN: usize = 64;
 
+// How many bytes of pack indexes are kept at most. Each has an equal share, and is kept whole if it
+// fits.
+const MAX_KEPT: u64 = 1 << 24;
+
 // The directories of packs in object directories, in order, each with its state before it was
 // listed.
 #[derive(Drop)]
@@ -266,8 +270,9 @@ fn open_all<R: Files<File = File> + AllocGlobal + Clone + Drop>(
     let mut paths = Vec::with_capacity(rt.alloc(), listed.len())?;
     let mut indexes = Vec::with_capacity(rt.alloc(), listed.len())?;
     let mut skipped = Vec::new(rt.alloc());
+    let share = MAX_KEPT / (listed.len() as u64).max(1);
     for (at, one) in listed.iter().enumerate() {
-        match open_index(rt, &one.index, at < most_open, kind) {
+        match open_index(rt, &one.index, at < most_open, share, kind) {
             Ok(index) => {
                 paths.push(one.copy()?)?;
                 indexes.push(index)?;
@@ -288,12 +293,13 @@ fn open_index<R: Files<File = File> + AllocGlobal + Clone + Drop>(
     rt: &R,
     path: &str,
     stays_open: bool,
+    most_kept: u64,
     kind: Kind,
 ) -> Result<LazyFile<Source<R>>, Error>
     ensures kind { IfOk result (λ index. index.kind ≡ kind) }
     ensures path { IfOk result (λ index. index.path ≡ path.now) }
 {
-    let source = Source::open(rt, path, stays_open);
+    let source = Source::open(rt, path, stays_open, most_kept);
     let source = source.map_err(|error| not_opened(rt, path, error))?;
     match LazyFile::open(source, kind) {
         Ok(index) => Ok(index),

@@ -4,7 +4,7 @@ ghost use Rattle.std.specs.Prelude.{◌≡◌, ◌↔◌, ◌+◌, ◌-◌, ◌�
 ghost use Rattle.streams.specs.Streams.{IsReadAt};
 
 use repositories::retried;
-use std::alloc::Global;
+use std::alloc::{AllocError, Global};
 use std::cell::Cell;
 use std::fs::File;
 use std::rt::Files;
@@ -18,11 +18,12 @@ const OPEN_LEN: usize = 4096;
 const CLOSED_LEN: usize = 16384;
 
 /// A file of a store, with its length as it was opened. A short read takes the bytes after those
-/// asked for too, and keeps them: up to 4096 of a file that stays open, or else 16384. A read of
-/// what is kept, or of nothing, reads no file.
+/// asked for too, and keeps them: up to 4096 of a file that stays open, or else 16384. Of a file
+/// that may be kept whole each further read takes twice as many, until all are kept. A read of what
+/// is kept, or of nothing, reads no file.
 ///
 /// ```
-/// let source = store_folders::Source::open(rt, "pack-1.idx", true)?;
+/// let source = store_folders::Source::open(rt, "pack-1.idx", true, 1 << 20)?;
 /// let index = pack_index::LazyFile::open(source, Kind::Sha1)?;
 /// ```
 #[derive(Drop)]
@@ -34,6 +35,9 @@ pub struct Source<R> {
     file: Option<File>,
     len: u64,
     kept: Cell<Kept>,
+    // How many bytes the next short read takes, and whether all may be kept.
+    window: Cell<usize>,
+    may_keep_all: bool,
 }
 
 // Bytes of a file from a position on.
@@ -57,17 +61,21 @@ impl Kept {
 }
 
 impl<R: Files<File = File> + AllocGlobal + Clone> Source<R> {
-    /// Opens a file, to stay open or to be opened again for each read of what is not kept.
-    pub fn open(rt: &R, path: &str, stays_open: bool) -> io::Result<Source<R>>
+    /// Opens a file, to stay open or to be opened again for each read of what is not kept. It may
+    /// be kept whole if it has at most `most_kept` bytes.
+    pub fn open(rt: &R, path: &str, stays_open: bool, most_kept: u64) -> io::Result<Source<R>>
         ensures path { IfOk result (λ source. string_bytes source.path ≡ path.now) }
         ensures file { IfOk result (λ source. IsSome source.file ↔ (stays_open ≡ true)) }
     {
         let file = fs::open(rt, path)?;
+        let len = retried(|| ReadAt::len(&file))?;
         let mut source = Source {
             rt: rt.clone()?,
             alloc: rt.alloc(),
             path: String::from_str(rt.alloc(), path)?,
-            len: retried(|| ReadAt::len(&file))?,
+            len,
+            window: Cell::new(if stays_open { OPEN_LEN } else { CLOSED_LEN }),
+            may_keep_all: len <= most_kept,
             file: Some(file),
             kept: Cell::new(Kept {
                 start: 0,
@@ -85,16 +93,24 @@ impl<R: Files<File = File> + AllocGlobal + Clone> Source<R> {
 impl<R: Files<File = File>> Source<R> {
     // Reads and keeps at most `most` bytes, from a position on, in place of those that were kept.
     // If memory runs out, none are read.
-    fn keep(&self, start: u64, most: usize) -> io::Result<()>
-        requires { most ≤ 16384 }
-    {
+    fn keep(&self, start: u64, most: usize) -> io::Result<()> {
         let len = self.len.saturating_sub(start).min(most as u64) as usize;
-        let mut bytes = self.take_kept().bytes;
-        if bytes.resize(len, 0).is_ok() {
+        drop(self.take_kept());
+        let bytes: Result<Vec<u8>, AllocError> = vec![in self.alloc; 0; len];
+        if let Ok(mut bytes) = bytes {
             self.read(&mut bytes, start)?;
             self.kept.set(Kept { start, bytes });
         }
         Ok(())
+    }
+
+    // How many bytes a short read takes: if all may be kept, twice as many as the one before.
+    fn next_window(&self) -> usize {
+        let window = self.window.get();
+        if self.may_keep_all && (window as u64) < self.len {
+            self.window.set(window.saturating_mul(2));
+        }
+        window
     }
 
     // Fills the buffer from the file.
@@ -138,12 +154,10 @@ impl<R: Files<File = File>> ReadAt for Source<R> {
         if buf.is_empty() || self.copy_kept(buf, at) {
             return Ok(());
         }
-        let most = match self.file {
-            Some(_) => OPEN_LEN,
-            None => CLOSED_LEN,
-        };
+        let most = self.next_window();
         if buf.len() < most {
-            self.keep(at, most)?;
+            let start = if (most as u64) < self.len { at } else { 0 };
+            self.keep(start, most)?;
             if self.copy_kept(buf, at) {
                 return Ok(());
             }
