@@ -1,23 +1,36 @@
 -- What contracts say of object stores in directories.
-use Rattle.std.specs.Prelude.{ℕ, ◌≡◌, ◌⊎◌, ◌++◌, List, [], ◌∷◌, Option, None, Some, if◌then◌else◌, bytes_eq, codes, map, string_bytes}
+use Rattle.std.specs.Prelude.{ℕ, ◌≡◌, ◌⊎◌, ◌++◌, ◌/◌, ◌%◌, All, Bool, IsSomeAnd, List, [], ◌∷◌, Option, None, Some, false, if◌then◌else◌, bytes_eq, codes, map, string_bytes, true}
 use Rattle.std.specs.List.{Contains, list_any}
+use Rattle.std.specs.declared.time.SystemTime.{SystemTime}
+use Rattle.gix_hash.specs.Words.{hex_letter}
 use Rattle.object_store.specs.Stores as stores
 use Rattle.object_store.specs.declared.error.Error as look_ups
 use Rattle.object_store.specs.declared.error.Error.TheVariants as look_up_errors
 use Rattle.pack_index.specs.declared.lazy_error.LazyError.{LazyError}
+use Rattle.pack_index.specs.declared.lazy_error.LazyError.TheVariants.{Read}
 use Rattle.repositories.specs.Paths.{loose_path}
+use Rattle.repositories.specs.States.{IsSettled}
 use Rattle.repositories.specs.declared.error.Error as repositories
 use Rattle.repositories.specs.declared.error.Error.TheVariants as repository_errors
+use Rattle.repositories.specs.declared.state.FileState.{FileState}
 use Rattle.store_folders.specs.declared.error.Error.{Error}
 use Rattle.store_folders.specs.declared.error.Error.TheVariants.{Changed, Index, Memory, Repository}
 use Rattle.store_folders.specs.declared.loose.LooseIds.{LooseIds}
-use Rattle.store_folders.specs.declared.loose.LooseIds.TheVariants.{All, WithFirstByte}
+use Rattle.store_folders.specs.declared.loose.LooseIds.TheVariants as loose_ids
 use Rattle.store_folders.specs.declared.packs.PackPaths.{PackPaths}
 
 -- the only first byte that loose objects have, if not all are listed
 abbrev pub only_of : LooseIds → Option ℕ
-only_of All = None
-only_of (WithFirstByte byte) = Some byte
+only_of loose_ids.All = None
+only_of (loose_ids.WithFirstByte byte) = Some byte
+
+-- the two hex digits of a byte
+abbrev pub hex_of : ℕ → List ℕ
+hex_of byte = hex_letter (byte / 16) ∷ hex_letter (byte % 16) ∷ []
+
+-- each later change leaves other states, and the time before is given
+abbrev pub AreSettled : Option SystemTime → List FileState → Type 0
+AreSettled now states = IsSomeAnd now (λ now. All (IsSettled now) states)
 
 -- the path of the file of a loose object in a directory, by its digits
 abbrev pub path_in : List ℕ → List ℕ → List ℕ
@@ -66,3 +79,29 @@ IsChanged path _ = ⊥
 -- that a pack index of this path is gone, or why it is not read; or memory ran out
 abbrev pub IsOfIndex : List ℕ → LazyError → Error → Type 0
 IsOfIndex path why error = ((look_up : look_ups.Error) × stores.IsOfIndex path why look_up × (error ≡ of_look_up look_up)) ⊎ ((memory : _) × (error ≡ Memory memory))
+
+-- whether an error of a look-up says that a pack index is gone
+abbrev pub is_gone : look_ups.Error → Bool
+is_gone (look_up_errors.Gone path) = true
+is_gone _ = false
+
+-- whether an error says that the store was changed while it was read
+abbrev pub is_change : Error → Bool
+is_change (Changed path) = true
+is_change (Index error) = is_gone error
+is_change _ = false
+
+-- whether a pack index was read, and is damaged
+abbrev pub is_read : LazyError → Bool
+is_read (Read error) = false
+is_read _ = true
+
+-- whether an error of a look-up says that a pack index is damaged
+abbrev pub is_damaged : look_ups.Error → Bool
+is_damaged (look_up_errors.Index path error) = is_read error
+is_damaged _ = false
+
+-- whether an error says so
+abbrev pub is_damage : Error → Bool
+is_damage (Index error) = is_damaged error
+is_damage _ = false

@@ -1,7 +1,7 @@
 //! Why a store in directories cannot be opened or read.
 
 ghost use Rattle.std.specs.Prelude.{◌≡◌, IsTrue};
-ghost use Rattle.store_folders.specs.Stores.{IsChanged, IsOfIndex, IsUnread, of_look_up, of_repository};
+ghost use Rattle.store_folders.specs.Stores.{IsChanged, IsOfIndex, IsUnread, is_change, is_damage, of_look_up, of_repository};
 ghost use Rattle.store_folders.specs.declared.error.Error.TheVariants as errors;
 
 use pack_index::LazyError;
@@ -99,7 +99,9 @@ impl Error {
     }
 
     // Whether a pack index was read, and is damaged or none.
-    pub(crate) fn is_damage(&self) -> bool {
+    pub(crate) fn is_damage(&self) -> bool
+        ensures { result ≡ is_damage self.now }
+    {
         match self {
             Error::Index(object_store::Error::Index { error, .. }) => {
                 !matches!(error, LazyError::Read(_))
@@ -109,7 +111,9 @@ impl Error {
     }
 
     // Whether the store was changed while it was read.
-    pub(crate) fn is_change(&self) -> bool {
+    pub(crate) fn is_change(&self) -> bool
+        ensures { result ≡ is_change self.now }
+    {
         matches!(
             self,
             Error::Changed { .. } | Error::Index(object_store::Error::Gone { .. })

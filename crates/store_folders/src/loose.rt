@@ -1,9 +1,9 @@
 //! The loose objects in object directories, by the names of their files.
 
-ghost use Rattle.std.specs.Prelude.{◌≡◌, ◌++◌, All, IfOk, IfSome, IsSomeAnd, MatchOption, None, OnOk, false, map, string_bytes};
-ghost use Rattle.gix_hash.specs.Words.{id_digits, id_kind};
-ghost use Rattle.repositories.specs.States.{IsSettled};
-ghost use Rattle.store_folders.specs.Stores.{only_of, path_in, paths_in};
+ghost use Rattle.std.specs.Prelude.{◌≡◌, ◌≢◌, ◌<◌, ◌++◌, All, IfOk, IfSome, IsNone, MatchOption, None, OnOk, false, map, string_bytes};
+ghost use Rattle.gix_hash.specs.Words.{hex_letter, id_digits, id_kind};
+ghost use Rattle.repositories.specs.Printed.{IsNotPrinted, IsPrinted};
+ghost use Rattle.store_folders.specs.Stores.{AreSettled, hex_of, only_of, path_in, paths_in};
 
 use crate::error::Error;
 use crate::listing::{
@@ -12,7 +12,8 @@ use crate::listing::{
 };
 use gix_hash::{Kind, ObjectId};
 use object_store::LooseTable;
-use repositories::paths::{read_loose_path, write_loose_path};
+use repositories::paths::write_loose_path;
+use repositories::printed::read_printed;
 use repositories::{FileState, metadata};
 use std::alloc::{AllocError, Global};
 use std::io;
@@ -82,6 +83,7 @@ pub(crate) fn take_loose(
 ) -> Option<LooseObjects>
     requires { All (λ loose. loose.kind ≡ kind) listed.old.items }
     ensures which { IfSome result (λ loose. loose.which ≡ which) }
+    ensures none { IsNone result → All (λ loose. loose.which ≢ which) listed.old.items }
     ensures kind { IfSome result (λ loose. loose.kind ≡ kind) }
     ensures rest { All (λ loose. loose.kind ≡ kind) listed.new.items }
 {
@@ -125,7 +127,7 @@ pub(crate) fn list_loose<R: Files + AllocGlobal>(
     ensures kind { IfOk result (λ loose. loose.kind ≡ kind) }
     ensures which { IfOk result (λ loose. loose.which ≡ which) }
     ensures settled { IfOk result (λ loose. IfSome loose.states (λ states.
-        IsSomeAnd now (λ now. All (IsSettled now) states.items))) }
+        AreSettled now states.items)) }
 {
     let places = Places { rt, paths };
     let states = places.settled_states(which, now)?;
@@ -167,8 +169,7 @@ impl<R: Files + AllocGlobal> Places<'_, R> {
         which: LooseIds,
         now: Option<SystemTime>,
     ) -> Result<Option<Vec<FileState>>, Error>
-        ensures { IfOk result (λ states. IfSome states (λ states.
-            IsSomeAnd now (λ now. All (IsSettled now) states.items))) }
+        ensures { IfOk result (λ states. IfSome states (λ states. AreSettled now states.items)) }
     {
         let Some(now) = now else {
             return Ok(None);
@@ -191,7 +192,10 @@ impl<R: Files + AllocGlobal> Places<'_, R> {
 
     // The loose objects in each of the directories.
     fn list_folders(&self, kind: Kind, which: LooseIds) -> Result<Vec<LooseFolder>, Error>
-        ensures { IfOk result (λ folders. All (λ folder. folder.table.kind ≡ kind) folders.items) }
+        ensures kinds { IfOk result (λ folders.
+            All (λ folder. folder.table.kind ≡ kind) folders.items) }
+        ensures paths { IfOk result (λ folders. map (λ folder. string_bytes folder.path)
+            folders.items ≡ map string_bytes self.now.paths.now) }
     {
         let parts = self.list_parts(which)?;
         let mut folders = Vec::new(self.rt.alloc());
@@ -294,7 +298,8 @@ fn folder_of(
     at: usize,
     parts: &[Part],
 ) -> Result<LooseFolder, Error>
-    ensures { IfOk result (λ folder. folder.table.kind ≡ kind) }
+    ensures path { IfOk result (λ folder. string_bytes folder.path ≡ path.now) }
+    ensures kind { IfOk result (λ folder. folder.table.kind ≡ kind) }
 {
     let mut ids = Vec::new(rt.alloc());
     for part in parts {
@@ -323,20 +328,30 @@ fn push_ids(kind: Kind, byte: u8, names: &[u8], ids: &mut Vec<ObjectId>) -> Resu
 
 // The id of the loose object whose file has this name, in the directory of a first byte.
 fn loose_id(kind: Kind, byte: u8, name: &[u8]) -> Option<ObjectId>
-    ensures { IfSome result (λ id. id_kind id ≡ kind) }
+    ensures { MatchOption result (IsNotPrinted kind (hex_of byte ++ name.now))
+        (IsPrinted kind (hex_of byte ++ name.now)) }
 {
-    let mut path = [b'/'; 65];
+    let mut text = [0; 64];
     if name.len() > 62 {
         return None;
     }
-    let len = 3 + name.len();
-    path[0] = HEX[usize::from(byte / 16)];
-    path[1] = HEX[usize::from(byte % 16)];
-    path[3..len].copy_from_slice(name);
-    read_loose_path(kind, &path[..len])
+    let len = 2 + name.len();
+    text[0] = letter(byte / 16);
+    text[1] = letter(byte % 16);
+    text[2..len].copy_from_slice(name);
+    read_printed(kind, &text[..len])
 }
 
-const HEX: [u8; 16] = *b"0123456789abcdef";
+// The letter of a hex digit.
+fn letter(digit: u8) -> u8
+    requires { digit < 16 }
+    ensures { result ≡ hex_letter digit }
+{
+    match digit {
+        0..10 => b'0' + digit,
+        _ => b'a' - 10 + digit,
+    }
+}
 
 // Adds the path of the file of a loose object in an object directory, if it is there.
 pub(crate) fn push_path(

@@ -1,8 +1,8 @@
 //! An object store in directories.
 
-ghost use Rattle.std.specs.Prelude.{◌≡◌, ◌<◌, ◌++◌, All, IfErr, IfOk, IsOk, OnOk, [], false, flat_map, length, map, slice_index_or, string_bytes, true};
+ghost use Rattle.std.specs.Prelude.{◌≡◌, ◌<◌, ◌↔◌, ◌++◌, All, IfErr, IfOk, IsOk, IsTrue, OnOk, [], false, flat_map, length, map, slice_index_or, string_bytes, true};
 ghost use Rattle.gix_hash.specs.Words.{hex_len_of};
-ghost use Rattle.store_folders.specs.Stores.{IsChanged, index_path, of_repository, pack_path_of};
+ghost use Rattle.store_folders.specs.Stores.{AreSettled, IsChanged, index_path, of_repository, pack_path_of};
 
 use crate::error::Error;
 use crate::loose::{LooseIds, LooseObjects, check_loose_file, list_loose, push_path, take_loose};
@@ -106,6 +106,8 @@ impl<R: Files<File = File> + AllocGlobal + Clone + Drop> FolderStore<R> {
     ) -> Result<FolderStore<R>, Error>
         ensures kind { IfOk result (λ store. store.folder.kind ≡ folder.now.kind) }
         ensures listed { IfOk result (λ store. store.loose.which ≡ loose) }
+        ensures settled { IfOk result (λ store. store.is_settled ≡ true
+            → (store.skipped.items ≡ []) × AreSettled now store.pack_folders.states.items) }
     {
         let mut folders = with_alternates(rt, folder)?;
         let pack_folders = PackFolders::of(rt, &folders.paths)?;
@@ -118,11 +120,10 @@ impl<R: Files<File = File> + AllocGlobal + Clone + Drop> FolderStore<R> {
         let opened = open_indexes(rt, &listed.paths, folder.kind)?;
         let alternates = mem::replace(&mut folders.skipped, Vec::new(rt.alloc()));
         let skipped = all_skipped(rt.alloc(), alternates, listed.skipped, opened.skipped)?;
-        let is_whole = listed.are_all && skipped.is_empty();
         Ok(FolderStore {
             rt: rt.clone()?,
             folder: copy_of(folder)?,
-            is_settled: is_whole && pack_folders.are_settled(now),
+            is_settled: are_settled(listed.are_all, &skipped, &pack_folders, now),
             folders,
             pack_folders,
             skipped,
@@ -322,9 +323,24 @@ fn list<R: Files + AllocGlobal>(
     Ok((packs.list_again(rt, &before)?, loose))
 }
 
+// Whether the packs are those that are there as long as their directories are unchanged: none is
+// left out or skipped, and each later change of a directory leaves another state.
+fn are_settled(
+    are_all: bool,
+    skipped: &[Error],
+    folders: &PackFolders,
+    now: Option<SystemTime>,
+) -> bool
+    ensures { IsTrue result ↔ (are_all ≡ true) × (skipped.now ≡ [])
+        × AreSettled now folders.now.states.items }
+{
+    are_all && skipped.is_empty() && folders.are_settled(now)
+}
+
 // A copy of an object directory that was found.
 fn copy_of(folder: &ObjectsFolder) -> Result<ObjectsFolder, AllocError>
-    ensures { IfOk result (λ copy. copy.kind ≡ folder.now.kind) }
+    ensures path { IfOk result (λ copy. string_bytes copy.path ≡ string_bytes folder.now.path) }
+    ensures kind { IfOk result (λ copy. copy.kind ≡ folder.now.kind) }
 {
     Ok(ObjectsFolder {
         path: folder.path.clone()?,
