@@ -304,7 +304,7 @@ def skipped(room):
 
 
 def much_found(room):
-    """Lines of 2, 3 and 4 digits that find each of many ids, within the memory that packtool(1) names."""
+    """Lines of 2, 3 and 4 digits that find each of many ids, within the memory that packtool(1) names, and that of the pack index."""
     ids = list(sorted_ids(1 << 18, [20]))
     index = index_of(ids)
     add_pack(room / "objects", "pack-0", index)
@@ -318,9 +318,9 @@ def much_found(room):
         for prefix, those in itertools.groupby(ids, lambda id: id[:size]):
             found[prefix] = [f"{prefix} {printed(id)}\n" for id in those]
         wanted = "".join(line for prefix in prefixes for line in found[prefix])
-        how = {"cwd": room, "given": "".join(f"{prefix}\n" for prefix in prefixes).encode(), "limits": [f"--data={most << 20}"]}
+        how = {"cwd": room, "given": "".join(f"{prefix}\n" for prefix in prefixes).encode(), "limits": [f"--data={(most << 20) + len(index)}"]}
         status = int(any(lines[0].endswith(" missing\n") for lines in found.values()))
-        name = f"{command} --stdin of all prefixes of {size} digits in {most} MiB"
+        name = f"{command} --stdin of all prefixes of {size} digits in {most} MiB beside the index"
         yield name, (wanted, "", status), (command, "--stdin", "--objects", "objects"), how
 
 
