@@ -217,10 +217,13 @@ fn arg_of<'a>(alloc: Global, argument: Argument) -> Result<Arg<'a>, AllocError> 
         Argument::Indexes => files(alloc, "INDEX"),
         Argument::Files => files(alloc, "FILE"),
         Argument::Least => option(alloc, "least", "N")
+            .visible_alias("abbrev")?
             .value_parser(value_parser!(u8).range(4..=64))
             .default_value("4"),
         Argument::Objects => option(alloc, "objects", "DIR"),
-        Argument::Kind => option(alloc, "kind", "KIND").value_parser(["sha1", "sha256"].as_slice()),
+        Argument::Kind => option(alloc, "kind", "KIND")
+            .visible_alias("object-format")?
+            .value_parser(["sha1", "sha256"].as_slice()),
     };
     Ok(arg.help(help_of(argument)))
 }
