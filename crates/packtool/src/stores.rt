@@ -95,7 +95,7 @@ impl Asked<'_> {
         };
         let answer = answer.into_inner();
         if let Some(mark) = mark_of(answer.trim_ascii_end()) {
-            report(self.rt, &text, mark);
+            report(self.rt, &format!(in self.rt.alloc(); "{text}:")?, mark);
             return Ok(status);
         }
         let mut out = buffered(self.rt, self.rt.stdout())?;
