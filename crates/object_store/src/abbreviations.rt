@@ -128,7 +128,8 @@ impl<S: Store, A: Allocator + Copy> LookUp<S, A> for Abbreviating {
 /// store, of at least `least` digits. `least` must be from 4 to 40 or 64, by the kind.
 ///
 /// No other id begins with an abbreviation, which is as short as that allows. The calls for all 256
-/// bytes give all ids of the store, in order.
+/// bytes give all ids of the store, in order. The error is that of reading the ids with this first
+/// byte, or that memory ran out.
 ///
 /// ```
 /// for byte in 0..=255 {

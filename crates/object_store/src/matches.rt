@@ -19,7 +19,7 @@ use std::alloc::{AllocError, Allocator};
 ///
 /// The prefix must have 2 digits or more, and the store's kind. Of each pack index only the ids
 /// with the prefix's first byte are read. The call allocates memory for these, and for the ids that
-/// are found.
+/// are found. The error is that of reading them, or that memory ran out.
 ///
 /// ```
 /// for id in lookup_prefix(rt.alloc(), &store, &prefix)?.iter() {

@@ -80,7 +80,8 @@ impl<'s, S: Store, A: Allocator + Copy> Parts<'s, S, A> {
     }
 
     /// The ids of the store that begin with a prefix, each once, in order. The prefix has 2 digits
-    /// or more, and the store's kind.
+    /// or more, and the store's kind. The error is that of reading the ids with the prefix's first
+    /// byte, or that memory ran out.
     pub fn lookup_prefix(&mut self, prefix: &Prefix) -> Result<Vec<ObjectId, A>, Error>
         requires { CanLookUp self.old prefix.now }
         ensures store { self.new ≡ self.old }
@@ -96,7 +97,8 @@ impl<'s, S: Store, A: Allocator + Copy> Parts<'s, S, A> {
 
     /// The abbreviation of an id in the store, of at least `least` digits; or `None` if the store
     /// does not have the id. `least` must be from 4 to 40 or 64, by the kind. The id has the
-    /// store's kind.
+    /// store's kind. The error is that of reading the ids with the id's first byte, or that memory
+    /// ran out.
     pub fn abbreviate(&mut self, id: &ObjectId, least: usize) -> Result<Option<Prefix>, Error>
         requires kind { id_kind id.now ≡ self.old.kind }
         requires listed { IsListed self.old (first_byte_of (id_digits id.now)) }
@@ -116,7 +118,8 @@ impl<'s, S: Store, A: Allocator + Copy> Parts<'s, S, A> {
 
     /// The abbreviation of the only id in the store that begins with a prefix, of at least `least`
     /// digits, from 4 to 40 or 64, by the kind. The prefix has 2 digits or more, and the store's
-    /// kind.
+    /// kind. The error is that of reading the ids with the prefix's first byte, or that memory ran
+    /// out.
     pub fn abbreviate_prefix(
         &mut self,
         prefix: &Prefix,
@@ -159,7 +162,8 @@ impl<'s, S: Store, A: Allocator + Copy> Parts<'s, S, A> {
     /// store's kind.
     ///
     /// If a pack index has the id more than once, the offset is that of the first. It is read once
-    /// all ids with this first byte are.
+    /// all ids with this first byte are. The error is that of reading these ids or an offset, or that
+    /// memory ran out.
     pub fn locate(&mut self, id: &ObjectId) -> Result<Vec<Location, A>, Error>
         requires kind { id_kind id.now ≡ self.old.kind }
         requires listed { IsListed self.old (first_byte_of (id_digits id.now)) }
