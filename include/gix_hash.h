@@ -58,7 +58,7 @@ extern "C" {
  * index. "detail" is a number that gix_hash_pack_check writes, and "at" one of gix_hash_check_sorted. */
 #define GIX_HASH_CODES(CODE) \
     CODE(OK, 0, "success") \
-    CODE(BAD_LENGTH, 1, "no id or prefix has this length (an id 40 or 64 digits, 20 or 32 bytes; a prefix up to 64 digits)") \
+    CODE(BAD_LENGTH, 1, "wrong length: an id has 40 or 64 digits (20 or 32 bytes), and a prefix 1 to 64 digits") \
     CODE(BAD_DIGIT, 2, "a byte of the text is not a hex digit") \
     CODE(BAD_KIND, 3, "the kind is neither GIX_HASH_SHA1 nor GIX_HASH_SHA256") \
     CODE(NO_ROOM, 4, "the buffer is too short") \
@@ -69,7 +69,7 @@ extern "C" {
     CODE(BAD_TYPE, 9, "the type is not one of GIX_HASH_COMMIT to GIX_HASH_TAG") \
     CODE(INDEX_TOO_SHORT, 16, "fewer bytes than any pack index has") \
     CODE(VERSION_1, 17, "a pack index of version 1, by its length") \
-    CODE(BAD_MAGIC, 18, "no pack index: the magic number is missing") \
+    CODE(BAD_MAGIC, 18, "not a pack index (bad magic number)") \
     CODE(BAD_VERSION, 19, "a pack index of another version than 2 (detail: its version)") \
     CODE(WRONG_LENGTH, 20, "the tables do not fill the bytes") \
     CODE(NAMES_FALL, 21, "an object id is below the one before it (detail: its position)") \
@@ -95,10 +95,10 @@ static inline const char *gix_hash_code_text(uint32_t code) {
 #define GIX_HASH_CODE(name, number, text) case number: return text;
     switch (code) { GIX_HASH_CODES(GIX_HASH_CODE) }
 #undef GIX_HASH_CODE
-    return "no code of gix_hash.h";
+    return "not a code of gix_hash.h";
 }
 
-/* Returned by the comparisons for bad arguments, in place of -1, 0 or 1. */
+/* Returned by the comparisons for bad arguments, instead of -1, 0 or 1. */
 #define GIX_HASH_NO_ORDER 2
 
 /* An id. The 12 bytes after a digest of SHA-1 are not read, and are written as zeros. */

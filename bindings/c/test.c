@@ -524,7 +524,7 @@ int main(int count, char **words) {
     const char *directory = count > 1 ? words[1] : ".";
     test_digests(), test_texts(), test_errors(), test_hostile(), test_nothing();
     CHECK(0, !strcmp(gix_hash_code_text(GIX_HASH_NO_ROOM), "the buffer is too short"));
-    CHECK(0, !strcmp(gix_hash_code_text(30), "no code of gix_hash.h"));
+    CHECK(0, !strcmp(gix_hash_code_text(30), "not a code of gix_hash.h"));
     test_index(directory, "sha1.idx", GIX_HASH_SHA1), test_index(directory, "sha256.idx", GIX_HASH_SHA256);
     test_index(directory, "longs.idx", GIX_HASH_SHA1);
     test_uneven(GIX_HASH_SHA1), test_uneven(GIX_HASH_SHA256);

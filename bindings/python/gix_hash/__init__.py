@@ -80,7 +80,7 @@ class Code(enum.IntEnum):
         code._value_, code.text = number, text
         return code
 
-    BAD_LENGTH = 1, "no id or prefix has this length (an id 40 or 64 digits, 20 or 32 bytes; a prefix up to 64 digits)"
+    BAD_LENGTH = 1, "wrong length: an id has 40 or 64 digits (20 or 32 bytes), and a prefix 1 to 64 digits"
     BAD_DIGIT = 2, "a byte of the text is not a hex digit"
     BAD_KIND = 3, "the kind is neither GIX_HASH_SHA1 nor GIX_HASH_SHA256"
     NO_ROOM = 4, "the buffer is too short"
@@ -91,7 +91,7 @@ class Code(enum.IntEnum):
     BAD_TYPE = 9, "the type is not one of GIX_HASH_COMMIT to GIX_HASH_TAG"
     INDEX_TOO_SHORT = 16, "fewer bytes than any pack index has"
     VERSION_1 = 17, "a pack index of version 1, by its length"
-    BAD_MAGIC = 18, "no pack index: the magic number is missing"
+    BAD_MAGIC = 18, "not a pack index (bad magic number)"
     BAD_VERSION = 19, "a pack index of another version than 2 (detail: its version)"
     WRONG_LENGTH = 20, "the tables do not fill the bytes"
     NAMES_FALL = 21, "an object id is below the one before it (detail: its position)"

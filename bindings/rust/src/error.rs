@@ -34,7 +34,7 @@ macro_rules! codes {
 }
 
 codes! {
-    BadLength = 1, "no id or prefix has this length (an id 40 or 64 digits, 20 or 32 bytes; a prefix up to 64 digits)";
+    BadLength = 1, "wrong length: an id has 40 or 64 digits (20 or 32 bytes), and a prefix 1 to 64 digits";
     BadDigit = 2, "a byte of the text is not a hex digit";
     BadKind = 3, "the kind is neither SHA-1 nor SHA-256";
     NoRoom = 4, "the buffer is too short";
@@ -45,7 +45,7 @@ codes! {
     BadType = 9, "the type of the object is not one of the four";
     IndexTooShort = 16, "the bytes are too few for a pack index";
     Version1 = 17, "the pack index has version 1";
-    BadMagic = 18, "the bytes do not begin as a pack index";
+    BadMagic = 18, "not a pack index (bad magic number)";
     BadVersion = 19, "the pack index has version `detail`, not 2";
     WrongLength = 20, "the tables of the pack index do not fill its bytes";
     NamesFall = 21, "the id at position `detail` is below the one before it";
