@@ -19,7 +19,7 @@ use std::{env, fmt, thread};
 #[derive(Debug)]
 #[non_exhaustive]
 pub enum StoreError {
-    /// No id of the store begins with the prefix. That many parts of the store were left out.
+    /// No id of the store begins with the prefix. `skipped` is the number of parts of the store that were left out.
     Missing { prefix: Prefix, skipped: usize },
     /// Several ids of the store begin with the prefix: these, in order.
     Ambiguous { prefix: Prefix, ids: Vec<Id> },
