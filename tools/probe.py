@@ -225,6 +225,13 @@ def programs_given(number):
     return paths
 
 
+def no_words_given():
+    """Ends this program with status 2 if it was given words, since it takes none."""
+    if sys.argv[1:]:
+        print(f"usage: tools/{Path(sys.argv[0]).name}", file=sys.stderr)
+        sys.exit(2)
+
+
 def program(name):
     """The path of a program, which is proved and built first if it has to be."""
     words = ["flock", "crates.txt", "make", "-s", name]
