@@ -162,8 +162,8 @@ impl<'s, S: Store, A: Allocator + Copy> Parts<'s, S, A> {
     /// store's kind.
     ///
     /// If a pack index has the id more than once, the offset is that of the first. It is read once
-    /// all ids with this first byte are. The error is that of reading these ids or an offset, or that
-    /// memory ran out.
+    /// all ids with this first byte are. The error is that of reading these ids or an offset, or
+    /// that memory ran out.
     pub fn locate(&mut self, id: &ObjectId) -> Result<Vec<Location, A>, Error>
         requires kind { id_kind id.now ≡ self.old.kind }
         requires listed { IsListed self.old (first_byte_of (id_digits id.now)) }
