@@ -29,14 +29,17 @@ export NEEDED := $(filter $(NEEDED) $(foreach crate,$(NEEDED),$(call below,$(cra
 all: $(PROGRAMS)
 
 help:
-	@echo 'make: both programs; make oidtool, make packtool: one of them'
-	@echo 'make lib: the library for C, out/libgix_hash.a and out/libgix_hash.so'
-	@echo 'make test: all proofs, edits and tests; make bench: the time and the instructions that the programs take'
-	@echo 'make docs: the public items of each crate with their contracts, in out/api'
-	@echo 'make install PREFIX=/usr/local: programs, man pages, library and bindings; make uninstall: they go'
-	@echo 'make install-lib PREFIX=/usr/local: the library and its bindings alone, which proves no program'
-	@echo 'make dist: archives for users without the kit, in out/dist'
-	@echo 'make clean: all that was built goes'
+	@echo 'make: proves and builds both programs; make oidtool, make packtool: one of them'
+	@echo 'make lib: proves and builds the library for C, out/libgix_hash.a and out/libgix_hash.so'
+	@echo 'make test: runs all proofs, edits and tests'
+	@echo 'make bench: measures the time and the instructions that the programs take'
+	@echo 'make docs: writes the public items of each crate with their contracts into out/api'
+	@echo 'make install PREFIX=/usr/local: installs programs, man pages, library and bindings'
+	@echo 'make install-lib PREFIX=/usr/local: installs the library and its bindings alone, and proves no program'
+	@echo 'make uninstall PREFIX=/usr/local: removes what was installed'
+	@echo 'make dist: makes archives for users without the kit, in out/dist'
+	@echo 'make clean: removes all that was built'
+	@echo 'DESTDIR=DIR puts what is installed below DIR, to make a package of it'
 
 $(PROGRAMS): %: crates/%/out/built
 
