@@ -7,7 +7,7 @@
  * counts from 0. A text is chars, of which each is a byte, with their len.
  *
  * SHA-1 is computed without the detection of collisions that Git has: where others make the bytes, an
- * equal id is no proof of equal bytes.
+ * equal id does not prove that they are equal.
  *
  * No function allocates memory or keeps anything between calls, so any thread may call any function at
  * any time. Every call is safe and returns, whatever the values are, if the caller ensures that
