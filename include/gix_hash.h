@@ -256,7 +256,7 @@ uint32_t gix_hash_pack_kind(const uint8_t *bytes, size_t len, uint32_t *kind);
  * The functions below are for bytes that this one accepted, and say what the index contains. They test
  * only the kind, the magic number, the version and the lengths of the tables, in constant time, and
  * return GIX_HASH_BAD_KIND, or a code from GIX_HASH_INDEX_TOO_SHORT to GIX_HASH_WRONG_LENGTH. They are safe
- * for any bytes, so it is no danger if the bytes changed since the check. */
+ * for any bytes, also if the bytes changed since the check. */
 GIX_HASH_READS(2, 3) GIX_HASH_WRITES(4)
 uint32_t gix_hash_pack_check(uint32_t kind, const uint8_t *bytes, size_t len, uint64_t *detail);
 

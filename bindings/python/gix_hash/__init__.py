@@ -1,6 +1,6 @@
 """Git's object ids over libgix_hash, whose calls are proved; this module is only tested.
 
-Ids are spelled and compared here, and the rest is done by the library, but for a Store, which asks the program packtool. The
+Ids are spelled and compared here, and the rest is done by the library, except for a Store, which asks the program packtool. The
 library is beside this module or where the loader looks, or the environment variable GIX_HASH_LIB is the absolute path of its file,
 or of the directory that has libgix_hash.so.
 
