@@ -1,7 +1,32 @@
 -- What contracts say of the answers of a store.
-use Rattle.std.specs.Prelude.{ℕ, ◌≡◌, ◌≢◌, Bool, List, [], if◌then◌else◌}
+use Rattle.std.specs.Prelude.{ℕ, ◌≡◌, ◌≢◌, Bool, List, [], Option, if◌then◌else◌}
+use Rattle.object_store.specs.Stores.{IsReopened, IsSeen, StoreView}
+use Rattle.packtool.specs.declared.arguments.Question.{Question}
+use Rattle.packtool.specs.declared.arguments.Question.TheVariants.{Find, Locate, Names}
+use Rattle.packtool_commands.specs.Stores.{HasAnsweredMatches, HasLocated, HasLocatedEach, HasNamedBelow, HasNamedEach, HasPrinted}
+use Rattle.packtool_commands.specs.declared.printing.Answers.{Answers}
 use Rattle.store_folders.specs.declared.error.Error.{Error}
 
 -- the status by what was skipped, and by whether what was asked for was found: 2 if something was skipped, and else 0 or 1
 abbrev pub IsStatus : List Error → Bool → ℕ → Type 0
 IsStatus skipped any status = (skipped ≡ [] → status ≡ (if any then 0 else 1)) × (skipped ≢ [] → status ≡ 2)
+
+-- what a question finds for a prefix was written, and whether an id begins with it is this; A is the type of the allocator of what was found
+abbrev pub HasAnsweredPrefix : (A : Type 0) → Question → (ℕ → List ℕ) → (List ℕ → List (List ℕ)) → StoreView → List ℕ → Bool → Option (List ℕ) → Option (List ℕ)
+    → Type 0
+HasAnsweredPrefix A Locate pack_path loose_paths view digits any old new = HasLocated A pack_path loose_paths view digits any old new
+HasAnsweredPrefix A _ pack_path loose_paths view digits any old new = HasPrinted view digits any old new
+
+-- what a question finds for lines was written, and whether each finds what is asked for is this
+abbrev pub HasAnsweredLines : (A : Type 0) → Question → Answers → ℕ → (ℕ → List ℕ) → (List ℕ → List (List ℕ)) → StoreView → List (List ℕ) → Bool
+    → Option (List ℕ) → Option (List ℕ) → Type 0
+HasAnsweredLines A Find answers least pack_path loose_paths view lines all old new = HasAnsweredMatches A answers view lines all old new
+HasAnsweredLines A Locate answers least pack_path loose_paths view lines all old new = HasLocatedEach A answers pack_path loose_paths view lines all old new
+HasAnsweredLines A Names answers least pack_path loose_paths view lines all old new = HasNamedEach least view lines all old new
+
+-- the names of all ids of a store were written, of each first byte as the store was at one time since it was opened, and whether there is one is this
+pub record HasNamedAll {S : Type 0} (may_have : S → StoreView → Type 0) (view : S → StoreView) (least : ℕ) (store : S) (any : Bool) (old new : Option (List ℕ)) :
+    Type 0 where
+  pub opened : S
+  pub reopened : IsReopened (may_have opened) (may_have store) (view opened) (view store)
+  pub named : HasNamedBelow 256 least (IsSeen (may_have opened) (view opened)) any old new

@@ -1,13 +1,17 @@
 //! Commands over a store.
 
-ghost use Rattle.std.specs.Prelude.{◌≡◌, ◌≢◌, ◌↔◌, ◌<◌, ◌≤◌, ◌++◌, ℕ, [], All, Bool, IfErr, IfOk, IsErrOf, IsOk, IsTrue, MatchOption, OnOk, Some, false, if◌then◌else◌, length, max, nat_eq, string_bytes, true};
+ghost use Rattle.std.specs.Prelude.{◌≡◌, ◌≢◌, ◌↔◌, ◌<◌, ◌≤◌, ◌++◌, ℕ, [], All, Bool, IfErr, IfOk, IsErrOf, IsOkAnd, IsSomeAnd, IsTrue, MatchOption, OnOk, Some, false, if◌then◌else◌, length, max, nat_eq, string_bytes, true};
+ghost use Rattle.std.specs.Global.{Global};
 ghost use Rattle.std.specs.List.{ends_with};
 ghost use Rattle.std.specs.Option.{ForSome};
 ghost use Rattle.gix_hash.specs.Words.{KindDigits, first_byte_of, hex_len_of, hex_letter, prefix_read_in};
+ghost use Rattle.object_store.specs.Stores.{CanLookUp, IsReopened};
 ghost use Rattle.store_folders.specs.Stores.{only_of};
+ghost use Rattle.packtool_commands.specs.Stores.{AreListed};
 ghost use Rattle.packtool_commands.specs.declared.error.StoreError.{StoreError};
-ghost use Rattle.streams.specs.Devices.{plain_failed};
-ghost use Rattle.packtool.specs.Answers.{IsStatus};
+ghost use Rattle.streams.specs.Devices.{plain_failed, plain_inner};
+ghost use Rattle.streams.specs.Streams.{lines_of};
+ghost use Rattle.packtool.specs.Answers.{HasAnsweredLines, HasAnsweredPrefix, HasNamedAll, IsStatus};
 ghost use Rattle.packtool.specs.WholeLines.{AreWhole};
 
 use crate::arguments::{Ask, Question, StoreRequest};
@@ -18,15 +22,16 @@ use crate::output::{buffered, flushed, report};
 use crate::words::{beginning, lossy_text};
 use crate::{FAILED, FOUND, NOTHING};
 use gix_hash::{Kind, Prefix};
+use object_store::{Reopen, Store, StorePaths};
 use packtool_commands::{
     Answers, PrefixLines, StoreError, find, find_each, locate, locate_each, name_each, names,
 };
 use repositories::{ObjectsFolder, find_objects};
-use std::alloc::AllocError;
+use std::alloc::{AllocError, Global};
 use std::io;
 use std::time::{SystemTime, UNIX_EPOCH};
 use store_folders::{Error, FolderStore, LooseIds};
-use streams::{Plain, Retrying, write_all};
+use streams::{Plain, Retrying, Sink, write_all};
 
 // The most ids or locations of several lines that are held at a time.
 const MAX_FOUND: usize = 1 << 16;
@@ -153,31 +158,64 @@ impl Asked<'_> {
         out: &mut Plain<W>,
     ) -> Result<u8, Failure<'a>>
         requires { plain_failed out.old ≡ false }
-        ensures { OnOk result (plain_failed out.new ≡ false) }
+        ensures output { OnOk result (plain_failed out.new ≡ false) }
+        ensures answered { IfOk result (λ status. IsSomeAnd self.new.kept (λ store. (any : Bool)
+            × IsStatus store.skipped.items any status
+            × IsOkAnd (prefix_read_in self.old.folder.now.kind hex_letter text.now) (λ prefix.
+            HasAnsweredPrefix Global self.old.question
+            (⟦<FolderStore<HostRuntime> as StorePaths>⟧.pack_path store)
+            (⟦<FolderStore<HostRuntime> as StorePaths>⟧.loose_paths store)
+            (⟦<FolderStore<HostRuntime> as Store>⟧.view store) prefix.digits any
+            (W.contents (plain_inner out.old)) (W.contents (plain_inner out.new))))) }
     {
         let prefix = read_prefix(text, self.folder.kind)?;
         let loose = LooseIds::WithFirstByte(prefix.first_byte());
         let prefixes = [prefix];
         let checked = self.checked(&prefixes);
         let mut store = store_now(self.rt, self.folder, None, loose, checked)?;
-        let ran = match self.question {
-            Question::Locate => locate(self.rt.alloc(), &mut store, &prefix, out),
-            _ => find(self.rt.alloc(), &mut store, &prefix, out),
-        };
+        let ran = self.ask_for_prefix(&mut store, &prefix, out);
         self.status_of(store, ran, out)
+    }
+
+    // Writes the lines of `find` or `where` for a prefix, and returns whether an id begins with it.
+    fn ask_for_prefix<S: Reopen + StorePaths, W: Sink>(
+        &self,
+        store: &mut S,
+        prefix: &Prefix,
+        out: &mut W,
+    ) -> Result<bool, StoreError>
+        requires can { CanLookUp (S.view store.old) prefix.now }
+        requires output { W.has_failed out.old ≡ false }
+        ensures reopened { IsReopened (S.may_have store.old) (S.may_have store.new)
+            (S.view store.old) (S.view store.new) }
+        ensures answered { IfOk result (λ any. HasAnsweredPrefix Global self.now.question
+            (S.pack_path store.new) (S.loose_paths store.new) (S.view store.new)
+            prefix.now.digits any (W.taken out.old) (W.taken out.new)) }
+        ensures output { IsErrOf result StoreError.Output ↔ (W.has_failed out.new ≡ true) }
+    {
+        let alloc = self.rt.alloc();
+        match self.question {
+            Question::Locate => locate(alloc, store, prefix, out),
+            Question::Find | Question::Names => find(alloc, store, prefix, out),
+        }
     }
 
     // Opens the store, and writes the lines of `names`. Those that were written before the store
     // was opened again may lack what was skipped then.
     fn write_all_names<'a, W: io::Write>(&mut self, out: &mut Plain<W>) -> Result<u8, Failure<'a>>
         requires { plain_failed out.old ≡ false }
-        ensures { OnOk result (plain_failed out.new ≡ false) }
+        ensures output { OnOk result (plain_failed out.new ≡ false) }
+        ensures answered { IfOk result (λ status. IsSomeAnd self.new.kept (λ store. (any : Bool)
+            × IsStatus (store.skipped_before.items ++ store.skipped.items) any status
+            × HasNamedAll ⟦<FolderStore<HostRuntime> as Reopen>⟧.may_have
+            ⟦<FolderStore<HostRuntime> as Store>⟧.view self.old.least store any
+            (W.contents (plain_inner out.old)) (W.contents (plain_inner out.new)))) }
     {
         let mut store = FolderStore::open(self.rt, self.folder, LooseIds::All)?;
         let ran = names(self.rt.alloc(), &mut store, self.least, out);
         let was_whole = report_skipped(self.rt, store.skipped_before(), &mut self.reported);
         let status = self.status_of(store, ran, out)?;
-        Ok(if was_whole? { status } else { FAILED })
+        if was_whole? { Ok(status) } else { Ok(FAILED) }
     }
 
     // Writes what each of the lines finds in the store as it is now.
@@ -188,19 +226,50 @@ impl Asked<'_> {
         out: &mut Plain<W>,
     ) -> Result<u8, Failure<'a>>
         requires { plain_failed out.old ≡ false }
-        ensures { OnOk result (plain_failed out.new ≡ false) }
+        ensures output { OnOk result (plain_failed out.new ≡ false) }
+        ensures answered { IfOk result (λ status. IsSomeAnd self.new.kept (λ store. (all : Bool)
+            × IsStatus store.skipped.items all status
+            × HasAnsweredLines Global self.old.question answers self.old.least
+            (⟦<FolderStore<HostRuntime> as StorePaths>⟧.pack_path store)
+            (⟦<FolderStore<HostRuntime> as StorePaths>⟧.loose_paths store)
+            (⟦<FolderStore<HostRuntime> as Store>⟧.view store) (lines_of lines.now) all
+            (W.contents (plain_inner out.old)) (W.contents (plain_inner out.new)))) }
     {
         let alloc = self.rt.alloc();
         let lines = PrefixLines::read(alloc, self.folder.kind, lines)?;
         let loose = loose_of(lines.prefixes());
         let checked = self.checked(lines.prefixes());
         let mut store = store_now(self.rt, self.folder, self.kept.take(), loose, checked)?;
-        let ran = match self.question {
-            Question::Find => find_each(alloc, &mut store, &lines, answers, MAX_FOUND, out),
-            Question::Locate => locate_each(alloc, &mut store, &lines, answers, MAX_FOUND, out),
-            Question::Names => name_each(alloc, &mut store, &lines, self.least, MAX_FOUND, out),
-        };
+        let ran = self.ask_for_lines(&mut store, &lines, answers, out);
         self.status_of(store, ran, out)
+    }
+
+    // Writes what each of the lines finds in a store, and returns whether each finds what is asked
+    // for.
+    fn ask_for_lines<S: Reopen + StorePaths, W: Sink>(
+        &self,
+        store: &mut S,
+        lines: &PrefixLines<'_, Global>,
+        answers: Answers,
+        out: &mut W,
+    ) -> Result<bool, StoreError>
+        requires kind { lines.now.kind ≡ (S.view store.old).kind }
+        requires listed { AreListed (S.view store.old) lines.now.prefixes.items }
+        requires fits { self.now.least ≤ hex_len_of (S.view store.old).kind }
+        requires output { W.has_failed out.old ≡ false }
+        ensures reopened { IsReopened (S.may_have store.old) (S.may_have store.new)
+            (S.view store.old) (S.view store.new) }
+        ensures answered { IfOk result (λ all. HasAnsweredLines Global self.now.question answers
+            self.now.least (S.pack_path store.new) (S.loose_paths store.new) (S.view store.new)
+            (lines_of lines.now.text.now) all (W.taken out.old) (W.taken out.new)) }
+        ensures output { IsErrOf result StoreError.Output ↔ (W.has_failed out.new ≡ true) }
+    {
+        let alloc = self.rt.alloc();
+        match self.question {
+            Question::Find => find_each(alloc, store, lines, answers, MAX_FOUND, out),
+            Question::Locate => locate_each(alloc, store, lines, answers, MAX_FOUND, out),
+            Question::Names => name_each(alloc, store, lines, self.least, MAX_FOUND, out),
+        }
     }
 
     // Those of some prefixes whose loose objects are checked: all for `where`.
@@ -220,9 +289,8 @@ impl Asked<'_> {
     ) -> Result<u8, Failure<'a>>
         requires kind { store.folder.kind ≡ self.old.folder.now.kind }
         requires output { IsErrOf ran StoreError.Output ↔ (plain_failed out.now ≡ true) }
-        ensures ran { OnOk result (IsOk ran) }
-        ensures status { IfOk result (λ status. (any : Bool) → ran ≡ Ok any
-            → IsStatus store.skipped.items any status) }
+        ensures ran { IfOk result (λ status. IsOkAnd ran (λ any.
+            IsStatus store.skipped.items any status)) }
         ensures kept { OnOk result (self.new.kept ≡ Some store) }
         ensures output { OnOk result (plain_failed out.now ≡ false) }
     {

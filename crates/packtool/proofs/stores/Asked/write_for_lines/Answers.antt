@@ -2,6 +2,7 @@ use Rattle.gix_hash.proofs.Std.{All, List, Some, subst, sym, ℕ, ◌≡◌}
 use Rattle.gix_hash.specs.Words.{KindDigits, first_byte_of}
 use Rattle.store_folders.specs.Stores.{only_of}
 use Rattle.store_folders.specs.declared.loose.LooseIds.{LooseIds}
+use Rattle.packtool.proofs.StatusLemmas.{kept-answer}
 use Rattle.packtool.proofs.stores.Asked.write_for_lines.Goals as goal
 
 -- what may be asked of a store where these loose objects are listed
@@ -11,11 +12,10 @@ AreOf loose prefixes = All (λ (prefix : KindDigits). (only : ℕ) → only_of l
 are_of : (listed asked : LooseIds) (prefixes read : List KindDigits) → listed ≡ asked → read ≡ prefixes → AreOf asked read → AreOf listed prefixes
 are_of listed asked prefixes read is same all = subst (AreOf listed) same (subst (λ loose. AreOf loose read) (sym is) all)
 
-pub find_each-ran-requires-clause-listed : goal.find_each-ran-requires-clause-listed
-find_each-ran-requires-clause-listed g c = are_of _ _ _ _ c.in_ok-store.ensures.listed c.prefixes.ensures.items c.loose_of-loose.ensures
+pub ask_for_lines-ran-requires-clause-listed : goal.ask_for_lines-ran-requires-clause-listed
+ask_for_lines-ran-requires-clause-listed g c = are_of _ _ _ _ c.in_ok-store.ensures.listed c.prefixes.ensures.items c.loose_of-loose.ensures
 
-pub locate_each-ran-requires-clause-listed : goal.locate_each-ran-requires-clause-listed
-locate_each-ran-requires-clause-listed g c = are_of _ _ _ _ c.in_ok-store.ensures.listed c.prefixes.ensures.items c.loose_of-loose.ensures
-
-pub name_each-ran-requires-clause-listed : goal.name_each-ran-requires-clause-listed
-name_each-ran-requires-clause-listed g c = are_of _ _ _ _ c.in_ok-store.ensures.listed c.prefixes.ensures.items c.loose_of-loose.ensures
+pub returns-clause-answered : goal.returns-clause-answered
+returns-clause-answered g c =
+    kept-answer _ _ _ _ _ c.ask_for_lines-ran.result c.status_of.result c.status_of.ensures.ran c.status_of.ensures.kept c.ask_for_lines-ran.ensures.answered
+    (λ all status is has. (all, is, rw (← c.in_ok-lines.ensures.text) has))
