@@ -11,7 +11,7 @@ import time
 
 import made
 from edges import LOCKED, NO_FILE, TOO_FEW, error_of
-from gitstore import DIGITS, add_objects, add_pack, add_repository, changed, plain_index, write
+from gitstore import DIGITS, add_objects, add_pack, add_repository, changed, plain_index, sorted_ids, write
 from probe import CLEAN, POWERLESS, difference, started
 
 # How long all answers to an input may take, in seconds.
@@ -177,4 +177,18 @@ def few_files(program, room):
     yield "64 packs, and 67 open files", wrong
 
 
-TALKS = [exchanges, statuses, locked_later, mended_later, few_files]
+def out_of_order(program, room):
+    """Questions for each of many ids with one first byte, one after the other, of which two are in each other's place in a pack index,
+    and of which none are: each id is found each time."""
+    ids = sorted({f"4b{id[2:]}" for id in sorted_ids(300, [20])})
+    swapped = [*ids[:10], ids[200], *ids[11:200], ids[10], *ids[201:]]
+    for name, names in (("in order", ids), ("with two in each other's place", swapped)):
+        add_pack(room / "objects", "x", plain_index(names))
+        with talk(program, room, "find", "--one") as child:
+            wrong = asked_twice(child, f"{ids[0]}\n".encode(), f"{ids[0]}\n".encode())
+            for id in [*ids, *ids[::-1]]:
+                wrong = wrong or ask(child, f"{id[:12]}\n".encode(), f"{id}\n".encode())
+        yield f"find --one --stdin of each of {len(ids)} ids with one first byte {name}", wrong
+
+
+TALKS = [exchanges, statuses, locked_later, mended_later, few_files, out_of_order]

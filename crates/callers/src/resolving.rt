@@ -21,8 +21,8 @@ pub fn resolve<R: Files<File = File> + Env + AllocGlobal + Clone + Drop>(
         return Ok(None);
     }
     let loose = LooseIds::WithFirstByte(prefix.first_byte());
-    let store = FolderStore::open(rt, &folder, loose)?;
-    match lookup_prefix(rt.alloc(), &store, &prefix)?.as_slice() {
+    let mut store = FolderStore::open(rt, &folder, loose)?;
+    match lookup_prefix(rt.alloc(), &mut store, &prefix)?.as_slice() {
         [id] => Ok(Some(*id)),
         _ => Ok(None),
     }

@@ -5,7 +5,7 @@ pub use Rattle.std.proofs.Math.Seq.{drop-append_seam, get_or-append_seam, paste,
 pub use Rattle.std.proofs.lemmas.Bool.{agree_below, agree_below_at, and_parts, cases_Bool, cases_eq, cases_lt, cases_order, cond-false, cond-true, eqb-false, false_from_ne_true, false≢true, lt-leb, not-false, not-true, or_parts, true_from_ne_false}
 pub use Rattle.std.proofs.lemmas.Bool.Decides.{Decides-eqb, Decides-like, nat_tests, same_from_decides}
 pub use Rattle.std.proofs.lemmas.Cmp.{nat_eq_equiv, nat_list_cmp_total, tied_itself}
-pub use Rattle.std.proofs.lemmas.Fn.{FoldsTo-push, always_returns_same, says_at}
+pub use Rattle.std.proofs.lemmas.Fn.{FoldsTo-push, always_returns_same}
 pub use Rattle.std.proofs.lemmas.Grind.{common_steps, flat_map-append}
 pub use Rattle.std.proofs.lemmas.List.{drop-map, drop-replicate, drop-take, drop_all, drop_more, flat_map_more, get_or-map, get_or-replicate, get_or_append_left, get_or_default, get_or_past, length-map, length-replicate, map-append, nil_from_length, replicate-append-replicate, same_from_push, same_lists, set_at, take-append-le, take-map, take_min, take_more, take_more_set, take_rest}
 pub use Rattle.std.proofs.lemmas.List.Edits.{map_over_more, take-paste}
@@ -13,7 +13,7 @@ pub use Rattle.std.proofs.lemmas.List.Elements.{All-append, All-cons, All-contai
 pub use Rattle.std.proofs.lemmas.List.Folds.{Any-from_list_any, concat-append, drop_split, flat_map-map, list_all-append, list_any-from_Any}
 pub use Rattle.std.proofs.lemmas.List.FromFn.{get_or-range_with_len, length-range_with_len, map-range_with_len_more}
 pub use Rattle.std.proofs.lemmas.List.Sorted.{All-permutation, Contains-permutation, IsPartitionedBy-leb, IsPartitionedBy-ltb, IsPermutation-map, IsPermutation-sym, all_adjacent_more, ranks_by, searchable_from_sorted, sorted_far}
-pub use Rattle.std.proofs.lemmas.List.Sums.{common_prefix_len-le, count_by-le-length, count_by_more_no, count_by_more_yes, fails_before_first, get_or-le-sum_by, length-filter, passes_at_first, position_or_len_is, sum_by-append, sum_by-cons, sum_by-set, sum_by-take-drop}
+pub use Rattle.std.proofs.lemmas.List.Sums.{common_prefix_len-le, count_by-le-length, count_by_more_no, count_by_more_yes, fails_before_first, get_or-le-sum_by, length-filter, position_or_len_is, sum_by-append, sum_by-cons, sum_by-set, sum_by-take-drop}
 pub use Rattle.std.proofs.lemmas.Map.Keys.{IsDistinct-IsPermutation, IsDistinct-from_apart, Less-from_sorted, apart_from_distinct, sorted_from_all_adjacent}
 pub use Rattle.std.proofs.lemmas.Option.{IfSome_then, get_or_from_slice_get, none-some, same_Some, slice_get-get_or, slice_get_within, some_pair_parts}
 pub use Rattle.std.proofs.lemmas.Result.{IfErr-weaker, err_from_is_err_and, on_ok_weaker}

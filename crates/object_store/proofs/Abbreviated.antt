@@ -1,5 +1,5 @@
 -- The abbreviation of the only id that begins with a prefix, which is decided among those that begin with its first digits.
-use Rattle.gix_hash.proofs.Std.{◌≡◌, ℕ, ◌+◌, ◌-◌, ◌<◌, ◌≤◌, min, Bool, true, nat_eq, None, Some, List, [], ◌∷◌, ◌++◌, filter, length, get_or, map, take, drop, refl, sym, ap, ◌∙◌, subst, arith, append-nil, append_assoc, take-append-drop, Contains, starts_with, drop-cons, length-append, length-drop, length-take, nil_from_length, All-contains, All-from_all_within, Contains-get_or}
+use Rattle.gix_hash.proofs.Std.{◌≡◌, ℕ, ◌+◌, ◌-◌, ◌<◌, ◌≤◌, min, Bool, true, nat_eq, None, Some, List, [], ◌∷◌, ◌++◌, filter, length, get_or, map, take, drop, refl, sym, ap, ◌∙◌, subst, arith, append-nil, Contains, starts_with, drop-cons, length-append, length-drop, length-take, nil_from_length, All-contains, All-from_all_within, Contains-get_or}
 use Rattle.id_lookup.specs.Words.{IsIndexOf, IsRun, Kind, KindDigits, ObjectId, first_byte_of, hex_len_of, id_digits, matches}
 use Rattle.id_lookup.specs.declared.search.Run.{Run}
 use Rattle.id_lookup.proofs.Beginnings.{first_byte_of-begins}
@@ -12,6 +12,8 @@ use Rattle.object_store.specs.declared.abbreviations.Abbreviation.{Abbreviation}
 use Rattle.object_store.specs.declared.abbreviations.Abbreviation.TheVariants.{Ambiguous, Missing, Named}
 use Rattle.object_store.specs.declared.abbreviations.NamedId.{NamedId}
 use Rattle.object_store.proofs.Named.{begins_itself, name_in_read}
+use Rattle.object_store.proofs.Prefixes.{begins_whole}
+use Rattle.pack_index.proofs.Parts.{begins_less}
 
 -- the only id that begins with a prefix
 pub only_one : (prefix : KindDigits) (ids : List (List ℕ)) (at : ℕ) → IsRun prefix ids (record { start = at; end = at + 1 }) → matches prefix.digits ids ≡ get_or ids at [] ∷ []
@@ -62,13 +64,7 @@ abbreviated fewest view digits front ids abbreviation is enough two are at kind 
 }
   where
     begins : (id : List ℕ) → starts_with nat_eq id digits ≡ true → starts_with nat_eq id front ≡ true
-    begins id all =
-        let split = (starts_with-BeginsWith id digits).0 all in
-        (starts_with-BeginsWith id front).1 (
-          drop fewest digits ++ split.0,
-          split.1 ∙ ap (λ (ds : List ℕ). ds ++ split.0) (sym (take-append-drop fewest digits)) ∙ append_assoc (take fewest digits) (drop fewest digits) split.0
-              ∙ ap (λ (ds : List ℕ). ds ++ (drop fewest digits ++ split.0)) (sym is),
-        )
+    begins id = begins_less id digits front (begins_so fewest digits front is)
 
     by : (a : Abbreviation) → IsAbbreviatedAt fewest (map id_digits ids) digits a → IsAbbreviatedAs fewest are.read (matches digits (map id_digits ids)) a
     by Missing none = none
@@ -84,7 +80,7 @@ module _ (fewest : ℕ) (view : StoreView) (id : List ℕ) (long : length id ≡
   IsLong other = length other ≡ hex_len_of view.kind
 
   itself : starts_with nat_eq id id ≡ true
-  itself = (starts_with-BeginsWith id id).1 ([], sym (append-nil id))
+  itself = begins_whole id
 
   module _ (read found : List (List ℕ)) (index : IsIndexOf view.kind (matches id read) found) where
     only : (other : List ℕ) → Contains found other → other ≡ id

@@ -1,5 +1,5 @@
 -- What is gathered of a store is what passes of the index of all its ids.
-use Rattle.gix_hash.proofs.Std.{◌≡◌, ℕ, inl, inr, ◌+◌, ◌<◌, ◌≤◌, Bool, Some, List, [], ◌∷◌, ◌++◌, length, get_or, map, filter, take, refl, sym, ap, ◌∙◌, subst, arith, append-nil, All, flat_map, get_or_from_slice_get, slice_get-get_or, slice_get_within, flat_map-append, get_or-append_seam, cases_lt, get_or-map, get_or_append_left, length-append, length-map, take_all, take_more, All-more, filter-append}
+use Rattle.gix_hash.proofs.Std.{◌≡◌, ℕ, inl, inr, ◌+◌, ◌<◌, ◌≤◌, Bool, Some, List, [], ◌∷◌, ◌++◌, length, get_or, map, filter, take, refl, sym, ap, ◌∙◌, subst, arith, append-nil, All, flat_map, get_or_default, get_or_from_slice_get, slice_get-get_or, slice_get_within, flat_map-append, get_or-append_seam, cases_lt, get_or-map, get_or_append_left, length-append, length-map, take_all, take_more, All-more, filter-append}
 use Rattle.id_lookup.specs.Words.{Kind, first_byte_of}
 use Rattle.object_store.specs.Stores.{HasLocation, Holds, IsFirstFault, IsIndexReadOrMemory, IsLocateFault, IsLocationFault, IsOfIndex, IsStoreFault, StoreView}
 use Rattle.pack_index.specs.Lazy.{HasBucket, IfKnown, IsBucketFault, LazyIndex}
@@ -54,6 +54,10 @@ pack_at {kind} {packs} {given} {at} {pack} value kinds less here =
     let low : at < length packs = subst (λ (ps : List LazyIndex). at < length ps) value less in
     let is : pack ≡ get_or packs at pack = here ∙ ap (λ (ps : List LazyIndex). get_or ps at pack) value in
     record { low = low; is = is; of_kind = ap (λ (p : LazyIndex). p.kind) is ∙ kinds at pack low }
+
+pub pack_here : {kind : Kind} {packs : List LazyIndex} {at : ℕ} (d : LazyIndex) → All (λ (p : LazyIndex). p.kind ≡ kind) packs → at < length packs
+    → IsPackAt kind packs at (get_or packs at d)
+pack_here {kind} {packs} {at} d kinds low = record { low = low; is = get_or_default packs at d (get_or packs at d) low; of_kind = kinds at d low }
 
 -- the pack index at a position has what is asked for, as those before it, or is the first that has not
 module _ (Has : Kind → List ℕ → Type 0) (HasFault : Kind → Bool → List ℕ → LazyError → Type 0) (view : StoreView) {at : ℕ} {pack : LazyIndex}

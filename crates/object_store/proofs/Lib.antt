@@ -10,4 +10,6 @@ pub mod LooseParts
 pub mod FoundAt
 pub mod Reopened
 mod Places
+mod Prefixes
+pub mod Replaced
 mod LocatedIds

@@ -9,7 +9,7 @@ use Rattle.std.specs.declared.io.ErrorKind.{ErrorKind}
 use Rattle.std.specs.declared.io.ErrorKind.TheVariants.{NotFound}
 use Rattle.id_lookup.specs.Words.{IsIndexOf, Kind, KindDigits, ObjectId, first_byte_of, id_digits, id_kind, matches}
 use Rattle.pack_index.specs.Format.{HasOffset, IsFirstIndexOf, IsPackIndex, names_in, offset_in}
-use Rattle.pack_index.specs.Lazy.{BucketNames, HasBucket, IfKnown, IsBucketFault, IsBucketOf, IsFirstCounted, LazyIndex, counted_with}
+use Rattle.pack_index.specs.Lazy.{BucketNames, HasBucket, IfKnown, IsBucketFault, IsFirstCounted, IsPartOf, LazyIndex, counted_with}
 use Rattle.pack_index.specs.Lazy as lazy
 use Rattle.pack_index.specs.declared.lazy_error.LazyError.{LazyError}
 use Rattle.pack_index.specs.declared.lazy_error.LazyError.TheVariants as faults
@@ -153,10 +153,20 @@ locations_of kind id indexes loose_ids = packed_locations kind id indexes (lengt
 
 -- The names of a store with one first byte, and what is found among them.
 
--- each of the first buckets is that of the pack index at its position
-abbrev pub AreFirstBuckets : List LazyIndex → ℕ → List BucketNames → Type 0
-AreFirstBuckets packs byte buckets =
-    (k : ℕ) (pack : LazyIndex) (bucket : BucketNames) → k < length buckets → IsBucketOf (slice_index_or packs k pack) byte (slice_index_or buckets k bucket)
+-- names of the pack index at a position, among which are all that begin with the digits
+abbrev pub IsPartAt : StoreView → ℕ → List ℕ → BucketNames → Type 0
+IsPartAt view at digits part = (pack : LazyIndex) → IsPartOf (slice_index_or view.packs at pack) digits part
+
+-- why they are not read, if the bytes of the pack index are known
+abbrev pub IsPartFault : StoreView → ℕ → List ℕ → LazyError → Type 0
+IsPartFault view at digits error =
+    (default : LazyIndex) → let pack = slice_index_or view.packs at default in
+    IfKnown (λ bytes. IsBucketFault pack.can_fail pack.kind bytes (first_byte_of digits) error) pack
+
+-- each of the first parts is one of the pack index at its position
+abbrev pub AreFirstParts : List LazyIndex → List ℕ → List BucketNames → Type 0
+AreFirstParts packs digits parts =
+    (k : ℕ) (pack : LazyIndex) (part : BucketNames) → k < length parts → IsPartOf (slice_index_or packs k pack) digits (slice_index_or parts k part)
 
 -- the names that each pack index counts with the first byte, if its bytes are known
 pub record AreRead (view : StoreView) (byte : ℕ) (names : List (List (List ℕ))) : Type 0 where
@@ -166,11 +176,14 @@ pub record AreRead (view : StoreView) (byte : ℕ) (names : List (List (List ℕ
       → IfKnown (λ bytes. slice_index_or names k [] ≡ counted_with view.kind bytes byte) (slice_index_or view.packs k pack)
   pub sound : HaveBuckets view byte
 
--- each pack index has its bucket
-pub record AreBuckets (view : StoreView) (byte : ℕ) (buckets : List BucketNames) : Type 0 where
-  pub as_many : length buckets ≡ length view.packs
-  pub each : AreFirstBuckets view.packs byte buckets
-  pub read : AreRead view byte (map (λ (bucket : BucketNames). bucket.names) buckets)
+-- each is a part of the pack index at its position, and they have those of the names with the first byte that begin with the digits
+pub record AreParts (view : StoreView) (digits : List ℕ) (parts : List BucketNames) : Type 0 where
+  pub enough : 2 ≤ length digits
+  pub as_many : length parts ≡ length view.packs
+  pub each : AreFirstParts view.packs digits parts
+  pub names : List (List (List ℕ))
+  pub read : AreRead view (first_byte_of digits) names
+  pub matched : flat_map (λ (part : BucketNames). matches digits part.names) parts ≡ flat_map (matches digits) names
 
 -- the names of all pack indexes, and the loose ids
 abbrev pub ids_in : StoreView → List (List (List ℕ)) → List (List ℕ)

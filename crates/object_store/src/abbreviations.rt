@@ -7,6 +7,7 @@ ghost use Rattle.object_store.specs.Stores.{CanLookUp, HaveMore, IsFaultOfOne, I
 ghost use Rattle.object_store.specs.Several.{AreAbbreviatedOfEach, AreNamed, IsAbbreviated, IsAbbreviatedAt, IsAbbreviationOfKind, id_count};
 
 use crate::error::Error;
+use crate::matches::lookup_prefix;
 use crate::parts::Parts;
 use crate::several::{LookUp, look_up_each};
 use crate::store::Store;
@@ -17,7 +18,7 @@ use std::alloc::{AllocError, Allocator};
 /// An id with its abbreviation.
 ///
 /// ```
-/// for named in abbreviate_part(rt.alloc(), &store, 0x4b, 4)?.iter() {
+/// for named in abbreviate_part(rt.alloc(), &mut store, 0x4b, 4)?.iter() {
 ///     println!(rt; "{} {}", named.name, named.id)?;
 /// }
 /// ```
@@ -32,7 +33,7 @@ pub struct NamedId {
 /// The only id of a store that begins with a prefix, or that there is none or more than one.
 ///
 /// ```
-/// if let Some(found) = abbreviate_prefixes(rt.alloc(), &store, &prefixes, 4, 65_536)? {
+/// if let Some(found) = abbreviate_prefixes(rt.alloc(), &mut store, &prefixes, 4, 65_536)? {
 ///     for abbreviation in found.iter() {
 ///         match abbreviation {
 ///             Abbreviation::Missing => println!(rt; "missing")?,
@@ -57,37 +58,43 @@ pub enum Abbreviation {
 /// the kind.
 ///
 /// Each prefix must have 2 digits or more, and the store's kind. Of each pack index the ids with a
-/// first byte are read once, if a prefix has it, and memory is allocated for those with one first
-/// byte at a time. The error is that of reading the ids with the first byte of one of the prefixes.
+/// first byte are read once, if a prefix has it, or, once they were found in order, some of them
+/// for each prefix. Memory is allocated for those with one first byte at a time. The error is that
+/// of reading the ids with the first byte of one of the prefixes.
 ///
 /// `None` is returned if and only if there are several prefixes, and ids begin with more than
 /// `most` of them.
 ///
 /// ```
-/// if let Some(found) = abbreviate_prefixes(rt.alloc(), &store, &prefixes, 4, 65_536)? {
+/// if let Some(found) = abbreviate_prefixes(rt.alloc(), &mut store, &prefixes, 4, 65_536)? {
 ///     println!(rt; "{} prefixes", found.len())?;
 /// }
 /// ```
 pub fn abbreviate_prefixes<S: Store, A: Allocator + Copy>(
     alloc: A,
-    store: &S,
+    store: &mut S,
     prefixes: &[Prefix],
     least: usize,
     most: usize,
 ) -> Result<Option<Vec<Abbreviation, A>>, Error>
-    requires can { All (CanLookUp (S.view store.now)) prefixes.now }
+    requires can { All (CanLookUp (S.view store.old)) prefixes.now }
     requires enough { 4 ≤ least }
-    requires fits { least ≤ hex_len_of (S.view store.now).kind }
+    requires fits { least ≤ hex_len_of (S.view store.old).kind }
+    ensures same { store.new ≡ store.old }
     ensures named { IfOk result (λ named. IfSome named (λ named. AreAbbreviatedOfEach least
-        (S.view store.now) prefixes.now named.items)) }
+        (S.view store.old) prefixes.now named.items)) }
     ensures several { IfOk result (λ named. IfNone named (1 < length prefixes.now)) }
     ensures more { IfOk result (λ named. IfNone named
-        (HaveMore (IsAbbreviated least (S.view store.now)) id_count most prefixes.now)) }
+        (HaveMore (IsAbbreviated least (S.view store.old)) id_count most prefixes.now)) }
     ensures few { IfOk result (λ named. IfSome named (λ named. 1 < length prefixes.now
         → sum_by id_count named.items ≤ most)) }
-    ensures err { IfErr result (IsFaultOfOne (S.view store.now) prefixes.now) }
+    ensures err { IfErr result (IsFaultOfOne (S.view store.old) prefixes.now) }
 {
-    look_up_each(alloc, store, prefixes, most, &Abbreviating { least })
+    let mut parts = Parts::for_many(alloc, store, prefixes.len());
+    let named = look_up_each(alloc, &mut parts, prefixes, most, &Abbreviating { least });
+    // The contract of this call says that the store is as it was.
+    let _store = parts.into_store();
+    named
 }
 
 // Looks up the abbreviation of the only id that begins with a prefix.
@@ -102,7 +109,7 @@ impl<S: Store, A: Allocator + Copy> LookUp<S, A> for Abbreviating {
 
     ghost fits = { λ it view. (4 ≤ it.least) × (it.least ≤ hex_len_of view.kind) };
 
-    ghost finds = { λ it view digits found. IsAbbreviated it.least view digits found };
+    ghost finds = { λ it store digits found. IsAbbreviated it.least (S.view store) digits found };
 
     ghost fails = { λ _ view digits error. IsStoreFault view (first_byte_of digits) error };
 
@@ -133,25 +140,25 @@ impl<S: Store, A: Allocator + Copy> LookUp<S, A> for Abbreviating {
 ///
 /// ```
 /// for byte in 0..=255 {
-///     let named = abbreviate_part(rt.alloc(), &store, byte, 4)?;
+///     let named = abbreviate_part(rt.alloc(), &mut store, byte, 4)?;
 ///     println!(rt; "{} ids", named.len())?;
 /// }
 /// ```
 pub fn abbreviate_part<S: Store, A: Allocator + Copy>(
     alloc: A,
-    store: &S,
+    store: &mut S,
     byte: u8,
     least: usize,
 ) -> Result<Vec<NamedId, A>, Error>
-    requires listed { IsListed (S.view store.now) byte }
+    requires listed { IsListed (S.view store.old) byte }
     requires enough { 4 ≤ least }
-    requires fits { least ≤ hex_len_of (S.view store.now).kind }
-    ensures named { IfOk result (λ named. AreNamed least (S.view store.now) byte named.items) }
-    ensures err { IfErr result (IsStoreFault (S.view store.now) byte) }
+    requires fits { least ≤ hex_len_of (S.view store.old).kind }
+    ensures same { store.new ≡ store.old }
+    ensures named { IfOk result (λ named. AreNamed least (S.view store.old) byte named.items) }
+    ensures err { IfErr result (IsStoreFault (S.view store.old) byte) }
 {
     let kind = store.object_hash();
-    let mut parts = Parts::new(alloc, store);
-    let ids = parts.lookup_prefix(&two_digits(kind, byte))?;
+    let ids = lookup_prefix(alloc, store, &two_digits(kind, byte))?;
     Ok(name_all(alloc, &ids, kind, least)?)
 }
 

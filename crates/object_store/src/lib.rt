@@ -2,11 +2,12 @@
 //!
 //! An id's first byte decides its part of the store, one of 256. A prefix of 2 digits or more is
 //! looked up in one part, and an abbreviation of 4 digits or more is decided in one. [`Parts`] is a
-//! cursor that holds one part at a time. So a look-up reads about 1/256 of the ids, and a walk over
-//! all ids ([`abbreviate_part`]) allocates memory for one part at a time. Several prefixes are
-//! looked up in their order ([`lookup_prefixes`], [`locate_prefixes`], [`abbreviate_prefixes`]), so
-//! that each part is read once. A program implements [`Store`] over its directories, and [`Reopen`]
-//! if they may change meanwhile.
+//! cursor that holds one part at a time. So a look-up reads about 1/256 of the ids; and once a pack
+//! index was found in order there, some 32 of its ids. A walk over all ids ([`abbreviate_part`])
+//! allocates memory for one part at a time. Several prefixes are looked up in their order
+//! ([`lookup_prefixes`], [`locate_prefixes`], [`abbreviate_prefixes`]), so that many of them read
+//! each part once. A program implements [`Store`] over its directories, and [`Reopen`] if they may
+//! change meanwhile.
 #![tactic(auto)]
 
 mod abbreviations;

@@ -3,9 +3,9 @@
 ghost use Rattle.std.specs.Prelude.{◌≡◌, [], ◌∷◌, ◌++◌, ◌<◌, ◌≤◌, All, IfErr, IfNone, IfOk, IfSome, None, OnOk, length};
 ghost use Rattle.std.specs.List.{sum_by};
 ghost use Rattle.id_lookup.specs.Words.{first_byte_of, id_digits, id_kind};
-ghost use Rattle.object_store.specs.Stores.{AreBuckets, AreLocations, AreMatches, ArePacked, CanLookUp, HasLocation, HaveLocations, IsListed, IsLocateFault, IsLocationFault, IsOffsetOf, packed_at};
+ghost use Rattle.object_store.specs.Stores.{AreLocations, AreMatches, ArePacked, AreParts, CanLookUp, HasLocation, HaveLocations, IsListed, IsLocateFault, IsLocationFault, IsOffsetOf, packed_at};
 ghost use Rattle.object_store.specs.Several.{AreLocated, AreLocatedOfEach, HaveMoreLocations, IsLocationsFault, IsLocationsFaultOfOne, limited_to, location_count};
-ghost use Rattle.pack_index.specs.Lazy.{IfKnown, IsBucketOf};
+ghost use Rattle.pack_index.specs.Lazy.{IfKnown, IsPartOf};
 
 use crate::error::Error;
 use crate::parts::Parts;
@@ -19,7 +19,7 @@ use streams::ReadAt;
 /// A location of an object in a store.
 ///
 /// ```
-/// for location in Parts::new(rt.alloc(), &store).locate(&id)?.iter() {
+/// for location in Parts::new(rt.alloc(), &mut store).locate(&id)?.iter() {
 ///     match location {
 ///         Location::Packed { pack, offset } => println!(rt; "pack {pack}, at byte {offset}")?,
 ///         Location::Loose => println!(rt; "loose")?,
@@ -42,7 +42,7 @@ pub enum Location {
 /// An id with all locations of its object.
 ///
 /// ```
-/// if let Some(found) = locate_prefixes(rt.alloc(), &store, &prefixes, None, 65_536)? {
+/// if let Some(found) = locate_prefixes(rt.alloc(), &mut store, &prefixes, None, 65_536)? {
 ///     for located in found.iter().flatten() {
 ///         println!(rt; "{}: {} copies", located.id, located.locations.len())?;
 ///     }
@@ -64,23 +64,26 @@ pub struct LocatedId<A: Allocator> {
 /// ids with its first byte, or the offset of an id that begins with it.
 ///
 /// ```
-/// for located in locate_prefix(rt.alloc(), &store, &prefix)?.iter() {
+/// for located in locate_prefix(rt.alloc(), &mut store, &prefix)?.iter() {
 ///     println!(rt; "{}: {} copies", located.id, located.locations.len())?;
 /// }
 /// ```
 pub fn locate_prefix<S: StorePaths, A: Allocator + Copy>(
     alloc: A,
-    store: &S,
+    store: &mut S,
     prefix: &Prefix,
 ) -> Result<Vec<LocatedId<A>, A>, Error>
-    requires { CanLookUp (S.view store.now) prefix.now }
-    ensures located { IfOk result (λ located. AreLocated None (S.view store.now)
-        (S.loose_paths store.now) prefix.now.digits located.items) }
-    ensures err { IfErr result (IsLocationsFault None (S.view store.now) prefix.now.digits) }
+    requires { CanLookUp (S.view store.old) prefix.now }
+    ensures same { store.new ≡ store.old }
+    ensures located { IfOk result (λ located. AreLocated None (S.view store.old)
+        (S.loose_paths store.old) prefix.now.digits located.items) }
+    ensures err { IfErr result (IsLocationsFault None (S.view store.old) prefix.now.digits) }
 {
     let mut parts = Parts::new(alloc, store);
-    let ids = parts.lookup_prefix(prefix)?;
-    locate_ids(alloc, store, &mut parts, &ids, None, prefix)
+    let located = Locating { alloc, limit: None }.look_up(&mut parts, prefix);
+    // The contract of this call says that the store is as it was.
+    let _store = parts.into_store();
+    located
 }
 
 /// The ids of a store that begin with each of several prefixes, with their locations: as many lists
@@ -88,59 +91,65 @@ pub fn locate_prefix<S: StorePaths, A: Allocator + Copy>(
 /// is `None`: two are enough to see whether there is one, or more.
 ///
 /// Each prefix must have 2 digits or more, and the store's kind. Of each pack index the ids with a
-/// first byte are read once, if a prefix has it, and memory is allocated for those with one first
-/// byte at a time. The error is that of reading the ids with the first byte of one of the prefixes,
-/// or the offset of an id that is located.
+/// first byte are read once, if a prefix has it, or, once they were found in order, some of them
+/// for each prefix. Memory is allocated for those with one first byte at a time. The error is that
+/// of reading the ids with the first byte of one of the prefixes, or the offset of an id that is
+/// located.
 ///
 /// `None` is returned if and only if there are several prefixes, and more than `most` locations are
 /// found for them; those of an id that is found for two of them count twice.
 ///
 /// ```
-/// if let Some(found) = locate_prefixes(rt.alloc(), &store, &prefixes, None, 65_536)? {
+/// if let Some(found) = locate_prefixes(rt.alloc(), &mut store, &prefixes, None, 65_536)? {
 ///     println!(rt; "{} prefixes", found.len())?;
 /// }
 /// ```
 pub fn locate_prefixes<S: StorePaths, A: Allocator + Copy>(
     alloc: A,
-    store: &S,
+    store: &mut S,
     prefixes: &[Prefix],
     limit: Option<usize>,
     most: usize,
 ) -> Result<Option<Vec<Vec<LocatedId<A>, A>, A>>, Error>
-    requires { All (CanLookUp (S.view store.now)) prefixes.now }
+    requires { All (CanLookUp (S.view store.old)) prefixes.now }
+    ensures same { store.new ≡ store.old }
     ensures located { IfOk result (λ located. IfSome located (λ located. AreLocatedOfEach limit
-        (S.view store.now) (S.loose_paths store.now) prefixes.now located.items)) }
+        (S.view store.old) (S.loose_paths store.old) prefixes.now located.items)) }
     ensures several { IfOk result (λ located. IfNone located (1 < length prefixes.now)) }
     ensures more { IfOk result (λ located. IfNone located (HaveMoreLocations A limit
-        (S.view store.now) (S.loose_paths store.now) most prefixes.now)) }
+        (S.view store.old) (S.loose_paths store.old) most prefixes.now)) }
     ensures few { IfOk result (λ located. IfSome located (λ located. 1 < length prefixes.now
         → sum_by location_count located.items ≤ most)) }
-    ensures err { IfErr result (IsLocationsFaultOfOne limit (S.view store.now) prefixes.now) }
+    ensures err { IfErr result (IsLocationsFaultOfOne limit (S.view store.old) prefixes.now) }
 {
-    let look_up = Locating {
+    let mut parts = Parts::for_many(alloc, store, prefixes.len());
+    let located = look_up_each(
         alloc,
-        store,
-        limit,
-    };
-    look_up_each(alloc, store, prefixes, most, &look_up)
+        &mut parts,
+        prefixes,
+        most,
+        &Locating { alloc, limit },
+    );
+    // The contract of this call says that the store is as it was.
+    let _store = parts.into_store();
+    located
 }
 
 // Looks up the locations of the first ids that begin with a prefix.
 #[derive(Drop)]
-struct Locating<'s, S: StorePaths, A: Allocator> {
+struct Locating<A: Allocator> {
     alloc: A,
-    store: &'s S,
     // How many, or all.
     limit: Option<usize>,
 }
 
-impl<S: StorePaths, A: Allocator + Copy> LookUp<S, A> for Locating<'_, S, A> {
+impl<S: StorePaths, A: Allocator + Copy> LookUp<S, A> for Locating<A> {
     type Found = Vec<LocatedId<A>, A>;
 
     ghost fits = { λ _ _. Unit {0} };
 
-    ghost finds = { λ it view digits located.
-        AreLocated it.limit view (S.loose_paths it.store.now) digits located.items };
+    ghost finds = { λ it store digits located.
+        AreLocated it.limit (S.view store) (S.loose_paths store) digits located.items };
 
     ghost fails = { λ it view digits error. IsLocationsFault it.limit view digits error };
 
@@ -156,7 +165,7 @@ impl<S: StorePaths, A: Allocator + Copy> LookUp<S, A> for Locating<'_, S, A> {
         prefix: &Prefix,
     ) -> Result<Vec<LocatedId<A>, A>, Error> {
         let ids = parts.lookup_prefix(prefix)?;
-        locate_ids(self.alloc, self.store, parts, &ids, self.limit, prefix)
+        locate_ids(self.alloc, parts, &ids, self.limit, prefix)
     }
 
     fn left(&self, ids: &Vec<LocatedId<A>, A>, room: usize) -> Option<usize> {
@@ -171,25 +180,25 @@ impl<S: StorePaths, A: Allocator + Copy> LookUp<S, A> for Locating<'_, S, A> {
 // Of the ids that begin with a prefix the first up to the limit, with their locations.
 fn locate_ids<S: StorePaths, A: Allocator + Copy>(
     alloc: A,
-    store: &S,
     parts: &mut Parts<'_, S, A>,
     ids: &[ObjectId],
     limit: Option<usize>,
     prefix: &Prefix,
 ) -> Result<Vec<LocatedId<A>, A>, Error>
     requires enough { 2 ≤ length prefix.now.digits }
-    requires listed { IsListed parts.old (first_byte_of prefix.now.digits) }
-    requires ids { AreMatches parts.old prefix.now.digits ids.now }
+    requires listed { IsListed (S.view parts.old.now) (first_byte_of prefix.now.digits) }
+    requires ids { AreMatches (S.view parts.old.now) prefix.now.digits ids.now }
     ensures store { parts.new ≡ parts.old }
-    ensures located { IfOk result (λ located. AreLocated limit parts.old
-        (S.loose_paths store.now) prefix.now.digits located.items) }
-    ensures err { IfErr result (IsLocationsFault limit parts.old prefix.now.digits) }
+    ensures located { IfOk result (λ located. AreLocated limit (S.view parts.old.now)
+        (S.loose_paths parts.old.now) prefix.now.digits located.items) }
+    ensures err { IfErr result (IsLocationsFault limit (S.view parts.old.now)
+        prefix.now.digits) }
 {
     let first = limited_to(ids, limit);
     let mut located = Vec::with_capacity(alloc, first.len())?;
     for id in first {
         let locations = parts.locate(id)?;
-        let loose_paths = store.loose_paths(id)?;
+        let loose_paths = parts.store().loose_paths(id)?;
         let one = LocatedId {
             id: *id,
             locations,
@@ -210,15 +219,14 @@ fn limited_to(ids: &[ObjectId], limit: Option<usize>) -> &[ObjectId]
     }
 }
 
-// All locations of an object, by the buckets of its first byte.
+// All locations of an object, by names of the pack indexes among which its id is.
 pub(crate) fn locate_in<S: Store, A: Allocator + Copy>(
     alloc: A,
     store: &S,
     buckets: &[Bucket<A>],
     id: &ObjectId,
 ) -> Result<Vec<Location, A>, Error>
-    requires buckets { AreBuckets (S.view store.now) (first_byte_of (id_digits id.now))
-        buckets.now }
+    requires buckets { AreParts (S.view store.now) (id_digits id.now) buckets.now }
     requires kind { id_kind id.now ≡ (S.view store.now).kind }
     ensures locations { IfOk result (λ locations. AreLocations (S.view store.now)
         (id_digits id.now) locations.items) }
@@ -238,7 +246,7 @@ fn packed_locations<S: Store, A: Allocator + Copy>(
     buckets: &[Bucket<A>],
     id: &ObjectId,
 ) -> Result<Vec<Location, A>, Error>
-    requires { AreBuckets (S.view store.now) (first_byte_of (id_digits id.now)) buckets.now }
+    requires { AreParts (S.view store.now) (id_digits id.now) buckets.now }
     ensures locations { IfOk result (λ locations. ArePacked (S.view store.now) (id_digits id.now)
         (length (S.view store.now).packs) locations.items) }
     ensures sound { IfOk result (λ _. HaveLocations (S.view store.now) (id_digits id.now)) }
@@ -283,7 +291,7 @@ fn packed_offset<S: ReadAt + Drop, A: Allocator>(
     bucket: &Bucket<A>,
     id: &ObjectId,
 ) -> Result<Option<u64>, LazyError>
-    requires { IsBucketOf index.now (first_byte_of (id_digits id.now)) bucket.now }
+    requires { IsPartOf index.now (id_digits id.now) bucket.now }
     ensures offset { IfOk result (λ offset. IfKnown (λ bytes.
         IsOffsetOf index.now.kind bytes (id_digits id.now) offset) index.now) }
     ensures sound { IfOk result (λ _. IfKnown (λ bytes.

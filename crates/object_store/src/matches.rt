@@ -3,7 +3,7 @@
 ghost use Rattle.std.specs.Prelude.{◌≡◌, ◌<◌, ◌≤◌, ◌++◌, All, IfErr, IfNone, IfOk, IfSome, OnOk, flat_map, length, map};
 ghost use Rattle.std.specs.List.{sum_by};
 ghost use Rattle.id_lookup.specs.Words.{first_byte_of, hex_len_of, id_digits, id_kind, matches};
-ghost use Rattle.object_store.specs.Stores.{AreBuckets, AreMatches, AreMatchesOfEach, CanLookUp, HaveMoreMatches, IsFaultOfOne, IsListed, IsStoreFault};
+ghost use Rattle.object_store.specs.Stores.{AreMatches, AreMatchesOfEach, AreParts, CanLookUp, HaveMoreMatches, IsFaultOfOne, IsListed, IsStoreFault};
 ghost use Rattle.pack_index.specs.Lazy.{BucketNames};
 
 use crate::error::Error;
@@ -17,43 +17,50 @@ use std::alloc::{AllocError, Allocator};
 
 /// The ids of a store that begin with a prefix, each once, in order.
 ///
-/// The prefix must have 2 digits or more, and the store's kind. Of each pack index only the ids
-/// with the prefix's first byte are read. The call allocates memory for these, and for the ids that
-/// are found. The error is that of reading them, or that memory ran out.
+/// The prefix must have 2 digits or more, and the store's kind. Of each pack index only ids with
+/// the prefix's first byte are read: all, or, once they were found in order, some of them. The call
+/// allocates memory for these, and for the ids that are found. The error is that of reading them,
+/// or that memory ran out.
 ///
 /// ```
-/// for id in lookup_prefix(rt.alloc(), &store, &prefix)?.iter() {
+/// for id in lookup_prefix(rt.alloc(), &mut store, &prefix)?.iter() {
 ///     println!(rt; "{id}")?;
 /// }
 /// ```
 pub fn lookup_prefix<S: Store, A: Allocator + Copy>(
     alloc: A,
-    store: &S,
+    store: &mut S,
     prefix: &Prefix,
 ) -> Result<Vec<ObjectId, A>, Error>
     requires enough { 2 ≤ length prefix.now.digits }
-    requires kind { prefix.now.kind ≡ (S.view store.now).kind }
-    requires listed { IsListed (S.view store.now) (first_byte_of prefix.now.digits) }
-    ensures matches { IfOk result (λ ids. AreMatches (S.view store.now) prefix.now.digits
+    requires kind { prefix.now.kind ≡ (S.view store.old).kind }
+    requires listed { IsListed (S.view store.old) (first_byte_of prefix.now.digits) }
+    ensures same { store.new ≡ store.old }
+    ensures matches { IfOk result (λ ids. AreMatches (S.view store.old) prefix.now.digits
         ids.items) }
-    ensures err { IfErr result (IsStoreFault (S.view store.now)
+    ensures err { IfErr result (IsStoreFault (S.view store.old)
         (first_byte_of prefix.now.digits)) }
 {
-    Parts::new(alloc, store).lookup_prefix(prefix)
+    let mut parts = Parts::new(alloc, store);
+    let ids = parts.lookup_prefix(prefix);
+    // The contract of this call says that the store is as it was.
+    let _store = parts.into_store();
+    ids
 }
 
 /// The ids of a store that begin with each of several prefixes: as many lists as prefixes, in their
 /// order, each as [`lookup_prefix`] gives it.
 ///
 /// Each prefix must have 2 digits or more, and the store's kind. Of each pack index the ids with a
-/// first byte are read once, if a prefix has it, and memory is allocated for those with one first
-/// byte at a time. The error is that of reading the ids with the first byte of one of the prefixes.
+/// first byte are read once, if a prefix has it, or, once they were found in order, some of them
+/// for each prefix. Memory is allocated for those with one first byte at a time. The error is that
+/// of reading the ids with the first byte of one of the prefixes.
 ///
 /// `None` is returned if and only if there are several prefixes, and more than `most` ids are found
 /// for them; an id that is found for two of them counts twice.
 ///
 /// ```
-/// if let Some(found) = lookup_prefixes(rt.alloc(), &store, &prefixes, 65_536)? {
+/// if let Some(found) = lookup_prefixes(rt.alloc(), &mut store, &prefixes, 65_536)? {
 ///     for ids in found.iter() {
 ///         println!(rt; "{} ids", ids.len())?;
 ///     }
@@ -61,21 +68,26 @@ pub fn lookup_prefix<S: Store, A: Allocator + Copy>(
 /// ```
 pub fn lookup_prefixes<S: Store, A: Allocator + Copy>(
     alloc: A,
-    store: &S,
+    store: &mut S,
     prefixes: &[Prefix],
     most: usize,
 ) -> Result<Option<Vec<Vec<ObjectId, A>, A>>, Error>
-    requires { All (CanLookUp (S.view store.now)) prefixes.now }
+    requires { All (CanLookUp (S.view store.old)) prefixes.now }
+    ensures same { store.new ≡ store.old }
     ensures matches { IfOk result (λ found. IfSome found (λ found.
-        AreMatchesOfEach (S.view store.now) prefixes.now found.items)) }
+        AreMatchesOfEach (S.view store.old) prefixes.now found.items)) }
     ensures several { IfOk result (λ found. IfNone found (1 < length prefixes.now)) }
     ensures more { IfOk result (λ found. IfNone found
-        (HaveMoreMatches A (S.view store.now) most prefixes.now)) }
+        (HaveMoreMatches A (S.view store.old) most prefixes.now)) }
     ensures few { IfOk result (λ found. IfSome found (λ found. 1 < length prefixes.now
         → sum_by (λ ids. length ids.items) found.items ≤ most)) }
-    ensures err { IfErr result (IsFaultOfOne (S.view store.now) prefixes.now) }
+    ensures err { IfErr result (IsFaultOfOne (S.view store.old) prefixes.now) }
 {
-    look_up_each(alloc, store, prefixes, most, &Matching { alloc })
+    let mut parts = Parts::for_many(alloc, store, prefixes.len());
+    let found = look_up_each(alloc, &mut parts, prefixes, most, &Matching { alloc });
+    // The contract of this call says that the store is as it was.
+    let _store = parts.into_store();
+    found
 }
 
 // Looks up the ids that begin with a prefix.
@@ -89,7 +101,7 @@ impl<S: Store, A: Allocator + Copy> LookUp<S, A> for Matching<A> {
 
     ghost fits = { λ _ _. Unit {0} };
 
-    ghost finds = { λ _ view digits ids. AreMatches view digits ids.items };
+    ghost finds = { λ _ store digits ids. AreMatches (S.view store) digits ids.items };
 
     ghost fails = { λ _ view digits error. IsStoreFault view (first_byte_of digits) error };
 
@@ -112,15 +124,14 @@ impl<S: Store, A: Allocator + Copy> LookUp<S, A> for Matching<A> {
     }
 }
 
-// The ids that begin with a prefix, by the buckets of its first byte.
+// The ids that begin with a prefix, by names of the pack indexes among which all of them are.
 pub(crate) fn matches_in<S: Store, A: Allocator + Copy>(
     alloc: A,
     store: &S,
     buckets: &[Bucket<A>],
     prefix: &Prefix,
 ) -> Result<Vec<ObjectId, A>, AllocError>
-    requires buckets { AreBuckets (S.view store.now) (first_byte_of prefix.now.digits)
-        buckets.now }
+    requires buckets { AreParts (S.view store.now) prefix.now.digits buckets.now }
     requires kind { prefix.now.kind ≡ (S.view store.now).kind }
     ensures { IfOk result (λ ids. AreMatches (S.view store.now) prefix.now.digits ids.items) }
 {

@@ -1,12 +1,12 @@
 //! A cursor over the parts of a store.
 
-ghost use Rattle.std.specs.Prelude.{◌≡◌, ◌⊎◌, ◌≤◌, IfErr, IfOk};
-ghost use Rattle.std.specs.Option.{ForSome};
+ghost use Rattle.std.specs.Prelude.{◌≡◌, ◌⊎◌, ◌≤◌, IfErr, IfOk, IsTrue, length, nat_eq, true};
+ghost use Rattle.std.specs.List.{starts_with};
 ghost use Rattle.id_lookup.specs.Words.{first_byte_of, hex_len_of, id_digits, id_kind};
 ghost use Rattle.object_store.specs.Several.{IsAbbreviated};
-ghost use Rattle.object_store.specs.Stores.{AreBuckets, AreLocations, AreMatches, CanLookUp, HaveBuckets, IsAbbreviationOf, IsListed, IsLocateFault, IsStoreFault};
+ghost use Rattle.object_store.specs.Stores.{AreLocations, AreMatches, AreParts, CanLookUp, HaveBuckets, IsAbbreviationOf, IsListed, IsLocateFault, IsStoreFault};
 
-use crate::abbreviations::{Abbreviation, abbreviation_in, front_of};
+use crate::abbreviations::{Abbreviation, abbreviation_in, front_of, two_digits};
 use crate::error::Error;
 use crate::locations::{Location, locate_in, push};
 use crate::matches::matches_in;
@@ -16,13 +16,18 @@ use pack_index::Bucket;
 use std::alloc::Allocator;
 use std::marker::Model;
 
-/// A cursor over a store, whose ids with one first byte it holds. They are read when something with
-/// this byte is looked up, and kept until something with another is. So look-ups in the order of
-/// what is looked up read the ids with each first byte once, and hold memory for one at a time.
-/// Those with which an abbreviation was compared are kept too, until one is compared with others.
+// How many ids of a pack index with a first byte are read for one look-up, and not searched for
+// fewer.
+const FEW_IDS: usize = 32;
+
+/// A cursor over a store, which holds a part of its ids: those with one first byte, or some of them
+/// among which are all that begin with a prefix. They are read when something else is looked up. So
+/// look-ups in the order of what is looked up read each part once, and hold memory for one at a
+/// time. Those with which an abbreviation was compared are kept too, until one is compared with
+/// others.
 ///
 /// ```
-/// let mut parts = Parts::new(rt.alloc(), &store);
+/// let mut parts = Parts::new(rt.alloc(), &mut store);
 /// for id in parts.lookup_prefix(&prefix)?.iter() {
 ///     println!(rt; "{id}: {} locations", parts.locate(id)?.len())?;
 /// }
@@ -30,17 +35,19 @@ use std::marker::Model;
 #[derive(Drop)]
 pub struct Parts<'s, S: Store, A: Allocator> {
     alloc: A,
-    store: &'s S,
+    store: &'s mut S,
+    // How many ids of a pack index with a first byte are read, and not searched for fewer.
+    few: usize,
     // The last that was read.
     part: Option<Part<A>>,
     // The last among which an abbreviation was looked up.
     front: Option<Front<A>>,
 }
 
-// The names with one first byte.
+// Names of pack indexes, among which are all that begin with a prefix.
 #[derive(Drop)]
 struct Part<A: Allocator> {
-    byte: u8,
+    prefix: Prefix,
     // Those of each pack index.
     buckets: Vec<Bucket<A>, A>,
 }
@@ -53,44 +60,70 @@ struct Front<A: Allocator> {
 }
 
 impl<'s, S: Store, A: Allocator> Model for Parts<'s, S, A> {
+    ghost use Rattle.std.specs.Borrow.{MutBor};
     ghost use Rattle.std.specs.Option.{ForSome};
-    ghost use Rattle.object_store.specs.Stores.{AreBuckets, AreMatches, StoreView};
+    ghost use Rattle.object_store.specs.Stores.{AreMatches, AreParts};
 
-    ghost Value = { StoreView };
+    ghost Value = { MutBor S };
 
-    ghost view = { λ parts. S.view parts.store.now };
+    ghost view = { λ parts. parts.store };
 
     ghost invariant = { λ parts. ForSome parts.part (λ part.
-        AreBuckets (S.view parts.store.now) part.byte part.buckets.items)
+        AreParts (S.view parts.store.now) part.prefix.digits part.buckets.items)
         × ForSome parts.front (λ front.
         AreMatches (S.view parts.store.now) front.prefix.digits front.ids.items) };
 }
 
 impl<'s, S: Store, A: Allocator + Copy> Parts<'s, S, A> {
     /// It has read nothing yet.
-    pub fn new(alloc: A, store: &'s S) -> Parts<'s, S, A>
-        ensures { result ≡ S.view store.now }
+    pub fn new(alloc: A, store: &'s mut S) -> Parts<'s, S, A>
+        ensures { result ≡ store.entry }
+    {
+        Parts::for_many(alloc, store, 1)
+    }
+
+    // The same, for about so many look-ups: the more they are, the more ids are read for those that
+    // follow.
+    pub(crate) fn for_many(alloc: A, store: &'s mut S, count: usize) -> Parts<'s, S, A>
+        ensures { result ≡ store.entry }
     {
         Parts {
             alloc,
             store,
+            few: FEW_IDS * (1 + count / 256),
             part: None,
             front: None,
         }
+    }
+
+    /// The store, as it was.
+    pub fn into_store(self) -> &'s mut S
+        ensures { result ≡ self.entry }
+    {
+        let Parts { store, .. } = self;
+        store
+    }
+
+    // The store.
+    pub(crate) fn store(&self) -> &S
+        ensures { result.now ≡ self.now.now }
+    {
+        &*self.store
     }
 
     /// The ids of the store that begin with a prefix, each once, in order. The prefix has 2 digits
     /// or more, and the store's kind. The error is that of reading the ids with the prefix's first
     /// byte, or that memory ran out.
     pub fn lookup_prefix(&mut self, prefix: &Prefix) -> Result<Vec<ObjectId, A>, Error>
-        requires { CanLookUp self.old prefix.now }
+        requires { CanLookUp (S.view self.old.now) prefix.now }
         ensures store { self.new ≡ self.old }
-        ensures matches { IfOk result (λ ids. AreMatches self.old prefix.now.digits ids.items) }
-        ensures err { IfErr result (IsStoreFault self.old (first_byte_of prefix.now.digits)) }
+        ensures matches { IfOk result (λ ids. AreMatches (S.view self.old.now)
+            prefix.now.digits ids.items) }
+        ensures err { IfErr result (IsStoreFault (S.view self.old.now)
+            (first_byte_of prefix.now.digits)) }
     {
-        let byte = prefix.first_byte();
-        let part = part_of(self.alloc, self.store, self.part.take(), byte)?;
-        let ids = matches_in(self.alloc, self.store, &part.buckets, prefix);
+        let part = self.take_part(prefix)?;
+        let ids = matches_in(self.alloc, &*self.store, &part.buckets, prefix);
         self.part = Some(part);
         Ok(ids?)
     }
@@ -100,13 +133,15 @@ impl<'s, S: Store, A: Allocator + Copy> Parts<'s, S, A> {
     /// store's kind. The error is that of reading the ids with the id's first byte, or that memory
     /// ran out.
     pub fn abbreviate(&mut self, id: &ObjectId, least: usize) -> Result<Option<Prefix>, Error>
-        requires kind { id_kind id.now ≡ self.old.kind }
-        requires listed { IsListed self.old (first_byte_of (id_digits id.now)) }
+        requires kind { id_kind id.now ≡ (S.view self.old.now).kind }
+        requires listed { IsListed (S.view self.old.now) (first_byte_of (id_digits id.now)) }
         requires enough { 4 ≤ least }
-        requires fits { least ≤ hex_len_of self.old.kind }
+        requires fits { least ≤ hex_len_of (S.view self.old.now).kind }
         ensures store { self.new ≡ self.old }
-        ensures name { IfOk result (IsAbbreviationOf least self.old (id_digits id.now)) }
-        ensures err { IfErr result (IsStoreFault self.old (first_byte_of (id_digits id.now))) }
+        ensures name { IfOk result (IsAbbreviationOf least (S.view self.old.now)
+            (id_digits id.now)) }
+        ensures err { IfErr result (IsStoreFault (S.view self.old.now)
+            (first_byte_of (id_digits id.now))) }
     {
         // The contract of this call says how many digits the id has.
         let _kind = id.kind();
@@ -125,12 +160,14 @@ impl<'s, S: Store, A: Allocator + Copy> Parts<'s, S, A> {
         prefix: &Prefix,
         least: usize,
     ) -> Result<Abbreviation, Error>
-        requires can { CanLookUp self.old prefix.now }
+        requires can { CanLookUp (S.view self.old.now) prefix.now }
         requires enough { 4 ≤ least }
-        requires fits { least ≤ hex_len_of self.old.kind }
+        requires fits { least ≤ hex_len_of (S.view self.old.now).kind }
         ensures store { self.new ≡ self.old }
-        ensures name { IfOk result (IsAbbreviated least self.old prefix.now.digits) }
-        ensures err { IfErr result (IsStoreFault self.old (first_byte_of prefix.now.digits)) }
+        ensures name { IfOk result (IsAbbreviated least (S.view self.old.now)
+            prefix.now.digits) }
+        ensures err { IfErr result (IsStoreFault (S.view self.old.now)
+            (first_byte_of prefix.now.digits)) }
     {
         let front = self.take_front(front_of(prefix, least))?;
         let found = abbreviation_in(&front.ids, prefix, least);
@@ -141,12 +178,13 @@ impl<'s, S: Store, A: Allocator + Copy> Parts<'s, S, A> {
     // The ids that begin with a prefix: the last among which an abbreviation was looked up, if they
     // do.
     fn take_front(&mut self, prefix: Prefix) -> Result<Front<A>, Error>
-        requires { CanLookUp self.old prefix }
+        requires { CanLookUp (S.view self.old.now) prefix }
         ensures store { self.new ≡ self.old }
         ensures prefix { IfOk result (λ front. front.prefix.digits ≡ prefix.digits) }
-        ensures matches { IfOk result (λ front. AreMatches self.old prefix.digits
-            front.ids.items) }
-        ensures err { IfErr result (IsStoreFault self.old (first_byte_of prefix.digits)) }
+        ensures matches { IfOk result (λ front. AreMatches (S.view self.old.now)
+            prefix.digits front.ids.items) }
+        ensures err { IfErr result (IsStoreFault (S.view self.old.now)
+            (first_byte_of prefix.digits)) }
     {
         if let Some(last) = self.front.take() {
             if last.prefix == prefix {
@@ -162,63 +200,103 @@ impl<'s, S: Store, A: Allocator + Copy> Parts<'s, S, A> {
     /// store's kind.
     ///
     /// If a pack index has the id more than once, the offset is that of the first. It is read once
-    /// all ids with this first byte are. The error is that of reading these ids or an offset, or
-    /// that memory ran out.
+    /// the id was looked for in all pack indexes. The error is that of reading ids with this first
+    /// byte or an offset, or that memory ran out.
     pub fn locate(&mut self, id: &ObjectId) -> Result<Vec<Location, A>, Error>
-        requires kind { id_kind id.now ≡ self.old.kind }
-        requires listed { IsListed self.old (first_byte_of (id_digits id.now)) }
+        requires kind { id_kind id.now ≡ (S.view self.old.now).kind }
+        requires listed { IsListed (S.view self.old.now) (first_byte_of (id_digits id.now)) }
         ensures store { self.new ≡ self.old }
-        ensures locations { IfOk result (λ locations. AreLocations self.old (id_digits id.now)
-            locations.items) }
-        ensures err { IfErr result (λ e. IsStoreFault self.old (first_byte_of (id_digits id.now)) e
-            ⊎ (HaveBuckets self.old (first_byte_of (id_digits id.now))
-            × IsLocateFault self.old (id_digits id.now) e)) }
+        ensures locations { IfOk result (λ locations. AreLocations (S.view self.old.now)
+            (id_digits id.now) locations.items) }
+        ensures err { IfErr result (λ e.
+            IsStoreFault (S.view self.old.now) (first_byte_of (id_digits id.now)) e
+            ⊎ (HaveBuckets (S.view self.old.now) (first_byte_of (id_digits id.now))
+            × IsLocateFault (S.view self.old.now) (id_digits id.now) e)) }
     {
-        let part = part_of(self.alloc, self.store, self.part.take(), id.first_byte())?;
-        let locations = locate_in(self.alloc, self.store, &part.buckets, id);
+        // The contract of this call says how many digits the id has.
+        let _kind = id.kind();
+        let part = self.take_part(&Prefix::from(*id))?;
+        let locations = locate_in(self.alloc, &*self.store, &part.buckets, id);
         self.part = Some(part);
         locations
     }
+
+    // Names of the pack indexes, among which are all that begin with a prefix: the last that were
+    // read, if they are such.
+    fn take_part(&mut self, prefix: &Prefix) -> Result<Part<A>, Error>
+        requires enough { 2 ≤ length prefix.now.digits }
+        requires kind { prefix.now.kind ≡ (S.view self.old.now).kind }
+        ensures store { self.new ≡ self.old }
+        ensures kept { IfOk result (λ part. AreParts (S.view self.old.now)
+            part.prefix.digits part.buckets.items) }
+        ensures read { IfOk result (λ part. AreParts (S.view self.old.now)
+            prefix.now.digits part.buckets.items) }
+        ensures err { IfErr result (IsStoreFault (S.view self.old.now)
+            (first_byte_of prefix.now.digits)) }
+    {
+        if let Some(last) = self.part.take() {
+            if begins_with(prefix, &last.prefix) {
+                return Ok(last);
+            }
+        }
+        let read = prefix_to_read(&*self.store, prefix, self.few);
+        Ok(Part {
+            prefix: read,
+            buckets: read_parts(self.alloc, self.store, &read, self.few)?,
+        })
+    }
 }
 
-// The names of a store with a first byte: the last that were read, if they have it.
-fn part_of<S: Store, A: Allocator + Copy>(
-    alloc: A,
-    store: &S,
-    last: Option<Part<A>>,
-    byte: u8,
-) -> Result<Part<A>, Error>
-    requires { ForSome last (λ part.
-        AreBuckets (S.view store.now) part.byte part.buckets.items) }
-    ensures byte { IfOk result (λ part. part.byte ≡ byte) }
-    ensures read { IfOk result (λ part. AreBuckets (S.view store.now) byte part.buckets.items) }
-    ensures err { IfErr result (IsStoreFault (S.view store.now) byte) }
+// Whether a prefix begins with all digits of another.
+fn begins_with(prefix: &Prefix, front: &Prefix) -> bool
+    ensures { IsTrue result → starts_with nat_eq prefix.now.digits front.now.digits ≡ true }
 {
-    if let Some(part) = last {
-        if part.byte == byte {
-            return Ok(part);
+    front.hex_len() <= prefix.hex_len() && front.cmp_oid(prefix.as_oid()).is_eq()
+}
+
+// The prefix of which names are read to look one up: the same, if a pack index reads only some of
+// those with its first byte; or else the two digits of that byte, of which all serve for the next
+// one too.
+fn prefix_to_read<S: Store>(store: &S, prefix: &Prefix, few: usize) -> Prefix
+    requires { 2 ≤ length prefix.now.digits }
+    ensures kind { result.kind ≡ prefix.now.kind }
+    ensures enough { 2 ≤ length result.digits }
+    ensures begins { starts_with nat_eq prefix.now.digits result.digits ≡ true }
+{
+    // The contract of this call says of which digits the prefix is.
+    let _hex_len = prefix.hex_len();
+    let byte = prefix.first_byte();
+    for index in store.indexes() {
+        if index.reads_part(byte, few) {
+            return *prefix;
         }
     }
-    Ok(Part {
-        byte,
-        buckets: read_buckets(alloc, store, byte)?,
-    })
+    two_digits(prefix.as_oid().kind(), byte)
 }
 
-// Reads the names of a store with a first byte. The error is that of the first pack index that
-// cannot be read, is damaged where it is read, or for whose names there is no memory.
-fn read_buckets<S: Store, A: Allocator + Copy>(
+// Reads the names of a store among which are all that begin with a prefix. The error is that of the
+// first pack index that cannot be read, is damaged where it is read, or for whose names there is no
+// memory.
+fn read_parts<S: Store, A: Allocator + Copy>(
     alloc: A,
-    store: &S,
-    byte: u8,
+    store: &mut S,
+    prefix: &Prefix,
+    few: usize,
 ) -> Result<Vec<Bucket<A>, A>, Error>
-    ensures read { IfOk result (λ buckets. AreBuckets (S.view store.now) byte buckets.items) }
-    ensures err { IfErr result (IsStoreFault (S.view store.now) byte) }
+    requires enough { 2 ≤ length prefix.now.digits }
+    requires kind { prefix.now.kind ≡ (S.view store.old).kind }
+    ensures same { store.new ≡ store.old }
+    ensures read { IfOk result (λ buckets. AreParts (S.view store.old) prefix.now.digits
+        buckets.items) }
+    ensures err { IfErr result (IsStoreFault (S.view store.old)
+        (first_byte_of prefix.now.digits)) }
 {
+    // The contract of this call says how many digits the prefix has at most.
+    let _hex_len = prefix.hex_len();
     let mut buckets = Vec::new(alloc);
-    let packs = store.indexes();
-    for at in 0..packs.len() {
-        match packs[at].bucket(alloc, byte) {
+    let packs = store.indexes().len();
+    for at in 0..packs {
+        match store.part(alloc, at, prefix, few) {
             Ok(bucket) => push(&mut buckets, bucket)?,
             Err(error) => return Err(Error::of_index(store.index_path(at)?, error)),
         }

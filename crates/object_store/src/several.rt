@@ -20,7 +20,7 @@ pub(crate) trait LookUp<S: Store, A: Allocator + Copy> {
     ghost fits: { Self → StoreView → Type 0 };
 
     // What of a store is found of a prefix of these digits.
-    ghost finds: { Self → StoreView → List ℕ → Self.Found → Type 0 };
+    ghost finds: { Self → S → List ℕ → Self.Found → Type 0 };
 
     // Why it is not found.
     ghost fails: { Self → StoreView → List ℕ → StoreError → Type 0 };
@@ -34,11 +34,12 @@ pub(crate) trait LookUp<S: Store, A: Allocator + Copy> {
 
     // Looks a prefix up.
     fn look_up(&self, parts: &mut Parts<'_, S, A>, prefix: &Prefix) -> Result<Self::Found, Error>
-        requires fits { fits self.now parts.old }
-        requires can { CanLookUp parts.old prefix.now }
+        requires fits { fits self.now (S.view parts.old.now) }
+        requires can { CanLookUp (S.view parts.old.now) prefix.now }
         ensures store { parts.new ≡ parts.old }
-        ensures found { IfOk result (finds self.now parts.old prefix.now.digits) }
-        ensures err { IfErr result (fails self.now parts.old prefix.now.digits) };
+        ensures found { IfOk result (finds self.now parts.old.now prefix.now.digits) }
+        ensures err { IfErr result (fails self.now (S.view parts.old.now)
+            prefix.now.digits) };
 
     // What is left of some room after what was found, or `None` if this is more.
     fn left(&self, found: &Self::Found, room: usize) -> Option<usize>
@@ -47,32 +48,33 @@ pub(crate) trait LookUp<S: Store, A: Allocator + Copy> {
 
 // What is found of each of several prefixes, in their order; or `None` if there are several, and
 // more than `most` is found. Of each pack index the ids with a first byte are read once, if a
-// prefix has it.
+// prefix has it, or, once they were found in order, some of them for each prefix.
 pub(crate) fn look_up_each<S: Store, A: Allocator + Copy, L: LookUp<S, A>>(
     alloc: A,
-    store: &S,
+    parts: &mut Parts<'_, S, A>,
     prefixes: &[Prefix],
     most: usize,
     look_up: &L,
 ) -> Result<Option<Vec<L::Found, A>>, Error>
-    requires can { All (CanLookUp (S.view store.now)) prefixes.now }
-    requires fits { L.fits look_up.now (S.view store.now) }
+    requires can { All (CanLookUp (S.view parts.old.now)) prefixes.now }
+    requires fits { L.fits look_up.now (S.view parts.old.now) }
+    ensures store { parts.new ≡ parts.old }
     ensures found { IfOk result (λ found. IfSome found (λ found. AreFoundOfEach
-        (L.finds look_up.now (S.view store.now)) prefixes.now found.items)) }
+        (L.finds look_up.now parts.old.now) prefixes.now found.items)) }
     ensures several { IfOk result (λ found. IfNone found (1 < length prefixes.now)) }
     ensures more { IfOk result (λ found. IfNone found (HaveMore
-        (L.finds look_up.now (S.view store.now)) L.size most prefixes.now)) }
+        (L.finds look_up.now parts.old.now) L.size most prefixes.now)) }
     ensures few { IfOk result (λ found. IfSome found (λ found. 1 < length prefixes.now
         → sum_by L.size found.items ≤ most)) }
-    ensures err { IfErr result (IsOfOne (L.fails look_up.now (S.view store.now)) prefixes.now) }
+    ensures err { IfErr result (IsOfOne (L.fails look_up.now (S.view parts.old.now))
+        prefixes.now) }
 {
     let places = in_order(alloc, prefixes)?;
     let mut found = placeholders(alloc, prefixes, look_up)?;
-    let mut parts = Parts::new(alloc, store);
     let mut room = most;
     for place in 0..places.len() {
         let at = places[place].1;
-        let one = look_up.look_up(&mut parts, &prefixes[at])?;
+        let one = look_up.look_up(parts, &prefixes[at])?;
         match look_up.left(&one, room) {
             Some(left) => room = left,
             None if prefixes.len() > 1 => return Ok(None),

@@ -1,9 +1,9 @@
 //! What an object store is to a look-up.
 
 use crate::loose::LooseTable;
-use gix_hash::{Kind, ObjectId};
-use pack_index::LazyFile;
-use std::alloc::AllocError;
+use gix_hash::{Kind, ObjectId, Prefix};
+use pack_index::{Bucket, LazyError, LazyFile};
+use std::alloc::{AllocError, Allocator};
 use streams::ReadAt;
 
 /// A snapshot of an object store: pack indexes and loose objects, whose ids are of one kind. What
@@ -16,8 +16,9 @@ use streams::ReadAt;
 /// println!(rt; "{} loose ids", store.loose().ids().len())?;
 /// ```
 pub trait Store {
-    ghost use Rattle.std.specs.Prelude.{◌≡◌, [], All, IfOk, slice_index_or, string_bytes};
-    ghost use Rattle.object_store.specs.Stores.{StoreView};
+    ghost use Rattle.std.specs.Prelude.{◌≡◌, ◌<◌, ◌≤◌, [], All, IfErr, IfOk, length, slice_index_or, string_bytes};
+    ghost use Rattle.id_lookup.specs.Words.{hex_len_of};
+    ghost use Rattle.object_store.specs.Stores.{IsPartAt, IsPartFault, StoreView};
 
     /// What the bytes of a pack index are read from.
     type Source: ReadAt + Drop;
@@ -34,6 +35,22 @@ pub trait Store {
     fn indexes(&self) -> &[LazyFile<Self::Source>]
         ensures value { result.now ≡ (view self.now).packs }
         ensures kinds { All (λ pack. pack.kind ≡ (view self.now).kind) (view self.now).packs };
+
+    /// What [`LazyFile::part`] gives of the pack index at a position among [`Store::indexes`], from
+    /// 0, for a prefix of 2 digits or more. What clauses see of the store stays.
+    fn part<A: Allocator>(
+        &mut self,
+        alloc: A,
+        at: usize,
+        prefix: &Prefix,
+        few: usize,
+    ) -> Result<Bucket<A>, LazyError>
+        requires at { at < length (view self.old).packs }
+        requires fits { length prefix.now.digits ≤ hex_len_of (view self.old).kind }
+        requires enough { 2 ≤ length prefix.now.digits }
+        ensures same { self.new ≡ self.old }
+        ensures part { IfOk result (IsPartAt (view self.old) at prefix.now.digits) }
+        ensures err { IfErr result (IsPartFault (view self.old) at prefix.now.digits) };
 
     /// The path of the pack index at a position among [`Store::indexes`], from 0, for errors.
     fn index_path(&self, at: usize) -> Result<String, AllocError>

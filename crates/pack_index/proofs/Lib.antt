@@ -1,8 +1,10 @@
 -- Lemmas of several proofs.
 pub mod Buckets
 pub mod Counted
+mod Cuts
 mod Heads
 mod Looked
 pub mod LookedUp
+pub mod Parts
 mod ReadOffsets
 mod Refusals

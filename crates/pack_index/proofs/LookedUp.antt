@@ -1,10 +1,12 @@
 -- Where an id is among the names of a pack index, by those that are counted with its first byte.
-use Rattle.gix_hash.proofs.Std.{◌≡◌, ◌≢◌, ℕ, ◌+◌, ◌-◌, ◌<◌, ◌≤◌, ◌⊎◌, inl, inr, true, List, [], ◌++◌, length, filter, get_or, take, drop, refl, sym, ap, ◌∙◌, subst, arith, eq-eqb, ◌↔◌, None, Some, slice_range, All, Contains, cases_lt, get_or-drop, get_or-take, get_or_default, length-append, length-take-le, filter-append, filter_passes}
+use Rattle.gix_hash.proofs.Std.{◌≡◌, ◌≢◌, ℕ, zero, suc, ◌+◌, ◌-◌, ◌<◌, ◌≤◌, inl, inr, List, [], ◌++◌, length, filter, get_or, take, drop, refl, sym, ap, ◌∙◌, subst, arith, eq-eqb, ◌↔◌, None, Some, slice_range, append-nil, cases_lt, get_or-drop, get_or-take, get_or_default, length-append, length-drop, length-take-le, filter-append}
 use Rattle.id_lookup.specs.Words.{Kind, first_byte_of, has_first_byte}
 use Rattle.id_lookup.proofs.Filtering.{filter_all, three_parts}
 use Rattle.id_lookup.proofs.Filters.{contains_kept}
+use Rattle.id_lookup.proofs.Spelled.{starts_with-BeginsWith}
 use Rattle.pack_index.specs.Format.{Each, HasCount, HasTables, IsFirstIndexOf, names_in}
-use Rattle.pack_index.specs.Lazy.{AreCounted, BucketNames, IsFirstCounted}
+use Rattle.pack_index.specs.Lazy.{AreAmong, BucketNames, HasBucket, IsFirstCounted, bucket_end, bucket_start}
+use Rattle.pack_index.proofs.Buckets.{counted_all}
 use Rattle.pack_index.proofs.Counted.{length-names_in}
 
 -- an id has one first index
@@ -15,99 +17,99 @@ counted_once kind bytes id m n one other =
       | inr up ↦ elim (cases_lt n m) [ inl less ↦ absurd (one.first n other.from less other.same) | inr down ↦ omega arith ]
     ]
 
--- the ids of the bucket for the first byte of the id of these digits
-module _ {kind : Kind} {bytes : List ℕ} {bucket : BucketNames} (id : List ℕ) (are : AreCounted kind bytes (first_byte_of id) bucket) where
-  run_same : bucket.names ≡ slice_range (names_in kind bytes) bucket.start (bucket.start + length bucket.names)
-  run_same = are.names ∙ (λ i. slice_range (names_in kind bytes) (sym are.start i) (sym are.end i))
+-- the part of a bucket for the id of these digits
+module _ {kind : Kind} {bytes : List ℕ} {part : BucketNames} (id : List ℕ) (among : AreAmong kind bytes id part) where
+  -- one of its ids
+  name_at : (k at : ℕ) → k < length part.names → part.start + k ≡ at → get_or part.names k [] ≡ get_or (names_in kind bytes) at []
+  name_at k at low is =
+      let count = part.start + length part.names - part.start in
+      ap (λ (names : List (List ℕ)). get_or names k []) among.names ∙ get_or-take count (drop part.start (names_in kind bytes)) k [] (omega (arith, low))
+      ∙ get_or-drop part.start (names_in kind bytes) k [] ∙ ap (λ n. get_or (names_in kind bytes) n []) is
 
-  -- one of them
-  run_name : (k at : ℕ) → k < length bucket.names → bucket.start + k ≡ at → get_or bucket.names k [] ≡ get_or (names_in kind bytes) at []
-  run_name k at low is =
-      let count = bucket.start + length bucket.names - bucket.start in
-      ap (λ (names : List (List ℕ)). get_or names k []) run_same ∙ get_or-take count (drop bucket.start (names_in kind bytes)) k [] (omega (arith, low))
-      ∙ get_or-drop bucket.start (names_in kind bytes) k [] ∙ ap (λ n. get_or (names_in kind bytes) n []) is
+  -- where the id is counted, the part is
+  there : (at : ℕ) → bucket_start bytes (first_byte_of id) ≤ at → at < bucket_end bytes (first_byte_of id) → get_or (names_in kind bytes) at [] ≡ id
+      → (part.start ≤ at) × (at < part.start + length part.names)
+  there at low high is = among.all at low high ((starts_with-BeginsWith (get_or (names_in kind bytes) at []) id).1 ([], is ∙ sym (append-nil id)))
 
-  name_found : (k : ℕ) → IsFirstIndexOf bucket.names id k → get_or (names_in kind bytes) (bucket.start + k) [] ≡ id
-  name_found k first = sym (run_name k (bucket.start + k) first.in_range refl) ∙ first.same
-
-  -- the first in the bucket is the first that is counted
-  is_counted : (k : ℕ) → IsFirstIndexOf bucket.names id k → IsFirstCounted kind bytes id (bucket.start + k)
+  -- the first in the part is the first that is counted
+  is_counted : (k : ℕ) → IsFirstIndexOf part.names id k → IsFirstCounted kind bytes id (part.start + k)
   is_counted k first = record {
-    from = omega (arith, are.start);
-    to = omega (arith, are.end, first.in_range);
-    same = name_found k first;
+    from = omega (arith, among.from);
+    to = omega (arith, among.to, first.in_range);
+    same = sym (name_at k (part.start + k) first.in_range refl) ∙ first.same;
     first = λ j low less here.
-        first.first (j - bucket.start) (omega (arith, are.start, low, less))
-        (run_name (j - bucket.start) j (omega (arith, are.start, low, less, first.in_range)) (omega (arith, are.start, low)) ∙ here);
+        let from = (there j low (omega (arith, less, among.to, first.in_range)) here).0 in
+        first.first (j - part.start) (omega (arith, from, less)) (name_at (j - part.start) j (omega (arith, from, less, first.in_range)) (omega (arith, from)) ∙ here);
   }
 
-  pub some_counted : (k : ℕ) → IsFirstIndexOf bucket.names id k → (n : ℕ) → (Some (bucket.start + k) ≡ Some n) ↔ IsFirstCounted kind bytes id n
+  pub some_counted : (k : ℕ) → IsFirstIndexOf part.names id k → (n : ℕ) → (Some (part.start + k) ≡ Some n) ↔ IsFirstCounted kind bytes id n
   some_counted k first n =
       let here = is_counted k first in (
-        λ same. let at_n : bucket.start + k ≡ n = cc in subst (IsFirstCounted kind bytes id) at_n here,
-        λ there. ap Some (counted_once kind bytes id (bucket.start + k) n here there),
+        λ same. let at_n : part.start + k ≡ n = cc in subst (IsFirstCounted kind bytes id) at_n here,
+        λ other. ap Some (counted_once kind bytes id (part.start + k) n here other),
       )
 
-  -- what is counted is in the bucket
-  counted_in : (n : ℕ) → IsFirstCounted kind bytes id n → Contains bucket.names id
-  counted_in n there =
-      let k = n - bucket.start in
-      let low : k < length bucket.names = omega (arith, are.start, are.end, there.from, there.to) in
-      (k, low, get_or_default bucket.names k id [] low ∙ run_name k n low (omega (arith, are.start, there.from)) ∙ there.same)
+  pub none_counted : ((k : ℕ) → k < length part.names → get_or part.names k [] ≢ id) → (n : ℕ) → (None ≡ Some n) ↔ IsFirstCounted kind bytes id n
+  none_counted none n = (
+    λ same. cc,
+    λ first.
+        let here = there n first.from first.to first.same in
+        absurd (none (n - part.start) (omega (arith, here.0, here.1)) (name_at (n - part.start) n (omega (arith, here.0, here.1)) (omega (arith, here.0)) ∙ first.same)),
+  )
 
-  module _ (none : (k : ℕ) → k < length bucket.names → get_or bucket.names k [] ≢ id) where
-    absent : ¬ Contains bucket.names id
-    absent has = none has.0 has.1 (sym (get_or_default bucket.names has.0 id [] has.1) ∙ has.2)
+-- the same of all names, if the fan-out table is right
+module _ (kind : Kind) (bytes id : List ℕ) (tables : HasTables kind bytes) (counts : Each (HasCount kind bytes) 256) (small : first_byte_of id < 256)
+    (has : HasBucket kind bytes (first_byte_of id)) where
+  not_in : (names : List (List ℕ)) → length (filter (has_first_byte (first_byte_of id)) names) ≡ 0 → (k : ℕ) → k < length names → get_or names k [] ≢ id
+  not_in names none k low is =
+      let kept = contains_kept (has_first_byte (first_byte_of id)) names id (k, low, get_or_default names k id [] low ∙ is) (eq-eqb (first_byte_of id) (first_byte_of id) refl) in
+      omega (arith, kept.1, none)
 
-    pub none_counted : (n : ℕ) → (None ≡ Some n) ↔ IsFirstCounted kind bytes id n
-    none_counted n = (λ same. cc, λ there. absurd (absent (counted_in n there)))
+  -- a name that is the id is counted with its first byte
+  is_there : (k : ℕ) → k < length (names_in kind bytes) → get_or (names_in kind bytes) k [] ≡ id
+      → (bucket_start bytes (first_byte_of id) ≤ k) × (k < bucket_end bytes (first_byte_of id))
+  is_there k low is =
+      let p = has_first_byte (first_byte_of id) in
+      let names = names_in kind bytes in
+      let start = bucket_start bytes (first_byte_of id) in
+      let end = bucket_end bytes (first_byte_of id) in
+      let front = take start names in
+      let middle = slice_range names start end in
+      let back = drop end names in
+      let inside : end ≤ length names = omega (arith, has.inside, length-names_in kind bytes tables) in
+      let parts : length (filter p names) ≡ length (filter p front) + length (filter p (middle ++ back)) =
+      ap (λ (xs : List (List ℕ)). length (filter p xs)) (sym (three_parts p names start end has.in_order)) ∙ ap length (filter-append p front (middle ++ back))
+      ∙ length-append (filter p front) (filter p (middle ++ back)) in
+      let rest : length (filter p (middle ++ back)) ≡ length (filter p middle) + length (filter p back) =
+      ap length (filter-append p middle back) ∙ length-append (filter p middle) (filter p back) in
+      let all = ap length (filter_all p middle has.first) in
+      let whole = ap length (counted_all kind (first_byte_of id) bytes tables counts small has.in_order has.inside has.first) in
+      elim (cases_lt k start) [
+        | inl before ↦
+            let long = length-take-le start names (omega (arith, inside, has.in_order)) in
+            absurd (not_in front (omega (arith, parts, rest, all, whole)) k (omega (arith, before, long)) (get_or-take start names k [] before ∙ is))
+        | inr from ↦ elim (cases_lt k end) [
+          | inl to ↦ (from, to)
+          | inr after ↦
+              let same : end + (k - end) ≡ k = omega (arith, after) in
+              absurd (not_in back (omega (arith, parts, rest, all, whole)) (k - end) (omega (arith, low, after, length-drop end names))
+              (get_or-drop end names (k - end) [] ∙ ap (λ j. get_or names j []) same ∙ is))
+        ]
+      ]
 
-  module _ (tables : HasTables kind bytes) (counts : Each (HasCount kind bytes) 256) where
-    passes : has_first_byte (first_byte_of id) id ≡ true
-    passes = eq-eqb (first_byte_of id) (first_byte_of id) refl
+  pub first_of_all : (at : ℕ) → IsFirstCounted kind bytes id at → IsFirstIndexOf (names_in kind bytes) id at
+  first_of_all at first =
+      let inside : at < length (names_in kind bytes) = omega (arith, first.to, has.inside, length-names_in kind bytes tables) in record {
+        in_range = inside;
+        same = first.same;
+        first = λ k low is. first.first k (is_there k (omega (arith, low, inside)) is).0 low is;
+      }
 
-    -- an id that is not in the bucket is no name
-    pub not_found : ((k : ℕ) → k < length bucket.names → get_or bucket.names k [] ≢ id) → (k : ℕ) → k < length (names_in kind bytes)
-        → get_or (names_in kind bytes) k [] ≢ id
-    not_found none k low is =
-        let there : Contains (names_in kind bytes) id = (k, low, get_or_default (names_in kind bytes) k id [] low ∙ is) in
-        absent none
-        (subst (λ (names : List (List ℕ)). Contains names id) (sym (are.part counts)) (contains_kept (has_first_byte (first_byte_of id)) (names_in kind bytes) id there passes))
+  module _ (none : (at : ℕ) → ¬ IsFirstCounted kind bytes id at) where
+    none_below : (n k : ℕ) → k < n → bucket_start bytes (first_byte_of id) ≤ k → k < bucket_end bytes (first_byte_of id) → get_or (names_in kind bytes) k [] ≢ id
+    none_below zero k less low high is = omega (arith, less)
+    none_below (suc n) k less low high is =
+        none k (record { from = low; to = high; same = is; first = λ j from before. none_below n j (omega (arith, before, less)) from (omega (arith, before, high)) })
 
-    -- and no name before the bucket is it
-    before : (k : ℕ) → k < bucket.start → get_or (names_in kind bytes) k [] ≢ id
-    before k low is =
-        let p = has_first_byte (first_byte_of id) in
-        let names = names_in kind bytes in
-        let start = bucket.start in
-        let end = bucket.start + length bucket.names in
-        let front = take start names in
-        let middle = slice_range names start end in
-        let inside : end ≤ length names = omega (arith, are.end, are.right.inside, length-names_in kind bytes tables) in
-        let within : k < length front = omega (arith, low, inside, length-take-le start names (omega (arith, inside))) in
-        let there : Contains front id = (k, within, get_or_default front k id [] within ∙ get_or-take start names k [] low ∙ is) in
-        let kept = contains_kept p front id there passes in
-        let all : filter p middle ≡ middle =
-        filter_all p middle (subst (λ (ids : List (List ℕ)). All (λ name. p name ≡ true) ids) (sym (are.part counts) ∙ run_same) (filter_passes p names)) in
-        let parts : length (filter p names) ≡ length (filter p front) + length (filter p (middle ++ drop end names)) =
-        ap (λ (xs : List (List ℕ)). length (filter p xs)) (sym (three_parts p names start end (omega arith))) ∙ ap length (filter-append p front (middle ++ drop end names))
-        ∙ length-append (filter p front) (filter p (middle ++ drop end names)) in
-        let rest : length (filter p (middle ++ drop end names)) ≡ length (filter p middle) + length (filter p (drop end names)) =
-        ap length (filter-append p middle (drop end names)) ∙ length-append (filter p middle) (filter p (drop end names)) in
-        omega (arith, parts, rest, ap length all, ap length run_same, ap length (are.part counts), kept.1)
-
-    pub found_first : (k : ℕ) → IsFirstIndexOf bucket.names id k → IsFirstIndexOf (names_in kind bytes) id (bucket.start + k)
-    found_first k first = record {
-      in_range = omega (arith, first.in_range, are.end, are.right.inside, length-names_in kind bytes tables);
-      same = name_found k first;
-      first = λ j low. by j low (cases_lt j bucket.start);
-    }
-      where
-        by : (j : ℕ) → j < bucket.start + k → ((j < bucket.start) ⊎ (bucket.start ≤ j)) → get_or (names_in kind bytes) j [] ≢ id
-        by j low (inl less) = before j less
-        by j low (inr more) = (is_counted k first).first j (omega (arith, are.start, more)) low
-
--- the same, where the byte is given
-pub counted_within : (kind : Kind) (bytes id : List ℕ) (byte at : ℕ) (bucket : BucketNames) → AreCounted kind bytes byte bucket → first_byte_of id ≡ byte
-    → IsFirstCounted kind bytes id at → Contains bucket.names id
-counted_within kind bytes id byte at bucket are is there = counted_in id (subst (λ b. AreCounted kind bytes b bucket) (sym is) are) at there
+    pub none_of_all : (k : ℕ) → k < length (names_in kind bytes) → get_or (names_in kind bytes) k [] ≢ id
+    none_of_all k low is = let within = is_there k low is in none_below (suc k) k (omega arith) within.0 within.1 is

@@ -1,6 +1,8 @@
 -- Pack indexes that are read at positions, and not whole.
-use Rattle.std.specs.Prelude.{◌≡◌, ◌≢◌, ℕ, zero, suc, ◌+◌, ◌*◌, ◌<◌, ◌≤◌, Bool, IsTrue, Option, Some, List, [], All, length, slice_index_or, slice_range}
-use Rattle.id_lookup.specs.Words.{Kind, first_byte_of, has_first_byte, part_of}
+use Rattle.std.specs.Prelude.{◌≡◌, ◌≢◌, ℕ, zero, suc, ◌+◌, ◌*◌, ◌<◌, ◌≤◌, Bool, true, IsTrue, Option, Some, List, [], All, length, nat_eq, slice_index_or, slice_range}
+use Rattle.std.specs.List.{starts_with}
+use Rattle.id_lookup.specs.Words.{IsSortedIds, Kind, first_byte_of, has_first_byte, matches}
+use Rattle.id_lookup.specs.declared.search.Run.{Run}
 use Rattle.pack_index.specs.Format.{Each, HasCount, HasHead, HasOffset, HasTables, IsFirstNot, IsHeadFault, names_in, num_objects, word_at}
 use Rattle.pack_index.specs.declared.lazy_error.LazyError.{LazyError}
 use Rattle.pack_index.specs.declared.lazy_error.LazyError.TheVariants.{Read, Memory, Head, CountsFall, WrongCount, NoOffset}
@@ -51,20 +53,57 @@ pub record BucketNames : Type 0 where
   pub start : ℕ
   pub names : List (List ℕ)
 
--- they are the ids with the first byte by the fan-out table, and all that have it if the table is right
-pub record AreCounted (kind : Kind) (bytes : List ℕ) (byte : ℕ) (bucket : BucketNames) : Type 0 where
-  pub right : HasBucket kind bytes byte
-  pub start : bucket.start ≡ bucket_start bytes byte
-  pub end : bucket.start + length bucket.names ≡ bucket_end bytes byte
-  pub names : bucket.names ≡ counted_with kind bytes byte
-  pub part : Each (HasCount kind bytes) 256 → bucket.names ≡ part_of byte (names_in kind bytes)
+-- the ids of a pack index from one position to another, each of which has the first byte
+pub record AreBetween (index : LazyIndex) (byte from to : ℕ) (part : BucketNames) : Type 0 where
+  pub kind : part.kind ≡ index.kind
+  pub start : part.start ≡ from
+  pub end : part.start + length part.names ≡ to
+  pub first : HaveFirstByte byte part.names
+  pub known : IfKnown (λ bytes. part.names ≡ slice_range (names_in index.kind bytes) from to) index
 
--- the bucket of a pack index for a first byte
-pub record IsBucketOf (index : LazyIndex) (byte : ℕ) (bucket : BucketNames) : Type 0 where
-  pub kind : bucket.kind ≡ index.kind
-  pub inside : bucket.start + length bucket.names ≤ index.count
-  pub first : HaveFirstByte byte bucket.names
-  pub known : IfKnown (λ bytes. AreCounted index.kind bytes byte bucket) index
+-- the ids that the fan-out table counts with the first byte have it, and are sorted
+pub record IsOrdered (kind : Kind) (bytes : List ℕ) (byte : ℕ) : Type 0 where
+  pub right : HasBucket kind bytes byte
+  pub sorted : IsSortedIds (counted_with kind bytes byte)
+
+-- the ids from one position to another begin with the digits only between two others
+abbrev pub BeginWithin : List (List ℕ) → List ℕ → ℕ → ℕ → ℕ → ℕ → Type 0
+BeginWithin names digits start end from to =
+    (k : ℕ) → start ≤ k → k < end → starts_with nat_eq (slice_index_or names k []) digits ≡ true → (from ≤ k) × (k < to)
+
+-- if the ids from one position to another are sorted, they begin with the digits only between two others
+abbrev pub AreWithin : Kind → List ℕ → List ℕ → ℕ → ℕ → ℕ → ℕ → Type 0
+AreWithin kind bytes digits start end from to =
+    IsSortedIds (slice_range (names_in kind bytes) start end) → BeginWithin (names_in kind bytes) digits start end from to
+
+-- a part of the positions that the fan-out table counts with the first byte of the digits, and of all that begin with the digits if these ids are sorted
+pub record IsNarrowed (kind : Kind) (bytes digits : List ℕ) (part : Run) : Type 0 where
+  pub from : bucket_start bytes (first_byte_of digits) ≤ part.start
+  pub to : part.end ≤ bucket_end bytes (first_byte_of digits)
+  pub all : AreWithin kind bytes digits (bucket_start bytes (first_byte_of digits)) (bucket_end bytes (first_byte_of digits)) part.start part.end
+
+-- they are ids that the fan-out table counts with the first byte of the digits, one after another, and among them are all of these that begin with the
+-- digits, and all of the pack index that do if the table is right
+pub record AreAmong (kind : Kind) (bytes digits : List ℕ) (part : BucketNames) : Type 0 where
+  pub right : HasBucket kind bytes (first_byte_of digits)
+  pub from : bucket_start bytes (first_byte_of digits) ≤ part.start
+  pub to : part.start + length part.names ≤ bucket_end bytes (first_byte_of digits)
+  pub names : part.names ≡ slice_range (names_in kind bytes) part.start (part.start + length part.names)
+  pub all : BeginWithin (names_in kind bytes) digits (bucket_start bytes (first_byte_of digits)) (bucket_end bytes (first_byte_of digits))
+      part.start (part.start + length part.names)
+  pub complete : Each (HasCount kind bytes) 256 → matches digits part.names ≡ matches digits (names_in kind bytes)
+
+-- ids of a pack index with the first byte of the digits: all that begin with the digits, if the fan-out table is right
+pub record IsPartOf (index : LazyIndex) (digits : List ℕ) (part : BucketNames) : Type 0 where
+  pub kind : part.kind ≡ index.kind
+  pub inside : part.start + length part.names ≤ index.count
+  pub first : HaveFirstByte (first_byte_of digits) part.names
+  pub known : IfKnown (λ bytes. AreAmong index.kind bytes digits part) index
+
+-- the bytes have the tables of a pack index, and as many ids or more
+pub record HaveIds (kind : Kind) (bytes : List ℕ) (count : ℕ) : Type 0 where
+  pub tables : HasTables kind bytes
+  pub inside : count ≤ num_objects bytes
 
 -- the id of these digits is at this position, and at none before it of those with its first byte by the fan-out table
 pub record IsFirstCounted (kind : Kind) (bytes digits : List ℕ) (at : ℕ) : Type 0 where
@@ -85,6 +124,13 @@ IsOpenFault can_fail kind bytes (Read e) = IsTrue can_fail
 IsOpenFault can_fail kind bytes (Head error) = IsHeadFault kind bytes (length bytes) error
 IsOpenFault can_fail kind bytes (CountsFall b) = HasHead kind bytes × HasTables kind bytes × IsFirstNot (Rises bytes) 256 b
 IsOpenFault can_fail kind bytes _ = ⊥
+
+-- why the ids from one position to another are not read
+abbrev pub IsRunFault : Bool → Kind → List ℕ → ℕ → ℕ → ℕ → LazyError → Type 0
+IsRunFault can_fail kind bytes byte start end (Read e) = IsTrue can_fail
+IsRunFault can_fail kind bytes byte start end (Memory e) = Unit {0}
+IsRunFault can_fail kind bytes byte start end (WrongCount b) = (b ≡ byte) × ¬ HaveFirstByte byte (slice_range (names_in kind bytes) start end)
+IsRunFault can_fail kind bytes byte start end _ = ⊥
 
 -- why the ids with a first byte are not read
 abbrev pub IsBucketFault : Bool → Kind → List ℕ → ℕ → LazyError → Type 0

@@ -1,4 +1,4 @@
-//! The ids of a pack index with a first byte.
+//! Ids of a pack index with one first byte.
 
 ghost use Rattle.std.specs.Prelude.{◌≡◌, ◌≢◌, ◌*◌, ◌<◌, ◌≤◌, ◌↔◌, ◌++◌, ℕ, [], All, Contains, IsTrue, MatchOption, OnOk, length, map, nat_eq, slice_index_or, slice_range};
 ghost use Rattle.std.specs.Cmp.Lexicographic.{slice_cmp};
@@ -14,12 +14,12 @@ use std::alloc::{AllocError, Allocator};
 use std::cell::Cell;
 use std::marker::Model;
 
-/// The ids of a pack index with a first byte, by its fan-out table, read once, in the order of the
-/// index. [`LazyFile::lookup`](crate::LazyFile::lookup) finds an id among them, and
-/// [`Bucket::push_matches`] those that begin with a prefix.
+/// Ids of a pack index with one first byte, by its fan-out table, read once, in the order of the
+/// index: all, or some that follow each other. [`LazyFile::lookup`](crate::LazyFile::lookup) finds
+/// an id among them, and [`Bucket::push_matches`] those that begin with a prefix.
 ///
 /// ```
-/// let bucket = LazyFile::open(idx, Kind::Sha1)?.bucket(rt.alloc(), 0x4b)?;
+/// let bucket = LazyFile::open(idx, Kind::Sha1)?.part(rt.alloc(), &prefix, 32)?;
 /// println!(rt; "{} bytes of names", bucket.names().len())?;
 /// ```
 #[derive(Drop)]
@@ -124,6 +124,13 @@ impl<A: Allocator> Bucket<A> {
         ensures { result ≡ self.now.start }
     {
         self.start
+    }
+
+    // Whether they are sorted.
+    pub(crate) fn is_sorted(&self) -> bool
+        ensures { IsTrue result → IsSortedIds self.now.names }
+    {
+        self.is_sorted
     }
 
     // The first position of an id among them.

@@ -1,20 +1,21 @@
 //! Pack indexes that are read at positions, and not whole.
 
 ghost use Rattle.std.specs.Prelude.{◌≡◌, ◌≢◌, ◌↔◌, ◌+◌, ◌-◌, ◌*◌, ◌<◌, ◌≤◌, ℕ, [], All, IfErr, IfOk, IfSome, IsTrue, List, MatchOption, OnOk, Some, length, slice_index_or};
-ghost use Rattle.id_lookup.specs.Words.{byte_len_of, first_byte_of, has_first_byte, oid_digits};
+ghost use Rattle.id_lookup.specs.Words.{byte_len_of, first_byte_of, has_first_byte, hex_len_of, oid_digits};
 ghost use Rattle.pack_index.specs.Format.{Each, HasCount, HasHead, HasOffset, HasTables, IsFirstIndexOf, digests_in, names_in, num_objects, offset_in, offset_word};
-ghost use Rattle.pack_index.specs.Lazy.{HaveFirstByte, IfKnown, IsBucketFault, IsBucketOf, IsFirstCounted, IsOffsetFault, IsOpenFault, IsReadOrMemory, Rises, bucket_end, bucket_start};
+ghost use Rattle.pack_index.specs.Lazy.{AreBetween, HaveFirstByte, IfKnown, IsBucketFault, IsFirstCounted, IsRunFault, IsNarrowed, IsOffsetFault, IsOpenFault, IsOrdered, IsPartOf, IsReadOrMemory, Rises, bucket_end, bucket_start};
 ghost use Rattle.streams.specs.Streams.{IsReadAt};
 
 use crate::bucket::Bucket;
 use crate::checks::{COUNTS_LEN, check_head, first_fall};
 use crate::error::Error;
 use crate::lazy_error::LazyError;
+use crate::search::narrowed;
 use crate::words::{
     LONG, NAMES_START, bucket_range, long_table_start, long_word_at, num_objects,
     offset_table_start, word_at,
 };
-use gix_hash::{Kind, oid};
+use gix_hash::{Kind, Prefix, oid};
 use id_lookup::{Id, Run};
 use std::alloc::Allocator;
 use std::marker::Model;
@@ -25,8 +26,8 @@ use streams::ReadAt;
 /// it. Neither its checksum nor the order of its ids is checked. Positions count from 0.
 ///
 /// ```
-/// let index = LazyFile::open(idx, Kind::Sha1)?;
-/// let bucket = index.bucket(rt.alloc(), id.first_byte())?;
+/// let mut index = LazyFile::open(idx, Kind::Sha1)?;
+/// let bucket = index.part(rt.alloc(), &Prefix::from(id), 32)?;
 /// if let Some(at) = index.lookup(&bucket, id.as_oid()) {
 ///     println!(rt; "at byte {} of the pack", index.pack_offset_at_index(at)?)?;
 /// }
@@ -39,12 +40,15 @@ pub struct LazyFile<S: ReadAt> {
     head: [u8; NAMES_START],
     // Where the 8-byte offsets end.
     end: u64,
+    // For each first byte whether the ids that are counted with it were read, have it, and are
+    // sorted.
+    ordered: [bool; 256],
 }
 
 impl<S: ReadAt> Model for LazyFile<S> {
-    ghost use Rattle.std.specs.Prelude.{◌≡◌, ℕ, List, Some};
+    ghost use Rattle.std.specs.Prelude.{◌≡◌, ℕ, IsTrue, List, Some, false, slice_index_or};
     ghost use Rattle.pack_index.specs.Format.{Each, HasTables, num_objects, tables_end};
-    ghost use Rattle.pack_index.specs.Lazy.{LazyIndex, Rises};
+    ghost use Rattle.pack_index.specs.Lazy.{IsOrdered, LazyIndex, Rises};
     ghost use Rattle.streams.specs.Streams.{IsReadAt};
 
     ghost Value = { LazyIndex };
@@ -60,7 +64,9 @@ impl<S: ReadAt> Model for LazyFile<S> {
     ghost invariant = { λ file. Each (Rises file.head) 256
         × ((bytes : List ℕ) → S.content file.source ≡ Some bytes
         → IsReadAt bytes 0 file.head × HasTables file.kind bytes
-        × (file.end ≡ tables_end file.kind bytes)) };
+        × (file.end ≡ tables_end file.kind bytes)
+        × Each (λ byte. IsTrue (slice_index_or file.ordered byte false)
+        → IsOrdered file.kind bytes byte) 256) };
 }
 
 impl<S: ReadAt + Drop> LazyFile<S> {
@@ -97,6 +103,7 @@ impl<S: ReadAt + Drop> LazyFile<S> {
             kind,
             head,
             end,
+            ordered: [false; 256],
         })
     }
 
@@ -116,32 +123,53 @@ impl<S: ReadAt + Drop> LazyFile<S> {
         num_objects(&self.head)
     }
 
-    /// Reads the ids whose first byte is `byte`, by the fan-out table, into memory of `alloc`: 20
-    /// or 32 bytes each. Nothing else is read.
-    ///
-    /// If the fan-out table is right, as in each pack index, they are all ids with that first byte.
-    /// The errors are `Read`, `Memory` and `WrongCount`.
-    pub fn bucket<A: Allocator>(&self, alloc: A, byte: u8) -> Result<Bucket<A>, LazyError>
-        ensures bucket { IfOk result (IsBucketOf self.now byte) }
-        ensures err { IfErr result (λ e. IfKnown (λ bytes.
-            IsBucketFault self.now.can_fail self.now.kind bytes byte e) self.now) }
+    /// Whether [`LazyFile::part`] reads only some of the ids with a first byte: all of them were
+    /// read before and are sorted, and they are more than `few`.
+    pub fn reads_part(&self, byte: u8, few: usize) -> bool
+        ensures { IsTrue result
+            → IfKnown (λ bytes. IsOrdered self.now.kind bytes byte) self.now }
     {
-        // The contracts of these calls say how many names there are, and of which kind.
-        let _count = self.num_objects();
-        let kind = self.object_hash();
         let run = self.run_of(byte);
-        let table = self.read_names(alloc, &run)?;
-        if !have_first_byte(&table, kind, byte) {
-            return Err(LazyError::WrongCount(byte));
+        run.end - run.start > few && self.ordered[usize::from(byte)]
+    }
+
+    /// Reads ids with the first byte of a prefix into memory of `alloc`, 20 or 32 bytes each. By
+    /// the fan-out table they follow each other, and all ids with this first byte that begin with
+    /// the prefix are among them. The prefix has 2 digits or more, and at most as many as the ids.
+    ///
+    /// At first these are all ids with the first byte. Once they were found sorted, and if they are
+    /// more than `few`, some of them are compared with the prefix, and only some 32 are read. If
+    /// the fan-out table is right, as in each pack index, no id that begins with the prefix is
+    /// missing. The errors are `Read`, `Memory` and `WrongCount`.
+    pub fn part<A: Allocator>(
+        &mut self,
+        alloc: A,
+        prefix: &Prefix,
+        few: usize,
+    ) -> Result<Bucket<A>, LazyError>
+        requires fits { length prefix.now.digits ≤ hex_len_of self.old.kind }
+        requires enough { 2 ≤ length prefix.now.digits }
+        ensures same { self.new ≡ self.old }
+        ensures part { IfOk result (IsPartOf self.old prefix.now.digits) }
+        ensures err { IfErr result (λ e. IfKnown (λ bytes. IsBucketFault self.old.can_fail
+            self.old.kind bytes (first_byte_of prefix.now.digits) e) self.old) }
+    {
+        // Its contract says that there are the tables of names.
+        let _count = self.num_objects();
+        let byte = prefix.first_byte();
+        if prefix.hex_len() == 2 || !self.reads_part(byte, few) {
+            return self.read_whole(alloc, byte);
         }
-        Ok(Bucket::new(table, kind, run.start))
+        let part = self.narrowed(prefix)?;
+        self.read_run(alloc, byte, &part)
     }
 
     /// The position of an id, the first one if it occurs more than once, or `None` if it does not
-    /// occur. It is looked up in the bucket of its first byte, and nothing is read. If the ids
-    /// there are not sorted, it is compared with each of them.
+    /// occur. It is looked up among those that [`LazyFile::part`] read for it, for a beginning of
+    /// it or for its first byte, and nothing is read. If they are not sorted, it is compared with
+    /// each of them.
     pub fn lookup<A: Allocator>(&self, bucket: &Bucket<A>, id: oid<'_>) -> Option<u32>
-        requires { IsBucketOf self.now (first_byte_of (oid_digits id)) bucket.now }
+        requires { IsPartOf self.now (oid_digits id) bucket.now }
         ensures in_range { IfSome result (λ at. at < self.now.count) }
         ensures name { IfSome result (λ at. IfKnown (λ bytes.
             slice_index_or (names_in self.now.kind bytes) at [] ≡ oid_digits id.entry) self.now) }
@@ -153,8 +181,9 @@ impl<S: ReadAt + Drop> LazyFile<S> {
         ensures counted { IfKnown (λ bytes. (at : ℕ) → (result ≡ Some at)
             ↔ IsFirstCounted self.now.kind bytes (oid_digits id.entry) at) self.now }
     {
-        // Its contract says how many names there are.
+        // The contracts of these calls say how many names there are, and that the byte is one.
         let _count = self.num_objects();
+        let _byte = id.first_byte();
         match bucket.position(id) {
             Some(at) => Some((bucket.start() + at) as u32),
             None => None,
@@ -207,6 +236,59 @@ impl<S: ReadAt + Drop> LazyFile<S> {
         ensures inside { result.end ≤ self.now.count }
     {
         bucket_range(&self.head, byte, byte)
+    }
+
+    // Reads all ids with a first byte, and notes whether they are sorted.
+    fn read_whole<A: Allocator>(&mut self, alloc: A, byte: u8) -> Result<Bucket<A>, LazyError>
+        ensures same { self.new ≡ self.old }
+        ensures part { IfOk result (λ bucket. (digits : List ℕ) → 2 ≤ length digits
+            → first_byte_of digits ≡ byte → IsPartOf self.old digits bucket) }
+        ensures err { IfErr result (λ e. IfKnown (λ bytes.
+            IsBucketFault self.old.can_fail self.old.kind bytes byte e) self.old) }
+    {
+        // Its contract says how many names there are.
+        let _count = self.num_objects();
+        let run = self.run_of(byte);
+        let bucket = self.read_run(alloc, byte, &run)?;
+        if bucket.is_sorted() {
+            self.ordered[usize::from(byte)] = true;
+        }
+        Ok(bucket)
+    }
+
+    // A run of the ids with a prefix's first byte that has all that begin with the prefix, if they
+    // are sorted.
+    fn narrowed(&self, prefix: &Prefix) -> Result<Run, LazyError>
+        requires { length prefix.now.digits ≤ hex_len_of self.now.kind }
+        ensures in_order { IfOk result (λ part. part.start ≤ part.end) }
+        ensures inside { IfOk result (λ part. part.end ≤ self.now.count) }
+        ensures all { IfOk result (λ part. IfKnown (λ bytes.
+            IsNarrowed self.now.kind bytes prefix.now.digits part) self.now) }
+        ensures err { IfErr result (λ e. IfKnown (λ _.
+            IsReadOrMemory self.now.can_fail e) self.now) }
+    {
+        // Its contract says how many names there are.
+        let _count = self.num_objects();
+        let run = self.run_of(prefix.first_byte());
+        Ok(narrowed(&self.source, self.kind, prefix, run)?)
+    }
+
+    // Reads the ids of a run, which must have a first byte.
+    fn read_run<A: Allocator>(&self, alloc: A, byte: u8, run: &Run) -> Result<Bucket<A>, LazyError>
+        requires in_order { run.now.start ≤ run.now.end }
+        requires inside { run.now.end ≤ self.now.count }
+        ensures ids { IfOk result (AreBetween self.now byte run.now.start run.now.end) }
+        ensures err { IfErr result (λ e. IfKnown (λ bytes. IsRunFault self.now.can_fail
+            self.now.kind bytes byte run.now.start run.now.end e) self.now) }
+    {
+        // The contracts of these calls say how many names there are, and of which kind.
+        let _count = self.num_objects();
+        let kind = self.object_hash();
+        let table = self.read_names(alloc, run)?;
+        if !have_first_byte(&table, kind, byte) {
+            return Err(LazyError::WrongCount(byte));
+        }
+        Ok(Bucket::new(table, kind, run.start))
     }
 
     // The ids of a run, one after the other.

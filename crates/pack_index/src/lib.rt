@@ -15,6 +15,7 @@ mod lazy;
 mod lazy_error;
 mod names;
 mod offsets;
+mod search;
 mod shared;
 pub mod tables;
 mod words;

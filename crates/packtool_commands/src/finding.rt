@@ -53,10 +53,10 @@ pub fn find<S: Reopen, A: Allocator + Copy, W: Sink>(
 {
     let looked = look_up_again(
         store,
-        |store: &S|
+        |store: &mut S|
             requires enough { 2 ≤ length prefix.now.digits }
-            requires kind { prefix.now.kind ≡ (S.view store.now).kind }
-            requires listed { IsListed (S.view store.now) (first_byte_of prefix.now.digits) }
+            requires kind { prefix.now.kind ≡ (S.view store.old).kind }
+            requires listed { IsListed (S.view store.old) (first_byte_of prefix.now.digits) }
         { lookup_prefix(alloc, store, prefix) },
     );
     let ids = looked?;
@@ -71,11 +71,12 @@ pub fn find<S: Reopen, A: Allocator + Copy, W: Sink>(
 /// for a prefix of no id the line and ` missing`, and for [`Answers::One`] and a prefix of several
 /// ids the line and ` ambiguous`.
 ///
-/// Of each pack index the ids with a first byte are read once. Nothing is written before all ids
-/// are found; if a pack index is gone until then, the store is opened again. If the ids are more
-/// than `most`, and there are several prefixes, then nothing is written, and
-/// [`StoreError::TooMany`] is returned. [`StoreError::Output`] is returned if and only if a write
-/// fails, after a proper beginning of the text. The sink must not have failed before.
+/// Of each pack index the ids with a first byte are read once, or, once they were found in order,
+/// some of them for each line. Nothing is written before all ids are found; if a pack index is gone
+/// until then, the store is opened again. If the ids are more than `most`, and there are several
+/// prefixes, then nothing is written, and [`StoreError::TooMany`] is returned.
+/// [`StoreError::Output`] is returned if and only if a write fails, after a proper beginning of the
+/// text. The sink must not have failed before.
 ///
 /// ```
 /// let lines = PrefixLines::read(rt.alloc(), Kind::Sha1, b"4b8\n4b9\n")?;
@@ -111,8 +112,8 @@ pub fn find_each<S: Reopen, A: Allocator + Copy, W: Sink>(
     let prefixes = lines.prefixes();
     let looked = look_up_again(
         store,
-        |store: &S|
-            requires { All (CanLookUp (S.view store.now)) prefixes.now }
+        |store: &mut S|
+            requires { All (CanLookUp (S.view store.old)) prefixes.now }
         { lookup_prefixes(alloc, store, prefixes, most) },
     );
     let Some(found) = looked? else {

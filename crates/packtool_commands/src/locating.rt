@@ -33,10 +33,10 @@ type End = ArrayVec<u8, 22>;
 /// object a line for each file. Paths are escaped as by [`write_location`](crate::write_location).
 /// Returns whether there is such an id.
 ///
-/// The prefix has 2 digits or more, and the store's kind. Of each pack index the ids with its
-/// first byte are read once. Nothing is written before all locations are found; if a pack index is
-/// gone until then, the store is opened again. [`StoreError::Output`] is returned if and only if a
-/// write fails, after a proper beginning of the lines. The sink must not have failed before.
+/// The prefix has 2 digits or more, and the store's kind. Of each pack index ids with its first
+/// byte are read. Nothing is written before all locations are found; if a pack index is gone until
+/// then, the store is opened again. [`StoreError::Output`] is returned if and only if a write
+/// fails, after a proper beginning of the lines. The sink must not have failed before.
 ///
 /// ```
 /// if !locate(rt.alloc(), &mut store, &prefix, &mut out)? {
@@ -85,8 +85,8 @@ fn locations_of<S: Reopen + StorePaths, A: Allocator + Copy>(
 {
     look_up_again(
         store,
-        |store: &S|
-            requires { CanLookUp (S.view store.now) prefix.now }
+        |store: &mut S|
+            requires { CanLookUp (S.view store.old) prefix.now }
         { locate_prefix(alloc, store, prefix) },
     )
 }
@@ -101,12 +101,13 @@ fn locations_of<S: Reopen + StorePaths, A: Allocator + Copy>(
 /// prefix, for a prefix of no id, and for [`Answers::One`] and a prefix of several ids, is said at
 /// [`find_each`](crate::find_each).
 ///
-/// Of each pack index the ids with a first byte are read once. For [`Answers::One`] only the first
-/// two ids of a prefix are located: if a further one has no offset, that is no error. Nothing is
-/// written before all locations are found; if a pack index is gone until then, the store is opened
-/// again. If the locations are more than `most`, and there are several prefixes, then nothing is
-/// written, and [`StoreError::TooMany`] is returned. [`StoreError::Output`] is returned if and only
-/// if a write fails, after a proper beginning of the text. The sink must not have failed before.
+/// Of each pack index the ids with a first byte are read once, or, once they were found in order,
+/// some of them for each line. For [`Answers::One`] only the first two ids of a prefix are located:
+/// if a further one has no offset, that is no error. Nothing is written before all locations are
+/// found; if a pack index is gone until then, the store is opened again. If the locations are more
+/// than `most`, and there are several prefixes, then nothing is written, and
+/// [`StoreError::TooMany`] is returned. [`StoreError::Output`] is returned if and only if a write
+/// fails, after a proper beginning of the text. The sink must not have failed before.
 ///
 /// ```
 /// let lines = PrefixLines::read(rt.alloc(), Kind::Sha1, b"4b8\n4b9\n")?;
@@ -145,8 +146,8 @@ pub fn locate_each<S: Reopen + StorePaths, A: Allocator + Copy, W: Sink>(
     let limit = limit_for(answers);
     let looked = look_up_again(
         store,
-        |store: &S|
-            requires { All (CanLookUp (S.view store.now)) prefixes.now }
+        |store: &mut S|
+            requires { All (CanLookUp (S.view store.old)) prefixes.now }
         { locate_prefixes(alloc, store, prefixes, limit, most) },
     );
     let Some(located) = looked? else {

@@ -85,10 +85,10 @@ fn names_of<S: Reopen, A: Allocator + Copy>(
 {
     look_up_again(
         store,
-        |store: &S|
-            requires listed { IsListed (S.view store.now) byte }
+        |store: &mut S|
+            requires listed { IsListed (S.view store.old) byte }
             requires enough { 4 ≤ least }
-            requires fits { least ≤ hex_len_of (S.view store.now).kind }
+            requires fits { least ≤ hex_len_of (S.view store.old).kind }
         { abbreviate_part(alloc, store, byte, least) },
     )
 }
@@ -107,7 +107,7 @@ fn is_any(before: bool, named: &[NamedId]) -> bool
 /// have failed before.
 ///
 /// ```
-/// let named = object_store::abbreviate_part(rt.alloc(), &store, 0x4b, 7)?;
+/// let named = object_store::abbreviate_part(rt.alloc(), &mut store, 0x4b, 7)?;
 /// if write_names(&named, &mut out).is_err() {
 ///     println!(rt; "the lines are not written whole")?;
 /// }
@@ -134,11 +134,12 @@ pub fn write_names<W: Sink>(named: &[NamedId], out: &mut W) -> Result<(), WriteF
 /// for a prefix of no id the line and ` missing`, and for a prefix of several ids the line and
 /// ` ambiguous`.
 ///
-/// Of each pack index the ids with a first byte are read once. Nothing is written before all ids
-/// are found; if a pack index is gone until then, the store is opened again. If there are several
-/// prefixes, and ids begin with more than `most` of them, then nothing is written, and
-/// [`StoreError::TooMany`] is returned. [`StoreError::Output`] is returned if and only if a write
-/// fails, after a proper beginning of the text. The sink must not have failed before.
+/// Of each pack index the ids with a first byte are read once, or, once they were found in order,
+/// some of them for each line. Nothing is written before all ids are found; if a pack index is gone
+/// until then, the store is opened again. If there are several prefixes, and ids begin with more
+/// than `most` of them, then nothing is written, and [`StoreError::TooMany`] is returned.
+/// [`StoreError::Output`] is returned if and only if a write fails, after a proper beginning of the
+/// text. The sink must not have failed before.
 ///
 /// ```
 /// let lines = PrefixLines::read(rt.alloc(), Kind::Sha1, b"4b8\n4b9\n")?;
@@ -176,10 +177,10 @@ pub fn name_each<S: Reopen, A: Allocator + Copy, W: Sink>(
     let prefixes = lines.prefixes();
     let looked = look_up_again(
         store,
-        |store: &S|
-            requires can { All (CanLookUp (S.view store.now)) prefixes.now }
+        |store: &mut S|
+            requires can { All (CanLookUp (S.view store.old)) prefixes.now }
             requires enough { 4 ≤ least }
-            requires fits { least ≤ hex_len_of (S.view store.now).kind }
+            requires fits { least ≤ hex_len_of (S.view store.old).kind }
         { abbreviate_prefixes(alloc, store, prefixes, least, most) },
     );
     let Some(named) = looked? else {

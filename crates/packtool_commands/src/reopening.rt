@@ -1,6 +1,7 @@
 //! Look-ups in a store that changes.
 
-ghost use Rattle.std.specs.Fn.{FnReturnsAt};
+ghost use Rattle.std.specs.Prelude.{◌≡◌};
+ghost use Rattle.std.specs.Fn.{FnOnceReturnsAtMut};
 ghost use Rattle.object_store.specs.Stores.{IsReopened};
 
 use object_store::{Error, Reopen};
@@ -8,17 +9,19 @@ use object_store::{Error, Reopen};
 // How often a look-up begins.
 const MAX_TRIES: usize = 10;
 
-/// What a look-up gives in a store. If a pack index is gone that was listed, the store is opened
-/// again, and the look-up begins again, 10 times at most.
-pub(crate) fn look_up_again<S: Reopen, T: Drop, F: Fn(&S) -> Result<T, Error>>(
+/// What a look-up gives in a store, which it leaves as it is. If a pack index is gone that was
+/// listed, the store is opened again, and the look-up begins again, 10 times at most.
+pub(crate) fn look_up_again<S: Reopen, T: Drop, F: Fn(&mut S) -> Result<T, Error>>(
     store: &mut S,
     look_up: F,
 ) -> Result<T, Error>
-    requires { (seen : _) → IsReopened (S.may_have store.old) (S.may_have seen.now)
+    requires can { (seen : _) → IsReopened (S.may_have store.old) (S.may_have seen.now)
         (S.view store.old) (S.view seen.now) → F.pre look_up seen }
+    requires same { (seen left : _) (looked : _) → F.post look_up seen looked left
+        → left.now ≡ seen.now }
     ensures reopened { IsReopened (S.may_have store.old) (S.may_have store.new)
         (S.view store.old) (S.view store.new) }
-    ensures found { FnReturnsAt F.Fn look_up store.new result }
+    ensures found { FnOnceReturnsAtMut F.FnOnce look_up store.new result store.new }
 {
     for _try in 1..MAX_TRIES {
         let looked = look_up(store);

@@ -3,10 +3,10 @@
 ghost use Rattle.std.specs.Prelude.{◌≡◌, [], ◌∷◌, All, IfOk};
 ghost use Rattle.id_lookup.specs.Words.{id_kind};
 
-use gix_hash::{Kind, ObjectId};
+use gix_hash::{Kind, ObjectId, Prefix};
 use object_store::{LooseTable, Reopen, Store, StorePaths};
-use pack_index::{LazyError, LazyFile};
-use std::alloc::{AllocError, Global};
+use pack_index::{Bucket, LazyError, LazyFile};
+use std::alloc::{AllocError, Allocator, Global};
 use std::cell::Cell;
 use std::io;
 use streams::ReadAt;
@@ -183,6 +183,16 @@ impl<'a> Store for Memory<'a> {
 
     fn indexes(&self) -> &[LazyFile<Counted<'a>>] {
         &self.packs
+    }
+
+    fn part<A: Allocator>(
+        &mut self,
+        alloc: A,
+        at: usize,
+        prefix: &Prefix,
+        few: usize,
+    ) -> Result<Bucket<A>, LazyError> {
+        self.packs[at].part(alloc, prefix, few)
     }
 
     fn index_path(&self, at: usize) -> Result<String, AllocError> {

@@ -17,10 +17,10 @@ use std::test::Fail;
 pub fn find<S: Store, A: Allocator + Copy>(
     rt: &impl Abort,
     alloc: A,
-    store: &S,
+    store: &mut S,
     prefix: &str,
 ) -> Result<Vec<ObjectId, A>, Error>
-    requires { (byte : ℕ) → IsListed (S.view store.now) byte }
+    requires { (byte : ℕ) → IsListed (S.view store.old) byte }
 {
     let kind = store.object_hash();
     let prefix = Prefix::from_hex_in(kind, prefix).expect(rt, "no prefix");
@@ -39,10 +39,10 @@ pub fn expect_ids(rt: &impl Abort, found: &[ObjectId], want: &[&str]) {
 fn locations_of<S: Store, A: Allocator + Copy>(
     rt: &impl Abort,
     alloc: A,
-    store: &S,
+    store: &mut S,
     id: &str,
 ) -> Result<Vec<Location, A>, Error>
-    requires { (byte : ℕ) → IsListed (S.view store.now) byte }
+    requires { (byte : ℕ) → IsListed (S.view store.old) byte }
 {
     let id = ObjectId::from_hex(id.as_bytes()).expect(rt, "no id");
     assert!(rt; id.kind() == store.object_hash());
@@ -57,10 +57,10 @@ fn expect_locations(rt: &impl Abort, found: &[Location], want: &[Location]) {
 fn name_of<S: Store, A: Allocator + Copy>(
     rt: &impl Abort,
     alloc: A,
-    store: &S,
+    store: &mut S,
     id: &str,
 ) -> Result<Option<Prefix>, Error>
-    requires { (byte : ℕ) → IsListed (S.view store.now) byte }
+    requires { (byte : ℕ) → IsListed (S.view store.old) byte }
 {
     let id = ObjectId::from_hex(id.as_bytes()).expect(rt, "no id");
     assert!(rt; id.kind() == store.object_hash() && id.kind().len_in_hex() >= 4);
@@ -80,10 +80,10 @@ enum Asked {
 fn look_up<S: Store, A: Allocator + Copy>(
     rt: &impl Abort,
     alloc: A,
-    store: &S,
+    store: &mut S,
     asked: Asked,
 ) -> Result<(), Error>
-    requires { (byte : ℕ) → IsListed (S.view store.now) byte }
+    requires { (byte : ℕ) → IsListed (S.view store.old) byte }
 {
     match asked {
         Asked::Ids => expect_ids(rt, &find(rt, alloc, store, "4b")?, &FOUND),
@@ -108,11 +108,11 @@ fn outcome(
     asked: Asked,
 ) -> Result<String, Fail> {
     let reads = Reads::new(left);
-    let store = match content.open(rt.alloc(), &reads) {
+    let mut store = match content.open(rt.alloc(), &reads) {
         Ok(store) => store,
         Err(error) => return text_of(rt, error),
     };
-    match look_up(rt, rt.alloc(), &store, asked) {
+    match look_up(rt, rt.alloc(), &mut store, asked) {
         Ok(()) => text_of(rt, "found"),
         Err(error) => text_of(rt, error),
     }
@@ -159,7 +159,7 @@ fn each_read_fails_in_turn(rt: HostRuntime) -> Result<(), Fail> {
 // Whether this much memory is enough for a look-up. If not, the error says so. All is given back.
 fn is_enough(
     rt: &(impl Abort + AllocGlobal),
-    store: &Memory<'_>,
+    store: &mut Memory<'_>,
     units: usize,
     asked: Asked,
 ) -> Result<bool, Fail> {
@@ -179,11 +179,11 @@ fn is_enough(
 fn memory_is_refused(rt: HostRuntime) -> Result<(), Fail> {
     let content = Content::new(&rt)?;
     let reads = Reads::new(100_000);
-    let store = content.open(rt.alloc(), &reads)?;
+    let mut store = content.open(rt.alloc(), &reads)?;
     for &asked in &[Asked::Ids, Asked::Locations, Asked::Name] {
         let mut before = false;
         for units in 0..64 {
-            let is_enough = is_enough(&rt, &store, units, asked)?;
+            let is_enough = is_enough(&rt, &mut store, units, asked)?;
             expect!(&rt; is_enough >= before && !(is_enough && units == 0), units);
             before = is_enough;
         }
@@ -204,10 +204,10 @@ const ABSENT: [&str; 3] = [
 fn absent_ids_have_no_name_and_no_location(rt: HostRuntime) -> Result<(), Fail> {
     let content = Content::new(&rt)?;
     let reads = Reads::new(100_000);
-    let store = content.open(rt.alloc(), &reads)?;
+    let mut store = content.open(rt.alloc(), &reads)?;
     for id in &ABSENT {
-        expect!(&rt; name_of(&rt, rt.alloc(), &store, id)?.is_none(), id);
-        expect!(&rt; locations_of(&rt, rt.alloc(), &store, id)?.is_empty(), id);
+        expect!(&rt; name_of(&rt, rt.alloc(), &mut store, id)?.is_none(), id);
+        expect!(&rt; locations_of(&rt, rt.alloc(), &mut store, id)?.is_empty(), id);
     }
     Ok(())
 }

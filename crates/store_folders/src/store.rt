@@ -10,9 +10,9 @@ use crate::packs::{PackFolders, PackIndexes, PackPaths, open_indexes};
 use crate::source::Source;
 use gix_hash::{Kind, ObjectId, Prefix};
 use object_store::{LooseTable, Reopen, Store, StorePaths};
-use pack_index::LazyFile;
+use pack_index::{Bucket, LazyError, LazyFile};
 use repositories::{Folders, ObjectsFolder, with_alternates};
-use std::alloc::{AllocError, Global};
+use std::alloc::{AllocError, Allocator, Global};
 use std::fs::File;
 use std::mem;
 use std::rt::Files;
@@ -386,6 +386,16 @@ impl<R: Files<File = File> + AllocGlobal + Clone + Drop> Store for FolderStore<R
 
     fn indexes(&self) -> &[LazyFile<Source<R>>] {
         &self.indexes
+    }
+
+    fn part<A: Allocator>(
+        &mut self,
+        alloc: A,
+        at: usize,
+        prefix: &Prefix,
+        few: usize,
+    ) -> Result<Bucket<A>, LazyError> {
+        self.indexes[at].part(alloc, prefix, few)
     }
 
     fn index_path(&self, at: usize) -> Result<String, AllocError> {

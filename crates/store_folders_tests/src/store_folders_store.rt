@@ -69,9 +69,9 @@ const MOVES: [[Move; 3]; 6] = [
 // The ids of the store that begin with `4b`, of which the loose objects are listed.
 fn find<R: Files<File = File> + AllocGlobal + Clone + Drop>(
     rt: &(impl Abort + AllocGlobal),
-    store: &FolderStore<R>,
+    store: &mut FolderStore<R>,
 ) -> Result<Vec<ObjectId>, object_store::Error>
-    requires { only_of store.now.loose.which ≡ Some 75 }
+    requires { only_of store.old.loose.which ≡ Some 75 }
 {
     let kind = store.object_hash();
     let prefix = Prefix::from_hex_in(kind, "4b").expect(rt, "no prefix");
@@ -93,10 +93,10 @@ fn expect_in_order<R: Files<File = File> + AllocGlobal + Clone + Drop>(
 // These ids are found, and the pack indexes are in order.
 fn expect_found<R: Files<File = File> + AllocGlobal + Clone + Drop>(
     rt: &(impl Abort + AllocGlobal),
-    store: &FolderStore<R>,
+    store: &mut FolderStore<R>,
     ids: &[&str],
 ) -> Result<(), Fail>
-    requires { only_of store.now.loose.which ≡ Some 75 }
+    requires { only_of store.old.loose.which ≡ Some 75 }
 {
     expect_ids(rt, &find(rt, store)?, ids);
     expect_in_order(rt, store)
@@ -121,9 +121,9 @@ fn expect_opened<R: Abort + Files<File = File> + AllocGlobal>(
     };
     let folder = ObjectsFolder::at(rt, objects)?;
     match FolderStore::open(&moving, &folder, LooseIds::WithFirstByte(0x4b)) {
-        Ok(store) => {
+        Ok(mut store) => {
             let ids = want.expect(rt, "a store where an error is wanted");
-            let ended = expect_found(rt, &store, ids);
+            let ended = expect_found(rt, &mut store, ids);
             drop(store);
             ended
         }
@@ -225,9 +225,9 @@ const MANY_LOOSE: &str = "many/objects/4b/ffffffffffffffffffffffffffffffffffffff
 // opened. A larger one that is gone is one that says so.
 fn expect_without_files<R: Files<File = File> + AllocGlobal + Clone + Drop>(
     rt: &(impl Abort + AllocGlobal + Files<File = File>),
-    store: &FolderStore<R>,
+    store: &mut FolderStore<R>,
 ) -> Result<(), Fail>
-    requires { only_of store.now.loose.which ≡ Some 75 }
+    requires { only_of store.old.loose.which ≡ Some 75 }
 {
     expect_in_order(rt, store)?;
     rt.remove_file(MANY_LOOSE)?;
@@ -246,8 +246,8 @@ fn expect_without_files<R: Files<File = File> + AllocGlobal + Clone + Drop>(
 fn files_may_be_removed_after_opening(rt: HostRuntime) -> Result<(), Fail> {
     make_many(&rt)?;
     let folder = ObjectsFolder::at(&rt, "many/objects")?;
-    let store = FolderStore::open(&rt, &folder, LooseIds::WithFirstByte(0x4b))?;
-    let ended = expect_without_files(&rt, &store);
+    let mut store = FolderStore::open(&rt, &folder, LooseIds::WithFirstByte(0x4b))?;
+    let ended = expect_without_files(&rt, &mut store);
     drop(store);
     ended?;
     fs::remove_dir_all(&rt, "many")?;

@@ -1,6 +1,6 @@
 use Rattle.gix_hash.proofs.Std.{◌/◌, ◌%◌, ◌∷◌, [], ℕ, List, map, sym, subst, arith, All}
 use Rattle.id_lookup.specs.Words.{IsIndexOf, Kind, ObjectId, id_digits, matches}
-use Rattle.object_store.specs.Stores.{AreIdsRead, AreMatches, IsOfKind, StoreView}
+use Rattle.object_store.specs.Stores.{AreIdsRead, AreMatches, IsOfKind}
 use Rattle.object_store.proofs.Named.{named_digits, names_read}
 use Rattle.object_store.proofs.abbreviations.abbreviate_part.Goals as goal
 
@@ -12,7 +12,7 @@ returns-clause-named g c =
     let ids = c.deref.result.now in
     let named = c.in_ok-name_all.field-0.items in
     let found : AreMatches view c.two_digits.result.digits c.in_ok-ids.ids.items =
-    subst (λ (v : StoreView). AreMatches v c.two_digits.result.digits c.in_ok-ids.ids.items) c.new-parts.ensures c.in_ok-ids.ensures.matches in
+    c.in_ok-ids.ensures.matches in
     let index : IsIndexOf view.kind (matches digits found.read) (map id_digits ids) =
     subst (λ (ds : List ℕ). IsIndexOf view.kind (matches ds found.read) (map id_digits ids)) c.two_digits.ensures.digits
     (subst (λ (xs : List ObjectId). IsIndexOf view.kind (matches c.two_digits.result.digits found.read) (map id_digits xs)) (sym c.deref.ensures.value) found.index) in

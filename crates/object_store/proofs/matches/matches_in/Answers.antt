@@ -1,5 +1,5 @@
 use Rattle.gix_hash.proofs.Std.{◌≡◌, ◌∙◌, ◌++◌, List, ℕ, ap, map, refl, subst, sym, arith, nat_eq, All, flat_map, starts_with}
-use Rattle.id_lookup.specs.Words.{Index, IsIndexOf, Kind, ObjectId, first_byte_of, id_digits, id_kind, matches}
+use Rattle.id_lookup.specs.Words.{Index, IsIndexOf, Kind, ObjectId, id_digits, id_kind, matches}
 use Rattle.pack_index.specs.Lazy.{BucketNames}
 use Rattle.object_store.specs.Stores.{ids_in}
 use Rattle.object_store.proofs.PartNames.{are_of_kind, gathered}
@@ -8,7 +8,7 @@ use Rattle.object_store.proofs.matches.matches_in.Goals as goal
 pub push_packed-requires-clause-kinds : goal.push_packed-requires-clause-kinds
 push_packed-requires-clause-kinds g c =
     let view = g.S.Store.view c.args.store.now in
-    let all = are_of_kind view (first_byte_of c.args.prefix.now.digits) c.args.buckets.now c.indexes-packs.ensures.kinds c.requires.buckets in
+    let all = are_of_kind view c.args.prefix.now.digits c.args.buckets.now c.indexes-packs.ensures.kinds c.requires.buckets in
     subst (λ (k : Kind). All (λ (b : BucketNames). b.kind ≡ k) c.args.buckets.now) (sym c.object_hash-kind.ensures) all
 
 pub push_all-requires : goal.push_all-requires
@@ -19,7 +19,7 @@ returns g c =
     let view = g.S.Store.view c.args.store.now in
     let digits = c.args.prefix.now.digits in
     let buckets = c.args.buckets.now in
-    let names = map (λ (b : BucketNames). b.names) buckets in
+    let names = c.requires.buckets.names in
     let kinds : All (λ (id : ObjectId). id_kind id ≡ view.kind) c.push_all.new.ids.items =
     subst (λ (k : Kind). All (λ (id : ObjectId). id_kind id ≡ k) c.push_all.new.ids.items) c.object_hash-kind.ensures
     (c.in_ok-push_all.ensures.kinds (c.in_ok-push_packed.ensures.kinds
@@ -29,7 +29,7 @@ returns g c =
     let loose : map id_digits c.beginning_with.result.now ≡ matches digits view.loose =
     c.beginning_with.ensures.ids ∙ ap (λ (table : Index). matches digits table.ids) c.loose.ensures in
     let all : map id_digits c.push_all.new.ids.items ≡ matches digits (ids_in view names) =
-    c.in_ok-push_all.ensures.digits ∙ (λ i. front i ++ loose i) ∙ gathered (λ id. starts_with nat_eq id digits) buckets view.loose in
+    c.in_ok-push_all.ensures.digits ∙ (λ i. front i ++ loose i) ∙ gathered (λ id. starts_with nat_eq id digits) buckets names view.loose c.requires.buckets.matched in
     record {
       read = ids_in view names;
       ids_read = record { names = names; are_read = c.requires.buckets.read; all = refl };

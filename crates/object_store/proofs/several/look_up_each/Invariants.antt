@@ -4,7 +4,7 @@ use Rattle.object_store.proofs.several.look_up_each.Given as goal
 
 abbrev pub invariant-loop-place : goal.invariant-loop-place
 invariant-loop-place g l = record {
-  parts : l.parts ≡ g.S.Store.view l.store;
-  found : AreFoundAt (g.L.LookUp.finds l.look_up (g.S.Store.view l.store)) g.L.LookUp.size l.prefixes l.places.items l.place l.found.items;
+  parts : l.parts ≡ l.fn.parts;
+  found : AreFoundAt (g.L.LookUp.finds l.look_up l.fn.parts.now) g.L.LookUp.size l.prefixes l.places.items l.place l.found.items;
   room : 1 < length l.prefixes → l.room + sum_by g.L.LookUp.size l.found.items ≡ l.fn.most;
 }

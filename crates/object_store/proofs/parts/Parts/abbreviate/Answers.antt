@@ -8,22 +8,22 @@ use Rattle.object_store.proofs.parts.Parts.abbreviate.Goals.{In_ok-named}
 use Rattle.object_store.proofs.parts.Parts.abbreviate.Goals as goal
 
 module _ (g : Over) (c : In_ok-named g) where
-  long : length (id_digits c.args.id.now) ≡ hex_len_of c.args.self.now.kind
+  long : length (id_digits c.args.id.now) ≡ hex_len_of (g.S.Store.view c.args.self.now.now).kind
   long = c.kind-kind.ensures.len ∙ ap hex_len_of c.requires.kind
 
-  name : IsAbbreviated c.args.least c.args.self.now (id_digits c.args.id.now) c.in_ok-named.field-0
-  name = subst (λ (p : KindDigits). IsAbbreviated c.args.least c.args.self.now p.digits c.in_ok-named.field-0) c.from.ensures c.in_ok-named.ensures.name
+  name : IsAbbreviated c.args.least (g.S.Store.view c.args.self.now.now) (id_digits c.args.id.now) c.in_ok-named.field-0
+  name = subst (λ (p : KindDigits). IsAbbreviated c.args.least (g.S.Store.view c.args.self.now.now) p.digits c.in_ok-named.field-0) c.from.ensures c.in_ok-named.ensures.name
 
 pub returns-in-Named-clause-name : goal.returns-in-Named-clause-name
 returns-in-Named-clause-name g c =
     let here = (goal.at.returns-in-Named-clause-name g c).In_ok-named in
     let id = id_digits c.args.id.now in
-    name_named c.args.least c.args.self.now id (long g here) c.in-Named.named (subst (IsAbbreviated c.args.least c.args.self.now id) c.in-Named.is (name g here))
+    name_named c.args.least (g.S.Store.view c.args.self.now.now) id (long g here) c.in-Named.named (subst (IsAbbreviated c.args.least (g.S.Store.view c.args.self.now.now) id) c.in-Named.is (name g here))
 
 pub returns-in-Missing : goal.returns-in-Missing
 returns-in-Missing g c =
     let here = (goal.at.returns-in-Missing g c).In_ok-named in
-    let view = c.args.self.now in
+    let view = g.S.Store.view c.args.self.now.now in
     let id = id_digits c.args.id.now in
     let none : IsAbbreviationOf c.args.least view id None = elim c.in-Missing.is [
       | inl missing ↦ name_missing c.args.least view id (long g here) (subst (IsAbbreviated c.args.least view id) missing (name g here))

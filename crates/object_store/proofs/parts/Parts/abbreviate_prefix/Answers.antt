@@ -14,7 +14,7 @@ pub returns-clause-name : goal.returns-clause-name
 returns-clause-name g c =
     let digits = c.args.prefix.now.digits in
     let a = c.abbreviation_in-found.result in
-    abbreviated c.args.least c.args.self.now digits c.front_of.result.digits c.in_ok-front.front.ids.items a c.front_of.ensures.digits c.requires.enough c.requires.can.enough
+    abbreviated c.args.least (g.S.Store.view c.args.self.now.now) digits c.front_of.result.digits c.in_ok-front.front.ids.items a c.front_of.ensures.digits c.requires.enough c.requires.can.enough
     c.in_ok-front.ensures.matches
     (subst (λ (ids : List ObjectId). IsAbbreviatedAt c.args.least (map id_digits ids) digits a) c.deref.ensures.value c.abbreviation_in-found.ensures.name)
     (subst (λ (k : Kind). IsAbbreviationOfKind k a) c.requires.can.kind c.abbreviation_in-found.ensures.kind)

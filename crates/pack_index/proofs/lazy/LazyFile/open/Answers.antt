@@ -1,4 +1,4 @@
-use Rattle.gix_hash.proofs.Std.{◌≡◌, length, arith, rules, err_from_is_err_and}
+use Rattle.gix_hash.proofs.Std.{◌≡◌, ◌∙◌, false, length, sym, arith, rules, err_from_is_err_and, false≢true, get_or-replicate}
 use Rattle.pack_index.specs.Format.{Each}
 use Rattle.pack_index.specs.Lazy.{Rises}
 use Rattle.pack_index.proofs.Heads.{all_rise, begins, first_falls, head_fault, head_inside, tables_by_head}
@@ -47,6 +47,10 @@ invariant_of-result g c =
       rise,
       λ bytes is.
           let front = c.in_ok-read_exact_at.ensures.bytes bytes is in
-          let same = c.in_ok-len.ensures.len bytes is in
-          (front, tables_by_head bytes c.read_exact_at.new.buf front long c.args.kind c.in_ok-len.len same c.in_ok-check_head.ensures.tables, omega (arith, same, c.len_in_bytes-2.ensures)),
+          let same = c.in_ok-len.ensures.len bytes is in (
+            front,
+            tables_by_head bytes c.read_exact_at.new.buf front long c.args.kind c.in_ok-len.len same c.in_ok-check_head.ensures.tables,
+            omega (arith, same, c.len_in_bytes-2.ensures),
+            λ k low set. absurd (false≢true (sym (get_or-replicate 256 k false false low) ∙ set)),
+          ),
     )

@@ -1,0 +1,26 @@
+use Rattle.gix_hash.proofs.Std.{ap, arith, IfErr-weaker}
+use Rattle.std.proofs.lemmas.Result.{IfOk-weaker}
+use Rattle.pack_index.specs.Lazy.{bucket_end, bucket_start}
+use Rattle.pack_index.proofs.Buckets.{part_fault}
+use Rattle.pack_index.proofs.Parts.{narrowed_part}
+use Rattle.pack_index.proofs.lazy.LazyFile.part.Goals as goal
+
+pub returns-clause-part : goal.returns-clause-part
+returns-clause-part g c =
+    let ordered = c.reads_part.ensures c.if-not-reads_part.false in
+    let byte = c.first_byte-byte.ensures in
+    IfOk-weaker c.read_run.result _ _
+    (λ part are.
+    narrowed_part c.args.self.now c.args.prefix.now.digits c.in_ok-part.part.start c.in_ok-part.part.end part (rw (← byte) are) c.in_ok-part.ensures.inside
+    c.requires.enough (rw (← byte) c.first_byte-byte.type_inv) c.num_objects-count.ensures.tables (rw (← byte) ordered) c.in_ok-part.ensures.all) c.read_run.ensures.ids
+
+pub returns-clause-err : goal.returns-clause-err
+returns-clause-err g c =
+    let ordered = c.reads_part.ensures c.if-not-reads_part.false in
+    let byte = c.first_byte-byte.ensures in
+    rw (← byte)
+    (IfErr-weaker c.read_run.result _ _
+    (λ e fault bytes known.
+    let within = c.in_ok-part.ensures.all bytes known in
+    part_fault c.args.self.now.can_fail c.args.self.now.kind bytes c.first_byte-byte.result c.in_ok-part.part.start c.in_ok-part.part.end e (ordered bytes known).right
+    (omega (arith, within.from, ap (bucket_start bytes) byte)) (omega (arith, within.to, ap (bucket_end bytes) byte)) (fault bytes known)) c.read_run.ensures.err)
