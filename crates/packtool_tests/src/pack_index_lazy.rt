@@ -1,4 +1,4 @@
-//! A pack index in memory of more names than 16 bits count, read at positions.
+//! Pack indexes in memory, read at positions.
 
 use crate::expecting::expect;
 use gix_hash::{Kind, ObjectId, Prefix};
@@ -7,64 +7,190 @@ use pack_index::{LazyError, LazyFile};
 use std::alloc::{AllocError, Global};
 use std::test::Fail;
 
-// All names have one first byte, and end in their indexes.
-const COUNT: u32 = 65_537;
-
+// The first byte of all names.
 const FIRST_BYTE: u8 = 0x4b;
 
-const LAST: &[u8] = b"4b00000000000000000000000000000000010000";
+// More names than 16 bits count.
+const MANY: u32 = 65_537;
 
-// The index of the last name, and its offset.
-fn find_last(alloc: Global, bytes: &[u8]) -> Result<Option<(u32, u64)>, LazyError> {
-    let Ok(id) = ObjectId::from_hex(LAST) else {
-        return Ok(None);
-    };
-    let index = LazyFile::open(bytes, Kind::Sha1)?;
-    let bucket = index.bucket(alloc, id.first_byte())?;
-    match index.lookup(&bucket, id.as_oid()) {
-        Some(at) => Ok(Some((at, index.pack_offset_at_index(at)?))),
-        None => Ok(None),
-    }
+// So many names with a first byte are read without a search.
+const FEW: usize = 32;
+
+// No positions of names.
+const NONE: (u32, u32) = (u32::MAX, u32::MAX);
+
+// The name with these four bytes after the first, and zeros after them.
+fn name_of(kind: Kind, place: u32) -> ObjectId {
+    let mut name = kind.null();
+    let bytes = name.as_mut_slice();
+    bytes[0] = FIRST_BYTE;
+    bytes[1..5].copy_from_slice(&place.to_be_bytes());
+    name
 }
 
-// The bytes of the index. Its CRCs and digests are zeros.
-fn index_of_many(alloc: Global) -> Result<Vec<u8>, AllocError> {
+// The bytes of an index of names that are so far apart, in order, but for two that are swapped. Its
+// CRCs and digests are zeros, and the offset of each name is 12 above its position.
+fn index_of(
+    alloc: Global,
+    kind: Kind,
+    count: u32,
+    step: u32,
+    swapped: (u32, u32),
+) -> Result<Vec<u8>, AllocError> {
     let mut bytes = Vec::new(alloc);
     bytes.extend_from_slice(b"\xfftOc\0\0\0\x02")?;
     for byte in 0..=255 {
-        let count = if byte < FIRST_BYTE { 0 } else { COUNT };
-        bytes.extend_from_slice(&count.to_be_bytes())?;
+        let up_to = if byte < FIRST_BYTE { 0 } else { count };
+        bytes.extend_from_slice(&up_to.to_be_bytes())?;
     }
-    for at in 0..COUNT {
-        bytes.push(FIRST_BYTE)?;
-        bytes.extend_from_slice(&[0; 15])?;
-        bytes.extend_from_slice(&at.to_be_bytes())?;
+    for at in 0..count {
+        let place = place_at(at, swapped).wrapping_mul(step);
+        bytes.extend_from_slice(name_of(kind, place).as_bytes())?;
     }
-    for _ in 0..COUNT {
+    for _ in 0..count {
         bytes.extend_from_slice(&[0; 4])?;
     }
-    for at in 0..COUNT {
-        bytes.extend_from_slice(&(at + 12).to_be_bytes())?;
+    for at in 0..count {
+        bytes.extend_from_slice(&at.wrapping_add(12).to_be_bytes())?;
     }
-    bytes.extend_from_slice(&[0; 40])?;
+    bytes.extend_from_slice(kind.null().as_bytes())?;
+    bytes.extend_from_slice(kind.null().as_bytes())?;
     Ok(bytes)
+}
+
+// A position, or the other one of two that are swapped.
+fn place_at(at: u32, (first, second): (u32, u32)) -> u32 {
+    if at == first {
+        second
+    } else if at == second {
+        first
+    } else {
+        at
+    }
+}
+
+// How many bytes of names are read for a name, its position, and its offset.
+fn find(
+    alloc: Global,
+    index: &mut LazyFile<&[u8]>,
+    name: &ObjectId,
+) -> Result<(usize, Option<(u32, u64)>), LazyError> {
+    if name.kind() != index.object_hash() {
+        return Ok((0, None));
+    }
+    let bucket = index.part(alloc, &Prefix::from(*name), FEW)?;
+    let len = bucket.names().len();
+    match index.lookup(&bucket, name.as_oid()) {
+        Some(at) => Ok((len, Some((at, index.pack_offset_at_index(at)?)))),
+        None => Ok((len, None)),
+    }
+}
+
+// The names that begin with a prefix of two digits or more.
+fn matches(
+    alloc: Global,
+    index: &mut LazyFile<&[u8]>,
+    prefix: &Prefix,
+) -> Result<Vec<ObjectId>, LazyError> {
+    let mut ids = Vec::new(alloc);
+    if prefix.hex_len() >= 2 && prefix.hex_len() <= index.object_hash().len_in_hex() {
+        let bucket = index.part(alloc, prefix, FEW)?;
+        bucket.push_matches(prefix, &mut ids)?;
+    }
+    Ok(ids)
 }
 
 #[test]
 fn the_last_is_found(rt: HostRuntime) -> Result<(), Fail> {
-    let bytes = index_of_many(rt.alloc())?;
-    let last = find_last(rt.alloc(), &bytes)?;
-    expect!(&rt; last == Some((65_536, 65_548)));
+    let bytes = index_of(rt.alloc(), Kind::Sha1, MANY, 1, NONE)?;
+    let mut index = LazyFile::open(&bytes[..], Kind::Sha1)?;
+    let last = ObjectId::from_hex(b"4b00010000000000000000000000000000000000")?;
+    for turn in 0..2 {
+        let (_, found) = find(rt.alloc(), &mut index, &last)?;
+        expect!(&rt; found == Some((65_536, 65_548)), turn);
+    }
+    Ok(())
+}
+
+// After the first look-up some names are read for each, and found where they are. No other name is.
+#[test]
+fn each_is_found_among_some(rt: HostRuntime) -> Result<(), Fail> {
+    let count = 1000;
+    for &kind in &[Kind::Sha1, Kind::Sha256] {
+        for &step in &[u32::MAX / 1000, 2] {
+            let bytes = index_of(rt.alloc(), kind, count, step, NONE)?;
+            let mut index = LazyFile::open(&bytes[..], kind)?;
+            let all = 1000 * kind.len_in_bytes();
+            for at in 0..count {
+                let is_known = index.reads_part(FIRST_BYTE, FEW);
+                expect!(&rt; is_known == (at > 0), at);
+                let place = at.wrapping_mul(step);
+                let (len, found) = find(rt.alloc(), &mut index, &name_of(kind, place))?;
+                expect!(&rt; found == Some((at, u64::from(at) + 12)), (at, step));
+                expect!(&rt; (len < all) == is_known, (at, step));
+                let other = name_of(kind, place.wrapping_add(1));
+                let (_, found) = find(rt.alloc(), &mut index, &other)?;
+                expect!(&rt; found.is_none(), (at, step));
+            }
+            expect!(&rt; !index.reads_part(FIRST_BYTE, 1000), step);
+        }
+    }
+    Ok(())
+}
+
+// Names out of order are found at the second look-up as at the first.
+#[test]
+fn each_is_found_among_unsorted(rt: HostRuntime) -> Result<(), Fail> {
+    let (count, step, swapped) = (100, u32::MAX / 100, (10, 90));
+    for &kind in &[Kind::Sha1, Kind::Sha256] {
+        let bytes = index_of(rt.alloc(), kind, count, step, swapped)?;
+        let mut index = LazyFile::open(&bytes[..], kind)?;
+        for turn in 0..2 {
+            for place in 0..count {
+                let at = place_at(place, swapped);
+                let name = name_of(kind, place.wrapping_mul(step));
+                let (_, found) = find(rt.alloc(), &mut index, &name)?;
+                expect!(&rt; found == Some((at, u64::from(at) + 12)), (turn, place));
+                expect!(&rt; !index.reads_part(FIRST_BYTE, FEW), (turn, place));
+            }
+        }
+    }
+    Ok(())
+}
+
+// All names that begin with a prefix are among those that are read for it.
+#[test]
+fn all_of_a_prefix_are_found(rt: HostRuntime) -> Result<(), Fail> {
+    let bytes = index_of(rt.alloc(), Kind::Sha1, 1000, 1, NONE)?;
+    let mut index = LazyFile::open(&bytes[..], Kind::Sha1)?;
+    for &(text, first, count) in &[
+        ("4b", 0, 1000),
+        ("4b000", 0, 1000),
+        ("4b000000", 0, 256),
+        ("4b000002", 512, 256),
+        ("4b0000021", 528, 16),
+        ("4b000003e", 992, 8),
+        ("4b000003e7", 999, 1),
+        ("4b000004", 0, 0),
+    ] {
+        let prefix = Prefix::from_hex_in(Kind::Sha1, text)?;
+        let ids = matches(rt.alloc(), &mut index, &prefix)?;
+        expect!(&rt; ids.len() == count, text);
+        if let Some(id) = ids.get(0) {
+            expect!(&rt; *id == name_of(Kind::Sha1, first), text);
+        }
+    }
     Ok(())
 }
 
 // If memory runs out as names are added to a list, it has what it had, and the first of them.
 #[test]
 fn a_list_keeps_its_ids_without_memory(rt: HostRuntime) -> Result<(), Fail> {
-    let bytes = index_of_many(rt.alloc())?;
-    let index = LazyFile::open(&bytes[..], Kind::Sha1)?;
-    let bucket = index.bucket(rt.alloc(), FIRST_BYTE)?;
+    let bytes = index_of(rt.alloc(), Kind::Sha1, MANY, 1, NONE)?;
+    let mut index = LazyFile::open(&bytes[..], Kind::Sha1)?;
     let prefix = Prefix::from_hex_in(Kind::Sha1, "4b")?;
+    assert!(rt; prefix.hex_len() >= 2);
+    let bucket = index.part(rt.alloc(), &prefix, FEW)?;
     for &most in &[256, 4096, 1 << 20] {
         let heap = LocalHeap::new(rt.alloc(), most)?;
         let mut ids = Vec::new(&heap);
@@ -72,10 +198,10 @@ fn a_list_keeps_its_ids_without_memory(rt: HostRuntime) -> Result<(), Fail> {
         expect!(&rt; bucket.push_matches(&prefix, &mut ids).is_err(), most);
         for (at, id) in ids.iter().enumerate() {
             let wanted = match at.checked_sub(1) {
-                Some(at) => format!(in rt.alloc(); "4b{at:038x}")?,
-                None => format!(in rt.alloc(); "{at:040x}")?,
+                Some(at) => name_of(Kind::Sha1, u32::try_from(at).unwrap_or(0)),
+                None => Kind::Sha1.null(),
             };
-            expect!(&rt; id.eq_str(&wanted), at);
+            expect!(&rt; *id == wanted, at);
         }
     }
     Ok(())
