@@ -341,6 +341,8 @@ fn are_settled(
 fn copy_of(folder: &ObjectsFolder) -> Result<ObjectsFolder, AllocError>
     ensures path { IfOk result (λ copy. string_bytes copy.path ≡ string_bytes folder.now.path) }
     ensures kind { IfOk result (λ copy. copy.kind ≡ folder.now.kind) }
+    ensures alternates { IfOk result (λ copy. map string_bytes copy.alternates.items
+        ≡ map string_bytes folder.now.alternates.items) }
 {
     Ok(ObjectsFolder {
         path: folder.path.clone()?,
