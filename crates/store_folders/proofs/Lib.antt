@@ -1,1 +1,2 @@
 mod Clones
+mod HexBytes

@@ -1,6 +1,6 @@
 //! The loose objects in object directories, by the names of their files.
 
-ghost use Rattle.std.specs.Prelude.{◌≡◌, ◌≢◌, ◌<◌, ◌++◌, All, IfOk, IfSome, IsNone, MatchOption, None, OnOk, false, map, string_bytes};
+ghost use Rattle.std.specs.Prelude.{◌≡◌, ◌≢◌, ◌<◌, ◌++◌, ◌∷◌, All, IfOk, IfSome, IsNone, MatchOption, None, OnOk, false, map, string_bytes};
 ghost use Rattle.gix_hash.specs.Words.{hex_letter, id_digits, id_kind};
 ghost use Rattle.repositories.specs.Printed.{IsNotPrinted, IsPrinted};
 ghost use Rattle.store_folders.specs.Stores.{AreSettled, hex_of, only_of, path_in, paths_in};
@@ -285,7 +285,9 @@ fn bytes_of(which: LooseIds) -> (u8, u8)
 }
 
 // The path of the fan-out directory of a first byte.
-fn fan_out(rt: &impl AllocGlobal, path: &str, byte: u8) -> Result<String, AllocError> {
+fn fan_out(rt: &impl AllocGlobal, path: &str, byte: u8) -> Result<String, AllocError>
+    ensures { IfOk result (λ folder. string_bytes folder ≡ path.now ++ 47 ∷ hex_of byte) }
+{
     format!(in rt.alloc(); "{path}/{byte:02x}")
 }
 
