@@ -28,6 +28,11 @@ only_of (loose_ids.WithFirstByte byte) = Some byte
 abbrev pub hex_of : ℕ → List ℕ
 hex_of byte = hex_letter (byte / 16) ∷ hex_letter (byte % 16) ∷ []
 
+-- in how many fan-out directories of an object directory the loose objects that are listed can be
+abbrev pub fan_outs_of : LooseIds → ℕ
+fan_outs_of loose_ids.All = 256
+fan_outs_of (loose_ids.WithFirstByte byte) = 1
+
 -- each later change leaves other states, and the time before is given
 abbrev pub AreSettled : Option SystemTime → List FileState → Type 0
 AreSettled now states = IsSomeAnd now (λ now. All (IsSettled now) states)

@@ -1,9 +1,9 @@
 //! The loose objects in object directories, by the names of their files.
 
-ghost use Rattle.std.specs.Prelude.{◌≡◌, ◌≢◌, ◌<◌, ◌++◌, ◌∷◌, All, IfOk, IfSome, IsNone, MatchOption, None, OnOk, false, map, string_bytes};
+ghost use Rattle.std.specs.Prelude.{◌≡◌, ◌≢◌, ◌<◌, ◌*◌, ◌++◌, ◌∷◌, All, IfOk, IfSome, IsNone, MatchOption, None, OnOk, false, length, map, string_bytes, vec_len};
 ghost use Rattle.gix_hash.specs.Words.{hex_letter, id_digits, id_kind};
 ghost use Rattle.repositories.specs.Printed.{IsNotPrinted, IsPrinted};
-ghost use Rattle.store_folders.specs.Stores.{AreSettled, hex_of, only_of, path_in, paths_in};
+ghost use Rattle.store_folders.specs.Stores.{AreSettled, fan_outs_of, hex_of, only_of, path_in, paths_in};
 
 use crate::error::Error;
 use crate::listing::{
@@ -179,7 +179,10 @@ impl<R: Files + AllocGlobal> Places<'_, R> {
     }
 
     // The states of the fan-out directories that are asked for.
-    fn states(&self, which: LooseIds) -> Result<Vec<FileState>, Error> {
+    fn states(&self, which: LooseIds) -> Result<Vec<FileState>, Error>
+        ensures { IfOk result (λ states. vec_len states
+            ≡ length self.now.paths.now * fan_outs_of which) }
+    {
         let (first, last) = bytes_of(which);
         let mut states = Vec::new(self.rt.alloc());
         for path in self.paths {
