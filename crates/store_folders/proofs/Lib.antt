@@ -1,2 +1,3 @@
 mod Clones
+mod FileNames
 mod HexBytes

@@ -1,14 +1,17 @@
 -- What contracts say of object stores in directories.
-use Rattle.std.specs.Prelude.{ℕ, ◌≡◌, ◌⊎◌, ◌++◌, ◌/◌, ◌%◌, All, Bool, IsSomeAnd, List, [], ◌∷◌, Option, None, Some, false, if◌then◌else◌, bytes_eq, codes, map, string_bytes, true}
-use Rattle.std.specs.List.{Contains, list_any}
+use Rattle.std.specs.Prelude.{ℕ, ◌≡◌, ◌⊎◌, ◌++◌, ◌/◌, ◌%◌, All, Bool, IsSomeAnd, List, [], ◌∷◌, MatchOption, Option, None, Some, false, if◌then◌else◌, bytes_eq, codes, flat_map, map, option_to_list, string_bytes, true}
+use Rattle.std.specs.List.{AllZip, Contains, list_any}
 use Rattle.std.specs.declared.time.SystemTime.{SystemTime}
 use Rattle.gix_hash.specs.Words.{hex_letter}
+use Rattle.gix_hash.specs.declared.Kind.{Kind}
+use Rattle.gix_hash.specs.declared.ObjectId.{ObjectId}
 use Rattle.object_store.specs.Stores as stores
 use Rattle.object_store.specs.declared.error.Error as look_ups
 use Rattle.object_store.specs.declared.error.Error.TheVariants as look_up_errors
 use Rattle.pack_index.specs.declared.lazy_error.LazyError.{LazyError}
 use Rattle.pack_index.specs.declared.lazy_error.LazyError.TheVariants.{Read}
 use Rattle.repositories.specs.Paths.{loose_path}
+use Rattle.repositories.specs.Printed.{IsNotPrinted, IsPrinted}
 use Rattle.repositories.specs.States.{IsSettled}
 use Rattle.repositories.specs.declared.error.Error as repositories
 use Rattle.repositories.specs.declared.error.Error.TheVariants as repository_errors
@@ -32,6 +35,16 @@ hex_of byte = hex_letter (byte / 16) ∷ hex_letter (byte % 16) ∷ []
 abbrev pub fan_outs_of : LooseIds → ℕ
 fan_outs_of loose_ids.All = 256
 fan_outs_of (loose_ids.WithFirstByte byte) = 1
+
+-- the id of the loose object whose file has this name, in the directory of a first byte, if it is one's: the byte's digits and the name are the id
+abbrev pub IsLooseId : Kind → ℕ → List ℕ → Option ObjectId → Type 0
+IsLooseId kind byte name id = MatchOption id (IsNotPrinted kind (hex_of byte ++ name)) (IsPrinted kind (hex_of byte ++ name))
+
+-- what a list gets of the files of these names, in the directory of a first byte: the id of each that is a loose object's, in the order of the names
+pub record AppendsLooseIds (kind : Kind) (byte : ℕ) (names : List (List ℕ)) (old new : List ObjectId) : Type 0 where
+  pub found : List (Option ObjectId)
+  pub each : AllZip (IsLooseId kind byte) names found
+  pub all : new ≡ old ++ flat_map option_to_list found
 
 -- each later change leaves other states, and the time before is given
 abbrev pub AreSettled : Option SystemTime → List FileState → Type 0

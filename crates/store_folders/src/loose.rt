@@ -1,9 +1,9 @@
 //! The loose objects in object directories, by the names of their files.
 
-ghost use Rattle.std.specs.Prelude.{◌≡◌, ◌≢◌, ◌<◌, ◌*◌, ◌++◌, ◌∷◌, All, IfOk, IfSome, IsNone, MatchOption, None, OnOk, false, length, map, string_bytes, vec_len};
+ghost use Rattle.std.specs.Prelude.{◌≡◌, ◌≢◌, ◌<◌, ◌*◌, ◌++◌, ◌∷◌, ◌==◌, All, IfOk, IfSome, IsNone, MatchOption, None, OnOk, false, length, map, string_bytes, vec_len};
+ghost use Rattle.std.specs.List.{slice_split};
 ghost use Rattle.gix_hash.specs.Words.{hex_letter, id_digits, id_kind};
-ghost use Rattle.repositories.specs.Printed.{IsNotPrinted, IsPrinted};
-ghost use Rattle.store_folders.specs.Stores.{AreSettled, fan_outs_of, hex_of, only_of, path_in, paths_in};
+ghost use Rattle.store_folders.specs.Stores.{AppendsLooseIds, AreSettled, IsLooseId, fan_outs_of, hex_of, only_of, path_in, paths_in};
 
 use crate::error::Error;
 use crate::listing::{
@@ -320,21 +320,23 @@ fn folder_of(
 // Adds the ids of the loose objects whose files have these names, each ended by a NUL, in the
 // directory of a first byte.
 fn push_ids(kind: Kind, byte: u8, names: &[u8], ids: &mut Vec<ObjectId>) -> Result<(), AllocError>
-    ensures { OnOk result (All (λ id. id_kind id ≡ kind) ids.old.items
+    ensures kinds { OnOk result (All (λ id. id_kind id ≡ kind) ids.old.items
         → All (λ id. id_kind id ≡ kind) ids.new.items) }
+    ensures ids { OnOk result (AppendsLooseIds kind byte
+        (slice_split (λ byte. byte == 0) names.now) ids.old.items ids.new.items) }
 {
     for name in names.split(|byte| *byte == 0) {
-        if let Some(id) = loose_id(kind, byte, name) {
-            ids.push(id)?;
-        }
+        let Some(id) = loose_id(kind, byte, name) else {
+            continue;
+        };
+        ids.push(id)?;
     }
     Ok(())
 }
 
 // The id of the loose object whose file has this name, in the directory of a first byte.
 fn loose_id(kind: Kind, byte: u8, name: &[u8]) -> Option<ObjectId>
-    ensures { MatchOption result (IsNotPrinted kind (hex_of byte ++ name.now))
-        (IsPrinted kind (hex_of byte ++ name.now)) }
+    ensures { IsLooseId kind byte name.now result }
 {
     let mut text = [0; 64];
     if name.len() > 62 {

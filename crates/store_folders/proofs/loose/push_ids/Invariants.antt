@@ -1,6 +1,10 @@
-use Rattle.gix_hash.proofs.Std.{All, ◌≡◌}
+use Rattle.gix_hash.proofs.Std.{All, ◌≡◌, map}
 use Rattle.gix_hash.specs.Words.{id_kind}
+use Rattle.store_folders.specs.Stores.{AppendsLooseIds}
 use Rattle.store_folders.proofs.loose.push_ids.Given as goal
 
 abbrev pub invariant-loop-name : goal.invariant-loop-name
-invariant-loop-name l = All (λ id. id_kind id ≡ l.kind) l.fn.ids.items → All (λ id. id_kind id ≡ l.kind) l.ids.items
+invariant-loop-name l = record {
+  kinds : All (λ id. id_kind id ≡ l.kind) l.fn.ids.items → All (λ id. id_kind id ≡ l.kind) l.ids.items;
+  ids : AppendsLooseIds l.kind l.byte (map (λ name. name.now) l.yielded) l.fn.ids.items l.ids.items;
+}
