@@ -1,3 +1,4 @@
 mod Clones
 mod FileNames
+mod FolderTables
 mod HexBytes

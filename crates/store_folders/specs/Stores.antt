@@ -18,6 +18,7 @@ use Rattle.repositories.specs.declared.error.Error.TheVariants as repository_err
 use Rattle.repositories.specs.declared.state.FileState.{FileState}
 use Rattle.store_folders.specs.declared.error.Error.{Error}
 use Rattle.store_folders.specs.declared.error.Error.TheVariants.{Changed, Index, Memory, Repository}
+use Rattle.store_folders.specs.declared.loose.LooseFolder.{LooseFolder}
 use Rattle.store_folders.specs.declared.loose.LooseIds.{LooseIds}
 use Rattle.store_folders.specs.declared.loose.LooseIds.TheVariants as loose_ids
 use Rattle.store_folders.specs.declared.packs.PackPaths.{PackPaths}
@@ -54,9 +55,17 @@ AreSettled now states = IsSomeAnd now (λ now. All (IsSettled now) states)
 abbrev pub path_in : List ℕ → List ℕ → List ℕ
 path_in folder digits = folder ++ 47 ∷ loose_path digits
 
+-- whether an id is one of these, by its digits
+abbrev pub has_id : List ℕ → List (List ℕ) → Bool
+has_id digits ids = list_any (λ id. bytes_eq id digits) ids
+
+-- the ids are those of the loose objects in all of these directories
+abbrev pub AreAllOf : List LooseFolder → List (List ℕ) → Type 0
+AreAllOf folders ids = (digits : List ℕ) → has_id digits ids ≡ list_any (λ folder. has_id digits folder.table.ids) folders
+
 -- the paths of the files that an object has in a directory where the loose objects `ids` are listed: one, or none
 abbrev pub paths_in : List ℕ → List (List ℕ) → List ℕ → List (List ℕ)
-paths_in folder ids digits = if list_any (λ id. bytes_eq id digits) ids then path_in folder digits ∷ [] else []
+paths_in folder ids digits = if has_id digits ids then path_in folder digits ∷ [] else []
 
 -- the path of a pack index
 abbrev pub index_path : PackPaths → List ℕ

@@ -3,7 +3,7 @@
 ghost use Rattle.std.specs.Prelude.{◌≡◌, ◌≢◌, ◌<◌, ◌*◌, ◌++◌, ◌∷◌, ◌==◌, All, IfOk, IfSome, IsNone, MatchOption, None, OnOk, false, length, map, string_bytes, vec_len};
 ghost use Rattle.std.specs.List.{slice_split};
 ghost use Rattle.gix_hash.specs.Words.{hex_letter, id_digits, id_kind};
-ghost use Rattle.store_folders.specs.Stores.{AppendsLooseIds, AreSettled, IsLooseId, fan_outs_of, hex_of, only_of, path_in, paths_in};
+ghost use Rattle.store_folders.specs.Stores.{AppendsLooseIds, AreAllOf, AreSettled, IsLooseId, fan_outs_of, hex_of, only_of, path_in, paths_in};
 
 use crate::error::Error;
 use crate::listing::{
@@ -57,6 +57,7 @@ pub(crate) struct LooseObjects {
     states: Option<Vec<FileState>>,
     ghost of_kind: { table.kind ≡ kind },
     ghost folders_of_kind: { All (λ folder. folder.table.kind ≡ kind) folders.items },
+    ghost all: { AreAllOf folders.items table.ids },
 }
 
 impl LooseObjects {
@@ -145,7 +146,8 @@ pub(crate) fn list_loose<R: Files + AllocGlobal>(
 // The ids of all loose objects in object directories.
 fn table_of(alloc: Global, folders: &[LooseFolder], kind: Kind) -> Result<LooseTable, AllocError>
     requires { All (λ folder. folder.table.kind ≡ kind) folders.now }
-    ensures { IfOk result (λ table. table.kind ≡ kind) }
+    ensures kind { IfOk result (λ table. table.kind ≡ kind) }
+    ensures all { IfOk result (λ table. AreAllOf folders.now table.ids) }
 {
     let mut ids = Vec::new(alloc);
     for folder in folders {
