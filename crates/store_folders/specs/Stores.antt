@@ -67,6 +67,10 @@ AreAllOf folders ids = (digits : List ℕ) → has_id digits ids ≡ list_any (�
 abbrev pub paths_in : List ℕ → List (List ℕ) → List ℕ → List (List ℕ)
 paths_in folder ids digits = if has_id digits ids then path_in folder digits ∷ [] else []
 
+-- the paths of the files that an object has in several directories, in their order
+abbrev pub paths_in_all : List LooseFolder → List ℕ → List (List ℕ)
+paths_in_all folders digits = flat_map (λ folder. paths_in (string_bytes folder.path) folder.table.ids digits) folders
+
 -- the path of a pack index
 abbrev pub index_path : PackPaths → List ℕ
 index_path paths = string_bytes paths.index

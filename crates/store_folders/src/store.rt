@@ -1,7 +1,7 @@
 //! An object store in directories.
 
-ghost use Rattle.std.specs.Prelude.{◌≡◌, ◌<◌, ◌↔◌, ◌++◌, All, IfErr, IfOk, IsOk, IsTrue, OnOk, [], false, flat_map, length, map, slice_index_or, string_bytes, true};
-ghost use Rattle.gix_hash.specs.Words.{hex_len_of};
+ghost use Rattle.std.specs.Prelude.{◌≡◌, ◌<◌, ◌↔◌, ◌++◌, All, Contains, IfErr, IfOk, IsOk, IsTrue, OnOk, [], false, length, map, slice_index_or, string_bytes, true, vec_len};
+ghost use Rattle.gix_hash.specs.Words.{hex_len_of, id_digits};
 ghost use Rattle.store_folders.specs.Stores.{AreSettled, IsChanged, index_path, of_repository, pack_path_of};
 
 use crate::error::Error;
@@ -427,12 +427,11 @@ impl<R: Files<File = File> + AllocGlobal + Clone + Drop> Reopen for FolderStore<
 }
 
 impl<R: Files<File = File> + AllocGlobal + Clone + Drop> StorePaths for FolderStore<R> {
-    ghost use Rattle.store_folders.specs.Stores.{paths_in};
+    ghost use Rattle.store_folders.specs.Stores.{paths_in_all};
 
     ghost pack_path = { λ store pack. slice_index_or (map pack_path_of store.packs.items) pack [] };
 
-    ghost loose_paths = { λ store digits. flat_map (λ folder. paths_in (string_bytes folder.path)
-        folder.table.ids digits) store.loose.folders.items };
+    ghost loose_paths = { λ store. paths_in_all store.loose.folders.items };
 
     fn pack_path(&self, pack: usize) -> &str {
         match self.packs.get(pack) {
@@ -441,8 +440,13 @@ impl<R: Files<File = File> + AllocGlobal + Clone + Drop> StorePaths for FolderSt
         }
     }
 
-    // In the order of the directories.
-    fn loose_paths(&self, id: &ObjectId) -> Result<Vec<String>, AllocError> {
+    // In the order of the directories. There are some if and only if the id is a loose object's.
+    fn loose_paths(&self, id: &ObjectId) -> Result<Vec<String>, AllocError>
+        ensures paths { IfOk result (λ paths. map string_bytes paths.items
+            ≡ paths_in_all self.now.loose.folders.items (id_digits id.now)) }
+        ensures some { IfOk result (λ paths. (0 < vec_len paths)
+            ↔ Contains self.now.loose.table.ids (id_digits id.now)) }
+    {
         let alloc = self.rt.alloc();
         let mut paths = Vec::new(alloc);
         for folder in &self.loose.folders {

@@ -1,13 +1,10 @@
-use Rattle.gix_hash.proofs.Std.{◌≡◌, ◌∙◌, ◌+◌, ◌<◌, ℕ, List, [], ◌∷◌, ◌++◌, ap, arith, flat_map, get_or, length, string_bytes, sym, take, flat_map_more, take_more}
+use Rattle.gix_hash.proofs.Std.{◌∙◌, ◌+◌, ◌<◌, ℕ, List, ◌++◌, Decides, ap, arith, flat_map, length, length-map, string_bytes, subst, sym, take, take_all}
 use Rattle.gix_hash.specs.Words.{id_digits}
-use Rattle.store_folders.specs.Stores.{paths_in}
+use Rattle.object_store.proofs.LooseParts.{any_decides}
+use Rattle.store_folders.specs.Stores.{paths_in, paths_in_all}
 use Rattle.store_folders.specs.declared.loose.LooseFolder.{LooseFolder}
+use Rattle.store_folders.proofs.FolderTables.{has_path, one_folder}
 use Rattle.store_folders.proofs.store.FolderStoreStorePaths.loose_paths.Goals as goal
-
--- the paths in one more directory
-more : {X : Type 0} (f : X → List (List ℕ)) (xs : List X) (i : ℕ) (x : X) → i < length xs → x ≡ get_or xs i x
-    → flat_map f (take i xs) ++ f x ≡ flat_map f (take (i + 1) xs)
-more f xs i x below is = flat_map_more f [] (take i xs) x ∙ ap (λ y. flat_map f (take i xs ++ y ∷ [])) is ∙ ap (flat_map f) (sym (take_more xs i x below))
 
 pub loop-folder-preserved : goal.loop-folder-preserved
 loop-folder-preserved g c =
@@ -16,5 +13,18 @@ loop-folder-preserved g c =
     let at : ℕ = c.loop-folder.folder-index in
     c.in_ok-push_path.ensures
     ∙ ap (λ paths. paths ++ Paths c.folder-item.result) (c.loop-folder.invariant ∙ ap (λ folders. flat_map Paths (take at folders)) (sym same))
-    ∙ more Paths c.deref-folder-items.result.now at c.folder-item.result (omega arith) c.folder-item.is
+    ∙ one_folder Paths c.deref-folder-items.result.now at c.folder-item.result (omega arith) c.folder-item.is
     ∙ ap (λ folders. flat_map Paths (take (at + 1) folders)) same
+
+pub returns-clause-some : goal.returns-clause-some
+returns-clause-some g c =
+    let digits = id_digits c.args.id.now in
+    let loose = c.args.self.now.loose in
+    let folders = loose.folders.items in
+    let whole = take_all c.loop-folder.folder-index folders (omega (arith, ap length c.deref-folder-items.ensures.value)) in
+    let many = sym (length-map c.loop-folder.paths.items string_bytes) ∙ ap length (c.loop-folder.invariant ∙ ap (λ all. paths_in_all all digits) whole) in
+    let has = subst (λ any. Decides any (0 < length (paths_in_all folders digits))) (sym (loose.all digits)) (has_path folders digits) in
+    let contains = any_decides loose.table.ids digits in (
+      λ some. contains.0 (has.1 (omega (arith, many, some))),
+      λ is. omega (arith, many, has.0 (contains.1 is)),
+    )
