@@ -68,8 +68,8 @@ def error_of(text):
 
 
 def finds(name, ids, *words, errors="", **how):
-    """A case of `names` that finds these ids."""
-    return name, (shortest(sorted(ids)), errors, 2 if errors else 0), ("names", *words), how
+    """A case of `abbreviate` that finds these ids."""
+    return name, (shortest(sorted(ids)), errors, 2 if errors else 0), ("abbreviate", *words), how
 
 
 def fails(name, text, *words, **how):
@@ -223,7 +223,7 @@ def names_in_errors(room):
         text = f"{name}: File name too long (os error 36)"
         yield fails(f"an error about a name of {len(name)} bytes", text, "check", name, cwd=room)
         if len(name) < 10_000:
-            yield fails(f"an error about a folder of {len(name)} bytes", text, "names", "--objects", name, cwd=room)
+            yield fails(f"an error about a folder of {len(name)} bytes", text, "abbreviate", "--objects", name, cwd=room)
 
 
 def names_of_files(room):
@@ -257,7 +257,7 @@ def counts(room):
     errors = "".join(error_of(f"objects/pack/{name}.idx: {text}, skipped") for name, text in sorted(texts.items()))
     if by_git := listed(room):
         raise ValueError(f"git lists {len(by_git)} ids of indexes with wrong counts")
-    for words in (("names",), ("find", "00"), ("where", "ff")):
+    for words in (("abbreviate",), ("find", "00"), ("locate", "ff")):
         yield f"{words[0]} over {len(texts)} wrong counts", ("", errors, 2), (*words, "--objects", "objects"), {"cwd": room}
 
 
@@ -294,7 +294,7 @@ def skipped(room):
     add_repository(room, loose=[made.LOOSE])
     given = (b"4bff\n" + b"ff\n" * (MANY_LINES - 2) + b"4b\n") * 2
     for count in range(4):
-        for words, found in (("find",), [made.LOOSE] * 2), (("where",), [f"{made.LOOSE} objects/4b/{made.LOOSE[2:]}"] * 2), (("names",), None):
+        for words, found in (("find",), [made.LOOSE] * 2), (("locate",), [f"{made.LOOSE} objects/4b/{made.LOOSE[2:]}"] * 2), (("abbreviate",), None):
             first, last = (f"4bff {found[0]}\n", f"4b {found[1]}\n") if found else ("4bff\n", "4bff\n")
             printed = (first + "ff missing\n" * (MANY_LINES - 2) + last) * 2
             name = f"{words[0]} --stdin of {2 * MANY_LINES} lines, {count} things skipped"
@@ -310,7 +310,7 @@ def much_found(room):
     add_pack(room / "objects", "pack-0", index)
     listed_lines = (line.split() for line in git(room, "show-index", given=index).splitlines())
     places = {id: f"{id} objects/pack/pack-0.pack {offset}" for offset, id, _ in listed_lines}
-    asked = [("find", size, str, 6) for size in (2, 3, 4)] + [("where", size, places.get, 16) for size in (2, 3)]
+    asked = [("find", size, str, 6) for size in (2, 3, 4)] + [("locate", size, places.get, 16) for size in (2, 3)]
     for command, size, printed, most in asked:
         prefixes = [f"{number:0{size}x}" for number in range(16**size)]
         random.Random(size).shuffle(prefixes)
@@ -327,8 +327,8 @@ def much_found(room):
 def damaged_asked(room):
     """Pack indexes that are damaged, for each command, also with --stdin."""
     first, second = made.TWO.values()
-    commands = [("find", "4b"), ("where", "4b"), ("names",)]
-    commands += [(*words, "--stdin") for words in (("find",), ("find", "--one"), ("where",), ("where", "--one"), ("names",))]
+    commands = [("find", "4b"), ("locate", "4b"), ("abbreviate",)]
+    commands += [(*words, "--stdin") for words in (("find",), ("find", "--one"), ("locate",), ("locate", "--one"), ("abbreviate",))]
     indexes = [(changed(first, at, value), why, True) for at, value, why in made.BAD_HEADS] + [(first[: LEAST - 1], TOO_FEW, True)]
     indexes += [(changed(first, at, value), why, False) for at, value, why in made.DAMAGED]
     add_pack(room, "pack-2", second)
@@ -336,14 +336,14 @@ def damaged_asked(room):
         add_pack(room, "pack-1", index)
         error = error_of(f"./pack/pack-1.idx: {why}{', skipped' if is_skipped else ''}")
         for words in commands:
-            # (`names` prints the ids with the bytes before)
-            before = f"0000 {'0' * 40}\n" if words == ("names",) else ""
+            # (`abbreviate` prints the ids with the bytes before)
+            before = f"0000 {'0' * 40}\n" if words == ("abbreviate",) else ""
             wanted = answers_of_second(words) if is_skipped else before, error, 2
             yield f"{' '.join(words)}: {why}", wanted, (*words, "--objects", "."), {"cwd": room, "given": b"4b825d\n"}
     # (the second name of the second index has the third 8-byte offset of two)
     add_pack(room, "pack-1", first)
     add_pack(room, "pack-2", changed(second, 1032 + 3 * (20 + 4) + 4 + 3, 2))
-    yield fails("where: no offset", "./pack/pack-2.idx: the object at position 1 has no offset", "where", made.PACKED, "--objects", ".", cwd=room)
+    yield fails("locate: no offset", "./pack/pack-2.idx: the object at position 1 has no offset", "locate", made.PACKED, "--objects", ".", cwd=room)
 
 
 def answers_of_second(words):
@@ -352,13 +352,13 @@ def answers_of_second(words):
     places = [f"{made.PACKED} ./pack/pack-2.pack {made.LAST_OFFSET}", f"{made.BOTH} ./pack/pack-2.pack 3074"]
     lines = {
         ("find", "4b"): ids[1:],
-        ("where", "4b"): places,
-        ("names",): shortest(ids).splitlines(),
+        ("locate", "4b"): places,
+        ("abbreviate",): shortest(ids).splitlines(),
         ("find", "--stdin"): [f"4b825d {made.PACKED}"],
         ("find", "--one", "--stdin"): [made.PACKED],
-        ("where", "--stdin"): [f"4b825d {places[0]}"],
-        ("where", "--one", "--stdin"): [places[0]],
-        ("names", "--stdin"): ["4b82"],
+        ("locate", "--stdin"): [f"4b825d {places[0]}"],
+        ("locate", "--one", "--stdin"): [places[0]],
+        ("abbreviate", "--stdin"): ["4b82"],
     }
     return "".join(f"{line}\n" for line in lines[words])
 
@@ -393,20 +393,20 @@ def no_stores(room):
     reasons = [("none", NO_FILE), ("link", NO_FILE), ("file", "not a directory"), ("file/x", NO_FOLDER)]
     for path, why in [*reasons, ("loop/pack", LOOP), ("loop/x/pack", LOOP)]:
         name = path.removesuffix("/pack")
-        yield fails(f"--objects {name}", f"{path}: {why}", "names", "--objects", name, cwd=room)
+        yield fails(f"--objects {name}", f"{path}: {why}", "abbreviate", "--objects", name, cwd=room)
     for name, better in (("r", "r/.git/objects"), ("r/.git", "r/.git/objects"), ("two", "two/objects")):
-        yield fails(f"--objects {name}", f"{name}: no object store: try {better}", "names", "--objects", name, cwd=room)
+        yield fails(f"--objects {name}", f"{name}: no object store: try {better}", "abbreviate", "--objects", name, cwd=room)
     for name in ("only_00", "only_f0", "only_ff", "only_info", "r/.git/objects"):
-        yield f"--objects {name}", ("", "", 1), ("names", "--objects", name), {"cwd": room}
-    yield fails("--objects beside a folder", f"config_folder/objects/../config: {IS_FOLDER}", "names", "--objects", "config_folder/objects", cwd=room)
+        yield f"--objects {name}", ("", "", 1), ("abbreviate", "--objects", name), {"cwd": room}
+    yield fails("--objects beside a folder", f"config_folder/objects/../config: {IS_FOLDER}", "abbreviate", "--objects", "config_folder/objects", cwd=room)
     for name, path in (("file_22", "file_22/22"), ("file_pack", "file_pack/pack")):
         write(room / path)
         env = {"GIT_OBJECT_DIRECTORY": str(room / name)}
-        yield fails(f"$GIT_OBJECT_DIRECTORY {name}", f"{room}/{path}: {NO_FOLDER}", "names", cwd=room / "r", env=env)
+        yield fails(f"$GIT_OBJECT_DIRECTORY {name}", f"{room}/{path}: {NO_FOLDER}", "abbreviate", cwd=room / "r", env=env)
     for name in ("list", *(f"file_{name}" for name in ("pack", "4b", "00", "ff", "info"))):
-        yield fails(f"--objects {name}", f"{name}: no object store", "names", "--objects", name, cwd=room)
+        yield fails(f"--objects {name}", f"{name}: no object store", "abbreviate", "--objects", name, cwd=room)
     (room / "locked").chmod(0)
-    words = ("names", "--objects", "locked/objects")
+    words = ("abbreviate", "--objects", "locked/objects")
     yield fails("--objects in a locked folder", f"locked/objects/pack: {LOCKED}", *words, cwd=room, around=POWERLESS)
     (room / "locked").chmod(0o700)
 
@@ -436,11 +436,11 @@ def files_in_each_way(room):
                     raise ValueError(f"git lists other ids with {title}")
                 yield finds(title, [id], **how)
                 continue
-            yield fails(title, f"{folder}/{name}: {why}", "names", around=POWERLESS if way == "locked" else (), **how)
+            yield fails(title, f"{folder}/{name}: {why}", "abbreviate", around=POWERLESS if way == "locked" else (), **how)
     folder = room / "locked info"
     add_repository(folder, loose=[id])
     (folder / "objects" / "info").chmod(0)
-    yield fails("info: locked", f"{folder}/objects/info/alternates: {LOCKED}", "names", around=POWERLESS, cwd=folder)
+    yield fails("info: locked", f"{folder}/objects/info/alternates: {LOCKED}", "abbreviate", around=POWERLESS, cwd=folder)
     (folder / "objects" / "info").chmod(0o700)
 
 
@@ -453,11 +453,11 @@ def links_to_nothing(room):
     for size in (2, 3, 4, 5, 39, 40):
         how = {"cwd": room, "given": f"ff\n{made.BOTH[:size]}\n".encode()}
         for words in ((made.BOTH[:size],), ("--stdin",)):
-            name = f"where {words[0]:.7} over a link to nothing, {size} digits"
-            yield fails(name, f"objects/4b/{path.name}: {NO_FILE}", "where", *words, "--objects", "objects", **how)
+            name = f"locate {words[0]:.7} over a link to nothing, {size} digits"
+            yield fails(name, f"objects/4b/{path.name}: {NO_FILE}", "locate", *words, "--objects", "objects", **how)
         if size > 2:
             wanted = f"{made.LOOSE} objects/4b/{made.LOOSE[2:]}\n", "", 0
-            yield f"where of {size} digits beside it", wanted, ("where", made.LOOSE[:size], "--objects", "objects"), {"cwd": room}
+            yield f"locate of {size} digits beside it", wanted, ("locate", made.LOOSE[:size], "--objects", "objects"), {"cwd": room}
 
 
 def links_among_others(room):
@@ -468,28 +468,28 @@ def links_among_others(room):
         add_objects(room / f"link{at}", ids[:at] + ids[at + 1 :])
         path = f"link{at}/4b/{ids[at][2:]}"
         (room / path).symlink_to("gone")
-        yield fails(f"where over a link to nothing after {at} others", f"{path}: {NO_FILE}", "where", "4b", "--objects", f"link{at}", cwd=room)
+        yield fails(f"locate over a link to nothing after {at} others", f"{path}: {NO_FILE}", "locate", "4b", "--objects", f"link{at}", cwd=room)
     (room / "link1" / "info").mkdir()
     write(room / "link1" / "info" / "alternates", b"../lent\n")
     add_objects(room / "lent", ids[1:])
     path = f"link1/4b/{ids[1][2:]}"
-    yield fails("where over a link to nothing whose object an alternate has", f"{path}: {NO_FILE}", "where", ids[1], "--objects", "link1", cwd=room)
+    yield fails("locate over a link to nothing whose object an alternate has", f"{path}: {NO_FILE}", "locate", ids[1], "--objects", "link1", cwd=room)
     # (a file is read by as many bytes as there is room for, a pipe by as many as were written at once)
     write(room / "lines", b"ff\n" * 2000 + f"{ids[1]}\n".encode())
     how = {"cwd": room, "around": ("sh", "-c", 'exec "$@" < lines', "sh")}
-    yield fails("where --stdin of a link to nothing after 2,000 lines", f"{path}: {NO_FILE}", "where", "--stdin", "--objects", "link1", **how)
+    yield fails("locate --stdin of a link to nothing after 2,000 lines", f"{path}: {NO_FILE}", "locate", "--stdin", "--objects", "link1", **how)
     for way, target, why in [("itself", ids[0][2:], LOOP), ("a locked directory", "../locked/x", LOCKED)]:
         add_objects(room / way, ids[1:])
         write(room / way / "locked" / "x")
         (room / way / "locked").chmod(0)
         path = f"{way}/4b/{ids[0][2:]}"
         (room / path).symlink_to(target)
-        yield fails(f"where over a link to {way}", f"{path}: {why}", "where", "4b", "--objects", way, cwd=room, around=POWERLESS)
+        yield fails(f"locate over a link to {way}", f"{path}: {why}", "locate", "4b", "--objects", way, cwd=room, around=POWERLESS)
         (room / way / "locked").chmod(0o700)
     add_objects(room / "listed", ids[:1])
     (room / "listed" / "4b").chmod(0o600)
     text = f"listed/4b/{ids[0][2:]}: {LOCKED}"
-    yield fails("where in a directory that may be listed alone", text, "where", "4b", "--objects", "listed", cwd=room, around=POWERLESS)
+    yield fails("locate in a directory that may be listed alone", text, "locate", "4b", "--objects", "listed", cwd=room, around=POWERLESS)
     (room / "listed" / "4b").chmod(0o700)
 
 
@@ -580,7 +580,7 @@ def equal_beginnings(room):
     names = [line.split() for line in shortest(ids).splitlines()][::5]
     how = {"cwd": room, "given": "".join(f"{id}\n" for _, id in names).encode(), "limits": [f"--cpu={SECONDS}"]}
     wanted = "".join(f"{name}\n" for name, _ in names), "", 0
-    yield f"names --stdin of {len(names)} ids in {SECONDS} s", wanted, ("names", "--stdin", "--objects", "objects"), how
+    yield f"abbreviate --stdin of {len(names)} ids in {SECONDS} s", wanted, ("abbreviate", "--stdin", "--objects", "objects"), how
 
 
 def many_names(room):
@@ -598,7 +598,7 @@ def many_names(room):
     for name, end in itertools.product(names[1:], (".idx", ".pack")):
         os.link(f"{folder}/{names[0]}{end}", f"{folder}/{name}{end}")
     lines = "".join(f"{made.BOTH} packs/pack/{name}.pack 3072\n" for name in names)
-    yield f"{len(names)} packs", (lines, "", 0), ("where", "4b", "--objects", "packs"), {"cwd": room}
+    yield f"{len(names)} packs", (lines, "", 0), ("locate", "4b", "--objects", "packs"), {"cwd": room}
     ids = sorted({f"4b{id[2:]}" for id in sorted_ids(100_000, [20])})
     add_pack(room / "index", "pack-0", index_of(ids))
     yield f"find of {len(ids)} ids", ("".join(f"{id}\n" for id in ids), "", 0), ("find", "4b", "--objects", "index"), {"cwd": room}
@@ -623,7 +623,7 @@ def long_index(room):
         wanted = "".join(f"{id}\n" for id, _ in places), "", 0
         yield f"find {prefix} in an index of 24 MiB", wanted, ("find", prefix, "--objects", "objects"), how
         wanted = "".join(f"{id} objects/pack/pack-0.pack {offset}\n" for id, offset in places), "", 0
-        yield f"where {prefix} in an index of 24 MiB", wanted, ("where", prefix, "--objects", "objects"), how
+        yield f"locate {prefix} in an index of 24 MiB", wanted, ("locate", prefix, "--objects", "objects"), how
 
 
 def lent(room):
@@ -637,15 +637,15 @@ def lent(room):
     write(quoted / "info" / "alternates", b"# none\n\n../../main/objects\n../../third/objects\n../../third/../third/objects\n")
     packed = [f"{made.BOTH} main/objects/pack/pack-1.pack 3073\n", f"{made.BOTH} {quoted}/pack/pack-1.pack 4294967308\n"]
     loose = [f"{made.BOTH} {objects}/4b/{made.BOTH[2:]}\n" for objects in ("main/objects", quoted, third)]
-    yield "where over alternates", ("".join(packed + loose), "", 0), ("where", "4b9", "--objects", "main/objects"), {"cwd": room}
+    yield "locate over alternates", ("".join(packed + loose), "", 0), ("locate", "4b9", "--objects", "main/objects"), {"cwd": room}
     how = {"cwd": room, "env": {"GIT_OBJECT_DIRECTORY": "main/objects", "GIT_ALTERNATE_OBJECT_DIRECTORIES": "third/objects"}}
     wanted = "".join([*packed, loose[0], loose[2], loose[1]])
-    yield "alternates of the environment first", (wanted, "", 0), ("where", "4b9"), how
+    yield "alternates of the environment first", (wanted, "", 0), ("locate", "4b9"), how
     odd = room / "\udcff"
     add_objects(odd / "objects", [made.BOTH])
     write(odd / "objects" / "info" / "alternates", b".\n../objects\n")
     wanted = f"{made.BOTH} objects/4b/{made.BOTH[2:]}\n"
-    yield "an alternate that is its own, in a directory that is not UTF-8", (wanted, "", 0), ("where", "4b9", "--objects", "objects"), {"cwd": odd}
+    yield "an alternate that is its own, in a directory that is not UTF-8", (wanted, "", 0), ("locate", "4b9", "--objects", "objects"), {"cwd": odd}
 
 
 def links(room):
@@ -655,13 +655,13 @@ def links(room):
     write(room / "objects" / "info" / "alternates", b"../lent\n")
     write(room / "lent" / "ff" / "none")
     (room / "lent" / "ff" / ("0" * 38)).symlink_to("gone")
-    yield "the id of zeros", (f"{'0' * 40} objects/00/{'0' * 38}\n", "", 0), ("where", "00", *objects), {"cwd": room}
-    yield fails("a link to nothing in an alternate", f"{room}/lent/ff/{'0' * 38}: {NO_FILE}", "where", "ff", *objects, cwd=room)
+    yield "the id of zeros", (f"{'0' * 40} objects/00/{'0' * 38}\n", "", 0), ("locate", "00", *objects), {"cwd": room}
+    yield fails("a link to nothing in an alternate", f"{room}/lent/ff/{'0' * 38}: {NO_FILE}", "locate", "ff", *objects, cwd=room)
     names = [f"pack-{number:02}" for number in range(70)]
     for name in names:
         add_pack(room / "many", name, plain_index([made.BOTH]))
     lines = "".join(f"{made.BOTH} many/pack/{name}.pack 3072\n" for name in names)
-    yield "70 packs", (lines, "", 0), ("where", "4b", "--objects", "many"), {"cwd": room}
+    yield "70 packs", (lines, "", 0), ("locate", "4b", "--objects", "many"), {"cwd": room}
     for path, target, why in [("many/pack/pack-00.pack", "pack-00.pack", LOOP), ("many/pack/pack-69.idx", "gone", NO_FILE)]:
         (room / path).unlink()
         (room / path).symlink_to(target)
@@ -739,7 +739,7 @@ def environments(room):
     add_repository(room / "work" / ".git", loose=ids[:1])
     yield finds(f"--objects .git/objects with {values}", ids[:1], "--objects", ".git/objects", cwd=room / "work", env=values)
     for name in values:
-        yield fails(f"${name} that is not UTF-8", f"{name}: not UTF-8", "names", cwd=room / "own", env={name: "../other\udcff"})
+        yield fails(f"${name} that is not UTF-8", f"{name}: not UTF-8", "abbreviate", cwd=room / "own", env={name: "../other\udcff"})
 
 
 CASES = [endings, many_files, long_files, cut, long_offsets, packs_beside, names_in_errors, names_of_files, counts, last_lines, prefixes]

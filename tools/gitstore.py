@@ -184,7 +184,7 @@ def answered_one(ids, prefixes, printed=str):
 
 
 def shortest(ids):
-    """The lines of `names` for sorted ids: each after its shortest beginning, of 4 digits or more, that no other one has."""
+    """The lines of `abbreviate` for sorted ids: each after its shortest beginning, of 4 digits or more, that no other one has."""
     shared = [len(os.path.commonprefix(pair)) for pair in zip(ids, ids[1:])]
     needed = [max(pair) + 1 for pair in zip([0, *shared], [*shared, 0])]
     return "".join(f"{id[: max(4, size)]} {id}\n" for id, size in zip(ids, needed))
@@ -196,7 +196,7 @@ def listed(cwd, env=None):
 
 
 def places(objects, ids):
-    """The lines of `where` for ids of an objects folder: packs by `git show-index`, then loose files."""
+    """The lines of `locate` for ids of an objects folder: packs by `git show-index`, then loose files."""
     lines = {id: [] for id in ids}
     for index in sorted(Path(objects, "pack").glob("*.idx")):
         kind = f"--object-format={'sha1' if len(ids[0]) == 40 else 'sha256'}"

@@ -160,7 +160,7 @@ def mended_later(program, room):
     write(room / "objects" / "ff" / "none")
     (room / path).symlink_to("gone")
     index.with_name("later.idx").unlink()
-    with talk(program, room, "where", stderr=subprocess.PIPE) as child:
+    with talk(program, room, "locate", stderr=subprocess.PIPE) as child:
         wrong = asked_twice(child, b"00\n", b"00 missing\n")
         yield "a link to nothing that is asked for later", wrong or ends(child, b"ff\n", ("", error_of(f"{path}: {NO_FILE}"), 2))
 

@@ -116,7 +116,7 @@ class Stores(unittest.TestCase):
         self.assertEqual((store.kind, [str(id) for id in store]), (KINDS[kind], ids))
         for least in 4, 9:
             wanted = [(id[: max(least, len(names[id]))], id) for id in ids]
-            self.assertEqual([(name, str(id)) for name, id in store.names(least)], wanted)
+            self.assertEqual([(name, str(id)) for name, id in store.abbreviations(least)], wanted)
             for name, id in rng.sample(wanted, min(size, len(ids))):
                 self.assertEqual(store.abbreviate(Id(id), least), name)
         prefixes = [*some_prefixes(ids, 20 * size, 2)]
@@ -182,7 +182,7 @@ class Stores(unittest.TestCase):
                 asked += 1
                 if asked % 10 == 0:
                     self.assertEqual(list(store.find_many(ids)), [(id, [id]) for id in ids])
-                    self.assertEqual(list(store.names()), names)
+                    self.assertEqual(list(store.abbreviations()), names)
             moved.result()
 
     def test_new_objects(self):
@@ -262,12 +262,12 @@ class Stores(unittest.TestCase):
                 self.assertEqual(threading.current_thread(), threading.main_thread())
                 yield store.abbreviate(Id(id))
 
-        for (prefix, found), (name, id) in zip(store.find_many(prefixes()), store.names()):
+        for (prefix, found), (name, id) in zip(store.find_many(prefixes()), store.abbreviations()):
             self.assertEqual((found, prefix), ([id], name))
             self.assertEqual([it.id for it in store.locate(prefix)], found)
             self.assertEqual(next(store.find_many([prefix])), (prefix, found))
         self.assertEqual(len(children()), 3)
-        many, other, names = store.find_many(ids * 100), store.find_many(ids * 100), store.names()
+        many, other, names = store.find_many(ids * 100), store.find_many(ids * 100), store.abbreviations()
         next(many), next(other), next(names)
         self.assertGreaterEqual(len(children()), 5)
         many.close()
@@ -294,7 +294,7 @@ class Stores(unittest.TestCase):
     def test_killed(self):
         bare, ids = self.blobs(packed=50, loose=5)
         store = self.opened(bare)
-        for call, command in ((store.find, "find"), (store.locate, "where"), (lambda id: store.abbreviate(Id(id)), "names")):
+        for call, command in ((store.find, "find"), (store.locate, "locate"), (lambda id: store.abbreviate(Id(id)), "abbreviate")):
             for _ in range(5):
                 self.assertTrue(call(ids[7]))
                 for pid in children():
@@ -310,7 +310,7 @@ class Stores(unittest.TestCase):
             list(many)
         # (of ids that end within a line, none is made up)
         self.blobs("many", packed=30000)
-        names = self.opened(self.room / "many").names()
+        names = self.opened(self.room / "many").abbreviations()
         first, running = next(names), children()
         for pid in running:
             os.kill(pid, signal.SIGKILL)
@@ -359,7 +359,7 @@ class Stores(unittest.TestCase):
                 ended.append(call)
 
             calls = [lambda: store.find("00"), lambda: store.locate(ids[3]), lambda: store.abbreviate(Id(ids[3]))] * 2
-            calls += [lambda: list(store.find_many(ids)), lambda: list(store.names())]
+            calls += [lambda: list(store.find_many(ids)), lambda: list(store.abbreviations())]
             threads = [begun(lambda call=call: ask(call)) for call in calls]
             many = store.find_many(ids * 100)
             next(many)
@@ -384,7 +384,7 @@ class Stores(unittest.TestCase):
         self.assertEqual((children(), len(os.listdir("/proc/self/fd"))), ([], files))
         for call in (store.find, store.resolve, store.locate, lambda it: store.abbreviate(Id(it)), lambda it: Id(it) in store):
             self.assertRaisesRegex(ValueError, "^the store is closed$", call, ids[0])
-        for iterator in (store.names(), store.find_many(ids), iter(store)):
+        for iterator in (store.abbreviations(), store.find_many(ids), iter(store)):
             self.assertRaisesRegex(ValueError, "^the store is closed$", next, iterator)
         self.assertEqual((store.kind, store.skipped), (Kind.SHA1, []))
 
@@ -393,7 +393,7 @@ class Stores(unittest.TestCase):
         store, id = self.opened(bare), Id(ids[3])
         many = store.find_many(ids * 100)
         next(many), store.find(id)
-        running, names = children(), store.names()
+        running, names = children(), store.abbreviations()
         next(names)
 
         def use():
@@ -419,7 +419,7 @@ class Stores(unittest.TestCase):
                     wrong.append(id)
 
         threads = [begun(ask) for _ in range(3)]
-        many, names = store.find_many(ids * 100), store.names()
+        many, names = store.find_many(ids * 100), store.abbreviations()
         next(many), next(names)
         statuses = [forked(use if at % 2 else lambda: store.close() is None) for at in range(20)]
         is_over.set()
@@ -481,7 +481,7 @@ class Stores(unittest.TestCase):
         with warnings.catch_warnings(record=True) as caught:
             warnings.simplefilter("always")
             store = self.opened(bare)
-            self.assertEqual((store.find(ids[3]), len(store.locate(ids[3])), len([*store.names()])), ([Id(ids[3])], 1, len(ids)))
+            self.assertEqual((store.find(ids[3]), len(store.locate(ids[3])), len([*store.abbreviations()])), ([Id(ids[3])], 1, len(ids)))
             self.assertEqual([found for _, [found] in store.find_many(ids)], [Id(id) for id in ids])
         self.assertEqual([str(it.message) for it in caught], store.skipped)
         self.assertEqual({(it.category, it.filename) for it in caught}, {(SkippedWarning, __file__)})
@@ -553,11 +553,11 @@ class Stores(unittest.TestCase):
             ("printf '0000 01'; kill -9 $$", "packtool was ended by the signal 9"),
             ("echo packtool: /x: no >&2; echo packtool: /y: gone >&2; exit 2", "/y: gone"),
         ):  # fmt: skip
-            (self.room / "wrong").write_text(f'#!/bin/sh\ncase $1 in names) {names} ;; *) exec {program} "$@" ;; esac\n')
+            (self.room / "wrong").write_text(f'#!/bin/sh\ncase $1 in abbreviate) {names} ;; *) exec {program} "$@" ;; esac\n')
             (self.room / "wrong").chmod(0o755)
             os.environ.update(PACKTOOL=str(self.room / "wrong"), PATH=path)
             with Store(bare) as store, self.assertRaisesRegex(StoreError, f"^{wanted}$"):
-                list(store.names())
+                list(store.abbreviations())
         folder = self.room / "bin"
         folder.mkdir()
         (folder / "packtool").symlink_to(os.path.abspath(program))
@@ -619,7 +619,7 @@ class Stores(unittest.TestCase):
         bare, ids = self.blobs(packed=50, loose=5)
         store = self.opened(bare)
         bare.rename(self.room / "away")
-        calls = [store.find, store.locate, lambda it: store.abbreviate(Id(it)), lambda it: next(store.find_many([it])), lambda _: next(store.names())]
+        calls = [store.find, store.locate, lambda it: store.abbreviate(Id(it)), lambda it: next(store.find_many([it])), lambda _: next(store.abbreviations())]
         for call in calls * 2:
             with self.assertRaisesRegex(StoreError, str(bare)) as raised:
                 call(ids[0])
@@ -665,7 +665,7 @@ class Stores(unittest.TestCase):
             self.assertRaises(TypeError, store.abbreviate, wrong)
         for id in Id("1" * 40), Id("1" * 64):
             self.assertRaises(Missing, store.abbreviate, id)
-        for call in (store.names, lambda least: store.abbreviate(Id(ids[0]), least)):
+        for call in (store.abbreviations, lambda least: store.abbreviate(Id(ids[0]), least)):
             for least in ("4", 4.5, None):
                 self.assertRaises(TypeError, lambda call=call, least=least: list(call(least)))
             for least, same in (-9, 4), (3, 4), (41, 40), (10**9, 40):

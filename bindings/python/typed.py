@@ -42,7 +42,7 @@ def tables(index: PackIndex, table: SortedDigests) -> Dict[Id, int]:
 def stores(path: Path, prefixes: List[str]) -> Dict[str, List[Location]]:
     with Store(path, "sha1") as store:
         ids: List[Id] = sorted(store)
-        names: Dict[Id, str] = {id: name for name, id in store.names(least=7)}
+        names: Dict[Id, str] = {id: name for name, id in store.abbreviations(least=7)}
         found = {prefix: store.locate(ids[0]) for prefix, ids in store.find_many(prefixes) if ids}
         try:
             names[store.resolve("4b82")] = store.abbreviate(ids[0], least=7)

@@ -441,7 +441,7 @@ class Store(contextlib.AbstractContextManager["Store"]):
 
     def locate(self, prefix: _Digits) -> List[Location]:
         """Where the objects are whose ids begin with a prefix, in the order of the ids: an object may be in several places."""
-        return [self._location(text) for text in self._found("where", prefix)]
+        return [self._location(text) for text in self._found("locate", prefix)]
 
     def _location(self, text: str) -> Location:
         digits, _, place = text.partition(" ")
@@ -461,14 +461,14 @@ class Store(contextlib.AbstractContextManager["Store"]):
         """The shortest prefix of an id of the store, of `least` digits or more, with which no other id begins. Below 4 `least` is 4,
         and above all digits these. The error is Missing if the store does not have the id."""
         least = self._digits(least)
-        printed = self._ask("names", str(id))[0] if _only(Id, id).kind is self._kind else " "
+        printed = self._ask("abbreviate", str(id))[0] if _only(Id, id).kind is self._kind else " "
         if " " in printed:
             raise self._missing(id)
         return str(id)[: max(len(printed), least)]
 
-    def names(self, least: int = 4) -> Iterator[Tuple[str, Id]]:
+    def abbreviations(self, least: int = 4) -> Iterator[Tuple[str, Id]]:
         """Each id of the store after its abbreviation, of `least` digits or more as that of `abbreviate`, in order."""
-        process = self._begin("names", "--least", str(self._digits(least)), is_bulk=True)
+        process = self._begin("abbreviate", "--least", str(self._digits(least)), is_bulk=True)
         try:
             for block in process.blocks():
                 words = iter(block.split())
@@ -480,7 +480,7 @@ class Store(contextlib.AbstractContextManager["Store"]):
         _warn(new)
 
     def __iter__(self) -> Iterator[Id]:
-        return (id for _, id in self.names())
+        return (id for _, id in self.abbreviations())
 
     def __contains__(self, id: object) -> bool:
         """Whether an id begins with a prefix; an id of the other kind is not there. What is neither is a TypeError."""

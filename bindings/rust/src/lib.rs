@@ -23,5 +23,5 @@ mod tables;
 pub use error::{Code, Error};
 pub use hasher::{Hasher, ObjectType};
 pub use ids::{Id, Kind, Prefix};
-pub use store::{FindMany, Location, Names, Store, StoreError};
+pub use store::{Abbreviations, FindMany, Location, Store, StoreError};
 pub use tables::{Entries, Entry, Ids, PackIndex, SortedDigests};

@@ -98,7 +98,7 @@ pub struct Store {
     asked: [Mutex<Option<Process>>; 3],
 }
 
-const COMMANDS: [&str; 3] = ["find", "where", "names"];
+const COMMANDS: [&str; 3] = ["find", "locate", "abbreviate"];
 const FIND: usize = 0;
 const WHERE: usize = 1;
 const NAMES: usize = 2;
@@ -203,10 +203,10 @@ impl Store {
 
     /// Each id of the store after its abbreviation, of `least` digits or more as that of `abbreviate`, in order. After an
     /// error there are no more.
-    pub fn names(&self, least: usize) -> Result<Names<'_>> {
+    pub fn abbreviations(&self, least: usize) -> Result<Abbreviations<'_>> {
         let least = least.clamp(4, 2 * self.kind.len_in_bytes()).to_string();
-        let process = Some(Process::new(self, &["names", "--least", &least])?);
-        Ok(Names { store: self, process })
+        let process = Some(Process::new(self, &["abbreviate", "--least", &least])?);
+        Ok(Abbreviations { store: self, process })
     }
 
     /// Each of many prefixes with the ids that begin with it, in the order of the prefixes, of which some 16,000 are taken
@@ -312,12 +312,12 @@ impl fmt::Debug for Store {
 }
 
 /// All ids of a store, each after its abbreviation.
-pub struct Names<'a> {
+pub struct Abbreviations<'a> {
     store: &'a Store,
     process: Option<Process>,
 }
 
-impl Iterator for Names<'_> {
+impl Iterator for Abbreviations<'_> {
     type Item = Result<(String, Id)>;
 
     fn next(&mut self) -> Option<Self::Item> {

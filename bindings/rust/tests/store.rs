@@ -135,7 +135,7 @@ fn is_another() {
     let Some(path) = env::var_os("IS_ANOTHER") else { return };
     let store = if path.is_empty() { Store::from_env(None) } else { Store::open(path, None) };
     println!();
-    match store.and_then(|store| store.names(4)?.collect::<Result<Vec<_>, _>>()) {
+    match store.and_then(|store| store.abbreviations(4)?.collect::<Result<Vec<_>, _>>()) {
         Ok(names) => names.iter().for_each(|(_, id)| println!("id: {id}")),
         Err(error) => println!("error: {error}"),
     }
@@ -157,14 +157,14 @@ fn stores() {
         let (path, ids) = made(format!("stores-{kind}"), kind, 3);
         let store = Store::open(path.join("refs"), None).unwrap();
         assert_eq!((store.kind(), store.skipped()), (kind, vec![]));
-        let names = collected(store.names(4).unwrap());
+        let names = collected(store.abbreviations(4).unwrap());
         assert_eq!(names.iter().map(|it| it.1).collect::<Vec<_>>(), ids);
         for (name, id) in &names {
             assert_eq!(beginning_with(&ids, &prefix(name)), [*id]);
             assert!(name.len() == 4 || beginning_with(&ids, &prefix(&name[..name.len() - 1])).len() > 1);
         }
         let longer = names.iter().map(|(name, id)| (id.to_string()[..name.len().max(9)].to_owned(), *id));
-        assert_eq!(collected(store.names(9).unwrap()), longer.collect::<Vec<_>>());
+        assert_eq!(collected(store.abbreviations(9).unwrap()), longer.collect::<Vec<_>>());
         let texts =
             (0..256).map(|n| format!("{n:02x}")).chain(ids.iter().map(|id| id.to_string()[..5].to_owned()));
         let prefixes: Vec<Prefix> =
@@ -288,7 +288,7 @@ fn asked_before() {
                 assert!(it.path.exists() && (stage == 3) == it.offset.is_some(), "{stage} {it:?}");
                 assert!(stage < 3 || packed[&it.id] == it);
             }
-            assert_eq!(store.names(4).unwrap().count(), ids.len() + wanted.len());
+            assert_eq!(store.abbreviations(4).unwrap().count(), ids.len() + wanted.len());
         }
     }
 }
@@ -348,7 +348,7 @@ fn killed() {
     for (found, id) in rest.into_iter().zip(ids.iter().cycle().skip(1)) {
         assert_eq!(found.unwrap(), ((*id).into(), vec![*id]));
     }
-    let mut names = store.names(4).unwrap();
+    let mut names = store.abbreviations(4).unwrap();
     names.next().unwrap().unwrap();
     kill_all();
     let mut rest: Vec<_> = names.by_ref().collect();
@@ -397,7 +397,7 @@ fn surroundings() {
         ("echo packtool: /x: no >&2; echo packtool: /y: gone >&2; exit 2", "/y: gone"),
     ] {
         let (program, right) = (one.join("old/packtool"), env::var("PACKTOOL").unwrap());
-        script(&program, &format!("case $1 in names) {names} ;; *) exec '{right}' \"$@\" ;; esac"));
+        script(&program, &format!("case $1 in abbreviate) {names} ;; *) exec '{right}' \"$@\" ;; esac"));
         let error = found_by_another(top, Some(&one), &[("PACKTOOL", program.as_os_str())]).unwrap_err();
         assert_eq!(error, wanted);
     }
@@ -426,7 +426,7 @@ fn threads_and_calls_within_iterators() {
     });
     assert_eq!(asked.into_inner(), 8000);
     let given = ids.iter().map(|id| prefix(&store.abbreviate(id, 4).unwrap()));
-    for (found, name) in store.find_many(given).unwrap().zip(store.names(4).unwrap()) {
+    for (found, name) in store.find_many(given).unwrap().zip(store.abbreviations(4).unwrap()) {
         let ((prefix, found), (name, id)) = (found.unwrap(), name.unwrap());
         assert_eq!((prefix.to_string(), &found[..]), (name, &[id][..]));
         assert_eq!(store.locate(&prefix).unwrap()[0].id, id);
@@ -479,7 +479,7 @@ fn skipped_and_failed() {
     let store = Store::open(&path, None).unwrap();
     assert_eq!(store.find(&ids[3].into()).unwrap(), [ids[3]]);
     assert_eq!(
-        (store.locate(&ids[3].into()).unwrap().len(), store.names(4).unwrap().count()),
+        (store.locate(&ids[3].into()).unwrap().len(), store.abbreviations(4).unwrap().count()),
         (1, ids.len())
     );
     assert_eq!(store.skipped().len(), 2000);

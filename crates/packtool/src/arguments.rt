@@ -38,16 +38,16 @@ pub struct StoreRequest<'a> {
 pub enum Question {
     /// `find`: which ids begin with a prefix.
     Find,
-    /// `where`: in which packs and loose files these ids are.
+    /// `locate`: in which packs and loose files these ids are.
     Locate,
-    /// `names`: which abbreviations ids have.
+    /// `abbreviate`: which abbreviations ids have.
     Names,
 }
 
 /// Of what a question is asked.
 #[derive(Clone, Copy)]
 pub enum Ask<'a> {
-    /// Of all ids, as only `names` is.
+    /// Of all ids, as only `abbreviate` is.
     All,
     /// Of a prefix, which is this text.
     Prefix(&'a str),
@@ -124,8 +124,8 @@ const COMMANDS: [Row; 5] = [
     },
     Row {
         action: Action::Store(Question::Locate),
-        name: "where",
-        usage: "packtool where [--one] [--objects DIR] [--kind KIND] PREFIX\n       packtool where --stdin [--one] [--objects DIR] [--kind KIND]",
+        name: "locate",
+        usage: "packtool locate [--one] [--objects DIR] [--kind KIND] PREFIX\n       packtool locate --stdin [--one] [--objects DIR] [--kind KIND]",
         about: "Prints each pack and offset, or loose file, of each id that begins with a prefix",
         arguments: &[
             Argument::Prefix,
@@ -137,8 +137,8 @@ const COMMANDS: [Row; 5] = [
     },
     Row {
         action: Action::Store(Question::Names),
-        name: "names",
-        usage: "packtool names [--stdin] [--least N] [--objects DIR] [--kind KIND]",
+        name: "abbreviate",
+        usage: "packtool abbreviate [--stdin] [--least N] [--objects DIR] [--kind KIND]",
         about: "Prints each id of the store after its shortest unique prefix",
         arguments: &[
             Argument::Lines,

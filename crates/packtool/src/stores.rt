@@ -151,7 +151,7 @@ impl Asked<'_> {
         flushed(status, &mut out)
     }
 
-    // Opens the store, and writes the lines of `find` or `where` for a prefix.
+    // Opens the store, and writes the lines of `find` or `locate` for a prefix.
     fn write_for_prefix<'a, W: io::Write>(
         &mut self,
         text: &'a str,
@@ -177,7 +177,8 @@ impl Asked<'_> {
         self.status_of(store, ran, out)
     }
 
-    // Writes the lines of `find` or `where` for a prefix, and returns whether an id begins with it.
+    // Writes the lines of `find` or `locate` for a prefix, and returns whether an id begins with
+    // it.
     fn ask_for_prefix<S: Reopen + StorePaths, W: Sink>(
         &self,
         store: &mut S,
@@ -200,8 +201,8 @@ impl Asked<'_> {
         }
     }
 
-    // Opens the store, and writes the lines of `names`. Those that were written before the store
-    // was opened again may lack what was skipped then.
+    // Opens the store, and writes the lines of `abbreviate`. Those that were written before the
+    // store was opened again may lack what was skipped then.
     fn write_all_names<'a, W: io::Write>(&mut self, out: &mut Plain<W>) -> Result<u8, Failure<'a>>
         requires { plain_failed out.old ≡ false }
         ensures output { OnOk result (plain_failed out.new ≡ false) }
@@ -272,7 +273,7 @@ impl Asked<'_> {
         }
     }
 
-    // Those of some prefixes whose loose objects are checked: all for `where`.
+    // Those of some prefixes whose loose objects are checked: all for `locate`.
     fn checked<'p>(&self, prefixes: &'p [Prefix]) -> &'p [Prefix] {
         match self.question {
             Question::Locate => prefixes,
