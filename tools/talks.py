@@ -179,16 +179,25 @@ def few_files(program, room):
 
 def out_of_order(program, room):
     """Questions for each of many ids with one first byte, one after the other, of which two are in each other's place in a pack index,
-    and of which none are: each id is found each time."""
+    and of which none are, also after one index has taken the place of another that has its size and time: each id is found each time."""
     ids = sorted({f"4b{id[2:]}" for id in sorted_ids(300, [20])})
     swapped = [*ids[:10], ids[200], *ids[11:200], ids[10], *ids[201:]]
-    for name, names in (("in order", ids), ("with two in each other's place", swapped)):
+
+    def wrong_in(child):
+        asked = (ask(child, f"{id[:12]}\n".encode(), f"{id}\n".encode()) for id in [*ids, *ids[::-1]])
+        return next(filter(None, asked), None)
+
+    for name, names, later in ("in order", ids, swapped), ("with two in each other's place", swapped, ids):
         add_pack(room / "objects", "x", plain_index(names))
+        index, other = room / "objects" / "pack" / "x.idx", room / "other.idx"
         with talk(program, room, "find", "--one") as child:
-            wrong = asked_twice(child, f"{ids[0]}\n".encode(), f"{ids[0]}\n".encode())
-            for id in [*ids, *ids[::-1]]:
-                wrong = wrong or ask(child, f"{id[:12]}\n".encode(), f"{id}\n".encode())
-        yield f"find --one --stdin of each of {len(ids)} ids with one first byte {name}", wrong
+            what = f"find --one --stdin of each of {len(ids)} ids with one first byte"
+            time.sleep(SETTLED)
+            yield f"{what} {name}", wrong_in(child)
+            other.write_bytes(plain_index(later))
+            os.utime(other, ns=(index.stat().st_atime_ns, index.stat().st_mtime_ns))
+            other.replace(index)
+            yield f"{what}, of which the index {name} is replaced", wrong_in(child)
 
 
 TALKS = [exchanges, statuses, locked_later, mended_later, few_files, out_of_order]
