@@ -12,7 +12,7 @@ use thiserror::Error as ThisError;
 /// Why a look-up in a store fails. Nothing of its result is known then.
 ///
 /// ```
-/// match lookup_prefix(rt.alloc(), &store, &prefix) {
+/// match lookup_prefix(rt.alloc(), &mut store, &prefix) {
 ///     Ok(found) => println!(rt; "{} ids", found.len())?,
 ///     Err(Error::Gone { path }) => println!(rt; "{path}: open the store again")?,
 ///     Err(error) => println!(rt; "{error}")?,

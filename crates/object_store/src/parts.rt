@@ -223,6 +223,7 @@ impl<'s, S: Store, A: Allocator + Copy> Parts<'s, S, A> {
 
     // Names of the pack indexes, among which are all that begin with a prefix: the last that were
     // read, if they are such.
+    #[inline(always)]
     fn take_part(&mut self, prefix: &Prefix) -> Result<Part<A>, Error>
         requires enough { 2 ≤ length prefix.now.digits }
         requires kind { prefix.now.kind ≡ (S.view self.old.now).kind }
@@ -248,6 +249,7 @@ impl<'s, S: Store, A: Allocator + Copy> Parts<'s, S, A> {
 }
 
 // Whether a prefix begins with all digits of another.
+#[inline(always)]
 fn begins_with(prefix: &Prefix, front: &Prefix) -> bool
     ensures { IsTrue result → starts_with nat_eq prefix.now.digits front.now.digits ≡ true }
 {
@@ -263,8 +265,9 @@ fn prefix_to_read<S: Store>(store: &S, prefix: &Prefix, few: usize) -> Prefix
     ensures enough { 2 ≤ length result.digits }
     ensures begins { starts_with nat_eq prefix.now.digits result.digits ≡ true }
 {
-    // The contract of this call says of which digits the prefix is.
-    let _hex_len = prefix.hex_len();
+    if prefix.hex_len() == 2 {
+        return *prefix;
+    }
     let byte = prefix.first_byte();
     for index in store.indexes() {
         if index.reads_part(byte, few) {

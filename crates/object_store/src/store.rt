@@ -94,7 +94,7 @@ pub trait StorePaths: Store {
 /// A store that can be opened again, as it is then, after a pack index is gone that it has listed.
 ///
 /// ```
-/// let found = lookup_prefix(rt.alloc(), &store, &prefix);
+/// let found = lookup_prefix(rt.alloc(), &mut store, &prefix);
 /// if matches!(&found, Err(Error::Gone { .. })) && store.reopen() {
 ///     println!(rt; "{} pack indexes", store.indexes().len())?;
 /// }
