@@ -239,6 +239,7 @@ impl<S: ReadAt + Drop> LazyFile<S> {
     }
 
     // Reads all ids with a first byte, and notes whether they are sorted.
+    #[inline(always)]
     fn read_whole<A: Allocator>(&mut self, alloc: A, byte: u8) -> Result<Bucket<A>, LazyError>
         ensures same { self.new ≡ self.old }
         ensures part { IfOk result (λ bucket. (digits : List ℕ) → 2 ≤ length digits
@@ -274,6 +275,7 @@ impl<S: ReadAt + Drop> LazyFile<S> {
     }
 
     // Reads the ids of a run, which must have a first byte.
+    #[inline(always)]
     fn read_run<A: Allocator>(&self, alloc: A, byte: u8, run: &Run) -> Result<Bucket<A>, LazyError>
         requires in_order { run.now.start ≤ run.now.end }
         requires inside { run.now.end ≤ self.now.count }
