@@ -4,6 +4,7 @@ compiled in a copy of this repository's crates."""
 import contextlib
 import os
 import re
+import runpy
 import shutil
 import signal
 import struct
@@ -58,6 +59,11 @@ for ending in (signal.SIGTERM, signal.SIGHUP, signal.SIGINT):
 def read(name):
     """The text of a file, by its path from the top."""
     return (ROOT / name).read_text(encoding="utf-8")
+
+
+def tool(name):
+    """What another tool defines, each by its name."""
+    return runpy.run_path(str(ROOT / "tools" / name))
 
 
 def crate_uses():
