@@ -1,5 +1,7 @@
-//! Tests of `store_folders`, over directories that change and reads that fail, and a call of each
-//! kind of `callers`, by public calls only. What the built program shows is tested by
+//! Tests of `store_folders`, over directories that change and reads that fail; of `repositories`,
+//! its states of directories and files, and texts of errors; and of a call of each kind of
+//! `callers`: all by public calls only. What is found, and by which configs and alternates, is
+//! tested by `tools/odd` and `tools/stores`, beside Git, and what the built program shows by
 //! `tools/stores` and `tools/live`.
 #![tactic(auto)]
 
@@ -13,6 +15,10 @@ mod expecting;
 mod folders;
 #[cfg(test)]
 mod moving;
+#[cfg(test)]
+mod repositories_error;
+#[cfg(test)]
+mod repositories_state;
 #[cfg(test)]
 mod store_folders_source;
 #[cfg(test)]
