@@ -67,6 +67,11 @@ def error_of(text):
     return f"{chr(92) if escaped != text else ''}packtool: {escaped}\n"
 
 
+def prints(name, lines, *words, errors="", status=0, **how):
+    """A case that prints these lines."""
+    return name, ("".join(f"{line}\n" for line in lines), errors, status), words, how
+
+
 def finds(name, ids, *words, errors="", **how):
     """A case of `abbreviate` that finds these ids."""
     return name, (shortest(sorted(ids)), errors, 2 if errors else 0), ("abbreviate", *words), how
@@ -87,10 +92,10 @@ def verdict_of(content, kinds):
     return f"FAILED: it ends in {content[-size:].hex()}, and the digest of the rest is {digest(content[:-size]).hexdigest()}"
 
 
-def checked(verdicts):
-    """What `check` gives of files, each by its name and what is said of it."""
-    lines = [f"{name}: {verdict}\n" for name, verdict in verdicts.items()]
-    return "".join(lines), "", int(any(verdict.startswith("FAILED") for verdict in verdicts.values()))
+def checks(name, verdicts, *words, **how):
+    """A case of `check` of files, each by its name and what is said of it."""
+    status = int(any(verdict.startswith("FAILED") for verdict in verdicts.values()))
+    return prints(name, [": ".join(it) for it in verdicts.items()], "check", *words, *verdicts, status=status, **how)
 
 
 def endings(room):
@@ -106,10 +111,9 @@ def endings(room):
     for words in ((), ("--kind", "sha1"), ("--kind", "sha256")):
         kinds = words[1:] or tuple(DIGITS)
         verdicts = {name: verdict_of(content, kinds) for name, content in files.items()}
-        yield " ".join(("check of files of each length", *words)), checked(verdicts), ("check", *words, *files), {"cwd": room}
+        yield checks(" ".join(("check of files of each length", *words)), verdicts, *words, cwd=room)
         for content in contents[:70:3] + contents[100:]:
-            wanted = checked({"-": verdict_of(content, kinds)})
-            yield " ".join(("check of", str(len(content)), "bytes", *words)), wanted, ("check", *words, "-"), {"given": content}
+            yield checks(" ".join(("check of", str(len(content)), "bytes", *words)), {"-": verdict_of(content, kinds)}, *words, given=content)
 
 
 def cut(room):
@@ -124,8 +128,8 @@ def cut(room):
             for name, said in ((f"{size}.idx", verdict), (f"{size}", other)):
                 write(room / name, content)
                 verdicts[name] = said
-            yield f"check of {size} bytes of {kind}.idx", checked({"-": other}), ("check", "-"), {"given": content}
-        yield f"check of files with the beginnings of {kind}.idx", checked(verdicts), ("check", *verdicts), {"cwd": room}
+            yield checks(f"check of {size} bytes of {kind}.idx", {"-": other}, given=content)
+        yield checks(f"check of files with the beginnings of {kind}.idx", verdicts, cwd=room)
 
 
 def many_files(room):
@@ -133,14 +137,14 @@ def many_files(room):
     wrong = "FAILED: it is shorter than a digest"
     write(room / "f", sealed(b""))
     write(room / "wrong")
-    wanted = "f: OK\n" * MANY_FILES + f"wrong: {wrong}\n", "", 1
-    yield f"check of {MANY_FILES + 1} files", wanted, ("check", *["f"] * MANY_FILES, "wrong"), {"cwd": room}
+    lines = [*["f: OK"] * MANY_FILES, f"wrong: {wrong}"]
+    yield prints(f"check of {MANY_FILES + 1} files", lines, "check", *["f"] * MANY_FILES, "wrong", status=1, cwd=room)
     chain = room / "multi-pack-index.d"
     for name in ("right", "wrong", "x-chain", chain.name):
         write(chain / name, sealed(b"") if name == "right" else b"")
     verdicts = {f"{chain.name}/right": "OK", f"{chain.name}/wrong": wrong, f"{chain.name}/x-chain": NO_DIGEST}
     verdicts |= {f"{chain.name}/{chain.name}": wrong, chain.name: NO_DIGEST}
-    yield "check of files in the directory of a chain", checked(verdicts), ("check", *verdicts), {"cwd": room}
+    yield checks("check of files in the directory of a chain", verdicts, cwd=room)
 
 
 def long_files(room):
@@ -152,12 +156,11 @@ def long_files(room):
         for way, given in ("right", content), ("wrong", changed(content, len(content) - 1, content[-1] ^ 1)):
             verdict = "OK" if way == "right" else WRONG_CHECKSUM if content is index else verdict_of(given, tuple(DIGITS))
             write(room / "x", given)
-            yield f"check of {name} of {len(given)} bytes, {way}", checked({"x": verdict}), ("check", "x"), {"cwd": room}
-            yield f"the same, standard input, {name}, {way}", checked({"-": verdict}), ("check", "-"), {"given": given}
+            yield checks(f"check of {name} of {len(given)} bytes, {way}", {"x": verdict}, cwd=room)
+            yield checks(f"the same, standard input, {name}, {way}", {"-": verdict}, given=given)
     write(room / "head", index[:1032])
-    endless = ("sh", "-c", '{ cat head; cat /dev/zero; } | "$@"', "sh")
-    how = {"cwd": room, "around": endless, "limits": [f"--data={16 << 20}"]}
-    yield "check of an input without an end in 16 MiB", checked({"-": f"FAILED: {NOT_FILLED}"}), ("check", "-"), how
+    how = {"cwd": room, "around": ("sh", "-c", '{ cat head; cat /dev/zero; } | "$@"', "sh"), "limits": [f"--data={16 << 20}"]}
+    yield checks("check of an input without an end in 16 MiB", {"-": f"FAILED: {NOT_FILLED}"}, **how)
 
 
 def long_offsets(room):
@@ -167,8 +170,8 @@ def long_offsets(room):
             rows = [((at < count) << 32 | 12 + at, f"{at:0{DIGITS[kind]}x}", at) for at in range(size)]
             given, name = pack_index(rows), f"{count} of {size} offsets of {kind} with 8 bytes"
             write(room / "x.idx", given)
-            yield f"check of {name}", checked({"x.idx": "OK"}), ("check", "x.idx"), {"cwd": room}
-            yield f"check of {name}, standard input", checked({"-": "OK"}), ("check", "-"), {"given": given}
+            yield checks(f"check of {name}", {"x.idx": "OK"}, cwd=room)
+            yield checks(f"check of {name}, standard input", {"-": "OK"}, given=given)
             by_git = git(room, "show-index", f"--object-format={kind}", given=given)
             yield f"show of {name}", (by_git, "", 0), ("show", "-"), {"given": given}
             yield f"show of {name}, a file", (by_git, "", 0), ("show", "x.idx"), {"cwd": room}
@@ -186,12 +189,12 @@ def packs_beside(room):
             for other_name in names:
                 write(room / f"{kind}{at}" / f"{other_name[:-4]}.pack", other if other_name == name else pack)
             write(room / f"{kind}{at}" / name, index)
-            yield f"check of {name}, {kind}", checked({name: wrong}), ("check", name), {"cwd": room / f"{kind}{at}"}
+            yield checks(f"check of {name}, {kind}", {name: wrong}, cwd=room / f"{kind}{at}")
         for offset in range(len(pack) - size - 2, len(pack) + 2):
             write(room / f"{offset}.pack", pack)
             write(room / f"{offset}.idx", pack_index([(offset, "0" * DIGITS[kind], 0)], pack=right))
             said = "OK" if offset < len(pack) - size else f"FAILED: the offset {offset} is not in the pack beside it"
-            yield f"check of the offset {offset}, {kind}", checked({f"{offset}.idx": said}), ("check", f"{offset}.idx"), {"cwd": room}
+            yield checks(f"check of the offset {offset}, {kind}", {f"{offset}.idx": said}, cwd=room)
         yield from odd_packs(room / kind, index)
 
 
@@ -209,8 +212,8 @@ def odd_packs(room, index):
         ("a pipe", lambda: os.mkfifo(path), "not a regular file"),
     ]:
         make()
-        name, words, how = f"check of an index beside {way}", ("check", "x.idx"), {"cwd": room}
-        yield fails(name, f"x.pack: {text}", *words, **how) if text else (name, checked({"x.idx": "OK"}), words, how)
+        name = f"check of an index beside {way}"
+        yield fails(name, f"x.pack: {text}", "check", "x.idx", cwd=room) if text else checks(name, {"x.idx": "OK"}, cwd=room)
         path.rmdir() if path.is_dir() else path.unlink(missing_ok=True)
 
 
@@ -237,7 +240,7 @@ def names_of_files(room):
         name = "p" * (size - len(".idx"))
         add_pack(objects, name, plain_index([id]))
     yield finds("names of files of up to 255 bytes", ids, "--objects", "objects", cwd=room)
-    yield "the same with find", ("".join(f"{id}\n" for id in ids), "", 0), ("find", "4b", "--objects", "objects"), {"cwd": room}
+    yield prints("the same with find", ids, "find", "4b", "--objects", "objects", cwd=room)
 
 
 def counts(room):
@@ -269,10 +272,10 @@ def last_lines(room):
         for size, before, end in itertools.product(range(digits + 3), ("", "ff\n"), ("", "\n")):
             line = (id + "00")[:size]
             found = id if 2 <= size <= digits else "bad"
-            printed = ("ff missing\n" if before else "") + (f"{line} {found}\n" if line or end else "")
-            wanted = printed, "", 0 if not before and (found == id or not printed) else 1
+            lines = (["ff missing"] if before else []) + ([f"{line} {found}"] if line or end else [])
+            status = 0 if not before and (found == id or not lines) else 1
             name = f"find --stdin of {size} digits of {kind}{', ended' if end else ''}{', after a line' if before else ''}"
-            yield name, wanted, ("find", "--stdin"), {"cwd": room / kind, "given": (before + line + end).encode()}
+            yield prints(name, lines, "find", "--stdin", status=status, cwd=room / kind, given=(before + line + end).encode())
 
 
 def prefixes(room):
@@ -282,8 +285,8 @@ def prefixes(room):
         add_repository(room / kind, kind, [id])
         for size, last in itertools.product(range(2, digits + 1), "0f"):
             text = f"{id[: size - 1]}{last}"
-            wanted = (f"{id}\n", "", 0) if id.startswith(text) else ("", "", 1)
-            yield f"find of {size} digits of {kind}, the last {last}", wanted, ("find", text), {"cwd": room / kind}
+            found = [id] if id.startswith(text) else []
+            yield prints(f"find of {size} digits of {kind}, the last {last}", found, "find", text, status=1 - len(found), cwd=room / kind)
         for text in (" 4b", "4b ", "\t4b", "4b\v", "0x4b", "+4b", "4b_0", "", "4", "4g", f"{id}0", "\N{FULLWIDTH DIGIT FOUR}b"):
             yield fails(f"find of {text!r} in {kind}", f"{text}: not 2 to {digits} hex digits", "find", "--", text, cwd=room / kind)
 
@@ -294,11 +297,10 @@ def skipped(room):
     add_repository(room, loose=[made.LOOSE])
     given = (b"4bff\n" + b"ff\n" * (MANY_LINES - 2) + b"4b\n") * 2
     for count in range(4):
-        for words, found in (("find",), [made.LOOSE] * 2), (("locate",), [f"{made.LOOSE} objects/4b/{made.LOOSE[2:]}"] * 2), (("abbreviate",), None):
-            first, last = (f"4bff {found[0]}\n", f"4b {found[1]}\n") if found else ("4bff\n", "4bff\n")
-            printed = (first + "ff missing\n" * (MANY_LINES - 2) + last) * 2
-            name = f"{words[0]} --stdin of {2 * MANY_LINES} lines, {count} things skipped"
-            yield name, (printed, errors, 2 if count else 1), (*words, "--stdin", "--objects", "objects"), {"cwd": room, "given": given}
+        for word, found in ("find", f" {made.LOOSE}"), ("locate", f" {made.LOOSE} objects/4b/{made.LOOSE[2:]}"), ("abbreviate", ""):
+            lines = [f"4bff{found}", *["ff missing"] * (MANY_LINES - 2), f"4b{found or 'ff'}"] * 2
+            name, how = f"{word} --stdin of {2 * MANY_LINES} lines, {count} things skipped", {"cwd": room, "given": given}
+            yield prints(name, lines, word, "--stdin", "--objects", "objects", errors=errors, status=2 if count else 1, **how)
         add_pack(objects, f"{count}", b"x")
         errors += error_of(f"objects/pack/{count}.idx: {TOO_FEW}, skipped")
 
@@ -314,14 +316,14 @@ def much_found(room):
     for command, size, printed, most in asked:
         prefixes = [f"{number:0{size}x}" for number in range(16**size)]
         random.Random(size).shuffle(prefixes)
-        found = {prefix: [f"{prefix} missing\n"] for prefix in prefixes}
+        found = {prefix: [f"{prefix} missing"] for prefix in prefixes}
         for prefix, those in itertools.groupby(ids, lambda id: id[:size]):
-            found[prefix] = [f"{prefix} {printed(id)}\n" for id in those]
-        wanted = "".join(line for prefix in prefixes for line in found[prefix])
+            found[prefix] = [f"{prefix} {printed(id)}" for id in those]
+        lines = [line for prefix in prefixes for line in found[prefix]]
         how = {"cwd": room, "given": "".join(f"{prefix}\n" for prefix in prefixes).encode(), "limits": [f"--data={(most << 20) + len(index)}"]}
-        status = int(any(lines[0].endswith(" missing\n") for lines in found.values()))
+        status = int(any(lines[0].endswith(" missing") for lines in found.values()))
         name = f"{command} --stdin of all prefixes of {size} digits in {most} MiB beside the index"
-        yield name, (wanted, "", status), (command, "--stdin", "--objects", "objects"), how
+        yield prints(name, lines, command, "--stdin", "--objects", "objects", status=status, **how)
 
 
 def damaged_asked(room):
@@ -397,7 +399,7 @@ def no_stores(room):
     for name, better in (("r", "r/.git/objects"), ("r/.git", "r/.git/objects"), ("two", "two/objects")):
         yield fails(f"--objects {name}", f"{name}: no object store: try {better}", "abbreviate", "--objects", name, cwd=room)
     for name in ("only_00", "only_f0", "only_ff", "only_info", "r/.git/objects"):
-        yield f"--objects {name}", ("", "", 1), ("abbreviate", "--objects", name), {"cwd": room}
+        yield prints(f"--objects {name}", [], "abbreviate", "--objects", name, status=1, cwd=room)
     yield fails("--objects beside a folder", f"config_folder/objects/../config: {IS_FOLDER}", "abbreviate", "--objects", "config_folder/objects", cwd=room)
     for name, path in (("file_22", "file_22/22"), ("file_pack", "file_pack/pack")):
         write(room / path)
@@ -456,8 +458,8 @@ def links_to_nothing(room):
             name = f"locate {words[0]:.7} over a link to nothing, {size} digits"
             yield fails(name, f"objects/4b/{path.name}: {NO_FILE}", "locate", *words, "--objects", "objects", **how)
         if size > 2:
-            wanted = f"{made.LOOSE} objects/4b/{made.LOOSE[2:]}\n", "", 0
-            yield f"locate of {size} digits beside it", wanted, ("locate", made.LOOSE[:size], "--objects", "objects"), {"cwd": room}
+            lines = [f"{made.LOOSE} objects/4b/{made.LOOSE[2:]}"]
+            yield prints(f"locate of {size} digits beside it", lines, "locate", made.LOOSE[:size], "--objects", "objects", cwd=room)
 
 
 def links_among_others(room):
@@ -553,14 +555,13 @@ def many_alternates(room):
     add_repository(bare)
     for number, id in enumerate(ids):
         add_objects(room / str(number), [id])
-    wanted = "".join(f"{id}\n" for id in ids), "", 0
     for order in ("first", "last"):
         paths = [f"{room}/{number}" for number in range(len(ids))][:: 1 if order == "first" else -1]
         write(bare / "objects" / "info" / "alternates", "\n".join(paths).encode())
-        yield f"{len(ids)} alternates, the {order} one first", wanted, ("find", "4b"), {"cwd": bare}
+        yield prints(f"{len(ids)} alternates, the {order} one first", ids, "find", "4b", cwd=bare)
         (bare / "objects" / "info" / "alternates").unlink()
         env = {"GIT_ALTERNATE_OBJECT_DIRECTORIES": ":".join(paths)}
-        yield f"{len(ids)} alternates of the environment, the {order} one first", wanted, ("find", "4b"), {"cwd": bare, "env": env}
+        yield prints(f"{len(ids)} alternates of the environment, the {order} one first", ids, "find", "4b", cwd=bare, env=env)
 
 
 def missing_alternates(room):
@@ -570,7 +571,7 @@ def missing_alternates(room):
     write(room / "objects" / "info" / "alternates", "".join(f"{room}/{name}\n" for name in [*names, *names[:9]]).encode())
     errors = "".join(error_of(f"{room}/{name}: {NO_FILE}, skipped") for name in names)
     how = {"cwd": room, "limits": [f"--cpu={SECONDS}"]}
-    yield f"{len(names)} missing alternates in {SECONDS} s", (f"{made.LOOSE}\n", errors, 2), ("find", "4b"), how
+    yield prints(f"{len(names)} missing alternates in {SECONDS} s", [made.LOOSE], "find", "4b", errors=errors, status=2, **how)
 
 
 def equal_beginnings(room):
@@ -579,8 +580,8 @@ def equal_beginnings(room):
     add_pack(room / "objects", "pack-0", index_of(ids))
     names = [line.split() for line in shortest(ids).splitlines()][::5]
     how = {"cwd": room, "given": "".join(f"{id}\n" for _, id in names).encode(), "limits": [f"--cpu={SECONDS}"]}
-    wanted = "".join(f"{name}\n" for name, _ in names), "", 0
-    yield f"abbreviate --stdin of {len(names)} ids in {SECONDS} s", wanted, ("abbreviate", "--stdin", "--objects", "objects"), how
+    title, lines = f"abbreviate --stdin of {len(names)} ids in {SECONDS} s", [name for name, _ in names]
+    yield prints(title, lines, "abbreviate", "--stdin", "--objects", "objects", **how)
 
 
 def many_names(room):
@@ -592,21 +593,20 @@ def many_names(room):
     for id in ids:
         for name in (id[2:], id.ljust(250, "x")):
             os.link(room / "file", f"{folder}/{name}")
-    yield f"{len(ids)} loose objects", ("".join(f"{id}\n" for id in ids), "", 0), ("find", "4b", "--objects", "loose"), {"cwd": room}
+    yield prints(f"{len(ids)} loose objects", ids, "find", "4b", "--objects", "loose", cwd=room)
     folder, names = f"{room}/packs/pack", [f"pack-{number:04}" for number in range(5000)]
     add_pack(room / "packs", names[0], plain_index([made.BOTH]))
     for name, end in itertools.product(names[1:], (".idx", ".pack")):
         os.link(f"{folder}/{names[0]}{end}", f"{folder}/{name}{end}")
-    lines = "".join(f"{made.BOTH} packs/pack/{name}.pack 3072\n" for name in names)
-    yield f"{len(names)} packs", (lines, "", 0), ("locate", "4b", "--objects", "packs"), {"cwd": room}
+    lines = [f"{made.BOTH} packs/pack/{name}.pack 3072" for name in names]
+    yield prints(f"{len(names)} packs", lines, "locate", "4b", "--objects", "packs", cwd=room)
     ids = sorted({f"4b{id[2:]}" for id in sorted_ids(100_000, [20])})
     add_pack(room / "index", "pack-0", index_of(ids))
-    yield f"find of {len(ids)} ids", ("".join(f"{id}\n" for id in ids), "", 0), ("find", "4b", "--objects", "index"), {"cwd": room}
-    found = {"ff": "ff missing\n", "4b": "".join(f"4b {id}\n" for id in ids)}
-    for asked in (["ff", "4b"], ["4b", "ff"]):
-        how = {"cwd": room, "given": "".join(f"{prefix}\n" for prefix in asked).encode()}
-        wanted = "".join(found[prefix] for prefix in asked), "", 1
-        yield f"find --stdin of {' and '.join(asked)}", wanted, ("find", "--stdin", "--objects", "index"), how
+    yield prints(f"find of {len(ids)} ids", ids, "find", "4b", "--objects", "index", cwd=room)
+    found = {"ff": ["ff missing"], "4b": [f"4b {id}" for id in ids]}
+    for one, other in itertools.permutations(found):
+        how = {"status": 1, "cwd": room, "given": f"{one}\n{other}\n".encode()}
+        yield prints(f"find --stdin of {one} and {other}", found[one] + found[other], "find", "--stdin", "--objects", "index", **how)
 
 
 def long_index(room):
@@ -619,11 +619,8 @@ def long_index(room):
     last = (size - 1) // step
     for byte in (0, last):
         places = [(f"{number * step:08x}{'0' * 32}", 12 + number) for number in range(byte * step, min(size, (byte + 1) * step))]
-        prefix, how = f"{byte:02x}", {"cwd": room}
-        wanted = "".join(f"{id}\n" for id, _ in places), "", 0
-        yield f"find {prefix} in an index of 24 MiB", wanted, ("find", prefix, "--objects", "objects"), how
-        wanted = "".join(f"{id} objects/pack/pack-0.pack {offset}\n" for id, offset in places), "", 0
-        yield f"locate {prefix} in an index of 24 MiB", wanted, ("locate", prefix, "--objects", "objects"), how
+        for word, lines in ("find", [id for id, _ in places]), ("locate", [f"{id} objects/pack/pack-0.pack {offset}" for id, offset in places]):
+            yield prints(f"{word} {byte:02x} in an index of 24 MiB", lines, word, f"{byte:02x}", "--objects", "objects", cwd=room)
 
 
 def lent(room):
@@ -635,17 +632,16 @@ def lent(room):
         add_pack(objects, "pack-1", plain_index([made.PACKED, made.BOTH], offsets))
     write(main / "info" / "alternates", rb'"../../a \"b\"/objects"')
     write(quoted / "info" / "alternates", b"# none\n\n../../main/objects\n../../third/objects\n../../third/../third/objects\n")
-    packed = [f"{made.BOTH} main/objects/pack/pack-1.pack 3073\n", f"{made.BOTH} {quoted}/pack/pack-1.pack 4294967308\n"]
-    loose = [f"{made.BOTH} {objects}/4b/{made.BOTH[2:]}\n" for objects in ("main/objects", quoted, third)]
-    yield "locate over alternates", ("".join(packed + loose), "", 0), ("locate", "4b9", "--objects", "main/objects"), {"cwd": room}
-    how = {"cwd": room, "env": {"GIT_OBJECT_DIRECTORY": "main/objects", "GIT_ALTERNATE_OBJECT_DIRECTORIES": "third/objects"}}
-    wanted = "".join([*packed, loose[0], loose[2], loose[1]])
-    yield "alternates of the environment first", (wanted, "", 0), ("locate", "4b9"), how
+    packed = [f"{made.BOTH} main/objects/pack/pack-1.pack 3073", f"{made.BOTH} {quoted}/pack/pack-1.pack 4294967308"]
+    loose = [f"{made.BOTH} {objects}/4b/{made.BOTH[2:]}" for objects in ("main/objects", quoted, third)]
+    yield prints("locate over alternates", packed + loose, "locate", "4b9", "--objects", "main/objects", cwd=room)
+    env = {"GIT_OBJECT_DIRECTORY": "main/objects", "GIT_ALTERNATE_OBJECT_DIRECTORIES": "third/objects"}
+    yield prints("alternates of the environment first", [*packed, loose[0], loose[2], loose[1]], "locate", "4b9", cwd=room, env=env)
     odd = room / "\udcff"
     add_objects(odd / "objects", [made.BOTH])
     write(odd / "objects" / "info" / "alternates", b".\n../objects\n")
-    wanted = f"{made.BOTH} objects/4b/{made.BOTH[2:]}\n"
-    yield "an alternate that is its own, in a directory that is not UTF-8", (wanted, "", 0), ("locate", "4b9", "--objects", "objects"), {"cwd": odd}
+    name, lines = "an alternate that is its own, in a directory that is not UTF-8", [f"{made.BOTH} objects/4b/{made.BOTH[2:]}"]
+    yield prints(name, lines, "locate", "4b9", "--objects", "objects", cwd=odd)
 
 
 def links(room):
@@ -655,13 +651,13 @@ def links(room):
     write(room / "objects" / "info" / "alternates", b"../lent\n")
     write(room / "lent" / "ff" / "none")
     (room / "lent" / "ff" / ("0" * 38)).symlink_to("gone")
-    yield "the id of zeros", (f"{'0' * 40} objects/00/{'0' * 38}\n", "", 0), ("locate", "00", *objects), {"cwd": room}
+    yield prints("the id of zeros", [f"{'0' * 40} objects/00/{'0' * 38}"], "locate", "00", *objects, cwd=room)
     yield fails("a link to nothing in an alternate", f"{room}/lent/ff/{'0' * 38}: {NO_FILE}", "locate", "ff", *objects, cwd=room)
     names = [f"pack-{number:02}" for number in range(70)]
     for name in names:
         add_pack(room / "many", name, plain_index([made.BOTH]))
-    lines = "".join(f"{made.BOTH} many/pack/{name}.pack 3072\n" for name in names)
-    yield "70 packs", (lines, "", 0), ("locate", "4b", "--objects", "many"), {"cwd": room}
+    lines = [f"{made.BOTH} many/pack/{name}.pack 3072" for name in names]
+    yield prints("70 packs", lines, "locate", "4b", "--objects", "many", cwd=room)
     for path, target, why in [("many/pack/pack-00.pack", "pack-00.pack", LOOP), ("many/pack/pack-69.idx", "gone", NO_FILE)]:
         (room / path).unlink()
         (room / path).symlink_to(target)
