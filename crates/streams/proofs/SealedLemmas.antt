@@ -1,5 +1,5 @@
 -- Which bytes are sealed, and what is held back of those that were read.
-use Rattle.gix_hash.proofs.Std.{◌≡◌, ◌≢◌, ◌<◌, ◌≤◌, ◌+◌, ◌-◌, ℕ, List, [], ◌∷◌, ◌++◌, length, take, drop, refl, sym, ap, subst, ◌∙◌, arith, append_assoc, take-append-drop, length-append, length-drop, min, copy_within, take-add, take-append-add, take-append_seam, drop-append_seam, length-take, nil_from_length, same_from_push, take-append-le, take-paste}
+use Rattle.gix_hash.proofs.Std.{◌≡◌, ◌≢◌, ◌<◌, ◌≤◌, ◌+◌, ◌-◌, ℕ, List, ◌++◌, length, take, drop, refl, sym, ap, ◌∙◌, arith, append_assoc, length-append, length-drop, min, copy_within, take-add, take-append-add, take-append_seam, drop-append_seam, length-take, nil_from_length, take-append-le, take-paste}
 use borrow.Rule.Slice.PartMut.{put_mid, post_of}
 use Rattle.gix_hash.specs.Words.{EndsInDigest, byte_len_of, digest, id_bytes}
 use Rattle.gix_hash.specs.declared.Kind.{Kind}
@@ -22,7 +22,7 @@ abbrev pub HaveLength : Kind → Type 0
 HaveLength kind = (message : List ℕ) → length (id_bytes (digest kind message)) ≡ byte_len_of kind
 
 -- of sealed bytes, the last, as many as a digest has, are the digest of those before them
-pub sealed-end : (kind : Kind) → HaveLength kind → (front tail : List ℕ) → length tail ≡ byte_len_of kind → EndsInDigest kind (front ++ tail)
+sealed-end : (kind : Kind) → HaveLength kind → (front tail : List ℕ) → length tail ≡ byte_len_of kind → EndsInDigest kind (front ++ tail)
     → tail ≡ id_bytes (digest kind front)
 sealed-end kind lens front tail len is_sealed =
     let message = is_sealed.0 in
@@ -30,36 +30,10 @@ sealed-end kind lens front tail len is_sealed =
     same.1 ∙ ap (λ (m : List ℕ). id_bytes (digest kind m)) (sym same.0)
 
 -- sealed bytes are no fewer than those of a digest
-pub sealed-length : (kind : Kind) → HaveLength kind → (bytes : List ℕ) → EndsInDigest kind bytes → byte_len_of kind ≤ length bytes
+sealed-length : (kind : Kind) → HaveLength kind → (bytes : List ℕ) → EndsInDigest kind bytes → byte_len_of kind ≤ length bytes
 sealed-length kind lens bytes is_sealed =
     let message = is_sealed.0 in
     omega (arith, ap length is_sealed.1, length-append message (id_bytes (digest kind message)), lens message)
-
--- every digest has at least one byte
-byte_len_of-some : (kind : Kind) → 1 ≤ byte_len_of kind
-byte_len_of-some Sha1 = omega arith
-byte_len_of-some Sha256 = omega arith
-
--- of lists of bytes that differ only in the last byte, at most one is sealed
-pub sealed-last : (kind : Kind) → HaveLength kind → (front : List ℕ) (byte other : ℕ) → EndsInDigest kind (front ++ byte ∷ [])
-    → EndsInDigest kind (front ++ other ∷ []) → other ≡ byte
-sealed-last kind lens front byte other first second =
-    let at = length front + 1 - byte_len_of kind in
-    let long = sealed-length kind lens (front ++ byte ∷ []) first in
-    let cut : (last : ℕ) → front ++ last ∷ [] ≡ take at front ++ (drop at front ++ last ∷ []) =
-    λ last. ap (λ (l : List ℕ). l ++ last ∷ []) (sym (take-append-drop at front)) ∙ append_assoc (take at front) (drop at front) (last ∷ []) in
-    let len : (last : ℕ) → length (drop at front ++ last ∷ []) ≡ byte_len_of kind =
-    λ last. omega (
-      arith,
-      length-append (drop at front) (last ∷ []),
-      length-append front (byte ∷ []),
-      length-drop at front,
-      long,
-      byte_len_of-some kind,
-    ) in
-    let digest_is : (last : ℕ) → EndsInDigest kind (front ++ last ∷ []) → drop at front ++ last ∷ [] ≡ id_bytes (digest kind (take at front)) =
-    λ last is_sealed. sealed-end kind lens (take at front) (drop at front ++ last ∷ []) (len last) (subst (EndsInDigest kind) (cut last) is_sealed) in
-    (same_from_push (drop at front) (drop at front) other byte (digest_is other second ∙ sym (digest_is byte first))).1
 
 -- no digest of a kind has more than 32 bytes
 byte_len_of-most : (kind : Kind) → byte_len_of kind ≤ 32

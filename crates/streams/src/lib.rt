@@ -13,7 +13,6 @@ mod checking;
 mod chunks;
 mod from_slice;
 mod into_slice;
-pub mod laws;
 mod pipe;
 mod plain;
 mod printing;
