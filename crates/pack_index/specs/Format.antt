@@ -193,19 +193,6 @@ pub record IsFirstIndexOf (names : List (List ℕ)) (digits : List ℕ) (at : �
   pub same : slice_index_or names at [] ≡ digits
   pub first : (k : ℕ) → k < at → slice_index_or names k [] ≢ digits
 
--- Objects of a pack index with the same offset.
-
--- no two of the first n objects have the same offset
-abbrev pub HaveOwnOffsets : Kind → List ℕ → ℕ → Type 0
-HaveOwnOffsets kind bytes n = (i j : ℕ) → i < j → j < n → offset_in kind bytes i ≢ offset_in kind bytes j
-
--- the second object is the first whose offset an earlier object has, and that is the first object
-pub record IsFirstShared (kind : Kind) (bytes : List ℕ) (first second : ℕ) : Type 0 where
-  pub in_order : first < second
-  pub in_range : second < length (names_in kind bytes)
-  pub same : offset_in kind bytes first ≡ offset_in kind bytes second
-  pub own_before : HaveOwnOffsets kind bytes second
-
 -- Why bytes are not a pack index.
 
 -- how long an index of version 1 is, which has no magic number: the fan-out table, the ids each after an offset of four bytes, and the digests

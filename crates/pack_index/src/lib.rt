@@ -16,7 +16,6 @@ mod lazy_error;
 mod names;
 mod offsets;
 mod search;
-mod shared;
 pub mod tables;
 mod words;
 

@@ -14,9 +14,9 @@ mod memory;
 #[cfg(test)]
 mod object_store_matches;
 #[cfg(test)]
-mod pack_index_lazy;
+mod pack_index_index_file;
 #[cfg(test)]
-mod pack_index_shared;
+mod pack_index_lazy;
 #[cfg(test)]
 mod packtool_commands_error;
 #[cfg(test)]

@@ -1,4 +1,4 @@
-//! A small pack index: its names, and whether two have one offset.
+//! The names of a small pack index.
 
 use crate::expecting::expect;
 use gix_hash::Kind;
@@ -30,20 +30,6 @@ fn names_of_an_index(rt: HostRuntime) -> Result<(), Fail> {
             Some(short) => expect!(&rt; name.is_some_and(|name| short.eq_str(name)), id),
             None => expect!(&rt; name.is_none(), id),
         }
-    }
-    Ok(())
-}
-
-// The first name has an 8-byte offset. The second has 3073, and the third 3074.
-#[test]
-fn offsets_that_two_names_share(rt: HostRuntime) -> Result<(), Fail> {
-    let ids = ids_of(&rt, &NAMES)?;
-    for &(long, want) in &[(3073, Some((0, 1))), (12, None), (3075, Some((0, 3)))] {
-        let bytes = pack_index(rt.alloc(), Kind::Sha1, &ids, &[long])?;
-        let Ok(file) = File::try_new(&bytes, Kind::Sha1) else {
-            return Err(Fail::new("it is no pack index"));
-        };
-        expect!(&rt; file.shared_offset(rt.alloc())? == want, long);
     }
     Ok(())
 }
