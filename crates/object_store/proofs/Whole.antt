@@ -1,8 +1,7 @@
 -- What a store whose pack indexes are ones has read with a first byte: all ids that have it.
-use Rattle.gix_hash.proofs.Std.{◌≡◌, ℕ, ◌<◌, ◌≤◌, inl, inr, Bool, true, nat_eq, None, Some, List, [], ◌++◌, length, get_or, map, refl, sym, ap, ◌∙◌, subst, arith, All, Contains, flat_map, starts_with, ext_get_or, get_or-map, length-map, Contains-append_cases, Contains-append_left, Contains-append_right, Contains-get_or, filter-append, flat_map-map}
+use Rattle.gix_hash.proofs.Std.{◌≡◌, ℕ, ◌<◌, ◌≤◌, inl, inr, Bool, true, nat_eq, None, List, [], ◌++◌, length, get_or, map, sym, ap, ◌∙◌, subst, arith, All, Contains, flat_map, starts_with, ext_get_or, get_or-map, length-map, Contains-append_cases, Contains-append_left, Contains-append_right, Contains-get_or, filter-append, flat_map-map}
 use Rattle.id_lookup.specs.Words.{IsIndexOf, ObjectId, first_byte_of, has_first_byte, id_digits, matches, part_of}
 use Rattle.id_lookup.proofs.Beginnings.{first_byte_of-begins, matches-part, same_test}
-use Rattle.id_lookup.proofs.Filtering.{filter_all}
 use Rattle.id_lookup.proofs.Filters.{contains_had, contains_kept, kept_passes}
 use Rattle.id_lookup.proofs.SameMembers.{part_is}
 use Rattle.pack_index.specs.Format.{names_in}
@@ -88,26 +87,3 @@ found_begins view digits ids are k d low =
     let there : Contains (map id_digits ids) id =
     subst (Contains (map id_digits ids)) (get_or-map id_digits ids k d [] low) (Contains-get_or (map id_digits ids) k [] (omega (arith, low, length-map ids id_digits))) in
     kept_passes (λ x. starts_with nat_eq x digits) are.read id ((are.index.members id).0 there)
-
--- if all bytes are known, what was read is determined, whatever they are
-module _ (view : StoreView) (indexes : List (List ℕ)) (known : map (λ (pack : LazyIndex). pack.content) view.packs ≡ map Some indexes) where
-  read_once : (byte : ℕ) (one other : List (List ℕ)) → AreIdsRead view byte one → AreIdsRead view byte other → one ≡ other
-  read_once byte one other r s =
-      let p : LazyIndex = record { kind = view.kind; count = 0; content = None; path = []; can_fail = true } in
-      let same : r.names ≡ s.names =
-      ext_get_or [] r.names s.names (omega (arith, r.are_read.as_many, s.are_read.as_many)) (λ k low.
-      let inside : k < length view.packs = omega (arith, low, r.are_read.as_many) in
-      let bytes = get_or indexes k [] in
-      let here = known_at view.packs indexes known k p inside in
-      r.are_read.each k p inside bytes here ∙ sym (s.are_read.each k p inside bytes here)) in
-      r.all ∙ ap (λ (names : List (List (List ℕ))). flat_map (λ (some : List (List ℕ)). some) names ++ view.loose) same ∙ sym s.all
-
-  -- so is what is found
-  pub found_once : (digits : List ℕ) (one other : List ObjectId) → AreMatches view digits one → AreMatches view digits other → map id_digits one ≡ map id_digits other
-  found_once digits one other a b =
-      let same : a.read ≡ b.read = read_once (first_byte_of digits) a.read b.read a.ids_read b.ids_read in
-      let ids = matches digits b.read in
-      let all_pass = λ (xs : List (List ℕ)). filter_all (λ _. true) xs (λ k d low. refl) in
-      let all = subst (λ (read : List (List ℕ)). IsIndexOf view.kind (matches digits read) (map id_digits one)) same a.index in
-      part_is view.kind (λ _. true) ids (map id_digits other) (map id_digits one) b.index
-      (subst (λ (xs : List (List ℕ)). IsIndexOf view.kind xs (map id_digits one)) (sym (all_pass ids)) all) ∙ all_pass (map id_digits other)

@@ -1,9 +1,8 @@
 //! Laws of stores that no single call carries. Each is the contract of a function.
 
-ghost use Rattle.std.specs.Prelude.{◌↔◌, ◌≡◌, ℕ, ◌<◌, ◌≤◌, Contains, List, Some, [], length, map, slice_index_or};
-ghost use Rattle.id_lookup.specs.Words.{IsIndexOf, Kind, ObjectId, first_byte_of, id_digits, matches};
-ghost use Rattle.pack_index.specs.Lazy.{LazyIndex};
-ghost use Rattle.object_store.specs.Stores.{AreIdsRead, AreLocations, AreMatches, HasObjectAt, Holds, IsIndexReadOrMemory, IsLocateFault, IsNameIn, IsStoreFault, StoreView, locations_of};
+ghost use Rattle.std.specs.Prelude.{◌↔◌, ◌≡◌, ℕ, ◌<◌, ◌≤◌, Contains, List, [], length, slice_index_or};
+ghost use Rattle.id_lookup.specs.Words.{IsIndexOf, Kind, first_byte_of, matches};
+ghost use Rattle.object_store.specs.Stores.{AreIdsRead, AreLocations, HasObjectAt, Holds, IsIndexReadOrMemory, IsLocateFault, IsNameIn, IsStoreFault, StoreView, locations_of};
 ghost use Rattle.object_store.specs.declared.error.Error.{Error as StoreError};
 ghost use Rattle.object_store.specs.declared.locations.Location.{Location};
 ghost use Rattle.object_store.specs.declared.locations.Location.TheVariants.{Packed, Loose};
@@ -47,13 +46,4 @@ pub fn whole()
         (locations : List Location) → (h : Holds view whole)
         → AreLocations view id locations
         → locations ≡ locations_of view.kind id h.indexes view.loose }
-{}
-
-/// If the bytes of all pack indexes are known, a look-up has one result, whatever is damaged.
-pub fn determined()
-    ensures { (view : StoreView) (indexes : List (List ℕ)) (digits : List ℕ)
-        (one other : List ObjectId)
-        → map (λ (pack : LazyIndex). pack.content) view.packs ≡ map Some indexes
-        → AreMatches view digits one → AreMatches view digits other
-        → map id_digits one ≡ map id_digits other }
 {}

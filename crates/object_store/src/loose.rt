@@ -1,19 +1,20 @@
 //! The ids of loose objects.
 
 ghost use Rattle.std.specs.Prelude.{◌≡◌, ◌<◌, ◌≤◌, ◌↔◌, All, Contains, IsTrue, length, map};
-ghost use Rattle.id_lookup.specs.Words.{IsIndex, IsIndexOf, hex_len_of, id_digits, id_kind, matches, part_of};
+ghost use Rattle.id_lookup.specs.Words.{IsIndexOf, hex_len_of, id_digits, id_kind, matches};
 
-use crate::abbreviations::two_digits;
 use gix_hash::{Kind, ObjectId, Prefix};
 use id_lookup::{find_assuming_sorted, sort_unique};
 use std::marker::Model;
 
-/// The ids of loose objects, each once, in order. Those with a first byte, those that begin with a
-/// prefix, and a single one, are found by binary search.
+/// The ids of loose objects, each once, in order. Those that begin with a prefix, and a single one,
+/// are found by binary search.
 ///
 /// ```
 /// let loose = LooseTable::new(vec![in rt.alloc(); id]?, id.kind());
-/// println!(rt; "{} begin with 4b", loose.with_first_byte(0x4b).len())?;
+/// if loose.contains(&expected) {
+///     println!(rt; "{expected} is a loose object")?;
+/// }
 /// ```
 #[derive(Drop)]
 pub struct LooseTable {
@@ -52,15 +53,6 @@ impl LooseTable {
         ensures digits { All (λ id. All (λ d. d < 16) id) self.now.ids }
     {
         &self.ids
-    }
-
-    /// Those with a first byte, in order.
-    pub fn with_first_byte(&self, byte: u8) -> &[ObjectId]
-        ensures ids { map id_digits result.now ≡ part_of byte self.now.ids }
-        ensures index { IsIndex self.now.kind (map id_digits result.now) }
-        ensures kinds { All (λ id. id_kind id ≡ self.now.kind) result.now }
-    {
-        self.beginning_with(&two_digits(self.kind, byte))
     }
 
     /// Those that begin with a prefix, in order. It has at most as many digits as they have.
