@@ -212,17 +212,13 @@ location_end (Some offset) = 32 ∷ decimal offset ++ 10 ∷ []
 location_end None = 10 ∷ []
 
 -- the id in hex, a space, the path of the file, and the offset, after a line of a text or nothing; a backslash before all if a byte of the path is escaped
-abbrev pub location_line_after : Option (List ℕ) → List ℕ → List ℕ → Option ℕ → List ℕ
-location_line_after line id path offset = escape_mark path ++ (front_text line ++ ((spelling hex_letter id ++ 32 ∷ []) ++ (escaped path ++ location_end offset)))
-
--- the line of a location that is after nothing
-abbrev pub location_line : List ℕ → List ℕ → Option ℕ → List ℕ
-location_line id path offset = location_line_after None id path offset
+abbrev pub location_line : Option (List ℕ) → List ℕ → List ℕ → Option ℕ → List ℕ
+location_line line id path offset = escape_mark path ++ (front_text line ++ ((spelling hex_letter id ++ 32 ∷ []) ++ (escaped path ++ location_end offset)))
 
 -- the lines of a location: one of a pack, and one of each file of a loose object
 abbrev pub lines_at_after : Option (List ℕ) → (ℕ → List ℕ) → List (List ℕ) → List ℕ → Location → List ℕ
-lines_at_after line pack_path loose_paths id (Packed pack offset) = location_line_after line id (pack_path pack) (Some offset)
-lines_at_after line pack_path loose_paths id Loose = flat_map (λ path. location_line_after line id path None) loose_paths
+lines_at_after line pack_path loose_paths id (Packed pack offset) = location_line line id (pack_path pack) (Some offset)
+lines_at_after line pack_path loose_paths id Loose = flat_map (λ path. location_line line id path None) loose_paths
 
 -- the lines of the locations of an id, each after a line of a text or nothing
 abbrev pub located_lines : {A : Type 0} → (ℕ → List ℕ) → Option (List ℕ) → LocatedId A → List ℕ

@@ -3,11 +3,11 @@
 //! [`find`] writes the ids of a store that begin with a prefix, [`locate`] the locations of these
 //! ids, and [`names`] all ids after their abbreviations. [`find_each`], [`locate_each`] and
 //! [`name_each`] do so for each line of a text ([`PrefixLines`]). If a pack index is gone
-//! meanwhile, they open the store again. [`write_location`] writes one location, and
-//! [`write_names`] the lines of some ids. [`show`] writes the lines of a pack index as
-//! `git show-index` does. [`open_index`] opens one, [`write_ending`] writes whether a file ends
-//! with its digest, [`write_pairing`] whether a pack index belongs to the pack beside it, as
-//! [`pair`] finds, and [`write_named`] another line of a file. They escape names as `sha1sum` does.
+//! meanwhile, they open the store again. [`write_names`] writes the lines of some ids. [`show`]
+//! writes the lines of a pack index as `git show-index` does. [`open_index`] opens one,
+//! [`write_ending`] writes whether a file ends with its digest, [`write_pairing`] whether a pack
+//! index belongs to the pack beside it, as [`pair`] finds, and [`write_named`] another line of a
+//! file. They escape names as `sha1sum` does.
 #![tactic(auto)]
 
 mod ending;
@@ -29,7 +29,7 @@ pub use ending::write_ending;
 pub use error::{FileError, StoreError};
 pub use escaping::write_named;
 pub use finding::{find, find_each};
-pub use locating::{locate, locate_each, write_location};
+pub use locating::{locate, locate_each};
 pub use naming::{name_each, names, write_names};
 pub use pairing::{Pairing, pair, write_pairing};
 pub use prefixes::PrefixLines;

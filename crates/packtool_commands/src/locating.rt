@@ -4,7 +4,7 @@ ghost use Rattle.std.specs.Prelude.{◌≡◌, ◌≢◌, ◌↔◌, ◌<◌, �
 ghost use Rattle.id_lookup.specs.Words.{hex_letter, id_digits, spelling};
 ghost use Rattle.object_store.specs.Several.{AreLocated, HaveMoreLocations, IsLocationsFault, IsLocationsFaultOfOne};
 ghost use Rattle.object_store.specs.Stores.{CanLookUp, IsReopened};
-ghost use Rattle.packtool_commands.specs.Stores.{AreListed, HasLocated, HasLocatedEach, HasLocatedPart, HasLocatedSome, IsFaultOf, limit_for, lines_at_after, located_lines, location_end, location_line, location_line_after};
+ghost use Rattle.packtool_commands.specs.Stores.{AreListed, HasLocated, HasLocatedEach, HasLocatedPart, HasLocatedSome, IsFaultOf, limit_for, lines_at_after, located_lines, location_end, location_line};
 ghost use Rattle.packtool_commands.specs.declared.error.StoreError.{StoreError};
 ghost use Rattle.streams.specs.Streams.{Wrote, lines_of};
 
@@ -28,10 +28,13 @@ const MAX_START_LEN: usize = 65;
 // What is after the path: at most a space, an offset of 20 digits and a line feed.
 type End = ArrayVec<u8, 22>;
 
-/// Writes a line for each location of each id of a store that begins with a prefix: the ids in
-/// order, each once; the locations of one in the order of [`object_store::locate`]; and of a loose
-/// object a line for each file. Paths are escaped as by [`write_location`](crate::write_location).
-/// Returns whether there is such an id.
+/// Writes a line for each location of each id of a store that begins with a prefix: the id, a
+/// space, the path of the file that has it, and, of a pack, a space and the offset there. Returns
+/// whether there is such an id.
+///
+/// The ids are in order, each once; the locations of one in the order of
+/// [`Parts::locate`](object_store::Parts::locate); and a loose object has a line for each file.
+/// Paths are escaped as by [`write_named`](crate::write_named), so none looks like a further line.
 ///
 /// The prefix has 2 digits or more, and the store's kind. Of each pack index ids with its first
 /// byte are read. Nothing is written before all locations are found; if a pack index is gone until
@@ -216,7 +219,7 @@ impl<S: StorePaths> ItemForm<Location> for LocationForm<'_, S> {
         match location {
             Location::Packed { pack, offset } => {
                 let path = self.store.pack_path(*pack);
-                write_location_after(line, self.id, path, Some(*offset), out)
+                write_location(line, self.id, path, Some(*offset), out)
             }
             Location::Loose => write_each(line, self.loose_paths, &PathForm { id: self.id }, out),
         }
@@ -230,7 +233,7 @@ struct PathForm<'i> {
 }
 
 impl ItemForm<String> for PathForm<'_> {
-    ghost text = { λ form line path. location_line_after line (id_digits form.id.now)
+    ghost text = { λ form line path. location_line line (id_digits form.id.now)
         (string_bytes path) None };
 
     fn write_after<W: Sink>(
@@ -239,37 +242,12 @@ impl ItemForm<String> for PathForm<'_> {
         path: &String,
         out: &mut W,
     ) -> Result<(), WriteFailed> {
-        write_location_after(line, self.id, path.as_str(), None, out)
+        write_location(line, self.id, path.as_str(), None, out)
     }
 }
 
-/// Writes the line of an object's location: the id, a space, the path of the file that has it, and,
-/// of a pack, a space and the offset there. The path is escaped as by
-/// [`write_named`](crate::write_named), so no path looks like a further line.
-///
-/// It stops at the first write that fails, after a proper beginning of the line. The sink must not
-/// have failed before.
-///
-/// ```
-/// if write_location(&id, "objects/pack/pack-1.pack", Some(12), &mut out).is_err() {
-///     println!(rt; "the line is not written whole")?;
-/// }
-/// ```
-pub fn write_location<W: Sink>(
-    id: &ObjectId,
-    path: &str,
-    offset: Option<u64>,
-    out: &mut W,
-) -> Result<(), WriteFailed>
-    requires { W.has_failed out.old ≡ false }
-    ensures { Wrote W.taken W.has_failed out.old out.new result
-        (location_line (id_digits id.now) path.now offset) }
-{
-    write_location_after(None, id, path, offset, out)
-}
-
 // Writes the line of an object's location after a line of a text or nothing.
-fn write_location_after<W: Sink>(
+fn write_location<W: Sink>(
     line: Option<&[u8]>,
     id: &ObjectId,
     path: &str,
@@ -278,7 +256,7 @@ fn write_location_after<W: Sink>(
 ) -> Result<(), WriteFailed>
     requires { W.has_failed out.old ≡ false }
     ensures { Wrote W.taken W.has_failed out.old out.new result
-        (location_line_after (option_copied line.entry) (id_digits id.now) path.now offset) }
+        (location_line (option_copied line.entry) (id_digits id.now) path.now offset) }
 {
     let mut start = [0; MAX_START_LEN];
     let start_len = put_start(id, &mut start);

@@ -3,7 +3,7 @@
 use crate::expecting::{expect, expect_bytes};
 use gix_hash::{Kind, ObjectId};
 use linked_list_allocator::LocalHeap;
-use packtool_commands::{FileError, Pairing, show, write_ending, write_location, write_pairing};
+use packtool_commands::{FileError, Pairing, show, write_ending, write_pairing};
 use std::alloc::{AllocError, Global};
 use std::process::Abort;
 use std::test::Fail;
@@ -90,7 +90,6 @@ fn reports_too_little_memory(rt: HostRuntime) -> Result<(), Fail> {
 enum Line {
     Ending(Ending),
     Pairing(Pairing),
-    Location(Option<u64>),
 }
 
 // A writer takes as much of the line as it has room for, and the result says whether that is all.
@@ -104,7 +103,6 @@ fn expect_line(rt: &impl Abort, line: Line, want: &str) {
         let written = match line {
             Line::Ending(ending) => write_ending("a.idx", &ending, &mut out),
             Line::Pairing(pairing) => write_pairing("a.idx", &pairing, &mut out),
-            Line::Location(offset) => write_location(&TREE, "a b.pack", offset, &mut out),
         };
         expect!(rt; written.is_ok() == (room == want.len()), room);
         let taken = want.as_bytes().get(..room).unwrap_or(b"");
@@ -129,7 +127,7 @@ const LONG: ObjectId = ObjectId::Sha256([
 ]);
 
 // Lines of files, and what is written.
-const LINES: [(Line, &str); 10] = [
+const LINES: [(Line, &str); 8] = [
     (Line::Ending(Ending::Sealed(TREE)), "a.idx: OK\n"),
     (
         Line::Ending(Ending::Unsealed {
@@ -170,14 +168,6 @@ const LINES: [(Line, &str); 10] = [
             found: Some(LONG),
         }),
         "a.idx: FAILED: its pack ends in 473a0f4c3be8a93681a267e3b1e9a7dcda1185436fe141f7749120a303721813, and the pack beside it ends in 473a0f4c3be8a93681a267e3b1e9a7dcda1185436fe141f7749120a303721813\n",
-    ),
-    (
-        Line::Location(None),
-        "4b825dc642cb6eb9a060e54bf8d69288fbee4904 a b.pack\n",
-    ),
-    (
-        Line::Location(Some(u64::MAX)),
-        "4b825dc642cb6eb9a060e54bf8d69288fbee4904 a b.pack 18446744073709551615\n",
     ),
 ];
 

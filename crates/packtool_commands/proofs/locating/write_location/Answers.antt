@@ -4,7 +4,7 @@ use Rattle.streams.specs.Streams.{Wrote}
 use Rattle.streams.proofs.WritingLemmas.{Wrote-stop, Wrote-then}
 use Rattle.packtool_commands.specs.Stores.{front_text}
 use Rattle.packtool_commands.specs.Files.{escape_mark, escaped}
-use Rattle.packtool_commands.proofs.locating.write_location_after.Goals as goal
+use Rattle.packtool_commands.proofs.locating.write_location.Goals as goal
 
 pub returns-in_err-write_mark : goal.returns-in_err-write_mark
 returns-in_err-write_mark g c = Wrote-stop _ (escape_mark c.args.path.now) _ c.from_residual.ensures.0 c.in_err-write_mark.ensures
