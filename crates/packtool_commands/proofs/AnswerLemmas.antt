@@ -1,11 +1,12 @@
 -- The lines of a text and what is printed for them, one after the other.
-use Rattle.gix_hash.proofs.Std.{◌≡◌, ℕ, ◌<◌, ◌≤◌, Bool, true, false, ◌&&◌, nat_lt, Option, None, Some, List, [], ◌∷◌, ◌++◌, length, refl, sym, ap, subst, ◌∙◌, arith, if◌then◌else◌, All, flat_map, is_some, option_map, option_to_list, nat_tests, length-drop, nil_from_length, All-append, All-cons, All-nil}
+use Rattle.gix_hash.proofs.Std.{◌≡◌, ℕ, ◌<◌, ◌≤◌, Bool, true, false, nat_lt, Option, None, Some, List, [], ◌∷◌, length, refl, sym, ap, subst, ◌∙◌, arith, if◌then◌else◌, All, flat_map, option_map, option_to_list, nat_tests, nil_from_length, All-append, All-cons, All-nil}
 use Rattle.streams.proofs.LineLemmas.{lines_of-nil}
 use Rattle.id_lookup.specs.Words.{Kind, KindDigits, digits_read, hex_len_of, hex_letter, kind_digits}
 use Rattle.object_store.specs.Several.{limited_to}
 use Rattle.object_store.specs.Stores.{CanLookUp, IsReopened, StoreView}
 use Rattle.streams.specs.Streams.{lines_of}
-use Rattle.packtool_commands.specs.Stores.{AreListed, answer_to, answers_by, are_answers_by, found_text, is_answer_to, is_found, limit_for, lists_after, of_two, prefix_of, prefixes_of}
+use Rattle.packtool_commands.specs.Stores.{AreListed, found_text, is_found, limit_for, of_two, prefix_of, prefixes_of}
+use Rattle.packtool_commands.specs.declared.prefixes.Line.{Line}
 use Rattle.packtool_commands.specs.declared.printing.Answers.{Answers}
 use Rattle.packtool_commands.specs.declared.printing.Answers.TheVariants.{All as AllOfThem, One}
 
@@ -33,34 +34,9 @@ first_is_found One [] = refl
 first_is_found One (x ∷ []) = refl
 first_is_found One (x ∷ (other ∷ found)) = refl
 
-pub and_true : (a : Bool) → (a && true) ≡ a
-and_true true = refl
-and_true false = refl
-
-pub and_assoc : (a b c : Bool) → ((a && b) && c) ≡ (a && (b && c))
-and_assoc true b c = refl
-and_assoc false b c = refl
-
-module _ (kind : Kind) (rest after : List (List ℕ)) (line : List ℕ) (p : Bool) (is : rest ≡ line ∷ after) (same : p ≡ is_some (prefix_of kind line)) where
-  -- what is printed for a line, and for those after it
-  pub answers_step : {X : Type 0} (found : List X) (text : List ℕ → X → List ℕ)
-      → answers_by text kind rest found ≡ answer_to text line p found ++ answers_by text kind after (lists_after p found)
-  answers_step found text =
-      ap (λ ls. answers_by text kind ls found) is ∙ ap (λ q. answer_to text line q found ++ answers_by text kind after (lists_after q found)) (sym same)
-
-  pub are_answers_step : {X : Type 0} (found : List X) (is_wanted : X → Bool)
-      → are_answers_by is_wanted kind rest found ≡ (is_answer_to is_wanted p found && are_answers_by is_wanted kind after (lists_after p found))
-  are_answers_step found is_wanted =
-      ap (λ ls. are_answers_by is_wanted kind ls found) is ∙ ap (λ q. is_answer_to is_wanted q found && are_answers_by is_wanted kind after (lists_after q found)) (sym same)
-
-  -- as many lists are left as prefixes
-  pub as_many_left : {X : Type 0} (left : List X) → length left ≡ length (prefixes_of kind rest) → length (lists_after p left) ≡ length (prefixes_of kind after)
-  as_many_left {X} left many =
-      ap (λ q. length (lists_after q left)) same ∙ by (prefix_of kind line) (many ∙ ap (λ ls. length (prefixes_of kind ls)) is)
-    where
-      by : (o : Option KindDigits) → length left ≡ length (option_to_list o ++ prefixes_of kind after) → length (lists_after (is_some o) left) ≡ length (prefixes_of kind after)
-      by None e = e
-      by (Some prefix) e = omega (arith, length-drop 1 left, e)
+-- a line, and whether it is a prefix
+abbrev pub mark : Line → List ℕ × Bool
+mark line = (line.text.now, line.is_prefix)
 
 -- the prefixes among lines have 2 digits or more, and the kind
 abbrev IsLong : Kind → KindDigits → Type 0

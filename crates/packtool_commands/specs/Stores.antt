@@ -1,6 +1,8 @@
 -- What is printed of the ids of a store, and why that fails.
-use Rattle.std.specs.Prelude.{[], ℕ, ◌&&◌, ◌++◌, ◌<◌, ◌↔◌, ◌∷◌, ◌≡◌, ◌≢◌, All, Bool, IsTrue, List, None, Option, Some, Vec, codes, decimal, drop, false, flat_map, if◌then◌else◌, length, map, nat_lt, string_bytes, suc, true, zero, is_some, option_map, option_to_list}
+use Rattle.std.specs.Prelude.{[], ℕ, ◌++◌, ◌<◌, ◌↔◌, ◌∷◌, ◌≡◌, ◌≢◌, All, Bool, IsTrue, List, None, Option, Some, Vec, codes, decimal, false, flat_map, if◌then◌else◌, length, map, nat_lt, string_bytes, suc, true, zero, is_some, option_map, option_to_list}
 use Rattle.std.specs.Io.KnownBytes.{Appends}
+use Rattle.std.specs.List.{list_all}
+use Rattle.std.specs.Option.{option_map_or}
 use Rattle.id_lookup.specs.Words.{Kind, KindDigits, ObjectId, digits_read, first_byte_of, hex_len_of, hex_letter, id_digits, kind_digits, spelling}
 use Rattle.streams.specs.Streams.{AppendsAtMost, AppendsPart, printed}
 use Rattle.pack_index.specs.Format.{Each}
@@ -96,34 +98,29 @@ is_found answers_of.One [] = false
 is_found answers_of.One (x ∷ []) = true
 is_found answers_of.One (x ∷ (other ∷ xs)) = false
 
--- what is printed for a line that is a prefix or not, by the first of what was found
-abbrev pub answer_to : {X : Type 0} → (List ℕ → X → List ℕ) → List ℕ → Bool → List X → List ℕ
-answer_to text line false found = line_with line (codes "bad")
-answer_to text line true [] = []
-answer_to text line true (x ∷ found) = text line x
+-- lines, and whether each is a prefix
+abbrev pub marked : Kind → List (List ℕ) → List (List ℕ × Bool)
+marked kind lines = map (λ line. (line, is_some (prefix_of kind line))) lines
 
--- whether it has what is asked for
-abbrev pub is_answer_to : {X : Type 0} → (X → Bool) → Bool → List X → Bool
-is_answer_to is_wanted false found = false
-is_answer_to is_wanted true [] = false
-is_answer_to is_wanted true (x ∷ found) = is_wanted x
+-- lines, each with the next of what was found if it is a prefix
+abbrev pub answered : {X : Type 0} → List (List ℕ × Bool) → List X → List (List ℕ × Option X)
+answered [] found = []
+answered ((line, false) ∷ lines) found = (line, None) ∷ answered lines found
+answered ((line, true) ∷ lines) [] = (line, None) ∷ answered lines []
+answered ((line, true) ∷ lines) (x ∷ found) = (line, Some x) ∷ answered lines found
 
--- what was found for the lines after it: a prefix takes one
-abbrev pub lists_after : {X : Type 0} → Bool → List X → List X
-lists_after false found = found
-lists_after true found = drop 1 found
+-- what is printed for a line, with what was found if it is a prefix
+abbrev pub answer_of : {X : Type 0} → (List ℕ → X → List ℕ) → List ℕ × Option X → List ℕ
+answer_of text (line, None) = line_with line (codes "bad")
+answer_of text (line, Some x) = text line x
 
--- what is printed for lines, by what was found for each that is a prefix
-abbrev pub answers_by : {X : Type 0} → (List ℕ → X → List ℕ) → Kind → List (List ℕ) → List X → List ℕ
-answers_by text kind [] found = []
-answers_by text kind (line ∷ lines) found =
-    answer_to text line (is_some (prefix_of kind line)) found ++ answers_by text kind lines (lists_after (is_some (prefix_of kind line)) found)
+-- what is printed for lines, by what was found for the prefixes among them
+unfoldable pub answers_by : {X : Type 0} → (List ℕ → X → List ℕ) → Kind → List (List ℕ) → List X → List ℕ
+answers_by text kind lines found = flat_map (answer_of text) (answered (marked kind lines) found)
 
--- whether each has what is asked for
-abbrev pub are_answers_by : {X : Type 0} → (X → Bool) → Kind → List (List ℕ) → List X → Bool
-are_answers_by is_wanted kind [] found = true
-are_answers_by is_wanted kind (line ∷ lines) found =
-    is_answer_to is_wanted (is_some (prefix_of kind line)) found && are_answers_by is_wanted kind lines (lists_after (is_some (prefix_of kind line)) found)
+-- whether each line has what is asked for
+unfoldable pub are_answers_by : {X : Type 0} → (X → Bool) → Kind → List (List ℕ) → List X → Bool
+are_answers_by is_wanted kind lines found = list_all (λ answer. option_map_or is_wanted answer.1 false) (answered (marked kind lines) found)
 
 -- what is printed for lines by what was found for the prefixes among them was written, and whether each has what is asked for was returned
 pub record HasAnsweredBy {X : Type 0} (AreFound : List X → Type 0) (text : List ℕ → X → List ℕ) (is_wanted : X → Bool) (kind : Kind) (lines : List (List ℕ))

@@ -123,7 +123,7 @@ pub fn find_each<S: Reopen, A: Allocator + Copy, W: Sink>(
         answers,
         item: IdForm,
     };
-    Ok(write_answers(lines.kind, lines.text, &found, &form, out)?)
+    Ok(write_answers(lines, &found, &form, out)?)
 }
 
 // How an id is printed.

@@ -160,7 +160,7 @@ pub fn locate_each<S: Reopen + StorePaths, A: Allocator + Copy, W: Sink>(
         answers,
         item: LocationsForm { store: &*store },
     };
-    Ok(write_answers(lines.kind, lines.text, &located, &form, out)?)
+    Ok(write_answers(lines, &located, &form, out)?)
 }
 
 // How many ids of a prefix are located: all, or the first two, which show whether there are more

@@ -186,7 +186,7 @@ pub fn name_each<S: Reopen, A: Allocator + Copy, W: Sink>(
     let Some(named) = looked? else {
         return Err(StoreError::TooMany);
     };
-    Ok(write_answers(lines.kind, lines.text, &named, &AbbreviationForm, out)?)
+    Ok(write_answers(lines, &named, &AbbreviationForm, out)?)
 }
 
 // How the abbreviation of the only id that begins with a prefix is printed.

@@ -1,8 +1,8 @@
 //! The lines of a text as prefixes.
 
-ghost use Rattle.std.specs.Prelude.{◌≡◌, ◌-◌, ◌<◌, ◌≤◌, ◌∷◌, IfOk, length};
+ghost use Rattle.std.specs.Prelude.{◌≡◌, ◌-◌, ◌<◌, ◌≤◌, ◌∷◌, IfOk, length, map};
 ghost use Rattle.std.specs.List.{after_first, before_first, position};
-ghost use Rattle.packtool_commands.specs.Stores.{prefix_of, prefixes_of};
+ghost use Rattle.packtool_commands.specs.Stores.{marked, prefix_of, prefixes_of};
 ghost use Rattle.streams.specs.Streams.{is_line_feed, lines_of};
 
 use gix_hash::{Alphabet, Kind, Prefix};
@@ -21,20 +21,46 @@ use std::alloc::{AllocError, Allocator};
 pub struct PrefixLines<'a, A: Allocator> {
     pub(crate) text: &'a [u8],
     pub(crate) kind: Kind,
+    pub(crate) lines: Vec<Line<'a>, A>,
     pub(crate) prefixes: Vec<Prefix, A>,
+    ghost are_lines: { map (λ line. (line.text.now, line.is_prefix)) lines.items
+        ≡ marked kind (lines_of text.now) },
     ghost are_read: { prefixes.items ≡ prefixes_of kind (lines_of text.now) },
 }
 
-impl<'a, A: Allocator> PrefixLines<'a, A> {
+/// A line without its line feed, and whether it is a prefix.
+#[derive(Drop)]
+pub(crate) struct Line<'a> {
+    pub(crate) text: &'a [u8],
+    pub(crate) is_prefix: bool,
+}
+
+impl<'a, A: Allocator + Copy> PrefixLines<'a, A> {
     /// Reads the lines of a text.
     pub fn read(alloc: A, kind: Kind, text: &'a [u8]) -> Result<PrefixLines<'a, A>, AllocError>
         ensures text { IfOk result (λ lines. lines.text.now ≡ text.now) }
         ensures kind { IfOk result (λ lines. lines.kind ≡ kind) }
     {
+        let mut lines = Vec::new(alloc);
+        let mut prefixes = Vec::new(alloc);
+        let mut rest = text;
+        while !rest.is_empty() {
+            let (line, after) = first_line(rest);
+            let prefix = prefix_in(kind, line);
+            lines.push(Line {
+                text: line,
+                is_prefix: prefix.is_some(),
+            })?;
+            if let Some(prefix) = prefix {
+                prefixes.push(prefix)?;
+            }
+            rest = after;
+        }
         Ok(PrefixLines {
             text,
             kind,
-            prefixes: prefixes_in(alloc, kind, text)?,
+            lines,
+            prefixes,
         })
     }
 
@@ -47,28 +73,8 @@ impl<'a, A: Allocator> PrefixLines<'a, A> {
     }
 }
 
-// The prefixes of a kind among the lines of a text, in order.
-fn prefixes_in<A: Allocator>(
-    alloc: A,
-    kind: Kind,
-    text: &[u8],
-) -> Result<Vec<Prefix, A>, AllocError>
-    ensures { IfOk result (λ prefixes. prefixes.items ≡ prefixes_of kind (lines_of text.now)) }
-{
-    let mut prefixes = Vec::new(alloc);
-    let mut rest = text;
-    while !rest.is_empty() {
-        let (line, after) = first_line(rest);
-        if let Some(prefix) = prefix_in(kind, line) {
-            prefixes.push(prefix)?;
-        }
-        rest = after;
-    }
-    Ok(prefixes)
-}
-
-/// The first line of a text that is not empty, and what is after its line feed.
-pub(crate) fn first_line(text: &[u8]) -> (&[u8], &[u8])
+// The first line of a text that is not empty, and what is after its line feed.
+fn first_line(text: &[u8]) -> (&[u8], &[u8])
     requires { 0 < length text.now }
     ensures lines { lines_of text.now ≡ result.0.now ∷ lines_of result.1.now }
     ensures fewer { length result.1.now < length text.now }
@@ -96,8 +102,8 @@ fn line_feed_in(text: &[u8]) -> Option<usize>
     text.iter().position(|byte| *byte == b'\n')
 }
 
-/// The prefix that a line is.
-pub(crate) fn prefix_in(kind: Kind, line: &[u8]) -> Option<Prefix>
+// The prefix that a line is.
+fn prefix_in(kind: Kind, line: &[u8]) -> Option<Prefix>
     ensures { result ≡ prefix_of kind line.now }
 {
     if line.len() > kind.len_in_hex() {

@@ -1,12 +1,12 @@
 //! What is printed for each line of a text, by what is found in a store.
 
-ghost use Rattle.std.specs.Prelude.{◌≡◌, ◌++◌, ◌<◌, ◌&&◌, ℕ, Bool, List, IfOk, OnErr, OnOk, Option, false, flat_map, length, option_copied, true};
+ghost use Rattle.std.specs.Prelude.{◌≡◌, ◌++◌, ◌∷◌, ◌&&◌, ℕ, Bool, List, IfOk, OnErr, OnOk, Option, false, flat_map, option_copied, true};
 ghost use Rattle.std.specs.Io.KnownBytes.{Appends};
-ghost use Rattle.packtool_commands.specs.Stores.{answer_to, answers_by, are_answers_by, found_text, front_text, is_answer_to, is_found, lists_after, prefixes_of};
+ghost use Rattle.std.specs.Option.{option_map_or};
+ghost use Rattle.packtool_commands.specs.Stores.{answer_of, answered, answers_by, are_answers_by, found_text, front_text, is_found};
 ghost use Rattle.streams.specs.Streams.{AppendsPart, Wrote, lines_of};
 
-use crate::prefixes::{first_line, prefix_in};
-use gix_hash::Kind;
+use crate::prefixes::{Line, PrefixLines};
 use std::alloc::Allocator;
 use streams::{Sink, WriteFailed, write_all};
 
@@ -43,74 +43,73 @@ pub(crate) trait AnswerForm<T> {
         ensures { result ≡ is_found self.now found.now };
 }
 
-/// Writes what is printed for each line of a text, by what was found for each prefix among them.
+/// Writes what is printed for each of some lines, by what was found for each prefix among them.
 /// Returns whether each found what is asked for.
-pub(crate) fn write_answers<T, F: AnswerForm<T>, W: Sink>(
-    kind: Kind,
-    lines: &[u8],
+pub(crate) fn write_answers<T, A: Allocator, F: AnswerForm<T>, W: Sink>(
+    lines: &PrefixLines<'_, A>,
     found: &[T],
     form: &F,
     out: &mut W,
 ) -> Result<bool, WriteFailed>
-    requires enough { length found.now ≡ length (prefixes_of kind (lines_of lines.now)) }
-    requires output { W.has_failed out.old ≡ false }
-    ensures written { OnOk result (Appends (W.taken out.old) (W.taken out.new)
-        (answers_by (F.text form.now) kind (lines_of lines.now) found.now)) }
-    ensures all { IfOk result (λ all. all ≡ are_answers_by (F.is_found form.now) kind
-        (lines_of lines.now) found.now) }
+    requires { W.has_failed out.old ≡ false }
+    ensures written { OnOk result (Appends (W.taken out.old) (W.taken out.new) (answers_by
+        (F.text form.now) lines.now.kind (lines_of lines.now.text.now) found.now)) }
+    ensures all { IfOk result (λ all. all ≡ are_answers_by (F.is_found form.now) lines.now.kind
+        (lines_of lines.now.text.now) found.now) }
     ensures not_failed { OnOk result (W.has_failed out.new ≡ false) }
-    ensures part { OnErr result (AppendsPart (W.taken out.old) (W.taken out.new)
-        (answers_by (F.text form.now) kind (lines_of lines.now) found.now)) }
+    ensures part { OnErr result (AppendsPart (W.taken out.old) (W.taken out.new) (answers_by
+        (F.text form.now) lines.now.kind (lines_of lines.now.text.now) found.now)) }
     ensures failed { OnErr result (W.has_failed out.new ≡ true) }
 {
     let mut all = true;
-    let mut rest = lines;
     let mut left = found;
-    while !rest.is_empty() {
-        let (line, after) = first_line(rest);
-        let is_prefix = prefix_in(kind, line).is_some();
-        write_answer(line, is_prefix, left, form, out)?;
-        all = are_answered(all, is_prefix, left, form);
-        left = lists_after(is_prefix, left);
-        rest = after;
+    for line in &lines.lines {
+        let (answer, after) = answer_to(line, left);
+        write_answer(line.text, answer, form, out)?;
+        all = are_wanted(all, answer, form);
+        left = after;
     }
     Ok(all)
 }
 
-// What was found for the lines after one.
-fn lists_after<T>(is_prefix: bool, found: &[T]) -> &[T]
-    requires { is_prefix ≡ true → 0 < length found.now }
-    ensures { result.now ≡ lists_after is_prefix found.now }
+// What was found for a line, if it is a prefix, and for those after it.
+fn answer_to<'f, T>(line: &Line<'_>, found: &'f [T]) -> (Option<&'f T>, &'f [T])
+    ensures { (lines : List (List ℕ × Bool))
+        → answered ((line.now.text.now, line.now.is_prefix) ∷ lines) found.now
+        ≡ (line.now.text.now, option_copied result.0) ∷ answered lines result.1.now }
 {
-    if is_prefix { &found[1..] } else { found }
+    if line.is_prefix && !found.is_empty() {
+        (Some(&found[0]), &found[1..])
+    } else {
+        (None, found)
+    }
 }
 
-// Whether the lines before a line find what is asked for, and it does, by the first of what was
-// found if it is a prefix.
-fn are_answered<T, F: AnswerForm<T>>(before: bool, is_prefix: bool, found: &[T], form: &F) -> bool
-    requires { is_prefix ≡ true → 0 < length found.now }
-    ensures { result ≡ (before && is_answer_to (F.is_found form.now) is_prefix found.now) }
-{
-    before && is_prefix && form.is_found(&found[0])
-}
-
-// Writes what is printed for a line, by the first of what was found if it is a prefix.
+// Writes what is printed for a line, by what was found if it is a prefix.
 fn write_answer<T, F: AnswerForm<T>, W: Sink>(
     line: &[u8],
-    is_prefix: bool,
-    found: &[T],
+    answer: Option<&T>,
     form: &F,
     out: &mut W,
 ) -> Result<(), WriteFailed>
-    requires enough { is_prefix ≡ true → 0 < length found.now }
-    requires output { W.has_failed out.old ≡ false }
+    requires { W.has_failed out.old ≡ false }
     ensures { Wrote W.taken W.has_failed out.old out.new result
-        (answer_to (F.text form.now) line.now is_prefix found.now) }
+        (answer_of (F.text form.now) (line.now, option_copied answer.entry)) }
 {
-    if is_prefix {
-        form.write(line, &found[0], out)
-    } else {
-        write_two(line, b" bad\n", out)
+    match answer {
+        Some(found) => form.write(line, found, out),
+        None => write_two(line, b" bad\n", out),
+    }
+}
+
+// Whether what was found for the lines before one is what is asked for, and for it.
+fn are_wanted<T, F: AnswerForm<T>>(before: bool, answer: Option<&T>, form: &F) -> bool
+    ensures { result ≡ (before
+        && option_map_or (F.is_found form.now) (option_copied answer.entry) false) }
+{
+    match answer {
+        Some(found) => before && form.is_found(found),
+        None => false,
     }
 }
 
