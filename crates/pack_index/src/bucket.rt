@@ -29,7 +29,7 @@ pub struct Bucket<A: Allocator> {
     start: usize,
     // The ids, one after the other.
     table: Vec<u8, A>,
-    // If not, an id is compared with each of them.
+    // Whether they are several, and sorted. If not, an id is compared with each of them.
     is_sorted: bool,
     // Where the last look-up ended, and the next one begins: ids are mostly looked up in order. No
     // result depends on it.
@@ -66,7 +66,8 @@ impl<A: Allocator> Bucket<A> {
           names = digests_in kind table.items;
         } }
     {
-        let is_sorted = Names::try_new(&table, kind).is_ok();
+        let are_several = table.len() > kind.len_in_bytes();
+        let is_sorted = are_several && Names::try_new(&table, kind).is_ok();
         Bucket {
             kind,
             start,
@@ -94,8 +95,9 @@ impl<A: Allocator> Bucket<A> {
     /// Adds those that begin with a prefix to a list of ids, in their order. The prefix has at most
     /// as many digits as the ids.
     ///
-    /// If the ids are sorted, as in each pack index, they are found by binary search. If not, each
-    /// of them is compared. Under an error some of them may have been added.
+    /// If the ids are sorted, as in each pack index, they are found by binary search. If they are
+    /// not, or if there is only one, each of them is compared. Under an error some of them may have
+    /// been added.
     pub fn push_matches<B: Allocator>(
         &self,
         prefix: &Prefix,
@@ -126,7 +128,7 @@ impl<A: Allocator> Bucket<A> {
         self.start
     }
 
-    // Whether they are sorted.
+    // Whether they are several, and sorted.
     pub(crate) fn is_sorted(&self) -> bool
         ensures { IsTrue result → IsSortedIds self.now.names }
     {
