@@ -3,18 +3,16 @@
 ghost use Rattle.std.specs.Prelude.{◌≡◌, [], ◌∷◌, ◌++◌, ◌<◌, ◌≤◌, All, IfErr, IfNone, IfOk, IfSome, None, OnOk, length};
 ghost use Rattle.std.specs.List.{sum_by};
 ghost use Rattle.id_lookup.specs.Words.{first_byte_of, id_digits, id_kind};
-ghost use Rattle.object_store.specs.Stores.{AreLocations, AreMatches, ArePacked, AreParts, CanLookUp, HasLocation, HaveLocations, IsListed, IsLocateFault, IsLocationFault, IsOffsetOf, packed_at};
+ghost use Rattle.object_store.specs.Stores.{AreLocations, AreMatches, ArePacked, AreParts, CanLookUp, HaveLocations, IsListed, IsLocateFault};
 ghost use Rattle.object_store.specs.Several.{AreLocated, AreLocatedOfEach, HaveMoreLocations, IsLocationsFault, IsLocationsFaultOfOne, limited_to, location_count};
-ghost use Rattle.pack_index.specs.Lazy.{IfKnown, IsPartOf};
 
 use crate::error::Error;
 use crate::parts::Parts;
 use crate::several::{LookUp, look_up_each};
 use crate::store::{Store, StorePaths};
 use gix_hash::{ObjectId, Prefix};
-use pack_index::{Bucket, LazyError, LazyFile};
+use pack_index::Bucket;
 use std::alloc::{AllocError, Allocator};
-use streams::ReadAt;
 
 /// A location of an object in a store.
 ///
@@ -255,27 +253,15 @@ fn packed_locations<S: Store, A: Allocator + Copy>(
     let mut locations = Vec::new(alloc);
     let packs = store.indexes();
     for pack in 0..packs.len() {
-        let offset = match packed_offset(&packs[pack], &buckets[pack], id) {
-            Ok(offset) => offset,
-            Err(error) => return Err(Error::of_index(store.index_path(pack)?, error)),
-        };
-        push_packed(&mut locations, pack, offset)?;
+        let index = &packs[pack];
+        if let Some(at) = index.lookup(&buckets[pack], id.as_oid()) {
+            match index.pack_offset_at_index(at) {
+                Ok(offset) => push(&mut locations, Location::Packed { pack, offset })?,
+                Err(error) => return Err(Error::of_index(store.index_path(pack)?, error)),
+            }
+        }
     }
     Ok(locations)
-}
-
-// Adds the location at an offset in a pack, if there is one.
-fn push_packed<A: Allocator>(
-    locations: &mut Vec<Location, A>,
-    pack: usize,
-    offset: Option<u64>,
-) -> Result<(), AllocError>
-    ensures { OnOk result (locations.new.items ≡ locations.old.items ++ packed_at pack offset) }
-{
-    match offset {
-        Some(offset) => push(locations, Location::Packed { pack, offset }),
-        None => Ok(()),
-    }
 }
 
 // Adds an item to a list.
@@ -283,24 +269,4 @@ pub(crate) fn push<T: Drop, A: Allocator>(items: &mut Vec<T, A>, item: T) -> Res
     ensures { OnOk result (items.new.items ≡ items.old.items ++ item ∷ []) }
 {
     Ok(items.push(item)?)
-}
-
-// The offset in its pack of the object of an id, if the pack index has it.
-fn packed_offset<S: ReadAt + Drop, A: Allocator>(
-    index: &LazyFile<S>,
-    bucket: &Bucket<A>,
-    id: &ObjectId,
-) -> Result<Option<u64>, LazyError>
-    requires { IsPartOf index.now (id_digits id.now) bucket.now }
-    ensures offset { IfOk result (λ offset. IfKnown (λ bytes.
-        IsOffsetOf index.now.kind bytes (id_digits id.now) offset) index.now) }
-    ensures sound { IfOk result (λ _. IfKnown (λ bytes.
-        HasLocation index.now.kind bytes (id_digits id.now)) index.now) }
-    ensures err { IfErr result (λ e. IfKnown (λ bytes.
-        IsLocationFault index.now.can_fail index.now.kind bytes (id_digits id.now) e) index.now) }
-{
-    match index.lookup(bucket, id.as_oid()) {
-        Some(at) => Ok(Some(index.pack_offset_at_index(at)?)),
-        None => Ok(None),
-    }
 }
