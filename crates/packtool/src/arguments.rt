@@ -23,7 +23,7 @@ pub enum Request<'m, 'a> {
 pub struct StoreRequest<'a> {
     /// What is asked of the store.
     pub question: Question,
-    /// Of what it is asked.
+    /// What it is asked about.
     pub ask: Ask<'a>,
     /// The fewest digits of an abbreviation.
     pub least: usize,
@@ -44,23 +44,23 @@ pub enum Question {
     Names,
 }
 
-/// Of what a question is asked.
+/// What a question is about.
 #[derive(Clone, Copy)]
 pub enum Ask<'a> {
-    /// Of all ids, as only `abbreviate` is.
+    /// All ids, which only `abbreviate` takes.
     All,
-    /// Of a prefix, which is this text.
+    /// A prefix, which is this text.
     Prefix(&'a str),
-    /// Of a prefix, which is this text, and the only id is wanted.
+    /// A prefix, which is this text, and of which the only id is wanted.
     One(&'a str),
-    /// Of each line of standard input, and what is printed for each.
+    /// Each line of standard input, and what is printed for it.
     Lines(Answers),
 }
 
 /// A request to read files.
 #[derive(Clone, Copy)]
 pub struct FileRequest<'m, 'a> {
-    /// What is done with each.
+    /// What is done with each file.
     pub command: FileCommand,
     /// The paths of the files, in order.
     pub paths: &'m [&'a str],
@@ -84,8 +84,8 @@ enum Action {
     Files(FileCommand),
 }
 
-// A row of the table of commands: a command, its name, how it is called, what its help says of it,
-// and its arguments.
+// A row of the table of commands: a command, its name, its usage, what its help says about it, and
+// its arguments.
 #[derive(Clone, Copy)]
 struct Row {
     action: Action,
@@ -139,7 +139,7 @@ const COMMANDS: [Row; 5] = [
         action: Action::Store(Question::Names),
         name: "abbreviate",
         usage: "packtool abbreviate [--stdin] [--least N] [--objects DIR] [--kind KIND]",
-        about: "Prints each id of the store after its shortest unique prefix",
+        about: "Prints each id of the store after its abbreviation",
         arguments: &[
             Argument::Lines,
             Argument::Least,
@@ -158,22 +158,23 @@ const COMMANDS: [Row; 5] = [
         action: Action::Files(FileCommand::Check),
         name: "check",
         usage: "packtool check [--kind KIND] FILE...",
-        about: "Prints whether pack indexes are right, and whether other files end with their digest",
+        about: "Prints whether pack indexes are sound, and whether other files end with their digest",
         arguments: &[Argument::Files, Argument::Kind],
     },
 ];
 
-// The version and the origin, as `--version` and `--help` print them.
-const VERSION: &str = "0.6.0-dev of Nunbirdstand, a port of the Rust crate gix-hash 0.26.2";
+// What `--version` prints after the program's name, and what begins each help.
+const VERSION: &str = "0.6.0-dev of Nunbirdstand";
 
-const ORIGIN: &str = "packtool 0.6.0-dev of Nunbirdstand, a port of the Rust crate gix-hash 0.26.2";
+const ORIGIN: &str = "packtool 0.6.0-dev of Nunbirdstand";
 
 // Printed after each help.
 const AFTER: &str =
-    "The status is 0 if something was found and all is right, 1 if nothing was found, more than one
-id with --one, or a file is wrong, and 2 for an error, which is printed on standard error.";
+    "The exit status is 0 if something was found and each file passed its check; 1 if nothing was
+found, if --one found several ids, if a prefix from --stdin was missing, ambiguous or bad, or if a
+file failed; and 2 after an error, which is printed on standard error.";
 
-/// The program's words: what `--help` prints and what is read.
+/// The command line of the program: what `--help` prints, and which arguments are read.
 pub fn command<'a>(alloc: Global) -> Result<Command<'a>, AllocError> {
     let mut commands = Vec::new(alloc);
     for row in &COMMANDS {
@@ -304,7 +305,7 @@ fn file_request<'m, 'a>(
     })
 }
 
-// Of what a question is asked.
+// What the question is about.
 fn ask_of<'a>(matches: &ArgMatches<'a>) -> Ask<'a> {
     let one = matches.get_flag("one");
     match matches.get_str("prefix") {
