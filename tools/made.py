@@ -14,7 +14,7 @@ NO_PREFIX = {kind: f"x: not 2 to {len(id)} hex digits" for kind, id in IDS.items
 # Bytes of sha1.idx, which has 21 names, by position and value, and the error of the changed index.
 BROKEN = [
     # The magic number, and the version.
-    (0, 0, "the bytes do not begin as a pack index"),
+    (0, 0, "not a pack index (bad magic number)"),
     (7, 3, "pack indexes of version 3 are not read"),
     # The count of byte 1, and that of byte 255.
     (15, 200, "the fan-out entry of the first byte 01 is wrong"),
@@ -64,7 +64,7 @@ BAD_HEADS = [
     # The count of byte 4a, and that of byte 4b.
     (307, 3, "the fan-out entry of the first byte 4b is below the one before it"),
     (311, 3, "the fan-out entry of the first byte 4c is below the one before it"),
-    (0, 0, "the bytes do not begin as a pack index"),
+    (0, 0, "not a pack index (bad magic number)"),
     (7, 3, "pack indexes of version 3 are not read"),
     (1031, 5, "the tables of the pack index do not fill its bytes"),
 ]

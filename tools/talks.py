@@ -128,7 +128,7 @@ def mended_later(program, room):
     index, whole = room / "objects" / "pack" / "x.idx", plain_index([made.BOTH])
     found, missing = f"4b {made.BOTH}\n", "4b missing\n"
     add_pack(room / "objects", "x", changed(whole, 0, 0))
-    skipped = error_of("objects/pack/x.idx: the bytes do not begin as a pack index, skipped")
+    skipped = error_of("objects/pack/x.idx: not a pack index (bad magic number), skipped")
     with talk(program, room, "find", stderr=subprocess.PIPE) as child:
         wrong = asked_twice(child, b"4b\n", missing.encode())
         index.write_bytes(whole)

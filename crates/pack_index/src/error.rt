@@ -24,7 +24,7 @@ pub enum Error {
     #[error("pack indexes of version 1 are not read")]
     Version1,
     /// The bytes do not begin with the magic number, nor are they as long as an index of version 1.
-    #[error("the bytes do not begin as a pack index")]
+    #[error("not a pack index (bad magic number)")]
     BadMagic,
     /// The version after the magic number is this, and not 2.
     #[error("pack indexes of version {0} are not read")]
