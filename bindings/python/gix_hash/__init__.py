@@ -1,10 +1,10 @@
 """Git's object ids over libgix_hash, whose calls are proved; this module is only tested.
 
-Ids are spelled and compared here, and the rest is done by the library, except for a Store, which asks the program packtool. The
-library is beside this module or where the loader looks, or the environment variable GIX_HASH_LIB is the absolute path of its file,
-or of the directory that has libgix_hash.so.
+This module spells and compares ids, the library does the rest, and a Store asks the program packtool. The library is beside this
+module or where the loader looks, unless the environment variable GIX_HASH_LIB is the absolute path of its file, or of the
+directory that has libgix_hash.so.
 
-Bytes are taken from any object that has them one after the other, as bytes, a memoryview or an mmap, and are not copied. So
+Bytes are taken from any object that has them one after the other, such as bytes, a memoryview or an mmap, and are not copied. So
 nobody may change them during a call, in which other threads run, nor while a SortedDigests or a PackIndex has them. If the
 file of an mmap is cut off, reading what is gone ends the program by SIGBUS.
 
@@ -107,8 +107,8 @@ class Code(enum.IntEnum):
 
 
 class Error(ValueError):
-    """Why a call failed: its code, and the position, byte, version, kind or code that its text speaks of, else 0. The message is by
-    default that text. That of digits which are no id or prefix begins with them."""
+    """Why a call failed: its code, and the position, byte, version, kind or code that its text mentions, or 0. The message is this
+    text. If digits are not an id or a prefix, the message begins with them."""
 
     def __init__(self, code: Code, detail: int = 0, message: str = ""):
         shown = str(Kind(detail)) if code is Code.OTHER_KIND and detail in (1, 2) else detail
@@ -392,8 +392,8 @@ class Hasher:
     @classmethod
     def for_object(cls, kind: Union[Kind, str], object_type: Union[ObjectType, str], length: int) -> "Hasher":
         """A hasher of an object, which has been fed what git hash-object hashes before the object's bytes. Feed it the bytes,
-        and id() is the id of the object. That they are as many as the length says is not checked: of more or fewer the digest
-        is the id of no object."""
+        and id() is the id of the object. No call checks that they are as many as the length says. If they are not, the digest
+        is not the id of an object."""
         made, number = cls(kind), operator.index(length)
         if not 0 <= number < 2**64:
             raise ValueError(f"expected a length from 0 to 2**64 - 1, not {number}")
@@ -581,7 +581,7 @@ class _Table(Sequence[_T]):
 class SortedDigests(_Table[Id]):
     """Sorted digests of a kind, one after the other, as a sequence of ids. `in`, `index` and `count` also take a Prefix or a text
     of hex digits. The error is UNSORTED, with the first position whose digest is below the one before it. A part of a digest at
-    the end is left out. The bytes are not copied, so nobody may change them. A pickle has a copy, and is checked as it is loaded.
+    the end is left out. The bytes are not copied, so nobody may change them. A pickle has a copy, and is checked when it is loaded.
     """
 
     _call = _lib.gix_hash_find
@@ -601,7 +601,7 @@ class SortedDigests(_Table[Id]):
 class PackIndex(_Table[Entry]):
     """A pack index of version 2, as a sequence of entries, where `in`, `index` and `count` also take an Id, a Prefix or a text of
     hex digits. The error is OTHER_KIND, or one from INDEX_TOO_SHORT to WRONG_CHECKSUM. The bytes are not copied, so nobody may
-    change them, and an mmap is closed after this is gone. A pickle has a copy, and is checked as it is loaded."""
+    change them, and an mmap must be closed only afterwards. A pickle has a copy, and is checked when it is loaded."""
 
     _call = _lib.gix_hash_pack_find
     _items = (Entry, Id)
@@ -613,7 +613,7 @@ class PackIndex(_Table[Entry]):
 
     @classmethod
     def of_any_kind(cls, data: Buffer) -> "PackIndex":
-        """The same, of whichever kind the ids are. The error is one from INDEX_TOO_SHORT to WRONG_CHECKSUM."""
+        """A pack index with ids of either kind. The error is one from INDEX_TOO_SHORT to WRONG_CHECKSUM."""
         made = cls.__new__(cls)
         made._hold(cls.kind_of(data), data)
         return made

@@ -38,8 +38,8 @@ _are_lines = re.compile("(?:[0-9A-Fa-f]{2,64}\n)+").fullmatch
 
 
 class StoreError(OSError):
-    """A store cannot be read, or packtool cannot be run: the last line that it said, or why. If the directory is not there, or the
-    system fails, it has the errno."""
+    """A store cannot be read, or packtool cannot be run. The text is the last line that packtool printed, or why it cannot be run.
+    If the directory is not there, or the system fails, the error has the errno."""
 
 
 class Missing(KeyError):
@@ -295,15 +295,16 @@ def _ids_by_line(reply: str) -> Dict[str, List[Id]]:
 class Store(contextlib.AbstractContextManager["Store"]):
     """The object store of a repository: which ids begin with a prefix, where their objects are, and how far ids are abbreviated.
 
-    It is that of the repository at a path, or in the first directory above it that has one; Git's variables are not read. With
-    no path it is the one that Git would use here, also by its variables. `kind` is by default that of the repository. Directory,
-    variables and PACKTOOL are those of the time when the store is opened; objects that come later are found.
+    With a path it is the store of the repository there, or in the first directory above it that has one, and Git's variables are
+    not read. Without a path it is the store that Git would use here, also by its variables. `kind` is the kind of the repository
+    unless another is given. The store keeps the directory, the variables and PACKTOOL of the time when it is opened, and finds
+    objects that are added later.
 
-    A prefix has 2 hex digits or more in either case, and is a str, a Prefix or an Id. The error is that of Prefix, BAD_LENGTH
-    for one digit, or PREFIX_TOO_LONG. It is a StoreError if the store cannot be read, and a ValueError if it is closed. Of a
-    part that is left out the first look-up that meets it warns, once, by SkippedWarning.
+    A prefix has 2 hex digits or more in either case, and is a str, a Prefix or an Id. The error of a wrong prefix is that of
+    Prefix, BAD_LENGTH for one digit, or PREFIX_TOO_LONG. If the store cannot be read, the error is a StoreError, and if it is
+    closed, a ValueError. If a part of the store is left out, the first look-up that meets it warns once, by SkippedWarning.
 
-    Threads may share a store: of one kind of look-up one is done at a time. A forked process may go on with it.
+    Threads may share a store, which does one look-up of each kind at a time. A forked process may go on with it.
     """
 
     def __init__(self, path: "Union[str, bytes, os.PathLike[Any], None]" = None, kind: "Union[Kind, str, None]" = None) -> None:
@@ -328,13 +329,13 @@ class Store(contextlib.AbstractContextManager["Store"]):
 
     @property
     def skipped(self) -> List[str]:
-        """The parts that were left out of the store until now, each after its path, and why. What was printed later is not complete
-        without them."""
+        """The parts of the store that were left out until now: the path of each, and why. What was found since then may lack
+        their ids."""
         return list(self._skipped)
 
     def close(self) -> None:
-        """Ends all that runs for the store, as when nothing refers to it any more. Look-ups that are not finished, and later ones,
-        are a ValueError. It waits for no other thread."""
+        """Ends everything that runs for the store, as happens when nothing refers to it any more. Look-ups that are not finished,
+        and later ones, raise ValueError. It does not wait for other threads."""
         self._closed = True
         for running in list(self._running):
             if process := running():
@@ -425,7 +426,7 @@ class Store(contextlib.AbstractContextManager["Store"]):
         return [_id(digits) for digits in self._found("find", prefix)]
 
     def resolve(self, prefix: _Digits) -> Id:
-        """The one id that begins with a prefix. The error is Missing or Ambiguous, both a LookupError."""
+        """The one id that begins with a prefix. The error is Missing or Ambiguous, which are both LookupErrors."""
         ids = self.find(prefix)
         if len(ids) > 1:
             raise Ambiguous(f"{len(ids)} ids begin with {prefix}", ids)
@@ -440,7 +441,7 @@ class Store(contextlib.AbstractContextManager["Store"]):
         return Missing(f"no id begins with {prefix}{left_out}")
 
     def locate(self, prefix: _Digits) -> List[Location]:
-        """Where the objects are whose ids begin with a prefix, in the order of the ids: an object may be in several places."""
+        """The locations of the objects whose ids begin with a prefix, in the order of the ids. An object may have several."""
         return [self._location(text) for text in self._found("locate", prefix)]
 
     def _location(self, text: str) -> Location:
@@ -458,8 +459,8 @@ class Store(contextlib.AbstractContextManager["Store"]):
         return min(max(4, operator.index(least)), 2 * self._kind.len_in_bytes)
 
     def abbreviate(self, id: Id, least: int = 4) -> str:
-        """The shortest prefix of an id of the store, of `least` digits or more, with which no other id begins. Below 4 `least` is 4,
-        and above all digits these. The error is Missing if the store does not have the id."""
+        """The shortest prefix of an id of the store, of `least` digits or more, with which no other id begins. If `least` is below
+        4, 4 is used, and if it is more than an id has, as many as that. The error is Missing if the store does not have the id."""
         least = self._digits(least)
         printed = self._ask("abbreviate", str(id))[0] if _only(Id, id).kind is self._kind else " "
         if " " in printed:
@@ -467,7 +468,7 @@ class Store(contextlib.AbstractContextManager["Store"]):
         return str(id)[: max(len(printed), least)]
 
     def abbreviations(self, least: int = 4) -> Iterator[Tuple[str, Id]]:
-        """Each id of the store after its abbreviation, of `least` digits or more as that of `abbreviate`, in order."""
+        """All ids of the store in order, each after its abbreviation, which has `least` digits or more as in `abbreviate`."""
         process = self._begin("abbreviate", "--least", str(self._digits(least)), is_bulk=True)
         try:
             for block in process.blocks():
@@ -483,14 +484,14 @@ class Store(contextlib.AbstractContextManager["Store"]):
         return (id for _, id in self.abbreviations())
 
     def __contains__(self, id: object) -> bool:
-        """Whether an id begins with a prefix; an id of the other kind is not there. What is neither is a TypeError."""
+        """Whether an id begins with a prefix, or is in the store. Any other type raises TypeError."""
         if isinstance(id, Id) and id.kind is not self._kind:
             return False
         return bool(self.find(cast(_Digits, id)))
 
     def find_many(self, prefixes: Iterable[_D]) -> Iterator[Tuple[_D, List[Id]]]:
-        """Each of many prefixes with the ids that begin with it, in the order of the prefixes, of which some 16,000 are taken
-        before their turn. They are taken in the thread that asks for the pairs. An error of a prefix comes in its turn."""
+        """Each of many prefixes with the ids that begin with it, in the order of the prefixes. Some 16,000 prefixes are taken
+        ahead, in the thread that asks for the pairs. The error of a prefix is raised after the pairs of those before it."""
         if isinstance(prefixes, (str, bytes)):
             raise TypeError(f"expected prefixes, not {prefixes!r:.80}: put it into a list")
         process, asked = self._begin("find", "--stdin", is_bulk=True), deque()  # type: _Process, Deque[List[Tuple[_D, str]]]

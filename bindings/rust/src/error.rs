@@ -64,7 +64,7 @@ codes! {
 pub struct Error {
     /// What failed.
     pub code: Code,
-    /// The number that the text of the code speaks of, else 0.
+    /// The number that the text of the code mentions, or 0.
     pub detail: u64,
 }
 

@@ -25,8 +25,8 @@ impl Hasher {
     }
 
     /// A hasher of an object of `len` bytes, which has been fed what `git hash-object` hashes before them. Feed it the
-    /// bytes, and [`finish`](Hasher::finish) is the id of the object. That they are `len` bytes is not checked: of more or
-    /// fewer the digest is the id of no object.
+    /// bytes, and [`finish`](Hasher::finish) is the id of the object. No call checks that they are `len` bytes. If they are not,
+    /// the digest is not the id of an object.
     #[must_use]
     pub fn for_object(kind: Kind, object_type: ObjectType, len: u64) -> Hasher {
         let object_type = object_type as u32;

@@ -1,8 +1,8 @@
 //! Git's object ids over `libgix_hash`, whose calls are proved, and object stores over the program `packtool`; this crate is
 //! only tested.
 //!
-//! The library `libgix_hash.a` is linked from `GIX_HASH_LIB`, its directory or its path, if that is set, and else from where an
-//! archive, `make install` or `make lib` put it.
+//! If `GIX_HASH_LIB` is the absolute path of a directory, or of a file in it, the library `libgix_hash.a` is linked from there,
+//! and otherwise from where an archive, `make install` or `make lib` put it.
 //!
 //! ```
 #![doc = include_str!("../examples/find.rs")]

@@ -25,7 +25,7 @@ pub enum StoreError {
     Ambiguous { prefix: Prefix, ids: Vec<Id> },
     /// The prefix has one digit (`BadLength`), or more than ids of the store (`PrefixTooLong`).
     Prefix { prefix: Prefix, error: Error },
-    /// The store cannot be read: the last line that `packtool` said.
+    /// The store cannot be read: the last line that `packtool` printed.
     Failed(String),
     /// `packtool` cannot be run in the directory.
     Program(io::Error),
@@ -67,17 +67,17 @@ pub struct Location {
     pub id: Id,
     /// The path of its pack, or of its own file.
     pub path: PathBuf,
-    /// Where it begins in the pack, or `None` if it has its own file.
+    /// Where it begins in the pack, or `None` if it is a loose object.
     pub offset: Option<u64>,
 }
 
 /// The object store of a repository: which ids begin with a prefix, where their objects are, and how far ids are
 /// abbreviated.
 ///
-/// It asks the program `packtool`, of the same first two numbers of the version: the one that the variable `PACKTOOL`
-/// names, or else that in the directory of the running program, or else on the `PATH`. A relative path in either variable is
-/// not followed, so nothing of the current directory is run. Threads may share a store: of one kind of look-up one is done at
-/// a time. Objects that come after it was opened are found. A prefix has 2 digits or more.
+/// It asks the program `packtool`, whose version must have the same first two numbers as this crate. It runs the one that the
+/// variable `PACKTOOL` names, or otherwise the one in the directory of the running program, or on the `PATH`. A relative path in
+/// either variable is not followed, so nothing of the current directory is run. Threads may share a store, which does one
+/// look-up of each kind at a time. It finds objects that are added after it was opened. A prefix has 2 digits or more.
 ///
 /// ```no_run
 /// # use nunbirdstand::Store;
@@ -112,8 +112,8 @@ const VARIABLES: [&str; 4] =
     ["GIT_DIR", "GIT_COMMON_DIR", "GIT_OBJECT_DIRECTORY", "GIT_ALTERNATE_OBJECT_DIRECTORIES"];
 
 impl Store {
-    /// The store of the repository at a path, or in the first directory above it that has one, of its kind by default. Git's
-    /// variables are not read.
+    /// The store of the repository at a path, or in the first directory above it that has one. If no kind is given, it is that
+    /// of the repository. Git's variables are not read.
     pub fn open(path: impl AsRef<Path>, kind: Option<Kind>) -> Result<Store> {
         Store::new(path.as_ref(), kind, Default::default())
     }
@@ -142,7 +142,7 @@ impl Store {
         self.kind
     }
 
-    /// The parts that were left out of the store until now, each after its path, and why.
+    /// The parts of the store that were left out until now: the path of each, and why.
     #[must_use]
     pub fn skipped(&self) -> Vec<String> {
         locked(&self.skipped).clone()
@@ -170,7 +170,7 @@ impl Store {
         Ok(id.kind() == self.kind && !self.find(&Prefix::from(*id))?.is_empty())
     }
 
-    /// Where the objects are whose ids begin with a prefix, in the order of the ids: an object may be in several places.
+    /// The locations of the objects whose ids begin with a prefix, in the order of the ids. An object may have several.
     pub fn locate(&self, prefix: &Prefix) -> Result<Vec<Location>> {
         self.found(WHERE, prefix)?.iter().map(|found| self.location(found)).collect()
     }
@@ -188,8 +188,9 @@ impl Store {
         Ok(Location { id: id_of(id)?, path, offset })
     }
 
-    /// The shortest prefix of an id of the store, of `least` digits or more, with which no other id begins. Below 4 `least`
-    /// is 4, and above all digits these. The error is `Missing` if the store does not have the id.
+    /// The shortest prefix of an id of the store, of `least` digits or more, with which no other id begins. If `least` is
+    /// below 4, 4 is used, and if it is more than an id has, as many as that. The error is `Missing` if the store does not have
+    /// the id.
     pub fn abbreviate(&self, id: &Id, least: usize) -> Result<String> {
         let prefix = Prefix::from(*id);
         if id.kind() != self.kind {
@@ -201,17 +202,17 @@ impl Store {
         Ok(digits)
     }
 
-    /// Each id of the store after its abbreviation, of `least` digits or more as that of `abbreviate`, in order. After an
-    /// error there are no more.
+    /// All ids of the store in order, each after its abbreviation, which has `least` digits or more as in `abbreviate`. After
+    /// an error there are no more.
     pub fn abbreviations(&self, least: usize) -> Result<Abbreviations<'_>> {
         let least = least.clamp(4, 2 * self.kind.len_in_bytes()).to_string();
         let process = Some(Process::new(self, &["abbreviate", "--least", &least])?);
         Ok(Abbreviations { store: self, process })
     }
 
-    /// Each of many prefixes with the ids that begin with it, in the order of the prefixes, of which some 16,000 are taken
-    /// before their turn, in the thread that asks for the pairs. The error of a prefix comes in its turn. After an error there
-    /// are no more.
+    /// Each of many prefixes with the ids that begin with it, in the order of the prefixes. Some 16,000 prefixes are taken
+    /// ahead, in the thread that asks for the pairs. The error of a prefix comes after the pairs of those before it. After an
+    /// error there are no more.
     pub fn find_many<I>(&self, prefixes: I) -> Result<FindMany<'_, I::IntoIter>>
     where
         I: IntoIterator<Item = Prefix>,

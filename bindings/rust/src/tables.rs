@@ -136,7 +136,7 @@ impl<'a> PackIndex<'a> {
         Ok(PackIndex { kind, bytes })
     }
 
-    /// The same, of whichever kind the ids are. The error is one from `IndexTooShort` to `WrongChecksum`.
+    /// Checks a whole index with ids of either kind. The error is one from `IndexTooShort` to `WrongChecksum`.
     pub fn of_any_kind(bytes: &'a [u8]) -> Result<PackIndex<'a>, Error> {
         let mut number = 0;
         // SAFETY: the slice is valid for its length.
