@@ -18,7 +18,7 @@ use thiserror::Error as ThisError;
 ///
 /// ```
 /// match find(rt.alloc(), "4b82", text, &mut out) {
-///     Err(FindError::BadLine { line, .. }) => println!(rt; "line {line} is no id")?,
+///     Err(FindError::BadLine { line, .. }) => println!(rt; "line {line} is not an id")?,
 ///     count => println!(rt; "{} ids", count?)?,
 /// }
 /// ```
