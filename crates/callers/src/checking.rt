@@ -8,7 +8,7 @@ use gix_hash::{ObjectId, oid, verify};
 use std::alloc::{AllocError, Global};
 use std::io;
 
-/// The id that was computed, where it is the expected one.
+/// The id that was computed, if it is the expected one.
 pub fn verified(id: ObjectId, expected: oid<'_>) -> Result<ObjectId, verify::Error>
     ensures ok { IfOk result (λ same. same ≡ id) }
     ensures equal { IsOk result ↔ (id_digits id ≡ oid_digits expected.entry) }

@@ -29,7 +29,8 @@ pub struct Head<'a> {
     pub rest: &'a [u8],
 }
 
-/// Reads the head of a commit's content, or returns `None` if it begins with no tree of the kind.
+/// Reads the head of a commit's content, or returns `None` if it does not begin with a tree of the
+/// kind.
 ///
 /// It reads all lines of parents after the tree's.
 pub fn read_head(alloc: Global, kind: Kind, text: &[u8]) -> Result<Option<Head<'_>>, AllocError>

@@ -29,9 +29,8 @@ pub enum Resolved<'a> {
     Ambiguous(&'a [ObjectId]),
 }
 
-/// What a typed name means among the ids of an index: a prefix in the index's kind, of 1 digit
-/// or more in any letter case. What is no such prefix is refused as [`Prefix::from_hex_in`] refuses
-/// it.
+/// What a typed name means among the ids of an index: a prefix in the index's kind, of 1 digit or
+/// more in any letter case. Any other text is refused, with the error of [`Prefix::from_hex_in`].
 pub fn resolve<'a>(index: &IdIndex<'a>, name: &str) -> Result<Resolved<'a>, prefix::from_hex::Error>
     ensures ok { IfOk result (Resolves index.now.kind index.now.ids name.now) }
     ensures err { IfErr result (λ error. prefix_read_in index.now.kind hex_letter name.now

@@ -8,9 +8,9 @@ use gix_hash::{Kind, Prefix};
 use id_lookup::Answer;
 use pack_index::File;
 
-/// The offset in the pack of the only object whose name begins with what was typed, in hex digits
-/// of the index's kind. It is `None` if and only if the text is no prefix in that kind, the bytes
-/// are no pack index of that kind, or none or more than one of its names begins with the prefix.
+/// The offset in the pack of the only object whose id begins with what was typed, in hex digits of
+/// the index's kind. It is `None` if and only if the text is not a prefix in that kind, the bytes
+/// are not a pack index of that kind, or none or more than one of its ids begins with the prefix.
 pub fn typed_offset(bytes: &[u8], kind: Kind, typed: &str) -> Option<u64>
     ensures offset { IfSome result (λ offset. (at : ℕ) × IsOnlyMatch kind bytes.now typed.now at
         × (offset ≡ offset_in kind bytes.now at)) }

@@ -55,8 +55,8 @@ pub fn id_of_digest(bytes: &[u8]) -> Option<ObjectId>
     }
 }
 
-/// The first `hex_len` digits of an id, and all of them where fewer than 4 or more than it has were
-/// asked for.
+/// The first `hex_len` digits of an id, or all of them if fewer than 4 were asked for, or more than
+/// it has.
 pub fn short_name(id: &ObjectId, hex_len: usize) -> Prefix
     ensures kind { result.kind ≡ id_kind id.now }
     ensures long { 4 ≤ hex_len → result.digits ≡ take hex_len (id_digits id.now) }

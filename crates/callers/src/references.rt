@@ -27,8 +27,8 @@ pub enum Reference<'a> {
 
 /// Reads the file of a reference, or returns `None` if it is not one that Git writes.
 ///
-/// Of the rules on names (git-check-ref-format) those on single bytes are tested, by
-/// [`is_reference_byte`], and that a name is not empty.
+/// It tests that a name is not empty, and the rules of git-check-ref-format on single bytes, by
+/// [`is_reference_byte`].
 pub fn read_reference(kind: Kind, text: &[u8]) -> Option<Reference<'_>>
     ensures { MatchOption result (IsNoReference kind text.now) (IsReference kind text.now) }
 {

@@ -8,12 +8,12 @@ pub record Variable : Type 0 where
   pub name : List ℕ
   pub value : Option (List ℕ)
 
--- What is at the front of a text and the rest, or where Git stops: how many bytes it has not read, of the text and a line feed after it, as which it reads the end.
+-- What is at the front of a text, and the rest; or where Git stops, as the number of bytes that it has not read. A line feed is added to the text for this, since Git reads the end of a text as one.
 abbrev pub Read : Type 0 → Type 0
 Read T = Result (T × List ℕ) ℕ
 
 infixl 10 ◌>>=◌
--- what a function says of what was read, or where Git stops
+-- what a function makes of what was read, or where Git stops
 abbrev pub ◌>>=◌ : {A B : Type 0} → Result A ℕ → (A → Result B ℕ) → Result B ℕ
 (Ok read) >>= f = f read
 (Err left) >>= f = Err left
@@ -61,12 +61,12 @@ abbrev pub expect : ℕ → List ℕ → Result (List ℕ) ℕ
 expect byte [] = Err 1
 expect byte (first ∷ rest) = if first == byte then Ok rest else Err (length rest + 2)
 
--- the bracket is next that closes a header with a subsection; a line's end in its place was read
+-- the bracket that closes a header with a subsection is next; another byte in its place counts as read, and so does a whole line end
 abbrev pub close : List ℕ → Result (List ℕ) ℕ
 close [] = Err 0
 close (byte ∷ rest) = if byte == 93 then Ok rest else Err (if byte == 13 && begins_line rest then length rest else length rest + 1)
 
--- The rest of a subsection, up to its quotation mark; after a backslash, as is said here, a byte is itself. The name so far is before it.
+-- The rest of a subsection, up to its quotation mark. The first argument says whether a backslash is before it, after which a byte stands for itself. The second is the name so far.
 abbrev pub quoted : Bool → List ℕ → List ℕ → Read (List ℕ)
 quoted escaped name [] = Err 1
 quoted escaped name (byte ∷ rest) =
@@ -86,7 +86,7 @@ header_end name (byte ∷ rest) =
 abbrev pub header : List ℕ → Read (List ℕ)
 header text = header_end (map to_ascii_lowercase (take_while is_name_byte text)) (past is_name_byte text)
 
--- What a byte of a value is: the end, a space outside quotation marks, or what means these bytes; then, whether in quotation marks and after a backslash.
+-- What a byte of a value is: the end, a space outside quotation marks, or a byte that stands for these bytes, with whether what follows it is in quotation marks, and after a backslash.
 pub data Piece : Type 0 where
   End : Piece
   Blank : Piece
@@ -108,7 +108,7 @@ piece in_quotes false byte rest =
     if begins_comment byte && not in_quotes then Ok End else
     if is_blank byte && not in_quotes then Ok Blank else Ok (Means (byte ∷ []) in_quotes false)
 
--- The rest of a value, after these bytes. Spaces, tabs and carriage returns are spaces, but none before the first byte, and none after the last byte of another kind, up to which this many bytes are kept.
+-- The rest of a value, after these bytes. A space, a tab or a carriage return is read as a space, but those before the first other byte and after the last one are left out: this many bytes are kept if the value ends here.
 abbrev pub value : Bool → Bool → List ℕ → ℕ → List ℕ → Read (List ℕ)
 value in_quotes escaped bytes kept [] = if in_quotes then Err (if escaped then 0 else 1) else Ok (take kept bytes, [])
 value in_quotes escaped bytes kept (byte ∷ rest) = piece in_quotes escaped byte rest >>= λ found. elim found [
@@ -125,7 +125,7 @@ assignment text = if ends_line text then Ok (None, after_line text) else (expect
 abbrev pub before_nul : List ℕ → List ℕ
 before_nul text = before_first (λ byte. byte == 0) text
 
--- a variable whose name begins so: the rest of its key, and maybe a value. Name and value end before a NUL, as texts do in C
+-- a variable whose name begins with these bytes: the rest of its key, and maybe a value. Name and value end before a NUL, as texts do in C
 abbrev pub variable : List ℕ → List ℕ → Read Variable
 variable name text = assignment (past is_space (past is_key_byte text)) >>= λ read.
     Ok (record { name = before_nul (name ++ map to_ascii_lowercase (take_while is_key_byte text)); value = option_map before_nul read.0 }, read.1)

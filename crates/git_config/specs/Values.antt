@@ -5,7 +5,7 @@ use Rattle.std.specs.List.{list_any}
 use Rattle.std.specs.Str.{str_eq_ignore_ascii_case}
 use Rattle.git_config.specs.Grammar.{past}
 
--- whether a byte is a space, as C has them
+-- whether a byte is a space, as C defines spaces
 abbrev pub is_c_space : ℕ → Bool
 is_c_space byte = byte == 32 || nat_le 9 byte && nat_le byte 13
 

@@ -26,9 +26,10 @@ pub struct Variable {
 pub struct Config {
     /// The variables in order.
     pub variables: Vec<Variable>,
-    /// The number of the first line that is no section and no variable, from 1, if there is one; as
-    /// Git counts, the next number where the line ends after a subsection, or the text in the name
-    /// of a section or after a backslash in quotation marks.
+    /// The number of the first line that is neither a section nor a variable, counted from 1, or
+    /// `None` if there is no such line. As in Git, it is the next number if the line ends after a
+    /// subsection, or if the text ends in the name of a section or after a backslash in quotation
+    /// marks.
     pub bad_line: Option<usize>,
 }
 

@@ -15,8 +15,8 @@ use std::slice::from_ref;
 pub(crate) enum Stop {
     /// There is not enough memory.
     Memory,
-    /// A byte is wrong, or the end. So many bytes were not read then, of the text and a line feed
-    /// after it.
+    /// A byte is wrong, or the text ends where it must not. So many bytes of the text, and of a
+    /// line feed after it, were not read then.
     Wrong(usize),
 }
 
@@ -111,7 +111,7 @@ fn read_quoted(mut name: Vec<u8>, text: &[u8]) -> Read<'_, Vec<u8>>
     Err(Stop::Wrong(1))
 }
 
-// Reads a variable whose name begins so.
+// Reads a variable, whose name begins with these bytes.
 fn read_variable(alloc: Global, mut name: Vec<u8>, text: &[u8]) -> Read<'_, Variable>
     ensures { GivesFrom text.now said result (variable name.items text.now) }
 {
@@ -141,7 +141,7 @@ fn read_value(alloc: Global, text: &[u8]) -> Read<'_, Vec<u8>>
         (value false false [] 0 text.now) }
 {
     let mut bytes = Vec::new(alloc);
-    // How many of them are kept if the value ends: not the spaces at its end.
+    // How many of the bytes are kept if the value ends: all except the spaces at its end.
     let mut kept = 0;
     let mut in_quotes = false;
     let mut escaped = false;
@@ -179,7 +179,8 @@ enum Piece<'a> {
     End,
     // A space outside quotation marks.
     Blank,
-    // What means these bytes; then, whether in quotation marks and after a backslash.
+    // A byte that stands for these bytes, and whether what follows it is in quotation marks, and
+    // after a backslash.
     Means(&'a [u8], bool, bool),
 }
 
@@ -225,8 +226,8 @@ fn expect(text: &[u8], byte: u8) -> Result<&[u8], Stop>
     }
 }
 
-// The rest after the bracket that closes a header with a subsection. A line's end in its place was
-// read.
+// The rest after the bracket that closes a header with a subsection. Another byte in its place
+// counts as read, and so does a whole line end.
 fn close(text: &[u8]) -> Result<&[u8], Stop>
     ensures { Gives (λ rest. rest.now) result (close text.now)
         × IfOk result (λ rest. length rest.now ≤ length text.now) }

@@ -56,14 +56,14 @@ fn negative(size: u64) -> Option<i64>
     Some(-(size as i64))
 }
 
-// The bytes from the first one on that is no space, as C has them.
+// The bytes from the first one on that is not a space, as C defines spaces.
 fn after_spaces(text: &[u8]) -> &[u8]
     ensures { result.now ≡ past is_c_space text.now }
 {
     &text[spaces_len(text)..]
 }
 
-// How many spaces there are, as C has them.
+// How many spaces there are at the front, as C defines spaces.
 fn spaces_len(text: &[u8]) -> usize
     ensures len { result ≡ prefix_len is_c_space text.now }
     ensures bound { result ≤ length text.now }
@@ -73,7 +73,7 @@ fn spaces_len(text: &[u8]) -> usize
         .count()
 }
 
-// The number that digits mean, and maybe a letter after them.
+// The number that digits mean, and maybe a unit after them.
 fn scaled(text: &[u8]) -> Option<u64>
     ensures value { result ≡ scaled text.now }
     ensures bits { IfSome result (λ size. size < 2 ^ 31) }

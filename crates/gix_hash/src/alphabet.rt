@@ -37,8 +37,8 @@ impl Alphabet {
     /// Reads a prefix of 4 to 64 digits. Its kind is SHA-1 up to 40 digits, and SHA-256 above.
     ///
     /// Returns [`from_hex::Error::TooShort`] for fewer bytes, [`from_hex::Error::TooLong`] for
-    /// more, both with their number, and otherwise [`from_hex::Error::Invalid`] if some byte is no
-    /// letter.
+    /// more, both with their number, and otherwise [`from_hex::Error::Invalid`] if some byte is not
+    /// a letter.
     pub fn read_prefix(self, text: &str) -> Result<Prefix, from_hex::Error>
         ensures { result ≡ prefix_read (letter_of self) 4 text.now }
     {
@@ -50,7 +50,8 @@ impl Alphabet {
         self.read_prefix_nonempty(text)
     }
 
-    /// As [`Alphabet::read_prefix`], from 1 digit on: only the empty text is too short.
+    /// Does the same as [`Alphabet::read_prefix`], from 1 digit on: only the empty text is too
+    /// short.
     pub fn read_prefix_nonempty(self, text: &str) -> Result<Prefix, from_hex::Error>
         ensures { result ≡ prefix_read (letter_of self) 1 text.now }
     {
@@ -65,8 +66,8 @@ impl Alphabet {
         }
     }
 
-    /// Reads a prefix of a kind, of any number of digits up to that of the kind's ids, 0 too. The
-    /// only error is [`from_hex::Error::Invalid`], for a byte that is no letter.
+    /// Reads a prefix of a kind, of any number of digits up to that of the kind's ids, which may be
+    /// 0. The only error is [`from_hex::Error::Invalid`], for a byte that is not a letter.
     ///
     /// The caller must ensure that the text is no longer than the spelling of an id of the kind.
     pub fn read_prefix_in(self, kind: Kind, text: &[u8]) -> Result<Prefix, from_hex::Error>
@@ -97,7 +98,7 @@ impl Alphabet {
     /// Reads 40 or 64 digits as an id of SHA-1 or SHA-256.
     ///
     /// Returns [`decode::Error::InvalidHexEncodingLength`], with the length in bytes, for a text of
-    /// another length, and otherwise [`decode::Error::Invalid`] if some byte is no letter.
+    /// another length, and otherwise [`decode::Error::Invalid`] if some byte is not a letter.
     #[inline(always)]
     pub fn read_id(self, text: &[u8]) -> Result<ObjectId, decode::Error>
         ensures { result_digits result ≡ full_read (letter_of self) text.now }
@@ -139,9 +140,9 @@ impl Alphabet {
     }
 
     // Whether a text of two letters a byte reads as a digest of 20 or 32 bytes, which is then
-    // written. Both alphabets are read by lanes. The crate `hex` takes a letter at a time, and six
-    // times as long; and with its loop in one branch, LLVM copies each id of a list twice more on
-    // the stack, also in the other.
+    // written. Both alphabets are read by lanes. The crate `hex` reads one letter at a time, which
+    // takes six times as long. With its loop in one branch, LLVM would also copy each id of a list
+    // twice more on the stack, in the other branch too.
     #[inline(always)]
     fn decode_digest(self, text: &[u8], bytes: &mut [u8]) -> bool
         requires digest { IsTrue (is_digest_len (length bytes.old)) }
@@ -196,7 +197,7 @@ impl Alphabet {
     }
 }
 
-// As `Alphabet::decode`, in the letters of hex.
+// Does the same as `Alphabet::decode`, in the letters of hex.
 #[inline(always)]
 fn decode_hex(text: &[u8], zeros: &mut [u8]) -> bool
     requires zeros { zeros.old ≡ replicate (length zeros.old) 0 }

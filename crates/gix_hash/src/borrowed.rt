@@ -355,7 +355,7 @@ impl Hash for oid<'_> {
     }
 }
 
-/// As [`oid::try_from_bytes`].
+/// Does the same as [`oid::try_from_bytes`].
 impl<'a> TryFrom<&'a [u8]> for oid<'a> {
     ghost use Rattle.gix_hash.specs.Ids.{oid_bytes};
     ghost use Rattle.gix_hash.specs.Kinds.{IsLengthRefusal};

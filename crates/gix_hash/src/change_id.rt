@@ -19,7 +19,7 @@ use std::str::FromStr;
 
 /// An id in another spelling: the letters `z` to `k` for the digits 0 to 15, which Jujutsu uses for
 /// its change ids. It has 40 or 64 letters; Jujutsu's own change ids, of 32, are not read. It is
-/// ordered as the id is, in the opposite order of its letters. Contracts see the id.
+/// ordered as the id is, in the opposite order of its letters. Contracts see only the id.
 ///
 /// ```
 /// let change = ChangeId::from_reverse_hex(text)?;
@@ -45,7 +45,7 @@ impl ChangeId {
     /// Reads 40 or 64 of the letters `z` to `k`, in any letter case, as an id of SHA-1 or SHA-256.
     ///
     /// Returns [`decode::Error::InvalidHexEncodingLength`], with the length in bytes, for a text of
-    /// another length, and otherwise [`decode::Error::Invalid`] if some byte is none of the
+    /// another length, and otherwise [`decode::Error::Invalid`] if some byte is not one of the
     /// letters.
     pub fn from_reverse_hex(text: &[u8]) -> Result<ChangeId, decode::Error>
         ensures { result_digits result ≡ full_read reverse_letter text.now }
@@ -133,7 +133,7 @@ impl fmt::Display for ChangeId {
     }
 }
 
-/// As [`ChangeId::from_reverse_hex`].
+/// Does the same as [`ChangeId::from_reverse_hex`].
 impl FromStr for ChangeId {
     ghost use Rattle.gix_hash.specs.Reading.{full_read, result_digits};
 

@@ -1,4 +1,4 @@
-//! Why a text is no full id.
+//! Why a text is not a full id.
 
 use thiserror::Error as ThisError;
 
@@ -15,7 +15,7 @@ pub enum Error {
     /// The text has neither 40 nor 64 bytes: it has as many as given here.
     #[error("A hash sized {0} hexadecimal characters is invalid")]
     InvalidHexEncodingLength(usize),
-    /// The text has the length of an id, and some byte of it is no digit of the alphabet.
+    /// The text has the length of an id, and some byte of it is not a digit of the alphabet.
     #[error("Invalid character encountered")]
     Invalid,
 }

@@ -2,7 +2,7 @@
 
 use thiserror::Error as ThisError;
 
-/// The error of making an id of bytes, which are no digest.
+/// The error of making an id of bytes that are not a digest.
 ///
 /// ```
 /// // Neither 20 nor 32 bytes.

@@ -37,7 +37,7 @@ pub fn digests(kind: Kind)
 {}
 
 /// The chunks in which `num_bytes` bytes are read are the only numbers with that sum of which all
-/// but the last are 65535, and the last is 1 to 65535. At 0 there are none.
+/// except the last are 65535, and the last is 1 to 65535. If the sum is 0, there are none.
 pub fn only_chunks(num_bytes: u64)
     ensures { (lens : List ℕ) → (lens ≡ chunks num_bytes) ↔ AreChunks num_bytes lens }
 {}

@@ -21,8 +21,8 @@ use std::{fmt, io};
 
 /// The id of a Git object: the digest of its header and content.
 ///
-/// Ids are ordered by kind, and then by digits. A sorted list for look-ups wants the order of
-/// digits only: `id_lookup::sort_ids`.
+/// Ids are ordered by kind, and then by digits. A sorted list for look-ups needs the order of
+/// digits alone, into which `id_lookup::sort_ids` sorts.
 ///
 /// ```
 /// let id = ObjectId::from_hex(b"4b825dc642cb6eb9a060e54bf8d69288fbee4904")?;
@@ -46,7 +46,7 @@ impl ObjectId {
     /// Reads 40 or 64 hex digits, in any letter case, as an id of SHA-1 or SHA-256.
     ///
     /// Returns [`decode::Error::InvalidHexEncodingLength`], with the length in bytes, for a text of
-    /// another length, and otherwise [`decode::Error::Invalid`] if some byte is no hex digit.
+    /// another length, and otherwise [`decode::Error::Invalid`] if some byte is not a hex digit.
     #[inline(always)]
     pub fn from_hex(text: &[u8]) -> Result<ObjectId, decode::Error>
         ensures { result_digits result ≡ full_read hex_letter text.now }
@@ -128,7 +128,7 @@ impl ObjectId {
         oid::from_bytes_unchecked(self.as_slice())
     }
 
-    /// As [`ObjectId::as_slice`].
+    /// Does the same as [`ObjectId::as_slice`].
     pub fn as_bytes(&self) -> &[u8]
         ensures value { result.now ≡ id_bytes self.now }
         ensures len { length result.now ≡ byte_len_of (id_kind self.now) }
@@ -187,7 +187,7 @@ impl ObjectId {
         self.as_oid() == other
     }
 
-    /// As [`oid::common_hex_len`].
+    /// Does the same as [`oid::common_hex_len`].
     pub fn common_hex_len(&self, other: oid<'_>) -> usize
         ensures value { result ≡ common_prefix_len nat_eq (id_digits self.now)
             (oid_digits other.entry) }
@@ -231,7 +231,7 @@ impl ObjectId {
         self.as_oid().to_hex_with_len(hex_len)
     }
 
-    /// As [`oid::put_hex`].
+    /// Does the same as [`oid::put_hex`].
     pub fn put_hex(&self, buffer: &mut [u8])
         requires { hex_len_of (id_kind self.now) ≤ length buffer.old }
         ensures value { buffer.new ≡ spelling hex_letter (id_digits self.now) ++ drop
@@ -241,7 +241,7 @@ impl ObjectId {
         self.as_oid().put_hex(buffer);
     }
 
-    /// As [`oid::hex_to_buf`].
+    /// Does the same as [`oid::hex_to_buf`].
     pub fn hex_to_buf<'b>(&self, buffer: &'b mut [u8]) -> &'b str
         requires { hex_len_of (id_kind self.now) ≤ length buffer.old }
         ensures* after { sem 𝓛 (IsLeftAs buffer.entry
@@ -275,7 +275,7 @@ impl ObjectId {
         self.as_oid().front_text(buffer)
     }
 
-    /// As [`oid::write_hex_to`].
+    /// Does the same as [`oid::write_hex_to`].
     pub fn write_hex_to<W: io::Write>(&self, out: &mut W) -> io::Result<()>
         ensures { OnOk result (Appends (W.contents out.old) (W.contents out.new)
             (spelling hex_letter (id_digits self.now))) }
@@ -283,7 +283,7 @@ impl ObjectId {
         self.as_oid().write_hex_to(out)
     }
 
-    /// As [`oid::verify`].
+    /// Does the same as [`oid::verify`].
     pub fn verify(&self, expected: oid<'_>) -> Result<(), verify::Error>
         ensures equal { IsOk result ↔ (id_digits self.now ≡ oid_digits expected.entry) }
         ensures actual { IfErr result (λ e. (id_kind e.actual ≡ id_kind self.now)
@@ -294,7 +294,7 @@ impl ObjectId {
         self.as_oid().verify(expected)
     }
 
-    /// As [`oid::to_prefix`].
+    /// Does the same as [`oid::to_prefix`].
     pub fn to_prefix(&self, range: Range<usize>) -> Prefix
         requires ordered { range.start ≤ range.end }
         requires within { range.end ≤ byte_len_of (id_kind self.now) }
@@ -306,8 +306,8 @@ impl ObjectId {
     }
 }
 
-// The bytes as they are. A parameter that is a slice is known to hold bytes, an array in a variant
-// is not.
+// Returns the bytes as they are. A parameter that is a slice is known to hold bytes, but an array
+// in a variant is not.
 const fn in_byte_range(bytes: &[u8]) -> &[u8]
     ensures value { result.now ≡ bytes.now }
     ensures bytes_in_range { All (λ b. b < 256) result.now }
@@ -315,7 +315,7 @@ const fn in_byte_range(bytes: &[u8]) -> &[u8]
     bytes
 }
 
-/// As the Display of [`oid`].
+/// Prints the same as the Display of [`oid`].
 impl fmt::Display for ObjectId {
     ghost output = { λ id. Some (spelling hex_letter (id_digits id)) };
 
@@ -332,7 +332,7 @@ impl fmt::Debug for ObjectId {
     }
 }
 
-/// As [`ObjectId::from_hex`].
+/// Does the same as [`ObjectId::from_hex`].
 impl FromStr for ObjectId {
     type Err = decode::Error;
 

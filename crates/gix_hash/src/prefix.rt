@@ -133,7 +133,7 @@ impl Prefix {
     /// above.
     ///
     /// Returns [`from_hex::Error::TooShort`] for fewer bytes, [`from_hex::Error::TooLong`] for
-    /// more, and otherwise [`from_hex::Error::Invalid`] if some byte is no digit.
+    /// more, and otherwise [`from_hex::Error::Invalid`] if some byte is not a digit.
     pub fn from_hex(text: &str) -> Result<Prefix, from_hex::Error>
         ensures { result ≡ prefix_read hex_letter 4 text.now }
     {
@@ -144,21 +144,21 @@ impl Prefix {
     /// above.
     ///
     /// Returns [`from_hex::Error::TooShort`] for an empty text, [`from_hex::Error::TooLong`] for
-    /// more bytes, and otherwise [`from_hex::Error::Invalid`] if some byte is no digit.
+    /// more bytes, and otherwise [`from_hex::Error::Invalid`] if some byte is not a digit.
     pub fn from_hex_nonempty(text: &str) -> Result<Prefix, from_hex::Error>
         ensures { result ≡ prefix_read hex_letter 1 text.now }
     {
         Alphabet::Hex.read_prefix_nonempty(text)
     }
 
-    /// As [`Prefix::from_hex`], in the letters `z` to `k`.
+    /// Does the same as [`Prefix::from_hex`], in the letters `z` to `k`.
     pub fn from_reverse_hex(text: &str) -> Result<Prefix, from_hex::Error>
         ensures { result ≡ prefix_read reverse_letter 4 text.now }
     {
         Alphabet::Reverse.read_prefix(text)
     }
 
-    /// As [`Prefix::from_hex_nonempty`], in the letters `z` to `k`.
+    /// Does the same as [`Prefix::from_hex_nonempty`], in the letters `z` to `k`.
     pub fn from_reverse_hex_nonempty(text: &str) -> Result<Prefix, from_hex::Error>
         ensures { result ≡ prefix_read reverse_letter 1 text.now }
     {
@@ -169,7 +169,7 @@ impl Prefix {
     /// prefix of that kind.
     ///
     /// Returns [`from_hex::Error::TooShort`] for an empty text, [`from_hex::Error::TooLong`] for
-    /// more bytes, and otherwise [`from_hex::Error::Invalid`] if some byte is no digit.
+    /// more bytes, and otherwise [`from_hex::Error::Invalid`] if some byte is not a digit.
     pub fn from_hex_in(kind: Kind, text: &str) -> Result<Prefix, from_hex::Error>
         ensures read { result ≡ prefix_read_in kind hex_letter text.now }
         ensures kind { IfOk result (λ prefix. prefix.kind ≡ kind) }

@@ -1,6 +1,6 @@
 //! `gix_hash`, `id_lookup` and `pack_index` for C.
 //!
-//! Each function is total: what a caller can get wrong, it tests, and returns a code for it. The
+//! Each function is total: it tests what a caller can get wrong, and returns a code for it. The
 //! caller must ensure that each pointer is valid for its length.
 #![tactic(auto)]
 

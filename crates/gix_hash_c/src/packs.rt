@@ -1,5 +1,5 @@
-//! Pack indexes over their bytes. C keeps only the bytes, so each call tests again the header and
-//! the lengths of the tables. So none reads outside of the bytes, whatever they are.
+//! Pack indexes over their bytes. C keeps only the bytes, so each call tests the header and the
+//! lengths of the tables again, and reads nothing outside of the bytes, whatever they are.
 
 ghost use Rattle.std.specs.Prelude.{◌≡◌, ◌<◌, ◌≤◌, [], IfErr, IfSome, IsNone, OnOk, ℕ, List, length, slice_index_or, slice_range, take};
 ghost use Rattle.id_lookup.specs.Words.{IsShortestName, IsSortedIds, hex_len_of, kind_digits};
@@ -23,7 +23,7 @@ use pack_index::tables::{
 };
 use pack_index::{Error, File};
 
-// How many names before and after a position are searched first.
+// How many ids before and after a position are searched first.
 const NEAR: usize = 8;
 
 /// What an index contains about an object.
@@ -56,7 +56,7 @@ pub extern "C" fn gix_hash_pack_check(kind: u32, bytes: &[u8], detail: &mut u64)
 }
 
 /// The number of the kind whose ids the index holds. An error is the number of the cause for which
-/// the bytes are no index of SHA-1, and leaves `kind` as it was.
+/// the bytes are not an index of SHA-1, and leaves `kind` as it was.
 #[unsafe(no_mangle)]
 pub extern "C" fn gix_hash_pack_kind(bytes: &[u8], kind: &mut u32) -> u32
     ensures { PackKindAnswer bytes.now result kind.old kind.new }
@@ -246,8 +246,9 @@ fn id_table(kind: Kind, bytes: &[u8]) -> &[u8]
     &bytes[NAMES_START..crc_table_start(bytes, kind)]
 }
 
-// About where the names with the prefix are: by the counts those with its first byte, and among
-// these by its next digits, as if they were spread evenly. This guess changes no result.
+// A guess where the ids with the prefix are. The counts say which ids have its first byte, and
+// among these its next digits are taken as if the ids were spread evenly. The guess changes no
+// result.
 fn guess(bytes: &[u8], prefix: &gix_hash::Prefix) -> id_lookup::Run
     requires { names_start ≤ length bytes.now }
 {

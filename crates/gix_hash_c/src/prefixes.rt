@@ -72,8 +72,8 @@ fn first_digits_order(bytes: &[u8; 32], hex_len: usize, id: oid<'_>) -> i32
     order_of(first_digits_cmp(bytes, hex_len, id))
 }
 
-// The order of the first `hex_len` digits of some bytes and of an id. To make a prefix of the bytes
-// would take longer than to compare them once.
+// The order of the first `hex_len` digits of some bytes and of an id. Making a prefix of the bytes
+// would take longer than comparing them once.
 #[inline(always)]
 fn first_digits_cmp(bytes: &[u8; 32], hex_len: usize, id: oid<'_>) -> Ordering
     requires { hex_len ≤ hex_len_of (oid_kind id) }

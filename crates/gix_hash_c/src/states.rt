@@ -1,8 +1,8 @@
 //! The states of the kit's hash functions as numbers, which C can keep.
 //!
 //! The fields of `sha1::Sha1` and `sha2::Sha256` are private. The structs here have fields of the
-//! same types in the same order, so that a state is read where such a struct lies, and the other
-//! way round: that they lie alike is proved.
+//! same types in the same order, so that a state can be read as such a struct, and the other way
+//! round. That both lie in memory in the same way is proved.
 
 ghost use Rattle.std.specs.Prelude.{◌≡◌};
 ghost use Rattle.gix_hash_c.specs.Hashers.{sha1_of, sha256_of};

@@ -4,8 +4,8 @@ ghost use Rattle.std.specs.Prelude.{◌≡◌, nat_eq};
 ghost use Rattle.std.specs.List.{common_prefix_len};
 ghost use Rattle.id_digits.specs.Digits.{digits_of};
 
-/// The number of digits that two lists of bytes share: those before the first that differs, or all
-/// of the shorter list's if none does.
+/// The number of first digits that two lists of bytes share: the digits before the first one that
+/// differs, or all digits of the shorter list if none differs.
 pub fn common_digits(one: &[u8], other: &[u8]) -> usize
     ensures { result ≡ common_prefix_len nat_eq (digits_of one.now) (digits_of other.now) }
 {

@@ -3,8 +3,8 @@
 ghost use Rattle.std.specs.Prelude.{◌≡◌, ◌≤◌, ◌*◌, length, take, replicate};
 ghost use Rattle.id_digits.specs.Digits.{digits_of, padded};
 
-/// Copies the first `hex_len` digits of `front` into zeros: whole bytes, and at an odd number the
-/// high half of one more.
+/// Copies the first `hex_len` digits of `front` into zeros: whole bytes, and for an odd number also
+/// the high half of one more byte.
 pub fn copy_digits(front: &[u8], hex_len: usize, zeros: &mut [u8])
     requires zeros { zeros.old ≡ replicate (length zeros.old) 0 }
     requires room { length front.now ≤ length zeros.old }

@@ -18,8 +18,8 @@ const LINE_FEED: u8 = b'\n';
 
 /// Whether lines of full ids are sorted: each is hex letters, in either case, and a line feed, and
 /// its id is above that of the line before it, or equal to it if `repeats` are allowed. `LINE` is
-/// the number of bytes of a line: 41 for SHA-1, 65 for SHA-256. It is false, too, if the first id
-/// begins with eight zeros.
+/// the number of bytes of a line: 41 for SHA-1, 65 for SHA-256. It also returns false if the first
+/// id begins with eight zeros.
 pub fn are_sorted_lines<const LINE: usize>(lines: &[[u8; LINE]], repeats: bool) -> bool
     requires { IsTrue (is_line_len LINE) }
     ensures { IsTrue result → AreSortedLines (LINE - 1) repeats [] lines.now }
@@ -42,7 +42,7 @@ pub fn are_sorted_lines<const LINE: usize>(lines: &[[u8; LINE]], repeats: bool) 
             return false;
         }
         before = word;
-        // Of 40 letters the third vector is the last one, as in `read_digest`.
+        // For 40 letters the third vector is the last one, as in `read_digest`.
         let rest = greater(
             values_at(letters, end.min(2 * LETTERS)),
             values_at(letters, end),
@@ -50,7 +50,7 @@ pub fn are_sorted_lines<const LINE: usize>(lines: &[[u8; LINE]], repeats: bool) 
         let front = greater(first, values_at(letters, LETTERS));
         greatest = greater(greatest, greater(front, rest));
     }
-    // One test of all letters, since mostly it holds.
+    // All letters are tested at once, since mostly all are digits.
     are_digits(greatest)
 }
 

@@ -13,7 +13,7 @@ pub(crate) const LETTERS: usize = 16;
 
 const BYTES: usize = 16;
 
-// All bits but the one by which a lowercase letter differs from its capital.
+// All bits except the one by which a lowercase letter differs from its capital.
 const CAPITAL: u8 = 0xdf;
 
 /// Whether a text of two hex letters a byte, in either case, reads as a digest of 20 or 32 bytes,
@@ -28,18 +28,18 @@ pub fn read_digest(text: &[u8], bytes: &mut [u8]) -> bool
     let end = text.len() - LETTERS;
     let first = values_at(text, 0);
     let second = values_at(text, LETTERS);
-    // Of 40 letters the third vector is the last one, which is computed once.
+    // For 40 letters the third vector is the last one, which is computed once.
     let third = values_at(text, end.min(2 * LETTERS));
     let last = values_at(text, end);
     packed(first, second).copy_to_slice(bytes);
     put_rest(packed(third, last), bytes);
-    // One test of them all, since mostly it holds.
+    // All letters are tested at once, since mostly all are digits.
     are_digits(greater(greater(first, second), greater(third, last)))
 }
 
-// Writes the last sixteen bytes of a digest, but for those of them that are among its first
-// sixteen: each byte is stored once, since a load of bytes that two stores wrote has to wait for
-// both.
+// Writes the last sixteen bytes of a digest, except for those that are among its first sixteen.
+// Each byte is stored once, since a load of bytes that two stores wrote has to wait for both
+// stores.
 #[inline(always)]
 fn put_rest(lanes: u8x16, bytes: &mut [u8])
     requires { IsTrue (is_digest_len (length bytes.old)) }
@@ -58,7 +58,7 @@ pub(crate) fn values_at(text: &[u8], at: usize) -> u8x16
     values_of(u8x16::from_slice(&text[at..]))
 }
 
-// The digits of letters in either case, and for another byte a number that is no digit.
+// The digits of letters in either case, and for any other byte a number that is not a digit.
 #[inline(always)]
 fn values_of(letters: u8x16) -> u8x16
     ensures { result ≡ values_of letters }

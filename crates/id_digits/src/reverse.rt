@@ -4,7 +4,7 @@ ghost use Rattle.std.specs.Prelude.{◌≡◌, map};
 ghost use Rattle.id_digits.specs.Letters.{hex_of_reverse, reverse_of_hex};
 
 /// Replaces each letter `z` to `k`, in any letter case, by the hex letter of its digit, and any
-/// other byte by one that is no hex letter.
+/// other byte by one that is not a hex letter.
 pub fn to_hex_letters(text: &mut [u8])
     ensures { text.new ≡ map hex_of_reverse text.old }
 {

@@ -18,7 +18,8 @@ pub fn spell_digest(bytes: &[u8], text: &mut [u8])
     ensures { text.new ≡ spelling hex_letter (digits_of bytes.now) }
 {
     put_letters(bytes, 0, text);
-    // Of 20 bytes the last sixteen begin among the first, whose letters are written twice.
+    // If there are 20 bytes, the last sixteen begin among the first sixteen, so the letters of some
+    // are written twice.
     put_letters(bytes, bytes.len() - BYTES, text);
 }
 

@@ -1,5 +1,5 @@
-//! Look-ups in lists that were not checked to be sorted. They are safe for any list, and for a
-//! sorted one return what [`SortedIds`](crate::SortedIds) returns.
+//! Look-ups in lists that were not checked to be sorted. They are safe for any list, and return for
+//! a sorted one what [`SortedIds`](crate::SortedIds) returns.
 
 ghost use Rattle.std.specs.Prelude.{◌≡◌, ◌<◌, ◌≤◌, ℕ, [], List, IfSome, IsNone, length, map, nat_lt, slice_index_or, take};
 ghost use Rattle.gix_hash.specs.Words.{hex_len_of};
@@ -32,8 +32,9 @@ pub fn find_assuming_sorted<I: Id>(ids: &[I], prefix: &Prefix) -> Run
     find_assuming_sorted_near(ids, prefix, Run { start: 0, end })
 }
 
-/// As [`find_assuming_sorted`], but it searches first among the positions of a guess. A guess that
-/// contains the run spares comparisons. If the list is sorted, it changes only the number of these.
+/// Does the same as [`find_assuming_sorted`], but searches among the positions of a guess first. A
+/// guess that contains the run saves comparisons. If the list is sorted, the guess changes only the
+/// number of comparisons.
 ///
 /// The caller must ensure that the prefix has at most as many digits as each member.
 ///
@@ -57,7 +58,7 @@ pub fn find_assuming_sorted_near<I: Id>(ids: &[I], prefix: &Prefix, guess: Run) 
 }
 
 // A part with the start of the run, if the list is sorted: the guess, or one next to it, or the
-// whole list if the guess is no run of its positions.
+// whole list if the guess is not a run of its positions.
 fn part_near<I: Id>(ids: &[I], prefix: &Prefix, guess: Run) -> Run
     requires { length prefix.now.digits ≤ least_hex_len (map I.digits ids.now) }
     ensures in_order { result.start ≤ result.end }
@@ -80,8 +81,8 @@ fn part_near<I: Id>(ids: &[I], prefix: &Prefix, guess: Run) -> Run
 }
 
 // A part with a bound of the run, if the list is sorted and the bound is at least `first`: from
-// there to `high`, or the first of the parts after it that has the bound. Each is as long as all
-// before it.
+// there to `high`, or the first of the parts after it that has the bound. Each part is as long as
+// all parts before it together.
 #[inline(always)]
 fn part_from<I: Id>(ids: &[I], prefix: &Prefix, bound: Bound, first: usize, mut high: usize) -> Run
     requires enough_digits { length prefix.now.digits ≤ least_hex_len (map I.digits ids.now) }
@@ -109,8 +110,8 @@ fn part_from<I: Id>(ids: &[I], prefix: &Prefix, bound: Bound, first: usize, mut 
 }
 
 // A part with the start of the run, if the list is sorted and the start is at most `last`: from
-// `low` to there, or the first of the parts before it that has the start. Each is as long as all
-// after it.
+// `low` to there, or the first of the parts before it that has the start. Each part is as long as
+// all parts after it together.
 fn part_up_to<I: Id>(ids: &[I], prefix: &Prefix, mut low: usize, last: usize) -> Run
     requires enough_digits { length prefix.now.digits ≤ least_hex_len (map I.digits ids.now) }
     requires in_order { low ≤ last }

@@ -8,8 +8,8 @@ use std::marker::Model;
 
 /// For each byte, how many ids of a list have at most that first byte, as in Git's pack indexes.
 ///
-/// An index has one of its ids: [`IdIndex::fan_out`](crate::IdIndex::fan_out). Of another list it
-/// is made by [`FanOut::of`].
+/// [`IdIndex::fan_out`](crate::IdIndex::fan_out) is that of an index, and [`FanOut::of`] makes that
+/// of any list.
 ///
 /// ```
 /// let fan_out = index.fan_out();

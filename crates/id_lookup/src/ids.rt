@@ -8,8 +8,8 @@ use gix_hash::{ObjectId, oid};
 
 /// An id of a list: an [`ObjectId`], or the bytes of a digest, 20 of SHA-1 or 32 of SHA-256.
 ///
-/// So a table of digests stored one after the other, as in Git's pack indexes, is a list of ids
-/// too, by `as_chunks` of its bytes.
+/// So `as_chunks` of its bytes makes a list of ids of a table of digests that are stored one after
+/// the other, as in Git's pack indexes.
 ///
 /// ```
 /// // Nothing is copied.

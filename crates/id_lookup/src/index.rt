@@ -20,7 +20,7 @@ use std::marker::Model;
 
 /// A list of ids of one kind in strictly increasing order, with its fan-out table.
 ///
-/// It does not allocate: the table, of 256 numbers, is in it, so an index takes more than 2 KiB by
+/// It does not allocate. It contains the table of 256 numbers, so it takes more than 2 KiB by
 /// value.
 ///
 /// ```
@@ -171,8 +171,8 @@ impl<'a, I: Id> IdIndex<'a, I> {
         self.abbreviate_from(at, Prefix::MIN_HEX_LEN)
     }
 
-    /// As [`IdIndex::abbreviate`], but of at least `least` digits. These must be at least 4, and at
-    /// most as many as an id of the kind has.
+    /// Does the same as [`IdIndex::abbreviate`], for an abbreviation of at least `least` digits.
+    /// `least` must be at least 4, and at most as many as an id of the kind has.
     #[inline(always)]
     pub fn abbreviate_from(&self, at: usize, least: usize) -> Prefix
         requires in_range { at < length self.now.ids }
@@ -186,9 +186,9 @@ impl<'a, I: Id> IdIndex<'a, I> {
     }
 }
 
-/// The abbreviation of the member at position `at` of a list, which must be below its length: that
-/// of [`IdIndex::abbreviate_from`]. The list must be an index of the kind, as [`sort_unique`] makes
-/// one; only the member and its two neighbours are looked at.
+/// The abbreviation of the member at position `at` of a list, which must be below its length, as
+/// [`IdIndex::abbreviate_from`] returns it. The list must be an index of the kind, as
+/// [`sort_unique`] makes one; only the member and its two neighbours are looked at.
 ///
 /// [`sort_unique`]: crate::sort_unique
 ///

@@ -1,4 +1,4 @@
-//! Laws of look-ups that no single call carries. Each is the contract of a function.
+//! Laws of look-ups that belong to no single call. Each is the contract of a function.
 
 ghost use Rattle.std.specs.Prelude.{◌≡◌, ◌↔◌, ◌<◌, ℕ, List, All, IsTrue, length, map};
 ghost use Rattle.std.specs.List.Sorted.{IsStrictlySortedBy};

@@ -69,10 +69,10 @@ pub fn lookup<I: Id>(probes: &mut Probes<'_, I>) -> Run
     find_run(probes, Run { start: 0, end: len })
 }
 
-/// As [`lookup`], by a search among only the members with the prefix's first byte.
+/// Does the same as [`lookup`], by a search among only the members with the prefix's first byte.
 ///
-/// It calls `ask` at most 2 · b times, where b is the bit length of the number of those, and never
-/// for a prefix of fewer than two digits. The probes must be new, and the fan-out table that of
+/// It calls `ask` at most 2 · b times, where b is the bit length of the number of those, and not at
+/// all for a prefix of fewer than two digits. The probes must be new, and the fan-out table that of
 /// their list, as when both are from one [`IdIndex`](crate::IdIndex).
 pub fn lookup_in<I: Id>(fan_out: &FanOut, probes: &mut Probes<'_, I>) -> Run
     requires fresh { probes.old.asked ≡ 0 }

@@ -1,9 +1,9 @@
 //! `oidtool` finds object ids by their beginnings in sorted lists, and computes the digests of
 //! streams and files.
 //!
-//! It reads from standard input a list, with the hex digits of an id on each line, or the bytes to
-//! hash or to seal, and writes to standard output. Its status is 0 if it wrote an id, 1 if no id of
-//! a list matches, and 2 for an error, which is printed on standard error.
+//! Standard input is a list, with the hex digits of an id on each line, or the bytes to hash or to
+//! seal. Its exit status is 0 if a search found an id or a digest was written, 1 if a search found
+//! none, and 2 after an error, which is printed on standard error.
 #![tactic(auto)]
 
 mod help;

@@ -16,20 +16,20 @@ abbrev pub IsClosedPipe : Failure → Type 0
 IsClosedPipe (Output error) = error_kind error ≡ BrokenPipe
 IsClosedPipe _ = ⊥
 
--- that a file of this path is not shown or checked, and why; or memory ran out
+-- a file of this path is not shown or checked, for this reason; or memory ran out
 abbrev pub IsAt : FileWhy → List ℕ → Failure → Type 0
 IsAt why path (File text boxed) = (string_bytes text ≡ path) × (boxed.value ≡ why)
 IsAt why path Memory = Unit {0}
 IsAt why path _ = ⊥
 
--- the status of a file by what became of it: 0 if it is right, 1 if not, 2 if it cannot be read; any other failure ends the command
+-- the status of a file that was shown or checked: 0 if the result is true, 1 if it is false, 2 if the file cannot be read; any other failure ends the command
 abbrev pub status_of_file : Result Bool Failure → Result ℕ Failure
 status_of_file (Ok true) = Ok 0
 status_of_file (Ok false) = Ok 1
 status_of_file (Err (File path why)) = Ok 2
 status_of_file (Err failure) = Err failure
 
--- what is printed after the error of a part that is skipped: of a pack index of version 1 also what helps
+-- what is printed after the error of a part that is skipped; for a pack index of version 1 this also names a cure
 abbrev pub skipped_mark : StoreError → List ℕ
 skipped_mark (Index (look_ups.Index path (Head Version1))) = codes " (git index-pack PACK replaces it), skipped"
 skipped_mark _ = codes ", skipped"

@@ -9,7 +9,7 @@ use Rattle.packtool_commands.specs.Files.{IsOpenedAs, IsRefusalAs, named, pairin
 use Rattle.packtool_commands.specs.declared.pairing.Pairing.TheVariants.{Same}
 use Rattle.streams.specs.declared.checking.Ending.TheVariants.{Sealed}
 
--- a file is right: it ends with its digest, or is a pack index and belongs to the pack beside it, if there is one; or it has no digest
+-- a file passed its check: it ends with its digest, or is a pack index that belongs to the pack beside it, if there is one; or it has no digest
 abbrev pub IsRight : Verdict → Type 0
 IsRight Skipped = Unit {0}
 IsRight (Ends ending) = (id : _) × (ending ≡ Sealed id)
@@ -17,7 +17,7 @@ IsRight (Faulty error) = ⊥
 IsRight Alone = Unit {0}
 IsRight (Paired pairing) = pairing ≡ Same
 
--- what is said of the bytes of a pack index, with a kind or of either: why they are none, or that they are one, and what of the pack beside it
+-- the verdict on the bytes of a pack index, of a given kind or of either: why they are not one; or that they are one, and its relation to the pack beside it
 abbrev pub IsOfIndex : Option Kind → List ℕ → Verdict → Type 0
 IsOfIndex kind bytes Skipped = ⊥
 IsOfIndex kind bytes (Ends ending) = ⊥

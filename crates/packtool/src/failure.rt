@@ -32,7 +32,7 @@ pub enum Failure<'a> {
         /// Why.
         why: Box<FileWhy>,
     },
-    /// A text that begins so is no prefix.
+    /// A text that begins with this is not a prefix.
     #[error("{text}: not 2 to {most} hex digits")]
     Prefix {
         /// Its beginning.
@@ -40,7 +40,7 @@ pub enum Failure<'a> {
         /// How many digits an id of the store has.
         most: usize,
     },
-    /// Names of at least so many digits are longer than the store's ids.
+    /// Abbreviations of at least so many digits would be longer than the store's ids.
     #[error("--least {least}: an id has {most} digits")]
     Least {
         /// The fewest digits that were asked for.
@@ -48,7 +48,7 @@ pub enum Failure<'a> {
         /// How many digits an id of the store has.
         most: usize,
     },
-    /// An argument that is not UTF-8 is no word of a command.
+    /// An argument is not UTF-8.
     #[error("argument {number} is not UTF-8")]
     NotText {
         /// Its number among the arguments, from 1.
@@ -76,7 +76,7 @@ pub enum Failure<'a> {
     Memory,
 }
 
-// As each error has to have a debug text.
+// Each error must have a debug text.
 impl fmt::Debug for Failure<'_> {
     fn fmt<W: fmt::Write>(&self, f: &mut fmt::Formatter<W>) -> fmt::Result {
         fmt::Display::fmt(self, f)
@@ -84,7 +84,7 @@ impl fmt::Debug for Failure<'_> {
 }
 
 impl Failure<'_> {
-    /// That standard output, which is this, cannot be written.
+    /// The failure of this standard output, which cannot be written.
     pub fn of_output<W>(out: &Plain<W>) -> Self
         ensures { (error : _) → plain_error out.now ≡ Some error → result ≡ Failure.Output error }
     {
@@ -104,7 +104,7 @@ pub enum FileWhy {
     /// It is a directory, a pipe or a device.
     #[error("not a regular file")]
     NotRegular,
-    /// It is no pack index.
+    /// It is not a pack index.
     #[error(transparent)]
     Index(pack_index::Error),
     /// It has 2^61 bytes or more.

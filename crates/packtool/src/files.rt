@@ -34,7 +34,7 @@ const INDEX_END: &str = ".idx";
 
 const PACK_END: &str = ".pack";
 
-// How the names of files end that Git writes with no digest: marks of packs, and the lists of the
+// How the names of files end that Git writes without a digest: marks of packs, and the lists of the
 // files of a chain.
 const KEEP_END: &str = ".keep";
 
@@ -45,8 +45,8 @@ const CHAIN_END: &str = "-chain";
 // The directory of a chain of indexes, which Git keeps among the packs.
 const CHAIN_FOLDER: &str = "multi-pack-index.d";
 
-/// Prints the lines of a pack index, and returns whether there is one. With no kind, its length
-/// says it.
+/// Prints the lines of a pack index, and returns whether there is a line. If no kind is given, the
+/// length of the index says its kind.
 pub fn show<'a, W: io::Write>(
     rt: &HostRuntime,
     path: &str,
@@ -85,27 +85,28 @@ fn show_from<'a, R: io::Read + Drop, W: io::Write>(
     }
 }
 
-// What is said of a checked file.
+// The verdict on a checked file.
 #[derive(Drop)]
 enum Verdict {
-    // Git writes it with no digest.
+    // It is not checked, since Git writes it without a digest.
     Skipped,
-    // How it ends, if it is no pack index.
+    // It is not a pack index, and ends in this way.
     Ends(Ending),
-    // Why it is no right pack index.
+    // It is a pack index that is not sound, for this reason.
     Faulty(pack_index::Error),
-    // It is a right pack index, and there is no pack of its name.
+    // It is a sound pack index, and there is no pack beside it.
     Alone,
-    // It is one, and whether it belongs to the pack of its name.
+    // It is a sound pack index, and this is its relation to the pack beside it.
     Paired(Pairing),
 }
 
-/// Prints whether a file is right, and returns it: whether a pack index is one and belongs to the
-/// pack of its name, or another file ends with its digest. A file that Git writes with no digest is
-/// skipped, and right. If the output failed, nothing is printed.
+/// Prints whether a file passes its check, and returns the same. A pack index has to be sound and
+/// to belong to the pack beside it, and any other file has to end with its digest. A file that Git
+/// writes without a digest is skipped, and passes. If the output failed before, nothing is printed.
 ///
-/// With no kind it is right in either, and a pack index in the one that its length says; a file
-/// that is not of SHA-1 is read twice, and standard input once.
+/// If no kind is given, a file may end with the digest of either kind, and the length of a pack
+/// index says its kind. A file that does not end with its SHA-1 is read twice, and standard input
+/// once.
 pub fn check<'a, W: io::Write>(
     rt: &HostRuntime,
     path: &str,
@@ -127,7 +128,7 @@ pub fn check<'a, W: io::Write>(
     Ok(is_right(&verdict))
 }
 
-// Whether a file is right, or skipped.
+// Whether a file passed its check, or was skipped.
 fn is_right(verdict: &Verdict) -> bool
     ensures { IsTrue result ↔ IsRight verdict.now }
 {
@@ -138,7 +139,7 @@ fn is_right(verdict: &Verdict) -> bool
     }
 }
 
-// Writes the line of a file. That a write fails is known to the output.
+// Writes the line of a file. The output knows whether a write failed.
 fn write_verdict<'a, W: io::Write>(
     rt: &HostRuntime,
     path: &str,
@@ -162,7 +163,7 @@ fn write_verdict<'a, W: io::Write>(
     Ok(())
 }
 
-// What is printed after the name of a file that is wrong.
+// What is printed after the name of a file that failed its check.
 fn fault_end(alloc: Global, why: &str) -> Result<String, AllocError>
     ensures { IfOk result (λ end. string_bytes end ≡ codes ": FAILED: " ++ why.now ++ 10 ∷ []) }
 {
@@ -172,8 +173,8 @@ fn fault_end(alloc: Global, why: &str) -> Result<String, AllocError>
     Ok(end)
 }
 
-// What is said of standard input. Its first bytes decide whether it is a pack index; of one no more
-// is read than its counts allow.
+// The verdict on standard input. Its first bytes decide whether it is a pack index. No more of a
+// pack index is read than its counts allow.
 fn verdict_of_input<'a>(rt: &HostRuntime, kind: Option<Kind>) -> Result<Verdict, Failure<'a>> {
     let path = "-";
     let mut reader = rt.reader();
@@ -188,7 +189,7 @@ fn verdict_of_input<'a>(rt: &HostRuntime, kind: Option<Kind>) -> Result<Verdict,
     verdict_of_index(rt, path, &bytes, kind)
 }
 
-// Reads at most so many bytes, and puts them after those that were read.
+// Reads at most so many bytes, and appends them to those that were read before.
 fn read_more<'a, R: io::Read>(
     rt: &HostRuntime,
     path: &str,
@@ -207,8 +208,9 @@ fn read_more<'a, R: io::Read>(
     }
 }
 
-// How many bytes a pack index of version 2 may have after its fan-out table, which these end with:
-// of each id at most 32, with a CRC of 4 and an offset of 12, and two digests.
+// How many bytes a pack index of version 2 may have after its fan-out table, with which these bytes
+// end. For each object these are at most 32 of its id, 4 of its CRC and 12 of its offset, and then
+// there are two digests.
 fn most_after(head: &[u8]) -> u64
     ensures { names_start ≤ length head.now → result ≡ 48 * num_objects head.now + 64 }
 {
@@ -218,7 +220,7 @@ fn most_after(head: &[u8]) -> u64
     48 * u64::from(num_objects(head)) + 64
 }
 
-// What is said of a file.
+// The verdict on a file.
 fn verdict_of_file<'a>(
     rt: &HostRuntime,
     path: &str,
@@ -239,7 +241,8 @@ fn verdict_of_file<'a>(
     verdict_of_index(rt, path, &bytes, kind)
 }
 
-// What is said of the bytes of a pack index, and of the pack of its name, if there is one.
+// The verdict on the bytes of a pack index, and on its relation to the pack beside it, if there is
+// one.
 fn verdict_of_index<'a>(
     rt: &HostRuntime,
     path: &str,
@@ -250,7 +253,7 @@ fn verdict_of_index<'a>(
 {
     let index = match open_index(bytes, kind) {
         Ok(index) => index,
-        // Such an index may be right.
+        // Such an index may be sound.
         Err(error @ pack_index::Error::Version1) => {
             return Err(failure(rt, path, FileWhy::Index(error)));
         }
@@ -265,7 +268,7 @@ fn verdict_of_index<'a>(
     }
 }
 
-// Whether Git writes files of this name with no digest.
+// Whether Git writes files of this name without a digest.
 fn has_no_digest(path: &str) -> bool
     ensures { IsTrue result ↔ ((stem : List ℕ) × (path.now ≡ stem ++ KEEP_END.now))
         ⊎ (((stem : List ℕ) × (path.now ≡ stem ++ PROMISOR_END.now))
@@ -293,8 +296,9 @@ fn is_index<S: ReadAt>(source: &S, path: &str) -> bool
     path.ends_with(INDEX_END) || source.read_exact_at(&mut magic, 0).is_ok() && magic == MAGIC
 }
 
-// How a file ends, for the kind, or with no kind for the one in which it is right, if there is one.
-// What ends with its SHA-1 is hashed once, and any other file is read again for its SHA-256.
+// How a file ends: for the kind that is given or, if none is, for the kind whose digest it ends
+// with, if there is one. A file that ends with its SHA-1 is hashed once, and any other file is read
+// again for its SHA-256.
 fn ending_in<'a, R: io::Read + Seek>(
     rt: &HostRuntime,
     reader: &mut R,
@@ -319,7 +323,8 @@ fn is_sealed(ending: &Ending) -> bool
     matches!(ending, Ending::Sealed(_))
 }
 
-// How the rest of a file ends, for the kind, or with no kind for the one in which it is right.
+// How the rest of a file ends: for the kind that is given or, if none is, for the kind whose digest
+// it ends with.
 fn ending_of<'a, R: io::Read>(
     rt: &HostRuntime,
     reader: &mut R,
@@ -379,7 +384,7 @@ fn open<'a>(rt: &HostRuntime, path: &str) -> Result<File, Failure<'a>>
     }
 }
 
-// Opens a file, unless it is of another type: to open a pipe waits for what writes to it.
+// Opens a regular file, and nothing else: opening a pipe would wait for a writer.
 fn open_regular(rt: &HostRuntime, path: &str) -> Result<File, FileWhy> {
     if !metadata(rt, path)?.is_file() {
         return Err(FileWhy::NotRegular);
@@ -397,7 +402,7 @@ pub fn expect_text<'a>(rt: &HostRuntime, path: &str) -> Result<(), Failure<'a>>
     }
 }
 
-// A file cannot be read, by what its reads returned.
+// The failure of a file that cannot be read, by what its reads returned.
 fn unread<'a, R: io::Read>(rt: &HostRuntime, path: &str, input: &Plain<R>) -> Failure<'a>
     ensures { (error : _) → plain_error input.now ≡ Some error
         → IsAt (FileWhy.Read error) path.now result }

@@ -13,8 +13,8 @@ use std::io;
 /// The most bytes of a chunk, and so of a line with its line feed.
 pub const MAX_LEN: usize = 1 << 20;
 
-// The length of the buffer at first, and the most until a line does not fit it. Its pages cost more
-// time than a short input.
+// The length of the buffer at first, and its greatest length until a line does not fit it. A short
+// input would take less time than the pages of a long buffer do.
 const FIRST_LEN: usize = 1 << 14;
 
 const BUF_LEN: usize = 1 << 18;
@@ -33,7 +33,7 @@ pub struct LineReader<R> {
     chunk_len: usize,
     // Whether the last read filled the buffer.
     has_more: bool,
-    // How many lines the chunks had until now.
+    // How many lines the chunks had so far.
     count: u64,
     ghost in_bounds: { filled ≤ vec_len buf },
     ghost ordered: { chunk_len ≤ filled },
@@ -45,7 +45,7 @@ impl<R: io::Read> LineReader<R> {
     ghost use Rattle.packtool.specs.WholeLines.{made_whole};
     ghost use Rattle.std.specs.Option.{option_map};
 
-    /// It reads from this reader, which tries interrupted reads again.
+    /// Wraps this reader, whose interrupted reads are tried again.
     pub fn new(alloc: Global, reader: R) -> Result<LineReader<R>, AllocError>
     where
         R: Drop,

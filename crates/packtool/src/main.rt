@@ -1,9 +1,10 @@
 //! `packtool` looks ids up in a Git object store, and reads pack indexes.
 //!
-//! Its status is 0 if something was found and all is right, 1 if nothing was found, more than one
-//! id with `--one`, or a file is wrong, and 2 for an error, which is printed on standard error. If
-//! nobody reads its output any more, it ends in silence with 0, but for `check`, which goes on
-//! reading for the status.
+//! Its exit status is 0 if something was found and each file passed its check; 1 if nothing was
+//! found, if `--one` found several ids, if a prefix from `--stdin` was missing, ambiguous or bad,
+//! or if a file failed; and 2 after an error, which is printed on standard error. If nobody reads
+//! its output any more, it ends in silence with 0, except for `check`, which goes on reading for
+//! the status.
 #![tactic(auto)]
 
 ghost use Rattle.std.specs.Prelude.{◌≡◌, ◌≢◌, ◌↔◌, ◌++◌, ◌∷◌, ℕ, [], All, IfErr, IfOk, IsNone, IsTrue, List, string_bytes};
@@ -45,8 +46,8 @@ fn main(rt: HostRuntime) -> ExitCode {
     ExitCode::from(status_of(&rt, &outcome))
 }
 
-// The status of the program, after the failure was printed, if it is one, but for that of a pipe
-// that was closed.
+// The exit status of the program. A failure is printed first, except for that of a pipe that was
+// closed.
 fn status_of(rt: &HostRuntime, outcome: &Result<u8, Failure<'_>>) -> u8
     ensures given { IfOk outcome.now (λ status. result ≡ status) }
     ensures closed { IfErr outcome.now (λ failure. IsClosedPipe failure → result ≡ FOUND) }
@@ -69,7 +70,7 @@ fn is_closed_pipe(failure: &Failure<'_>) -> bool
     matches!(failure, Failure::Output(error) if error.kind() == ErrorKind::BrokenPipe)
 }
 
-// Runs the command that the words ask for over standard output, and returns the status.
+// Runs the command that the words ask for, over standard output, and returns the status.
 fn run_words<'a>(rt: &HostRuntime, words: &'a [String]) -> Result<u8, Failure<'a>> {
     let matches = match arguments::command(rt.alloc())?.try_get_matches_from(words) {
         Ok(matches) => matches,
@@ -118,8 +119,8 @@ fn first_not_text(words: &[String]) -> Option<usize>
 }
 
 // Shows or checks each file, also after one that cannot be read. `check` returns the status also if
-// nobody reads the output any more. Not inlined, so that the chunk that is hashed is on the stack
-// only while this runs.
+// nobody reads the output any more. This function is not inlined, so that the chunk that is hashed
+// is on the stack only while it runs.
 #[inline(never)]
 fn read_files<'a>(rt: &HostRuntime, request: &FileRequest<'_, '_>) -> Result<u8, Failure<'a>> {
     let mut out = buffered(rt, rt.stdout())?;
@@ -148,7 +149,7 @@ fn read_file<'a, W: io::Write>(
     status_of_file(rt, outcome)
 }
 
-// The status of a file that was shown or checked. That it cannot be read is reported.
+// The status of a file that was shown or checked. If it cannot be read, that is reported.
 fn status_of_file<'a>(
     rt: &HostRuntime,
     outcome: Result<bool, Failure<'a>>,

@@ -14,7 +14,8 @@ use streams::{BufferedSink, Plain, Retrying};
 
 /// Prints a line on standard error: the program's name, an error and what is after it. If they have
 /// a backslash, a line feed or a carriage return, the line begins with a backslash and these are
-/// escaped, as names are in the output. If it can't be printed, the status still says it.
+/// escaped, as names are in the output. If it cannot be printed, the status still tells of the
+/// error.
 pub fn report(rt: &HostRuntime, error: &impl Display, after: &str) {
     if write_report(rt, error, after).is_err() {
         let _ = eprintln!(rt; "packtool: out of memory");

@@ -36,13 +36,13 @@ use streams::{Plain, Retrying, Sink, write_all};
 // The most ids or locations of several lines that are held at a time.
 const MAX_FOUND: usize = 1 << 16;
 
-// What is said of a prefix of no id, and of one of several.
+// What is printed after a prefix of no id, and after one of several.
 const MISSING: &str = " missing";
 
 const AMBIGUOUS: &str = " ambiguous";
 
-/// Looks up what a request asks for, and returns the status; for the lines of standard input the
-/// worst status of theirs.
+/// Looks up what a request asks for, and returns the status. For the lines of standard input this
+/// is the worst of theirs.
 pub fn answer<'a>(rt: &HostRuntime, request: &StoreRequest<'a>) -> Result<u8, Failure<'a>> {
     let folder = objects_folder(rt, request)?;
     let mut asked = Asked {
@@ -69,9 +69,9 @@ struct Asked<'r> {
     question: Question,
     // The fewest digits of an abbreviation.
     least: usize,
-    // The store in which it was asked last.
+    // The store that was asked last.
     kept: Option<FolderStore<HostRuntime>>,
-    // What was reported of what is skipped, sorted.
+    // The reports on what is skipped that were printed, sorted.
     reported: Vec<String>,
     ghost enough: { 4 ≤ least },
     ghost fits: { least ≤ hex_len_of folder.now.kind },
@@ -79,7 +79,7 @@ struct Asked<'r> {
 }
 
 impl Asked<'_> {
-    // Prints what is found for a prefix, or with none all names.
+    // Prints what is found for a prefix or, if none is given, all abbreviations.
     fn answer_once<'a>(&mut self, prefix: Option<&'a str>) -> Result<u8, Failure<'a>> {
         let mut out = buffered(self.rt, self.rt.stdout())?;
         let status = match prefix {
@@ -89,8 +89,8 @@ impl Asked<'_> {
         flushed(status, &mut out)
     }
 
-    // Prints what is found for a prefix of exactly one id, as for a line of standard input. That
-    // there is none, or that there are more, is reported.
+    // Prints what is found for a prefix of exactly one id, as for a line of standard input. If
+    // there is no such id, or more than one, that is reported.
     fn answer_one<'a>(&mut self, text: &'a str) -> Result<u8, Failure<'a>> {
         read_prefix(text, self.folder.kind)?;
         let mut answer = Plain::new(Vec::new(self.rt.alloc()));
@@ -201,8 +201,8 @@ impl Asked<'_> {
         }
     }
 
-    // Opens the store, and writes the lines of `abbreviate`. Those that were written before the
-    // store was opened again may lack what was skipped then.
+    // Opens the store, and writes the lines of `abbreviate`. Lines that were written before the
+    // store was opened again may lack ids that were skipped then.
     fn write_all_names<'a, W: io::Write>(&mut self, out: &mut Plain<W>) -> Result<u8, Failure<'a>>
         requires { plain_failed out.old ≡ false }
         ensures output { OnOk result (plain_failed out.new ≡ false) }
@@ -273,7 +273,7 @@ impl Asked<'_> {
         }
     }
 
-    // Those of some prefixes whose loose objects are checked: all for `locate`.
+    // The prefixes whose loose objects are checked: all of them for `locate`, and none otherwise.
     fn checked<'p>(&self, prefixes: &'p [Prefix]) -> &'p [Prefix] {
         match self.question {
             Question::Locate => prefixes,
@@ -318,8 +318,8 @@ fn failure_of<'a>(store: FolderStore<HostRuntime>, error: object_store::Error) -
     }
 }
 
-// What is said of a prefix in place of the only id, at the end of its line, or `None` if that was
-// found: it ends with a digit, as do the lines of its locations.
+// What is printed after a prefix instead of its only id, at the end of this line, or `None` if that
+// id was found: then the line ends with a digit, as the lines of locations do.
 fn mark_of(line: &[u8]) -> Option<&'static str>
     ensures { MatchOption result ((ends_with nat_eq line.now MISSING.now ≡ false)
         × (ends_with nat_eq line.now AMBIGUOUS.now ≡ false))
@@ -356,7 +356,7 @@ fn first_lines(lines: &[u8], len: usize) -> (&[u8], &[u8])
 }
 
 // The store as it is now: the one that was kept, if there is one, refreshed. The files of loose
-// objects are checked whose ids begin with one of the prefixes.
+// objects whose ids begin with one of the prefixes are checked.
 fn store_now<'a>(
     rt: &HostRuntime,
     folder: &ObjectsFolder,

@@ -41,7 +41,7 @@ named name text = escape_mark name ++ (escaped name ++ text)
 
 -- The lines of a pack index, as `git show-index` prints them.
 
--- of the lines so far all were written but the last, which are kept back
+-- all lines so far were written except the last ones, which are kept back
 pub record KeepsBack (old new : Option (List ℕ)) (kept lines : List ℕ) : Type 0 where
   pub written : List ℕ
   pub all : lines ≡ written ++ kept
@@ -55,7 +55,7 @@ name_at kind bytes k = slice_index_or (names_in kind bytes) k []
 unfoldable pub crc_text : ℕ → List ℕ
 crc_text crc = encode_lower (to_be_bytes w32 crc)
 
--- the texts of an offset, an id and a CRC in a line: blanks between them, brackets around the CRC, and a line feed
+-- the texts of an offset, an id and a CRC in a line: spaces between them, parentheses around the CRC, and a line feed
 unfoldable pub line_of_object : List ℕ → List ℕ → List ℕ → List ℕ
 line_of_object offset id crc = offset ++ 32 ∷ id ++ 32 ∷ 40 ∷ crc ++ 41 ∷ 10 ∷ []
 
@@ -73,7 +73,7 @@ index_lines kind bytes = flat_map (index_line kind bytes) (range_with_len 0 (len
 abbrev pub hex_of : ObjectId → List ℕ
 hex_of id = spelling hex_letter (id_digits id)
 
--- what is said of a file after its name
+-- what is printed after the name of a file
 abbrev pub verdict : Ending → List ℕ
 verdict (Sealed id) = codes ": OK" ++ 10 ∷ []
 verdict (Unsealed digest (Some last)) = codes ": FAILED: it ends in " ++ hex_of last ++ codes ", and the digest of the rest is " ++ hex_of digest ++ 10 ∷ []
@@ -117,7 +117,7 @@ IsPairing kind index pack (Other id last) =
 IsPairing kind index pack (Beyond offset) =
     (named_digest kind index ≡ last_bytes kind pack) × IsFirstBeyond kind index (digest_at kind pack) offset
 
--- what is said of an index after its name
+-- what is printed after the name of an index
 abbrev pub pairing_verdict : Pairing → List ℕ
 pairing_verdict Same = codes ": OK" ++ 10 ∷ []
 pairing_verdict (Other named (Some found)) = codes ": FAILED: its pack ends in " ++ hex_of named ++ codes ", and the pack beside it ends in " ++ hex_of found ++ 10 ∷ []
@@ -126,7 +126,7 @@ pairing_verdict (Beyond offset) = codes ": FAILED: the offset " ++ decimal offse
 
 -- What is printed of a pack index, and what is rejected.
 
--- the bytes are this index, of the kind or with no kind of either
+-- the bytes are this index, of the kind or, if none is given, of either
 abbrev pub IsOpenedAs : Option Kind → List ℕ → IndexFile → Type 0
 IsOpenedAs (Some kind) bytes file = (file ≡ record { kind = kind; bytes = bytes }) × IsPackIndex kind bytes
 IsOpenedAs None bytes file = (file.bytes ≡ bytes) × IsPackIndex file.kind bytes
@@ -140,7 +140,7 @@ abbrev pub IsKindByLength : List ℕ → Kind → Type 0
 IsKindByLength bytes Sha256 = HasLengthOf Sha256 bytes
 IsKindByLength bytes Sha1 = ¬ HasLengthOf Sha256 bytes
 
--- why they are none: with no kind they are none of the kind that their length does not say, and this is the fault of them as one of that which it says
+-- why the bytes are not an index of the kind; or, if no kind is given, their fault as an index of the kind that their length says, and they are not an index of the other kind either
 abbrev pub IsRefusalAs : Option Kind → List ℕ → Error → Type 0
 IsRefusalAs (Some kind) bytes error = IsRefusal kind bytes error
 IsRefusalAs None bytes error = (kind : Kind) × IsKindByLength bytes kind × (¬ IsPackIndex (other_than kind) bytes) × IsFault kind bytes error

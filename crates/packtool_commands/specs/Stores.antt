@@ -34,13 +34,13 @@ pub record HasPrintedPart (view : StoreView) (digits : List ℕ) (old new : Opti
   pub are_matches : AreMatches view digits ids
   pub written : AppendsPart old new (printed hex_letter (map id_digits ids))
 
--- what an error says of a store: what its own error does, and another nothing
+-- what an error says about a store: what the error of a look-up says; any other error says nothing
 abbrev pub IsFaultOf : (Error → Type 0) → StoreError → Type 0
 IsFaultOf IsItsFault (Store error) = IsItsFault error
 IsFaultOf IsItsFault TooMany = Unit {0}
 IsFaultOf IsItsFault Output = Unit {0}
 
--- why a walk over the first bytes fails: a look-up with one of them does, and those with the lower ones did not, in what was seen of a store
+-- why a walk over the first bytes fails: the look-up with one of them fails, and those with the lower ones did not, in a store as it was seen
 abbrev pub IsWalkFault : (StoreView → Type 0) → StoreView → Error → Type 0
 IsWalkFault Sees view error = (byte : ℕ) × (byte < 256) × Each (λ lower. (seen : StoreView) × Sees seen × HaveBuckets seen lower) byte × IsStoreFault view byte error
 

@@ -8,8 +8,8 @@ use crate::escaping::write_named;
 use crate::line_end::{LineEnd, push, push_digest};
 use streams::{Ending, Sink, WriteFailed};
 
-/// Writes the line of a file with this name whose bytes end so: `NAME: OK`, or `NAME: FAILED` and
-/// why, with both digests.
+/// Writes the line of a file with this name, whose bytes end in this way: `NAME: OK`, or `NAME:
+/// FAILED` and why, with both digests.
 ///
 /// It stops at the first write that fails, after a proper beginning of the line. The sink must not
 /// have failed before.
@@ -28,7 +28,7 @@ pub fn write_ending<W: Sink>(name: &str, ending: &Ending, out: &mut W) -> Result
     write_named(name, verdict(ending).as_slice(), out)
 }
 
-// What is said of a checked file after its name.
+// What is printed after the name of a checked file.
 fn verdict(ending: &Ending) -> LineEnd
     ensures { result.items ≡ verdict ending.now }
 {

@@ -64,7 +64,7 @@ impl From<WriteFailed> for StoreError {
 /// ```
 #[derive(Clone, Copy, Debug, ThisError)]
 pub enum FileError {
-    /// The input is no pack index of the kind.
+    /// The input is not a pack index of the kind.
     #[error("{0}")]
     Index(pack_index::Error),
     /// There is not enough memory.

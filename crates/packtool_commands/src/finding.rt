@@ -20,7 +20,7 @@ use streams::{Sink, WriteFailed, write_id, write_ids};
 /// whether there is one.
 ///
 /// The prefix has 2 digits or more, and the store's kind. Nothing is written before all ids are
-/// found; if a pack index is gone until then, the store is opened again. [`StoreError::Output`] is
+/// found; if a pack index is gone by then, the store is opened again. [`StoreError::Output`] is
 /// returned if and only if a write fails, after a proper beginning of the lines. The sink must not
 /// have failed before.
 ///
@@ -67,14 +67,14 @@ pub fn find<S: Reopen, A: Allocator + Copy, W: Sink>(
 /// Writes for each of some lines, in order, the ids of a store that begin with it. Returns whether
 /// each line found what is asked for: an id, or for [`Answers::One`] a single one.
 ///
-/// The lines are of the store's kind. For a line that is no prefix the line and ` bad` are written,
-/// for a prefix of no id the line and ` missing`, and for [`Answers::One`] and a prefix of several
-/// ids the line and ` ambiguous`.
+/// The lines are of the store's kind. For a line that is not a prefix, the line and ` bad` are
+/// written, for a prefix of no id the line and ` missing`, and for [`Answers::One`] and a prefix of
+/// several ids the line and ` ambiguous`.
 ///
-/// Of each pack index the ids with a first byte are read once, or, once they were found in order,
-/// some of them for each line. Nothing is written before all ids are found; if a pack index is gone
-/// until then, the store is opened again. If the ids are more than `most`, and there are several
-/// prefixes, then nothing is written, and [`StoreError::TooMany`] is returned.
+/// The ids of a pack index with a first byte are read once. If they were found in order before,
+/// only some of them are read, for each line. Nothing is written before all ids are found; if a
+/// pack index is gone by then, the store is opened again. If the ids are more than `most`, and
+/// there are several prefixes, then nothing is written, and [`StoreError::TooMany`] is returned.
 /// [`StoreError::Output`] is returned if and only if a write fails, after a proper beginning of the
 /// text. The sink must not have failed before.
 ///

@@ -1,4 +1,4 @@
-//! Laws of what is printed that no single call carries. Each is the contract of a function that
+//! Laws of what is printed that belong to no single call. Each is the contract of a function that
 //! computes nothing: a call of it brings the law into a caller's proof.
 
 ghost use Rattle.std.specs.Prelude.{◌≡◌, ◌≢◌, ◌++◌, false, ℕ, All, List, Option};
@@ -18,7 +18,8 @@ pub fn printed_names()
 {}
 
 /// The first two things that a prefix finds are enough for [`Answers::One`](crate::Answers::One):
-/// what is printed by them, and whether it is what is asked for, is so by all.
+/// what is printed for them, and whether it is what is asked for, is the same as for all things
+/// that it finds.
 pub fn two_are_enough<X>()
     ensures text { (text : Option (List ℕ) → X → List ℕ) (answers : AnswersAsked) (line : List ℕ)
         (found : List X) → found_text text answers line (limited_to (limit_for answers) found)

@@ -31,8 +31,8 @@ const MAX_ID_LEN: usize = 64;
 // The digits of a CRC.
 const CRC_LEN: usize = 8;
 
-/// The position at which the next line has room in a buffer of lines that end at a position: there,
-/// or if the buffer is nearly full, at its start, after these lines were written.
+/// The position of the next line in a buffer whose lines end at a position: right there or, if the
+/// buffer is nearly full, at its start, after its lines were written.
 pub(crate) fn next_line_at<W: Sink>(
     lines: &[u8],
     end: usize,

@@ -36,8 +36,8 @@ type End = ArrayVec<u8, 22>;
 /// [`Parts::locate`](object_store::Parts::locate); and a loose object has a line for each file.
 /// Paths are escaped as by [`write_named`](crate::write_named), so none looks like a further line.
 ///
-/// The prefix has 2 digits or more, and the store's kind. Of each pack index ids with its first
-/// byte are read. Nothing is written before all locations are found; if a pack index is gone until
+/// The prefix has 2 digits or more, and the store's kind. Only ids with its first byte are read
+/// from a pack index. Nothing is written before all locations are found; if a pack index is gone by
 /// then, the store is opened again. [`StoreError::Output`] is returned if and only if a write
 /// fails, after a proper beginning of the lines. The sink must not have failed before.
 ///
@@ -100,15 +100,15 @@ fn locations_of<S: Reopen + StorePaths, A: Allocator + Copy>(
 ///
 /// For a prefix the lines of [`locate`] are written: with [`Answers::All`] each after the line as
 /// it is and a space, and with [`Answers::One`] those of the only id, as they are. The backslash of
-/// an escaped path is the first byte, before the line. What is written for a line that is no
-/// prefix, for a prefix of no id, and for [`Answers::One`] and a prefix of several ids, is said at
-/// [`find_each`](crate::find_each).
+/// an escaped path is the first byte, before the line. [`find_each`](crate::find_each) says what is
+/// written for a line that is not a prefix, for a prefix of no id, and for [`Answers::One`] and a
+/// prefix of several ids.
 ///
-/// Of each pack index the ids with a first byte are read once, or, once they were found in order,
-/// some of them for each line. For [`Answers::One`] only the first two ids of a prefix are located:
-/// if a further one has no offset, that is no error. Nothing is written before all locations are
-/// found; if a pack index is gone until then, the store is opened again. If the locations are more
-/// than `most`, and there are several prefixes, then nothing is written, and
+/// The ids of a pack index with a first byte are read once. If they were found in order before,
+/// only some of them are read, for each line. For [`Answers::One`] only the first two ids of a
+/// prefix are located: if a further one has no offset, that is no error. Nothing is written before
+/// all locations are found; if a pack index is gone by then, the store is opened again. If the
+/// locations are more than `most`, and there are several prefixes, then nothing is written, and
 /// [`StoreError::TooMany`] is returned. [`StoreError::Output`] is returned if and only if a write
 /// fails, after a proper beginning of the text. The sink must not have failed before.
 ///

@@ -28,9 +28,9 @@ const BYTES: usize = 256;
 /// The ids with a first byte are written before those with the next are read, and no abbreviation
 /// depends on ids with another. If a pack index is gone, the store is opened again for the bytes
 /// that are left; so the ids with one first byte are those of the store as it was at one time.
-/// Under an error a beginning of the right lines was written. [`StoreError::Output`] is returned if
-/// and only if a write fails. All loose objects must be listed, and the sink must not have failed
-/// before.
+/// After an error, a beginning of the right lines was written. [`StoreError::Output`] is returned
+/// if and only if a write fails. All loose objects must be listed, and the sink must not have
+/// failed before.
 ///
 /// ```
 /// if !names(rt.alloc(), &mut store, 7, &mut out)? {
@@ -130,16 +130,16 @@ pub fn write_names<W: Sink>(named: &[NamedId], out: &mut W) -> Result<(), WriteF
 /// with it, of at least `least` digits, from 4 up to all of the kind; and a line feed. Returns
 /// whether each line is a prefix of exactly one id. `git rev-parse --short` prints the same.
 ///
-/// The lines are of the store's kind. For a line that is no prefix the line and ` bad` are written,
-/// for a prefix of no id the line and ` missing`, and for a prefix of several ids the line and
-/// ` ambiguous`.
+/// The lines are of the store's kind. For a line that is not a prefix, the line and ` bad` are
+/// written, for a prefix of no id the line and ` missing`, and for a prefix of several ids the line
+/// and ` ambiguous`.
 ///
-/// Of each pack index the ids with a first byte are read once, or, once they were found in order,
-/// some of them for each line. Nothing is written before all ids are found; if a pack index is gone
-/// until then, the store is opened again. If there are several prefixes, and ids begin with more
-/// than `most` of them, then nothing is written, and [`StoreError::TooMany`] is returned.
-/// [`StoreError::Output`] is returned if and only if a write fails, after a proper beginning of the
-/// text. The sink must not have failed before.
+/// The ids of a pack index with a first byte are read once. If they were found in order before,
+/// only some of them are read, for each line. Nothing is written before all ids are found; if a
+/// pack index is gone by then, the store is opened again. If there are several prefixes, and ids
+/// begin with more than `most` of them, then nothing is written, and [`StoreError::TooMany`] is
+/// returned. [`StoreError::Output`] is returned if and only if a write fails, after a proper
+/// beginning of the text. The sink must not have failed before.
 ///
 /// ```
 /// let lines = PrefixLines::read(rt.alloc(), Kind::Sha1, b"4b8\n4b9\n")?;

@@ -37,8 +37,8 @@ pub enum Pairing {
 /// Whether a pack index belongs to a pack: whether the digest of its pack that it has is the one in
 /// which the pack ends, and its offsets are before that.
 ///
-/// Of the pack only its length and last digest are read, and the digest is not checked. An error is
-/// returned only if a read fails.
+/// Only the length and the last digest of the pack are read, and the digest is not checked. An
+/// error is returned only if a read fails.
 ///
 /// ```
 /// let pairing = pair(&open_index(content, None)?, &pack)?;
@@ -77,7 +77,7 @@ fn last_digest<P: ReadAt>(pack: &P, kind: Kind) -> io::Result<Option<LastDigest>
     Ok(Some(LastDigest { id, at }))
 }
 
-// Whether an index belongs to a pack that ends so.
+// Whether an index belongs to a pack that ends in this digest.
 fn pairing_of(index: &File<'_>, last: Option<LastDigest>) -> Pairing
     requires { min_len index.now.kind ≤ length index.now.bytes }
     ensures { (bytes : List ℕ) → EndsIn index.now.kind bytes last
@@ -118,7 +118,7 @@ fn first_beyond(index: &File<'_>, end: u64) -> Option<u64>
     None
 }
 
-/// Writes the line of a pack index with this name, which is this for the pack beside it: `NAME:
+/// Writes the line of a pack index with this name and this relation to the pack beside it: `NAME:
 /// OK`, or `NAME: FAILED` and why, with both digests or the offset.
 ///
 /// It stops at the first write that fails, after a proper beginning of the line. The sink must not
@@ -138,7 +138,7 @@ pub fn write_pairing<W: Sink>(name: &str, pairing: &Pairing, out: &mut W) -> Res
     write_named(name, pairing_verdict(pairing).as_slice(), out)
 }
 
-// What is said of a pack index after its name.
+// What is printed after the name of a pack index.
 fn pairing_verdict(pairing: &Pairing) -> LineEnd
     ensures { result.items ≡ pairing_verdict pairing.now }
 {

@@ -9,8 +9,8 @@ use object_store::{Error, Reopen};
 // How often a look-up begins.
 const MAX_TRIES: usize = 10;
 
-/// What a look-up gives in a store, which it leaves as it is. If a pack index is gone that was
-/// listed, the store is opened again, and the look-up begins again, 10 times at most.
+/// The result of a look-up in a store, which the look-up leaves as it is. If a pack index that was
+/// listed is gone, the store is opened again and the look-up begins again, 10 times at most.
 pub(crate) fn look_up_again<S: Reopen, T: Drop, F: Fn(&mut S) -> Result<T, Error>>(
     store: &mut S,
     look_up: F,

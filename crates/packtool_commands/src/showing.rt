@@ -18,7 +18,7 @@ use streams::{CHUNK_LEN, Sink, Source, WriteFailed, write_all};
 /// Reads a pack index of version 2 to its end, and writes a line for each of its ids, in their
 /// order, as `git show-index` does: the object's offset in the pack, in decimal; a space; the id in
 /// hex; a space; the CRC-32 of the packed object as eight hex digits in parentheses; and a line
-/// feed. Returns whether there is one. With no kind, the ids may be of either.
+/// feed. Returns whether there is one. If no kind is given, the ids may be of either.
 ///
 /// Nothing is written before the input is known to be an index. [`FileError::Input`] is returned if
 /// and only if a read fails, and [`FileError::Output`] if and only if a write fails, after a proper
@@ -59,9 +59,9 @@ fn has_names(file: &File<'_>) -> bool
     file.num_objects() > 0
 }
 
-/// The pack index of version 2 that the bytes are, with ids of a kind. With no kind they may be of
-/// either, and the error is that of the bytes as an index with ids of SHA-256 if they are as many
-/// as such an index has, and else of SHA-1.
+/// Takes the bytes as a pack index of version 2 with ids of a kind. If no kind is given, the ids
+/// may be of either. The error is then that of an index with ids of SHA-256 if the bytes are as
+/// many as such an index has, and otherwise that of an index with ids of SHA-1.
 ///
 /// ```
 /// let file = open_index(content, None)?;
@@ -90,7 +90,8 @@ fn kind_by_length(bytes: &[u8]) -> Kind
     }
 }
 
-// Writes the lines of an index. Not inlined, so that they are on the stack only while this runs.
+// Writes the lines of an index. This function is not inlined, so that they are on the stack only
+// while it runs.
 #[inline(never)]
 fn write_lines<W: Sink>(file: &File<'_>, out: &mut W) -> Result<(), WriteFailed>
     requires { W.has_failed out.old ≡ false }
@@ -107,7 +108,8 @@ fn write_lines<W: Sink>(file: &File<'_>, out: &mut W) -> Result<(), WriteFailed>
     write_all(out, &lines[..end])
 }
 
-// Reads the source to its end. Not inlined, so that the chunk is on the stack only while this runs.
+// Reads the source to its end. This function is not inlined, so that the chunk is on the stack only
+// while it runs.
 #[inline(never)]
 fn read_all<A: Allocator, R: Source>(alloc: A, input: &mut R) -> Result<Vec<u8, A>, FileError>
     requires { R.has_failed input.old ≡ false }

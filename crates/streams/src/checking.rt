@@ -27,7 +27,8 @@ pub enum Ending {
     Sealed(ObjectId),
     /// It does not, or is shorter than a digest.
     Unsealed {
-        /// The digest of all but the last 20 or 32 bytes; of the empty message, if there are fewer.
+        /// The digest of all bytes except the last 20 or 32, or that of the empty message if there
+        /// are fewer.
         digest: ObjectId,
         /// Those last bytes, or `None` if there are fewer bytes than a digest has.
         last: Option<ObjectId>,
@@ -36,7 +37,7 @@ pub enum Ending {
 
 /// Reads the source to its end, and checks whether its bytes end with the digest of all bytes
 /// before it, as [`seal`](crate::seal) writes them: 20 bytes for SHA-1, 32 for SHA-256. Git's
-/// packs, pack indexes, commit-graphs and multi-pack-indexes end so.
+/// packs, pack indexes, commit-graphs and multi-pack-indexes end in this way.
 ///
 /// Each error is returned exactly when its cause holds, as by [`hash_all`](crate::hash_all).
 /// [`PipeError::Output`] is never returned. The source must not have failed before.
@@ -60,8 +61,8 @@ pub fn check_seal<R: Source>(input: &mut R, kind: Kind) -> Result<Ending, PipeEr
 }
 
 /// Reads the source to its end, once, and checks whether its bytes end with the SHA-1 digest of all
-/// bytes before it, or else with the SHA-256 digest. If they end with neither, the result is that
-/// of [`check_seal`] for SHA-1.
+/// bytes before it or, if not, with the SHA-256 digest. If they end with neither, the result is
+/// that of [`check_seal`] for SHA-1.
 ///
 /// The errors are those of [`check_seal`]. The source must not have failed before.
 ///
@@ -84,9 +85,10 @@ pub fn check_either<R: Source>(input: &mut R) -> Result<Ending, PipeError>
     check(input, Kind::Sha1, Some(Kind::Sha256))
 }
 
-// Checks for a digest of the kind, and else for one of the other kind, if there is one. The hashers
-// get all but the last bytes, as many as the longest digest has, which are held back at the start
-// of the buffer. Not inlined, so that the buffer is on the stack only while this runs.
+// Checks for a digest of the kind and, if there is none, for one of the other kind, if one is
+// given. The hashers are fed all bytes except the last ones, as many as the longest digest has,
+// which are held back at the start of the buffer. This function is not inlined, so that the buffer
+// is on the stack only while it runs.
 #[inline(never)]
 fn check<R: Source>(input: &mut R, kind: Kind, other: Option<Kind>) -> Result<Ending, PipeError>
     requires { R.has_failed input.old ≡ false }
@@ -130,8 +132,8 @@ fn update(hasher: &mut Option<Hasher>, bytes: &[u8])
     }
 }
 
-// How a message ends that has these last bytes, which are all if they are fewer than the longest
-// digest has. The hasher was fed those before them.
+// How a message with these last bytes ends. If they are fewer than the longest digest has, they are
+// the whole message. The hasher was fed the bytes before them.
 fn ending_of(kind: Kind, mut hasher: Hasher, last: &[u8]) -> Ending
     ensures { (message : List ℕ) → hasher_kind hasher ≡ kind → WasFed hasher message
         → AreAllBelow MAX_DIGEST_LEN message last.now
@@ -146,7 +148,8 @@ fn ending_of(kind: Kind, mut hasher: Hasher, last: &[u8]) -> Ending
     ending_by_digest(kind, digest, last)
 }
 
-// The same if it does not end so, but may end with the digest of another kind.
+// How a message ends for the other kind, if one is given and the message is sealed for it, or else
+// the ending that was found before.
 fn or_else(ending: Ending, other: Option<Kind>, hasher: Option<Hasher>, last: &[u8]) -> Ending
     ensures { (kind : Kind) (message : List ℕ) → HasEnding kind (message ++ last.now) ending
         → AreFed other hasher message → AreAllBelow MAX_DIGEST_LEN message last.now
@@ -161,7 +164,7 @@ fn or_else(ending: Ending, other: Option<Kind>, hasher: Option<Hasher>, last: &[
     }
 }
 
-// How bytes end whose last are these, if the digest of those before them is this.
+// How a message with these last bytes ends, if the bytes before them have this digest.
 fn ending_by_digest(kind: Kind, digest: ObjectId, last: &[u8]) -> Ending
     requires { length last.now ≤ byte_len_of kind }
     ensures { IsEnding kind digest last.now result }

@@ -67,7 +67,7 @@ pub fn hash_all<R: Source, W: Sink>(input: &mut R, out: &mut W, kind: Kind) -> R
 }
 
 /// Copies the source to its end, and then writes the bytes of the digest of all that it copied: 20
-/// for SHA-1, 32 for SHA-256. Git's packs and pack indexes end so.
+/// for SHA-1, 32 for SHA-256. Git's packs and pack indexes end in this way.
 ///
 /// The errors are those of [`hash_all`]. Under [`PipeError::Input`] the sink took all bytes read,
 /// under [`PipeError::TooMuch`] a proper beginning of them, and under [`PipeError::Output`] a
@@ -87,8 +87,8 @@ pub fn seal<R: Source, W: Sink>(input: &mut R, out: &mut W, kind: Kind) -> Resul
     Ok(write_all(out, id.as_slice())?)
 }
 
-// Copies the source to its end, and returns the digest of all that it copied. Not inlined, so that
-// the buffer is on the stack only while this runs.
+// Copies the source to its end, and returns the digest of all that it copied. This function is not
+// inlined, so that the buffer is on the stack only while it runs.
 #[inline(never)]
 fn copy_all<R: Source, W: Sink>(
     input: &mut R,

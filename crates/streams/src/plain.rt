@@ -23,7 +23,7 @@ use std::io::{self, BufWriter, Write};
 #[derive(Drop)]
 pub struct Plain<T> {
     inner: T,
-    // Why the first call that failed did.
+    // The error of the first call that failed.
     error: Option<io::Error>,
 }
 
@@ -47,8 +47,8 @@ impl<T> Plain<T> {
         error.is_some()
     }
 
-    /// Why the first call that failed did, or `None` if none failed. That of a write that took none
-    /// of at least one byte is `WriteZero`.
+    /// The error of the first call that failed, or `None` if none failed. If a write took none of
+    /// at least one byte, its error is `WriteZero`.
     ///
     /// ```
     /// let mut input = Plain::new(rt.reader());

@@ -25,13 +25,13 @@ pub trait ReadAt {
     /// Whether [`len`](ReadAt::len) may fail, and a read that does not go past the end.
     ghost can_fail: { Self → Bool };
 
-    /// The number of bytes. Of a slice it never fails.
+    /// The number of bytes. For a slice this call never fails.
     fn len(&self) -> io::Result<u64>
         ensures len { IfOk result (λ len. (bytes : List ℕ) → content self.now ≡ Some bytes
             → len ≡ length bytes) }
         ensures err { OnErr result (IsTrue (can_fail self.now)) };
 
-    /// Fills the buffer with the bytes from a position on. Of a slice it fails only if that goes
+    /// Fills the buffer with the bytes from a position on. For a slice it fails only if that goes
     /// past the end. After an error the buffer may have any bytes.
     fn read_exact_at(&self, buf: &mut [u8], at: u64) -> io::Result<()>
         ensures bytes { OnOk result ((bytes : List ℕ) → content self.now ≡ Some bytes

@@ -23,7 +23,7 @@ pub struct Retrying<T> {
 impl<T> Retrying<T> {
     ghost use Rattle.streams.specs.Devices.{retrying_inner};
 
-    /// It calls this reader or writer.
+    /// Wraps this reader or writer.
     pub fn new(inner: T) -> Self
         ensures { retrying_inner result ≡ inner }
     {

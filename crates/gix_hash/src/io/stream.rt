@@ -64,8 +64,8 @@ pub fn bytes_with_hasher<R: Read, P: Progress, I: Interrupt>(
     Ok(id)
 }
 
-/// The digest, of the given kind, of the next `num_bytes_from_start` bytes of `read`, as
-/// [`bytes_with_hasher`] with a hasher that was fed nothing.
+/// The digest, of the given kind, of the next `num_bytes_from_start` bytes of `read`: what
+/// [`bytes_with_hasher`] returns for a hasher that was fed nothing.
 pub fn bytes<R: Read, P: Progress, I: Interrupt>(
     read: &mut R,
     num_bytes_from_start: u64,

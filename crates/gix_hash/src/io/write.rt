@@ -66,7 +66,7 @@ impl<T: io::Write> Write<T> {
     }
 }
 
-/// As [`Write::write`] and [`Write::flush`].
+/// Does the same as [`Write::write`] and [`Write::flush`].
 impl<T: io::Write> io::Write for Write<T> {
     ghost contents = { λ writer. T.contents writer.inner };
 

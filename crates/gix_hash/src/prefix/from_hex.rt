@@ -1,4 +1,4 @@
-//! Why a text is no prefix.
+//! Why a text is not a prefix.
 
 use thiserror::Error as ThisError;
 
@@ -24,7 +24,7 @@ pub enum Error {
         /// The length of the text, in bytes.
         hex_len: usize,
     },
-    /// Some byte of the text is no digit of the alphabet.
+    /// Some byte of the text is not a digit of the alphabet.
     #[error("Invalid hex character")]
     Invalid,
 }

@@ -13,7 +13,8 @@ use id_digits::{Words, copy_digits};
 
 impl Prefix {
     /// The prefix of a kind with the first `hex_len` digits of some bytes, two digits a byte, the
-    /// high half first. It may have any number of digits, 0 too, and digits after them are ignored.
+    /// high half first. It may have any number of digits, also 0, and digits after them are
+    /// ignored.
     ///
     /// Returns `None` if ids of the kind have fewer than `hex_len` digits, or if the bytes do.
     ///
@@ -34,7 +35,8 @@ impl Prefix {
         Some(Prefix::packed(kind, front, hex_len))
     }
 
-    // The same of bytes that are known to have the digits and to be no more than the kind's digest.
+    // The same for bytes that are known to have these digits, and not to be more than a digest of
+    // the kind has.
     pub(crate) fn packed(kind: Kind, front: &[u8], hex_len: usize) -> Prefix
         requires room { length front.now ≤ byte_len_of kind }
         requires digits { hex_len ≤ 2 * length front.now }
