@@ -98,6 +98,14 @@ impl<A: Allocator> Bucket<A> {
     /// If the ids are sorted, as in each pack index, they are found by binary search. If they are
     /// not, or if there is only one, each of them is compared. Under an error some of them may have
     /// been added.
+    ///
+    /// ```
+    /// let mut index = LazyFile::open(idx, prefix.as_oid().kind())?;
+    /// if prefix.hex_len() >= 2 {
+    ///     let mut ids = Vec::new(rt.alloc());
+    ///     index.part(rt.alloc(), &prefix, 32)?.push_matches(&prefix, &mut ids)?;
+    /// }
+    /// ```
     pub fn push_matches<B: Allocator>(
         &self,
         prefix: &Prefix,

@@ -136,6 +136,14 @@ impl<'a> File<'a> {
     ///
     /// The prefix must have the index's kind. An id that occurs twice is two members of the run. No
     /// clause says how many ids are compared, here and by the calls that look up in this run.
+    ///
+    /// ```
+    /// let file = File::try_new(content, prefix.as_oid().kind())?;
+    /// let run = file.find_prefix(&prefix);
+    /// for at in run.start..run.end {
+    ///     println!(rt; "{}", file.oid_at_index(at))?;
+    /// }
+    /// ```
     pub fn find_prefix(&self, prefix: &Prefix) -> Run
         requires { prefix.now.kind ≡ self.now.kind }
         ensures { IsRun prefix.now (names_in self.now.kind self.now.bytes) result }
@@ -147,6 +155,15 @@ impl<'a> File<'a> {
 
     /// Which ids begin with a prefix: none, one, or a run of more. The prefix must have the index's
     /// kind.
+    ///
+    /// ```
+    /// let file = File::try_new(content, prefix.as_oid().kind())?;
+    /// match file.lookup_prefix(&prefix) {
+    ///     id_lookup::Answer::None => println!(rt; "missing")?,
+    ///     id_lookup::Answer::One(at) => println!(rt; "{}", file.oid_at_index(at))?,
+    ///     id_lookup::Answer::Many(_) => println!(rt; "ambiguous")?,
+    /// }
+    /// ```
     pub fn lookup_prefix(&self, prefix: &Prefix) -> Answer
         requires { prefix.now.kind ≡ self.now.kind }
         ensures { IsAnswer prefix.now (names_in self.now.kind self.now.bytes) result }
@@ -181,6 +198,15 @@ impl<'a> File<'a> {
 
     /// The abbreviation of object `at`, which must be below `num_objects()`: its shortest prefix of
     /// at least 4 digits that no other id begins with. An id that occurs twice has none.
+    ///
+    /// ```
+    /// let file = File::try_new(content, Kind::Sha1)?;
+    /// for at in 0..file.num_objects() {
+    ///     if let Some(name) = file.abbreviate(at) {
+    ///         println!(rt; "{name} {}", file.oid_at_index(at))?;
+    ///     }
+    /// }
+    /// ```
     pub fn abbreviate(&self, at: usize) -> Option<Prefix>
         requires { at < length (names_in self.now.kind self.now.bytes) }
         ensures kind { IfSome result (λ name. name.kind ≡ self.now.kind) }

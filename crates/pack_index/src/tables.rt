@@ -11,6 +11,19 @@
 //!     Err(error) => return Err(error.into()),
 //! };
 //! ```
+//!
+//! This prints the offsets and CRCs of the objects whose ids begin with `4b`:
+//!
+//! ```
+//! check_tables(content, Kind::Sha1)?;
+//! let run = bucket_range(content, 0x4b, 0x4b);
+//! for at in run.start..run.end.min(num_objects(content) as usize) {
+//!     if has_offset(content, Kind::Sha1, at) {
+//!         let offset = offset_in(content, Kind::Sha1, at);
+//!         println!(rt; "{offset} {:08x}", crc_in(content, Kind::Sha1, at))?;
+//!     }
+//! }
+//! ```
 
 pub use crate::checks::{check_tables, has_offset};
 pub use crate::words::{

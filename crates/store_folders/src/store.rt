@@ -112,8 +112,8 @@ impl<R: Files<File = File> + AllocGlobal + Clone + Drop> FolderStore<R> {
         let mut folders = with_alternates(rt, folder)?;
         let pack_folders = PackFolders::of(rt, &folders.paths)?;
         let (listed, loose) = list(rt, &pack_folders, &folders.paths, folder.kind, loose, now)?;
-        // An alternate that came later may have got objects that the directory had, and had no more
-        // as it was listed.
+        // An alternate that was added meanwhile may hold objects that had left this directory
+        // before it was listed.
         if !folders.are_unchanged(rt, folder)? {
             return Err(Error::changed(rt.alloc(), &folder.path));
         }
@@ -246,6 +246,13 @@ impl<R: Files<File = File> + AllocGlobal + Clone + Drop> FolderStore<R> {
     }
 
     /// What was not read of the store as it was before it was opened again ([`Reopen`]).
+    ///
+    /// ```
+    /// let mut store = FolderStore::open(rt, &find_objects(rt)?, LooseIds::All)?;
+    /// if store.reopen() {
+    ///     println!(rt; "{} parts were skipped before", store.skipped_before().len())?;
+    /// }
+    /// ```
     pub fn skipped_before(&self) -> &[Error]
         ensures { result.now ≡ self.now.skipped_before.items }
     {
@@ -253,6 +260,15 @@ impl<R: Files<File = File> + AllocGlobal + Clone + Drop> FolderStore<R> {
     }
 
     /// Why the store could not be opened again the last time ([`Reopen`]), if it could not.
+    ///
+    /// ```
+    /// let mut store = FolderStore::open(rt, &find_objects(rt)?, LooseIds::All)?;
+    /// if !store.reopen() {
+    ///     if let Some(error) = store.into_reopen_error() {
+    ///         println!(rt; "{error}")?;
+    ///     }
+    /// }
+    /// ```
     pub fn into_reopen_error(self) -> Option<Error>
         ensures { result ≡ self.failed }
     {
