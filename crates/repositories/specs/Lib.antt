@@ -1,4 +1,5 @@
 pub mod Alternates
+pub mod Answers
 pub mod Formats
 pub mod Heads
 pub mod Lookups

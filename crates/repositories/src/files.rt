@@ -8,12 +8,12 @@ ghost use Rattle.std.specs.declared.io.ErrorKind.{ErrorKind};
 ghost use Rattle.repositories.specs.Lookups.{is_missing};
 
 use crate::config::kind_in_config;
+use crate::directories::{Directories, Found};
 use crate::error::Error;
 use gix_hash::Kind;
 use std::alloc::AllocError;
 use std::fs::{self, Metadata};
 use std::io::{self, ErrorKind};
-use std::os::unix::fs::MetadataExt;
 use std::path::Path;
 use std::rt::Files;
 use std::str;
@@ -120,28 +120,28 @@ pub(crate) struct FileNumber {
 }
 
 // The directory that a path leads to.
-pub(crate) fn real_folder<R: Files + AllocGlobal>(rt: &R, path: &str) -> io::Result<RealFolder> {
-    let (path, is_real) = match retried(|| fs::canonicalize(rt, path)) {
-        Ok(real) => (real.into_string(), true),
+pub(crate) fn real_folder<R: Directories>(rt: &R, path: &str) -> io::Result<RealFolder> {
+    match rt.real_path(path) {
+        Ok(real) => if_folder(rt, real, false),
         Err(error) if error.kind() == ErrorKind::InvalidFilename => {
-            (String::from_str(rt.alloc(), path)?, false)
+            if_folder(rt, String::from_str(rt.alloc(), path)?, true)
         }
-        Err(error) => return Err(error),
-    };
-    let found = metadata(rt, &path)?;
-    if !found.is_dir() {
+        Err(error) => Err(error),
+    }
+}
+
+// The directory that has this path, with its number if that is wanted.
+fn if_folder<R: Directories>(rt: &R, path: String, is_numbered: bool) -> io::Result<RealFolder> {
+    let found = rt.look(&path)?;
+    if !found.is_folder {
         return Err(ErrorKind::NotADirectory.into());
     }
-    let (dev, ino) = (found.dev(), found.ino());
-    let number = (!is_real).then_some(FileNumber { dev, ino });
+    let number = is_numbered.then_some(found.state.number());
     Ok(RealFolder { path, number })
 }
 
 // The same, where a directory that is not there is an error.
-pub(crate) fn existing_folder<R: Files + AllocGlobal>(
-    rt: &R,
-    path: &str,
-) -> Result<RealFolder, Error> {
+pub(crate) fn existing_folder<R: Directories>(rt: &R, path: &str) -> Result<RealFolder, Error> {
     real_folder(rt, path).map_err(|error| Error::file(rt.alloc(), path, error))
 }
 
@@ -153,40 +153,36 @@ pub(crate) fn parent(path: &str) -> Option<&str>
 }
 
 // What a path leads to, or `None` if there is nothing, or the path is too long for it.
-fn look_at<R: Files + AllocGlobal>(rt: &R, path: &str) -> Result<Option<Metadata>, Error> {
-    match metadata(rt, path) {
+fn look_at<R: Directories>(rt: &R, path: &str) -> Result<Option<Found>, Error> {
+    match rt.look(path) {
         Err(error) if error.kind() == ErrorKind::InvalidFilename => Ok(None),
         found => if_there(rt, path, found),
     }
 }
 
 // Whether a path leads to a directory.
-pub(crate) fn is_folder<R: Files + AllocGlobal>(rt: &R, path: &str) -> Result<bool, Error> {
-    Ok(look_at(rt, path)?.is_some_and(|found| found.is_dir()))
+pub(crate) fn is_folder<R: Directories>(rt: &R, path: &str) -> Result<bool, Error> {
+    Ok(look_at(rt, path)?.is_some_and(|found| found.is_folder))
 }
 
 // Whether a path leads to a file.
-pub(crate) fn is_file<R: Files + AllocGlobal>(rt: &R, path: &str) -> Result<bool, Error> {
-    Ok(look_at(rt, path)?.is_some_and(|found| found.is_file()))
+pub(crate) fn is_file<R: Directories>(rt: &R, path: &str) -> Result<bool, Error> {
+    Ok(look_at(rt, path)?.is_some_and(|found| found.is_file))
 }
 
 // Whether a directory has one of this name.
-pub(crate) fn has_folder<R: Files + AllocGlobal>(
-    rt: &R,
-    folder: &str,
-    name: &str,
-) -> Result<bool, Error> {
+pub(crate) fn has_folder<R: Directories>(rt: &R, folder: &str, name: &str) -> Result<bool, Error> {
     is_folder(rt, &join(rt, folder, name)?)
 }
 
 // The kind of a repository's ids by its config in a directory. SHA-1 if there is no config.
-pub(crate) fn kind_by_config<R: Files + AllocGlobal>(rt: &R, folder: &str) -> Result<Kind, Error> {
+pub(crate) fn kind_by_config<R: Directories>(rt: &R, folder: &str) -> Result<Kind, Error> {
     Ok(kind_if_config(rt, folder)?.unwrap_or(Kind::Sha1))
 }
 
 // The kind of the ids of an object directory by the config beside it. SHA-1 if there is no config.
 // If the directory is a link, the config is beside the directory, or else beside the link.
-pub(crate) fn kind_beside<R: Files + AllocGlobal>(rt: &R, objects: &str) -> Result<Kind, Error> {
+pub(crate) fn kind_beside<R: Directories>(rt: &R, objects: &str) -> Result<Kind, Error> {
     let above = join(rt, objects, "..")?;
     match kind_if_config(rt, &above)? {
         Some(kind) => Ok(kind),
@@ -195,9 +191,9 @@ pub(crate) fn kind_beside<R: Files + AllocGlobal>(rt: &R, objects: &str) -> Resu
 }
 
 // The kind by the config in a directory, or `None` if there is no config.
-fn kind_if_config<R: Files + AllocGlobal>(rt: &R, folder: &str) -> Result<Option<Kind>, Error> {
+fn kind_if_config<R: Directories>(rt: &R, folder: &str) -> Result<Option<Kind>, Error> {
     let path = join(rt, folder, "config")?;
-    let Some(text) = if_there(rt, &path, fs::read(rt, &path))? else {
+    let Some(text) = if_there(rt, &path, rt.read(&path))? else {
         return Ok(None);
     };
     let kind = kind_in_config(rt.alloc(), &text);

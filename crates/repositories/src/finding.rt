@@ -3,12 +3,13 @@
 ghost use Rattle.std.specs.Prelude.{◌≡◌, IfOk, [], string_bytes};
 
 use crate::alternates::alternate_paths;
+use crate::directories::Directories;
 use crate::error::{Cause, Error};
-use crate::files::{has_folder, is_file, join, kind_beside, kind_by_config, metadata, push_path};
+use crate::files::{has_folder, is_file, join, kind_beside, kind_by_config, push_path};
 use crate::repository::{Environment, Repository, Search, variable};
 use gix_hash::Kind;
 use std::io;
-use std::rt::{Env, Files};
+use std::rt::Env;
 
 pub(crate) const ALTERNATES: &str = "GIT_ALTERNATE_OBJECT_DIRECTORIES";
 
@@ -43,7 +44,7 @@ impl ObjectsFolder {
     /// let folder = ObjectsFolder::at(rt, ".git/objects")?;
     /// assert!(rt; folder.alternates.is_empty());
     /// ```
-    pub fn at<R: Files + AllocGlobal>(rt: &R, path: &str) -> Result<ObjectsFolder, Error>
+    pub fn at<R: Directories>(rt: &R, path: &str) -> Result<ObjectsFolder, Error>
         ensures path { IfOk result (λ folder. string_bytes folder.path ≡ path.now) }
         ensures alternates { IfOk result (λ folder. folder.alternates.items ≡ []) }
     {
@@ -74,7 +75,7 @@ impl ObjectsFolder {
 ///
 /// The errors are [`Error::Memory`] and the causes [`Cause::NoRepository`], [`Cause::Text`],
 /// [`Cause::File`] and [`Cause::Config`].
-pub fn find_objects<R: Files + Env + AllocGlobal>(rt: &R) -> Result<ObjectsFolder, Error> {
+pub fn find_objects<R: Directories + Env>(rt: &R) -> Result<ObjectsFolder, Error> {
     let given = Environment::read(rt)?;
     let search = Search { rt, given: &given };
     match search.find()? {
@@ -84,7 +85,7 @@ pub fn find_objects<R: Files + Env + AllocGlobal>(rt: &R) -> Result<ObjectsFolde
 }
 
 // The object directory of a repository.
-fn objects_of<R: Files + Env + AllocGlobal>(
+fn objects_of<R: Directories + Env>(
     rt: &R,
     given: &Environment,
     repository: &Repository,
@@ -102,7 +103,7 @@ fn objects_of<R: Files + Env + AllocGlobal>(
 }
 
 // The object directory that the environment names, where there is no repository.
-fn objects_given<R: Files + Env + AllocGlobal>(
+fn objects_given<R: Directories + Env>(
     rt: &R,
     given: &Environment,
 ) -> Result<ObjectsFolder, Error> {
@@ -132,7 +133,7 @@ fn alternates(rt: &(impl Env + AllocGlobal), top: &str) -> Result<Vec<String>, E
 }
 
 // Whether a directory is an object directory.
-fn is_store<R: Files + AllocGlobal>(rt: &R, path: &str) -> Result<bool, Error> {
+fn is_store<R: Directories>(rt: &R, path: &str) -> Result<bool, Error> {
     Ok(
         has_folder(rt, path, "pack")?
             || is_file(rt, &join(rt, path, "info/alternates")?)?
@@ -141,7 +142,7 @@ fn is_store<R: Files + AllocGlobal>(rt: &R, path: &str) -> Result<bool, Error> {
 }
 
 // Whether a directory has a fan-out directory.
-fn has_loose_folder<R: Files + AllocGlobal>(rt: &R, path: &str) -> Result<bool, Error> {
+fn has_loose_folder<R: Directories>(rt: &R, path: &str) -> Result<bool, Error> {
     for byte in 0..=u8::MAX {
         if has_folder(rt, path, &format!(in rt.alloc(); "{byte:02x}")?)? {
             return Ok(true);
@@ -151,17 +152,17 @@ fn has_loose_folder<R: Files + AllocGlobal>(rt: &R, path: &str) -> Result<bool, 
 }
 
 // Why a directory is no object directory.
-fn no_store<R: Files + AllocGlobal>(rt: &R, path: &str) -> Result<Error, Error> {
+fn no_store<R: Directories>(rt: &R, path: &str) -> Result<Error, Error> {
     let alloc = rt.alloc();
-    match metadata(rt, path) {
-        Ok(found) if found.is_dir() => Ok(Error::of(alloc, no_store_but(rt, path)?)),
+    match rt.look(path) {
+        Ok(found) if found.is_folder => Ok(Error::of(alloc, no_store_but(rt, path)?)),
         Ok(_) => Ok(Error::file(alloc, path, io::ErrorKind::NotADirectory.into())),
         Err(error) => Ok(Error::file(alloc, path, error)),
     }
 }
 
 // That a directory is no object directory, and the one that it has.
-fn no_store_but<R: Files + AllocGlobal>(rt: &R, path: &str) -> Result<Cause, Error> {
+fn no_store_but<R: Directories>(rt: &R, path: &str) -> Result<Cause, Error> {
     let objects = store_in(rt, path)?;
     let path = String::from_str(rt.alloc(), path)?;
     Ok(match objects {
@@ -171,7 +172,7 @@ fn no_store_but<R: Files + AllocGlobal>(rt: &R, path: &str) -> Result<Cause, Err
 }
 
 // The object directory of a repository or worktree at a path, if there is one.
-fn store_in<R: Files + AllocGlobal>(rt: &R, path: &str) -> Result<Option<String>, Error> {
+fn store_in<R: Directories>(rt: &R, path: &str) -> Result<Option<String>, Error> {
     for name in ["objects", ".git/objects"] {
         let objects = join(rt, path, name)?;
         if is_store(rt, &objects)? {

@@ -5,6 +5,7 @@ ghost use Rattle.std.specs.Path.{path_join};
 ghost use Rattle.repositories.specs.Walks.{WasFound, are_same_paths, are_same_states, is_found, numbers_with};
 
 use crate::alternates::alternate_paths;
+use crate::directories::Directories;
 use crate::error::Error;
 use crate::files::{
     FileNumber, RealFolder, existing_folder, if_there, is_missing, join, push_path, real_folder,
@@ -12,8 +13,7 @@ use crate::files::{
 use crate::finding::{ALTERNATES, ObjectsFolder};
 use crate::state::FileState;
 use std::alloc::AllocError;
-use std::rt::Files;
-use std::{fs, io};
+use std::io;
 
 // How many levels of alternates are read, as by Git: those of the directory itself, and five more,
 // each named by the one before.
@@ -43,7 +43,7 @@ impl Folders {
     /// let folders = with_alternates(rt, &objects)?;
     /// println!(rt; "{}", folders.are_unchanged(rt, &objects)?)?;
     /// ```
-    pub fn are_unchanged<R: Files + AllocGlobal>(
+    pub fn are_unchanged<R: Directories>(
         &self,
         rt: &R,
         objects: &ObjectsFolder,
@@ -79,10 +79,7 @@ impl Folders {
 ///     println!(rt; "{path}")?;
 /// }
 /// ```
-pub fn with_alternates<R: Files + AllocGlobal>(
-    rt: &R,
-    objects: &ObjectsFolder,
-) -> Result<Folders, Error> {
+pub fn with_alternates<R: Directories>(rt: &R, objects: &ObjectsFolder) -> Result<Folders, Error> {
     let real = existing_folder(rt, &objects.path)?;
     let mut walk = Walk {
         rt,
@@ -111,7 +108,7 @@ struct Walk<'a, R> {
     numbers: Vec<FileNumber>,
 }
 
-impl<R: Files + AllocGlobal> Walk<'_, R> {
+impl<R: Directories> Walk<'_, R> {
     // Adds an object directory, the alternates of the environment, and those of its list.
     fn push_with_alternates(&mut self, real: RealFolder, given: &[String]) -> Result<(), Error> {
         let path = real.path.clone()?;
@@ -231,7 +228,7 @@ impl<R: Files + AllocGlobal> Walk<'_, R> {
         if state.is_missing() {
             return Ok(Vec::new(self.rt.alloc()));
         }
-        let text = if_there(self.rt, list, fs::read(self.rt, list))?;
+        let text = if_there(self.rt, list, self.rt.read(list))?;
         Ok(text.unwrap_or(Vec::new(self.rt.alloc())))
     }
 }
@@ -259,6 +256,6 @@ fn list_path(rt: &impl AllocGlobal, folder: &str) -> Result<String, AllocError>
 }
 
 // The state of a list of alternates.
-fn list_state<R: Files + AllocGlobal>(rt: &R, list: &str) -> Result<FileState, Error> {
+fn list_state<R: Directories>(rt: &R, list: &str) -> Result<FileState, Error> {
     FileState::of(rt, list).map_err(|error| Error::file(rt.alloc(), list, error))
 }

@@ -10,6 +10,7 @@
 pub mod alternates;
 /// What a repository's config says of its ids.
 pub mod config;
+mod directories;
 mod error;
 mod files;
 mod finding;
@@ -21,6 +22,7 @@ pub mod printed;
 mod repository;
 mod state;
 
+pub use directories::{Directories, Found};
 pub use error::{Cause, Error};
 pub use files::{join, metadata, retried};
 pub use finding::{ObjectsFolder, find_objects};

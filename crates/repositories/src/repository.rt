@@ -5,16 +5,14 @@ ghost use Rattle.std.specs.Char.{is_ascii_hexdigit};
 ghost use Rattle.std.specs.List.{prefix_len};
 ghost use Rattle.repositories.specs.Heads.{begins_head, is_blank, is_head};
 
+use crate::directories::Directories;
 use crate::error::Error;
-use crate::files::{
-    existing_folder, has_folder, if_there, is_file, is_folder, join, metadata, parent, retried,
-};
+use crate::files::{existing_folder, has_folder, if_there, is_file, is_folder, join, parent};
 use std::alloc::AllocError;
 use std::env::VarError;
-use std::os::unix::fs::MetadataExt;
 use std::path::Path;
-use std::rt::{Env, Files};
-use std::{env, fs, io};
+use std::rt::Env;
+use std::{env, io};
 
 // How many directories are looked at by relative paths. A path has at most 4,096 bytes, three for
 // each.
@@ -77,7 +75,7 @@ pub(crate) struct Search<'a, R> {
     pub(crate) given: &'a Environment,
 }
 
-impl<R: Files + Env + AllocGlobal> Search<'_, R> {
+impl<R: Directories + Env> Search<'_, R> {
     // The repository, if there is one. It is looked for from the current directory, and read from
     // the top of its worktree, as by Git: so a relative `$GIT_COMMON_DIR` leads from there.
     pub(crate) fn find(&self) -> Result<Option<Repository>, Error> {
@@ -189,7 +187,7 @@ impl<R: Files + Env + AllocGlobal> Search<'_, R> {
 }
 
 // Lets a path lead to the directory above, and returns whether it does.
-fn go_up<R: Files + AllocGlobal>(rt: &R, folder: &mut String) -> Result<bool, AllocError> {
+fn go_up<R: Directories>(rt: &R, folder: &mut String) -> Result<bool, AllocError> {
     let above = join(rt, folder, "..")?;
     if is_highest(rt, folder, &above) {
         return Ok(false);
@@ -199,9 +197,9 @@ fn go_up<R: Files + AllocGlobal>(rt: &R, folder: &mut String) -> Result<bool, Al
 }
 
 // Whether no other directory above this one can be seen. The directory above the root is the root.
-fn is_highest<R: Files + AllocGlobal>(rt: &R, folder: &str, above: &str) -> bool {
-    match (metadata(rt, folder), metadata(rt, above)) {
-        (Ok(folder), Ok(above)) => folder.dev() == above.dev() && folder.ino() == above.ino(),
+fn is_highest<R: Directories>(rt: &R, folder: &str, above: &str) -> bool {
+    match (rt.look(folder), rt.look(above)) {
+        (Ok(folder), Ok(above)) => folder.state.number() == above.state.number(),
         _ => true,
     }
 }
@@ -213,8 +211,8 @@ fn with_top(rt: &impl AllocGlobal, folder: String, top: &str) -> Result<Option<R
 }
 
 // The directory that a file `.git` names.
-fn named_by<R: Files + AllocGlobal>(rt: &R, path: &str) -> Result<String, Error> {
-    if let Some(text) = if_there(rt, path, fs::read_to_string(rt, path))?
+fn named_by<R: Directories>(rt: &R, path: &str) -> Result<String, Error> {
+    if let Some(text) = if_there(rt, path, rt.read_text(path))?
         && let Some(name) = text.strip_prefix("gitdir: ")
     {
         let folder = parent(path).unwrap_or("");
@@ -224,9 +222,9 @@ fn named_by<R: Files + AllocGlobal>(rt: &R, path: &str) -> Result<String, Error>
 }
 
 // The directory that the file `commondir` of a worktree names, or else the directory itself.
-fn common_of<R: Files + AllocGlobal>(rt: &R, folder: &str) -> Result<String, Error> {
+fn common_of<R: Directories>(rt: &R, folder: &str) -> Result<String, Error> {
     let path = join(rt, folder, "commondir")?;
-    match if_there(rt, &path, fs::read_to_string(rt, &path))? {
+    match if_there(rt, &path, rt.read_text(&path))? {
         Some(name) if name.is_empty() => Err(Error::text(rt.alloc(), &path, "empty")),
         Some(name) => {
             let common = join(rt, folder, without_line_ends(&name))?;
@@ -238,15 +236,15 @@ fn common_of<R: Files + AllocGlobal>(rt: &R, folder: &str) -> Result<String, Err
 
 // Whether a directory has a `HEAD` of a repository: a link to a reference, which need not be there,
 // or a file that names a reference or begins with an id. A directory is none.
-fn has_head<R: Files + AllocGlobal>(rt: &R, folder: &str) -> Result<bool, Error> {
+fn has_head<R: Directories>(rt: &R, folder: &str) -> Result<bool, Error> {
     let path = join(rt, folder, "HEAD")?;
-    if let Ok(reference) = retried(|| fs::read_link(rt, &path)) {
+    if let Ok(reference) = rt.read_link(&path) {
         return Ok(reference.as_str().starts_with("refs/"));
     }
     if !is_file(rt, &path)? {
         return Ok(false);
     }
-    let text = if_there(rt, &path, fs::read(rt, &path))?;
+    let text = if_there(rt, &path, rt.read(&path))?;
     Ok(text.is_some_and(|text| is_head(&text)))
 }
 

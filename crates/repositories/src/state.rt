@@ -5,12 +5,12 @@ ghost use Rattle.std.specs.Duration.{as_nanos};
 ghost use Rattle.std.specs.Fs.{metadata_len};
 ghost use Rattle.repositories.specs.States.{IsPast, IsSettled, from_zero};
 
-use crate::files::{is_missing, metadata};
+use crate::directories::Directories;
+use crate::files::{FileNumber, is_missing};
 use std::fs::Metadata;
 use std::io::{self, ErrorKind};
 use std::os::unix::fs::MetadataExt;
 use std::path::Path;
-use std::rt::Files;
 use std::time::{Duration, SystemTime, UNIX_EPOCH};
 
 // A change may leave a time that is so many nanoseconds earlier, since the clock of files ticks up
@@ -46,7 +46,7 @@ pub struct FileState {
 
 impl FileState {
     /// The state of the directory or file at a path. The error is that of a look at it or above.
-    pub fn of<R: Files>(rt: &R, path: &str) -> io::Result<FileState> {
+    pub fn of<R: Directories>(rt: &R, path: &str) -> io::Result<FileState> {
         let mut missing = 0u64;
         for above in Path::new(path).ancestors() {
             let name = match above.as_str() {
@@ -66,25 +66,56 @@ impl FileState {
 
     /// The state of the directory or file at a path, or `None` if it leads to nothing. The error is
     /// that of the look at it.
-    pub fn if_there<R: Files>(rt: &R, path: &str) -> io::Result<Option<FileState>> {
-        match metadata(rt, path) {
+    pub fn if_there<R: Directories>(rt: &R, path: &str) -> io::Result<Option<FileState>> {
+        match rt.look(path) {
             Err(error) if is_missing(&error) => Ok(None),
-            found => Ok(Some(FileState::new(&found?))),
+            found => Ok(Some(found?.state)),
+        }
+    }
+
+    /// The state of a directory or file that is there: the number of its file system, its own
+    /// number in it, its size in bytes, and when it was modified and changed, since 1970.
+    pub fn from_parts(
+        dev: u64,
+        ino: u64,
+        size: u64,
+        modified: Duration,
+        changed: Duration,
+    ) -> FileState
+        ensures { result ≡ record {
+            missing = 0; dev = dev; ino = ino; size = size; modified = modified; changed = changed } }
+    {
+        FileState {
+            missing: 0,
+            dev,
+            ino,
+            size,
+            modified,
+            changed,
         }
     }
 
     // The state of what is there.
-    fn new(found: &Metadata) -> FileState
+    pub(crate) fn new(found: &Metadata) -> FileState
         ensures there { result.missing ≡ 0 }
         ensures size { result.size ≡ metadata_len found.now }
     {
-        FileState {
-            missing: 0,
-            dev: found.dev(),
-            ino: found.ino(),
-            size: found.size(),
-            modified: since_1970(found.mtime(), found.mtime_nsec()),
-            changed: since_1970(found.ctime(), found.ctime_nsec()),
+        FileState::from_parts(
+            found.dev(),
+            found.ino(),
+            found.size(),
+            since_1970(found.mtime(), found.mtime_nsec()),
+            since_1970(found.ctime(), found.ctime_nsec()),
+        )
+    }
+
+    // The number of the directory or file, or of the one above.
+    pub(crate) fn number(&self) -> FileNumber
+        ensures { result ≡ record { dev = self.now.dev; ino = self.now.ino } }
+    {
+        FileNumber {
+            dev: self.dev,
+            ino: self.ino,
         }
     }
 
