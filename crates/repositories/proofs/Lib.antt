@@ -1,4 +1,5 @@
 mod Entries
+mod LineEnds
 mod LoosePaths
 mod Quoted
 mod Settings

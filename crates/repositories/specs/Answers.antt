@@ -1,10 +1,12 @@
--- What directories and files answer, while nothing changes.
-use Rattle.std.specs.Prelude.{◌≡◌, ◌≢◌, ℕ, List, Option, Some, Result, Ok, Err}
+-- What directories and files answer while nothing changes, and what is found by that.
+use Rattle.std.specs.Prelude.{◌≡◌, ◌≢◌, ℕ, Bool, true, false, List, Option, Some, None, Result, Ok, Err}
 use Rattle.std.specs.IoError.{error_kind}
-use Rattle.std.specs.declared.io.Error.{Error}
+use Rattle.std.specs.declared.io.Error.{Error as IoError}
 use Rattle.std.specs.declared.io.ErrorKind.{ErrorKind}
 use Rattle.std.specs.declared.io.ErrorKind.TheVariants.{OutOfMemory}
 use Rattle.repositories.specs.declared.directories.Found.{Found}
+use Rattle.repositories.specs.declared.error.Error.{Error}
+use Rattle.repositories.specs.declared.error.Error.TheVariants.{Cause, Memory}
 
 -- what each call answers for each path, or the kind of its error
 pub record Answers : Type 0 where
@@ -19,10 +21,30 @@ abbrev pub IfKnown : (Answers → Type 0) → Option Answers → Type 0
 IfKnown P known = (at : Answers) → known ≡ Some at → P at
 
 -- what a call returned is this answer, unless memory ran out
-abbrev pub IsAnswer : {X Y : Type 0} → (X → Y) → Result X Error → Result Y ErrorKind → Type 0
+abbrev pub IsAnswer : {X Y : Type 0} → (X → Y) → Result X IoError → Result Y ErrorKind → Type 0
 IsAnswer view (Ok x) answer = answer ≡ Ok (view x)
 IsAnswer view (Err error) answer = error_kind error ≢ OutOfMemory → answer ≡ Err (error_kind error)
 
 -- the same of the answer among these, if they are known
-abbrev pub Answered : {X Y : Type 0} → (X → Y) → Result X Error → (Answers → Result Y ErrorKind) → Option Answers → Type 0
+abbrev pub Answered : {X Y : Type 0} → (X → Y) → Result X IoError → (Answers → Result Y ErrorKind) → Option Answers → Type 0
 Answered view result answer = IfKnown (λ at. IsAnswer view result (answer at))
+
+-- whether an error says that memory ran out
+abbrev pub is_memory : Error → Bool
+is_memory (Memory error) = true
+is_memory (Cause cause) = false
+
+-- what a function returned is what is found. It is an error only where nothing can be said, since a call failed or a file says nothing that can be used, or where memory ran out
+abbrev pub IsFound : {X Y : Type 0} → (X → Y) → Result X Error → Option Y → Type 0
+IsFound view (Ok x) found = found ≡ Some (view x)
+IsFound view (Err error) found = is_memory error ≡ false → found ≡ None
+
+-- the same of what is found by these answers, if they are known
+abbrev pub Finds : {X Y : Type 0} → (X → Y) → Result X Error → (Answers → Option Y) → Option Answers → Type 0
+Finds view result found = IfKnown (λ at. IsFound view result (found at))
+
+infixl 10 ◌>>=◌
+-- what a function says of what is found, if that can be said
+abbrev pub ◌>>=◌ : {A B : Type 0} → Option A → (A → Option B) → Option B
+None >>= f = None
+(Some found) >>= f = f found

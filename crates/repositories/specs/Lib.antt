@@ -1,5 +1,6 @@
 pub mod Alternates
 pub mod Answers
+pub mod Discovery
 pub mod Formats
 pub mod Heads
 pub mod Lookups
@@ -7,4 +8,5 @@ pub mod Paths
 pub mod Printed
 pub mod Quoting
 pub mod States
+pub mod Views
 pub mod Walks

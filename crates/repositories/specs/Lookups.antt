@@ -1,10 +1,70 @@
 -- What a call on a path says of what is there.
-use Rattle.std.specs.Prelude.{Bool, false, true}
+use Rattle.std.specs.Prelude.{ℕ, Bool, false, true, if◌then◌else◌, List, None, Ok, Err, Option, Result, Some}
 use Rattle.std.specs.declared.io.ErrorKind.{ErrorKind}
-use Rattle.std.specs.declared.io.ErrorKind.TheVariants.{NotADirectory, NotFound}
+use Rattle.std.specs.declared.io.ErrorKind.TheVariants.{InvalidFilename, InvalidInput, NotADirectory, NotFound}
+use Rattle.repositories.specs.Answers.{◌>>=◌, Answers}
+use Rattle.repositories.specs.declared.directories.Found.{Found}
+use Rattle.repositories.specs.declared.files.FileNumber.{FileNumber}
 
 -- whether a call failed because there is no such directory or file
 abbrev pub is_missing : ErrorKind → Bool
 is_missing NotFound = true
 is_missing NotADirectory = true
 is_missing _ = false
+
+-- whether the path of a link cannot be read because there is no link
+abbrev pub is_no_link : ErrorKind → Bool
+is_no_link InvalidInput = true
+is_no_link InvalidFilename = true
+is_no_link kind = is_missing kind
+
+-- what a call answered
+abbrev pub answered : {T : Type 0} → Result T ErrorKind → Option T
+answered (Ok found) = Some found
+answered (Err kind) = None
+
+-- the same, or none if there is nothing
+abbrev pub if_there : {T : Type 0} → Result T ErrorKind → Option (Option T)
+if_there (Ok found) = Some (Some found)
+if_there (Err kind) = if is_missing kind then Some None else None
+
+-- what a path leads to; none also if it is too long, or has a NUL
+abbrev pub if_found : Result Found ErrorKind → Option (Option Found)
+if_found (Err InvalidFilename) = Some None
+if_found answer = if_there answer
+
+-- whether a path leads to what is such
+abbrev pub leads_to : (Found → Bool) → List ℕ → Answers → Option Bool
+leads_to is_such path at = if_found (at.look path) >>= λ found. elim found [ None ↦ Some false | Some found ↦ Some (is_such found) ]
+
+-- whether it leads to a directory
+abbrev pub is_folder : List ℕ → Answers → Option Bool
+is_folder = leads_to (λ found. found.is_folder)
+
+-- whether it leads to a file
+abbrev pub is_file : List ℕ → Answers → Option Bool
+is_file = leads_to (λ found. found.is_file)
+
+-- the number of what was found
+abbrev pub number_in : Found → FileNumber
+number_in found = record { dev = found.state.dev; ino = found.state.ino }
+
+-- the number of what a path leads to
+abbrev pub number_of : List ℕ → Answers → Option FileNumber
+number_of path at = answered (at.look path) >>= λ found. Some (number_in found)
+
+-- the path, and the number if it is wanted, of the directory that a look answered
+abbrev pub if_folder : Bool → List ℕ → Result Found ErrorKind → Result (List ℕ × Option FileNumber) ErrorKind
+if_folder is_numbered path (Err kind) = Err kind
+if_folder is_numbered path (Ok found) =
+    if found.is_folder then Ok (path, (if is_numbered then Some (number_in found) else None)) else Err NotADirectory
+
+-- the directory at the absolute path that was answered; or, if that is not UTF-8, at the path itself, with its number
+abbrev pub if_real : List ℕ → Answers → Result (List ℕ) ErrorKind → Result (List ℕ × Option FileNumber) ErrorKind
+if_real path at (Ok real) = if_folder false real (at.look real)
+if_real path at (Err InvalidFilename) = if_folder true path (at.look path)
+if_real path at (Err kind) = Err kind
+
+-- the directory that a path leads to, by its absolute path without links
+abbrev pub real_folder : List ℕ → Answers → Result (List ℕ × Option FileNumber) ErrorKind
+real_folder path at = if_real path at (at.real path)

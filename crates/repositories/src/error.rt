@@ -1,7 +1,12 @@
 //! Why a repository, its object directory or one of its files cannot be found or read.
 
+ghost use Rattle.std.specs.Prelude.{◌≡◌, true};
+ghost use Rattle.std.specs.IoError.{error_kind};
+ghost use Rattle.std.specs.declared.io.ErrorKind.{ErrorKind};
+ghost use Rattle.repositories.specs.Answers.{is_memory};
+
 use crate::config::ConfigError;
-use std::alloc::{AllocError, Global};
+use std::alloc::{AllocError, AllocFailed, Global};
 use std::io;
 use thiserror::Error as ThisError;
 
@@ -19,7 +24,23 @@ pub enum Error {
     Cause(Box<Cause>),
     /// There is not enough memory.
     #[error("out of memory")]
-    Memory(#[from(alloc)] AllocError),
+    Memory(AllocError),
+}
+
+impl From<AllocError> for Error {
+    ghost from_gives = { λ _ error. is_memory error ≡ true };
+
+    fn from(error: AllocError) -> Error {
+        Error::Memory(error)
+    }
+}
+
+impl<T: Drop> From<AllocFailed<T>> for Error {
+    ghost from_gives = { λ _ error. is_memory error ≡ true };
+
+    fn from(_: AllocFailed<T>) -> Error {
+        Error::Memory(AllocError)
+    }
 }
 
 /// What is missing, wrong or cannot be read. The text of each cause in a directory or file begins
@@ -71,7 +92,9 @@ pub enum Cause {
 
 impl Error {
     /// The error that a directory or file cannot be read, or `Memory` if that is why.
-    pub fn file(alloc: Global, path: &str, error: io::Error) -> Error {
+    pub fn file(alloc: Global, path: &str, error: io::Error) -> Error
+        ensures { error_kind error ≡ ErrorKind.OutOfMemory → is_memory result ≡ true }
+    {
         match String::from_str(alloc, path) {
             Ok(path) if error.kind() != io::ErrorKind::OutOfMemory => {
                 Error::of(alloc, Cause::File { path, error })

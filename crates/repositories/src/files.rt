@@ -1,11 +1,14 @@
 //! Paths, and what they lead to.
 
-ghost use Rattle.std.specs.Prelude.{◌≡◌, ◌≢◌, ◌↔◌, ◌++◌, ◌∷◌, [], IfErr, IfOk, IsErr, IsTrue, None, Ok, Some, false, if◌then◌else◌, map, option_map, string_bytes, true};
+ghost use Rattle.std.specs.Prelude.{◌≡◌, ◌≢◌, ◌↔◌, ◌++◌, ◌∷◌, [], IfErr, IfOk, IsErr, IsTrue, None, Ok, Some, false, if◌then◌else◌, map, option_copied, string_bytes, true, unwrap_or};
 ghost use Rattle.std.specs.IoError.{error_kind};
 ghost use Rattle.std.specs.Path.{path_join, path_parent};
 ghost use Rattle.std.specs.Str.{IsUtf8};
 ghost use Rattle.std.specs.declared.io.ErrorKind.{ErrorKind};
-ghost use Rattle.repositories.specs.Lookups.{is_missing};
+ghost use Rattle.repositories.specs.Answers.{Answered, Finds, IfKnown, is_memory};
+ghost use Rattle.repositories.specs.Discovery.{ConfigSays, HasKind, HasKindBeside};
+ghost use Rattle.repositories.specs.Lookups.{answered, if_folder, if_found, is_file, is_folder, is_missing, real_folder};
+ghost use Rattle.repositories.specs.Views.{folder_of};
 
 use crate::config::kind_in_config;
 use crate::directories::{Directories, Found};
@@ -95,6 +98,8 @@ pub(crate) fn if_there<T: Drop>(
     ensures missing { IfErr read (λ error. is_missing (error_kind error) ≡ true
         → result ≡ Ok None) }
     ensures unread { IfErr read (λ error. is_missing (error_kind error) ≡ false → IsErr result) }
+    ensures memory { IfErr read (λ error. error_kind error ≡ ErrorKind.OutOfMemory
+        → IfErr result (λ error. is_memory error ≡ true)) }
 {
     match read {
         Ok(read) => Ok(Some(read)),
@@ -120,7 +125,9 @@ pub(crate) struct FileNumber {
 }
 
 // The directory that a path leads to.
-pub(crate) fn real_folder<R: Directories>(rt: &R, path: &str) -> io::Result<RealFolder> {
+pub(crate) fn real_folder<R: Directories>(rt: &R, path: &str) -> io::Result<RealFolder>
+    ensures { Answered folder_of result (real_folder path.now) (R.answers rt.now) }
+{
     match rt.real_path(path) {
         Ok(real) => if_folder(rt, real, false),
         Err(error) if error.kind() == ErrorKind::InvalidFilename => {
@@ -131,7 +138,11 @@ pub(crate) fn real_folder<R: Directories>(rt: &R, path: &str) -> io::Result<Real
 }
 
 // The directory that has this path, with its number if that is wanted.
-fn if_folder<R: Directories>(rt: &R, path: String, is_numbered: bool) -> io::Result<RealFolder> {
+fn if_folder<R: Directories>(rt: &R, path: String, is_numbered: bool) -> io::Result<RealFolder>
+    ensures { Answered folder_of result
+        (λ at. if_folder is_numbered (string_bytes path) (at.look (string_bytes path)))
+        (R.answers rt.now) }
+{
     let found = rt.look(&path)?;
     if !found.is_folder {
         return Err(ErrorKind::NotADirectory.into());
@@ -141,19 +152,36 @@ fn if_folder<R: Directories>(rt: &R, path: String, is_numbered: bool) -> io::Res
 }
 
 // The same, where a directory that is not there is an error.
-pub(crate) fn existing_folder<R: Directories>(rt: &R, path: &str) -> Result<RealFolder, Error> {
-    real_folder(rt, path).map_err(|error| Error::file(rt.alloc(), path, error))
+pub(crate) fn existing_folder<R: Directories>(rt: &R, path: &str) -> Result<RealFolder, Error>
+    ensures { Finds folder_of result (λ at. answered (real_folder path.now at)) (R.answers rt.now) }
+{
+    match real_folder(rt, path) {
+        Ok(real) => Ok(real),
+        Err(error) => Err(Error::file(rt.alloc(), path, error)),
+    }
 }
 
 // The path of the directory in which a path is, if it has one.
 pub(crate) fn parent(path: &str) -> Option<&str>
-    ensures { option_map (λ folder. folder.now) result ≡ path_parent path.now }
+    ensures { option_copied result ≡ path_parent path.now }
 {
     Path::new(path).parent().map(|folder| folder.as_str())
 }
 
+// The path of the directory in which a path is, or else the path itself.
+fn parent_or_self(path: &str) -> &str
+    ensures { result.now ≡ unwrap_or (path_parent path.now) path.now }
+{
+    match parent(path) {
+        Some(folder) => folder,
+        None => path,
+    }
+}
+
 // What a path leads to, or `None` if there is nothing, or the path is too long for it.
-fn look_at<R: Directories>(rt: &R, path: &str) -> Result<Option<Found>, Error> {
+fn look_at<R: Directories>(rt: &R, path: &str) -> Result<Option<Found>, Error>
+    ensures { Finds (λ found. found) result (λ at. if_found (at.look path.now)) (R.answers rt.now) }
+{
     match rt.look(path) {
         Err(error) if error.kind() == ErrorKind::InvalidFilename => Ok(None),
         found => if_there(rt, path, found),
@@ -161,41 +189,65 @@ fn look_at<R: Directories>(rt: &R, path: &str) -> Result<Option<Found>, Error> {
 }
 
 // Whether a path leads to a directory.
-pub(crate) fn is_folder<R: Directories>(rt: &R, path: &str) -> Result<bool, Error> {
-    Ok(look_at(rt, path)?.is_some_and(|found| found.is_folder))
+pub(crate) fn is_folder<R: Directories>(rt: &R, path: &str) -> Result<bool, Error>
+    ensures { Finds (λ is. is) result (is_folder path.now) (R.answers rt.now) }
+{
+    match look_at(rt, path)? {
+        Some(found) => Ok(found.is_folder),
+        None => Ok(false),
+    }
 }
 
 // Whether a path leads to a file.
-pub(crate) fn is_file<R: Directories>(rt: &R, path: &str) -> Result<bool, Error> {
-    Ok(look_at(rt, path)?.is_some_and(|found| found.is_file))
+pub(crate) fn is_file<R: Directories>(rt: &R, path: &str) -> Result<bool, Error>
+    ensures { Finds (λ is. is) result (is_file path.now) (R.answers rt.now) }
+{
+    match look_at(rt, path)? {
+        Some(found) => Ok(found.is_file),
+        None => Ok(false),
+    }
 }
 
 // Whether a directory has one of this name.
-pub(crate) fn has_folder<R: Directories>(rt: &R, folder: &str, name: &str) -> Result<bool, Error> {
+pub(crate) fn has_folder<R: Directories>(rt: &R, folder: &str, name: &str) -> Result<bool, Error>
+    ensures { Finds (λ has. has) result (is_folder (path_join folder.now name.now))
+        (R.answers rt.now) }
+{
     is_folder(rt, &join(rt, folder, name)?)
 }
 
 // The kind of a repository's ids by its config in a directory. SHA-1 if there is no config.
-pub(crate) fn kind_by_config<R: Directories>(rt: &R, folder: &str) -> Result<Kind, Error> {
-    Ok(kind_if_config(rt, folder)?.unwrap_or(Kind::Sha1))
+pub(crate) fn kind_by_config<R: Directories>(rt: &R, folder: &str) -> Result<Kind, Error>
+    ensures { IfOk result (λ kind. IfKnown (HasKind folder.now kind) (R.answers rt.now)) }
+{
+    match kind_if_config(rt, folder)? {
+        Some(kind) => Ok(kind),
+        None => Ok(Kind::Sha1),
+    }
 }
 
 // The kind of the ids of an object directory by the config beside it. SHA-1 if there is no config.
 // If the directory is a link, the config is beside the directory, or else beside the link.
-pub(crate) fn kind_beside<R: Directories>(rt: &R, objects: &str) -> Result<Kind, Error> {
+pub(crate) fn kind_beside<R: Directories>(rt: &R, objects: &str) -> Result<Kind, Error>
+    ensures { IfOk result (λ kind. IfKnown (HasKindBeside objects.now kind) (R.answers rt.now)) }
+{
     let above = join(rt, objects, "..")?;
     match kind_if_config(rt, &above)? {
         Some(kind) => Ok(kind),
-        None => kind_by_config(rt, parent(objects).unwrap_or(objects)),
+        None => Ok(kind_by_config(rt, parent_or_self(objects))?),
     }
 }
 
 // The kind by the config in a directory, or `None` if there is no config.
-fn kind_if_config<R: Directories>(rt: &R, folder: &str) -> Result<Option<Kind>, Error> {
+fn kind_if_config<R: Directories>(rt: &R, folder: &str) -> Result<Option<Kind>, Error>
+    ensures { IfOk result (λ kind. IfKnown (ConfigSays folder.now kind) (R.answers rt.now)) }
+{
     let path = join(rt, folder, "config")?;
     let Some(text) = if_there(rt, &path, rt.read(&path))? else {
         return Ok(None);
     };
-    let kind = kind_in_config(rt.alloc(), &text);
-    Ok(Some(kind.map_err(|error| Error::config(rt.alloc(), &path, error))?))
+    match kind_in_config(rt.alloc(), &text) {
+        Ok(kind) => Ok(Some(kind)),
+        Err(error) => Err(Error::config(rt.alloc(), &path, error)),
+    }
 }

@@ -1,14 +1,18 @@
 //! Object directories: the one of the repository that a program runs in, and others by their paths.
 
-ghost use Rattle.std.specs.Prelude.{◌≡◌, IfOk, [], string_bytes};
+ghost use Rattle.std.specs.Prelude.{◌≡◌, IfOk, Some, [], option_copied, option_map, string_bytes};
+ghost use Rattle.repositories.specs.Answers.{IfKnown};
+ghost use Rattle.repositories.specs.Discovery.{HasKind, HasKindBeside, IsObjectDirectory, objects_of};
+ghost use Rattle.repositories.specs.Views.{repository_of};
 
 use crate::alternates::alternate_paths;
 use crate::directories::Directories;
 use crate::error::{Cause, Error};
 use crate::files::{has_folder, is_file, join, kind_beside, kind_by_config, push_path};
-use crate::repository::{Environment, Repository, Search, variable};
+use crate::repository::{Environment, Repository, Search};
 use gix_hash::Kind;
-use std::io;
+use std::env;
+use std::io::ErrorKind;
 use std::rt::Env;
 
 pub(crate) const ALTERNATES: &str = "GIT_ALTERNATE_OBJECT_DIRECTORIES";
@@ -77,51 +81,93 @@ impl ObjectsFolder {
 /// [`Cause::File`] and [`Cause::Config`].
 pub fn find_objects<R: Directories + Env>(rt: &R) -> Result<ObjectsFolder, Error> {
     let given = Environment::read(rt)?;
-    let search = Search { rt, given: &given };
-    match search.find()? {
-        Some(repository) => objects_of(rt, &given, &repository),
-        None => objects_given(rt, &given),
+    match given.dir {
+        Some(_) => find_objects_in(rt, &given, None),
+        None => find_objects_in(rt, &given, current_dir(rt)?.as_deref()),
+    }
+}
+
+// The path of the current directory, or `None` if it is not UTF-8.
+fn current_dir(rt: &(impl Env + AllocGlobal)) -> Result<Option<String>, Error> {
+    match env::current_dir(rt) {
+        Ok(here) => Ok(Some(here.into_string())),
+        Err(error) if error.kind() == ErrorKind::InvalidFilename => Ok(None),
+        Err(error) => Err(Error::file(rt.alloc(), ".", error)),
+    }
+}
+
+/// Finds the same object directory by what the environment says, and from the current directory,
+/// whose path is `here`, or `None` if it is not UTF-8. With [`Environment::dir`] it is not looked
+/// at.
+///
+/// What is found is what the directories and files say by Git's rules: a call that fails is an
+/// error, and never taken for a file that is not there. The errors are those of [`find_objects`].
+///
+/// ```
+/// let folder = find_objects_in(rt, &Environment::read(rt)?, Some("/home/me/project"))?;
+/// ```
+pub fn find_objects_in<R: Directories>(
+    rt: &R,
+    given: &Environment,
+    here: Option<&str>,
+) -> Result<ObjectsFolder, Error>
+    ensures { IfOk result (λ found. IfKnown
+        (IsObjectDirectory given.now (option_copied here.entry) (string_bytes found.path)
+        found.kind)
+        (R.answers rt.now)) }
+{
+    let search = Search { rt, given };
+    match search.find(here)? {
+        Some(repository) => Ok(objects_of(rt, given, &repository)?),
+        None => Ok(objects_given(rt, given)?),
     }
 }
 
 // The object directory of a repository.
-fn objects_of<R: Directories + Env>(
+fn objects_of<R: Directories>(
     rt: &R,
     given: &Environment,
     repository: &Repository,
-) -> Result<ObjectsFolder, Error> {
+) -> Result<ObjectsFolder, Error>
+    ensures path { IfOk result (λ found. string_bytes found.path
+        ≡ objects_of given.now (repository_of repository.now)) }
+    ensures kind { IfOk result (λ found. IfKnown
+        (HasKind (string_bytes repository.now.folder) found.kind) (R.answers rt.now)) }
+{
     let kind = kind_by_config(rt, &repository.folder)?;
-    let (folder, path) = match &given.objects {
-        Some(path) => (&repository.top, path.as_str()),
-        None => (&repository.folder, "objects"),
+    let path = match &given.object_directory {
+        Some(path) => join(rt, &repository.top, path)?,
+        None => join(rt, &repository.folder, "objects")?,
     };
     Ok(ObjectsFolder {
-        path: join(rt, folder, path)?,
+        path,
         kind,
-        alternates: alternates(rt, &repository.top)?,
+        alternates: alternates(rt, given, &repository.top)?,
     })
 }
 
 // The object directory that the environment names, where there is no repository.
-fn objects_given<R: Directories + Env>(
-    rt: &R,
-    given: &Environment,
-) -> Result<ObjectsFolder, Error> {
-    let Some(path) = &given.objects else {
+fn objects_given<R: Directories>(rt: &R, given: &Environment) -> Result<ObjectsFolder, Error>
+    ensures path { IfOk result (λ found. Some (string_bytes found.path)
+        ≡ option_map string_bytes given.now.object_directory) }
+    ensures kind { IfOk result (λ found. IfKnown
+        (HasKindBeside (string_bytes found.path) found.kind) (R.answers rt.now)) }
+{
+    let Some(path) = &given.object_directory else {
         return Err(Error::of(rt.alloc(), Cause::NoRepository));
     };
     let kind = kind_beside(rt, path)?;
     Ok(ObjectsFolder {
         path: String::from_str(rt.alloc(), path)?,
         kind,
-        alternates: alternates(rt, "")?,
+        alternates: alternates(rt, given, "")?,
     })
 }
 
 // The directories that `$GIT_ALTERNATE_OBJECT_DIRECTORIES` names, relative to a directory.
-fn alternates(rt: &(impl Env + AllocGlobal), top: &str) -> Result<Vec<String>, Error> {
+fn alternates(rt: &impl AllocGlobal, given: &Environment, top: &str) -> Result<Vec<String>, Error> {
     let mut folders = Vec::new(rt.alloc());
-    if let Some(list) = variable(rt, ALTERNATES)? {
+    if let Some(list) = &given.alternate_object_directories {
         for path in &alternate_paths(rt.alloc(), list.as_bytes(), b':')? {
             let folder = if path.is_empty() { "" } else { top };
             if !push_path(rt, folder, path, &mut folders)? {
@@ -156,7 +202,7 @@ fn no_store<R: Directories>(rt: &R, path: &str) -> Result<Error, Error> {
     let alloc = rt.alloc();
     match rt.look(path) {
         Ok(found) if found.is_folder => Ok(Error::of(alloc, no_store_but(rt, path)?)),
-        Ok(_) => Ok(Error::file(alloc, path, io::ErrorKind::NotADirectory.into())),
+        Ok(_) => Ok(Error::file(alloc, path, ErrorKind::NotADirectory.into())),
         Err(error) => Ok(Error::file(alloc, path, error)),
     }
 }

@@ -25,6 +25,7 @@ mod state;
 pub use directories::{Directories, Found};
 pub use error::{Cause, Error};
 pub use files::{join, metadata, retried};
-pub use finding::{ObjectsFolder, find_objects};
+pub use finding::{ObjectsFolder, find_objects, find_objects_in};
 pub use folders::{Folders, with_alternates};
+pub use repository::Environment;
 pub use state::FileState;

@@ -1,40 +1,61 @@
 //! Where a repository has its objects, references and config.
 
-ghost use Rattle.std.specs.Prelude.{◌≡◌, ◌≤◌, length, take};
+ghost use Rattle.std.specs.Prelude.{◌≡◌, ◌≤◌, Some, length, option_copied, option_map, string_bytes, take};
 ghost use Rattle.std.specs.Char.{is_ascii_hexdigit};
+ghost use Rattle.std.specs.IoError.{error_kind};
 ghost use Rattle.std.specs.List.{prefix_len};
+ghost use Rattle.repositories.specs.Answers.{Finds, IsFound};
+ghost use Rattle.repositories.specs.Discovery.{after_gitdir, common_at, common_of, find, find_above, find_from, first_above, folder_at, has_both, has_head, has_head_file, has_objects, is_highest, look_for, named_by, repository_at, repository_in, repository_of_worktree, required, without_line_ends};
 ghost use Rattle.repositories.specs.Heads.{begins_head, is_blank, is_head};
+ghost use Rattle.repositories.specs.Lookups.{is_no_link, number_of};
+ghost use Rattle.repositories.specs.Views.{repository_of};
 
 use crate::directories::Directories;
 use crate::error::Error;
-use crate::files::{existing_folder, has_folder, if_there, is_file, is_folder, join, parent};
+use crate::files::{
+    FileNumber, existing_folder, has_folder, if_there, is_file, is_folder, is_missing, join, parent,
+};
+use crate::finding::ALTERNATES;
 use std::alloc::AllocError;
-use std::env::VarError;
-use std::path::Path;
+use std::env::{self, VarError};
+use std::io::{self, ErrorKind};
 use std::rt::Env;
-use std::{env, io};
 
-// How many directories are looked at by relative paths. A path has at most 4,096 bytes, three for
-// each.
-const MAX_ABOVE: usize = 4096 / 3;
+// How many directories are looked at above the current one, at most. A path has at most 4,096
+// bytes, two for each.
+const MAX_ABOVE: u16 = 4096 / 2;
 
-// What the environment says of the repository.
-#[derive(Drop)]
-pub(crate) struct Environment {
-    // `$GIT_DIR`.
-    dir: Option<String>,
-    // `$GIT_COMMON_DIR`, the directory with the objects, the references and the config.
-    common: Option<String>,
-    // `$GIT_OBJECT_DIRECTORY`.
-    pub(crate) objects: Option<String>,
+// The same by relative paths, which have three bytes for each.
+const MAX_DOTS: u16 = 4096 / 3;
+
+/// What the environment says of a repository: the values of Git's variables of these names, if they
+/// are set.
+///
+/// ```
+/// let given = Environment::read(rt)?;
+/// println!(rt; "{}", given.dir.is_some())?;
+/// ```
+#[derive(Debug, Drop)]
+pub struct Environment {
+    /// `$GIT_DIR`: the path of the repository, or of a gitfile that names it.
+    pub dir: Option<String>,
+    /// `$GIT_COMMON_DIR`: the path of the directory with the objects, references and config.
+    pub common_dir: Option<String>,
+    /// `$GIT_OBJECT_DIRECTORY`: the path of the object directory.
+    pub object_directory: Option<String>,
+    /// `$GIT_ALTERNATE_OBJECT_DIRECTORIES`: the paths of alternates, as Git writes them there.
+    pub alternate_object_directories: Option<String>,
 }
 
 impl Environment {
-    pub(crate) fn read(rt: &(impl Env + AllocGlobal)) -> Result<Environment, Error> {
+    /// What the environment of the program says. The errors are [`Error::Memory`] and the cause
+    /// [`Cause::Text`](crate::Cause::Text): a value is not UTF-8, or a path is empty.
+    pub fn read(rt: &(impl Env + AllocGlobal)) -> Result<Environment, Error> {
         Ok(Environment {
             dir: path_variable(rt, "GIT_DIR")?,
-            common: path_variable(rt, "GIT_COMMON_DIR")?,
-            objects: path_variable(rt, "GIT_OBJECT_DIRECTORY")?,
+            common_dir: path_variable(rt, "GIT_COMMON_DIR")?,
+            object_directory: path_variable(rt, "GIT_OBJECT_DIRECTORY")?,
+            alternate_object_directories: variable(rt, ALTERNATES)?,
         })
     }
 }
@@ -49,7 +70,7 @@ fn path_variable(rt: &(impl Env + AllocGlobal), name: &str) -> Result<Option<Str
 }
 
 // The value of a variable of the environment, if it is set.
-pub(crate) fn variable(rt: &(impl Env + AllocGlobal), name: &str) -> Result<Option<String>, Error> {
+fn variable(rt: &(impl Env + AllocGlobal), name: &str) -> Result<Option<String>, Error> {
     match env::var(rt, name) {
         Ok(value) => Ok(Some(value)),
         Err(VarError::NotPresent) => Ok(None),
@@ -75,57 +96,100 @@ pub(crate) struct Search<'a, R> {
     pub(crate) given: &'a Environment,
 }
 
-impl<R: Directories + Env> Search<'_, R> {
+impl<R: Directories> Search<'_, R> {
     // The repository, if there is one. It is looked for from the current directory, and read from
     // the top of its worktree, as by Git: so a relative `$GIT_COMMON_DIR` leads from there.
-    pub(crate) fn find(&self) -> Result<Option<Repository>, Error> {
-        let mut found = self.look_for_repository()?;
-        if let (Some(repository), Some(common)) = (&mut found, &self.given.common) {
-            repository.folder = join(self.rt, &repository.top, common)?;
+    #[tactic(auto, unfolding(crate::specs::Discovery::find))]
+    pub(crate) fn find(&self, here: Option<&str>) -> Result<Option<Repository>, Error>
+        ensures { Finds (option_map repository_of) result
+            (find self.now.given.now (option_copied here.entry)) (R.answers self.now.rt.now) }
+    {
+        let Some(found) = self.look_for(here)? else {
+            return Ok(None);
+        };
+        match &self.given.common_dir {
+            Some(common) => Ok(Some(Repository {
+                folder: join(self.rt, &found.top, common)?,
+                top: found.top,
+            })),
+            None => Ok(Some(found)),
         }
-        Ok(found)
     }
 
     // The repository that the environment names, or that is in the current directory or above it.
-    fn look_for_repository(&self) -> Result<Option<Repository>, Error> {
+    #[tactic(auto, unfolding(crate::specs::Discovery::look_for))]
+    fn look_for(&self, here: Option<&str>) -> Result<Option<Repository>, Error>
+        ensures { Finds (option_map repository_of) result
+            (look_for self.now.given.now (option_copied here.entry)) (R.answers self.now.rt.now) }
+    {
         if let Some(path) = &self.given.dir {
             return with_top(self.rt, self.required(path)?, "");
         }
-        match env::current_dir(self.rt) {
-            Ok(here) => self.find_from(here.as_path()),
-            Err(error) if error.kind() == io::ErrorKind::InvalidFilename => self.find_above(),
-            Err(error) => Err(Error::file(self.rt.alloc(), ".", error)),
+        match here {
+            Some(here) => self.find_from(here),
+            None => self.find_above(".", MAX_DOTS),
         }
     }
 
     // The repository of a directory, or of the first above it that has one.
-    fn find_from(&self, here: Path<'_>) -> Result<Option<Repository>, Error> {
-        for folder in here.ancestors() {
-            if let Some(mut found) = self.repository_in(folder.as_str())? {
-                if folder.as_str() == here.as_str() {
-                    found.top.clear();
-                }
-                return Ok(Some(found));
-            }
+    fn find_from(&self, here: &str) -> Result<Option<Repository>, Error>
+        ensures { Finds (option_map repository_of) result (find_from self.now.given.now here.now)
+            (R.answers self.now.rt.now) }
+    {
+        if let Some(mut found) = self.repository_in(here)? {
+            found.top.clear();
+            return Ok(Some(found));
         }
-        Ok(None)
+        match parent(here) {
+            Some(above) => self.first_above(above, MAX_ABOVE),
+            None => Ok(None),
+        }
+    }
+
+    // The repository of the first of so many directories, from this one upwards, that has one.
+    #[tactic(auto, unfolding(crate::specs::Discovery::first_above))]
+    fn first_above(&self, folder: &str, levels: u16) -> Result<Option<Repository>, Error>
+        ensures { Finds (option_map repository_of) result
+            (first_above self.now.given.now levels folder.now) (R.answers self.now.rt.now) }
+    {
+        if levels == 0 {
+            return Ok(None);
+        }
+        if let Some(found) = self.repository_in(folder)? {
+            return Ok(Some(found));
+        }
+        match parent(folder) {
+            Some(above) => self.first_above(above, levels - 1),
+            None => Ok(None),
+        }
     }
 
     // The same by relative paths, for a current directory whose path is not UTF-8.
-    fn find_above(&self) -> Result<Option<Repository>, Error> {
-        let mut folder = String::from_str(self.rt.alloc(), ".")?;
-        for _ in 0..MAX_ABOVE {
-            let found = self.repository_in(&folder)?;
-            if found.is_some() || !go_up(self.rt, &mut folder)? {
-                return Ok(found);
-            }
+    #[tactic(auto, unfolding(crate::specs::Discovery::find_above))]
+    fn find_above(&self, folder: &str, levels: u16) -> Result<Option<Repository>, Error>
+        ensures { Finds (option_map repository_of) result
+            (find_above self.now.given.now levels folder.now) (R.answers self.now.rt.now) }
+    {
+        if levels == 0 {
+            return Ok(None);
         }
-        Ok(None)
+        if let Some(found) = self.repository_in(folder)? {
+            return Ok(Some(found));
+        }
+        let above = join(self.rt, folder, "..")?;
+        if is_highest(self.rt, folder, &above)? {
+            return Ok(None);
+        }
+        self.find_above(&above, levels - 1)
     }
 
     // The repository of a directory, if it has one: as `.git`, which is a directory or a gitfile,
     // or else as a bare repository.
-    fn repository_in(&self, folder: &str) -> Result<Option<Repository>, Error> {
+    #[tactic(auto, unfolding(crate::specs::Discovery::repository_in))]
+    fn repository_in(&self, folder: &str) -> Result<Option<Repository>, Error>
+        ensures { Finds (option_map repository_of) result
+            (repository_in self.now.given.now folder.now) (R.answers self.now.rt.now) }
+    {
         if let Some(repository) = self.repository_of_worktree(folder)? {
             return with_top(self.rt, repository, folder);
         }
@@ -136,7 +200,10 @@ impl<R: Directories + Env> Search<'_, R> {
     }
 
     // The repository that a directory has as `.git`.
-    fn repository_of_worktree(&self, folder: &str) -> Result<Option<String>, Error> {
+    fn repository_of_worktree(&self, folder: &str) -> Result<Option<String>, Error>
+        ensures { Finds (option_map string_bytes) result
+            (repository_of_worktree self.now.given.now folder.now) (R.answers self.now.rt.now) }
+    {
         let path = join(self.rt, folder, ".git")?;
         if is_file(self.rt, &path)? {
             Ok(Some(self.required(&path)?))
@@ -146,28 +213,38 @@ impl<R: Directories + Env> Search<'_, R> {
     }
 
     // The repository that is a directory, or the one that a file names.
-    fn required(&self, path: &str) -> Result<String, Error> {
-        let folder = if is_file(self.rt, path)? {
-            named_by(self.rt, path)?
-        } else {
-            String::from_str(self.rt.alloc(), path)?
-        };
+    fn required(&self, path: &str) -> Result<String, Error>
+        ensures { Finds string_bytes result (required self.now.given.now path.now)
+            (R.answers self.now.rt.now) }
+    {
+        let folder = self.folder_at(path)?;
         match self.repository_at(&folder)? {
             Some(repository) => Ok(repository),
             None => Err(Error::text(self.rt.alloc(), &folder, "not a git repository")),
         }
     }
 
+    // The directory that is there, or the one that a file names.
+    fn folder_at(&self, path: &str) -> Result<String, Error>
+        ensures { Finds string_bytes result (folder_at path.now) (R.answers self.now.rt.now) }
+    {
+        if is_file(self.rt, path)? {
+            named_by(self.rt, path)
+        } else {
+            Ok(String::from_str(self.rt.alloc(), path)?)
+        }
+    }
+
     // The repository that is a directory with `HEAD`, by the directory with its objects and
     // references; `None` if there are none. Objects that the environment names need not be there.
-    fn repository_at(&self, folder: &str) -> Result<Option<String>, Error> {
+    fn repository_at(&self, folder: &str) -> Result<Option<String>, Error>
+        ensures { Finds (option_map string_bytes) result
+            (repository_at self.now.given.now folder.now) (R.answers self.now.rt.now) }
+    {
         if !has_head(self.rt, folder)? {
             return Ok(None);
         }
-        let common = match &self.given.common {
-            Some(common) => String::from_str(self.rt.alloc(), common)?,
-            None => common_of(self.rt, folder)?,
-        };
+        let common = self.common_at(folder)?;
         if self.has_both(&common)? {
             Ok(Some(common))
         } else {
@@ -175,45 +252,69 @@ impl<R: Directories + Env> Search<'_, R> {
         }
     }
 
-    // Whether there are the objects that the environment names, or else those of a directory, and
-    // the references of the directory.
-    fn has_both(&self, folder: &str) -> Result<bool, Error> {
-        let has_objects = match &self.given.objects {
-            Some(objects) => is_folder(self.rt, objects)?,
-            None => has_folder(self.rt, folder, "objects")?,
-        };
-        Ok(has_objects && has_folder(self.rt, folder, "refs")?)
+    // The directory that the environment names as the common one, or else that of a directory.
+    fn common_at(&self, folder: &str) -> Result<String, Error>
+        ensures { Finds string_bytes result (common_at self.now.given.now folder.now)
+            (R.answers self.now.rt.now) }
+    {
+        match &self.given.common_dir {
+            Some(common) => Ok(String::from_str(self.rt.alloc(), common)?),
+            None => common_of(self.rt, folder),
+        }
     }
-}
 
-// Lets a path lead to the directory above, and returns whether it does.
-fn go_up<R: Directories>(rt: &R, folder: &mut String) -> Result<bool, AllocError> {
-    let above = join(rt, folder, "..")?;
-    if is_highest(rt, folder, &above) {
-        return Ok(false);
+    // Whether there are objects, and the references of a directory.
+    fn has_both(&self, folder: &str) -> Result<bool, Error>
+        ensures { Finds (λ has. has) result (has_both self.now.given.now folder.now)
+            (R.answers self.now.rt.now) }
+    {
+        Ok(self.has_objects(folder)? && has_folder(self.rt, folder, "refs")?)
     }
-    *folder = above;
-    Ok(true)
+
+    // Whether there are the objects that the environment names, or else those of a directory.
+    fn has_objects(&self, folder: &str) -> Result<bool, Error>
+        ensures { Finds (λ has. has) result (has_objects self.now.given.now folder.now)
+            (R.answers self.now.rt.now) }
+    {
+        match &self.given.object_directory {
+            Some(objects) => is_folder(self.rt, objects),
+            None => has_folder(self.rt, folder, "objects"),
+        }
+    }
 }
 
 // Whether no other directory above this one can be seen. The directory above the root is the root.
-fn is_highest<R: Directories>(rt: &R, folder: &str, above: &str) -> bool {
-    match (rt.look(folder), rt.look(above)) {
-        (Ok(folder), Ok(above)) => folder.state.number() == above.state.number(),
-        _ => true,
+fn is_highest<R: Directories>(rt: &R, folder: &str, above: &str) -> Result<bool, Error>
+    ensures { Finds (λ is. is) result (is_highest folder.now above.now) (R.answers rt.now) }
+{
+    Ok(number_of(rt, folder)? == number_of(rt, above)?)
+}
+
+// The number of what a path leads to.
+fn number_of<R: Directories>(rt: &R, path: &str) -> Result<FileNumber, Error>
+    ensures { Finds (λ number. number) result (number_of path.now) (R.answers rt.now) }
+{
+    match rt.look(path) {
+        Ok(found) => Ok(found.state.number()),
+        Err(error) => Err(Error::file(rt.alloc(), path, error)),
     }
 }
 
 // A repository that was found, and its top.
-fn with_top(rt: &impl AllocGlobal, folder: String, top: &str) -> Result<Option<Repository>, Error> {
+fn with_top(rt: &impl AllocGlobal, folder: String, top: &str) -> Result<Option<Repository>, Error>
+    ensures { IsFound (option_map repository_of) result
+        (Some (Some (record { folder = string_bytes folder; top = top.now }))) }
+{
     let top = String::from_str(rt.alloc(), top)?;
     Ok(Some(Repository { folder, top }))
 }
 
 // The directory that a file `.git` names.
-fn named_by<R: Directories>(rt: &R, path: &str) -> Result<String, Error> {
+fn named_by<R: Directories>(rt: &R, path: &str) -> Result<String, Error>
+    ensures { Finds string_bytes result (named_by path.now) (R.answers rt.now) }
+{
     if let Some(text) = if_there(rt, path, rt.read_text(path))?
-        && let Some(name) = text.strip_prefix("gitdir: ")
+        && let Some(name) = after_gitdir(&text)
     {
         let folder = parent(path).unwrap_or("");
         return Ok(join(rt, folder, without_line_ends(name))?);
@@ -221,8 +322,17 @@ fn named_by<R: Directories>(rt: &R, path: &str) -> Result<String, Error> {
     Err(Error::text(rt.alloc(), path, "names no directory"))
 }
 
+// What a gitfile says after its key.
+fn after_gitdir(text: &str) -> Option<&str>
+    ensures { option_copied result ≡ after_gitdir text.now }
+{
+    text.strip_prefix("gitdir: ")
+}
+
 // The directory that the file `commondir` of a worktree names, or else the directory itself.
-fn common_of<R: Directories>(rt: &R, folder: &str) -> Result<String, Error> {
+fn common_of<R: Directories>(rt: &R, folder: &str) -> Result<String, Error>
+    ensures { Finds string_bytes result (common_of folder.now) (R.answers rt.now) }
+{
     let path = join(rt, folder, "commondir")?;
     match if_there(rt, &path, rt.read_text(&path))? {
         Some(name) if name.is_empty() => Err(Error::text(rt.alloc(), &path, "empty")),
@@ -236,16 +346,39 @@ fn common_of<R: Directories>(rt: &R, folder: &str) -> Result<String, Error> {
 
 // Whether a directory has a `HEAD` of a repository: a link to a reference, which need not be there,
 // or a file that names a reference or begins with an id. A directory is none.
-fn has_head<R: Directories>(rt: &R, folder: &str) -> Result<bool, Error> {
+fn has_head<R: Directories>(rt: &R, folder: &str) -> Result<bool, Error>
+    ensures { Finds (λ has. has) result (has_head folder.now) (R.answers rt.now) }
+{
     let path = join(rt, folder, "HEAD")?;
-    if let Ok(reference) = rt.read_link(&path) {
-        return Ok(reference.as_str().starts_with("refs/"));
+    match rt.read_link(&path) {
+        Ok(reference) => Ok(reference.as_bytes().starts_with(b"refs/")),
+        Err(error) if is_no_link(&error) => has_head_file(rt, &path),
+        Err(error) => Err(Error::file(rt.alloc(), &path, error)),
     }
-    if !is_file(rt, &path)? {
+}
+
+// Whether the path of a link cannot be read because there is none.
+fn is_no_link(error: &io::Error) -> bool
+    ensures { result ≡ is_no_link (error_kind error.now) }
+{
+    is_missing(error)
+        || matches!(
+            error.kind(),
+            ErrorKind::InvalidInput | ErrorKind::InvalidFilename
+        )
+}
+
+// Whether a path leads to a file that is a `HEAD`.
+fn has_head_file<R: Directories>(rt: &R, path: &str) -> Result<bool, Error>
+    ensures { Finds (λ has. has) result (has_head_file path.now) (R.answers rt.now) }
+{
+    if !is_file(rt, path)? {
         return Ok(false);
     }
-    let text = if_there(rt, &path, rt.read(&path))?;
-    Ok(text.is_some_and(|text| is_head(&text)))
+    match if_there(rt, path, rt.read(path))? {
+        Some(text) => Ok(is_head(&text)),
+        None => Ok(false),
+    }
 }
 
 // Git reads the first 255 bytes.
@@ -294,6 +427,8 @@ fn blanks_len(text: &[u8]) -> usize
 }
 
 // A line without the line feeds and carriage returns at its end.
-fn without_line_ends(line: &str) -> &str {
+fn without_line_ends(line: &str) -> &str
+    ensures { result.now ≡ without_line_ends line.now }
+{
     line.trim_end_matches(['\n', '\r'])
 }

@@ -83,7 +83,13 @@ impl FileState {
         changed: Duration,
     ) -> FileState
         ensures { result ≡ record {
-            missing = 0; dev = dev; ino = ino; size = size; modified = modified; changed = changed } }
+          missing = 0;
+          dev = dev;
+          ino = ino;
+          size = size;
+          modified = modified;
+          changed = changed;
+        } }
     {
         FileState {
             missing: 0,
