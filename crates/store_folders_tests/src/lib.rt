@@ -1,8 +1,8 @@
 //! Tests of `store_folders`, over directories that change and reads that fail; of `repositories`,
-//! its states of directories and files, and texts of errors; and of a call of each kind of
-//! `callers`: all by public calls only. What is found, and by which configs and alternates, is
-//! tested by `tools/odd` and `tools/stores`, beside Git, and what the built program shows by
-//! `tools/stores` and `tools/live`.
+//! its states of directories and files, texts of errors, and the search for a repository where a
+//! call fails; and of a call of each kind of `callers`: all by public calls only. What else is
+//! found, and by which configs and alternates, is tested by `tools/odd` and `tools/stores`, beside
+//! Git, and what the built program shows by `tools/stores` and `tools/live`.
 #![tactic(auto)]
 
 #[cfg(test)]
@@ -14,9 +14,13 @@ mod expecting;
 #[cfg(test)]
 mod folders;
 #[cfg(test)]
+mod mem_tree;
+#[cfg(test)]
 mod moving;
 #[cfg(test)]
 mod repositories_error;
+#[cfg(test)]
+mod repositories_finding;
 #[cfg(test)]
 mod repositories_state;
 #[cfg(test)]
