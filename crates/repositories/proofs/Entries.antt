@@ -1,31 +1,29 @@
 -- A list of alternates that is read entry by entry.
-use Rattle.gix_hash.proofs.Std.{◌≡◌, ◌≢◌, true, false, arith, ℕ, ◌++◌, ◌∷◌, ◌==◌, List, [], length, refl, sym, ap, ◌∙◌, subst, append_assoc, append-nil, filter, map, not, nat_tests, map-append, filter-append}
-use Rattle.git_config.specs.Grammar.{before_nul}
-use Rattle.repositories.specs.Alternates.{HasEntry, HasEntries, NamesPaths}
+use Rattle.gix_hash.proofs.Std.{◌≡◌, ◌≤◌, ◌-◌, true, false, arith, ℕ, suc, zero, ◌++◌, ◌∷◌, ◌==◌, List, [], length, refl, sym, ap, ◌∙◌, append_assoc, append-nil, nat_tests}
+use Rattle.repositories.specs.Alternates.{first_path, first_paths, named}
 
--- from a list entries were read that name the paths, and this is left
-pub record ReadsEntries (separator : ℕ) (list : List ℕ) (paths : List (List ℕ)) (left : List ℕ) : Type 0 where
-  pub entries : List (List ℕ)
-  pub on : (more : List (List ℕ)) → HasEntries separator left more → HasEntries separator list (entries ++ more)
-  pub named : paths ≡ map before_nul (filter (λ path. not (length path == 0)) entries)
+-- all paths are these, and then those of what is left
+pub record Names (separator : ℕ) (all paths : List (List ℕ)) (left : List ℕ) : Type 0 where
+  pub most : ℕ
+  pub within : length left ≤ most
+  pub all_are : all ≡ paths ++ first_paths separator most left
 
-pub reads_entry : (separator : ℕ) (list left path rest : List ℕ) (paths : List (List ℕ)) → left ≢ [] → HasEntry separator left path rest
-    → ReadsEntries separator list paths left → ReadsEntries separator list (paths ++ map before_nul (filter (λ path. not (length path == 0)) (path ∷ []))) rest
-reads_entry separator list left path rest paths some entry reads = record {
-  entries = reads.entries ++ path ∷ [];
-  on = λ more h. subst (HasEntries separator list) (sym (append_assoc reads.entries (path ∷ []) more)) (reads.on (path ∷ more) (some, (rest, entry, h)));
-  named = ap (λ l. l ++ map before_nul (filter (λ path. not (length path == 0)) (path ∷ []))) reads.named
-      ∙ sym (map-append before_nul (filter (λ path. not (length path == 0)) reads.entries) (filter (λ path. not (length path == 0)) (path ∷ [])))
-      ∙ ap (map before_nul) (sym (filter-append (λ path. not (length path == 0)) reads.entries (path ∷ [])));
-}
+pub names_entry : (separator : ℕ) (all paths : List (List ℕ)) (left path rest : List ℕ) → false ≡ (length left == 0) → (path, rest) ≡ first_path separator left → length rest ≤ length left - 1
+    → Names separator all paths left → Names separator all (paths ++ named path) rest
+names_entry separator all paths left path rest some is fewer names = go names.most names.within names.all_are
+  where
+    go : (most : ℕ) → length left ≤ most → all ≡ paths ++ first_paths separator most left → Names separator all (paths ++ named path) rest
+    go zero within are = absurd (grind (arith, nat_tests))
+    go (suc n) within are = record {
+      most = n;
+      within = grind (arith, nat_tests);
+      all_are = are ∙ ap (λ first. paths ++ (named first.0 ++ first_paths separator n first.1)) (sym is) ∙ sym (append_assoc paths (named path) (first_paths separator n rest));
+    }
 
-pub is_empty : (list : List ℕ) → true ≡ (length list == 0) → list ≡ []
-is_empty [] h = refl
-is_empty (first ∷ rest) h = absurd (grind (arith, nat_tests))
-
-pub is_some : (list : List ℕ) → false ≡ (length list == 0) → list ≢ []
-is_some list h = λ e. absurd (let e' : length list ≡ 0 = ap length e in grind (arith, nat_tests))
-
-pub reads_all : (separator : ℕ) (list left : List ℕ) (paths : List (List ℕ)) → ReadsEntries separator (before_nul list) paths left → left ≡ [] → NamesPaths separator list paths
-reads_all separator list left paths reads none =
-    (reads.entries, subst (HasEntries separator (before_nul list)) (append-nil reads.entries) (reads.on [] none), reads.named)
+pub names_all : (separator : ℕ) (all paths : List (List ℕ)) (left : List ℕ) → true ≡ (length left == 0) → Names separator all paths left → paths ≡ all
+names_all separator all paths [] none names = sym (names.all_are ∙ ap (λ more. paths ++ more) (no_paths names.most) ∙ append-nil paths)
+  where
+    no_paths : (n : ℕ) → first_paths separator n [] ≡ []
+    no_paths zero = refl
+    no_paths (suc n) = no_paths n
+names_all separator all paths (first ∷ rest) none names = absurd (grind (arith, nat_tests))

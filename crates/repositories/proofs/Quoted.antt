@@ -1,35 +1,36 @@
 -- A quoted text that is read byte by byte.
-use Rattle.gix_hash.proofs.Std.{◌≡◌, ℕ, ◌++◌, ◌∷◌, List, [], Some, None, refl, sym, ap, ◌∙◌, subst, append_assoc, append-nil, some_pair_parts}
-use Rattle.repositories.specs.Quoting.{Means, quoted_byte}
+use Rattle.gix_hash.proofs.Std.{◌≡◌, ◌≤◌, ◌<◌, ℕ, suc, zero, ◌++◌, ◌∷◌, List, [], Option, Some, None, arith, length, option_map, refl, sym, ap, ◌∙◌, append_assoc, append-nil}
+use Rattle.repositories.specs.Quoting.{after_mark, meant, quoted_byte, unquoted}
 
--- from a text some bytes were read, and this is left: what is meant from the one is what is meant from the other
-pub record Reads (text bytes left : List ℕ) : Type 0 where
-  pub on : (more end : List ℕ) → Means left more end → Means text (bytes ++ more) end
-  pub only : (all end : List ℕ) → Means text all end → (more : List ℕ) × (all ≡ bytes ++ more) × Means left more end
+-- these bytes, and what is meant after them
+abbrev after : List ℕ → List ℕ × List ℕ → List ℕ × List ℕ
+after bytes more = (bytes ++ more.0, more.1)
 
-one_byte : (left rest : List ℕ) (byte : ℕ) → quoted_byte left ≡ Some (byte, rest) → (all end : List ℕ) → Means left all end → (more : List ℕ) × (all ≡ byte ∷ more) × Means rest more end
-one_byte left rest byte is [] end h = absurd (let none = h.1 in cc)
-one_byte left rest byte is (first ∷ more) end h =
-    let same = some_pair_parts first byte h.0 rest (sym h.1 ∙ is) in
-    (more, ap (λ b. b ∷ more) same.0, subst (λ r. Means r more end) same.1 h.2)
+-- a text means these bytes, and then what is left does
+pub record Means (text bytes left : List ℕ) : Type 0 where
+  pub most : ℕ
+  pub within : length left ≤ most
+  pub all : meant (length text) text ≡ after bytes (meant most left)
 
-pub reads_byte : (text bytes left rest : List ℕ) (byte : ℕ) → quoted_byte left ≡ Some (byte, rest) → Reads text bytes left → Reads text (bytes ++ byte ∷ []) rest
-reads_byte text bytes left rest byte is reads = record {
-  on = λ more end h. subst (λ all. Means text all end) (sym (append_assoc bytes (byte ∷ []) more)) (reads.on (byte ∷ more) end (rest, is, h));
-  only = λ all end h.
-      let m = reads.only all end h in
-      let n = one_byte left rest byte is m.0 end m.2 in
-      (n.0, m.1 ∙ ap (λ l. bytes ++ l) n.1 ∙ sym (append_assoc bytes (byte ∷ []) n.0), n.2);
-}
-
--- where no more is meant the bytes are all
-pub means_all : (text bytes left : List ℕ) → Reads text bytes left → quoted_byte left ≡ None → Means text bytes left
-means_all text bytes left reads none = subst (λ all. Means text all left) (append-nil bytes) (reads.on [] left (refl, none))
-
--- and no others are meant, up to another end
-pub means_no_other : (text bytes left all end : List ℕ) → Reads text bytes left → quoted_byte left ≡ None → Means text all end → left ≡ end
-means_no_other text bytes left all end reads none h = let m = reads.only all end h in at_end m.0 m.2
+pub means_byte : (text bytes left rest : List ℕ) (byte : ℕ) → Some (byte, rest) ≡ quoted_byte left → length rest < length left → Means text bytes left → Means text (bytes ++ byte ∷ []) rest
+means_byte text bytes left rest byte is fewer means = go means.most means.within means.all
   where
-    at_end : (more : List ℕ) → Means left more end → left ≡ end
-    at_end [] m = m.0
-    at_end (byte ∷ more) m = absurd (let some = m.1 in cc)
+    next : (n : ℕ) → meant (suc n) left ≡ after (byte ∷ []) (meant n rest)
+    next n = rw (sym is, meant)
+
+    go : (most : ℕ) → length left ≤ most → meant (length text) text ≡ after bytes (meant most left) → Means text (bytes ++ byte ∷ []) rest
+    go zero within all = absurd (omega arith)
+    go (suc n) within all = record {
+      most = n;
+      within = omega arith;
+      all = all ∙ ap (after bytes) (next n) ∙ ap (λ bytes. (bytes, (meant n rest).1)) (sym (append_assoc bytes (byte ∷ []) (meant n rest).0));
+    }
+
+-- where no more is meant the bytes are all, and here is what is after a closing mark
+pub means_all : (text bytes left : List ℕ) (closed : Option (List ℕ)) → None ≡ quoted_byte left → closed ≡ after_mark left → Means text bytes left → option_map (λ rest. (bytes, rest)) closed ≡ unquoted text
+means_all text bytes left closed none is means =
+    ap (option_map (λ rest. (bytes, rest))) is ∙ ap (λ all. option_map (λ rest. (all.0, rest)) (after_mark all.1)) (sym (means.all ∙ ap (after bytes) (end means.most) ∙ ap (λ bytes. (bytes, left)) (append-nil bytes)))
+  where
+    end : (most : ℕ) → ◌≡◌ {A = List ℕ × List ℕ} (meant most left) ([], left)
+    end zero = refl
+    end (suc n) = rw (sym none, meant)

@@ -1,33 +1,30 @@
 -- The paths that a list of alternates names.
-use Rattle.std.specs.Prelude.{◌≡◌, ◌≢◌, ◌⊎◌, ℕ, Bool, false, List, [], ◌∷◌, ◌==◌, not, drop, filter, length, map, if◌then◌else◌}
+use Rattle.std.specs.Prelude.{ℕ, suc, zero, Bool, false, Some, None, List, [], ◌∷◌, ◌++◌, ◌==◌, drop, length, if◌then◌else◌, option_and_then}
 use Rattle.std.specs.List.{after_first, before_first}
 use Rattle.git_config.specs.Grammar.{before_nul}
-use Rattle.repositories.specs.Quoting.{IsQuoted}
+use Rattle.repositories.specs.Quoting.{after_mark, unquoted}
 
 -- whether a line is a comment, which begins with #
 abbrev pub is_comment : List ℕ → Bool
 is_comment [] = false
 is_comment (first ∷ rest) = first == 35
 
--- the list begins with a quoted path, and this is its rest: after the path one byte is skipped, mostly the separator
-abbrev pub HasQuotedPath : List ℕ → List ℕ → List ℕ → Type 0
-HasQuotedPath list path rest = (after : List ℕ) × IsQuoted list path after × (rest ≡ drop 1 after)
+-- the path of the first entry of a list, and the rest: after a quoted path one byte is skipped, mostly the separator. What is not quoted right is a line, and a comment has the empty path
+abbrev pub first_path : ℕ → List ℕ → List ℕ × List ℕ
+first_path separator list = elim (option_and_then unquoted (after_mark list)) [
+  | Some found ↦ (found.0, drop 1 found.1)
+  | None ↦ let line = before_first (λ byte. byte == separator) list in ((if is_comment line then [] else line), after_first (λ byte. byte == separator) list)
+]
 
--- the list begins with a line of this path, or of a comment, which has the empty path, and this is its rest
-abbrev pub HasUnquotedPath : ℕ → List ℕ → List ℕ → List ℕ → Type 0
-HasUnquotedPath separator list path rest =
-    let line = before_first (λ byte. byte == separator) list in
-    (path ≡ (if is_comment line then [] else line)) × (rest ≡ after_first (λ byte. byte == separator) list)
+-- what an entry of a path names: nothing if the path is empty, or else the path up to its first NUL
+abbrev pub named : List ℕ → List (List ℕ)
+named path = if length path == 0 then [] else before_nul path ∷ []
 
--- the list begins with an entry of this path, and this is its rest. What is not quoted right is a line
-abbrev pub HasEntry : ℕ → List ℕ → List ℕ → List ℕ → Type 0
-HasEntry separator list path rest = HasQuotedPath list path rest ⊎ (((quoted after : List ℕ) → ¬ IsQuoted list quoted after) × HasUnquotedPath separator list path rest)
+-- the paths that so many entries name
+abbrev pub first_paths : ℕ → ℕ → List ℕ → List (List ℕ)
+first_paths separator zero list = []
+first_paths separator (suc n) list = let first = first_path separator list in named first.0 ++ first_paths separator n first.1
 
--- the list is entries of these paths
-abbrev pub HasEntries : ℕ → List ℕ → List (List ℕ) → Type 0
-HasEntries separator list [] = list ≡ []
-HasEntries separator list (path ∷ paths) = (list ≢ []) × ((rest : List ℕ) × HasEntry separator list path rest × HasEntries separator rest paths)
-
--- the list names these paths: its entries up to a NUL that ends the list, but no empty ones, each up to a NUL of its own
-abbrev pub NamesPaths : ℕ → List ℕ → List (List ℕ) → Type 0
-NamesPaths separator list paths = (entries : List (List ℕ)) × HasEntries separator (before_nul list) entries × (paths ≡ map before_nul (filter (λ path. not (length path == 0)) entries))
+-- the paths that a list names, up to its first NUL. An entry has a byte or more, so there are no more entries than bytes
+abbrev pub paths_named : ℕ → List ℕ → List (List ℕ)
+paths_named separator list = first_paths separator (length list) (before_nul list)

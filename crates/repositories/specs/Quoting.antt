@@ -1,5 +1,5 @@
 -- Texts that Git quotes as C does.
-use Rattle.std.specs.Prelude.{◌≡◌, ℕ, ◌+◌, ◌-◌, ◌*◌, ◌&&◌, Bool, ◌==◌, nat_le, if◌then◌else◌, Option, Some, None, List, [], ◌∷◌, option_map}
+use Rattle.std.specs.Prelude.{ℕ, suc, zero, ◌+◌, ◌-◌, ◌*◌, ◌&&◌, Bool, ◌==◌, nat_le, if◌then◌else◌, Option, Some, None, List, [], ◌∷◌, length, option_map}
 
 -- the byte that a letter after a backslash means
 abbrev pub unescaped : ℕ → Option ℕ
@@ -36,11 +36,19 @@ abbrev pub quoted_byte : List ℕ → Option (ℕ × List ℕ)
 quoted_byte [] = None
 quoted_byte (byte ∷ rest) = if byte == 34 then None else if byte == 92 then unescaped_byte rest else Some (byte, rest)
 
--- a quoted text means the bytes, up to where no more is meant
-abbrev pub Means : List ℕ → List ℕ → List ℕ → Type 0
-Means text [] end = (text ≡ end) × (quoted_byte text ≡ None)
-Means text (byte ∷ bytes) end = (rest : List ℕ) × (quoted_byte text ≡ Some (byte, rest)) × Means rest bytes end
+-- the bytes that the front of a quoted text means, so many at most, and the rest of the text
+abbrev pub meant : ℕ → List ℕ → List ℕ × List ℕ
+meant zero text = ([], text)
+meant (suc n) text = elim (quoted_byte text) [
+  | Some next ↦ let more = meant n next.1 in (next.0 ∷ more.0, more.1)
+  | None ↦ ([], text)
+]
 
--- the text begins with a quotation mark, what means the bytes, and the closing mark
-abbrev pub IsQuoted : List ℕ → List ℕ → List ℕ → Type 0
-IsQuoted text bytes rest = (quoted : List ℕ) × (text ≡ 34 ∷ quoted) × Means quoted bytes (34 ∷ rest)
+-- what is after a quotation mark, if a text begins with one
+abbrev pub after_mark : List ℕ → Option (List ℕ)
+after_mark [] = None
+after_mark (first ∷ rest) = if first == 34 then Some rest else None
+
+-- what a text means after a quotation mark, and what is after the closing one; or none if it is not quoted right
+abbrev pub unquoted : List ℕ → Option (List ℕ × List ℕ)
+unquoted text = let all = meant (length text) text in option_map (λ rest. (all.0, rest)) (after_mark all.1)

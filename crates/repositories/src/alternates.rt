@@ -1,10 +1,10 @@
 //! Lists of alternates: other object directories, whose objects a repository borrows.
 
-ghost use Rattle.std.specs.Prelude.{◌≡◌, ◌≢◌, ◌==◌, ◌-◌, ◌<◌, ◌≤◌, [], ◌∷◌, ◌++◌, ℕ, List, OnOk, not, filter, IfOk, IfSome, MatchOption, drop, length, map, position, option_map};
+ghost use Rattle.std.specs.Prelude.{◌≡◌, ◌==◌, ◌-◌, ◌<◌, ◌≤◌, ◌++◌, IfOk, IfSome, OnOk, drop, length, map, option_map, position};
 ghost use Rattle.std.specs.List.{after_first, before_first};
-ghost use Rattle.git_config.specs.Grammar.{before_nul};
-ghost use Rattle.repositories.specs.Alternates.{HasEntry, NamesPaths, is_comment};
-ghost use Rattle.repositories.specs.Quoting.{Means, unescaped, unescaped_byte, quoted_byte};
+ghost use Rattle.std.specs.Option.{option_copied};
+ghost use Rattle.repositories.specs.Alternates.{first_path, is_comment, named, paths_named};
+ghost use Rattle.repositories.specs.Quoting.{after_mark, quoted_byte, unescaped, unescaped_byte, unquoted};
 
 use std::alloc::{AllocError, Allocator};
 
@@ -29,8 +29,8 @@ pub fn alternate_paths<A: Allocator + Copy>(
     list: &[u8],
     separator: u8,
 ) -> Result<Vec<Vec<u8, A>, A>, AllocError>
-    ensures { IfOk result (λ paths. NamesPaths separator list.now
-        (map (λ path. path.items) paths.items)) }
+    ensures { IfOk result (λ paths. map (λ path. path.items) paths.items
+        ≡ paths_named separator list.now) }
 {
     let mut paths = Vec::new(alloc);
     let (mut left, _) = split_line(list, 0);
@@ -48,8 +48,7 @@ fn push_path<A: Allocator>(
     mut path: Vec<u8, A>,
 ) -> Result<(), AllocError>
     ensures { OnOk result (map (λ path. path.items) paths.new.items
-        ≡ map (λ path. path.items) paths.old.items
-        ++ map before_nul (filter (λ path. not (length path == 0)) (path.items ∷ []))) }
+        ≡ map (λ path. path.items) paths.old.items ++ named path.items) }
 {
     if !path.is_empty() {
         if let Some(at) = position_of(&path, 0) {
@@ -68,7 +67,7 @@ fn first_path<A: Allocator + Copy>(
 ) -> Result<(Vec<u8, A>, &[u8]), AllocError>
     ensures fewer { IfOk result (λ first. length first.1.now ≤ length list.now - 1) }
     ensures entry { IfOk result (λ first.
-        HasEntry separator list.now first.0.items first.1.now) }
+        (first.0.items, first.1.now) ≡ first_path separator list.now) }
 {
     if let Some(quoted) = after_mark(list)
         && let Some((path, rest)) = unquote(alloc, quoted)?
@@ -102,8 +101,7 @@ fn after_one(text: &[u8]) -> &[u8]
 
 // The rest of a text after a quotation mark, if it begins with one.
 fn after_mark(text: &[u8]) -> Option<&[u8]>
-    ensures { MatchOption result ((rest : List ℕ) → text.now ≢ 34 ∷ rest)
-        (λ rest. text.now ≡ 34 ∷ rest.now) }
+    ensures { option_copied result ≡ after_mark text.now }
 {
     match text {
         [b'"', rest @ ..] => Some(rest),
@@ -116,9 +114,8 @@ fn after_mark(text: &[u8]) -> Option<&[u8]>
 fn unquote<A: Allocator>(alloc: A, quoted: &[u8]) -> Result<Option<(Vec<u8, A>, &[u8])>, AllocError>
     ensures fewer { IfOk result (λ found.
         IfSome found (λ path. length path.1.now ≤ length quoted.now)) }
-    ensures means { IfOk result (λ found. MatchOption found
-        ((bytes rest : List ℕ) → ¬ Means quoted.now bytes (34 ∷ rest))
-        (λ path. Means quoted.now path.0.items (34 ∷ path.1.now))) }
+    ensures means { IfOk result (λ found.
+        option_map (λ path. (path.0.items, path.1.now)) found ≡ unquoted quoted.now) }
 {
     let mut bytes = Vec::new(alloc);
     let mut left = quoted;
