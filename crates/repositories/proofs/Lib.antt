@@ -3,3 +3,4 @@ mod LineEnds
 mod LoosePaths
 mod Quoted
 mod Settings
+mod Visits

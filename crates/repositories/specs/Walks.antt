@@ -1,28 +1,117 @@
--- A walk over an object directory and its alternates.
-use Rattle.std.specs.Prelude.{◌≡◌, ◌++◌, ◌∷◌, ◌&&◌, ◌==◌, [], Bool, List, None, Ok, Result, Some, String, bytes_eq, string_bytes, true}
+-- An object directory and its alternates, as Git links them (object-file.c): by what directories and files answer.
+use Rattle.std.specs.Prelude.{ℕ, zero, suc, ◌++◌, ◌∷◌, ◌&&◌, ◌+◌, ◌==◌, [], Bool, Err, List, None, Ok, Option, Result, Some, bytes_eq, codes, if◌then◌else◌, length, map, option_map, String, string_bytes, unwrap_or}
 use Rattle.std.specs.Cmp.Lexicographic.{pointwise}
 use Rattle.std.specs.Global.{Global}
 use Rattle.std.specs.List.{list_any}
-use Rattle.std.specs.declared.io.Error.{Error}
+use Rattle.std.specs.Path.{path_join}
+use Rattle.std.specs.Str.{is_utf8}
+use Rattle.std.specs.declared.io.ErrorKind.{ErrorKind}
 use Rattle.std.specs.declared.time.Duration.{Duration}
+use Rattle.repositories.specs.Alternates.{paths_named}
+use Rattle.repositories.specs.Answers.{◌>>=◌, Answers}
+use Rattle.repositories.specs.Lookups.{answered, if_there, real_folder}
 use Rattle.repositories.specs.declared.files.FileNumber.{FileNumber}
-use Rattle.repositories.specs.declared.files.RealFolder.{RealFolder}
+use Rattle.repositories.specs.declared.folders.Folders.{Folders}
+use Rattle.repositories.specs.declared.folders.Walk.{Walk as AWalk}
 use Rattle.repositories.specs.declared.state.FileState.{FileState}
 
--- whether a directory is among those that were found: by its number if it has one, or else by its path
-abbrev pub is_found : List (String Global) → List FileNumber → RealFolder → Bool
-is_found paths numbers folder = elim folder.number [
-  | Some number ↦ list_any (λ other. other.dev == number.dev && other.ino == number.ino) numbers
-  | None ↦ list_any (λ path. bytes_eq (string_bytes path) (string_bytes folder.path)) paths
-]
+-- a walk as far as it has come: the paths of the directories, the numbers of those whose absolute paths are not UTF-8, and how many paths were skipped
+pub record Walk : Type 0 where
+  pub paths : List (List ℕ)
+  pub numbers : List FileNumber
+  pub skipped : ℕ
 
--- what a path leads to is a directory that is among those that were found
-abbrev pub WasFound : List (String Global) → List FileNumber → Result RealFolder Error → Type 0
-WasFound paths numbers real = (folder : RealFolder) × (real ≡ Ok folder) × (is_found paths numbers folder ≡ true)
+-- whether a directory is there already: by its number if it has one, or else by its path
+abbrev pub has : List ℕ × Option FileNumber → Walk → Bool
+has (path, Some number) walk = list_any (λ other. other.dev == number.dev && other.ino == number.ino) walk.numbers
+has (path, None) walk = list_any (λ other. bytes_eq other path) walk.paths
 
 -- the numbers with that of a directory, if it has one
-abbrev pub numbers_with : List FileNumber → RealFolder → List FileNumber
-numbers_with numbers folder = elim folder.number [ Some number ↦ numbers ++ number ∷ [] | None ↦ numbers ]
+abbrev pub numbers_with : List FileNumber → Option FileNumber → List FileNumber
+numbers_with numbers None = numbers
+numbers_with numbers (Some number) = numbers ++ number ∷ []
+
+-- the walk with a directory
+abbrev pub with_folder : List ℕ × Option FileNumber → Walk → Walk
+with_folder real walk = record { paths = walk.paths ++ real.0 ∷ []; numbers = numbers_with walk.numbers real.1; skipped = walk.skipped }
+
+-- the walk with a path that is skipped
+abbrev pub skip : Walk → Walk
+skip walk = record { paths = walk.paths; numbers = walk.numbers; skipped = walk.skipped + 1 }
+
+-- the state of what a path leads to, or none if there is nothing
+abbrev pub state_at : List ℕ → Answers → Option (Option FileState)
+state_at path at = if_there (at.look path) >>= λ found. Some (option_map (λ found. found.state) found)
+
+-- the text of a list of alternates, which is empty if there is none
+abbrev pub text_at : List ℕ → Answers → Option (List ℕ)
+text_at list at = state_at list at >>= λ state. elim state [
+  | None ↦ Some []
+  | Some state ↦ if_there (at.bytes list) >>= λ text. Some (unwrap_or text [])
+]
+
+-- a walk, and the paths of a list so far, with one more path: it is relative to the directory of the list. An empty one is that directory, and one that is not UTF-8 is skipped
+abbrev pub with_path : List ℕ → List ℕ → Walk × List (List ℕ) → Walk × List (List ℕ)
+with_path folder path found =
+    if length path == 0 then found else
+    if is_utf8 path then (found.0, found.1 ++ path_join folder path ∷ []) else (skip found.0, found.1)
+
+-- the same with some paths
+abbrev pub with_paths : List ℕ → List (List ℕ) → Walk × List (List ℕ) → Walk × List (List ℕ)
+with_paths folder [] found = found
+with_paths folder (path ∷ paths) found = with_paths folder paths (with_path folder path found)
+
+-- the paths in the list of alternates of a directory, and the walk with those of them that are skipped
+abbrev pub list_at : List ℕ → Walk → Answers → Option (Walk × List (List ℕ))
+list_at folder walk at = text_at (path_join folder (codes "info/alternates")) at >>= λ text. Some (with_paths folder (paths_named 10 text) (walk, []))
+
+-- the walk with a directory, and the paths in its list; but none of them if it is there already, or if it is skipped, since it cannot be read or no level is left
+abbrev pub visited : ℕ → Result (List ℕ × Option FileNumber) ErrorKind → Walk → Answers → Option (Walk × List (List ℕ))
+visited levels (Err kind) walk at = Some (skip walk, [])
+visited levels (Ok real) walk at =
+    if has real walk then Some (walk, []) else if levels == 0 then Some (skip walk, [])
+    else (list_at real.0 walk at >>= λ found. Some (with_folder real found.0, found.1))
+
+-- the same of the directory that a path leads to
+abbrev pub visit : ℕ → List ℕ → Walk → Answers → Option (Walk × List (List ℕ))
+visit levels path walk at = visited levels (real_folder path at) walk at
+
+-- the walk after visits of some paths, one after the other
+abbrev pub each : (List ℕ → Walk → Answers → Option Walk) → List (List ℕ) → Walk → Answers → Option Walk
+each visit [] walk at = Some walk
+each visit (path ∷ paths) walk at = visit path walk at >>= λ walk. each visit paths walk at
+
+-- the walk with the directory that a path leads to, and its alternates: so many levels together
+unfoldable pub visit_below : ℕ → List ℕ → Walk → Answers → Option Walk
+visit_below zero path walk at = visit 0 path walk at >>= λ found. Some found.0
+visit_below (suc levels) path walk at = visit (suc levels) path walk at >>= λ found. each (visit_below levels) found.1 found.0 at
+
+-- the same with some paths
+abbrev pub visit_all : ℕ → List (List ℕ) → Walk → Answers → Option Walk
+visit_all levels = each (visit_below levels)
+
+-- an object directory, its alternates that the environment gives, and those of its list, each with its alternates, which are nested up to 5 times
+abbrev pub walk_from : List ℕ × Option FileNumber → List (List ℕ) → Walk → Answers → Option Walk
+walk_from real given walk at =
+    visit_all 6 given (with_folder real walk) at >>= λ walk. list_at real.0 walk at >>= λ found. visit_all 6 found.1 found.0 at
+
+-- some paths, the first of which becomes this one
+abbrev pub with_first : List ℕ → List (List ℕ) → List (List ℕ)
+with_first path [] = []
+with_first path (first ∷ rest) = path ∷ rest
+
+-- the paths of an object directory and its alternates, and how many are skipped. The directory has the path that was given
+abbrev pub with_alternates : List ℕ → List (List ℕ) → Answers → Option (List (List ℕ) × ℕ)
+with_alternates objects given at = answered (real_folder objects at) >>= λ real.
+    walk_from real given (record { paths = []; numbers = []; skipped = 0 }) at >>= λ walk. Some (with_first objects walk.paths, walk.skipped)
+
+-- a walk of the code in these definitions
+abbrev pub walk_of : AWalk → Walk
+walk_of walk = record { paths = map string_bytes walk.found.paths.items; numbers = walk.numbers.items; skipped = length walk.found.skipped.items }
+
+-- the paths that a walk found, and how many were skipped
+abbrev pub folders_of : Folders → List (List ℕ) × ℕ
+folders_of folders = (map string_bytes folders.paths.items, length folders.skipped.items)
 
 -- whether paths are the same, one by one
 abbrev pub are_same_paths : List (String Global) → List (String Global) → Bool

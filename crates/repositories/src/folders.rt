@@ -1,8 +1,12 @@
 //! An object directory and its alternates.
 
-ghost use Rattle.std.specs.Prelude.{◌≡◌, ◌⊎◌, ◌++◌, ◌∷◌, ◌+◌, ◌&&◌, [], IfOk, IsSome, None, OnOk, codes, string_bytes, vec_len};
+ghost use Rattle.std.specs.Prelude.{◌≡◌, ◌≢◌, ◌&&◌, [], IfOk, OnOk, Some, codes, map, string_bytes};
+ghost use Rattle.std.specs.IoError.{error_kind};
 ghost use Rattle.std.specs.Path.{path_join};
-ghost use Rattle.repositories.specs.Walks.{WasFound, are_same_paths, are_same_states, is_found, numbers_with};
+ghost use Rattle.std.specs.declared.io.ErrorKind.{ErrorKind};
+ghost use Rattle.repositories.specs.Answers.{IfKnown};
+ghost use Rattle.repositories.specs.Views.{folder_of};
+ghost use Rattle.repositories.specs.Walks.{are_same_paths, are_same_states, folders_of, has, list_at, skip, text_at, visit, visit_all, walk_from, walk_of, with_alternates, with_first, with_folder, with_path, with_paths};
 
 use crate::alternates::alternate_paths;
 use crate::directories::Directories;
@@ -79,10 +83,13 @@ impl Folders {
 ///     println!(rt; "{path}")?;
 /// }
 /// ```
-pub fn with_alternates<R: Directories>(rt: &R, objects: &ObjectsFolder) -> Result<Folders, Error> {
+pub fn with_alternates<R: Directories>(rt: &R, objects: &ObjectsFolder) -> Result<Folders, Error>
+    ensures { IfOk result (λ folders. IfKnown (λ at. with_alternates
+        (string_bytes objects.now.path) (map string_bytes objects.now.alternates.items) at
+        ≡ Some (folders_of folders)) (R.answers rt.now)) }
+{
     let real = existing_folder(rt, &objects.path)?;
     let mut walk = Walk {
-        rt,
         found: Folders {
             paths: Vec::new(rt.alloc()),
             states: Vec::new(rt.alloc()),
@@ -90,160 +97,230 @@ pub fn with_alternates<R: Directories>(rt: &R, objects: &ObjectsFolder) -> Resul
         },
         numbers: Vec::new(rt.alloc()),
     };
-    walk.push_with_alternates(real, &objects.alternates)?;
+    walk.walk_from(rt, real, &objects.alternates)?;
     let mut found = walk.found;
     // Errors show the path as it was given.
-    if let Some(first) = found.paths.first_mut() {
-        *first = objects.path.clone()?;
-    }
+    put_first(&mut found.paths, objects.path.clone()?);
     Ok(found)
+}
+
+// Puts a path in the place of the first one, if there is one.
+fn put_first(paths: &mut Vec<String>, path: String)
+    ensures { map string_bytes paths.new.items
+        ≡ with_first (string_bytes path) (map string_bytes paths.old.items) }
+{
+    if let Some(first) = paths.first_mut() {
+        *first = path;
+    }
 }
 
 // A walk over directories and their alternates.
 #[derive(Drop)]
-struct Walk<'a, R> {
-    rt: &'a R,
+struct Walk {
     found: Folders,
     // The numbers of those whose absolute paths are not UTF-8.
     numbers: Vec<FileNumber>,
 }
 
-impl<R: Directories> Walk<'_, R> {
+impl Walk {
     // Adds an object directory, the alternates of the environment, and those of its list.
-    fn push_with_alternates(&mut self, real: RealFolder, given: &[String]) -> Result<(), Error> {
+    fn walk_from<R: Directories>(
+        &mut self,
+        rt: &R,
+        real: RealFolder,
+        given: &[String],
+    ) -> Result<(), Error>
+        ensures { OnOk result (IfKnown (λ at. walk_from (folder_of real)
+            (map string_bytes given.now) (walk_of self.old) at ≡ Some (walk_of self.new))
+            (R.answers rt.now)) }
+    {
         let path = real.path.clone()?;
         self.push(real)?;
-        self.push_folders(given, LEVELS)?;
-        let alternates = self.alternates_of(&path)?;
-        self.push_folders(&alternates, LEVELS)
+        self.visit_all(rt, given, LEVELS)?;
+        let alternates = self.list_at(rt, &path)?;
+        self.visit_all(rt, &alternates, LEVELS)
     }
 
     // Adds a directory.
-    fn push(&mut self, folder: RealFolder) -> Result<(), AllocError>
-        ensures paths { OnOk result (self.new.found.paths.items
-            ≡ self.old.found.paths.items ++ folder.path ∷ []) }
-        ensures numbers { OnOk result (self.new.numbers.items
-            ≡ numbers_with self.old.numbers.items folder) }
-        ensures skipped { OnOk result (self.new.found.skipped ≡ self.old.found.skipped) }
+    fn push(&mut self, real: RealFolder) -> Result<(), AllocError>
+        ensures { OnOk result (walk_of self.new ≡ with_folder (folder_of real) (walk_of self.old)) }
     {
-        if let Some(number) = folder.number {
+        if let Some(number) = real.number {
             self.numbers.push(number)?;
         }
-        self.found.paths.push(folder.path)?;
+        self.found.paths.push(real.path)?;
+        Ok(())
+    }
+
+    // Adds why a path is skipped. The error is that memory ran out for it.
+    fn skip(&mut self, why: Error) -> Result<(), Error>
+        ensures { OnOk result (walk_of self.new ≡ skip (walk_of self.old)) }
+    {
+        if let Error::Memory(error) = why {
+            return Err(Error::Memory(error));
+        }
+        self.found.skipped.push(why)?;
         Ok(())
     }
 
     // Whether a directory is there already.
-    fn has(&self, folder: &RealFolder) -> bool
-        ensures { result ≡ is_found self.now.found.paths.items self.now.numbers.items folder.now }
+    fn has(&self, real: &RealFolder) -> bool
+        ensures { result ≡ has (folder_of real.now) (walk_of self.now) }
     {
-        match folder.number {
+        match real.number {
             Some(number) => self.numbers.contains(&number),
-            None => self.found.paths.contains(&folder.path),
+            None => self.found.paths.contains(&real.path),
         }
     }
 
     // Adds directories and their alternates, `levels` levels together.
-    fn push_folders(&mut self, paths: &[String], levels: u8) -> Result<(), Error> {
+    fn visit_all<R: Directories>(
+        &mut self,
+        rt: &R,
+        paths: &[String],
+        levels: u8,
+    ) -> Result<(), Error>
+        ensures { OnOk result (IfKnown (λ at. visit_all levels (map string_bytes paths.now)
+            (walk_of self.old) at ≡ Some (walk_of self.new)) (R.answers rt.now)) }
+    {
         for path in paths {
-            if let Some(alternates) = self.push_folder(path, levels)?
-                && levels > 0
-            {
-                self.push_folders(&alternates, levels - 1)?;
+            let alternates = self.visit(rt, path, levels)?;
+            if levels > 0 {
+                self.visit_all(rt, &alternates, levels - 1)?;
             }
         }
         Ok(())
     }
 
-    // Adds a directory, and returns its alternates. Returns none if it is there already, or is
-    // skipped: it cannot be read, or no level is left.
-    fn push_folder(&mut self, path: &str, levels: u8) -> Result<Option<Vec<String>>, Error> {
-        self.push_real(path, real_folder(self.rt, path), levels)
-    }
-
-    // The same of what a path leads to.
-    fn push_real(
+    // Adds a directory, and returns the paths in its list. Returns none if it is there already, or
+    // is skipped: it cannot be read, or no level is left.
+    fn visit<R: Directories>(
         &mut self,
+        rt: &R,
         path: &str,
-        real: io::Result<RealFolder>,
         levels: u8,
-    ) -> Result<Option<Vec<String>>, Error>
-        ensures none { IfOk result (λ list. list ≡ None
-            → WasFound self.old.found.paths.items self.old.numbers.items real
-            ⊎ (vec_len self.new.found.skipped ≡ vec_len self.old.found.skipped + 1)) }
-        ensures kept { IfOk result (λ list. list ≡ None
-            → self.new.found.paths.items ≡ self.old.found.paths.items) }
-        ensures pushed { IfOk result (λ list. IsSome list → IfOk real (λ folder.
-            self.new.found.paths.items ≡ self.old.found.paths.items ++ folder.path ∷ [])) }
+    ) -> Result<Vec<String>, Error>
+        ensures { IfOk result (λ paths. IfKnown (λ at. visit levels path.now (walk_of self.old) at
+            ≡ Some (walk_of self.new, map string_bytes paths.items)) (R.answers rt.now)) }
     {
-        match real {
-            Ok(real) if self.has(&real) => Ok(None),
+        match real_folder(rt, path) {
+            Ok(real) if self.has(&real) => Ok(Vec::new(rt.alloc())),
             Ok(_) if levels == 0 => {
-                let error = Error::text(self.rt.alloc(), path, "nested more than 5 deep");
-                self.found.skipped.push(error)?;
-                Ok(None)
+                self.skip(Error::text(rt.alloc(), path, "nested more than 5 deep"))?;
+                Ok(Vec::new(rt.alloc()))
             }
             Ok(real) => {
-                let alternates = self.alternates_of(&real.path)?;
+                let alternates = self.list_at(rt, &real.path)?;
                 self.push(real)?;
-                Ok(Some(alternates))
-            }
-            Err(_) if path.is_empty() => {
-                let error = Error::text(self.rt.alloc(), ALTERNATES, "a path begins with a NUL");
-                self.found.skipped.push(error)?;
-                Ok(None)
+                Ok(alternates)
             }
             Err(error) => {
-                self.found.skipped.push(unusable(self.rt, path, error)?)?;
-                if let Ok(state) = FileState::of(self.rt, path) {
-                    self.found.states.push(state)?;
-                }
-                Ok(None)
+                self.skip_unusable(rt, path, error)?;
+                Ok(Vec::new(rt.alloc()))
             }
         }
     }
 
-    // The paths in the list of alternates of a directory. Those that are not UTF-8 are skipped.
-    fn alternates_of(&mut self, folder: &str) -> Result<Vec<String>, Error>
-        ensures paths { self.new.found.paths.items ≡ self.old.found.paths.items }
+    // Skips an alternate that is no directory, or cannot be read, unless memory ran out.
+    fn skip_unusable<R: Directories>(
+        &mut self,
+        rt: &R,
+        path: &str,
+        error: io::Error,
+    ) -> Result<(), Error>
+        ensures skipped { OnOk result (walk_of self.new ≡ skip (walk_of self.old)) }
+        ensures memory { OnOk result (error_kind error ≢ ErrorKind.OutOfMemory) }
     {
-        let mut paths = Vec::new(self.rt.alloc());
-        let list = list_path(self.rt, folder)?;
-        for path in &alternate_paths(self.rt.alloc(), &self.list_of(&list)?, b'\n')? {
-            // (An empty one is the directory itself.)
-            if !path.is_empty() && !push_path(self.rt, folder, path, &mut paths)? {
-                let error = Error::text(self.rt.alloc(), &list, "a path is not UTF-8");
-                self.found.skipped.push(error)?;
-            }
+        if error.kind() == io::ErrorKind::OutOfMemory {
+            return Err(Error::Memory(AllocError));
+        }
+        if path.is_empty() {
+            return self.skip(Error::text(rt.alloc(), ALTERNATES, "a path begins with a NUL"));
+        }
+        self.skip(unusable(rt, path, error))?;
+        if let Ok(state) = FileState::of(rt, path) {
+            self.found.states.push(state)?;
+        }
+        Ok(())
+    }
+
+    // The paths in the list of alternates of a directory. Those that are not UTF-8 are skipped.
+    fn list_at<R: Directories>(&mut self, rt: &R, folder: &str) -> Result<Vec<String>, Error>
+        ensures { IfOk result (λ paths. IfKnown (λ at. list_at folder.now (walk_of self.old) at
+            ≡ Some (walk_of self.new, map string_bytes paths.items)) (R.answers rt.now)) }
+    {
+        let list = list_path(rt, folder)?;
+        let text = self.text_at(rt, &list)?;
+        let named = alternate_paths(rt.alloc(), &text, b'\n')?;
+        self.read_paths(rt, folder, &named)
+    }
+
+    // Those of the paths that the list of a directory names.
+    fn read_paths(
+        &mut self,
+        rt: &impl AllocGlobal,
+        folder: &str,
+        named: &[Vec<u8>],
+    ) -> Result<Vec<String>, Error>
+        ensures { IfOk result (λ paths. (walk_of self.new, map string_bytes paths.items)
+            ≡ with_paths folder.now (map (λ path. path.items) named.now) (walk_of self.old, [])) }
+    {
+        let mut paths = Vec::new(rt.alloc());
+        for path in named {
+            self.read_path(rt, folder, path, &mut paths)?;
         }
         Ok(paths)
     }
 
-    // The text of a list of alternates, which is empty if there is none.
-    fn list_of(&mut self, list: &str) -> Result<Vec<u8>, Error>
-        ensures paths { self.new.found.paths.items ≡ self.old.found.paths.items }
+    // Adds a path of the list of a directory to others. An empty one is the directory itself.
+    fn read_path(
+        &mut self,
+        rt: &impl AllocGlobal,
+        folder: &str,
+        path: &[u8],
+        paths: &mut Vec<String>,
+    ) -> Result<(), Error>
+        ensures { OnOk result ((walk_of self.new, map string_bytes paths.new.items)
+            ≡ with_path folder.now path.now (walk_of self.old, map string_bytes paths.old.items)) }
     {
-        let state = list_state(self.rt, list)?;
-        self.found.states.push(state)?;
-        if state.is_missing() {
-            return Ok(Vec::new(self.rt.alloc()));
+        if path.is_empty() {
+            return Ok(());
         }
-        let text = if_there(self.rt, list, self.rt.read(list))?;
-        Ok(text.unwrap_or(Vec::new(self.rt.alloc())))
+        if push_path(rt, folder, path, paths)? {
+            return Ok(());
+        }
+        let list = list_path(rt, folder)?;
+        self.skip(Error::text(rt.alloc(), &list, "a path is not UTF-8"))
+    }
+
+    // The text of a list of alternates, which is empty if there is none.
+    fn text_at<R: Directories>(&mut self, rt: &R, list: &str) -> Result<Vec<u8>, Error>
+        ensures same { walk_of self.new ≡ walk_of self.old }
+        ensures text { IfOk result (λ text. IfKnown (λ at. text_at list.now at
+            ≡ Some text.items) (R.answers rt.now)) }
+    {
+        let found = FileState::if_there(rt, list);
+        let Some(state) = found.map_err(|error| Error::file(rt.alloc(), list, error))? else {
+            let missing = FileState::of_missing(rt, list);
+            let state = missing.map_err(|error| Error::file(rt.alloc(), list, error))?;
+            self.found.states.push(state)?;
+            return Ok(Vec::new(rt.alloc()));
+        };
+        self.found.states.push(state)?;
+        match if_there(rt, list, rt.read(list))? {
+            Some(text) => Ok(text),
+            None => Ok(Vec::new(rt.alloc())),
+        }
     }
 }
 
 // Why an alternate is skipped that is no directory, or that cannot be read.
-fn unusable(rt: &impl AllocGlobal, path: &str, error: io::Error) -> Result<Error, Error> {
-    if error.kind() == io::ErrorKind::OutOfMemory {
-        return Err(Error::Memory(AllocError));
-    }
+fn unusable(rt: &impl AllocGlobal, path: &str, error: io::Error) -> Error {
     match path.strip_suffix('\r') {
         Some(path) if is_missing(&error) => {
-            let why = "its line ends in a carriage return";
-            Ok(Error::text(rt.alloc(), path, why))
+            Error::text(rt.alloc(), path, "its line ends in a carriage return")
         }
-        _ => Ok(Error::file(rt.alloc(), path, error)),
+        _ => Error::file(rt.alloc(), path, error),
     }
 }
 

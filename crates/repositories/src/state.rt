@@ -1,9 +1,11 @@
 //! What directories and files are before they are read, to know whether they changed meanwhile.
 
-ghost use Rattle.std.specs.Prelude.{◌≡◌, ◌+◌, ◌*◌, ◌==◌, ◌↔◌, IsTrue, not};
+ghost use Rattle.std.specs.Prelude.{◌≡◌, ◌+◌, ◌*◌, ◌==◌, ◌↔◌, IfOk, IsTrue, Some, not};
 ghost use Rattle.std.specs.Duration.{as_nanos};
 ghost use Rattle.std.specs.Fs.{metadata_len};
+ghost use Rattle.repositories.specs.Answers.{IfKnown};
 ghost use Rattle.repositories.specs.States.{IsPast, IsSettled, from_zero};
+ghost use Rattle.repositories.specs.Walks.{state_at};
 
 use crate::directories::Directories;
 use crate::files::{FileNumber, is_missing};
@@ -47,26 +49,32 @@ pub struct FileState {
 impl FileState {
     /// The state of the directory or file at a path. The error is that of a look at it or above.
     pub fn of<R: Directories>(rt: &R, path: &str) -> io::Result<FileState> {
-        let mut missing = 0u64;
-        for above in Path::new(path).ancestors() {
-            let name = match above.as_str() {
-                "" => ".",
-                name => name,
-            };
-            match FileState::if_there(rt, name)? {
-                Some(mut state) => {
-                    state.missing = missing;
-                    return Ok(state);
-                }
-                None => missing = missing.saturating_add(1),
+        let path = or_here(path);
+        match FileState::if_there(rt, path)? {
+            Some(state) => Ok(state),
+            None => FileState::of_missing(rt, path),
+        }
+    }
+
+    // The state of a path that leads to nothing.
+    pub(crate) fn of_missing<R: Directories>(rt: &R, path: &str) -> io::Result<FileState> {
+        let mut missing = 1u64;
+        for above in Path::new(path).ancestors().skip(1) {
+            if let Some(mut state) = FileState::if_there(rt, or_here(above.as_str()))? {
+                state.missing = missing;
+                return Ok(state);
             }
+            missing = missing.saturating_add(1);
         }
         Err(ErrorKind::NotFound.into())
     }
 
     /// The state of the directory or file at a path, or `None` if it leads to nothing. The error is
     /// that of the look at it.
-    pub fn if_there<R: Directories>(rt: &R, path: &str) -> io::Result<Option<FileState>> {
+    pub fn if_there<R: Directories>(rt: &R, path: &str) -> io::Result<Option<FileState>>
+        ensures { IfOk result (λ state. IfKnown (λ at. state_at path.now at ≡ Some state)
+            (R.answers rt.now)) }
+    {
         match rt.look(path) {
             Err(error) if is_missing(&error) => Ok(None),
             found => Ok(Some(found?.state)),
@@ -145,6 +153,14 @@ impl FileState {
         ensures { result ≡ not (self.now.missing == 0) }
     {
         self.missing > 0
+    }
+}
+
+// A path, or that of the current directory if it is empty.
+fn or_here(path: &str) -> &str {
+    match path {
+        "" => ".",
+        path => path,
     }
 }
 

@@ -1,0 +1,58 @@
+-- A walk over directories and their alternates, path by path.
+use Rattle.gix_hash.proofs.Std.{◌≡◌, ◌↔◌, ◌∙◌, ◌+◌, ◌-◌, ◌<◌, ◌∷◌, ◌++◌, ◌==◌, ◌||◌, [], Bool, IsTrue, List, Option, Some, add-one, ap, ap₂, append-nil, arith, drop, drop-cons, false, get_or, if◌then◌else◌, length, list_any, map, refl, suc, sym, true, zero, ℕ}
+use Rattle.std.specs.Path.{path_join}
+use Rattle.std.specs.Str.{IsUtf8, is_utf8}
+use Rattle.std.proofs.lemmas.Str.{IsUtf8-from_is_utf8, is_utf8-from_IsUtf8}
+use Rattle.repositories.specs.Answers.{◌>>=◌, Answers}
+use Rattle.repositories.specs.Walks.{Walk, each, visit, visit_below, skip, with_path, with_paths}
+
+pub list_any-map : {X Y : Type 0} (p : Y → Bool) (f : X → Y) (xs : List X) → list_any p (map f xs) ≡ list_any (λ x. p (f x)) xs
+list_any-map p f [] = refl
+list_any-map p f (x ∷ xs) = ap (λ b. p (f x) || b) (list_any-map p f xs)
+
+-- a test for UTF-8 is its test by definition
+pub text_is : (b : Bool) (path : List ℕ) → IsTrue b ↔ IsUtf8 path → b ≡ is_utf8 path
+text_is true path is = sym (is_utf8-from_IsUtf8 path (is.0 refl))
+text_is false path is = go (is_utf8 path) refl
+  where
+    go : (test : Bool) → is_utf8 path ≡ test → false ≡ is_utf8 path
+    go false none = sym none
+    go true text = is.1 (IsUtf8-from_is_utf8 path text) ∙ sym text
+
+-- a path of a list was read that is not empty
+pub reads : (folder path : List ℕ) (walk next : Walk) (old new : List (List ℕ)) (b : Bool) → false ≡ (length path == 0) → IsTrue b ↔ IsUtf8 path → new ≡ old ++ (if b then path_join folder path ∷ [] else []) → next ≡ (if b then walk else skip walk)
+    → ◌≡◌ {A = Walk × List (List ℕ)} (next, new) (with_path folder path (walk, old))
+reads folder path walk next old new b some iff new_is next_is =
+    ap₂ (λ next new. (next, new)) next_is new_is ∙ both b ∙ ap (λ test. if test then (walk, old ++ path_join folder path ∷ []) else (skip walk, old)) (text_is b path iff)
+    ∙ ap (λ empty. if empty then (walk, old) else (if is_utf8 path then (walk, old ++ path_join folder path ∷ []) else (skip walk, old))) some
+  where
+    both : (b : Bool) → ◌≡◌ {A = Walk × List (List ℕ)} ((if b then walk else skip walk), old ++ (if b then path_join folder path ∷ [] else [])) (if b then (walk, old ++ path_join folder path ∷ []) else (skip walk, old))
+    both true = refl
+    both false = ap (λ new. (skip walk, new)) (append-nil old)
+
+drop_next : {X : Type 0} (xs : List X) (i : ℕ) (x : X) → i < length xs → x ≡ get_or xs i x → drop i xs ≡ x ∷ drop (i + 1) xs
+drop_next xs i x in_range is = drop-cons xs i x in_range ∙ ap (λ x. x ∷ drop (suc i) xs) (sym is) ∙ ap (λ n. x ∷ drop n xs) (sym (add-one i))
+
+-- one more path of a list was read
+pub read_next : {X : Type 0} (path_of : X → List ℕ) (folder : List ℕ) (named : List X) (i : ℕ) (path : X) (found next : Walk × List (List ℕ)) → i < length named → path ≡ get_or named i path
+    → next ≡ with_path folder (path_of path) found → with_paths folder (map path_of (drop i named)) found ≡ with_paths folder (map path_of (drop (i + 1) named)) next
+read_next path_of folder named i path found next in_range is read =
+    ap (λ left. with_paths folder (map path_of left) found) (drop_next named i path in_range is) ∙ ap (with_paths folder (map path_of (drop (i + 1) named))) (sym read)
+
+-- one more path was visited
+pub each_next : {X : Type 0} (path_of : X → List ℕ) (visit_one : List ℕ → Walk → Answers → Option Walk) (paths : List X) (i : ℕ) (path : X) (walk next : Walk) (at : Answers) → i < length paths → path ≡ get_or paths i path
+    → visit_one (path_of path) walk at ≡ Some next → each visit_one (map path_of (drop i paths)) walk at ≡ each visit_one (map path_of (drop (i + 1) paths)) next at
+each_next path_of visit_one paths i path walk next at in_range is visited =
+    ap (λ left. each visit_one (map path_of left) walk at) (drop_next paths i path in_range is) ∙ ap (λ found. found >>= λ walk. each visit_one (map path_of (drop (i + 1) paths)) walk at) visited
+
+-- a directory was visited where no level is left for its alternates, or they were visited as well
+pub below_none : (levels : ℕ) (path : List ℕ) (walk next : Walk) (paths : List (List ℕ)) (at : Answers) → levels ≡ 0 → visit levels path walk at ≡ Some (next, paths) → visit_below levels path walk at ≡ Some next
+unfolding visit_below
+below_none zero path walk next paths at none visited = ap (λ found. found >>= λ found. Some found.0) visited
+below_none (suc less) path walk next paths at none visited = absurd (omega arith)
+
+pub below_more : (levels : ℕ) (path : List ℕ) (walk mid next : Walk) (paths : List (List ℕ)) (at : Answers) → 0 < levels → visit levels path walk at ≡ Some (mid, paths) → each (visit_below (levels - 1)) paths mid at ≡ Some next → visit_below levels path walk at ≡ Some next
+unfolding visit_below
+below_more zero path walk mid next paths at some visited more = absurd (omega arith)
+below_more (suc less) path walk mid next paths at some visited more =
+    ap (λ found. found >>= λ found. each (visit_below less) found.1 found.0 at) visited ∙ ap (λ n. each (visit_below n) paths mid at) (let e : less ≡ suc less - 1 = omega arith in e) ∙ more
