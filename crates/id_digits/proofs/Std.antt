@@ -1,5 +1,5 @@
 -- The names of std that proofs cite, passed on from one place.
-pub use Rattle.std.proofs.Common.{◌≡◌, ℕ, zero, suc, ◌+◌, ◌-◌, ◌*◌, ◌/◌, ◌%◌, ◌^◌, ◌<◌, ◌≤◌, min, max, Bool, true, false, cond, not, ◌&&◌, ◌||◌, eqb, ltb, leb, ◌≢◌, ◌⊎◌, ◌↔◌, List, [], ◌∷◌, ◌++◌, map, length, get_or, take, drop, set, replicate, pos, is_some, IfSome, is_ok, IsErrAnd, IfOk, IfErr, if◌then◌else◌, OnOk, OnErr, IsNone, IsOk, IsErr, IsTrue, nat_eq, nat_lt, ◌==◌, slice_get, slice_index, slice_index_or, slice_set, slice_range, bit_and, Some, None, Ok, Err, vec_len, string_bytes, codes, IsAscii, decimal, Decides, All, Contains, sum_by, sum, count_by, filter, Option, Result, MatchOption, ok_or, option_map, MatchResult, IsPermutation, IsSorted, IsSortedBy, HoldsAt, option_to_list, AllPairs, position, flat_map, option_copied, IsErrOf, bytes_eq, nat_cmp, is_eq, is_lt, is_le, is_gt, is_ge, Ordering, Less, Equal, Greater, unwrap_or, sym, refl, ap, ◌∙◌, subst, ap₂, inl, inr, true≢false, append_assoc, append-nil, map-id, mul-le-mul_right, mod-lt, mul_assoc, suc-mul, mul_comm, add-mul, eq-or-lt_of_le, mul-le-mul_left, pow-suc, zero-add, add-one, arith, length-append, length-drop, length-set, take-append-drop, length-take, length-take-le, get_or-drop, take_all, drop-cons, get_or-set_other, get_or-take, get_or-set_same, take-take, drop-drop, take-suc-set, take_at, ext_get_or, take-add, drop_at, pow_mono, w8, Fits, Bor, MutBor, rules, below_more, ltb-false, ltb-true, le-ltb, lt-ltb, eq-eqb, ne_eqb, eqb-true, le-leb, leb-true}
+pub use Rattle.std.proofs.Common.{◌≡◌, ℕ, zero, suc, ◌+◌, ◌-◌, ◌*◌, ◌/◌, ◌%◌, ◌^◌, ◌<◌, ◌≤◌, min, max, Bool, true, false, cond, not, ◌&&◌, ◌||◌, eqb, ltb, leb, ◌≢◌, ◌⊎◌, ◌↔◌, List, [], ◌∷◌, ◌++◌, map, length, get_or, take, drop, set, replicate, pos, is_some, IfSome, is_ok, IsErrAnd, IfOk, IfErr, if◌then◌else◌, OnOk, OnErr, IsNone, IsOk, IsErr, IsTrue, nat_eq, nat_lt, ◌==◌, slice_get, slice_index, slice_index_or, slice_set, slice_range, bit_and, Some, None, Ok, Err, vec_len, string_bytes, codes, IsAscii, decimal, Decides, All, Contains, sum_by, sum, count_by, filter, Option, Result, ok_or, option_map, MatchResult, IsPermutation, IsSorted, IsSortedBy, HoldsAt, option_to_list, AllPairs, position, flat_map, option_copied, IsErrOf, bytes_eq, nat_cmp, is_eq, is_lt, is_le, is_gt, is_ge, Ordering, Less, Equal, Greater, unwrap_or, sym, refl, ap, ◌∙◌, subst, ap₂, inl, inr, true≢false, append_assoc, append-nil, map-id, mul-le-mul_right, mod-lt, mul_assoc, suc-mul, mul_comm, add-mul, eq-or-lt_of_le, mul-le-mul_left, pow-suc, zero-add, add-one, arith, length-append, length-drop, length-set, take-append-drop, length-take, length-take-le, get_or-drop, take_all, drop-cons, get_or-set_other, get_or-take, get_or-set_same, take-take, drop-drop, take-suc-set, take_at, ext_get_or, take-add, drop_at, pow_mono, w8, Fits, Bor, MutBor, rules, below_more, ltb-false, ltb-true, le-ltb, lt-ltb, eq-eqb, ne_eqb, eqb-true, le-leb, leb-true}
 pub use Rattle.std.proofs.KnownBytes.{Appends-nil, Appends-trans, Consumes-kept, Consumes-nil, Consumes-trans}
 pub use Rattle.std.proofs.Math.Seq.{drop-append_seam, get_or-append_seam, paste, take-append-add, take-append_seam, take-length}
 pub use Rattle.std.proofs.lemmas.Bool.{agree_below, agree_below_at, and_parts, cases_Bool, cases_eq, cases_lt, cases_order, cond-false, cond-true, eqb-false, false_from_ne_true, false≢true, lt-leb, not-false, not-true, or_parts, true_from_ne_false}
@@ -7,7 +7,7 @@ pub use Rattle.std.proofs.lemmas.Bool.Decides.{Decides-eqb, Decides-like, nat_te
 pub use Rattle.std.proofs.lemmas.Cmp.{nat_eq_equiv, nat_list_cmp_total, tied_itself}
 pub use Rattle.std.proofs.lemmas.Fn.{FoldsTo-push, always_returns_same}
 pub use Rattle.std.proofs.lemmas.Grind.{common_steps, flat_map-append}
-pub use Rattle.std.proofs.lemmas.List.{drop-map, drop-replicate, drop-take, drop_all, drop_more, flat_map_more, get_or-map, get_or-replicate, get_or_append_left, get_or_default, get_or_past, length-map, length-replicate, map-append, nil_from_length, replicate-append-replicate, same_from_push, same_lists, set_at, take-append-le, take-map, take_min, take_more, take_more_set, take_rest}
+pub use Rattle.std.proofs.lemmas.List.{drop-map, drop-replicate, drop-take, drop_all, drop_more, flat_map_more, get_or-map, get_or-replicate, get_or_append_left, get_or_default, get_or_past, length-map, length-replicate, map-append, nil_from_length, replicate-append-replicate, same_lists, set_at, take-append-le, take-map, take_min, take_more, take_more_set, take_rest}
 pub use Rattle.std.proofs.lemmas.List.Edits.{map_over_more, take-paste}
 pub use Rattle.std.proofs.lemmas.List.Elements.{All-append, All-cons, All-contains, All-contains_itself, All-drop, All-filter, All-from_all_within, All-from_get_or, All-head, All-map, All-more, All-nil, All-push, All-same, All-tail, All-take, AllWithin-from_all, AllWithin-more, Contains-append_cases, Contains-append_left, Contains-append_right, Contains-get_or, filter-append, filter_passes, length_all_zip}
 pub use Rattle.std.proofs.lemmas.List.Folds.{Any-from_list_any, concat-append, drop_split, flat_map-map, list_all-append, list_any-from_Any}
