@@ -15,7 +15,7 @@ pub use Rattle.std.proofs.lemmas.List.FromFn.{get_or-range_with_len, length-rang
 pub use Rattle.std.proofs.lemmas.List.Sorted.{All-permutation, Contains-permutation, IsPartitionedBy-leb, IsPartitionedBy-ltb, IsPermutation-map, IsPermutation-sym, all_adjacent_more, ranks_by, searchable_from_sorted, sorted_far}
 pub use Rattle.std.proofs.lemmas.List.Sums.{common_prefix_len-le, count_by-le-length, count_by_more_no, count_by_more_yes, fails_before_first, get_or-le-sum_by, length-filter, position_or_len_is, sum_by-append, sum_by-cons, sum_by-set, sum_by-take-drop}
 pub use Rattle.std.proofs.lemmas.Map.Keys.{IsDistinct-IsPermutation, IsDistinct-from_apart, Less-from_sorted, apart_from_distinct, sorted_from_all_adjacent}
-pub use Rattle.std.proofs.lemmas.Option.{IfSome_then, get_or_from_slice_get, none-some, same_Some, slice_get-get_or, slice_get_within, some_pair_parts}
+pub use Rattle.std.proofs.lemmas.Option.{IfSome_then, get_or_from_slice_get, none-some, same_Some, slice_get-get_or, slice_get_within}
 pub use Rattle.std.proofs.lemmas.Result.{IfErr-weaker, err_from_is_err_and, on_ok_weaker}
 pub use Rattle.std.proofs.lemmas.Simd.{length-put_chunk, map-map, mask_l-mod, pick_l_whole, put_chunk_is, splat_is_map, take_more_put_chunk, tops_compared, zip2_of_maps, zip2_splat, zip2_splat_left}
 pub use Rattle.std.proofs.lemmas.Slice.Eq.{bytes_eq-Decides, starts_is, strip_prefix_is}
