@@ -17,8 +17,8 @@ from probe import POWERLESS, git
 
 NO_FILE = "No such file or directory (os error 2)"
 LOOP = "Too many levels of symbolic links (os error 40)"
-IS_FOLDER = "Is a directory (os error 21)"
-NO_FOLDER = "Not a directory (os error 20)"
+IS_DIRECTORY = "Is a directory (os error 21)"
+NO_DIRECTORY = "Not a directory (os error 20)"
 LOCKED = "Permission denied (os error 13)"
 # The errors of a pack index that is cut, and the least length of one.
 TOO_FEW, NOT_FILLED = "the bytes are too few for a pack index", "the tables of the pack index do not fill its bytes"
@@ -42,7 +42,7 @@ ODD_LINES = [
     (b'"\\000x"', None),
     (b"../../own/objects", None),
     (b"{room}/good", None),
-    (b"{room}/folder\r", None),
+    (b"{room}/directory\r", None),
     (b"\xff", NOT_TEXT),
     (b"../../../\xff/x", NOT_TEXT),
     (b'"\\377"', NOT_TEXT),
@@ -55,7 +55,7 @@ ODD_LINES = [
     (b"{room}/none\r", f"{{room}}/none: {RETURN}"),
     (b"{room}/file", "{room}/file: not a directory"),
     (b"{room}/file\r", f"{{room}}/file: {RETURN}"),
-    (b"{room}/file/x", f"{{room}}/file/x: {NO_FOLDER}"),
+    (b"{room}/file/x", f"{{room}}/file/x: {NO_DIRECTORY}"),
     (b"{room}/loop", f"{{room}}/loop: {LOOP}"),
     (b"{room}/loop\r", f"{{room}}/loop\r: {LOOP}"),
 ]
@@ -207,8 +207,8 @@ def odd_packs(room, index):
         ("nothing", lambda: None, None),
         ("a link to nothing", lambda: path.symlink_to("none"), None),
         ("a link to itself", lambda: path.symlink_to("x.pack"), LOOP),
-        ("a link below a file", lambda: path.symlink_to("file/x"), NO_FOLDER),
-        ("a folder", path.mkdir, "not a regular file"),
+        ("a link below a file", lambda: path.symlink_to("file/x"), NO_DIRECTORY),
+        ("a directory", path.mkdir, "not a regular file"),
         ("a pipe", lambda: os.mkfifo(path), "not a regular file"),
     ]:
         make()
@@ -226,7 +226,7 @@ def names_in_errors(room):
         text = f"{name}: File name too long (os error 36)"
         yield fails(f"an error about a name of {len(name)} bytes", text, "check", name, cwd=room)
         if len(name) < 10_000:
-            yield fails(f"an error about a folder of {len(name)} bytes", text, "abbreviate", "--objects", name, cwd=room)
+            yield fails(f"an error about a directory of {len(name)} bytes", text, "abbreviate", "--objects", name, cwd=room)
 
 
 def names_of_files(room):
@@ -234,8 +234,8 @@ def names_of_files(room):
     objects, ids = room / "objects", [made.PACKED, made.BOTH, made.LOOSE]
     add_objects(objects, ids[2:])
     for size in (*range(1, 42), *range(120, 136), 200, *range(250, 256)):
-        for folder in ("4b", "pack"):
-            write(objects / folder / ("x" * size))
+        for directory in ("4b", "pack"):
+            write(objects / directory / ("x" * size))
     for size, id in ((127, ids[0]), (128, ids[0]), (129, ids[0]), (255 - 1, ids[1])):
         name = "p" * (size - len(".idx"))
         add_pack(objects, name, plain_index([id]))
@@ -372,9 +372,9 @@ def by_links(room):
         write(there / "objects" / "pack" / "none")
         here.mkdir()
         (here / "objects").symlink_to(f"../{there.name}/objects")
-        for folder, kind in ((here, link), (there, target)):
+        for directory, kind in ((here, link), (there, target)):
             if kind:
-                write(folder / "config", CONFIGS[kind])
+                write(directory / "config", CONFIGS[kind])
         for path in ("objects", "objects/"):
             text = made.NO_PREFIX[target or link or "sha1"]
             yield fails(f"--objects {path}, a link with {link}, of {target}", text, "find", "x", "--objects", path, cwd=here)
@@ -385,14 +385,14 @@ def no_stores(room):
     write(room / "file")
     (room / "loop").symlink_to("loop")
     (room / "link").symlink_to("none")
-    for path in ("locked/objects/pack/none", "list/info/alternates/none", "config_folder/objects/pack/none", "config_folder/config/none"):
+    for path in ("locked/objects/pack/none", "list/info/alternates/none", "config_directory/objects/pack/none", "config_directory/config/none"):
         write(room / path)
     add_repository(room / "r" / ".git", "sha256")
     for path in ("r/.git/objects/pack/none", "two/objects/pack/none", "two/.git/objects/pack/none", "only_00/00/none", "only_f0/f0/none", "only_ff/ff/none", "only_info/info/alternates"):
         write(room / path)
     for name in ("pack", "4b", "00", "ff", "info"):
         write(room / f"file_{name}" / name)
-    reasons = [("none", NO_FILE), ("link", NO_FILE), ("file", "not a directory"), ("file/x", NO_FOLDER)]
+    reasons = [("none", NO_FILE), ("link", NO_FILE), ("file", "not a directory"), ("file/x", NO_DIRECTORY)]
     for path, why in [*reasons, ("loop/pack", LOOP), ("loop/x/pack", LOOP)]:
         name = path.removesuffix("/pack")
         yield fails(f"--objects {name}", f"{path}: {why}", "abbreviate", "--objects", name, cwd=room)
@@ -400,16 +400,16 @@ def no_stores(room):
         yield fails(f"--objects {name}", f"{name}: no object store: try {better}", "abbreviate", "--objects", name, cwd=room)
     for name in ("only_00", "only_f0", "only_ff", "only_info", "r/.git/objects"):
         yield prints(f"--objects {name}", [], "abbreviate", "--objects", name, status=1, cwd=room)
-    yield fails("--objects beside a folder", f"config_folder/objects/../config: {IS_FOLDER}", "abbreviate", "--objects", "config_folder/objects", cwd=room)
+    yield fails("--objects beside a directory", f"config_directory/objects/../config: {IS_DIRECTORY}", "abbreviate", "--objects", "config_directory/objects", cwd=room)
     for name, path in (("file_22", "file_22/22"), ("file_pack", "file_pack/pack")):
         write(room / path)
         env = {"GIT_OBJECT_DIRECTORY": str(room / name)}
-        yield fails(f"$GIT_OBJECT_DIRECTORY {name}", f"{room}/{path}: {NO_FOLDER}", "abbreviate", cwd=room / "r", env=env)
+        yield fails(f"$GIT_OBJECT_DIRECTORY {name}", f"{room}/{path}: {NO_DIRECTORY}", "abbreviate", cwd=room / "r", env=env)
     for name in ("list", *(f"file_{name}" for name in ("pack", "4b", "00", "ff", "info"))):
         yield fails(f"--objects {name}", f"{name}: no object store", "abbreviate", "--objects", name, cwd=room)
     (room / "locked").chmod(0)
     words = ("abbreviate", "--objects", "locked/objects")
-    yield fails("--objects in a locked folder", f"locked/objects/pack: {LOCKED}", *words, cwd=room, around=POWERLESS)
+    yield fails("--objects in a locked directory", f"locked/objects/pack: {LOCKED}", *words, cwd=room, around=POWERLESS)
     (room / "locked").chmod(0o700)
 
 
@@ -417,33 +417,33 @@ def files_in_each_way(room):
     """Files that a repository may lack, in each way in which they are not there or cannot be read."""
     id = made.IDS["sha1"]
     for name in ("config", "objects/info/alternates", "commondir"):
-        for way, why in [("nothing", None), ("a link to nothing", None), ("a link to itself", LOOP), ("a folder", IS_FOLDER), ("locked", LOCKED)]:
+        for way, why in [("nothing", None), ("a link to nothing", None), ("a link to itself", LOOP), ("a directory", IS_DIRECTORY), ("locked", LOCKED)]:
             if (name, way) == ("commondir", "a link to nothing"):
                 # (which git rejects)
                 continue
-            folder = room / f"{name.rpartition('/')[2]} {way}"
-            add_repository(folder, loose=[id])
-            path = folder / name
+            directory = room / f"{name.rpartition('/')[2]} {way}"
+            add_repository(directory, loose=[id])
+            path = directory / name
             path.unlink(missing_ok=True)
-            if way == "a folder":
+            if way == "a directory":
                 path.mkdir()
             elif way == "locked":
                 write(path)
                 path.chmod(0)
             elif way != "nothing":
                 path.symlink_to("none" if why is None else path.name)
-            title, how = f"{name}: {way}", {"cwd": folder}
+            title, how = f"{name}: {way}", {"cwd": directory}
             if not why:
-                if listed(folder) != [id]:
+                if listed(directory) != [id]:
                     raise ValueError(f"git lists other ids with {title}")
                 yield finds(title, [id], **how)
                 continue
-            yield fails(title, f"{folder}/{name}: {why}", "abbreviate", around=POWERLESS if way == "locked" else (), **how)
-    folder = room / "locked info"
-    add_repository(folder, loose=[id])
-    (folder / "objects" / "info").chmod(0)
-    yield fails("info: locked", f"{folder}/objects/info/alternates: {LOCKED}", "abbreviate", around=POWERLESS, cwd=folder)
-    (folder / "objects" / "info").chmod(0o700)
+            yield fails(title, f"{directory}/{name}: {why}", "abbreviate", around=POWERLESS if way == "locked" else (), **how)
+    directory = room / "locked info"
+    add_repository(directory, loose=[id])
+    (directory / "objects" / "info").chmod(0)
+    yield fails("info: locked", f"{directory}/objects/info/alternates: {LOCKED}", "abbreviate", around=POWERLESS, cwd=directory)
+    (directory / "objects" / "info").chmod(0o700)
 
 
 def links_to_nothing(room):
@@ -496,19 +496,19 @@ def links_among_others(room):
 
 
 def faulty(room):
-    """Repositories in which git finds none either, and the error of each; and a folder that was removed."""
+    """Repositories in which git finds none either, and the error of each; and a directory that was removed."""
     add_repository(room / "r")
     write(room / "r" / "worktrees" / "empty" / "commondir")
     write(room / "r" / "worktrees" / "empty" / "HEAD", HEAD)
     rows = [(b"gitdir:../r", ".git: names no directory"), (b"gitdir: ../gone\n", "../gone: not a git repository")]
     for content, why in rows:
-        folder = room / f"work{len(content)}"
-        write(folder / ".git", content)
-        yield fails(f"a gitfile with {content!r}", f"{folder}/{why}", "find", "4b", cwd=folder)
-    folder = room / "r" / "worktrees" / "empty"
-    yield fails("an empty commondir", f"{folder}/commondir: empty", "find", "4b", cwd=folder)
+        directory = room / f"work{len(content)}"
+        write(directory / ".git", content)
+        yield fails(f"a gitfile with {content!r}", f"{directory}/{why}", "find", "4b", cwd=directory)
+    directory = room / "r" / "worktrees" / "empty"
+    yield fails("an empty commondir", f"{directory}/commondir: empty", "find", "4b", cwd=directory)
     gone = ("sh", "-c", 'mkdir gone && cd gone && rmdir ../gone && "$@"', "sh")
-    yield fails("a folder that was removed", f".: {NO_FILE}", "find", "4b", cwd=room, around=gone)
+    yield fails("a directory that was removed", f".: {NO_FILE}", "find", "4b", cwd=room, around=gone)
 
 
 def later_configs(room):
@@ -520,11 +520,11 @@ def later_configs(room):
         (0, "refStorage = files", "repo version is 0, but v1-only extension found: refstorage"),
         (0, "relativeWorktrees = true", "repo version is 0, but v1-only extension found: relativeworktrees"),
     ]:
-        folder = room / f"{version} {text[:9]}"
-        add_repository(folder / ".git")
-        write(folder / ".git" / "config", f"[core]\nrepositoryformatversion = {version}\n[extensions]\n{text}\n".encode())
-        error = made.NO_PREFIX.get(wanted, f"{folder}/.git/config: {wanted}")
-        yield fails(f"a config of version {version} with {text!r}", error, "find", "x", cwd=folder)
+        directory = room / f"{version} {text[:9]}"
+        add_repository(directory / ".git")
+        write(directory / ".git" / "config", f"[core]\nrepositoryformatversion = {version}\n[extensions]\n{text}\n".encode())
+        error = made.NO_PREFIX.get(wanted, f"{directory}/.git/config: {wanted}")
+        yield fails(f"a config of version {version} with {text!r}", error, "find", "x", cwd=directory)
 
 
 def chained(room):
@@ -588,16 +588,16 @@ def many_names(room):
     """A fan-out directory with more than a mebibyte of names, of which some are ids, and a directory of many packs; and more ids with
     one first byte than are held at a time for several lines, of which the first or the last finds nothing."""
     write(room / "file")
-    folder, ids = f"{room}/loose/4b", [f"4b{number:038x}" for number in range(5000)]
-    os.makedirs(folder)
+    directory, ids = f"{room}/loose/4b", [f"4b{number:038x}" for number in range(5000)]
+    os.makedirs(directory)
     for id in ids:
         for name in (id[2:], id.ljust(250, "x")):
-            os.link(room / "file", f"{folder}/{name}")
+            os.link(room / "file", f"{directory}/{name}")
     yield prints(f"{len(ids)} loose objects", ids, "find", "4b", "--objects", "loose", cwd=room)
-    folder, names = f"{room}/packs/pack", [f"pack-{number:04}" for number in range(5000)]
+    directory, names = f"{room}/packs/pack", [f"pack-{number:04}" for number in range(5000)]
     add_pack(room / "packs", names[0], plain_index([made.BOTH]))
     for name, end in itertools.product(names[1:], (".idx", ".pack")):
-        os.link(f"{folder}/{names[0]}{end}", f"{folder}/{name}{end}")
+        os.link(f"{directory}/{names[0]}{end}", f"{directory}/{name}{end}")
     lines = [f"{made.BOTH} packs/pack/{name}.pack 3072" for name in names]
     yield prints(f"{len(names)} packs", lines, "locate", "4b", "--objects", "packs", cwd=room)
     ids = sorted({f"4b{id[2:]}" for id in sorted_ids(100_000, [20])})
@@ -672,7 +672,7 @@ def odd_lines(room):
     write(room / "file")
     (room / "loop").symlink_to("loop")
     (room / "loop\r").symlink_to("loop\r")
-    (room / "folder\r").mkdir()
+    (room / "directory\r").mkdir()
     add_objects(room / "good", [good])
     for at, (line, why) in enumerate(ODD_LINES):
         for order in (1, -1):

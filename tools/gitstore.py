@@ -27,13 +27,13 @@ PACKED, FIRST, ROUNDS = 3000, 3072, 4
 
 
 def write(path, content=b""):
-    """Writes a file, and makes the folders that it is in."""
+    """Writes a file, and makes the directories that it is in."""
     path.parent.mkdir(parents=True, exist_ok=True)
     path.write_bytes(content)
 
 
 def write_all(room, files):
-    """Writes files, each by its path in a folder."""
+    """Writes files, each by its path in a directory."""
     for name, content in files.items():
         write(room / name, content)
 
@@ -121,36 +121,36 @@ def add_pack(objects, name, index):
     write(objects / "pack" / f"{name}.pack")
 
 
-def add_repository(folder, kind="sha1", loose=(), packs=()):
-    """Makes a folder a repository with such objects."""
-    write_all(folder, {"HEAD": HEAD, "config": CONFIGS[kind], "refs/none": b"", "objects/info/none": b""})
-    add_objects(folder / "objects", loose, packs)
+def add_repository(directory, kind="sha1", loose=(), packs=()):
+    """Makes a directory a repository with such objects."""
+    write_all(directory, {"HEAD": HEAD, "config": CONFIGS[kind], "refs/none": b"", "objects/info/none": b""})
+    add_objects(directory / "objects", loose, packs)
 
 
-def add_blobs(folder, texts):
+def add_blobs(directory, texts):
     """Adds a loose blob of each of these texts to a repository, and returns their ids."""
     with tempfile.TemporaryDirectory() as room:
         paths = [Path(room, str(number)) for number in range(len(texts))]
         for path, text in zip(paths, texts):
             path.write_text(text, encoding="utf-8")
-        return git(folder, "hash-object", "-w", "--stdin-paths", given="".join(f"{path}\n" for path in paths).encode()).split()
+        return git(directory, "hash-object", "-w", "--stdin-paths", given="".join(f"{path}\n" for path in paths).encode()).split()
 
 
-def pack_objects(folder, ids, target):
+def pack_objects(directory, ids, target):
     """Packs objects of a repository, which stay loose, and returns the path of the pack: this text, a hyphen and its digest."""
     given = "".join(f"{id}\n" for id in ids).encode()
-    digest = git(folder, "pack-objects", "--quiet", "--window=0", target, given=given).strip()
-    return Path(folder, f"{target}-{digest}.pack")
+    digest = git(directory, "pack-objects", "--quiet", "--window=0", target, given=given).strip()
+    return Path(directory, f"{target}-{digest}.pack")
 
 
-def make_blobs(folder, kind, packs=2, packed=PACKED, loose=200, seed=0):
+def make_blobs(directory, kind, packs=2, packed=PACKED, loose=200, seed=0):
     """Makes a bare repository with that many packs, blobs in them, and loose blobs."""
-    git(folder.parent, "init", "--quiet", "--bare", f"--object-format={kind}", folder)
+    git(directory.parent, "init", "--quiet", "--bare", f"--object-format={kind}", directory)
     texts = [f"{seed} {number}" for number in range(packed)]
     for at in range(packs):
         given = "".join(f"blob\ndata {len(text)}\n{text}\n" for text in texts[at::packs])
-        git(folder, "-c", "fastimport.unpackLimit=0", "fast-import", "--quiet", given=given.encode())
-    add_blobs(folder, [f"{seed} loose {number}" for number in range(loose)])
+        git(directory, "-c", "fastimport.unpackLimit=0", "fast-import", "--quiet", given=given.encode())
+    add_blobs(directory, [f"{seed} loose {number}" for number in range(loose)])
 
 
 def some_prefixes(ids, size, least):
@@ -196,7 +196,7 @@ def listed(cwd, env=None):
 
 
 def places(objects, ids):
-    """The lines of `locate` for ids of an objects folder: packs by `git show-index`, then loose files."""
+    """The lines of `locate` for ids of an objects directory: packs by `git show-index`, then loose files."""
     lines = {id: [] for id in ids}
     for index in sorted(Path(objects, "pack").glob("*.idx")):
         kind = f"--object-format={'sha1' if len(ids[0]) == 40 else 'sha256'}"

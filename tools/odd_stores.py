@@ -1,4 +1,4 @@
-"""Odd stores that tools/odd makes at random: repositories, configs, environments, objects folders and alternates, right ones,
+"""Odd stores that tools/odd makes at random: repositories, configs, environments, objects directories and alternates, right ones,
 some that nobody would make, and broken ones. Loose objects are empty files and pack indexes are made by hand: of both
 nothing is read but the names."""
 
@@ -37,7 +37,7 @@ PIECES += ["\\a", "\\b", "\\t", "\\v", "\\f", "\\e", "\\000", '"\\000"', "\n#", 
 LETTERS = 'xy"\\# :\n\r\t\a\b\v\f'
 # Names of what is no loose object, beside those of the other kind.
 NO_OBJECTS = ["tmp_obj_f0K1Cz", "x", ".", "g" * 38, "0" * 37, "0" * 39, "0" * 37 + "G", "0" * 37 + ".", " " + "0" * 37]
-NO_FOLDERS = ["0", "000", "4", "4g", "4B", "AA", "FF", "4b ", "-1", "\u00e9"]
+NO_DIRECTORIES = ["0", "000", "4", "4g", "4B", "AA", "FF", "4b ", "-1", "\u00e9"]
 PACK_FILES = ["x.keep", "x.promisor", "x.rev", "x.bitmap", "x.mtimes", "tmp_idx_x", "tmp_pack_x", "x.idx.lock", "x.IDX", "idx"]
 PACK_FILES += ["multi-pack-index~", "pack-1.idx~"]
 
@@ -89,7 +89,7 @@ def quoted(rng, path):
 
 
 def spelled(rng, path, start):
-    """A way of writing the path of a folder, from another folder."""
+    """A way of writing the path of a directory, from another directory."""
     text = str(path) if chance(rng, 0.4) else os.path.relpath(path, start)
     for old, new in [("/", "//"), ("/", "/./"), ("/objects", "/info/../objects")]:
         text = text.replace(old, new, 1) if chance(rng, 0.1) and not text.startswith("/") else text
@@ -103,22 +103,22 @@ def list_of_alternates(rng, end):
 
 
 class Oddity:
-    """A store in a folder, where a program looks for it, and in which environment."""
+    """A store in a directory, where a program looks for it, and in which environment."""
 
     def __init__(self, rng, room):
         self.rng, self.room = rng, room
-        # Where the program runs, what its environment has, what nobody may read, and in which folders nobody may look at
+        # Where the program runs, what its environment has, what nobody may read, and in which directories nobody may look at
         # files.
         self.cwd, self.env, self.locked, self.unsearched = room, {}, [], []
         # The top of its worktree, or of the repository, if that is bare.
         self.top = room
-        # The folders of objects that were made, and the ids that may be in them.
+        # The directories of objects that were made, and the ids that may be in them.
         self.objects, self.ids = [], []
         # Whether nothing leads to it from outside, since its path is not UTF-8, as paths of packtool are.
         self.is_alone = False
 
     def write(self, path, content=b""):
-        """Writes a file, unless there is something of this name, or a file in place of its folder."""
+        """Writes a file, unless there is something of this name, or a file in place of its directory."""
         with suppress(FileExistsError, NotADirectoryError):
             path.parent.mkdir(parents=True, exist_ok=True)
             if not path.is_symlink() and not path.exists():
@@ -132,30 +132,30 @@ class Oddity:
         wrong += ["ref: Refs/x", "ref:" + " " * 300 + "refs/x"]
         return rng.choice(wrong if chance(rng, 0.15) else right)
 
-    def repository(self, folder, text=None, lacks=0.03):
-        """Makes a folder a repository, or something like it, which lacks each of its parts this often."""
+    def repository(self, directory, text=None, lacks=0.03):
+        """Makes a directory a repository, or something like it, which lacks each of its parts this often."""
         rng = self.rng
         if chance(rng, 0.1):
-            self.write(folder / "x")
-            (folder / "HEAD").symlink_to(rng.choice(["refs/heads/main", "refs/", "main", "/refs/x", "../HEAD"]))
+            self.write(directory / "x")
+            (directory / "HEAD").symlink_to(rng.choice(["refs/heads/main", "refs/", "main", "/refs/x", "../HEAD"]))
         elif not chance(rng, lacks):
-            self.write(folder / "HEAD", self.head())
-        if chance(rng, 0.04) and not (folder / "objects").exists():
+            self.write(directory / "HEAD", self.head())
+        if chance(rng, 0.04) and not (directory / "objects").exists():
             (self.room / "far").mkdir(exist_ok=True)
-            folder.mkdir(parents=True, exist_ok=True)
-            (folder / "objects").symlink_to(self.room / "far")
+            directory.mkdir(parents=True, exist_ok=True)
+            (directory / "objects").symlink_to(self.room / "far")
         elif not chance(rng, lacks):
-            (folder / "objects").mkdir(parents=True, exist_ok=True)
+            (directory / "objects").mkdir(parents=True, exist_ok=True)
         for name in ("refs", "objects"):
             if chance(rng, 0.03):
-                self.write(folder / name)
+                self.write(directory / name)
         if not chance(rng, lacks):
-            self.write(folder / "refs" / "none")
+            self.write(directory / "refs" / "none")
         if not chance(rng, 0.1):
-            self.write(folder / "config", config(rng) if text is None else text)
+            self.write(directory / "config", config(rng) if text is None else text)
         if chance(rng, 0.05):
-            self.write(folder / "config.worktree", SHA256)
-        self.objects.append(folder / "objects")
+            self.write(directory / "config.worktree", SHA256)
+        self.objects.append(directory / "objects")
 
     def link(self, at, target):
         """Makes a file `.git` that names a repository."""
@@ -197,7 +197,7 @@ class Oddity:
         if form == "nested":
             self.repository(rng.choice([top / "d", top / "d/.git", top / "d/e/.git"]), lacks=0.15)
         # Where a bare repository is found above, Git reads its config by a relative $GIT_COMMON_DIR from the top, and its
-        # objects from the current folder.
+        # objects from the current directory.
         is_bare = form == "nested" or top / "objects" in self.objects
         is_worktree = not is_bare and inner not in [self.cwd, *self.cwd.parents]
         if not self.is_alone:
@@ -235,21 +235,21 @@ class Oddity:
         return list(dict.fromkeys(ids))
 
     def fill(self, kind):
-        """Puts objects into all folders of objects, and links them to each other."""
+        """Puts objects into all directories of objects, and links them to each other."""
         rng = self.rng
         self.ids = self.clustered(kind)
         chain = [self.room / "lent" / str(number) for number in range(0 if self.is_alone else rng.choice([0, 0, 1, 2, 3, 9]))]
         self.objects += [path / "objects" for path in chain]
         for path in chain:
             (path / "objects").mkdir(parents=True)
-        for folder in self.objects:
-            if folder.is_dir():
-                self.loose(folder, kind)
-                self.packs(folder, kind)
-        for at, folder in enumerate(self.objects):
-            if folder.is_dir() and not self.is_alone and chance(rng, 0.9 if folder.parent in chain else 0.4):
+        for directory in self.objects:
+            if directory.is_dir():
+                self.loose(directory, kind)
+                self.packs(directory, kind)
+        for at, directory in enumerate(self.objects):
+            if directory.is_dir() and not self.is_alone and chance(rng, 0.9 if directory.parent in chain else 0.4):
                 later = [path for path in self.objects[at + 1 :] if path.parent in chain][:1] if chance(rng, 0.8) else []
-                self.write(folder / "info" / "alternates", self.alternates(folder, later))
+                self.write(directory / "info" / "alternates", self.alternates(directory, later))
         if chance(rng, 0.1):
             listed = rng.choice(self.objects) / "info" / "alternates"
             if listed.is_file():
@@ -263,14 +263,14 @@ class Oddity:
             self.env["GIT_ALTERNATE_OBJECT_DIRECTORIES"] = ":".join(paths).replace("\0", "")
         self.lock()
 
-    def loose(self, folder, kind):
-        """Makes loose objects in a folder, and what looks like them."""
+    def loose(self, directory, kind):
+        """Makes loose objects in a directory, and what looks like them."""
         rng = self.rng
         for id in rng.sample(self.ids, rng.randrange(len(self.ids) + 1)):
-            self.write(folder / id[:2] / id[2:])
+            self.write(directory / id[:2] / id[2:])
         for _ in range(rng.choice([0, 0, 1, 3])):
             id = rng.choice(self.ids)
-            part = folder / id[:2]
+            part = directory / id[:2]
             part.mkdir(exist_ok=True)
             others = [id[2:] + "0", id[2:-1], id[2:].upper(), id, rng.choice("0f") * (DIGITS[OTHER[kind]] - 2)]
             other = rng.choice([*NO_OBJECTS, *others])
@@ -281,17 +281,17 @@ class Oddity:
                 (part / other).symlink_to(rng.choice(["none", "../info", id[2:]]))
             else:
                 self.write(part / other) if other != "." else None
-        for name in rng.sample(NO_FOLDERS, rng.choice([0, 0, 1, 2])):
-            self.write(folder / name / rng.choice(self.ids)[2:])
-        free = [f"{byte:02x}" for byte in range(256) if not (folder / f"{byte:02x}").exists()]
+        for name in rng.sample(NO_DIRECTORIES, rng.choice([0, 0, 1, 2])):
+            self.write(directory / name / rng.choice(self.ids)[2:])
+        free = [f"{byte:02x}" for byte in range(256) if not (directory / f"{byte:02x}").exists()]
         if chance(rng, 0.04):
-            self.write(folder / rng.choice(free))
+            self.write(directory / rng.choice(free))
         if chance(rng, 0.1):
-            (folder / rng.choice(free)).symlink_to(rng.choice(["none", "info", rng.choice(self.ids)[:2]]))
+            (directory / rng.choice(free)).symlink_to(rng.choice(["none", "info", rng.choice(self.ids)[:2]]))
 
-    def packs(self, folder, kind):
-        """Makes packs in a folder, and what looks like them."""
-        rng, pack = self.rng, folder / "pack"
+    def packs(self, directory, kind):
+        """Makes packs in a directory, and what looks like them."""
+        rng, pack = self.rng, directory / "pack"
         if chance(rng, 0.02):
             self.write(pack)
             return
@@ -300,12 +300,12 @@ class Oddity:
             name = rng.choice(names)
             ids = sorted(rng.sample(self.ids, rng.randrange(1, len(self.ids) + 1)))
             self.write(pack / f"{name}.idx", self.index(ids, kind))
-            way = rng.choice(["pack"] * 9 + ["none", "folder", "link", "dangling"])
+            way = rng.choice(["pack"] * 9 + ["none", "directory", "link", "dangling"])
             target = pack / f"{name}.pack"
             if way == "pack":
                 self.write(target)
             with suppress(FileExistsError):
-                if way == "folder":
+                if way == "directory":
                     target.mkdir()
                 elif way in ("link", "dangling"):
                     target.symlink_to("../../HEAD" if way == "link" else "none")
@@ -335,36 +335,36 @@ class Oddity:
             ways += [version_1([(12, *row[1:]) for row in rows], bytes(20))]
         return rng.choice(ways)
 
-    def alternate(self, folder, target):
-        """A line of a list of alternates, of a folder that has it."""
+    def alternate(self, directory, target):
+        """A line of a list of alternates, of a directory that has it."""
         rng = self.rng
-        path = spelled(rng, target, folder)
-        odd = ["none", "/none/a", "../none/../none", "HEAD", ".", "", "#x", " ", f"{path}\r", f" {path}", '"x', "/", str(folder)]
+        path = spelled(rng, target, directory)
+        odd = ["none", "/none/a", "../none/../none", "HEAD", ".", "", "#x", " ", f"{path}\r", f" {path}", '"x', "/", str(directory)]
         odd += ["../../HEAD", "info", f"{path}\0", f"{path}\0x", "\0", '"\\000x"', quoted(rng, path)[:-1] + '\\000x"']
         if chance(rng, 0.25):
             return rng.choice(odd)
         return quoted(rng, path) if chance(rng, 0.2) else path
 
-    def alternates(self, folder, later):
-        """A list of alternates of a folder, which has these."""
+    def alternates(self, directory, later):
+        """A list of alternates of a directory, which has these."""
         rng = self.rng
         chosen = [*later, *rng.choices(self.objects, k=rng.choice([0, 0, 1, 2]))]
         rng.shuffle(chosen)
-        lines = [str(target) if target in later and chance(rng, 0.7) else self.alternate(folder, target) for target in chosen]
+        lines = [str(target) if target in later and chance(rng, 0.7) else self.alternate(directory, target) for target in chosen]
         return "\n".join(lines) + rng.choice(["\n", "\n", "", "\n\n", "\n#"])
 
     def lock(self):
-        """Takes from all the leave to read a folder or file, if anything."""
+        """Takes from all the leave to read a directory or file, if anything."""
         rng = self.rng
         if not chance(rng, 0.1):
             return
-        folder = rng.choice(self.objects)
+        directory = rng.choice(self.objects)
         names = ("pack", "info/alternates", "[0-9a-f][0-9a-f]")
-        found = [path for name in names for path in folder.glob(name)] if folder.is_dir() else []
+        found = [path for name in names for path in directory.glob(name)] if directory.is_dir() else []
         if found := [path for path in found if not path.is_symlink()]:
             self.locked.append(rng.choice(found).resolve())
             self.locked[0].chmod(0)
-            # (a folder may be listed, and yet no file in it be looked at)
+            # (a directory may be listed, and yet no file in it be looked at)
             if len(self.locked[0].name) == 2 and chance(rng, 0.5):
                 self.unsearched.append(self.locked.pop())
                 self.unsearched[0].chmod(0o400)

@@ -32,7 +32,7 @@ POWERLESS = ["setpriv", "--bounding-set=-dac_override,-dac_read_search"] if os.g
 # An error of the compiler: /room/crates/x/src/y.rt:5:7: error[private-field]: ..
 ERROR = re.compile(r"^([^:\n]+):(\d+):\d+: error\[([^\]\n]+)\]", re.MULTILINE)
 
-# Whether this program is stopped, and the commands that run. They end then, its threads start no other, and temporary folders are
+# Whether this program is stopped, and the commands that run. They end then, its threads start no other, and temporary directories are
 # removed as at any other end.
 STOPPED, RUNNING = threading.Event(), set()
 
@@ -158,10 +158,10 @@ def answer(child, text):
     return os.fsdecode(printed[1:])
 
 
-def git(folder, *words, **how):
-    """What git prints in a folder, as the user n. It packs nothing by itself."""
+def git(directory, *words, **how):
+    """What git prints in a directory, as the user n. It packs nothing by itself."""
     words = ["git", "-c", "gc.auto=0", "-c", "user.name=n", "-c", "user.email=e", *words]
-    printed, errors, status = ran(*words, cwd=folder, **how)
+    printed, errors, status = ran(*words, cwd=directory, **how)
     if status:
         raise OSError(f"{' '.join(map(str, words))}: {errors}")
     return printed
@@ -194,7 +194,7 @@ def make_edit(edit, texts):
 
 @contextlib.contextmanager
 def room_with(crates, sources):
-    """A temporary folder with a copy of what the compiler reads, as a repository of its own. Its program depends on the
+    """A temporary directory with a copy of what the compiler reads, as a repository of its own. Its program depends on the
     crates, and has these sources, each by its name."""
     with tempfile.TemporaryDirectory(prefix="probe-") as name:
         room = Path(name).resolve()
@@ -202,10 +202,10 @@ def room_with(crates, sources):
         shutil.copy(ROOT / "HANDLES", room)
         listed = f"{read('crates.txt')}\n{PROGRAM}: {' '.join(sorted(crates))}\n"
         (room / "crates.txt").write_text(listed, encoding="utf-8")
-        folder = room / "crates" / PROGRAM / "src"
-        folder.mkdir(parents=True)
+        directory = room / "crates" / PROGRAM / "src"
+        directory.mkdir(parents=True)
         for file, text in sources.items():
-            (folder / file).write_text(text, encoding="utf-8")
+            (directory / file).write_text(text, encoding="utf-8")
         git(room, "init", "--quiet")
         yield room
 

@@ -432,42 +432,42 @@ class Stores(unittest.TestCase):
         for name in names:
             path = os.path.join(os.fsencode(self.room), name)
             git(self.room, "init", "--quiet", "--bare", path)
-            folder = pathlib.Path(os.fsdecode(path))
-            make_blobs(folder, "sha1", packs=1, packed=30, loose=5)
-            ids = listed(folder)
-            for given in path, os.fsdecode(path), folder:
+            directory = pathlib.Path(os.fsdecode(path))
+            make_blobs(directory, "sha1", packs=1, packed=30, loose=5)
+            ids = listed(directory)
+            for given in path, os.fsdecode(path), directory:
                 store = self.opened(given)
                 places = [place for id in ids for place in store.locate(id)]
                 self.assertEqual([str(place.id) for place in places], ids)
                 packs = {place.path for place in places if place.offset is not None}
-                self.assertEqual(packs, {str(pack) for pack in folder.glob("objects/pack/*.pack")}, name)
+                self.assertEqual(packs, {str(pack) for pack in directory.glob("objects/pack/*.pack")}, name)
                 loose = {place.path for place in places if place.offset is None}
-                self.assertEqual(loose, {str(file) for file in folder.glob("objects/??/*")}, name)
+                self.assertEqual(loose, {str(file) for file in directory.glob("objects/??/*")}, name)
                 self.assertEqual([os.fsencode(place.path) for place in places if not os.path.isabs(place.path)], [])
                 self.assertEqual((len(packs), len(loose), places[0]), (1, 5, Location(*places[0])))
                 store.close()
-            (folder / "config").write_text("[core]\n\trepositoryformatversion = 9\n")
+            (directory / "config").write_text("[core]\n\trepositoryformatversion = 9\n")
             with self.assertRaises(StoreError) as raised:
                 Store(path)
             shown = path.decode("utf-8", "replace")
             self.assertRegex(str(raised.exception), rf"^{re.escape(shown)}(: \.)?/config: ")
 
     def test_damaged_offset(self):
-        folder, index, ids = self.room / "damaged.git", None, []
-        git(self.room, "init", "--quiet", "--bare", str(folder))
+        directory, index, ids = self.room / "damaged.git", None, []
+        git(self.room, "init", "--quiet", "--bare", str(directory))
         blobs = "".join(f"blob\ndata 3\n{n}\n" for n in range(100, 400))
-        git(folder, "-c", "fastimport.unpackLimit=0", "fast-import", "--quiet", given=blobs.encode())
-        (pack,) = folder.glob("objects/pack/*.pack")
+        git(directory, "-c", "fastimport.unpackLimit=0", "fast-import", "--quiet", given=blobs.encode())
+        (pack,) = directory.glob("objects/pack/*.pack")
         index = pack.with_suffix(".idx")
         index.unlink()
-        git(folder, "index-pack", "--index-version=2,2000", "-o", str(index), str(pack))
-        ids, data = listed(folder), bytearray(index.read_bytes())
+        git(directory, "index-pack", "--index-version=2,2000", "-o", str(index), str(pack))
+        ids, data = listed(directory), bytearray(index.read_bytes())
         at = 1032 + 300 * (20 + 4)
         (damaged,) = [position for position in range(300) if data[at + 4 * position] & 0x80][:1]
         data[at + 4 * damaged + 1] = 0x7F  # a long offset that is not there
         index.chmod(0o644)
         index.write_bytes(data)
-        store = self.opened(folder)
+        store = self.opened(directory)
         for _ in range(3):
             with self.assertRaisesRegex(StoreError, f"{index.name}: .*offset"):
                 store.locate(ids[damaged])
@@ -558,11 +558,11 @@ class Stores(unittest.TestCase):
             os.environ.update(PACKTOOL=str(self.room / "wrong"), PATH=path)
             with Store(bare) as store, self.assertRaisesRegex(StoreError, f"^{wanted}$"):
                 list(store.abbreviations())
-        folder = self.room / "bin"
-        folder.mkdir()
-        (folder / "packtool").symlink_to(os.path.abspath(program))
-        for given in "", "packtool", str(folder / "packtool"):
-            os.environ.update(PACKTOOL=given, PATH="/" if "/" in given else f"/nowhere:{folder}")
+        directory = self.room / "bin"
+        directory.mkdir()
+        (directory / "packtool").symlink_to(os.path.abspath(program))
+        for given in "", "packtool", str(directory / "packtool"):
+            os.environ.update(PACKTOOL=given, PATH="/" if "/" in given else f"/nowhere:{directory}")
             self.assertEqual(self.opened(bare).find(ids[0]), [Id(ids[0])])
         self.assertEqual(len(children()), 3)
 
@@ -572,13 +572,13 @@ class Stores(unittest.TestCase):
         program, mark = os.path.abspath(os.environ["PACKTOOL"]), self.room / "mark"
         self.addCleanup(os.environ.update, PACKTOOL=program, PATH=os.environ["PATH"])
         self.addCleanup(os.chdir, os.getcwd())
-        for folder in bare, bare / "bin":
-            folder.mkdir(exist_ok=True)
-            (folder / "packtool").write_text(f'#!/bin/sh\n: > {mark}\nexec {program} "$@"\n')
-            (folder / "packtool").chmod(0o755)
-        folder = self.room / "bin"
-        folder.mkdir()
-        (folder / "packtool").symlink_to(program)
+        for directory in bare, bare / "bin":
+            directory.mkdir(exist_ok=True)
+            (directory / "packtool").write_text(f'#!/bin/sh\n: > {mark}\nexec {program} "$@"\n')
+            (directory / "packtool").chmod(0o755)
+        directory = self.room / "bin"
+        directory.mkdir()
+        (directory / "packtool").symlink_to(program)
         paths = ["/nowhere", "", ":", ":/nowhere", "/nowhere:", "/nowhere::/", ".", "bin", "./bin/", "../store/bin", "~"]
         for here in bare, self.room:
             os.chdir(here)
@@ -587,7 +587,7 @@ class Stores(unittest.TestCase):
                     os.environ.update(PACKTOOL=given, PATH=path)
                     self.assertRaisesRegex(StoreError, "no packtool", Store, bare)
                 # (it goes on behind what is left out)
-                os.environ.update(PACKTOOL="", PATH=f"{path}:{folder}")
+                os.environ.update(PACKTOOL="", PATH=f"{path}:{directory}")
                 with Store(bare) as store:
                     self.assertEqual(store.find(ids[0]), [Id(ids[0])])
         self.assertFalse(mark.exists())

@@ -503,14 +503,14 @@ fn skipped_and_failed() {
 fn programs_of_others() {
     let (path, ids) = made("others", Kind::Sha1, 1);
     let program = fs::canonicalize(env::var_os("PACKTOOL").unwrap()).unwrap();
-    let (mark, folder) = (path.join("mark"), path.with_file_name("others bin"));
+    let (mark, directory) = (path.join("mark"), path.with_file_name("others bin"));
     for name in ["packtool", "bin/packtool"] {
         let text = format!(": > '{}'\nexec '{}' \"$@\"", mark.display(), program.display());
         script(&path.join(name), &text);
     }
-    let _ = fs::remove_dir_all(&folder);
-    fs::create_dir(&folder).unwrap();
-    symlink(&program, folder.join("packtool")).unwrap();
+    let _ = fs::remove_dir_all(&directory);
+    fs::create_dir(&directory).unwrap();
+    symlink(&program, directory.join("packtool")).unwrap();
     let (other, relative) = (path.parent().unwrap(), ["./packtool", "bin/packtool", "others/packtool"]);
     for paths in ["/nowhere", "", ":", ":/nowhere", "/nowhere:", ".", "bin", "./bin/", "others/bin"] {
         for (directory, given) in
@@ -521,7 +521,7 @@ fn programs_of_others() {
             assert!(error.contains("no packtool"), "{error}");
         }
         // (it goes on behind what is left out)
-        let paths = format!("{paths}:{}", folder.display());
+        let paths = format!("{paths}:{}", directory.display());
         let variables = [("PACKTOOL", OsStr::new("")), ("PATH", OsStr::new(&paths))];
         assert_eq!(found_by_another(&path, Some(&path), &variables).unwrap(), ids);
     }

@@ -1,7 +1,7 @@
 //! Callers of these crates, as examples: what a tool over Git's object store reads, writes and
 //! keeps of ids.
 //!
-//! The pages CALLING.md of `gix_hash`, `id_lookup`, `pack_index` and `store_folders` quote them.
+//! The pages CALLING.md of `gix_hash`, `id_lookup`, `pack_index` and `directory_store` quote them.
 #![tactic(auto)]
 
 pub mod branches;

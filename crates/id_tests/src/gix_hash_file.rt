@@ -74,12 +74,12 @@ fn expect_failure<F: Files>(
 fn expect_not_opened(rt: &(impl Abort + Files + AllocGlobal), num_bytes: u64) {
     for &kind in &KINDS {
         let failing = Opening::failing(rt, kind);
-        expect_failure(rt, &failing, "not_a_folder", num_bytes, kind, &[]);
+        expect_failure(rt, &failing, "not_a_directory", num_bytes, kind, &[]);
     }
     for &(name, kind) in &[
         ("no_file_of_that_name", ErrorKind::NotFound),
         ("", ErrorKind::NotFound),
-        ("not_a_folder/file", ErrorKind::NotADirectory),
+        ("not_a_directory/file", ErrorKind::NotADirectory),
         ("a\0b", ErrorKind::InvalidInput),
     ] {
         expect_failure(rt, &Opening::new(rt), name, num_bytes, kind, &[]);
@@ -88,10 +88,10 @@ fn expect_not_opened(rt: &(impl Abort + Files + AllocGlobal), num_bytes: u64) {
 
 #[test]
 fn files_that_cannot_be_opened(rt: HostRuntime) {
-    write_file(&rt, "not_a_folder", b"abc");
+    write_file(&rt, "not_a_directory", b"abc");
     expect_not_opened(&rt, 0);
     expect_not_opened(&rt, 3);
-    remove_file(&rt, "not_a_folder");
+    remove_file(&rt, "not_a_directory");
 }
 
 fn expect_interrupted(rt: &(impl Abort + Files + AllocGlobal), name: &str) {

@@ -1,7 +1,7 @@
 -- The status of what was asked of a store that is kept.
 use Rattle.std.specs.Prelude.{IsOkAnd, IsSomeAnd}
 use Rattle.gix_hash.proofs.Std.{[], ◌++◌, ◌↔◌, ◌∷◌, ◌≡◌, ℕ, Bool, Err, IfOk, IsTrue, List, Ok, OnOk, Option, Result, Some, false, refl, subst, sym, true}
-use Rattle.store_folders.specs.declared.error.Error.{Error}
+use Rattle.directory_store.specs.declared.error.Error.{Error}
 use Rattle.packtool.specs.Answers.{IsStatus}
 
 -- what a call found over a store was found in the store that is kept

@@ -5,7 +5,7 @@ use Rattle.packtool.specs.declared.arguments.Question.{Question}
 use Rattle.packtool.specs.declared.arguments.Question.TheVariants.{Find, Locate, Names}
 use Rattle.packtool_commands.specs.Stores.{HasAnsweredMatches, HasLocated, HasLocatedEach, HasNamedBelow, HasNamedEach, HasPrinted}
 use Rattle.packtool_commands.specs.declared.printing.Answers.{Answers}
-use Rattle.store_folders.specs.declared.error.Error.{Error}
+use Rattle.directory_store.specs.declared.error.Error.{Error}
 
 -- the status by what was skipped, and by whether what was asked for was found: 2 if something was skipped, and else 0 or 1
 abbrev pub IsStatus : List Error → Bool → ℕ → Type 0

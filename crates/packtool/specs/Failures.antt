@@ -5,8 +5,8 @@ use Rattle.std.specs.declared.io.ErrorKind.TheVariants.{BrokenPipe}
 use Rattle.object_store.specs.declared.error.Error.TheVariants as look_ups
 use Rattle.pack_index.specs.declared.error.Error.TheVariants.{Version1}
 use Rattle.pack_index.specs.declared.lazy_error.LazyError.TheVariants.{Head}
-use Rattle.store_folders.specs.declared.error.Error.{Error as StoreError}
-use Rattle.store_folders.specs.declared.error.Error.TheVariants.{Index}
+use Rattle.directory_store.specs.declared.error.Error.{Error as StoreError}
+use Rattle.directory_store.specs.declared.error.Error.TheVariants.{Index}
 use Rattle.packtool.specs.declared.failure.Failure.{Failure}
 use Rattle.packtool.specs.declared.failure.Failure.TheVariants.{File, Memory, Output}
 use Rattle.packtool.specs.declared.failure.FileWhy.{FileWhy}

@@ -20,7 +20,7 @@ pub enum Failure<'a> {
     Repository(repositories::Error),
     /// The store cannot be opened.
     #[error(transparent)]
-    Store(store_folders::Error),
+    Store(directory_store::Error),
     /// A look-up in the store fails.
     #[error(transparent)]
     LookUp(LookUpError),
@@ -113,11 +113,11 @@ pub enum FileWhy {
 }
 
 /// What is printed after the error of a part of a store that is skipped.
-pub fn skipped_mark(error: &store_folders::Error) -> &'static str
+pub fn skipped_mark(error: &directory_store::Error) -> &'static str
     ensures { result.now ≡ skipped_mark error.now }
 {
     match error {
-        store_folders::Error::Index(
+        directory_store::Error::Index(
             LookUpError::Index {
                 error: LazyError::Head(pack_index::Error::Version1),
                 ..
@@ -135,10 +135,10 @@ impl From<repositories::Error> for Failure<'_> {
     }
 }
 
-impl From<store_folders::Error> for Failure<'_> {
+impl From<directory_store::Error> for Failure<'_> {
     ghost from_gives = { λ error made. made ≡ failures.Store error };
 
-    fn from(error: store_folders::Error) -> Self {
+    fn from(error: directory_store::Error) -> Self {
         Failure::Store(error)
     }
 }

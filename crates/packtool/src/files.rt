@@ -43,7 +43,7 @@ const PROMISOR_END: &str = ".promisor";
 const CHAIN_END: &str = "-chain";
 
 // The directory of a chain of indexes, which Git keeps among the packs.
-const CHAIN_FOLDER: &str = "multi-pack-index.d";
+const CHAIN_DIRECTORY: &str = "multi-pack-index.d";
 
 /// Prints the lines of a pack index, and returns whether there is a line. If no kind is given, the
 /// length of the index says its kind.
@@ -226,7 +226,7 @@ fn verdict_of_file<'a>(
     path: &str,
     kind: Option<Kind>,
 ) -> Result<Verdict, Failure<'a>> {
-    if is_chain_folder(rt, path) {
+    if is_chain_directory(rt, path) {
         return Ok(Verdict::Skipped);
     }
     let mut file = open(rt, path)?;
@@ -278,10 +278,10 @@ fn has_no_digest(path: &str) -> bool
 }
 
 // Whether this is Git's directory of a chain of indexes.
-fn is_chain_folder(rt: &HostRuntime, path: &str) -> bool
-    ensures { IsTrue result → (stem : List ℕ) × (path.now ≡ stem ++ CHAIN_FOLDER.now) }
+fn is_chain_directory(rt: &HostRuntime, path: &str) -> bool
+    ensures { IsTrue result → (stem : List ℕ) × (path.now ≡ stem ++ CHAIN_DIRECTORY.now) }
 {
-    path.ends_with(CHAIN_FOLDER) && metadata(rt, path).is_ok_and(|found| found.is_dir())
+    path.ends_with(CHAIN_DIRECTORY) && metadata(rt, path).is_ok_and(|found| found.is_dir())
 }
 
 // Whether the name is that of a pack index, or the bytes begin as one of version 2.

@@ -6,7 +6,7 @@ ghost use Rattle.std.specs.List.{ends_with};
 ghost use Rattle.std.specs.Option.{ForSome};
 ghost use Rattle.gix_hash.specs.Words.{KindDigits, first_byte_of, hex_len_of, hex_letter, prefix_read_in};
 ghost use Rattle.object_store.specs.Stores.{CanLookUp, IsReopened};
-ghost use Rattle.store_folders.specs.Stores.{only_of};
+ghost use Rattle.directory_store.specs.Stores.{only_of};
 ghost use Rattle.packtool_commands.specs.Stores.{AreListed};
 ghost use Rattle.packtool_commands.specs.declared.error.StoreError.{StoreError};
 ghost use Rattle.streams.specs.Devices.{plain_failed, plain_inner};
@@ -21,16 +21,16 @@ use crate::line_reader::LineReader;
 use crate::output::{buffered, flushed, report};
 use crate::words::{beginning, lossy_text};
 use crate::{FAILED, FOUND, NOTHING};
+use directory_store::{DirectoryStore, Error, LooseIds};
 use gix_hash::{Kind, Prefix};
 use object_store::{Reopen, Store, StorePaths};
 use packtool_commands::{
     Answers, PrefixLines, StoreError, find, find_each, locate, locate_each, name_each, names,
 };
-use repositories::{ObjectsFolder, find_objects};
+use repositories::{ObjectDirectory, find_objects};
 use std::alloc::{AllocError, Global};
 use std::io;
 use std::time::{SystemTime, UNIX_EPOCH};
-use store_folders::{Error, FolderStore, LooseIds};
 use streams::{Plain, Retrying, Sink, write_all};
 
 // The most ids or locations of several lines that are held at a time.
@@ -44,12 +44,12 @@ const AMBIGUOUS: &str = " ambiguous";
 /// Looks up what a request asks for, and returns the status. For the lines of standard input this
 /// is the worst of theirs.
 pub fn answer<'a>(rt: &HostRuntime, request: &StoreRequest<'a>) -> Result<u8, Failure<'a>> {
-    let folder = objects_folder(rt, request)?;
+    let directory = objects_directory(rt, request)?;
     let mut asked = Asked {
         rt,
-        least: least_in(folder.kind, request.least)?,
+        least: least_in(directory.kind, request.least)?,
         question: request.question,
-        folder: &folder,
+        directory: &directory,
         kept: None,
         reported: Vec::new(rt.alloc()),
     };
@@ -65,17 +65,17 @@ pub fn answer<'a>(rt: &HostRuntime, request: &StoreRequest<'a>) -> Result<u8, Fa
 #[derive(Drop)]
 struct Asked<'r> {
     rt: &'r HostRuntime,
-    folder: &'r ObjectsFolder,
+    directory: &'r ObjectDirectory,
     question: Question,
     // The fewest digits of an abbreviation.
     least: usize,
     // The store that was asked last.
-    kept: Option<FolderStore<HostRuntime>>,
+    kept: Option<DirectoryStore<HostRuntime>>,
     // The reports on what is skipped that were printed, sorted.
     reported: Vec<String>,
     ghost enough: { 4 ≤ least },
-    ghost fits: { least ≤ hex_len_of folder.now.kind },
-    ghost kept_of_kind: { ForSome kept (λ store. store.folder.kind ≡ folder.now.kind) },
+    ghost fits: { least ≤ hex_len_of directory.now.kind },
+    ghost kept_of_kind: { ForSome kept (λ store. store.directory.kind ≡ directory.now.kind) },
 }
 
 impl Asked<'_> {
@@ -92,7 +92,7 @@ impl Asked<'_> {
     // Prints what is found for a prefix of exactly one id, as for a line of standard input. If
     // there is no such id, or more than one, that is reported.
     fn answer_one<'a>(&mut self, text: &'a str) -> Result<u8, Failure<'a>> {
-        read_prefix(text, self.folder.kind)?;
+        read_prefix(text, self.directory.kind)?;
         let mut answer = Plain::new(Vec::new(self.rt.alloc()));
         let status = match self.write_for_lines(text.as_bytes(), Answers::One, &mut answer) {
             Err(Failure::Output(_)) => return Err(Failure::Memory),
@@ -161,18 +161,18 @@ impl Asked<'_> {
         ensures output { OnOk result (plain_failed out.new ≡ false) }
         ensures answered { IfOk result (λ status. IsSomeAnd self.new.kept (λ store. (any : Bool)
             × IsStatus store.skipped.items any status
-            × IsOkAnd (prefix_read_in self.old.folder.now.kind hex_letter text.now) (λ prefix.
+            × IsOkAnd (prefix_read_in self.old.directory.now.kind hex_letter text.now) (λ prefix.
             HasAnsweredPrefix Global self.old.question
-            (⟦<FolderStore<HostRuntime> as StorePaths>⟧.pack_path store)
-            (⟦<FolderStore<HostRuntime> as StorePaths>⟧.loose_paths store)
-            (⟦<FolderStore<HostRuntime> as Store>⟧.view store) prefix.digits any
+            (⟦<DirectoryStore<HostRuntime> as StorePaths>⟧.pack_path store)
+            (⟦<DirectoryStore<HostRuntime> as StorePaths>⟧.loose_paths store)
+            (⟦<DirectoryStore<HostRuntime> as Store>⟧.view store) prefix.digits any
             (W.contents (plain_inner out.old)) (W.contents (plain_inner out.new))))) }
     {
-        let prefix = read_prefix(text, self.folder.kind)?;
+        let prefix = read_prefix(text, self.directory.kind)?;
         let loose = LooseIds::WithFirstByte(prefix.first_byte());
         let prefixes = [prefix];
         let checked = self.checked(&prefixes);
-        let mut store = store_now(self.rt, self.folder, None, loose, checked)?;
+        let mut store = store_now(self.rt, self.directory, None, loose, checked)?;
         let ran = self.ask_for_prefix(&mut store, &prefix, out);
         self.status_of(store, ran, out)
     }
@@ -208,11 +208,11 @@ impl Asked<'_> {
         ensures output { OnOk result (plain_failed out.new ≡ false) }
         ensures answered { IfOk result (λ status. IsSomeAnd self.new.kept (λ store. (any : Bool)
             × IsStatus (store.skipped_before.items ++ store.skipped.items) any status
-            × HasNamedAll ⟦<FolderStore<HostRuntime> as Reopen>⟧.may_have
-            ⟦<FolderStore<HostRuntime> as Store>⟧.view self.old.least store any
+            × HasNamedAll ⟦<DirectoryStore<HostRuntime> as Reopen>⟧.may_have
+            ⟦<DirectoryStore<HostRuntime> as Store>⟧.view self.old.least store any
             (W.contents (plain_inner out.old)) (W.contents (plain_inner out.new)))) }
     {
-        let mut store = FolderStore::open(self.rt, self.folder, LooseIds::All)?;
+        let mut store = DirectoryStore::open(self.rt, self.directory, LooseIds::All)?;
         let ran = names(self.rt.alloc(), &mut store, self.least, out);
         let was_whole = report_skipped(self.rt, store.skipped_before(), &mut self.reported);
         let status = self.status_of(store, ran, out)?;
@@ -231,16 +231,16 @@ impl Asked<'_> {
         ensures answered { IfOk result (λ status. IsSomeAnd self.new.kept (λ store. (all : Bool)
             × IsStatus store.skipped.items all status
             × HasAnsweredLines Global self.old.question answers self.old.least
-            (⟦<FolderStore<HostRuntime> as StorePaths>⟧.pack_path store)
-            (⟦<FolderStore<HostRuntime> as StorePaths>⟧.loose_paths store)
-            (⟦<FolderStore<HostRuntime> as Store>⟧.view store) (lines_of lines.now) all
+            (⟦<DirectoryStore<HostRuntime> as StorePaths>⟧.pack_path store)
+            (⟦<DirectoryStore<HostRuntime> as StorePaths>⟧.loose_paths store)
+            (⟦<DirectoryStore<HostRuntime> as Store>⟧.view store) (lines_of lines.now) all
             (W.contents (plain_inner out.old)) (W.contents (plain_inner out.new)))) }
     {
         let alloc = self.rt.alloc();
-        let lines = PrefixLines::read(alloc, self.folder.kind, lines)?;
+        let lines = PrefixLines::read(alloc, self.directory.kind, lines)?;
         let loose = loose_of(lines.prefixes());
         let checked = self.checked(lines.prefixes());
-        let mut store = store_now(self.rt, self.folder, self.kept.take(), loose, checked)?;
+        let mut store = store_now(self.rt, self.directory, self.kept.take(), loose, checked)?;
         let ran = self.ask_for_lines(&mut store, &lines, answers, out);
         self.status_of(store, ran, out)
     }
@@ -284,11 +284,11 @@ impl Asked<'_> {
     // The status of a command that ran over a store, which is kept.
     fn status_of<'a, W>(
         &mut self,
-        store: FolderStore<HostRuntime>,
+        store: DirectoryStore<HostRuntime>,
         ran: Result<bool, StoreError>,
         out: &Plain<W>,
     ) -> Result<u8, Failure<'a>>
-        requires kind { store.folder.kind ≡ self.old.folder.now.kind }
+        requires kind { store.directory.kind ≡ self.old.directory.now.kind }
         requires output { IsErrOf ran StoreError.Output ↔ (plain_failed out.now ≡ true) }
         ensures ran { IfOk result (λ status. IsOkAnd ran (λ any.
             IsStatus store.skipped.items any status)) }
@@ -311,7 +311,7 @@ impl Asked<'_> {
 
 // Why a look-up in a store fails; or why the store could not be opened again, after a pack index
 // was gone.
-fn failure_of<'a>(store: FolderStore<HostRuntime>, error: object_store::Error) -> Failure<'a> {
+fn failure_of<'a>(store: DirectoryStore<HostRuntime>, error: object_store::Error) -> Failure<'a> {
     match (error, store.into_reopen_error()) {
         (object_store::Error::Gone { .. }, Some(failed)) => Failure::Store(failed),
         (error, _) => Failure::LookUp(error),
@@ -359,13 +359,13 @@ fn first_lines(lines: &[u8], len: usize) -> (&[u8], &[u8])
 // objects whose ids begin with one of the prefixes are checked.
 fn store_now<'a>(
     rt: &HostRuntime,
-    folder: &ObjectsFolder,
-    kept: Option<FolderStore<HostRuntime>>,
+    directory: &ObjectDirectory,
+    kept: Option<DirectoryStore<HostRuntime>>,
     loose: LooseIds,
     checked: &[Prefix],
-) -> Result<FolderStore<HostRuntime>, Failure<'a>>
-    requires { ForSome kept (λ store. store.folder.kind ≡ folder.now.kind) }
-    ensures kind { IfOk result (λ store. store.folder.kind ≡ folder.now.kind) }
+) -> Result<DirectoryStore<HostRuntime>, Failure<'a>>
+    requires { ForSome kept (λ store. store.directory.kind ≡ directory.now.kind) }
+    ensures kind { IfOk result (λ store. store.directory.kind ≡ directory.now.kind) }
     ensures listed { IfOk result (λ store. store.loose.which ≡ loose) }
 {
     let store = match kept {
@@ -373,7 +373,7 @@ fn store_now<'a>(
             store.refresh(loose, SystemTime::now(rt).unwrap_or(UNIX_EPOCH))?;
             store
         }
-        None => FolderStore::open(rt, folder, loose)?,
+        None => DirectoryStore::open(rt, directory, loose)?,
     };
     for prefix in checked {
         store.check_loose_files(prefix)?;
@@ -430,25 +430,26 @@ fn status_if(is_whole: bool, any: bool) -> u8
 
 // The object directory that was asked for, or else the one that Git would find, with the kind that
 // was asked for.
-fn objects_folder<'a>(
+fn objects_directory<'a>(
     rt: &HostRuntime,
     request: &StoreRequest<'a>,
-) -> Result<ObjectsFolder, Failure<'a>>
-    ensures kind { IfOk result (λ folder. ForSome request.now.kind (λ kind. folder.kind ≡ kind)) }
-    ensures at { IfOk result (λ folder. ForSome request.now.objects (λ path.
-        string_bytes folder.path ≡ path.now)) }
+) -> Result<ObjectDirectory, Failure<'a>>
+    ensures kind { IfOk result (λ directory.
+        ForSome request.now.kind (λ kind. directory.kind ≡ kind)) }
+    ensures at { IfOk result (λ directory. ForSome request.now.objects (λ path.
+        string_bytes directory.path ≡ path.now)) }
 {
-    let mut folder = match request.objects {
+    let mut directory = match request.objects {
         Some(path) => {
             expect_text(rt, path)?;
-            ObjectsFolder::at(rt, path)?
+            ObjectDirectory::at(rt, path)?
         }
         None => find_objects(rt)?,
     };
     if let Some(kind) = request.kind {
-        folder.kind = kind;
+        directory.kind = kind;
     }
-    Ok(folder)
+    Ok(directory)
 }
 
 // The fewest digits of an abbreviation, at least 4, which fails if ids of this kind have fewer.

@@ -8,13 +8,13 @@ use Rattle.repositories.specs.Paths.{loose_path}
 -- the first two letters, a slash and the others, one after another
 pub written : (a b c d : Option (List ℕ)) (digits rest buffer : List ℕ) (n : ℕ) → buffer ≡ spelling hex_letter digits ++ rest → length digits ≡ n → 2 ≤ n
     → Appends a b (take 2 buffer) → Appends b c (47 ∷ []) → Appends c d (take (n - 2) (drop 2 buffer)) → Appends a d (loose_path digits)
-written a b c d [] rest buffer n is len most folder slash file = absurd (omega (arith, len, most))
-written a b c d (x ∷ []) rest buffer n is len most folder slash file = absurd (omega (arith, len, most))
-written a b c d (x ∷ (y ∷ digits)) rest buffer n is len most folder slash file =
+written a b c d [] rest buffer n is len most directory slash file = absurd (omega (arith, len, most))
+written a b c d (x ∷ []) rest buffer n is len most directory slash file = absurd (omega (arith, len, most))
+written a b c d (x ∷ (y ∷ digits)) rest buffer n is len most directory slash file =
     let letters = map hex_letter digits in
     let count : length letters ≡ n - 2 = omega (arith, length-map digits hex_letter, len) in
     let others : take (n - 2) (drop 2 buffer) ≡ letters = ap (λ l. take (n - 2) (drop 2 l)) is ∙ take_at letters rest (n - 2) count in
-    Appends-trans a b d _ (47 ∷ letters) (subst (Appends a b) (ap (take 2) is) folder)
+    Appends-trans a b d _ (47 ∷ letters) (subst (Appends a b) (ap (take 2) is) directory)
     (Appends-trans b c d (47 ∷ []) letters slash (subst (Appends c d) others file))
 
 -- the ids of a kind have two digits or more

@@ -20,13 +20,13 @@ text_is false path is = go (is_utf8 path) refl
     go true text = is.1 (IsUtf8-from_is_utf8 path text) ∙ sym text
 
 -- a path of a list was read that is not empty
-pub reads : (folder path : List ℕ) (walk next : Walk) (old new : List (List ℕ)) (b : Bool) → false ≡ (length path == 0) → IsTrue b ↔ IsUtf8 path → new ≡ old ++ (if b then path_join folder path ∷ [] else []) → next ≡ (if b then walk else skip walk)
-    → ◌≡◌ {A = Walk × List (List ℕ)} (next, new) (with_path folder path (walk, old))
-reads folder path walk next old new b some iff new_is next_is =
-    ap₂ (λ next new. (next, new)) next_is new_is ∙ both b ∙ ap (λ test. if test then (walk, old ++ path_join folder path ∷ []) else (skip walk, old)) (text_is b path iff)
-    ∙ ap (λ empty. if empty then (walk, old) else (if is_utf8 path then (walk, old ++ path_join folder path ∷ []) else (skip walk, old))) some
+pub reads : (directory path : List ℕ) (walk next : Walk) (old new : List (List ℕ)) (b : Bool) → false ≡ (length path == 0) → IsTrue b ↔ IsUtf8 path → new ≡ old ++ (if b then path_join directory path ∷ [] else []) → next ≡ (if b then walk else skip walk)
+    → ◌≡◌ {A = Walk × List (List ℕ)} (next, new) (with_path directory path (walk, old))
+reads directory path walk next old new b some iff new_is next_is =
+    ap₂ (λ next new. (next, new)) next_is new_is ∙ both b ∙ ap (λ test. if test then (walk, old ++ path_join directory path ∷ []) else (skip walk, old)) (text_is b path iff)
+    ∙ ap (λ empty. if empty then (walk, old) else (if is_utf8 path then (walk, old ++ path_join directory path ∷ []) else (skip walk, old))) some
   where
-    both : (b : Bool) → ◌≡◌ {A = Walk × List (List ℕ)} ((if b then walk else skip walk), old ++ (if b then path_join folder path ∷ [] else [])) (if b then (walk, old ++ path_join folder path ∷ []) else (skip walk, old))
+    both : (b : Bool) → ◌≡◌ {A = Walk × List (List ℕ)} ((if b then walk else skip walk), old ++ (if b then path_join directory path ∷ [] else [])) (if b then (walk, old ++ path_join directory path ∷ []) else (skip walk, old))
     both true = refl
     both false = ap (λ new. (skip walk, new)) (append-nil old)
 
@@ -34,10 +34,10 @@ drop_next : {X : Type 0} (xs : List X) (i : ℕ) (x : X) → i < length xs → x
 drop_next xs i x in_range is = drop-cons xs i x in_range ∙ ap (λ x. x ∷ drop (suc i) xs) (sym is) ∙ ap (λ n. x ∷ drop n xs) (sym (add-one i))
 
 -- one more path of a list was read
-pub read_next : {X : Type 0} (path_of : X → List ℕ) (folder : List ℕ) (named : List X) (i : ℕ) (path : X) (found next : Walk × List (List ℕ)) → i < length named → path ≡ get_or named i path
-    → next ≡ with_path folder (path_of path) found → with_paths folder (map path_of (drop i named)) found ≡ with_paths folder (map path_of (drop (i + 1) named)) next
-read_next path_of folder named i path found next in_range is read =
-    ap (λ left. with_paths folder (map path_of left) found) (drop_next named i path in_range is) ∙ ap (with_paths folder (map path_of (drop (i + 1) named))) (sym read)
+pub read_next : {X : Type 0} (path_of : X → List ℕ) (directory : List ℕ) (named : List X) (i : ℕ) (path : X) (found next : Walk × List (List ℕ)) → i < length named → path ≡ get_or named i path
+    → next ≡ with_path directory (path_of path) found → with_paths directory (map path_of (drop i named)) found ≡ with_paths directory (map path_of (drop (i + 1) named)) next
+read_next path_of directory named i path found next in_range is read =
+    ap (λ left. with_paths directory (map path_of left) found) (drop_next named i path in_range is) ∙ ap (with_paths directory (map path_of (drop (i + 1) named))) (sym read)
 
 -- one more path was visited
 pub each_next : {X : Type 0} (path_of : X → List ℕ) (visit_one : List ℕ → Walk → Answers → Option Walk) (paths : List X) (i : ℕ) (path : X) (walk next : Walk) (at : Answers) → i < length paths → path ≡ get_or paths i path

@@ -7,7 +7,7 @@ use Rattle.gix_hash.specs.declared.Kind.TheVariants.{Sha1}
 use Rattle.repositories.specs.Answers.{◌>>=◌, Answers}
 use Rattle.repositories.specs.Formats.{Says}
 use Rattle.repositories.specs.Heads.{is_head}
-use Rattle.repositories.specs.Lookups.{answered, if_there, is_file, is_folder, is_no_link, number_of, real_folder}
+use Rattle.repositories.specs.Lookups.{answered, if_there, is_file, is_directory, is_no_link, number_of, real_directory}
 use Rattle.repositories.specs.declared.repository.Environment.{Environment}
 
 -- whether a path leads to a file that is a HEAD
@@ -17,7 +17,7 @@ has_head_file path at = is_file path at >>= λ is.
 
 -- whether a directory has a HEAD: a link to a reference, which need not be there, or such a file
 abbrev pub has_head : List ℕ → Answers → Option Bool
-has_head folder at = let path = path_join folder (codes "HEAD") in elim (at.link path) [
+has_head directory at = let path = path_join directory (codes "HEAD") in elim (at.link path) [
   | Ok reference ↦ Some (starts_with nat_eq reference (codes "refs/"))
   | Err kind ↦ if is_no_link kind then has_head_file path at else None
 ]
@@ -41,51 +41,51 @@ named_by path at = if_there (at.text path) >>= λ text. option_and_then after_gi
 
 -- the directory that the file commondir of a directory names, or else the directory itself. An empty file is an error
 abbrev pub common_of : List ℕ → Answers → Option (List ℕ)
-common_of folder at = if_there (at.text (path_join folder (codes "commondir"))) >>= λ text. elim text [
-  | None ↦ Some folder
-  | Some name ↦ if length name == 0 then None else (answered (real_folder (path_join folder (without_line_ends name)) at) >>= λ real. Some real.0)
+common_of directory at = if_there (at.text (path_join directory (codes "commondir"))) >>= λ text. elim text [
+  | None ↦ Some directory
+  | Some name ↦ if length name == 0 then None else (answered (real_directory (path_join directory (without_line_ends name)) at) >>= λ real. Some real.0)
 ]
 
 -- the common directory: that of the environment, or else that of a directory
 abbrev pub common_at : Environment → List ℕ → Answers → Option (List ℕ)
-common_at given folder at = elim given.common_dir [ Some common ↦ Some (string_bytes common) | None ↦ common_of folder at ]
+common_at given directory at = elim given.common_dir [ Some common ↦ Some (string_bytes common) | None ↦ common_of directory at ]
 
 -- whether there are objects: those of the environment, or else those of a directory
 abbrev pub has_objects : Environment → List ℕ → Answers → Option Bool
-has_objects given folder at = elim given.object_directory [ Some objects ↦ is_folder (string_bytes objects) at | None ↦ is_folder (path_join folder (codes "objects")) at ]
+has_objects given directory at = elim given.object_directory [ Some objects ↦ is_directory (string_bytes objects) at | None ↦ is_directory (path_join directory (codes "objects")) at ]
 
 -- whether there are objects, and references in a directory
 abbrev pub has_both : Environment → List ℕ → Answers → Option Bool
-has_both given folder at = has_objects given folder at >>= λ has. if has then is_folder (path_join folder (codes "refs")) at else Some false
+has_both given directory at = has_objects given directory at >>= λ has. if has then is_directory (path_join directory (codes "refs")) at else Some false
 
 -- the repository that is a directory, by its common directory
 abbrev pub repository_at : Environment → List ℕ → Answers → Option (Option (List ℕ))
-repository_at given folder at = has_head folder at >>= λ has.
-    if has then (common_at given folder at >>= λ common. has_both given common at >>= λ both. if both then Some (Some common) else Some None) else Some None
+repository_at given directory at = has_head directory at >>= λ has.
+    if has then (common_at given directory at >>= λ common. has_both given common at >>= λ both. if both then Some (Some common) else Some None) else Some None
 
 -- the directory that is there, or that a gitfile names
-abbrev pub folder_at : List ℕ → Answers → Option (List ℕ)
-folder_at path at = is_file path at >>= λ is. if is then named_by path at else Some path
+abbrev pub directory_at : List ℕ → Answers → Option (List ℕ)
+directory_at path at = is_file path at >>= λ is. if is then named_by path at else Some path
 
 -- the repository that has to be there
 abbrev pub required : Environment → List ℕ → Answers → Option (List ℕ)
-required given path at = folder_at path at >>= λ folder. repository_at given folder at >>= λ found. found
+required given path at = directory_at path at >>= λ directory. repository_at given directory at >>= λ found. found
 
 -- the repository that a directory has as .git
 abbrev pub repository_of_worktree : Environment → List ℕ → Answers → Option (Option (List ℕ))
-repository_of_worktree given folder at = let path = path_join folder (codes ".git") in is_file path at >>= λ is.
+repository_of_worktree given directory at = let path = path_join directory (codes ".git") in is_file path at >>= λ is.
     if is then (required given path at >>= λ found. Some (Some found)) else repository_at given path at
 
 -- the directory with the objects, references and config of a repository, and the top of its worktree, from which relative paths of the environment lead; it is empty for the current directory
 pub record Repository : Type 0 where
-  pub folder : List ℕ
+  pub directory : List ℕ
   pub top : List ℕ
 
 -- the repository of a directory: as .git, or else as a bare repository, whose top is the current directory
 unfoldable pub repository_in : Environment → List ℕ → Answers → Option (Option Repository)
-repository_in given folder at = repository_of_worktree given folder at >>= λ found. elim found [
-  | Some found ↦ Some (Some (record { folder = found; top = folder }))
-  | None ↦ repository_at given folder at >>= λ found. Some (option_map (λ found. record { folder = found; top = [] }) found)
+repository_in given directory at = repository_of_worktree given directory at >>= λ found. elim found [
+  | Some found ↦ Some (Some (record { directory = found; top = directory }))
+  | None ↦ repository_at given directory at >>= λ found. Some (option_map (λ found. record { directory = found; top = [] }) found)
 ]
 
 -- what was found, or what is found next if it was nothing
@@ -95,13 +95,13 @@ or_next found next = found
 
 -- the repository of the first of so many directories, from this one upwards, that has one
 unfoldable pub first_above : Environment → ℕ → List ℕ → Answers → Option (Option Repository)
-first_above given zero folder at = Some None
-first_above given (suc n) folder at = or_next (repository_in given folder at)
-    (elim (path_parent folder) [ None ↦ Some None | Some above ↦ first_above given n above at ])
+first_above given zero directory at = Some None
+first_above given (suc n) directory at = or_next (repository_in given directory at)
+    (elim (path_parent directory) [ None ↦ Some None | Some above ↦ first_above given n above at ])
 
 -- a repository in the current directory, which is its top
 abbrev pub without_top : Option (Option Repository) → Option (Option Repository)
-without_top found = found >>= λ found. Some (option_map (λ found. record { folder = found.folder; top = [] }) found)
+without_top found = found >>= λ found. Some (option_map (λ found. record { directory = found.directory; top = [] }) found)
 
 -- the repository of the current directory, or of the first above it that has one. A path has at most 4096 bytes, two for each directory
 abbrev pub find_from : Environment → List ℕ → Answers → Option (Option Repository)
@@ -110,24 +110,24 @@ find_from given here at = or_next (without_top (repository_in given here at))
 
 -- whether two paths lead to the same directory, as the root and the one above it do
 abbrev pub is_highest : List ℕ → List ℕ → Answers → Option Bool
-is_highest folder above at = number_of folder at >>= λ number. number_of above at >>= λ other. Some (number.dev == other.dev && number.ino == other.ino)
+is_highest directory above at = number_of directory at >>= λ number. number_of above at >>= λ other. Some (number.dev == other.dev && number.ino == other.ino)
 
 -- the repository of the first of so many directories, from this one upwards, that has one: by relative paths, where the path of the current directory is not UTF-8
 unfoldable pub find_above : Environment → ℕ → List ℕ → Answers → Option (Option Repository)
-find_above given zero folder at = Some None
-find_above given (suc n) folder at = or_next (repository_in given folder at)
-    (let above = path_join folder (codes "..") in is_highest folder above at >>= λ is. if is then Some None else find_above given n above at)
+find_above given zero directory at = Some None
+find_above given (suc n) directory at = or_next (repository_in given directory at)
+    (let above = path_join directory (codes "..") in is_highest directory above at >>= λ is. if is then Some None else find_above given n above at)
 
 -- the repository that the environment names, or that of the current directory or above it. A path has at most 4096 bytes, three for each directory above
 unfoldable pub look_for : Environment → Option (List ℕ) → Answers → Option (Option Repository)
 look_for given here at = elim given.dir [
-  | Some path ↦ required given (string_bytes path) at >>= λ found. Some (Some (record { folder = found; top = [] }))
+  | Some path ↦ required given (string_bytes path) at >>= λ found. Some (Some (record { directory = found; top = [] }))
   | None ↦ elim here [ Some here ↦ find_from given here at | None ↦ find_above given 1365 (codes ".") at ]
 ]
 
 -- with the common directory of the environment, if it names one: relative to the top
 abbrev pub with_common : Environment → Repository → Repository
-with_common given found = elim given.common_dir [ Some common ↦ record { folder = path_join found.top (string_bytes common); top = found.top } | None ↦ found ]
+with_common given found = elim given.common_dir [ Some common ↦ record { directory = path_join found.top (string_bytes common); top = found.top } | None ↦ found ]
 
 -- the repository
 unfoldable pub find : Environment → Option (List ℕ) → Answers → Option (Option Repository)
@@ -135,14 +135,14 @@ find given here at = look_for given here at >>= λ found. Some (option_map (with
 
 -- what the config in a directory says of the kind of ids, or none if there is no config
 abbrev pub ConfigSays : List ℕ → Option Kind → Answers → Type 0
-ConfigSays folder kind at = let answer = at.bytes (path_join folder (codes "config")) in elim kind [
+ConfigSays directory kind at = let answer = at.bytes (path_join directory (codes "config")) in elim kind [
   | None ↦ if_there answer ≡ Some None
   | Some kind ↦ (text : List ℕ) × (answer ≡ Ok text) × Says text (Ok kind)
 ]
 
 -- the kind of a repository's ids: SHA-1 if there is no config
 abbrev pub HasKind : List ℕ → Kind → Answers → Type 0
-HasKind folder kind at = ConfigSays folder (Some kind) at ⊎ (ConfigSays folder None at × (kind ≡ Sha1))
+HasKind directory kind at = ConfigSays directory (Some kind) at ⊎ (ConfigSays directory None at × (kind ≡ Sha1))
 
 -- the kind of an object directory without a repository, by the config beside it; if it is a link, beside the directory, or else beside the link
 abbrev pub HasKindBeside : List ℕ → Kind → Answers → Type 0
@@ -152,12 +152,12 @@ HasKindBeside objects kind at =
 
 -- the object directory of a repository: that of the environment, relative to the top, or else its own
 abbrev pub objects_of : Environment → Repository → List ℕ
-objects_of given found = elim given.object_directory [ Some path ↦ path_join found.top (string_bytes path) | None ↦ path_join found.folder (codes "objects") ]
+objects_of given found = elim given.object_directory [ Some path ↦ path_join found.top (string_bytes path) | None ↦ path_join found.directory (codes "objects") ]
 
 -- the object directory has this path, and its ids this kind: that of the repository, or else that of the environment
 abbrev pub IsObjectDirectory : Environment → Option (List ℕ) → List ℕ → Kind → Answers → Type 0
 IsObjectDirectory given here path kind at = elim (find given here at) [
-  | Some (Some found) ↦ (path ≡ objects_of given found) × HasKind found.folder kind at
+  | Some (Some found) ↦ (path ≡ objects_of given found) × HasKind found.directory kind at
   | Some None ↦ (Some path ≡ option_map string_bytes given.object_directory) × HasKindBeside path kind at
   | None ↦ ⊥
 ]

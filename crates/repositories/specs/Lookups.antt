@@ -38,8 +38,8 @@ abbrev pub leads_to : (Found → Bool) → List ℕ → Answers → Option Bool
 leads_to is_such path at = if_found (at.look path) >>= λ found. elim found [ None ↦ Some false | Some found ↦ Some (is_such found) ]
 
 -- whether it leads to a directory
-abbrev pub is_folder : List ℕ → Answers → Option Bool
-is_folder = leads_to (λ found. found.is_folder)
+abbrev pub is_directory : List ℕ → Answers → Option Bool
+is_directory = leads_to (λ found. found.is_directory)
 
 -- whether it leads to a file
 abbrev pub is_file : List ℕ → Answers → Option Bool
@@ -54,17 +54,17 @@ abbrev pub number_of : List ℕ → Answers → Option FileNumber
 number_of path at = answered (at.look path) >>= λ found. Some (number_in found)
 
 -- the path, and the number if it is wanted, of the directory that a look answered
-abbrev pub if_folder : Bool → List ℕ → Result Found ErrorKind → Result (List ℕ × Option FileNumber) ErrorKind
-if_folder is_numbered path (Err kind) = Err kind
-if_folder is_numbered path (Ok found) =
-    if found.is_folder then Ok (path, (if is_numbered then Some (number_in found) else None)) else Err NotADirectory
+abbrev pub if_directory : Bool → List ℕ → Result Found ErrorKind → Result (List ℕ × Option FileNumber) ErrorKind
+if_directory is_numbered path (Err kind) = Err kind
+if_directory is_numbered path (Ok found) =
+    if found.is_directory then Ok (path, (if is_numbered then Some (number_in found) else None)) else Err NotADirectory
 
 -- the directory at the absolute path that was answered; or, if that is not UTF-8, at the path itself, with its number
 abbrev pub if_real : List ℕ → Answers → Result (List ℕ) ErrorKind → Result (List ℕ × Option FileNumber) ErrorKind
-if_real path at (Ok real) = if_folder false real (at.look real)
-if_real path at (Err InvalidFilename) = if_folder true path (at.look path)
+if_real path at (Ok real) = if_directory false real (at.look real)
+if_real path at (Err InvalidFilename) = if_directory true path (at.look path)
 if_real path at (Err kind) = Err kind
 
 -- the directory that a path leads to, by its absolute path without links
-abbrev pub real_folder : List ℕ → Answers → Result (List ℕ × Option FileNumber) ErrorKind
-real_folder path at = if_real path at (at.real path)
+abbrev pub real_directory : List ℕ → Answers → Result (List ℕ × Option FileNumber) ErrorKind
+real_directory path at = if_real path at (at.real path)

@@ -9,10 +9,10 @@ use Rattle.std.specs.declared.io.ErrorKind.{ErrorKind}
 use Rattle.std.specs.declared.time.Duration.{Duration}
 use Rattle.repositories.specs.Alternates.{paths_named}
 use Rattle.repositories.specs.Answers.{◌>>=◌, Answers}
-use Rattle.repositories.specs.Lookups.{answered, if_there, real_folder}
+use Rattle.repositories.specs.Lookups.{answered, if_there, real_directory}
 use Rattle.repositories.specs.declared.files.FileNumber.{FileNumber}
-use Rattle.repositories.specs.declared.folders.Folders.{Folders}
-use Rattle.repositories.specs.declared.folders.Walk.{Walk as AWalk}
+use Rattle.repositories.specs.declared.object_directories.ObjectDirectories.{ObjectDirectories}
+use Rattle.repositories.specs.declared.object_directories.Walk.{Walk as AWalk}
 use Rattle.repositories.specs.declared.state.FileState.{FileState}
 
 -- a walk as far as it has come: the paths of the directories, the numbers of those whose absolute paths are not UTF-8, and how many paths were skipped
@@ -32,8 +32,8 @@ numbers_with numbers None = numbers
 numbers_with numbers (Some number) = numbers ++ number ∷ []
 
 -- the walk with a directory
-abbrev pub with_folder : List ℕ × Option FileNumber → Walk → Walk
-with_folder real walk = record { paths = walk.paths ++ real.0 ∷ []; numbers = numbers_with walk.numbers real.1; skipped = walk.skipped }
+abbrev pub with_directory : List ℕ × Option FileNumber → Walk → Walk
+with_directory real walk = record { paths = walk.paths ++ real.0 ∷ []; numbers = numbers_with walk.numbers real.1; skipped = walk.skipped }
 
 -- the walk with a path that is skipped
 abbrev pub skip : Walk → Walk
@@ -52,29 +52,29 @@ text_at list at = state_at list at >>= λ state. elim state [
 
 -- a walk, and the paths of a list so far, with one more path: it is relative to the directory of the list. An empty one is that directory, and one that is not UTF-8 is skipped
 abbrev pub with_path : List ℕ → List ℕ → Walk × List (List ℕ) → Walk × List (List ℕ)
-with_path folder path found =
+with_path directory path found =
     if length path == 0 then found else
-    if is_utf8 path then (found.0, found.1 ++ path_join folder path ∷ []) else (skip found.0, found.1)
+    if is_utf8 path then (found.0, found.1 ++ path_join directory path ∷ []) else (skip found.0, found.1)
 
 -- the same with some paths
 abbrev pub with_paths : List ℕ → List (List ℕ) → Walk × List (List ℕ) → Walk × List (List ℕ)
-with_paths folder [] found = found
-with_paths folder (path ∷ paths) found = with_paths folder paths (with_path folder path found)
+with_paths directory [] found = found
+with_paths directory (path ∷ paths) found = with_paths directory paths (with_path directory path found)
 
 -- the paths in the list of alternates of a directory, and the walk with those of them that are skipped
 abbrev pub list_at : List ℕ → Walk → Answers → Option (Walk × List (List ℕ))
-list_at folder walk at = text_at (path_join folder (codes "info/alternates")) at >>= λ text. Some (with_paths folder (paths_named 10 text) (walk, []))
+list_at directory walk at = text_at (path_join directory (codes "info/alternates")) at >>= λ text. Some (with_paths directory (paths_named 10 text) (walk, []))
 
 -- the walk with a directory, and the paths in its list; but none of them if it is there already, or if it is skipped, since it cannot be read or no level is left
 abbrev pub visited : ℕ → Result (List ℕ × Option FileNumber) ErrorKind → Walk → Answers → Option (Walk × List (List ℕ))
 visited levels (Err kind) walk at = Some (skip walk, [])
 visited levels (Ok real) walk at =
     if has real walk then Some (walk, []) else if levels == 0 then Some (skip walk, [])
-    else (list_at real.0 walk at >>= λ found. Some (with_folder real found.0, found.1))
+    else (list_at real.0 walk at >>= λ found. Some (with_directory real found.0, found.1))
 
 -- the same of the directory that a path leads to
 abbrev pub visit : ℕ → List ℕ → Walk → Answers → Option (Walk × List (List ℕ))
-visit levels path walk at = visited levels (real_folder path at) walk at
+visit levels path walk at = visited levels (real_directory path at) walk at
 
 -- the walk after visits of some paths, one after the other
 abbrev pub each : (List ℕ → Walk → Answers → Option Walk) → List (List ℕ) → Walk → Answers → Option Walk
@@ -93,7 +93,7 @@ visit_all levels = each (visit_below levels)
 -- an object directory, its alternates that the environment gives, and those of its list, each with its alternates, which are nested up to 5 times
 abbrev pub walk_from : List ℕ × Option FileNumber → List (List ℕ) → Walk → Answers → Option Walk
 walk_from real given walk at =
-    visit_all 6 given (with_folder real walk) at >>= λ walk. list_at real.0 walk at >>= λ found. visit_all 6 found.1 found.0 at
+    visit_all 6 given (with_directory real walk) at >>= λ walk. list_at real.0 walk at >>= λ found. visit_all 6 found.1 found.0 at
 
 -- some paths, the first of which becomes this one
 abbrev pub with_first : List ℕ → List (List ℕ) → List (List ℕ)
@@ -102,7 +102,7 @@ with_first path (first ∷ rest) = path ∷ rest
 
 -- the paths of an object directory and its alternates, and how many are skipped. The directory has the path that was given
 abbrev pub with_alternates : List ℕ → List (List ℕ) → Answers → Option (List (List ℕ) × ℕ)
-with_alternates objects given at = answered (real_folder objects at) >>= λ real.
+with_alternates objects given at = answered (real_directory objects at) >>= λ real.
     walk_from real given (record { paths = []; numbers = []; skipped = 0 }) at >>= λ walk. Some (with_first objects walk.paths, walk.skipped)
 
 -- a walk of the code in these definitions
@@ -110,8 +110,8 @@ abbrev pub walk_of : AWalk → Walk
 walk_of walk = record { paths = map string_bytes walk.found.paths.items; numbers = walk.numbers.items; skipped = length walk.found.skipped.items }
 
 -- the paths that a walk found, and how many were skipped
-abbrev pub folders_of : Folders → List (List ℕ) × ℕ
-folders_of folders = (map string_bytes folders.paths.items, length folders.skipped.items)
+abbrev pub directories_of : ObjectDirectories → List (List ℕ) × ℕ
+directories_of directories = (map string_bytes directories.paths.items, length directories.skipped.items)
 
 -- whether paths are the same, one by one
 abbrev pub are_same_paths : List (String Global) → List (String Global) → Bool

@@ -12,12 +12,12 @@ use std::{fs, io};
 ///
 /// ```
 /// let found = rt.look(".git")?;
-/// println!(rt; "{}", found.is_folder)?;
+/// println!(rt; "{}", found.is_directory)?;
 /// ```
 #[derive(Clone, Copy, Debug)]
 pub struct Found {
     /// Whether it is a directory.
-    pub is_folder: bool,
+    pub is_directory: bool,
     /// Whether it is a regular file.
     pub is_file: bool,
     /// Which one it is, its size and its times.
@@ -69,7 +69,7 @@ impl<R: Files + AllocGlobal> Directories for R {
     fn look(&self, path: &str) -> io::Result<Found> {
         let found = metadata(self, path)?;
         Ok(Found {
-            is_folder: found.is_dir(),
+            is_directory: found.is_dir(),
             is_file: found.is_file(),
             state: FileState::new(&found),
         })

@@ -7,8 +7,8 @@ ghost use Rattle.std.specs.Str.{IsUtf8};
 ghost use Rattle.std.specs.declared.io.ErrorKind.{ErrorKind};
 ghost use Rattle.repositories.specs.Answers.{Answered, Finds, IfKnown, is_memory};
 ghost use Rattle.repositories.specs.Discovery.{ConfigSays, HasKind, HasKindBeside};
-ghost use Rattle.repositories.specs.Lookups.{answered, if_folder, if_found, is_file, is_folder, is_missing, real_folder};
-ghost use Rattle.repositories.specs.Views.{folder_of};
+ghost use Rattle.repositories.specs.Lookups.{answered, if_directory, if_found, is_file, is_directory, is_missing, real_directory};
+ghost use Rattle.repositories.specs.Views.{directory_of};
 
 use crate::config::kind_in_config;
 use crate::directories::{Directories, Found};
@@ -26,28 +26,28 @@ use std::str;
 /// ```
 /// let packs = join(rt, ".git/objects", "pack")?;
 /// ```
-pub fn join(rt: &impl AllocGlobal, folder: &str, path: &str) -> Result<String, AllocError>
-    ensures { IfOk result (λ joined. string_bytes joined ≡ path_join folder.now path.now) }
+pub fn join(rt: &impl AllocGlobal, directory: &str, path: &str) -> Result<String, AllocError>
+    ensures { IfOk result (λ joined. string_bytes joined ≡ path_join directory.now path.now) }
 {
-    Ok(Path::new(folder).join(rt.alloc(), path)?.into_string())
+    Ok(Path::new(directory).join(rt.alloc(), path)?.into_string())
 }
 
 // Adds a path that the list of a directory names, if it is UTF-8, and returns whether it is.
 pub(crate) fn push_path(
     rt: &impl AllocGlobal,
-    folder: &str,
+    directory: &str,
     path: &[u8],
     paths: &mut Vec<String>,
 ) -> Result<bool, AllocError>
     ensures text { IfOk result (λ is_text. IsTrue is_text ↔ IsUtf8 path.now) }
     ensures pushed { IfOk result (λ is_text. map string_bytes paths.new.items
         ≡ map string_bytes paths.old.items
-        ++ (if is_text then path_join folder.now path.now ∷ [] else [])) }
+        ++ (if is_text then path_join directory.now path.now ∷ [] else [])) }
 {
     let Ok(path) = str::from_utf8(path) else {
         return Ok(false);
     };
-    paths.push(join(rt, folder, path)?)?;
+    paths.push(join(rt, directory, path)?)?;
     Ok(true)
 }
 
@@ -55,7 +55,7 @@ pub(crate) fn push_path(
 /// the call.
 ///
 /// ```
-/// let folder = retried(|| rt.open_dir(".git/objects/pack/"))?;
+/// let directory = retried(|| rt.open_dir(".git/objects/pack/"))?;
 /// ```
 pub fn retried<T: Drop, F: FnMut() -> io::Result<T>>(mut call: F) -> io::Result<T>
     requires { F.IsAlwaysCallable call }
@@ -110,7 +110,7 @@ pub(crate) fn if_there<T: Drop>(
 
 // A directory that is there.
 #[derive(Drop)]
-pub(crate) struct RealFolder {
+pub(crate) struct RealDirectory {
     // Its absolute path, without links; or the path as it was given, if that is not UTF-8.
     pub(crate) path: String,
     // Its number, if its absolute path is not UTF-8.
@@ -125,37 +125,42 @@ pub(crate) struct FileNumber {
 }
 
 // The directory that a path leads to.
-pub(crate) fn real_folder<R: Directories>(rt: &R, path: &str) -> io::Result<RealFolder>
-    ensures { Answered folder_of result (real_folder path.now) (R.answers rt.now) }
+pub(crate) fn real_directory<R: Directories>(rt: &R, path: &str) -> io::Result<RealDirectory>
+    ensures { Answered directory_of result (real_directory path.now) (R.answers rt.now) }
 {
     match rt.real_path(path) {
-        Ok(real) => if_folder(rt, real, false),
+        Ok(real) => if_directory(rt, real, false),
         Err(error) if error.kind() == ErrorKind::InvalidFilename => {
-            if_folder(rt, String::from_str(rt.alloc(), path)?, true)
+            if_directory(rt, String::from_str(rt.alloc(), path)?, true)
         }
         Err(error) => Err(error),
     }
 }
 
 // The directory that has this path, with its number if that is wanted.
-fn if_folder<R: Directories>(rt: &R, path: String, is_numbered: bool) -> io::Result<RealFolder>
-    ensures { Answered folder_of result
-        (λ at. if_folder is_numbered (string_bytes path) (at.look (string_bytes path)))
+fn if_directory<R: Directories>(
+    rt: &R,
+    path: String,
+    is_numbered: bool,
+) -> io::Result<RealDirectory>
+    ensures { Answered directory_of result
+        (λ at. if_directory is_numbered (string_bytes path) (at.look (string_bytes path)))
         (R.answers rt.now) }
 {
     let found = rt.look(&path)?;
-    if !found.is_folder {
+    if !found.is_directory {
         return Err(ErrorKind::NotADirectory.into());
     }
     let number = is_numbered.then_some(found.state.number());
-    Ok(RealFolder { path, number })
+    Ok(RealDirectory { path, number })
 }
 
 // The same, where a directory that is not there is an error.
-pub(crate) fn existing_folder<R: Directories>(rt: &R, path: &str) -> Result<RealFolder, Error>
-    ensures { Finds folder_of result (λ at. answered (real_folder path.now at)) (R.answers rt.now) }
+pub(crate) fn existing_directory<R: Directories>(rt: &R, path: &str) -> Result<RealDirectory, Error>
+    ensures { Finds directory_of result (λ at. answered (real_directory path.now at))
+        (R.answers rt.now) }
 {
-    match real_folder(rt, path) {
+    match real_directory(rt, path) {
         Ok(real) => Ok(real),
         Err(error) => Err(Error::file(rt.alloc(), path, error)),
     }
@@ -165,7 +170,7 @@ pub(crate) fn existing_folder<R: Directories>(rt: &R, path: &str) -> Result<Real
 pub(crate) fn parent(path: &str) -> Option<&str>
     ensures { option_copied result ≡ path_parent path.now }
 {
-    Path::new(path).parent().map(|folder| folder.as_str())
+    Path::new(path).parent().map(|directory| directory.as_str())
 }
 
 // The path of the directory in which a path is, or else the path itself.
@@ -173,7 +178,7 @@ fn parent_or_self(path: &str) -> &str
     ensures { result.now ≡ unwrap_or (path_parent path.now) path.now }
 {
     match parent(path) {
-        Some(folder) => folder,
+        Some(directory) => directory,
         None => path,
     }
 }
@@ -189,11 +194,11 @@ fn look_at<R: Directories>(rt: &R, path: &str) -> Result<Option<Found>, Error>
 }
 
 // Whether a path leads to a directory.
-pub(crate) fn is_folder<R: Directories>(rt: &R, path: &str) -> Result<bool, Error>
-    ensures { Finds (λ is. is) result (is_folder path.now) (R.answers rt.now) }
+pub(crate) fn is_directory<R: Directories>(rt: &R, path: &str) -> Result<bool, Error>
+    ensures { Finds (λ is. is) result (is_directory path.now) (R.answers rt.now) }
 {
     match look_at(rt, path)? {
-        Some(found) => Ok(found.is_folder),
+        Some(found) => Ok(found.is_directory),
         None => Ok(false),
     }
 }
@@ -209,18 +214,22 @@ pub(crate) fn is_file<R: Directories>(rt: &R, path: &str) -> Result<bool, Error>
 }
 
 // Whether a directory has one of this name.
-pub(crate) fn has_folder<R: Directories>(rt: &R, folder: &str, name: &str) -> Result<bool, Error>
-    ensures { Finds (λ has. has) result (is_folder (path_join folder.now name.now))
+pub(crate) fn has_directory<R: Directories>(
+    rt: &R,
+    directory: &str,
+    name: &str,
+) -> Result<bool, Error>
+    ensures { Finds (λ has. has) result (is_directory (path_join directory.now name.now))
         (R.answers rt.now) }
 {
-    is_folder(rt, &join(rt, folder, name)?)
+    is_directory(rt, &join(rt, directory, name)?)
 }
 
 // The kind of a repository's ids by its config in a directory. SHA-1 if there is no config.
-pub(crate) fn kind_by_config<R: Directories>(rt: &R, folder: &str) -> Result<Kind, Error>
-    ensures { IfOk result (λ kind. IfKnown (HasKind folder.now kind) (R.answers rt.now)) }
+pub(crate) fn kind_by_config<R: Directories>(rt: &R, directory: &str) -> Result<Kind, Error>
+    ensures { IfOk result (λ kind. IfKnown (HasKind directory.now kind) (R.answers rt.now)) }
 {
-    match kind_if_config(rt, folder)? {
+    match kind_if_config(rt, directory)? {
         Some(kind) => Ok(kind),
         None => Ok(Kind::Sha1),
     }
@@ -239,10 +248,10 @@ pub(crate) fn kind_beside<R: Directories>(rt: &R, objects: &str) -> Result<Kind,
 }
 
 // The kind by the config in a directory, or `None` if there is no config.
-fn kind_if_config<R: Directories>(rt: &R, folder: &str) -> Result<Option<Kind>, Error>
-    ensures { IfOk result (λ kind. IfKnown (ConfigSays folder.now kind) (R.answers rt.now)) }
+fn kind_if_config<R: Directories>(rt: &R, directory: &str) -> Result<Option<Kind>, Error>
+    ensures { IfOk result (λ kind. IfKnown (ConfigSays directory.now kind) (R.answers rt.now)) }
 {
-    let path = join(rt, folder, "config")?;
+    let path = join(rt, directory, "config")?;
     let Some(text) = if_there(rt, &path, rt.read(&path))? else {
         return Ok(None);
     };

@@ -8,7 +8,7 @@ ghost use Rattle.repositories.specs.Views.{repository_of};
 use crate::alternates::alternate_paths;
 use crate::directories::Directories;
 use crate::error::{Cause, Error};
-use crate::files::{has_folder, is_file, join, kind_beside, kind_by_config, push_path};
+use crate::files::{has_directory, is_file, join, kind_beside, kind_by_config, push_path};
 use crate::repository::{Environment, Repository, Search};
 use gix_hash::Kind;
 use std::env;
@@ -20,11 +20,11 @@ pub(crate) const ALTERNATES: &str = "GIT_ALTERNATE_OBJECT_DIRECTORIES";
 /// An object directory that was found, and the kind of its ids.
 ///
 /// ```
-/// let folder = find_objects(rt)?;
-/// println!(rt; "{}, {} ids", folder.path, folder.kind)?;
+/// let directory = find_objects(rt)?;
+/// println!(rt; "{}, {} ids", directory.path, directory.kind)?;
 /// ```
 #[derive(Debug, Drop)]
-pub struct ObjectsFolder {
+pub struct ObjectDirectory {
     /// The path of the directory.
     pub path: String,
     /// The kind of all ids: by the config, or SHA-1 without one. A caller may set another.
@@ -34,7 +34,7 @@ pub struct ObjectsFolder {
     pub alternates: Vec<String>,
 }
 
-impl ObjectsFolder {
+impl ObjectDirectory {
     /// The object directory at a path, with the kind that the config beside it says. It is SHA-1 if
     /// there is no config. The environment adds no alternates.
     ///
@@ -45,18 +45,18 @@ impl ObjectsFolder {
     /// [`Cause::File`] and [`Cause::Config`].
     ///
     /// ```
-    /// let folder = ObjectsFolder::at(rt, ".git/objects")?;
-    /// assert!(rt; folder.alternates.is_empty());
+    /// let directory = ObjectDirectory::at(rt, ".git/objects")?;
+    /// assert!(rt; directory.alternates.is_empty());
     /// ```
-    pub fn at<R: Directories>(rt: &R, path: &str) -> Result<ObjectsFolder, Error>
-        ensures path { IfOk result (λ folder. string_bytes folder.path ≡ path.now) }
-        ensures alternates { IfOk result (λ folder. folder.alternates.items ≡ []) }
+    pub fn at<R: Directories>(rt: &R, path: &str) -> Result<ObjectDirectory, Error>
+        ensures path { IfOk result (λ directory. string_bytes directory.path ≡ path.now) }
+        ensures alternates { IfOk result (λ directory. directory.alternates.items ≡ []) }
     {
         if !is_store(rt, path)? {
             return Err(no_store(rt, path)?);
         }
         let kind = kind_beside(rt, path)?;
-        Ok(ObjectsFolder {
+        Ok(ObjectDirectory {
             path: String::from_str(rt.alloc(), path)?,
             kind,
             alternates: Vec::new(rt.alloc()),
@@ -79,7 +79,7 @@ impl ObjectsFolder {
 ///
 /// The errors are [`Error::Memory`] and the causes [`Cause::NoRepository`], [`Cause::Text`],
 /// [`Cause::File`] and [`Cause::Config`].
-pub fn find_objects<R: Directories + Env>(rt: &R) -> Result<ObjectsFolder, Error> {
+pub fn find_objects<R: Directories + Env>(rt: &R) -> Result<ObjectDirectory, Error> {
     let given = Environment::read(rt)?;
     match given.dir {
         Some(_) => find_objects_in(rt, &given, None),
@@ -104,13 +104,13 @@ fn current_dir(rt: &(impl Env + AllocGlobal)) -> Result<Option<String>, Error> {
 /// error, and never taken for a file that is not there. The errors are those of [`find_objects`].
 ///
 /// ```
-/// let folder = find_objects_in(rt, &Environment::read(rt)?, Some("/home/me/project"))?;
+/// let directory = find_objects_in(rt, &Environment::read(rt)?, Some("/home/me/project"))?;
 /// ```
 pub fn find_objects_in<R: Directories>(
     rt: &R,
     given: &Environment,
     here: Option<&str>,
-) -> Result<ObjectsFolder, Error>
+) -> Result<ObjectDirectory, Error>
     ensures { IfOk result (λ found. IfKnown
         (IsObjectDirectory given.now (option_copied here.entry) (string_bytes found.path)
         found.kind)
@@ -128,18 +128,18 @@ fn objects_of<R: Directories>(
     rt: &R,
     given: &Environment,
     repository: &Repository,
-) -> Result<ObjectsFolder, Error>
+) -> Result<ObjectDirectory, Error>
     ensures path { IfOk result (λ found. string_bytes found.path
         ≡ objects_of given.now (repository_of repository.now)) }
     ensures kind { IfOk result (λ found. IfKnown
-        (HasKind (string_bytes repository.now.folder) found.kind) (R.answers rt.now)) }
+        (HasKind (string_bytes repository.now.directory) found.kind) (R.answers rt.now)) }
 {
-    let kind = kind_by_config(rt, &repository.folder)?;
+    let kind = kind_by_config(rt, &repository.directory)?;
     let path = match &given.object_directory {
         Some(path) => join(rt, &repository.top, path)?,
-        None => join(rt, &repository.folder, "objects")?,
+        None => join(rt, &repository.directory, "objects")?,
     };
-    Ok(ObjectsFolder {
+    Ok(ObjectDirectory {
         path,
         kind,
         alternates: alternates(rt, given, &repository.top)?,
@@ -147,7 +147,7 @@ fn objects_of<R: Directories>(
 }
 
 // The object directory that the environment names, where there is no repository.
-fn objects_given<R: Directories>(rt: &R, given: &Environment) -> Result<ObjectsFolder, Error>
+fn objects_given<R: Directories>(rt: &R, given: &Environment) -> Result<ObjectDirectory, Error>
     ensures path { IfOk result (λ found. Some (string_bytes found.path)
         ≡ option_map string_bytes given.now.object_directory) }
     ensures kind { IfOk result (λ found. IfKnown
@@ -157,7 +157,7 @@ fn objects_given<R: Directories>(rt: &R, given: &Environment) -> Result<ObjectsF
         return Err(Error::of(rt.alloc(), Cause::NoRepository));
     };
     let kind = kind_beside(rt, path)?;
-    Ok(ObjectsFolder {
+    Ok(ObjectDirectory {
         path: String::from_str(rt.alloc(), path)?,
         kind,
         alternates: alternates(rt, given, "")?,
@@ -166,31 +166,31 @@ fn objects_given<R: Directories>(rt: &R, given: &Environment) -> Result<ObjectsF
 
 // The directories that `$GIT_ALTERNATE_OBJECT_DIRECTORIES` names, relative to a directory.
 fn alternates(rt: &impl AllocGlobal, given: &Environment, top: &str) -> Result<Vec<String>, Error> {
-    let mut folders = Vec::new(rt.alloc());
+    let mut directories = Vec::new(rt.alloc());
     if let Some(list) = &given.alternate_object_directories {
         for path in &alternate_paths(rt.alloc(), list.as_bytes(), b':')? {
-            let folder = if path.is_empty() { "" } else { top };
-            if !push_path(rt, folder, path, &mut folders)? {
+            let directory = if path.is_empty() { "" } else { top };
+            if !push_path(rt, directory, path, &mut directories)? {
                 return Err(Error::text(rt.alloc(), ALTERNATES, "a path is not UTF-8"));
             }
         }
     }
-    Ok(folders)
+    Ok(directories)
 }
 
 // Whether a directory is an object directory.
 fn is_store<R: Directories>(rt: &R, path: &str) -> Result<bool, Error> {
     Ok(
-        has_folder(rt, path, "pack")?
+        has_directory(rt, path, "pack")?
             || is_file(rt, &join(rt, path, "info/alternates")?)?
-            || has_loose_folder(rt, path)?,
+            || has_loose_directory(rt, path)?,
     )
 }
 
 // Whether a directory has a fan-out directory.
-fn has_loose_folder<R: Directories>(rt: &R, path: &str) -> Result<bool, Error> {
+fn has_loose_directory<R: Directories>(rt: &R, path: &str) -> Result<bool, Error> {
     for byte in 0..=u8::MAX {
-        if has_folder(rt, path, &format!(in rt.alloc(); "{byte:02x}")?)? {
+        if has_directory(rt, path, &format!(in rt.alloc(); "{byte:02x}")?)? {
             return Ok(true);
         }
     }
@@ -201,7 +201,7 @@ fn has_loose_folder<R: Directories>(rt: &R, path: &str) -> Result<bool, Error> {
 fn no_store<R: Directories>(rt: &R, path: &str) -> Result<Error, Error> {
     let alloc = rt.alloc();
     match rt.look(path) {
-        Ok(found) if found.is_folder => Ok(Error::of(alloc, no_store_but(rt, path)?)),
+        Ok(found) if found.is_directory => Ok(Error::of(alloc, no_store_but(rt, path)?)),
         Ok(_) => Ok(Error::file(alloc, path, ErrorKind::NotADirectory.into())),
         Err(error) => Ok(Error::file(alloc, path, error)),
     }

@@ -14,7 +14,7 @@ mod directories;
 mod error;
 mod files;
 mod finding;
-mod folders;
+mod object_directories;
 /// Paths of loose objects.
 pub mod paths;
 /// Ids in texts.
@@ -25,7 +25,7 @@ mod state;
 pub use directories::{Directories, Found};
 pub use error::{Cause, Error};
 pub use files::{join, metadata, retried};
-pub use finding::{ObjectsFolder, find_objects, find_objects_in};
-pub use folders::{Folders, with_alternates};
+pub use finding::{ObjectDirectory, find_objects, find_objects_in};
+pub use object_directories::{ObjectDirectories, with_alternates};
 pub use repository::Environment;
 pub use state::FileState;

@@ -34,11 +34,11 @@ pub fn read_loose_path(kind: Kind, path: &[u8]) -> Option<ObjectId>
     if path.len() < 3 || path.len() > 65 {
         return None;
     }
-    let (folder, rest) = path.split_at(2);
+    let (directory, rest) = path.split_at(2);
     let file = after_key(b"/", rest)?;
     let mut digits = [0; 64];
-    put_both(folder, file, &mut digits);
-    read_printed(kind, &digits[..folder.len() + file.len()])
+    put_both(directory, file, &mut digits);
+    read_printed(kind, &digits[..directory.len() + file.len()])
 }
 
 // Writes two slices to the front of a buffer, one after the other.

@@ -5,7 +5,7 @@ ghost use Rattle.std.specs.Char.{is_ascii_hexdigit};
 ghost use Rattle.std.specs.IoError.{error_kind};
 ghost use Rattle.std.specs.List.{prefix_len};
 ghost use Rattle.repositories.specs.Answers.{Finds, IsFound};
-ghost use Rattle.repositories.specs.Discovery.{after_gitdir, common_at, common_of, find, find_above, find_from, first_above, folder_at, has_both, has_head, has_head_file, has_objects, is_highest, look_for, named_by, repository_at, repository_in, repository_of_worktree, required, without_line_ends};
+ghost use Rattle.repositories.specs.Discovery.{after_gitdir, common_at, common_of, find, find_above, find_from, first_above, directory_at, has_both, has_head, has_head_file, has_objects, is_highest, look_for, named_by, repository_at, repository_in, repository_of_worktree, required, without_line_ends};
 ghost use Rattle.repositories.specs.Heads.{begins_head, is_blank, is_head};
 ghost use Rattle.repositories.specs.Lookups.{is_no_link, number_of};
 ghost use Rattle.repositories.specs.Views.{repository_of};
@@ -13,7 +13,8 @@ ghost use Rattle.repositories.specs.Views.{repository_of};
 use crate::directories::Directories;
 use crate::error::Error;
 use crate::files::{
-    FileNumber, existing_folder, has_folder, if_there, is_file, is_folder, is_missing, join, parent,
+    FileNumber, existing_directory, has_directory, if_there, is_directory, is_file, is_missing,
+    join, parent,
 };
 use crate::finding::ALTERNATES;
 use std::alloc::AllocError;
@@ -83,7 +84,7 @@ fn variable(rt: &(impl Env + AllocGlobal), name: &str) -> Result<Option<String>,
 #[derive(Drop)]
 pub(crate) struct Repository {
     // The directory with its objects, references and config.
-    pub(crate) folder: String,
+    pub(crate) directory: String,
     // From where relative paths of the environment lead: the top of its worktree, if it was found
     // there, since Git goes there first. It is empty for the current directory.
     pub(crate) top: String,
@@ -109,7 +110,7 @@ impl<R: Directories> Search<'_, R> {
         };
         match &self.given.common_dir {
             Some(common) => Ok(Some(Repository {
-                folder: join(self.rt, &found.top, common)?,
+                directory: join(self.rt, &found.top, common)?,
                 top: found.top,
             })),
             None => Ok(Some(found)),
@@ -148,17 +149,17 @@ impl<R: Directories> Search<'_, R> {
 
     // The repository of the first of so many directories, from this one upwards, that has one.
     #[tactic(auto, unfolding(crate::specs::Discovery::first_above))]
-    fn first_above(&self, folder: &str, levels: u16) -> Result<Option<Repository>, Error>
+    fn first_above(&self, directory: &str, levels: u16) -> Result<Option<Repository>, Error>
         ensures { Finds (option_map repository_of) result
-            (first_above self.now.given.now levels folder.now) (R.answers self.now.rt.now) }
+            (first_above self.now.given.now levels directory.now) (R.answers self.now.rt.now) }
     {
         if levels == 0 {
             return Ok(None);
         }
-        if let Some(found) = self.repository_in(folder)? {
+        if let Some(found) = self.repository_in(directory)? {
             return Ok(Some(found));
         }
-        match parent(folder) {
+        match parent(directory) {
             Some(above) => self.first_above(above, levels - 1),
             None => Ok(None),
         }
@@ -166,18 +167,18 @@ impl<R: Directories> Search<'_, R> {
 
     // The same by relative paths, for a current directory whose path is not UTF-8.
     #[tactic(auto, unfolding(crate::specs::Discovery::find_above))]
-    fn find_above(&self, folder: &str, levels: u16) -> Result<Option<Repository>, Error>
+    fn find_above(&self, directory: &str, levels: u16) -> Result<Option<Repository>, Error>
         ensures { Finds (option_map repository_of) result
-            (find_above self.now.given.now levels folder.now) (R.answers self.now.rt.now) }
+            (find_above self.now.given.now levels directory.now) (R.answers self.now.rt.now) }
     {
         if levels == 0 {
             return Ok(None);
         }
-        if let Some(found) = self.repository_in(folder)? {
+        if let Some(found) = self.repository_in(directory)? {
             return Ok(Some(found));
         }
-        let above = join(self.rt, folder, "..")?;
-        if is_highest(self.rt, folder, &above)? {
+        let above = join(self.rt, directory, "..")?;
+        if is_highest(self.rt, directory, &above)? {
             return Ok(None);
         }
         self.find_above(&above, levels - 1)
@@ -186,25 +187,25 @@ impl<R: Directories> Search<'_, R> {
     // The repository of a directory, if it has one: as `.git`, which is a directory or a gitfile,
     // or else as a bare repository.
     #[tactic(auto, unfolding(crate::specs::Discovery::repository_in))]
-    fn repository_in(&self, folder: &str) -> Result<Option<Repository>, Error>
+    fn repository_in(&self, directory: &str) -> Result<Option<Repository>, Error>
         ensures { Finds (option_map repository_of) result
-            (repository_in self.now.given.now folder.now) (R.answers self.now.rt.now) }
+            (repository_in self.now.given.now directory.now) (R.answers self.now.rt.now) }
     {
-        if let Some(repository) = self.repository_of_worktree(folder)? {
-            return with_top(self.rt, repository, folder);
+        if let Some(repository) = self.repository_of_worktree(directory)? {
+            return with_top(self.rt, repository, directory);
         }
-        match self.repository_at(folder)? {
+        match self.repository_at(directory)? {
             Some(repository) => with_top(self.rt, repository, ""),
             None => Ok(None),
         }
     }
 
     // The repository that a directory has as `.git`.
-    fn repository_of_worktree(&self, folder: &str) -> Result<Option<String>, Error>
+    fn repository_of_worktree(&self, directory: &str) -> Result<Option<String>, Error>
         ensures { Finds (option_map string_bytes) result
-            (repository_of_worktree self.now.given.now folder.now) (R.answers self.now.rt.now) }
+            (repository_of_worktree self.now.given.now directory.now) (R.answers self.now.rt.now) }
     {
-        let path = join(self.rt, folder, ".git")?;
+        let path = join(self.rt, directory, ".git")?;
         if is_file(self.rt, &path)? {
             Ok(Some(self.required(&path)?))
         } else {
@@ -217,16 +218,16 @@ impl<R: Directories> Search<'_, R> {
         ensures { Finds string_bytes result (required self.now.given.now path.now)
             (R.answers self.now.rt.now) }
     {
-        let folder = self.folder_at(path)?;
-        match self.repository_at(&folder)? {
+        let directory = self.directory_at(path)?;
+        match self.repository_at(&directory)? {
             Some(repository) => Ok(repository),
-            None => Err(Error::text(self.rt.alloc(), &folder, "not a git repository")),
+            None => Err(Error::text(self.rt.alloc(), &directory, "not a git repository")),
         }
     }
 
     // The directory that is there, or the one that a file names.
-    fn folder_at(&self, path: &str) -> Result<String, Error>
-        ensures { Finds string_bytes result (folder_at path.now) (R.answers self.now.rt.now) }
+    fn directory_at(&self, path: &str) -> Result<String, Error>
+        ensures { Finds string_bytes result (directory_at path.now) (R.answers self.now.rt.now) }
     {
         if is_file(self.rt, path)? {
             named_by(self.rt, path)
@@ -237,14 +238,14 @@ impl<R: Directories> Search<'_, R> {
 
     // The repository that is a directory with `HEAD`, by the directory with its objects and
     // references; `None` if there are none. Objects that the environment names need not be there.
-    fn repository_at(&self, folder: &str) -> Result<Option<String>, Error>
+    fn repository_at(&self, directory: &str) -> Result<Option<String>, Error>
         ensures { Finds (option_map string_bytes) result
-            (repository_at self.now.given.now folder.now) (R.answers self.now.rt.now) }
+            (repository_at self.now.given.now directory.now) (R.answers self.now.rt.now) }
     {
-        if !has_head(self.rt, folder)? {
+        if !has_head(self.rt, directory)? {
             return Ok(None);
         }
-        let common = self.common_at(folder)?;
+        let common = self.common_at(directory)?;
         if self.has_both(&common)? {
             Ok(Some(common))
         } else {
@@ -253,41 +254,41 @@ impl<R: Directories> Search<'_, R> {
     }
 
     // The directory that the environment names as the common one, or else that of a directory.
-    fn common_at(&self, folder: &str) -> Result<String, Error>
-        ensures { Finds string_bytes result (common_at self.now.given.now folder.now)
+    fn common_at(&self, directory: &str) -> Result<String, Error>
+        ensures { Finds string_bytes result (common_at self.now.given.now directory.now)
             (R.answers self.now.rt.now) }
     {
         match &self.given.common_dir {
             Some(common) => Ok(String::from_str(self.rt.alloc(), common)?),
-            None => common_of(self.rt, folder),
+            None => common_of(self.rt, directory),
         }
     }
 
     // Whether there are objects, and the references of a directory.
-    fn has_both(&self, folder: &str) -> Result<bool, Error>
-        ensures { Finds (λ has. has) result (has_both self.now.given.now folder.now)
+    fn has_both(&self, directory: &str) -> Result<bool, Error>
+        ensures { Finds (λ has. has) result (has_both self.now.given.now directory.now)
             (R.answers self.now.rt.now) }
     {
-        Ok(self.has_objects(folder)? && has_folder(self.rt, folder, "refs")?)
+        Ok(self.has_objects(directory)? && has_directory(self.rt, directory, "refs")?)
     }
 
     // Whether there are the objects that the environment names, or else those of a directory.
-    fn has_objects(&self, folder: &str) -> Result<bool, Error>
-        ensures { Finds (λ has. has) result (has_objects self.now.given.now folder.now)
+    fn has_objects(&self, directory: &str) -> Result<bool, Error>
+        ensures { Finds (λ has. has) result (has_objects self.now.given.now directory.now)
             (R.answers self.now.rt.now) }
     {
         match &self.given.object_directory {
-            Some(objects) => is_folder(self.rt, objects),
-            None => has_folder(self.rt, folder, "objects"),
+            Some(objects) => is_directory(self.rt, objects),
+            None => has_directory(self.rt, directory, "objects"),
         }
     }
 }
 
 // Whether no other directory above this one can be seen. The directory above the root is the root.
-fn is_highest<R: Directories>(rt: &R, folder: &str, above: &str) -> Result<bool, Error>
-    ensures { Finds (λ is. is) result (is_highest folder.now above.now) (R.answers rt.now) }
+fn is_highest<R: Directories>(rt: &R, directory: &str, above: &str) -> Result<bool, Error>
+    ensures { Finds (λ is. is) result (is_highest directory.now above.now) (R.answers rt.now) }
 {
-    Ok(number_of(rt, folder)? == number_of(rt, above)?)
+    Ok(number_of(rt, directory)? == number_of(rt, above)?)
 }
 
 // The number of what a path leads to.
@@ -301,12 +302,16 @@ fn number_of<R: Directories>(rt: &R, path: &str) -> Result<FileNumber, Error>
 }
 
 // A repository that was found, and its top.
-fn with_top(rt: &impl AllocGlobal, folder: String, top: &str) -> Result<Option<Repository>, Error>
+fn with_top(
+    rt: &impl AllocGlobal,
+    directory: String,
+    top: &str,
+) -> Result<Option<Repository>, Error>
     ensures { IsFound (option_map repository_of) result
-        (Some (Some (record { folder = string_bytes folder; top = top.now }))) }
+        (Some (Some (record { directory = string_bytes directory; top = top.now }))) }
 {
     let top = String::from_str(rt.alloc(), top)?;
-    Ok(Some(Repository { folder, top }))
+    Ok(Some(Repository { directory, top }))
 }
 
 // The directory that a file `.git` names.
@@ -316,8 +321,8 @@ fn named_by<R: Directories>(rt: &R, path: &str) -> Result<String, Error>
     if let Some(text) = if_there(rt, path, rt.read_text(path))?
         && let Some(name) = after_gitdir(&text)
     {
-        let folder = parent(path).unwrap_or("");
-        return Ok(join(rt, folder, without_line_ends(name))?);
+        let directory = parent(path).unwrap_or("");
+        return Ok(join(rt, directory, without_line_ends(name))?);
     }
     Err(Error::text(rt.alloc(), path, "names no directory"))
 }
@@ -330,26 +335,26 @@ fn after_gitdir(text: &str) -> Option<&str>
 }
 
 // The directory that the file `commondir` of a worktree names, or else the directory itself.
-fn common_of<R: Directories>(rt: &R, folder: &str) -> Result<String, Error>
-    ensures { Finds string_bytes result (common_of folder.now) (R.answers rt.now) }
+fn common_of<R: Directories>(rt: &R, directory: &str) -> Result<String, Error>
+    ensures { Finds string_bytes result (common_of directory.now) (R.answers rt.now) }
 {
-    let path = join(rt, folder, "commondir")?;
+    let path = join(rt, directory, "commondir")?;
     match if_there(rt, &path, rt.read_text(&path))? {
         Some(name) if name.is_empty() => Err(Error::text(rt.alloc(), &path, "empty")),
         Some(name) => {
-            let common = join(rt, folder, without_line_ends(&name))?;
-            Ok(existing_folder(rt, &common)?.path)
+            let common = join(rt, directory, without_line_ends(&name))?;
+            Ok(existing_directory(rt, &common)?.path)
         }
-        None => Ok(String::from_str(rt.alloc(), folder)?),
+        None => Ok(String::from_str(rt.alloc(), directory)?),
     }
 }
 
 // Whether a directory has a `HEAD` of a repository: a link to a reference, which need not be there,
 // or a file that names a reference or begins with an id. A directory is none.
-fn has_head<R: Directories>(rt: &R, folder: &str) -> Result<bool, Error>
-    ensures { Finds (λ has. has) result (has_head folder.now) (R.answers rt.now) }
+fn has_head<R: Directories>(rt: &R, directory: &str) -> Result<bool, Error>
+    ensures { Finds (λ has. has) result (has_head directory.now) (R.answers rt.now) }
 {
-    let path = join(rt, folder, "HEAD")?;
+    let path = join(rt, directory, "HEAD")?;
     match rt.read_link(&path) {
         Ok(reference) => Ok(reference.as_bytes().starts_with(b"refs/")),
         Err(error) if is_no_link(&error) => has_head_file(rt, &path),

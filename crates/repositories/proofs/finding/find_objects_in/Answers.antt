@@ -7,7 +7,7 @@ use Rattle.repositories.specs.declared.repository.Environment.{Environment}
 use Rattle.repositories.proofs.finding.find_objects_in.Goals as goal
 
 of_repository : (given : Environment) (here : Option (List ℕ)) (path : List ℕ) (kind : Kind) (at : Answers) (found : Repository)
-    → find given here at ≡ Some (Some found) → path ≡ objects_of given found → HasKind found.folder kind at → IsObjectDirectory given here path kind at
+    → find given here at ≡ Some (Some found) → path ≡ objects_of given found → HasKind found.directory kind at → IsObjectDirectory given here path kind at
 of_repository given here path kind at found is same says = rw (is, IsObjectDirectory) (same, says)
 
 pub returns-in_ok-objects_of-in-Some : goal.returns-in_ok-objects_of-in-Some

@@ -1,7 +1,7 @@
 use Rattle.gix_hash.proofs.Std.{All, List, Some, subst, sym, ℕ, ◌≡◌}
 use Rattle.gix_hash.specs.Words.{KindDigits, first_byte_of}
-use Rattle.store_folders.specs.Stores.{only_of}
-use Rattle.store_folders.specs.declared.loose.LooseIds.{LooseIds}
+use Rattle.directory_store.specs.Stores.{only_of}
+use Rattle.directory_store.specs.declared.loose.LooseIds.{LooseIds}
 use Rattle.packtool.proofs.StatusLemmas.{kept-answer}
 use Rattle.packtool.proofs.stores.Asked.write_for_lines.Goals as goal
 

@@ -1,0 +1,4 @@
+mod Clones
+mod FileNames
+mod DirectoryTables
+mod HexBytes

@@ -1,0 +1,17 @@
+//! Object stores in directories, as Git has them (gitrepository-layout).
+//!
+//! [`DirectoryStore`] is an [`object_store::Store`]: the pack indexes and the loose objects of an
+//! object directory and of its alternates, as `repositories` finds them.
+#![tactic(auto)]
+
+mod error;
+mod listing;
+mod loose;
+mod packs;
+mod source;
+mod store;
+
+pub use error::Error;
+pub use loose::LooseIds;
+pub use source::Source;
+pub use store::DirectoryStore;

@@ -1,0 +1,422 @@
+//! The loose objects in object directories, by the names of their files.
+
+ghost use Rattle.std.specs.Prelude.{◌≡◌, ◌≢◌, ◌<◌, ◌*◌, ◌++◌, ◌∷◌, ◌==◌, All, IfOk, IfSome, IsNone, MatchOption, None, OnOk, false, length, map, string_bytes, vec_len};
+ghost use Rattle.std.specs.List.{slice_split};
+ghost use Rattle.gix_hash.specs.Words.{hex_letter, id_digits, id_kind};
+ghost use Rattle.directory_store.specs.Stores.{AppendsLooseIds, AreAllOf, AreSettled, IsLooseId, fan_outs_of, hex_of, only_of, path_in, paths_in};
+
+use crate::error::Error;
+use crate::listing::{
+    are_settled, expect_state, expect_states, list_names, state_if_there, state_of, states_of,
+    what_is_at,
+};
+use gix_hash::{Kind, ObjectId};
+use object_store::LooseTable;
+use repositories::paths::write_loose_path;
+use repositories::printed::read_printed;
+use repositories::{FileState, metadata};
+use std::alloc::{AllocError, Global};
+use std::io;
+use std::rt::Files;
+use std::time::SystemTime;
+
+// How often the fan-out directories of a first byte are listed that change meanwhile.
+const MAX_TRIES: usize = 100;
+
+/// Which loose objects of a store are listed as it is opened: those that will be asked for.
+///
+/// ```
+/// let loose = LooseIds::WithFirstByte(prefix.first_byte());
+/// let store = DirectoryStore::open(rt, &find_objects(rt)?, loose)?;
+/// ```
+#[derive(Clone, Copy, PartialEq, Eq, Debug)]
+pub enum LooseIds {
+    /// All of them.
+    All,
+    /// Those whose ids have a first byte. A look-up of another byte finds no loose object.
+    WithFirstByte(u8),
+}
+
+// An object directory, and the ids of its loose objects.
+#[derive(Drop)]
+pub(crate) struct LooseDirectory {
+    pub(crate) path: String,
+    pub(crate) table: LooseTable,
+}
+
+// The loose objects that were listed.
+#[derive(Drop)]
+pub(crate) struct LooseObjects {
+    pub(crate) which: LooseIds,
+    pub(crate) kind: Kind,
+    pub(crate) directories: Vec<LooseDirectory>,
+    // The ids of all of them.
+    pub(crate) table: LooseTable,
+    // The states of the fan-out directories before they were listed, if each later change leaves
+    // others.
+    states: Option<Vec<FileState>>,
+    ghost of_kind: { table.kind ≡ kind },
+    ghost directories_of_kind: { All (λ directory. directory.table.kind ≡ kind) directories.items },
+    ghost all: { AreAllOf directories.items table.ids },
+}
+
+impl LooseObjects {
+    // Whether they are what a listing of these object directories would give now.
+    pub(crate) fn are_unchanged<R: Files + AllocGlobal>(
+        &self,
+        rt: &R,
+        paths: &[String],
+    ) -> Result<bool, Error>
+        ensures { self.now.states ≡ None → IfOk result (λ same. same ≡ false) }
+    {
+        match &self.states {
+            Some(states) => Ok(Places { rt, paths }.states(self.which)? == *states),
+            None => Ok(false),
+        }
+    }
+}
+
+// Takes from listed loose objects of a kind those that were asked for so, if they are there.
+pub(crate) fn take_loose(
+    listed: &mut Vec<LooseObjects>,
+    which: LooseIds,
+    kind: Kind,
+) -> Option<LooseObjects>
+    requires { All (λ loose. loose.kind ≡ kind) listed.old.items }
+    ensures which { IfSome result (λ loose. loose.which ≡ which) }
+    ensures none { IsNone result → All (λ loose. loose.which ≢ which) listed.old.items }
+    ensures kind { IfSome result (λ loose. loose.kind ≡ kind) }
+    ensures rest { All (λ loose. loose.kind ≡ kind) listed.new.items }
+{
+    let at = listed.iter().position(|loose| loose.which == which)?;
+    Some(listed.remove(at))
+}
+
+// The fan-out directory of a first byte, in the object directory at a position, and its names.
+#[derive(Drop)]
+struct Part {
+    at: usize,
+    byte: u8,
+    path: String,
+    // Its state before it is listed, if it must not have changed then.
+    state: Option<FileState>,
+    names: Vec<u8>,
+}
+
+impl Part {
+    // Lists the names. Fails if the directory has changed.
+    fn list<R: Files + AllocGlobal>(&mut self, rt: &R) -> Result<(), Error>
+        ensures { (self.new.at ≡ self.old.at) × (self.new.byte ≡ self.old.byte) }
+    {
+        self.names = list_names(rt, &self.path)?;
+        match &self.state {
+            Some(state) => expect_state(rt, &self.path, state),
+            None => Ok(()),
+        }
+    }
+}
+
+// Lists the loose objects in object directories. If the time before is given, it is also looked at
+// what these may be compared by later.
+pub(crate) fn list_loose<R: Files + AllocGlobal>(
+    rt: &R,
+    paths: &[String],
+    kind: Kind,
+    which: LooseIds,
+    now: Option<SystemTime>,
+) -> Result<LooseObjects, Error>
+    ensures kind { IfOk result (λ loose. loose.kind ≡ kind) }
+    ensures which { IfOk result (λ loose. loose.which ≡ which) }
+    ensures settled { IfOk result (λ loose. IfSome loose.states (λ states.
+        AreSettled now states.items)) }
+{
+    let places = Places { rt, paths };
+    let states = places.settled_states(which, now)?;
+    let directories = places.list_directories(kind, which)?;
+    let table = table_of(rt.alloc(), &directories, kind)?;
+    Ok(LooseObjects {
+        which,
+        kind,
+        directories,
+        table,
+        states,
+    })
+}
+
+// The ids of all loose objects in object directories.
+fn table_of(
+    alloc: Global,
+    directories: &[LooseDirectory],
+    kind: Kind,
+) -> Result<LooseTable, AllocError>
+    requires { All (λ directory. directory.table.kind ≡ kind) directories.now }
+    ensures kind { IfOk result (λ table. table.kind ≡ kind) }
+    ensures all { IfOk result (λ table. AreAllOf directories.now table.ids) }
+{
+    let mut ids = Vec::new(alloc);
+    for directory in directories {
+        ids.extend_from_slice(directory.table.ids())?;
+    }
+    Ok(LooseTable::new(ids, kind))
+}
+
+// Object directories.
+#[derive(Drop)]
+struct Places<'a, R> {
+    rt: &'a R,
+    paths: &'a [String],
+}
+
+impl<R: Files + AllocGlobal> Places<'_, R> {
+    // The states of the fan-out directories that are asked for, if the time before is given, and
+    // each later change leaves others.
+    fn settled_states(
+        &self,
+        which: LooseIds,
+        now: Option<SystemTime>,
+    ) -> Result<Option<Vec<FileState>>, Error>
+        ensures { IfOk result (λ states. IfSome states (λ states. AreSettled now states.items)) }
+    {
+        let Some(now) = now else {
+            return Ok(None);
+        };
+        let states = self.states(which)?;
+        Ok(are_settled(&states, now).then_some(states))
+    }
+
+    // The states of the fan-out directories that are asked for.
+    fn states(&self, which: LooseIds) -> Result<Vec<FileState>, Error>
+        ensures { IfOk result (λ states. vec_len states
+            ≡ length self.now.paths.now * fan_outs_of which) }
+    {
+        let (first, last) = bytes_of(which);
+        let mut states = Vec::new(self.rt.alloc());
+        for path in self.paths {
+            for byte in first..=last {
+                states.push(state_of(self.rt, &fan_out(self.rt, path, byte)?)?)?;
+            }
+        }
+        Ok(states)
+    }
+
+    // The loose objects in each of the directories.
+    fn list_directories(&self, kind: Kind, which: LooseIds) -> Result<Vec<LooseDirectory>, Error>
+        ensures kinds { IfOk result (λ directories.
+            All (λ directory. directory.table.kind ≡ kind) directories.items) }
+        ensures paths { IfOk result (λ directories. map (λ directory. string_bytes directory.path)
+            directories.items ≡ map string_bytes self.now.paths.now) }
+    {
+        let parts = self.list_parts(which)?;
+        let mut directories = Vec::new(self.rt.alloc());
+        for path in self.paths {
+            directories.push(directory_of(self.rt, path, kind, directories.len(), &parts)?)?;
+        }
+        Ok(directories)
+    }
+
+    // Lists the fan-out directories, one first byte after the other. If there are several object
+    // directories, in none a fan-out directory may come or go meanwhile. Fails if one does, or if
+    // one changes each time that it is listed.
+    fn list_parts(&self, which: LooseIds) -> Result<Vec<Part>, Error> {
+        let (first, last) = bytes_of(which);
+        let several = if self.paths.len() > 1 {
+            self.paths
+        } else {
+            &[]
+        };
+        let before = states_of(self.rt, several)?;
+        let mut parts = Vec::new(self.rt.alloc());
+        for byte in first..=last {
+            parts.append(&mut self.parts_with(byte)?)?;
+        }
+        expect_states(self.rt, several, &before)?;
+        Ok(parts)
+    }
+
+    // Lists the fan-out directory of a first byte, in each object directory. The names of several
+    // were there at one time: else an object that is moved from one into another might be in
+    // neither. Fails if one of them changes each time.
+    fn parts_with(&self, byte: u8) -> Result<Vec<Part>, Error> {
+        for _ in 1..MAX_TRIES {
+            let listed = self.parts_if_unchanged(byte);
+            if !matches!(&listed, Err(error) if error.is_change()) {
+                return listed;
+            }
+        }
+        self.parts_if_unchanged(byte)
+    }
+
+    // Lists the fan-out directories of a first byte that are there. Fails if there are several
+    // object directories, and one of them has changed since all were there.
+    fn parts_if_unchanged(&self, byte: u8) -> Result<Vec<Part>, Error> {
+        let mut parts = self.parts_there(byte)?;
+        for part in &mut parts {
+            part.list(self.rt)?;
+        }
+        Ok(parts)
+    }
+
+    // The fan-out directories of a first byte that are there, with their states; in a single object
+    // directory, without.
+    fn parts_there(&self, byte: u8) -> Result<Vec<Part>, Error> {
+        let mut parts = Vec::new(self.rt.alloc());
+        for (at, path) in self.paths.iter().enumerate() {
+            let path = fan_out(self.rt, path, byte)?;
+            let mut state = None;
+            if self.paths.len() > 1 {
+                state = state_if_there(self.rt, &path)?;
+                if state.is_none() {
+                    continue;
+                }
+            }
+            let names = Vec::new(self.rt.alloc());
+            parts.push(Part {
+                at,
+                byte,
+                path,
+                state,
+                names,
+            })?;
+        }
+        Ok(parts)
+    }
+}
+
+// The first and the last of the first bytes that are asked for.
+fn bytes_of(which: LooseIds) -> (u8, u8)
+    ensures { MatchOption (only_of which) (result ≡ record { 0 = 0; 1 = 255 })
+        (λ byte. result ≡ record { 0 = byte; 1 = byte }) }
+{
+    match which {
+        LooseIds::All => (0, u8::MAX),
+        LooseIds::WithFirstByte(byte) => (byte, byte),
+    }
+}
+
+// The path of the fan-out directory of a first byte.
+fn fan_out(rt: &impl AllocGlobal, path: &str, byte: u8) -> Result<String, AllocError>
+    ensures { IfOk result (λ directory. string_bytes directory ≡ path.now ++ 47 ∷ hex_of byte) }
+{
+    format!(in rt.alloc(); "{path}/{byte:02x}")
+}
+
+// The loose objects in the object directory at a position. Names that are no loose object's are
+// skipped, as those of temporary files and names in capitals.
+fn directory_of(
+    rt: &impl AllocGlobal,
+    path: &str,
+    kind: Kind,
+    at: usize,
+    parts: &[Part],
+) -> Result<LooseDirectory, Error>
+    ensures path { IfOk result (λ directory. string_bytes directory.path ≡ path.now) }
+    ensures kind { IfOk result (λ directory. directory.table.kind ≡ kind) }
+{
+    let mut ids = Vec::new(rt.alloc());
+    for part in parts {
+        if part.at == at {
+            push_ids(kind, part.byte, &part.names, &mut ids)?;
+        }
+    }
+    let path = String::from_str(rt.alloc(), path)?;
+    let table = LooseTable::new(ids, kind);
+    Ok(LooseDirectory { path, table })
+}
+
+// Adds the ids of the loose objects whose files have these names, each ended by a NUL, in the
+// directory of a first byte.
+fn push_ids(kind: Kind, byte: u8, names: &[u8], ids: &mut Vec<ObjectId>) -> Result<(), AllocError>
+    ensures kinds { OnOk result (All (λ id. id_kind id ≡ kind) ids.old.items
+        → All (λ id. id_kind id ≡ kind) ids.new.items) }
+    ensures ids { OnOk result (AppendsLooseIds kind byte
+        (slice_split (λ byte. byte == 0) names.now) ids.old.items ids.new.items) }
+{
+    for name in names.split(|byte| *byte == 0) {
+        let Some(id) = loose_id(kind, byte, name) else {
+            continue;
+        };
+        ids.push(id)?;
+    }
+    Ok(())
+}
+
+// The id of the loose object whose file has this name, in the directory of a first byte.
+fn loose_id(kind: Kind, byte: u8, name: &[u8]) -> Option<ObjectId>
+    ensures { IsLooseId kind byte name.now result }
+{
+    let mut text = [0; 64];
+    if name.len() > 62 {
+        return None;
+    }
+    let len = 2 + name.len();
+    text[0] = letter(byte / 16);
+    text[1] = letter(byte % 16);
+    text[2..len].copy_from_slice(name);
+    read_printed(kind, &text[..len])
+}
+
+// The letter of a hex digit.
+fn letter(digit: u8) -> u8
+    requires { digit < 16 }
+    ensures { result ≡ hex_letter digit }
+{
+    match digit {
+        0..10 => b'0' + digit,
+        _ => b'a' - 10 + digit,
+    }
+}
+
+// Adds the path of the file of a loose object in an object directory, if it is there.
+pub(crate) fn push_path(
+    alloc: Global,
+    directory: &LooseDirectory,
+    id: &ObjectId,
+    paths: &mut Vec<String>,
+) -> Result<(), AllocError>
+    ensures { OnOk result (map string_bytes paths.new.items ≡ map string_bytes paths.old.items
+        ++ paths_in (string_bytes directory.now.path) directory.now.table.ids (id_digits id.now)) }
+{
+    if directory.table.contains(id) {
+        paths.push(loose_path(alloc, &directory.path, id)?)?;
+    }
+    Ok(())
+}
+
+// The path of the file of a loose object in an object directory.
+pub(crate) fn loose_path(
+    alloc: Global,
+    directory: &str,
+    id: &ObjectId,
+) -> Result<String, AllocError>
+    ensures { IfOk result (λ path. string_bytes path ≡ path_in directory.now (id_digits id.now)) }
+{
+    let mut path = directory.as_bytes().to_vec(alloc)?;
+    path.push(b'/')?;
+    let Ok(()) = write_loose_path(id, &mut path) else {
+        return Err(AllocError);
+    };
+    // It is UTF-8, as the directory's and the digits are.
+    match String::from_utf8(path) {
+        Ok(path) => Ok(path),
+        Err(_) => Err(AllocError),
+    }
+}
+
+// Checks the file of a loose object in an object directory.
+pub(crate) fn check_loose_file<R: Files + AllocGlobal>(
+    rt: &R,
+    directory: &str,
+    id: &ObjectId,
+) -> Result<(), Error> {
+    let path = loose_path(rt.alloc(), directory, id)?;
+    let Err(error) = metadata(rt, &path) else {
+        return Ok(());
+    };
+    let is_missing = error.kind() == io::ErrorKind::NotFound;
+    match what_is_at(rt, &path) {
+        // (one that has come back)
+        Ok(found) if is_missing && found.is_file() => Ok(()),
+        Err(gone) if gone.kind() == io::ErrorKind::NotFound => Ok(()),
+        _ => Err(Error::file(rt.alloc(), &path, error)),
+    }
+}

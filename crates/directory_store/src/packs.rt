@@ -1,0 +1,321 @@
+//! The pack indexes in object directories.
+
+ghost use Rattle.std.specs.Prelude.{◌≡◌, ◌⊎◌, ◌↔◌, ◌+◌, All, IfOk, IsNone, IsSomeAnd, IsTrue, OnOk, length, map, true, vec_len};
+ghost use Rattle.pack_index.specs.declared.lazy_error.LazyError.TheVariants as errors;
+ghost use Rattle.repositories.specs.States.{IsSettled};
+ghost use Rattle.directory_store.specs.Stores.{HasPack, IsListed, IsOfIndex, IsUnread, index_path, pack_path_of};
+
+use crate::error::Error;
+use crate::listing::{are_settled, expect_states, list_names, states_of, what_is_at};
+use crate::source::Source;
+use gix_hash::Kind;
+use pack_index::{LazyError, LazyFile};
+use repositories::{FileState, join, metadata};
+use std::alloc::{AllocError, Global};
+use std::fs::File;
+use std::rt::Files;
+use std::time::SystemTime;
+use std::{io, mem, str};
+
+// How many pack indexes are kept open. The others are opened again to be read, so that a store of
+// any number of packs is read with few open files.
+const MAX_OPEN: usize = 64;
+
+// How many bytes of pack indexes are kept at most. Each has an equal share, and is kept whole if it
+// fits.
+const MAX_KEPT: u64 = 1 << 24;
+
+// The directories of packs in object directories, in order, each with its state before it was
+// listed.
+#[derive(Drop)]
+pub(crate) struct PackDirectories {
+    paths: Vec<String>,
+    states: Vec<FileState>,
+    ghost as_many: { vec_len states ≡ vec_len paths },
+}
+
+impl PackDirectories {
+    // Those in object directories, as they are now. One may be missing.
+    pub(crate) fn of<R: Files + AllocGlobal>(
+        rt: &R,
+        objects: &[String],
+    ) -> Result<PackDirectories, Error>
+        ensures { IfOk result (λ packs. vec_len packs.paths ≡ length objects.now) }
+    {
+        let mut paths = Vec::new(rt.alloc());
+        for directory in objects {
+            paths.push(join(rt, directory, "pack")?)?;
+        }
+        let states = states_of(rt, &paths)?;
+        Ok(PackDirectories { paths, states })
+    }
+
+    // The pack indexes in them, with or without packs.
+    pub(crate) fn list<R: Files + AllocGlobal>(&self, rt: &R) -> Result<PackIndexes, Error>
+        ensures all { IfOk result (λ listed. listed.are_all ≡ true) }
+        ensures packs { IfOk result (λ listed. All HasPack listed.paths.items) }
+    {
+        let mut indexes = PackIndexes {
+            paths: Vec::new(rt.alloc()),
+            skipped: Vec::new(rt.alloc()),
+            are_all: true,
+        };
+        for directory in &self.paths {
+            push_indexes(rt, directory, &mut indexes)?;
+        }
+        Ok(indexes)
+    }
+
+    // The pack indexes in them whose packs are there. Fails if one of an earlier list is gone, or a
+    // directory has changed.
+    pub(crate) fn list_again<R: Files + AllocGlobal>(
+        &self,
+        rt: &R,
+        earlier: &PackIndexes,
+    ) -> Result<PackIndexes, Error>
+        ensures { IfOk result (λ listed. listed.are_all ≡ true
+            → All (IsListed listed.paths.items) earlier.now.paths.items) }
+    {
+        let listed = self.list(rt)?;
+        listed.expect_all(rt.alloc(), earlier)?;
+        let listed = listed.with_packs(rt)?;
+        self.expect_unchanged(rt)?;
+        Ok(listed)
+    }
+
+    // Whether each later change of one of them leaves another state, if the time before is given.
+    pub(crate) fn are_settled(&self, now: Option<SystemTime>) -> bool
+        ensures { IsTrue result ↔ IsSomeAnd now (λ now. All (IsSettled now) self.now.states.items) }
+    {
+        now.is_some_and(|now| are_settled(&self.states, now))
+    }
+
+    // Fails if one of them has changed.
+    pub(crate) fn expect_unchanged<R: Files + AllocGlobal>(&self, rt: &R) -> Result<(), Error> {
+        expect_states(rt, &self.paths, &self.states)
+    }
+}
+
+// The paths of a pack index and of its pack.
+#[derive(Drop)]
+pub(crate) struct PackPaths {
+    pub(crate) index: String,
+    pub(crate) pack: String,
+}
+
+impl PackPaths {
+    // The same paths.
+    fn copy(&self) -> Result<PackPaths, AllocError>
+        ensures index { IfOk result (λ copy. index_path copy ≡ index_path self.now) }
+        ensures pack { IfOk result (λ copy. pack_path_of copy ≡ pack_path_of self.now) }
+    {
+        let index = self.index.clone()?;
+        let pack = self.pack.clone()?;
+        Ok(PackPaths { index, pack })
+    }
+}
+
+// The pack indexes that object directories had as they were listed.
+#[derive(Drop)]
+pub(crate) struct PackIndexes {
+    // Their paths, in the order of the directories, and by path.
+    pub(crate) paths: Vec<PackPaths>,
+    // Why others are skipped.
+    pub(crate) skipped: Vec<Error>,
+    // Whether none is left out since its pack is missing.
+    pub(crate) are_all: bool,
+}
+
+impl PackIndexes {
+    // Fails if one of those of an earlier list is not among them, since it was removed.
+    pub(crate) fn expect_all(&self, alloc: Global, earlier: &PackIndexes) -> Result<(), Error>
+        ensures { OnOk result (All (IsListed self.now.paths.items) earlier.now.paths.items) }
+    {
+        let Some(gone) = first_gone(&earlier.paths, &self.paths) else {
+            return Ok(());
+        };
+        let path = String::from_str(alloc, &gone.index)?;
+        Err(Error::Index(object_store::Error::Gone { path }))
+    }
+
+    // Those whose packs are there. Fails if an index was removed with its pack.
+    pub(crate) fn with_packs<R: Files + AllocGlobal>(mut self, rt: &R) -> Result<PackIndexes, Error>
+        ensures all { IfOk result (λ kept. kept.are_all ≡ true
+            → kept.paths.items ≡ self.paths.items) }
+        ensures skipped { IfOk result (λ kept. kept.skipped ≡ self.skipped) }
+    {
+        let listed = mem::replace(&mut self.paths, Vec::new(rt.alloc()));
+        for paths in listed {
+            if has_pack(rt, &paths)? {
+                self.paths.push(paths)?;
+            } else {
+                self.are_all = false;
+            }
+        }
+        Ok(self)
+    }
+}
+
+// The first pack index of an earlier list that is not in this one, which is in the same order.
+fn first_gone<'a>(earlier: &'a [PackPaths], listed: &[PackPaths]) -> Option<&'a PackPaths>
+    ensures { IsNone result → All (IsListed listed.now) earlier.now }
+{
+    let mut left = earlier;
+    for paths in listed {
+        let (next, rest) = left.split_first()?;
+        if next.index == paths.index {
+            left = rest;
+        }
+    }
+    left.first()
+}
+
+// Adds the pack indexes in a directory of packs, in the order of their names. One is skipped if its
+// name is not UTF-8, as paths are.
+fn push_indexes<R: Files + AllocGlobal>(
+    rt: &R,
+    directory: &str,
+    indexes: &mut PackIndexes,
+) -> Result<(), Error>
+    ensures packs { OnOk result (All HasPack indexes.old.paths.items
+        → All HasPack indexes.new.paths.items) }
+    ensures all { indexes.new.are_all ≡ indexes.old.are_all }
+{
+    let listed = list_names(rt, directory)?;
+    let names = listed.split(|byte| *byte == 0);
+    let mut names: Vec<&[u8]> = names
+        .filter(|name| name.ends_with(b".idx"))
+        .collect(rt.alloc())?;
+    names.sort_unstable();
+    for name in names {
+        match str::from_utf8(name) {
+            Ok(name) => indexes.paths.push(paths_of(rt, directory, name)?)?,
+            Err(_) => {
+                let why = "the name of a pack index is not UTF-8";
+                let error = repositories::Error::text(rt.alloc(), directory, why);
+                indexes.skipped.push(Error::from(error))?;
+            }
+        }
+    }
+    Ok(())
+}
+
+// The paths of the pack index of this name in a directory, and of its pack.
+fn paths_of(rt: &impl AllocGlobal, directory: &str, name: &str) -> Result<PackPaths, AllocError>
+    ensures { IfOk result HasPack }
+{
+    let index = join(rt, directory, name)?;
+    let stem = index.strip_suffix(".idx").unwrap_or(&index);
+    let pack = format!(in rt.alloc(); "{stem}.pack")?;
+    Ok(PackPaths { index, pack })
+}
+
+// Whether the pack of a pack index is there. Fails if neither is, or if it cannot be known.
+fn has_pack<R: Files + AllocGlobal>(rt: &R, paths: &PackPaths) -> Result<bool, Error> {
+    match metadata(rt, &paths.pack) {
+        Ok(found) if found.is_file() => return Ok(true),
+        Ok(_) => {}
+        Err(error) if error.kind() == io::ErrorKind::NotFound => {}
+        Err(error) => return Err(Error::file(rt.alloc(), &paths.pack, error)),
+    }
+    match what_is_at(rt, &paths.index) {
+        Ok(_) => Ok(false),
+        Err(error) => Err(Error::index(rt.alloc(), &paths.index, LazyError::Read(error))),
+    }
+}
+
+// The pack indexes that were opened.
+#[derive(Drop)]
+pub(crate) struct OpenIndexes<R: Files<File = File>> {
+    // Their paths, in order.
+    pub(crate) paths: Vec<PackPaths>,
+    pub(crate) indexes: Vec<LazyFile<Source<R>>>,
+    // Why others are skipped: they are no pack indexes of version 2 and of the kind, or their
+    // counts fall.
+    pub(crate) skipped: Vec<Error>,
+    ghost of_paths: { map index_path paths.items ≡ map (λ index. index.path) indexes.items },
+}
+
+// Opens pack indexes whose names are of a kind. If too many files are open, none stays open.
+pub(crate) fn open_indexes<R: Files<File = File> + AllocGlobal + Clone + Drop>(
+    rt: &R,
+    paths: &[PackPaths],
+    kind: Kind,
+) -> Result<OpenIndexes<R>, Error>
+    ensures kinds { IfOk result (λ opened. All (λ index. index.kind ≡ kind)
+        opened.indexes.items) }
+    ensures all { IfOk result (λ opened. vec_len opened.indexes + vec_len opened.skipped
+        ≡ length paths.now) }
+{
+    match open_all(rt, paths, MAX_OPEN, kind) {
+        Ok(opened) => Ok(opened),
+        Err(error) if error.is_too_many_open() => open_all(rt, paths, 0, kind),
+        Err(error) => Err(error),
+    }
+}
+
+// Opens pack indexes, of which the first ones stay open. One is skipped if it is none of version 2
+// and of the kind, or its fan-out entries fall.
+fn open_all<R: Files<File = File> + AllocGlobal + Clone + Drop>(
+    rt: &R,
+    listed: &[PackPaths],
+    most_open: usize,
+    kind: Kind,
+) -> Result<OpenIndexes<R>, Error>
+    ensures kinds { IfOk result (λ opened. All (λ index. index.kind ≡ kind)
+        opened.indexes.items) }
+    ensures all { IfOk result (λ opened. vec_len opened.indexes + vec_len opened.skipped
+        ≡ length listed.now) }
+{
+    let mut paths = Vec::with_capacity(rt.alloc(), listed.len())?;
+    let mut indexes = Vec::with_capacity(rt.alloc(), listed.len())?;
+    let mut skipped = Vec::new(rt.alloc());
+    let share = MAX_KEPT / (listed.len() as u64).max(1);
+    for (at, one) in listed.iter().enumerate() {
+        match open_index(rt, &one.index, at < most_open, share, kind) {
+            Ok(index) => {
+                paths.push(one.copy()?)?;
+                indexes.push(index)?;
+            }
+            Err(error) if error.is_damage() => skipped.push(error)?,
+            Err(error) => return Err(error),
+        }
+    }
+    Ok(OpenIndexes {
+        paths,
+        indexes,
+        skipped,
+    })
+}
+
+// Opens a pack index, to stay open or to be opened again for each read of what is not kept.
+fn open_index<R: Files<File = File> + AllocGlobal + Clone + Drop>(
+    rt: &R,
+    path: &str,
+    stays_open: bool,
+    most_kept: u64,
+    kind: Kind,
+) -> Result<LazyFile<Source<R>>, Error>
+    ensures kind { IfOk result (λ index. index.kind ≡ kind) }
+    ensures path { IfOk result (λ index. index.path ≡ path.now) }
+{
+    let source = Source::open(rt, path, stays_open, most_kept);
+    let source = source.map_err(|error| not_opened(rt, path, error))?;
+    match LazyFile::open(source, kind) {
+        Ok(index) => Ok(index),
+        Err(LazyError::Read(error)) => Err(not_opened(rt, path, error)),
+        Err(error) => Err(Error::index(rt.alloc(), path, error)),
+    }
+}
+
+// Why a pack index cannot be opened. A link to nothing is there, and so it was not removed; a file
+// that was not found and is there now was, and has come back.
+fn not_opened<R: Files + AllocGlobal>(rt: &R, path: &str, error: io::Error) -> Error
+    ensures { IsUnread result ⊎ IsOfIndex path.now (errors.Read error) result }
+{
+    let is_missing = error.kind() == io::ErrorKind::NotFound;
+    match what_is_at(rt, path) {
+        Ok(found) if !is_missing || !found.is_file() => Error::file(rt.alloc(), path, error),
+        _ => Error::index(rt.alloc(), path, LazyError::Read(error)),
+    }
+}

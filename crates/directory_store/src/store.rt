@@ -1,0 +1,485 @@
+//! An object store in directories.
+
+ghost use Rattle.std.specs.Prelude.{◌≡◌, ◌<◌, ◌↔◌, ◌++◌, All, Contains, IfErr, IfOk, IsOk, IsTrue, OnOk, [], false, length, map, slice_index_or, string_bytes, true, vec_len};
+ghost use Rattle.gix_hash.specs.Words.{hex_len_of, id_digits};
+ghost use Rattle.directory_store.specs.Stores.{AreSettled, IsChanged, index_path, of_repository, pack_path_of};
+
+use crate::error::Error;
+use crate::loose::{LooseIds, LooseObjects, check_loose_file, list_loose, push_path, take_loose};
+use crate::packs::{PackDirectories, PackIndexes, PackPaths, open_indexes};
+use crate::source::Source;
+use gix_hash::{Kind, ObjectId, Prefix};
+use object_store::{LooseTable, Reopen, Store, StorePaths};
+use pack_index::{Bucket, LazyError, LazyFile};
+use repositories::{ObjectDirectories, ObjectDirectory, with_alternates};
+use std::alloc::{AllocError, Allocator, Global};
+use std::fs::File;
+use std::mem;
+use std::rt::Files;
+use std::time::SystemTime;
+
+// How often a store that changes while it is read is read.
+const MAX_TRIES: usize = 100;
+
+/// The object store of an object directory and its alternates, as it was when it was opened: the
+/// pack indexes whose packs are there, and the ids of loose objects. A look-up lists nothing.
+///
+/// ```
+/// let store = DirectoryStore::open(rt, &find_objects(rt)?, LooseIds::All)?;
+/// println!(rt; "{} pack indexes", store.indexes().len())?;
+/// ```
+#[derive(Drop)]
+pub struct DirectoryStore<R: Files<File = File>> {
+    rt: R,
+    // From what it was opened, and what was found then.
+    directory: ObjectDirectory,
+    directories: ObjectDirectories,
+    pack_directories: PackDirectories,
+    // Whether the packs are those that are there as long as the directories are unchanged.
+    is_settled: bool,
+    skipped: Vec<Error>,
+    // What was skipped in the store before it was opened again.
+    skipped_before: Vec<Error>,
+    // Why it could not be opened again.
+    failed: Option<Error>,
+    // The paths of each pack, and its pack index.
+    packs: Vec<PackPaths>,
+    indexes: Vec<LazyFile<Source<R>>>,
+    loose: LooseObjects,
+    // The loose objects that were asked for before, and may be again.
+    loose_before: Vec<LooseObjects>,
+    ghost of_paths: { map index_path packs.items ≡ map (λ index. index.path) indexes.items },
+    ghost of_kind: { All (λ index. index.kind ≡ directory.kind) indexes.items },
+    ghost loose_of_kind: { loose.kind ≡ directory.kind },
+    ghost before_of_kind: { All (λ loose. loose.kind ≡ directory.kind) loose_before.items },
+}
+
+impl<R: Files<File = File> + AllocGlobal + Clone + Drop> DirectoryStore<R> {
+    /// Opens the store of an object directory, whose ids are of the directory's kind.
+    ///
+    /// No object is missed that is packed, unpacked or moved into another directory meanwhile, as
+    /// by `git gc`. If a directory of packs or a list of alternates is changed while the store is
+    /// opened, it is read again; the 100th time that is the error: [`Error::Changed`], or
+    /// [`Error::Index`] with [`object_store::Error::Gone`].
+    ///
+    /// The directory's alternates are read as by Git: each once, and nested up to 5 times. Those
+    /// that cannot be used are skipped ([`DirectoryStore::skipped`]). A missing directory `pack` or
+    /// fan-out directory is no error; any other failure is one, with the path:
+    /// [`Error::Repository`], or [`Error::Index`] for a pack index that cannot be read. So is
+    /// [`Error::Memory`].
+    ///
+    /// ```
+    /// let directory = ObjectDirectory::at(rt, ".git/objects")?;
+    /// let store = DirectoryStore::open(rt, &directory, LooseIds::All)?;
+    /// ```
+    pub fn open(
+        rt: &R,
+        directory: &ObjectDirectory,
+        loose: LooseIds,
+    ) -> Result<DirectoryStore<R>, Error>
+        ensures kind { IfOk result (λ store. store.directory.kind ≡ directory.now.kind) }
+        ensures listed { IfOk result (λ store. store.loose.which ≡ loose) }
+    {
+        DirectoryStore::open_at(rt, directory, loose, None)
+    }
+
+    // Opens the store, to be refreshed later if the time before is given.
+    fn open_at(
+        rt: &R,
+        directory: &ObjectDirectory,
+        loose: LooseIds,
+        now: Option<SystemTime>,
+    ) -> Result<DirectoryStore<R>, Error>
+        ensures kind { IfOk result (λ store. store.directory.kind ≡ directory.now.kind) }
+        ensures listed { IfOk result (λ store. store.loose.which ≡ loose) }
+    {
+        for _ in 1..MAX_TRIES {
+            let opened = DirectoryStore::read(rt, directory, loose, now);
+            if !matches!(&opened, Err(error) if error.is_change()) {
+                return opened;
+            }
+        }
+        DirectoryStore::read(rt, directory, loose, now)
+    }
+
+    // Reads the store once.
+    fn read(
+        rt: &R,
+        directory: &ObjectDirectory,
+        loose: LooseIds,
+        now: Option<SystemTime>,
+    ) -> Result<DirectoryStore<R>, Error>
+        ensures kind { IfOk result (λ store. store.directory.kind ≡ directory.now.kind) }
+        ensures listed { IfOk result (λ store. store.loose.which ≡ loose) }
+        ensures settled { IfOk result (λ store. store.is_settled ≡ true
+            → (store.skipped.items ≡ []) × AreSettled now store.pack_directories.states.items) }
+    {
+        let mut directories = with_alternates(rt, directory)?;
+        let pack_directories = PackDirectories::of(rt, &directories.paths)?;
+        let (listed, loose) = list(
+            rt,
+            &pack_directories,
+            &directories.paths,
+            directory.kind,
+            loose,
+            now,
+        )?;
+        // An alternate that was added meanwhile may hold objects that had left this directory
+        // before it was listed.
+        if !directories.are_unchanged(rt, directory)? {
+            return Err(Error::changed(rt.alloc(), &directory.path));
+        }
+        let opened = open_indexes(rt, &listed.paths, directory.kind)?;
+        let alternates = mem::replace(&mut directories.skipped, Vec::new(rt.alloc()));
+        let skipped = all_skipped(rt.alloc(), alternates, listed.skipped, opened.skipped)?;
+        Ok(DirectoryStore {
+            rt: rt.clone()?,
+            directory: copy_of(directory)?,
+            is_settled: are_settled(listed.are_all, &skipped, &pack_directories, now),
+            directories,
+            pack_directories,
+            skipped,
+            skipped_before: Vec::new(rt.alloc()),
+            failed: None,
+            packs: opened.paths,
+            indexes: opened.indexes,
+            loose,
+            loose_before: Vec::new(rt.alloc()),
+        })
+    }
+
+    /// Makes the store what it would be if it were opened now with these loose objects, and returns
+    /// whether it is what it was. `now` is the time before the call, by the clock of the file
+    /// system.
+    ///
+    /// What is unchanged is not read again: a list of alternates is read, and each directory of
+    /// packs and fan-out directory that is asked for is looked at. If only fan-out directories have
+    /// changed, these are listed. Those that were asked for before are kept.
+    ///
+    /// What was changed less than 20 ms before it was read is read again, and so is what
+    /// [`DirectoryStore::open`] has read, and a store of which something is skipped: see
+    /// [`FileState::is_settled`](repositories::FileState::is_settled). The errors are those of
+    /// `open`, after which no pack index may be left; the next call then reads the store again.
+    ///
+    /// ```
+    /// let directory = find_objects(rt)?;
+    /// let mut store = DirectoryStore::open(rt, &directory, LooseIds::WithFirstByte(0x4b))?;
+    /// let is_same = store.refresh(LooseIds::WithFirstByte(0x4b), SystemTime::now(rt)?)?;
+    /// ```
+    pub fn refresh(&mut self, loose: LooseIds, now: SystemTime) -> Result<bool, Error>
+        ensures kind { self.new.directory.kind ≡ self.old.directory.kind }
+        ensures listed { IfOk result (λ _. self.new.loose.which ≡ loose) }
+        ensures same { IfOk result (λ is_same. is_same ≡ true
+            → (self.new.indexes.items ≡ self.old.indexes.items)
+            × (self.new.loose ≡ self.old.loose)) }
+        ensures left { IfErr result (λ _. self.new.is_settled ≡ true
+            → self.new.indexes.items ≡ self.old.indexes.items) }
+    {
+        match self.look_again(loose, now) {
+            Err(error) if error.is_change() || error.is_too_many_open() => {}
+            looked => return looked,
+        }
+        // Its files are closed before as many are opened. If that fails, the next call opens them.
+        self.is_settled = false;
+        self.packs = Vec::new(self.rt.alloc());
+        self.indexes = Vec::new(self.rt.alloc());
+        *self = DirectoryStore::open_at(&self.rt, &self.directory, loose, Some(now))?;
+        Ok(false)
+    }
+
+    // The same, but for a change of packs or alternates, which is an error.
+    fn look_again(&mut self, loose: LooseIds, now: SystemTime) -> Result<bool, Error>
+        ensures kind { self.new.directory.kind ≡ self.old.directory.kind }
+        ensures listed { IfOk result (λ _. self.new.loose.which ≡ loose) }
+        ensures indexes { self.new.indexes.items ≡ self.old.indexes.items }
+        ensures same { IfOk result (λ is_same. is_same ≡ true → self.new.loose ≡ self.old.loose) }
+    {
+        self.expect_unchanged()?;
+        let is_listed = self.loose.which == loose;
+        if is_listed && self.loose.are_unchanged(&self.rt, &self.directories.paths)? {
+            return Ok(true);
+        }
+        let chosen = self.loose_now(loose, now)?;
+        let last = mem::replace(&mut self.loose, chosen);
+        if !is_listed {
+            let _ = self.loose_before.push(last);
+        }
+        Ok(false)
+    }
+
+    // Fails if the alternates, a list of them or a directory of packs have changed since they were
+    // read, or if that is not known.
+    fn expect_unchanged(&self) -> Result<(), Error>
+        ensures settled { OnOk result (self.now.is_settled ≡ true) }
+        ensures unsettled { self.now.is_settled ≡ false → IfErr result
+            (IsChanged (string_bytes self.now.directory.path)) }
+    {
+        if self.is_settled && self.directories.are_unchanged(&self.rt, &self.directory)? {
+            self.pack_directories.expect_unchanged(&self.rt)
+        } else {
+            Err(Error::changed(self.rt.alloc(), &self.directory.path))
+        }
+    }
+
+    // The loose objects that are asked for: those that were listed before, if their directories
+    // are unchanged, or else a listing, during which the packs and the alternates stay.
+    fn loose_now(&mut self, loose: LooseIds, now: SystemTime) -> Result<LooseObjects, Error>
+        ensures which { IfOk result (λ objects. objects.which ≡ loose) }
+        ensures of_kind { IfOk result (λ objects. objects.kind ≡ self.old.directory.kind) }
+        ensures kind { self.new.directory.kind ≡ self.old.directory.kind }
+        ensures indexes { self.new.indexes.items ≡ self.old.indexes.items }
+        ensures loose { self.new.loose ≡ self.old.loose }
+    {
+        if let Some(listed) = take_loose(&mut self.loose_before, loose, self.directory.kind)
+            && listed.are_unchanged(&self.rt, &self.directories.paths)?
+        {
+            return Ok(listed);
+        }
+        let kind = self.directory.kind;
+        let listed = list_loose(&self.rt, &self.directories.paths, kind, loose, Some(now))?;
+        self.expect_unchanged()?;
+        Ok(listed)
+    }
+
+    /// What was not read: alternates that are missing, are no directories, cannot be read or are
+    /// nested too deep, and pack indexes whose file names are not UTF-8 or whose headers are not
+    /// those of version 2 and of the kind. Each has its path, or that of its directory, and why.
+    ///
+    /// ```
+    /// let store = DirectoryStore::open(rt, &find_objects(rt)?, LooseIds::All)?;
+    /// for error in store.skipped() {
+    ///     println!(rt; "{error}, skipped")?;
+    /// }
+    /// ```
+    pub fn skipped(&self) -> &[Error]
+        ensures { result.now ≡ self.now.skipped.items }
+    {
+        &self.skipped
+    }
+
+    /// What was not read of the store as it was before it was opened again ([`Reopen`]).
+    ///
+    /// ```
+    /// let mut store = DirectoryStore::open(rt, &find_objects(rt)?, LooseIds::All)?;
+    /// if store.reopen() {
+    ///     println!(rt; "{} parts were skipped before", store.skipped_before().len())?;
+    /// }
+    /// ```
+    pub fn skipped_before(&self) -> &[Error]
+        ensures { result.now ≡ self.now.skipped_before.items }
+    {
+        &self.skipped_before
+    }
+
+    /// Why the store could not be opened again the last time ([`Reopen`]), if it could not.
+    ///
+    /// ```
+    /// let mut store = DirectoryStore::open(rt, &find_objects(rt)?, LooseIds::All)?;
+    /// if !store.reopen() {
+    ///     if let Some(error) = store.into_reopen_error() {
+    ///         println!(rt; "{error}")?;
+    ///     }
+    /// }
+    /// ```
+    pub fn into_reopen_error(self) -> Option<Error>
+        ensures { result ≡ self.failed }
+    {
+        self.failed
+    }
+
+    /// Checks the files of the loose objects whose ids begin with a prefix: one that is a link to
+    /// nothing is an [`Error::Repository`] with its path. A file that was removed since it was
+    /// listed is no error. The only other error is [`Error::Memory`].
+    ///
+    /// ```
+    /// let store = DirectoryStore::open(rt, &find_objects(rt)?, LooseIds::All)?;
+    /// store.check_loose_files(&prefix)?;
+    /// ```
+    pub fn check_loose_files(&self, prefix: &Prefix) -> Result<(), Error>
+        ensures { hex_len_of self.now.directory.kind < length prefix.now.digits
+            → IsOk result }
+    {
+        if prefix.hex_len() > self.directory.kind.len_in_hex() {
+            return Ok(());
+        }
+        for directory in &self.loose.directories {
+            for id in directory.table.beginning_with(prefix) {
+                check_loose_file(&self.rt, &directory.path, id)?;
+            }
+        }
+        Ok(())
+    }
+
+    // Takes the place of itself, as the store is now. Under an error it has what it had.
+    fn open_again(&mut self) -> Result<(), Error>
+        ensures kind { self.new.directory.kind ≡ self.old.directory.kind }
+        ensures listed { self.new.loose.which ≡ self.old.loose.which }
+        ensures indexes { IfErr result (λ _. self.new.indexes.items ≡ self.old.indexes.items) }
+        ensures packs { IfErr result (λ _. self.new.packs.items ≡ self.old.packs.items) }
+        ensures loose { IfErr result (λ _. self.new.loose ≡ self.old.loose) }
+    {
+        let mut store = DirectoryStore::open(&self.rt, &self.directory, self.loose.which)?;
+        self.skipped_before.append(&mut self.skipped)?;
+        mem::swap(&mut store.skipped_before, &mut self.skipped_before);
+        *self = store;
+        Ok(())
+    }
+}
+
+// Lists the pack indexes with packs and the loose objects in object directories. No object is
+// missed that is there all the time: as the directories of packs are in the same state before and
+// after, all was in them what was found there, and an object that was in none of its packs was
+// loose.
+//
+// Within one tick of the file system's clock a directory may change twice and be in the same state.
+// An object is in a new pack before its loose file or its old pack is removed, and loose before its
+// pack is removed: so the packs are listed after the loose objects, and before them too, and none
+// may be gone after.
+fn list<R: Files + AllocGlobal>(
+    rt: &R,
+    packs: &PackDirectories,
+    directories: &[String],
+    kind: Kind,
+    loose: LooseIds,
+    now: Option<SystemTime>,
+) -> Result<(PackIndexes, LooseObjects), Error>
+    ensures kind { IfOk result (λ listed. listed.1.kind ≡ kind) }
+    ensures which { IfOk result (λ listed. listed.1.which ≡ loose) }
+{
+    let before = packs.list(rt)?;
+    let loose = list_loose(rt, directories, kind, loose, now)?;
+    Ok((packs.list_again(rt, &before)?, loose))
+}
+
+// Whether the packs are those that are there as long as their directories are unchanged: none is
+// left out or skipped, and each later change of a directory leaves another state.
+fn are_settled(
+    are_all: bool,
+    skipped: &[Error],
+    directories: &PackDirectories,
+    now: Option<SystemTime>,
+) -> bool
+    ensures { IsTrue result ↔ (are_all ≡ true) × (skipped.now ≡ [])
+        × AreSettled now directories.now.states.items }
+{
+    are_all && skipped.is_empty() && directories.are_settled(now)
+}
+
+// A copy of an object directory that was found.
+fn copy_of(directory: &ObjectDirectory) -> Result<ObjectDirectory, AllocError>
+    ensures path { IfOk result (λ copy. string_bytes copy.path ≡ string_bytes directory.now.path) }
+    ensures kind { IfOk result (λ copy. copy.kind ≡ directory.now.kind) }
+    ensures alternates { IfOk result (λ copy. map string_bytes copy.alternates.items
+        ≡ map string_bytes directory.now.alternates.items) }
+{
+    Ok(ObjectDirectory {
+        path: directory.path.clone()?,
+        kind: directory.kind,
+        alternates: directory.alternates.clone()?,
+    })
+}
+
+// Why alternates and pack indexes are skipped, in this order.
+fn all_skipped(
+    alloc: Global,
+    alternates: Vec<repositories::Error>,
+    mut unnamed: Vec<Error>,
+    mut damaged: Vec<Error>,
+) -> Result<Vec<Error>, AllocError>
+    ensures { IfOk result (λ all. all.items
+        ≡ map of_repository alternates.items ++ unnamed.items ++ damaged.items) }
+{
+    let alternates = alternates.into_iter();
+    let mut all: Vec<Error> = alternates.map(|error| Error::from(error)).collect(alloc)?;
+    all.append(&mut unnamed)?;
+    all.append(&mut damaged)?;
+    Ok(all)
+}
+
+/// What files contain is not known.
+impl<R: Files<File = File> + AllocGlobal + Clone + Drop> Store for DirectoryStore<R> {
+    type Source = Source<R>;
+
+    ghost use Rattle.directory_store.specs.Stores.{only_of};
+
+    ghost view = { λ store. record {
+      kind = store.directory.kind;
+      packs = store.indexes.items;
+      paths = map index_path store.packs.items;
+      loose = store.loose.table.ids;
+      listed = only_of store.loose.which;
+    } };
+
+    fn object_hash(&self) -> Kind {
+        self.directory.kind
+    }
+
+    fn indexes(&self) -> &[LazyFile<Source<R>>] {
+        &self.indexes
+    }
+
+    fn part<A: Allocator>(
+        &mut self,
+        alloc: A,
+        at: usize,
+        prefix: &Prefix,
+        few: usize,
+    ) -> Result<Bucket<A>, LazyError> {
+        self.indexes[at].part(alloc, prefix, few)
+    }
+
+    fn index_path(&self, at: usize) -> Result<String, AllocError> {
+        let path = match self.packs.get(at) {
+            Some(paths) => paths.index.as_str(),
+            None => "",
+        };
+        String::from_str(self.rt.alloc(), path)
+    }
+
+    fn loose(&self) -> &LooseTable {
+        &self.loose.table
+    }
+}
+
+impl<R: Files<File = File> + AllocGlobal + Clone + Drop> Reopen for DirectoryStore<R> {
+    ghost use Rattle.std.specs.Prelude.{◌≡◌};
+    ghost use Rattle.directory_store.specs.Stores.{only_of};
+
+    ghost may_have = { λ store view. (view.kind ≡ store.directory.kind)
+        × (view.listed ≡ only_of store.loose.which) };
+
+    fn reopen(&mut self) -> bool {
+        self.failed = self.open_again().err();
+        self.failed.is_none()
+    }
+}
+
+impl<R: Files<File = File> + AllocGlobal + Clone + Drop> StorePaths for DirectoryStore<R> {
+    ghost use Rattle.directory_store.specs.Stores.{paths_in_all};
+
+    ghost pack_path = { λ store pack. slice_index_or (map pack_path_of store.packs.items) pack [] };
+
+    ghost loose_paths = { λ store. paths_in_all store.loose.directories.items };
+
+    fn pack_path(&self, pack: usize) -> &str {
+        match self.packs.get(pack) {
+            Some(paths) => paths.pack.as_str(),
+            None => "",
+        }
+    }
+
+    // In the order of the directories. There are some if and only if the id is a loose object's.
+    fn loose_paths(&self, id: &ObjectId) -> Result<Vec<String>, AllocError>
+        ensures paths { IfOk result (λ paths. map string_bytes paths.items
+            ≡ paths_in_all self.now.loose.directories.items (id_digits id.now)) }
+        ensures some { IfOk result (λ paths. (0 < vec_len paths)
+            ↔ Contains self.now.loose.table.ids (id_digits id.now)) }
+    {
+        let alloc = self.rt.alloc();
+        let mut paths = Vec::new(alloc);
+        for directory in &self.loose.directories {
+            push_path(alloc, directory, id, &mut paths)?;
+        }
+        Ok(paths)
+    }
+}

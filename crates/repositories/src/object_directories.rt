@@ -1,0 +1,345 @@
+//! An object directory and its alternates.
+
+ghost use Rattle.std.specs.Prelude.{◌≡◌, ◌≢◌, ◌&&◌, [], IfOk, OnOk, Some, codes, map, string_bytes};
+ghost use Rattle.std.specs.IoError.{error_kind};
+ghost use Rattle.std.specs.Path.{path_join};
+ghost use Rattle.std.specs.declared.io.ErrorKind.{ErrorKind};
+ghost use Rattle.repositories.specs.Answers.{IfKnown};
+ghost use Rattle.repositories.specs.Views.{directory_of};
+ghost use Rattle.repositories.specs.Walks.{are_same_paths, are_same_states, directories_of, has, list_at, skip, text_at, visit, visit_all, walk_from, walk_of, with_alternates, with_first, with_directory, with_path, with_paths};
+
+use crate::alternates::alternate_paths;
+use crate::directories::Directories;
+use crate::error::Error;
+use crate::files::{
+    FileNumber, RealDirectory, existing_directory, if_there, is_missing, join, push_path,
+    real_directory,
+};
+use crate::finding::{ALTERNATES, ObjectDirectory};
+use crate::state::FileState;
+use std::alloc::AllocError;
+use std::io;
+
+// How many levels of alternates are read, as by Git: those of the directory itself, and five more,
+// each named by the one before.
+const LEVELS: u8 = 6;
+
+/// An object directory and its alternates, each once.
+#[derive(Drop)]
+pub struct ObjectDirectories {
+    /// The path of the directory as it was given, and the absolute paths of the alternates. One
+    /// whose absolute path is not UTF-8 has the path by which it was found.
+    pub paths: Vec<String>,
+    /// The states of their lists of alternates before they were read, and of the paths of
+    /// alternates that cannot be used, in the order in which they were looked at.
+    pub states: Vec<FileState>,
+    /// Why other alternates are skipped: they are missing, are no directories, cannot be read or
+    /// are nested too deep. Each has its path, or the variable if its path there begins with a NUL.
+    pub skipped: Vec<Error>,
+}
+
+impl ObjectDirectories {
+    /// Whether [`with_alternates`] would find the same now. If there was no list, and no alternate
+    /// is given, it is only looked whether a list has come; or else all is read again. The errors
+    /// are those of `with_alternates`.
+    ///
+    /// ```
+    /// let objects = find_objects(rt)?;
+    /// let directories = with_alternates(rt, &objects)?;
+    /// println!(rt; "{}", directories.are_unchanged(rt, &objects)?)?;
+    /// ```
+    pub fn are_unchanged<R: Directories>(
+        &self,
+        rt: &R,
+        objects: &ObjectDirectory,
+    ) -> Result<bool, Error> {
+        if let [state] = self.states.as_slice()
+            && state.is_missing()
+            && objects.alternates.is_empty()
+        {
+            return Ok(list_state(rt, &list_path(rt, &objects.path)?)? == *state);
+        }
+        Ok(self.are_same(&with_alternates(rt, objects)?))
+    }
+
+    // Whether others have the same paths and states.
+    fn are_same(&self, others: &ObjectDirectories) -> bool
+        ensures { result ≡ (are_same_paths self.now.paths.items others.now.paths.items
+            && are_same_states self.now.states.items others.now.states.items) }
+    {
+        self.paths == others.paths && self.states == others.states
+    }
+}
+
+/// An object directory and its alternates: those of the environment, and then those of its list, as
+/// Git links them.
+///
+/// The alternates are read as by Git: each once, and nested up to 5 times. The errors are
+/// `Memory`, and the cause `File` if the directory is not there, or the list of a directory is
+/// there and cannot be read.
+///
+/// ```
+/// let directories = with_alternates(rt, &find_objects(rt)?)?;
+/// for path in &directories.paths {
+///     println!(rt; "{path}")?;
+/// }
+/// ```
+pub fn with_alternates<R: Directories>(
+    rt: &R,
+    objects: &ObjectDirectory,
+) -> Result<ObjectDirectories, Error>
+    ensures { IfOk result (λ directories. IfKnown (λ at. with_alternates
+        (string_bytes objects.now.path) (map string_bytes objects.now.alternates.items) at
+        ≡ Some (directories_of directories)) (R.answers rt.now)) }
+{
+    let real = existing_directory(rt, &objects.path)?;
+    let mut walk = Walk {
+        found: ObjectDirectories {
+            paths: Vec::new(rt.alloc()),
+            states: Vec::new(rt.alloc()),
+            skipped: Vec::new(rt.alloc()),
+        },
+        numbers: Vec::new(rt.alloc()),
+    };
+    walk.walk_from(rt, real, &objects.alternates)?;
+    let mut found = walk.found;
+    // Errors show the path as it was given.
+    put_first(&mut found.paths, objects.path.clone()?);
+    Ok(found)
+}
+
+// Puts a path in the place of the first one, if there is one.
+fn put_first(paths: &mut Vec<String>, path: String)
+    ensures { map string_bytes paths.new.items
+        ≡ with_first (string_bytes path) (map string_bytes paths.old.items) }
+{
+    if let Some(first) = paths.first_mut() {
+        *first = path;
+    }
+}
+
+// A walk over directories and their alternates.
+#[derive(Drop)]
+struct Walk {
+    found: ObjectDirectories,
+    // The numbers of those whose absolute paths are not UTF-8.
+    numbers: Vec<FileNumber>,
+}
+
+impl Walk {
+    // Adds an object directory, the alternates of the environment, and those of its list.
+    fn walk_from<R: Directories>(
+        &mut self,
+        rt: &R,
+        real: RealDirectory,
+        given: &[String],
+    ) -> Result<(), Error>
+        ensures { OnOk result (IfKnown (λ at. walk_from (directory_of real)
+            (map string_bytes given.now) (walk_of self.old) at ≡ Some (walk_of self.new))
+            (R.answers rt.now)) }
+    {
+        let path = real.path.clone()?;
+        self.push(real)?;
+        self.visit_all(rt, given, LEVELS)?;
+        let alternates = self.list_at(rt, &path)?;
+        self.visit_all(rt, &alternates, LEVELS)
+    }
+
+    // Adds a directory.
+    fn push(&mut self, real: RealDirectory) -> Result<(), AllocError>
+        ensures { OnOk result (walk_of self.new
+            ≡ with_directory (directory_of real) (walk_of self.old)) }
+    {
+        if let Some(number) = real.number {
+            self.numbers.push(number)?;
+        }
+        self.found.paths.push(real.path)?;
+        Ok(())
+    }
+
+    // Adds why a path is skipped. The error is that memory ran out for it.
+    fn skip(&mut self, why: Error) -> Result<(), Error>
+        ensures { OnOk result (walk_of self.new ≡ skip (walk_of self.old)) }
+    {
+        if let Error::Memory(error) = why {
+            return Err(Error::Memory(error));
+        }
+        self.found.skipped.push(why)?;
+        Ok(())
+    }
+
+    // Whether a directory is there already.
+    fn has(&self, real: &RealDirectory) -> bool
+        ensures { result ≡ has (directory_of real.now) (walk_of self.now) }
+    {
+        match real.number {
+            Some(number) => self.numbers.contains(&number),
+            None => self.found.paths.contains(&real.path),
+        }
+    }
+
+    // Adds directories and their alternates, `levels` levels together.
+    fn visit_all<R: Directories>(
+        &mut self,
+        rt: &R,
+        paths: &[String],
+        levels: u8,
+    ) -> Result<(), Error>
+        ensures { OnOk result (IfKnown (λ at. visit_all levels (map string_bytes paths.now)
+            (walk_of self.old) at ≡ Some (walk_of self.new)) (R.answers rt.now)) }
+    {
+        for path in paths {
+            let alternates = self.visit(rt, path, levels)?;
+            if levels > 0 {
+                self.visit_all(rt, &alternates, levels - 1)?;
+            }
+        }
+        Ok(())
+    }
+
+    // Adds a directory, and returns the paths in its list. Returns none if it is there already, or
+    // is skipped: it cannot be read, or no level is left.
+    fn visit<R: Directories>(
+        &mut self,
+        rt: &R,
+        path: &str,
+        levels: u8,
+    ) -> Result<Vec<String>, Error>
+        ensures { IfOk result (λ paths. IfKnown (λ at. visit levels path.now (walk_of self.old) at
+            ≡ Some (walk_of self.new, map string_bytes paths.items)) (R.answers rt.now)) }
+    {
+        match real_directory(rt, path) {
+            Ok(real) if self.has(&real) => Ok(Vec::new(rt.alloc())),
+            Ok(_) if levels == 0 => {
+                self.skip(Error::text(rt.alloc(), path, "nested more than 5 deep"))?;
+                Ok(Vec::new(rt.alloc()))
+            }
+            Ok(real) => {
+                let alternates = self.list_at(rt, &real.path)?;
+                self.push(real)?;
+                Ok(alternates)
+            }
+            Err(error) => {
+                self.skip_unusable(rt, path, error)?;
+                Ok(Vec::new(rt.alloc()))
+            }
+        }
+    }
+
+    // Skips an alternate that is no directory, or cannot be read, unless memory ran out.
+    fn skip_unusable<R: Directories>(
+        &mut self,
+        rt: &R,
+        path: &str,
+        error: io::Error,
+    ) -> Result<(), Error>
+        ensures skipped { OnOk result (walk_of self.new ≡ skip (walk_of self.old)) }
+        ensures memory { OnOk result (error_kind error ≢ ErrorKind.OutOfMemory) }
+    {
+        if error.kind() == io::ErrorKind::OutOfMemory {
+            return Err(Error::Memory(AllocError));
+        }
+        if path.is_empty() {
+            return self.skip(Error::text(rt.alloc(), ALTERNATES, "a path begins with a NUL"));
+        }
+        self.skip(unusable(rt, path, error))?;
+        if let Ok(state) = FileState::of(rt, path) {
+            self.found.states.push(state)?;
+        }
+        Ok(())
+    }
+
+    // The paths in the list of alternates of a directory. Those that are not UTF-8 are skipped.
+    fn list_at<R: Directories>(&mut self, rt: &R, directory: &str) -> Result<Vec<String>, Error>
+        ensures { IfOk result (λ paths. IfKnown (λ at. list_at directory.now (walk_of self.old) at
+            ≡ Some (walk_of self.new, map string_bytes paths.items)) (R.answers rt.now)) }
+    {
+        let list = list_path(rt, directory)?;
+        let text = self.text_at(rt, &list)?;
+        let named = alternate_paths(rt.alloc(), &text, b'\n')?;
+        self.read_paths(rt, directory, &named)
+    }
+
+    // Those of the paths that the list of a directory names.
+    fn read_paths(
+        &mut self,
+        rt: &impl AllocGlobal,
+        directory: &str,
+        named: &[Vec<u8>],
+    ) -> Result<Vec<String>, Error>
+        ensures { IfOk result (λ paths. (walk_of self.new, map string_bytes paths.items)
+            ≡ with_paths directory.now (map (λ path. path.items) named.now)
+            (walk_of self.old, [])) }
+    {
+        let mut paths = Vec::new(rt.alloc());
+        for path in named {
+            self.read_path(rt, directory, path, &mut paths)?;
+        }
+        Ok(paths)
+    }
+
+    // Adds a path of the list of a directory to others. An empty one is the directory itself.
+    fn read_path(
+        &mut self,
+        rt: &impl AllocGlobal,
+        directory: &str,
+        path: &[u8],
+        paths: &mut Vec<String>,
+    ) -> Result<(), Error>
+        ensures { OnOk result ((walk_of self.new, map string_bytes paths.new.items)
+            ≡ with_path directory.now path.now
+            (walk_of self.old, map string_bytes paths.old.items)) }
+    {
+        if path.is_empty() {
+            return Ok(());
+        }
+        if push_path(rt, directory, path, paths)? {
+            return Ok(());
+        }
+        let list = list_path(rt, directory)?;
+        self.skip(Error::text(rt.alloc(), &list, "a path is not UTF-8"))
+    }
+
+    // The text of a list of alternates, which is empty if there is none.
+    fn text_at<R: Directories>(&mut self, rt: &R, list: &str) -> Result<Vec<u8>, Error>
+        ensures same { walk_of self.new ≡ walk_of self.old }
+        ensures text { IfOk result (λ text. IfKnown (λ at. text_at list.now at
+            ≡ Some text.items) (R.answers rt.now)) }
+    {
+        let found = FileState::if_there(rt, list);
+        let Some(state) = found.map_err(|error| Error::file(rt.alloc(), list, error))? else {
+            let missing = FileState::of_missing(rt, list);
+            let state = missing.map_err(|error| Error::file(rt.alloc(), list, error))?;
+            self.found.states.push(state)?;
+            return Ok(Vec::new(rt.alloc()));
+        };
+        self.found.states.push(state)?;
+        match if_there(rt, list, rt.read(list))? {
+            Some(text) => Ok(text),
+            None => Ok(Vec::new(rt.alloc())),
+        }
+    }
+}
+
+// Why an alternate is skipped that is no directory, or that cannot be read.
+fn unusable(rt: &impl AllocGlobal, path: &str, error: io::Error) -> Error {
+    match path.strip_suffix('\r') {
+        Some(path) if is_missing(&error) => {
+            Error::text(rt.alloc(), path, "its line ends in a carriage return")
+        }
+        _ => Error::file(rt.alloc(), path, error),
+    }
+}
+
+// The path of the list of alternates of a directory.
+fn list_path(rt: &impl AllocGlobal, directory: &str) -> Result<String, AllocError>
+    ensures { IfOk result (λ list. string_bytes list
+        ≡ path_join directory.now (codes "info/alternates")) }
+{
+    join(rt, directory, "info/alternates")
+}
+
+// The state of a list of alternates.
+fn list_state<R: Directories>(rt: &R, list: &str) -> Result<FileState, Error> {
+    FileState::of(rt, list).map_err(|error| Error::file(rt.alloc(), list, error))
+}

@@ -1,4 +1,0 @@
-mod Clones
-mod FileNames
-mod FolderTables
-mod HexBytes

@@ -1,6 +1,0 @@
-use Rattle.gix_hash.proofs.Std.{All}
-use Rattle.store_folders.specs.Stores.{IsListed}
-use Rattle.store_folders.proofs.packs.first_gone.Given as goal
-
-abbrev pub invariant-loop-paths : goal.invariant-loop-paths
-invariant-loop-paths l = All (IsListed l.listed) l.left → All (IsListed l.listed) l.earlier

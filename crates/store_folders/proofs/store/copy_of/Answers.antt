@@ -1,5 +1,0 @@
-use Rattle.store_folders.proofs.Clones.{same_texts}
-use Rattle.store_folders.proofs.store.copy_of.Goals as goal
-
-pub returns-clause-alternates : goal.returns-clause-alternates
-returns-clause-alternates c = same_texts c.args.folder.now.alternates.items c.in_ok-clone-2.field-0.items c.in_ok-clone-2.ensures.cases.0
