@@ -83,16 +83,15 @@ def difference(got, wanted):
 
 
 def outcome(result):
-    """The line of a result, and whether it passed. A result is a text and whether it passed, or a function that tries it and returns
-    what is wrong, if anything."""
-    text, holds = result
-    if callable(holds):
+    """The line of a result, and whether it passed. A result is a text, and what is wrong, if anything, or a function that tries it and
+    returns that; or a text that says so, and whether it passed."""
+    text, wrong = result
+    if callable(wrong):
         try:
-            wrong = holds()
+            wrong = wrong()
         except (OSError, ValueError, LookupError, struct.error, subprocess.SubprocessError) as why:
             wrong = f"{type(why).__name__}: {why}"
-        text, holds = f"{text}: {wrong or 'as wanted'}", not wrong
-    return text, holds
+    return (text, wrong) if isinstance(wrong, bool) else (f"{text}: {wrong or 'as wanted'}", not wrong)
 
 
 def at_once(results):
@@ -105,10 +104,7 @@ def count(results):
     """Prints the line of each result, then the beginning of each line that failed once more, and the counts. Returns the status, 1
     if any failed or none passed."""
     passed, failed = 0, []
-    for text, holds in results:
-        if ONLY not in text:
-            continue
-        text, holds = outcome((text, holds))
+    for text, holds in (outcome(result) for result in results if ONLY in result[0]):
         print(text, flush=True)
         passed += bool(holds)
         failed += [] if holds else [f"FAILED: {text[:300].partition(chr(10))[0]}"]
