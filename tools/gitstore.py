@@ -6,11 +6,10 @@ import hashlib
 import os
 import random
 import struct
-import tempfile
 import zlib
 from pathlib import Path
 
-from probe import ROOT, git
+from probe import ROOT, git, temporary
 
 # Pack indexes of the tests, and how they are made: `recipes` of tools/stores.
 DATA = ROOT / "crates" / "packtool_tests" / "data"
@@ -129,8 +128,8 @@ def add_repository(directory, kind="sha1", loose=(), packs=()):
 
 def add_blobs(directory, texts):
     """Adds a loose blob of each of these texts to a repository, and returns their ids."""
-    with tempfile.TemporaryDirectory() as room:
-        paths = [Path(room, str(number)) for number in range(len(texts))]
+    with temporary() as room:
+        paths = [room / str(number) for number in range(len(texts))]
         for path, text in zip(paths, texts):
             path.write_text(text, encoding="utf-8")
         return git(directory, "hash-object", "-w", "--stdin-paths", given="".join(f"{path}\n" for path in paths).encode()).split()
@@ -221,9 +220,8 @@ def keep(live):
 def unpack(live, room):
     """Makes all packed objects loose, and then removes the packs."""
     packs = list(Path(live, "objects", "pack").glob("*.pack"))
-    with tempfile.TemporaryDirectory(dir=room) as name:
-        spare = Path(name)
-        git(room, "init", "--quiet", "--bare", f"--object-format={live.name}", name)
+    with temporary(room) as spare:
+        git(room, "init", "--quiet", "--bare", f"--object-format={live.name}", spare)
         for pack in packs:
             git(spare, "unpack-objects", "-q", given=pack.read_bytes())
         for path in spare.glob("objects/??/*"):

@@ -56,6 +56,13 @@ for ending in (signal.SIGTERM, signal.SIGHUP, signal.SIGINT):
     signal.signal(ending, stop)
 
 
+@contextlib.contextmanager
+def temporary(inside=None):
+    """A temporary directory, by its real path; inside a directory, if one is given."""
+    with tempfile.TemporaryDirectory(prefix=f"{Path(sys.argv[0]).name}-", dir=inside) as name:
+        yield Path(name).resolve()
+
+
 def read(name):
     """The text of a file, by its path from the top."""
     return (ROOT / name).read_text(encoding="utf-8")
@@ -192,8 +199,7 @@ def make_edit(edit, texts):
 def room_with(crates, sources):
     """A temporary directory with a copy of what the compiler reads, as a repository of its own. Its program depends on the
     crates, and has these sources, each by its name."""
-    with tempfile.TemporaryDirectory(prefix="probe-") as name:
-        room = Path(name).resolve()
+    with temporary() as room:
         shutil.copytree(ROOT / "crates", room / "crates", symlinks=True, ignore=shutil.ignore_patterns("out"))
         shutil.copy(ROOT / "HANDLES", room)
         listed = f"{read('crates.txt')}\n{PROGRAM}: {' '.join(sorted(crates))}\n"
