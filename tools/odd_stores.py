@@ -43,7 +43,7 @@ PACK_FILES += ["multi-pack-index~", "pack-1.idx~"]
 
 
 def chance(rng, share):
-    """Whether something happens that does so this often. (It shrinks to no.)"""
+    """Whether something happens that does so this often."""
     return rng.randrange(1000) >= 1000 - 1000 * share
 
 
