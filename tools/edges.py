@@ -656,8 +656,6 @@ def links(room):
     names = [f"pack-{number:02}" for number in range(70)]
     for name in names:
         add_pack(room / "many", name, plain_index([made.BOTH]))
-    lines = [f"{made.BOTH} many/pack/{name}.pack 3072" for name in names]
-    yield prints("70 packs", lines, "locate", "4b", "--objects", "many", cwd=room)
     for path, target, why in [("many/pack/pack-00.pack", "pack-00.pack", LOOP), ("many/pack/pack-69.idx", "gone", NO_FILE)]:
         (room / path).unlink()
         (room / path).symlink_to(target)
