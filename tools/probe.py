@@ -225,19 +225,14 @@ def print_end(output):
 
 
 def programs_given(number):
-    """The paths of the programs that are this program's first words, that many; it ends with status 2 if they are not there."""
+    """The paths of the programs that are this program's first words, that many. It ends with status 2 if they are not there, or if it has
+    words and takes none."""
     paths = [str(Path(word).resolve()) for word in sys.argv[1 : 1 + number]]
-    if len(paths) < number or not all(Path(path).is_file() and os.access(path, os.X_OK) for path in paths):
-        print(f"usage: tools/{Path(sys.argv[0]).name}{' PROGRAM' * number}: the paths of built programs", file=sys.stderr)
+    if len(paths) < number or sys.argv[1:] and not number or not all(Path(path).is_file() and os.access(path, os.X_OK) for path in paths):
+        about = ": the paths of built programs" if number else ""
+        print(f"usage: tools/{Path(sys.argv[0]).name}{' PROGRAM' * number}{about}", file=sys.stderr)
         sys.exit(2)
     return paths
-
-
-def no_words_given():
-    """Ends this program with status 2 if it was given words, since it takes none."""
-    if sys.argv[1:]:
-        print(f"usage: tools/{Path(sys.argv[0]).name}", file=sys.stderr)
-        sys.exit(2)
 
 
 def program(name):
