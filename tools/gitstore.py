@@ -23,6 +23,8 @@ CONFIGS = {"sha1": b"[core]\n", "sha256": SHA256}
 # How many blobs a store has in its packs, if nobody says it; the first offset in a pack index of ids; and how often a store is packed
 # again while it is read.
 PACKED, FIRST, ROUNDS = 3000, 3072, 4
+# A time, in seconds, after which a change leaves another time of a file, so that a store is kept.
+SETTLED = 0.025
 
 
 def write(path, content=b""):

@@ -11,13 +11,11 @@ import time
 
 import made
 from edges import LOCKED, NO_FILE, TOO_FEW, error_of
-from gitstore import DIGITS, add_objects, add_pack, add_repository, changed, plain_index, sorted_ids, write
+from gitstore import DIGITS, SETTLED, add_objects, add_pack, add_repository, changed, plain_index, sorted_ids, write
 from probe import CLEAN, POWERLESS, difference, started
 
 # How long all answers to an input may take, in seconds.
 PATIENCE = 60
-# A time, in seconds, after which a change leaves another time of a file, so that a store is kept.
-SETTLED = 0.025
 # How many bytes a read of standard input takes at most: at first, after one that got as many, and then.
 READS = [1 << 14, 1 << 16, 1 << 18]
 # Sets how many bytes a pipe holds: the most that anybody may ask for.
