@@ -1,6 +1,6 @@
 -- The errors of the searches as causes: each is an error of the search in what a source gives.
-use Rattle.oidtool_commands.specs.declared.SearchError.{SearchError}
-use Rattle.oidtool_commands.specs.declared.SearchError.TheVariants as cause
+use Rattle.list_search.specs.declared.error.SearchError.{SearchError}
+use Rattle.list_search.specs.declared.error.SearchError.TheVariants as cause
 use Rattle.find_calls.specs.declared.finding.FindError.{FindError}
 use Rattle.find_calls.specs.declared.finding.FindError.TheVariants as sorted
 use Rattle.find_calls.specs.declared.finding_in.FindInError.{FindInError}

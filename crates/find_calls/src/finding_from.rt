@@ -3,12 +3,12 @@
 ghost use Rattle.std.specs.Prelude.{◌≡◌, ◌≢◌, ◌↔◌, true, false, IsErr, IfOk, IfErr, IsErrOf};
 ghost use Rattle.gix_hash.specs.declared.Alphabet.{Alphabet};
 ghost use Rattle.find_calls.specs.Errors.{cause_from};
-ghost use Rattle.oidtool_commands.specs.Searches.{Fails, Finds, From, IsOwn, prefix_for};
+ghost use Rattle.list_search.specs.Searches.{Fails, Finds, From, IsOwn, prefix_for};
 ghost use Rattle.find_calls.specs.declared.finding_from.FindFromError.{FindFromError};
-ghost use Rattle.oidtool_commands.specs.declared.Search.{Search};
+ghost use Rattle.list_search.specs.declared.search.Search.{Search};
 
 use gix_hash::{Alphabet, decode, prefix};
-use oidtool_commands::{Search, SearchError, search_from};
+use list_search::{Search, SearchError, search_from};
 use std::alloc::Allocator;
 use streams::{MAX_LEN, Sink, Source};
 use thiserror::Error as ThisError;

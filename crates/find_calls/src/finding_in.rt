@@ -3,13 +3,13 @@
 ghost use Rattle.std.specs.Prelude.{◌≡◌, ◌≢◌, ◌↔◌, ℕ, List, Result, true, false, IfOk, IfErr, IsErrOf};
 ghost use Rattle.gix_hash.specs.declared.Kind.{Kind};
 ghost use Rattle.find_calls.specs.Errors.{cause_in};
-ghost use Rattle.oidtool_commands.specs.Searches.{Fails, Finds, IsOfText, IsOwn, ResultHolds, Text, finding};
-ghost use Rattle.oidtool_commands.specs.declared.SearchError.{SearchError};
+ghost use Rattle.list_search.specs.Searches.{Fails, Finds, IsOfText, IsOwn, ResultHolds, Text, finding};
+ghost use Rattle.list_search.specs.declared.error.SearchError.{SearchError};
 ghost use Rattle.find_calls.specs.declared.finding_in.FindInError.{FindInError};
-ghost use Rattle.oidtool_commands.specs.declared.Search.{Search};
+ghost use Rattle.list_search.specs.declared.search.Search.{Search};
 
 use gix_hash::{Kind, decode, prefix};
-use oidtool_commands::{Search, SearchError, search_from};
+use list_search::{Search, SearchError, search_from};
 use std::alloc::Allocator;
 use streams::{FromSlice, Sink};
 use thiserror::Error as ThisError;

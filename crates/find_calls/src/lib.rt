@@ -11,4 +11,4 @@ mod finding_in;
 pub use finding::{FindError, find, find_change, finding_means};
 pub use finding_from::{FindFromError, find_from};
 pub use finding_in::{FindInError, find_in, finding_in_means};
-pub use oidtool_commands::{Search, SearchError, search_from};
+pub use list_search::{Search, SearchError, search_from};

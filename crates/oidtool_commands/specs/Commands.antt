@@ -7,17 +7,17 @@ use Rattle.id_lookup.specs.Words.{Hex, IsNameOf, IsNoName, Kind, Reverse, sealed
 use Rattle.streams.specs.Streams.{AppendsPart, HasReadAll, HasReadTooMuch, HashingFails, SealingFails, digest_line, max_len}
 use Rattle.streams.specs.declared.PipeError.{PipeError}
 use Rattle.streams.specs.declared.PipeError.TheVariants as pipe
-use Rattle.oidtool_commands.specs.Searches.{Fails, Finds, From}
+use Rattle.list_search.specs.Searches.{Fails, Finds, From}
 use Rattle.oidtool_commands.specs.declared.command.ArgError.{ArgError}
 use Rattle.oidtool_commands.specs.declared.command.ArgError.TheVariants.{BadKind, BadNumber, Usage}
 use Rattle.oidtool_commands.specs.declared.command.Command.{Command}
 use Rattle.oidtool_commands.specs.declared.command.Command.TheVariants.{Find, FindChange, FindIn, Hash, HashFile, Seal}
 use Rattle.oidtool_commands.specs.declared.error.CommandError.{CommandError}
 use Rattle.oidtool_commands.specs.declared.error.CommandError.TheVariants as command
-use Rattle.oidtool_commands.specs.declared.search.Search.{Search}
-use Rattle.oidtool_commands.specs.declared.search.Search.TheVariants.{In, Sorted}
-use Rattle.oidtool_commands.specs.declared.search.error.SearchError.{SearchError}
-use Rattle.oidtool_commands.specs.declared.search.error.SearchError.TheVariants as search
+use Rattle.list_search.specs.declared.search.Search.{Search}
+use Rattle.list_search.specs.declared.search.Search.TheVariants.{In, Sorted}
+use Rattle.list_search.specs.declared.error.SearchError.{SearchError}
+use Rattle.list_search.specs.declared.error.SearchError.TheVariants as search
 
 -- the word is this number, of at most 2^64 - 1: at least one decimal digit, after a `+` or none
 pub record IsNumberOf (word : List ℕ) (n : ℕ) : Type 0 where

@@ -2,7 +2,7 @@
 
 ghost use Rattle.std.specs.Prelude.{◌≡◌};
 
-use crate::search::error::SearchError;
+use list_search::SearchError;
 use streams::{PipeError, WriteFailed};
 use thiserror::Error as ThisError;
 

@@ -4,16 +4,11 @@
 //! a search in a list, [`hash_all`](streams::hash_all), [`seal`](streams::seal), or the digest of a
 //! file. [`command_line_args`] returns the words that the program was started with, and [`report`]
 //! prints an error, a [`Failure`], and returns the exit status.
-//!
-//! [`search_from`] is the search that three of the commands run. It searches a list text, which has
-//! an id in hex on each line, chunk by chunk for any [`Search`], and writes the matching ids to a
-//! sink, a line for each.
 #![tactic(auto)]
 
 mod command;
 mod error;
 mod running;
-mod search;
 mod searching;
 mod status;
 mod words;
@@ -21,7 +16,5 @@ mod words;
 pub use command::{ArgError, Command, read_command};
 pub use error::CommandError;
 pub use running::run_command;
-pub use search::error::SearchError;
-pub use search::{Search, search_from};
 pub use status::{Failure, exit_status, report};
 pub use words::{WordsError, command_line_args};

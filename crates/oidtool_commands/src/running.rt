@@ -6,10 +6,10 @@ ghost use Rattle.oidtool_commands.specs.declared.error.CommandError.{CommandErro
 
 use crate::command::Command;
 use crate::error::CommandError;
-use crate::search::{Search, search_from};
 use crate::searching::search_to_end;
 use gix_hash::io::{Never, NoProgress};
 use gix_hash::{Alphabet, Kind, bytes_of_file};
+use list_search::{Search, search_from};
 use std::alloc::Allocator;
 use std::path::Path;
 use std::rt::Files;

@@ -3,11 +3,10 @@
 ghost use Rattle.std.specs.Prelude.{◌≡◌, ◌≢◌, ◌↔◌, true, false, IfOk, IfErr, OnOk, IsErrOf};
 ghost use Rattle.oidtool_commands.specs.Commands.{IsDrained, SearchToEndFails};
 ghost use Rattle.oidtool_commands.specs.declared.error.CommandError.{CommandError};
-ghost use Rattle.oidtool_commands.specs.Searches.{Finds, From};
+ghost use Rattle.list_search.specs.Searches.{Finds, From};
 
 use crate::error::CommandError;
-use crate::search::error::SearchError;
-use crate::search::{Search, search_from};
+use list_search::{Search, SearchError, search_from};
 use std::alloc::Allocator;
 use streams::{CHUNK_LEN, MAX_LEN, PipeError, Sink, Source, next_chunk};
 

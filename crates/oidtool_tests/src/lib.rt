@@ -1,6 +1,6 @@
-//! Tests of `streams`, `find_calls` and `oidtool_commands`, by public calls only, as `oidtool`
-//! uses them: what no clause says of worked examples, texts, and readers, writers and memory that
-//! fail.
+//! Tests of `streams`, `list_search`, `find_calls` and `oidtool_commands`, by public calls only, as
+//! `oidtool` uses them: what no clause says of worked examples, texts, and readers, writers and
+//! memory that fail.
 #![tactic(auto)]
 
 #[cfg(test)]
@@ -10,13 +10,13 @@ mod expecting;
 #[cfg(test)]
 mod find_calls_finding;
 #[cfg(test)]
+mod list_search_search;
+#[cfg(test)]
 mod oidtool_commands_command;
 #[cfg(test)]
 mod oidtool_commands_error;
 #[cfg(test)]
 mod oidtool_commands_running;
-#[cfg(test)]
-mod oidtool_commands_search;
 #[cfg(test)]
 mod oidtool_commands_status;
 #[cfg(test)]

@@ -1,5 +1,5 @@
-use Rattle.oidtool_commands.specs.declared.Search.TheVariants.{Sorted}
-use Rattle.oidtool_commands.proofs.Results.{result_means}
+use Rattle.list_search.specs.declared.search.Search.TheVariants.{Sorted}
+use Rattle.list_search.proofs.Results.{result_means}
 use Rattle.find_calls.proofs.finding.finding_means.Goals as goal
 
 pub returns : goal.returns

@@ -1,5 +1,5 @@
-use Rattle.oidtool_commands.specs.declared.Search.TheVariants.{In}
-use Rattle.oidtool_commands.proofs.Results.{result_means}
+use Rattle.list_search.specs.declared.search.Search.TheVariants.{In}
+use Rattle.list_search.proofs.Results.{result_means}
 use Rattle.find_calls.proofs.finding_in.finding_in_means.Goals as goal
 
 pub returns : goal.returns

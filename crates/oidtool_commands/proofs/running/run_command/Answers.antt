@@ -1,20 +1,24 @@
 use Rattle.gix_hash.proofs.Std.{ℕ, Option, List, inr, refl, Keeps}
 use Rattle.id_lookup.specs.Words.{Hex, Reverse}
 use Rattle.oidtool_commands.specs.Commands.{Does}
-use Rattle.oidtool_commands.specs.Searches.{Finds, From}
+use Rattle.list_search.specs.Searches.{Finds, From}
 use Rattle.oidtool_commands.specs.declared.command.Command.{Command}
 use Rattle.oidtool_commands.specs.declared.command.Command.TheVariants.{Find, FindChange, FindIn, Hash, HashFile, Seal}
-use Rattle.oidtool_commands.specs.declared.search.Search.{Search}
-use Rattle.oidtool_commands.specs.declared.search.Search.TheVariants.{Sorted, In}
+use Rattle.list_search.specs.declared.search.Search.{Search}
+use Rattle.list_search.specs.declared.search.Search.TheVariants.{Sorted, In}
 use Rattle.streams.proofs.WritingLemmas.{Appends-kept}
-use Rattle.oidtool_commands.proofs.StopLemmas.{all_map}
 use Rattle.oidtool_commands.proofs.running.run_command.Goals as goal
 
 -- a flush leaves what was written
 finds_kept : (search : Search) (prefix : List ℕ) (most : ℕ) (input input' old mid new : Option (List ℕ)) (count : ℕ)
     → Finds search prefix (From most input input') old mid count → Keeps mid new → Finds search prefix (From most input input') old new count
-finds_kept search prefix most input input' old mid new count all keeps =
-    all_map all (λ text h. record { ids = h.ids; found = h.found; counted = h.counted; written = Appends-kept old mid new _ h.written keeps })
+finds_kept search prefix most input input' old mid new count all keeps = record {
+  text = all.text;
+  gives = all.gives;
+  at_end = all.at_end;
+  short = all.short;
+  holds = let h = all.holds in record { ids = h.ids; found = h.found; counted = h.counted; written = Appends-kept old mid new _ h.written keeps };
+}
 
 does_kept : (asked : Command) (input input' old mid new : Option (List ℕ)) (count : ℕ)
     → Does asked input input' old mid count → Keeps mid new → Does asked input input' old new count
