@@ -1,13 +1,15 @@
 -- Where a repository and its objects are, as Git finds them (setup.c): by what directories and files answer, and by the environment.
-use Rattle.std.specs.Prelude.{◌≡◌, ◌⊎◌, ℕ, zero, suc, ◌&&◌, ◌||◌, ◌-◌, ◌==◌, Bool, false, if◌then◌else◌, Option, Some, None, Ok, Err, List, [], bytes_eq, codes, drop, length, nat_eq, option_and_then, option_map, string_bytes, take, unwrap_or}
+use Rattle.std.specs.Prelude.{◌≡◌, ◌⊎◌, ℕ, zero, suc, ◌&&◌, ◌||◌, ◌-◌, ◌==◌, Bool, false, if◌then◌else◌, Option, Some, None, Ok, Err, List, [], bytes_eq, codes, drop, length, map, nat_eq, option_and_then, option_map, string_bytes, take, unwrap_or}
 use Rattle.std.specs.List.{starts_with, suffix_len}
 use Rattle.std.specs.Path.{path_join, path_parent}
 use Rattle.gix_hash.specs.declared.Kind.{Kind}
 use Rattle.gix_hash.specs.declared.Kind.TheVariants.{Sha1}
+use Rattle.repositories.specs.Alternates.{paths_named}
 use Rattle.repositories.specs.Answers.{◌>>=◌, Answers}
 use Rattle.repositories.specs.Formats.{Says}
 use Rattle.repositories.specs.Heads.{is_head}
 use Rattle.repositories.specs.Lookups.{answered, if_there, is_file, is_directory, is_no_link, number_of, real_directory}
+use Rattle.repositories.specs.declared.finding.ObjectDirectory.{ObjectDirectory}
 use Rattle.repositories.specs.declared.repository.Environment.{Environment}
 
 -- whether a path leads to a file that is a HEAD
@@ -154,10 +156,18 @@ HasKindBeside objects kind at =
 abbrev pub objects_of : Environment → Repository → List ℕ
 objects_of given found = elim given.object_directory [ Some path ↦ path_join found.top (string_bytes path) | None ↦ path_join found.directory (codes "objects") ]
 
--- the object directory has this path, and its ids this kind: that of the repository, or else that of the environment
-abbrev pub IsObjectDirectory : Environment → Option (List ℕ) → List ℕ → Kind → Answers → Type 0
-IsObjectDirectory given here path kind at = elim (find given here at) [
-  | Some (Some found) ↦ (path ≡ objects_of given found) × HasKind found.directory kind at
-  | Some None ↦ (Some path ≡ option_map string_bytes given.object_directory) × HasKindBeside path kind at
+-- an alternate of the environment: relative to the top of the worktree, or empty if its path began with a NUL
+abbrev pub alternate_in : List ℕ → List ℕ → List ℕ
+alternate_in top path = if length path == 0 then [] else path_join top path
+
+-- the alternates that the environment adds, which are between colons
+abbrev pub alternates_of : Environment → List ℕ → List (List ℕ)
+alternates_of given top = elim given.alternate_object_directories [ Some list ↦ map (alternate_in top) (paths_named 58 (string_bytes list)) | None ↦ [] ]
+
+-- the object directory is that of the repository, or else that of the environment: its path, the kind of its ids, and the alternates that the environment adds
+abbrev pub IsObjectDirectory : Environment → Option (List ℕ) → ObjectDirectory → Answers → Type 0
+IsObjectDirectory given here directory at = let path = string_bytes directory.path in let alternates = map string_bytes directory.alternates.items in elim (find given here at) [
+  | Some (Some found) ↦ (path ≡ objects_of given found) × HasKind found.directory directory.kind at × (alternates ≡ alternates_of given found.top)
+  | Some None ↦ (Some path ≡ option_map string_bytes given.object_directory) × HasKindBeside path directory.kind at × (alternates ≡ alternates_of given [])
   | None ↦ ⊥
 ]

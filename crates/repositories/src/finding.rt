@@ -1,8 +1,8 @@
 //! Object directories: the one of the repository that a program runs in, and others by their paths.
 
-ghost use Rattle.std.specs.Prelude.{◌≡◌, IfOk, Some, [], option_copied, option_map, string_bytes};
+ghost use Rattle.std.specs.Prelude.{◌≡◌, ◌++◌, ◌∷◌, IfOk, OnOk, Some, [], map, option_copied, option_map, string_bytes};
 ghost use Rattle.repositories.specs.Answers.{IfKnown};
-ghost use Rattle.repositories.specs.Discovery.{HasKind, HasKindBeside, IsObjectDirectory, objects_of};
+ghost use Rattle.repositories.specs.Discovery.{HasKind, HasKindBeside, IsObjectDirectory, alternate_in, alternates_of, objects_of};
 ghost use Rattle.repositories.specs.Views.{repository_of};
 
 use crate::alternates::alternate_paths;
@@ -112,9 +112,7 @@ pub fn find_objects_in<R: Directories>(
     here: Option<&str>,
 ) -> Result<ObjectDirectory, Error>
     ensures { IfOk result (λ found. IfKnown
-        (IsObjectDirectory given.now (option_copied here.entry) (string_bytes found.path)
-        found.kind)
-        (R.answers rt.now)) }
+        (IsObjectDirectory given.now (option_copied here.entry) found) (R.answers rt.now)) }
 {
     let search = Search { rt, given };
     match search.find(here)? {
@@ -133,6 +131,8 @@ fn objects_of<R: Directories>(
         ≡ objects_of given.now (repository_of repository.now)) }
     ensures kind { IfOk result (λ found. IfKnown
         (HasKind (string_bytes repository.now.directory) found.kind) (R.answers rt.now)) }
+    ensures alternates { IfOk result (λ found. map string_bytes found.alternates.items
+        ≡ alternates_of given.now (string_bytes repository.now.top)) }
 {
     let kind = kind_by_config(rt, &repository.directory)?;
     let path = match &given.object_directory {
@@ -152,6 +152,8 @@ fn objects_given<R: Directories>(rt: &R, given: &Environment) -> Result<ObjectDi
         ≡ option_map string_bytes given.now.object_directory) }
     ensures kind { IfOk result (λ found. IfKnown
         (HasKindBeside (string_bytes found.path) found.kind) (R.answers rt.now)) }
+    ensures alternates { IfOk result (λ found. map string_bytes found.alternates.items
+        ≡ alternates_of given.now []) }
 {
     let Some(path) = &given.object_directory else {
         return Err(Error::of(rt.alloc(), Cause::NoRepository));
@@ -164,18 +166,50 @@ fn objects_given<R: Directories>(rt: &R, given: &Environment) -> Result<ObjectDi
     })
 }
 
-// The directories that `$GIT_ALTERNATE_OBJECT_DIRECTORIES` names, relative to a directory.
-fn alternates(rt: &impl AllocGlobal, given: &Environment, top: &str) -> Result<Vec<String>, Error> {
-    let mut directories = Vec::new(rt.alloc());
-    if let Some(list) = &given.alternate_object_directories {
-        for path in &alternate_paths(rt.alloc(), list.as_bytes(), b':')? {
-            let directory = if path.is_empty() { "" } else { top };
-            if !push_path(rt, directory, path, &mut directories)? {
-                return Err(Error::text(rt.alloc(), ALTERNATES, "a path is not UTF-8"));
-            }
+// The directories that `$GIT_ALTERNATE_OBJECT_DIRECTORIES` names, relative to the top.
+fn alternates(rt: &impl AllocGlobal, given: &Environment, top: &str) -> Result<Vec<String>, Error>
+    ensures { IfOk result (λ alternates. map string_bytes alternates.items
+        ≡ alternates_of given.now top.now) }
+{
+    match &given.alternate_object_directories {
+        Some(list) => {
+            let named = alternate_paths(rt.alloc(), list.as_bytes(), b':')?;
+            alternates_in(rt, top, &named)
         }
+        None => Ok(Vec::new(rt.alloc())),
     }
-    Ok(directories)
+}
+
+// The directories at these paths.
+fn alternates_in(rt: &impl AllocGlobal, top: &str, named: &[Vec<u8>]) -> Result<Vec<String>, Error>
+    ensures { IfOk result (λ alternates. map string_bytes alternates.items
+        ≡ map (alternate_in top.now) (map (λ path. path.items) named.now)) }
+{
+    let mut alternates = Vec::new(rt.alloc());
+    for path in named {
+        push_alternate(rt, top, path, &mut alternates)?;
+    }
+    Ok(alternates)
+}
+
+// Adds the directory at a path, or an empty path if this one is empty.
+fn push_alternate(
+    rt: &impl AllocGlobal,
+    top: &str,
+    path: &[u8],
+    alternates: &mut Vec<String>,
+) -> Result<(), Error>
+    ensures { OnOk result (map string_bytes alternates.new.items
+        ≡ map string_bytes alternates.old.items ++ alternate_in top.now path.now ∷ []) }
+{
+    if path.is_empty() {
+        alternates.push(String::new(rt.alloc()))?;
+        return Ok(());
+    }
+    if push_path(rt, top, path, alternates)? {
+        return Ok(());
+    }
+    Err(Error::text(rt.alloc(), ALTERNATES, "a path is not UTF-8"))
 }
 
 // Whether a directory is an object directory.
