@@ -1,4 +1,5 @@
 mod Entries
+mod HexBytes
 mod LineEnds
 mod LoosePaths
 mod Quoted

@@ -91,7 +91,7 @@ repository_in given directory at = repository_of_worktree given directory at >>=
 ]
 
 -- what was found, or what is found next if it was nothing
-abbrev pub or_next : Option (Option Repository) → Option (Option Repository) → Option (Option Repository)
+abbrev pub or_next : {T : Type 0} → Option (Option T) → Option (Option T) → Option (Option T)
 or_next (Some None) next = next
 or_next found next = found
 

@@ -8,5 +8,6 @@ pub mod Paths
 pub mod Printed
 pub mod Quoting
 pub mod States
+pub mod Stores
 pub mod Views
 pub mod Walks

@@ -1,14 +1,16 @@
 //! Object directories: the one of the repository that a program runs in, and others by their paths.
 
-ghost use Rattle.std.specs.Prelude.{◌≡◌, ◌++◌, ◌∷◌, IfOk, OnOk, Some, [], map, option_copied, option_map, string_bytes};
-ghost use Rattle.repositories.specs.Answers.{IfKnown};
+ghost use Rattle.std.specs.Prelude.{◌≡◌, ◌++◌, ◌∷◌, suc, IfOk, OnOk, Some, [], map, option_copied, option_map, string_bytes, true};
+ghost use Rattle.repositories.specs.Answers.{Finds, IfKnown};
 ghost use Rattle.repositories.specs.Discovery.{HasKind, HasKindBeside, IsObjectDirectory, alternate_in, alternates_of, objects_of};
+ghost use Rattle.repositories.specs.Stores.{has_fan_out, if_store, is_store, objects_in, store_in};
 ghost use Rattle.repositories.specs.Views.{repository_of};
 
 use crate::alternates::alternate_paths;
 use crate::directories::Directories;
 use crate::error::{Cause, Error};
 use crate::files::{has_directory, is_file, join, kind_beside, kind_by_config, push_path};
+use crate::paths::hex_of;
 use crate::repository::{Environment, Repository, Search};
 use gix_hash::Kind;
 use std::env;
@@ -51,6 +53,10 @@ impl ObjectDirectory {
     pub fn at<R: Directories>(rt: &R, path: &str) -> Result<ObjectDirectory, Error>
         ensures path { IfOk result (λ directory. string_bytes directory.path ≡ path.now) }
         ensures alternates { IfOk result (λ directory. directory.alternates.items ≡ []) }
+        ensures store { IfOk result (λ directory. IfKnown (λ at. is_store path.now at ≡ Some true)
+            (R.answers rt.now)) }
+        ensures kind { IfOk result (λ directory. IfKnown (HasKindBeside path.now directory.kind)
+            (R.answers rt.now)) }
     {
         if !is_store(rt, path)? {
             return Err(no_store(rt, path)?);
@@ -213,22 +219,29 @@ fn push_alternate(
 }
 
 // Whether a directory is an object directory.
-fn is_store<R: Directories>(rt: &R, path: &str) -> Result<bool, Error> {
+#[tactic(auto, unfolding(crate::specs::Stores::is_store))]
+fn is_store<R: Directories>(rt: &R, path: &str) -> Result<bool, Error>
+    ensures { Finds (λ is. is) result (is_store path.now) (R.answers rt.now) }
+{
     Ok(
         has_directory(rt, path, "pack")?
             || is_file(rt, &join(rt, path, "info/alternates")?)?
-            || has_loose_directory(rt, path)?,
+            || has_fan_out(rt, path, u8::MAX)?,
     )
 }
 
-// Whether a directory has a fan-out directory.
-fn has_loose_directory<R: Directories>(rt: &R, path: &str) -> Result<bool, Error> {
-    for byte in 0..=u8::MAX {
-        if has_directory(rt, path, &format!(in rt.alloc(); "{byte:02x}")?)? {
-            return Ok(true);
-        }
+// Whether a directory has the fan-out directory of a byte, or of one below.
+#[tactic(auto, unfolding(crate::specs::Stores::has_fan_out))]
+fn has_fan_out<R: Directories>(rt: &R, path: &str, byte: u8) -> Result<bool, Error>
+    ensures { Finds (λ has. has) result (has_fan_out (suc byte) path.now) (R.answers rt.now) }
+{
+    if has_directory(rt, path, &hex_of(rt, byte)?)? {
+        return Ok(true);
     }
-    Ok(false)
+    if byte == 0 {
+        return Ok(false);
+    }
+    has_fan_out(rt, path, byte - 1)
 }
 
 // Why a directory is no object directory.
@@ -242,22 +255,36 @@ fn no_store<R: Directories>(rt: &R, path: &str) -> Result<Error, Error> {
 }
 
 // That a directory is no object directory, and the one that it has.
-fn no_store_but<R: Directories>(rt: &R, path: &str) -> Result<Cause, Error> {
+fn no_store_but<R: Directories>(rt: &R, path: &str) -> Result<Cause, Error>
+    ensures { Finds objects_in result (store_in path.now) (R.answers rt.now) }
+{
     let objects = store_in(rt, path)?;
     let path = String::from_str(rt.alloc(), path)?;
-    Ok(match objects {
-        Some(objects) => Cause::NoStoreButIn { path, objects },
-        None => Cause::NoStore { path },
-    })
+    match objects {
+        Some(objects) => Ok(Cause::NoStoreButIn { path, objects }),
+        None => Ok(Cause::NoStore { path }),
+    }
 }
 
 // The object directory of a repository or worktree at a path, if there is one.
-fn store_in<R: Directories>(rt: &R, path: &str) -> Result<Option<String>, Error> {
-    for name in ["objects", ".git/objects"] {
-        let objects = join(rt, path, name)?;
-        if is_store(rt, &objects)? {
-            return Ok(Some(objects));
-        }
+fn store_in<R: Directories>(rt: &R, path: &str) -> Result<Option<String>, Error>
+    ensures { Finds (option_map string_bytes) result (store_in path.now) (R.answers rt.now) }
+{
+    match if_store(rt, join(rt, path, "objects")?)? {
+        Some(objects) => Ok(Some(objects)),
+        None => if_store(rt, join(rt, path, ".git/objects")?),
     }
-    Ok(None)
+}
+
+// A path, if an object directory is there.
+#[tactic(auto, unfolding(crate::specs::Stores::if_store))]
+fn if_store<R: Directories>(rt: &R, path: String) -> Result<Option<String>, Error>
+    ensures { Finds (option_map string_bytes) result (if_store (string_bytes path))
+        (R.answers rt.now) }
+{
+    if is_store(rt, &path)? {
+        Ok(Some(path))
+    } else {
+        Ok(None)
+    }
 }
