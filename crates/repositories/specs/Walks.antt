@@ -1,5 +1,5 @@
 -- An object directory and its alternates, as Git links them (object-file.c): by what directories and files answer.
-use Rattle.std.specs.Prelude.{ℕ, zero, suc, ◌++◌, ◌∷◌, ◌&&◌, ◌+◌, ◌==◌, [], Bool, Err, List, None, Ok, Option, Result, Some, bytes_eq, codes, if◌then◌else◌, length, map, option_map, String, string_bytes, unwrap_or}
+use Rattle.std.specs.Prelude.{◌≡◌, ◌<◌, ℕ, zero, suc, ◌++◌, ◌∷◌, ◌&&◌, ◌+◌, ◌==◌, [], Bool, Err, List, None, Ok, Option, Result, Some, bytes_eq, codes, if◌then◌else◌, length, map, option_map, String, string_bytes, unwrap_or}
 use Rattle.std.specs.Cmp.Lexicographic.{pointwise}
 use Rattle.std.specs.Global.{Global}
 use Rattle.std.specs.List.{list_any}
@@ -42,6 +42,18 @@ skip walk = record { paths = walk.paths; numbers = walk.numbers; skipped = walk.
 -- the state of what a path leads to, or none if there is nothing
 abbrev pub state_at : List ℕ → Answers → Option (Option FileState)
 state_at path at = if_there (at.look path) >>= λ found. Some (option_map (λ found. found.state) found)
+
+-- a path, or that of the current directory if it is empty
+abbrev pub or_here : List ℕ → List ℕ
+or_here path = if length path == 0 then codes "." else path
+
+-- a state is that of what a path leads to; or, if that is nothing, one in which names are missing
+abbrev pub IsStateOf : List ℕ → FileState → Answers → Type 0
+IsStateOf path state at = elim (state_at path at) [
+  | Some (Some found) ↦ state ≡ found
+  | Some None ↦ 0 < state.missing
+  | None ↦ ⊥
+]
 
 -- the text of a list of alternates, which is empty if there is none
 abbrev pub text_at : List ℕ → Answers → Option (List ℕ)

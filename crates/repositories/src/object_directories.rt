@@ -6,7 +6,7 @@ ghost use Rattle.std.specs.Path.{path_join};
 ghost use Rattle.std.specs.declared.io.ErrorKind.{ErrorKind};
 ghost use Rattle.repositories.specs.Answers.{IfKnown};
 ghost use Rattle.repositories.specs.Views.{directory_of};
-ghost use Rattle.repositories.specs.Walks.{are_same_paths, are_same_states, directories_of, has, list_at, skip, text_at, visit, visit_all, walk_from, walk_of, with_alternates, with_first, with_directory, with_path, with_paths};
+ghost use Rattle.repositories.specs.Walks.{IsStateOf, are_same_paths, are_same_states, directories_of, has, list_at, or_here, skip, text_at, visit, visit_all, walk_from, walk_of, with_alternates, with_first, with_directory, with_path, with_paths};
 
 use crate::alternates::alternate_paths;
 use crate::directories::Directories;
@@ -340,6 +340,9 @@ fn list_path(rt: &impl AllocGlobal, directory: &str) -> Result<String, AllocErro
 }
 
 // The state of a list of alternates.
-fn list_state<R: Directories>(rt: &R, list: &str) -> Result<FileState, Error> {
+fn list_state<R: Directories>(rt: &R, list: &str) -> Result<FileState, Error>
+    ensures { IfOk result (λ state. IfKnown (IsStateOf (or_here list.now) state)
+        (R.answers rt.now)) }
+{
     FileState::of(rt, list).map_err(|error| Error::file(rt.alloc(), list, error))
 }

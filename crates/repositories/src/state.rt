@@ -1,11 +1,11 @@
 //! What directories and files are before they are read, to know whether they changed meanwhile.
 
-ghost use Rattle.std.specs.Prelude.{◌≡◌, ◌+◌, ◌*◌, ◌==◌, ◌↔◌, IfOk, IsTrue, Some, not};
+ghost use Rattle.std.specs.Prelude.{◌≡◌, ◌+◌, ◌*◌, ◌<◌, ◌==◌, ◌↔◌, IfOk, IsTrue, Some, not};
 ghost use Rattle.std.specs.Duration.{as_nanos};
 ghost use Rattle.std.specs.Fs.{metadata_len};
 ghost use Rattle.repositories.specs.Answers.{IfKnown};
 ghost use Rattle.repositories.specs.States.{IsPast, IsSettled, from_zero};
-ghost use Rattle.repositories.specs.Walks.{state_at};
+ghost use Rattle.repositories.specs.Walks.{IsStateOf, or_here, state_at};
 
 use crate::directories::Directories;
 use crate::files::{FileNumber, is_missing};
@@ -48,7 +48,10 @@ pub struct FileState {
 
 impl FileState {
     /// The state of the directory or file at a path. The error is that of a look at it or above.
-    pub fn of<R: Directories>(rt: &R, path: &str) -> io::Result<FileState> {
+    pub fn of<R: Directories>(rt: &R, path: &str) -> io::Result<FileState>
+        ensures { IfOk result (λ state. IfKnown (IsStateOf (or_here path.now) state)
+            (R.answers rt.now)) }
+    {
         let path = or_here(path);
         match FileState::if_there(rt, path)? {
             Some(state) => Ok(state),
@@ -57,7 +60,9 @@ impl FileState {
     }
 
     // The state of a path that leads to nothing.
-    pub(crate) fn of_missing<R: Directories>(rt: &R, path: &str) -> io::Result<FileState> {
+    pub(crate) fn of_missing<R: Directories>(rt: &R, path: &str) -> io::Result<FileState>
+        ensures { IfOk result (λ state. 0 < state.missing) }
+    {
         let mut missing = 1u64;
         for above in Path::new(path).ancestors().skip(1) {
             if let Some(mut state) = FileState::if_there(rt, or_here(above.as_str()))? {
@@ -157,7 +162,9 @@ impl FileState {
 }
 
 // A path, or that of the current directory if it is empty.
-fn or_here(path: &str) -> &str {
+fn or_here(path: &str) -> &str
+    ensures { result.now ≡ or_here path.now }
+{
     match path {
         "" => ".",
         path => path,
