@@ -69,16 +69,33 @@ impl Directories for MemTree<'_> {
     ghost answers = { λ _. None };
 
     fn look(&self, path: &str) -> io::Result<Found> {
-        let (entry, number) = match self.entry(path)? {
-            (Entry::Link(_), _) => return Err(ErrorKind::NotFound.into()),
-            (Entry::Root, _) => (Entry::Root, u64::MAX),
-            found => found,
-        };
-        Ok(Found {
-            is_directory: matches!(entry, Entry::Directory | Entry::Root),
-            is_file: matches!(entry, Entry::File(_)),
-            state: FileState::from_parts(1, number, 0, Duration::ZERO, Duration::ZERO),
-        })
+        match self.entry(path)? {
+            (Entry::Link(_), _) => Err(ErrorKind::NotFound.into()),
+            (Entry::Root, _) => Ok(found(Entry::Root, u64::MAX)),
+            (entry, number) => Ok(found(entry, number)),
+        }
+    }
+
+    fn look_at_link(&self, path: &str) -> io::Result<Found> {
+        let (entry, number) = self.entry(path)?;
+        Ok(found(entry, number))
+    }
+
+    // The names of those that have this path before their last slash.
+    fn names(&self, path: &str) -> io::Result<Vec<u8>> {
+        if let Entry::File(_) | Entry::Link(_) = self.entry(path)?.0 {
+            return Err(ErrorKind::NotADirectory.into());
+        }
+        let mut names = Vec::new(self.alloc);
+        for (known, _) in self.entries {
+            if let Some((above, name)) = known.rsplit_once('/')
+                && above == path
+            {
+                names.extend_from_slice(name.as_bytes())?;
+                names.push(0)?;
+            }
+        }
+        Ok(names)
     }
 
     fn read(&self, path: &str) -> io::Result<Vec<u8>> {
@@ -99,5 +116,14 @@ impl Directories for MemTree<'_> {
     fn real_path(&self, path: &str) -> io::Result<String> {
         self.entry(path)?;
         Ok(String::from_str(self.alloc, path)?)
+    }
+}
+
+// What is said of what is there, by its number.
+fn found(entry: Entry, number: u64) -> Found {
+    Found {
+        is_directory: matches!(entry, Entry::Directory | Entry::Root),
+        is_file: matches!(entry, Entry::File(_)),
+        state: FileState::from_parts(1, number, 0, Duration::ZERO, Duration::ZERO),
     }
 }

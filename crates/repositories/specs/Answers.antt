@@ -8,9 +8,11 @@ use Rattle.repositories.specs.declared.directories.Found.{Found}
 use Rattle.repositories.specs.declared.error.Error.{Error}
 use Rattle.repositories.specs.declared.error.Error.TheVariants.{Cause, Memory}
 
--- what each call answers for each path, or the kind of its error
+-- what each call answers for each path, or the kind of its error; `entry` is what is at a path, also if it is a link
 pub record Answers : Type 0 where
   pub look : List ℕ → Result Found ErrorKind
+  pub entry : List ℕ → Result Found ErrorKind
+  pub names : List ℕ → Result (List ℕ) ErrorKind
   pub bytes : List ℕ → Result (List ℕ) ErrorKind
   pub text : List ℕ → Result (List ℕ) ErrorKind
   pub link : List ℕ → Result (List ℕ) ErrorKind

@@ -3,10 +3,12 @@
 ghost use Rattle.std.specs.Prelude.{None, Option, string_bytes};
 ghost use Rattle.repositories.specs.Answers.{Answered, Answers};
 
-use crate::files::{metadata, retried};
+use crate::files::{join, metadata, retried};
 use crate::state::FileState;
+use std::alloc::Global;
+use std::fs::{self, Metadata};
+use std::io::{self, BufReader, Read};
 use std::rt::Files;
-use std::{fs, io};
 
 /// What a path leads to.
 ///
@@ -27,9 +29,10 @@ pub struct Found {
 /// Directories and files, by their paths. A relative path leads from the current directory. No call
 /// changes anything.
 ///
-/// Each call follows the links in a path, except that [`read_link`](Directories::read_link) does
-/// not follow the last one. A path that leads to nothing is an error of the kind `NotFound` or
-/// `NotADirectory`. A path that is too long or has a NUL is one of the kind `InvalidFilename`.
+/// Each call follows the links in a path, except that [`read_link`](Directories::read_link) and
+/// [`look_at_link`](Directories::look_at_link) do not follow the last one. A path that leads to
+/// nothing is an error of the kind `NotFound` or `NotADirectory`. A path that is too long or has a
+/// NUL is one of the kind `InvalidFilename`.
 ///
 /// ```
 /// let head = rt.read(".git/HEAD")?;
@@ -41,6 +44,15 @@ pub trait Directories: AllocGlobal {
     /// What a path leads to.
     fn look(&self, path: &str) -> io::Result<Found>
         ensures { Answered (λ found. found) result (λ at. at.look path.now) (answers self.now) };
+
+    /// What is at a path, also if it is a link.
+    fn look_at_link(&self, path: &str) -> io::Result<Found>
+        ensures { Answered (λ found. found) result (λ at. at.entry path.now) (answers self.now) };
+
+    /// The names in a directory, each ended by a NUL. They are bytes: a name need not be UTF-8.
+    fn names(&self, path: &str) -> io::Result<Vec<u8>>
+        ensures { Answered (λ names. names.items) result (λ at. at.names path.now)
+            (answers self.now) };
 
     /// The bytes of a file.
     fn read(&self, path: &str) -> io::Result<Vec<u8>>
@@ -67,12 +79,17 @@ impl<R: Files + AllocGlobal> Directories for R {
     ghost answers = { λ _. None };
 
     fn look(&self, path: &str) -> io::Result<Found> {
-        let found = metadata(self, path)?;
-        Ok(Found {
-            is_directory: found.is_dir(),
-            is_file: found.is_file(),
-            state: FileState::new(&found),
-        })
+        Ok(found_in(&metadata(self, path)?))
+    }
+
+    fn look_at_link(&self, path: &str) -> io::Result<Found> {
+        Ok(found_in(&retried(|| fs::symlink_metadata(self, path))?))
+    }
+
+    fn names(&self, path: &str) -> io::Result<Vec<u8>> {
+        // A path that ends in a slash leads to a directory by a link, too.
+        let path = join(self, path, "")?;
+        read_names(self.alloc(), retried(|| self.open_dir(&path))?)
     }
 
     fn read(&self, path: &str) -> io::Result<Vec<u8>> {
@@ -90,4 +107,21 @@ impl<R: Files + AllocGlobal> Directories for R {
     fn real_path(&self, path: &str) -> io::Result<String> {
         Ok(retried(|| fs::canonicalize(self, path))?.into_string())
     }
+}
+
+// What the host says of what is at a path.
+fn found_in(found: &Metadata) -> Found {
+    Found {
+        is_directory: found.is_dir(),
+        is_file: found.is_file(),
+        state: FileState::new(found),
+    }
+}
+
+// A directory is read by chunks that have room for any name, which are those of a `BufReader`.
+fn read_names<D: Read + Drop>(alloc: Global, directory: D) -> io::Result<Vec<u8>> {
+    let mut directory = BufReader::new(alloc, directory)?;
+    let mut names = Vec::new(alloc);
+    directory.read_to_end(&mut names)?;
+    Ok(names)
 }
