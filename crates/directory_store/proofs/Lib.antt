@@ -1,4 +1,5 @@
 mod Clones
 mod FileNames
+mod IndexLists
 mod DirectoryTables
 mod HexBytes

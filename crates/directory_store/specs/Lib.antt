@@ -1,2 +1,3 @@
 -- Object stores in directories.
 pub mod Stores
+pub mod Packs

@@ -8,16 +8,14 @@ ghost use Rattle.directory_store.specs.Stores.{AppendsLooseIds, AreAllOf, AreSet
 use crate::error::Error;
 use crate::listing::{
     are_settled, expect_state, expect_states, list_names, state_if_there, state_of, states_of,
-    what_is_at,
 };
 use gix_hash::{Kind, ObjectId};
 use object_store::LooseTable;
 use repositories::paths::write_loose_path;
 use repositories::printed::read_printed;
-use repositories::{FileState, metadata};
+use repositories::{Directories, FileState};
 use std::alloc::{AllocError, Global};
 use std::io;
-use std::rt::Files;
 use std::time::SystemTime;
 
 // How often the fan-out directories of a first byte are listed that change meanwhile.
@@ -62,7 +60,7 @@ pub(crate) struct LooseObjects {
 
 impl LooseObjects {
     // Whether they are what a listing of these object directories would give now.
-    pub(crate) fn are_unchanged<R: Files + AllocGlobal>(
+    pub(crate) fn are_unchanged<R: Directories>(
         &self,
         rt: &R,
         paths: &[String],
@@ -105,7 +103,7 @@ struct Part {
 
 impl Part {
     // Lists the names. Fails if the directory has changed.
-    fn list<R: Files + AllocGlobal>(&mut self, rt: &R) -> Result<(), Error>
+    fn list<R: Directories>(&mut self, rt: &R) -> Result<(), Error>
         ensures { (self.new.at ≡ self.old.at) × (self.new.byte ≡ self.old.byte) }
     {
         self.names = list_names(rt, &self.path)?;
@@ -118,7 +116,7 @@ impl Part {
 
 // Lists the loose objects in object directories. If the time before is given, it is also looked at
 // what these may be compared by later.
-pub(crate) fn list_loose<R: Files + AllocGlobal>(
+pub(crate) fn list_loose<R: Directories>(
     rt: &R,
     paths: &[String],
     kind: Kind,
@@ -167,7 +165,7 @@ struct Places<'a, R> {
     paths: &'a [String],
 }
 
-impl<R: Files + AllocGlobal> Places<'_, R> {
+impl<R: Directories> Places<'_, R> {
     // The states of the fan-out directories that are asked for, if the time before is given, and
     // each later change leaves others.
     fn settled_states(
@@ -403,19 +401,19 @@ pub(crate) fn loose_path(
 }
 
 // Checks the file of a loose object in an object directory.
-pub(crate) fn check_loose_file<R: Files + AllocGlobal>(
+pub(crate) fn check_loose_file<R: Directories>(
     rt: &R,
     directory: &str,
     id: &ObjectId,
 ) -> Result<(), Error> {
     let path = loose_path(rt.alloc(), directory, id)?;
-    let Err(error) = metadata(rt, &path) else {
+    let Err(error) = rt.look(&path) else {
         return Ok(());
     };
     let is_missing = error.kind() == io::ErrorKind::NotFound;
-    match what_is_at(rt, &path) {
+    match rt.look_at_link(&path) {
         // (one that has come back)
-        Ok(found) if is_missing && found.is_file() => Ok(()),
+        Ok(found) if is_missing && found.is_file => Ok(()),
         Err(gone) if gone.kind() == io::ErrorKind::NotFound => Ok(()),
         _ => Err(Error::file(rt.alloc(), &path, error)),
     }

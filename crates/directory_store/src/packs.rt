@@ -1,16 +1,20 @@
 //! The pack indexes in object directories.
 
-ghost use Rattle.std.specs.Prelude.{◌≡◌, ◌⊎◌, ◌↔◌, ◌+◌, All, IfOk, IsNone, IsSomeAnd, IsTrue, OnOk, length, map, true, vec_len};
+ghost use Rattle.std.specs.Prelude.{◌≡◌, ◌⊎◌, ◌↔◌, ◌+◌, ◌++◌, ℕ, All, IfOk, IsNone, IsSomeAnd, IsTrue, List, OnOk, codes, flat_map, length, map, string_bytes, true, vec_len};
+ghost use Rattle.std.specs.List.{filter};
+ghost use Rattle.std.specs.Path.{path_join};
 ghost use Rattle.pack_index.specs.declared.lazy_error.LazyError.TheVariants as errors;
+ghost use Rattle.repositories.specs.Answers.{IfKnown};
 ghost use Rattle.repositories.specs.States.{IsSettled};
+ghost use Rattle.directory_store.specs.Packs.{AreIndexNames, AreIndexes, AreIndexesIn, ArePacks, has_pack, index_in, split_names};
 ghost use Rattle.directory_store.specs.Stores.{HasPack, IsListed, IsOfIndex, IsUnread, index_path, pack_path_of};
 
 use crate::error::Error;
-use crate::listing::{are_settled, expect_states, list_names, states_of, what_is_at};
+use crate::listing::{are_settled, expect_states, list_names, states_of};
 use crate::source::Source;
 use gix_hash::Kind;
 use pack_index::{LazyError, LazyFile};
-use repositories::{FileState, join, metadata};
+use repositories::{Directories, FileState, join};
 use std::alloc::{AllocError, Global};
 use std::fs::File;
 use std::rt::Files;
@@ -36,11 +40,9 @@ pub(crate) struct PackDirectories {
 
 impl PackDirectories {
     // Those in object directories, as they are now. One may be missing.
-    pub(crate) fn of<R: Files + AllocGlobal>(
-        rt: &R,
-        objects: &[String],
-    ) -> Result<PackDirectories, Error>
-        ensures { IfOk result (λ packs. vec_len packs.paths ≡ length objects.now) }
+    pub(crate) fn of<R: Directories>(rt: &R, objects: &[String]) -> Result<PackDirectories, Error>
+        ensures { IfOk result (λ packs. map string_bytes packs.paths.items
+            ≡ map (λ path. path_join (string_bytes path) (codes "pack")) objects.now) }
     {
         let mut paths = Vec::new(rt.alloc());
         for directory in objects {
@@ -51,9 +53,12 @@ impl PackDirectories {
     }
 
     // The pack indexes in them, with or without packs.
-    pub(crate) fn list<R: Files + AllocGlobal>(&self, rt: &R) -> Result<PackIndexes, Error>
+    pub(crate) fn list<R: Directories>(&self, rt: &R) -> Result<PackIndexes, Error>
         ensures all { IfOk result (λ listed. listed.are_all ≡ true) }
         ensures packs { IfOk result (λ listed. All HasPack listed.paths.items) }
+        ensures indexes { IfOk result (λ listed. IfKnown (λ at. AreIndexes at
+            (map string_bytes self.now.paths.items) (map index_path listed.paths.items))
+            (R.answers rt.now)) }
     {
         let mut indexes = PackIndexes {
             paths: Vec::new(rt.alloc()),
@@ -68,13 +73,15 @@ impl PackDirectories {
 
     // The pack indexes in them whose packs are there. Fails if one of an earlier list is gone, or a
     // directory has changed.
-    pub(crate) fn list_again<R: Files + AllocGlobal>(
+    pub(crate) fn list_again<R: Directories>(
         &self,
         rt: &R,
         earlier: &PackIndexes,
     ) -> Result<PackIndexes, Error>
-        ensures { IfOk result (λ listed. listed.are_all ≡ true
+        ensures earlier { IfOk result (λ listed. listed.are_all ≡ true
             → All (IsListed listed.paths.items) earlier.now.paths.items) }
+        ensures packs { IfOk result (λ listed. IfKnown (λ at. ArePacks at
+            (map string_bytes self.now.paths.items) listed.paths.items) (R.answers rt.now)) }
     {
         let listed = self.list(rt)?;
         listed.expect_all(rt.alloc(), earlier)?;
@@ -91,7 +98,7 @@ impl PackDirectories {
     }
 
     // Fails if one of them has changed.
-    pub(crate) fn expect_unchanged<R: Files + AllocGlobal>(&self, rt: &R) -> Result<(), Error> {
+    pub(crate) fn expect_unchanged<R: Directories>(&self, rt: &R) -> Result<(), Error> {
         expect_states(rt, &self.paths, &self.states)
     }
 }
@@ -139,10 +146,12 @@ impl PackIndexes {
     }
 
     // Those whose packs are there. Fails if an index was removed with its pack.
-    pub(crate) fn with_packs<R: Files + AllocGlobal>(mut self, rt: &R) -> Result<PackIndexes, Error>
+    pub(crate) fn with_packs<R: Directories>(mut self, rt: &R) -> Result<PackIndexes, Error>
         ensures all { IfOk result (λ kept. kept.are_all ≡ true
             → kept.paths.items ≡ self.paths.items) }
         ensures skipped { IfOk result (λ kept. kept.skipped ≡ self.skipped) }
+        ensures packs { IfOk result (λ kept. IfKnown (λ at. kept.paths.items
+            ≡ filter (has_pack at) self.paths.items) (R.answers rt.now)) }
     {
         let listed = mem::replace(&mut self.paths, Vec::new(rt.alloc()));
         for paths in listed {
@@ -172,7 +181,7 @@ fn first_gone<'a>(earlier: &'a [PackPaths], listed: &[PackPaths]) -> Option<&'a 
 
 // Adds the pack indexes in a directory of packs, in the order of their names. One is skipped if its
 // name is not UTF-8, as paths are.
-fn push_indexes<R: Files + AllocGlobal>(
+fn push_indexes<R: Directories>(
     rt: &R,
     directory: &str,
     indexes: &mut PackIndexes,
@@ -180,21 +189,66 @@ fn push_indexes<R: Files + AllocGlobal>(
     ensures packs { OnOk result (All HasPack indexes.old.paths.items
         → All HasPack indexes.new.paths.items) }
     ensures all { indexes.new.are_all ≡ indexes.old.are_all }
+    ensures indexes { OnOk result (IfKnown (λ at. (paths : List (List ℕ))
+        × AreIndexesIn at directory.now paths × (map index_path indexes.new.paths.items
+        ≡ map index_path indexes.old.paths.items ++ paths)) (R.answers rt.now)) }
 {
     let listed = list_names(rt, directory)?;
-    let names = listed.split(|byte| *byte == 0);
-    let mut names: Vec<&[u8]> = names
-        .filter(|name| name.ends_with(b".idx"))
-        .collect(rt.alloc())?;
-    names.sort_unstable();
+    let names = index_names(rt.alloc(), &listed)?;
+    push_names(rt, directory, &names, indexes)?;
+    Ok(())
+}
+
+// Adds the pack indexes of these names in a directory.
+fn push_names(
+    rt: &impl AllocGlobal,
+    directory: &str,
+    names: &[&[u8]],
+    indexes: &mut PackIndexes,
+) -> Result<(), AllocError>
+    ensures packs { OnOk result (All HasPack indexes.old.paths.items
+        → All HasPack indexes.new.paths.items) }
+    ensures all { indexes.new.are_all ≡ indexes.old.are_all }
+    ensures indexes { OnOk result (map index_path indexes.new.paths.items
+        ≡ map index_path indexes.old.paths.items
+        ++ flat_map (index_in directory.now) (map (λ name. name.now) names.now)) }
+{
     for name in names {
-        match str::from_utf8(name) {
-            Ok(name) => indexes.paths.push(paths_of(rt, directory, name)?)?,
-            Err(_) => {
-                let why = "the name of a pack index is not UTF-8";
-                let error = repositories::Error::text(rt.alloc(), directory, why);
-                indexes.skipped.push(Error::from(error))?;
-            }
+        push_index(rt, directory, name, indexes)?;
+    }
+    Ok(())
+}
+
+// The names of pack indexes among names that are each ended by a NUL, in the order of their bytes.
+fn index_names(alloc: Global, names: &[u8]) -> Result<Vec<&[u8]>, AllocError>
+    ensures { IfOk result (λ sorted. AreIndexNames (split_names names.now)
+        (map (λ name. name.now) sorted.items)) }
+{
+    let names = names.split(|byte| *byte == 0);
+    let mut names: Vec<&[u8]> = names.filter(|name| name.ends_with(b".idx")).collect(alloc)?;
+    names.sort_unstable();
+    Ok(names)
+}
+
+// Adds the pack index of this name in a directory, or why it is skipped.
+fn push_index(
+    rt: &impl AllocGlobal,
+    directory: &str,
+    name: &[u8],
+    indexes: &mut PackIndexes,
+) -> Result<(), AllocError>
+    ensures packs { OnOk result (All HasPack indexes.old.paths.items
+        → All HasPack indexes.new.paths.items) }
+    ensures all { indexes.new.are_all ≡ indexes.old.are_all }
+    ensures index { OnOk result (map index_path indexes.new.paths.items
+        ≡ map index_path indexes.old.paths.items ++ index_in directory.now name.now) }
+{
+    match str::from_utf8(name) {
+        Ok(name) => indexes.paths.push(paths_of(rt, directory, name)?)?,
+        Err(_) => {
+            let why = "the name of a pack index is not UTF-8";
+            let error = repositories::Error::text(rt.alloc(), directory, why);
+            indexes.skipped.push(Error::from(error))?;
         }
     }
     Ok(())
@@ -202,7 +256,9 @@ fn push_indexes<R: Files + AllocGlobal>(
 
 // The paths of the pack index of this name in a directory, and of its pack.
 fn paths_of(rt: &impl AllocGlobal, directory: &str, name: &str) -> Result<PackPaths, AllocError>
-    ensures { IfOk result HasPack }
+    ensures pack { IfOk result HasPack }
+    ensures index { IfOk result (λ paths. index_path paths
+        ≡ path_join directory.now name.now) }
 {
     let index = join(rt, directory, name)?;
     let stem = index.strip_suffix(".idx").unwrap_or(&index);
@@ -211,14 +267,16 @@ fn paths_of(rt: &impl AllocGlobal, directory: &str, name: &str) -> Result<PackPa
 }
 
 // Whether the pack of a pack index is there. Fails if neither is, or if it cannot be known.
-fn has_pack<R: Files + AllocGlobal>(rt: &R, paths: &PackPaths) -> Result<bool, Error> {
-    match metadata(rt, &paths.pack) {
-        Ok(found) if found.is_file() => return Ok(true),
+fn has_pack<R: Directories>(rt: &R, paths: &PackPaths) -> Result<bool, Error>
+    ensures { IfOk result (λ has. IfKnown (λ at. has ≡ has_pack at paths.now) (R.answers rt.now)) }
+{
+    match rt.look(&paths.pack) {
+        Ok(found) if found.is_file => return Ok(true),
         Ok(_) => {}
         Err(error) if error.kind() == io::ErrorKind::NotFound => {}
         Err(error) => return Err(Error::file(rt.alloc(), &paths.pack, error)),
     }
-    match what_is_at(rt, &paths.index) {
+    match rt.look_at_link(&paths.index) {
         Ok(_) => Ok(false),
         Err(error) => Err(Error::index(rt.alloc(), &paths.index, LazyError::Read(error))),
     }
@@ -310,12 +368,12 @@ fn open_index<R: Files<File = File> + AllocGlobal + Clone + Drop>(
 
 // Why a pack index cannot be opened. A link to nothing is there, and so it was not removed; a file
 // that was not found and is there now was, and has come back.
-fn not_opened<R: Files + AllocGlobal>(rt: &R, path: &str, error: io::Error) -> Error
+fn not_opened<R: Directories>(rt: &R, path: &str, error: io::Error) -> Error
     ensures { IsUnread result ⊎ IsOfIndex path.now (errors.Read error) result }
 {
     let is_missing = error.kind() == io::ErrorKind::NotFound;
-    match what_is_at(rt, path) {
-        Ok(found) if !is_missing || !found.is_file() => Error::file(rt.alloc(), path, error),
+    match rt.look_at_link(path) {
+        Ok(found) if !is_missing || !found.is_file => Error::file(rt.alloc(), path, error),
         _ => Error::index(rt.alloc(), path, LazyError::Read(error)),
     }
 }

@@ -2,6 +2,8 @@
 
 ghost use Rattle.std.specs.Prelude.{◌≡◌, ◌<◌, ◌↔◌, ◌++◌, All, Contains, IfErr, IfOk, IsOk, IsTrue, OnOk, [], false, length, map, slice_index_or, string_bytes, true, vec_len};
 ghost use Rattle.gix_hash.specs.Words.{hex_len_of, id_digits};
+ghost use Rattle.repositories.specs.Answers.{IfKnown};
+ghost use Rattle.directory_store.specs.Packs.{ArePacks};
 ghost use Rattle.directory_store.specs.Stores.{AreSettled, IsChanged, index_path, of_repository, pack_path_of};
 
 use crate::error::Error;
@@ -11,7 +13,7 @@ use crate::source::Source;
 use gix_hash::{Kind, ObjectId, Prefix};
 use object_store::{LooseTable, Reopen, Store, StorePaths};
 use pack_index::{Bucket, LazyError, LazyFile};
-use repositories::{ObjectDirectories, ObjectDirectory, with_alternates};
+use repositories::{Directories, ObjectDirectories, ObjectDirectory, with_alternates};
 use std::alloc::{AllocError, Allocator, Global};
 use std::fs::File;
 use std::mem;
@@ -335,7 +337,7 @@ impl<R: Files<File = File> + AllocGlobal + Clone + Drop> DirectoryStore<R> {
 // An object is in a new pack before its loose file or its old pack is removed, and loose before its
 // pack is removed: so the packs are listed after the loose objects, and before them too, and none
 // may be gone after.
-fn list<R: Files + AllocGlobal>(
+fn list<R: Directories>(
     rt: &R,
     packs: &PackDirectories,
     directories: &[String],
@@ -345,6 +347,8 @@ fn list<R: Files + AllocGlobal>(
 ) -> Result<(PackIndexes, LooseObjects), Error>
     ensures kind { IfOk result (λ listed. listed.1.kind ≡ kind) }
     ensures which { IfOk result (λ listed. listed.1.which ≡ loose) }
+    ensures packs { IfOk result (λ listed. IfKnown (λ at. ArePacks at
+        (map string_bytes packs.now.paths.items) listed.0.paths.items) (R.answers rt.now)) }
 {
     let before = packs.list(rt)?;
     let loose = list_loose(rt, directories, kind, loose, now)?;

@@ -1,0 +1,71 @@
+-- Which packs there are: by what directories and files answer.
+use Rattle.std.specs.Prelude.{ℕ, ◌≡◌, ◌==◌, ◌∷◌, All, Bool, Err, List, [], None, Ok, Option, Result, Some, codes, false, flat_map, if◌then◌else◌, map, nat_eq}
+use Rattle.std.specs.Cmp.Lexicographic.{slice_cmp}
+use Rattle.std.specs.List.{AllZip, ends_with, filter, slice_split}
+use Rattle.std.specs.List.Sorted.{IsPermutation, IsSorted}
+use Rattle.std.specs.Ordering.{nat_cmp}
+use Rattle.std.specs.Path.{path_join}
+use Rattle.std.specs.Str.{is_utf8}
+use Rattle.std.specs.declared.io.ErrorKind.{ErrorKind}
+use Rattle.std.specs.declared.io.ErrorKind.TheVariants.{NotFound}
+use Rattle.repositories.specs.Answers.{Answers}
+use Rattle.repositories.specs.declared.directories.Found.{Found}
+use Rattle.directory_store.specs.Stores.{HasPack, index_path, pack_path_of}
+use Rattle.directory_store.specs.declared.packs.PackPaths.{PackPaths}
+
+-- the names in a directory, as they were answered: none if it is missing
+abbrev pub if_listed : Result (List ℕ) ErrorKind → Option (List ℕ)
+if_listed (Ok names) = Some names
+if_listed (Err NotFound) = Some []
+if_listed (Err _) = None
+
+-- the names in a directory, each ended by a NUL
+abbrev pub names_in : List ℕ → Answers → Option (List ℕ)
+names_in directory at = if_listed (at.names directory)
+
+-- names, of which each is ended by a NUL, one by one
+abbrev pub split_names : List ℕ → List (List ℕ)
+split_names names = slice_split (λ byte. byte == 0) names
+
+-- whether a name is that of a pack index
+abbrev pub is_index_name : List ℕ → Bool
+is_index_name name = ends_with nat_eq name (codes ".idx")
+
+-- these are the names of pack indexes among some names, in the order of their bytes
+pub record AreIndexNames (names sorted : List (List ℕ)) : Type 0 where
+  pub same : IsPermutation (filter is_index_name names) sorted
+  pub ordered : IsSorted (slice_cmp nat_cmp) sorted
+
+-- the path of the pack index of a name in a directory: none if it is not UTF-8, as paths are
+abbrev pub index_in : List ℕ → List ℕ → List (List ℕ)
+index_in directory name = if is_utf8 name then path_join directory name ∷ [] else []
+
+-- these are the paths of the pack indexes in a directory of packs
+pub record AreIndexesIn (at : Answers) (directory : List ℕ) (paths : List (List ℕ)) : Type 0 where
+  pub names : List ℕ
+  pub listed : names_in directory at ≡ Some names
+  pub sorted : List (List ℕ)
+  pub chosen : AreIndexNames (split_names names) sorted
+  pub all : paths ≡ flat_map (index_in directory) sorted
+
+-- these are the paths of the pack indexes in some directories, one after the other
+pub record AreIndexes (at : Answers) (directories paths : List (List ℕ)) : Type 0 where
+  pub found : List (List (List ℕ))
+  pub each : AllZip (AreIndexesIn at) directories found
+  pub all : paths ≡ flat_map (λ paths. paths) found
+
+-- whether a path leads to a file, as a look at it answered
+abbrev pub is_found_file : Result Found ErrorKind → Bool
+is_found_file (Ok found) = found.is_file
+is_found_file (Err _) = false
+
+-- whether the pack of a pack index is there
+abbrev pub has_pack : Answers → PackPaths → Bool
+has_pack at paths = is_found_file (at.look (pack_path_of paths))
+
+-- these are the packs in some directories: of their pack indexes those whose packs are there
+pub record ArePacks (at : Answers) (directories : List (List ℕ)) (packs : List PackPaths) : Type 0 where
+  pub indexes : List PackPaths
+  pub listed : AreIndexes at directories (map index_path indexes)
+  pub own : All HasPack indexes
+  pub all : packs ≡ filter (has_pack at) indexes
