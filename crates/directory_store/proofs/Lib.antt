@@ -2,4 +2,3 @@ mod Clones
 mod FileNames
 mod IndexLists
 mod DirectoryTables
-mod HexBytes

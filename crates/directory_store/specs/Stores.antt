@@ -1,8 +1,7 @@
 -- What contracts say of object stores in directories.
-use Rattle.std.specs.Prelude.{ℕ, ◌≡◌, ◌⊎◌, ◌++◌, ◌/◌, ◌%◌, All, Bool, IsSomeAnd, List, [], ◌∷◌, MatchOption, Option, None, Some, false, if◌then◌else◌, bytes_eq, codes, flat_map, map, option_to_list, string_bytes, true}
+use Rattle.std.specs.Prelude.{ℕ, ◌≡◌, ◌⊎◌, ◌++◌, All, Bool, IsSomeAnd, List, [], ◌∷◌, MatchOption, Option, None, Some, false, if◌then◌else◌, bytes_eq, codes, flat_map, map, option_to_list, string_bytes, true}
 use Rattle.std.specs.List.{AllZip, Contains, list_any}
 use Rattle.std.specs.declared.time.SystemTime.{SystemTime}
-use Rattle.gix_hash.specs.Words.{hex_letter}
 use Rattle.gix_hash.specs.declared.Kind.{Kind}
 use Rattle.gix_hash.specs.declared.ObjectId.{ObjectId}
 use Rattle.object_store.specs.Stores as stores
@@ -10,7 +9,7 @@ use Rattle.object_store.specs.declared.error.Error as look_ups
 use Rattle.object_store.specs.declared.error.Error.TheVariants as look_up_errors
 use Rattle.pack_index.specs.declared.lazy_error.LazyError.{LazyError}
 use Rattle.pack_index.specs.declared.lazy_error.LazyError.TheVariants.{Read}
-use Rattle.repositories.specs.Paths.{loose_path}
+use Rattle.repositories.specs.Paths.{hex_of, loose_path}
 use Rattle.repositories.specs.Printed.{IsNotPrinted, IsPrinted}
 use Rattle.repositories.specs.States.{IsSettled}
 use Rattle.repositories.specs.declared.error.Error as repositories
@@ -27,10 +26,6 @@ use Rattle.directory_store.specs.declared.packs.PackPaths.{PackPaths}
 abbrev pub only_of : LooseIds → Option ℕ
 only_of loose_ids.All = None
 only_of (loose_ids.WithFirstByte byte) = Some byte
-
--- the two hex digits of a byte
-abbrev pub hex_of : ℕ → List ℕ
-hex_of byte = hex_letter (byte / 16) ∷ hex_letter (byte % 16) ∷ []
 
 -- in how many fan-out directories of an object directory the loose objects that are listed can be
 abbrev pub fan_outs_of : LooseIds → ℕ

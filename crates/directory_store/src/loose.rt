@@ -3,7 +3,8 @@
 ghost use Rattle.std.specs.Prelude.{◌≡◌, ◌≢◌, ◌<◌, ◌*◌, ◌++◌, ◌∷◌, ◌==◌, All, IfOk, IfSome, IsNone, MatchOption, None, OnOk, false, length, map, string_bytes, vec_len};
 ghost use Rattle.std.specs.List.{slice_split};
 ghost use Rattle.gix_hash.specs.Words.{hex_letter, id_digits, id_kind};
-ghost use Rattle.directory_store.specs.Stores.{AppendsLooseIds, AreAllOf, AreSettled, IsLooseId, fan_outs_of, hex_of, only_of, path_in, paths_in};
+ghost use Rattle.repositories.specs.Paths.{hex_of};
+ghost use Rattle.directory_store.specs.Stores.{AppendsLooseIds, AreAllOf, AreSettled, IsLooseId, fan_outs_of, only_of, path_in, paths_in};
 
 use crate::error::Error;
 use crate::listing::{

@@ -1,5 +1,5 @@
 mod Entries
-mod HexBytes
+pub mod HexBytes
 mod LineEnds
 mod LoosePaths
 mod Quoted
