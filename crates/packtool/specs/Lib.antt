@@ -1,4 +1,5 @@
 pub mod Answers
+pub mod Arguments
 pub mod Failures
 pub mod LineReaders
 pub mod Verdicts

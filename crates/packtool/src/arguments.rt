@@ -1,8 +1,9 @@
 //! The command line.
 
-ghost use Rattle.std.specs.Prelude.{◌≡◌, None, Some, codes, map, option_map, IfSome};
-ghost use Rattle.clap.specs.Matches.{first_value, found_of, matched_of, raw_values};
+ghost use Rattle.std.specs.Prelude.{◌≡◌, Bool, IfSome, IsTrue, None, Some, bytes_eq, codes, map, option_map};
+ghost use Rattle.clap.specs.Matches.{first_value, found_of, matched_of, raw_values, subcommand_name_of};
 ghost use Rattle.gix_hash.specs.declared.Kind.{Kind};
+ghost use Rattle.packtool.specs.Arguments.{IsAbout, IsGiven, action_in, name_of};
 
 use clap::{Arg, ArgAction, ArgMatches, Command, value_parser};
 use gix_hash::Kind;
@@ -93,6 +94,7 @@ struct Row {
     usage: &'static str,
     about: &'static str,
     arguments: &'static [Argument],
+    ghost named: { IsTrue (bytes_eq name.now (name_of action)) },
 }
 
 // An argument of a command.
@@ -177,7 +179,8 @@ file failed; and 2 after an error, which is printed on standard error.";
 /// The command line of the program: what `--help` prints, and which arguments are read.
 pub fn command<'a>(alloc: Global) -> Result<Command<'a>, AllocError> {
     let mut commands = Vec::new(alloc);
-    for row in &COMMANDS {
+    let rows = &COMMANDS[..];
+    for row in rows {
         commands.push(subcommand(alloc, row)?)?;
     }
     Command::new(alloc, "packtool")
@@ -265,13 +268,28 @@ fn files<'a>(alloc: Global, value: &'a str) -> Arg<'a> {
 }
 
 /// The request that was read, or `None` if it names no command.
-pub fn read_request<'m, 'a>(matches: &'m ArgMatches<'a>) -> Option<Request<'m, 'a>> {
+pub fn read_request<'m, 'a>(matches: &'m ArgMatches<'a>) -> Option<Request<'m, 'a>>
+    ensures { IfSome result (λ request.
+        subcommand_name_of matches.now ≡ Some (name_of (action_in request))) }
+{
     let (name, matches) = matches.subcommand()?;
-    let row = COMMANDS.iter().find(|row| row.name == name)?;
-    match row.action {
+    match action_of(name)? {
         Action::Store(question) => Some(Request::Store(store_request(question, matches))),
         Action::Files(command) => Some(Request::Files(file_request(command, matches)?)),
     }
+}
+
+// What the command of a name does, or `None` if there is none.
+fn action_of(name: &str) -> Option<Action>
+    ensures { IfSome result (λ action. name_of action ≡ name.now) }
+{
+    let rows = &COMMANDS[..];
+    for row in rows {
+        if row.name == name {
+            return Some(row.action);
+        }
+    }
+    None
 }
 
 // A request to look ids up in a store.
@@ -279,10 +297,17 @@ fn store_request<'a>(question: Question, matches: &ArgMatches<'a>) -> StoreReque
     ensures question { result.question ≡ question }
     ensures objects { option_map (λ path. path.now) result.objects
         ≡ first_value (found_of matches.now) (codes "objects") }
+    ensures about { (one : Bool) × (stdin : Bool)
+        × IsGiven (found_of matches.now) (codes "one") one
+        × IsGiven (found_of matches.now) (codes "stdin") stdin
+        × IsAbout (first_value (found_of matches.now) (codes "prefix")) one stdin result.ask }
 {
+    let one = matches.get_flag("one");
+    let stdin = matches.get_flag("stdin");
+    let ask = ask_of(matches.get_str("prefix"), one, stdin);
     StoreRequest {
         question,
-        ask: ask_of(matches),
+        ask,
         least: usize::from(matches.get_one::<u8>("least").unwrap_or(4)),
         objects: matches.get_str("objects"),
         kind: kind_of(matches),
@@ -305,13 +330,15 @@ fn file_request<'m, 'a>(
     })
 }
 
-// What the question is about.
-fn ask_of<'a>(matches: &ArgMatches<'a>) -> Ask<'a> {
-    let one = matches.get_flag("one");
-    match matches.get_str("prefix") {
+// What the question is about, by the prefix that is given, if one is, and by whether `--one` and
+// `--stdin` are.
+fn ask_of<'a>(prefix: Option<&'a str>, one: bool, stdin: bool) -> Ask<'a>
+    ensures { IsAbout (option_map (λ text. text.now) prefix.entry) one stdin result }
+{
+    match prefix {
         Some(prefix) if one => Ask::One(prefix),
         Some(prefix) => Ask::Prefix(prefix),
-        None if !matches.get_flag("stdin") => Ask::All,
+        None if !stdin => Ask::All,
         None if one => Ask::Lines(Answers::One),
         None => Ask::Lines(Answers::All),
     }
