@@ -1,8 +1,9 @@
 -- The status of what was asked of a store that is kept.
 use Rattle.std.specs.Prelude.{IsOkAnd, IsSomeAnd}
-use Rattle.gix_hash.proofs.Std.{[], ◌++◌, ◌↔◌, ◌∷◌, ◌≡◌, ℕ, Bool, Err, IfOk, IsTrue, List, Ok, OnOk, Option, Result, Some, false, refl, subst, sym, true}
+use Rattle.gix_hash.proofs.Std.{[], ◌++◌, ◌↔◌, ◌∷◌, ◌≡◌, ℕ, Bool, Err, IfOk, IsTrue, List, Ok, OnOk, Option, Result, Some, arith, false, max, refl, subst, sym, true}
 use Rattle.directory_store.specs.declared.error.Error.{Error}
 use Rattle.packtool.specs.Answers.{IsStatus}
+use Rattle.packtool.specs.Verdicts.{AreDone}
 
 -- what a call found over a store was found in the store that is kept
 pub kept-found : {S E : Type 0} (P : S → Type 0) (Is Has : Bool → Type 0) (store : S) (kept : Option S) (ran : Result Bool E)
@@ -28,3 +29,10 @@ pub status-failed : (before skipped : List Error) (was_whole any : Bool) → IsT
     → IsStatus (before ++ skipped) any 2
 status-failed [] skipped was_whole any whole fails = absurd (cc (whole.1 refl))
 status-failed (error ∷ before) skipped was_whole any whole fails = (λ none. absurd (cc none), λ _. refl)
+
+-- one thing more is done
+pub done-more : {X T : Type 0} (IsDone : X → ℕ → T → T → Type 0) (xs : List X) (x : X) (worst own : ℕ) (old middle new : T) → AreDone IsDone xs worst old middle
+    → IsDone x own middle new → AreDone IsDone (xs ++ x ∷ []) (max worst own) old new
+done-more IsDone [] x worst own old middle new done is = (own, 0, new, rw (← done.1) is, (refl, refl), omega (arith, done.0))
+done-more IsDone (y ∷ ys) x worst own old middle new done is =
+    (done.0, max done.1 own, done.2, done.3, done-more IsDone ys x done.1 own done.2 middle new done.4 is, omega (arith, done.5))

@@ -1,8 +1,10 @@
 -- What contracts say of checked files.
-use Rattle.std.specs.Prelude.{ℕ, ◌≡◌, ◌++◌, ◌∷◌, [], List, Option, codes}
+use Rattle.std.specs.Prelude.{ℕ, ◌≡◌, ◌≢◌, ◌↔◌, ◌++◌, ◌∷◌, [], Bool, List, Option, codes, false, max}
 use Rattle.std.specs.Io.KnownBytes.{Appends}
 use Rattle.gix_hash.specs.declared.Kind.{Kind}
 use Rattle.pack_index.specs.Format.{IndexFile}
+use Rattle.packtool.specs.declared.arguments.FileCommand.{FileCommand}
+use Rattle.packtool.specs.declared.arguments.FileCommand.TheVariants.{Check, Show}
 use Rattle.packtool.specs.declared.files.Verdict.{Verdict}
 use Rattle.packtool.specs.declared.files.Verdict.TheVariants.{Alone, Ends, Faulty, Paired, Skipped}
 use Rattle.packtool_commands.specs.Files.{IsOpenedAs, IsRefusalAs, named, pairing_verdict, verdict}
@@ -38,3 +40,15 @@ pub record IsPrinted (said : Verdict) (path : List ℕ) (old new : Option (List 
   pub end : List ℕ
   pub is_end : IsLineEnd said end
   pub written : Appends old new (named path end)
+
+-- a file was shown or checked, and this is the status: 2 if it could not be read; else 0 if a line was written for `show` or the file passed its check, and 1 if
+-- not; the line of a checked file was written, unless the output failed
+abbrev pub IsRead : FileCommand → List ℕ → Bool → ℕ → Option (List ℕ) → Option (List ℕ) → Type 0
+IsRead Show path failed status old new = status ≢ 2 → failed ≡ false
+IsRead Check path failed status old new = status ≢ 2 → failed ≡ false → (said : Verdict) × ((status ≡ 0) ↔ IsRight said) × IsPrinted said path old new
+
+-- things are done one after the other, each with a status, and the worst of these is this; T is what they change
+abbrev pub AreDone : {X T : Type 0} → (X → ℕ → T → T → Type 0) → List X → ℕ → T → T → Type 0
+AreDone IsDone [] status old new = (status ≡ 0) × (new ≡ old)
+AreDone {X} {T} IsDone (x ∷ xs) status old new =
+    (own : ℕ) × (worst : ℕ) × (middle : T) × IsDone x own old middle × AreDone IsDone xs worst middle new × (status ≡ max own worst)

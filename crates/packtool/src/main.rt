@@ -9,6 +9,8 @@
 
 ghost use Rattle.std.specs.Prelude.{◌≡◌, ◌≢◌, ◌↔◌, ◌++◌, ◌∷◌, ℕ, [], All, IfErr, IfOk, IsNone, IsTrue, List, string_bytes};
 ghost use Rattle.packtool.specs.Failures.{IsClosedPipe, status_of_file};
+ghost use Rattle.packtool.specs.Verdicts.{AreDone, IsRead};
+ghost use Rattle.streams.specs.Devices.{plain_failed, plain_inner};
 
 mod arguments;
 mod failure;
@@ -118,20 +120,35 @@ fn first_not_text(words: &[String]) -> Option<usize>
     None
 }
 
-// Shows or checks each file, also after one that cannot be read. `check` returns the status also if
-// nobody reads the output any more. This function is not inlined, so that the chunk that is hashed
-// is on the stack only while it runs.
+// Shows or checks each file, and returns the status. `check` returns it also if nobody reads the
+// output any more. This function is not inlined, so that the chunk that is hashed is on the stack
+// only while it runs.
 #[inline(never)]
 fn read_files<'a>(rt: &HostRuntime, request: &FileRequest<'_, '_>) -> Result<u8, Failure<'a>> {
     let mut out = buffered(rt, rt.stdout())?;
-    let mut status = FOUND;
-    for path in request.paths {
-        status = status.max(read_file(rt, request.command, path, request.kind, &mut out)?);
-    }
+    let status = read_each(rt, request, &mut out)?;
     match (flushed(status, &mut out), request.command) {
         (Err(failure), FileCommand::Check) if is_closed_pipe(&failure) => Ok(status),
         (ran, _) => ran,
     }
+}
+
+// Shows or checks each file, also after one that cannot be read, and returns the worst status.
+fn read_each<'a, W: io::Write>(
+    rt: &HostRuntime,
+    request: &FileRequest<'_, '_>,
+    out: &mut Plain<W>,
+) -> Result<u8, Failure<'a>>
+    ensures { IfOk result (λ status. AreDone (λ path own before after.
+        IsRead request.now.command path.now (plain_failed after) own
+        (W.contents (plain_inner before)) (W.contents (plain_inner after)))
+        request.now.paths.now status out.old out.new) }
+{
+    let mut status = FOUND;
+    for path in request.paths {
+        status = status.max(read_file(rt, request.command, path, request.kind, out)?);
+    }
+    Ok(status)
 }
 
 // Shows or checks a file, and returns the status. One that cannot be read is reported.
@@ -141,7 +158,10 @@ fn read_file<'a, W: io::Write>(
     path: &str,
     kind: Option<Kind>,
     out: &mut Plain<W>,
-) -> Result<u8, Failure<'a>> {
+) -> Result<u8, Failure<'a>>
+    ensures { IfOk result (λ status. IsRead command path.now (plain_failed out.new) status
+        (W.contents (plain_inner out.old)) (W.contents (plain_inner out.new))) }
+{
     let outcome = match command {
         FileCommand::Show => files::show(rt, path, kind, out),
         FileCommand::Check => files::check(rt, path, kind, out),
