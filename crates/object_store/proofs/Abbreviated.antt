@@ -8,9 +8,9 @@ use Rattle.id_lookup.proofs.SameMembers.{index-filter, one_position}
 use Rattle.id_lookup.proofs.Spelled.{starts_with-BeginsWith}
 use Rattle.object_store.specs.Several.{IsAbbreviated, IsAbbreviatedAs, IsAbbreviatedAt, IsAbbreviationOfKind}
 use Rattle.object_store.specs.Stores.{AreIdsRead, AreMatches, IsAbbreviationOf, IsNameIn, StoreView}
-use Rattle.object_store.specs.declared.abbreviations.Abbreviation.{Abbreviation}
-use Rattle.object_store.specs.declared.abbreviations.Abbreviation.TheVariants.{Ambiguous, Missing, Named}
-use Rattle.object_store.specs.declared.abbreviations.NamedId.{NamedId}
+use Rattle.object_store.specs.declared.parts.Abbreviation.{Abbreviation}
+use Rattle.object_store.specs.declared.parts.Abbreviation.TheVariants.{Ambiguous, Missing, Named}
+use Rattle.object_store.specs.declared.parts.NamedId.{NamedId}
 use Rattle.object_store.proofs.Named.{begins_itself, name_in_read}
 use Rattle.object_store.proofs.Prefixes.{begins_whole}
 use Rattle.pack_index.proofs.Parts.{begins_less}

@@ -2,7 +2,7 @@
 use Rattle.gix_hash.proofs.Std.{◌≡◌, ◌≢◌, ℕ, suc, ◌+◌, ◌<◌, ◌≤◌, Bool, Option, None, Some, List, [], ◌++◌, length, get_or, refl, sym, ap, ◌∙◌, subst, arith, ◌↔◌, bytes_eq, bytes_decides, position_or_len, false_from_ne_true, le-ltb, lt-ltb, get_or_default, position_or_len_is}
 use Rattle.id_lookup.specs.Words.{Kind, first_byte_of}
 use Rattle.object_store.specs.Stores.{ArePacked, HasLocation, IsLocationFault, IsOffsetOf, StoreView, offset_of, packed_at}
-use Rattle.object_store.specs.declared.locations.Location.{Location}
+use Rattle.object_store.specs.declared.parts.Location.{Location}
 use Rattle.object_store.proofs.Held.{IsPackAt}
 use Rattle.pack_index.specs.Format.{HasOffset, IsFirstIndexOf, names_in, offset_in}
 use Rattle.pack_index.specs.Lazy.{HasBucket, IfKnown, IsFirstCounted, IsOffsetFault, LazyIndex}

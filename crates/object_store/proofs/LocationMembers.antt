@@ -3,8 +3,8 @@ use Rattle.gix_hash.proofs.Std.{◌≡◌, ℕ, zero, suc, ◌<◌, inl, inr, Bo
 use Rattle.std.proofs.lemmas.List.Quantifiers.{position-Some}
 use Rattle.id_lookup.specs.Words.{Kind}
 use Rattle.object_store.specs.Stores.{HasObjectAt, offset_of, packed_at, packed_locations, locations_of}
-use Rattle.object_store.specs.declared.locations.Location.{Location}
-use Rattle.object_store.specs.declared.locations.Location.TheVariants.{Packed, Loose}
+use Rattle.object_store.specs.declared.parts.Location.{Location}
+use Rattle.object_store.specs.declared.parts.Location.TheVariants.{Packed, Loose}
 use Rattle.object_store.proofs.Located.{offset_some}
 use Rattle.object_store.proofs.LooseParts.{any_decides}
 use Rattle.pack_index.specs.Format.{names_in, offset_in}

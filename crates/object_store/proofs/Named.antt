@@ -5,7 +5,7 @@ use Rattle.id_lookup.proofs.Filters.{contains_had, contains_kept, kept_passes}
 use Rattle.id_lookup.proofs.SameMembers.{one_position}
 use Rattle.id_lookup.proofs.Spelled.{starts_with-BeginsWith}
 use Rattle.object_store.specs.Stores.{IsNameIn}
-use Rattle.object_store.specs.declared.abbreviations.NamedId.{NamedId}
+use Rattle.object_store.specs.declared.parts.NamedId.{NamedId}
 use Rattle.object_store.proofs.Held.{each-push}
 
 -- an id begins with its first digits

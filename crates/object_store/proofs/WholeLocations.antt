@@ -5,7 +5,7 @@ use Rattle.pack_index.specs.Format.{IsPackIndex}
 use Rattle.pack_index.specs.Lazy.{HasBucket, LazyIndex}
 use Rattle.pack_index.proofs.LookedUp.{first_of_all, none_of_all}
 use Rattle.object_store.specs.Stores.{AreLocations, ArePacked, Holds, IsOffsetOf, StoreView, locations_of, loose_at, offset_of, packed_at, packed_locations}
-use Rattle.object_store.specs.declared.locations.Location.{Location}
+use Rattle.object_store.specs.declared.parts.Location.{Location}
 use Rattle.object_store.proofs.Held.{as_many, known_at}
 use Rattle.object_store.proofs.Located.{offset_none, offset_some}
 

@@ -4,10 +4,10 @@ use Rattle.std.specs.List.{sum_by}
 use Rattle.id_lookup.specs.Words.{IsIndexOf, IsShortestNameFrom, Kind, KindDigits, ObjectId, first_byte_of, id_digits, matches}
 use Rattle.object_store.specs.Stores.{AreFoundOfEach, AreIdsRead, AreLocations, AreMatches, HaveMore, IsLocateFault, IsNameIn, IsOfKind, IsOfOne, IsStoreFault, StoreView}
 use Rattle.object_store.specs.declared.error.Error.{Error}
-use Rattle.object_store.specs.declared.locations.LocatedId.{LocatedId}
-use Rattle.object_store.specs.declared.abbreviations.NamedId.{NamedId}
-use Rattle.object_store.specs.declared.abbreviations.Abbreviation.{Abbreviation}
-use Rattle.object_store.specs.declared.abbreviations.Abbreviation.TheVariants.{Missing, Ambiguous, Named}
+use Rattle.object_store.specs.declared.parts.LocatedId.{LocatedId}
+use Rattle.object_store.specs.declared.parts.NamedId.{NamedId}
+use Rattle.object_store.specs.declared.parts.Abbreviation.{Abbreviation}
+use Rattle.object_store.specs.declared.parts.Abbreviation.TheVariants.{Missing, Ambiguous, Named}
 
 -- all locations of the object of an id, and the paths of the files that it has as a loose object
 pub record IsLocated {A : Type 0} (view : StoreView) (loose_paths : List ℕ → List (List ℕ)) (located : LocatedId A) : Type 0 where

@@ -15,9 +15,9 @@ use Rattle.pack_index.specs.declared.lazy_error.LazyError.{LazyError}
 use Rattle.pack_index.specs.declared.lazy_error.LazyError.TheVariants as faults
 use Rattle.object_store.specs.declared.error.Error.{Error}
 use Rattle.object_store.specs.declared.error.Error.TheVariants.{Gone, Index, Memory}
-use Rattle.object_store.specs.declared.locations.Location.{Location}
-use Rattle.object_store.specs.declared.locations.Location.TheVariants.{Loose, Packed}
-use Rattle.object_store.specs.declared.abbreviations.NamedId.{NamedId}
+use Rattle.object_store.specs.declared.parts.Location.{Location}
+use Rattle.object_store.specs.declared.parts.Location.TheVariants.{Loose, Packed}
+use Rattle.object_store.specs.declared.parts.NamedId.{NamedId}
 
 -- the kind of all ids, the pack indexes, their paths, the ids of the loose objects that were listed, each by its digits, and the only first byte of which they
 -- were listed, if they were not of all

@@ -4,8 +4,8 @@ ghost use Rattle.std.specs.Prelude.{◌↔◌, ◌≡◌, ℕ, ◌<◌, ◌≤�
 ghost use Rattle.id_lookup.specs.Words.{IsIndexOf, Kind, first_byte_of, matches};
 ghost use Rattle.object_store.specs.Stores.{AreIdsRead, AreLocations, HasObjectAt, Holds, IsIndexReadOrMemory, IsLocateFault, IsNameIn, IsStoreFault, StoreView, locations_of};
 ghost use Rattle.object_store.specs.declared.error.Error.{Error as StoreError};
-ghost use Rattle.object_store.specs.declared.locations.Location.{Location};
-ghost use Rattle.object_store.specs.declared.locations.Location.TheVariants.{Packed, Loose};
+ghost use Rattle.object_store.specs.declared.parts.Location.{Location};
+ghost use Rattle.object_store.specs.declared.parts.Location.TheVariants.{Packed, Loose};
 
 /// If the bytes of a store are known and are those of pack indexes, then a look-up fails only
 /// because memory runs out, or a read fails of a pack index that is read from what may fail.

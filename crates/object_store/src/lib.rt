@@ -5,25 +5,19 @@
 //! cursor that holds one part at a time. So a look-up reads about 1/256 of the ids; and once a pack
 //! index was found in order there, some 32 of its ids. A walk over all ids ([`abbreviate_part`])
 //! allocates memory for one part at a time. Several prefixes are looked up in their order
-//! ([`lookup_prefixes`], [`locate_prefixes`], [`abbreviate_prefixes`]), so that many of them read
-//! each part once. A program implements [`Store`] over its directories, and [`Reopen`] if they may
-//! change meanwhile.
+//! ([`look_up_each`]), so that many of them read each part once. A program implements [`Store`]
+//! over its directories, and [`Reopen`] if they may change meanwhile.
 #![tactic(auto)]
 
-mod abbreviations;
 mod error;
 pub mod laws;
-mod locations;
-mod loose;
-mod matches;
+mod look_ups;
 mod parts;
-mod several;
 mod store;
 
-pub use abbreviations::{Abbreviation, NamedId, abbreviate_part, abbreviate_prefixes};
 pub use error::Error;
-pub use locations::{LocatedId, Location, locate_prefix, locate_prefixes};
-pub use loose::LooseTable;
-pub use matches::{lookup_prefix, lookup_prefixes};
-pub use parts::Parts;
-pub use store::{Reopen, Store, StorePaths};
+pub use look_ups::{
+    Abbreviating, Locating, LookUp, Matching, abbreviate_part, look_up_each, lookup_prefix,
+};
+pub use parts::{Abbreviation, LocatedId, Location, NamedId, Parts};
+pub use store::{LooseTable, Reopen, Store, StorePaths};

@@ -1,19 +1,18 @@
-//! A cursor over the parts of a store.
+//! A cursor over the parts of a store, and what it finds in one.
 
-ghost use Rattle.std.specs.Prelude.{◌≡◌, ◌⊎◌, ◌≤◌, IfErr, IfOk, IsTrue, length, nat_eq, true};
+ghost use Rattle.std.specs.Prelude.{◌≡◌, ◌⊎◌, ◌≤◌, ◌<◌, ◌/◌, ◌%◌, ◌++◌, [], ◌∷◌, All, IfErr, IfOk, IsTrue, OnOk, Some, flat_map, length, map, nat_eq, slice_get, take, true};
 ghost use Rattle.std.specs.List.{starts_with};
-ghost use Rattle.id_lookup.specs.Words.{first_byte_of, hex_len_of, id_digits, id_kind};
-ghost use Rattle.object_store.specs.Several.{IsAbbreviated};
-ghost use Rattle.object_store.specs.Stores.{AreLocations, AreMatches, AreParts, CanLookUp, HaveBuckets, IsAbbreviationOf, IsListed, IsLocateFault, IsStoreFault};
+ghost use Rattle.id_lookup.specs.Words.{IsIndex, IsShortestNameFrom, first_byte_of, hex_len_of, id_digits, id_kind, matches};
+ghost use Rattle.object_store.specs.Several.{AreLocated, IsAbbreviated, IsAbbreviatedAt, IsAbbreviationOfKind, IsLocationsFault, limited_to};
+ghost use Rattle.object_store.specs.Stores.{AreLocations, AreMatches, ArePacked, AreParts, CanLookUp, HaveBuckets, HaveLocations, IsAbbreviationOf, IsListed, IsLocateFault, IsOfKind, IsStoreFault};
+ghost use Rattle.pack_index.specs.Lazy.{BucketNames};
 
-use crate::abbreviations::{Abbreviation, abbreviation_in, front_of, two_digits};
 use crate::error::Error;
-use crate::locations::{Location, locate_in, push};
-use crate::matches::matches_in;
-use crate::store::Store;
-use gix_hash::{ObjectId, Prefix};
+use crate::store::{Store, StorePaths};
+use gix_hash::{Kind, ObjectId, Prefix};
+use id_lookup::{abbreviate_in, find_assuming_sorted, sort_unique};
 use pack_index::Bucket;
-use std::alloc::Allocator;
+use std::alloc::{AllocError, Allocator};
 use std::marker::Model;
 
 // How many ids of a pack index with a first byte are read for one look-up, and not searched for
@@ -105,7 +104,7 @@ impl<'s, S: Store, A: Allocator + Copy> Parts<'s, S, A> {
     }
 
     // The store.
-    pub(crate) fn store(&self) -> &S
+    fn store(&self) -> &S
         ensures { result.now ≡ self.now.now }
     {
         &*self.store
@@ -248,6 +247,30 @@ impl<'s, S: Store, A: Allocator + Copy> Parts<'s, S, A> {
     }
 }
 
+impl<'s, S: StorePaths, A: Allocator + Copy> Parts<'s, S, A> {
+    /// The ids of the store that begin with a prefix, each once, in order, with their locations: of
+    /// the first `limit` ids, or of all if it is `None`. Two are enough to see whether there is
+    /// one, or more.
+    ///
+    /// The prefix has 2 digits or more, and the store's kind. The error is that of reading the ids
+    /// with its first byte, or the offset of an id that is located, or that memory ran out.
+    pub fn locate_prefix(
+        &mut self,
+        prefix: &Prefix,
+        limit: Option<usize>,
+    ) -> Result<Vec<LocatedId<A>, A>, Error>
+        requires { CanLookUp (S.view self.old.now) prefix.now }
+        ensures store { self.new ≡ self.old }
+        ensures located { IfOk result (λ located. AreLocated limit (S.view self.old.now)
+            (S.loose_paths self.old.now) prefix.now.digits located.items) }
+        ensures err { IfErr result (IsLocationsFault limit (S.view self.old.now)
+            prefix.now.digits) }
+    {
+        let ids = self.lookup_prefix(prefix)?;
+        locate_ids(self, &ids, limit, prefix)
+    }
+}
+
 // Whether a prefix begins with all digits of another.
 #[inline(always)]
 fn begins_with(prefix: &Prefix, front: &Prefix) -> bool
@@ -305,4 +328,291 @@ fn read_parts<S: Store, A: Allocator + Copy>(
         }
     }
     Ok(buckets)
+}
+
+// The ids that begin with a prefix, by names of the pack indexes among which all of them are.
+fn matches_in<S: Store, A: Allocator + Copy>(
+    alloc: A,
+    store: &S,
+    buckets: &[Bucket<A>],
+    prefix: &Prefix,
+) -> Result<Vec<ObjectId, A>, AllocError>
+    requires buckets { AreParts (S.view store.now) prefix.now.digits buckets.now }
+    requires kind { prefix.now.kind ≡ (S.view store.now).kind }
+    ensures { IfOk result (λ ids. AreMatches (S.view store.now) prefix.now.digits ids.items) }
+{
+    // The contracts of these calls say how many digits the prefix has at most, and that the pack
+    // indexes have the store's kind.
+    let _hex_len = prefix.hex_len();
+    let _packs = store.indexes();
+    let kind = store.object_hash();
+    let mut ids = Vec::new(alloc);
+    push_packed(&mut ids, buckets, kind, prefix)?;
+    push_all(&mut ids, store.loose().beginning_with(prefix), kind)?;
+    sort_unique(&mut ids);
+    Ok(ids)
+}
+
+// Adds the ids of buckets of a kind that begin with a prefix.
+fn push_packed<A: Allocator>(
+    ids: &mut Vec<ObjectId, A>,
+    buckets: &[Bucket<A>],
+    kind: Kind,
+    prefix: &Prefix,
+) -> Result<(), AllocError>
+    requires fits { length prefix.now.digits ≤ hex_len_of kind }
+    requires kinds { All (λ (bucket : BucketNames). bucket.kind ≡ kind) buckets.now }
+    ensures digits { OnOk result (map id_digits ids.new.items ≡ map id_digits ids.old.items
+        ++ flat_map (λ (bucket : BucketNames). matches prefix.now.digits bucket.names)
+        buckets.now) }
+    ensures kinds { OnOk result (All (λ id. id_kind id ≡ kind) ids.old.items
+        → All (λ id. id_kind id ≡ kind) ids.new.items) }
+{
+    for bucket in buckets {
+        bucket.push_matches(prefix, ids)?;
+    }
+    Ok(())
+}
+
+// Adds ids of a kind.
+fn push_all<A: Allocator>(
+    ids: &mut Vec<ObjectId, A>,
+    more: &[ObjectId],
+    kind: Kind,
+) -> Result<(), AllocError>
+    requires { All (λ id. id_kind id ≡ kind) more.now }
+    ensures digits { OnOk result (map id_digits ids.new.items
+        ≡ map id_digits ids.old.items ++ map id_digits more.now) }
+    ensures kinds { OnOk result (All (λ id. id_kind id ≡ kind) ids.old.items
+        → All (λ id. id_kind id ≡ kind) ids.new.items) }
+{
+    Ok(ids.extend_from_slice(more)?)
+}
+
+/// A location of an object in a store.
+///
+/// ```
+/// for location in Parts::new(rt.alloc(), &mut store).locate(&id)?.iter() {
+///     match location {
+///         Location::Packed { pack, offset } => println!(rt; "pack {pack}, at byte {offset}")?,
+///         Location::Loose => println!(rt; "loose")?,
+///     }
+/// }
+/// ```
+#[derive(Clone, Copy, PartialEq, Eq, Debug)]
+pub enum Location {
+    /// In a pack.
+    Packed {
+        /// The position of its pack index among those of the store, from 0.
+        pack: usize,
+        /// The offset in the pack, in bytes.
+        offset: u64,
+    },
+    /// Among the loose objects.
+    Loose,
+}
+
+/// An id with all locations of its object.
+///
+/// ```
+/// for located in Parts::new(rt.alloc(), &mut store).locate_prefix(&prefix, None)?.iter() {
+///     println!(rt; "{}: {} copies", located.id, located.locations.len())?;
+/// }
+/// ```
+#[derive(Drop)]
+pub struct LocatedId<A: Allocator> {
+    /// The id.
+    pub id: ObjectId,
+    /// All locations, as [`Parts::locate`] gives them.
+    pub locations: Vec<Location, A>,
+    /// The paths of the files of the loose object, as [`StorePaths::loose_paths`] gives them.
+    pub loose_paths: Vec<String>,
+}
+
+// Of the ids that begin with a prefix the first up to the limit, with their locations.
+fn locate_ids<S: StorePaths, A: Allocator + Copy>(
+    parts: &mut Parts<'_, S, A>,
+    ids: &[ObjectId],
+    limit: Option<usize>,
+    prefix: &Prefix,
+) -> Result<Vec<LocatedId<A>, A>, Error>
+    requires enough { 2 ≤ length prefix.now.digits }
+    requires listed { IsListed (S.view parts.old.now) (first_byte_of prefix.now.digits) }
+    requires ids { AreMatches (S.view parts.old.now) prefix.now.digits ids.now }
+    ensures store { parts.new ≡ parts.old }
+    ensures located { IfOk result (λ located. AreLocated limit (S.view parts.old.now)
+        (S.loose_paths parts.old.now) prefix.now.digits located.items) }
+    ensures err { IfErr result (IsLocationsFault limit (S.view parts.old.now)
+        prefix.now.digits) }
+{
+    let first = limited_to(ids, limit);
+    let mut located = Vec::with_capacity(parts.alloc, first.len())?;
+    for id in first {
+        let locations = parts.locate(id)?;
+        let loose_paths = parts.store().loose_paths(id)?;
+        let one = LocatedId {
+            id: *id,
+            locations,
+            loose_paths,
+        };
+        push(&mut located, one)?;
+    }
+    Ok(located)
+}
+
+// The first of some ids, as many as the limit, or all if there is none.
+fn limited_to(ids: &[ObjectId], limit: Option<usize>) -> &[ObjectId]
+    ensures { result.now ≡ limited_to limit ids.now }
+{
+    match limit {
+        Some(limit) => &ids[..limit.min(ids.len())],
+        None => ids,
+    }
+}
+
+// All locations of an object, by names of the pack indexes among which its id is.
+fn locate_in<S: Store, A: Allocator + Copy>(
+    alloc: A,
+    store: &S,
+    buckets: &[Bucket<A>],
+    id: &ObjectId,
+) -> Result<Vec<Location, A>, Error>
+    requires buckets { AreParts (S.view store.now) (id_digits id.now) buckets.now }
+    requires kind { id_kind id.now ≡ (S.view store.now).kind }
+    ensures locations { IfOk result (λ locations. AreLocations (S.view store.now)
+        (id_digits id.now) locations.items) }
+    ensures err { IfErr result (IsLocateFault (S.view store.now) (id_digits id.now)) }
+{
+    let mut locations = packed_locations(alloc, store, buckets, id)?;
+    if store.loose().contains(id) {
+        push(&mut locations, Location::Loose)?;
+    }
+    Ok(locations)
+}
+
+// The locations of an object in packs, in order.
+fn packed_locations<S: Store, A: Allocator + Copy>(
+    alloc: A,
+    store: &S,
+    buckets: &[Bucket<A>],
+    id: &ObjectId,
+) -> Result<Vec<Location, A>, Error>
+    requires { AreParts (S.view store.now) (id_digits id.now) buckets.now }
+    ensures locations { IfOk result (λ locations. ArePacked (S.view store.now) (id_digits id.now)
+        (length (S.view store.now).packs) locations.items) }
+    ensures sound { IfOk result (λ _. HaveLocations (S.view store.now) (id_digits id.now)) }
+    ensures err { IfErr result (IsLocateFault (S.view store.now) (id_digits id.now)) }
+{
+    let mut locations = Vec::new(alloc);
+    let packs = store.indexes();
+    for pack in 0..packs.len() {
+        let index = &packs[pack];
+        if let Some(at) = index.lookup(&buckets[pack], id.as_oid()) {
+            match index.pack_offset_at_index(at) {
+                Ok(offset) => push(&mut locations, Location::Packed { pack, offset })?,
+                Err(error) => return Err(Error::of_index(store.index_path(pack)?, error)),
+            }
+        }
+    }
+    Ok(locations)
+}
+
+// Adds an item to a list.
+fn push<T: Drop, A: Allocator>(items: &mut Vec<T, A>, item: T) -> Result<(), AllocError>
+    ensures { OnOk result (items.new.items ≡ items.old.items ++ item ∷ []) }
+{
+    Ok(items.push(item)?)
+}
+
+/// An id with its abbreviation.
+///
+/// ```
+/// for named in abbreviate_part(rt.alloc(), &mut store, 0x4b, 4)?.iter() {
+///     println!(rt; "{} {}", named.name, named.id)?;
+/// }
+/// ```
+#[derive(Clone, Copy, Debug)]
+pub struct NamedId {
+    /// The id.
+    pub id: ObjectId,
+    /// Its first digits, with which no other id of the store begins.
+    pub name: Prefix,
+}
+
+/// The only id of a store that begins with a prefix, or that there is none or more than one.
+///
+/// ```
+/// match Parts::new(rt.alloc(), &mut store).abbreviate_prefix(&prefix, 4)? {
+///     Abbreviation::Missing => println!(rt; "missing")?,
+///     Abbreviation::Ambiguous => println!(rt; "ambiguous")?,
+///     Abbreviation::Named(named) => println!(rt; "{} {}", named.name, named.id)?,
+/// }
+/// ```
+#[derive(Clone, Copy, Debug)]
+pub enum Abbreviation {
+    /// No id begins with the prefix.
+    Missing,
+    /// More than one id begins with it.
+    Ambiguous,
+    /// One id begins with it.
+    Named(NamedId),
+}
+
+// The prefix of a kind that all ids with a first byte begin with.
+pub(crate) fn two_digits(kind: Kind, byte: u8) -> Prefix
+    ensures kind { result.kind ≡ kind }
+    ensures digits { result.digits ≡ byte / 16 ∷ byte % 16 ∷ [] }
+    ensures byte { first_byte_of result.digits ≡ byte }
+{
+    Prefix::from_packed_digits(kind, &[byte], 2).unwrap()
+}
+
+// The first `least` digits of a prefix, or all if it has fewer.
+fn front_of(prefix: &Prefix, least: usize) -> Prefix
+    requires { 4 ≤ least }
+    ensures kind { result.kind ≡ prefix.now.kind }
+    ensures digits { result.digits ≡ take least prefix.now.digits }
+{
+    if prefix.hex_len() <= least {
+        return *prefix;
+    }
+    Prefix::new(prefix.as_oid(), least).unwrap()
+}
+
+// The id at a position of an index with its abbreviation there.
+#[inline(always)]
+pub(crate) fn name_at(ids: &[ObjectId], kind: Kind, at: usize, least: usize) -> NamedId
+    requires in_range { at < length ids.now }
+    requires index { IsIndex kind (map id_digits ids.now) }
+    requires kinds { All (λ id. id_kind id ≡ kind) ids.now }
+    requires enough { 4 ≤ least }
+    requires fits { least ≤ hex_len_of kind }
+    ensures id { slice_get ids.now at ≡ Some result.id }
+    ensures name { IsShortestNameFrom least (map id_digits ids.now) at result.name.digits }
+    ensures kind { IsOfKind kind result }
+{
+    NamedId {
+        id: ids[at],
+        name: abbreviate_in(ids, kind, at, least),
+    }
+}
+
+// The abbreviation of the only id of an index of a prefix's kind that begins with the prefix. It is
+// found by binary search, and compared with its two neighbours.
+fn abbreviation_in(ids: &[ObjectId], prefix: &Prefix, least: usize) -> Abbreviation
+    requires index { IsIndex prefix.now.kind (map id_digits ids.now) }
+    requires kinds { All (λ id. id_kind id ≡ prefix.now.kind) ids.now }
+    requires enough { 4 ≤ least }
+    requires fits { least ≤ hex_len_of prefix.now.kind }
+    ensures name { IsAbbreviatedAt least (map id_digits ids.now) prefix.now.digits result }
+    ensures kind { IsAbbreviationOfKind prefix.now.kind result }
+{
+    // Its contract says how many digits the prefix has at most.
+    let _hex_len = prefix.hex_len();
+    let run = find_assuming_sorted(ids, prefix);
+    match run.end - run.start {
+        0 => Abbreviation::Missing,
+        1 => Abbreviation::Named(name_at(ids, prefix.as_oid().kind(), run.start, least)),
+        _ => Abbreviation::Ambiguous,
+    }
 }

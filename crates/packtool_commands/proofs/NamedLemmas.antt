@@ -3,7 +3,7 @@ use Rattle.gix_hash.proofs.Std.{◌≡◌, ◌≢◌, ℕ, zero, suc, ◌+◌, B
 use Rattle.object_store.specs.Several.{AreNamed}
 use Rattle.object_store.specs.Stores.{HaveBuckets, StoreView}
 use Rattle.pack_index.specs.Format.{Each}
-use Rattle.object_store.specs.declared.abbreviations.NamedId.{NamedId}
+use Rattle.object_store.specs.declared.parts.NamedId.{NamedId}
 use Rattle.packtool_commands.specs.Stores.{AreNamedBelow, HasNamedAtMost, HasNamedBelow, name_line}
 use Rattle.streams.specs.Streams.{AppendsAtMost, AppendsPart}
 use Rattle.streams.proofs.WritingLemmas.{AppendsPart-after, part_written}

@@ -9,12 +9,12 @@ use Rattle.pack_index.specs.Format.{Each}
 use Rattle.object_store.specs.Several.{AreAbbreviatedOfEach, AreLocated, AreLocatedOfEach, AreNamed}
 use Rattle.object_store.specs.Stores.{AreMatches, AreMatchesOfEach, HaveBuckets, IsListed, IsStoreFault, StoreView}
 use Rattle.object_store.specs.declared.error.Error.{Error}
-use Rattle.object_store.specs.declared.locations.LocatedId.{LocatedId}
-use Rattle.object_store.specs.declared.locations.Location.{Location}
-use Rattle.object_store.specs.declared.locations.Location.TheVariants.{Loose, Packed}
-use Rattle.object_store.specs.declared.abbreviations.Abbreviation.{Abbreviation}
-use Rattle.object_store.specs.declared.abbreviations.Abbreviation.TheVariants.{Ambiguous, Missing, Named}
-use Rattle.object_store.specs.declared.abbreviations.NamedId.{NamedId}
+use Rattle.object_store.specs.declared.parts.LocatedId.{LocatedId}
+use Rattle.object_store.specs.declared.parts.Location.{Location}
+use Rattle.object_store.specs.declared.parts.Location.TheVariants.{Loose, Packed}
+use Rattle.object_store.specs.declared.parts.Abbreviation.{Abbreviation}
+use Rattle.object_store.specs.declared.parts.Abbreviation.TheVariants.{Ambiguous, Missing, Named}
+use Rattle.object_store.specs.declared.parts.NamedId.{NamedId}
 use Rattle.packtool_commands.specs.Files.{escape_mark, escaped}
 use Rattle.packtool_commands.specs.declared.printing.Answers.{Answers}
 use Rattle.packtool_commands.specs.declared.printing.Answers.TheVariants as answers_of

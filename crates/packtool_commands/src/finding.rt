@@ -10,9 +10,9 @@ ghost use Rattle.streams.specs.Streams.{lines_of};
 use crate::error::StoreError;
 use crate::prefixes::PrefixLines;
 use crate::printing::{Answers, ItemForm, ListForm, write_answers, write_front};
-use crate::reopening::look_up_again;
+use crate::reopening::{look_up_again, look_up_lines};
 use gix_hash::{Alphabet, ObjectId, Prefix};
-use object_store::{Reopen, lookup_prefix, lookup_prefixes};
+use object_store::{Matching, Reopen, lookup_prefix};
 use std::alloc::Allocator;
 use streams::{Sink, WriteFailed, write_id, write_ids};
 
@@ -109,16 +109,7 @@ pub fn find_each<S: Reopen, A: Allocator + Copy, W: Sink>(
     ensures part { IsErrOf result StoreError.Output → HasAnsweredMatchesPart A answers
         (S.view store.new) (lines_of lines.now.text.now) (W.taken out.old) (W.taken out.new) }
 {
-    let prefixes = lines.prefixes();
-    let looked = look_up_again(
-        store,
-        |store: &mut S|
-            requires { All (CanLookUp (S.view store.old)) prefixes.now }
-        { lookup_prefixes(alloc, store, prefixes, most) },
-    );
-    let Some(found) = looked? else {
-        return Err(StoreError::TooMany);
-    };
+    let found = look_up_lines(alloc, store, lines, most, &Matching)?;
     let form = ListForm {
         answers,
         item: IdForm,

@@ -2,9 +2,9 @@
 
 ghost use Rattle.std.specs.Prelude.{◌≡◌, ◌≢◌, ◌↔◌, ◌<◌, ◌≤◌, [], ◌∷◌, ◌++◌, None, false, true, length, map, option_copied, string_bytes, take, All, IfErr, IfOk, IsErrOf};
 ghost use Rattle.id_lookup.specs.Words.{hex_letter, id_digits, spelling};
-ghost use Rattle.object_store.specs.Several.{AreLocated, HaveMoreLocations, IsLocationsFault, IsLocationsFaultOfOne};
+ghost use Rattle.object_store.specs.Several.{AreLocated, AreLocatedOfEach, HaveMoreLocations, IsLocationsFault, IsLocationsFaultOfOne};
 ghost use Rattle.object_store.specs.Stores.{CanLookUp, IsReopened};
-ghost use Rattle.packtool_commands.specs.Stores.{AreListed, HasLocated, HasLocatedEach, HasLocatedPart, HasLocatedSome, IsFaultOf, limit_for, lines_at_after, located_lines, location_end, location_line};
+ghost use Rattle.packtool_commands.specs.Stores.{AreListed, HasLocated, HasLocatedEach, HasLocatedPart, HasLocatedSome, IsFaultOf, limit_for, lines_at_after, located_lines, location_end, location_line, prefixes_of};
 ghost use Rattle.packtool_commands.specs.declared.error.StoreError.{StoreError};
 ghost use Rattle.streams.specs.Streams.{Wrote, lines_of};
 
@@ -14,11 +14,11 @@ use crate::line_buffer::{put, put_id};
 use crate::line_end::push;
 use crate::prefixes::PrefixLines;
 use crate::printing::{Answers, ItemForm, ListForm, write_answers, write_each, write_front};
-use crate::reopening::look_up_again;
+use crate::reopening::{look_up_again, look_up_lines};
 use arrayvec::ArrayVec;
 use gix_hash::{ObjectId, Prefix};
 use itoa::Buffer;
-use object_store::{LocatedId, Location, Reopen, StorePaths, locate_prefix, locate_prefixes};
+use object_store::{LocatedId, Locating, Location, Parts, Reopen, StorePaths};
 use std::alloc::Allocator;
 use streams::{Sink, WriteFailed, write_all};
 
@@ -90,7 +90,13 @@ fn locations_of<S: Reopen + StorePaths, A: Allocator + Copy>(
         store,
         |store: &mut S|
             requires { CanLookUp (S.view store.old) prefix.now }
-        { locate_prefix(alloc, store, prefix) },
+        {
+            let mut parts = Parts::new(alloc, store);
+            let located = parts.locate_prefix(prefix, None);
+            // The contract of this call says that the store is as it was.
+            let _store = parts.into_store();
+            located
+        },
     )
 }
 
@@ -145,22 +151,38 @@ pub fn locate_each<S: Reopen + StorePaths, A: Allocator + Copy, W: Sink>(
         (S.pack_path store.new) (S.loose_paths store.new) (S.view store.new)
         (lines_of lines.now.text.now) (W.taken out.old) (W.taken out.new) }
 {
-    let prefixes = lines.prefixes();
-    let limit = limit_for(answers);
-    let looked = look_up_again(
-        store,
-        |store: &mut S|
-            requires { All (CanLookUp (S.view store.old)) prefixes.now }
-        { locate_prefixes(alloc, store, prefixes, limit, most) },
-    );
-    let Some(located) = looked? else {
-        return Err(StoreError::TooMany);
-    };
+    let located = locate_lines(alloc, store, lines, limit_for(answers), most)?;
     let form = ListForm {
         answers,
         item: LocationsForm { store: &*store },
     };
     Ok(write_answers(lines, &located, &form, out)?)
+}
+
+// The ids that begin with each prefix among some lines, all or the first up to a limit, with their
+// locations.
+fn locate_lines<S: Reopen + StorePaths, A: Allocator + Copy>(
+    alloc: A,
+    store: &mut S,
+    lines: &PrefixLines<'_, A>,
+    limit: Option<usize>,
+    most: usize,
+) -> Result<Vec<Vec<LocatedId<A>, A>, A>, StoreError>
+    requires kind { lines.now.kind ≡ (S.view store.old).kind }
+    requires listed { AreListed (S.view store.old) lines.now.prefixes.items }
+    ensures reopened { IsReopened (S.may_have store.old) (S.may_have store.new)
+        (S.view store.old) (S.view store.new) }
+    ensures located { IfOk result (λ located. AreLocatedOfEach limit (S.view store.new)
+        (S.loose_paths store.new)
+        (prefixes_of (S.view store.new).kind (lines_of lines.now.text.now)) located.items) }
+    ensures refused { IfErr result (IsFaultOf (IsLocationsFaultOfOne limit
+        (S.view store.new) lines.now.prefixes.items)) }
+    ensures several { IsErrOf result StoreError.TooMany → 1 < length lines.now.prefixes.items }
+    ensures more { IsErrOf result StoreError.TooMany → HaveMoreLocations A limit
+        (S.view store.new) (S.loose_paths store.new) most lines.now.prefixes.items }
+    ensures unwritten { IfErr result (λ e. e ≢ StoreError.Output) }
+{
+    look_up_lines(alloc, store, lines, most, &Locating { limit })
 }
 
 // How many ids of a prefix are located: all, or the first two, which show whether there are more

@@ -12,9 +12,9 @@ use crate::error::StoreError;
 use crate::line_buffer::{LINES_LEN, next_line_at, put_name_line};
 use crate::prefixes::PrefixLines;
 use crate::printing::{AnswerForm, write_answers, write_two};
-use crate::reopening::look_up_again;
+use crate::reopening::{look_up_again, look_up_lines};
 use gix_hash::{Kind, Prefix};
-use object_store::{Abbreviation, NamedId, Reopen, abbreviate_part, abbreviate_prefixes};
+use object_store::{Abbreviating, Abbreviation, NamedId, Reopen, abbreviate_part};
 use std::alloc::Allocator;
 use streams::{Sink, WriteFailed, write_all};
 
@@ -174,18 +174,7 @@ pub fn name_each<S: Reopen, A: Allocator + Copy, W: Sink>(
     ensures part { IsErrOf result StoreError.Output → HasNamedPart least (S.view store.new)
         (lines_of lines.now.text.now) (W.taken out.old) (W.taken out.new) }
 {
-    let prefixes = lines.prefixes();
-    let looked = look_up_again(
-        store,
-        |store: &mut S|
-            requires can { All (CanLookUp (S.view store.old)) prefixes.now }
-            requires enough { 4 ≤ least }
-            requires fits { least ≤ hex_len_of (S.view store.old).kind }
-        { abbreviate_prefixes(alloc, store, prefixes, least, most) },
-    );
-    let Some(named) = looked? else {
-        return Err(StoreError::TooMany);
-    };
+    let named = look_up_lines(alloc, store, lines, most, &Abbreviating { least })?;
     Ok(write_answers(lines, &named, &AbbreviationForm, out)?)
 }
 

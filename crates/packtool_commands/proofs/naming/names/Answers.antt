@@ -1,7 +1,7 @@
 use Rattle.gix_hash.proofs.Std.{◌≢◌, ◌↔◌, ◌⊎◌, ◌∙◌, List, [], refl, sym, subst, arith, flat_map, IsTrue, err_from_is_err_and, Appends, false≢true, Appends-nil}
 use Rattle.streams.specs.Streams.{AppendsPart}
 use Rattle.object_store.specs.Stores.{IsSeen}
-use Rattle.object_store.specs.declared.abbreviations.NamedId.{NamedId}
+use Rattle.object_store.specs.declared.parts.NamedId.{NamedId}
 use Rattle.object_store.proofs.Reopened.{not_reopened, reopened_again, seen_later}
 use Rattle.packtool_commands.specs.Stores.{name_line}
 use Rattle.packtool_commands.proofs.NamedLemmas.{below_sound, has_named_more, named_at_most, named_part, none_below}

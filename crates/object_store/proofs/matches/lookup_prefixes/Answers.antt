@@ -1,7 +1,0 @@
-use Rattle.object_store.proofs.matches.lookup_prefixes.Goals as goal
-
-pub returns-clause-more : goal.returns-clause-more
-returns-clause-more g c = rw c.for_many-parts.ensures at c.look_up_each-found.ensures.more
-
-pub returns-clause-err : goal.returns-clause-err
-returns-clause-err g c = rw c.for_many-parts.ensures at c.look_up_each-found.ensures.err

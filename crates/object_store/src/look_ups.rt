@@ -1,0 +1,374 @@
+//! Look-ups of a prefix, of several prefixes in their order, and of all ids with a first byte.
+
+ghost use Rattle.std.specs.Prelude.{◌≡◌, ◌-◌, ◌<◌, ◌≤◌, ℕ, All, IfErr, IfNone, IfOk, IfSome, List, SomeIff, length, map, slice_index_or};
+ghost use Rattle.std.specs.List.{sum_by};
+ghost use Rattle.id_lookup.specs.Words.{IsIndex, IsShortestNameFrom, first_byte_of, hex_len_of, id_digits, id_kind};
+ghost use Rattle.object_store.specs.Several.{AreLocated, AreNamed, IsAbbreviated, IsLocationsFault, id_count, location_count};
+ghost use Rattle.object_store.specs.Stores.{AreFoundOfEach, AreMatches, ArePlaces, CanLookUp, HaveMore, IsListed, IsOfKind, IsOfOne, IsStoreFault, StoreView};
+ghost use Rattle.object_store.specs.declared.error.Error.{Error as StoreError};
+
+use crate::error::Error;
+use crate::parts::{Abbreviation, LocatedId, NamedId, Parts, name_at, two_digits};
+use crate::store::{Store, StorePaths};
+use gix_hash::{Kind, ObjectId, Prefix};
+use std::alloc::{AllocError, Allocator};
+
+/// The ids of a store that begin with a prefix, each once, in order.
+///
+/// The prefix must have 2 digits or more, and the store's kind. Of each pack index only ids with
+/// the prefix's first byte are read: all, or, once they were found in order, some of them. The call
+/// allocates memory for these, and for the ids that are found. The error is that of reading them,
+/// or that memory ran out.
+///
+/// ```
+/// for id in lookup_prefix(rt.alloc(), &mut store, &prefix)?.iter() {
+///     println!(rt; "{id}")?;
+/// }
+/// ```
+pub fn lookup_prefix<S: Store, A: Allocator + Copy>(
+    alloc: A,
+    store: &mut S,
+    prefix: &Prefix,
+) -> Result<Vec<ObjectId, A>, Error>
+    requires enough { 2 ≤ length prefix.now.digits }
+    requires kind { prefix.now.kind ≡ (S.view store.old).kind }
+    requires listed { IsListed (S.view store.old) (first_byte_of prefix.now.digits) }
+    ensures same { store.new ≡ store.old }
+    ensures matches { IfOk result (λ ids. AreMatches (S.view store.old) prefix.now.digits
+        ids.items) }
+    ensures err { IfErr result (IsStoreFault (S.view store.old)
+        (first_byte_of prefix.now.digits)) }
+{
+    let mut parts = Parts::new(alloc, store);
+    let ids = parts.lookup_prefix(prefix);
+    // The contract of this call says that the store is as it was.
+    let _store = parts.into_store();
+    ids
+}
+
+/// What is found in a store for each of several prefixes, in their order: the ids that begin with
+/// it ([`Matching`]), these with their locations ([`Locating`]), or the abbreviation of the only
+/// one ([`Abbreviating`]).
+///
+/// Each prefix must have 2 digits or more, and the store's kind. Of each pack index the ids with a
+/// first byte are read once, if a prefix has it, or, once they were found in order, some of them
+/// for each prefix. Memory is allocated for those with one first byte at a time. The error is that
+/// of looking up one of the prefixes, or that memory ran out.
+///
+/// `None` is returned if and only if there are several prefixes, and more than `most` is found for
+/// them; what is found for two of them counts twice.
+///
+/// ```
+/// if let Some(found) = look_up_each(rt.alloc(), &mut store, &prefixes, 65_536, &Matching)? {
+///     for ids in found.iter() {
+///         println!(rt; "{} ids", ids.len())?;
+///     }
+/// }
+/// ```
+pub fn look_up_each<S: Store, A: Allocator + Copy, L: LookUp<S, A>>(
+    alloc: A,
+    store: &mut S,
+    prefixes: &[Prefix],
+    most: usize,
+    look_up: &L,
+) -> Result<Option<Vec<L::Found, A>>, Error>
+    requires can { All (CanLookUp (S.view store.old)) prefixes.now }
+    requires fits { L.fits look_up.now (S.view store.old) }
+    ensures same { store.new ≡ store.old }
+    ensures found { IfOk result (λ found. IfSome found (λ found. AreFoundOfEach
+        (L.finds look_up.now store.old) prefixes.now found.items)) }
+    ensures several { IfOk result (λ found. IfNone found (1 < length prefixes.now)) }
+    ensures more { IfOk result (λ found. IfNone found (HaveMore
+        (L.finds look_up.now store.old) L.size most prefixes.now)) }
+    ensures few { IfOk result (λ found. IfSome found (λ found. 1 < length prefixes.now
+        → sum_by L.size found.items ≤ most)) }
+    ensures err { IfErr result (IsOfOne (L.fails look_up.now (S.view store.old))
+        prefixes.now) }
+{
+    let mut parts = Parts::for_many(alloc, store, prefixes.len());
+    let found = look_up_in_order(alloc, &mut parts, prefixes, most, look_up);
+    // The contract of this call says that the store is as it was.
+    let _store = parts.into_store();
+    found
+}
+
+// The same by a cursor, in the order of the prefixes.
+fn look_up_in_order<S: Store, A: Allocator + Copy, L: LookUp<S, A>>(
+    alloc: A,
+    parts: &mut Parts<'_, S, A>,
+    prefixes: &[Prefix],
+    most: usize,
+    look_up: &L,
+) -> Result<Option<Vec<L::Found, A>>, Error>
+    requires can { All (CanLookUp (S.view parts.old.now)) prefixes.now }
+    requires fits { L.fits look_up.now (S.view parts.old.now) }
+    ensures store { parts.new ≡ parts.old }
+    ensures found { IfOk result (λ found. IfSome found (λ found. AreFoundOfEach
+        (L.finds look_up.now parts.old.now) prefixes.now found.items)) }
+    ensures several { IfOk result (λ found. IfNone found (1 < length prefixes.now)) }
+    ensures more { IfOk result (λ found. IfNone found (HaveMore
+        (L.finds look_up.now parts.old.now) L.size most prefixes.now)) }
+    ensures few { IfOk result (λ found. IfSome found (λ found. 1 < length prefixes.now
+        → sum_by L.size found.items ≤ most)) }
+    ensures err { IfErr result (IsOfOne (L.fails look_up.now (S.view parts.old.now))
+        prefixes.now) }
+{
+    let places = in_order(alloc, prefixes)?;
+    let mut found = placeholders(alloc, prefixes, look_up)?;
+    let mut room = most;
+    for place in 0..places.len() {
+        let at = places[place].1;
+        let one = look_up.look_up(parts, &prefixes[at])?;
+        match look_up.left(&one, room) {
+            Some(left) => room = left,
+            None if prefixes.len() > 1 => return Ok(None),
+            None => {}
+        }
+        found[at] = one;
+    }
+    Ok(Some(found))
+}
+
+// What takes the place of what is not found yet, for each prefix.
+fn placeholders<S: Store, A: Allocator + Copy, L: LookUp<S, A>>(
+    alloc: A,
+    prefixes: &[Prefix],
+    look_up: &L,
+) -> Result<Vec<L::Found, A>, AllocError>
+    ensures len { IfOk result (λ found. length found.items ≡ length prefixes.now) }
+    ensures empty { IfOk result (λ found. sum_by L.size found.items ≡ 0) }
+{
+    let mut found = Vec::with_capacity(alloc, prefixes.len())?;
+    for _at in 0..prefixes.len() {
+        found.push(look_up.placeholder(alloc))?;
+    }
+    Ok(found)
+}
+
+// The positions of prefixes, each after a key, in the order of the prefixes. So those with one
+// first byte follow each other, and a search for one begins near where it ends.
+fn in_order<A: Allocator>(alloc: A, prefixes: &[Prefix]) -> Result<Vec<(u64, usize), A>, AllocError>
+    ensures { IfOk result (λ places. ArePlaces (length prefixes.now) places.items) }
+{
+    let mut places = Vec::with_capacity(alloc, prefixes.len())?;
+    for at in 0..prefixes.len() {
+        places.push((key_of(&prefixes[at]), at))?;
+    }
+    places.sort_unstable();
+    Ok(places)
+}
+
+// The first eight bytes of a prefix, with zeros after its digits.
+fn key_of(prefix: &Prefix) -> u64 {
+    match prefix.as_oid().as_bytes().first_chunk() {
+        Some(bytes) => u64::from_be_bytes(*bytes),
+        None => 0,
+    }
+}
+
+/// What [`look_up_each`] looks up for each prefix.
+///
+/// ```
+/// let found = look_up_each(rt.alloc(), &mut store, &prefixes, 65_536, &Matching)?;
+/// let located = Locating { limit: Some(2) };
+/// let located = look_up_each(rt.alloc(), &mut store, &prefixes, 65_536, &located)?;
+/// let named = Abbreviating { least: 7 };
+/// let named = look_up_each(rt.alloc(), &mut store, &prefixes, 65_536, &named)?;
+/// ```
+pub trait LookUp<S: Store, A: Allocator + Copy> {
+    /// What is found for a prefix.
+    type Found: Drop;
+
+    /// What it requires of a store.
+    ghost fits: { Self → StoreView → Type 0 };
+
+    /// What of a store is found for a prefix of these digits.
+    ghost finds: { Self → S → List ℕ → Self.Found → Type 0 };
+
+    /// Why it is not found.
+    ghost fails: { Self → StoreView → List ℕ → StoreError → Type 0 };
+
+    /// How much was found.
+    ghost size: { Self.Found → ℕ };
+
+    /// Takes the place of what is not found yet.
+    fn placeholder(&self, alloc: A) -> Self::Found
+        ensures { size result ≡ 0 };
+
+    /// Looks a prefix up.
+    fn look_up(&self, parts: &mut Parts<'_, S, A>, prefix: &Prefix) -> Result<Self::Found, Error>
+        requires fits { fits self.now (S.view parts.old.now) }
+        requires can { CanLookUp (S.view parts.old.now) prefix.now }
+        ensures store { parts.new ≡ parts.old }
+        ensures found { IfOk result (finds self.now parts.old.now prefix.now.digits) }
+        ensures err { IfErr result (fails self.now (S.view parts.old.now)
+            prefix.now.digits) };
+
+    /// What is left of some room after what was found, or `None` if this is more.
+    fn left(&self, found: &Self::Found, room: usize) -> Option<usize>
+        ensures { SomeIff result (size found.now ≤ room) (room - size found.now) };
+}
+
+/// Looks up the ids that begin with a prefix, each once, in order, as [`lookup_prefix`] does. Each
+/// id counts.
+#[derive(Drop)]
+pub struct Matching;
+
+impl<S: Store, A: Allocator + Copy> LookUp<S, A> for Matching {
+    type Found = Vec<ObjectId, A>;
+
+    ghost fits = { λ _ _. Unit {0} };
+
+    ghost finds = { λ _ store digits ids. AreMatches (S.view store) digits ids.items };
+
+    ghost fails = { λ _ view digits error. IsStoreFault view (first_byte_of digits) error };
+
+    ghost size = { λ ids. length ids.items };
+
+    fn placeholder(&self, alloc: A) -> Vec<ObjectId, A> {
+        Vec::new(alloc)
+    }
+
+    fn look_up(
+        &self,
+        parts: &mut Parts<'_, S, A>,
+        prefix: &Prefix,
+    ) -> Result<Vec<ObjectId, A>, Error> {
+        parts.lookup_prefix(prefix)
+    }
+
+    fn left(&self, ids: &Vec<ObjectId, A>, room: usize) -> Option<usize> {
+        room.checked_sub(ids.len())
+    }
+}
+
+/// Looks up the ids that begin with a prefix, with their locations, as [`Parts::locate_prefix`]
+/// does. Each location counts.
+#[derive(Drop)]
+pub struct Locating {
+    /// How many ids of a prefix are located, or all.
+    pub limit: Option<usize>,
+}
+
+impl<S: StorePaths, A: Allocator + Copy> LookUp<S, A> for Locating {
+    type Found = Vec<LocatedId<A>, A>;
+
+    ghost fits = { λ _ _. Unit {0} };
+
+    ghost finds = { λ it store digits located.
+        AreLocated it.limit (S.view store) (S.loose_paths store) digits located.items };
+
+    ghost fails = { λ it view digits error. IsLocationsFault it.limit view digits error };
+
+    ghost size = { λ ids. location_count ids };
+
+    fn placeholder(&self, alloc: A) -> Vec<LocatedId<A>, A> {
+        Vec::new(alloc)
+    }
+
+    fn look_up(
+        &self,
+        parts: &mut Parts<'_, S, A>,
+        prefix: &Prefix,
+    ) -> Result<Vec<LocatedId<A>, A>, Error> {
+        parts.locate_prefix(prefix, self.limit)
+    }
+
+    fn left(&self, ids: &Vec<LocatedId<A>, A>, room: usize) -> Option<usize> {
+        let mut left = room;
+        for located in ids {
+            left = left.checked_sub(located.locations.len())?;
+        }
+        Some(left)
+    }
+}
+
+/// Looks up the abbreviation of the only id that begins with a prefix, as
+/// [`Parts::abbreviate_prefix`] does. A prefix counts if an id begins with it.
+#[derive(Drop)]
+pub struct Abbreviating {
+    /// The smallest number of digits of an abbreviation, from 4 to 40 or 64, by the kind.
+    pub least: usize,
+}
+
+impl<S: Store, A: Allocator + Copy> LookUp<S, A> for Abbreviating {
+    type Found = Abbreviation;
+
+    ghost fits = { λ it view. (4 ≤ it.least) × (it.least ≤ hex_len_of view.kind) };
+
+    ghost finds = { λ it store digits found. IsAbbreviated it.least (S.view store) digits found };
+
+    ghost fails = { λ _ view digits error. IsStoreFault view (first_byte_of digits) error };
+
+    ghost size = { λ found. id_count found };
+
+    fn placeholder(&self, _alloc: A) -> Abbreviation {
+        Abbreviation::Missing
+    }
+
+    fn look_up(&self, parts: &mut Parts<'_, S, A>, prefix: &Prefix) -> Result<Abbreviation, Error> {
+        parts.abbreviate_prefix(prefix, self.least)
+    }
+
+    fn left(&self, found: &Abbreviation, room: usize) -> Option<usize> {
+        match found {
+            Abbreviation::Missing => Some(room),
+            Abbreviation::Ambiguous | Abbreviation::Named(_) => room.checked_sub(1),
+        }
+    }
+}
+
+/// The ids of a store with a first byte, each once, in order, with their abbreviations in the whole
+/// store, of at least `least` digits. `least` must be from 4 to 40 or 64, by the kind.
+///
+/// No other id begins with an abbreviation, which is as short as that allows. The calls for all 256
+/// bytes give all ids of the store, in order. The error is that of reading the ids with this first
+/// byte, or that memory ran out.
+///
+/// ```
+/// for byte in 0..=255 {
+///     let named = abbreviate_part(rt.alloc(), &mut store, byte, 4)?;
+///     println!(rt; "{} ids", named.len())?;
+/// }
+/// ```
+pub fn abbreviate_part<S: Store, A: Allocator + Copy>(
+    alloc: A,
+    store: &mut S,
+    byte: u8,
+    least: usize,
+) -> Result<Vec<NamedId, A>, Error>
+    requires listed { IsListed (S.view store.old) byte }
+    requires enough { 4 ≤ least }
+    requires fits { least ≤ hex_len_of (S.view store.old).kind }
+    ensures same { store.new ≡ store.old }
+    ensures named { IfOk result (λ named. AreNamed least (S.view store.old) byte named.items) }
+    ensures err { IfErr result (IsStoreFault (S.view store.old) byte) }
+{
+    let kind = store.object_hash();
+    let ids = lookup_prefix(alloc, store, &two_digits(kind, byte))?;
+    Ok(name_all(alloc, &ids, kind, least)?)
+}
+
+// Each id of an index with its abbreviation there.
+fn name_all<A: Allocator>(
+    alloc: A,
+    ids: &[ObjectId],
+    kind: Kind,
+    least: usize,
+) -> Result<Vec<NamedId, A>, AllocError>
+    requires index { IsIndex kind (map id_digits ids.now) }
+    requires kinds { All (λ id. id_kind id ≡ kind) ids.now }
+    requires enough { 4 ≤ least }
+    requires fits { least ≤ hex_len_of kind }
+    ensures kinds { IfOk result (λ named. All (IsOfKind kind) named.items) }
+    ensures ids { IfOk result (λ named. map (λ (n : NamedId). n.id) named.items ≡ ids.now) }
+    ensures names { IfOk result (λ named. (k : ℕ) (d : NamedId) → k < length named.items
+        → IsShortestNameFrom least (map id_digits ids.now) k
+        (slice_index_or named.items k d).name.digits) }
+{
+    let mut named = Vec::with_capacity(alloc, ids.len())?;
+    for at in 0..ids.len() {
+        named.push(name_at(ids, kind, at, least))?;
+    }
+    Ok(named)
+}
