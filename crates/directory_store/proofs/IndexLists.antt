@@ -35,7 +35,3 @@ one_directory at directories old new paths directory before is more = record {
   each = all_zipped_more (AreIndexesIn at) directories before.found directory paths before.each is;
   all = more ∙ ap (λ l. l ++ paths) before.all ∙ flat_map_more (λ (l : List (List ℕ)). l) [] before.found paths;
 }
-
--- one more is chosen, or not
-pub filter_next : {X : Type 0} (p : X → Bool) (xs : List X) (x : X) (is : Bool) → is ≡ p x → filter p (xs ++ x ∷ []) ≡ filter p xs ++ cond is (x ∷ []) []
-filter_next p xs x is same = filter-append p xs (x ∷ []) ∙ ap (λ b. filter p xs ++ cond b (x ∷ []) []) (sym same)

@@ -8,7 +8,7 @@ ghost use Rattle.object_store.specs.Stores.{AreFoundOfEach, AreMatches, ArePlace
 ghost use Rattle.object_store.specs.declared.error.Error.{Error as StoreError};
 
 use crate::error::Error;
-use crate::parts::{Abbreviation, LocatedId, NamedId, Parts, name_at, two_digits};
+use crate::parts::{Abbreviation, LocatedId, NamedId, Parts, named_at, two_digits};
 use crate::store::{Store, StorePaths};
 use gix_hash::{Kind, ObjectId, Prefix};
 use std::alloc::{AllocError, Allocator};
@@ -368,7 +368,7 @@ fn name_all<A: Allocator>(
 {
     let mut named = Vec::with_capacity(alloc, ids.len())?;
     for at in 0..ids.len() {
-        named.push(name_at(ids, kind, at, least))?;
+        named.push(named_at(ids, kind, at, least))?;
     }
     Ok(named)
 }

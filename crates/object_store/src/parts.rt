@@ -581,7 +581,7 @@ fn front_of(prefix: &Prefix, least: usize) -> Prefix
 
 // The id at a position of an index with its abbreviation there.
 #[inline(always)]
-pub(crate) fn name_at(ids: &[ObjectId], kind: Kind, at: usize, least: usize) -> NamedId
+pub(crate) fn named_at(ids: &[ObjectId], kind: Kind, at: usize, least: usize) -> NamedId
     requires in_range { at < length ids.now }
     requires index { IsIndex kind (map id_digits ids.now) }
     requires kinds { All (λ id. id_kind id ≡ kind) ids.now }
@@ -612,7 +612,7 @@ fn abbreviation_in(ids: &[ObjectId], prefix: &Prefix, least: usize) -> Abbreviat
     let run = find_assuming_sorted(ids, prefix);
     match run.end - run.start {
         0 => Abbreviation::Missing,
-        1 => Abbreviation::Named(name_at(ids, prefix.as_oid().kind(), run.start, least)),
+        1 => Abbreviation::Named(named_at(ids, prefix.as_oid().kind(), run.start, least)),
         _ => Abbreviation::Ambiguous,
     }
 }

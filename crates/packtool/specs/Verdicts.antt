@@ -7,7 +7,7 @@ use Rattle.packtool.specs.declared.arguments.FileCommand.{FileCommand}
 use Rattle.packtool.specs.declared.arguments.FileCommand.TheVariants.{Check, Show}
 use Rattle.packtool.specs.declared.files.Verdict.{Verdict}
 use Rattle.packtool.specs.declared.files.Verdict.TheVariants.{Alone, Ends, Faulty, Paired, Skipped}
-use Rattle.packtool_commands.specs.Files.{IsOpenedAs, IsRefusalAs, named, pairing_verdict, verdict}
+use Rattle.packtool_commands.specs.Files.{IsOpenedAs, IsRefusalAs, file_line, pairing_verdict, verdict}
 use Rattle.packtool_commands.specs.declared.pairing.Pairing.TheVariants.{Same}
 use Rattle.streams.specs.declared.checking.Ending.TheVariants.{Sealed}
 
@@ -39,7 +39,7 @@ IsLineEnd (Paired pairing) text = text ≡ pairing_verdict pairing
 pub record IsPrinted (said : Verdict) (path : List ℕ) (old new : Option (List ℕ)) : Type 0 where
   pub end : List ℕ
   pub is_end : IsLineEnd said end
-  pub written : Appends old new (named path end)
+  pub written : Appends old new (file_line path end)
 
 -- a file was shown or checked, and this is the status: 2 if it could not be read; else 0 if a line was written for `show` or the file passed its check, and 1 if
 -- not; the line of a checked file was written, unless the output failed

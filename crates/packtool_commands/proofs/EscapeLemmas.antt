@@ -1,6 +1,6 @@
 -- How names are printed.
 use Rattle.gix_hash.proofs.Std.{◌≡◌, ◌≢◌, ℕ, Bool, true, false, List, [], ◌∷◌, ◌++◌, refl, ap, ◌∙◌, arith, ◌==◌, ◌||◌, if◌then◌else◌, All, list_any, eqb-false, or_parts, All-append, All-cons, All-nil}
-use Rattle.packtool_commands.specs.Files.{escape_mark, escape_of, escaped, is_special, named}
+use Rattle.packtool_commands.specs.Files.{escape_mark, escape_of, escaped, file_line, is_special}
 
 -- a byte that is not escaped is printed as it is
 escape_of-plain : (byte : ℕ) → is_special byte ≡ false → escape_of byte ≡ byte ∷ []
@@ -18,8 +18,8 @@ escaped-plain (x ∷ xs) plain =
     ap (λ (first : List ℕ). first ++ escaped xs) (escape_of-plain x both.0) ∙ ap (λ (rest : List ℕ). x ∷ rest) (escaped-plain xs both.1)
 
 -- and its line has no mark
-pub named-plain : (name text : List ℕ) → list_any is_special name ≡ false → named name text ≡ name ++ text
-named-plain name text plain =
+pub file_line-plain : (name text : List ℕ) → list_any is_special name ≡ false → file_line name text ≡ name ++ text
+file_line-plain name text plain =
     rw plain (ap (λ (shown : List ℕ). shown ++ text) (escaped-plain name plain))
 
 -- no byte is a line feed
@@ -58,6 +58,6 @@ mark-one_line true = one 92 (omega arith)
 mark-one_line false = All-nil NotFeed
 
 -- and what is printed for a name has none
-pub named-one_line : (name : List ℕ) → IsOneLine (escape_mark name ++ escaped name)
-named-one_line name =
+pub file_line-one_line : (name : List ℕ) → IsOneLine (escape_mark name ++ escaped name)
+file_line-one_line name =
     All-append NotFeed (escape_mark name) (escaped name) (mark-one_line (list_any is_special name)) (escaped-one_line name)

@@ -35,9 +35,9 @@ escaped name = flat_map escape_of name
 abbrev pub escape_mark : List ℕ → List ℕ
 escape_mark name = if list_any is_special name then 92 ∷ [] else []
 
--- the line of a name, with a text after the name
-abbrev pub named : List ℕ → List ℕ → List ℕ
-named name text = escape_mark name ++ (escaped name ++ text)
+-- the line of a file: its name, and a text after that
+abbrev pub file_line : List ℕ → List ℕ → List ℕ
+file_line name text = escape_mark name ++ (escaped name ++ text)
 
 -- The lines of a pack index, as `git show-index` prints them.
 

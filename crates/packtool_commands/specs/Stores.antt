@@ -103,11 +103,11 @@ abbrev pub marked : Kind → List (List ℕ) → List (List ℕ × Bool)
 marked kind lines = map (λ line. (line, is_some (prefix_of kind line))) lines
 
 -- lines, each with the next of what was found if it is a prefix
-abbrev pub answered : {X : Type 0} → List (List ℕ × Bool) → List X → List (List ℕ × Option X)
-answered [] found = []
-answered ((line, false) ∷ lines) found = (line, None) ∷ answered lines found
-answered ((line, true) ∷ lines) [] = (line, None) ∷ answered lines []
-answered ((line, true) ∷ lines) (x ∷ found) = (line, Some x) ∷ answered lines found
+abbrev pub with_found : {X : Type 0} → List (List ℕ × Bool) → List X → List (List ℕ × Option X)
+with_found [] found = []
+with_found ((line, false) ∷ lines) found = (line, None) ∷ with_found lines found
+with_found ((line, true) ∷ lines) [] = (line, None) ∷ with_found lines []
+with_found ((line, true) ∷ lines) (x ∷ found) = (line, Some x) ∷ with_found lines found
 
 -- what is printed for a line, with what was found if it is a prefix
 abbrev pub answer_of : {X : Type 0} → (List ℕ → X → List ℕ) → List ℕ × Option X → List ℕ
@@ -116,11 +116,11 @@ answer_of text (line, Some x) = text line x
 
 -- what is printed for lines, by what was found for the prefixes among them
 unfoldable pub answers_by : {X : Type 0} → (List ℕ → X → List ℕ) → Kind → List (List ℕ) → List X → List ℕ
-answers_by text kind lines found = flat_map (answer_of text) (answered (marked kind lines) found)
+answers_by text kind lines found = flat_map (answer_of text) (with_found (marked kind lines) found)
 
 -- whether each line has what is asked for
 unfoldable pub are_answers_by : {X : Type 0} → (X → Bool) → Kind → List (List ℕ) → List X → Bool
-are_answers_by is_wanted kind lines found = list_all (λ answer. option_map_or is_wanted answer.1 false) (answered (marked kind lines) found)
+are_answers_by is_wanted kind lines found = list_all (λ answer. option_map_or is_wanted answer.1 false) (with_found (marked kind lines) found)
 
 -- what is printed for lines by what was found for the prefixes among them was written, and whether each has what is asked for was returned
 pub record HasAnsweredBy {X : Type 0} (AreFound : List X → Type 0) (text : List ℕ → X → List ℕ) (is_wanted : X → Bool) (kind : Kind) (lines : List (List ℕ))
@@ -131,7 +131,7 @@ pub record HasAnsweredBy {X : Type 0} (AreFound : List X → Type 0) (text : Lis
   pub written : Appends old new (answers_by text kind lines results)
 
 -- a proper beginning of it was written
-pub record HasAnsweredPart {X : Type 0} (AreFound : List X → Type 0) (text : List ℕ → X → List ℕ) (kind : Kind) (lines : List (List ℕ)) (old new : Option (List ℕ)) :
+pub record HasAnsweredByPart {X : Type 0} (AreFound : List X → Type 0) (text : List ℕ → X → List ℕ) (kind : Kind) (lines : List (List ℕ)) (old new : Option (List ℕ)) :
     Type 0 where
   pub results : List X
   pub are_found : AreFound results
@@ -146,7 +146,7 @@ HasAnsweredMatches A answers view lines all old new =
 -- a proper beginning of it was printed
 abbrev pub HasAnsweredMatchesPart : (A : Type 0) → Answers → StoreView → List (List ℕ) → Option (List ℕ) → Option (List ℕ) → Type 0
 HasAnsweredMatchesPart A answers view lines old new =
-    HasAnsweredPart {X = Vec ObjectId A} (AreMatchesOfEach view (prefixes_of view.kind lines))
+    HasAnsweredByPart {X = Vec ObjectId A} (AreMatchesOfEach view (prefixes_of view.kind lines))
     (λ line ids. found_text (λ l (id : ObjectId). id_line l (id_digits id)) answers line ids.items) view.kind lines old new
 
 -- The lines of the ids of a store, each with its abbreviation.
@@ -198,8 +198,8 @@ HasNamedEach least view lines all old new =
     HasAnsweredBy (AreAbbreviatedOfEach least view (prefixes_of view.kind lines)) abbreviation_text is_named view.kind lines all old new
 
 -- a proper beginning of it was printed
-abbrev pub HasNamedPart : ℕ → StoreView → List (List ℕ) → Option (List ℕ) → Option (List ℕ) → Type 0
-HasNamedPart least view lines old new = HasAnsweredPart (AreAbbreviatedOfEach least view (prefixes_of view.kind lines)) abbreviation_text view.kind lines old new
+abbrev pub HasNamedEachPart : ℕ → StoreView → List (List ℕ) → Option (List ℕ) → Option (List ℕ) → Type 0
+HasNamedEachPart least view lines old new = HasAnsweredByPart (AreAbbreviatedOfEach least view (prefixes_of view.kind lines)) abbreviation_text view.kind lines old new
 
 -- The lines of the locations of objects.
 
@@ -232,7 +232,7 @@ pub record HasLocated (A : Type 0) (pack_path : ℕ → List ℕ) (loose_paths :
   pub written : Appends old new (flat_map (located_lines pack_path None) ids)
 
 -- a proper beginning of these lines was written
-pub record HasLocatedSome (A : Type 0) (pack_path : ℕ → List ℕ) (loose_paths : List ℕ → List (List ℕ)) (view : StoreView) (digits : List ℕ)
+pub record HasLocatedPart (A : Type 0) (pack_path : ℕ → List ℕ) (loose_paths : List ℕ → List (List ℕ)) (view : StoreView) (digits : List ℕ)
     (old new : Option (List ℕ)) : Type 0 where
   pub ids : List (LocatedId A)
   pub are_located : AreLocated None view loose_paths digits ids
@@ -247,8 +247,8 @@ HasLocatedEach A answers pack_path loose_paths view lines all old new =
     (λ line ids. found_text (located_lines pack_path) answers line ids.items) (λ ids. is_found answers ids.items) view.kind lines all old new
 
 -- a proper beginning of it was printed
-abbrev pub HasLocatedPart : (A : Type 0) → Answers → (ℕ → List ℕ) → (List ℕ → List (List ℕ)) → StoreView → List (List ℕ) → Option (List ℕ)
+abbrev pub HasLocatedEachPart : (A : Type 0) → Answers → (ℕ → List ℕ) → (List ℕ → List (List ℕ)) → StoreView → List (List ℕ) → Option (List ℕ)
     → Option (List ℕ) → Type 0
-HasLocatedPart A answers pack_path loose_paths view lines old new =
-    HasAnsweredPart {X = Vec (LocatedId A) A} (AreLocatedOfEach (limit_for answers) view loose_paths (prefixes_of view.kind lines))
+HasLocatedEachPart A answers pack_path loose_paths view lines old new =
+    HasAnsweredByPart {X = Vec (LocatedId A) A} (AreLocatedOfEach (limit_for answers) view loose_paths (prefixes_of view.kind lines))
     (λ line ids. found_text (located_lines pack_path) answers line ids.items) view.kind lines old new

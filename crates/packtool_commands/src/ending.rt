@@ -1,7 +1,7 @@
 //! The lines of checked files.
 
 ghost use Rattle.std.specs.Prelude.{◌≡◌, false};
-ghost use Rattle.packtool_commands.specs.Files.{named, verdict};
+ghost use Rattle.packtool_commands.specs.Files.{file_line, verdict};
 ghost use Rattle.streams.specs.Streams.{Wrote};
 
 use crate::escaping::write_named;
@@ -23,7 +23,7 @@ use streams::{Ending, Sink, WriteFailed};
 pub fn write_ending<W: Sink>(name: &str, ending: &Ending, out: &mut W) -> Result<(), WriteFailed>
     requires { W.has_failed out.old ≡ false }
     ensures { Wrote W.taken W.has_failed out.old out.new result
-        (named name.now (verdict ending.now)) }
+        (file_line name.now (verdict ending.now)) }
 {
     write_named(name, verdict(ending).as_slice(), out)
 }

@@ -3,7 +3,7 @@
 
 ghost use Rattle.std.specs.Prelude.{◌≡◌, ◌++◌, false};
 ghost use Rattle.std.specs.List.{list_any};
-ghost use Rattle.packtool_commands.specs.Files.{escape_mark, escape_of, escaped, is_special, named};
+ghost use Rattle.packtool_commands.specs.Files.{escape_mark, escape_of, escaped, file_line, is_special};
 ghost use Rattle.streams.specs.Streams.{Wrote};
 
 use streams::{Sink, WriteFailed, write_all};
@@ -82,7 +82,7 @@ pub(crate) fn write_before<W: Sink>(name: &str, text: &[u8], out: &mut W) -> Res
 /// ```
 pub fn write_named<W: Sink>(name: &str, text: &[u8], out: &mut W) -> Result<(), WriteFailed>
     requires { W.has_failed out.old ≡ false }
-    ensures { Wrote W.taken W.has_failed out.old out.new result (named name.now text.now) }
+    ensures { Wrote W.taken W.has_failed out.old out.new result (file_line name.now text.now) }
 {
     write_mark(name, out)?;
     write_before(name, text, out)

@@ -4,7 +4,7 @@
 ghost use Rattle.std.specs.Prelude.{◌≡◌, ◌≢◌, ◌++◌, false, ℕ, All, List, Option};
 ghost use Rattle.std.specs.List.{list_any};
 ghost use Rattle.object_store.specs.Several.{limited_to};
-ghost use Rattle.packtool_commands.specs.Files.{escape_mark, escaped, is_special, named};
+ghost use Rattle.packtool_commands.specs.Files.{escape_mark, escaped, file_line, is_special};
 ghost use Rattle.packtool_commands.specs.Stores.{found_text, is_found, limit_for};
 ghost use Rattle.packtool_commands.specs.declared.printing.Answers.{Answers as AnswersAsked};
 
@@ -14,7 +14,7 @@ pub fn printed_names()
     ensures one_line { (name : List ℕ) → All (λ byte. byte ≢ 10)
         (escape_mark name ++ escaped name) }
     ensures plain { (name text : List ℕ) → list_any is_special name ≡ false
-        → named name text ≡ name ++ text }
+        → file_line name text ≡ name ++ text }
 {}
 
 /// The first two things that a prefix finds are enough for [`Answers::One`](crate::Answers::One):

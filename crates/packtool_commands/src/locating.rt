@@ -4,7 +4,7 @@ ghost use Rattle.std.specs.Prelude.{◌≡◌, ◌≢◌, ◌↔◌, ◌<◌, �
 ghost use Rattle.id_lookup.specs.Words.{hex_letter, id_digits, spelling};
 ghost use Rattle.object_store.specs.Several.{AreLocated, AreLocatedOfEach, HaveMoreLocations, IsLocationsFault, IsLocationsFaultOfOne};
 ghost use Rattle.object_store.specs.Stores.{CanLookUp, IsReopened};
-ghost use Rattle.packtool_commands.specs.Stores.{AreListed, HasLocated, HasLocatedEach, HasLocatedPart, HasLocatedSome, IsFaultOf, limit_for, lines_at_after, located_lines, location_end, location_line, prefixes_of};
+ghost use Rattle.packtool_commands.specs.Stores.{AreListed, HasLocated, HasLocatedEach, HasLocatedEachPart, HasLocatedPart, IsFaultOf, limit_for, lines_at_after, located_lines, location_end, location_line, prefixes_of};
 ghost use Rattle.packtool_commands.specs.declared.error.StoreError.{StoreError};
 ghost use Rattle.streams.specs.Streams.{Wrote, lines_of};
 
@@ -64,7 +64,7 @@ pub fn locate<S: Reopen + StorePaths, A: Allocator + Copy, W: Sink>(
     ensures few { IfErr result (λ e. e ≢ StoreError.TooMany) }
     ensures untouched { IfErr result (λ e. e ≢ StoreError.Output → out.new ≡ out.old) }
     ensures output { IsErrOf result StoreError.Output ↔ (W.has_failed out.new ≡ true) }
-    ensures part { IsErrOf result StoreError.Output → HasLocatedSome A (S.pack_path store.new)
+    ensures part { IsErrOf result StoreError.Output → HasLocatedPart A (S.pack_path store.new)
         (S.loose_paths store.new) (S.view store.new) prefix.now.digits
         (W.taken out.old) (W.taken out.new) }
 {
@@ -147,7 +147,7 @@ pub fn locate_each<S: Reopen + StorePaths, A: Allocator + Copy, W: Sink>(
         (S.view store.new) (S.loose_paths store.new) most lines.now.prefixes.items }
     ensures untouched { IfErr result (λ e. e ≢ StoreError.Output → out.new ≡ out.old) }
     ensures output { IsErrOf result StoreError.Output ↔ (W.has_failed out.new ≡ true) }
-    ensures part { IsErrOf result StoreError.Output → HasLocatedPart A answers
+    ensures part { IsErrOf result StoreError.Output → HasLocatedEachPart A answers
         (S.pack_path store.new) (S.loose_paths store.new) (S.view store.new)
         (lines_of lines.now.text.now) (W.taken out.old) (W.taken out.new) }
 {

@@ -4,7 +4,7 @@ ghost use Rattle.std.specs.Prelude.{◌≡◌, ◌≢◌, ◌↔◌, ◌⊎◌, 
 ghost use Rattle.id_lookup.specs.Words.{hex_len_of, hex_letter, spelling};
 ghost use Rattle.object_store.specs.Several.{AreNamed, IsAbbreviated, id_count};
 ghost use Rattle.object_store.specs.Stores.{CanLookUp, HaveMore, IsFaultOfOne, IsListed, IsReopened, IsSeen, IsStoreFault};
-ghost use Rattle.packtool_commands.specs.Stores.{AreListed, HasNamedAtMost, HasNamedBelow, HasNamedEach, HasNamedPart, IsFaultOf, IsWalkFault, abbreviation_text, is_named, name_line};
+ghost use Rattle.packtool_commands.specs.Stores.{AreListed, HasNamedAtMost, HasNamedBelow, HasNamedEach, HasNamedEachPart, IsFaultOf, IsWalkFault, abbreviation_text, is_named, name_line};
 ghost use Rattle.packtool_commands.specs.declared.error.StoreError.{StoreError};
 ghost use Rattle.streams.specs.Streams.{Wrote, lines_of};
 
@@ -171,7 +171,7 @@ pub fn name_each<S: Reopen, A: Allocator + Copy, W: Sink>(
         (IsAbbreviated least (S.view store.new)) id_count most lines.now.prefixes.items }
     ensures untouched { IfErr result (λ e. e ≢ StoreError.Output → out.new ≡ out.old) }
     ensures output { IsErrOf result StoreError.Output ↔ (W.has_failed out.new ≡ true) }
-    ensures part { IsErrOf result StoreError.Output → HasNamedPart least (S.view store.new)
+    ensures part { IsErrOf result StoreError.Output → HasNamedEachPart least (S.view store.new)
         (lines_of lines.now.text.now) (W.taken out.old) (W.taken out.new) }
 {
     let named = look_up_lines(alloc, store, lines, most, &Abbreviating { least })?;

@@ -2,7 +2,7 @@
 
 ghost use Rattle.std.specs.Prelude.{◌≡◌, ◌≤◌, ℕ, List, Some, false, length, IfOk, IsTrue, MatchOption, OnErr};
 ghost use Rattle.pack_index.specs.Format.{Each, min_len, names_in};
-ghost use Rattle.packtool_commands.specs.Files.{EndsIn, IsFirstBeyond, IsOffsetBelow, IsPairing, named, pairing_verdict};
+ghost use Rattle.packtool_commands.specs.Files.{EndsIn, IsFirstBeyond, IsOffsetBelow, IsPairing, file_line, pairing_verdict};
 ghost use Rattle.streams.specs.Streams.{Wrote};
 
 use crate::escaping::write_named;
@@ -133,7 +133,7 @@ fn first_beyond(index: &File<'_>, end: u64) -> Option<u64>
 pub fn write_pairing<W: Sink>(name: &str, pairing: &Pairing, out: &mut W) -> Result<(), WriteFailed>
     requires { W.has_failed out.old ≡ false }
     ensures { Wrote W.taken W.has_failed out.old out.new result
-        (named name.now (pairing_verdict pairing.now)) }
+        (file_line name.now (pairing_verdict pairing.now)) }
 {
     write_named(name, pairing_verdict(pairing).as_slice(), out)
 }

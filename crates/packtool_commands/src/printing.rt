@@ -3,7 +3,7 @@
 ghost use Rattle.std.specs.Prelude.{◌≡◌, ◌++◌, ◌∷◌, ◌&&◌, ℕ, Bool, List, IfOk, OnErr, OnOk, Option, false, flat_map, option_copied, true};
 ghost use Rattle.std.specs.Io.KnownBytes.{Appends};
 ghost use Rattle.std.specs.Option.{option_map_or};
-ghost use Rattle.packtool_commands.specs.Stores.{answer_of, answered, answers_by, are_answers_by, found_text, front_text, is_found};
+ghost use Rattle.packtool_commands.specs.Stores.{answer_of, answers_by, are_answers_by, found_text, front_text, is_found, with_found};
 ghost use Rattle.streams.specs.Streams.{AppendsPart, Wrote, lines_of};
 
 use crate::prefixes::{Line, PrefixLines};
@@ -75,8 +75,8 @@ pub(crate) fn write_answers<T, A: Allocator, F: AnswerForm<T>, W: Sink>(
 // What was found for a line, if it is a prefix, and for those after it.
 fn answer_to<'f, T>(line: &Line<'_>, found: &'f [T]) -> (Option<&'f T>, &'f [T])
     ensures { (lines : List (List ℕ × Bool))
-        → answered ((line.now.text.now, line.now.is_prefix) ∷ lines) found.now
-        ≡ (line.now.text.now, option_copied result.0) ∷ answered lines result.1.now }
+        → with_found ((line.now.text.now, line.now.is_prefix) ∷ lines) found.now
+        ≡ (line.now.text.now, option_copied result.0) ∷ with_found lines result.1.now }
 {
     if line.is_prefix && !found.is_empty() {
         (Some(&found[0]), &found[1..])

@@ -5,9 +5,9 @@ use Rattle.object_store.proofs.look_ups.name_all.Goals as goal
 
 pub loop-at-preserved : goal.loop-at-preserved
 loop-at-preserved g c =
-    let more = named_more c.args.least c.loop-at.at c.args.ids.now c.loop-at.named.items c.push.new.self.items c.name_at.result c.in_ok-push.ensures.items
-    c.loop-at-test.true c.name_at.ensures.id c.name_at.ensures.name c.loop-at.invariant.0 c.loop-at.invariant.1 in (
+    let more = named_more c.args.least c.loop-at.at c.args.ids.now c.loop-at.named.items c.push.new.self.items c.named_at.result c.in_ok-push.ensures.items
+    c.loop-at-test.true c.named_at.ensures.id c.named_at.ensures.name c.loop-at.invariant.0 c.loop-at.invariant.1 in (
       more.0,
       more.1,
-      subst (All (IsOfKind c.args.kind)) (sym c.in_ok-push.ensures.items) (All-push (IsOfKind c.args.kind) c.loop-at.named.items c.name_at.result c.loop-at.invariant.2 c.name_at.ensures.kind),
+      subst (All (IsOfKind c.args.kind)) (sym c.in_ok-push.ensures.items) (All-push (IsOfKind c.args.kind) c.loop-at.named.items c.named_at.result c.loop-at.invariant.2 c.named_at.ensures.kind),
     )

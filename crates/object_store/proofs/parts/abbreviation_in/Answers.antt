@@ -20,11 +20,11 @@ returns-in-1-clause-name c =
     let ids = map id_digits given in
     let run = c.find_assuming_sorted-run.ensures.run (index-sorted _ _ c.requires.index) in
     let at = c.find_assuming_sorted-run.result.start in
-    let id = c.name_at.result.id in
+    let id = c.named_at.result.id in
     let one : IsRun c.args.prefix.now ids (record { start = at; end = at + 1 }) = run_ending c.args.prefix.now ids _ (at + 1) run (omega (arith, c.in-1.is, c.find_assuming_sorted-run.ensures.in_order)) in
     let is : get_or ids at [] ≡ id_digits id =
-    get_or-map id_digits given at id [] (omega (arith, one.in_range, length-map given id_digits)) ∙ ap id_digits (get_or_from_slice_get given at id id c.name_at.ensures.id) in
-    (only_one c.args.prefix.now ids at one ∙ ap (λ (x : List ℕ). x ∷ []) is, at, omega (arith, one.in_range), is, c.name_at.ensures.name)
+    get_or-map id_digits given at id [] (omega (arith, one.in_range, length-map given id_digits)) ∙ ap id_digits (get_or_from_slice_get given at id id c.named_at.ensures.id) in
+    (only_one c.args.prefix.now ids at one ∙ ap (λ (x : List ℕ). x ∷ []) is, at, omega (arith, one.in_range), is, c.named_at.ensures.name)
 
 pub returns-in_default-clause-name : goal.returns-in_default-clause-name
 returns-in_default-clause-name c = omega (arith, run_length _ _ _ (c.find_assuming_sorted-run.ensures.run (index-sorted _ _ c.requires.index)))

@@ -1,8 +1,8 @@
-use Rattle.packtool_commands.proofs.EscapeLemmas.{named-one_line, named-plain}
+use Rattle.packtool_commands.proofs.EscapeLemmas.{file_line-one_line, file_line-plain}
 use Rattle.packtool_commands.proofs.laws.printed_names.Goals as goal
 
 pub returns-clause-one_line : goal.returns-clause-one_line
-returns-clause-one_line c = named-one_line
+returns-clause-one_line c = file_line-one_line
 
 pub returns-clause-plain : goal.returns-clause-plain
-returns-clause-plain c = named-plain
+returns-clause-plain c = file_line-plain

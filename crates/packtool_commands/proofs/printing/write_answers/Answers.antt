@@ -4,7 +4,7 @@ use Rattle.std.proofs.lemmas.List.Folds.{list_all-append}
 use Rattle.std.specs.Option.{option_map_or}
 use Rattle.streams.specs.Streams.{AppendsPart}
 use Rattle.streams.proofs.WritingLemmas.{AppendsPart-after, AppendsPart-more, OnErr-of}
-use Rattle.packtool_commands.specs.Stores.{answer_of, answered, answers_by, are_answers_by}
+use Rattle.packtool_commands.specs.Stores.{answer_of, answers_by, are_answers_by, with_found}
 use Rattle.packtool_commands.proofs.AnswerLemmas.{mark}
 use Rattle.packtool_commands.proofs.printing.write_answers.Goals as goal
 
@@ -20,9 +20,9 @@ returns-in_err-write_answer-clause-part g c =
     let seen = c.deref-line-items.result.now in
     let same : seen ≡ c.args.lines.now.lines.items = c.deref-line-items.ensures.value in
     let rest = map mark (drop (at + 1) seen) in
-    let more = answered rest c.answer_to.result.1.now in
-    let step = ap (λ ls. answered (map mark ls) c.loop-line.left.now) (drop_more seen at _ c.loop-line-test.true) ∙ c.answer_to.ensures rest in
-    let all = ap (λ ls. i.before ++ answered (map mark (drop at ls)) c.loop-line.left.now) same ∙ i.parts ∙ ap (λ ls. answered ls c.args.found.now) c.args.lines.now.are_lines in
+    let more = with_found rest c.answer_to.result.1.now in
+    let step = ap (λ ls. with_found (map mark ls) c.loop-line.left.now) (drop_more seen at _ c.loop-line-test.true) ∙ c.answer_to.ensures rest in
+    let all = ap (λ ls. i.before ++ with_found (map mark (drop at ls)) c.loop-line.left.now) same ∙ i.parts ∙ ap (λ ls. with_found ls c.args.found.now) c.args.lines.now.are_lines in
     OnErr-of _ _ (subst (AppendsPart (g.W.Sink.taken c.args.out.now) (g.W.Sink.taken c.write_answer.new.out))
     (sym (flat_map-append text i.before (_ ∷ more)) ∙ ap (flat_map text) (ap (λ ls. i.before ++ ls) (sym step) ∙ all))
     (AppendsPart-after _ (g.W.Sink.taken c.loop-line.out) _ (flat_map text i.before) _ i.written
@@ -34,7 +34,7 @@ returns-clause-written g c =
     let i = c.loop-line.invariant in
     let items = c.args.lines.now.lines.items in
     let none : [] ≡ drop c.loop-line.line-index items = sym (drop_all c.loop-line.line-index items (omega (arith, c.loop-line-test.false, c.deref-line-items.ensures.len))) in
-    let all = sym (append-nil i.before) ∙ ap (λ ls. i.before ++ answered (map mark ls) c.loop-line.left.now) none ∙ i.parts ∙ ap (λ ls. answered ls c.args.found.now) c.args.lines.now.are_lines in
+    let all = sym (append-nil i.before) ∙ ap (λ ls. i.before ++ with_found (map mark ls) c.loop-line.left.now) none ∙ i.parts ∙ ap (λ ls. with_found ls c.args.found.now) c.args.lines.now.are_lines in
     subst (Appends (g.W.Sink.taken c.args.out.now) (g.W.Sink.taken c.loop-line.out)) (ap (flat_map (answer_of (g.F.AnswerForm.text c.args.form.now))) all) i.written
 
 pub returns-clause-all : goal.returns-clause-all
@@ -43,7 +43,7 @@ returns-clause-all g c =
     let i = c.loop-line.invariant in
     let items = c.args.lines.now.lines.items in
     let none : [] ≡ drop c.loop-line.line-index items = sym (drop_all c.loop-line.line-index items (omega (arith, c.loop-line-test.false, c.deref-line-items.ensures.len))) in
-    let all = sym (append-nil i.before) ∙ ap (λ ls. i.before ++ answered (map mark ls) c.loop-line.left.now) none ∙ i.parts ∙ ap (λ ls. answered ls c.args.found.now) c.args.lines.now.are_lines in
+    let all = sym (append-nil i.before) ∙ ap (λ ls. i.before ++ with_found (map mark ls) c.loop-line.left.now) none ∙ i.parts ∙ ap (λ ls. with_found ls c.args.found.now) c.args.lines.now.are_lines in
     i.verdict ∙ ap (list_all (λ answer. option_map_or (g.F.AnswerForm.is_found c.args.form.now) answer.1 false)) all
 
 pub loop-line-preserved : goal.loop-line-preserved
@@ -55,12 +55,12 @@ loop-line-preserved g c =
     let same : seen ≡ c.args.lines.now.lines.items = c.deref-line-items.ensures.value in
     let rest = map mark (drop (at + 1) seen) in
     let answer : List ℕ × Option g.row.T.Denot = ((slice_index_or seen at _).text.now, option_copied c.answer_to.result.0) in
-    let step = ap (λ ls. answered (map mark ls) c.loop-line.left.now) (drop_more seen at _ c.loop-line-test.true) ∙ c.answer_to.ensures rest in
+    let step = ap (λ ls. with_found (map mark ls) c.loop-line.left.now) (drop_more seen at _ c.loop-line-test.true) ∙ c.answer_to.ensures rest in
     let is_wanted = λ (a : List ℕ × Option g.row.T.Denot). option_map_or (g.F.AnswerForm.is_found c.args.form.now) a.1 false in
     record {
       before = i.before ++ answer ∷ [];
-      parts = append_assoc i.before (answer ∷ []) _ ∙ ap (λ ls. i.before ++ answer ∷ answered (map mark (drop (at + 1) ls)) c.answer_to.result.1.now) (sym same)
-          ∙ ap (λ ls. i.before ++ ls) (sym step) ∙ ap (λ ls. i.before ++ answered (map mark (drop at ls)) c.loop-line.left.now) same ∙ i.parts;
+      parts = append_assoc i.before (answer ∷ []) _ ∙ ap (λ ls. i.before ++ answer ∷ with_found (map mark (drop (at + 1) ls)) c.answer_to.result.1.now) (sym same)
+          ∙ ap (λ ls. i.before ++ ls) (sym step) ∙ ap (λ ls. i.before ++ with_found (map mark (drop at ls)) c.loop-line.left.now) same ∙ i.parts;
       written = subst (Appends (g.W.Sink.taken c.args.out.now) (g.W.Sink.taken c.write_answer.new.out)) (flat_map_more text [] i.before answer)
           (Appends-trans _ _ _ (flat_map text i.before) (text answer) i.written c.in_ok-write_answer.ensures.written);
       verdict = c.are_wanted-all.ensures ∙ ap (λ b. b && is_wanted answer) i.verdict ∙ ap (λ b. list_all is_wanted i.before && b) (sym (and-true (is_wanted answer)))
