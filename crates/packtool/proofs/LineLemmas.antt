@@ -14,6 +14,10 @@ whole-more bytes at below is = grind (arith, take_more bytes at 0 below, last-ap
 pub made_whole-after : (xs ys : List ℕ) → AreWhole xs → made_whole (xs ++ ys) ≡ xs ++ made_whole ys
 made_whole-after xs ys whole = grind (arith, last-append 10 xs ys, whole, append_assoc xs ys (10 ∷ []))
 
+-- after whole lines of whole lines come whole lines
+pub whole-after : (bytes xs ys : List ℕ) → bytes ≡ xs ++ ys → AreWhole bytes → AreWhole xs → AreWhole ys
+whole-after bytes xs ys is whole first = grind (arith, last-append 10 xs ys)
+
 no_feed-last : (last : ℕ) (bytes : List ℕ) → HasNoLineFeed (last ∷ bytes) → is_line_feed (last_after last bytes) ≡ false
 no_feed-last last [] none = grind (arith, sum_by-cons (λ byte. cond (is_line_feed byte) 1 0) last [], none)
 no_feed-last last (byte ∷ bytes) none =

@@ -1,6 +1,7 @@
 -- What contracts say of the answers of a store.
-use Rattle.std.specs.Prelude.{ℕ, ◌≡◌, ◌≢◌, Bool, List, [], Option, if◌then◌else◌}
+use Rattle.std.specs.Prelude.{ℕ, zero, suc, max, ◌≡◌, ◌≢◌, ◌++◌, Bool, List, [], Option, if◌then◌else◌}
 use Rattle.object_store.specs.Stores.{IsReopened, IsSeen, StoreView}
+use Rattle.packtool.specs.WholeLines.{AreWhole}
 use Rattle.packtool.specs.declared.arguments.Question.{Question}
 use Rattle.packtool.specs.declared.arguments.Question.TheVariants.{Find, Locate, Names}
 use Rattle.packtool_commands.specs.Stores.{HasAnsweredMatches, HasLocated, HasLocatedEach, HasNamedBelow, HasNamedEach, HasPrinted}
@@ -23,6 +24,21 @@ abbrev pub HasAnsweredLines : (A : Type 0) → Question → Answers → ℕ → 
 HasAnsweredLines A Find answers least pack_path loose_paths view lines all old new = HasAnsweredMatches A answers view lines all old new
 HasAnsweredLines A Locate answers least pack_path loose_paths view lines all old new = HasLocatedEach A answers pack_path loose_paths view lines all old new
 HasAnsweredLines A Names answers least pack_path loose_paths view lines all old new = HasNamedEach least view lines all old new
+
+-- a text was answered in n parts of whole lines, one after the other, and the worst of their statuses is this: `IsAnswer` says what was written for a part, by
+-- what answered it as that was then, which is `last` for the last part
+abbrev pub HasAnsweredParts : {S : Type 0} → (S → List ℕ → ℕ → Option (List ℕ) → Option (List ℕ) → Type 0) → ℕ → S → List ℕ → ℕ → Option (List ℕ)
+    → Option (List ℕ) → Type 0
+HasAnsweredParts IsAnswer zero last text status old new = (text ≡ []) × (status ≡ 0) × (new ≡ old)
+HasAnsweredParts {S} IsAnswer (suc n) last text status old new =
+    (before : List ℕ) × (part : List ℕ) × (worst : ℕ) × (own : ℕ) × (earlier : S) × (middle : Option (List ℕ))
+    × HasAnsweredParts IsAnswer n earlier before worst old middle × IsAnswer last part own middle new
+    × AreWhole part × (text ≡ before ++ part) × (status ≡ max worst own)
+
+-- the prefixes whose loose objects are checked before a question is answered: all of them for `locate`, and none otherwise
+abbrev pub checked_of : {P : Type 0} → Question → List P → List P
+checked_of Locate prefixes = prefixes
+checked_of _ prefixes = []
 
 -- the names of all ids of a store were written, of each first byte as the store was at one time since it was opened, and whether there is one is this
 pub record HasNamedAll {S : Type 0} (may_have : S → StoreView → Type 0) (view : S → StoreView) (least : ℕ) (store : S) (any : Bool) (old new : Option (List ℕ)) :

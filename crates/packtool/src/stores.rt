@@ -1,6 +1,6 @@
 //! Commands over a store.
 
-ghost use Rattle.std.specs.Prelude.{◌≡◌, ◌≢◌, ◌↔◌, ◌<◌, ◌≤◌, ◌++◌, ℕ, [], All, Bool, IfErr, IfOk, IsErrOf, IsOkAnd, IsSomeAnd, IsTrue, MatchOption, OnOk, Some, false, if◌then◌else◌, length, max, nat_eq, string_bytes, true};
+ghost use Rattle.std.specs.Prelude.{◌≡◌, ◌≢◌, ◌↔◌, ◌<◌, ◌≤◌, ◌++◌, ℕ, [], All, Bool, IfErr, IfOk, IsErrOf, IsOkAnd, IsSomeAnd, IsTrue, List, MatchOption, OnOk, Option, Some, false, if◌then◌else◌, length, max, nat_eq, string_bytes, true};
 ghost use Rattle.std.specs.Global.{Global};
 ghost use Rattle.std.specs.List.{ends_with};
 ghost use Rattle.std.specs.Option.{ForSome};
@@ -11,8 +11,12 @@ ghost use Rattle.packtool_commands.specs.Stores.{AreListed};
 ghost use Rattle.packtool_commands.specs.declared.error.StoreError.{StoreError};
 ghost use Rattle.streams.specs.Devices.{plain_failed, plain_inner};
 ghost use Rattle.streams.specs.Streams.{lines_of};
-ghost use Rattle.packtool.specs.Answers.{HasAnsweredLines, HasAnsweredPrefix, HasNamedAll, IsStatus};
+ghost use Rattle.packtool.specs.Answers.{HasAnsweredLines, HasAnsweredParts, HasAnsweredPrefix, HasNamedAll, IsStatus, checked_of};
+ghost use Rattle.packtool.specs.Failures.{failure_of};
 ghost use Rattle.packtool.specs.WholeLines.{AreWhole};
+ghost use Rattle.packtool.specs.declared.arguments.Question.{Question};
+ghost use Rattle.packtool.specs.declared.failure.Failure.{Failure};
+ghost use Rattle.packtool_commands.specs.declared.printing.Answers.{Answers};
 
 use crate::arguments::{Ask, Question, StoreRequest};
 use crate::failure::{Failure, skipped_mark};
@@ -59,6 +63,67 @@ pub fn answer<'a>(rt: &HostRuntime, request: &StoreRequest<'a>) -> Result<u8, Fa
         Ask::One(text) => asked.answer_one(text),
         Ask::Lines(answers) => asked.answer_input(answers),
     }
+}
+
+// What answers lines over the store as it is then, which it keeps.
+trait AnswerLines {
+    // What is asked, and the fewest digits of an abbreviation.
+    ghost asked: { Self → Question × ℕ };
+
+    // What it wrote for lines, with the store that it keeps, and the status.
+    ghost is_answer: { Question × ℕ → Answers → Self → List ℕ → ℕ → Option (List ℕ)
+        → Option (List ℕ) → Type 0 };
+
+    // Writes what each of the lines finds in the store as it is now. If several find more than is
+    // held at a time, then nothing is written, and the error is `TooMany`.
+    fn write_for_lines<'a, W: io::Write>(
+        &mut self,
+        lines: &[u8],
+        answers: Answers,
+        out: &mut Plain<W>,
+    ) -> Result<u8, Failure<'a>>
+        requires { plain_failed out.old ≡ false }
+        ensures same { asked self.new ≡ asked self.old }
+        ensures output { OnOk result (plain_failed out.new ≡ false) }
+        ensures untouched { IsErrOf result Failure.TooMany → out.new ≡ out.old }
+        ensures answered { IfOk result (λ status. is_answer (asked self.old) answers self.new
+            lines.now status (W.contents (plain_inner out.old))
+            (W.contents (plain_inner out.new))) };
+}
+
+// Looks lines up, fewer at a time if they find too much, and returns the worst status. A single
+// line may find more.
+fn answer_lines<'a, A: AnswerLines, W: io::Write>(
+    asked: &mut A,
+    lines: &[u8],
+    answers: Answers,
+    out: &mut Plain<W>,
+) -> Result<u8, Failure<'a>>
+    requires output { plain_failed out.old ≡ false }
+    requires whole { AreWhole lines.now }
+    ensures output { OnOk result (plain_failed out.new ≡ false) }
+    ensures answered { IfOk result (λ status. (n : ℕ) × HasAnsweredParts
+        (A.is_answer (A.asked asked.old) answers) n asked.new lines.now status
+        (W.contents (plain_inner out.old)) (W.contents (plain_inner out.new))) }
+{
+    let mut rest = lines;
+    let mut len = lines.len();
+    let mut status = FOUND;
+    for _ in 0..u64::MAX {
+        if rest.is_empty() {
+            return Ok(status);
+        }
+        let (part, after) = first_lines(rest, len);
+        match asked.write_for_lines(part, answers, out) {
+            Ok(own) => {
+                status = status.max(own);
+                rest = after;
+            }
+            Err(Failure::TooMany) => len = part.len() / 2,
+            Err(failure) => return Err(failure),
+        }
+    }
+    Err(Failure::TooMany)
 }
 
 // What is asked of the store of an object directory.
@@ -109,7 +174,7 @@ impl Asked<'_> {
     }
 
     // Looks the lines of standard input up. A chunk of them is looked up in the store as it is
-    // after they were read, and its output is written before more is read.
+    // after they were read. Its output is written before more is read or an error is reported.
     fn answer_input<'a>(&mut self, answers: Answers) -> Result<u8, Failure<'a>> {
         let mut input = LineReader::new(self.rt.alloc(), Retrying::new(self.rt.reader()))?;
         let mut status = FOUND;
@@ -117,38 +182,12 @@ impl Asked<'_> {
             if !input.next()? {
                 break;
             }
-            status = status.max(self.answer_lines(input.lines(), answers)?);
+            let mut out = buffered(self.rt, self.rt.stdout())?;
+            let ran = answer_lines(self, input.lines(), answers, &mut out);
+            flushed(FOUND, &mut out)?;
+            status = status.max(ran?);
         }
         Ok(status)
-    }
-
-    // Looks lines up, fewer at a time if they find too much, and returns the worst status. A single
-    // line may find more.
-    fn answer_lines<'a>(&mut self, lines: &[u8], answers: Answers) -> Result<u8, Failure<'a>> {
-        let mut rest = lines;
-        let mut len = lines.len();
-        let mut status = FOUND;
-        for _ in 0..u64::MAX {
-            if rest.is_empty() {
-                break;
-            }
-            let (part, after) = first_lines(rest, len);
-            match self.answer_part(part, answers) {
-                Err(Failure::TooMany) => len = part.len() / 2,
-                ran => {
-                    status = status.max(ran?);
-                    rest = after;
-                }
-            }
-        }
-        Ok(status)
-    }
-
-    // Prints what each of the lines finds.
-    fn answer_part<'a>(&mut self, lines: &[u8], answers: Answers) -> Result<u8, Failure<'a>> {
-        let mut out = buffered(self.rt, self.rt.stdout())?;
-        let status = self.write_for_lines(lines, answers, &mut out)?;
-        flushed(status, &mut out)
     }
 
     // Opens the store, and writes the lines of `find` or `locate` for a prefix.
@@ -219,32 +258,6 @@ impl Asked<'_> {
         if was_whole? { Ok(status) } else { Ok(FAILED) }
     }
 
-    // Writes what each of the lines finds in the store as it is now.
-    fn write_for_lines<'a, W: io::Write>(
-        &mut self,
-        lines: &[u8],
-        answers: Answers,
-        out: &mut Plain<W>,
-    ) -> Result<u8, Failure<'a>>
-        requires { plain_failed out.old ≡ false }
-        ensures output { OnOk result (plain_failed out.new ≡ false) }
-        ensures answered { IfOk result (λ status. IsSomeAnd self.new.kept (λ store. (all : Bool)
-            × IsStatus store.skipped.items all status
-            × HasAnsweredLines Global self.old.question answers self.old.least
-            (⟦<DirectoryStore<HostRuntime> as StorePaths>⟧.pack_path store)
-            (⟦<DirectoryStore<HostRuntime> as StorePaths>⟧.loose_paths store)
-            (⟦<DirectoryStore<HostRuntime> as Store>⟧.view store) (lines_of lines.now) all
-            (W.contents (plain_inner out.old)) (W.contents (plain_inner out.new)))) }
-    {
-        let alloc = self.rt.alloc();
-        let lines = PrefixLines::read(alloc, self.directory.kind, lines)?;
-        let loose = loose_of(lines.prefixes());
-        let checked = self.checked(lines.prefixes());
-        let mut store = store_now(self.rt, self.directory, self.kept.take(), loose, checked)?;
-        let ran = self.ask_for_lines(&mut store, &lines, answers, out);
-        self.status_of(store, ran, out)
-    }
-
     // Writes what each of the lines finds in a store, and returns whether each finds what is asked
     // for.
     fn ask_for_lines<S: Reopen + StorePaths, W: Sink>(
@@ -263,6 +276,7 @@ impl Asked<'_> {
         ensures answered { IfOk result (λ all. HasAnsweredLines Global self.now.question answers
             self.now.least (S.pack_path store.new) (S.loose_paths store.new) (S.view store.new)
             (lines_of lines.now.text.now) all (W.taken out.old) (W.taken out.new)) }
+        ensures untouched { IsErrOf result StoreError.TooMany → out.new ≡ out.old }
         ensures output { IsErrOf result StoreError.Output ↔ (W.has_failed out.new ≡ true) }
     {
         let alloc = self.rt.alloc();
@@ -274,7 +288,9 @@ impl Asked<'_> {
     }
 
     // The prefixes whose loose objects are checked: all of them for `locate`, and none otherwise.
-    fn checked<'p>(&self, prefixes: &'p [Prefix]) -> &'p [Prefix] {
+    fn checked<'p>(&self, prefixes: &'p [Prefix]) -> &'p [Prefix]
+        ensures { result.now ≡ checked_of self.now.question prefixes.now }
+    {
         match self.question {
             Question::Locate => prefixes,
             _ => &[],
@@ -293,6 +309,9 @@ impl Asked<'_> {
         ensures ran { IfOk result (λ status. IsOkAnd ran (λ any.
             IsStatus store.skipped.items any status)) }
         ensures kept { OnOk result (self.new.kept ≡ Some store) }
+        ensures question { self.new.question ≡ self.old.question }
+        ensures least { self.new.least ≡ self.old.least }
+        ensures many { IsErrOf result Failure.TooMany → IsErrOf ran StoreError.TooMany }
         ensures output { OnOk result (plain_failed out.now ≡ false) }
     {
         let status = match ran {
@@ -309,9 +328,37 @@ impl Asked<'_> {
     }
 }
 
+impl AnswerLines for Asked<'_> {
+    ghost asked = { λ asked. (asked.question, asked.least) };
+
+    ghost is_answer = { λ (question, least) answers asked lines status old new.
+        IsSomeAnd asked.kept (λ store. (all : Bool) × IsStatus store.skipped.items all status
+        × HasAnsweredLines Global question answers least
+        (⟦<DirectoryStore<HostRuntime> as StorePaths>⟧.pack_path store)
+        (⟦<DirectoryStore<HostRuntime> as StorePaths>⟧.loose_paths store)
+        (⟦<DirectoryStore<HostRuntime> as Store>⟧.view store) (lines_of lines) all old new) };
+
+    fn write_for_lines<'a, W: io::Write>(
+        &mut self,
+        lines: &[u8],
+        answers: Answers,
+        out: &mut Plain<W>,
+    ) -> Result<u8, Failure<'a>> {
+        let alloc = self.rt.alloc();
+        let lines = PrefixLines::read(alloc, self.directory.kind, lines)?;
+        let loose = loose_of(lines.prefixes());
+        let checked = self.checked(lines.prefixes());
+        let mut store = store_now(self.rt, self.directory, self.kept.take(), loose, checked)?;
+        let ran = self.ask_for_lines(&mut store, &lines, answers, out);
+        self.status_of(store, ran, out)
+    }
+}
+
 // Why a look-up in a store fails; or why the store could not be opened again, after a pack index
 // was gone.
-fn failure_of<'a>(store: DirectoryStore<HostRuntime>, error: object_store::Error) -> Failure<'a> {
+fn failure_of<'a>(store: DirectoryStore<HostRuntime>, error: object_store::Error) -> Failure<'a>
+    ensures { result ≡ failure_of error store.failed }
+{
     match (error, store.into_reopen_error()) {
         (object_store::Error::Gone { .. }, Some(failed)) => Failure::Store(failed),
         (error, _) => Failure::LookUp(error),

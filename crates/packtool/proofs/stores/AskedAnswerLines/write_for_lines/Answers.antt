@@ -3,7 +3,7 @@ use Rattle.gix_hash.specs.Words.{KindDigits, first_byte_of}
 use Rattle.directory_store.specs.Stores.{only_of}
 use Rattle.directory_store.specs.declared.loose.LooseIds.{LooseIds}
 use Rattle.packtool.proofs.StatusLemmas.{kept-answer}
-use Rattle.packtool.proofs.stores.Asked.write_for_lines.Goals as goal
+use Rattle.packtool.proofs.stores.AskedAnswerLines.write_for_lines.Goals as goal
 
 -- what may be asked of a store where these loose objects are listed
 abbrev AreOf : LooseIds → List KindDigits → Type 0
