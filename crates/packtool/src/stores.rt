@@ -1,6 +1,6 @@
 //! Commands over a store.
 
-ghost use Rattle.std.specs.Prelude.{◌≡◌, ◌≢◌, ◌↔◌, ◌<◌, ◌≤◌, ◌++◌, ℕ, [], All, Bool, IfErr, IfOk, IsErrOf, IsOkAnd, IsSomeAnd, IsTrue, List, MatchOption, OnOk, Option, Some, false, if◌then◌else◌, length, max, nat_eq, string_bytes, true};
+ghost use Rattle.std.specs.Prelude.{◌≡◌, ◌↔◌, ◌<◌, ◌≤◌, ◌++◌, ℕ, [], All, Bool, IfErr, IfOk, IsErrOf, IsOkAnd, IsSomeAnd, IsTrue, List, MatchOption, OnOk, Option, Some, false, if◌then◌else◌, length, max, nat_eq, string_bytes, true};
 ghost use Rattle.std.specs.Global.{Global};
 ghost use Rattle.std.specs.List.{ends_with};
 ghost use Rattle.std.specs.Option.{ForSome};

@@ -2,7 +2,7 @@
 
 ghost use Rattle.std.specs.Prelude.{◌≡◌, ◌≢◌, ◌↔◌, ◌<◌, ◌≤◌, false, true, length, All, IfErr, IfOk, IsErrOf};
 ghost use Rattle.id_lookup.specs.Words.{first_byte_of, id_digits};
-ghost use Rattle.object_store.specs.Stores.{CanLookUp, HaveMoreMatches, IsFaultOfOne, IsListed, IsReopened, IsStoreFault};
+ghost use Rattle.object_store.specs.Stores.{HaveMoreMatches, IsFaultOfOne, IsListed, IsReopened, IsStoreFault};
 ghost use Rattle.packtool_commands.specs.Stores.{AreListed, HasAnsweredMatches, HasAnsweredMatchesPart, HasPrinted, HasPrintedPart, IsFaultOf, id_line};
 ghost use Rattle.packtool_commands.specs.declared.error.StoreError.{StoreError};
 ghost use Rattle.streams.specs.Streams.{lines_of};

@@ -3,7 +3,7 @@
 ghost use Rattle.std.specs.Prelude.{◌≡◌, ◌≢◌, ◌↔◌, ◌⊎◌, ◌<◌, ◌≤◌, ◌∷◌, ◌++◌, ℕ, [], false, true, flat_map, length, All, IfErr, IfOk, IsErrOf, IsTrue};
 ghost use Rattle.id_lookup.specs.Words.{hex_len_of, hex_letter, spelling};
 ghost use Rattle.object_store.specs.Several.{AreNamed, IsAbbreviated, id_count};
-ghost use Rattle.object_store.specs.Stores.{CanLookUp, HaveMore, IsFaultOfOne, IsListed, IsReopened, IsSeen, IsStoreFault};
+ghost use Rattle.object_store.specs.Stores.{HaveMore, IsFaultOfOne, IsListed, IsReopened, IsSeen, IsStoreFault};
 ghost use Rattle.packtool_commands.specs.Stores.{AreListed, HasNamedAtMost, HasNamedBelow, HasNamedEach, HasNamedEachPart, IsFaultOf, IsWalkFault, abbreviation_text, is_named, name_line};
 ghost use Rattle.packtool_commands.specs.declared.error.StoreError.{StoreError};
 ghost use Rattle.streams.specs.Streams.{Wrote, lines_of};
